@@ -1,0 +1,26 @@
+-- What a read or a write did to known bytes, and why it failed.
+use Rattle.std.specs.Prelude.{◌≡◌, ℕ, ◌<◌, ◌≤◌, ◌⊎◌, List, ◌++◌, Option, None, Some, Result, OnErr, MatchResult}
+use Rattle.std.specs.Io.KnownBytes.{Appends}
+
+-- where a count of faults stands still
+abbrev pub last_count : ℕ
+last_count = 18446744073709551615
+
+-- a fault was counted between these two counts
+abbrev pub Rose : ℕ → ℕ → Type 0
+Rose before now = (before < now) ⊎ (last_count ≤ now)
+
+-- the count doesn't fall, and a call fails only where a fault was counted
+pub record HasCause {T E : Type 0} (before now : ℕ) (result : Result T E) : Type 0 where
+  pub later : before ≤ now
+  pub failed : OnErr result (Rose before now)
+
+-- known bytes grow by a front of a text
+abbrev pub AppendsFront : Option (List ℕ) → Option (List ℕ) → List ℕ → Type 0
+AppendsFront None new text = Unit {0}
+AppendsFront (Some xs) None text = ⊥
+AppendsFront (Some xs) (Some ys) text = (front : List ℕ) × (rest : List ℕ) × (text ≡ front ++ rest) × (ys ≡ xs ++ front)
+
+-- known bytes grow by a text, or by a front of it where the call fails
+abbrev pub Writes : {T E : Type 0} → Option (List ℕ) → Option (List ℕ) → Result T E → List ℕ → Type 0
+Writes old new result text = MatchResult result (λ _. Appends old new text) (λ _. AppendsFront old new text)

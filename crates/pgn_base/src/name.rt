@@ -1,0 +1,102 @@
+ghost use Rattle.std.specs.Prelude.{◌≡◌, ◌<◌, ◌≤◌, ◌↔◌, [], length, Contains, IfOk, IsErrOf, bytes_eq};
+ghost use Rattle.std.proofs.Common.{rules};
+ghost use Rattle.std.specs.Hash as fed;
+ghost use Rattle.std.specs.Cmp.{partial_equiv_from_equiv};
+ghost use Rattle.std.specs.Cmp.Lexicographic.{nat_list_eq_equiv};
+ghost use Rattle.std.specs.Cmp.Rules.{hashing};
+ghost use Rattle.pgn_base.specs.Texts.{IsName};
+
+use crate::{Copied, Seq};
+use std::alloc::{AllocError, Global};
+use std::hash::{Hash, Hasher};
+use std::marker::Model;
+
+/// A channel's, a savepoint's, a section's or a flag's name: 1 to 63 bytes of UTF-8 without a zero byte. Contracts see its bytes.
+#[derive(Debug, Drop)]
+pub struct Name {
+    text: String,
+}
+
+pub type Names = Seq<Name>;
+
+/// Why a text is no name.
+#[derive(Clone, Copy, Debug, PartialEq, Eq)]
+pub enum NameFault {
+    Empty,
+    TooLong,
+    Nul,
+    Memory,
+}
+
+impl Model for Name {
+    ghost use Rattle.std.specs.Prelude.{List, ℕ, string_bytes};
+    ghost use Rattle.pgn_base.specs.Texts.{IsName};
+
+    ghost Value = { List ℕ };
+
+    ghost view = { λ name. string_bytes name.text };
+
+    ghost invariant = { λ name. IsName (string_bytes name.text) };
+}
+
+impl Name {
+    /// The name of this text. The faults are tested in the order of `NameFault`, so that a long text with a zero byte is too long.
+    pub fn new(alloc: Global, text: &str) -> Result<Name, NameFault>
+        ensures ok { IfOk result (λ name. name ≡ text.now) }
+        ensures empty { IsErrOf result NameFault.Empty ↔ (text.now ≡ []) }
+        ensures too_long { IsErrOf result NameFault.TooLong ↔ (64 ≤ length text.now) }
+        ensures nul { IsErrOf result NameFault.Nul ↔ ((length text.now < 64) × Contains text.now 0) }
+    {
+        if text.is_empty() {
+            return Err(NameFault::Empty);
+        }
+        if text.len() >= 64 {
+            return Err(NameFault::TooLong);
+        }
+        if text.as_bytes().contains(&0) {
+            return Err(NameFault::Nul);
+        }
+        match String::from_str(alloc, text) {
+            Ok(text) => Ok(Name { text }),
+            Err(AllocError) => Err(NameFault::Memory),
+        }
+    }
+
+    pub fn as_bytes(&self) -> &[u8]
+        ensures value { result.now ≡ self.now }
+        ensures valid { IsName self.now }
+    {
+        self.text.as_bytes()
+    }
+}
+
+impl Copied for Name {
+    fn copy(&self, alloc: Global) -> Result<Self, AllocError> {
+        let text = String::from_str(alloc, self.text.as_str())?;
+        Ok(Name { text })
+    }
+}
+
+impl PartialEq for Name {
+    ghost eq = { bytes_eq };
+
+    ghost laws = { partial_equiv_from_equiv nat_list_eq_equiv };
+
+    fn eq(&self, other: &Name) -> bool {
+        self.as_bytes() == other.as_bytes()
+    }
+}
+
+impl Eq for Name {
+    ghost laws = { nat_list_eq_equiv };
+}
+
+impl Hash for Name {
+    ghost hash_input = { fed.slice fed.u8 };
+
+    ghost respects_eq = { Prim.search (hashing, rules) };
+
+    fn hash<H: Hasher>(&self, state: &mut H) {
+        self.as_bytes().hash(state);
+    }
+}

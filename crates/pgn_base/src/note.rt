@@ -1,0 +1,71 @@
+ghost use Rattle.std.specs.Prelude.{◌&&◌, ◌++◌, bytes_eq};
+ghost use Rattle.std.proofs.Common.{rules};
+ghost use Rattle.std.specs.Hash as fed;
+ghost use Rattle.std.specs.Cmp.Rules.{comparing, hashing};
+
+use crate::{Copied, Name, Payload, Seq, Xid};
+use std::alloc::{AllocError, Global};
+use std::hash::{Hash, Hasher};
+
+/// A notification as NOTIFY names it: a channel and a payload.
+#[derive(Debug, Drop)]
+pub struct Note {
+    pub channel: Name,
+    pub payload: Payload,
+}
+
+pub type Notes = Seq<Note>;
+
+impl Copied for Note {
+    fn copy(&self, alloc: Global) -> Result<Self, AllocError> {
+        let channel = self.channel.copy(alloc)?;
+        let payload = self.payload.copy(alloc)?;
+        Ok(Note { channel, payload })
+    }
+}
+
+impl PartialEq for Note {
+    ghost eq = { λ a b. bytes_eq a.channel b.channel && bytes_eq a.payload b.payload };
+
+    ghost laws = { Prim.search (comparing, rules) };
+
+    fn eq(&self, other: &Note) -> bool {
+        self.channel == other.channel && self.payload == other.payload
+    }
+}
+
+impl Eq for Note {
+    ghost laws = { Prim.search (comparing, rules) };
+}
+
+impl Hash for Note {
+    ghost hash_input = { λ note. fed.slice fed.u8 note.channel ++ fed.slice fed.u8 note.payload };
+
+    ghost respects_eq = { Prim.search (hashing, rules) };
+
+    fn hash<H: Hasher>(&self, state: &mut H) {
+        self.channel.hash(state);
+        self.payload.hash(state);
+    }
+}
+
+/// A notification as a listener receives it. `pid` is the process number of its sender, 1000 and the session's number.
+#[derive(Debug, Drop)]
+pub struct Delivery {
+    pub xid: Xid,
+    pub pid: u32,
+    pub note: Note,
+}
+
+pub type Deliveries = Seq<Delivery>;
+
+impl Copied for Delivery {
+    fn copy(&self, alloc: Global) -> Result<Self, AllocError> {
+        let note = self.note.copy(alloc)?;
+        Ok(Delivery {
+            xid: self.xid,
+            pid: self.pid,
+            note,
+        })
+    }
+}

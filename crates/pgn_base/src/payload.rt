@@ -1,0 +1,95 @@
+ghost use Rattle.std.specs.Prelude.{◌≡◌, ◌<◌, ◌≤◌, ◌↔◌, length, Contains, IfOk, IsErrOf, bytes_eq};
+ghost use Rattle.std.proofs.Common.{rules};
+ghost use Rattle.std.specs.Hash as fed;
+ghost use Rattle.std.specs.Cmp.{partial_equiv_from_equiv};
+ghost use Rattle.std.specs.Cmp.Lexicographic.{nat_list_eq_equiv};
+ghost use Rattle.std.specs.Cmp.Rules.{hashing};
+ghost use Rattle.pgn_base.specs.Texts.{IsPayload};
+
+use crate::Copied;
+use std::alloc::{AllocError, Global};
+use std::hash::{Hash, Hasher};
+use std::marker::Model;
+
+/// What a notification says: 0 to 7,999 bytes of UTF-8 without a zero byte. Contracts see its bytes.
+#[derive(Debug, Drop)]
+pub struct Payload {
+    text: String,
+}
+
+/// Why a text is no payload.
+#[derive(Clone, Copy, Debug, PartialEq, Eq)]
+pub enum PayloadFault {
+    TooLong,
+    Nul,
+    Memory,
+}
+
+impl Model for Payload {
+    ghost use Rattle.std.specs.Prelude.{List, ℕ, string_bytes};
+    ghost use Rattle.pgn_base.specs.Texts.{IsPayload};
+
+    ghost Value = { List ℕ };
+
+    ghost view = { λ payload. string_bytes payload.text };
+
+    ghost invariant = { λ payload. IsPayload (string_bytes payload.text) };
+}
+
+impl Payload {
+    /// The payload of this text. The faults are tested in the order of `PayloadFault`.
+    pub fn new(alloc: Global, text: &str) -> Result<Payload, PayloadFault>
+        ensures ok { IfOk result (λ payload. payload ≡ text.now) }
+        ensures too_long { IsErrOf result PayloadFault.TooLong ↔ (8000 ≤ length text.now) }
+        ensures nul { IsErrOf result PayloadFault.Nul ↔ ((length text.now < 8000) × Contains text.now 0) }
+    {
+        if text.len() >= 8000 {
+            return Err(PayloadFault::TooLong);
+        }
+        if text.as_bytes().contains(&0) {
+            return Err(PayloadFault::Nul);
+        }
+        match String::from_str(alloc, text) {
+            Ok(text) => Ok(Payload { text }),
+            Err(AllocError) => Err(PayloadFault::Memory),
+        }
+    }
+
+    pub fn as_bytes(&self) -> &[u8]
+        ensures value { result.now ≡ self.now }
+        ensures valid { IsPayload self.now }
+    {
+        self.text.as_bytes()
+    }
+}
+
+impl Copied for Payload {
+    fn copy(&self, alloc: Global) -> Result<Self, AllocError> {
+        let text = String::from_str(alloc, self.text.as_str())?;
+        Ok(Payload { text })
+    }
+}
+
+impl PartialEq for Payload {
+    ghost eq = { bytes_eq };
+
+    ghost laws = { partial_equiv_from_equiv nat_list_eq_equiv };
+
+    fn eq(&self, other: &Payload) -> bool {
+        self.as_bytes() == other.as_bytes()
+    }
+}
+
+impl Eq for Payload {
+    ghost laws = { nat_list_eq_equiv };
+}
+
+impl Hash for Payload {
+    ghost hash_input = { fed.slice fed.u8 };
+
+    ghost respects_eq = { Prim.search (hashing, rules) };
+
+    fn hash<H: Hasher>(&self, state: &mut H) {
+        self.as_bytes().hash(state);
+    }
+}

@@ -1,0 +1,30 @@
+use crate::{SessionNo, Xid};
+
+/// Why a transaction met a full queue: its number, how many of its notifications were written, the head's page, and the floor
+/// below which no page is free: its mark, its page, and the session that holds it, if one does. Pages count from 0.
+#[derive(Clone, Copy, Debug, PartialEq, Eq)]
+pub struct Full {
+    pub xid: Xid,
+    pub queued: u32,
+    pub head_page: u64,
+    pub floor_mark: Xid,
+    pub floor_page: u64,
+    pub holder: Option<SessionNo>,
+}
+
+/// How much of the queue is in use at a transaction number: `occupied` pages of `limit`, above the floor.
+#[derive(Clone, Copy, Debug, PartialEq, Eq)]
+pub struct Usage {
+    pub at: Xid,
+    pub occupied: u64,
+    pub limit: u32,
+    pub floor_mark: Xid,
+    pub holder: Option<SessionNo>,
+}
+
+/// Where a listener began: its base, and the point from which on it is delivered to.
+#[derive(Clone, Copy, Debug, PartialEq, Eq)]
+pub struct Enlisted {
+    pub base: Xid,
+    pub point: Xid,
+}

@@ -1,0 +1,64 @@
+ghost use Rattle.std.specs.Prelude.{◌≡◌, [], ◌∷◌, ◌++◌, IfOk, OnOk, OnErr};
+
+use crate::Copied;
+use std::alloc::{AllocError, Global};
+use std::marker::Model;
+
+/// A list that grows at its end. Contracts see it as the list of its items.
+#[derive(Debug, Drop)]
+pub struct Seq<T> {
+    items: Vec<T>,
+}
+
+impl<T> Model for Seq<T> {
+    ghost use Rattle.std.specs.Prelude.{List};
+
+    ghost Value = { List T };
+
+    ghost view = { λ s. s.items.items };
+}
+
+impl<T> Seq<T> {
+    /// The empty list. It takes no memory.
+    pub fn new(alloc: Global) -> Self
+        ensures { result ≡ [] }
+    {
+        Seq {
+            items: Vec::new(alloc),
+        }
+    }
+
+    /// The list of these items. It takes no memory.
+    pub fn from_items(items: Vec<T>) -> Self
+        ensures { result ≡ items.items }
+    {
+        Seq { items }
+    }
+
+    pub fn as_slice(&self) -> &[T]
+        ensures { result.now ≡ self.now }
+    {
+        self.items.as_slice()
+    }
+}
+
+impl<T: Drop> Seq<T> {
+    /// Puts an item at the end. A refusal changes nothing.
+    pub fn push(&mut self, item: T) -> Result<(), AllocError>
+        ensures ok { OnOk result (self.new ≡ self.old ++ item ∷ []) }
+        ensures err { OnErr result (self.new ≡ self.old) }
+    {
+        self.items.push(item)?;
+        Ok(())
+    }
+}
+
+impl<T: Copied + Drop> Copied for Seq<T> {
+    fn copy(&self, alloc: Global) -> Result<Self, AllocError> {
+        let mut items = Vec::with_capacity(alloc, self.items.len())?;
+        for item in self.items.as_slice() {
+            items.push(item.copy(alloc)?)?;
+        }
+        Ok(Seq { items })
+    }
+}
