@@ -1,3 +1,4 @@
 pub mod Texts
 pub mod Channels
 pub mod Outside
+pub mod Memory

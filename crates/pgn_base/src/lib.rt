@@ -1,9 +1,18 @@
-//! x
+//! What every other crate speaks of: names and payloads, sessions, databases and transaction numbers, the lists and sets made
+//! of them, the enums of answers, and the outside as two traits.
+//!
+//! A value is valid by its type: a `Name` has 1 to 63 bytes and an `Xid` is at least 3, and a layer above need not test it
+//! again. Contracts see a name or a payload as its bytes, a number type as its number, and a list as a list.
+//!
+//! `Source` and `Sink` are where bytes come from and go to. Each tells its bytes where it can, and counts its faults, so that
+//! an answer "read failed" or "write failed" has a cause that a contract can name.
 #![tactic(auto)]
 
 mod answers;
 mod copied;
 mod listen_set;
+mod memory_sink;
+mod memory_source;
 mod name;
 mod note;
 mod numbers;
@@ -16,6 +25,8 @@ mod source;
 pub use answers::{Needs, Refusal, Tag, Warning, Which};
 pub use copied::Copied;
 pub use listen_set::{Action, Actions, ListenSet};
+pub use memory_sink::MemSink;
+pub use memory_source::MemSource;
 pub use name::{Name, NameFault, Names};
 pub use note::{Deliveries, Delivery, Note, Notes};
 pub use numbers::{DbOid, SessionNo, Xid};
