@@ -1,0 +1,96 @@
+-- Laws of the walk over a trace.
+use Rattle.std.proofs.Common.{◌≡◌, ℕ, zero, suc, ◌+◌, ◌-◌, ◌<◌, ◌≤◌, List, [], ◌∷◌, ◌++◌, length, Option, Some, None, IsSomeAnd, IfSome, slice_get, fold, sym, ap, ◌∙◌, refl, subst, arith, length-append}
+use Rattle.pgn_model.specs.declared.tx.Tx.{Tx}
+use Rattle.pgn_model.specs.declared.item.Item.{Item}
+use Rattle.pgn_model.specs.declared.item.Item.TheVariants.{Line, Enlist, Publish, QueueFull, Leave, Reply, Refuse, Channels, Used, Raise, Found, TimedOut, Read}
+use Rattle.pgn_model.specs.Journal.{entry}
+use Rattle.pgn_model.specs.Due.{due}
+use Rattle.pgn_model.specs.Along.{Along}
+use Rattle.pgn_model.specs.Walk.{Terms, State, after, start, Allowed, Enlists, Publishes, Reads, IsCommittedBy}
+use Rattle.pgn_model.specs.Trace.{IsLawful, state_after, Stands}
+use Rattle.pgn_model.proofs.DueLaws.{due-grows}
+
+-- one more item at the end
+pub Along-push : {S I : Type 0} (next : S → I → S) (P : S → I → Type 0) (s : S) (items : List I) (item : I) → Along next P s items → P (fold next s items) item → Along next P s (items ++ item ∷ [])
+Along-push next P s [] item h p = (p, tt)
+Along-push next P s (i ∷ items) item h p = (h.0, Along-push next P (next s i) items item h.1 p)
+
+pub fold-push : {S I : Type 0} (next : S → I → S) (s : S) (items : List I) (item : I) → fold next s (items ++ item ∷ []) ≡ next (fold next s items) item
+fold-push next s [] item = refl
+fold-push next s (i ∷ items) item = fold-push next (next s i) items item
+
+-- a front of the list
+pub Along-front : {S I : Type 0} (next : S → I → S) (P : S → I → Type 0) (s : S) (front rest : List I) → Along next P s (front ++ rest) → Along next P s front
+Along-front next P s [] rest h = tt
+Along-front next P s (i ∷ front) rest h = (h.0, Along-front next P (next s i) front rest h.1)
+
+-- what implies another fact in each state
+pub Along-weaker : {S I : Type 0} (next : S → I → S) (P Q : S → I → Type 0) → ((s : S) (item : I) → P s item → Q s item) → (s : S) (items : List I) → Along next P s items → Along next Q s items
+Along-weaker next P Q f s [] h = tt
+Along-weaker next P Q f s (i ∷ items) h = (f s i h.0, Along-weaker next P Q f (next s i) items h.1)
+
+-- the state may be given by an equation
+pub Along-push_at : {S I : Type 0} (next : S → I → S) (P : S → I → Type 0) (first s : S) (items : List I) (item : I) → fold next first items ≡ s → Along next P first items → P s item → Along next P first (items ++ item ∷ [])
+Along-push_at {S = S} next P first s items item e h p = Along-push next P first items item h (subst (λ (t : S). P t item) (sym e) p)
+
+pub Stands-push : (terms : Terms) (journal : List Tx) (items : List Item) (s : State) (item : Item) → Stands terms journal items s → Allowed terms journal s item → Stands terms journal (items ++ item ∷ []) (after s item)
+Stands-push terms journal items s item h p = record {
+  lawful = Along-push_at after (Allowed terms journal) (start terms.section) s items item h.state h.lawful p;
+  state = fold-push after (start terms.section) items item ∙ ap (λ (t : State). after t item) h.state;
+}
+
+-- an entry stays where it is as the journal grows
+entry-append : (journal more : List Tx) (k : ℕ) (P : Tx → Type 0) → IsSomeAnd (slice_get journal k) P → IsSomeAnd (slice_get (journal ++ more) k) P
+entry-append [] more k P h = absurd h
+entry-append (tx ∷ journal) more zero P h = h
+entry-append (tx ∷ journal) more (suc k) P h = entry-append journal more k P h
+
+longer : (journal more : List Tx) (n : ℕ) → n ≤ 3 + length journal → n ≤ 3 + length (journal ++ more)
+longer journal more n h = omega (arith, length-append journal more)
+
+-- what is allowed over a journal is allowed over a longer one
+pub Allowed-grows : (terms : Terms) (journal more : List Tx) (s : State) (item : Item) → Allowed terms journal s item → Allowed terms (journal ++ more) s item
+Allowed-grows terms journal more s (Line line) h = h
+Allowed-grows terms journal more s (Enlist base point) h = record {
+  due_here = h.due_here;
+  first = h.first;
+  ordered = h.ordered;
+  after_told = h.after_told;
+  after_marks = h.after_marks;
+  in_journal = longer journal more point h.in_journal;
+}
+Allowed-grows terms journal more s (Publish xid notes) h = record {
+  due_here = h.due_here;
+  after_told = h.after_told;
+  after_mark = h.after_mark;
+  in_journal = entry-append journal more (xid - 3) (IsCommittedBy terms.section notes) h.in_journal;
+}
+Allowed-grows terms journal more s (QueueFull full notes) h = absurd h
+Allowed-grows terms journal more s Leave h = absurd h
+Allowed-grows terms journal more s (Reply tag warning) h = h
+Allowed-grows terms journal more s (Refuse refusal) h = absurd h
+Allowed-grows terms journal more s (Channels names) h = absurd h
+Allowed-grows terms journal more s (Used usage) h = absurd h
+Allowed-grows terms journal more s (Raise value) h = absurd h
+Allowed-grows terms journal more s (Found value) h = absurd h
+Allowed-grows terms journal more s (TimedOut looks) h = absurd h
+Allowed-grows terms journal more s (Read from to got) h = record {
+  answered = h.answered;
+  idle = h.idle;
+  from_mark = h.from_mark;
+  forward = h.forward;
+  after_told = h.after_told;
+  in_journal = longer journal more to h.in_journal;
+  received = h.received ∙ sym (due-grows journal more from to terms.section.db s.set h.in_journal);
+}
+
+pub Stands-grows : (terms : Terms) (journal more : List Tx) (items : List Item) (s : State) → Stands terms journal items s → Stands terms (journal ++ more) items s
+Stands-grows terms journal more items s h = record {
+  lawful = Along-weaker after (Allowed terms journal) (Allowed terms (journal ++ more)) (λ t item. Allowed-grows terms journal more t item) (start terms.section) items h.lawful;
+  state = h.state;
+}
+
+pub lawful-front : (terms : Terms) (journal : List Tx) (front rest : List Item) → IsLawful terms journal (front ++ rest) → IsLawful terms journal front
+lawful-front terms journal front rest h = Along-front after (Allowed terms journal) (start terms.section) front rest h
+
+pub ruleset walk_laws = (Stands-grows, lawful-front)

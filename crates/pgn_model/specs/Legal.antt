@@ -1,0 +1,60 @@
+-- A journal and all traces together are a run of a scenario.
+use Rattle.std.specs.Prelude.{◌≡◌, ℕ, ◌+◌, ◌≤◌, ◌==◌, Bool, true, List, [], ◌∷◌, length, Option, Some, None, IfSome, All, filter_map}
+use Rattle.std.specs.List.{list_any}
+use Rattle.pgn_model.specs.declared.tx.Tx.{Tx}
+use Rattle.pgn_model.specs.declared.scenario.Section.{Section}
+use Rattle.pgn_model.specs.declared.scenario.Scenario.{Scenario}
+use Rattle.pgn_model.specs.declared.item.Item.{Item}
+use Rattle.pgn_model.specs.declared.item.Item.TheVariants.{Enlist, Publish, QueueFull, Used, Raise, Found, Read}
+use Rattle.pgn_model.specs.declared.trace.Trace.{Trace}
+use Rattle.pgn_model.specs.Journal.{IsFinished, xids_of}
+use Rattle.pgn_model.specs.Walk.{Settings, Terms}
+use Rattle.pgn_model.specs.Trace.{TraceOk, Fresh}
+
+-- there is one trace for each section, in order, and P holds of each
+abbrev pub EachTrace : Settings → (Terms → Trace → Type 0) → List Section → List Trace → Type 0
+EachTrace settings P [] [] = Unit {0}
+EachTrace settings P (section ∷ sections) (trace ∷ traces) = P (record { section = section; settings = settings }) trace × EachTrace settings P sections traces
+EachTrace settings P sections traces = ⊥
+
+-- the number of a transaction that an item shows as finished
+abbrev pub finished_xid : Item → Option ℕ
+finished_xid (Publish xid notes) = Some xid
+finished_xid (QueueFull full notes) = Some full.xid
+finished_xid item = None
+
+-- the numbers of the transactions that a trace shows as finished, in order
+abbrev pub finished_xids : List Item → List ℕ
+finished_xids items = filter_map finished_xid items
+
+-- some section has this number
+abbrev pub names_section : List Section → ℕ → Bool
+names_section sections session = list_any (λ section. section.no == session) sections
+
+-- the numbers, marks and flags' numbers that an item shows are at most n (those of a read's notifications are below its end)
+abbrev pub IsShownWithin : ℕ → Item → Type 0
+IsShownWithin n (Enlist base point) = (base ≤ n) × (point ≤ n)
+IsShownWithin n (Publish xid notes) = xid ≤ n
+IsShownWithin n (QueueFull full notes) = (full.xid ≤ n) × (full.floor_mark ≤ n)
+IsShownWithin n (Used usage) = (usage.at ≤ n) × (usage.floor_mark ≤ n)
+IsShownWithin n (Raise value) = value ≤ n
+IsShownWithin n (Found value) = value ≤ n
+IsShownWithin n (Read from to got) = (from ≤ n) × (to ≤ n)
+IsShownWithin n item = Unit {0}
+
+-- the journal and the traces are a legal run of the scenario
+pub record Legal (scenario : Scenario) (settings : Settings) (journal : List Tx) (traces : List Trace) : Type 0 where
+  -- each session's trace is lawful
+  pub lawful : EachTrace settings (λ terms trace. TraceOk terms trace journal) scenario.sections traces
+  -- no read was left out
+  pub fresh : EachTrace settings (λ terms trace. Fresh terms trace journal) scenario.sections traces
+  -- the journal has each session's finished transactions once and in its order
+  pub own : EachTrace settings (λ terms trace. finished_xids trace.items ≡ xids_of terms.section.no journal) scenario.sections traces
+  -- each transaction of the journal is finished
+  pub finished : All IsFinished journal
+  -- each transaction of the journal is some session's
+  pub named : All (λ tx. names_section scenario.sections tx.session ≡ true) journal
+  -- no number is shown that is past the journal
+  pub shown : All (λ trace. All (IsShownWithin (3 + length journal)) trace.items) traces
+  -- who is a listener at the end has read all of the journal
+  pub read_all : All (λ trace. IfSome trace.last (λ mark. mark ≡ 3 + length journal)) traces

@@ -1,0 +1,12 @@
+pub use Rattle.pgn_base.specs.Channels
+pub mod Journal
+pub mod Due
+pub mod Savepoints
+pub mod Answers
+pub mod Along
+pub mod Walk
+pub mod Trace
+pub mod Legal
+pub mod Text
+pub mod Laws
+pub mod Rows

@@ -1,0 +1,51 @@
+-- Which traces are lawful, and which leave no read out.
+use Rattle.std.specs.Prelude.{◌≡◌, ℕ, false, List, [], Option, IfSome, fold}
+use Rattle.std.specs.List.{list_any}
+use Rattle.pgn_model.specs.declared.tx.Tx.{Tx}
+use Rattle.pgn_model.specs.declared.block_state.BlockState.TheVariants.{Idle}
+use Rattle.pgn_model.specs.declared.item.Item.{Item}
+use Rattle.pgn_model.specs.declared.item.Item.TheVariants.{Line}
+use Rattle.pgn_model.specs.declared.trace.Trace.{Trace}
+use Rattle.pgn_model.specs.Journal.{entries_between, is_committed_in}
+use Rattle.pgn_model.specs.Along.{Along}
+use Rattle.pgn_model.specs.Walk.{Terms, State, Nothing, start, after, Allowed}
+
+-- the state after items
+abbrev pub state_after : Terms → List Item → State
+state_after terms items = fold after (start terms.section) items
+
+-- each item so far is allowed in the state before it
+abbrev pub IsLawful : Terms → List Tx → List Item → Type 0
+IsLawful terms journal items = Along after (Allowed terms journal) (start terms.section) items
+
+-- the script is done, its last line has its whole answer, and this is the mark
+pub record IsEnd (s : State) (last : Option ℕ) : Type 0 where
+  pub answered : s.owed ≡ Nothing
+  pub done : s.rest ≡ []
+  pub mark : s.mark ≡ last
+
+-- a session's trace is lawful over a journal
+pub record TraceOk (terms : Terms) (trace : Trace) (journal : List Tx) : Type 0 where
+  pub session : trace.session ≡ terms.section.no
+  pub database : trace.db ≡ terms.section.db
+  pub lawful : IsLawful terms journal trace.items
+  pub ended : IsEnd (state_after terms trace.items) trace.last
+
+-- no transaction of the session's database that it was told of is committed and unread
+abbrev pub IsUpToDate : Terms → List Tx → State → Type 0
+IsUpToDate terms journal s = IfSome s.mark (λ mark. list_any (is_committed_in terms.section.db) (entries_between journal mark s.told) ≡ false)
+
+-- where a line begins, the one before it left no read out, unless a block is open
+abbrev pub IsFreshAt : Terms → List Tx → State → Item → Type 0
+IsFreshAt terms journal s (Line line) = s.block ≡ Idle → IsUpToDate terms journal s
+IsFreshAt terms journal s item = Unit {0}
+
+-- no read was left out at the end of any line; after the last line no block is open any more
+pub record Fresh (terms : Terms) (trace : Trace) (journal : List Tx) : Type 0 where
+  pub between_lines : Along after (IsFreshAt terms journal) (start terms.section) trace.items
+  pub at_end : IsUpToDate terms journal (state_after terms trace.items)
+
+-- items that are lawful so far, and the state that they lead to
+pub record Stands (terms : Terms) (journal : List Tx) (items : List Item) (s : State) : Type 0 where
+  pub lawful : IsLawful terms journal items
+  pub state : state_after terms items ≡ s

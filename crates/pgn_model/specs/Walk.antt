@@ -1,0 +1,215 @@
+-- The walk over a session's trace: what it carries, what each item does to it, and which item is allowed.
+use Rattle.std.specs.Prelude.{◌≡◌, ℕ, ◌+◌, ◌<◌, ◌≤◌, ◌⊎◌, max, Bool, true, false, ◌&&◌, List, [], ◌∷◌, ◌++◌, length, Option, Some, None, if◌then◌else◌, is_some, is_none, IfSome, IsSomeAnd, All, filter_map}
+use Rattle.std.specs.List.{list_any}
+use Rattle.pgn_base.specs.declared.note.Note.{Note}
+use Rattle.pgn_base.specs.declared.note.Delivery.{Delivery}
+use Rattle.pgn_base.specs.declared.answers.Tag.{Tag}
+use Rattle.pgn_base.specs.declared.answers.Warning.{Warning}
+use Rattle.pgn_base.specs.declared.answers.Refusal.{Refusal}
+use Rattle.pgn_base.specs.declared.answers.Refusal.TheVariants as refusal
+use Rattle.pgn_base.specs.declared.listen_set.Action.{Action}
+use Rattle.pgn_base.specs.Channels.{applied}
+use Rattle.pgn_model.specs.declared.tx.Tx.{Tx}
+use Rattle.pgn_model.specs.declared.tx.Fate.TheVariants.{Committed, Aborted}
+use Rattle.pgn_model.specs.declared.block_state.BlockState.{BlockState}
+use Rattle.pgn_model.specs.declared.block_state.BlockState.TheVariants.{Idle, InBlock, Failed}
+use Rattle.pgn_model.specs.declared.command.Command.{Command}
+use Rattle.pgn_model.specs.declared.scenario.Act.{Act}
+use Rattle.pgn_model.specs.declared.scenario.Act.TheVariants.{Run, Signal, Await, Quit}
+use Rattle.pgn_model.specs.declared.scenario.ScriptLine.{ScriptLine}
+use Rattle.pgn_model.specs.declared.scenario.Section.{Section}
+use Rattle.pgn_model.specs.declared.item.Item.{Item}
+use Rattle.pgn_model.specs.declared.item.Item.TheVariants.{Line, Enlist, Publish, QueueFull, Leave, Reply, Refuse, Channels, Used, Raise, Found, TimedOut, Read}
+use Rattle.pgn_model.specs.Journal.{entry}
+use Rattle.pgn_model.specs.Due.{due}
+use Rattle.pgn_model.specs.Savepoints.{Change, live_names, surviving_actions, surviving_notes, firsts, is_listen, changes_of}
+use Rattle.pgn_model.specs.Answers.{Cell, Commits, Replies, Refuses, Unserved, answer}
+
+-- what the command line sets: the queue's limit in pages, and how many looks an await takes
+pub record Settings : Type 0 where
+  pub limit : ℕ
+  pub patience : ℕ
+
+-- what holds where the command line sets nothing
+abbrev pub default_settings : Settings
+default_settings = record { limit = 256; patience = 10000000 }
+
+-- what a trace is judged by
+pub record Terms : Type 0 where
+  pub section : Section
+  pub settings : Settings
+
+-- how a line's answer ends
+pub data Ending : Type 0 where
+  Replied : (tag : Tag) → (warning : Option Warning) → Ending
+  Refused : (refusal : Refusal) → Ending
+
+-- what the current line still has to show
+pub data Owed : Type 0 where
+  Nothing : Owed
+  -- the session becomes a listener, and then as Queueing
+  Enlisting : (actions : List Action) → (notes : List Note) → (ending : Ending) → Owed
+  -- the notifications are published or meet a full queue, and then the actions take effect
+  Queueing : (actions : List Action) → (notes : List Note) → (ending : Ending) → Owed
+  -- the session stops being a listener
+  Leaving : (ending : Ending) → Owed
+  -- the answer
+  Answering : (ending : Ending) → Owed
+  -- no lawful trace goes on from here
+  Barred : Owed
+
+-- what the walk carries
+pub record State : Type 0 where
+  -- the lines of the script that are still to come
+  pub rest : List ScriptLine
+  -- what the current line still has to show
+  pub owed : Owed
+  -- the state of the transaction block
+  pub block : BlockState
+  -- the list of the open block
+  pub changes : List Change
+  -- the channels listened to, in order of listening
+  pub set : List (List ℕ)
+  -- up to where a listener has read
+  pub mark : Option ℕ
+  -- the session knows that every transaction below this number is finished
+  pub told : ℕ
+  -- every base, point and end of a read so far
+  pub marks : List ℕ
+  -- each flag that was raised or found so far, with its number
+  pub flags : List (ℕ × ℕ)
+
+-- before the first item
+abbrev pub start : Section → State
+start section = record { rest = section.lines; owed = Nothing; block = Idle; changes = []; set = []; mark = None; told = 3; marks = []; flags = [] }
+
+-- no channel is listened to
+abbrev pub is_empty : List (List ℕ) → Bool
+is_empty [] = true
+is_empty (channel ∷ channels) = false
+
+-- a listener whose set is empty leaves before the answer
+abbrev pub left_over : State → Ending → State
+left_over s ending = if is_some s.mark && is_empty s.set then record s { owed = Leaving ending } else record s { owed = Answering ending }
+
+-- the actions take effect
+abbrev pub settled : State → List Action → Ending → State
+settled s actions ending = left_over (record s { set = applied s.set actions }) ending
+
+-- the notifications come next, if there are any
+abbrev pub joined : State → List Action → List Note → Ending → State
+joined s actions [] ending = settled s actions ending
+joined s actions (note ∷ notes) ending = record s { owed = Queueing actions (note ∷ notes) ending }
+
+-- a commit of a transaction's list: a session that is to listen and is no listener becomes one first
+abbrev pub committing : State → List Change → Ending → State
+committing s changes ending =
+    let actions = surviving_actions changes in
+    let notes = firsts (surviving_notes changes) in
+    let idle : State = record s { block = Idle; changes = [] } in
+    if list_any is_listen actions && is_none s.mark then record idle { owed = Enlisting actions notes ending } else joined idle actions notes ending
+
+-- a command begins, with its cell of the table
+abbrev pub at_cell : State → Command → Cell → State
+at_cell s command (Commits tag) = committing s (s.changes ++ changes_of command) (Replied tag None)
+at_cell s command (Replies tag warning next) = record s { owed = Barred }
+at_cell s command (Refuses refusal next) = record s { owed = Barred }
+at_cell s command Unserved = record s { owed = Barred }
+
+-- a line of the script begins
+abbrev pub at_act : State → Act → State
+at_act s (Run command) = at_cell s command (answer s.block (live_names s.changes) s.set command)
+at_act s (Signal flag) = record s { owed = Barred }
+at_act s (Await flag) = record s { owed = Barred }
+at_act s Quit = record s { owed = Barred }
+
+-- the next line of the script begins
+abbrev pub at_line : State → List ScriptLine → State
+at_line s [] = record s { owed = Barred }
+at_line s (line ∷ lines) = at_act (record s { rest = lines }) line.act
+
+-- a session has become a listener
+abbrev pub at_enlist : State → Owed → State
+at_enlist s (Enlisting actions notes ending) = joined s actions notes ending
+at_enlist s owed = s
+
+-- a transaction has committed
+abbrev pub at_publish : State → Owed → State
+at_publish s (Queueing actions notes ending) = settled s actions ending
+at_publish s owed = s
+
+-- the state after an item
+abbrev pub after : State → Item → State
+after s (Line line) = at_line s s.rest
+after s (Enlist base point) = at_enlist (record s { mark = Some point; marks = s.marks ++ base ∷ [] ++ point ∷ [] }) s.owed
+after s (Publish xid notes) = at_publish (record s { told = max s.told (xid + 1) }) s.owed
+after s (Reply tag warning) = record s { owed = Nothing }
+after s (Read from to got) = record s { mark = Some to; marks = s.marks ++ to ∷ [] }
+after s item = s
+
+-- a line of this number comes next
+abbrev pub IsNext : ℕ → List ScriptLine → Type 0
+IsNext n [] = ⊥
+IsNext n (line ∷ lines) = line.line ≡ n
+
+-- the session is to become a listener
+abbrev pub IsEnlisting : Owed → Type 0
+IsEnlisting (Enlisting actions notes ending) = Unit {0}
+IsEnlisting owed = ⊥
+
+-- these notifications are to be published
+abbrev pub IsQueueing : List Note → Owed → Type 0
+IsQueueing notes (Queueing actions others ending) = notes ≡ others
+IsQueueing notes owed = ⊥
+
+-- the entry is this session's, of its database, with these notifications, and committed
+pub record IsCommittedBy (section : Section) (notes : List Note) (tx : Tx) : Type 0 where
+  pub by_session : tx.session ≡ section.no
+  pub in_database : tx.db ≡ section.db
+  pub with_notes : tx.notes ≡ notes
+  pub committed : tx.fate ≡ Committed
+
+-- a script line: the one before it has its whole answer, and it is the next
+pub record Lines (s : State) (line : ℕ) : Type 0 where
+  pub answered : s.owed ≡ Nothing
+  pub next : IsNext line s.rest
+
+-- a session becomes a listener: it is delivered to from the point on, which is no earlier than what it was told or read before
+pub record Enlists (journal : List Tx) (s : State) (base point : ℕ) : Type 0 where
+  pub due_here : IsEnlisting s.owed
+  pub first : 3 ≤ base
+  pub ordered : base ≤ point
+  pub after_told : s.told ≤ point
+  pub after_marks : All (λ mark. mark ≤ point) s.marks
+  pub in_journal : point ≤ 3 + length journal
+
+-- a transaction committed: it stands in the journal, after what the session was told or has read
+pub record Publishes (terms : Terms) (journal : List Tx) (s : State) (xid : ℕ) (notes : List Note) : Type 0 where
+  pub due_here : IsQueueing notes s.owed
+  pub after_told : s.told ≤ xid
+  pub after_mark : IfSome s.mark (λ mark. mark ≤ xid)
+  pub in_journal : IsSomeAnd (entry journal xid) (IsCommittedBy terms.section notes)
+
+-- no block is open; at the script's end an open block is dropped
+abbrev pub IsIdle : State → Type 0
+IsIdle s = (s.block ≡ Idle) ⊎ (s.rest ≡ [])
+
+-- a read, from the mark on and to no earlier than what the session was told: it received what was due on the channels that it
+-- listens to now
+pub record Reads (terms : Terms) (journal : List Tx) (s : State) (from to : ℕ) (got : List Delivery) : Type 0 where
+  pub answered : s.owed ≡ Nothing
+  pub idle : IsIdle s
+  pub from_mark : s.mark ≡ Some from
+  pub forward : from < to
+  pub after_told : s.told ≤ to
+  pub in_journal : to ≤ 3 + length journal
+  pub received : got ≡ due journal from to terms.section.db s.set
+
+-- the item is allowed in a state; a kind that nothing makes yet is not
+abbrev pub Allowed : Terms → List Tx → State → Item → Type 0
+Allowed terms journal s (Line line) = Lines s line
+Allowed terms journal s (Enlist base point) = Enlists journal s base point
+Allowed terms journal s (Publish xid notes) = Publishes terms journal s xid notes
+Allowed terms journal s (Reply tag warning) = s.owed ≡ Answering (Replied tag warning)
+Allowed terms journal s (Read from to got) = Reads terms journal s from to got
+Allowed terms journal s item = ⊥

@@ -1,0 +1,30 @@
+//! The definitions that every promise is stated in, in `specs/`, and the types that they speak of: a finished transaction, the
+//! items of a session's trace, a scenario, a command.
+//!
+//! The journal is the list of finished transactions, and grows at its end; the transaction numbered x stands at x - 3. A trace
+//! is lawful where a walk over its items, which carries all that the session knows, allows each item in the state before it.
+//! `Legal` says of a journal and all traces together that they are a run of a scenario, and `text` is the output that shows
+//! them.
+//!
+//! Laws over the definitions, and worked examples computed from them, stand on public functions with an empty body.
+#![tactic(auto)]
+
+mod block_state;
+mod command;
+mod item;
+mod laws;
+mod line_text;
+mod rows;
+mod scenario;
+mod trace;
+mod tx;
+
+pub use block_state::BlockState;
+pub use command::Command;
+pub use item::{Item, Items};
+pub use laws::{due_grows, due_splits, lawful_front, lawful_grows, lawful_pushes};
+pub use line_text::LineText;
+pub use rows::{empty_section, self_notify};
+pub use scenario::{Act, Scenario, ScenarioFault, ScriptLine, ScriptLines, Section, Sections};
+pub use trace::Trace;
+pub use tx::{Fate, Tx};

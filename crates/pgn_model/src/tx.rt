@@ -1,0 +1,33 @@
+use pgn_base::{Copied, DbOid, Notes, SessionNo};
+use std::alloc::{AllocError, Global};
+
+/// How a finished transaction ended.
+#[derive(Clone, Copy, Debug, PartialEq, Eq)]
+pub enum Fate {
+    Committed,
+    Aborted,
+}
+
+/// A finished transaction that drew a number: who sent which notifications in which database, how many of them were queued, and
+/// how it ended.
+#[derive(Debug, Drop)]
+pub struct Tx {
+    pub session: SessionNo,
+    pub db: DbOid,
+    pub notes: Notes,
+    pub queued: u32,
+    pub fate: Fate,
+}
+
+impl Copied for Tx {
+    fn copy(&self, alloc: Global) -> Result<Self, AllocError> {
+        let notes = self.notes.copy(alloc)?;
+        Ok(Tx {
+            session: self.session,
+            db: self.db,
+            notes,
+            queued: self.queued,
+            fate: self.fate,
+        })
+    }
+}
