@@ -1,5 +1,5 @@
 -- What an input reads as on the first path: one section, whose lines are LISTEN and NOTIFY in one exact spelling.
-use Rattle.std.specs.Prelude.{◌≡◌, ℕ, ◌+◌, ◌-◌, ◌*◌, ◌<◌, ◌≤◌, ◌⊎◌, ◌&&◌, ◌||◌, ◌==◌, not, Bool, true, false, List, [], ◌∷◌, ◌++◌, length, cond, codes, fold, nat_le, slice_get, IfSome, Option, Some, None, count_by}
+use Rattle.std.specs.Prelude.{◌≡◌, ℕ, ◌+◌, ◌-◌, ◌*◌, ◌<◌, ◌≤◌, ◌⊎◌, ◌&&◌, ◌||◌, ◌==◌, not, Bool, true, false, List, [], ◌∷◌, ◌++◌, length, cond, codes, fold, nat_le, slice_get, IfSome, Option, Some, None, count_by, All}
 use Rattle.std.specs.List.{list_all}
 use Rattle.pgn_base.specs.declared.note.Note.{Note}
 use Rattle.pgn_model.specs.declared.command.Command.{Command}
@@ -165,3 +165,17 @@ LinesBreakAt (head ∷ lines) at = ((at ≡ 1) × (IsHeadLine head → ⊥)) ⊎
 -- the lowest line that breaks an input's reading, and 0 for an input past the limit
 abbrev pub BreaksAt : List ℕ → ℕ → Type 0
 BreaksAt input at = ((input_limit < length input) × (at ≡ 0)) ⊎ ((length input ≤ input_limit) × LinesBreakAt (lines_of input) at)
+
+-- an act that a session serves
+abbrev pub IsServedAct : Act → Type 0
+IsServedAct (Run (Listen channel)) = Unit {0}
+IsServedAct (Run (Notify note)) = Unit {0}
+IsServedAct act = ⊥
+
+-- the scenario is one section whose lines are all served, and they are no more than the bytes of an input
+pub record IsServed (scenario : Scenario) : Type 0 where
+  pub section : Section
+  pub alone : scenario ≡ one_section section
+  pub first : section.no ≡ 1
+  pub served : All (λ line. IsServedAct line.act) section.lines
+  pub few : length section.lines ≤ input_limit
