@@ -1,0 +1,205 @@
+ghost use Rattle.std.specs.Prelude.{◌≡◌, ℕ, ◌+◌, ◌^◌, ◌<◌, ◌≤◌, [], ◌∷◌, ◌++◌, length, filter, map, drop, IfOk, OnOk, All};
+ghost use Rattle.pgn_model.specs.Due.{due, given, listens, delivery};
+
+use pgn_base::{Action, Copied, DbOid, Deliveries, Delivery, ListenSet, Name, Note, Notes, Seq, Tag, Xid};
+use pgn_model::{Act, Command, Fate, Item, Items, ScriptLine, Section, Tx};
+use std::alloc::{AllocError, Global};
+
+/// One session over the list of finished transactions.
+#[derive(Debug, Drop)]
+pub struct Session {
+    pub journal: Seq<Tx>,
+    pub items: Items,
+    pub set: ListenSet,
+    pub mark: Option<Xid>,
+    pub told: Xid,
+}
+
+impl Session {
+    ghost use Rattle.pgn_run.specs.Session.{begun, enlisted, listened, notified, acted, read_on, ran, fresh_session};
+    ghost use Rattle.pgn_run.specs.Reading.{IsServedAct};
+
+    pub fn new(alloc: Global) -> Session
+        ensures { result ≡ fresh_session }
+    {
+        Session {
+            journal: Seq::new(alloc),
+            items: Items::new(alloc),
+            set: ListenSet::new(alloc),
+            mark: None,
+            told: Xid::new(3),
+        }
+    }
+
+    /// Runs a line of the script, and then reads what is unread.
+    pub fn run_line(
+        &mut self,
+        alloc: Global,
+        section: &Section,
+        line: &ScriptLine,
+    ) -> Result<(), AllocError>
+        requires served { IsServedAct line.now.act }
+        requires room { length self.old.journal < 2 ^ 31 }
+        ensures ran { OnOk result (self.new ≡ ran section.now line.now self.old) }
+    {
+        self.items.push(Item::Line { line: line.line })?;
+        self.act(alloc, section, &line.act)?;
+        self.read(alloc, section)?;
+        Ok(())
+    }
+
+    fn act(&mut self, alloc: Global, section: &Section, act: &Act) -> Result<(), AllocError>
+        requires served { IsServedAct act.now }
+        requires room { length self.old.journal < 2 ^ 31 }
+        ensures acted { OnOk result (self.new ≡ acted section.now act.now self.old) }
+        ensures grown { OnOk result (length self.new.journal ≤ length self.old.journal + 1) }
+    {
+        match act {
+            Act::Run(Command::Listen(name)) => self.listen(alloc, name),
+            Act::Run(Command::Notify(note)) => self.notify(alloc, section, note),
+            _ => unreachable!(),
+        }
+    }
+
+    // The number of the next transaction.
+    fn next_xid(&self) -> Xid
+        requires { length self.now.journal < 2 ^ 31 + 1 }
+        ensures { result ≡ 3 + length self.now.journal }
+    {
+        Xid::new(3 + self.journal.as_slice().len() as u32)
+    }
+
+    fn listen(&mut self, alloc: Global, name: &Name) -> Result<(), AllocError>
+        requires room { length self.old.journal < 2 ^ 31 }
+        ensures listened { OnOk result (self.new ≡ listened name.now self.old) }
+        ensures grown { OnOk result (length self.new.journal ≤ length self.old.journal + 1) }
+    {
+        let mut actions = Seq::new(alloc);
+        actions.push(Action::Listen(name.copy(alloc)?))?;
+        let set = self.set.with(&actions)?;
+        self.enlist()?;
+        self.set = set;
+        self.items.push(Item::Reply {
+            tag: Tag::Listen,
+            warning: None,
+        })?;
+        Ok(())
+    }
+
+    // Makes the session a listener, if it is none. There is no other, so all of the journal is still there.
+    fn enlist(&mut self) -> Result<(), AllocError>
+        requires room { length self.old.journal < 2 ^ 31 }
+        ensures enlisted { OnOk result (self.new ≡ enlisted self.old) }
+    {
+        if self.mark.is_some() {
+            return Ok(());
+        }
+        let point = self.next_xid();
+        self.items.push(Item::Enlist {
+            base: Xid::new(3),
+            point,
+        })?;
+        self.mark = Some(point);
+        Ok(())
+    }
+
+    fn notify(&mut self, alloc: Global, section: &Section, note: &Note) -> Result<(), AllocError>
+        requires room { length self.old.journal < 2 ^ 31 }
+        ensures notified { OnOk result (self.new ≡ notified section.now note.now self.old) }
+        ensures grown { OnOk result (length self.new.journal ≤ length self.old.journal + 1) }
+    {
+        let xid = self.next_xid();
+        let tx = Tx {
+            session: section.no,
+            db: section.db,
+            notes: only_note(alloc, note)?,
+            queued: 1,
+            fate: Fate::Committed,
+        };
+        let notes = only_note(alloc, note)?;
+        self.journal.push(tx)?;
+        self.items.push(Item::Publish { xid, notes })?;
+        self.told = Xid::new(xid.get() + 1);
+        self.items.push(Item::Reply {
+            tag: Tag::Notify,
+            warning: None,
+        })?;
+        Ok(())
+    }
+
+    // Reads from the mark to the journal's end, where something is unread.
+    fn read(&mut self, alloc: Global, section: &Section) -> Result<(), AllocError>
+        requires room { length self.old.journal < 2 ^ 31 + 1 }
+        ensures read { OnOk result (self.new ≡ read_on section.now.db self.old) }
+    {
+        let Some(from) = self.mark else {
+            return Ok(());
+        };
+        let to = self.next_xid();
+        if from >= to {
+            return Ok(());
+        }
+        let journal = self.journal.as_slice();
+        let got = scan(alloc, journal, from, to, section.db, &self.set)?;
+        self.items.push(Item::Read { from, to, got })?;
+        self.mark = Some(to);
+        Ok(())
+    }
+}
+
+// A list of one notification.
+fn only_note(alloc: Global, note: &Note) -> Result<Notes, AllocError>
+    ensures { IfOk result (λ notes. notes ≡ note.now ∷ []) }
+{
+    let mut notes = Notes::new(alloc);
+    notes.push(note.copy(alloc)?)?;
+    Ok(notes)
+}
+
+// What is due from one number up to another, taken from the journal by index.
+fn scan(
+    alloc: Global,
+    journal: &[Tx],
+    from: Xid,
+    to: Xid,
+    db: DbOid,
+    set: &ListenSet,
+) -> Result<Deliveries, AllocError>
+    requires ordered { from ≤ to }
+    requires within { to ≤ 3 + length journal.now }
+    ensures due { IfOk result (λ got. got ≡ due journal.now from to db set.now) }
+{
+    let mut got = Deliveries::new(alloc);
+    for k in from.get() - 3..to.get() - 3 {
+        give(alloc, Xid::new(3 + k), &journal[k as usize], db, set, &mut got)?;
+    }
+    Ok(got)
+}
+
+// What one transaction gives.
+fn give(
+    alloc: Global,
+    xid: Xid,
+    tx: &Tx,
+    db: DbOid,
+    set: &ListenSet,
+    got: &mut Deliveries,
+) -> Result<(), AllocError>
+    ensures given { OnOk result (got.new ≡ got.old ++ given db set.now xid tx.now) }
+{
+    if tx.fate != Fate::Committed || tx.db != db {
+        return Ok(());
+    }
+    for note in tx.notes.as_slice() {
+        if !set.contains(note.channel.as_bytes()) {
+            continue;
+        }
+        let note = note.copy(alloc)?;
+        got.push(Delivery {
+            xid,
+            pid: 1000 + tx.session.get(),
+            note,
+        })?;
+    }
+    Ok(())
+}
