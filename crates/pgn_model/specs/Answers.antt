@@ -5,7 +5,7 @@ use Rattle.pgn_base.specs.declared.answers.Tag.TheVariants as tag
 use Rattle.pgn_base.specs.declared.answers.Warning.{Warning}
 use Rattle.pgn_base.specs.declared.answers.Refusal.{Refusal}
 use Rattle.pgn_model.specs.declared.block_state.BlockState.{BlockState}
-use Rattle.pgn_model.specs.declared.block_state.BlockState.TheVariants.{Idle, InBlock, Failed}
+use Rattle.pgn_model.specs.declared.block_state.BlockState.TheVariants.{Idle}
 use Rattle.pgn_model.specs.declared.command.Command.{Command}
 use Rattle.pgn_model.specs.declared.command.Command.TheVariants.{Listen, Notify}
 
@@ -17,6 +17,12 @@ pub data Cell : Type 0 where
   Replies : (tag : Tag) → (warning : Option Warning) → (next : BlockState) → Cell
   -- the refusal, and the new state
   Refuses : (refusal : Refusal) → (next : BlockState) → Cell
+  -- nothing is answered
+  Silent : Cell
+  -- the rows of the listening set, and their number; the state stays
+  ShowsChannels : Cell
+  -- the row of the queue's usage; the state stays
+  ShowsUsage : Cell
   -- a cell that no lawful trace meets yet
   Unserved : Cell
 

@@ -14,7 +14,7 @@ listens channels note = has_channel channels note.channel
 abbrev pub delivery : ℕ → ℕ → Note → Delivery
 delivery x session note = record { xid = x; pid = 1000 + session; note = note }
 
--- what a transaction, numbered x, gives to a reader of a database with these channels
+-- what a transaction, numbered x, gives to a reader in this database that listens on these channels
 abbrev pub given : ℕ → List (List ℕ) → ℕ → Tx → List Delivery
 given db channels x tx = cond (is_committed_in db tx) (map (delivery x tx.session) (filter (listens channels) tx.notes)) []
 
@@ -23,7 +23,7 @@ abbrev pub due_from : ℕ → List (List ℕ) → ℕ → List Tx → List Deliv
 due_from db channels x [] = []
 due_from db channels x (tx ∷ txs) = given db channels x tx ++ due_from db channels (x + 1) txs
 
--- what a reader of a database with these channels is owed from the mark m up to n: the notifications on its channels of each
--- committed transaction of its database, in order
+-- what a reader in this database that listens on these channels is owed from the mark m, which is at least 3, up to n: the
+-- notifications on its channels of each committed transaction of its database, in order
 abbrev pub due : List Tx → ℕ → ℕ → ℕ → List (List ℕ) → List Delivery
 due journal m n db channels = due_from db channels m (entries_between journal m n)

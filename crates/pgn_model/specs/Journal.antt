@@ -8,7 +8,7 @@ use Rattle.pgn_model.specs.declared.tx.Fate.TheVariants.{Committed, Aborted}
 abbrev pub entry : List Tx → ℕ → Option Tx
 entry journal x = slice_get journal (x - 3)
 
--- the transactions numbered from m up to n, and not n
+-- the transactions numbered from m, which is at least 3, up to n, and not n
 abbrev pub entries_between : List Tx → ℕ → ℕ → List Tx
 entries_between journal m n = drop (m - 3) (take (n - 3) journal)
 

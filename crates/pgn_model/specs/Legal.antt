@@ -54,7 +54,7 @@ pub record Legal (scenario : Scenario) (settings : Settings) (journal : List Tx)
   pub finished : All IsFinished journal
   -- each transaction of the journal is some session's
   pub named : All (λ tx. names_section scenario.sections tx.session ≡ true) journal
-  -- no number is shown that is past the journal
+  -- no number is shown that is past 3 and the journal's length
   pub shown : All (λ trace. All (IsShownWithin (3 + length journal)) trace.items) traces
   -- who is a listener at the end has read all of the journal
   pub read_all : All (λ trace. IfSome trace.last (λ mark. mark ≡ 3 + length journal)) traces

@@ -9,4 +9,4 @@ pub mod Trace
 pub mod Legal
 pub mod Text
 pub mod Laws
-pub mod Rows
+pub mod Examples

@@ -54,7 +54,7 @@ entries_text x (tx ∷ txs) = entry_text x tx ++ entries_text (x + 1) txs
 abbrev pub journal_text : List Tx → List ℕ
 journal_text journal = line (codes "journal " ++ decimal (length journal)) ++ entries_text 3 journal
 
--- the text of the script line of a number
+-- the text of the first script line with this number
 abbrev pub line_text : ℕ → List ScriptLine → List ℕ
 line_text n [] = []
 line_text n (line ∷ lines) = cond (line.line == n) line.text (line_text n lines)

@@ -31,7 +31,7 @@ pub record TraceOk (terms : Terms) (trace : Trace) (journal : List Tx) : Type 0 
   pub lawful : IsLawful terms journal trace.items
   pub ended : IsEnd (state_after terms trace.items) trace.last
 
--- no transaction of the session's database that it was told of is committed and unread
+-- a listener has read every committed transaction of its database that it was told of
 abbrev pub IsUpToDate : Terms → List Tx → State → Type 0
 IsUpToDate terms journal s = IfSome s.mark (λ mark. list_any (is_committed_in terms.section.db) (entries_between journal mark s.told) ≡ false)
 

@@ -1,29 +1,28 @@
 -- The walk over a session's trace: what it carries, what each item does to it, and which item is allowed.
-use Rattle.std.specs.Prelude.{◌≡◌, ℕ, ◌+◌, ◌<◌, ◌≤◌, ◌⊎◌, max, Bool, true, false, ◌&&◌, List, [], ◌∷◌, ◌++◌, length, Option, Some, None, if◌then◌else◌, is_some, is_none, IfSome, IsSomeAnd, All, filter_map}
+use Rattle.std.specs.Prelude.{◌≡◌, ℕ, ◌+◌, ◌<◌, ◌≤◌, ◌⊎◌, max, Bool, true, false, ◌&&◌, List, [], ◌∷◌, ◌++◌, length, Option, Some, None, if◌then◌else◌, is_some, is_none, IfSome, IsSomeAnd, All}
 use Rattle.std.specs.List.{list_any}
 use Rattle.pgn_base.specs.declared.note.Note.{Note}
 use Rattle.pgn_base.specs.declared.note.Delivery.{Delivery}
 use Rattle.pgn_base.specs.declared.answers.Tag.{Tag}
 use Rattle.pgn_base.specs.declared.answers.Warning.{Warning}
 use Rattle.pgn_base.specs.declared.answers.Refusal.{Refusal}
-use Rattle.pgn_base.specs.declared.answers.Refusal.TheVariants as refusal
 use Rattle.pgn_base.specs.declared.listen_set.Action.{Action}
 use Rattle.pgn_base.specs.Channels.{applied}
 use Rattle.pgn_model.specs.declared.tx.Tx.{Tx}
-use Rattle.pgn_model.specs.declared.tx.Fate.TheVariants.{Committed, Aborted}
+use Rattle.pgn_model.specs.declared.tx.Fate.TheVariants.{Committed}
 use Rattle.pgn_model.specs.declared.block_state.BlockState.{BlockState}
-use Rattle.pgn_model.specs.declared.block_state.BlockState.TheVariants.{Idle, InBlock, Failed}
+use Rattle.pgn_model.specs.declared.block_state.BlockState.TheVariants.{Idle}
 use Rattle.pgn_model.specs.declared.command.Command.{Command}
 use Rattle.pgn_model.specs.declared.scenario.Act.{Act}
 use Rattle.pgn_model.specs.declared.scenario.Act.TheVariants.{Run, Signal, Await, Quit}
 use Rattle.pgn_model.specs.declared.scenario.ScriptLine.{ScriptLine}
 use Rattle.pgn_model.specs.declared.scenario.Section.{Section}
 use Rattle.pgn_model.specs.declared.item.Item.{Item}
-use Rattle.pgn_model.specs.declared.item.Item.TheVariants.{Line, Enlist, Publish, QueueFull, Leave, Reply, Refuse, Channels, Used, Raise, Found, TimedOut, Read}
+use Rattle.pgn_model.specs.declared.item.Item.TheVariants.{Line, Enlist, Publish, Reply, Read}
 use Rattle.pgn_model.specs.Journal.{entry}
 use Rattle.pgn_model.specs.Due.{due}
 use Rattle.pgn_model.specs.Savepoints.{Change, live_names, surviving_actions, surviving_notes, firsts, is_listen, changes_of}
-use Rattle.pgn_model.specs.Answers.{Cell, Commits, Replies, Refuses, Unserved, answer}
+use Rattle.pgn_model.specs.Answers.{Cell, Commits, Replies, Refuses, Silent, ShowsChannels, ShowsUsage, Unserved, answer}
 
 -- what the command line sets: the queue's limit in pages, and how many looks an await takes
 pub record Settings : Type 0 where
@@ -39,7 +38,7 @@ pub record Terms : Type 0 where
   pub section : Section
   pub settings : Settings
 
--- how a line's answer ends
+-- how a line is answered
 pub data Ending : Type 0 where
   Replied : (tag : Tag) → (warning : Option Warning) → Ending
   Refused : (refusal : Refusal) → Ending
@@ -70,7 +69,7 @@ pub record State : Type 0 where
   pub changes : List Change
   -- the channels listened to, in order of listening
   pub set : List (List ℕ)
-  -- up to where a listener has read
+  -- a listener has read everything below this number
   pub mark : Option ℕ
   -- the session knows that every transaction below this number is finished
   pub told : ℕ
@@ -88,13 +87,13 @@ abbrev pub is_empty : List (List ℕ) → Bool
 is_empty [] = true
 is_empty (channel ∷ channels) = false
 
--- a listener whose set is empty leaves before the answer
-abbrev pub left_over : State → Ending → State
-left_over s ending = if is_some s.mark && is_empty s.set then record s { owed = Leaving ending } else record s { owed = Answering ending }
+-- the answer comes next; a listener whose set is empty leaves first
+abbrev pub leaving_or_answering : State → Ending → State
+leaving_or_answering s ending = if is_some s.mark && is_empty s.set then record s { owed = Leaving ending } else record s { owed = Answering ending }
 
 -- the actions take effect
 abbrev pub settled : State → List Action → Ending → State
-settled s actions ending = left_over (record s { set = applied s.set actions }) ending
+settled s actions ending = leaving_or_answering (record s { set = applied s.set actions }) ending
 
 -- the notifications come next, if there are any
 abbrev pub joined : State → List Action → List Note → Ending → State
@@ -114,6 +113,9 @@ abbrev pub at_cell : State → Command → Cell → State
 at_cell s command (Commits tag) = committing s (s.changes ++ changes_of command) (Replied tag None)
 at_cell s command (Replies tag warning next) = record s { owed = Barred }
 at_cell s command (Refuses refusal next) = record s { owed = Barred }
+at_cell s command Silent = record s { owed = Barred }
+at_cell s command ShowsChannels = record s { owed = Barred }
+at_cell s command ShowsUsage = record s { owed = Barred }
 at_cell s command Unserved = record s { owed = Barred }
 
 -- a line of the script begins
@@ -169,15 +171,16 @@ pub record IsCommittedBy (section : Section) (notes : List Note) (tx : Tx) : Typ
   pub with_notes : tx.notes ≡ notes
   pub committed : tx.fate ≡ Committed
 
--- a script line: the one before it has its whole answer, and it is the next
-pub record Lines (s : State) (line : ℕ) : Type 0 where
+-- a script line begins: the one before it has its whole answer, and it is the next
+pub record Begins (s : State) (line : ℕ) : Type 0 where
   pub answered : s.owed ≡ Nothing
   pub next : IsNext line s.rest
 
--- a session becomes a listener: it is delivered to from the point on, which is no earlier than what it was told or read before
+-- a session becomes a listener: it is delivered to from the point on, which is no earlier than what it was told or read before,
+-- and within the journal, so that a longer journal changes nothing
 pub record Enlists (journal : List Tx) (s : State) (base point : ℕ) : Type 0 where
-  pub due_here : IsEnlisting s.owed
-  pub first : 3 ≤ base
+  pub expected : IsEnlisting s.owed
+  pub from_first : 3 ≤ base
   pub ordered : base ≤ point
   pub after_told : s.told ≤ point
   pub after_marks : All (λ mark. mark ≤ point) s.marks
@@ -185,20 +188,20 @@ pub record Enlists (journal : List Tx) (s : State) (base point : ℕ) : Type 0 w
 
 -- a transaction committed: it stands in the journal, after what the session was told or has read
 pub record Publishes (terms : Terms) (journal : List Tx) (s : State) (xid : ℕ) (notes : List Note) : Type 0 where
-  pub due_here : IsQueueing notes s.owed
+  pub expected : IsQueueing notes s.owed
   pub after_told : s.told ≤ xid
   pub after_mark : IfSome s.mark (λ mark. mark ≤ xid)
   pub in_journal : IsSomeAnd (entry journal xid) (IsCommittedBy terms.section notes)
 
--- no block is open; at the script's end an open block is dropped
-abbrev pub IsIdle : State → Type 0
-IsIdle s = (s.block ≡ Idle) ⊎ (s.rest ≡ [])
+-- the session may read here: between lines where no block is open; at the script's end an open block is dropped
+abbrev pub MayRead : State → Owed → Type 0
+MayRead s Nothing = (s.block ≡ Idle) ⊎ (s.rest ≡ [])
+MayRead s owed = ⊥
 
 -- a read, from the mark on and to no earlier than what the session was told: it received what was due on the channels that it
--- listens to now
+-- listens to now (and its end is within the journal, so that a longer journal changes nothing)
 pub record Reads (terms : Terms) (journal : List Tx) (s : State) (from to : ℕ) (got : List Delivery) : Type 0 where
-  pub answered : s.owed ≡ Nothing
-  pub idle : IsIdle s
+  pub in_turn : MayRead s s.owed
   pub from_mark : s.mark ≡ Some from
   pub forward : from < to
   pub after_told : s.told ≤ to
@@ -207,7 +210,7 @@ pub record Reads (terms : Terms) (journal : List Tx) (s : State) (from to : ℕ)
 
 -- the item is allowed in a state; a kind that nothing makes yet is not
 abbrev pub Allowed : Terms → List Tx → State → Item → Type 0
-Allowed terms journal s (Line line) = Lines s line
+Allowed terms journal s (Line line) = Begins s line
 Allowed terms journal s (Enlist base point) = Enlists journal s base point
 Allowed terms journal s (Publish xid notes) = Publishes terms journal s xid notes
 Allowed terms journal s (Reply tag warning) = s.owed ≡ Answering (Replied tag warning)

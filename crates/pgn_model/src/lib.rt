@@ -11,20 +11,20 @@
 
 mod block_state;
 mod command;
+mod examples;
 mod item;
 mod laws;
 mod line_text;
-mod rows;
 mod scenario;
 mod trace;
 mod tx;
 
 pub use block_state::BlockState;
 pub use command::Command;
+pub use examples::{empty_section, self_notify};
 pub use item::{Item, Items};
 pub use laws::{due_grows, due_splits, lawful_front, lawful_grows, lawful_pushes};
 pub use line_text::LineText;
-pub use rows::{empty_section, self_notify};
 pub use scenario::{Act, Scenario, ScenarioFault, ScriptLine, ScriptLines, Section, Sections};
 pub use trace::Trace;
 pub use tx::{Fate, Tx};

@@ -19,7 +19,7 @@ use Rattle.pgn_model.specs.declared.scenario.Section.{Section}
 use Rattle.pgn_model.specs.Journal.{IsFinished, entries_between, is_committed_in, xids_of, xids_from, entry}
 use Rattle.pgn_model.specs.Due.{due}
 use Rattle.pgn_model.specs.Along.{Along}
-use Rattle.pgn_model.specs.Walk.{Terms, State, Owed, Nothing, Enlisting, Queueing, Answering, Ending, Replied, start, after, Allowed, is_empty, Leaving, left_over, IsCommittedBy, default_settings}
+use Rattle.pgn_model.specs.Walk.{Terms, State, Owed, Nothing, Enlisting, Queueing, Answering, Ending, Replied, start, after, Allowed, is_empty, Leaving, leaving_or_answering, IsCommittedBy, default_settings}
 use Rattle.pgn_model.specs.declared.trace.Trace.{Trace}
 use Rattle.pgn_model.specs.Trace.{IsFreshAt, IsUpToDate, IsEnd, Stands, state_after}
 use Rattle.pgn_model.specs.Legal.{finished_xid, finished_xids, IsShownWithin, names_section, Legal}
@@ -146,8 +146,8 @@ listened-some (other ∷ set) channel = either (has_channel (other ∷ set) chan
   either false = refl
 
 -- a listener whose set is not empty stays one
-left_over-stays : (s : State) (ending : Ending) → (is_some s.mark && is_empty s.set) ≡ false → left_over s ending ≡ record s { owed = Answering ending }
-left_over-stays s ending e =
+answering-stays : (s : State) (ending : Ending) → (is_some s.mark && is_empty s.set) ≡ false → leaving_or_answering s ending ≡ record s { owed = Answering ending }
+answering-stays s ending e =
     let leaving : State = record s { owed = Leaving ending } in
     let answering : State = record s { owed = Answering ending } in
     ap (λ (b : Bool). if b then leaving else answering) e
@@ -176,9 +176,9 @@ listen-first section n text channel rest journal items set told h =
     let told_within : told ≤ point = omega (arith, h.told) in
     let one = IsAt-push section before journal items (Line n) h.at (record { answered = refl; next = refl }) (line-is-fresh section journal before n h.told h.caught_up) tt refl in
     let two = IsAt-push section (after before (Line n)) journal (items ++ Line n ∷ []) (Enlist 3 point) one
-        (record { due_here = tt; first = omega arith; ordered = omega arith; after_told = told_within; after_marks = h.marks_within; in_journal = omega arith })
+        (record { expected = tt; from_first = omega arith; ordered = omega arith; after_told = told_within; after_marks = h.marks_within; in_journal = omega arith })
         (tt, told_within) (omega arith, omega arith) refl in
-    let stays : after (after before (Line n)) (Enlist 3 point) ≡ joined = left_over-stays (standing rest now (Some point) told marks) ending (listened-some set channel) in
+    let stays : after (after before (Line n)) (Enlist 3 point) ≡ joined = answering-stays (standing rest now (Some point) told marks) ending (listened-some set channel) in
     let at : IsAt section joined journal ((items ++ Line n ∷ []) ++ Enlist 3 point ∷ []) = subst (λ (t : State). IsAt section t journal ((items ++ Line n ∷ []) ++ Enlist 3 point ∷ [])) stays two in
     let three = IsAt-push section joined journal ((items ++ Line n ∷ []) ++ Enlist 3 point ∷ []) (Reply tag.Listen None) at refl (tt, told_within) tt refl in
     record {
@@ -202,7 +202,7 @@ listen-again section n text channel rest journal items set mark told h =
     let joined : State = record (standing rest now (Some mark) told h.marks) { owed = Answering ending } in
     let told_within : told ≤ 3 + length journal = omega (arith, h.told) in
     let one = IsAt-push section before journal items (Line n) h.at (record { answered = refl; next = refl }) (line-is-fresh section journal before n h.told h.caught_up) tt refl in
-    let stays : after before (Line n) ≡ joined = left_over-stays (standing rest now (Some mark) told h.marks) ending (listened-some set channel) in
+    let stays : after before (Line n) ≡ joined = answering-stays (standing rest now (Some mark) told h.marks) ending (listened-some set channel) in
     let at : IsAt section joined journal (items ++ Line n ∷ []) = subst (λ (t : State). IsAt section t journal (items ++ Line n ∷ [])) stays one in
     let two = IsAt-push section joined journal (items ++ Line n ∷ []) (Reply tag.Listen None) at refl (tt, told_within) tt refl in
     record {
@@ -240,9 +240,9 @@ notify-line section n text note rest journal items set mark told h =
     let by : IsCommittedBy section (note ∷ []) (sent section note) = record { by_session = refl; in_database = refl; with_notes = refl; committed = refl } in
     let place : x - 3 ≡ length journal = omega arith in
     let stands_there : IsSomeAnd (entry longer x) (IsCommittedBy section (note ∷ [])) = subst (λ (k : ℕ). IsSomeAnd (slice_get longer k) (IsCommittedBy section (note ∷ []))) (sym place) (entry-last journal (sent section note) (IsCommittedBy section (note ∷ [])) by) in
-    let two = IsAt-publish section queueing journal begun note one (record { due_here = refl; after_told = told_within; after_mark = unread mark h.caught_up; in_journal = stands_there }) told_within in
+    let two = IsAt-publish section queueing journal begun note one (record { expected = refl; after_told = told_within; after_mark = unread mark h.caught_up; in_journal = stands_there }) told_within in
     let told_is : max told (x + 1) ≡ x + 1 = omega (arith, h.told) in
-    let stays : after queueing (Publish x (note ∷ [])) ≡ answering = left_over-stays published ending (listens_on mark h.listening) ∙ ap (λ (k : ℕ). let t : State = record (standing rest set mark k h.marks) { owed = Answering ending } in t) told_is in
+    let stays : after queueing (Publish x (note ∷ [])) ≡ answering = answering-stays published ending (listens_on mark h.listening) ∙ ap (λ (k : ℕ). let t : State = record (standing rest set mark k h.marks) { owed = Answering ending } in t) told_is in
     let at : IsAt section answering longer done = subst (λ (t : State). IsAt section t longer done) stays two in
     let three = IsAt-push section answering longer done (Reply tag.Notify None) at refl (tt, omega (arith, len)) tt refl in
     record {
@@ -279,7 +279,7 @@ read-on section rest journal items set mark told h true e =
     record {
       marks = h.marks ++ to ∷ [];
       at = IsAt-push section before journal items (Read mark to (due journal mark to section.db set)) h.at
-        (record { answered = refl; idle = inl refl; from_mark = refl; forward = forward; after_told = told_within; in_journal = omega arith; received = refl })
+        (record { in_turn = inl refl; from_mark = refl; forward = forward; after_told = told_within; in_journal = omega arith; received = refl })
         (tt, told_within) (h.behind, omega arith) refl;
       marks_within = All-push (λ (m : ℕ). m ≤ to) h.marks to h.marks_within (omega arith);
       told = h.told;

@@ -26,12 +26,15 @@ self_notify_section = record {
   note_lines = 1;
 }
 
+-- the scenario of this section
 abbrev pub self_notify_scenario : Scenario
 self_notify_scenario = record { sections = self_notify_section ∷ []; flags = [] }
 
+-- its journal: one committed transaction
 abbrev pub self_notify_journal : List Tx
 self_notify_journal = record { session = 1; db = 1; notes = hello ∷ []; queued = 1; fate = Committed } ∷ []
 
+-- its trace: the session becomes a listener, commits and receives its own notification
 abbrev pub self_notify_trace : Trace
 self_notify_trace = record {
   session = 1;
@@ -41,6 +44,7 @@ self_notify_trace = record {
   last = Some 4;
 }
 
+-- its output
 abbrev pub self_notify_text : List ℕ
 self_notify_text = codes "journal 1\nxid 3 session 1 commit 1\n  \"c\", 'x'\nsession 1 a db 1 pid 1001\n> LISTEN c\n+enlist 3 3\nLISTEN\n> NOTIFY c, 'x'\n+publish 3\nNOTIFY\n+read 3 4\n  3 1001 \"c\", 'x'\nend mark 4\n"
 
@@ -48,8 +52,10 @@ self_notify_text = codes "journal 1\nxid 3 session 1 commit 1\n  \"c\", 'x'\nses
 abbrev pub empty_scenario : Scenario
 empty_scenario = record { sections = record { no = 1; name = codes "a"; db = 1; lines = []; note_lines = 0 } ∷ []; flags = [] }
 
+-- its trace
 abbrev pub empty_trace : Trace
 empty_trace = record { session = 1; db = 1; items = []; last = None }
 
+-- its output
 abbrev pub empty_text : List ℕ
 empty_text = codes "journal 0\nsession 1 a db 1 pid 1001\nend\n"

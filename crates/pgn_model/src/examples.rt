@@ -2,7 +2,7 @@ ghost use Rattle.std.specs.Prelude.{◌≡◌, [], ◌∷◌};
 ghost use Rattle.pgn_model.specs.Walk.{default_settings};
 ghost use Rattle.pgn_model.specs.Legal.{Legal};
 ghost use Rattle.pgn_model.specs.Text.{text};
-ghost use Rattle.pgn_model.specs.Rows.{self_notify_scenario, self_notify_journal, self_notify_trace, self_notify_text, empty_scenario, empty_trace, empty_text};
+ghost use Rattle.pgn_model.specs.Examples.{self_notify_scenario, self_notify_journal, self_notify_trace, self_notify_text, empty_scenario, empty_trace, empty_text};
 
 /// A session that listens on a channel and notifies it receives its own notification.
 pub fn self_notify()

@@ -1,6 +1,6 @@
 use Rattle.std.proofs.Common.{refl}
 use Rattle.std.specs.Fmt.{digits}
-use Rattle.pgn_model.proofs.rows.empty_section.Goals as goal
+use Rattle.pgn_model.proofs.examples.self_notify.Goals as goal
 
 pub returns-clause-shown : goal.returns-clause-shown
 unfolding digits
