@@ -35,3 +35,6 @@ pub use queue_answers::{Enlisted, Full, Usage};
 pub use seq::Seq;
 pub use sink::{Sink, write_all};
 pub use source::{Failed, Source};
+
+#[cfg(test)]
+mod tests;
