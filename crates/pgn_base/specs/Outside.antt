@@ -6,7 +6,7 @@ use Rattle.std.specs.Io.KnownBytes.{Appends}
 abbrev pub last_count : ℕ
 last_count = 18446744073709551615
 
--- a fault was counted between these two counts
+-- the count rose between these two, or stands at its last value
 abbrev pub Rose : ℕ → ℕ → Type 0
 Rose before now = (before < now) ⊎ (last_count ≤ now)
 

@@ -1,13 +1,15 @@
 -- Which texts are names and payloads.
-use Rattle.std.specs.Prelude.{ℕ, ◌<◌, List, length, Contains}
+use Rattle.std.specs.Prelude.{ℕ, ◌<◌, List, length, Contains, IsUtf8}
 
--- a name has 1 to 63 bytes and no zero byte
+-- a name is 1 to 63 bytes of UTF-8, none of them zero
 pub record IsName (bytes : List ℕ) : Type 0 where
+  pub text : IsUtf8 bytes
   pub some : 0 < length bytes
   pub short : length bytes < 64
   pub no_nul : Contains bytes 0 → ⊥
 
--- a payload has at most 7,999 bytes and no zero byte
+-- a payload is at most 7,999 bytes of UTF-8, none of them zero
 pub record IsPayload (bytes : List ℕ) : Type 0 where
+  pub text : IsUtf8 bytes
   pub short : length bytes < 8000
   pub no_nul : Contains bytes 0 → ⊥
