@@ -1,5 +1,5 @@
 -- A line of the script leads from one state between lines to the next, and the end of the script to a legal run.
-use Rattle.std.proofs.Common.{◌≡◌, ℕ, zero, suc, ◌+◌, ◌-◌, ◌<◌, ◌≤◌, max, Bool, true, false, cond, ◌&&◌, ◌||◌, List, [], ◌∷◌, ◌++◌, length, take, drop, Option, Some, None, IsSomeAnd, IfSome, All, slice_get, fold, filter_map, nat_lt, ◌==◌, eq-eqb, ltb-true, ltb-false, lt-ltb, le-ltb, is_some, is_none, if◌then◌else◌, not, slice_index_or, add-zero, sym, ap, ◌∙◌, refl, subst, inl, arith, length-append, append_assoc, append-nil}
+use Rattle.std.proofs.Common.{◌≡◌, ℕ, zero, suc, ◌+◌, ◌-◌, ◌<◌, ◌≤◌, max, Bool, true, false, cond, ◌&&◌, ◌||◌, List, [], ◌∷◌, ◌++◌, length, take, drop, Option, Some, None, IsSomeAnd, IfSome, All, slice_get, fold, filter_map, nat_lt, ◌==◌, eq-eqb, ltb-true, ltb-false, lt-ltb, le-ltb, is_some, is_none, if◌then◌else◌, not, slice_index_or, get_or, drop-cons, add-one, add-zero, sym, ap, ◌∙◌, refl, subst, inl, arith, length-append, append_assoc, append-nil}
 use Rattle.std.proofs.lemmas.List.{take-append-le}
 use Rattle.std.proofs.lemmas.List.Elements.{All-append, All-push, All-nil, filter_map-append}
 use Rattle.std.specs.List.{list_any, cons_option}
@@ -16,6 +16,7 @@ use Rattle.pgn_model.specs.declared.scenario.Act.{Act}
 use Rattle.pgn_model.specs.declared.scenario.Act.TheVariants.{Run, Signal, Await, Quit}
 use Rattle.pgn_model.specs.declared.scenario.ScriptLine.{ScriptLine}
 use Rattle.pgn_model.specs.declared.scenario.Section.{Section}
+use Rattle.pgn_model.specs.declared.scenario.Scenario.{Scenario}
 use Rattle.pgn_model.specs.Journal.{IsFinished, entries_between, is_committed_in, xids_of, xids_from, entry}
 use Rattle.pgn_model.specs.Due.{due}
 use Rattle.pgn_model.specs.Along.{Along}
@@ -25,7 +26,7 @@ use Rattle.pgn_model.specs.Trace.{IsFreshAt, IsUpToDate, IsEnd, Stands, state_af
 use Rattle.pgn_model.specs.Legal.{finished_xid, finished_xids, IsShownWithin, names_section, Legal}
 use Rattle.pgn_model.proofs.WalkLaws.{Along-push_at, Along-weaker, Stands-push, Stands-grows}
 use Rattle.pgn_run.specs.declared.session.Session.{Session}
-use Rattle.pgn_run.specs.Reading.{IsServedAct, one_section}
+use Rattle.pgn_run.specs.Reading.{IsServedAct, IsServed, one_section}
 use Rattle.pgn_run.specs.Session.{fresh_session, listened, notified, sent, ran, read_on, read_from, acted}
 use Rattle.pgn_run.specs.SoFar.{terms_of, standing, IsFreshWithin, IsAt, IsAnswered, IsSoFar, trace_of}
 
@@ -371,3 +372,27 @@ run-is-legal section s h = record {
   at_end = subst (λ (t : State). IsUpToDate (terms_of section) s.journal t) (sym h.at.stands.state) (unread s.mark h.caught_up)
   named : (tx : Tx) → tx.session ≡ section.no → names_section (section ∷ []) tx.session ≡ true
   named tx e = ap (λ (b : Bool). b || false) (eq-eqb section.no tx.session (sym e))
+
+-- the line at a place of the script
+pub line-runs_at : (section : Section) (lines : List ScriptLine) (k : ℕ) (line : ScriptLine) (s next : Session)
+    → k < length lines → line ≡ get_or lines k line → All (λ (l : ScriptLine). IsServedAct l.act) lines
+    → IsSoFar section (drop k lines) s → next ≡ ran section line s → IsSoFar section (drop (k + 1) lines) next
+line-runs_at section lines k line s next within is served h e =
+    let split : drop k lines ≡ line ∷ drop (k + 1) lines = drop-cons lines k line within ∙ ap (λ (l : ScriptLine). l ∷ drop (suc k) lines) (sym is) ∙ ap (λ (n : ℕ). line ∷ drop n lines) (sym (add-one k)) in
+    let act : IsServedAct line.act = subst (λ (l : ScriptLine). IsServedAct l.act) (sym is) (served k line within) in
+    let from : IsSoFar section (line ∷ drop (k + 1) lines) s = subst (λ (ls : List ScriptLine). IsSoFar section ls s) split h in
+    subst (λ (t : Session). IsSoFar section (drop (k + 1) lines) t) (sym e) (line-runs section line (drop (k + 1) lines) s act from)
+
+-- the first section of a served scenario is its only one
+pub only-section : (scenario : Scenario) (served : IsServed scenario) (sections : List Section) (section : Section)
+    → sections ≡ scenario.sections → section ≡ get_or sections 0 section → section ≡ served.section
+only-section scenario served sections section e is =
+    is ∙ ap (λ (xs : List Section). get_or xs 0 section) (e ∙ ap (λ (t : Scenario). t.sections) served.alone)
+
+-- a served scenario that was run to its end is a legal run
+pub scenario-is-legal : (scenario : Scenario) (served : IsServed scenario) (section : Section) (s : Session) (traces : List Trace)
+    → section ≡ served.section → IsSoFar section [] s → traces ≡ trace_of section s ∷ [] → Legal scenario default_settings s.journal traces
+scenario-is-legal scenario served section s traces is h e =
+    let one : scenario ≡ one_section section = served.alone ∙ ap one_section (sym is) in
+    let run : Legal (one_section section) default_settings s.journal traces = subst (λ (ts : List Trace). Legal (one_section section) default_settings s.journal ts) (sym e) (run-is-legal section s h) in
+    subst (λ (t : Scenario). Legal t default_settings s.journal traces) (sym one) run

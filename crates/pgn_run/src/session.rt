@@ -1,8 +1,12 @@
 ghost use Rattle.std.specs.Prelude.{◌≡◌, ℕ, ◌+◌, ◌^◌, ◌<◌, ◌≤◌, [], ◌∷◌, ◌++◌, length, filter, map, drop, IfOk, OnOk, All};
 ghost use Rattle.pgn_model.specs.Due.{due, given, listens, delivery};
+ghost use Rattle.pgn_model.specs.Walk.{default_settings};
+ghost use Rattle.pgn_model.specs.Legal.{Legal};
+ghost use Rattle.pgn_run.specs.Reading.{IsServedAct, IsServed, input_limit};
+ghost use Rattle.pgn_run.specs.SoFar.{IsSoFar};
 
 use pgn_base::{Action, Copied, DbOid, Deliveries, Delivery, ListenSet, Name, Note, Notes, Seq, Tag, Xid};
-use pgn_model::{Act, Command, Fate, Item, Items, ScriptLine, Section, Tx};
+use pgn_model::{Act, Command, Fate, Item, Items, Scenario, ScriptLine, Section, Trace, Tx};
 use std::alloc::{AllocError, Global};
 
 /// One session over the list of finished transactions.
@@ -41,6 +45,7 @@ impl Session {
         requires served { IsServedAct line.now.act }
         requires room { length self.old.journal < 2 ^ 31 }
         ensures ran { OnOk result (self.new ≡ ran section.now line.now self.old) }
+        ensures grown { OnOk result (length self.new.journal ≤ length self.old.journal + 1) }
     {
         self.items.push(Item::Line { line: line.line })?;
         self.act(alloc, section, &line.act)?;
@@ -131,6 +136,7 @@ impl Session {
     fn read(&mut self, alloc: Global, section: &Section) -> Result<(), AllocError>
         requires room { length self.old.journal < 2 ^ 31 + 1 }
         ensures read { OnOk result (self.new ≡ read_on section.now.db self.old) }
+        ensures kept { OnOk result (self.new.journal ≡ self.old.journal) }
     {
         let Some(from) = self.mark else {
             return Ok(());
@@ -202,4 +208,45 @@ fn give(
         })?;
     }
     Ok(())
+}
+
+/// A run of a scenario: the journal, and the trace of each session.
+#[derive(Debug, Drop)]
+pub struct Run {
+    pub journal: Seq<Tx>,
+    pub traces: Seq<Trace>,
+}
+
+/// Runs a scenario of one section.
+pub fn run_scenario(alloc: Global, scenario: &Scenario) -> Result<Run, AllocError>
+    requires { IsServed scenario.now }
+    ensures legal { IfOk result (λ run. Legal scenario.now default_settings run.journal run.traces) }
+{
+    let [section] = scenario.sections.as_slice() else {
+        unreachable!();
+    };
+    let session = run_section(alloc, section)?;
+    let mut traces = Seq::new(alloc);
+    traces.push(Trace {
+        session: section.no,
+        db: section.db,
+        items: session.items,
+        last: session.mark,
+    })?;
+    Ok(Run {
+        journal: session.journal,
+        traces,
+    })
+}
+
+fn run_section(alloc: Global, section: &Section) -> Result<Session, AllocError>
+    requires served { All (λ line. IsServedAct line.act) section.now.lines }
+    requires few { length section.now.lines ≤ input_limit }
+    ensures done { IfOk result (λ session. IsSoFar section.now [] session) }
+{
+    let mut session = Session::new(alloc);
+    for line in section.lines.as_slice() {
+        session.run_line(alloc, section, line)?;
+    }
+    Ok(session)
 }
