@@ -1,1 +1,4 @@
+pub mod LinesLaws
+pub mod ReadingLaws
+pub mod RunLaws
 pub mod SoFarLaws

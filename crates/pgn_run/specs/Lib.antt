@@ -1,3 +1,5 @@
 pub mod Reading
+pub mod Spelling
 pub mod Session
 pub mod SoFar
+pub mod Run

@@ -1,0 +1,102 @@
+ghost use Rattle.std.specs.Prelude.{◌≡◌, ◌≢◌, ◌⊎◌, ◌↔◌, ◌≤◌, ℕ, map, take, IfSome, OnSome, IsSomeAnd, IsTrue};
+ghost use Rattle.std.specs.Io.KnownBytes.{Appends, Consumes, IsAtEnd};
+ghost use Rattle.pgn_base.specs.Outside.{AppendsFront, Rose};
+ghost use Rattle.pgn_model.specs.declared.scenario.Scenario.{Scenario};
+ghost use Rattle.pgn_model.specs.declared.scenario.ScenarioFault.{ScenarioFault};
+ghost use Rattle.pgn_run.specs.Reading.{ReadsAsScenario, BreaksAt};
+ghost use Rattle.pgn_run.specs.Run.{Runs, Answers, HasRead, run_words};
+
+use crate::Status;
+use crate::input::{Unread, read_input};
+use crate::reading::read;
+use crate::render::render;
+use crate::session::run_scenario;
+use pgn_base::{Sink, Source};
+use std::alloc::{AllocError, Global};
+
+const READ_LIMIT: usize = 16_777_217;
+
+/// Does all that the program does. `words` are those after the program's name; the one command is `run`: it reads a scenario
+/// from the source, runs it, and writes the journal and what each session was answered and received to the sink.
+pub fn run_notify<S: Source, K: Sink>(
+    alloc: Global,
+    words: &[&str],
+    source: &mut S,
+    sink: &mut K,
+) -> Status
+    // The headline: what was left reads as a scenario, and the text of a legal run of it was written.
+    ensures done { result ≡ Status.Done → IfSome (S.left source.old) (λ input.
+        Runs input (Appends (K.held sink.old) (K.held sink.new))) }
+    ensures done_reads_all { result ≡ Status.Done → OnSome (S.left source.old) (IsAtEnd (S.left source.new)) }
+
+    ensures bad_words { (result ≡ Status.BadWords) ↔ (map (λ word. word.now) words.now ≢ run_words) }
+    ensures bad_words_read_nothing { result ≡ Status.BadWords → source.new ≡ source.old }
+    ensures bad_words_write_nothing { result ≡ Status.BadWords → sink.new ≡ sink.old }
+
+    ensures not_built { (line : ℕ) → result ≡ Status.NotBuilt line
+        → IfSome (S.left source.old) (λ input. BreaksAt input line) }
+    ensures not_built_where_due { (line : ℕ) → map (λ word. word.now) words.now ≡ run_words
+        → IsSomeAnd (S.left source.old) (λ input. BreaksAt input line)
+        → ¬ Rose (S.faults source.old) (S.faults source.new)
+        → (result ≡ Status.NotBuilt line) ⊎ (result ≡ Status.NoMemory) }
+    ensures not_built_writes_nothing { (line : ℕ) → result ≡ Status.NotBuilt line → K.held sink.new ≡ K.held sink.old }
+
+    ensures no_bad_scenario { (fault : ScenarioFault) → result ≢ Status.BadScenario fault }
+
+    ensures read_fault { result ≡ Status.ReadFault → Rose (S.faults source.old) (S.faults source.new) }
+    ensures read_fault_writes_nothing { result ≡ Status.ReadFault → K.held sink.new ≡ K.held sink.old }
+
+    ensures write_fault { result ≡ Status.WriteFault → Rose (K.faults sink.old) (K.faults sink.new) }
+    ensures write_fault_writes_a_front { result ≡ Status.WriteFault → IfSome (S.left source.old) (λ input.
+        Runs input (AppendsFront (K.held sink.old) (K.held sink.new))) }
+
+    ensures no_memory_writes_nothing { result ≡ Status.NoMemory → K.held sink.new ≡ K.held sink.old }
+
+    // What was left is what was read and then what is left now; all of it was read, or its first 16,777,217 bytes.
+    ensures what_was_read { HasRead result → IfSome (S.left source.old) (λ left.
+        Consumes (S.left source.old) (S.left source.new) (take READ_LIMIT left)) }
+
+    ensures complete { (scenario : Scenario) → map (λ word. word.now) words.now ≡ run_words
+        → IsSomeAnd (S.left source.old) (λ input. ReadsAsScenario input scenario)
+        → ¬ Rose (S.faults source.old) (S.faults source.new)
+        → ¬ Rose (K.faults sink.old) (K.faults sink.new)
+        → (result ≡ Status.Done) ⊎ (result ≡ Status.NoMemory) }
+{
+    if !is_run(words) {
+        return Status::BadWords;
+    }
+    match read_input(alloc, source, READ_LIMIT) {
+        Ok(input) => answer(alloc, input.as_slice(), sink),
+        Err(Unread::Failed) => Status::ReadFault,
+        Err(Unread::Memory) => Status::NoMemory,
+    }
+}
+
+// Whether the words are the one command.
+fn is_run(words: &[&str]) -> bool
+    ensures { IsTrue result ↔ (map (λ word. word.now) words.now ≡ run_words) }
+{
+    match words {
+        [word] => *word == "run",
+        _ => false,
+    }
+}
+
+// Runs an input that was read.
+fn answer<K: Sink>(alloc: Global, input: &[u8], sink: &mut K) -> Status
+    ensures answers { Answers input.now (K.held sink.old) (K.held sink.new) (K.faults sink.old) (K.faults sink.new) result }
+    ensures later { K.faults sink.old ≤ K.faults sink.new }
+{
+    let scenario = match read(alloc, input) {
+        Ok(Ok(scenario)) => scenario,
+        Ok(Err(line)) => return Status::NotBuilt { line },
+        Err(AllocError) => return Status::NoMemory,
+    };
+    let Ok(run) = run_scenario(alloc, &scenario) else {
+        return Status::NoMemory;
+    };
+    match render(sink, &scenario, run.journal.as_slice(), run.traces.as_slice()) {
+        Ok(()) => Status::Done,
+        Err(_) => Status::WriteFault,
+    }
+}

@@ -1,0 +1,39 @@
+use pgn_model::ScenarioFault;
+
+/// How a run ended. Its `code` is the program's exit status.
+#[derive(Clone, Copy, Debug, PartialEq, Eq)]
+pub enum Status {
+    /// The whole output was written.
+    Done,
+    /// The words of the command line are no command.
+    BadWords,
+    /// The input is no scenario.
+    BadScenario(ScenarioFault),
+    /// The source failed.
+    ReadFault,
+    /// The sink failed; a front of the output was written.
+    WriteFault,
+    NoMemory,
+    /// The input's lowest line, from 1, that is not built yet; 0 for an input that is too large.
+    NotBuilt { line: u32 },
+}
+
+impl Status {
+    ghost use Rattle.std.specs.Prelude.{◌≡◌};
+    ghost use Rattle.pgn_run.specs.Run.{code_of};
+
+    /// The program's exit status, from 0 to 7.
+    pub fn code(&self) -> u8
+        ensures { result ≡ code_of self.now }
+    {
+        match self {
+            Status::Done => 0,
+            Status::BadWords => 2,
+            Status::BadScenario(_) => 3,
+            Status::ReadFault => 4,
+            Status::WriteFault => 5,
+            Status::NoMemory => 6,
+            Status::NotBuilt { .. } => 7,
+        }
+    }
+}
