@@ -1,0 +1,33 @@
+-- The line on standard error.
+use Rattle.std.specs.Prelude.{ℕ, List, [], ◌++◌, codes, decimal}
+use Rattle.pgn_run.specs.declared.status.Status.{Status}
+use Rattle.pgn_run.specs.declared.status.Status.TheVariants.{Done, BadWords, BadScenario, ReadFault, WriteFault, NoMemory, NotBuilt}
+use Rattle.pgn_model.specs.declared.scenario.ScenarioFault.{ScenarioFault}
+use Rattle.pgn_model.specs.declared.scenario.ScenarioFault.TheVariants.{TooLarge, LineTooLong, NotUtf8, NulByte, BadMeta, NoSession, SameName, TooMany, Empty, NeverSignalled}
+
+-- what is wrong at a line
+abbrev pub line_fault : ℕ → List ℕ → List ℕ
+line_fault line what = codes "pgnotify: line " ++ decimal line ++ what
+
+-- why an input is no scenario
+abbrev pub scenario_fault_text : ScenarioFault → List ℕ
+scenario_fault_text TooLarge = codes "pgnotify: input is larger than 16777216 bytes\n"
+scenario_fault_text (LineTooLong line) = line_fault line (codes ": line too long\n")
+scenario_fault_text (NotUtf8 at) = codes "pgnotify: byte " ++ decimal at ++ codes ": not UTF-8\n"
+scenario_fault_text (NulByte line) = line_fault line (codes ": zero byte\n")
+scenario_fault_text (BadMeta line) = line_fault line (codes ": bad meta line\n")
+scenario_fault_text (NoSession line) = line_fault line (codes ": no session\n")
+scenario_fault_text (SameName line) = line_fault line (codes ": session name used twice\n")
+scenario_fault_text (TooMany line) = line_fault line (codes ": too many\n")
+scenario_fault_text Empty = codes "pgnotify: no session\n"
+scenario_fault_text (NeverSignalled line) = line_fault line (codes ": flag is never signalled\n")
+
+-- the line of an outcome, and nothing where the run is done
+abbrev pub fault_text : Status → List ℕ
+fault_text Done = []
+fault_text BadWords = codes "usage: pgnotify run [--pages N] [--patience N] or pgnotify drill SEED SESSIONS NOTES\n"
+fault_text (BadScenario fault) = scenario_fault_text fault
+fault_text ReadFault = codes "pgnotify: read failed\n"
+fault_text WriteFault = codes "pgnotify: write failed\n"
+fault_text NoMemory = codes "pgnotify: out of memory\n"
+fault_text (NotBuilt line) = line_fault line (codes ": not built yet\n")

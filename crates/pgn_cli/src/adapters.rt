@@ -1,0 +1,70 @@
+ghost use Rattle.std.specs.Prelude.{◌≡◌};
+
+use pgn_base::{Failed, Sink, Source};
+use std::io::{Read, Write};
+
+/// A reader as a source. It tells no bytes.
+#[derive(Drop)]
+pub struct Input<R> {
+    reader: R,
+    faults: u64,
+}
+
+impl<R: Read> Input<R> {
+    pub fn new(reader: R) -> Self {
+        Input { reader, faults: 0 }
+    }
+}
+
+impl<R: Read> Source for Input<R> {
+    ghost use Rattle.std.specs.Prelude.{None};
+
+    ghost left = { λ _. None };
+
+    ghost faults = { λ input. input.faults };
+
+    fn read(&mut self, buf: &mut [u8]) -> Result<usize, Failed> {
+        match self.reader.read(buf) {
+            Ok(n) => Ok(n),
+            Err(_) => {
+                self.faults = self.faults.saturating_add(1);
+                Err(Failed)
+            }
+        }
+    }
+}
+
+/// A writer as a sink. It tells no bytes. A write of nothing counts as a fault.
+#[derive(Drop)]
+pub struct Output<W> {
+    writer: W,
+    faults: u64,
+}
+
+impl<W: Write> Output<W> {
+    pub fn new(writer: W) -> Self {
+        Output { writer, faults: 0 }
+    }
+}
+
+impl<W: Write> Sink for Output<W> {
+    ghost use Rattle.std.specs.Prelude.{None};
+
+    ghost held = { λ _. None };
+
+    ghost faults = { λ output. output.faults };
+
+    fn write(&mut self, piece: &[u8]) -> Result<usize, Failed> {
+        match self.writer.write(piece) {
+            Ok(0) => {
+                self.faults = self.faults.saturating_add(1);
+                Ok(0)
+            }
+            Ok(n) => Ok(n),
+            Err(_) => {
+                self.faults = self.faults.saturating_add(1);
+                Err(Failed)
+            }
+        }
+    }
+}

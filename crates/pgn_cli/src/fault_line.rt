@@ -1,0 +1,77 @@
+ghost use Rattle.std.specs.Prelude.{◌++◌, decimal, codes};
+ghost use Rattle.pgn_base.specs.Outside.{Writes, HasCause};
+ghost use Rattle.pgn_cli.specs.FaultLine.{fault_text, scenario_fault_text, line_fault};
+
+use itoa::Buffer;
+use pgn_base::{Failed, Sink, write_all};
+use pgn_model::ScenarioFault;
+use pgn_run::Status;
+
+/// Writes the one line on standard error of an outcome, and nothing where the run is done. Where it fails, a front of the line
+/// is written.
+pub fn fault_line<K: Sink>(sink: &mut K, status: &Status) -> Result<(), Failed>
+    ensures bytes { Writes (K.held sink.old) (K.held sink.new) result (fault_text status.now) }
+    ensures cause { HasCause (K.faults sink.old) (K.faults sink.new) result }
+{
+    match status {
+        Status::Done => Ok(()),
+        Status::BadWords => write_all(
+            sink,
+            b"usage: pgnotify run [--pages N] [--patience N] or pgnotify drill SEED SESSIONS NOTES\n",
+        ),
+        Status::BadScenario(fault) => scenario_fault_line(sink, *fault),
+        Status::ReadFault => write_all(sink, b"pgnotify: read failed\n"),
+        Status::WriteFault => write_all(sink, b"pgnotify: write failed\n"),
+        Status::NoMemory => write_all(sink, b"pgnotify: out of memory\n"),
+        Status::NotBuilt { line } => at_line(sink, *line, b": not built yet\n"),
+    }
+}
+
+fn scenario_fault_line<K: Sink>(sink: &mut K, fault: ScenarioFault) -> Result<(), Failed>
+    ensures bytes { Writes (K.held sink.old) (K.held sink.new) result (scenario_fault_text fault) }
+    ensures cause { HasCause (K.faults sink.old) (K.faults sink.new) result }
+{
+    match fault {
+        ScenarioFault::TooLarge => write_all(sink, b"pgnotify: input is larger than 16777216 bytes\n"),
+        ScenarioFault::LineTooLong { line } => at_line(sink, line, b": line too long\n"),
+        ScenarioFault::NotUtf8 { at } => numbered(sink, b"pgnotify: byte ", at, b": not UTF-8\n"),
+        ScenarioFault::NulByte { line } => at_line(sink, line, b": zero byte\n"),
+        ScenarioFault::BadMeta { line } => at_line(sink, line, b": bad meta line\n"),
+        ScenarioFault::NoSession { line } => at_line(sink, line, b": no session\n"),
+        ScenarioFault::SameName { line } => at_line(sink, line, b": session name used twice\n"),
+        ScenarioFault::TooMany { line } => at_line(sink, line, b": too many\n"),
+        ScenarioFault::Empty => write_all(sink, b"pgnotify: no session\n"),
+        ScenarioFault::NeverSignalled { line } => at_line(sink, line, b": flag is never signalled\n"),
+    }
+}
+
+fn at_line<K: Sink>(sink: &mut K, line: u32, what: &[u8]) -> Result<(), Failed>
+    ensures bytes { Writes (K.held sink.old) (K.held sink.new) result (line_fault line what.now) }
+    ensures cause { HasCause (K.faults sink.old) (K.faults sink.new) result }
+{
+    numbered(sink, b"pgnotify: line ", line, what)
+}
+
+// A number between two texts.
+#[tactic(auto, using(pgn_base::proofs::OutsideLaws::writings))]
+fn numbered<K: Sink>(sink: &mut K, head: &[u8], number: u32, tail: &[u8]) -> Result<(), Failed>
+    ensures bytes { Writes (K.held sink.old) (K.held sink.new) result (head.now ++ decimal number ++ tail.now) }
+    ensures cause { HasCause (K.faults sink.old) (K.faults sink.new) result }
+{
+    let mut digits = Buffer::new();
+    match both(sink, head, digits.format(number).as_bytes()) {
+        Ok(()) => write_all(sink, tail),
+        Err(failed) => Err(failed),
+    }
+}
+
+#[tactic(auto, using(pgn_base::proofs::OutsideLaws::writings))]
+fn both<K: Sink>(sink: &mut K, first: &[u8], second: &[u8]) -> Result<(), Failed>
+    ensures bytes { Writes (K.held sink.old) (K.held sink.new) result (first.now ++ second.now) }
+    ensures cause { HasCause (K.faults sink.old) (K.faults sink.new) result }
+{
+    match write_all(sink, first) {
+        Ok(()) => write_all(sink, second),
+        Err(failed) => Err(failed),
+    }
+}
