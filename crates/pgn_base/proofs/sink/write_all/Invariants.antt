@@ -1,4 +1,4 @@
-use Rattle.std.proofs.Common.{◌≡◌, ◌≤◌, ℕ, List, Option, length}
+use Rattle.std.proofs.Common.{◌≤◌, ℕ, List, Option, length}
 use Rattle.std.specs.Io.KnownBytes.{Appends}
 use Rattle.pgn_base.specs.Outside.{AppendsFront}
 use Rattle.pgn_base.proofs.sink.write_all.Given as goal
