@@ -1,3 +1,5 @@
+pub mod CommandLaws
+pub mod HeadLaws
 pub mod LinesLaws
 pub mod ReadingLaws
 pub mod SpellingLaws

@@ -1,5 +1,6 @@
 -- An input reads as a scenario or breaks at one line.
 use Rattle.std.proofs.Common.{◌≡◌, ℕ, ◌+◌, ◌<◌, ◌≤◌, Bool, true, false, cond, List, [], ◌∷◌, ◌++◌, length, All, sym, ap, ◌∙◌, refl, subst, inl, inr, arith, append-nil, append_assoc}
+use Rattle.std.proofs.lemmas.List.{nil_from_length}
 use Rattle.std.proofs.lemmas.List.Elements.{All-nil, All-cons}
 use Rattle.pgn_model.specs.declared.command.Command.{Command}
 use Rattle.pgn_model.specs.declared.command.Command.TheVariants.{Empty, Begin, Start, Commit, Rollback, Savepoint, RollbackTo, Release, Listen, Unlisten, UnlistenAll, Notify, PgNotify, ListeningChannels, QueueUsage, Invalid, Bad}
@@ -22,7 +23,7 @@ lines-not-break n [] script at h b = b
 lines-not-break n (line ∷ lines) [] at h b = h
 lines-not-break n (line ∷ lines) (x ∷ script) at h b =
     elim b [
-        inl p ↦ p.1 (runs_command line x.act h.0.act)
+      | inl p ↦ p.1 (runs_command line x.act h.0.act)
       | inr p ↦ lines-not-break (n + 1) lines script at h.1 p.1
     ]
 
@@ -30,7 +31,7 @@ section-not-breaks : (lines : List (List ℕ)) (section : Section) (at : ℕ) �
 section-not-breaks [] section at h b = h
 section-not-breaks (head ∷ lines) section at h b =
     elim b [
-        inl p ↦ p.1 (section.name, section.db, h.1)
+      | inl p ↦ p.1 (section.name, section.db, h.1)
       | inr p ↦ lines-not-break 2 lines section.lines at h.2 p.1
     ]
 
@@ -39,7 +40,7 @@ pub reads-not-breaks : (input : List ℕ) (scenario : Scenario) (at : ℕ) → R
 reads-not-breaks input scenario at h b =
     let within = h.within in
     elim b [
-        inl p ↦ let past = p.0 in omega arith
+      | inl p ↦ let past = p.0 in omega arith
       | inr p ↦ section-not-breaks (lines_of input) h.section at h.lines p.1
     ]
 
@@ -47,7 +48,7 @@ lines_break_once : (n : ℕ) (lines : List (List ℕ)) (a b : ℕ) → BreaksFro
 lines_break_once n [] a b p q = absurd p
 lines_break_once n (line ∷ lines) a b p q =
     elim p [
-        inl x ↦ elim q [ inl y ↦ x.0 ∙ sym y.0 | inr y ↦ absurd (x.1 y.0) ]
+      | inl x ↦ elim q [ inl y ↦ x.0 ∙ sym y.0 | inr y ↦ absurd (x.1 y.0) ]
       | inr x ↦ elim q [ inl y ↦ absurd (y.1 x.0) | inr y ↦ lines_break_once (n + 1) lines a b x.1 y.1 ]
     ]
 
@@ -55,7 +56,7 @@ section_breaks_once : (lines : List (List ℕ)) (a b : ℕ) → LinesBreakAt lin
 section_breaks_once [] a b p q = p ∙ sym q
 section_breaks_once (head ∷ lines) a b p q =
     elim p [
-        inl x ↦ elim q [ inl y ↦ x.0 ∙ sym y.0 | inr y ↦ absurd (x.1 y.0) ]
+      | inl x ↦ elim q [ inl y ↦ x.0 ∙ sym y.0 | inr y ↦ absurd (x.1 y.0) ]
       | inr x ↦ elim q [ inl y ↦ absurd (y.1 x.0) | inr y ↦ lines_break_once 2 lines a b x.1 y.1 ]
     ]
 
@@ -63,7 +64,7 @@ section_breaks_once (head ∷ lines) a b p q =
 pub breaks-once : (input : List ℕ) (a b : ℕ) → BreaksAt input a → BreaksAt input b → a ≡ b
 breaks-once input a b p q =
     elim p [
-        inl x ↦ elim q [ inl y ↦ x.1 ∙ sym y.1 | inr y ↦ let past = x.0 in let within = y.0 in absurd (omega arith) ]
+      | inl x ↦ elim q [ inl y ↦ x.1 ∙ sym y.1 | inr y ↦ let past = x.0 in let within = y.0 in absurd (omega arith) ]
       | inr x ↦ elim q [ inl y ↦ let past = y.0 in let within = x.0 in absurd (omega arith) | inr y ↦ section_breaks_once (lines_of input) a b x.1 y.1 ]
     ]
 
@@ -118,6 +119,8 @@ reads_served input scenario h =
       few = omega (arith, lines_few input);
     }
 
--- one more line at the end of a script
-pub ReadAsLines-push : (n : ℕ) (line : List ℕ) (lines : List (List ℕ)) (x : ScriptLine) (script : List ScriptLine) → ReadsAsLine n line x → ReadAsLines (n + 1) lines script → ReadAsLines n (line ∷ lines) (x ∷ script)
-ReadAsLines-push n line lines x script h rest = (h, rest)
+-- a script is whole where no text is left
+pub script_whole : (n : ℕ) (rest text : List ℕ) (script : List ScriptLine) → length rest ≡ 0 → ((more : List ScriptLine) → ReadAsLines n (lines_of rest) more → ReadAsLines 2 (lines_of text) (script ++ more)) → ReadAsLines 2 (lines_of text) script
+script_whole n rest text script none h =
+    let last : ReadAsLines n (lines_of rest) [] = rw (nil_from_length rest none) tt in
+    subst (λ (x : List ScriptLine). ReadAsLines 2 (lines_of text) x) (append-nil script) (h [] last)

@@ -3,9 +3,9 @@ ghost use Rattle.pgn_run.specs.Reading.{ReadsAsScenario, BreaksAt, IsServed, Rea
 
 mod command_line;
 mod head_line;
-mod text;
 #[cfg(test)]
 mod tests;
+mod text;
 
 use command_line::command_of;
 use head_line::head_of;

@@ -1,4 +1,5 @@
 ghost use Rattle.std.specs.Prelude.{◌≡◌, ℕ, List, ◌↔◌, true, IfOk, IfSome, IfNone, IsTrue, MatchOption};
+ghost use Rattle.std.specs.List.{list_all};
 ghost use Rattle.pgn_run.specs.Reading.{ReadsAsCommand, IsCommandLine, IsWord, IsPlain, is_word_byte, is_plain_byte};
 ghost use Rattle.pgn_run.specs.Spelling.{lacks, IsQuoted};
 
@@ -13,12 +14,16 @@ pub fn command_of(alloc: Global, line: &[u8]) -> Result<Option<Command>, AllocEr
     ensures breaks { IfOk result (λ reading. IfNone reading (IsCommandLine line.now → ⊥)) }
 {
     if let Some(word) = line.strip_prefix(b"LISTEN ") {
-        let channel = channel_of(alloc, word)?;
-        return Ok(channel.map(Command::Listen));
+        let Some(channel) = channel_of(alloc, word)? else {
+            return Ok(None);
+        };
+        return Ok(Some(Command::Listen(channel)));
     }
     if let Some(words) = line.strip_prefix(b"NOTIFY ") {
-        let note = note_of(alloc, words)?;
-        return Ok(note.map(Command::Notify));
+        let Some(note) = note_of(alloc, words)? else {
+            return Ok(None);
+        };
+        return Ok(Some(Command::Notify(note)));
     }
     Ok(None)
 }
@@ -81,15 +86,27 @@ fn is_word(word: &[u8]) -> bool
     ensures { IsTrue result ↔ IsWord word.now }
 {
     match word {
-        [first, ..] => first.is_ascii_lowercase() && word.len() <= 63 && word.iter().all(|byte| is_word_byte(*byte)),
+        [first, ..] => first.is_ascii_lowercase() && word.len() <= 63 && are_word_bytes(word),
         [] => false,
     }
+}
+
+fn are_word_bytes(word: &[u8]) -> bool
+    ensures { result ≡ list_all is_word_byte word.now }
+{
+    word.iter().all(|byte| is_word_byte(*byte))
 }
 
 fn is_plain(quoted: &[u8]) -> bool
     ensures { IsTrue result ↔ IsPlain quoted.now }
 {
-    quoted.len() <= 7999 && quoted.iter().all(|byte| is_plain_byte(*byte))
+    quoted.len() <= 7999 && are_plain_bytes(quoted)
+}
+
+fn are_plain_bytes(quoted: &[u8]) -> bool
+    ensures { result ≡ list_all is_plain_byte quoted.now }
+{
+    quoted.iter().all(|byte| is_plain_byte(*byte))
 }
 
 /// A lower-case letter, a digit or `_`.

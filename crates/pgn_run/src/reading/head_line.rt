@@ -31,7 +31,13 @@ pub fn head_of(alloc: Global, line: &[u8]) -> Result<Option<(Name, DbOid)>, Allo
 fn is_section_name(word: &[u8]) -> bool
     ensures { IsTrue result ↔ IsSectionName word.now }
 {
-    !word.is_empty() && word.len() <= 63 && word.iter().all(|byte| is_name_byte(*byte))
+    !word.is_empty() && word.len() <= 63 && are_name_bytes(word)
+}
+
+fn are_name_bytes(word: &[u8]) -> bool
+    ensures { result ≡ list_all is_name_byte word.now }
+{
+    word.iter().all(|byte| is_name_byte(*byte))
 }
 
 fn is_name_byte(byte: u8) -> bool

@@ -20,7 +20,10 @@ fn with_run(alloc: Global, front: &[u8], count: usize, back: &[u8]) -> Result<Ve
 
 #[test]
 fn reads_each_field(rt: HostRuntime) -> Result<(), Fail> {
-    let reading = read(rt.alloc(), b"\\session a-B_3 0012\nLISTEN c_1\nNOTIFY d, 'x, y'\nNOTIFY e, ''")?;
+    let reading = read(
+        rt.alloc(),
+        b"\\session a-B_3 0012\nLISTEN c_1\nNOTIFY d, 'x, y'\nNOTIFY e, ''",
+    )?;
     let scenario = reading.ok().ok_or("a fault")?;
     assert_eq!(rt; scenario.flags.as_slice().len(), 0);
     assert_eq!(rt; scenario.sections.as_slice().len(), 1);
@@ -40,7 +43,11 @@ fn reads_each_field(rt: HostRuntime) -> Result<(), Fail> {
                 assert_eq!(rt; line.text.as_bytes(), b"LISTEN c_1".as_slice());
             }
             Act::Run(Command::Notify(note)) => {
-                let (channel, payload) = if at == 1 { (b"d", b"x, y".as_slice()) } else { (b"e", b"".as_slice()) };
+                let (channel, payload) = if at == 1 {
+                    (b"d", b"x, y".as_slice())
+                } else {
+                    (b"e", b"".as_slice())
+                };
                 assert_eq!(rt; note.channel.as_bytes(), channel.as_slice());
                 assert_eq!(rt; note.payload.as_bytes(), payload);
             }
@@ -85,8 +92,14 @@ fn names_the_lowest_line_that_breaks(rt: HostRuntime) -> Result<(), Fail> {
         (b"\\session a 1\nLISTEN c\nNOTIFY c, 'it''s'", Some(3)),
         (b"\\session a 1\nLISTEN c\nNOTIFY c, 'p\x7f'", Some(3)),
         (b"\\session a 1\nLISTEN c\nNOTIFY c, 'p\x80'", Some(3)),
-        (b"\\session a 1\nLISTEN c\nNOTIFY c, 'p'\r\nLISTEN C", Some(3)),
-        (b"\\session a 1\nLISTEN c\nNOTIFY c, 'p'\nCOMMIT\nLISTEN C", Some(4)),
+        (
+            b"\\session a 1\nLISTEN c\nNOTIFY c, 'p'\r\nLISTEN C",
+            Some(3),
+        ),
+        (
+            b"\\session a 1\nLISTEN c\nNOTIFY c, 'p'\nCOMMIT\nLISTEN C",
+            Some(4),
+        ),
     ];
     for (input, want) in table {
         assert_eq!(rt; fault_of(rt.alloc(), input)?, want, "at {input:?}");
