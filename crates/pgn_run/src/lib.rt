@@ -1,4 +1,9 @@
 //! x
 #![tactic(auto)]
 
-mod reading;
+mod buffer;
+mod line_cursor;
+mod render;
+mod render_item;
+mod render_journal;
+mod render_note;

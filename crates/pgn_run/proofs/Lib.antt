@@ -1,0 +1,2 @@
+pub mod GoesOnLaws
+pub mod LineLaws
