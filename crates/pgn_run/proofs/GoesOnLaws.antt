@@ -43,8 +43,9 @@ pub GoesOn-failed : {T E : Type 0} (held : Option (List ℕ)) (kept now : List �
 GoesOn-failed held kept now e text = record { on = λ start before h. AppendsFront-more start held before text h }
 
 -- the buffer keeps the text back
-pub GoesOn-kept : {T E : Type 0} (held : Option (List ℕ)) (kept : List ℕ) (x : T) (text : List ℕ) → GoesOn {E = E} held kept (Ok x) held (kept ++ text) (Ok x) text
-GoesOn-kept held kept x text = record { on = λ start before h. GrewBut-more start held kept before text h }
+pub GoesOn-kept : {T E : Type 0} {held : Option (List ℕ)} {kept now : List ℕ} {x : T} {text : List ℕ} → now ≡ kept ++ text → GoesOn {E = E} held kept (Ok x) held now (Ok x) text
+GoesOn-kept {E = E} {held = held} {kept = kept} {x = x} {text = text} e =
+    subst (λ k. GoesOn {E = E} held kept (Ok x) held k (Ok x) text) (sym e) (record { on = λ start before h. GrewBut-more start held kept before text h })
 
 -- the buffer's content and the text are written
 pub GoesOn-written : {T E : Type 0} (held now : Option (List ℕ)) (kept : List ℕ) (x : T) (result : Result T E) (text all : List ℕ) → kept ++ text ≡ all → Writes held now result all → GoesOn held kept (Ok x) now [] result text
@@ -60,6 +61,14 @@ GoesOn-trans {h₂ = h₂} {k₂ = k₂} {r₂ = r₂} {first = first} {second =
 -- the same text
 pub GoesOn-same : {T E : Type 0} {h₀ h₁ : Option (List ℕ)} {k₀ k₁ : List ℕ} {r₀ r₁ : Result T E} {first second : List ℕ} → first ≡ second → GoesOn h₀ k₀ r₀ h₁ k₁ r₁ first → GoesOn h₀ k₀ r₀ h₁ k₁ r₁ second
 GoesOn-same {h₀ = h₀} {h₁ = h₁} {k₀ = k₀} {k₁ = k₁} {r₀ = r₀} {r₁ = r₁} e a = subst (λ t. GoesOn h₀ k₀ r₀ h₁ k₁ r₁ t) e a
+
+-- a text that is kept back and then sent is given out
+pub GoesOn-sent : {T E : Type 0} {h₀ h₁ h₂ : Option (List ℕ)} {k₀ k₁ k₂ : List ℕ} {r₀ r₁ r₂ : Result T E} {text : List ℕ} → GoesOn h₀ k₀ r₀ h₁ k₁ r₁ text → GoesOn h₁ k₁ r₁ h₂ k₂ r₂ [] → GoesOn h₀ k₀ r₀ h₂ k₂ r₂ text
+GoesOn-sent {text = text} a b = GoesOn-same (append-nil text) (GoesOn-trans a b)
+
+-- a text is given out in two parts
+pub GoesOn-parts : {T E : Type 0} {h₀ h₁ h₂ : Option (List ℕ)} {k₀ k₁ k₂ : List ℕ} {r₀ r₁ r₂ : Result T E} {first second text : List ℕ} → GoesOn h₀ k₀ r₀ h₁ k₁ r₁ first → GoesOn h₁ k₁ r₁ h₂ k₂ r₂ second → first ++ second ≡ text → GoesOn h₀ k₀ r₀ h₂ k₂ r₂ text
+GoesOn-parts a b e = GoesOn-same e (GoesOn-trans a b)
 
 -- with the rest, the whole is given out
 pub record Toward {T E : Type 0} (h₀ : Option (List ℕ)) (k₀ : List ℕ) (r₀ : Result T E) (h₁ : Option (List ℕ)) (k₁ : List ℕ) (r₁ : Result T E) (rest whole : List ℕ) : Type 0 where
@@ -85,5 +94,6 @@ Toward-all t e = GoesOn-same (sym (append-nil t.written) ∙ ap (λ u. t.written
 pub flat_map-drop : {A : Type 0} (f : A → List ℕ) (xs : List A) (i : ℕ) (x : A) → i < length xs → x ≡ get_or xs i x → flat_map f (drop i xs) ≡ f x ++ flat_map f (drop (i + 1) xs)
 flat_map-drop f xs i x h e = ap (flat_map f) (drop-cons xs i x h) ∙ ap (λ y. f y ++ flat_map f (drop (suc i) xs)) (sym e) ∙ ap (λ j. f x ++ flat_map f (drop j xs)) (sym (add-one i))
 
+pub ruleset buffer_goings = (GoesOn-trans, GoesOn-none, GoesOn-failed, GoesOn-kept, GoesOn-written, GoesOn-sent, GoesOn-parts, append-nil)
 pub ruleset goings = (GoesOn-trans, GoesOn-none)
 pub ruleset loop_goings = (Toward-none, Toward-more, Toward-all, flat_map-drop)

@@ -64,6 +64,7 @@ impl Buffer {
 }
 
 /// Sends what the buffer keeps back.
+#[tactic(auto, using(crate::proofs::GoesOnLaws::buffer_goings))]
 pub fn flush<K: Sink>(
     sink: &mut K,
     buffer: &mut Buffer,
@@ -81,26 +82,54 @@ pub fn flush<K: Sink>(
     sent
 }
 
-/// Sends what doesn't fit: the buffer's content with the front of the piece that fills it, and the rest if it fills a buffer too.
-fn put_past<K: Sink>(sink: &mut K, buffer: &mut Buffer, piece: &[u8]) -> Result<(), Failed>
-    requires { 8192 ≤ length buffer.old + length piece.now }
-    ensures bytes { GoesOn (K.held sink.old) buffer.old (Ok ()) (K.held sink.new) buffer.new result piece.now }
-    ensures cause { CauseGoesOn (K.faults sink.old) (Ok ()) (K.faults sink.new) result }
+/// Fills the buffer up with a front of a piece, and sends it.
+#[tactic(auto, using(crate::proofs::GoesOnLaws::buffer_goings))]
+fn put_front<K: Sink>(sink: &mut K, buffer: &mut Buffer, front: &[u8]) -> Result<(), Failed>
+    requires { length buffer.old + length front.now ≤ 8192 }
+    ensures bytes { GoesOn (K.held sink.old) buffer.old (Ok tt) (K.held sink.new) buffer.new result front.now }
+    ensures cause { CauseGoesOn (K.faults sink.old) (Ok tt) (K.faults sink.new) result }
+    ensures emptied { OnOk result (buffer.new ≡ []) }
 {
-    let (front, rest) = piece.split_at(buffer.room());
     buffer.push(front);
-    let sent = flush(sink, buffer, Ok(()));
-    if sent.is_err() {
-        return sent;
+    flush(sink, buffer, Ok(()))
+}
+
+/// Gives the rest of a piece out, by a write of its own where it fills a buffer.
+#[tactic(auto, using(crate::proofs::GoesOnLaws::buffer_goings))]
+fn put_rest<K: Sink>(
+    sink: &mut K,
+    buffer: &mut Buffer,
+    so_far: Result<(), Failed>,
+    rest: &[u8],
+) -> Result<(), Failed>
+    requires { OnOk so_far (buffer.old ≡ []) }
+    ensures bytes { GoesOn (K.held sink.old) buffer.old so_far (K.held sink.new) buffer.new result rest.now }
+    ensures cause { CauseGoesOn (K.faults sink.old) so_far (K.faults sink.new) result }
+{
+    if so_far.is_err() {
+        return so_far;
     }
     if rest.len() >= SIZE {
         return write_all(sink, rest);
     }
     buffer.push(rest);
-    Ok(())
+    so_far
+}
+
+/// Gives a piece out that the buffer has no room for.
+#[tactic(auto, using(crate::proofs::GoesOnLaws::buffer_goings))]
+fn put_past<K: Sink>(sink: &mut K, buffer: &mut Buffer, piece: &[u8]) -> Result<(), Failed>
+    requires { 8192 ≤ length buffer.old + length piece.now }
+    ensures bytes { GoesOn (K.held sink.old) buffer.old (Ok tt) (K.held sink.new) buffer.new result piece.now }
+    ensures cause { CauseGoesOn (K.faults sink.old) (Ok tt) (K.faults sink.new) result }
+{
+    let (front, rest) = piece.split_at(buffer.room());
+    let sent = put_front(sink, buffer, front);
+    put_rest(sink, buffer, sent, rest)
 }
 
 /// Gives a piece out. After a failure it does nothing.
+#[tactic(auto, using(crate::proofs::GoesOnLaws::buffer_goings))]
 pub fn put<K: Sink>(
     sink: &mut K,
     buffer: &mut Buffer,
@@ -121,6 +150,7 @@ pub fn put<K: Sink>(
 }
 
 /// Gives a number out in decimal.
+#[tactic(auto, using(crate::proofs::GoesOnLaws::goings))]
 pub fn put_number<K: Sink>(
     sink: &mut K,
     buffer: &mut Buffer,

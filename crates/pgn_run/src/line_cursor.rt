@@ -36,6 +36,7 @@ impl LineCursor {
     }
 
     /// The text of the first line of this number.
+    #[tactic(auto, using(crate::proofs::LineLaws::line_laws))]
     pub fn find<'a>(&mut self, lines: &'a [ScriptLine], n: u32) -> &'a [u8]
         requires { HasPassed lines.now self.old }
         ensures text { result.now ≡ line_text n lines.now }
