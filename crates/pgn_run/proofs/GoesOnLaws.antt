@@ -90,9 +90,20 @@ Toward-more {piece = piece} {rest' = rest'} t g e = record {
 pub Toward-all : {T E : Type 0} {h₀ h₁ : Option (List ℕ)} {k₀ k₁ : List ℕ} {r₀ r₁ : Result T E} {rest whole : List ℕ} → Toward h₀ k₀ r₀ h₁ k₁ r₁ rest whole → rest ≡ [] → GoesOn h₀ k₀ r₀ h₁ k₁ r₁ whole
 Toward-all t e = GoesOn-same (sym (append-nil t.written) ∙ ap (λ u. t.written ++ u) (sym e) ∙ t.all) t.goes
 
+-- the last text
+pub Toward-last : {T E : Type 0} {h₀ h₁ h₂ : Option (List ℕ)} {k₀ k₁ k₂ : List ℕ} {r₀ r₁ r₂ : Result T E} {rest whole : List ℕ} → Toward h₀ k₀ r₀ h₁ k₁ r₁ rest whole → GoesOn h₁ k₁ r₁ h₂ k₂ r₂ rest → GoesOn h₀ k₀ r₀ h₂ k₂ r₂ whole
+Toward-last t g = GoesOn-same t.all (GoesOn-trans t.goes g)
+
+-- the rest by another spelling
+pub Toward-same : {T E : Type 0} {h₀ h₁ : Option (List ℕ)} {k₀ k₁ : List ℕ} {r₀ r₁ : Result T E} {rest rest' whole : List ℕ} → Toward h₀ k₀ r₀ h₁ k₁ r₁ rest whole → rest ≡ rest' → Toward h₀ k₀ r₀ h₁ k₁ r₁ rest' whole
+Toward-same t e = record { written = t.written; goes = t.goes; all = ap (λ u. t.written ++ u) (sym e) ∙ t.all }
+
 -- the next item of a list
+pub flat_map-drop_at : {A : Type 0} (f : A → List ℕ) (xs : List A) (i : ℕ) (d : A) → i < length xs → flat_map f (drop i xs) ≡ f (get_or xs i d) ++ flat_map f (drop (i + 1) xs)
+flat_map-drop_at f xs i d h = ap (flat_map f) (drop-cons xs i d h) ∙ ap (λ j. f (get_or xs i d) ++ flat_map f (drop j xs)) (sym (add-one i))
+
 pub flat_map-drop : {A : Type 0} (f : A → List ℕ) (xs : List A) (i : ℕ) (x : A) → i < length xs → x ≡ get_or xs i x → flat_map f (drop i xs) ≡ f x ++ flat_map f (drop (i + 1) xs)
-flat_map-drop f xs i x h e = ap (flat_map f) (drop-cons xs i x h) ∙ ap (λ y. f y ++ flat_map f (drop (suc i) xs)) (sym e) ∙ ap (λ j. f x ++ flat_map f (drop j xs)) (sym (add-one i))
+flat_map-drop f xs i x h e = flat_map-drop_at f xs i x h ∙ ap (λ y. f y ++ flat_map f (drop (i + 1) xs)) (sym e)
 
 pub ruleset buffer_goings = (GoesOn-trans, GoesOn-none, GoesOn-failed, GoesOn-kept, GoesOn-written, GoesOn-sent, GoesOn-parts, append-nil)
 pub ruleset goings = (GoesOn-trans, GoesOn-none)

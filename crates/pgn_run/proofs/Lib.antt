@@ -1,2 +1,3 @@
 pub mod GoesOnLaws
 pub mod LineLaws
+pub mod DoublingLaws

@@ -1,3 +1,5 @@
+#![tactic(auto, using(crate::proofs::GoesOnLaws::goings))]
+
 ghost use Rattle.std.specs.Prelude.{◌++◌, codes, decimal};
 ghost use Rattle.pgn_base.specs.Outside.{HasCause, Writes};
 ghost use Rattle.pgn_model.specs.Text.{end_line, section_line, text, trace_text, traces_text};
@@ -93,6 +95,7 @@ fn put_trace<K: Sink>(
 }
 
 /// The sections with their traces.
+#[tactic(auto, using(crate::proofs::GoesOnLaws::loop_goings))]
 fn put_traces<K: Sink>(
     sink: &mut K,
     buffer: &mut Buffer,

@@ -1,3 +1,5 @@
+#![tactic(auto, using(crate::proofs::GoesOnLaws::goings))]
+
 ghost use Rattle.std.specs.Prelude.{flat_map, ◌++◌, codes, decimal};
 ghost use Rattle.pgn_model.specs.Text.{item_text, line, tag_text, warning_line, warning_text};
 ghost use Rattle.pgn_run.specs.Rendering.{CauseGoesOn, GoesOn, HasPassed};
@@ -192,6 +194,7 @@ fn put_item<K: Sink>(
 }
 
 /// The lines of the items of a trace of these script lines.
+#[tactic(auto, using(crate::proofs::GoesOnLaws::loop_goings))]
 pub fn put_items<K: Sink>(
     sink: &mut K,
     buffer: &mut Buffer,

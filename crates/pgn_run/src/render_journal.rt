@@ -1,3 +1,5 @@
+#![tactic(auto, using(crate::proofs::GoesOnLaws::goings))]
+
 ghost use Rattle.std.specs.Prelude.{◌+◌, ◌++◌, codes, decimal, length};
 ghost use Rattle.pgn_model.specs.Text.{entries_text, entry_text, fate_text, journal_text, line};
 ghost use Rattle.pgn_run.specs.Rendering.{CauseGoesOn, GoesOn};
@@ -67,6 +69,7 @@ fn put_entry<K: Sink>(
 }
 
 /// The transactions, of which the first is numbered 3.
+#[tactic(auto, using(crate::proofs::GoesOnLaws::loop_goings))]
 fn put_entries<K: Sink>(
     sink: &mut K,
     buffer: &mut Buffer,

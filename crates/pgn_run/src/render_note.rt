@@ -1,3 +1,5 @@
+#![tactic(auto, using(crate::proofs::GoesOnLaws::goings))]
+
 ghost use Rattle.std.specs.Prelude.{◌++◌, codes, decimal, flat_map};
 ghost use Rattle.pgn_model.specs.Text.{delivery_line, doubled_byte, note_line, note_text, quoted};
 ghost use Rattle.pgn_run.specs.Rendering.{CauseGoesOn, GoesOn};
@@ -6,6 +8,7 @@ use crate::buffer::{Buffer, put, put_number};
 use pgn_base::{Delivery, Failed, Note, Sink};
 
 /// A text with each quote twice.
+#[tactic(auto, using(crate::proofs::GoesOnLaws::loop_goings))]
 fn put_doubled<K: Sink>(
     sink: &mut K,
     buffer: &mut Buffer,
@@ -30,6 +33,7 @@ fn put_doubled<K: Sink>(
 }
 
 /// A text, with each quote twice where it has any.
+#[tactic(auto, using(crate::proofs::DoublingLaws::doubling_goings))]
 fn put_text<K: Sink>(
     sink: &mut K,
     buffer: &mut Buffer,
@@ -93,6 +97,7 @@ fn put_note_line<K: Sink>(
 }
 
 /// The lines of the notifications of a transaction.
+#[tactic(auto, using(crate::proofs::GoesOnLaws::loop_goings))]
 pub fn put_note_lines<K: Sink>(
     sink: &mut K,
     buffer: &mut Buffer,
@@ -142,6 +147,7 @@ fn put_delivery<K: Sink>(
 }
 
 /// The lines of the notifications that a read received.
+#[tactic(auto, using(crate::proofs::GoesOnLaws::loop_goings))]
 pub fn put_deliveries<K: Sink>(
     sink: &mut K,
     buffer: &mut Buffer,
