@@ -105,6 +105,11 @@ flat_map-drop_at f xs i d h = ap (flat_map f) (drop-cons xs i d h) ∙ ap (λ j.
 pub flat_map-drop : {A : Type 0} (f : A → List ℕ) (xs : List A) (i : ℕ) (x : A) → i < length xs → x ≡ get_or xs i x → flat_map f (drop i xs) ≡ f x ++ flat_map f (drop (i + 1) xs)
 flat_map-drop f xs i x h e = flat_map-drop_at f xs i x h ∙ ap (λ y. f y ++ flat_map f (drop (i + 1) xs)) (sym e)
 
+-- an item of a list is given out
+pub Toward-item : {T E A : Type 0} {h₀ h₁ h₂ : Option (List ℕ)} {k₀ k₁ k₂ : List ℕ} {r₀ r₁ r₂ : Result T E} {whole : List ℕ} (f : A → List ℕ) (xs : List A) (i : ℕ) (x : A)
+    → Toward h₀ k₀ r₀ h₁ k₁ r₁ (flat_map f (drop i xs)) whole → GoesOn h₁ k₁ r₁ h₂ k₂ r₂ (f x) → i < length xs → x ≡ get_or xs i x → Toward h₀ k₀ r₀ h₂ k₂ r₂ (flat_map f (drop (i + 1) xs)) whole
+Toward-item f xs i x t g h e = Toward-more t g (flat_map-drop f xs i x h e)
+
 pub ruleset buffer_goings = (GoesOn-trans, GoesOn-none, GoesOn-failed, GoesOn-kept, GoesOn-written, GoesOn-sent, GoesOn-parts, append-nil)
 pub ruleset goings = (GoesOn-trans, GoesOn-none)
-pub ruleset loop_goings = (Toward-none, Toward-more, Toward-all, flat_map-drop)
+pub ruleset loop_goings = (Toward-none, Toward-item, Toward-all, Toward-last)

@@ -1,6 +1,6 @@
 #![tactic(auto, using(crate::proofs::GoesOnLaws::goings))]
 
-ghost use Rattle.std.specs.Prelude.{flat_map, ◌++◌, codes, decimal};
+ghost use Rattle.std.specs.Prelude.{◌≡◌, flat_map, ◌++◌, codes, decimal};
 ghost use Rattle.pgn_model.specs.Text.{item_text, line, tag_text, warning_line, warning_text};
 ghost use Rattle.pgn_run.specs.Rendering.{CauseGoesOn, GoesOn, HasPassed};
 
@@ -58,6 +58,31 @@ fn put_publish<K: Sink>(
     put(sink, buffer, so_far, b"\n")
 }
 
+/// A warning's code and text.
+fn text_of_warning(warning: Warning) -> &'static [u8]
+    ensures { result.now ≡ warning_text warning }
+{
+    match warning {
+        Warning::AlreadyInBlock => b"25001: there is already a transaction in progress",
+        Warning::NotInBlock => b"25P01: there is no transaction in progress",
+    }
+}
+
+/// The line of a warning.
+fn put_warning_line<K: Sink>(
+    sink: &mut K,
+    buffer: &mut Buffer,
+    so_far: Result<(), Failed>,
+    warning: Warning,
+) -> Result<(), Failed>
+    ensures bytes { GoesOn (K.held sink.old) buffer.old so_far (K.held sink.new) buffer.new result (line (codes "WARNING: " ++ warning_text warning)) }
+    ensures cause { CauseGoesOn (K.faults sink.old) so_far (K.faults sink.new) result }
+{
+    let so_far = put(sink, buffer, so_far, b"WARNING: ");
+    let so_far = put(sink, buffer, so_far, text_of_warning(warning));
+    put(sink, buffer, so_far, b"\n")
+}
+
 /// The line of a warning, where there is one.
 fn put_warning<K: Sink>(
     sink: &mut K,
@@ -70,22 +95,7 @@ fn put_warning<K: Sink>(
 {
     match warning {
         None => so_far,
-        Some(Warning::AlreadyInBlock) => {
-            put(
-                sink,
-                buffer,
-                so_far,
-                b"WARNING: 25001: there is already a transaction in progress\n",
-            )
-        }
-        Some(Warning::NotInBlock) => {
-            put(
-                sink,
-                buffer,
-                so_far,
-                b"WARNING: 25P01: there is no transaction in progress\n",
-            )
-        }
+        Some(warning) => put_warning_line(sink, buffer, so_far, *warning),
     }
 }
 
