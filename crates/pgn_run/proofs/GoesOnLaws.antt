@@ -1,6 +1,6 @@
 -- Laws of what is given out to a sink through a buffer.
 use Rattle.std.proofs.Common.{◌≡◌, ℕ, ◌+◌, ◌<◌, suc, List, [], ◌∷◌, ◌++◌, length, drop, get_or, Option, None, Some, Result, Ok, Err, sym, ap, ◌∙◌, subst, refl, append_assoc, append-nil, add-one, drop-cons}
-use Rattle.std.specs.Prelude.{flat_map}
+use Rattle.std.specs.Prelude.{flat_map, OnOk}
 use Rattle.std.specs.Io.KnownBytes.{Appends}
 use Rattle.pgn_base.specs.Outside.{AppendsFront, Writes}
 use Rattle.pgn_run.specs.Rendering.{GrewBut, IsOut, GoesOn}
@@ -110,6 +110,18 @@ pub Toward-item : {T E A : Type 0} {h₀ h₁ h₂ : Option (List ℕ)} {k₀ k�
     → Toward h₀ k₀ r₀ h₁ k₁ r₁ (flat_map f (drop i xs)) whole → GoesOn h₁ k₁ r₁ h₂ k₂ r₂ (f x) → i < length xs → x ≡ get_or xs i x → Toward h₀ k₀ r₀ h₂ k₂ r₂ (flat_map f (drop (i + 1) xs)) whole
 Toward-item f xs i x t g h e = Toward-more t g (flat_map-drop f xs i x h e)
 
+-- a text that is given out from an empty buffer and sent is written
+pub Writes-from_GoesOn : {T E : Type 0} (held now : Option (List ℕ)) (kept last : List ℕ) (x : T) (result : Result T E) (text : List ℕ) → kept ≡ [] → GoesOn held kept (Ok x) now last result text → OnOk result (last ≡ []) → Writes held now result text
+Writes-from_GoesOn None now kept last x (Ok y) text e g done = tt
+Writes-from_GoesOn None now kept last x (Err y) text e g done = tt
+Writes-from_GoesOn (Some xs) None kept last x (Ok y) text e g done = g.on (Some xs) [] ([], sym e, sym (append-nil xs))
+Writes-from_GoesOn (Some xs) (Some ys) kept last x (Ok y) text e g done =
+    let out : GrewBut (Some xs) (Some ys) last text = g.on (Some xs) [] ([], sym e, sym (append-nil xs)) in
+    out.2 ∙ ap (λ t. xs ++ t) (sym (append-nil out.0) ∙ ap (λ t. out.0 ++ t) (sym done) ∙ sym out.1)
+Writes-from_GoesOn (Some xs) now kept last x (Err y) text e g done = g.on (Some xs) [] ([], sym e, sym (append-nil xs))
+
 pub ruleset buffer_goings = (GoesOn-trans, GoesOn-none, GoesOn-failed, GoesOn-kept, GoesOn-written, GoesOn-sent, GoesOn-parts, append-nil)
+
 pub ruleset goings = (GoesOn-trans, GoesOn-none)
+
 pub ruleset loop_goings = (Toward-none, Toward-item, Toward-all, Toward-last)

@@ -1,3 +1,4 @@
 pub mod GoesOnLaws
 pub mod LineLaws
+pub mod ListLaws
 pub mod DoublingLaws

@@ -1,6 +1,6 @@
 #![tactic(auto, using(crate::proofs::GoesOnLaws::goings))]
 
-ghost use Rattle.std.specs.Prelude.{◌++◌, codes, decimal};
+ghost use Rattle.std.specs.Prelude.{◌+◌, ◌++◌, codes, decimal};
 ghost use Rattle.pgn_base.specs.Outside.{HasCause, Writes};
 ghost use Rattle.pgn_model.specs.Text.{end_line, section_line, text, trace_text, traces_text};
 ghost use Rattle.pgn_run.specs.Rendering.{CauseGoesOn, GoesOn};
@@ -8,7 +8,7 @@ ghost use Rattle.pgn_run.specs.Rendering.{CauseGoesOn, GoesOn};
 use crate::buffer::{Buffer, flush, put, put_number};
 use crate::render_item::put_items;
 use crate::render_journal::put_journal;
-use pgn_base::{Failed, Sink, Xid};
+use pgn_base::{Failed, SessionNo, Sink, Xid};
 use pgn_model::{Scenario, Section, Trace, Tx};
 
 /// A section's number and name.
@@ -42,6 +42,19 @@ fn put_section_place<K: Sink>(
     put_number(sink, buffer, so_far, u64::from(section.db.get()))
 }
 
+/// The process number of a session.
+fn put_pid<K: Sink>(
+    sink: &mut K,
+    buffer: &mut Buffer,
+    so_far: Result<(), Failed>,
+    session: &SessionNo,
+) -> Result<(), Failed>
+    ensures bytes { GoesOn (K.held sink.old) buffer.old so_far (K.held sink.new) buffer.new result (decimal (1000 + session.now)) }
+    ensures cause { CauseGoesOn (K.faults sink.old) so_far (K.faults sink.new) result }
+{
+    put_number(sink, buffer, so_far, 1000 + u64::from(session.get()))
+}
+
 /// A section's head.
 fn put_section_line<K: Sink>(
     sink: &mut K,
@@ -54,7 +67,7 @@ fn put_section_line<K: Sink>(
 {
     let so_far = put_section_place(sink, buffer, so_far, section);
     let so_far = put(sink, buffer, so_far, b" pid ");
-    let so_far = put_number(sink, buffer, so_far, 1000 + u64::from(section.no.get()));
+    let so_far = put_pid(sink, buffer, so_far, &section.no);
     put(sink, buffer, so_far, b"\n")
 }
 
@@ -90,7 +103,13 @@ fn put_trace<K: Sink>(
     ensures cause { CauseGoesOn (K.faults sink.old) so_far (K.faults sink.new) result }
 {
     let so_far = put_section_line(sink, buffer, so_far, section);
-    let so_far = put_items(sink, buffer, so_far, section.lines.as_slice(), trace.items.as_slice());
+    let so_far = put_items(
+        sink,
+        buffer,
+        so_far,
+        section.lines.as_slice(),
+        trace.items.as_slice(),
+    );
     put_end(sink, buffer, so_far, &trace.last)
 }
 
@@ -126,23 +145,26 @@ pub fn render<K: Sink>(
 {
     let mut buffer = Buffer::new();
     let so_far = put_journal(sink, &mut buffer, Ok(()), journal);
-    let so_far = put_traces(sink, &mut buffer, so_far, scenario.sections.as_slice(), traces);
+    let so_far = put_traces(
+        sink,
+        &mut buffer,
+        so_far,
+        scenario.sections.as_slice(),
+        traces,
+    );
     flush(sink, &mut buffer, so_far)
 }
 
 #[cfg(test)]
 mod tests {
     use super::*;
-    use pgn_base::{
-        DbOid, Deliveries, Delivery, MemSink, Name, Names, Note, Notes, Payload, SessionNo, Tag,
-    };
-    use pgn_model::{
-        Act, Command, Fate, Item, Items, LineText, ScriptLine, ScriptLines, Sections,
-    };
+    use pgn_base::{DbOid, Deliveries, Delivery, MemSink, Name, Names, Note, Notes, Payload, Tag};
+    use pgn_model::{Act, Command, Fate, Item, Items, LineText, ScriptLine, ScriptLines, Sections};
     use std::alloc::Global;
     use std::test::Fail;
 
-    const SELF_NOTIFY: &str = "journal 1\nxid 3 session 1 commit 1\n  \"c\", 'x'\nsession 1 a db 1 pid 1001\n> LISTEN c\n+enlist 3 3\nLISTEN\n> NOTIFY c, 'x'\n+publish 3\nNOTIFY\n+read 3 4\n  3 1001 \"c\", 'x'\nend mark 4\n";
+    const SELF_NOTIFY: &str =
+        "journal 1\nxid 3 session 1 commit 1\n  \"c\", 'x'\nsession 1 a db 1 pid 1001\n> LISTEN c\n+enlist 3 3\nLISTEN\n> NOTIFY c, 'x'\n+publish 3\nNOTIFY\n+read 3 4\n  3 1001 \"c\", 'x'\nend mark 4\n";
 
     const QUOTES: &str = "journal 1\nxid 3 session 1 commit 1\n  \"a\"\"\"\"b\", '''it''s'''\n";
 
@@ -169,10 +191,18 @@ mod tests {
         let mut lines = ScriptLines::new(alloc);
         let listen = Act::Run(Command::Listen(Name::new(alloc, "c")?));
         let text = LineText::new(alloc, "LISTEN c")?;
-        lines.push(ScriptLine { line: 2, text, act: listen })?;
+        lines.push(ScriptLine {
+            line: 2,
+            text,
+            act: listen,
+        })?;
         let notify = Act::Run(Command::Notify(note(alloc, "c", "x")?));
         let text = LineText::new(alloc, "NOTIFY c, 'x'")?;
-        lines.push(ScriptLine { line: 3, text, act: notify })?;
+        lines.push(ScriptLine {
+            line: 3,
+            text,
+            act: notify,
+        })?;
         Ok(lines)
     }
 
@@ -180,14 +210,30 @@ mod tests {
         let from = Xid::new(3);
         let to = Xid::new(4);
         let mut got = Deliveries::new(alloc);
-        got.push(Delivery { xid: from, pid: 1001, note: note(alloc, "c", "x")? })?;
+        got.push(Delivery {
+            xid: from,
+            pid: 1001,
+            note: note(alloc, "c", "x")?,
+        })?;
         let mut items = Items::new(alloc);
         items.push(Item::Line { line: 2 })?;
-        items.push(Item::Enlist { base: from, point: from })?;
-        items.push(Item::Reply { tag: Tag::Listen, warning: None })?;
+        items.push(Item::Enlist {
+            base: from,
+            point: from,
+        })?;
+        items.push(Item::Reply {
+            tag: Tag::Listen,
+            warning: None,
+        })?;
         items.push(Item::Line { line: 3 })?;
-        items.push(Item::Publish { xid: from, notes: notes(alloc, "c", "x")? })?;
-        items.push(Item::Reply { tag: Tag::Notify, warning: None })?;
+        items.push(Item::Publish {
+            xid: from,
+            notes: notes(alloc, "c", "x")?,
+        })?;
+        items.push(Item::Reply {
+            tag: Tag::Notify,
+            warning: None,
+        })?;
         items.push(Item::Read { from, to, got })?;
         Ok(items)
     }
@@ -198,14 +244,35 @@ mod tests {
         let db = DbOid::new(1);
         let mut sections = Sections::new(alloc);
         let name = Name::new(alloc, "a")?;
-        sections.push(Section { no, name, db, lines: script(alloc)?, note_lines: 1 })?;
+        sections.push(Section {
+            no,
+            name,
+            db,
+            lines: script(alloc)?,
+            note_lines: 1,
+        })?;
         let mut journal = Vec::new(alloc);
         let notes = notes(alloc, channel, payload)?;
-        journal.push(Tx { session: no, db, notes, queued: 1, fate: Fate::Committed })?;
+        journal.push(Tx {
+            session: no,
+            db,
+            notes,
+            queued: 1,
+            fate: Fate::Committed,
+        })?;
         let mut traces = Vec::new(alloc);
-        traces.push(Trace { session: no, db, items: items(alloc)?, last: Some(Xid::new(4)) })?;
+        traces.push(Trace {
+            session: no,
+            db,
+            items: items(alloc)?,
+            last: Some(Xid::new(4)),
+        })?;
         let flags = Names::new(alloc);
-        Ok(Made { scenario: Scenario { sections, flags }, journal, traces })
+        Ok(Made {
+            scenario: Scenario { sections, flags },
+            journal,
+            traces,
+        })
     }
 
     #[test]
