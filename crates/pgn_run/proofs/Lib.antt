@@ -5,3 +5,7 @@ pub mod ReadingLaws
 pub mod SpellingLaws
 pub mod RunLaws
 pub mod SoFarLaws
+pub mod GoesOnLaws
+pub mod LineLaws
+pub mod ListLaws
+pub mod DoublingLaws

@@ -1,0 +1,328 @@
+#![tactic(auto, using(crate::proofs::GoesOnLaws::goings))]
+
+ghost use Rattle.std.specs.Prelude.{◌+◌, ◌++◌, codes, decimal};
+ghost use Rattle.pgn_base.specs.Outside.{HasCause, Writes};
+ghost use Rattle.pgn_model.specs.Text.{end_line, section_line, text, trace_text, traces_text};
+ghost use Rattle.pgn_run.specs.Rendering.{CauseGoesOn, GoesOn};
+
+use crate::buffer::{Buffer, flush, put, put_number};
+use crate::render_item::put_items;
+use crate::render_journal::put_journal;
+use pgn_base::{Failed, SessionNo, Sink, Xid};
+use pgn_model::{Scenario, Section, Trace, Tx};
+
+/// A section's number and name.
+fn put_section_name<K: Sink>(
+    sink: &mut K,
+    buffer: &mut Buffer,
+    so_far: Result<(), Failed>,
+    section: &Section,
+) -> Result<(), Failed>
+    ensures bytes { GoesOn (K.held sink.old) buffer.old so_far (K.held sink.new) buffer.new result (codes "session " ++ decimal section.now.no ++ codes " " ++ section.now.name) }
+    ensures cause { CauseGoesOn (K.faults sink.old) so_far (K.faults sink.new) result }
+{
+    let so_far = put(sink, buffer, so_far, b"session ");
+    let so_far = put_number(sink, buffer, so_far, u64::from(section.no.get()));
+    let so_far = put(sink, buffer, so_far, b" ");
+    put(sink, buffer, so_far, section.name.as_bytes())
+}
+
+/// A section's number, name and database.
+fn put_section_place<K: Sink>(
+    sink: &mut K,
+    buffer: &mut Buffer,
+    so_far: Result<(), Failed>,
+    section: &Section,
+) -> Result<(), Failed>
+    ensures bytes { GoesOn (K.held sink.old) buffer.old so_far (K.held sink.new) buffer.new result (codes "session " ++ decimal section.now.no ++ codes " " ++ section.now.name ++ codes " db " ++ decimal section.now.db) }
+    ensures cause { CauseGoesOn (K.faults sink.old) so_far (K.faults sink.new) result }
+{
+    let so_far = put_section_name(sink, buffer, so_far, section);
+    let so_far = put(sink, buffer, so_far, b" db ");
+    put_number(sink, buffer, so_far, u64::from(section.db.get()))
+}
+
+/// The process number of a session.
+fn put_pid<K: Sink>(
+    sink: &mut K,
+    buffer: &mut Buffer,
+    so_far: Result<(), Failed>,
+    session: &SessionNo,
+) -> Result<(), Failed>
+    ensures bytes { GoesOn (K.held sink.old) buffer.old so_far (K.held sink.new) buffer.new result (decimal (1000 + session.now)) }
+    ensures cause { CauseGoesOn (K.faults sink.old) so_far (K.faults sink.new) result }
+{
+    put_number(sink, buffer, so_far, 1000 + u64::from(session.get()))
+}
+
+/// A section's head.
+fn put_section_line<K: Sink>(
+    sink: &mut K,
+    buffer: &mut Buffer,
+    so_far: Result<(), Failed>,
+    section: &Section,
+) -> Result<(), Failed>
+    ensures bytes { GoesOn (K.held sink.old) buffer.old so_far (K.held sink.new) buffer.new result (section_line section.now) }
+    ensures cause { CauseGoesOn (K.faults sink.old) so_far (K.faults sink.new) result }
+{
+    let so_far = put_section_place(sink, buffer, so_far, section);
+    let so_far = put(sink, buffer, so_far, b" pid ");
+    let so_far = put_pid(sink, buffer, so_far, &section.no);
+    put(sink, buffer, so_far, b"\n")
+}
+
+/// The last line of a trace.
+fn put_end<K: Sink>(
+    sink: &mut K,
+    buffer: &mut Buffer,
+    so_far: Result<(), Failed>,
+    last: &Option<Xid>,
+) -> Result<(), Failed>
+    ensures bytes { GoesOn (K.held sink.old) buffer.old so_far (K.held sink.new) buffer.new result (end_line last.now) }
+    ensures cause { CauseGoesOn (K.faults sink.old) so_far (K.faults sink.new) result }
+{
+    match last {
+        None => put(sink, buffer, so_far, b"end\n"),
+        Some(mark) => {
+            let so_far = put(sink, buffer, so_far, b"end mark ");
+            let so_far = put_number(sink, buffer, so_far, u64::from(mark.get()));
+            put(sink, buffer, so_far, b"\n")
+        }
+    }
+}
+
+/// A section with its trace.
+fn put_trace<K: Sink>(
+    sink: &mut K,
+    buffer: &mut Buffer,
+    so_far: Result<(), Failed>,
+    section: &Section,
+    trace: &Trace,
+) -> Result<(), Failed>
+    ensures bytes { GoesOn (K.held sink.old) buffer.old so_far (K.held sink.new) buffer.new result (trace_text section.now trace.now) }
+    ensures cause { CauseGoesOn (K.faults sink.old) so_far (K.faults sink.new) result }
+{
+    let so_far = put_section_line(sink, buffer, so_far, section);
+    let so_far = put_items(
+        sink,
+        buffer,
+        so_far,
+        section.lines.as_slice(),
+        trace.items.as_slice(),
+    );
+    put_end(sink, buffer, so_far, &trace.last)
+}
+
+/// The sections with their traces.
+#[tactic(auto, using(crate::proofs::GoesOnLaws::loop_goings))]
+fn put_traces<K: Sink>(
+    sink: &mut K,
+    buffer: &mut Buffer,
+    so_far: Result<(), Failed>,
+    sections: &[Section],
+    traces: &[Trace],
+) -> Result<(), Failed>
+    ensures bytes { GoesOn (K.held sink.old) buffer.old so_far (K.held sink.new) buffer.new result (traces_text sections.now traces.now) }
+    ensures cause { CauseGoesOn (K.faults sink.old) so_far (K.faults sink.new) result }
+{
+    let mut so_far = so_far;
+    let count = sections.len().min(traces.len());
+    for i in 0..count {
+        so_far = put_trace(sink, buffer, so_far, &sections[i], &traces[i]);
+    }
+    so_far
+}
+
+/// Writes the output of a run. It takes no memory, and nothing is left to be written once it answers.
+pub fn render<K: Sink>(
+    sink: &mut K,
+    scenario: &Scenario,
+    journal: &[Tx],
+    traces: &[Trace],
+) -> Result<(), Failed>
+    ensures bytes { Writes (K.held sink.old) (K.held sink.new) result (text scenario.now journal.now traces.now) }
+    ensures cause { HasCause (K.faults sink.old) (K.faults sink.new) result }
+{
+    let mut buffer = Buffer::new();
+    let so_far = put_journal(sink, &mut buffer, Ok(()), journal);
+    let so_far = put_traces(
+        sink,
+        &mut buffer,
+        so_far,
+        scenario.sections.as_slice(),
+        traces,
+    );
+    flush(sink, &mut buffer, so_far)
+}
+
+#[cfg(test)]
+mod tests {
+    use super::*;
+    use pgn_base::{DbOid, Deliveries, Delivery, MemSink, Name, Names, Note, Notes, Payload, Tag};
+    use pgn_model::{Act, Command, Fate, Item, Items, LineText, ScriptLine, ScriptLines, Sections};
+    use std::alloc::Global;
+    use std::test::Fail;
+
+    const SELF_NOTIFY: &str =
+        "journal 1\nxid 3 session 1 commit 1\n  \"c\", 'x'\nsession 1 a db 1 pid 1001\n> LISTEN c\n+enlist 3 3\nLISTEN\n> NOTIFY c, 'x'\n+publish 3\nNOTIFY\n+read 3 4\n  3 1001 \"c\", 'x'\nend mark 4\n";
+
+    const QUOTES: &str = "journal 1\nxid 3 session 1 commit 1\n  \"a\"\"\"\"b\", '''it''s'''\n";
+
+    #[derive(Drop)]
+    struct Made {
+        scenario: Scenario,
+        journal: Vec<Tx>,
+        traces: Vec<Trace>,
+    }
+
+    fn note(alloc: Global, channel: &str, payload: &str) -> Result<Note, Fail> {
+        let channel = Name::new(alloc, channel)?;
+        let payload = Payload::new(alloc, payload)?;
+        Ok(Note { channel, payload })
+    }
+
+    fn notes(alloc: Global, channel: &str, payload: &str) -> Result<Notes, Fail> {
+        let mut notes = Notes::new(alloc);
+        notes.push(note(alloc, channel, payload)?)?;
+        Ok(notes)
+    }
+
+    fn script(alloc: Global) -> Result<ScriptLines, Fail> {
+        let mut lines = ScriptLines::new(alloc);
+        let listen = Act::Run(Command::Listen(Name::new(alloc, "c")?));
+        let text = LineText::new(alloc, "LISTEN c")?;
+        lines.push(ScriptLine {
+            line: 2,
+            text,
+            act: listen,
+        })?;
+        let notify = Act::Run(Command::Notify(note(alloc, "c", "x")?));
+        let text = LineText::new(alloc, "NOTIFY c, 'x'")?;
+        lines.push(ScriptLine {
+            line: 3,
+            text,
+            act: notify,
+        })?;
+        Ok(lines)
+    }
+
+    fn items(alloc: Global) -> Result<Items, Fail> {
+        let from = Xid::new(3);
+        let to = Xid::new(4);
+        let mut got = Deliveries::new(alloc);
+        got.push(Delivery {
+            xid: from,
+            pid: 1001,
+            note: note(alloc, "c", "x")?,
+        })?;
+        let mut items = Items::new(alloc);
+        items.push(Item::Line { line: 2 })?;
+        items.push(Item::Enlist {
+            base: from,
+            point: from,
+        })?;
+        items.push(Item::Reply {
+            tag: Tag::Listen,
+            warning: None,
+        })?;
+        items.push(Item::Line { line: 3 })?;
+        items.push(Item::Publish {
+            xid: from,
+            notes: notes(alloc, "c", "x")?,
+        })?;
+        items.push(Item::Reply {
+            tag: Tag::Notify,
+            warning: None,
+        })?;
+        items.push(Item::Read { from, to, got })?;
+        Ok(items)
+    }
+
+    // One session listens, notifies itself and receives.
+    fn run(alloc: Global, channel: &str, payload: &str) -> Result<Made, Fail> {
+        let no = SessionNo::new(1);
+        let db = DbOid::new(1);
+        let mut sections = Sections::new(alloc);
+        let name = Name::new(alloc, "a")?;
+        sections.push(Section {
+            no,
+            name,
+            db,
+            lines: script(alloc)?,
+            note_lines: 1,
+        })?;
+        let mut journal = Vec::new(alloc);
+        let notes = notes(alloc, channel, payload)?;
+        journal.push(Tx {
+            session: no,
+            db,
+            notes,
+            queued: 1,
+            fate: Fate::Committed,
+        })?;
+        let mut traces = Vec::new(alloc);
+        traces.push(Trace {
+            session: no,
+            db,
+            items: items(alloc)?,
+            last: Some(Xid::new(4)),
+        })?;
+        let flags = Names::new(alloc);
+        Ok(Made {
+            scenario: Scenario { sections, flags },
+            journal,
+            traces,
+        })
+    }
+
+    #[test]
+    fn a_session_that_notifies_itself(rt: HostRuntime) -> Result<(), Fail> {
+        let alloc = rt.alloc();
+        let run = run(alloc, "c", "x")?;
+        let mut sink = MemSink::new(alloc, 1000, Vec::new(alloc), 1000)?;
+        render(&mut sink, &run.scenario, &run.journal, &run.traces)?;
+        assert_eq!(rt; sink.held(), SELF_NOTIFY.as_bytes());
+        Ok(())
+    }
+
+    #[test]
+    fn quotes_stand_twice(rt: HostRuntime) -> Result<(), Fail> {
+        let alloc = rt.alloc();
+        let run = run(alloc, "a\"\"b", "'it's'")?;
+        let mut sink = MemSink::new(alloc, 1000, Vec::new(alloc), 1000)?;
+        render(&mut sink, &run.scenario, &run.journal, &[])?;
+        assert_eq!(rt; sink.held(), QUOTES.as_bytes());
+        Ok(())
+    }
+
+    #[test]
+    fn the_second_write_fails(rt: HostRuntime) -> Result<(), Fail> {
+        let alloc = rt.alloc();
+        let run = run(alloc, "c", "x")?;
+        let mut sink = MemSink::new(alloc, 1000, [2].to_vec(alloc)?, 4)?;
+        let answer = render(&mut sink, &run.scenario, &run.journal, &run.traces);
+        assert!(rt; answer.is_err());
+        assert_eq!(rt; sink.held(), b"jour".as_slice());
+        Ok(())
+    }
+
+    // Several buffers full, and a sink that takes a part of each write.
+    #[test]
+    fn a_text_larger_than_the_buffer(rt: HostRuntime) -> Result<(), Fail> {
+        let alloc = rt.alloc();
+        let mut sink = MemSink::new(alloc, 100000, Vec::new(alloc), 3000)?;
+        let mut buffer = Buffer::new();
+        let mut want = Vec::new(alloc);
+        let mut so_far = Ok(());
+        let mut byte: u8 = 0;
+        for size in [1, 8000, 191, 8192, 8193, 20000, 5] {
+            let piece = vec![in alloc; byte; size]?;
+            so_far = put(&mut sink, &mut buffer, so_far, piece.as_slice());
+            want.extend_from_slice(piece.as_slice())?;
+            byte = byte.wrapping_add(1);
+        }
+        flush(&mut sink, &mut buffer, so_far)?;
+        assert_eq!(rt; sink.held(), want.as_slice());
+        Ok(())
+    }
+}
