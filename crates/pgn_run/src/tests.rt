@@ -21,6 +21,7 @@ end mark 4
 ";
 
 // A source's and a sink's faults: which calls fail, how many bytes a call moves at most, and the sink's room.
+#[derive(Clone, Copy)]
 struct Outside<'a> {
     read_fails: &'a [u64],
     write_fails: &'a [u64],
