@@ -1,4 +1,4 @@
-ghost use Rattle.std.specs.Prelude.{◌≡◌, [], ◌∷◌, ◌++◌, OnOk, OnErr};
+ghost use Rattle.std.specs.Prelude.{◌≡◌, [], ◌∷◌, ◌++◌, IfOk, OnOk, OnErr};
 
 use crate::Copied;
 use std::alloc::{AllocError, Global};
@@ -26,6 +26,14 @@ impl<T> Seq<T> {
         Seq {
             items: Vec::new(alloc),
         }
+    }
+
+    /// The empty list, with room for `n` items.
+    pub fn with_capacity(alloc: Global, n: usize) -> Result<Self, AllocError>
+        ensures { IfOk result (λ list. list ≡ []) }
+    {
+        let items = Vec::with_capacity(alloc, n)?;
+        Ok(Seq { items })
     }
 
     /// The list of these items. It takes no memory.

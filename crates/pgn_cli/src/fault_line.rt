@@ -32,7 +32,10 @@ fn scenario_fault_line<K: Sink>(sink: &mut K, fault: ScenarioFault) -> Result<()
     ensures cause { HasCause (K.faults sink.old) (K.faults sink.new) result }
 {
     match fault {
-        ScenarioFault::TooLarge => write_all(sink, b"pgnotify: input is larger than 16777216 bytes\n"),
+        ScenarioFault::TooLarge => write_all(
+            sink,
+            b"pgnotify: input is larger than 16777216 bytes\n",
+        ),
         ScenarioFault::LineTooLong { line } => at_line(sink, line, b": line too long\n"),
         ScenarioFault::NotUtf8 { at } => numbered(sink, b"pgnotify: byte ", at, b": not UTF-8\n"),
         ScenarioFault::NulByte { line } => at_line(sink, line, b": zero byte\n"),
@@ -41,7 +44,11 @@ fn scenario_fault_line<K: Sink>(sink: &mut K, fault: ScenarioFault) -> Result<()
         ScenarioFault::SameName { line } => at_line(sink, line, b": session name used twice\n"),
         ScenarioFault::TooMany { line } => at_line(sink, line, b": too many\n"),
         ScenarioFault::Empty => write_all(sink, b"pgnotify: no session\n"),
-        ScenarioFault::NeverSignalled { line } => at_line(sink, line, b": flag is never signalled\n"),
+        ScenarioFault::NeverSignalled { line } => at_line(
+            sink,
+            line,
+            b": flag is never signalled\n",
+        ),
     }
 }
 

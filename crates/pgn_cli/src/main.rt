@@ -11,9 +11,9 @@ use adapters::{Input, Output};
 use fault_line::fault_line;
 use pgn_run::{Status, run_notify};
 use std::alloc::{AllocError, Global};
-use std::process::ExitCode;
 use std::env;
 use std::env::Env;
+use std::process::ExitCode;
 
 fn main(rt: HostRuntime) -> ExitCode {
     let mut source = Input::new(rt.stdin());

@@ -5,6 +5,7 @@ pub mod ReadingLaws
 pub mod SpellingLaws
 pub mod RunLaws
 pub mod SoFarLaws
+pub mod ScanLaws
 pub mod GoesOnLaws
 pub mod LineLaws
 pub mod ListLaws

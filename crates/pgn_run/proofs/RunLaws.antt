@@ -46,7 +46,6 @@ runs-whole xs input P e h = record { scenario = h.scenario; journal = h.journal;
 
 module _ (left : Option (List ℕ)) (input : List ℕ) (old new : Option (List ℕ)) (before now : ℕ) (status : Status)
     (bytes : IfSome left (λ xs. input ≡ take 16777217 xs)) (answers : Answers input old new before now status) where
-
   -- the answer where it is known
   answered : (other : Status) → status ≡ other → Answers input old new before now other
   answered other e = subst (λ (s : Status). Answers input old new before now s) e answers
@@ -54,38 +53,38 @@ module _ (left : Option (List ℕ)) (input : List ℕ) (old new : Option (List �
   pub done-runs : status ≡ Done → IfSome left (λ xs. Runs xs (Appends old new))
   done-runs e = with left bytes
     where
-    with : (o : Option (List ℕ)) → IfSome o (λ xs. input ≡ take 16777217 xs) → IfSome o (λ xs. Runs xs (Appends old new))
-    with None b = b
-    with (Some xs) b = runs-whole xs input (Appends old new) b (answered Done e)
+      with : (o : Option (List ℕ)) → IfSome o (λ xs. input ≡ take 16777217 xs) → IfSome o (λ xs. Runs xs (Appends old new))
+      with None b = b
+      with (Some xs) b = runs-whole xs input (Appends old new) b (answered Done e)
 
   pub write-fault-runs : status ≡ WriteFault → IfSome left (λ xs. Runs xs (AppendsFront old new))
   write-fault-runs e = with left bytes
     where
-    with : (o : Option (List ℕ)) → IfSome o (λ xs. input ≡ take 16777217 xs) → IfSome o (λ xs. Runs xs (AppendsFront old new))
-    with None b = b
-    with (Some xs) b = runs-whole xs input (AppendsFront old new) b (answered WriteFault e).0
+      with : (o : Option (List ℕ)) → IfSome o (λ xs. input ≡ take 16777217 xs) → IfSome o (λ xs. Runs xs (AppendsFront old new))
+      with None b = b
+      with (Some xs) b = runs-whole xs input (AppendsFront old new) b (answered WriteFault e).0
 
   pub not-built-breaks : (line : ℕ) → status ≡ NotBuilt line → IfSome left (λ xs. BreaksAt xs line)
   not-built-breaks line e = with left bytes
     where
-    with : (o : Option (List ℕ)) → IfSome o (λ xs. input ≡ take 16777217 xs) → IfSome o (λ xs. BreaksAt xs line)
-    with None b = b
-    with (Some xs) b = breaks-whole xs input line b (answered (NotBuilt line) e).0
+      with : (o : Option (List ℕ)) → IfSome o (λ xs. input ≡ take 16777217 xs) → IfSome o (λ xs. BreaksAt xs line)
+      with None b = b
+      with (Some xs) b = breaks-whole xs input line b (answered (NotBuilt line) e).0
 
   pub done-at-end : (rest : Option (List ℕ)) → Consumes left rest input → status ≡ Done → OnSome left (IsAtEnd rest)
   done-at-end rest consumed e = with left rest bytes consumed
     where
-    with : (o r : Option (List ℕ)) → IfSome o (λ xs. input ≡ take 16777217 xs) → Consumes o r input → OnSome o (IsAtEnd r)
-    with None r b h = b
-    with (Some xs) None b h = absurd h
-    with (Some xs) (Some ys) b h =
-        let all : input ≡ xs = within-is-whole xs input b (answered Done e).reads.within in
-        let none : length ys ≡ 0 = omega (arith, ap length all, ap length h, length-append input ys) in
-        empty ys none
-      where
-      empty : (zs : List ℕ) → length zs ≡ 0 → zs ≡ []
-      empty [] n = refl
-      empty (z ∷ zs) n = absurd (omega arith)
+      with : (o r : Option (List ℕ)) → IfSome o (λ xs. input ≡ take 16777217 xs) → Consumes o r input → OnSome o (IsAtEnd r)
+      with None r b h = b
+      with (Some xs) None b h = absurd h
+      with (Some xs) (Some ys) b h =
+          let all : input ≡ xs = within-is-whole xs input b (answered Done e).reads.within in
+          let none : length ys ≡ 0 = omega (arith, ap length all, ap length h, length-append input ys) in
+          empty ys none
+        where
+          empty : (zs : List ℕ) → length zs ≡ 0 → zs ≡ []
+          empty [] n = refl
+          empty (z ∷ zs) n = absurd (omega arith)
 
 -- what comes of an input that reads as a scenario, where no write failed
 pub reads-done : (left : Option (List ℕ)) (input : List ℕ) (old new : Option (List ℕ)) (before now : ℕ) (status : Status) (scenario : Scenario)

@@ -50,7 +50,7 @@ IsAt-push section state journal items item h allowed fresh shown none = record {
   own = filter_map-append finished_xid items (item ∷ []) ∙ ap (λ (o : Option ℕ). finished_xids items ++ cons_option o []) none ∙ append-nil (finished_xids items) ∙ h.own;
   finished = h.finished;
   alone = h.alone;
-  shown = All-push (IsShownWithin (3 + length journal)) items item h.shown shown
+  shown = All-push (IsShownWithin (3 + length journal)) items item h.shown shown;
 }
 
 -- the numbers of a session's transactions, with one more at the end
@@ -62,9 +62,9 @@ xids_from-push session x (first ∷ journal) tx e =
     ap (λ (xs : List ℕ). cond (first.session == session) (x ∷ xs) xs) rest
     ∙ moved (first.session == session) x (xids_from session (x + 1) journal) ((x + length (first ∷ journal)) ∷ [])
   where
-  moved : (b : Bool) (n : ℕ) (xs ys : List ℕ) → cond b (n ∷ (xs ++ ys)) (xs ++ ys) ≡ cond b (n ∷ xs) xs ++ ys
-  moved true n xs ys = refl
-  moved false n xs ys = refl
+    moved : (b : Bool) (n : ℕ) (xs ys : List ℕ) → cond b (n ∷ (xs ++ ys)) (xs ++ ys) ≡ cond b (n ∷ xs) xs ++ ys
+    moved true n xs ys = refl
+    moved false n xs ys = refl
 
 -- a bound on what is shown grows with the journal
 shown-weaker : (m n : ℕ) (item : Item) → m ≤ n → IsShownWithin m item → IsShownWithin n item
@@ -114,7 +114,7 @@ sent-finished : (section : Section) (note : Note) → IsFinished (sent section n
 sent-finished section note = record {
   some = λ e. cc;
   different = λ i j d lt within. absurd (omega arith);
-  queueing = refl
+  queueing = refl;
 }
 
 -- a transaction committed: it stands at the journal's end, and the item shows it
@@ -134,7 +134,7 @@ IsAt-publish section state journal items note h allowed told =
       own = filter_map-append finished_xid items (item ∷ []) ∙ ap (λ (xs : List ℕ). xs ++ (3 + length journal) ∷ []) h.own ∙ sym (xids_from-push section.no 3 journal (sent section note) same);
       finished = All-push IsFinished journal (sent section note) h.finished (sent-finished section note);
       alone = All-push (λ (tx : Tx). tx.session ≡ section.no) journal (sent section note) h.alone refl;
-      shown = All-push (IsShownWithin (3 + length longer)) items item (λ k d lt. shown-weaker (3 + length journal) (3 + length longer) (slice_index_or items k d) (omega (arith, len)) (h.shown k d lt)) (omega (arith, len))
+      shown = All-push (IsShownWithin (3 + length longer)) items item (λ k d lt. shown-weaker (3 + length journal) (3 + length longer) (slice_index_or items k d) (omega (arith, len)) (h.shown k d lt)) (omega (arith, len));
     }
 
 -- a set that a channel was put into is not empty
@@ -142,9 +142,9 @@ listened-some : (set : List (List ℕ)) (channel : List ℕ) → is_empty (after
 listened-some [] channel = refl
 listened-some (other ∷ set) channel = either (has_channel (other ∷ set) channel)
   where
-  either : (b : Bool) → is_empty (cond b (other ∷ set) ((other ∷ set) ++ channel ∷ [])) ≡ false
-  either true = refl
-  either false = refl
+    either : (b : Bool) → is_empty (cond b (other ∷ set) ((other ∷ set) ++ channel ∷ [])) ≡ false
+    either true = refl
+    either false = refl
 
 -- a listener whose set is not empty stays one
 answering-stays : (s : State) (ending : Ending) → (is_some s.mark && is_empty s.set) ≡ false → leaving_or_answering s ending ≡ record s { owed = Answering ending }
@@ -158,9 +158,9 @@ line-is-fresh : (section : Section) (journal : List Tx) (s : State) (line : ℕ)
     → IsFreshWithin (terms_of section) journal s (Line line)
 line-is-fresh section journal s line told caught = (λ idle. unread s.mark caught, omega arith)
   where
-  unread : (mark : Option ℕ) → IfSome mark (λ m. m ≡ 3 + length journal) → IfSome mark (λ m. list_any (is_committed_in section.db) (entries_between journal m s.told) ≡ false)
-  unread None e = e
-  unread (Some m) e = up-to-date section.db journal m s.told (e ∙ sym told)
+    unread : (mark : Option ℕ) → IfSome mark (λ m. m ≡ 3 + length journal) → IfSome mark (λ m. list_any (is_committed_in section.db) (entries_between journal m s.told) ≡ false)
+    unread None e = e
+    unread (Some m) e = up-to-date section.db journal m s.told (e ∙ sym told)
 
 -- a session that is no listener answers LISTEN
 listen-first : (section : Section) (n : ℕ) (text channel : List ℕ) (rest : List ScriptLine) (journal : List Tx) (items : List Item) (set : List (List ℕ)) (told : ℕ)
@@ -177,8 +177,8 @@ listen-first section n text channel rest journal items set told h =
     let told_within : told ≤ point = omega (arith, h.told) in
     let one = IsAt-push section before journal items (Line n) h.at (record { answered = refl; next = refl }) (line-is-fresh section journal before n h.told h.caught_up) tt refl in
     let two = IsAt-push section (after before (Line n)) journal (items ++ Line n ∷ []) (Enlist 3 point) one
-        (record { expected = tt; from_first = omega arith; ordered = omega arith; after_told = told_within; after_marks = h.marks_within; in_journal = omega arith })
-        (tt, told_within) (omega arith, omega arith) refl in
+    (record { expected = tt; from_first = omega arith; ordered = omega arith; after_told = told_within; after_marks = h.marks_within; in_journal = omega arith })
+    (tt, told_within) (omega arith, omega arith) refl in
     let stays : after (after before (Line n)) (Enlist 3 point) ≡ joined = answering-stays (standing rest now (Some point) told marks) ending (listened-some set channel) in
     let at : IsAt section joined journal ((items ++ Line n ∷ []) ++ Enlist 3 point ∷ []) = subst (λ (t : State). IsAt section t journal ((items ++ Line n ∷ []) ++ Enlist 3 point ∷ [])) stays two in
     let three = IsAt-push section joined journal ((items ++ Line n ∷ []) ++ Enlist 3 point ∷ []) (Reply tag.Listen None) at refl (tt, told_within) tt refl in
@@ -188,7 +188,7 @@ listen-first section n text channel rest journal items set told h =
       marks_within = All-push (λ (m : ℕ). m ≤ point) (h.marks ++ 3 ∷ []) point (All-push (λ (m : ℕ). m ≤ point) h.marks 3 h.marks_within (omega arith)) (omega arith);
       told = h.told;
       behind = omega arith;
-      listening = listened-some set channel
+      listening = listened-some set channel;
     }
 
 -- a listener answers LISTEN
@@ -212,7 +212,7 @@ listen-again section n text channel rest journal items set mark told h =
       marks_within = h.marks_within;
       told = h.told;
       behind = omega (arith, h.caught_up);
-      listening = listened-some set channel
+      listening = listened-some set channel;
     }
 
 -- the entry at the journal's end
@@ -252,26 +252,28 @@ notify-line section n text note rest journal items set mark told h =
       marks_within = λ k d lt. omega (arith, len, h.marks_within k d lt);
       told = omega (arith, len);
       behind = earlier mark h.caught_up;
-      listening = h.listening
+      listening = h.listening;
     }
   where
-  unread : (mark : Option ℕ) → IfSome mark (λ m. m ≡ 3 + length journal) → IfSome mark (λ m. m ≤ 3 + length journal)
-  unread None e = e
-  unread (Some m) e = omega (arith, e)
-  earlier : (mark : Option ℕ) → IfSome mark (λ m. m ≡ 3 + length journal) → IfSome mark (λ m. m ≤ 3 + length (journal ++ sent section note ∷ []))
-  earlier None e = e
-  earlier (Some m) e = omega (arith, e, length-append journal (sent section note ∷ []))
-  listens_on : (mark : Option ℕ) → IfSome mark (λ m. is_empty set ≡ false) → (is_some mark && is_empty set) ≡ false
-  listens_on None e = refl
-  listens_on (Some m) e = e
+    unread : (mark : Option ℕ) → IfSome mark (λ m. m ≡ 3 + length journal) → IfSome mark (λ m. m ≤ 3 + length journal)
+    unread None e = e
+    unread (Some m) e = omega (arith, e)
+
+    earlier : (mark : Option ℕ) → IfSome mark (λ m. m ≡ 3 + length journal) → IfSome mark (λ m. m ≤ 3 + length (journal ++ sent section note ∷ []))
+    earlier None e = e
+    earlier (Some m) e = omega (arith, e, length-append journal (sent section note ∷ []))
+
+    listens_on : (mark : Option ℕ) → IfSome mark (λ m. is_empty set ≡ false) → (is_some mark && is_empty set) ≡ false
+    listens_on None e = refl
+    listens_on (Some m) e = e
 
 -- a listener that has answered reads what is unread
 read-on : (section : Section) (rest : List ScriptLine) (journal : List Tx) (items : List Item) (set : List (List ℕ)) (mark told : ℕ)
     → IsAnswered section rest (record { journal = journal; items = items; set = set; mark = Some mark; told = told })
     → (b : Bool) → nat_lt mark (3 + length journal) ≡ b
     → let to : ℕ = 3 + length journal in
-      IsSoFar section rest (cond b (record { journal = journal; items = items ++ Read mark to (due journal mark to section.db set) ∷ []; set = set; mark = Some to; told = told })
-        (record { journal = journal; items = items; set = set; mark = Some mark; told = told }))
+    IsSoFar section rest (cond b (record { journal = journal; items = items ++ Read mark to (due journal mark to section.db set) ∷ []; set = set; mark = Some to; told = told })
+    (record { journal = journal; items = items; set = set; mark = Some mark; told = told }))
 read-on section rest journal items set mark told h true e =
     let to : ℕ = 3 + length journal in
     let before : State = standing rest set (Some mark) told h.marks in
@@ -280,12 +282,12 @@ read-on section rest journal items set mark told h true e =
     record {
       marks = h.marks ++ to ∷ [];
       at = IsAt-push section before journal items (Read mark to (due journal mark to section.db set)) h.at
-        (record { in_turn = inl refl; from_mark = refl; forward = forward; after_told = told_within; in_journal = omega arith; received = refl })
-        (tt, told_within) (h.behind, omega arith) refl;
+          (record { in_turn = inl refl; from_mark = refl; forward = forward; after_told = told_within; in_journal = omega arith; received = refl })
+          (tt, told_within) (h.behind, omega arith) refl;
       marks_within = All-push (λ (m : ℕ). m ≤ to) h.marks to h.marks_within (omega arith);
       told = h.told;
       caught_up = refl;
-      listening = h.listening
+      listening = h.listening;
     }
 read-on section rest journal items set mark told h false e =
     let behind : mark ≤ 3 + length journal = h.behind in
@@ -344,7 +346,7 @@ started section = record {
   marks_within = All-nil (λ (m : ℕ). m ≤ 3);
   told = refl;
   caught_up = tt;
-  listening = tt
+  listening = tt;
 }
 
 -- a script that was run to its end is a legal run
@@ -356,22 +358,27 @@ run-is-legal section s h = record {
   finished = h.at.finished;
   named = λ k d lt. named (slice_index_or s.journal k d) (h.at.alone k d lt);
   shown = All-push (λ (trace : Trace). All (IsShownWithin (3 + length s.journal)) trace.items) [] (trace_of section s) (All-nil (λ (trace : Trace). All (IsShownWithin (3 + length s.journal)) trace.items)) h.at.shown;
-  read_all = All-push (λ (trace : Trace). IfSome trace.last (λ m. m ≡ 3 + length s.journal)) [] (trace_of section s) (All-nil (λ (trace : Trace). IfSome trace.last (λ m. m ≡ 3 + length s.journal))) h.caught_up
+  read_all = All-push (λ (trace : Trace). IfSome trace.last (λ m. m ≡ 3 + length s.journal)) [] (trace_of section s) (All-nil (λ (trace : Trace). IfSome trace.last (λ m. m ≡ 3 + length s.journal))) h.caught_up;
 }
   where
-  last : State
-  last = standing [] s.set s.mark s.told h.marks
-  ended : IsEnd (state_after (terms_of section) s.items) s.mark
-  ended = subst (λ (t : State). IsEnd t s.mark) (sym h.at.stands.state) (record { answered = refl; done = refl; mark = refl })
-  between : Along after (IsFreshAt (terms_of section) s.journal) (start section) s.items
-  between = Along-weaker after (IsFreshWithin (terms_of section) s.journal) (IsFreshAt (terms_of section) s.journal) (λ t i p. p.0) (start section) s.items h.at.fresh
-  unread : (mark : Option ℕ) → IfSome mark (λ m. m ≡ 3 + length s.journal) → IfSome mark (λ m. list_any (is_committed_in section.db) (entries_between s.journal m s.told) ≡ false)
-  unread None e = e
-  unread (Some m) e = up-to-date section.db s.journal m s.told (e ∙ sym h.told)
-  at_end : IsUpToDate (terms_of section) s.journal (state_after (terms_of section) s.items)
-  at_end = subst (λ (t : State). IsUpToDate (terms_of section) s.journal t) (sym h.at.stands.state) (unread s.mark h.caught_up)
-  named : (tx : Tx) → tx.session ≡ section.no → names_section (section ∷ []) tx.session ≡ true
-  named tx e = ap (λ (b : Bool). b || false) (eq-eqb section.no tx.session (sym e))
+    last : State
+    last = standing [] s.set s.mark s.told h.marks
+
+    ended : IsEnd (state_after (terms_of section) s.items) s.mark
+    ended = subst (λ (t : State). IsEnd t s.mark) (sym h.at.stands.state) (record { answered = refl; done = refl; mark = refl })
+
+    between : Along after (IsFreshAt (terms_of section) s.journal) (start section) s.items
+    between = Along-weaker after (IsFreshWithin (terms_of section) s.journal) (IsFreshAt (terms_of section) s.journal) (λ t i p. p.0) (start section) s.items h.at.fresh
+
+    unread : (mark : Option ℕ) → IfSome mark (λ m. m ≡ 3 + length s.journal) → IfSome mark (λ m. list_any (is_committed_in section.db) (entries_between s.journal m s.told) ≡ false)
+    unread None e = e
+    unread (Some m) e = up-to-date section.db s.journal m s.told (e ∙ sym h.told)
+
+    at_end : IsUpToDate (terms_of section) s.journal (state_after (terms_of section) s.items)
+    at_end = subst (λ (t : State). IsUpToDate (terms_of section) s.journal t) (sym h.at.stands.state) (unread s.mark h.caught_up)
+
+    named : (tx : Tx) → tx.session ≡ section.no → names_section (section ∷ []) tx.session ≡ true
+    named tx e = ap (λ (b : Bool). b || false) (eq-eqb section.no tx.session (sym e))
 
 -- the line at a place of the script
 pub line-runs_at : (section : Section) (lines : List ScriptLine) (k : ℕ) (line : ScriptLine) (s next : Session)

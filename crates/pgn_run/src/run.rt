@@ -95,7 +95,12 @@ fn answer<K: Sink>(alloc: Global, input: &[u8], sink: &mut K) -> Status
     let Ok(run) = run_scenario(alloc, &scenario) else {
         return Status::NoMemory;
     };
-    match render(sink, &scenario, run.journal.as_slice(), run.traces.as_slice()) {
+    match render(
+        sink,
+        &scenario,
+        run.journal.as_slice(),
+        run.traces.as_slice(),
+    ) {
         Ok(()) => Status::Done,
         Err(_) => Status::WriteFault,
     }

@@ -5,7 +5,9 @@ ghost use Rattle.pgn_model.specs.Legal.{Legal};
 ghost use Rattle.pgn_run.specs.Reading.{IsServedAct, IsServed, input_limit};
 ghost use Rattle.pgn_run.specs.SoFar.{IsSoFar};
 
-use pgn_base::{Action, Copied, DbOid, Deliveries, Delivery, ListenSet, Name, Note, Notes, Seq, Tag, Xid};
+use pgn_base::{
+    Action, Copied, DbOid, Deliveries, Delivery, ListenSet, Name, Note, Notes, Seq, Tag, Xid,
+};
 use pgn_model::{Act, Command, Fate, Item, Items, Scenario, ScriptLine, Section, Trace, Tx};
 use std::alloc::{AllocError, Global};
 
@@ -157,7 +159,7 @@ impl Session {
 fn only_note(alloc: Global, note: &Note) -> Result<Notes, AllocError>
     ensures { IfOk result (λ notes. notes ≡ note.now ∷ []) }
 {
-    let mut notes = Notes::new(alloc);
+    let mut notes = Notes::with_capacity(alloc, 1)?;
     notes.push(note.copy(alloc)?)?;
     Ok(notes)
 }
@@ -175,11 +177,27 @@ fn scan(
     requires within { to ≤ 3 + length journal.now }
     ensures due { IfOk result (λ got. got ≡ due journal.now from to db set.now) }
 {
-    let mut got = Deliveries::new(alloc);
+    let mut got = room_for(alloc, from, to)?;
     for k in from.get() - 3..to.get() - 3 {
-        give(alloc, Xid::new(3 + k), &journal[k as usize], db, set, &mut got)?;
+        give(
+            alloc,
+            Xid::new(3 + k),
+            &journal[k as usize],
+            db,
+            set,
+            &mut got,
+        )?;
     }
     Ok(got)
+}
+
+// An empty list with room for what a few transactions give, of which most have one notification.
+fn room_for(alloc: Global, from: Xid, to: Xid) -> Result<Deliveries, AllocError>
+    requires { from ≤ to }
+    ensures { IfOk result (λ got. got ≡ []) }
+{
+    let transactions = to.get() - from.get();
+    Deliveries::with_capacity(alloc, transactions.min(4) as usize)
 }
 
 // What one transaction gives.

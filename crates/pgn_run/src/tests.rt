@@ -37,7 +37,12 @@ const AMPLE: Outside<'static> = Outside {
 };
 
 // How a run ends, and what it wrote.
-fn run(alloc: Global, words: &[&str], input: &[u8], outside: &Outside<'_>) -> Result<(Status, Vec<u8>), AllocError> {
+fn run(
+    alloc: Global,
+    words: &[&str],
+    input: &[u8],
+    outside: &Outside<'_>,
+) -> Result<(Status, Vec<u8>), AllocError> {
     let most = outside.most.max(1);
     let bytes = Vec::from_slice(alloc, input)?;
     let mut source = MemSource::new(bytes, Vec::from_slice(alloc, outside.read_fails)?, most);
@@ -62,7 +67,10 @@ fn worked_examples(rt: HostRuntime) -> Result<(), Fail> {
     let table: [(&[u8], &[u8]); 4] = [
         (SELF_NOTIFY, SELF_NOTIFY_OUTPUT),
         // An empty section.
-        (b"\\session a 1", b"journal 0\nsession 1 a db 1 pid 1001\nend\n"),
+        (
+            b"\\session a 1",
+            b"journal 0\nsession 1 a db 1 pid 1001\nend\n",
+        ),
         // A listener is delivered to from its point on, and its base is the first transaction.
         (
             b"\\session a 7\nNOTIFY c, 'early'\nLISTEN c\nNOTIFY c, 'late'",
@@ -124,14 +132,42 @@ fn refuses_and_writes_nothing(rt: HostRuntime) -> Result<(), Fail> {
     let table: [(&[&str], &[u8], Status); 17] = [
         (&["run"], b"", Status::NotBuilt { line: 1 }),
         (&["run"], b"NOTIFY c", Status::NotBuilt { line: 1 }),
-        (&["run"], b"\\session a 1\n\\session b 1\n", Status::NotBuilt { line: 2 }),
-        (&["run"], b"\\session a 1\nLISTEN c\nVACUUM\n", Status::NotBuilt { line: 3 }),
-        (&["run"], b"\\session a 1\nNOTIFY c, 'it''s'\n", Status::NotBuilt { line: 2 }),
-        (&["run"], b"\\session a 1\nNOTIFY c, '\x7f'\n", Status::NotBuilt { line: 2 }),
-        (&["run"], b"\\session a 1\nNOTIFY c, '\xff'\n", Status::NotBuilt { line: 2 }),
-        (&["run"], b"\\session a 1\nNOTIFY c, '\x00'\n", Status::NotBuilt { line: 2 }),
+        (
+            &["run"],
+            b"\\session a 1\n\\session b 1\n",
+            Status::NotBuilt { line: 2 },
+        ),
+        (
+            &["run"],
+            b"\\session a 1\nLISTEN c\nVACUUM\n",
+            Status::NotBuilt { line: 3 },
+        ),
+        (
+            &["run"],
+            b"\\session a 1\nNOTIFY c, 'it''s'\n",
+            Status::NotBuilt { line: 2 },
+        ),
+        (
+            &["run"],
+            b"\\session a 1\nNOTIFY c, '\x7f'\n",
+            Status::NotBuilt { line: 2 },
+        ),
+        (
+            &["run"],
+            b"\\session a 1\nNOTIFY c, '\xff'\n",
+            Status::NotBuilt { line: 2 },
+        ),
+        (
+            &["run"],
+            b"\\session a 1\nNOTIFY c, '\x00'\n",
+            Status::NotBuilt { line: 2 },
+        ),
         (&["run"], long_name.as_slice(), Status::NotBuilt { line: 2 }),
-        (&["run"], long_payload.as_slice(), Status::NotBuilt { line: 3 }),
+        (
+            &["run"],
+            long_payload.as_slice(),
+            Status::NotBuilt { line: 3 },
+        ),
         (&["run"], largest.as_slice(), Status::NotBuilt { line: 1 }),
         (&["run"], too_large.as_slice(), Status::NotBuilt { line: 0 }),
         (&[], SELF_NOTIFY, Status::BadWords),
@@ -151,11 +187,41 @@ fn refuses_and_writes_nothing(rt: HostRuntime) -> Result<(), Fail> {
 #[test]
 fn names_the_side_that_failed(rt: HostRuntime) -> Result<(), Fail> {
     let table: [(Outside<'_>, Status, usize); 6] = [
-        (Outside { read_fails: &[1], ..AMPLE }, Status::ReadFault, 0),
+        (
+            Outside {
+                read_fails: &[1],
+                ..AMPLE
+            },
+            Status::ReadFault,
+            0,
+        ),
         // The last read of three is the one that finds the end.
-        (Outside { read_fails: &[3], most: 20, ..AMPLE }, Status::ReadFault, 0),
-        (Outside { write_fails: &[1], ..AMPLE }, Status::WriteFault, 0),
-        (Outside { write_fails: &[2], most: 4, ..AMPLE }, Status::WriteFault, 4),
+        (
+            Outside {
+                read_fails: &[3],
+                most: 20,
+                ..AMPLE
+            },
+            Status::ReadFault,
+            0,
+        ),
+        (
+            Outside {
+                write_fails: &[1],
+                ..AMPLE
+            },
+            Status::WriteFault,
+            0,
+        ),
+        (
+            Outside {
+                write_fails: &[2],
+                most: 4,
+                ..AMPLE
+            },
+            Status::WriteFault,
+            4,
+        ),
         (Outside { room: 10, ..AMPLE }, Status::WriteFault, 10),
         // Both work byte by byte.
         (Outside { most: 1, ..AMPLE }, Status::Done, 175),

@@ -10,5 +10,5 @@ loop-line-preserved c =
     let served = subst (λ (ls : List ScriptLine). All (λ (l : ScriptLine). IsServedAct l.act) ls) (sym c.as_slice-line-items.ensures) c.requires.served in
     record {
       so_far = line-runs_at c.args.section.now lines c.loop-line.line-index c.line-item.result c.loop-line.session c.run_line.new.self (omega arith) c.line-item.is served c.loop-line.invariant.so_far c.in_ok-run_line.ensures.ran;
-      few = omega (arith, c.in_ok-run_line.ensures.grown)
+      few = omega (arith, c.in_ok-run_line.ensures.grown);
     }
