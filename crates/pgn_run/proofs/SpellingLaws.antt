@@ -1,5 +1,5 @@
 -- What the tests on bytes say, and that a spelling is cut in one way alone.
-use Rattle.std.proofs.Common.{◌≡◌, ℕ, zero, suc, ◌+◌, ◌-◌, ◌<◌, ◌≤◌, ◌&&◌, ◌||◌, ◌==◌, not, Bool, true, false, cond, List, [], ◌∷◌, ◌++◌, length, take, drop, get_or, Option, Some, None, position, codes, Contains, IsAscii, sym, ap, ◌∙◌, refl, subst, arith, take-append-drop, eqb-true, ne_eqb, eq-eqb, nat_lt, ltb-false, length-take, append_assoc}
+use Rattle.std.proofs.Common.{◌≡◌, ℕ, ◌+◌, ◌-◌, ◌<◌, ◌≤◌, ◌&&◌, ◌==◌, not, Bool, true, false, cond, List, [], ◌∷◌, ◌++◌, length, take, drop, get_or, Some, None, position, codes, IsAscii, sym, ap, ◌∙◌, refl, arith, take-append-drop, eqb-true, ne_eqb, eq-eqb, nat_lt, ltb-false, length-take, append_assoc}
 use Rattle.std.specs.List.{list_all, position_or_len}
 use Rattle.std.specs.Str.{bytes_eq}
 use Rattle.std.proofs.lemmas.Bool.{and_parts, and_from, false≢true, not_from_false}
@@ -26,14 +26,6 @@ lacks-from_test p byte xs out h = list_all-weaker p (λ x. not (x == byte)) (λ 
 pub IsAscii-from_test : (p : ℕ → Bool) → ((x : ℕ) → p x ≡ true → x < 128) → (xs : List ℕ) → list_all p xs ≡ true → IsAscii xs
 IsAscii-from_test p f [] h = IsAscii-nil
 IsAscii-from_test p f (x ∷ xs) h = let parts = and_parts (p x) (list_all p xs) h in IsAscii-cons x xs (f x parts.0) (IsAscii-from_test p f xs parts.1)
-
-at_place : (p : ℕ → Bool) (xs : List ℕ) (k : ℕ) (d : ℕ) → k < length xs → list_all p xs ≡ true → p (get_or xs k d) ≡ true
-at_place p [] k d l h = absurd (omega arith)
-at_place p (x ∷ xs) zero d l h = (and_parts (p x) (list_all p xs) h).0
-at_place p (x ∷ xs) (suc k) d l h = at_place p xs k d (omega arith) (and_parts (p x) (list_all p xs) h).1
-
-pub lacks-from_list_all : (p : ℕ → Bool) (byte : ℕ) (xs : List ℕ) → p byte ≡ false → list_all p xs ≡ true → Contains xs byte → ⊥
-lacks-from_list_all p byte xs out h w = false≢true (sym out ∙ ap p (sym w.2) ∙ at_place p xs w.0 byte w.1 h)
 
 -- a front or an end that the text has, or has not
 pub front_yes : (s p t : List ℕ) → bytes_eq (take (length p) s) p ≡ true → t ≡ drop (length p) s → s ≡ p ++ t
