@@ -1,17 +1,15 @@
 -- A line reads as a command where its words do.
-use Rattle.std.proofs.Common.{◌≡◌, ℕ, ◌+◌, ◌-◌, ◌<◌, ◌≤◌, ◌⊎◌, ◌&&◌, Bool, true, false, List, [], ◌∷◌, ◌++◌, length, take, drop, get_or, codes, Contains, IsAscii, sym, ap, ◌∙◌, refl, subst, inl, inr, arith, append_assoc}
+use Rattle.std.proofs.Common.{◌≡◌, ℕ, ◌<◌, ◌⊎◌, true, List, ◌++◌, get_or, codes, IsAscii, sym, ap, ◌∙◌, refl, subst, inl, inr, arith}
 use Rattle.std.specs.List.{list_all}
-use Rattle.std.specs.Str.{bytes_eq}
-use Rattle.std.proofs.lemmas.Bool.{and_from}
 use Rattle.std.proofs.lemmas.Bool.Decides.{nat_tests}
 use Rattle.std.proofs.lemmas.List.{append_cancel_left}
 use Rattle.std.proofs.lemmas.Str.{IsAscii-append}
 use Rattle.pgn_base.specs.declared.note.Note.{Note}
 use Rattle.pgn_model.specs.declared.command.Command.{Command}
 use Rattle.pgn_model.specs.declared.command.Command.TheVariants.{Empty, Begin, Start, Commit, Rollback, Savepoint, RollbackTo, Release, Listen, Unlisten, UnlistenAll, Notify, PgNotify, ListeningChannels, QueueUsage, Invalid, Bad}
-use Rattle.pgn_run.specs.Reading.{IsWord, IsPlain, IsSectionName, IsListenLine, IsNotifyLine, ReadsAsCommand, IsCommandLine, is_word_byte, is_plain_byte, is_name_byte, is_lower, is_digit, is_between}
-use Rattle.pgn_run.specs.Spelling.{lacks, IsQuoted}
-use Rattle.pgn_run.proofs.SpellingLaws.{front_no, quoted_once, list_all-weaker, lacks-from_test, lacks-from_list_all, IsAscii-from_test}
+use Rattle.pgn_run.specs.Reading.{IsWord, IsPlain, IsSectionName, IsListenLine, IsNotifyLine, ReadsAsCommand, IsCommandLine, is_word_byte, is_plain_byte, is_name_byte, is_between}
+use Rattle.pgn_run.specs.Spelling.{IsQuoted}
+use Rattle.pgn_run.proofs.SpellingLaws.{quoted_once, list_all-weaker, lacks-from_test, IsAscii-from_test}
 
 -- a word's bytes, and a payload's
 word_byte_name : (x : ℕ) → is_word_byte x ≡ true → is_name_byte x ≡ true
@@ -33,11 +31,8 @@ plain_byte_ascii x h = grind (arith, nat_tests)
 word_ascii : (word : List ℕ) → IsWord word → IsAscii word
 word_ascii word h = IsAscii-from_test is_word_byte word_byte_ascii word h.word
 
-pub plain_ascii : (payload : List ℕ) → IsPlain payload → IsAscii payload
+plain_ascii : (payload : List ℕ) → IsPlain payload → IsAscii payload
 plain_ascii payload h = IsAscii-from_test is_plain_byte plain_byte_ascii payload h.plain
-
-pub plain_no_nul : (payload : List ℕ) → IsPlain payload → Contains payload 0 → ⊥
-plain_no_nul payload h = lacks-from_list_all is_plain_byte 0 payload refl h.plain
 
 small : (x : ℕ) → is_between 0 127 x ≡ true → x < 128
 small x h = grind (arith, nat_tests)
@@ -85,13 +80,6 @@ apart line a b p q =
     let first = ap (λ (x : List ℕ). get_or x 0 0) (sym p ∙ q) in
     absurd (omega arith)
 
-pub listen_no : (line word : List ℕ) → line ≡ codes "LISTEN " ++ word → (IsWord word → ⊥) → IsCommandLine line → ⊥
-listen_no line word e no_word (command, h) =
-    elim (command_cases line command h) [
-      | inl p ↦ no_word (subst (λ (x : List ℕ). IsWord x) (sym (append_cancel_left (codes "LISTEN ") word p.0 (sym e ∙ p.1.spelled))) p.1.word)
-      | inr p ↦ apart line word (p.0.channel ++ codes ", '" ++ p.0.payload ++ codes "'") e p.1.spelled
-    ]
-
 notify_quoted : (line words : List ℕ) (note : Note) → line ≡ codes "NOTIFY " ++ words → IsNotifyLine line note → IsQuoted words note.channel note.payload
 notify_quoted line words note e h = record {
   first = lacks-from_test is_word_byte 44 note.channel refl h.word.word;
@@ -104,20 +92,6 @@ notify_no line words e no_note (command, h) =
       | inl p ↦ apart line p.0 words p.1.spelled e
       | inr p ↦ no_note p.0.channel p.0.payload (notify_quoted line words p.0 e p.1) p.1.word p.1.plain
     ]
-
-pub neither : (line : List ℕ) → bytes_eq (take 7 line) (codes "LISTEN ") ≡ false → bytes_eq (take 7 line) (codes "NOTIFY ") ≡ false → IsCommandLine line → ⊥
-neither line l n (command, h) =
-    elim (command_cases line command h) [
-      | inl p ↦ front_no line (codes "LISTEN ") l p.0 p.1.spelled
-      | inr p ↦ front_no line (codes "NOTIFY ") n (p.0.channel ++ codes ", '" ++ p.0.payload ++ codes "'") p.1.spelled
-    ]
-
-pub notify_yes : (line words : List ℕ) (note : Note) → line ≡ codes "NOTIFY " ++ words → IsWord note.channel → IsPlain note.payload → IsQuoted words note.channel note.payload → IsNotifyLine line note
-notify_yes line words note e word plain quoted = record {
-  word = word;
-  plain = plain;
-  spelled = e ∙ ap (λ (x : List ℕ). codes "NOTIFY " ++ x) quoted.whole;
-}
 
 pub quoted_unplain : (words word payload : List ℕ) → IsQuoted words word payload → (IsPlain payload → ⊥) → (w p : List ℕ) → IsQuoted words w p → IsWord w → IsPlain p → ⊥
 quoted_unplain words word payload h no_plain w p q _ plain =

@@ -1,25 +1,14 @@
 -- A line heads a section where its words do.
-use Rattle.std.proofs.Common.{◌≡◌, ℕ, ◌+◌, ◌*◌, ◌-◌, ◌<◌, ◌≤◌, ◌&&◌, Bool, true, false, List, [], ◌∷◌, ◌++◌, length, take, drop, codes, Contains, IsAscii, fold, sym, ap, ◌∙◌, refl, subst, arith, append_assoc, zero, suc, get_or, length-take, take-append-drop}
+use Rattle.std.proofs.Common.{◌≡◌, ℕ, ◌+◌, ◌*◌, ◌-◌, ◌<◌, ◌≤◌, true, List, [], ◌∷◌, ◌++◌, length, take, drop, codes, fold, sym, ap, ◌∙◌, refl, subst, arith, append_assoc, zero, suc, get_or, length-take, take-append-drop}
 use Rattle.std.specs.List.{list_all}
-use Rattle.std.specs.Str.{bytes_eq}
 use Rattle.std.proofs.lemmas.Bool.{and_parts}
 use Rattle.std.proofs.lemmas.Bool.Decides.{nat_tests}
 use Rattle.std.proofs.lemmas.List.{append_cancel_left}
 use Rattle.std.proofs.lemmas.List.Sums.{fold_more}
 use Rattle.std.proofs.lemmas.List.Folds.{list_all-append}
-use Rattle.pgn_run.specs.Reading.{IsSessionLine, IsHeadLine, IsSectionName, IsDatabase, is_name_byte, is_word_byte, is_digit, is_lower, is_between, value_of}
-use Rattle.pgn_run.specs.Spelling.{lacks, IsCutAt}
-use Rattle.pgn_run.proofs.SpellingLaws.{front_no, cut_once, lacks-uncut, lacks-from_test, lacks-from_list_all, IsAscii-from_test}
-
--- a name's bytes
-name_byte_ascii : (x : ℕ) → is_name_byte x ≡ true → x < 128
-name_byte_ascii x h = grind (arith, nat_tests)
-
-pub name_ascii : (word : List ℕ) → IsSectionName word → IsAscii word
-name_ascii word h = IsAscii-from_test is_name_byte name_byte_ascii word h.name
-
-pub name_no_nul : (word : List ℕ) → IsSectionName word → Contains word 0 → ⊥
-name_no_nul word h = lacks-from_list_all is_name_byte 0 word refl h.name
+use Rattle.pgn_run.specs.Reading.{IsSessionLine, IsHeadLine, IsSectionName, IsDatabase, is_name_byte, is_digit, value_of}
+use Rattle.pgn_run.specs.Spelling.{IsCutAt}
+use Rattle.pgn_run.proofs.SpellingLaws.{cut_once, lacks-from_test}
 
 -- what stands between `\session ` and the digits
 spread : (name digits : List ℕ) → name ++ codes " " ++ digits ≡ name ++ 32 ∷ digits
@@ -34,12 +23,6 @@ head_cut line words word digits name db h e cut =
     let apart = lacks-from_test is_name_byte 32 name refl h.named.name in
     cut_once 32 name word h.digits digits apart cut.first (sym (head_words line words name db h e) ∙ cut.whole)
 
-pub head_unopened : (line : List ℕ) → bytes_eq (take 9 line) (codes "\\session ") ≡ false → IsHeadLine line → ⊥
-head_unopened line b (name, db, h) = front_no line (codes "\\session ") b (name ++ codes " " ++ h.digits) h.spelled
-
-pub head_uncut : (line words : List ℕ) → line ≡ codes "\\session " ++ words → lacks 32 words ≡ true → IsHeadLine line → ⊥
-head_uncut line words e l (name, db, h) = lacks-uncut 32 words name h.digits l (head_words line words name db h e)
-
 pub head_undigited : (line words word digits : List ℕ) → line ≡ codes "\\session " ++ words → IsCutAt 32 words word digits → ((db : ℕ) → IsDatabase digits db → ⊥) → IsHeadLine line → ⊥
 head_undigited line words word digits e cut no_db (name, db, h) =
     no_db db (subst (λ (x : List ℕ). IsDatabase x db) (head_cut line words word digits name db h e cut).1 h.database)
@@ -47,14 +30,6 @@ head_undigited line words word digits e cut no_db (name, db, h) =
 pub head_unnamed : (line words word digits : List ℕ) → line ≡ codes "\\session " ++ words → IsCutAt 32 words word digits → (IsSectionName word → ⊥) → IsHeadLine line → ⊥
 head_unnamed line words word digits e cut no_name (name, db, h) =
     no_name (subst (λ (x : List ℕ). IsSectionName x) (head_cut line words word digits name db h e cut).0 h.named)
-
-pub head_yes : (line words word digits : List ℕ) (db : ℕ) → line ≡ codes "\\session " ++ words → IsCutAt 32 words word digits → IsDatabase digits db → IsSectionName word → IsSessionLine line word db
-head_yes line words word digits db e cut database named = record {
-  digits = digits;
-  named = named;
-  database = database;
-  spelled = e ∙ ap (λ (x : List ℕ). codes "\\session " ++ x) (cut.whole ∙ sym (spread word digits));
-}
 
 -- ten digits stand for less than 10 ^ 10
 abbrev grown : ℕ → ℕ → ℕ

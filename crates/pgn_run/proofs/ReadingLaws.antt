@@ -1,15 +1,14 @@
 -- An input reads as a scenario or breaks at one line.
-use Rattle.std.proofs.Common.{◌≡◌, ℕ, ◌+◌, ◌<◌, ◌≤◌, Bool, true, false, cond, List, [], ◌∷◌, ◌++◌, length, All, sym, ap, ◌∙◌, refl, subst, inl, inr, arith, append-nil, append_assoc}
+use Rattle.std.proofs.Common.{◌≡◌, ℕ, ◌+◌, ◌≤◌, List, [], ◌∷◌, ◌++◌, length, All, sym, ◌∙◌, refl, subst, inl, inr, arith, append-nil}
 use Rattle.std.proofs.lemmas.List.{nil_from_length}
 use Rattle.std.proofs.lemmas.List.Elements.{All-nil, All-cons}
-use Rattle.pgn_model.specs.declared.command.Command.{Command}
 use Rattle.pgn_model.specs.declared.command.Command.TheVariants.{Empty, Begin, Start, Commit, Rollback, Savepoint, RollbackTo, Release, Listen, Unlisten, UnlistenAll, Notify, PgNotify, ListeningChannels, QueueUsage, Invalid, Bad}
 use Rattle.pgn_model.specs.declared.scenario.Act.{Act}
 use Rattle.pgn_model.specs.declared.scenario.Act.TheVariants.{Run, Signal, Await, Quit}
 use Rattle.pgn_model.specs.declared.scenario.ScriptLine.{ScriptLine}
 use Rattle.pgn_model.specs.declared.scenario.Section.{Section}
 use Rattle.pgn_model.specs.declared.scenario.Scenario.{Scenario}
-use Rattle.pgn_run.specs.Reading.{input_limit, lines_of, RunsLine, ReadsAsCommand, ReadsAsLine, ReadAsLines, ReadAsSection, ReadsAsScenario, IsCommandLine, IsHeadLine, BreaksFrom, LinesBreakAt, BreaksAt, IsServedAct, IsServed, one_section}
+use Rattle.pgn_run.specs.Reading.{lines_of, RunsLine, ReadAsLines, ReadAsSection, ReadsAsScenario, IsCommandLine, BreaksFrom, LinesBreakAt, BreaksAt, IsServedAct, IsServed}
 use Rattle.pgn_run.proofs.LinesLaws.{lines_few}
 
 runs_command : (line : List ℕ) (act : Act) → RunsLine line act → IsCommandLine line

@@ -1,15 +1,15 @@
 -- What the tests on bytes say, and that a spelling is cut in one way alone.
-use Rattle.std.proofs.Common.{◌≡◌, ℕ, zero, suc, ◌+◌, ◌-◌, ◌<◌, ◌≤◌, ◌&&◌, ◌||◌, ◌==◌, not, Bool, true, false, cond, List, [], ◌∷◌, ◌++◌, length, take, drop, get_or, Option, Some, None, position, codes, Contains, IsAscii, sym, ap, ◌∙◌, refl, subst, arith, take-append-drop, eqb-true, ne_eqb, eq-eqb, nat_lt, ltb-false, length-take, append_assoc}
-use Rattle.std.specs.List.{list_all, position_or_len}
+use Rattle.std.proofs.Common.{◌≡◌, ℕ, ◌+◌, ◌-◌, ◌<◌, ◌==◌, not, Bool, true, false, List, [], ◌∷◌, ◌++◌, length, take, drop, get_or, codes, IsAscii, sym, ap, ◌∙◌, refl, arith, take-append-drop, eqb-true, ne_eqb, eq-eqb, length-take, append_assoc}
+use Rattle.std.specs.List.{list_all}
 use Rattle.std.specs.Str.{bytes_eq}
-use Rattle.std.proofs.lemmas.Bool.{and_parts, and_from, false≢true, not_from_false}
+use Rattle.std.proofs.lemmas.Bool.{and_parts, and_from, false≢true, not_from_false, false_from_ne_true}
 use Rattle.std.proofs.lemmas.Grind.{common_steps}
 use Rattle.std.proofs.lemmas.List.{append_cancel_left, append_cancel_right, drop_more, get_or-take, get_or_default}
 use Rattle.std.proofs.lemmas.List.Sums.{list_all-from_AllPass}
 use Rattle.std.proofs.lemmas.List.Folds.{list_all-append}
-use Rattle.std.proofs.lemmas.List.Quantifiers.{position-Some}
 use Rattle.std.proofs.lemmas.Slice.Eq.{bytes_eq-Decides}
 use Rattle.std.proofs.lemmas.Str.Ascii.{IsAscii-nil, IsAscii-cons}
+use Rattle.memchr.specs.Find.{Nowhere, NoneBefore, Passes, is_byte}
 use Rattle.pgn_run.specs.Spelling.{lacks, IsCutAt, IsQuoted}
 
 -- what each byte of a text passes
@@ -26,14 +26,6 @@ lacks-from_test p byte xs out h = list_all-weaker p (λ x. not (x == byte)) (λ 
 pub IsAscii-from_test : (p : ℕ → Bool) → ((x : ℕ) → p x ≡ true → x < 128) → (xs : List ℕ) → list_all p xs ≡ true → IsAscii xs
 IsAscii-from_test p f [] h = IsAscii-nil
 IsAscii-from_test p f (x ∷ xs) h = let parts = and_parts (p x) (list_all p xs) h in IsAscii-cons x xs (f x parts.0) (IsAscii-from_test p f xs parts.1)
-
-at_place : (p : ℕ → Bool) (xs : List ℕ) (k : ℕ) (d : ℕ) → k < length xs → list_all p xs ≡ true → p (get_or xs k d) ≡ true
-at_place p [] k d l h = absurd (omega arith)
-at_place p (x ∷ xs) zero d l h = (and_parts (p x) (list_all p xs) h).0
-at_place p (x ∷ xs) (suc k) d l h = at_place p xs k d (omega arith) (and_parts (p x) (list_all p xs) h).1
-
-pub lacks-from_list_all : (p : ℕ → Bool) (byte : ℕ) (xs : List ℕ) → p byte ≡ false → list_all p xs ≡ true → Contains xs byte → ⊥
-lacks-from_list_all p byte xs out h w = false≢true (sym out ∙ ap p (sym w.2) ∙ at_place p xs w.0 byte w.1 h)
 
 -- a front or an end that the text has, or has not
 pub front_yes : (s p t : List ℕ) → bytes_eq (take (length p) s) p ≡ true → t ≡ drop (length p) s → s ≡ p ++ t
@@ -64,30 +56,17 @@ end_no s p h front e =
     false≢true (sym h ∙ (bytes_eq-Decides (drop (length s - length p) s) p).1 same)
 
 -- where a text is cut
-nowhere : (byte : ℕ) (text : List ℕ) → length text ≤ position_or_len (λ x. x == byte) text → lacks byte text ≡ true
-nowhere byte [] h = refl
-nowhere byte (x ∷ text) h =
-    elim (x == byte) as (λ (b : Bool). length (x ∷ text) ≤ cond (not b) (1 + position_or_len (λ y. y == byte) text) 0 → (not b && lacks byte text) ≡ true) [
-      | true ↦ λ l. absurd (omega arith)
-      | false ↦ λ l. nowhere byte text (omega arith)
-    ] h
+pub cut_nowhere : (byte : ℕ) (text : List ℕ) → Nowhere (Passes (is_byte byte) text) 0 (length text) → lacks byte text ≡ true
+cut_nowhere byte text h = list_all-from_AllPass (λ x. not (x == byte)) text (λ k d l.
+    rw (get_or_default text k d 0 l) (not_from_false (get_or text k 0 == byte) (false_from_ne_true (get_or text k 0 == byte) (h k (omega arith) l))))
 
-pub cut_nowhere : (byte : ℕ) (text : List ℕ) → position (λ x. x == byte) text ≡ None → lacks byte text ≡ true
-cut_nowhere byte text h =
-    let at = position_or_len (λ x. x == byte) text in
-    nowhere byte text (elim (nat_lt at (length text)) as (λ (b : Bool). nat_lt at (length text) ≡ b → cond b (Some at) None ≡ None → length text ≤ at) [
-      | true ↦ λ e q. absurd (cc q)
-      | false ↦ λ e q. ltb-false at (length text) e
-    ] refl h)
-
-pub cut_at : (byte : ℕ) (text : List ℕ) (at : ℕ) → position (λ x. x == byte) text ≡ Some at → IsCutAt byte text (take at text) (drop (at + 1) text)
-cut_at byte text at h =
-    let found = position-Some (λ x. x == byte) text at 0 h in
-    let here = found.0 in
+pub cut_at : (byte : ℕ) (text : List ℕ) (at : ℕ) → NoneBefore (Passes (is_byte byte) text) 0 (length text) at → Passes (is_byte byte) text at → IsCutAt byte text (take at text) (drop (at + 1) text)
+cut_at byte text at h here =
+    let within = h.high in
     record {
       first = list_all-from_AllPass (λ x. not (x == byte)) (take at text) (λ k d l. let below : k < at = omega (arith, length-take at text) in
-          rw (get_or-take at text k d below, get_or_default text k d 0 (omega arith)) (not_from_false (get_or text k 0 == byte) (found.2 k below)));
-      whole = sym (take-append-drop at text) ∙ ap (λ (x : List ℕ). take at text ++ x) (drop_more text at 0 here ∙ ap (λ (x : ℕ). x ∷ drop (at + 1) text) (eqb-true (get_or text at 0) byte found.1));
+          rw (get_or-take at text k d below, get_or_default text k d 0 (omega arith)) (not_from_false (get_or text k 0 == byte) (false_from_ne_true (get_or text k 0 == byte) (h.before k (omega arith) below))));
+      whole = sym (take-append-drop at text) ∙ ap (λ (x : List ℕ). take at text ++ x) (drop_more text at 0 within ∙ ap (λ (x : ℕ). x ∷ drop (at + 1) text) (eqb-true (get_or text at 0) byte here));
     }
 
 -- a text with no such byte is not cut there

@@ -1,5 +1,5 @@
 -- What an input reads as on the first path: one section, whose lines are LISTEN and NOTIFY in one exact spelling.
-use Rattle.std.specs.Prelude.{◌≡◌, ℕ, ◌+◌, ◌-◌, ◌*◌, ◌<◌, ◌≤◌, ◌⊎◌, ◌&&◌, ◌||◌, ◌==◌, not, Bool, true, false, List, [], ◌∷◌, ◌++◌, length, cond, codes, fold, nat_le, slice_get, IfSome, Option, Some, None, count_by, All}
+use Rattle.std.specs.Prelude.{◌≡◌, ℕ, ◌+◌, ◌-◌, ◌*◌, ◌<◌, ◌≤◌, ◌⊎◌, ◌&&◌, ◌||◌, ◌==◌, not, Bool, true, false, List, [], ◌∷◌, ◌++◌, length, cond, codes, fold, nat_le, slice_get, IfSome, count_by, All}
 use Rattle.std.specs.List.{list_all}
 use Rattle.pgn_base.specs.declared.note.Note.{Note}
 use Rattle.pgn_model.specs.declared.command.Command.{Command}

@@ -1,9 +1,9 @@
-ghost use Rattle.std.specs.Prelude.{◌≡◌, ◌==◌, true, MatchOption, IfOk};
-ghost use Rattle.std.specs.List.{position};
+ghost use Rattle.std.specs.Prelude.{◌≡◌, true, MatchOption, IfOk};
 ghost use Rattle.std.specs.Str.{IsAscii};
 ghost use Rattle.pgn_run.specs.Reading.{IsSectionName};
 ghost use Rattle.pgn_run.specs.Spelling.{lacks, IsCutAt};
 
+use memchr::memchr;
 use pgn_base::{Name, NameFault};
 use std::alloc::{AllocError, Global};
 use std::str;
@@ -12,14 +12,8 @@ use std::str;
 pub fn cut(text: &[u8], byte: u8) -> Option<(&[u8], &[u8])>
     ensures { MatchOption result (lacks byte text.now ≡ true) (λ parts. IsCutAt byte text.now parts.0.now parts.1.now) }
 {
-    let at = place_of(text, byte)?;
+    let at = memchr(byte, text)?;
     Some((&text[..at], &text[at + 1..]))
-}
-
-fn place_of(text: &[u8], byte: u8) -> Option<usize>
-    ensures { result ≡ position (λ other. other == byte) text.now }
-{
-    text.iter().position(|other| *other == byte)
 }
 
 /// The text of ASCII bytes.

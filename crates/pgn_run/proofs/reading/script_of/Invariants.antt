@@ -1,6 +1,6 @@
-use Rattle.std.proofs.Common.{◌≡◌, ℕ, ◌+◌, ◌<◌, ◌≤◌, List, ◌++◌, length}
+use Rattle.std.proofs.Common.{◌≡◌, ℕ, ◌+◌, ◌≤◌, List, ◌++◌, length}
 use Rattle.pgn_model.specs.declared.scenario.ScriptLine.{ScriptLine}
-use Rattle.pgn_run.specs.Reading.{lines_of, ReadAsLines, BreaksFrom, input_limit}
+use Rattle.pgn_run.specs.Reading.{lines_of, ReadAsLines, BreaksFrom}
 use Rattle.pgn_run.proofs.reading.script_of.Given as goal
 
 abbrev pub invariant-loop-rest : goal.invariant-loop-rest
