@@ -1,5 +1,5 @@
 -- Laws of the text of a script line.
-use Rattle.std.proofs.Common.{◌≡◌, ℕ, ◌+◌, ◌<◌, ◌≤◌, suc, List, [], ◌∷◌, length, drop, get_or, sym, ap, ◌∙◌, refl, cond, eqb, add-one, drop-cons}
+use Rattle.std.proofs.Common.{◌≡◌, ℕ, ◌+◌, ◌<◌, suc, List, length, drop, get_or, sym, ap, ◌∙◌, cond, eqb, add-one, drop-cons}
 use Rattle.pgn_model.specs.declared.scenario.ScriptLine.{ScriptLine}
 use Rattle.pgn_model.specs.Text.{line_text}
 

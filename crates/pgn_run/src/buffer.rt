@@ -16,12 +16,13 @@ pub struct Buffer {
 
 impl Model for Buffer {
     ghost use Rattle.std.specs.Prelude.{List, ℕ, ◌≤◌, take};
+    ghost use Rattle.pgn_run.specs.declared.buffer.TheConstants.{SIZE};
 
     ghost Value = { List ℕ };
 
     ghost view = { λ buffer. take buffer.used buffer.bytes };
 
-    ghost invariant = { λ buffer. buffer.used ≤ 8192 };
+    ghost invariant = { λ buffer. buffer.used ≤ SIZE };
 }
 
 impl Buffer {
@@ -36,13 +37,13 @@ impl Buffer {
 
     fn as_slice(&self) -> &[u8]
         ensures value { result.now ≡ self.now }
-        ensures within { length self.now ≤ 8192 }
+        ensures within { length self.now ≤ SIZE }
     {
         &self.bytes[..self.used]
     }
 
     fn room(&self) -> usize
-        ensures { result + length self.now ≡ 8192 }
+        ensures { result + length self.now ≡ SIZE }
     {
         SIZE - self.used
     }
@@ -54,7 +55,7 @@ impl Buffer {
     }
 
     fn push(&mut self, piece: &[u8])
-        requires { length self.old + length piece.now ≤ 8192 }
+        requires { length self.old + length piece.now ≤ SIZE }
         ensures { self.new ≡ self.old ++ piece.now }
     {
         let end = self.used + piece.len();
@@ -85,7 +86,7 @@ pub fn flush<K: Sink>(
 /// Fills the buffer up with a front of a piece, and sends it.
 #[tactic(auto, using(crate::proofs::GoesOnLaws::buffer_goings))]
 fn put_front<K: Sink>(sink: &mut K, buffer: &mut Buffer, front: &[u8]) -> Result<(), Failed>
-    requires { length buffer.old + length front.now ≤ 8192 }
+    requires { length buffer.old + length front.now ≤ SIZE }
     ensures bytes { GoesOn (K.held sink.old) buffer.old (Ok tt) (K.held sink.new) buffer.new result front.now }
     ensures cause { CauseGoesOn (K.faults sink.old) (Ok tt) (K.faults sink.new) result }
     ensures emptied { OnOk result (buffer.new ≡ []) }
@@ -119,7 +120,7 @@ fn put_rest<K: Sink>(
 /// Gives a piece out that the buffer has no room for.
 #[tactic(auto, using(crate::proofs::GoesOnLaws::buffer_goings))]
 fn put_past<K: Sink>(sink: &mut K, buffer: &mut Buffer, piece: &[u8]) -> Result<(), Failed>
-    requires { 8192 ≤ length buffer.old + length piece.now }
+    requires { SIZE ≤ length buffer.old + length piece.now }
     ensures bytes { GoesOn (K.held sink.old) buffer.old (Ok tt) (K.held sink.new) buffer.new result piece.now }
     ensures cause { CauseGoesOn (K.faults sink.old) (Ok tt) (K.faults sink.new) result }
 {

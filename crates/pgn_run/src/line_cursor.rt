@@ -1,4 +1,5 @@
-ghost use Rattle.std.specs.Prelude.{◌≡◌};
+ghost use Rattle.std.specs.Prelude.{◌≡◌, List};
+ghost use Rattle.pgn_model.specs.declared.scenario.ScriptLine.{ScriptLine};
 ghost use Rattle.pgn_model.specs.Text.{line_text};
 ghost use Rattle.pgn_run.specs.Rendering.{HasPassed};
 
@@ -26,8 +27,8 @@ fn line_of(lines: &[ScriptLine], n: u32) -> &[u8]
 
 impl LineCursor {
     /// The place before the first line.
-    pub fn new(lines: &[ScriptLine]) -> Self
-        ensures { HasPassed lines.now result }
+    pub fn new() -> Self
+        ensures { (lines : List ScriptLine) → HasPassed lines result }
     {
         LineCursor {
             next: 0,

@@ -166,7 +166,15 @@ mod tests {
     const SELF_NOTIFY: &str =
         "journal 1\nxid 3 session 1 commit 1\n  \"c\", 'x'\nsession 1 a db 1 pid 1001\n> LISTEN c\n+enlist 3 3\nLISTEN\n> NOTIFY c, 'x'\n+publish 3\nNOTIFY\n+read 3 4\n  3 1001 \"c\", 'x'\nend mark 4\n";
 
-    const QUOTES: &str = "journal 1\nxid 3 session 1 commit 1\n  \"a\"\"\"\"b\", '''it''s'''\n";
+    const QUOTES: &str =
+        "journal 1\nxid 3 session 1 commit 1\n  \"a\"\"\"\"b\", '''it''s'''\nsession 1 a db 1 pid 1001\n> LISTEN c\n+enlist 3 3\nLISTEN\n> NOTIFY c, 'x'\n+publish 3\nNOTIFY\n+read 3 4\n  3 1001 \"a\"\"\"\"b\", '''it''s'''\nend mark 4\n";
+
+    // A channel, a payload, how much a write takes, the write that fails, from 1, and what the sink holds then.
+    const OUTPUTS: [(&str, &str, usize, u64, &str); 3] = [
+        ("c", "x", 1000, 0, SELF_NOTIFY),
+        ("a\"\"b", "'it's'", 7, 0, QUOTES),
+        ("c", "x", 4, 2, "jour"),
+    ];
 
     #[derive(Drop)]
     struct Made {
@@ -206,14 +214,14 @@ mod tests {
         Ok(lines)
     }
 
-    fn items(alloc: Global) -> Result<Items, Fail> {
+    fn items(alloc: Global, channel: &str, payload: &str) -> Result<Items, Fail> {
         let from = Xid::new(3);
         let to = Xid::new(4);
         let mut got = Deliveries::new(alloc);
         got.push(Delivery {
             xid: from,
             pid: 1001,
-            note: note(alloc, "c", "x")?,
+            note: note(alloc, channel, payload)?,
         })?;
         let mut items = Items::new(alloc);
         items.push(Item::Line { line: 2 })?;
@@ -228,7 +236,7 @@ mod tests {
         items.push(Item::Line { line: 3 })?;
         items.push(Item::Publish {
             xid: from,
-            notes: notes(alloc, "c", "x")?,
+            notes: notes(alloc, channel, payload)?,
         })?;
         items.push(Item::Reply {
             tag: Tag::Notify,
@@ -264,7 +272,7 @@ mod tests {
         traces.push(Trace {
             session: no,
             db,
-            items: items(alloc)?,
+            items: items(alloc, channel, payload)?,
             last: Some(Xid::new(4)),
         })?;
         let flags = Names::new(alloc);
@@ -276,33 +284,16 @@ mod tests {
     }
 
     #[test]
-    fn a_session_that_notifies_itself(rt: HostRuntime) -> Result<(), Fail> {
+    fn outputs(rt: HostRuntime) -> Result<(), Fail> {
         let alloc = rt.alloc();
-        let run = run(alloc, "c", "x")?;
-        let mut sink = MemSink::new(alloc, 1000, Vec::new(alloc), 1000)?;
-        render(&mut sink, &run.scenario, &run.journal, &run.traces)?;
-        assert_eq!(rt; sink.held(), SELF_NOTIFY.as_bytes());
-        Ok(())
-    }
-
-    #[test]
-    fn quotes_stand_twice(rt: HostRuntime) -> Result<(), Fail> {
-        let alloc = rt.alloc();
-        let run = run(alloc, "a\"\"b", "'it's'")?;
-        let mut sink = MemSink::new(alloc, 1000, Vec::new(alloc), 1000)?;
-        render(&mut sink, &run.scenario, &run.journal, &[])?;
-        assert_eq!(rt; sink.held(), QUOTES.as_bytes());
-        Ok(())
-    }
-
-    #[test]
-    fn the_second_write_fails(rt: HostRuntime) -> Result<(), Fail> {
-        let alloc = rt.alloc();
-        let run = run(alloc, "c", "x")?;
-        let mut sink = MemSink::new(alloc, 1000, [2].to_vec(alloc)?, 4)?;
-        let answer = render(&mut sink, &run.scenario, &run.journal, &run.traces);
-        assert!(rt; answer.is_err());
-        assert_eq!(rt; sink.held(), b"jour".as_slice());
+        for (channel, payload, most, failing, want) in OUTPUTS {
+            let run = run(alloc, channel, payload)?;
+            assert!(rt; most > 0);
+            let mut sink = MemSink::new(alloc, 1000, [failing].to_vec(alloc)?, most)?;
+            let answer = render(&mut sink, &run.scenario, &run.journal, &run.traces);
+            assert_eq!(rt; answer.is_err(), failing > 0);
+            assert_eq!(rt; sink.held(), want.as_bytes());
+        }
         Ok(())
     }
 

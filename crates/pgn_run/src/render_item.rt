@@ -216,7 +216,7 @@ pub fn put_items<K: Sink>(
     ensures cause { CauseGoesOn (K.faults sink.old) so_far (K.faults sink.new) result }
 {
     let mut so_far = so_far;
-    let mut cursor = LineCursor::new(lines);
+    let mut cursor = LineCursor::new();
     for item in items {
         so_far = put_item(sink, buffer, so_far, lines, &mut cursor, item);
     }

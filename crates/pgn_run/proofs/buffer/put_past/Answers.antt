@@ -1,4 +1,4 @@
-use Rattle.std.proofs.Common.{ap, ◌∙◌, ◌++◌, take-append-drop}
+use Rattle.std.proofs.Common.{take-append-drop}
 use Rattle.pgn_run.proofs.GoesOnLaws.{GoesOn-parts}
 use Rattle.pgn_run.proofs.buffer.put_past.Goals as goal
 

@@ -1,4 +1,4 @@
-use Rattle.std.proofs.Common.{rules, arith, ◌<◌, ◌≤◌, length, min}
+use Rattle.std.proofs.Common.{rules, arith}
 use Rattle.pgn_run.proofs.GoesOnLaws.{Toward-more, Toward-all}
 use Rattle.pgn_run.proofs.ListLaws.{traces_text-drop, traces_text-end}
 use Rattle.pgn_run.proofs.render.put_traces.Goals as goal

@@ -1,4 +1,4 @@
-use Rattle.std.proofs.Common.{drop, List, Option}
+use Rattle.std.proofs.Common.{drop}
 use Rattle.std.specs.Prelude.{flat_map}
 use Rattle.pgn_model.specs.Text.{item_text}
 use Rattle.pgn_run.specs.Rendering.{CauseGoesOn, HasPassed}

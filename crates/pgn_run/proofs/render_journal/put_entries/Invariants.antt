@@ -1,4 +1,4 @@
-use Rattle.std.proofs.Common.{◌+◌, drop, List, Option}
+use Rattle.std.proofs.Common.{◌+◌, drop}
 use Rattle.pgn_model.specs.Text.{entries_text}
 use Rattle.pgn_run.specs.Rendering.{CauseGoesOn}
 use Rattle.pgn_run.proofs.GoesOnLaws.{Toward}

@@ -1,4 +1,4 @@
-use Rattle.std.proofs.Common.{◌≤◌, ◌≡◌, ◌<◌, ℕ, length, arith, rules, eqb, refl}
+use Rattle.std.proofs.Common.{arith, rules}
 use Rattle.pgn_run.proofs.GoesOnLaws.{Toward-more, Toward-same}
 use Rattle.pgn_run.proofs.DoublingLaws.{pending-other, pending-quote}
 use Rattle.pgn_run.proofs.render_note.put_doubled.Goals as goal

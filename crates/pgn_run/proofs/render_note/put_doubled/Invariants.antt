@@ -1,4 +1,4 @@
-use Rattle.std.proofs.Common.{◌≤◌, List, Option}
+use Rattle.std.proofs.Common.{◌≤◌}
 use Rattle.std.specs.Prelude.{flat_map}
 use Rattle.pgn_model.specs.Text.{doubled_byte}
 use Rattle.pgn_run.specs.Rendering.{CauseGoesOn}
