@@ -7,19 +7,21 @@ ghost use Rattle.std.specs.Cmp.Rules.{hashing};
 ghost use Rattle.pgn_base.specs.Texts.{IsName};
 
 use crate::{Copied, Seq};
+use arrayvec::ArrayString;
 use std::alloc::{AllocError, Global};
 use std::hash::{Hash, Hasher};
 use std::marker::Model;
 
-/// A channel's, a savepoint's, a section's or a flag's name: 1 to 63 bytes of UTF-8 without a zero byte. Contracts see its bytes.
+/// A channel's, a savepoint's, a section's or a flag's name: 1 to 63 bytes of UTF-8 without a zero byte. It stands in the value
+/// itself, as PostgreSQL's `NameData` does. Contracts see its bytes.
 #[derive(Debug, Drop)]
 pub struct Name {
-    text: String,
+    text: ArrayString<63>,
 }
 
 pub type Names = Seq<Name>;
 
-/// Why a text is no name.
+/// Why a text is no name. A name takes no memory of its own, so that `Memory` is for a form of it that would.
 #[derive(Clone, Copy, Debug, PartialEq, Eq)]
 pub enum NameFault {
     Empty,
@@ -29,19 +31,19 @@ pub enum NameFault {
 }
 
 impl Model for Name {
-    ghost use Rattle.std.specs.Prelude.{List, ℕ, string_bytes};
+    ghost use Rattle.std.specs.Prelude.{List, ℕ};
     ghost use Rattle.pgn_base.specs.Texts.{IsName};
 
     ghost Value = { List ℕ };
 
-    ghost view = { λ name. string_bytes name.text };
+    ghost view = { λ name. name.text.bytes };
 
-    ghost invariant = { λ name. IsName (string_bytes name.text) };
+    ghost invariant = { λ name. IsName name.text.bytes };
 }
 
 impl Name {
     /// The name of this text. The faults are tested in the order of `NameFault`, so that a long text with a zero byte is too long.
-    pub fn new(alloc: Global, text: &str) -> Result<Name, NameFault>
+    pub fn new(_alloc: Global, text: &str) -> Result<Name, NameFault>
         ensures ok { IfOk result (λ name. name ≡ text.now) }
         ensures empty { IsErrOf result NameFault.Empty ↔ (text.now ≡ []) }
         ensures too_long { IsErrOf result NameFault.TooLong ↔ (64 ≤ length text.now) }
@@ -56,9 +58,9 @@ impl Name {
         if text.as_bytes().contains(&0) {
             return Err(NameFault::Nul);
         }
-        match String::from_str(alloc, text) {
+        match ArrayString::from(text) {
             Ok(text) => Ok(Name { text }),
-            Err(AllocError) => Err(NameFault::Memory),
+            Err(_) => unreachable!(),
         }
     }
 
@@ -66,14 +68,13 @@ impl Name {
         ensures value { result.now ≡ self.now }
         ensures valid { IsName self.now }
     {
-        self.text.as_bytes()
+        self.text.as_str().as_bytes()
     }
 }
 
 impl Copied for Name {
-    fn copy(&self, alloc: Global) -> Result<Self, AllocError> {
-        let text = String::from_str(alloc, self.text.as_str())?;
-        Ok(Name { text })
+    fn copy(&self, _alloc: Global) -> Result<Self, AllocError> {
+        Ok(Name { text: self.text })
     }
 }
 

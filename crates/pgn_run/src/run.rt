@@ -66,7 +66,7 @@ pub fn run_notify<S: Source, K: Sink>(
         return Status::BadWords;
     }
     match read_input(alloc, source, READ_LIMIT) {
-        Ok(input) => answer(alloc, input.as_slice(), sink),
+        Ok(input) => answer(alloc, input, sink),
         Err(Unread::Failed) => Status::ReadFault,
         Err(Unread::Memory) => Status::NoMemory,
     }
@@ -82,12 +82,14 @@ fn is_run(words: &[&str]) -> bool
     }
 }
 
-// Runs an input that was read.
-fn answer<K: Sink>(alloc: Global, input: &[u8], sink: &mut K) -> Status
-    ensures answers { Answers input.now (K.held sink.old) (K.held sink.new) (K.faults sink.old) (K.faults sink.new) result }
+// Runs an input that was read, and lets it go once it is a scenario.
+fn answer<K: Sink>(alloc: Global, input: Vec<u8>, sink: &mut K) -> Status
+    ensures answers { Answers input.items (K.held sink.old) (K.held sink.new) (K.faults sink.old) (K.faults sink.new) result }
     ensures later { K.faults sink.old ≤ K.faults sink.new }
 {
-    let scenario = match read(alloc, input) {
+    let reading = read(alloc, input.as_slice());
+    drop(input);
+    let scenario = match reading {
         Ok(Ok(scenario)) => scenario,
         Ok(Err(line)) => return Status::NotBuilt { line },
         Err(AllocError) => return Status::NoMemory,

@@ -1,27 +1,20 @@
-use Rattle.std.proofs.Common.{List, ℕ, subst}
-use Rattle.pgn_run.specs.Run.{Answers}
 use Rattle.pgn_run.proofs.RunLaws.{done-runs, done-at-end, write-fault-runs, not-built-breaks, breaks-not-built, reads-done}
 use Rattle.pgn_run.proofs.run.run_notify.Goals as goal
-use Rattle.pgn_run.proofs.run.run_notify.Goals.{After-drop-input}
-
--- what the answer says of the bytes that were read
-answers : (g : _) (c : After-drop-input g) → Answers c.in-Ok.input.items (g.K.Sink.held c.args.sink.now) (g.K.Sink.held c.answer.new.sink) (g.K.Sink.faults c.args.sink.now) (g.K.Sink.faults c.answer.new.sink) c.answer.result
-answers g c = subst (λ (bytes : List ℕ). Answers bytes (g.K.Sink.held c.args.sink.now) (g.K.Sink.held c.answer.new.sink) (g.K.Sink.faults c.args.sink.now) (g.K.Sink.faults c.answer.new.sink) c.answer.result) c.as_slice.ensures.value c.answer.ensures.answers
 
 pub returns-in-Ok-clause-done : goal.returns-in-Ok-clause-done
-returns-in-Ok-clause-done g c = done-runs (g.S.Source.left c.args.source.now) c.in-Ok.input.items (g.K.Sink.held c.args.sink.now) (g.K.Sink.held c.answer.new.sink) _ _ c.answer.result c.in-Ok.ensures.bytes (answers g c)
+returns-in-Ok-clause-done g c = done-runs (g.S.Source.left c.args.source.now) c.in-Ok.input.items (g.K.Sink.held c.args.sink.now) (g.K.Sink.held c.answer.new.sink) _ _ c.answer.result c.in-Ok.ensures.bytes c.answer.ensures.answers
 
 pub returns-in-Ok-clause-done_reads_all : goal.returns-in-Ok-clause-done_reads_all
-returns-in-Ok-clause-done_reads_all g c = done-at-end (g.S.Source.left c.args.source.now) c.in-Ok.input.items (g.K.Sink.held c.args.sink.now) (g.K.Sink.held c.answer.new.sink) _ _ c.answer.result c.in-Ok.ensures.bytes (answers g c) (g.S.Source.left c.read_input.new.source) c.in-Ok.ensures.consumed
+returns-in-Ok-clause-done_reads_all g c = done-at-end (g.S.Source.left c.args.source.now) c.in-Ok.input.items (g.K.Sink.held c.args.sink.now) (g.K.Sink.held c.answer.new.sink) _ _ c.answer.result c.in-Ok.ensures.bytes c.answer.ensures.answers (g.S.Source.left c.read_input.new.source) c.in-Ok.ensures.consumed
 
 pub returns-in-Ok-clause-not_built : goal.returns-in-Ok-clause-not_built
-returns-in-Ok-clause-not_built g c = not-built-breaks (g.S.Source.left c.args.source.now) c.in-Ok.input.items (g.K.Sink.held c.args.sink.now) (g.K.Sink.held c.answer.new.sink) _ _ c.answer.result c.in-Ok.ensures.bytes (answers g c)
+returns-in-Ok-clause-not_built g c = not-built-breaks (g.S.Source.left c.args.source.now) c.in-Ok.input.items (g.K.Sink.held c.args.sink.now) (g.K.Sink.held c.answer.new.sink) _ _ c.answer.result c.in-Ok.ensures.bytes c.answer.ensures.answers
 
 pub returns-in-Ok-clause-not_built_where_due : goal.returns-in-Ok-clause-not_built_where_due
-returns-in-Ok-clause-not_built_where_due g c = λ line words breaks rose. breaks-not-built (g.S.Source.left c.args.source.now) c.in-Ok.input.items (g.K.Sink.held c.args.sink.now) (g.K.Sink.held c.answer.new.sink) _ _ c.answer.result line c.in-Ok.ensures.bytes (answers g c) breaks
+returns-in-Ok-clause-not_built_where_due g c = λ line words breaks rose. breaks-not-built (g.S.Source.left c.args.source.now) c.in-Ok.input.items (g.K.Sink.held c.args.sink.now) (g.K.Sink.held c.answer.new.sink) _ _ c.answer.result line c.in-Ok.ensures.bytes c.answer.ensures.answers breaks
 
 pub returns-in-Ok-clause-write_fault_writes_a_front : goal.returns-in-Ok-clause-write_fault_writes_a_front
-returns-in-Ok-clause-write_fault_writes_a_front g c = write-fault-runs (g.S.Source.left c.args.source.now) c.in-Ok.input.items (g.K.Sink.held c.args.sink.now) (g.K.Sink.held c.answer.new.sink) _ _ c.answer.result c.in-Ok.ensures.bytes (answers g c)
+returns-in-Ok-clause-write_fault_writes_a_front g c = write-fault-runs (g.S.Source.left c.args.source.now) c.in-Ok.input.items (g.K.Sink.held c.args.sink.now) (g.K.Sink.held c.answer.new.sink) _ _ c.answer.result c.in-Ok.ensures.bytes c.answer.ensures.answers
 
 pub returns-in-Ok-clause-complete : goal.returns-in-Ok-clause-complete
-returns-in-Ok-clause-complete g c = λ scenario words reads source_rose sink_rose. reads-done (g.S.Source.left c.args.source.now) c.in-Ok.input.items (g.K.Sink.held c.args.sink.now) (g.K.Sink.held c.answer.new.sink) _ _ c.answer.result scenario c.in-Ok.ensures.bytes (answers g c) reads sink_rose
+returns-in-Ok-clause-complete g c = λ scenario words reads source_rose sink_rose. reads-done (g.S.Source.left c.args.source.now) c.in-Ok.input.items (g.K.Sink.held c.args.sink.now) (g.K.Sink.held c.answer.new.sink) _ _ c.answer.result scenario c.in-Ok.ensures.bytes c.answer.ensures.answers reads sink_rose
