@@ -1,13 +1,11 @@
 -- Laws of the walk over a trace.
-use Rattle.std.proofs.Common.{◌≡◌, ℕ, zero, suc, ◌+◌, ◌-◌, ◌<◌, ◌≤◌, List, [], ◌∷◌, ◌++◌, length, Option, Some, None, IsSomeAnd, IfSome, slice_get, fold, sym, ap, ◌∙◌, refl, subst, arith, length-append}
+use Rattle.std.proofs.Common.{◌≡◌, ℕ, zero, suc, ◌+◌, ◌-◌, ◌≤◌, List, [], ◌∷◌, ◌++◌, length, IsSomeAnd, slice_get, fold, sym, ap, ◌∙◌, refl, subst, arith, length-append}
 use Rattle.pgn_model.specs.declared.tx.Tx.{Tx}
 use Rattle.pgn_model.specs.declared.item.Item.{Item}
 use Rattle.pgn_model.specs.declared.item.Item.TheVariants.{Line, Enlist, Publish, QueueFull, Leave, Reply, Refuse, Channels, Used, Raise, Found, TimedOut, Read}
-use Rattle.pgn_model.specs.Journal.{entry}
-use Rattle.pgn_model.specs.Due.{due}
 use Rattle.pgn_model.specs.Along.{Along}
-use Rattle.pgn_model.specs.Walk.{Terms, State, after, start, Allowed, Enlists, Publishes, Reads, IsCommittedBy}
-use Rattle.pgn_model.specs.Trace.{IsLawful, state_after, Stands}
+use Rattle.pgn_model.specs.Walk.{Terms, State, after, start, Allowed, IsCommittedBy}
+use Rattle.pgn_model.specs.Trace.{IsLawful, Stands}
 use Rattle.pgn_model.proofs.DueLaws.{due-grows}
 
 -- one more item at the end
