@@ -45,6 +45,11 @@ impl<W: Write> Output<W> {
     pub fn new(writer: W) -> Self {
         Output { writer, faults: 0 }
     }
+
+    #[cfg(test)]
+    pub fn writer(&self) -> &W {
+        &self.writer
+    }
 }
 
 impl<W: Write> Sink for Output<W> {

@@ -6,6 +6,8 @@
 
 mod adapters;
 mod fault_line;
+#[cfg(test)]
+mod tests;
 
 use adapters::{Input, Output};
 use fault_line::fault_line;

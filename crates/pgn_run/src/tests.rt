@@ -186,14 +186,14 @@ fn refuses_and_writes_nothing(rt: HostRuntime) -> Result<(), Fail> {
 
 #[test]
 fn names_the_side_that_failed(rt: HostRuntime) -> Result<(), Fail> {
-    let table: [(Outside<'_>, Status, usize); 6] = [
+    let table: [(Outside<'_>, Status, &[u8]); 6] = [
         (
             Outside {
                 read_fails: &[1],
                 ..AMPLE
             },
             Status::ReadFault,
-            0,
+            b"",
         ),
         // The last read of three is the one that finds the end.
         (
@@ -203,7 +203,7 @@ fn names_the_side_that_failed(rt: HostRuntime) -> Result<(), Fail> {
                 ..AMPLE
             },
             Status::ReadFault,
-            0,
+            b"",
         ),
         (
             Outside {
@@ -211,7 +211,7 @@ fn names_the_side_that_failed(rt: HostRuntime) -> Result<(), Fail> {
                 ..AMPLE
             },
             Status::WriteFault,
-            0,
+            b"",
         ),
         (
             Outside {
@@ -220,16 +220,24 @@ fn names_the_side_that_failed(rt: HostRuntime) -> Result<(), Fail> {
                 ..AMPLE
             },
             Status::WriteFault,
-            4,
+            b"jour",
         ),
-        (Outside { room: 10, ..AMPLE }, Status::WriteFault, 10),
+        (
+            Outside { room: 10, ..AMPLE },
+            Status::WriteFault,
+            b"journal 1\n",
+        ),
         // Both work byte by byte.
-        (Outside { most: 1, ..AMPLE }, Status::Done, 175),
+        (
+            Outside { most: 1, ..AMPLE },
+            Status::Done,
+            SELF_NOTIFY_OUTPUT,
+        ),
     ];
     for (outside, want, written) in table {
         let (status, held) = run(rt.alloc(), &["run"], SELF_NOTIFY, &outside)?;
         assert_eq!(rt; status, want);
-        assert_eq!(rt; held.as_slice(), &SELF_NOTIFY_OUTPUT[..written]);
+        assert_eq!(rt; held.as_slice(), written);
     }
     Ok(())
 }
