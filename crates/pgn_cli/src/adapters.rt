@@ -11,7 +11,9 @@ pub struct Input<R> {
 }
 
 impl<R: Read> Input<R> {
-    pub fn new(reader: R) -> Self {
+    pub fn new(reader: R) -> Self
+        ensures { result.faults ≡ 0 }
+    {
         Input { reader, faults: 0 }
     }
 }
@@ -42,7 +44,9 @@ pub struct Output<W> {
 }
 
 impl<W: Write> Output<W> {
-    pub fn new(writer: W) -> Self {
+    pub fn new(writer: W) -> Self
+        ensures { result.faults ≡ 0 }
+    {
         Output { writer, faults: 0 }
     }
 

@@ -1,9 +1,9 @@
--- What an input reads as on the first path: one section, whose lines are LISTEN and NOTIFY in one exact spelling.
+-- What an input reads as, as far as it is built: one section, whose lines are LISTEN and NOTIFY in one exact spelling.
 use Rattle.std.specs.Prelude.{◌≡◌, ℕ, ◌+◌, ◌-◌, ◌*◌, ◌<◌, ◌≤◌, ◌⊎◌, ◌&&◌, ◌||◌, ◌==◌, not, Bool, true, false, List, [], ◌∷◌, ◌++◌, length, cond, codes, fold, nat_le, slice_get, IfSome, count_by, All}
-use Rattle.std.specs.List.{list_all}
+use Rattle.std.specs.List.{list_all, onto_first}
 use Rattle.pgn_base.specs.declared.note.Note.{Note}
 use Rattle.pgn_model.specs.declared.command.Command.{Command}
-use Rattle.pgn_model.specs.declared.command.Command.TheVariants.{Listen, Notify}
+use Rattle.pgn_model.specs.declared.command.Command.TheVariants.{Listen, Notify, PgNotify}
 use Rattle.pgn_model.specs.declared.scenario.Act.{Act}
 use Rattle.pgn_model.specs.declared.scenario.Act.TheVariants.{Run}
 use Rattle.pgn_model.specs.declared.scenario.ScriptLine.{ScriptLine}
@@ -14,11 +14,6 @@ use Rattle.pgn_model.specs.declared.scenario.Scenario.{Scenario}
 abbrev pub input_limit : ℕ
 input_limit = 16777216
 
--- a byte before the lines of the rest
-abbrev pub onto_first : ℕ → List (List ℕ) → List (List ℕ)
-onto_first byte [] = (byte ∷ []) ∷ []
-onto_first byte (line ∷ lines) = (byte ∷ line) ∷ lines
-
 -- the lines of an input, cut at each LF; the last may lack it, and an input that ends with LF has no further line
 abbrev pub lines_of : List ℕ → List (List ℕ)
 lines_of [] = []
@@ -28,9 +23,11 @@ lines_of (byte ∷ bytes) = cond (byte == 10) ([] ∷ lines_of bytes) (onto_firs
 abbrev pub is_between : ℕ → ℕ → ℕ → Bool
 is_between low high byte = nat_le low byte && nat_le byte high
 
+-- a lower-case letter
 abbrev pub is_lower : ℕ → Bool
 is_lower byte = is_between 97 122 byte
 
+-- a decimal digit
 abbrev pub is_digit : ℕ → Bool
 is_digit byte = is_between 48 57 byte
 
@@ -118,9 +115,10 @@ ReadAsLines n [] [] = Unit {0}
 ReadAsLines n (line ∷ lines) (script_line ∷ script_lines) = ReadsAsLine n line script_line × ReadAsLines (n + 1) lines script_lines
 ReadAsLines n lines script_lines = ⊥
 
--- an act that notifies
+-- a NOTIFY or a pg_notify
 abbrev pub is_note_act : Act → Bool
 is_note_act (Run (Notify note)) = true
+is_note_act (Run (PgNotify note)) = true
 is_note_act act = false
 
 -- a script line that notifies

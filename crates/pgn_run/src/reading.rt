@@ -128,5 +128,8 @@ fn note_lines_of(lines: &[ScriptLine]) -> u32
 fn is_note_line(line: &ScriptLine) -> bool
     ensures { result ≡ is_note_line line.now }
 {
-    matches!(line.act, Act::Run(Command::Notify(_)))
+    matches!(
+        line.act,
+        Act::Run(Command::Notify(_) | Command::PgNotify(_))
+    )
 }
