@@ -1,6 +1,8 @@
 pub use Rattle.pgn_base.specs.Channels
 pub mod Journal
 pub mod Due
+pub mod Bytes
+pub mod Packing
 pub mod Savepoints
 pub mod Answers
 pub mod Along
