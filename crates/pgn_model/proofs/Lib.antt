@@ -1,2 +1,4 @@
 pub mod DueLaws
 pub mod WalkLaws
+pub mod BytesLemmas
+pub mod PackingLemmas

@@ -11,4 +11,6 @@ pub mod Trace
 pub mod Legal
 pub mod Text
 pub mod Laws
+pub mod BytesLaws
+pub mod PackingLaws
 pub mod Examples

@@ -10,6 +10,7 @@
 #![tactic(auto)]
 
 mod block_state;
+mod bytes_laws;
 mod command;
 mod examples;
 mod item;
@@ -20,6 +21,7 @@ mod trace;
 mod tx;
 
 pub use block_state::BlockState;
+pub use bytes_laws::{entry_lengths, filler_length, filler_reads_back, no_spelling_begins, no_spelling_is_filler, spelled_length, spelling_reads_back};
 pub use command::Command;
 pub use examples::{empty_section, self_notify};
 pub use item::{Item, Items};

@@ -1,0 +1,137 @@
+-- Proofs of the laws of the bytes of entries and fillers.
+use Rattle.std.proofs.Common.{◌≡◌, ◌≢◌, ℕ, zero, suc, ◌+◌, ◌-◌, ◌*◌, ◌/◌, ◌%◌, ◌^◌, ◌<◌, ◌≤◌, List, [], ◌∷◌, ◌++◌, length, take, drop, replicate, get_or, sym, ap, ◌∙◌, refl, subst, arith, append_assoc}
+use Rattle.std.specs.Prelude.{Contains}
+use Rattle.std.specs.Int.{w32, to_le_bytes, from_le_bytes}
+use Rattle.std.proofs.lemmas.List.{append-nil, append_cancel_left, length-append, length-replicate, take_at, drop_at}
+use Rattle.std.proofs.lemmas.Nat.{from_le_bytes-to_le_bytes_4}
+use Rattle.pgn_base.specs.declared.note.Note.{Note}
+use Rattle.pgn_base.specs.Texts.{IsName, IsPayload}
+use Rattle.pgn_model.specs.Bytes.{number, header, padded, entry_length, spelled, filler, IsNote, IsHead}
+use Rattle.pgn_model.specs.BytesLaws.{SpelledLength, FillerLength, EntryLengths, AreSame, SpellingReadsBack, NoSpellingBegins, NoSpellingIsFiller, AreSameFillers, FillerReadsBack}
+
+-- two lists that are equal, where their fronts have one length
+pub same_fronts : {A : Type 0} (a b c d : List A) → length a ≡ length b → a ++ c ≡ b ++ d → (a ≡ b) × (c ≡ d)
+same_fronts a b c d e h =
+    (sym (take_at a c (length b) e) ∙ ap (take (length b)) h ∙ take_at b d (length b) refl,
+     sym (drop_at a c (length b) e) ∙ ap (drop (length b)) h ∙ drop_at b d (length b) refl)
+
+-- a number is read back from its four bytes
+number_same : (m n : ℕ) → m < 2 ^ 32 → n < 2 ^ 32 → number m ≡ number n → m ≡ n
+number_same m n hm hn h = sym (from_le_bytes-to_le_bytes_4 m hm) ∙ ap (from_le_bytes w32) h ∙ from_le_bytes-to_le_bytes_4 n hn
+
+pub length-header : (len db xid pid : ℕ) → length (header len db xid pid) ≡ 16
+unfolding header
+length-header len db xid pid = refl
+
+pub record Heads (len len' db db' xid xid' pid pid' : ℕ) : Type 0 where
+  pub lens : number len ≡ number len'
+  pub dbs : number db ≡ number db'
+  pub xids : number xid ≡ number xid'
+  pub pids : number pid ≡ number pid'
+
+-- the numbers of equal heads have the same bytes
+headers : (len len' db db' xid xid' pid pid' : ℕ) → header len db xid pid ≡ header len' db' xid' pid' → Heads len len' db db' xid xid' pid pid'
+unfolding header
+headers len len' db db' xid xid' pid pid' h =
+    let a = same_fronts (number len ++ number db ++ number xid) (number len' ++ number db' ++ number xid') (number pid) (number pid') refl h in
+    let b = same_fronts (number len ++ number db) (number len' ++ number db') (number xid) (number xid') refl a.0 in
+    let c = same_fronts (number len) (number len') (number db) (number db') refl b.0 in
+    record { lens = c.0; dbs = c.1; xids = b.1; pids = a.1 }
+
+-- texts without a zero byte, up to the first zero byte of equal bytes
+until_zero : (xs ys s t : List ℕ) → (Contains xs 0 → ⊥) → (Contains ys 0 → ⊥) → xs ++ 0 ∷ s ≡ ys ++ 0 ∷ t → (xs ≡ ys) × (s ≡ t)
+until_zero [] [] s t p q h = (refl, ap (drop 1) h)
+until_zero [] (y ∷ ys) s t p q h = absurd (q (0, omega arith, sym (ap (λ (l : List ℕ). get_or l 0 0) h)))
+until_zero (x ∷ xs) [] s t p q h = absurd (p (0, omega arith, ap (λ (l : List ℕ). get_or l 0 0) h))
+until_zero (x ∷ xs) (y ∷ ys) s t p q h =
+    let head : x ≡ y = ap (λ (l : List ℕ). get_or l 0 0) h in
+    let rest = until_zero xs ys s t (λ c. p (suc c.0, omega (arith, c.1), c.2)) (λ c. q (suc c.0, omega (arith, c.1), c.2)) (ap (drop 1) h) in
+    (cc, rest.1)
+
+pub length-padded : (len : ℕ) (bytes : List ℕ) → length bytes ≤ len → length (padded len bytes) ≡ len
+length-padded len bytes h = simp (length-append, length-replicate) (omega arith)
+
+pub length-spelled : SpelledLength
+unfolding spelled entry_length header
+length-spelled note db xid pid =
+    let head = header (entry_length note) db xid pid in
+    let front : List ℕ = head ++ (note.channel ++ 0 ∷ []) ++ (note.payload ++ 0 ∷ []) in
+    let len : length front ≡ 16 + (length note.channel + 1) + (length note.payload + 1) = simp length-append (omega arith) in
+    length-padded (entry_length note) front (omega (arith, len))
+
+pub length-filler : FillerLength
+unfolding filler
+length-filler len xid pid h = length-padded len (header len 0 xid pid) (omega (arith, length-header len 0 xid pid))
+
+pub entry_lengths : EntryLengths
+unfolding entry_length
+entry_lengths note h =
+    let some : 0 < length note.channel = h.name.some in
+    let short : length note.channel < 64 = h.name.short in
+    let short_text : length note.payload < 8000 = h.text.short in
+    record { whole = omega arith; least = omega arith; fits = omega arith }
+
+-- the zero bytes at the end of an entry
+zeros : Note → List ℕ
+zeros note = replicate (entry_length note - length (header (entry_length note) 0 0 0 ++ (note.channel ++ 0 ∷ []) ++ (note.payload ++ 0 ∷ []))) 0
+
+-- an entry, and bytes after it, from the left
+split : (note : Note) (db xid pid : ℕ) (rest : List ℕ) → spelled note db xid pid ++ rest ≡ header (entry_length note) db xid pid ++ (note.channel ++ 0 ∷ (note.payload ++ 0 ∷ (zeros note ++ rest)))
+unfolding spelled zeros header
+split note db xid pid rest = simp append_assoc
+
+-- equal notes
+same_notes : (a b : Note) → a.channel ≡ b.channel → a.payload ≡ b.payload → a ≡ b
+same_notes a b p q = ap (λ (c : List ℕ). let n : Note = record { channel = c; payload = a.payload } in n) p
+    ∙ ap (λ (t : List ℕ). let n : Note = record { channel = b.channel; payload = t } in n) q
+
+pub reads_back : SpellingReadsBack
+reads_back a b db db' xid xid' pid pid' rest rest' ha hb fits fits' h =
+    let whole = sym (split a db xid pid rest) ∙ h ∙ split b db' xid' pid' rest' in
+    let parts = same_fronts (header (entry_length a) db xid pid) (header (entry_length b) db' xid' pid') (a.channel ++ 0 ∷ (a.payload ++ 0 ∷ (zeros a ++ rest))) (b.channel ++ 0 ∷ (b.payload ++ 0 ∷ (zeros b ++ rest')))
+        (length-header (entry_length a) db xid pid ∙ sym (length-header (entry_length b) db' xid' pid')) whole in
+    let heads = headers (entry_length a) (entry_length b) db db' xid xid' pid pid' parts.0 in
+    let channels = until_zero a.channel b.channel (a.payload ++ 0 ∷ (zeros a ++ rest)) (b.payload ++ 0 ∷ (zeros b ++ rest')) ha.name.no_nul hb.name.no_nul parts.1 in
+    let payloads = until_zero a.payload b.payload (zeros a ++ rest) (zeros b ++ rest') ha.text.no_nul hb.text.no_nul channels.1 in
+    let same = same_notes a b channels.0 payloads.0 in
+    let ends : zeros b ++ rest ≡ zeros b ++ rest' = subst (λ (n : Note). zeros n ++ rest ≡ zeros b ++ rest') same payloads.1 in
+    record {
+      same_note = same;
+      same_db = number_same db db' fits.db_fits fits'.db_fits heads.dbs;
+      same_xid = number_same xid xid' fits.xid_fits fits'.xid_fits heads.xids;
+      same_pid = number_same pid pid' fits.pid_fits fits'.pid_fits heads.pids;
+      same_rest = append_cancel_left (zeros b) rest rest' ends;
+    }
+
+pub none_begins : NoSpellingBegins
+none_begins a b db db' xid xid' pid pid' rest ha hb fits fits' h =
+    (reads_back a b db db' xid xid' pid pid' rest [] ha hb fits fits' (h ∙ sym (append-nil (spelled b db' xid' pid')))).same_rest
+
+-- a filler, and bytes after it, from the left
+split_filler : (len xid pid : ℕ) (rest : List ℕ) → filler len xid pid ++ rest ≡ header len 0 xid pid ++ (replicate (len - 16) 0 ++ rest)
+unfolding filler header
+split_filler len xid pid rest = simp append_assoc
+
+pub none_is_filler : NoSpellingIsFiller
+none_is_filler note db xid pid len xid' pid' rest rest' some fits h =
+    let whole = sym (split note db xid pid rest) ∙ h ∙ split_filler len xid' pid' rest' in
+    let parts = same_fronts (header (entry_length note) db xid pid) (header len 0 xid' pid') (note.channel ++ 0 ∷ (note.payload ++ 0 ∷ (zeros note ++ rest))) (replicate (len - 16) 0 ++ rest')
+        (length-header (entry_length note) db xid pid ∙ sym (length-header len 0 xid' pid')) whole in
+    let heads = headers (entry_length note) len db 0 xid xid' pid pid' parts.0 in
+    let none : db ≡ 0 = number_same db 0 fits (omega arith) heads.dbs in
+    absurd (omega (arith, none))
+
+pub filler_reads_back : FillerReadsBack
+filler_reads_back len len' xid xid' pid pid' rest rest' fits fits' h =
+    let whole = sym (split_filler len xid pid rest) ∙ h ∙ split_filler len' xid' pid' rest' in
+    let parts = same_fronts (header len 0 xid pid) (header len' 0 xid' pid') (replicate (len - 16) 0 ++ rest) (replicate (len' - 16) 0 ++ rest')
+        (length-header len 0 xid pid ∙ sym (length-header len' 0 xid' pid')) whole in
+    let heads = headers len len' 0 0 xid xid' pid pid' parts.0 in
+    let lens = number_same len len' fits.db_fits fits'.db_fits heads.lens in
+    let ends : replicate (len' - 16) 0 ++ rest ≡ replicate (len' - 16) 0 ++ rest' = subst (λ (n : ℕ). replicate (n - 16) 0 ++ rest ≡ replicate (len' - 16) 0 ++ rest') lens parts.1 in
+    record {
+      same_len = lens;
+      same_xid = number_same xid xid' fits.xid_fits fits'.xid_fits heads.xids;
+      same_pid = number_same pid pid' fits.pid_fits fits'.pid_fits heads.pids;
+      same_rest = append_cancel_left (replicate (len' - 16) 0) rest rest' ends;
+    }
