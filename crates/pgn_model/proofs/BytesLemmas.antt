@@ -122,12 +122,12 @@ none_is_filler note db xid pid len xid' pid' rest rest' some fits h =
     absurd (omega (arith, none))
 
 pub filler_reads_back : FillerReadsBack
-filler_reads_back len len' xid xid' pid pid' rest rest' fits fits' h =
+filler_reads_back len len' xid xid' pid pid' rest rest' small small' fits fits' h =
     let whole = sym (split_filler len xid pid rest) ∙ h ∙ split_filler len' xid' pid' rest' in
     let parts = same_fronts (header len 0 xid pid) (header len' 0 xid' pid') (replicate (len - 16) 0 ++ rest) (replicate (len' - 16) 0 ++ rest')
         (length-header len 0 xid pid ∙ sym (length-header len' 0 xid' pid')) whole in
     let heads = headers len len' 0 0 xid xid' pid pid' parts.0 in
-    let lens = number_same len len' fits.db_fits fits'.db_fits heads.lens in
+    let lens = number_same len len' (omega arith) (omega arith) heads.lens in
     let ends : replicate (len' - 16) 0 ++ rest ≡ replicate (len' - 16) 0 ++ rest' = subst (λ (n : ℕ). replicate (n - 16) 0 ++ rest ≡ replicate (len' - 16) 0 ++ rest') lens parts.1 in
     record {
       same_len = lens;

@@ -1,7 +1,9 @@
 -- Proofs of the laws of where the entries of a journal lie.
-use Rattle.std.proofs.Common.{◌≡◌, ◌≢◌, ℕ, zero, suc, ◌+◌, ◌-◌, ◌*◌, ◌/◌, ◌%◌, ◌<◌, ◌≤◌, Bool, true, false, cond, List, [], ◌∷◌, ◌++◌, length, take, drop, replicate, Option, Some, None, slice_get, fold, sym, ap, ◌∙◌, refl, subst, arith, append_assoc, ◌⊎◌, inl, inr}
+use Rattle.std.proofs.Common.{◌≡◌, ◌≢◌, ℕ, zero, suc, ◌+◌, ◌-◌, ◌*◌, ◌/◌, ◌%◌, ◌<◌, ◌≤◌, Bool, true, false, cond, List, [], ◌∷◌, ◌++◌, length, take, drop, replicate, Option, Some, None, slice_get, fold, sym, ap, ◌∙◌, refl, subst, arith, append_assoc, add-zero, zero-add, ◌⊎◌, inl, inr}
 use Rattle.std.specs.Prelude.{nat_lt, nat_le, ◌==◌}
-use Rattle.std.proofs.lemmas.List.{append-nil, length-append, length-replicate, take_at, drop_at, take-append-le}
+use Rattle.std.proofs.lemmas.List.{append-nil, length-append, length-replicate, take_at, drop_at, take_all, take-take, take-append-drop, take-append-le}
+use Rattle.std.proofs.lemmas.Bool.{cases_lt}
+use Rattle.std.proofs.lemmas.Bool.Decides.{nat_tests}
 use Rattle.std.proofs.lemmas.Grind.{common_steps}
 use Rattle.pgn_base.specs.declared.note.Note.{Note}
 use Rattle.pgn_model.specs.declared.tx.Tx.{Tx}
@@ -9,9 +11,9 @@ use Rattle.pgn_model.specs.declared.tx.Fate.{Fate}
 use Rattle.pgn_model.specs.declared.tx.Fate.TheVariants.{Committed, Aborted}
 use Rattle.pgn_model.specs.Journal.{entry}
 use Rattle.pgn_model.specs.Bytes.{entry_length, spelled, filler}
-use Rattle.pgn_model.specs.Packing.{HasRoom, next_page, page_start, is_page_start, bytes_left, cells_left, filled, page_rest, entry_cells, filler_cells, note_cells, notes_cells, end_cells, tx_cells, image_from, image, place, IsCellOf, pid_of, after_rest, after_bytes, put_bytes, put, put_all, ended, after}
-use Rattle.pgn_model.specs.PackingLaws.{FirstPlace, NextPlace, LastPlace, IsPacked, LeavesRoom, PlaceGrows, AbortedEnds, PlacesAgree, ImagesAgree, CellsOfEach, CellsApart}
-use Rattle.pgn_model.proofs.BytesLemmas.{length-spelled, length-filler}
+use Rattle.pgn_model.specs.Packing.{HasRoom, next_page, page_start, is_page_start, bytes_left, cells_left, filled, page_rest, entry_cells, filler_cells, note_cells, notes_cells, end_cells, tx_cells, image_from, image, place, IsCellOf, Sender, sender_of, after_rest, after_bytes, put_bytes, put, put_all, ended, after}
+use Rattle.pgn_model.specs.PackingLaws.{PlaceFolds, PutTakes, PagesHold, NotesInTurn, FirstPlace, NextPlace, LastPlace, IsPacked, LeavesRoom, PlaceGrows, AbortedEnds, PlacesAgree, ImagesAgree, CellsOfEach, CellsApart}
+use Rattle.pgn_model.proofs.BytesLemmas.{length-spelled, length-filler, entry_lengths}
 
 -- one cell for each four bytes
 pub length-filled : (bytes : List ℕ) → length (filled bytes) ≡ length bytes / 4
@@ -53,19 +55,19 @@ packed_bytes note db xid pid at =
     sum ∙ ap (λ n. after_rest (at + n)) cells
 
 -- a filler takes the rest of the page
-length-filler_cells : (x : ℕ) (tx : Tx) (at : ℕ) → HasRoom at → at + length (filler_cells x tx at) ≡ next_page at
+length-filler_cells : (s : Sender) (at : ℕ) → HasRoom at → at + length (filler_cells s at) ≡ next_page at
 unfolding filler_cells
-length-filler_cells x tx at room =
-    let cells : length (filled (filler (bytes_left at) x (pid_of tx))) ≡ bytes_left at / 4 = length-filled (filler (bytes_left at) x (pid_of tx)) ∙ ap (λ n. n / 4) (length-filler (bytes_left at) x (pid_of tx) (omega arith)) in
+length-filler_cells s at room =
+    let cells : length (filled (filler (bytes_left at) s.xid s.pid)) ≡ bytes_left at / 4 = length-filled (filler (bytes_left at) s.xid s.pid) ∙ ap (λ n. n / 4) (length-filler (bytes_left at) s.xid s.pid (omega arith)) in
     omega (arith, cells)
 
-pub packed_note : (x : ℕ) (tx : Tx) (at : ℕ) (note : Note) → HasRoom at → at + length (note_cells x tx at note) ≡ put at note
+pub packed_note : (s : Sender) (at : ℕ) (note : Note) → HasRoom at → at + length (note_cells s at note) ≡ put at note
 unfolding note_cells put put_bytes
-packed_note x tx at note room =
-    let bytes = spelled note tx.db x (pid_of tx) in
-    elim (nat_le (entry_length note) (bytes_left at)) as (λ b. at + length (cond b (entry_cells at bytes) (filler_cells x tx at ++ entry_cells (next_page at) bytes)) ≡ cond b (after_bytes at (entry_length note)) (after_bytes (next_page at) (entry_length note))) [
-      true ↦ packed_bytes note tx.db x (pid_of tx) at
-      | false ↦ simp length-append (omega (arith, length-filler_cells x tx at room, packed_bytes note tx.db x (pid_of tx) (next_page at)))
+packed_note s at note room =
+    let bytes = spelled note s.db s.xid s.pid in
+    elim (nat_le (entry_length note) (bytes_left at)) as (λ b. at + length (cond b (entry_cells at bytes) (filler_cells s at ++ entry_cells (next_page at) bytes)) ≡ cond b (after_bytes at (entry_length note)) (after_bytes (next_page at) (entry_length note))) [
+      true ↦ packed_bytes note s.db s.xid s.pid at
+      | false ↦ simp length-append (omega (arith, length-filler_cells s at room, packed_bytes note s.db s.xid s.pid (next_page at)))
     ]
 
 room_put : (at : ℕ) (note : Note) → HasRoom (put at note)
@@ -79,22 +81,22 @@ pub room_put_all : (at : ℕ) (notes : List Note) → HasRoom at → HasRoom (pu
 room_put_all at [] room = room
 room_put_all at (note ∷ notes) room = room_put_all (put at note) notes (room_put at note)
 
-pub packed_notes : (x : ℕ) (tx : Tx) (at : ℕ) (notes : List Note) → HasRoom at → at + length (notes_cells x tx at notes) ≡ put_all at notes
+pub packed_notes : (s : Sender) (at : ℕ) (notes : List Note) → HasRoom at → at + length (notes_cells s at notes) ≡ put_all at notes
 unfolding notes_cells
-packed_notes x tx at [] room = omega arith
-packed_notes x tx at (note ∷ notes) room =
-    let here = packed_note x tx at note room in
-    let rest : (at + length (note_cells x tx at note)) + length (notes_cells x tx (at + length (note_cells x tx at note)) notes) ≡ put_all (at + length (note_cells x tx at note)) notes
-          = packed_notes x tx (at + length (note_cells x tx at note)) notes (let P : ℕ → Type 0 = λ n. HasRoom n in subst P (sym here) (room_put at note)) in
-    let sum : at + length (note_cells x tx at note ++ notes_cells x tx (at + length (note_cells x tx at note)) notes) ≡ put_all (at + length (note_cells x tx at note)) notes = simp length-append (omega (arith, rest)) in
+packed_notes s at [] room = omega arith
+packed_notes s at (note ∷ notes) room =
+    let here = packed_note s at note room in
+    let rest : (at + length (note_cells s at note)) + length (notes_cells s (at + length (note_cells s at note)) notes) ≡ put_all (at + length (note_cells s at note)) notes
+          = packed_notes s (at + length (note_cells s at note)) notes (let P : ℕ → Type 0 = λ n. HasRoom n in subst P (sym here) (room_put at note)) in
+    let sum : at + length (note_cells s at note ++ notes_cells s (at + length (note_cells s at note)) notes) ≡ put_all (at + length (note_cells s at note)) notes = simp length-append (omega (arith, rest)) in
     sum ∙ ap (λ n. put_all n notes) here
 
-packed_end : (x : ℕ) (tx : Tx) (fate : Fate) (at : ℕ) → HasRoom at → at + length (end_cells x tx fate at) ≡ ended fate at
+packed_end : (s : Sender) (fate : Fate) (at : ℕ) → HasRoom at → at + length (end_cells s fate at) ≡ ended fate at
 unfolding end_cells ended
-packed_end x tx Committed at room = omega arith
-packed_end x tx Aborted at room = elim (is_page_start at) as (λ b. at + length (cond b [] (filler_cells x tx at)) ≡ cond b at (next_page at)) [
+packed_end s Committed at room = omega arith
+packed_end s Aborted at room = elim (is_page_start at) as (λ b. at + length (cond b [] (filler_cells s at)) ≡ cond b at (next_page at)) [
   true ↦ omega arith
-  | false ↦ length-filler_cells x tx at room
+  | false ↦ length-filler_cells s at room
 ]
 
 room_ended : (fate : Fate) (at : ℕ) → HasRoom at → HasRoom (ended fate at)
@@ -105,13 +107,192 @@ room_ended Aborted at room = elim (is_page_start at) as (λ b. HasRoom (cond b a
 pub packed_tx : (x : ℕ) (at : ℕ) (tx : Tx) → HasRoom at → at + length (tx_cells x at tx) ≡ after at tx
 unfolding tx_cells after
 packed_tx x at tx room =
-    let queued = notes_cells x tx at (take tx.queued tx.notes) in
-    let notes : at + length queued ≡ put_all at (take tx.queued tx.notes) = packed_notes x tx at (take tx.queued tx.notes) room in
+    let s = sender_of x tx in
+    let queued = notes_cells s at (take tx.queued tx.notes) in
+    let notes : at + length queued ≡ put_all at (take tx.queued tx.notes) = packed_notes s at (take tx.queued tx.notes) room in
     let there : HasRoom (at + length queued) = let P : ℕ → Type 0 = λ n. HasRoom n in subst P (sym notes) (room_put_all at (take tx.queued tx.notes) room) in
-    let end : (at + length queued) + length (end_cells x tx tx.fate (at + length queued)) ≡ ended tx.fate (at + length queued) = packed_end x tx tx.fate (at + length queued) there in
-    let sum : at + length (queued ++ end_cells x tx tx.fate (at + length queued)) ≡ ended tx.fate (at + length queued) = simp length-append (omega (arith, end)) in
+    let end : (at + length queued) + length (end_cells s tx.fate (at + length queued)) ≡ ended tx.fate (at + length queued) = packed_end s tx.fate (at + length queued) there in
+    let sum : at + length (queued ++ end_cells s tx.fate (at + length queued)) ≡ ended tx.fate (at + length queued) = simp length-append (omega (arith, end)) in
     sum ∙ ap (ended tx.fate) notes
 
 pub room_after : (at : ℕ) (tx : Tx) → HasRoom at → HasRoom (after at tx)
 unfolding after
 room_after at tx room = room_ended tx.fate (put_all at (take tx.queued tx.notes)) (room_put_all at (take tx.queued tx.notes) room)
+
+-- the cells of transactions one list after the other
+image_from-append : (x at : ℕ) (xs ys : List Tx) → image_from x at (xs ++ ys) ≡ image_from x at xs ++ image_from (x + length xs) (at + length (image_from x at xs)) ys
+unfolding image_from
+image_from-append x at [] ys = ap (λ n. image_from n at ys) (sym (add-zero x)) ∙ ap (λ n. image_from (x + 0) n ys) (sym (add-zero at))
+image_from-append x at (tx ∷ xs) ys =
+    let cells = tx_cells x at tx in
+    let rest = image_from (x + 1) (at + length cells) xs in
+    let count : (x + 1) + length xs ≡ x + length (tx ∷ xs) = omega arith in
+    let end : (at + length cells) + length rest ≡ at + length (cells ++ rest) = simp length-append (omega arith) in
+    let more = image_from-append (x + 1) (at + length cells) xs ys
+          ∙ ap (λ n. rest ++ image_from n ((at + length cells) + length rest) ys) count
+          ∙ ap (λ n. rest ++ image_from (x + length (tx ∷ xs)) n ys) end in
+    ap (λ ds. cells ++ ds) more ∙ sym (append_assoc cells rest (image_from (x + length (tx ∷ xs)) (at + length (cells ++ rest)) ys))
+
+pub images_agree : ImagesAgree
+unfolding image
+images_agree journal more = image_from-append 3 0 journal more ∙ ap (λ n. image journal ++ image_from (3 + length journal) n more) (zero-add (length (image journal)))
+
+room_image : (x at : ℕ) (txs : List Tx) → HasRoom at → HasRoom (at + length (image_from x at txs))
+unfolding image_from
+room_image x at [] room = let P : ℕ → Type 0 = λ n. HasRoom n in subst P (sym (add-zero at)) room
+room_image x at (tx ∷ txs) room =
+    let cells = tx_cells x at tx in
+    let P : ℕ → Type 0 = λ n. HasRoom n in
+    let next : HasRoom (at + length cells) = subst P (sym (packed_tx x at tx room)) (room_after at tx room) in
+    let sum : (at + length cells) + length (image_from (x + 1) (at + length cells) txs) ≡ at + length (cells ++ image_from (x + 1) (at + length cells) txs) = simp length-append (omega arith) in
+    subst P sum (room_image (x + 1) (at + length cells) txs next)
+
+room_of_image : (journal : List Tx) → HasRoom (length (image journal))
+unfolding image
+room_of_image journal = let P : ℕ → Type 0 = λ n. HasRoom n in subst P (zero-add (length (image journal))) (room_image 3 0 journal (omega arith))
+
+pub room_place : (journal : List Tx) (x : ℕ) → HasRoom (place journal x)
+unfolding place
+room_place journal x = room_of_image (take (x - 3) journal)
+
+pub leaves_room : LeavesRoom
+leaves_room = record { at_start = room_place; after_notes = room_put_all }
+
+pub is_packed : IsPacked
+is_packed = record { of_bytes = packed_bytes; of_note = packed_note; of_notes = packed_notes; of_tx = packed_tx }
+
+pub first_place : FirstPlace
+unfolding place image image_from
+first_place journal = refl
+
+pub last_place : LastPlace
+unfolding place
+last_place journal x h = ap (λ (txs : List Tx). length (image txs)) (take_all (x - 3) journal (omega arith))
+
+pub places_agree : PlacesAgree
+unfolding place
+places_agree journal more x h = ap (λ (txs : List Tx). length (image txs)) (take-append-le (x - 3) journal more (omega arith))
+
+-- the image of a front is no longer
+front_fits : (xs ys : List Tx) → length (image xs) ≤ length (image (xs ++ ys))
+front_fits xs ys = omega (arith, ap length (images_agree xs ys) ∙ length-append (image xs) (image_from (3 + length xs) (length (image xs)) ys))
+
+pub place_grows : PlaceGrows
+unfolding place
+place_grows journal x y h =
+    let fits : x - 3 ≤ y - 3 = omega arith in
+    let front : take (x - 3) journal ++ drop (x - 3) (take (y - 3) journal) ≡ take (y - 3) journal
+          = ap (λ (txs : List Tx). txs ++ drop (x - 3) (take (y - 3) journal)) (sym (take-take (x - 3) (y - 3) journal fits)) ∙ take-append-drop (x - 3) (take (y - 3) journal) in
+    let P : List Tx → Type 0 = λ txs. length (image (take (x - 3) journal)) ≤ length (image txs) in
+    subst P front (front_fits (take (x - 3) journal) (drop (x - 3) (take (y - 3) journal)))
+
+pub cells_apart : CellsApart
+cells_apart journal x y cell p q = elim (cases_lt x y) as (λ _. x ≡ y) [
+  inl lt ↦ absurd (omega (arith, place_grows journal (x + 1) y (omega (arith, lt)), p.before, q.from))
+  | inr ge ↦ elim (cases_lt y x) as (λ _. x ≡ y) [
+    inl lt ↦ absurd (omega (arith, place_grows journal (y + 1) x (omega (arith, lt)), q.before, p.from))
+    | inr le ↦ omega (arith, ge, le)
+  ]
+]
+
+-- an element that is there: the front up to it, and how long that is
+taken : (xs : List Tx) (k : ℕ) (tx : Tx) → slice_get xs k ≡ Some tx → (take (suc k) xs ≡ take k xs ++ tx ∷ []) × (length (take k xs) ≡ k)
+taken [] k tx h = cc
+taken (y ∷ xs) zero tx h = (cc, refl)
+taken (y ∷ xs) (suc k) tx h = let rest = taken xs k tx h in (ap (λ (ts : List Tx). y ∷ ts) rest.0, ap suc rest.1)
+
+-- the image up to the end of a transaction
+image_next : (journal : List Tx) (x : ℕ) (tx : Tx) → 3 ≤ x → entry journal x ≡ Some tx
+    → image (take ((x + 1) - 3) journal) ≡ image (take (x - 3) journal) ++ tx_cells x (place journal x) tx
+unfolding place image_from
+image_next journal x tx h e =
+    let front = take (x - 3) journal in
+    let more = taken journal (x - 3) tx e in
+    let next : (x + 1) - 3 ≡ suc (x - 3) = omega arith in
+    let count : 3 + length front ≡ x = omega (arith, more.1) in
+    ap (λ n. image (take n journal)) next ∙ ap image more.0 ∙ images_agree front (tx ∷ [])
+    ∙ ap (λ n. image front ++ (tx_cells n (length (image front)) tx ++ [])) count
+    ∙ ap (λ cells. image front ++ cells) (append-nil (tx_cells x (length (image front)) tx))
+
+pub next_place : NextPlace
+unfolding place
+next_place journal x tx h e =
+    let at = place journal x in
+    ap length (image_next journal x tx h e) ∙ length-append (image (take (x - 3) journal)) (tx_cells x at tx) ∙ packed_tx x at tx (room_place journal x)
+
+pub cells_of_each : CellsOfEach
+unfolding place
+cells_of_each journal x tx h e =
+    let next = take ((x + 1) - 3) journal in
+    let rest = drop ((x + 1) - 3) journal in
+    let more = image_from (3 + length next) (length (image next)) rest in
+    let whole : image journal ≡ image next ++ more = ap image (sym (take-append-drop ((x + 1) - 3) journal)) ∙ images_agree next rest in
+    let front : take (length (image next)) (image journal) ≡ image (take (x - 3) journal) ++ tx_cells x (place journal x) tx
+          = ap (take (length (image next))) whole ∙ take_at (image next) more (length (image next)) refl ∙ image_next journal x tx h e in
+    ap (drop (length (image (take (x - 3) journal)))) front ∙ drop_at (image (take (x - 3) journal)) (tx_cells x (place journal x) tx) (length (image (take (x - 3) journal))) refl
+
+starts : (b : Bool) (at : ℕ) → is_page_start at ≡ b → is_page_start (cond b at (next_page at)) ≡ true
+starts true at e = e
+starts false at e = grind (arith, common_steps)
+
+ended_starts : (at : ℕ) → is_page_start (ended Aborted at) ≡ true
+unfolding ended
+ended_starts at = starts (is_page_start at) at refl
+
+pub aborted_ends : AbortedEnds
+unfolding after
+aborted_ends journal x tx h e aborted =
+    let at = put_all (place journal x) (take tx.queued tx.notes) in
+    ap is_page_start (next_place journal x tx h e ∙ ap (λ (fate : Fate). ended fate at) aborted) ∙ ended_starts at
+
+folds : (x at : ℕ) (txs : List Tx) → HasRoom at → at + length (image_from x at txs) ≡ fold after at txs
+unfolding image_from
+folds x at [] room = add-zero at
+folds x at (tx ∷ txs) room =
+    let cells = tx_cells x at tx in
+    let here = packed_tx x at tx room in
+    let P : ℕ → Type 0 = λ n. HasRoom n in
+    let next : HasRoom (at + length cells) = subst P (sym here) (room_after at tx room) in
+    let sum : at + length (cells ++ image_from (x + 1) (at + length cells) txs) ≡ (at + length cells) + length (image_from (x + 1) (at + length cells) txs) = simp length-append (omega arith) in
+    sum ∙ folds (x + 1) (at + length cells) txs next ∙ ap (λ n. fold after n txs) here
+
+pub place_folds : PlaceFolds
+unfolding place image
+place_folds journal x = sym (zero-add (length (image (take (x - 3) journal)))) ∙ folds 3 0 (take (x - 3) journal) (omega arith)
+
+after_bytes_bounds : (at bytes : ℕ) → 20 ≤ bytes → bytes ≤ bytes_left at → (at < after_bytes at bytes) × (after_bytes at bytes ≤ next_page at)
+unfolding after_bytes after_rest
+after_bytes_bounds at bytes some fits = grind (arith, common_steps)
+
+put_bytes_takes : (at len : ℕ) (fits : Bool) → nat_le len (bytes_left at) ≡ fits → 20 ≤ len → len ≤ 8192
+    → (at < cond fits (after_bytes at len) (after_bytes (next_page at) len)) × (cond fits (after_bytes at len) (after_bytes (next_page at) len) ≤ at + 4096)
+put_bytes_takes at len true e some short =
+    let here : len ≤ bytes_left at = grind (arith, nat_tests) in
+    let bounds = after_bytes_bounds at len some here in
+    (bounds.0, omega (arith, bounds.1))
+put_bytes_takes at len false e some short =
+    let there : len ≤ bytes_left (next_page at) = omega arith in
+    let bounds = after_bytes_bounds (next_page at) len some there in
+    (omega (arith, bounds.0), omega (arith, bounds.1))
+
+pub put_takes : PutTakes
+unfolding put put_bytes
+put_takes at note h =
+    let len = entry_lengths note h in
+    put_bytes_takes at (entry_length note) (nat_le (entry_length note) (bytes_left at)) refl len.least len.fits
+
+pub pages_hold : PagesHold
+pages_hold = record {
+  rest = λ at room. record { whole = omega arith; least = room; fits = omega arith };
+  next = λ at note h. omega (arith, (entry_lengths note h).fits);
+}
+
+pub notes_in_turn : NotesInTurn
+unfolding notes_cells
+notes_in_turn sender at [] more = ap (λ n. notes_cells sender n more) (sym (add-zero at))
+notes_in_turn sender at (note ∷ notes) more =
+    let cells = note_cells sender at note in
+    let rest = notes_cells sender (at + length cells) notes in
+    let end : (at + length cells) + length rest ≡ at + length (cells ++ rest) = simp length-append (omega arith) in
+    ap (λ ds. cells ++ ds) (notes_in_turn sender (at + length cells) notes more ∙ ap (λ n. rest ++ notes_cells sender n more) end)
+    ∙ sym (append_assoc cells rest (notes_cells sender (at + length (cells ++ rest)) more))

@@ -52,5 +52,5 @@ pub record AreSameFillers (len len' xid xid' pid pid' : ℕ) (rest rest' : List 
 
 -- bytes that begin with a filler begin with no other one
 abbrev pub FillerReadsBack : Type 0
-FillerReadsBack = (len len' xid xid' pid pid' : ℕ) (rest rest' : List ℕ) → IsHead len xid pid → IsHead len' xid' pid'
+FillerReadsBack = (len len' xid xid' pid pid' : ℕ) (rest rest' : List ℕ) → len ≤ page_bytes → len' ≤ page_bytes → IsHead 0 xid pid → IsHead 0 xid' pid'
     → filler len xid pid ++ rest ≡ filler len' xid' pid' ++ rest' → AreSameFillers len len' xid xid' pid pid' rest rest'

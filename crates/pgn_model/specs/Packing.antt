@@ -71,37 +71,45 @@ page_rest place = cond (nat_lt (bytes_left place) least_bytes) (replicate (cells
 unfoldable pub entry_cells : ℕ → List ℕ → List (Option ℕ)
 entry_cells place bytes = filled bytes ++ page_rest (place + length (filled bytes))
 
--- the process number of a transaction's session
-abbrev pub pid_of : Tx → ℕ
-pid_of tx = 1000 + tx.session
+-- what each entry of a transaction says of it: its database, its number and the process number of its session
+pub record Sender : Type 0 where
+  pub db : ℕ
+  pub xid : ℕ
+  pub pid : ℕ
 
--- the cells of a filler of the transaction x, which takes the rest of the page
-unfoldable pub filler_cells : ℕ → Tx → ℕ → List (Option ℕ)
-filler_cells x tx place = filled (filler (bytes_left place) x (pid_of tx))
+-- the sender of the transaction numbered x
+abbrev pub sender_of : ℕ → Tx → Sender
+sender_of x tx = record { db = tx.db; xid = x; pid = 1000 + tx.session }
 
--- the cells from a place on of a notification of the transaction x: its entry, where that fits on the rest of the page;
--- otherwise a filler, and then its entry on the next page
-unfoldable pub note_cells : ℕ → Tx → ℕ → Note → List (Option ℕ)
-note_cells x tx place note = cond (nat_le (entry_length note) (bytes_left place))
-    (entry_cells place (spelled note tx.db x (pid_of tx)))
-    (filler_cells x tx place ++ entry_cells (next_page place) (spelled note tx.db x (pid_of tx)))
+-- the cells of a filler that takes the rest of the page
+unfoldable pub filler_cells : Sender → ℕ → List (Option ℕ)
+filler_cells sender place = filled (filler (bytes_left place) sender.xid sender.pid)
 
--- the cells from a place on of notifications of the transaction x, one after another
-unfoldable pub notes_cells : ℕ → Tx → ℕ → List Note → List (Option ℕ)
-notes_cells x tx place [] = []
-notes_cells x tx place (note ∷ notes) = note_cells x tx place note ++ notes_cells x tx (place + length (note_cells x tx place note)) notes
+-- the cells from a place on of a notification: its entry, where that fits on the rest of the page; otherwise a filler, and then
+-- its entry on the next page
+unfoldable pub note_cells : Sender → ℕ → Note → List (Option ℕ)
+note_cells sender place note =
+    let entry = spelled note sender.db sender.xid sender.pid in
+    cond (nat_le (entry_length note) (bytes_left place))
+        (entry_cells place entry)
+        (filler_cells sender place ++ entry_cells (next_page place) entry)
 
--- the cells from a place on that end the transaction x: none where it committed; where it was aborted, a filler, if no page
--- begins there
-unfoldable pub end_cells : ℕ → Tx → Fate → ℕ → List (Option ℕ)
-end_cells x tx Committed place = []
-end_cells x tx Aborted place = cond (is_page_start place) [] (filler_cells x tx place)
+-- the cells from a place on of notifications, one after another
+unfoldable pub notes_cells : Sender → ℕ → List Note → List (Option ℕ)
+notes_cells sender place [] = []
+notes_cells sender place (note ∷ notes) = note_cells sender place note ++ notes_cells sender (place + length (note_cells sender place note)) notes
 
--- the cells from a place on of the transaction x: those of its queued notifications, and those that end it
+-- the cells from a place on that end a transaction: none where it committed; where it was aborted a filler, unless a page begins
+-- at the place
+unfoldable pub end_cells : Sender → Fate → ℕ → List (Option ℕ)
+end_cells sender Committed place = []
+end_cells sender Aborted place = cond (is_page_start place) [] (filler_cells sender place)
+
+-- the cells from a place on of the transaction numbered x: those of its queued notifications, and those that end it
 unfoldable pub tx_cells : ℕ → ℕ → Tx → List (Option ℕ)
 tx_cells x place tx =
-    let queued = notes_cells x tx place (take tx.queued tx.notes) in
-    queued ++ end_cells x tx tx.fate (place + length queued)
+    let queued = notes_cells (sender_of x tx) place (take tx.queued tx.notes) in
+    queued ++ end_cells (sender_of x tx) tx.fate (place + length queued)
 
 -- the cells from a place on of transactions, of which the first is numbered x
 unfoldable pub image_from : ℕ → ℕ → List Tx → List (Option ℕ)

@@ -1,11 +1,12 @@
 -- Laws of where the entries of a journal lie.
-use Rattle.std.specs.Prelude.{◌≡◌, ℕ, ◌+◌, ◌≤◌, ◌<◌, true, List, ◌∷◌, ◌++◌, length, take, drop, Option, Some, slice_get}
+use Rattle.std.specs.Prelude.{◌≡◌, ℕ, ◌+◌, ◌-◌, ◌*◌, ◌≤◌, ◌<◌, true, List, ◌++◌, length, take, drop, fold, Some}
 use Rattle.pgn_base.specs.declared.note.Note.{Note}
 use Rattle.pgn_model.specs.declared.tx.Tx.{Tx}
 use Rattle.pgn_model.specs.declared.tx.Fate.TheVariants.{Aborted}
 use Rattle.pgn_model.specs.Journal.{entry}
-use Rattle.pgn_model.specs.Bytes.{page_bytes, entry_length, spelled, IsNote}
-use Rattle.pgn_model.specs.Packing.{HasRoom, is_page_start, page_of, bytes_left, entry_cells, note_cells, notes_cells, tx_cells, image_from, image, place, IsCellOf, pid_of, after_bytes, put, put_all, after}
+use Rattle.pgn_model.specs.Bytes.{entry_length, spelled, IsNote}
+use Rattle.pgn_model.specs.BytesLaws.{IsEntryLength}
+use Rattle.pgn_model.specs.Packing.{HasRoom, Sender, page_cells, is_page_start, next_page, bytes_left, entry_cells, note_cells, notes_cells, tx_cells, image_from, image, place, IsCellOf, after_bytes, put, put_all, after}
 
 -- the first transaction begins at cell 0
 abbrev pub FirstPlace : Type 0
@@ -22,8 +23,8 @@ LastPlace = (journal : List Tx) (x : ℕ) → 3 + length journal ≤ x → place
 -- the arithmetic of an entry's bytes, of a notification, of several, and of a transaction gives the place after their cells
 pub record IsPacked : Type 0 where
   pub of_bytes : (note : Note) (db xid pid at : ℕ) → at + length (entry_cells at (spelled note db xid pid)) ≡ after_bytes at (entry_length note)
-  pub of_note : (x : ℕ) (tx : Tx) (at : ℕ) (note : Note) → HasRoom at → at + length (note_cells x tx at note) ≡ put at note
-  pub of_notes : (x : ℕ) (tx : Tx) (at : ℕ) (notes : List Note) → HasRoom at → at + length (notes_cells x tx at notes) ≡ put_all at notes
+  pub of_note : (sender : Sender) (at : ℕ) (note : Note) → HasRoom at → at + length (note_cells sender at note) ≡ put at note
+  pub of_notes : (sender : Sender) (at : ℕ) (notes : List Note) → HasRoom at → at + length (notes_cells sender at notes) ≡ put_all at notes
   pub of_tx : (x : ℕ) (at : ℕ) (tx : Tx) → HasRoom at → at + length (tx_cells x at tx) ≡ after at tx
 
 -- the shortest entry fits on the page after each transaction, and after each notification that is put
@@ -34,6 +35,24 @@ pub record LeavesRoom : Type 0 where
 -- later transactions begin no earlier
 abbrev pub PlaceGrows : Type 0
 PlaceGrows = (journal : List Tx) (x y : ℕ) → x ≤ y → place journal x ≤ place journal y
+
+-- the place of a transaction is what the arithmetic gives from cell 0 on after all before it
+abbrev pub PlaceFolds : Type 0
+PlaceFolds = (journal : List Tx) (x : ℕ) → place journal x ≡ fold after 0 (take (x - 3) journal)
+
+-- a notification takes some cells, and at most those of two pages
+abbrev pub PutTakes : Type 0
+PutTakes = (at : ℕ) (note : Note) → IsNote note → (at < put at note) × (put at note ≤ at + 2 * page_cells)
+
+-- what is left of a page where the shortest entry fits is the length of a filler, and a page's whole length holds each entry
+pub record PagesHold : Type 0 where
+  pub rest : (at : ℕ) → HasRoom at → IsEntryLength (bytes_left at)
+  pub next : (at : ℕ) (note : Note) → IsNote note → entry_length note ≤ bytes_left (next_page at)
+
+-- notifications lie one after another
+abbrev pub NotesInTurn : Type 0
+NotesInTurn = (sender : Sender) (at : ℕ) (notes more : List Note)
+    → notes_cells sender at (notes ++ more) ≡ notes_cells sender at notes ++ notes_cells sender (at + length (notes_cells sender at notes)) more
 
 -- an aborted transaction ends where a page begins
 abbrev pub AbortedEnds : Type 0
