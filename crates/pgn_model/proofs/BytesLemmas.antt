@@ -6,7 +6,7 @@ use Rattle.std.proofs.lemmas.List.{append-nil, append_cancel_left, length-append
 use Rattle.std.proofs.lemmas.Nat.{from_le_bytes-to_le_bytes_4}
 use Rattle.pgn_base.specs.declared.note.Note.{Note}
 use Rattle.pgn_base.specs.Texts.{IsName, IsPayload}
-use Rattle.pgn_model.specs.Bytes.{number, header, padded, entry_length, spelled, filler, IsNote, IsHead}
+use Rattle.pgn_model.specs.Bytes.{four_bytes, header, padded, entry_length, spelled, filler, IsNote, IsHead}
 use Rattle.pgn_model.specs.BytesLaws.{SpelledLength, FillerLength, EntryLengths, AreSame, SpellingReadsBack, NoSpellingBegins, NoSpellingIsFiller, AreSameFillers, FillerReadsBack}
 
 -- two lists that are equal, where their fronts have one length
@@ -16,7 +16,7 @@ same_fronts a b c d e h =
      sym (drop_at a c (length b) e) ∙ ap (drop (length b)) h ∙ drop_at b d (length b) refl)
 
 -- a number is read back from its four bytes
-number_same : (m n : ℕ) → m < 2 ^ 32 → n < 2 ^ 32 → number m ≡ number n → m ≡ n
+number_same : (m n : ℕ) → m < 2 ^ 32 → n < 2 ^ 32 → four_bytes m ≡ four_bytes n → m ≡ n
 number_same m n hm hn h = sym (from_le_bytes-to_le_bytes_4 m hm) ∙ ap (from_le_bytes w32) h ∙ from_le_bytes-to_le_bytes_4 n hn
 
 pub length-header : (len db xid pid : ℕ) → length (header len db xid pid) ≡ 16
@@ -24,18 +24,18 @@ unfolding header
 length-header len db xid pid = refl
 
 pub record Heads (len len' db db' xid xid' pid pid' : ℕ) : Type 0 where
-  pub lens : number len ≡ number len'
-  pub dbs : number db ≡ number db'
-  pub xids : number xid ≡ number xid'
-  pub pids : number pid ≡ number pid'
+  pub lens : four_bytes len ≡ four_bytes len'
+  pub dbs : four_bytes db ≡ four_bytes db'
+  pub xids : four_bytes xid ≡ four_bytes xid'
+  pub pids : four_bytes pid ≡ four_bytes pid'
 
 -- the numbers of equal heads have the same bytes
 headers : (len len' db db' xid xid' pid pid' : ℕ) → header len db xid pid ≡ header len' db' xid' pid' → Heads len len' db db' xid xid' pid pid'
 unfolding header
 headers len len' db db' xid xid' pid pid' h =
-    let a = same_fronts (number len ++ number db ++ number xid) (number len' ++ number db' ++ number xid') (number pid) (number pid') refl h in
-    let b = same_fronts (number len ++ number db) (number len' ++ number db') (number xid) (number xid') refl a.0 in
-    let c = same_fronts (number len) (number len') (number db) (number db') refl b.0 in
+    let a = same_fronts (four_bytes len ++ four_bytes db ++ four_bytes xid) (four_bytes len' ++ four_bytes db' ++ four_bytes xid') (four_bytes pid) (four_bytes pid') refl h in
+    let b = same_fronts (four_bytes len ++ four_bytes db) (four_bytes len' ++ four_bytes db') (four_bytes xid) (four_bytes xid') refl a.0 in
+    let c = same_fronts (four_bytes len) (four_bytes len') (four_bytes db) (four_bytes db') refl b.0 in
     record { lens = c.0; dbs = c.1; xids = b.1; pids = a.1 }
 
 -- texts without a zero byte, up to the first zero byte of equal bytes

@@ -11,8 +11,8 @@ use Rattle.pgn_model.specs.declared.tx.Fate.{Fate}
 use Rattle.pgn_model.specs.declared.tx.Fate.TheVariants.{Committed, Aborted}
 use Rattle.pgn_model.specs.Journal.{entry}
 use Rattle.pgn_model.specs.Bytes.{entry_length, spelled, filler}
-use Rattle.pgn_model.specs.Packing.{HasRoom, next_page, page_start, is_page_start, bytes_left, cells_left, filled, page_rest, entry_cells, filler_cells, note_cells, notes_cells, end_cells, tx_cells, image_from, image, place, IsCellOf, Sender, sender_of, after_rest, after_bytes, put_bytes, put, put_all, ended, after}
-use Rattle.pgn_model.specs.PackingLaws.{PlaceFolds, PutTakes, PagesHold, NotesInTurn, FirstPlace, NextPlace, LastPlace, IsPacked, LeavesRoom, PlaceGrows, AbortedEnds, PlacesAgree, ImagesAgree, CellsOfEach, CellsApart}
+use Rattle.pgn_model.specs.Packing.{fits, has_room, next_page, page_start, is_page_start, bytes_left, cells_left, filled, page_rest, entry_cells, filler_cells, note_cells, notes_cells, end_cells, tx_cells, image_from, image, place, IsCellOf, Sender, sender_of, after_rest, after_bytes, put_bytes, put, put_all, ended, after}
+use Rattle.pgn_model.specs.PackingLaws.{HasRoom, PlaceFolds, PutTakes, PagesHold, NotesInTurn, FirstPlace, NextPlace, LastPlace, IsPacked, LeavesRoom, PlaceGrows, AbortedEnds, PlacesAgree, ImagesAgree, CellsOfEach, CellsApart}
 use Rattle.pgn_model.proofs.BytesLemmas.{length-spelled, length-filler, entry_lengths}
 
 -- one cell for each four bytes
@@ -27,9 +27,9 @@ length-filled (a ∷ b ∷ c ∷ d ∷ bytes) = omega (arith, length-filled byte
 -- the place after the page rest
 length-page_rest : (at : ℕ) → at + length (page_rest at) ≡ after_rest at
 unfolding page_rest after_rest
-length-page_rest at = elim (nat_lt (bytes_left at) 20) as (λ b. at + length (cond b (replicate (cells_left at) (let n : Option ℕ = None in n)) []) ≡ cond b (next_page at) at) [
-  true ↦ simp length-replicate (omega arith)
-  | false ↦ omega arith
+length-page_rest at = elim (has_room at) as (λ b. at + length (cond b [] (replicate (cells_left at) (let n : Option ℕ = None in n))) ≡ cond b at (next_page at)) [
+  true ↦ omega arith
+  | false ↦ simp length-replicate (omega arith)
 ]
 
 -- what is past the page rest has room
@@ -65,14 +65,14 @@ pub packed_note : (s : Sender) (at : ℕ) (note : Note) → HasRoom at → at + 
 unfolding note_cells put put_bytes
 packed_note s at note room =
     let bytes = spelled note s.db s.xid s.pid in
-    elim (nat_le (entry_length note) (bytes_left at)) as (λ b. at + length (cond b (entry_cells at bytes) (filler_cells s at ++ entry_cells (next_page at) bytes)) ≡ cond b (after_bytes at (entry_length note)) (after_bytes (next_page at) (entry_length note))) [
+    elim (fits at (entry_length note)) as (λ b. at + length (cond b (entry_cells at bytes) (filler_cells s at ++ entry_cells (next_page at) bytes)) ≡ cond b (after_bytes at (entry_length note)) (after_bytes (next_page at) (entry_length note))) [
       true ↦ packed_bytes note s.db s.xid s.pid at
       | false ↦ simp length-append (omega (arith, length-filler_cells s at room, packed_bytes note s.db s.xid s.pid (next_page at)))
     ]
 
 room_put : (at : ℕ) (note : Note) → HasRoom (put at note)
 unfolding put put_bytes
-room_put at note = elim (nat_le (entry_length note) (bytes_left at)) as (λ b. HasRoom (cond b (after_bytes at (entry_length note)) (after_bytes (next_page at) (entry_length note)))) [
+room_put at note = elim (fits at (entry_length note)) as (λ b. HasRoom (cond b (after_bytes at (entry_length note)) (after_bytes (next_page at) (entry_length note)))) [
   true ↦ room_after_bytes at (entry_length note)
   | false ↦ room_after_bytes (next_page at) (entry_length note)
 ]
@@ -264,8 +264,8 @@ after_bytes_bounds : (at bytes : ℕ) → 20 ≤ bytes → bytes ≤ bytes_left 
 unfolding after_bytes after_rest
 after_bytes_bounds at bytes some fits = grind (arith, common_steps)
 
-put_bytes_takes : (at len : ℕ) (fits : Bool) → nat_le len (bytes_left at) ≡ fits → 20 ≤ len → len ≤ 8192
-    → (at < cond fits (after_bytes at len) (after_bytes (next_page at) len)) × (cond fits (after_bytes at len) (after_bytes (next_page at) len) ≤ at + 4096)
+put_bytes_takes : (at len : ℕ) (b : Bool) → fits at len ≡ b → 20 ≤ len → len ≤ 8192
+    → (at < cond b (after_bytes at len) (after_bytes (next_page at) len)) × (cond b (after_bytes at len) (after_bytes (next_page at) len) ≤ at + 4096)
 put_bytes_takes at len true e some short =
     let here : len ≤ bytes_left at = grind (arith, nat_tests) in
     let bounds = after_bytes_bounds at len some here in
@@ -279,7 +279,7 @@ pub put_takes : PutTakes
 unfolding put put_bytes
 put_takes at note h =
     let len = entry_lengths note h in
-    put_bytes_takes at (entry_length note) (nat_le (entry_length note) (bytes_left at)) refl len.least len.fits
+    put_bytes_takes at (entry_length note) (fits at (entry_length note)) refl len.least len.fits
 
 pub pages_hold : PagesHold
 pages_hold = record {

@@ -21,12 +21,12 @@ abbrev pub page_bytes : ℕ
 page_bytes = 8192
 
 -- a number in four bytes, the lowest first
-abbrev pub number : ℕ → List ℕ
-number n = to_le_bytes w32 n
+abbrev pub four_bytes : ℕ → List ℕ
+four_bytes n = to_le_bytes w32 n
 
 -- the numbers at the head of an entry: its length, its database, its transaction and the process number of its sender
 unfoldable pub header : ℕ → ℕ → ℕ → ℕ → List ℕ
-header len db xid pid = number len ++ number db ++ number xid ++ number pid
+header len db xid pid = four_bytes len ++ four_bytes db ++ four_bytes xid ++ four_bytes pid
 
 -- bytes, and then zero bytes up to a length
 abbrev pub padded : ℕ → List ℕ → List ℕ

@@ -14,3 +14,4 @@ pub mod Laws
 pub mod BytesLaws
 pub mod PackingLaws
 pub mod Examples
+pub mod PackingExamples

@@ -1,6 +1,6 @@
 -- Where the entries of a journal lie in the queue. A place is the number of a cell, counted from the first of page 0. Places
 -- are added to numbers of cells; a number of bytes becomes one of cells by `cells_in`, and back by `bytes_in`.
-use Rattle.std.specs.Prelude.{ℕ, ◌+◌, ◌-◌, ◌*◌, ◌/◌, ◌<◌, ◌≤◌, Bool, cond, nat_lt, nat_le, ◌==◌, List, [], ◌∷◌, ◌++◌, length, take, replicate, fold, Option, Some, None}
+use Rattle.std.specs.Prelude.{ℕ, ◌+◌, ◌-◌, ◌*◌, ◌/◌, ◌<◌, ◌≤◌, Bool, cond, nat_le, ◌==◌, List, [], ◌∷◌, ◌++◌, length, take, replicate, fold, Option, Some, None}
 use Rattle.std.specs.Int.{w32, from_le_bytes}
 use Rattle.pgn_base.specs.declared.note.Note.{Note}
 use Rattle.pgn_model.specs.declared.tx.Tx.{Tx}
@@ -52,9 +52,13 @@ cells_left place = next_page place - place
 abbrev pub bytes_left : ℕ → ℕ
 bytes_left place = bytes_in (cells_left place)
 
--- from a place on, the shortest entry fits on its page
-abbrev pub HasRoom : ℕ → Type 0
-HasRoom place = least_bytes ≤ bytes_left place
+-- an entry of this many bytes fits on the page of a place, from the place on
+abbrev pub fits : ℕ → ℕ → Bool
+fits place bytes = nat_le bytes (bytes_left place)
+
+-- the shortest entry fits on the page of a place, from the place on
+abbrev pub has_room : ℕ → Bool
+has_room place = fits place least_bytes
 
 -- The image: what the cells hold, one item for each cell from the first of page 0.
 
@@ -63,9 +67,9 @@ unfoldable pub filled : List ℕ → List (Option ℕ)
 filled (a ∷ b ∷ c ∷ d ∷ bytes) = Some (from_le_bytes w32 (a ∷ b ∷ c ∷ d ∷ [])) ∷ filled bytes
 filled bytes = []
 
--- the page rest at a place: the cells to the end of the page, empty, where not even the shortest entry fits there
+-- the page rest at a place: nothing where the shortest entry fits there, and otherwise the cells to the end of the page, empty
 unfoldable pub page_rest : ℕ → List (Option ℕ)
-page_rest place = cond (nat_lt (bytes_left place) least_bytes) (replicate (cells_left place) None) []
+page_rest place = cond (has_room place) [] (replicate (cells_left place) None)
 
 -- the cells from a place on of an entry's bytes, and the page rest after them
 unfoldable pub entry_cells : ℕ → List ℕ → List (Option ℕ)
@@ -90,7 +94,7 @@ filler_cells sender place = filled (filler (bytes_left place) sender.xid sender.
 unfoldable pub note_cells : Sender → ℕ → Note → List (Option ℕ)
 note_cells sender place note =
     let entry = spelled note sender.db sender.xid sender.pid in
-    cond (nat_le (entry_length note) (bytes_left place))
+    cond (fits place (entry_length note))
         (entry_cells place entry)
         (filler_cells sender place ++ entry_cells (next_page place) entry)
 
@@ -131,9 +135,9 @@ pub record IsCellOf (journal : List Tx) (x cell : ℕ) : Type 0 where
 
 -- The same places, by arithmetic alone.
 
--- the place after the page rest at a place, where there is one
+-- the place after the page rest at a place: itself where the shortest entry fits there, and otherwise the next page's beginning
 unfoldable pub after_rest : ℕ → ℕ
-after_rest place = cond (nat_lt (bytes_left place) least_bytes) (next_page place) place
+after_rest place = cond (has_room place) place (next_page place)
 
 -- the place after this many bytes, and after the page rest that follows
 unfoldable pub after_bytes : ℕ → ℕ → ℕ
@@ -141,7 +145,7 @@ after_bytes place bytes = after_rest (place + cells_in bytes)
 
 -- the place after an entry of this many bytes, which begins on the next page where it doesn't fit on the rest of this one
 unfoldable pub put_bytes : ℕ → ℕ → ℕ
-put_bytes place bytes = cond (nat_le bytes (bytes_left place)) (after_bytes place bytes) (after_bytes (next_page place) bytes)
+put_bytes place bytes = cond (fits place bytes) (after_bytes place bytes) (after_bytes (next_page place) bytes)
 
 -- the place after a notification
 unfoldable pub put : ℕ → Note → ℕ

@@ -4,9 +4,13 @@ use Rattle.pgn_base.specs.declared.note.Note.{Note}
 use Rattle.pgn_model.specs.declared.tx.Tx.{Tx}
 use Rattle.pgn_model.specs.declared.tx.Fate.TheVariants.{Aborted}
 use Rattle.pgn_model.specs.Journal.{entry}
-use Rattle.pgn_model.specs.Bytes.{entry_length, spelled, IsNote}
+use Rattle.pgn_model.specs.Bytes.{least_bytes, entry_length, spelled, IsNote}
 use Rattle.pgn_model.specs.BytesLaws.{IsEntryLength}
-use Rattle.pgn_model.specs.Packing.{HasRoom, Sender, page_cells, is_page_start, next_page, bytes_left, entry_cells, note_cells, notes_cells, tx_cells, image_from, image, place, IsCellOf, after_bytes, put, put_all, after}
+use Rattle.pgn_model.specs.Packing.{Sender, page_cells, is_page_start, next_page, bytes_left, entry_cells, note_cells, notes_cells, tx_cells, image_from, image, place, IsCellOf, after_bytes, put, put_all, after}
+
+-- the shortest entry fits on the page of a place, from the place on
+abbrev pub HasRoom : ℕ → Type 0
+HasRoom place = least_bytes ≤ bytes_left place
 
 -- the first transaction begins at cell 0
 abbrev pub FirstPlace : Type 0
