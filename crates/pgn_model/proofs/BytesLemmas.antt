@@ -11,9 +11,10 @@ use Rattle.pgn_model.specs.BytesLaws.{SpelledLength, FillerLength, EntryLengths,
 
 -- two lists that are equal, where their fronts have one length
 pub same_fronts : {A : Type 0} (a b c d : List A) → length a ≡ length b → a ++ c ≡ b ++ d → (a ≡ b) × (c ≡ d)
-same_fronts a b c d e h =
-    (sym (take_at a c (length b) e) ∙ ap (take (length b)) h ∙ take_at b d (length b) refl,
-     sym (drop_at a c (length b) e) ∙ ap (drop (length b)) h ∙ drop_at b d (length b) refl)
+same_fronts a b c d e h = (
+  sym (take_at a c (length b) e) ∙ ap (take (length b)) h ∙ take_at b d (length b) refl,
+  sym (drop_at a c (length b) e) ∙ ap (drop (length b)) h ∙ drop_at b d (length b) refl,
+)
 
 -- a number is read back from its four bytes
 number_same : (m n : ℕ) → m < 2 ^ 32 → n < 2 ^ 32 → four_bytes m ≡ four_bytes n → m ≡ n
@@ -89,7 +90,7 @@ pub reads_back : SpellingReadsBack
 reads_back a b db db' xid xid' pid pid' rest rest' ha hb fits fits' h =
     let whole = sym (split a db xid pid rest) ∙ h ∙ split b db' xid' pid' rest' in
     let parts = same_fronts (header (entry_length a) db xid pid) (header (entry_length b) db' xid' pid') (a.channel ++ 0 ∷ (a.payload ++ 0 ∷ (zeros a ++ rest))) (b.channel ++ 0 ∷ (b.payload ++ 0 ∷ (zeros b ++ rest')))
-        (length-header (entry_length a) db xid pid ∙ sym (length-header (entry_length b) db' xid' pid')) whole in
+    (length-header (entry_length a) db xid pid ∙ sym (length-header (entry_length b) db' xid' pid')) whole in
     let heads = headers (entry_length a) (entry_length b) db db' xid xid' pid pid' parts.0 in
     let channels = until_zero a.channel b.channel (a.payload ++ 0 ∷ (zeros a ++ rest)) (b.payload ++ 0 ∷ (zeros b ++ rest')) ha.name.no_nul hb.name.no_nul parts.1 in
     let payloads = until_zero a.payload b.payload (zeros a ++ rest) (zeros b ++ rest') ha.text.no_nul hb.text.no_nul channels.1 in
@@ -116,7 +117,7 @@ pub none_is_filler : NoSpellingIsFiller
 none_is_filler note db xid pid len xid' pid' rest rest' some fits h =
     let whole = sym (split note db xid pid rest) ∙ h ∙ split_filler len xid' pid' rest' in
     let parts = same_fronts (header (entry_length note) db xid pid) (header len 0 xid' pid') (note.channel ++ 0 ∷ (note.payload ++ 0 ∷ (zeros note ++ rest))) (replicate (len - 16) 0 ++ rest')
-        (length-header (entry_length note) db xid pid ∙ sym (length-header len 0 xid' pid')) whole in
+    (length-header (entry_length note) db xid pid ∙ sym (length-header len 0 xid' pid')) whole in
     let heads = headers (entry_length note) len db 0 xid xid' pid pid' parts.0 in
     let none : db ≡ 0 = number_same db 0 fits (omega arith) heads.dbs in
     absurd (omega (arith, none))
@@ -125,7 +126,7 @@ pub filler_reads_back : FillerReadsBack
 filler_reads_back len len' xid xid' pid pid' rest rest' small small' fits fits' h =
     let whole = sym (split_filler len xid pid rest) ∙ h ∙ split_filler len' xid' pid' rest' in
     let parts = same_fronts (header len 0 xid pid) (header len' 0 xid' pid') (replicate (len - 16) 0 ++ rest) (replicate (len' - 16) 0 ++ rest')
-        (length-header len 0 xid pid ∙ sym (length-header len' 0 xid' pid')) whole in
+    (length-header len 0 xid pid ∙ sym (length-header len' 0 xid' pid')) whole in
     let heads = headers len len' 0 0 xid xid' pid pid' parts.0 in
     let lens = number_same len len' (omega arith) (omega arith) heads.lens in
     let ends : replicate (len' - 16) 0 ++ rest ≡ replicate (len' - 16) 0 ++ rest' = subst (λ (n : ℕ). replicate (n - 16) 0 ++ rest ≡ replicate (len' - 16) 0 ++ rest') lens parts.1 in

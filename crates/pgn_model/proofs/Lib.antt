@@ -2,3 +2,4 @@ pub mod DueLaws
 pub mod WalkLaws
 pub mod BytesLemmas
 pub mod PackingLemmas
+pub mod PackingSteps

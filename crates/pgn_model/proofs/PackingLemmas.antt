@@ -28,7 +28,7 @@ length-filled (a ∷ b ∷ c ∷ d ∷ bytes) = omega (arith, length-filled byte
 length-page_rest : (at : ℕ) → at + length (page_rest at) ≡ after_rest at
 unfolding page_rest after_rest
 length-page_rest at = elim (has_room at) as (λ b. at + length (cond b [] (replicate (cells_left at) (let n : Option ℕ = None in n))) ≡ cond b at (next_page at)) [
-  true ↦ omega arith
+  | true ↦ omega arith
   | false ↦ simp length-replicate (omega arith)
 ]
 
@@ -66,14 +66,14 @@ unfolding note_cells put put_bytes
 packed_note s at note room =
     let bytes = spelled note s.db s.xid s.pid in
     elim (fits at (entry_length note)) as (λ b. at + length (cond b (entry_cells at bytes) (filler_cells s at ++ entry_cells (next_page at) bytes)) ≡ cond b (after_bytes at (entry_length note)) (after_bytes (next_page at) (entry_length note))) [
-      true ↦ packed_bytes note s.db s.xid s.pid at
+      | true ↦ packed_bytes note s.db s.xid s.pid at
       | false ↦ simp length-append (omega (arith, length-filler_cells s at room, packed_bytes note s.db s.xid s.pid (next_page at)))
     ]
 
 room_put : (at : ℕ) (note : Note) → HasRoom (put at note)
 unfolding put put_bytes
 room_put at note = elim (fits at (entry_length note)) as (λ b. HasRoom (cond b (after_bytes at (entry_length note)) (after_bytes (next_page at) (entry_length note)))) [
-  true ↦ room_after_bytes at (entry_length note)
+  | true ↦ room_after_bytes at (entry_length note)
   | false ↦ room_after_bytes (next_page at) (entry_length note)
 ]
 
@@ -87,7 +87,7 @@ packed_notes s at [] room = omega arith
 packed_notes s at (note ∷ notes) room =
     let here = packed_note s at note room in
     let rest : (at + length (note_cells s at note)) + length (notes_cells s (at + length (note_cells s at note)) notes) ≡ put_all (at + length (note_cells s at note)) notes
-          = packed_notes s (at + length (note_cells s at note)) notes (let P : ℕ → Type 0 = λ n. HasRoom n in subst P (sym here) (room_put at note)) in
+    = packed_notes s (at + length (note_cells s at note)) notes (let P : ℕ → Type 0 = λ n. HasRoom n in subst P (sym here) (room_put at note)) in
     let sum : at + length (note_cells s at note ++ notes_cells s (at + length (note_cells s at note)) notes) ≡ put_all (at + length (note_cells s at note)) notes = simp length-append (omega (arith, rest)) in
     sum ∙ ap (λ n. put_all n notes) here
 
@@ -95,7 +95,7 @@ packed_end : (s : Sender) (fate : Fate) (at : ℕ) → HasRoom at → at + lengt
 unfolding end_cells ended
 packed_end s Committed at room = omega arith
 packed_end s Aborted at room = elim (is_page_start at) as (λ b. at + length (cond b [] (filler_cells s at)) ≡ cond b at (next_page at)) [
-  true ↦ omega arith
+  | true ↦ omega arith
   | false ↦ length-filler_cells s at room
 ]
 
@@ -129,8 +129,8 @@ image_from-append x at (tx ∷ xs) ys =
     let count : (x + 1) + length xs ≡ x + length (tx ∷ xs) = omega arith in
     let end : (at + length cells) + length rest ≡ at + length (cells ++ rest) = simp length-append (omega arith) in
     let more = image_from-append (x + 1) (at + length cells) xs ys
-          ∙ ap (λ n. rest ++ image_from n ((at + length cells) + length rest) ys) count
-          ∙ ap (λ n. rest ++ image_from (x + length (tx ∷ xs)) n ys) end in
+    ∙ ap (λ n. rest ++ image_from n ((at + length cells) + length rest) ys) count
+    ∙ ap (λ n. rest ++ image_from (x + length (tx ∷ xs)) n ys) end in
     ap (λ ds. cells ++ ds) more ∙ sym (append_assoc cells rest (image_from (x + length (tx ∷ xs)) (at + length (cells ++ rest)) ys))
 
 pub images_agree : ImagesAgree
@@ -182,15 +182,15 @@ unfolding place
 place_grows journal x y h =
     let fits : x - 3 ≤ y - 3 = omega arith in
     let front : take (x - 3) journal ++ drop (x - 3) (take (y - 3) journal) ≡ take (y - 3) journal
-          = ap (λ (txs : List Tx). txs ++ drop (x - 3) (take (y - 3) journal)) (sym (take-take (x - 3) (y - 3) journal fits)) ∙ take-append-drop (x - 3) (take (y - 3) journal) in
+    = ap (λ (txs : List Tx). txs ++ drop (x - 3) (take (y - 3) journal)) (sym (take-take (x - 3) (y - 3) journal fits)) ∙ take-append-drop (x - 3) (take (y - 3) journal) in
     let P : List Tx → Type 0 = λ txs. length (image (take (x - 3) journal)) ≤ length (image txs) in
     subst P front (front_fits (take (x - 3) journal) (drop (x - 3) (take (y - 3) journal)))
 
 pub cells_apart : CellsApart
 cells_apart journal x y cell p q = elim (cases_lt x y) as (λ _. x ≡ y) [
-  inl lt ↦ absurd (omega (arith, place_grows journal (x + 1) y (omega (arith, lt)), p.before, q.from))
+  | inl lt ↦ absurd (omega (arith, place_grows journal (x + 1) y (omega (arith, lt)), p.before, q.from))
   | inr ge ↦ elim (cases_lt y x) as (λ _. x ≡ y) [
-    inl lt ↦ absurd (omega (arith, place_grows journal (y + 1) x (omega (arith, lt)), q.before, p.from))
+    | inl lt ↦ absurd (omega (arith, place_grows journal (y + 1) x (omega (arith, lt)), q.before, p.from))
     | inr le ↦ omega (arith, ge, le)
   ]
 ]
@@ -228,7 +228,7 @@ cells_of_each journal x tx h e =
     let more = image_from (3 + length next) (length (image next)) rest in
     let whole : image journal ≡ image next ++ more = ap image (sym (take-append-drop ((x + 1) - 3) journal)) ∙ images_agree next rest in
     let front : take (length (image next)) (image journal) ≡ image (take (x - 3) journal) ++ tx_cells x (place journal x) tx
-          = ap (take (length (image next))) whole ∙ take_at (image next) more (length (image next)) refl ∙ image_next journal x tx h e in
+    = ap (take (length (image next))) whole ∙ take_at (image next) more (length (image next)) refl ∙ image_next journal x tx h e in
     ap (drop (length (image (take (x - 3) journal)))) front ∙ drop_at (image (take (x - 3) journal)) (tx_cells x (place journal x) tx) (length (image (take (x - 3) journal))) refl
 
 starts : (b : Bool) (at : ℕ) → is_page_start at ≡ b → is_page_start (cond b at (next_page at)) ≡ true

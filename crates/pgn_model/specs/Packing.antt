@@ -95,8 +95,8 @@ unfoldable pub note_cells : Sender → ℕ → Note → List (Option ℕ)
 note_cells sender place note =
     let entry = spelled note sender.db sender.xid sender.pid in
     cond (fits place (entry_length note))
-        (entry_cells place entry)
-        (filler_cells sender place ++ entry_cells (next_page place) entry)
+    (entry_cells place entry)
+    (filler_cells sender place ++ entry_cells (next_page place) entry)
 
 -- the cells from a place on of notifications, one after another
 unfoldable pub notes_cells : Sender → ℕ → List Note → List (Option ℕ)

@@ -2,17 +2,52 @@
 use Rattle.std.specs.Prelude.{ℕ, List, [], ◌∷◌, ◌++◌, replicate, Option, Some, codes}
 use Rattle.pgn_base.specs.declared.note.Note.{Note}
 use Rattle.pgn_model.specs.declared.tx.Tx.{Tx}
+use Rattle.pgn_model.specs.declared.tx.Fate.{Fate}
 use Rattle.pgn_model.specs.declared.tx.Fate.TheVariants.{Committed, Aborted}
 
 -- a notification on the channel `virtual`
 abbrev pub virtual_note : Note
 virtual_note = record { channel = codes "virtual"; payload = codes "This is the payload" }
 
--- its entry in database 1, by the transaction 3 of the process 1001: 44 bytes
+-- its entry in database 1, of the transaction 3 by the process 1001: 44 bytes
 abbrev pub virtual_bytes : List ℕ
-virtual_bytes = (0x2c ∷ 0 ∷ 0 ∷ 0 ∷ []) ++ (0x01 ∷ 0 ∷ 0 ∷ 0 ∷ []) ++ (0x03 ∷ 0 ∷ 0 ∷ 0 ∷ []) ++ (0xe9 ∷ 0x03 ∷ 0 ∷ 0 ∷ [])
+virtual_bytes = (0x2c ∷ 0 ∷ 0 ∷ 0 ∷ []) ++ (1 ∷ 0 ∷ 0 ∷ 0 ∷ []) ++ (3 ∷ 0 ∷ 0 ∷ 0 ∷ []) ++ (0xe9 ∷ 3 ∷ 0 ∷ 0 ∷ [])
     ++ codes "virtual" ++ 0 ∷ [] ++ codes "This is the payload" ++ 0 ∷ []
 
--- a notification without a payload
+-- the numbers of its eleven cells
+abbrev pub virtual_cells : List (Option ℕ)
+virtual_cells = Some 44 ∷ Some 1 ∷ Some 3 ∷ Some 1001 ∷ Some 0x74726976 ∷ Some 0x006c6175
+    ∷ Some 0x73696854 ∷ Some 0x20736920 ∷ Some 0x20656874 ∷ Some 0x6c796170 ∷ Some 0x0064616f ∷ []
+
+-- a notification on the channel `c` without a payload
 abbrev pub bare_note : Note
 bare_note = record { channel = codes "c"; payload = [] }
+
+-- its entry in database 7, of the transaction 4 by the process 1003: the shortest, 20 bytes
+abbrev pub bare_bytes : List ℕ
+bare_bytes = (0x14 ∷ 0 ∷ 0 ∷ 0 ∷ []) ++ (7 ∷ 0 ∷ 0 ∷ 0 ∷ []) ++ (4 ∷ 0 ∷ 0 ∷ 0 ∷ []) ++ (0xeb ∷ 3 ∷ 0 ∷ 0 ∷ []) ++ (0x63 ∷ 0 ∷ 0 ∷ 0 ∷ [])
+
+-- a filler of 20 bytes, of the transaction 5 by the process 1002
+abbrev pub filler_bytes : List ℕ
+filler_bytes = (0x14 ∷ 0 ∷ 0 ∷ 0 ∷ []) ++ (0 ∷ 0 ∷ 0 ∷ 0 ∷ []) ++ (5 ∷ 0 ∷ 0 ∷ 0 ∷ []) ++ (0xea ∷ 3 ∷ 0 ∷ 0 ∷ []) ++ (0 ∷ 0 ∷ 0 ∷ 0 ∷ [])
+
+-- a notification on the channel `c` whose payload is this many letters x
+unfoldable pub letters : ℕ → Note
+letters count = record { channel = codes "c"; payload = replicate count 120 }
+
+-- a transaction of session 2 in database 1
+abbrev pub sent : List Note → ℕ → Fate → Tx
+sent notes queued fate = record { session = 2; db = 1; notes = notes; queued = queued; fate = fate }
+
+-- four transactions of one long notification, of which the third and the fourth met a full queue, and one of the payload `last`
+abbrev pub full_journal : List Tx
+full_journal = sent (letters 7999 ∷ []) 1 Committed
+    ∷ sent (letters 7999 ∷ []) 1 Committed
+    ∷ sent (letters 7999 ∷ []) 0 Aborted
+    ∷ sent (letters 7999 ∷ []) 0 Aborted
+    ∷ sent (record { channel = codes "c"; payload = codes "last" } ∷ []) 1 Committed
+    ∷ []
+
+-- a transaction of three long notifications, of which two were queued, and one of a bare notification
+abbrev pub larger_journal : List Tx
+larger_journal = sent (letters 7999 ∷ letters 7998 ∷ letters 7997 ∷ []) 2 Aborted ∷ sent (bare_note ∷ []) 1 Committed ∷ []
