@@ -1,18 +1,22 @@
 -- Proofs of the laws of where the entries of a journal lie.
-use Rattle.std.proofs.Common.{◌≡◌, ◌≢◌, ℕ, zero, suc, ◌+◌, ◌-◌, ◌*◌, ◌/◌, ◌%◌, ◌<◌, ◌≤◌, Bool, true, false, cond, List, [], ◌∷◌, ◌++◌, length, take, drop, replicate, Option, Some, None, slice_get, fold, sym, ap, ◌∙◌, refl, subst, arith, append_assoc, add-zero, zero-add, ◌⊎◌, inl, inr}
-use Rattle.std.specs.Prelude.{nat_lt, nat_le, ◌==◌}
-use Rattle.std.proofs.lemmas.List.{append-nil, length-append, length-replicate, take_at, drop_at, take_all, take-take, take-append-drop, take-append-le}
+use Rattle.std.proofs.Common.{◌≡◌, ◌≢◌, ℕ, zero, suc, ◌+◌, ◌-◌, ◌*◌, ◌/◌, ◌%◌, ◌<◌, ◌≤◌, Bool, true, false, cond, List, [], ◌∷◌, ◌++◌, length, get_or, take, drop, replicate, Option, Some, None, slice_get, fold, sym, ap, ◌∙◌, refl, subst, arith, append_assoc, add-zero, zero-add, ◌⊎◌, inl, inr}
+use Rattle.std.specs.Prelude.{All, sum_by}
+use Rattle.std.proofs.lemmas.List.{append-nil, length-append, length-take, length-replicate, take_at, drop_at, take_all, take-take, take-append-drop, take-append-le}
+use Rattle.std.proofs.lemmas.Nat.{le_bytes_4}
+use Rattle.std.specs.Int.{w32, from_le_bytes}
 use Rattle.std.proofs.lemmas.Bool.{cases_lt}
 use Rattle.std.proofs.lemmas.Bool.Decides.{nat_tests}
+use Rattle.std.proofs.lemmas.List.Sums.{sum_by-cons}
+use Rattle.std.proofs.lemmas.List.Elements.{All-head, All-tail, All-take}
 use Rattle.std.proofs.lemmas.Grind.{common_steps}
 use Rattle.pgn_base.specs.declared.note.Note.{Note}
 use Rattle.pgn_model.specs.declared.tx.Tx.{Tx}
 use Rattle.pgn_model.specs.declared.tx.Fate.{Fate}
 use Rattle.pgn_model.specs.declared.tx.Fate.TheVariants.{Committed, Aborted}
-use Rattle.pgn_model.specs.Journal.{entry}
-use Rattle.pgn_model.specs.Bytes.{entry_length, spelled, filler}
+use Rattle.pgn_model.specs.Journal.{entry, IsQueued}
+use Rattle.pgn_model.specs.Bytes.{four_bytes, entry_length, spelled, filler, IsNote}
 use Rattle.pgn_model.specs.Packing.{fits, has_room, next_page, page_start, is_page_start, bytes_left, cells_left, filled, page_rest, entry_cells, filler_cells, note_cells, notes_cells, end_cells, tx_cells, image_from, image, place, IsCellOf, Sender, sender_of, after_rest, after_bytes, put_bytes, put, put_all, ended, after}
-use Rattle.pgn_model.specs.PackingLaws.{HasRoom, PlaceFolds, PutTakes, PagesHold, NotesInTurn, FirstPlace, NextPlace, LastPlace, IsPacked, LeavesRoom, PlaceGrows, AbortedEnds, PlacesAgree, ImagesAgree, CellsOfEach, CellsApart}
+use Rattle.pgn_model.specs.PackingLaws.{HasRoom, bytes_of, CellsGiveBytes, FillsAndMoves, NoteMoves, PlaceRises, IsSent, PlaceBound, PlaceFolds, PutTakes, PagesHold, NotesInTurn, FirstPlace, NextPlace, LastPlace, IsPacked, LeavesRoom, PlaceGrows, AbortedEnds, PlacesAgree, ImagesAgree, CellsOfEach, CellsApart}
 use Rattle.pgn_model.proofs.BytesLemmas.{length-spelled, length-filler, entry_lengths}
 
 -- one cell for each four bytes
@@ -296,3 +300,99 @@ notes_in_turn sender at (note ∷ notes) more =
     let end : (at + length cells) + length rest ≡ at + length (cells ++ rest) = simp length-append (omega arith) in
     ap (λ ds. cells ++ ds) (notes_in_turn sender (at + length cells) notes more ∙ ap (λ n. rest ++ notes_cells sender n more) end)
     ∙ sym (append_assoc cells rest (notes_cells sender (at + length (cells ++ rest)) more))
+
+-- what fits on a page that begins
+fits_next : (at : ℕ) (note : Note) → IsNote note → fits (next_page at) (entry_length note) ≡ true
+fits_next at note h = let small : entry_length note ≤ bytes_left (next_page at) = pages_hold.next at note h in grind (arith, nat_tests)
+
+pub note_moves : NoteMoves
+unfolding note_cells put put_bytes
+note_moves sender at note h past =
+    let here = fits_next at note h in
+    record { cells = rw (past, here); ends = rw (past, here) }
+
+put_rises : (at : ℕ) (note : Note) → at < put at note
+unfolding put put_bytes after_bytes after_rest entry_length
+put_rises at note = grind (arith, common_steps)
+
+put_all_rises : (at : ℕ) (notes : List Note) → at ≤ put_all at notes
+put_all_rises at [] = omega arith
+put_all_rises at (note ∷ notes) = omega (arith, put_rises at note, put_all_rises (put at note) notes)
+
+ended_rises : (fate : Fate) (at : ℕ) → at ≤ ended fate at
+unfolding ended
+ended_rises Committed at = omega arith
+ended_rises Aborted at = elim (is_page_start at) as (λ b. at ≤ cond b at (next_page at)) [ true ↦ omega arith | false ↦ omega arith ]
+
+some_rises : (at queued : ℕ) (notes : List Note) → 0 < queued → notes ≢ [] → at < put_all at (take queued notes)
+some_rises at zero notes some any = omega arith
+some_rises at (suc queued) [] some any = absurd (any refl)
+some_rises at (suc queued) (note ∷ notes) some any = omega (arith, put_rises at note, put_all_rises (put at note) (take queued notes))
+
+after_rises : (at : ℕ) (tx : Tx) → 0 < tx.queued → tx.notes ≢ [] → at < after at tx
+unfolding after
+after_rises at tx some any = omega (arith, some_rises at tx.queued tx.notes some any, ended_rises tx.fate (put_all at (take tx.queued tx.notes)))
+
+pub place_rises : PlaceRises
+place_rises journal x tx h e some any = omega (arith, next_place journal x tx h e, after_rises (place journal x) tx some any)
+
+put_all_bound : (at : ℕ) (notes : List Note) → All IsNote notes → put_all at notes ≤ at + 4096 * length notes
+put_all_bound at [] h = omega arith
+put_all_bound at (note ∷ notes) h =
+    let first = put_takes at note (All-head IsNote note notes h) in
+    omega (arith, first.1, put_all_bound (put at note) notes (All-tail IsNote note notes h))
+
+ended_bound : (fate : Fate) (at : ℕ) → ended fate at ≤ at + 2048
+unfolding ended
+ended_bound Committed at = omega arith
+ended_bound Aborted at = elim (is_page_start at) as (λ b. cond b at (next_page at) ≤ at + 2048) [ true ↦ omega arith | false ↦ omega arith ]
+
+ended_within : (fate : Fate) (at queued count : ℕ) → IsQueued fate queued count → ended fate at ≤ at + 4096 * (count - queued)
+unfolding ended
+ended_within Committed at queued count h = omega arith
+ended_within Aborted at queued count h = let end : cond (is_page_start at) at (next_page at) ≤ at + 2048 = ended_bound Aborted at in omega (arith, end, h)
+
+after_bound : (at : ℕ) (tx : Tx) → IsSent tx → after at tx ≤ at + 4096 * length tx.notes
+unfolding after
+after_bound at tx h =
+    let notes = put_all_bound at (take tx.queued tx.notes) (All-take IsNote tx.queued tx.notes h.are_notes) in
+    let end = ended_within tx.fate (put_all at (take tx.queued tx.notes)) tx.queued (length tx.notes) h.queueing in
+    omega (arith, notes, end, length-take tx.queued tx.notes)
+
+fold_bound : (at : ℕ) (txs : List Tx) → All IsSent txs → fold after at txs ≤ at + 4096 * sum_by (λ tx. length tx.notes) txs
+fold_bound at [] h = omega arith
+fold_bound at (tx ∷ txs) h =
+    let count : Tx → ℕ = λ t. length t.notes in
+    omega (arith, sum_by-cons count tx txs, after_bound at tx (All-head IsSent tx txs h), fold_bound (after at tx) txs (All-tail IsSent tx txs h))
+
+pub place_bound : PlaceBound
+place_bound journal x h =
+    let last : place journal x ≤ place journal (x + (3 + length journal)) = place_grows journal x (x + (3 + length journal)) (omega arith) in
+    let all : place journal (x + (3 + length journal)) ≡ fold after 0 journal
+          = place_folds journal (x + (3 + length journal)) ∙ ap (fold after 0) (take_all ((x + (3 + length journal)) - 3) journal (omega arith)) in
+    omega (arith, last, all, fold_bound 0 journal h)
+
+-- four bytes, and whatever is read past them, are below 256
+four_below : (a b c d : ℕ) → a < 256 → b < 256 → c < 256 → d < 256 → (i : ℕ) → get_or (a ∷ b ∷ c ∷ d ∷ []) i 0 < 256
+four_below a b c d p q r s zero = p
+four_below a b c d p q r s (suc zero) = q
+four_below a b c d p q r s (suc (suc zero)) = r
+four_below a b c d p q r s (suc (suc (suc zero))) = s
+four_below a b c d p q r s (suc (suc (suc (suc i)))) = omega arith
+
+pub cells_give_bytes : CellsGiveBytes
+unfolding filled
+cells_give_bytes [] whole below = refl
+cells_give_bytes (a ∷ []) whole below = absurd (omega (arith, whole))
+cells_give_bytes (a ∷ b ∷ []) whole below = absurd (omega (arith, whole))
+cells_give_bytes (a ∷ b ∷ c ∷ []) whole below = absurd (omega (arith, whole))
+cells_give_bytes (a ∷ b ∷ c ∷ d ∷ bytes) whole below =
+    let P : ℕ → Type 0 = λ n. n < 256 in
+    let from_b = All-tail P a (b ∷ c ∷ d ∷ bytes) below in
+    let from_c = All-tail P b (c ∷ d ∷ bytes) from_b in
+    let from_d = All-tail P c (d ∷ bytes) from_c in
+    let rest = All-tail P d bytes from_d in
+    let each = four_below a b c d (All-head P a (b ∷ c ∷ d ∷ bytes) below) (All-head P b (c ∷ d ∷ bytes) from_b) (All-head P c (d ∷ bytes) from_c) (All-head P d bytes from_d) in
+    let four : four_bytes (from_le_bytes w32 (a ∷ b ∷ c ∷ d ∷ [])) ≡ a ∷ b ∷ c ∷ d ∷ [] = le_bytes_4 (a ∷ b ∷ c ∷ d ∷ []) (from_le_bytes w32 (a ∷ b ∷ c ∷ d ∷ [])) refl each refl in
+    let more : bytes_of (filled bytes) ≡ bytes = cells_give_bytes bytes (omega (arith, whole)) rest in
+    ap (λ (front : List ℕ). front ++ bytes_of (filled bytes)) four ∙ ap (λ (ys : List ℕ). a ∷ b ∷ c ∷ d ∷ ys) more

@@ -1,5 +1,5 @@
 -- Laws of the bytes of entries and fillers.
-use Rattle.std.specs.Prelude.{◌≡◌, ℕ, ◌%◌, ◌<◌, ◌≤◌, ◌^◌, List, [], ◌++◌, length}
+use Rattle.std.specs.Prelude.{◌≡◌, ℕ, ◌%◌, ◌<◌, ◌≤◌, ◌^◌, List, [], ◌++◌, length, All}
 use Rattle.pgn_base.specs.declared.note.Note.{Note}
 use Rattle.pgn_model.specs.Bytes.{header_bytes, alignment, least_bytes, page_bytes, entry_length, spelled, filler, IsNote, IsHead}
 
@@ -19,6 +19,11 @@ pub record IsEntryLength (len : ℕ) : Type 0 where
 
 abbrev pub EntryLengths : Type 0
 EntryLengths = (note : Note) → IsNote note → IsEntryLength (entry_length note)
+
+-- an entry's and a filler's bytes are below 256 where those of the notification are
+pub record AreBytes : Type 0 where
+  pub of_entry : (note : Note) (db xid pid : ℕ) → All (λ byte. byte < 256) note.channel → All (λ byte. byte < 256) note.payload → All (λ byte. byte < 256) (spelled note db xid pid)
+  pub of_filler : (len xid pid : ℕ) → All (λ byte. byte < 256) (filler len xid pid)
 
 -- two entries have the same fields, and the same bytes follow them
 pub record AreSame (a b : Note) (db db' xid xid' pid pid' : ℕ) (rest rest' : List ℕ) : Type 0 where

@@ -1,12 +1,12 @@
 -- Laws of where the entries of a journal lie.
-use Rattle.std.specs.Prelude.{◌≡◌, ℕ, ◌+◌, ◌-◌, ◌*◌, ◌≤◌, ◌<◌, true, List, ◌++◌, length, take, drop, fold, Some}
+use Rattle.std.specs.Prelude.{◌≡◌, ℕ, ◌+◌, ◌-◌, ◌*◌, ◌%◌, ◌≤◌, ◌<◌, ◌≢◌, true, false, List, [], ◌∷◌, ◌++◌, length, take, drop, fold, sum_by, Option, Some, None, All}
 use Rattle.pgn_base.specs.declared.note.Note.{Note}
 use Rattle.pgn_model.specs.declared.tx.Tx.{Tx}
 use Rattle.pgn_model.specs.declared.tx.Fate.TheVariants.{Aborted}
-use Rattle.pgn_model.specs.Journal.{entry}
-use Rattle.pgn_model.specs.Bytes.{least_bytes, entry_length, spelled, IsNote}
+use Rattle.pgn_model.specs.Journal.{entry, IsQueued}
+use Rattle.pgn_model.specs.Bytes.{four_bytes, least_bytes, entry_length, spelled, IsNote}
 use Rattle.pgn_model.specs.BytesLaws.{IsEntryLength}
-use Rattle.pgn_model.specs.Packing.{Sender, page_cells, is_page_start, next_page, bytes_left, entry_cells, note_cells, notes_cells, tx_cells, image_from, image, place, IsCellOf, after_bytes, put, put_all, after}
+use Rattle.pgn_model.specs.Packing.{Sender, cell_bytes, page_cells, is_page_start, next_page, bytes_left, fits, filled, entry_cells, filler_cells, note_cells, notes_cells, tx_cells, image_from, image, place, IsCellOf, after_bytes, put, put_all, after}
 
 -- the shortest entry fits on the page of a place, from the place on
 abbrev pub HasRoom : ℕ → Type 0
@@ -23,6 +23,16 @@ NextPlace = (journal : List Tx) (x : ℕ) (tx : Tx) → 3 ≤ x → entry journa
 -- past the journal's end it stays the end
 abbrev pub LastPlace : Type 0
 LastPlace = (journal : List Tx) (x : ℕ) → 3 + length journal ≤ x → place journal x ≡ length (image journal)
+
+-- the bytes whose numbers stand in cells
+abbrev pub bytes_of : List (Option ℕ) → List ℕ
+bytes_of [] = []
+bytes_of (None ∷ cells) = bytes_of cells
+bytes_of (Some n ∷ cells) = four_bytes n ++ bytes_of cells
+
+-- whole cells give back the bytes that fill them
+abbrev pub CellsGiveBytes : Type 0
+CellsGiveBytes = (bytes : List ℕ) → length bytes % cell_bytes ≡ 0 → All (λ byte. byte < 256) bytes → bytes_of (filled bytes) ≡ bytes
 
 -- the arithmetic of an entry's bytes, of a notification, of several, and of a transaction gives the place after their cells
 pub record IsPacked : Type 0 where
@@ -53,6 +63,14 @@ pub record PagesHold : Type 0 where
   pub rest : (at : ℕ) → HasRoom at → IsEntryLength (bytes_left at)
   pub next : (at : ℕ) (note : Note) → IsNote note → entry_length note ≤ bytes_left (next_page at)
 
+-- a notification that doesn't fit on the rest of the page is a filler, and then the same notification on the next page
+pub record FillsAndMoves (sender : Sender) (at : ℕ) (note : Note) : Type 0 where
+  pub cells : note_cells sender at note ≡ filler_cells sender at ++ note_cells sender (next_page at) note
+  pub ends : put at note ≡ put (next_page at) note
+
+abbrev pub NoteMoves : Type 0
+NoteMoves = (sender : Sender) (at : ℕ) (note : Note) → IsNote note → fits at (entry_length note) ≡ false → FillsAndMoves sender at note
+
 -- notifications lie one after another
 abbrev pub NotesInTurn : Type 0
 NotesInTurn = (sender : Sender) (at : ℕ) (notes more : List Note)
@@ -61,6 +79,19 @@ NotesInTurn = (sender : Sender) (at : ℕ) (notes more : List Note)
 -- an aborted transaction ends where a page begins
 abbrev pub AbortedEnds : Type 0
 AbortedEnds = (journal : List Tx) (x : ℕ) (tx : Tx) → 3 ≤ x → entry journal x ≡ Some tx → tx.fate ≡ Aborted → is_page_start (place journal (x + 1)) ≡ true
+
+-- a transaction with a queued notification takes some cells
+abbrev pub PlaceRises : Type 0
+PlaceRises = (journal : List Tx) (x : ℕ) (tx : Tx) → 3 ≤ x → entry journal x ≡ Some tx → 0 < tx.queued → tx.notes ≢ [] → place journal x < place journal (x + 1)
+
+-- all notifications of a journal can be sent, and no transaction has more of them queued than it has
+pub record IsSent (tx : Tx) : Type 0 where
+  pub are_notes : All IsNote tx.notes
+  pub queueing : IsQueued tx.fate tx.queued (length tx.notes)
+
+-- the queue has at most two pages for each notification
+abbrev pub PlaceBound : Type 0
+PlaceBound = (journal : List Tx) (x : ℕ) → All IsSent journal → place journal x ≤ 2 * page_cells * sum_by (λ tx. length tx.notes) journal
 
 -- a longer journal changes no place of its front
 abbrev pub PlacesAgree : Type 0

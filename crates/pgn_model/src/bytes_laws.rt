@@ -1,4 +1,4 @@
-ghost use Rattle.pgn_model.specs.BytesLaws.{SpelledLength, FillerLength, EntryLengths, SpellingReadsBack, NoSpellingBegins, NoSpellingIsFiller, FillerReadsBack};
+ghost use Rattle.pgn_model.specs.BytesLaws.{AreBytes, SpelledLength, FillerLength, EntryLengths, SpellingReadsBack, NoSpellingBegins, NoSpellingIsFiller, FillerReadsBack};
 
 /// The bytes of an entry are as many as its length says.
 pub fn spelled_length()
@@ -13,6 +13,11 @@ pub fn filler_length()
 /// An entry's length is a multiple of the alignment, no less than the least one, and a page holds it.
 pub fn entry_lengths()
     ensures { EntryLengths }
+{}
+
+/// What is written is bytes, where the channel and the payload are.
+pub fn are_bytes()
+    ensures { AreBytes }
 {}
 
 /// An entry's bytes give its fields back, whatever follows them.

@@ -1,4 +1,4 @@
-ghost use Rattle.pgn_model.specs.PackingLaws.{FirstPlace, NextPlace, LastPlace, IsPacked, PlaceFolds, LeavesRoom, PutTakes, PagesHold, NotesInTurn, PlaceGrows, AbortedEnds, PlacesAgree, ImagesAgree, CellsOfEach, CellsApart};
+ghost use Rattle.pgn_model.specs.PackingLaws.{CellsGiveBytes, FirstPlace, NextPlace, LastPlace, IsPacked, PlaceFolds, LeavesRoom, PutTakes, PagesHold, NoteMoves, PlaceRises, PlaceBound, NotesInTurn, PlaceGrows, AbortedEnds, PlacesAgree, ImagesAgree, CellsOfEach, CellsApart};
 
 /// The first transaction begins at cell 0.
 pub fn first_place()
@@ -13,6 +13,11 @@ pub fn next_place()
 /// Past the journal's end a place is the end.
 pub fn last_place()
     ensures { LastPlace }
+{}
+
+/// The numbers of cells give back the bytes that fill them.
+pub fn cells_give_bytes()
+    ensures { CellsGiveBytes }
 {}
 
 /// The arithmetic of places counts the cells of the image.
@@ -40,6 +45,11 @@ pub fn pages_hold()
     ensures { PagesHold }
 {}
 
+/// A notification that does not fit on the rest of the page is a filler, and then the same on the next page.
+pub fn note_moves()
+    ensures { NoteMoves }
+{}
+
 /// Notifications lie one after another.
 pub fn notes_in_turn()
     ensures { NotesInTurn }
@@ -48,6 +58,16 @@ pub fn notes_in_turn()
 /// Later transactions begin no earlier.
 pub fn place_grows()
     ensures { PlaceGrows }
+{}
+
+/// A transaction with a queued notification takes some cells.
+pub fn place_rises()
+    ensures { PlaceRises }
+{}
+
+/// The queue has at most two pages for each notification.
+pub fn place_bound()
+    ensures { PlaceBound }
 {}
 
 /// An aborted transaction ends where a page begins.
