@@ -1,14 +1,13 @@
 -- Proofs of the laws of the bytes of entries and fillers.
-use Rattle.std.proofs.Common.{◌≡◌, ◌≢◌, ℕ, zero, suc, ◌+◌, ◌-◌, ◌*◌, ◌/◌, ◌%◌, ◌^◌, ◌<◌, ◌≤◌, List, [], ◌∷◌, ◌++◌, length, take, drop, replicate, get_or, sym, ap, ◌∙◌, refl, subst, arith, append_assoc}
+use Rattle.std.proofs.Common.{◌≡◌, ℕ, zero, suc, ◌+◌, ◌-◌, ◌^◌, ◌<◌, ◌≤◌, List, [], ◌∷◌, ◌++◌, length, take, drop, replicate, get_or, sym, ap, ◌∙◌, refl, subst, arith, append_assoc}
 use Rattle.std.specs.Prelude.{All, Contains}
-use Rattle.std.specs.Int.{w32, to_le_bytes, from_le_bytes}
+use Rattle.std.specs.Int.{w32, from_le_bytes}
 use Rattle.std.proofs.lemmas.List.{append-nil, append_cancel_left, length-append, length-replicate, take_at, drop_at}
 use Rattle.std.proofs.lemmas.List.Elements.{All-append, All-push, All-replicate, All-from_get_or}
 use Rattle.std.proofs.lemmas.Nat.{from_le_bytes-to_le_bytes_4}
 use Rattle.pgn_base.specs.declared.note.Note.{Note}
-use Rattle.pgn_base.specs.Texts.{IsName, IsPayload}
-use Rattle.pgn_model.specs.Bytes.{four_bytes, header, padded, entry_length, spelled, filler, IsNote, IsHead}
-use Rattle.pgn_model.specs.BytesLaws.{SpelledLength, AreBytes, FillerLength, EntryLengths, AreSame, SpellingReadsBack, NoSpellingBegins, NoSpellingIsFiller, AreSameFillers, FillerReadsBack}
+use Rattle.pgn_model.specs.Bytes.{four_bytes, header, padded, entry_length, spelled, filler}
+use Rattle.pgn_model.specs.BytesLaws.{SpelledLength, AreBytes, FillerLength, EntryLengths, SpellingReadsBack, NoSpellingBegins, NoSpellingIsFiller, FillerReadsBack}
 
 -- two lists that are equal, where their fronts have one length
 pub same_fronts : {A : Type 0} (a b c d : List A) → length a ≡ length b → a ++ c ≡ b ++ d → (a ≡ b) × (c ≡ d)
@@ -154,10 +153,10 @@ unfolding header
 header_are len db xid pid =
     let P : ℕ → Type 0 = λ byte. byte < 256 in
     All-append P (four_bytes len ++ four_bytes db ++ four_bytes xid) (four_bytes pid)
-        (All-append P (four_bytes len ++ four_bytes db) (four_bytes xid)
-            (All-append P (four_bytes len) (four_bytes db) (four_are len) (four_are db))
-            (four_are xid))
-        (four_are pid)
+    (All-append P (four_bytes len ++ four_bytes db) (four_bytes xid)
+    (All-append P (four_bytes len) (four_bytes db) (four_are len) (four_are db))
+    (four_are xid))
+    (four_are pid)
 
 zeros_are : (n : ℕ) → All (λ byte. byte < 256) (replicate n 0)
 zeros_are n = let P : ℕ → Type 0 = λ byte. byte < 256 in All-replicate P n 0 (omega arith)
@@ -173,10 +172,10 @@ are_bytes = record {
       let head = header (entry_length note) db xid pid in
       let front : List ℕ = head ++ (note.channel ++ 0 ∷ []) ++ (note.payload ++ 0 ∷ []) in
       All-append P front (replicate (entry_length note - length front) 0)
-          (All-append P (head ++ (note.channel ++ 0 ∷ [])) (note.payload ++ 0 ∷ [])
-              (All-append P head (note.channel ++ 0 ∷ []) (header_are (entry_length note) db xid pid) (push_zero note.channel channel))
-              (push_zero note.payload payload))
-          (zeros_are (entry_length note - length front));
+      (All-append P (head ++ (note.channel ++ 0 ∷ [])) (note.payload ++ 0 ∷ [])
+      (All-append P head (note.channel ++ 0 ∷ []) (header_are (entry_length note) db xid pid) (push_zero note.channel channel))
+      (push_zero note.payload payload))
+      (zeros_are (entry_length note - length front));
   of_filler = λ len xid pid.
       let P : ℕ → Type 0 = λ byte. byte < 256 in
       All-append P (header len 0 xid pid) (replicate (len - length (header len 0 xid pid)) 0) (header_are len 0 xid pid) (zeros_are (len - length (header len 0 xid pid)));

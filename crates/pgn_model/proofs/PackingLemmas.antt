@@ -1,5 +1,5 @@
 -- Proofs of the laws of where the entries of a journal lie.
-use Rattle.std.proofs.Common.{◌≡◌, ◌≢◌, ℕ, zero, suc, ◌+◌, ◌-◌, ◌*◌, ◌/◌, ◌%◌, ◌<◌, ◌≤◌, Bool, true, false, cond, List, [], ◌∷◌, ◌++◌, length, get_or, take, drop, replicate, Option, Some, None, slice_get, fold, sym, ap, ◌∙◌, refl, subst, arith, append_assoc, add-zero, zero-add, ◌⊎◌, inl, inr}
+use Rattle.std.proofs.Common.{◌≡◌, ◌≢◌, ℕ, zero, suc, ◌+◌, ◌-◌, ◌*◌, ◌/◌, ◌<◌, ◌≤◌, Bool, true, false, cond, List, [], ◌∷◌, ◌++◌, length, get_or, take, drop, replicate, Option, Some, None, slice_get, fold, sym, ap, ◌∙◌, refl, subst, arith, append_assoc, add-zero, zero-add, inl, inr}
 use Rattle.std.specs.Prelude.{All, sum_by}
 use Rattle.std.proofs.lemmas.List.{append-nil, length-append, length-take, length-replicate, take_at, drop_at, take_all, take-take, take-append-drop, take-append-le}
 use Rattle.std.proofs.lemmas.Nat.{le_bytes_4}
@@ -15,8 +15,8 @@ use Rattle.pgn_model.specs.declared.tx.Fate.{Fate}
 use Rattle.pgn_model.specs.declared.tx.Fate.TheVariants.{Committed, Aborted}
 use Rattle.pgn_model.specs.Journal.{entry, IsQueued}
 use Rattle.pgn_model.specs.Bytes.{four_bytes, entry_length, spelled, filler, IsNote}
-use Rattle.pgn_model.specs.Packing.{fits, has_room, next_page, page_start, is_page_start, bytes_left, cells_left, filled, page_rest, entry_cells, filler_cells, note_cells, notes_cells, end_cells, tx_cells, image_from, image, place, IsCellOf, Sender, sender_of, after_rest, after_bytes, put_bytes, put, put_all, ended, after}
-use Rattle.pgn_model.specs.PackingLaws.{HasRoom, bytes_of, CellsGiveBytes, FillsAndMoves, NoteMoves, PlaceRises, IsSent, PlaceBound, PlaceFolds, PutTakes, PagesHold, NotesInTurn, FirstPlace, NextPlace, LastPlace, IsPacked, LeavesRoom, PlaceGrows, AbortedEnds, PlacesAgree, ImagesAgree, CellsOfEach, CellsApart}
+use Rattle.pgn_model.specs.Packing.{fits, has_room, next_page, is_page_start, bytes_left, cells_left, filled, page_rest, entry_cells, filler_cells, note_cells, notes_cells, end_cells, tx_cells, image_from, image, place, Sender, sender_of, after_rest, after_bytes, put_bytes, put, put_all, ended, after}
+use Rattle.pgn_model.specs.PackingLaws.{HasRoom, bytes_of, CellsGiveBytes, NoteMoves, PlaceRises, IsSent, PlaceBound, PlaceFolds, PutTakes, PagesHold, NotesInTurn, FirstPlace, NextPlace, LastPlace, IsPacked, LeavesRoom, PlaceGrows, AbortedEnds, PlacesAgree, ImagesAgree, CellsOfEach, CellsApart}
 use Rattle.pgn_model.proofs.BytesLemmas.{length-spelled, length-filler, entry_lengths}
 
 -- one cell for each four bytes
@@ -369,7 +369,7 @@ pub place_bound : PlaceBound
 place_bound journal x h =
     let last : place journal x ≤ place journal (x + (3 + length journal)) = place_grows journal x (x + (3 + length journal)) (omega arith) in
     let all : place journal (x + (3 + length journal)) ≡ fold after 0 journal
-          = place_folds journal (x + (3 + length journal)) ∙ ap (fold after 0) (take_all ((x + (3 + length journal)) - 3) journal (omega arith)) in
+    = place_folds journal (x + (3 + length journal)) ∙ ap (fold after 0) (take_all ((x + (3 + length journal)) - 3) journal (omega arith)) in
     omega (arith, last, all, fold_bound 0 journal h)
 
 -- four bytes, and whatever is read past them, are below 256

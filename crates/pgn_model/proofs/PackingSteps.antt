@@ -1,13 +1,12 @@
 -- The places of the worked examples, step by step.
-use Rattle.std.proofs.Common.{◌≡◌, ℕ, ◌+◌, List, [], ◌∷◌, replicate, length, ap, ◌∙◌, refl, arith}
+use Rattle.std.proofs.Common.{◌≡◌, ℕ, ◌+◌, [], ◌∷◌, ap, ◌∙◌, refl, arith}
 use Rattle.std.proofs.lemmas.List.{length-replicate}
 use Rattle.std.specs.Prelude.{codes}
 use Rattle.pgn_base.specs.declared.note.Note.{Note}
-use Rattle.pgn_model.specs.declared.tx.Tx.{Tx}
-use Rattle.pgn_model.specs.declared.tx.Fate.TheVariants.{Committed, Aborted}
+use Rattle.pgn_model.specs.declared.tx.Fate.TheVariants.{Aborted}
 use Rattle.pgn_model.specs.Bytes.{aligned, entry_length}
 use Rattle.pgn_model.specs.Packing.{place, place_at, put_bytes, after_bytes, after_rest, put, put_all, ended, after}
-use Rattle.pgn_model.specs.PackingExamples.{bare_note, letters, sent, full_journal, larger_journal}
+use Rattle.pgn_model.specs.PackingExamples.{bare_note, letters, full_journal, larger_journal}
 use Rattle.pgn_model.proofs.PackingLemmas.{place_folds}
 
 -- an entry's length by the number of letters alone

@@ -23,14 +23,21 @@ mod trace;
 mod tx;
 
 pub use block_state::BlockState;
-pub use bytes_laws::{are_bytes, entry_lengths, filler_length, filler_reads_back, no_spelling_begins, no_spelling_is_filler, spelled_length, spelling_reads_back};
+pub use bytes_laws::{
+    are_bytes, entry_lengths, filler_length, filler_reads_back, no_spelling_begins,
+    no_spelling_is_filler, spelled_length, spelling_reads_back,
+};
 pub use command::Command;
 pub use examples::{empty_section, self_notify};
 pub use item::{Item, Items};
 pub use laws::{due_grows, due_splits, lawful_front, lawful_grows, lawful_pushes};
 pub use line_text::LineText;
 pub use packing_examples::{entry_bytes, full_places, larger_places, one_entry, page_edge};
-pub use packing_laws::{aborted_ends, cells_apart, cells_give_bytes, cells_of_each, first_place, images_agree, is_packed, last_place, leaves_room, next_place, note_moves, notes_in_turn, pages_hold, place_bound, place_folds, place_grows, place_rises, places_agree, put_takes};
+pub use packing_laws::{
+    aborted_ends, cells_apart, cells_give_bytes, cells_of_each, first_place, images_agree,
+    is_packed, last_place, leaves_room, next_place, note_moves, notes_in_turn, pages_hold,
+    place_bound, place_folds, place_grows, place_rises, places_agree, put_takes,
+};
 pub use scenario::{Act, Scenario, ScenarioFault, ScriptLine, ScriptLines, Section, Sections};
 pub use trace::Trace;
 pub use tx::{Fate, Tx};

@@ -1,4 +1,3 @@
-use Rattle.std.proofs.Common.{refl}
 use Rattle.pgn_model.proofs.PackingSteps.{length-letters, edge, short_of_edge, past_edge}
 use Rattle.pgn_model.proofs.packing_examples.page_edge.Goals as goal
 
