@@ -163,7 +163,14 @@ pub leaves_room : LeavesRoom
 leaves_room = record { at_start = room_place; after_notes = room_put_all }
 
 pub is_packed : IsPacked
-is_packed = record { of_bytes = packed_bytes; of_note = packed_note; of_notes = packed_notes; of_tx = packed_tx }
+is_packed = record {
+  of_bytes = packed_bytes;
+  of_filler = length-filler_cells;
+  of_note = packed_note;
+  of_notes = packed_notes;
+  of_end = packed_end;
+  of_tx = packed_tx;
+}
 
 pub first_place : FirstPlace
 unfolding place image image_from

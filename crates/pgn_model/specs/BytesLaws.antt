@@ -11,12 +11,13 @@ SpelledLength = (note : Note) (db xid pid : ℕ) → length (spelled note db xid
 abbrev pub FillerLength : Type 0
 FillerLength = (len xid pid : ℕ) → header_bytes ≤ len → length (filler len xid pid) ≡ len
 
--- an entry's length is a multiple of the alignment, no less than the least one, and a page holds it
+-- an entry or a filler may have this length: a multiple of the alignment, from the least one to that of a page
 pub record IsEntryLength (len : ℕ) : Type 0 where
   pub whole : len % alignment ≡ 0
   pub least : least_bytes ≤ len
   pub fits : len ≤ page_bytes
 
+-- each notification's entry has such a length
 abbrev pub EntryLengths : Type 0
 EntryLengths = (note : Note) → IsNote note → IsEntryLength (entry_length note)
 

@@ -26,7 +26,7 @@ page_cells = cells_in page_bytes
 
 -- the page of a place
 abbrev pub page_of : ℕ → ℕ
-page_of place = place / page_cells
+page_of at = at / page_cells
 
 -- the place where a page begins
 abbrev pub page_start : ℕ → ℕ
@@ -38,27 +38,27 @@ place_at page offset = page_start page + cells_in offset
 
 -- the place where the page after that of a place begins
 abbrev pub next_page : ℕ → ℕ
-next_page place = page_start (page_of place + 1)
+next_page at = page_start (page_of at + 1)
 
 -- a page begins at the place
 abbrev pub is_page_start : ℕ → Bool
-is_page_start place = page_start (page_of place) == place
+is_page_start at = page_start (page_of at) == at
 
 -- the cells from a place to the end of its page
 abbrev pub cells_left : ℕ → ℕ
-cells_left place = next_page place - place
+cells_left at = next_page at - at
 
 -- the bytes from a place to the end of its page
 abbrev pub bytes_left : ℕ → ℕ
-bytes_left place = bytes_in (cells_left place)
+bytes_left at = bytes_in (cells_left at)
 
 -- an entry of this many bytes fits on the page of a place, from the place on
 abbrev pub fits : ℕ → ℕ → Bool
-fits place bytes = nat_le bytes (bytes_left place)
+fits at bytes = nat_le bytes (bytes_left at)
 
 -- the shortest entry fits on the page of a place, from the place on
 abbrev pub has_room : ℕ → Bool
-has_room place = fits place least_bytes
+has_room at = fits at least_bytes
 
 -- The image: what the cells hold, one item for each cell from the first of page 0.
 
@@ -69,11 +69,11 @@ filled bytes = []
 
 -- the page rest at a place: nothing where the shortest entry fits there, and otherwise the cells to the end of the page, empty
 unfoldable pub page_rest : ℕ → List (Option ℕ)
-page_rest place = cond (has_room place) [] (replicate (cells_left place) None)
+page_rest at = cond (has_room at) [] (replicate (cells_left at) None)
 
 -- the cells from a place on of an entry's bytes, and the page rest after them
 unfoldable pub entry_cells : ℕ → List ℕ → List (Option ℕ)
-entry_cells place bytes = filled bytes ++ page_rest (place + length (filled bytes))
+entry_cells at bytes = filled bytes ++ page_rest (at + length (filled bytes))
 
 -- what each entry of a transaction says of it: its database, its number and the process number of its session
 pub record Sender : Type 0 where
@@ -87,38 +87,36 @@ sender_of x tx = record { db = tx.db; xid = x; pid = 1000 + tx.session }
 
 -- the cells of a filler that takes the rest of the page
 unfoldable pub filler_cells : Sender → ℕ → List (Option ℕ)
-filler_cells sender place = filled (filler (bytes_left place) sender.xid sender.pid)
+filler_cells sender at = filled (filler (bytes_left at) sender.xid sender.pid)
 
 -- the cells from a place on of a notification: its entry, where that fits on the rest of the page; otherwise a filler, and then
 -- its entry on the next page
 unfoldable pub note_cells : Sender → ℕ → Note → List (Option ℕ)
-note_cells sender place note =
+note_cells sender at note =
     let entry = spelled note sender.db sender.xid sender.pid in
-    cond (fits place (entry_length note))
-    (entry_cells place entry)
-    (filler_cells sender place ++ entry_cells (next_page place) entry)
+    cond (fits at (entry_length note)) (entry_cells at entry) (filler_cells sender at ++ entry_cells (next_page at) entry)
 
 -- the cells from a place on of notifications, one after another
 unfoldable pub notes_cells : Sender → ℕ → List Note → List (Option ℕ)
-notes_cells sender place [] = []
-notes_cells sender place (note ∷ notes) = note_cells sender place note ++ notes_cells sender (place + length (note_cells sender place note)) notes
+notes_cells sender at [] = []
+notes_cells sender at (note ∷ notes) = note_cells sender at note ++ notes_cells sender (at + length (note_cells sender at note)) notes
 
 -- the cells from a place on that end a transaction: none where it committed; where it was aborted a filler, unless a page begins
 -- at the place
 unfoldable pub end_cells : Sender → Fate → ℕ → List (Option ℕ)
-end_cells sender Committed place = []
-end_cells sender Aborted place = cond (is_page_start place) [] (filler_cells sender place)
+end_cells sender Committed at = []
+end_cells sender Aborted at = cond (is_page_start at) [] (filler_cells sender at)
 
 -- the cells from a place on of the transaction numbered x: those of its queued notifications, and those that end it
 unfoldable pub tx_cells : ℕ → ℕ → Tx → List (Option ℕ)
-tx_cells x place tx =
-    let queued = notes_cells (sender_of x tx) place (take tx.queued tx.notes) in
-    queued ++ end_cells (sender_of x tx) tx.fate (place + length queued)
+tx_cells x at tx =
+    let queued = notes_cells (sender_of x tx) at (take tx.queued tx.notes) in
+    queued ++ end_cells (sender_of x tx) tx.fate (at + length queued)
 
 -- the cells from a place on of transactions, of which the first is numbered x
 unfoldable pub image_from : ℕ → ℕ → List Tx → List (Option ℕ)
-image_from x place [] = []
-image_from x place (tx ∷ txs) = tx_cells x place tx ++ image_from (x + 1) (place + length (tx_cells x place tx)) txs
+image_from x at [] = []
+image_from x at (tx ∷ txs) = tx_cells x at tx ++ image_from (x + 1) (at + length (tx_cells x at tx)) txs
 
 -- the cells of a whole journal
 unfoldable pub image : List Tx → List (Option ℕ)
@@ -137,29 +135,29 @@ pub record IsCellOf (journal : List Tx) (x cell : ℕ) : Type 0 where
 
 -- the place after the page rest at a place: itself where the shortest entry fits there, and otherwise the next page's beginning
 unfoldable pub after_rest : ℕ → ℕ
-after_rest place = cond (has_room place) place (next_page place)
+after_rest at = cond (has_room at) at (next_page at)
 
 -- the place after this many bytes, and after the page rest that follows
 unfoldable pub after_bytes : ℕ → ℕ → ℕ
-after_bytes place bytes = after_rest (place + cells_in bytes)
+after_bytes at bytes = after_rest (at + cells_in bytes)
 
 -- the place after an entry of this many bytes, which begins on the next page where it doesn't fit on the rest of this one
 unfoldable pub put_bytes : ℕ → ℕ → ℕ
-put_bytes place bytes = cond (fits place bytes) (after_bytes place bytes) (after_bytes (next_page place) bytes)
+put_bytes at bytes = cond (fits at bytes) (after_bytes at bytes) (after_bytes (next_page at) bytes)
 
 -- the place after a notification
 unfoldable pub put : ℕ → Note → ℕ
-put place note = put_bytes place (entry_length note)
+put at note = put_bytes at (entry_length note)
 
 -- the place after notifications, one after another
 abbrev pub put_all : ℕ → List Note → ℕ
-put_all place notes = fold put place notes
+put_all at notes = fold put at notes
 
 -- the place where a transaction ends whose notifications end at a place: an aborted one ends where a page begins
 unfoldable pub ended : Fate → ℕ → ℕ
-ended Committed place = place
-ended Aborted place = cond (is_page_start place) place (next_page place)
+ended Committed at = at
+ended Aborted at = cond (is_page_start at) at (next_page at)
 
 -- the place after a transaction
 unfoldable pub after : ℕ → Tx → ℕ
-after place tx = ended tx.fate (put_all place (take tx.queued tx.notes))
+after at tx = ended tx.fate (put_all at (take tx.queued tx.notes))

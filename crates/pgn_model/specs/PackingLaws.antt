@@ -2,15 +2,63 @@
 use Rattle.std.specs.Prelude.{◌≡◌, ℕ, ◌+◌, ◌-◌, ◌*◌, ◌%◌, ◌≤◌, ◌<◌, ◌≢◌, true, false, List, [], ◌∷◌, ◌++◌, length, take, drop, fold, sum_by, Option, Some, None, All}
 use Rattle.pgn_base.specs.declared.note.Note.{Note}
 use Rattle.pgn_model.specs.declared.tx.Tx.{Tx}
+use Rattle.pgn_model.specs.declared.tx.Fate.{Fate}
 use Rattle.pgn_model.specs.declared.tx.Fate.TheVariants.{Aborted}
 use Rattle.pgn_model.specs.Journal.{entry, IsQueued}
 use Rattle.pgn_model.specs.Bytes.{four_bytes, least_bytes, entry_length, spelled, IsNote}
 use Rattle.pgn_model.specs.BytesLaws.{IsEntryLength}
-use Rattle.pgn_model.specs.Packing.{Sender, cell_bytes, page_cells, is_page_start, next_page, bytes_left, fits, filled, entry_cells, filler_cells, note_cells, notes_cells, tx_cells, image_from, image, place, IsCellOf, after_bytes, put, put_all, after}
+use Rattle.pgn_model.specs.Packing.{Sender, cell_bytes, page_cells, is_page_start, next_page, bytes_left, fits, filled, entry_cells, filler_cells, note_cells, notes_cells, end_cells, tx_cells, image_from, image, place, IsCellOf, after_bytes, put, put_all, ended, after}
 
 -- the shortest entry fits on the page of a place, from the place on
 abbrev pub HasRoom : ℕ → Type 0
 HasRoom place = least_bytes ≤ bytes_left place
+
+-- the bytes whose numbers stand in cells
+abbrev pub bytes_of : List (Option ℕ) → List ℕ
+bytes_of [] = []
+bytes_of (None ∷ cells) = bytes_of cells
+bytes_of (Some n ∷ cells) = four_bytes n ++ bytes_of cells
+
+-- whole cells give back the bytes that fill them
+abbrev pub CellsGiveBytes : Type 0
+CellsGiveBytes = (bytes : List ℕ) → length bytes % cell_bytes ≡ 0 → All (λ byte. byte < 256) bytes → bytes_of (filled bytes) ≡ bytes
+
+-- the arithmetic gives the place after the cells of an entry, a filler, a notification, several of them, an end, a transaction
+pub record IsPacked : Type 0 where
+  pub of_bytes : (note : Note) (db xid pid at : ℕ) → at + length (entry_cells at (spelled note db xid pid)) ≡ after_bytes at (entry_length note)
+  pub of_filler : (sender : Sender) (at : ℕ) → HasRoom at → at + length (filler_cells sender at) ≡ next_page at
+  pub of_note : (sender : Sender) (at : ℕ) (note : Note) → HasRoom at → at + length (note_cells sender at note) ≡ put at note
+  pub of_notes : (sender : Sender) (at : ℕ) (notes : List Note) → HasRoom at → at + length (notes_cells sender at notes) ≡ put_all at notes
+  pub of_end : (sender : Sender) (fate : Fate) (at : ℕ) → HasRoom at → at + length (end_cells sender fate at) ≡ ended fate at
+  pub of_tx : (x : ℕ) (at : ℕ) (tx : Tx) → HasRoom at → at + length (tx_cells x at tx) ≡ after at tx
+
+-- the shortest entry fits on the page after each transaction, and after each notification that is put
+pub record LeavesRoom : Type 0 where
+  pub at_start : (journal : List Tx) (x : ℕ) → HasRoom (place journal x)
+  pub after_notes : (at : ℕ) (notes : List Note) → HasRoom at → HasRoom (put_all at notes)
+
+-- a notification takes some cells, and at most those of two pages
+abbrev pub PutTakes : Type 0
+PutTakes = (at : ℕ) (note : Note) → IsNote note → (at < put at note) × (put at note ≤ at + 2 * page_cells)
+
+-- what is left of a page where the shortest entry fits is the length of a filler, and a page's whole length holds each entry
+pub record PagesHold : Type 0 where
+  pub rest : (at : ℕ) → HasRoom at → IsEntryLength (bytes_left at)
+  pub next : (at : ℕ) (note : Note) → IsNote note → entry_length note ≤ bytes_left (next_page at)
+
+-- a notification lies as a filler and then the same notification on the next page, and ends where that ends
+pub record FillsAndMoves (sender : Sender) (at : ℕ) (note : Note) : Type 0 where
+  pub cells : note_cells sender at note ≡ filler_cells sender at ++ note_cells sender (next_page at) note
+  pub ends : put at note ≡ put (next_page at) note
+
+-- a notification that doesn't fit on the rest of the page moves to the next one behind a filler
+abbrev pub NoteMoves : Type 0
+NoteMoves = (sender : Sender) (at : ℕ) (note : Note) → IsNote note → fits at (entry_length note) ≡ false → FillsAndMoves sender at note
+
+-- notifications lie one after another
+abbrev pub NotesInTurn : Type 0
+NotesInTurn = (sender : Sender) (at : ℕ) (notes more : List Note)
+    → notes_cells sender at (notes ++ more) ≡ notes_cells sender at notes ++ notes_cells sender (at + length (notes_cells sender at notes)) more
 
 -- the first transaction begins at cell 0
 abbrev pub FirstPlace : Type 0
@@ -24,67 +72,19 @@ NextPlace = (journal : List Tx) (x : ℕ) (tx : Tx) → 3 ≤ x → entry journa
 abbrev pub LastPlace : Type 0
 LastPlace = (journal : List Tx) (x : ℕ) → 3 + length journal ≤ x → place journal x ≡ length (image journal)
 
--- the bytes whose numbers stand in cells
-abbrev pub bytes_of : List (Option ℕ) → List ℕ
-bytes_of [] = []
-bytes_of (None ∷ cells) = bytes_of cells
-bytes_of (Some n ∷ cells) = four_bytes n ++ bytes_of cells
-
--- whole cells give back the bytes that fill them
-abbrev pub CellsGiveBytes : Type 0
-CellsGiveBytes = (bytes : List ℕ) → length bytes % cell_bytes ≡ 0 → All (λ byte. byte < 256) bytes → bytes_of (filled bytes) ≡ bytes
-
--- the arithmetic of an entry's bytes, of a notification, of several, and of a transaction gives the place after their cells
-pub record IsPacked : Type 0 where
-  pub of_bytes : (note : Note) (db xid pid at : ℕ) → at + length (entry_cells at (spelled note db xid pid)) ≡ after_bytes at (entry_length note)
-  pub of_note : (sender : Sender) (at : ℕ) (note : Note) → HasRoom at → at + length (note_cells sender at note) ≡ put at note
-  pub of_notes : (sender : Sender) (at : ℕ) (notes : List Note) → HasRoom at → at + length (notes_cells sender at notes) ≡ put_all at notes
-  pub of_tx : (x : ℕ) (at : ℕ) (tx : Tx) → HasRoom at → at + length (tx_cells x at tx) ≡ after at tx
-
--- the shortest entry fits on the page after each transaction, and after each notification that is put
-pub record LeavesRoom : Type 0 where
-  pub at_start : (journal : List Tx) (x : ℕ) → HasRoom (place journal x)
-  pub after_notes : (at : ℕ) (notes : List Note) → HasRoom at → HasRoom (put_all at notes)
+-- the place of a transaction is what the arithmetic gives from cell 0 on after all before it
+abbrev pub PlaceFolds : Type 0
+PlaceFolds = (journal : List Tx) (x : ℕ) → place journal x ≡ fold after 0 (take (x - 3) journal)
 
 -- later transactions begin no earlier
 abbrev pub PlaceGrows : Type 0
 PlaceGrows = (journal : List Tx) (x y : ℕ) → x ≤ y → place journal x ≤ place journal y
 
--- the place of a transaction is what the arithmetic gives from cell 0 on after all before it
-abbrev pub PlaceFolds : Type 0
-PlaceFolds = (journal : List Tx) (x : ℕ) → place journal x ≡ fold after 0 (take (x - 3) journal)
-
--- a notification takes some cells, and at most those of two pages
-abbrev pub PutTakes : Type 0
-PutTakes = (at : ℕ) (note : Note) → IsNote note → (at < put at note) × (put at note ≤ at + 2 * page_cells)
-
--- what is left of a page where the shortest entry fits is the length of a filler, and a page's whole length holds each entry
-pub record PagesHold : Type 0 where
-  pub rest : (at : ℕ) → HasRoom at → IsEntryLength (bytes_left at)
-  pub next : (at : ℕ) (note : Note) → IsNote note → entry_length note ≤ bytes_left (next_page at)
-
--- a notification that doesn't fit on the rest of the page is a filler, and then the same notification on the next page
-pub record FillsAndMoves (sender : Sender) (at : ℕ) (note : Note) : Type 0 where
-  pub cells : note_cells sender at note ≡ filler_cells sender at ++ note_cells sender (next_page at) note
-  pub ends : put at note ≡ put (next_page at) note
-
-abbrev pub NoteMoves : Type 0
-NoteMoves = (sender : Sender) (at : ℕ) (note : Note) → IsNote note → fits at (entry_length note) ≡ false → FillsAndMoves sender at note
-
--- notifications lie one after another
-abbrev pub NotesInTurn : Type 0
-NotesInTurn = (sender : Sender) (at : ℕ) (notes more : List Note)
-    → notes_cells sender at (notes ++ more) ≡ notes_cells sender at notes ++ notes_cells sender (at + length (notes_cells sender at notes)) more
-
--- an aborted transaction ends where a page begins
-abbrev pub AbortedEnds : Type 0
-AbortedEnds = (journal : List Tx) (x : ℕ) (tx : Tx) → 3 ≤ x → entry journal x ≡ Some tx → tx.fate ≡ Aborted → is_page_start (place journal (x + 1)) ≡ true
-
 -- a transaction with a queued notification takes some cells
 abbrev pub PlaceRises : Type 0
 PlaceRises = (journal : List Tx) (x : ℕ) (tx : Tx) → 3 ≤ x → entry journal x ≡ Some tx → 0 < tx.queued → tx.notes ≢ [] → place journal x < place journal (x + 1)
 
--- all notifications of a journal can be sent, and no transaction has more of them queued than it has
+-- the notifications of a transaction can be sent, and as many of them were queued as its end says
 pub record IsSent (tx : Tx) : Type 0 where
   pub are_notes : All IsNote tx.notes
   pub queueing : IsQueued tx.fate tx.queued (length tx.notes)
@@ -92,6 +92,10 @@ pub record IsSent (tx : Tx) : Type 0 where
 -- the queue has at most two pages for each notification
 abbrev pub PlaceBound : Type 0
 PlaceBound = (journal : List Tx) (x : ℕ) → All IsSent journal → place journal x ≤ 2 * page_cells * sum_by (λ tx. length tx.notes) journal
+
+-- an aborted transaction ends where a page begins
+abbrev pub AbortedEnds : Type 0
+AbortedEnds = (journal : List Tx) (x : ℕ) (tx : Tx) → 3 ≤ x → entry journal x ≡ Some tx → tx.fate ≡ Aborted → is_page_start (place journal (x + 1)) ≡ true
 
 -- a longer journal changes no place of its front
 abbrev pub PlacesAgree : Type 0

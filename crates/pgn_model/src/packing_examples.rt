@@ -31,7 +31,8 @@ pub fn page_edge()
 
 /// Two transactions fill two pages, two more meet a full queue, and a last one is committed on the page after them.
 pub fn full_places()
-    ensures { map (place full_journal) (3 ∷ 4 ∷ 5 ∷ 6 ∷ 7 ∷ 8 ∷ []) ≡ place_at 0 0 ∷ place_at 0 8020 ∷ place_at 1 8020 ∷ place_at 2 0 ∷ place_at 2 0 ∷ place_at 2 24 ∷ [] }
+    ensures filler { bytes_left (place_at 0 8020) ≡ 172 }
+    ensures places { map (place full_journal) (3 ∷ 4 ∷ 5 ∷ 6 ∷ 7 ∷ 8 ∷ []) ≡ place_at 0 0 ∷ place_at 0 8020 ∷ place_at 1 8020 ∷ place_at 2 0 ∷ place_at 2 0 ∷ place_at 2 24 ∷ [] }
 {}
 
 /// A transaction larger than two pages is aborted after two of its notifications, and the next one begins on the third page.

@@ -3,5 +3,5 @@ use Rattle.pgn_model.proofs.PackingLemmas.{first_place}
 use Rattle.pgn_model.proofs.PackingSteps.{full_4, full_5, full_6, full_7, full_8}
 use Rattle.pgn_model.proofs.packing_examples.full_places.Goals as goal
 
-pub returns : goal.returns
-returns c = cc (first_place full_journal, full_4, full_5, full_6, full_7, full_8)
+pub returns-clause-places : goal.returns-clause-places
+returns-clause-places c = cc (first_place full_journal, full_4, full_5, full_6, full_7, full_8)
