@@ -5,6 +5,7 @@ use Rattle.std.specs.Int.{w32, from_le_bytes}
 use Rattle.std.proofs.lemmas.List.{append-nil, append_cancel_left, length-append, length-replicate, take_at, drop_at}
 use Rattle.std.proofs.lemmas.List.Elements.{All-append, All-push, All-replicate, All-from_get_or}
 use Rattle.std.proofs.lemmas.Nat.{from_le_bytes-to_le_bytes_4}
+use Rattle.pgn_model.proofs.TextBytes.{utf8_are}
 use Rattle.pgn_base.specs.declared.note.Note.{Note}
 use Rattle.pgn_model.specs.Bytes.{four_bytes, header, padded, entry_length, spelled, filler}
 use Rattle.pgn_model.specs.BytesLaws.{SpelledLength, AreBytes, FillerLength, EntryLengths, SpellingReadsBack, NoSpellingBegins, NoSpellingIsFiller, FillerReadsBack}
@@ -167,14 +168,14 @@ push_zero bytes h = let P : ℕ → Type 0 = λ byte. byte < 256 in All-push P b
 pub are_bytes : AreBytes
 unfolding spelled filler
 are_bytes = record {
-  of_entry = λ note db xid pid channel payload.
+  of_entry = λ note db xid pid h.
       let P : ℕ → Type 0 = λ byte. byte < 256 in
       let head = header (entry_length note) db xid pid in
       let front : List ℕ = head ++ (note.channel ++ 0 ∷ []) ++ (note.payload ++ 0 ∷ []) in
       All-append P front (replicate (entry_length note - length front) 0)
       (All-append P (head ++ (note.channel ++ 0 ∷ [])) (note.payload ++ 0 ∷ [])
-      (All-append P head (note.channel ++ 0 ∷ []) (header_are (entry_length note) db xid pid) (push_zero note.channel channel))
-      (push_zero note.payload payload))
+      (All-append P head (note.channel ++ 0 ∷ []) (header_are (entry_length note) db xid pid) (push_zero note.channel (utf8_are note.channel h.name.text)))
+      (push_zero note.payload (utf8_are note.payload h.text.text)))
       (zeros_are (entry_length note - length front));
   of_filler = λ len xid pid.
       let P : ℕ → Type 0 = λ byte. byte < 256 in

@@ -3,3 +3,4 @@ pub mod WalkLaws
 pub mod BytesLemmas
 pub mod PackingLemmas
 pub mod PackingSteps
+pub mod TextBytes

@@ -1,5 +1,5 @@
 -- Proofs of the laws of where the entries of a journal lie.
-use Rattle.std.proofs.Common.{◌≡◌, ◌≢◌, ℕ, zero, suc, ◌+◌, ◌-◌, ◌*◌, ◌/◌, ◌<◌, ◌≤◌, Bool, true, false, cond, List, [], ◌∷◌, ◌++◌, length, get_or, take, drop, replicate, Option, Some, None, slice_get, fold, sym, ap, ◌∙◌, refl, subst, arith, append_assoc, add-zero, zero-add, inl, inr}
+use Rattle.std.proofs.Common.{◌≡◌, ◌≢◌, ℕ, zero, suc, ◌+◌, ◌-◌, ◌*◌, ◌/◌, ◌%◌, ◌<◌, ◌≤◌, Bool, true, false, cond, List, [], ◌∷◌, ◌++◌, length, get_or, take, drop, replicate, Option, Some, None, slice_get, fold, sym, ap, ◌∙◌, refl, subst, arith, append_assoc, add-zero, zero-add, inl, inr}
 use Rattle.std.specs.Prelude.{All, sum_by}
 use Rattle.std.proofs.lemmas.List.{append-nil, length-append, length-take, length-replicate, take_at, drop_at, take_all, take-take, take-append-drop, take-append-le}
 use Rattle.std.proofs.lemmas.Nat.{le_bytes_4}
@@ -17,7 +17,7 @@ use Rattle.pgn_model.specs.Journal.{entry, IsQueued}
 use Rattle.pgn_model.specs.Bytes.{four_bytes, entry_length, spelled, filler, IsNote}
 use Rattle.pgn_model.specs.Packing.{fits, has_room, next_page, is_page_start, bytes_left, cells_left, filled, page_rest, entry_cells, filler_cells, note_cells, notes_cells, end_cells, tx_cells, image_from, image, place, Sender, sender_of, after_rest, after_bytes, put_bytes, put, put_all, ended, after}
 use Rattle.pgn_model.specs.PackingLaws.{HasRoom, bytes_of, CellsGiveBytes, NoteMoves, PlaceRises, IsSent, PlaceBound, PlaceFolds, PutTakes, PagesHold, NotesInTurn, FirstPlace, NextPlace, LastPlace, IsPacked, LeavesRoom, PlaceGrows, AbortedEnds, PlacesAgree, ImagesAgree, CellsOfEach, CellsApart}
-use Rattle.pgn_model.proofs.BytesLemmas.{length-spelled, length-filler, entry_lengths}
+use Rattle.pgn_model.proofs.BytesLemmas.{length-spelled, length-filler, entry_lengths, are_bytes}
 
 -- one cell for each four bytes
 pub length-filled : (bytes : List ℕ) → length (filled bytes) ≡ length bytes / 4
@@ -387,13 +387,13 @@ four_below a b c d p q r s (suc (suc zero)) = r
 four_below a b c d p q r s (suc (suc (suc zero))) = s
 four_below a b c d p q r s (suc (suc (suc (suc i)))) = omega arith
 
-pub cells_give_bytes : CellsGiveBytes
+filled_give : (bytes : List ℕ) → length bytes % 4 ≡ 0 → All (λ byte. byte < 256) bytes → bytes_of (filled bytes) ≡ bytes
 unfolding filled
-cells_give_bytes [] whole below = refl
-cells_give_bytes (a ∷ []) whole below = absurd (omega (arith, whole))
-cells_give_bytes (a ∷ b ∷ []) whole below = absurd (omega (arith, whole))
-cells_give_bytes (a ∷ b ∷ c ∷ []) whole below = absurd (omega (arith, whole))
-cells_give_bytes (a ∷ b ∷ c ∷ d ∷ bytes) whole below =
+filled_give [] whole below = refl
+filled_give (a ∷ []) whole below = absurd (omega (arith, whole))
+filled_give (a ∷ b ∷ []) whole below = absurd (omega (arith, whole))
+filled_give (a ∷ b ∷ c ∷ []) whole below = absurd (omega (arith, whole))
+filled_give (a ∷ b ∷ c ∷ d ∷ bytes) whole below =
     let P : ℕ → Type 0 = λ n. n < 256 in
     let from_b = All-tail P a (b ∷ c ∷ d ∷ bytes) below in
     let from_c = All-tail P b (c ∷ d ∷ bytes) from_b in
@@ -401,5 +401,12 @@ cells_give_bytes (a ∷ b ∷ c ∷ d ∷ bytes) whole below =
     let rest = All-tail P d bytes from_d in
     let each = four_below a b c d (All-head P a (b ∷ c ∷ d ∷ bytes) below) (All-head P b (c ∷ d ∷ bytes) from_b) (All-head P c (d ∷ bytes) from_c) (All-head P d bytes from_d) in
     let four : four_bytes (from_le_bytes w32 (a ∷ b ∷ c ∷ d ∷ [])) ≡ a ∷ b ∷ c ∷ d ∷ [] = le_bytes_4 (a ∷ b ∷ c ∷ d ∷ []) (from_le_bytes w32 (a ∷ b ∷ c ∷ d ∷ [])) refl each refl in
-    let more : bytes_of (filled bytes) ≡ bytes = cells_give_bytes bytes (omega (arith, whole)) rest in
+    let more : bytes_of (filled bytes) ≡ bytes = filled_give bytes (omega (arith, whole)) rest in
     ap (λ (front : List ℕ). front ++ bytes_of (filled bytes)) four ∙ ap (λ (ys : List ℕ). a ∷ b ∷ c ∷ d ∷ ys) more
+
+pub cells_give_bytes : CellsGiveBytes
+cells_give_bytes = record {
+  of_bytes = filled_give;
+  of_entry = λ note db xid pid h. filled_give (spelled note db xid pid) (omega (arith, length-spelled note db xid pid, (entry_lengths note h).whole)) (are_bytes.of_entry note db xid pid h);
+  of_filler = λ len xid pid h. filled_give (filler len xid pid) (omega (arith, length-filler len xid pid (omega (arith, h.least)), h.whole)) (are_bytes.of_filler len xid pid);
+}

@@ -21,9 +21,9 @@ pub record IsEntryLength (len : ℕ) : Type 0 where
 abbrev pub EntryLengths : Type 0
 EntryLengths = (note : Note) → IsNote note → IsEntryLength (entry_length note)
 
--- an entry's and a filler's bytes are below 256 where those of the notification are
+-- what an entry and a filler are made of is below 256
 pub record AreBytes : Type 0 where
-  pub of_entry : (note : Note) (db xid pid : ℕ) → All (λ byte. byte < 256) note.channel → All (λ byte. byte < 256) note.payload → All (λ byte. byte < 256) (spelled note db xid pid)
+  pub of_entry : (note : Note) (db xid pid : ℕ) → IsNote note → All (λ byte. byte < 256) (spelled note db xid pid)
   pub of_filler : (len xid pid : ℕ) → All (λ byte. byte < 256) (filler len xid pid)
 
 -- two entries have the same fields, and the same bytes follow them

@@ -15,7 +15,7 @@ pub fn entry_lengths()
     ensures { EntryLengths }
 {}
 
-/// What is written is bytes, where the channel and the payload are.
+/// What an entry and a filler are made of is bytes.
 pub fn are_bytes()
     ensures { AreBytes }
 {}
