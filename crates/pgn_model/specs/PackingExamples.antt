@@ -1,5 +1,6 @@
 -- Worked examples of bytes and places.
 use Rattle.std.specs.Prelude.{ℕ, List, [], ◌∷◌, ◌++◌, replicate, Option, Some, codes}
+use Rattle.std.specs.Str.{byte}
 use Rattle.pgn_base.specs.declared.note.Note.{Note}
 use Rattle.pgn_model.specs.declared.tx.Tx.{Tx}
 use Rattle.pgn_model.specs.declared.tx.Fate.{Fate}
@@ -31,9 +32,9 @@ bare_bytes = (0x14 ∷ 0 ∷ 0 ∷ 0 ∷ []) ++ (7 ∷ 0 ∷ 0 ∷ 0 ∷ []) ++ 
 abbrev pub filler_bytes : List ℕ
 filler_bytes = (0x14 ∷ 0 ∷ 0 ∷ 0 ∷ []) ++ (0 ∷ 0 ∷ 0 ∷ 0 ∷ []) ++ (5 ∷ 0 ∷ 0 ∷ 0 ∷ []) ++ (0xea ∷ 3 ∷ 0 ∷ 0 ∷ []) ++ (0 ∷ 0 ∷ 0 ∷ 0 ∷ [])
 
--- a notification on the channel `c` whose payload is this many letters x
-unfoldable pub letters : ℕ → Note
-letters count = record { channel = codes "c"; payload = replicate count 120 }
+-- a notification on the channel `c` whose payload is this letter so many times
+unfoldable pub letters : ℕ → ℕ → Note
+letters letter count = record { channel = codes "c"; payload = replicate count letter }
 
 -- a transaction of session 2 in database 1
 abbrev pub sent : List Note → ℕ → Fate → Tx
@@ -41,13 +42,13 @@ sent notes queued fate = record { session = 2; db = 1; notes = notes; queued = q
 
 -- four transactions of one long notification, of which the third and the fourth met a full queue, and one of the payload `last`
 abbrev pub full_journal : List Tx
-full_journal = sent (letters 7999 ∷ []) 1 Committed
-    ∷ sent (letters 7999 ∷ []) 1 Committed
-    ∷ sent (letters 7999 ∷ []) 0 Aborted
-    ∷ sent (letters 7999 ∷ []) 0 Aborted
+full_journal = sent (letters (byte "x") 7999 ∷ []) 1 Committed
+    ∷ sent (letters (byte "x") 7999 ∷ []) 1 Committed
+    ∷ sent (letters (byte "x") 7999 ∷ []) 0 Aborted
+    ∷ sent (letters (byte "x") 7999 ∷ []) 0 Aborted
     ∷ sent (record { channel = codes "c"; payload = codes "last" } ∷ []) 1 Committed
     ∷ []
 
 -- a transaction of three long notifications, of which two were queued, and one of a bare notification
 abbrev pub larger_journal : List Tx
-larger_journal = sent (letters 7999 ∷ letters 7998 ∷ letters 7997 ∷ []) 2 Aborted ∷ sent (bare_note ∷ []) 1 Committed ∷ []
+larger_journal = sent (letters (byte "x") 7999 ∷ letters (byte "y") 7999 ∷ letters (byte "z") 7999 ∷ []) 2 Aborted ∷ sent (bare_note ∷ []) 1 Committed ∷ []

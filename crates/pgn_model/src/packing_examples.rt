@@ -1,4 +1,5 @@
 ghost use Rattle.std.specs.Prelude.{◌≡◌, true, false, [], ◌∷◌, map, Some};
+ghost use Rattle.std.specs.Str.{byte};
 ghost use Rattle.pgn_model.specs.Bytes.{entry_length, spelled, filler};
 ghost use Rattle.pgn_model.specs.Packing.{page_of, place_at, bytes_left, fits, filled, image, place, put, put_all};
 ghost use Rattle.pgn_model.specs.Examples.{self_notify_journal};
@@ -20,13 +21,13 @@ pub fn one_entry()
 /// Entries of 8020 and 152 bytes lead to offset 8172, where an entry of 20 takes the rest of the page, and an entry of 24 comes
 /// after a filler of 20.
 pub fn page_edge()
-    ensures lengths { map entry_length (letters 7999 ∷ letters 133 ∷ letters 1 ∷ letters 5 ∷ []) ≡ 8020 ∷ 152 ∷ 20 ∷ 24 ∷ [] }
-    ensures edge { put_all (place_at 0 0) (letters 7999 ∷ letters 133 ∷ []) ≡ place_at 0 8172 }
+    ensures lengths { map entry_length (letters (byte "x") 7999 ∷ letters (byte "x") 133 ∷ letters (byte "x") 1 ∷ letters (byte "x") 5 ∷ []) ≡ 8020 ∷ 152 ∷ 20 ∷ 24 ∷ [] }
+    ensures edge { put_all (place_at 0 0) (letters (byte "x") 7999 ∷ letters (byte "x") 133 ∷ []) ≡ place_at 0 8172 }
     ensures fits { fits (place_at 0 8172) 20 ≡ true }
-    ensures no_filler { put (place_at 0 8172) (letters 1) ≡ place_at 1 0 }
+    ensures no_filler { put (place_at 0 8172) (letters (byte "x") 1) ≡ place_at 1 0 }
     ensures fits_not { fits (place_at 0 8172) 24 ≡ false }
     ensures filler { bytes_left (place_at 0 8172) ≡ 20 }
-    ensures after_filler { put (place_at 0 8172) (letters 5) ≡ place_at 1 24 }
+    ensures after_filler { put (place_at 0 8172) (letters (byte "x") 5) ≡ place_at 1 24 }
 {}
 
 /// Two transactions fill two pages, two more meet a full queue, and a last one is committed on the page after them.
@@ -37,7 +38,7 @@ pub fn full_places()
 
 /// A transaction larger than two pages is aborted after two of its notifications, and the next one begins on the third page.
 pub fn larger_places()
-    ensures queued { put_all (place_at 0 0) (letters 7999 ∷ letters 7998 ∷ []) ≡ place_at 1 8020 }
+    ensures queued { put_all (place_at 0 0) (letters (byte "x") 7999 ∷ letters (byte "y") 7999 ∷ []) ≡ place_at 1 8020 }
     ensures places { map (place larger_journal) (4 ∷ 5 ∷ []) ≡ place_at 2 0 ∷ place_at 2 20 ∷ [] }
     ensures page { page_of (place larger_journal 4) ≡ 2 }
 {}
