@@ -3,10 +3,12 @@ pub mod Journal
 pub mod Due
 pub mod Savepoints
 pub mod Answers
+pub mod Refusals
 pub mod Along
 pub mod Walk
 pub mod Trace
 pub mod Legal
 pub mod Text
 pub mod Laws
+pub mod AnswerLaws
 pub mod Examples

@@ -9,6 +9,7 @@
 //! Laws over the definitions, and worked examples computed from them, stand on public functions with an empty body.
 #![tactic(auto)]
 
+mod answer_laws;
 mod block_state;
 mod command;
 mod examples;
@@ -19,6 +20,9 @@ mod scenario;
 mod trace;
 mod tx;
 
+pub use answer_laws::{
+    in_a_block, in_a_failed_block, only_blank_is_silent, outside_a_block, table_is_total,
+};
 pub use block_state::BlockState;
 pub use command::Command;
 pub use examples::{empty_section, self_notify};
