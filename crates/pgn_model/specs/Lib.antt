@@ -11,4 +11,5 @@ pub mod Legal
 pub mod Text
 pub mod Laws
 pub mod AnswerLaws
+pub mod SavepointLaws
 pub mod Examples

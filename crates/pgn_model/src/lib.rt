@@ -16,6 +16,7 @@ mod examples;
 mod item;
 mod laws;
 mod line_text;
+mod savepoint_laws;
 mod scenario;
 mod trace;
 mod tx;
@@ -29,6 +30,10 @@ pub use examples::{empty_section, self_notify};
 pub use item::{Item, Items};
 pub use laws::{due_grows, due_splits, lawful_front, lawful_grows, lawful_pushes};
 pub use line_text::LineText;
+pub use savepoint_laws::{
+    back_and_free, first_occurrences, live_after_change, live_after_savepoints, live_is_enough,
+    live_one_more, live_savepoints, no_such_savepoint, one_more_occurrence, survives_one_more,
+};
 pub use scenario::{Act, Scenario, ScenarioFault, ScriptLine, ScriptLines, Section, Sections};
 pub use trace::Trace;
 pub use tx::{Fate, Tx};
