@@ -13,3 +13,4 @@ pub mod Laws
 pub mod AnswerLaws
 pub mod SavepointLaws
 pub mod Examples
+pub mod SavepointExamples

@@ -16,6 +16,7 @@ mod examples;
 mod item;
 mod laws;
 mod line_text;
+mod savepoint_examples;
 mod savepoint_laws;
 mod scenario;
 mod trace;
@@ -30,6 +31,11 @@ pub use examples::{empty_section, self_notify};
 pub use item::{Item, Items};
 pub use laws::{due_grows, due_splits, lawful_front, lawful_grows, lawful_pushes};
 pub use line_text::LineText;
+pub use savepoint_examples::{
+    back_to_one_savepoint_twice, failed_block, newest_savepoint_is_meant,
+    release_takes_later_savepoints, repeat_across_savepoints, repeats_are_sent_once,
+    rolled_back_is_no_repeat,
+};
 pub use savepoint_laws::{
     back_and_free, first_occurrences, live_after_change, live_after_savepoints, live_is_enough,
     live_one_more, live_savepoints, no_such_savepoint, one_more_occurrence, survives_one_more,

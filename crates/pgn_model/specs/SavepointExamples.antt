@@ -1,0 +1,80 @@
+-- Worked examples of savepoints, of repeats and of a failed block.
+use Rattle.std.specs.Prelude.{ℕ, List, [], ◌∷◌, ◌++◌, Some, None, codes}
+use Rattle.std.specs.List.{flat_map}
+use Rattle.pgn_base.specs.declared.note.Note.{Note}
+use Rattle.pgn_base.specs.declared.answers.Tag.TheVariants as tag
+use Rattle.pgn_base.specs.declared.answers.Warning.TheVariants.{NotInBlock}
+use Rattle.pgn_base.specs.declared.answers.Refusal.TheVariants.{Syntax, NoSavepoint, Aborted}
+use Rattle.pgn_model.specs.declared.block_state.BlockState.{BlockState}
+use Rattle.pgn_model.specs.declared.block_state.BlockState.TheVariants.{Idle, InBlock, Failed}
+use Rattle.pgn_model.specs.declared.command.Command.{Command}
+use Rattle.pgn_model.specs.declared.command.Command.TheVariants.{Begin, Commit, Savepoint, RollbackTo, Release, Notify, Bad}
+use Rattle.pgn_model.specs.Savepoints.{Change, changes_of, firsts, surviving_notes}
+use Rattle.pgn_model.specs.Answers.{Cell, Commits, Replies, Refuses, answer, next_state}
+use Rattle.pgn_model.specs.Text.{line, tag_text, warning_line, refusal_text}
+
+-- the name `s`
+abbrev pub s_name : List ℕ
+s_name = codes "s"
+
+-- a notification on the channel `c`
+abbrev pub on_c : List ℕ → Note
+on_c payload = record { channel = codes "c"; payload = payload }
+
+-- the list of a block with these commands
+abbrev pub list_of : List Command → List Change
+list_of commands = flat_map changes_of commands
+
+-- what a block with these commands sends
+abbrev pub sent_by : List Command → List Note
+sent_by commands = firsts (surviving_notes (list_of commands))
+
+-- NOTIFY c, 'a'; NOTIFY c, 'b'; NOTIFY c, 'a'
+abbrev pub repeats : List Command
+repeats = Notify (on_c (codes "a")) ∷ Notify (on_c (codes "b")) ∷ Notify (on_c (codes "a")) ∷ []
+
+-- SAVEPOINT s; NOTIFY c, 'a'; ROLLBACK TO s; NOTIFY c, 'a'
+abbrev pub rolled_back_repeat : List Command
+rolled_back_repeat = Savepoint s_name ∷ Notify (on_c (codes "a")) ∷ RollbackTo s_name ∷ Notify (on_c (codes "a")) ∷ []
+
+-- SAVEPOINT s; NOTIFY c, '1'; SAVEPOINT s; NOTIFY c, '2'; RELEASE s; NOTIFY c, '3'; ROLLBACK TO s; NOTIFY c, '4'
+abbrev pub savepoints_of_one_name : List Command
+savepoints_of_one_name = Savepoint s_name ∷ Notify (on_c (codes "1")) ∷ Savepoint s_name ∷ Notify (on_c (codes "2")) ∷ Release s_name ∷ Notify (on_c (codes "3"))
+    ∷ RollbackTo s_name ∷ Notify (on_c (codes "4")) ∷ []
+
+-- SAVEPOINT s; NOTIFY c, '1'; SAVEPOINT inner; NOTIFY c, '2'; RELEASE s
+abbrev pub outer_released : List Command
+outer_released = Savepoint s_name ∷ Notify (on_c (codes "1")) ∷ Savepoint (codes "inner") ∷ Notify (on_c (codes "2")) ∷ Release s_name ∷ []
+
+-- SAVEPOINT s; NOTIFY c, '1'; ROLLBACK TO s; NOTIFY c, '2'; ROLLBACK TO s; NOTIFY c, '3'
+abbrev pub back_twice : List Command
+back_twice = Savepoint s_name ∷ Notify (on_c (codes "1")) ∷ RollbackTo s_name ∷ Notify (on_c (codes "2")) ∷ RollbackTo s_name ∷ Notify (on_c (codes "3")) ∷ []
+
+-- a repeat inside a savepoint that is rolled back: NOTIFY c, 'a'; SAVEPOINT s; NOTIFY c, 'a'; NOTIFY c, 'b'; ROLLBACK TO s; NOTIFY c, 'b'
+abbrev pub repeat_across : List Command
+repeat_across = Notify (on_c (codes "a")) ∷ Savepoint s_name ∷ Notify (on_c (codes "a")) ∷ Notify (on_c (codes "b")) ∷ RollbackTo s_name ∷ Notify (on_c (codes "b")) ∷ []
+
+-- the cells that commands meet one after another, where no savepoint is set
+abbrev pub cells_from : BlockState → List Command → List Cell
+cells_from state [] = []
+cells_from state (command ∷ commands) = answer state [] [] command ∷ cells_from (next_state state (answer state [] [] command)) commands
+
+-- the lines that show a cell where its commit meets no full queue
+abbrev pub cell_text : Cell → List ℕ
+cell_text (Commits tag) = line (tag_text tag)
+cell_text (Replies tag warning next) = warning_line warning ++ line (tag_text tag)
+cell_text (Refuses refusal next) = line (codes "ERROR: " ++ refusal_text refusal)
+cell_text cell = []
+
+-- BEGIN; ROLLBACK TO s; NOTIFY c; LISTEN 5; COMMIT; and a further COMMIT
+abbrev pub failed_block_commands : List Command
+failed_block_commands = Begin ∷ RollbackTo s_name ∷ Notify (on_c []) ∷ Bad 7 ∷ Commit ∷ Commit ∷ []
+
+-- its answers, with the state that each leads to
+abbrev pub failed_block_cells : List Cell
+failed_block_cells = Replies tag.Begin None InBlock ∷ Refuses (NoSavepoint s_name) Failed ∷ Refuses Aborted Failed ∷ Refuses (Syntax 7) Failed
+    ∷ Replies tag.Rollback None Idle ∷ Replies tag.Commit (Some NotInBlock) Idle ∷ []
+
+-- their lines
+abbrev pub failed_block_text : List ℕ
+failed_block_text = codes "BEGIN\nERROR: 3B001: savepoint \"s\" does not exist\nERROR: 25P02: current transaction is aborted, commands ignored until end of transaction block\nERROR: 42601: syntax error at byte 7\nROLLBACK\nWARNING: 25P01: there is no transaction in progress\nCOMMIT\n"
