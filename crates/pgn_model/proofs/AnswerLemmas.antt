@@ -5,7 +5,7 @@ use Rattle.pgn_model.specs.declared.block_state.BlockState.TheVariants.{Idle, In
 use Rattle.pgn_model.specs.declared.command.Command.{Command}
 use Rattle.pgn_model.specs.declared.command.Command.TheVariants.{RollbackTo, Release}
 use Rattle.pgn_model.specs.Answers.{answer}
-use Rattle.pgn_model.specs.AnswerLaws.{is_idle, is_in_block, is_failed, state_after, begins_block, ends_block, goes_back, is_refused, is_silent, is_blank}
+use Rattle.pgn_model.specs.AnswerLaws.{is_idle, is_in_block, is_failed, block_after, begins_block, ends_block, goes_back, is_refused, is_silent, is_blank}
 
 -- a state is one of three
 three : (state : BlockState) → (state ≡ Idle) ⊎ (state ≡ InBlock) ⊎ (state ≡ Failed)
@@ -14,40 +14,40 @@ three InBlock = inr (inl refl)
 three Failed = inr (inr refl)
 
 pub table-is-total : (state : BlockState) (live set : List (List ℕ)) (command : Command)
-    → (state_after state live set command ≡ Idle) ⊎ (state_after state live set command ≡ InBlock) ⊎ (state_after state live set command ≡ Failed)
-table-is-total state live set command = three (state_after state live set command)
+    → (block_after state live set command ≡ Idle) ⊎ (block_after state live set command ≡ InBlock) ⊎ (block_after state live set command ≡ Failed)
+table-is-total state live set command = three (block_after state live set command)
 
-pub nothing-fails_outside : (live set : List (List ℕ)) (command : Command) → is_failed (state_after Idle live set command) ≡ false
+pub nothing-fails_outside : (live set : List (List ℕ)) (command : Command) → is_failed (block_after Idle live set command) ≡ false
 nothing-fails_outside live set (RollbackTo name) = grind arith
 nothing-fails_outside live set (Release name) = grind arith
 nothing-fails_outside live set command = refl
 
-pub blocks-begin : (live set : List (List ℕ)) (command : Command) → is_in_block (state_after Idle live set command) ≡ begins_block command
+pub blocks-begin : (live set : List (List ℕ)) (command : Command) → is_in_block (block_after Idle live set command) ≡ begins_block command
 blocks-begin live set (RollbackTo name) = grind arith
 blocks-begin live set (Release name) = grind arith
 blocks-begin live set command = refl
 
-pub blocks-end : (live set : List (List ℕ)) (command : Command) → is_idle (state_after InBlock live set command) ≡ ends_block command
+pub blocks-end : (live set : List (List ℕ)) (command : Command) → is_idle (block_after InBlock live set command) ≡ ends_block command
 blocks-end live set (RollbackTo name) = grind arith
 blocks-end live set (Release name) = grind arith
 blocks-end live set command = refl
 
-pub blocks-fail : (live set : List (List ℕ)) (command : Command) → is_failed (state_after InBlock live set command) ≡ is_refused (answer InBlock live set command)
+pub blocks-fail : (live set : List (List ℕ)) (command : Command) → is_failed (block_after InBlock live set command) ≡ is_refused (answer InBlock live set command)
 blocks-fail live set (RollbackTo name) = grind arith
 blocks-fail live set (Release name) = grind arith
 blocks-fail live set command = refl
 
-pub ways-out : (live set : List (List ℕ)) (command : Command) → not (is_failed (state_after Failed live set command)) ≡ (ends_block command || goes_back live command)
+pub ways-out : (live set : List (List ℕ)) (command : Command) → not (is_failed (block_after Failed live set command)) ≡ (ends_block command || goes_back live command)
 ways-out live set (RollbackTo name) = grind arith
 ways-out live set (Release name) = grind arith
 ways-out live set command = refl
 
-pub ends-failed : (live set : List (List ℕ)) (command : Command) → is_idle (state_after Failed live set command) ≡ ends_block command
+pub ends-failed : (live set : List (List ℕ)) (command : Command) → is_idle (block_after Failed live set command) ≡ ends_block command
 ends-failed live set (RollbackTo name) = grind arith
 ends-failed live set (Release name) = grind arith
 ends-failed live set command = refl
 
-pub goes-on : (live set : List (List ℕ)) (command : Command) → is_in_block (state_after Failed live set command) ≡ goes_back live command
+pub goes-on : (live set : List (List ℕ)) (command : Command) → is_in_block (block_after Failed live set command) ≡ goes_back live command
 goes-on live set (RollbackTo name) = grind arith
 goes-on live set (Release name) = grind arith
 goes-on live set command = refl

@@ -22,8 +22,8 @@ is_failed Failed = true
 is_failed state = false
 
 -- the state after a command
-abbrev pub state_after : BlockState → List (List ℕ) → List (List ℕ) → Command → BlockState
-state_after state live set command = next_state state (answer state live set command)
+abbrev pub block_after : BlockState → List (List ℕ) → List (List ℕ) → Command → BlockState
+block_after state live set command = next_state state (answer state live set command)
 
 -- BEGIN and START TRANSACTION
 abbrev pub begins_block : Command → Bool
@@ -60,32 +60,32 @@ is_blank command = false
 -- the table is total: each command leads from each state to one of the three
 abbrev pub TableIsTotal : Type 0
 TableIsTotal = (state : BlockState) (live set : List (List ℕ)) (command : Command)
-    → (state_after state live set command ≡ Idle) ⊎ (state_after state live set command ≡ InBlock) ⊎ (state_after state live set command ≡ Failed)
+    → (block_after state live set command ≡ Idle) ⊎ (block_after state live set command ≡ InBlock) ⊎ (block_after state live set command ≡ Failed)
 
 -- outside a block, nothing leads to a failed block
 abbrev pub NothingFailsOutside : Type 0
-NothingFailsOutside = (live set : List (List ℕ)) (command : Command) → is_failed (state_after Idle live set command) ≡ false
+NothingFailsOutside = (live set : List (List ℕ)) (command : Command) → is_failed (block_after Idle live set command) ≡ false
 
 -- outside a block, exactly BEGIN and START TRANSACTION open one
 abbrev pub BlocksBegin : Type 0
-BlocksBegin = (live set : List (List ℕ)) (command : Command) → is_in_block (state_after Idle live set command) ≡ begins_block command
+BlocksBegin = (live set : List (List ℕ)) (command : Command) → is_in_block (block_after Idle live set command) ≡ begins_block command
 
 -- exactly COMMIT and ROLLBACK end a block
 abbrev pub BlocksEnd : Type 0
-BlocksEnd = (live set : List (List ℕ)) (command : Command) → is_idle (state_after InBlock live set command) ≡ ends_block command
+BlocksEnd = (live set : List (List ℕ)) (command : Command) → is_idle (block_after InBlock live set command) ≡ ends_block command
 
 -- a block fails exactly where a command in it is refused
 abbrev pub BlocksFail : Type 0
-BlocksFail = (live set : List (List ℕ)) (command : Command) → is_failed (state_after InBlock live set command) ≡ is_refused (answer InBlock live set command)
+BlocksFail = (live set : List (List ℕ)) (command : Command) → is_failed (block_after InBlock live set command) ≡ is_refused (answer InBlock live set command)
 
 -- exactly COMMIT, ROLLBACK and ROLLBACK TO a live savepoint lead out of a failed block
 abbrev pub WaysOut : Type 0
-WaysOut = (live set : List (List ℕ)) (command : Command) → not (is_failed (state_after Failed live set command)) ≡ (ends_block command || goes_back live command)
+WaysOut = (live set : List (List ℕ)) (command : Command) → not (is_failed (block_after Failed live set command)) ≡ (ends_block command || goes_back live command)
 
 -- COMMIT and ROLLBACK end a failed block, and ROLLBACK TO goes on in it
 abbrev pub WaysOn : Type 0
 WaysOn = (live set : List (List ℕ)) (command : Command)
-    → (is_idle (state_after Failed live set command) ≡ ends_block command) × (is_in_block (state_after Failed live set command) ≡ goes_back live command)
+    → (is_idle (block_after Failed live set command) ≡ ends_block command) × (is_in_block (block_after Failed live set command) ≡ goes_back live command)
 
 -- exactly a line without a command has no answer
 abbrev pub OnlyBlankIsSilent : Type 0

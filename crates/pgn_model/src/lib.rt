@@ -32,9 +32,9 @@ pub use item::{Item, Items};
 pub use laws::{due_grows, due_splits, lawful_front, lawful_grows, lawful_pushes};
 pub use line_text::LineText;
 pub use savepoint_examples::{
-    back_to_one_savepoint_twice, failed_block, newest_savepoint_is_meant,
+    back_in_a_failed_block, back_to_one_savepoint_twice, failed_block, newest_savepoint_is_meant,
     release_takes_later_savepoints, repeat_across_savepoints, repeats_are_sent_once,
-    rolled_back_is_no_repeat,
+    rolled_back_is_no_repeat, savepoints_need_a_block,
 };
 pub use savepoint_laws::{
     back_and_free, first_occurrences, live_after_change, live_after_savepoints, live_is_enough,
