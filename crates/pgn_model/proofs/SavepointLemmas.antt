@@ -1,5 +1,5 @@
 -- What survives savepoints, first occurrences, and both together.
-use Rattle.std.proofs.Common.{◌≡◌, ◌≢◌, ℕ, Bool, true, false, cond, not, ◌&&◌, ◌||◌, List, [], ◌∷◌, ◌++◌, bytes_eq, filter, filter_map, Contains, AllPairs, All, inl, inr, refl, sym, ap, subst, ◌∙◌, arith, append-nil}
+use Rattle.std.proofs.Common.{◌≡◌, ◌≢◌, ℕ, Bool, true, false, cond, not, ◌&&◌, ◌||◌, List, [], ◌∷◌, ◌++◌, bytes_eq, filter, filter_map, Contains, AllPairs, All, inl, inr, refl, sym, ap, subst, ◌∙◌, arith, append_assoc, append-nil}
 use Rattle.std.specs.List.{list_any}
 use Rattle.std.proofs.lemmas.Slice.Eq.{bytes_eq-Decides}
 use Rattle.std.proofs.lemmas.List.Folds.{list_any-append, list_any_at}
@@ -37,11 +37,11 @@ pub survives-noted : (changes : List Change) (note : Note) → survivors (change
 survives-noted changes note = survivors_from-push [] changes (Noted note)
 
 -- a name is itself
-same-name : (name : List ℕ) → bytes_eq name name ≡ true
+pub same-name : (name : List ℕ) → bytes_eq name name ≡ true
 same-name name = (bytes_eq-Decides name name).1 refl
 
 -- where no mark has the name, nothing is cut
-cut_back-none : (name : List ℕ) (changes : List Change) → has_mark name changes ≡ false → cut_back name changes ≡ changes
+pub cut_back-none : (name : List ℕ) (changes : List Change) → has_mark name changes ≡ false → cut_back name changes ≡ changes
 cut_back-none name [] e = refl
 cut_back-none name (change ∷ changes) e = none (is_mark_of name change) (has_mark name changes) e
   where
@@ -51,7 +51,7 @@ cut_back-none name (change ∷ changes) e = none (is_mark_of name change) (has_m
     none false false e = refl
 
 -- and nothing is freed
-freed-none : (name : List ℕ) (changes : List Change) → has_mark name changes ≡ false → freed name changes ≡ changes
+pub freed-none : (name : List ℕ) (changes : List Change) → has_mark name changes ≡ false → freed name changes ≡ changes
 freed-none name [] e = refl
 freed-none name (change ∷ changes) e = none (is_mark_of name change) (has_mark name changes) e
   where
@@ -61,7 +61,7 @@ freed-none name (change ∷ changes) e = none (is_mark_of name change) (has_mark
     none false false e = refl
 
 -- a mark in the middle of a list stands in it
-has_mark-middle : (name : List ℕ) (before after : List Change) → has_mark name (before ++ Marked name ∷ after) ≡ true
+pub has_mark-middle : (name : List ℕ) (before after : List Change) → has_mark name (before ++ Marked name ∷ after) ≡ true
 has_mark-middle name [] after = rw (same-name name) refl
 has_mark-middle name (change ∷ before) after = later (is_mark_of name change) (has_mark name (before ++ Marked name ∷ after)) (has_mark-middle name before after)
   where
@@ -78,7 +78,7 @@ free-keeps name [] after e = rw (e, same-name name) refl
 free-keeps name (change ∷ before) after e = rw (has_mark-middle name before after) (ap (λ (cs : List Change). change ∷ cs) (free-keeps name before after e))
 
 -- a name is one of the marks' names where a mark has it
-named : (name : List ℕ) (changes : List Change) → is_live (filter_map marked_name changes) name ≡ has_mark name changes
+pub named : (name : List ℕ) (changes : List Change) → is_live (filter_map marked_name changes) name ≡ has_mark name changes
 named name [] = refl
 named name (Marked other ∷ changes) = ap (λ (b : Bool). bytes_eq name other || b) (named name changes)
 named name (Acted action ∷ changes) = named name changes
@@ -90,7 +90,7 @@ pub live-is_marked : (changes : List Change) (name : List ℕ) → is_live (live
 live-is_marked changes name = named name (survivors changes)
 
 -- the mark that is cut back to stays
-has_mark-cut : (name : List ℕ) (changes : List Change) → has_mark name (cut_back name changes) ≡ has_mark name changes
+pub has_mark-cut : (name : List ℕ) (changes : List Change) → has_mark name (cut_back name changes) ≡ has_mark name changes
 has_mark-cut name [] = refl
 has_mark-cut name (change ∷ changes) = cut (has_mark name changes) (is_mark_of name change) refl refl (has_mark-cut name changes)
   where
@@ -111,11 +111,11 @@ pub free-of_none : (changes : List Change) (name : List ℕ) → is_live (live_n
 free-of_none changes name e = survives-free changes name ∙ freed-none name (survivors changes) (sym (live-is_marked changes name) ∙ e)
 
 -- a notification is itself
-same_note-same : (note : Note) → same_note note note ≡ true
+pub same_note-same : (note : Note) → same_note note note ≡ true
 same_note-same note = rw (same-name note.channel, same-name note.payload) refl
 
 -- two notifications with the same channel and payload are one
-same_note-true : (a b : Note) → same_note a b ≡ true → a ≡ b
+pub same_note-true : (a b : Note) → same_note a b ≡ true → a ≡ b
 same_note-true a b e =
     let channel : a.channel ≡ b.channel = (bytes_eq-Decides a.channel b.channel).0 (first (bytes_eq a.channel b.channel) (bytes_eq a.payload b.payload) e) in
     let payload : a.payload ≡ b.payload = (bytes_eq-Decides a.payload b.payload).0 (second (bytes_eq a.channel b.channel) (bytes_eq a.payload b.payload) e) in
@@ -275,7 +275,7 @@ pub firsts-twice : (notes : List Note) → firsts (firsts notes) ≡ firsts note
 firsts-twice notes = firsts_after-twice [] notes
 
 -- dropping repeats leaves the marks
-has_mark-once : (name : List ℕ) (seen : List Note) (changes : List Change) → has_mark name (once_after seen changes) ≡ has_mark name changes
+pub has_mark-once : (name : List ℕ) (seen : List Note) (changes : List Change) → has_mark name (once_after seen changes) ≡ has_mark name changes
 has_mark-once name seen [] = refl
 has_mark-once name seen (Noted note ∷ changes) = elim (list_any (same_note note) seen) as (λ b. has_mark name (cond b (once_after seen changes) (Noted note ∷ once_after (seen ++ note ∷ []) changes)) ≡ has_mark name changes) [
   | true ↦ has_mark-once name seen changes
@@ -287,14 +287,14 @@ has_mark-once name seen (Back other ∷ changes) = has_mark-once name seen chang
 has_mark-once name seen (Free other ∷ changes) = has_mark-once name seen changes
 
 -- what is no such mark is not cut away before a list
-cut_back-keeps : (name : List ℕ) (change : Change) (changes : List Change) → is_mark_of name change ≡ false → cut_back name (change ∷ changes) ≡ change ∷ cut_back name changes
+pub cut_back-keeps : (name : List ℕ) (change : Change) (changes : List Change) → is_mark_of name change ≡ false → cut_back name (change ∷ changes) ≡ change ∷ cut_back name changes
 cut_back-keeps name change changes other = (elim (has_mark name changes) as (λ b. has_mark name changes ≡ b → cond b (change ∷ cut_back name changes) (cond (is_mark_of name change) (change ∷ []) (change ∷ changes)) ≡ change ∷ cut_back name changes) [
   | true ↦ λ e. refl
   | false ↦ λ e. rw other (ap (λ (cs : List Change). change ∷ cs) (sym (cut_back-none name changes e)))
 ]) refl
 
 -- and is not freed
-freed-keeps : (name : List ℕ) (change : Change) (changes : List Change) → is_mark_of name change ≡ false → freed name (change ∷ changes) ≡ change ∷ freed name changes
+pub freed-keeps : (name : List ℕ) (change : Change) (changes : List Change) → is_mark_of name change ≡ false → freed name (change ∷ changes) ≡ change ∷ freed name changes
 freed-keeps name change changes other = (elim (has_mark name changes) as (λ b. has_mark name changes ≡ b → cond b (change ∷ freed name changes) (cond (is_mark_of name change) (filter (λ later. not (is_mark later)) changes) (change ∷ changes)) ≡ change ∷ freed name changes) [
   | true ↦ λ e. refl
   | false ↦ λ e. rw other (ap (λ (cs : List Change). change ∷ cs) (sym (freed-none name changes e)))
@@ -396,7 +396,7 @@ notes-once seen (Back other ∷ changes) = notes-once seen changes
 notes-once seen (Free other ∷ changes) = notes-once seen changes
 
 -- the notification stands in a list where it stands among its notifications
-noted : (note : Note) (changes : List Change) → has_note note changes ≡ list_any (same_note note) (filter_map noted_note changes)
+pub noted : (note : Note) (changes : List Change) → has_note note changes ≡ list_any (same_note note) (filter_map noted_note changes)
 noted note [] = refl
 noted note (Noted other ∷ changes) = ap (λ (b : Bool). same_note note other || b) (noted note changes)
 noted note (Marked other ∷ changes) = noted note changes
@@ -405,7 +405,7 @@ noted note (Back other ∷ changes) = noted note changes
 noted note (Free other ∷ changes) = noted note changes
 
 -- dropping repeats leaves each notification
-has_note-once : (note : Note) (changes : List Change) → has_note note (once changes) ≡ has_note note changes
+pub has_note-once : (note : Note) (changes : List Change) → has_note note (once changes) ≡ has_note note changes
 has_note-once note changes =
     noted note (once changes) ∙ ap (list_any (same_note note)) (notes-once [] changes) ∙ firsts_after-have note [] (filter_map noted_note changes) ∙ sym (noted note changes)
 
@@ -499,8 +499,115 @@ live-back changes name = live-push changes (Back name)
 pub live-free : (changes : List Change) (name : List ℕ) → live_changes (changes ++ Free name ∷ []) ≡ freed name (live_changes changes)
 live-free changes name = live-push changes (Free name)
 
-pub ruleset savepoint_laws = (survives-back, survives-free, survives-marked, survives-acted, survives-noted, back-cuts, free-keeps, live-is_marked, back-keeps_mark, back-of_none, free-of_none)
+pub live-has_mark : (changes : List Change) (name : List ℕ) → is_live (live_names changes) name ≡ has_mark name (live_changes changes)
+live-has_mark changes name = live-is_marked changes name ∙ sym (has_mark-once name [] (survivors changes))
+
+-- there is no ROLLBACK TO and no RELEASE in a list
+IsSettled : List Change → Type 0
+IsSettled [] = Unit {0}
+IsSettled (Back name ∷ changes) = ⊥
+IsSettled (Free name ∷ changes) = ⊥
+IsSettled (change ∷ changes) = IsSettled changes
+
+settled-cut : (name : List ℕ) (changes : List Change) → IsSettled changes → IsSettled (cut_back name changes)
+unfolding IsSettled
+settled-cut name [] h = tt
+settled-cut name (Noted note ∷ changes) h = subst IsSettled (sym (cut_back-keeps name (Noted note) changes refl)) (settled-cut name changes h)
+settled-cut name (Acted action ∷ changes) h = subst IsSettled (sym (cut_back-keeps name (Acted action) changes refl)) (settled-cut name changes h)
+settled-cut name (Marked other ∷ changes) h =
+    let mark : Change = Marked other in
+    elim (has_mark name changes) as (λ b. IsSettled (cond b (mark ∷ cut_back name changes) (cond (bytes_eq name other) (mark ∷ []) (mark ∷ changes)))) [
+      | true ↦ settled-cut name changes h
+      | false ↦ elim (bytes_eq name other) as (λ b. IsSettled (cond b (mark ∷ []) (mark ∷ changes))) [ true ↦ tt | false ↦ h ]
+    ]
+settled-cut name (Back other ∷ changes) h = absurd h
+settled-cut name (Free other ∷ changes) h = absurd h
+
+settled-unmarked : (changes : List Change) → IsSettled changes → IsSettled (filter (λ change. not (is_mark change)) changes)
+unfolding IsSettled
+settled-unmarked [] h = tt
+settled-unmarked (Noted note ∷ changes) h = settled-unmarked changes h
+settled-unmarked (Acted action ∷ changes) h = settled-unmarked changes h
+settled-unmarked (Marked other ∷ changes) h = settled-unmarked changes h
+settled-unmarked (Back other ∷ changes) h = absurd h
+settled-unmarked (Free other ∷ changes) h = absurd h
+
+settled-freed : (name : List ℕ) (changes : List Change) → IsSettled changes → IsSettled (freed name changes)
+unfolding IsSettled
+settled-freed name [] h = tt
+settled-freed name (Noted note ∷ changes) h = subst IsSettled (sym (freed-keeps name (Noted note) changes refl)) (settled-freed name changes h)
+settled-freed name (Acted action ∷ changes) h = subst IsSettled (sym (freed-keeps name (Acted action) changes refl)) (settled-freed name changes h)
+settled-freed name (Marked other ∷ changes) h =
+    let mark : Change = Marked other in
+    elim (has_mark name changes) as (λ b. IsSettled (cond b (mark ∷ freed name changes) (cond (bytes_eq name other) (filter (λ change. not (is_mark change)) changes) (mark ∷ changes)))) [
+      | true ↦ settled-freed name changes h
+      | false ↦ elim (bytes_eq name other) as (λ b. IsSettled (cond b (filter (λ change. not (is_mark change)) changes) (mark ∷ changes))) [ true ↦ settled-unmarked changes h | false ↦ h ]
+    ]
+settled-freed name (Back other ∷ changes) h = absurd h
+settled-freed name (Free other ∷ changes) h = absurd h
+
+settled-append : (xs ys : List Change) → IsSettled xs → IsSettled ys → IsSettled (xs ++ ys)
+unfolding IsSettled
+settled-append [] ys h k = k
+settled-append (Noted note ∷ xs) ys h k = settled-append xs ys h k
+settled-append (Acted action ∷ xs) ys h k = settled-append xs ys h k
+settled-append (Marked other ∷ xs) ys h k = settled-append xs ys h k
+settled-append (Back other ∷ xs) ys h k = absurd h
+settled-append (Free other ∷ xs) ys h k = absurd h
+
+-- what survives is settled
+settled-survivors : (kept changes : List Change) → IsSettled kept → IsSettled (survivors_from kept changes)
+unfolding IsSettled
+settled-survivors kept [] h = h
+settled-survivors kept (Back name ∷ changes) h = settled-survivors (cut_back name kept) changes (settled-cut name kept h)
+settled-survivors kept (Free name ∷ changes) h = settled-survivors (freed name kept) changes (settled-freed name kept h)
+settled-survivors kept (Marked name ∷ changes) h = settled-survivors (kept ++ Marked name ∷ []) changes (settled-append kept (Marked name ∷ []) h tt)
+settled-survivors kept (Acted action ∷ changes) h = settled-survivors (kept ++ Acted action ∷ []) changes (settled-append kept (Acted action ∷ []) h tt)
+settled-survivors kept (Noted note ∷ changes) h = settled-survivors (kept ++ Noted note ∷ []) changes (settled-append kept (Noted note ∷ []) h tt)
+
+settled-once : (seen : List Note) (changes : List Change) → IsSettled changes → IsSettled (once_after seen changes)
+unfolding IsSettled
+settled-once seen [] h = tt
+settled-once seen (Noted note ∷ changes) h = elim (list_any (same_note note) seen) as (λ b. IsSettled (cond b (once_after seen changes) (Noted note ∷ once_after (seen ++ note ∷ []) changes))) [
+  | true ↦ settled-once seen changes h
+  | false ↦ settled-once (seen ++ note ∷ []) changes h
+]
+settled-once seen (Acted action ∷ changes) h = settled-once seen changes h
+settled-once seen (Marked other ∷ changes) h = settled-once seen changes h
+settled-once seen (Back other ∷ changes) h = absurd h
+settled-once seen (Free other ∷ changes) h = absurd h
+
+-- a settled list survives whole
+survivors_from-settled : (kept changes : List Change) → IsSettled changes → survivors_from kept changes ≡ kept ++ changes
+unfolding IsSettled
+survivors_from-settled kept [] h = sym (append-nil kept)
+survivors_from-settled kept (Noted note ∷ changes) h = survivors_from-settled (kept ++ Noted note ∷ []) changes h ∙ append_assoc kept (Noted note ∷ []) changes
+survivors_from-settled kept (Acted action ∷ changes) h = survivors_from-settled (kept ++ Acted action ∷ []) changes h ∙ append_assoc kept (Acted action ∷ []) changes
+survivors_from-settled kept (Marked name ∷ changes) h = survivors_from-settled (kept ++ Marked name ∷ []) changes h ∙ append_assoc kept (Marked name ∷ []) changes
+survivors_from-settled kept (Back name ∷ changes) h = absurd h
+survivors_from-settled kept (Free name ∷ changes) h = absurd h
+
+-- a list without repeats has none to drop
+once-twice : (seen : List Note) (changes : List Change) → once_after seen (once_after seen changes) ≡ once_after seen changes
+once-twice seen [] = refl
+once-twice seen (Noted note ∷ changes) =
+    let rest : List Change = once_after (seen ++ note ∷ []) changes in
+    (elim (list_any (same_note note) seen) as (λ b. list_any (same_note note) seen ≡ b → once_after seen (cond b (once_after seen changes) (Noted note ∷ rest)) ≡ cond b (once_after seen changes) (Noted note ∷ rest)) [
+      | true ↦ λ e. once-twice seen changes
+      | false ↦ λ e. rw e (ap (λ (cs : List Change). Noted note ∷ cs) (once-twice (seen ++ note ∷ []) changes))
+    ]) refl
+once-twice seen (Marked other ∷ changes) = ap (λ (cs : List Change). Marked other ∷ cs) (once-twice seen changes)
+once-twice seen (Acted action ∷ changes) = ap (λ (cs : List Change). Acted action ∷ cs) (once-twice seen changes)
+once-twice seen (Back other ∷ changes) = ap (λ (cs : List Change). Back other ∷ cs) (once-twice seen changes)
+once-twice seen (Free other ∷ changes) = ap (λ (cs : List Change). Free other ∷ cs) (once-twice seen changes)
+
+pub live-twice : (changes : List Change) → live_changes (live_changes changes) ≡ live_changes changes
+unfolding IsSettled
+live-twice changes =
+    ap once (survivors_from-settled [] (live_changes changes) (settled-once [] (survivors changes) (settled-survivors [] changes tt))) ∙ once-twice [] (survivors changes)
+
+pub ruleset savepoint_laws = (survives-back, survives-free, survives-marked, survives-acted, survives-noted, back-cuts, free-keeps, live-is_marked, live-has_mark, back-keeps_mark, back-of_none, free-of_none)
 
 pub ruleset firsts_laws = (firsts-in_order, firsts-differ, firsts-have_all, firsts-push, firsts-twice)
 
-pub ruleset live_laws = (live-after_change, live-marked, live-acted, live-new, live-repeated, live-back, live-free, live-has_names, live-has_actions, live-has_firsts)
+pub ruleset live_laws = (live-after_change, live-marked, live-acted, live-new, live-repeated, live-back, live-free, live-twice, live-has_names, live-has_actions, live-has_firsts)

@@ -40,6 +40,10 @@ SurvivesNoted = (changes : List Change) (note : Note) → survivors (changes ++ 
 abbrev pub LiveIsMarked : Type 0
 LiveIsMarked = (changes : List Change) (name : List ℕ) → is_live (live_names changes) name ≡ has_mark name (survivors changes)
 
+-- and where a mark of its name is live
+abbrev pub LiveHasMark : Type 0
+LiveHasMark = (changes : List Change) (name : List ℕ) → is_live (live_names changes) name ≡ has_mark name (live_changes changes)
+
 -- a savepoint is live after a ROLLBACK TO it as it was before
 abbrev pub BackKeepsMark : Type 0
 BackKeepsMark = (changes : List Change) (name : List ℕ) → is_live (live_names (changes ++ Back name ∷ [])) name ≡ is_live (live_names changes) name
@@ -106,6 +110,10 @@ LiveBack = (changes : List Change) (name : List ℕ) → live_changes (changes +
 -- RELEASE
 abbrev pub LiveFree : Type 0
 LiveFree = (changes : List Change) (name : List ℕ) → live_changes (changes ++ Free name ∷ []) ≡ freed name (live_changes changes)
+
+-- what is live is a list that leads to itself: it has nothing more to cut, to free or to drop
+abbrev pub LiveTwice : Type 0
+LiveTwice = (changes : List Change) → live_changes (live_changes changes) ≡ live_changes changes
 
 -- what is live has the names of the live savepoints
 abbrev pub LiveHasNames : Type 0

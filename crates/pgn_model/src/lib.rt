@@ -38,7 +38,8 @@ pub use savepoint_examples::{
 };
 pub use savepoint_laws::{
     back_and_free, first_occurrences, live_after_change, live_after_savepoints, live_is_enough,
-    live_one_more, live_savepoints, no_such_savepoint, one_more_occurrence, survives_one_more,
+    live_one_more, live_savepoints, live_twice, no_such_savepoint, one_more_occurrence,
+    survives_one_more,
 };
 pub use scenario::{Act, Scenario, ScenarioFault, ScriptLine, ScriptLines, Section, Sections};
 pub use trace::Trace;

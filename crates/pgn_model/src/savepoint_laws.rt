@@ -1,4 +1,4 @@
-ghost use Rattle.pgn_model.specs.SavepointLaws.{BackCuts, FreeKeeps, SurvivesBack, SurvivesFree, SurvivesMarked, SurvivesActed, SurvivesNoted, LiveIsMarked, BackKeepsMark, BackOfNone, FreeOfNone, FirstsInOrder, FirstsDiffer, FirstsHaveAll, FirstsPush, FirstsTwice, LiveAfterChange, LiveMarked, LiveActed, LiveNew, LiveRepeated, LiveBack, LiveFree, LiveHasNames, LiveHasActions, LiveHasFirsts};
+ghost use Rattle.pgn_model.specs.SavepointLaws.{BackCuts, FreeKeeps, SurvivesBack, SurvivesFree, SurvivesMarked, SurvivesActed, SurvivesNoted, LiveIsMarked, LiveHasMark, BackKeepsMark, BackOfNone, FreeOfNone, FirstsInOrder, FirstsDiffer, FirstsHaveAll, FirstsPush, FirstsTwice, LiveAfterChange, LiveMarked, LiveActed, LiveNew, LiveRepeated, LiveBack, LiveFree, LiveTwice, LiveHasNames, LiveHasActions, LiveHasFirsts};
 
 /// What a ROLLBACK TO cuts and what a RELEASE keeps, said by the last mark of the name.
 #[tactic(auto, using(crate::proofs::SavepointLemmas::savepoint_laws))]
@@ -21,6 +21,7 @@ pub fn survives_one_more()
 #[tactic(auto, using(crate::proofs::SavepointLemmas::savepoint_laws))]
 pub fn live_savepoints()
     ensures marked { LiveIsMarked }
+    ensures live { LiveHasMark }
     ensures kept { BackKeepsMark }
 {}
 
@@ -50,6 +51,12 @@ pub fn one_more_occurrence()
 #[tactic(auto, using(crate::proofs::SavepointLemmas::live_laws))]
 pub fn live_after_change()
     ensures { LiveAfterChange }
+{}
+
+/// What is live leads to itself: nothing in it is left to cut, to free or to drop.
+#[tactic(auto, using(crate::proofs::SavepointLemmas::live_laws))]
+pub fn live_twice()
+    ensures { LiveTwice }
 {}
 
 /// What is live after a mark, an action, a new and a repeated notification.
