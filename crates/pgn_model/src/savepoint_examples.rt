@@ -1,11 +1,12 @@
 ghost use Rattle.std.specs.Prelude.{◌≡◌, [], ◌∷◌, codes, map};
 ghost use Rattle.std.specs.List.{flat_map};
-ghost use Rattle.pgn_model.specs.Savepoints.{Marked, Noted, survivors, live_names, live_changes};
+ghost use Rattle.pgn_model.specs.Savepoints.{Marked, Noted, survivors, surviving_notes, live_names, live_changes};
 ghost use Rattle.pgn_model.specs.SavepointExamples.{s_name, on_c, list_of, sent_by, repeats, rolled_back_repeat, savepoints_of_one_name, outer_released, back_twice, repeat_across, cells_of, cell_text, failed_block_commands, failed_block_cells, failed_block_text, back_in_block_commands, back_in_block_cells, outside_commands, outside_text};
 
 /// A notification that is repeated in a block is sent once, in the place of its first.
 pub fn repeats_are_sent_once()
-    ensures { sent_by repeats ≡ on_c (codes "a") ∷ on_c (codes "b") ∷ [] }
+    ensures survive { surviving_notes (list_of repeats) ≡ on_c (codes "a") ∷ on_c (codes "b") ∷ on_c (codes "a") ∷ [] }
+    ensures sent { sent_by repeats ≡ on_c (codes "a") ∷ on_c (codes "b") ∷ [] }
 {}
 
 /// A notification that was rolled back is no repeat of one after it.
@@ -22,6 +23,7 @@ pub fn newest_savepoint_is_meant()
 
 /// RELEASE of a savepoint takes those after it away too, and keeps what they hold.
 pub fn release_takes_later_savepoints()
+    ensures survive { survivors (list_of outer_released) ≡ Noted (on_c (codes "1")) ∷ Noted (on_c (codes "2")) ∷ [] }
     ensures names { live_names (list_of outer_released) ≡ [] }
     ensures sent { sent_by outer_released ≡ on_c (codes "1") ∷ on_c (codes "2") ∷ [] }
 {}
