@@ -4,3 +4,5 @@ pub mod BytesLemmas
 pub mod PackingLemmas
 pub mod PackingSteps
 pub mod TextBytes
+pub mod AnswerLemmas
+pub mod SavepointLemmas

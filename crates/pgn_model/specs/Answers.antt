@@ -1,13 +1,17 @@
--- The table of answers.
-use Rattle.std.specs.Prelude.{ℕ, List, Option}
+-- The table of answers: a row for each command and a column for each state of the block.
+use Rattle.std.specs.Prelude.{ℕ, Bool, cond, List, Option, Some, None, bytes_eq}
+use Rattle.std.specs.List.{list_any}
 use Rattle.pgn_base.specs.declared.answers.Tag.{Tag}
 use Rattle.pgn_base.specs.declared.answers.Tag.TheVariants as tag
 use Rattle.pgn_base.specs.declared.answers.Warning.{Warning}
+use Rattle.pgn_base.specs.declared.answers.Warning.TheVariants.{AlreadyInBlock, NotInBlock}
+use Rattle.pgn_base.specs.declared.answers.Needs.TheVariants as needs
 use Rattle.pgn_base.specs.declared.answers.Refusal.{Refusal}
+use Rattle.pgn_base.specs.declared.answers.Refusal.TheVariants.{Syntax, Bounds, NeedsBlock, NoSavepoint, Aborted}
 use Rattle.pgn_model.specs.declared.block_state.BlockState.{BlockState}
-use Rattle.pgn_model.specs.declared.block_state.BlockState.TheVariants.{Idle}
+use Rattle.pgn_model.specs.declared.block_state.BlockState.TheVariants.{Idle, InBlock, Failed}
 use Rattle.pgn_model.specs.declared.command.Command.{Command}
-use Rattle.pgn_model.specs.declared.command.Command.TheVariants.{Listen, Notify}
+use Rattle.pgn_model.specs.declared.command.Command.TheVariants.{Empty, Begin, Start, Commit, Rollback, Savepoint, RollbackTo, Release, Listen, Unlisten, UnlistenAll, Notify, PgNotify, ListeningChannels, QueueUsage, Invalid, Bad}
 
 -- a cell of the table
 pub data Cell : Type 0 where
@@ -17,17 +21,56 @@ pub data Cell : Type 0 where
   Replies : (tag : Tag) → (warning : Option Warning) → (next : BlockState) → Cell
   -- the refusal, and the new state
   Refuses : (refusal : Refusal) → (next : BlockState) → Cell
-  -- nothing is answered
+  -- nothing is answered; the state stays
   Silent : Cell
   -- the rows of the listening set, and their number; the state stays
   ShowsChannels : Cell
   -- the row of the queue's usage; the state stays
   ShowsUsage : Cell
-  -- a cell that no lawful trace meets yet
-  Unserved : Cell
+
+-- the columns of a row: in no block, in a block, in a failed block
+abbrev pub in_state : BlockState → Cell → Cell → Cell → Cell
+in_state Idle idle in_block failed = idle
+in_state InBlock idle in_block failed = in_block
+in_state Failed idle in_block failed = failed
+
+-- what a failed block answers to most commands
+abbrev pub ignored : Cell
+ignored = Refuses Aborted Failed
+
+-- a live savepoint has the name
+abbrev pub is_live : List (List ℕ) → List ℕ → Bool
+is_live live name = list_any (bytes_eq name) live
 
 -- the answer to a command in a state of the block, with these names of live savepoints and this listening set
 abbrev pub answer : BlockState → List (List ℕ) → List (List ℕ) → Command → Cell
-answer Idle live set (Listen name) = Commits tag.Listen
-answer Idle live set (Notify note) = Commits tag.Notify
-answer state live set command = Unserved
+answer state live set Begin = in_state state (Replies tag.Begin None InBlock) (Replies tag.Begin (Some AlreadyInBlock) InBlock) ignored
+answer state live set Start = in_state state (Replies tag.Start None InBlock) (Replies tag.Start (Some AlreadyInBlock) InBlock) ignored
+answer state live set Commit = in_state state (Replies tag.Commit (Some NotInBlock) Idle) (Commits tag.Commit) (Replies tag.Rollback None Idle)
+answer state live set Rollback = in_state state (Replies tag.Rollback (Some NotInBlock) Idle) (Replies tag.Rollback None Idle) (Replies tag.Rollback None Idle)
+answer state live set (Savepoint name) = in_state state (Refuses (NeedsBlock needs.Savepoint) Idle) (Replies tag.Savepoint None InBlock) ignored
+answer state live set (RollbackTo name) = cond (is_live live name)
+    (in_state state (Refuses (NeedsBlock needs.RollbackTo) Idle) (Replies tag.Rollback None InBlock) (Replies tag.Rollback None InBlock))
+    (in_state state (Refuses (NeedsBlock needs.RollbackTo) Idle) (Refuses (NoSavepoint name) Failed) (Refuses (NoSavepoint name) Failed))
+answer state live set (Release name) = cond (is_live live name)
+    (in_state state (Refuses (NeedsBlock needs.Release) Idle) (Replies tag.Release None InBlock) ignored)
+    (in_state state (Refuses (NeedsBlock needs.Release) Idle) (Refuses (NoSavepoint name) Failed) ignored)
+answer state live set (Listen name) = in_state state (Commits tag.Listen) (Replies tag.Listen None InBlock) ignored
+answer state live set (Unlisten name) = in_state state (Commits tag.Unlisten) (Replies tag.Unlisten None InBlock) ignored
+answer state live set UnlistenAll = in_state state (Commits tag.Unlisten) (Replies tag.Unlisten None InBlock) ignored
+answer state live set (Notify note) = in_state state (Commits tag.Notify) (Replies tag.Notify None InBlock) ignored
+answer state live set (PgNotify note) = in_state state (Commits (tag.Select 1)) (Replies (tag.Select 1) None InBlock) ignored
+answer state live set ListeningChannels = in_state state ShowsChannels ShowsChannels ignored
+answer state live set QueueUsage = in_state state ShowsUsage ShowsUsage ignored
+answer state live set (Invalid which) = in_state state (Refuses (Bounds which) Idle) (Refuses (Bounds which) Failed) ignored
+answer state live set (Bad at) = in_state state (Refuses (Syntax at) Idle) (Refuses (Syntax at) Failed) (Refuses (Syntax at) Failed)
+answer state live set Empty = in_state state Silent Silent Silent
+
+-- the state of the block after a cell, from the state before it
+abbrev pub next_state : BlockState → Cell → BlockState
+next_state state (Commits tag) = Idle
+next_state state (Replies tag warning next) = next
+next_state state (Refuses refusal next) = next
+next_state state Silent = state
+next_state state ShowsChannels = state
+next_state state ShowsUsage = state

@@ -5,6 +5,7 @@ pub mod Bytes
 pub mod Packing
 pub mod Savepoints
 pub mod Answers
+pub mod Refusals
 pub mod Along
 pub mod Walk
 pub mod Trace
@@ -13,5 +14,8 @@ pub mod Text
 pub mod Laws
 pub mod BytesLaws
 pub mod PackingLaws
+pub mod AnswerLaws
+pub mod SavepointLaws
 pub mod Examples
 pub mod PackingExamples
+pub mod SavepointExamples

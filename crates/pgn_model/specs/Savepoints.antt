@@ -113,3 +113,34 @@ changes_of command.UnlistenAll = Acted UnlistenAll ∷ []
 changes_of (command.Notify note) = Noted note ∷ []
 changes_of (command.PgNotify note) = Noted note ∷ []
 changes_of other = []
+
+-- this notification
+abbrev pub is_note_of : Note → Change → Bool
+is_note_of note (Noted other) = same_note note other
+is_note_of note change = false
+
+-- the notification stands in a list
+abbrev pub has_note : Note → List Change → Bool
+has_note note changes = list_any (is_note_of note) changes
+
+-- without the notifications that have stood in seen or before in the list; marks and actions are kept
+abbrev pub once_after : List Note → List Change → List Change
+once_after seen [] = []
+once_after seen (Noted note ∷ changes) = cond (list_any (same_note note) seen) (once_after seen changes) (Noted note ∷ once_after (seen ++ note ∷ []) changes)
+once_after seen (change ∷ changes) = change ∷ once_after seen changes
+
+-- without repeated notifications; marks and actions are kept
+abbrev pub once : List Change → List Change
+once changes = once_after [] changes
+
+-- what is left of a transaction's list after its savepoints, without repeated notifications
+abbrev pub live_changes : List Change → List Change
+live_changes changes = once (survivors changes)
+
+-- such a list after one more change
+abbrev pub after_change : List Change → Change → List Change
+after_change live (Back name) = cut_back name live
+after_change live (Free name) = freed name live
+after_change live (Noted note) = cond (has_note note live) live (live ++ Noted note ∷ [])
+after_change live (Marked name) = live ++ Marked name ∷ []
+after_change live (Acted action) = live ++ Acted action ∷ []

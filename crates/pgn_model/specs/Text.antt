@@ -5,7 +5,7 @@ use Rattle.pgn_base.specs.declared.note.Delivery.{Delivery}
 use Rattle.pgn_base.specs.declared.answers.Tag.{Tag}
 use Rattle.pgn_base.specs.declared.answers.Tag.TheVariants as tag
 use Rattle.pgn_base.specs.declared.answers.Warning.{Warning}
-use Rattle.pgn_base.specs.declared.answers.Warning.TheVariants.{AlreadyInBlock, NotInBlock}
+use Rattle.pgn_base.specs.declared.answers.Refusal.{Refusal}
 use Rattle.pgn_model.specs.declared.tx.Tx.{Tx}
 use Rattle.pgn_model.specs.declared.tx.Fate.{Fate}
 use Rattle.pgn_model.specs.declared.tx.Fate.TheVariants.{Committed, Aborted}
@@ -15,6 +15,7 @@ use Rattle.pgn_model.specs.declared.scenario.Scenario.{Scenario}
 use Rattle.pgn_model.specs.declared.item.Item.{Item}
 use Rattle.pgn_model.specs.declared.item.Item.TheVariants.{Line, Enlist, Publish, Reply, Read}
 use Rattle.pgn_model.specs.declared.trace.Trace.{Trace}
+use Rattle.pgn_model.specs.Refusals.{warning_code, warning_message, refusal_code, refusal_message}
 
 -- a line of the output, ended by LF
 abbrev pub line : List ℕ → List ℕ
@@ -74,8 +75,11 @@ tag_text (tag.Select rows) = codes "SELECT " ++ decimal rows
 
 -- a warning's code and text
 abbrev pub warning_text : Warning → List ℕ
-warning_text AlreadyInBlock = codes "25001: there is already a transaction in progress"
-warning_text NotInBlock = codes "25P01: there is no transaction in progress"
+warning_text warning = warning_code warning ++ codes ": " ++ warning_message warning
+
+-- a refusal's code and text
+abbrev pub refusal_text : Refusal → List ℕ
+refusal_text refusal = refusal_code refusal ++ codes ": " ++ refusal_message refusal
 
 -- the line of a warning, where there is one
 abbrev pub warning_line : Option Warning → List ℕ

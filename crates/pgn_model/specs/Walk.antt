@@ -13,6 +13,7 @@ use Rattle.pgn_model.specs.declared.tx.Fate.TheVariants.{Committed}
 use Rattle.pgn_model.specs.declared.block_state.BlockState.{BlockState}
 use Rattle.pgn_model.specs.declared.block_state.BlockState.TheVariants.{Idle}
 use Rattle.pgn_model.specs.declared.command.Command.{Command}
+use Rattle.pgn_model.specs.declared.command.Command.TheVariants as command
 use Rattle.pgn_model.specs.declared.scenario.Act.{Act}
 use Rattle.pgn_model.specs.declared.scenario.Act.TheVariants.{Run, Signal, Await, Quit}
 use Rattle.pgn_model.specs.declared.scenario.ScriptLine.{ScriptLine}
@@ -22,7 +23,7 @@ use Rattle.pgn_model.specs.declared.item.Item.TheVariants.{Line, Enlist, Publish
 use Rattle.pgn_model.specs.Journal.{entry}
 use Rattle.pgn_model.specs.Due.{due}
 use Rattle.pgn_model.specs.Savepoints.{Change, live_names, surviving_actions, surviving_notes, firsts, is_listen, changes_of}
-use Rattle.pgn_model.specs.Answers.{Cell, Commits, Replies, Refuses, Silent, ShowsChannels, ShowsUsage, Unserved, answer}
+use Rattle.pgn_model.specs.Answers.{Cell, Commits, answer}
 
 -- what the command line sets: the queue's limit in pages, and how many looks an await takes
 pub record Settings : Type 0 where
@@ -110,13 +111,10 @@ committing s changes ending =
 
 -- a command begins, with its cell of the table
 abbrev pub at_cell : State → Command → Cell → State
-at_cell s command (Commits tag) = committing s (s.changes ++ changes_of command) (Replied tag None)
-at_cell s command (Replies tag warning next) = record s { owed = Barred }
-at_cell s command (Refuses refusal next) = record s { owed = Barred }
-at_cell s command Silent = record s { owed = Barred }
-at_cell s command ShowsChannels = record s { owed = Barred }
-at_cell s command ShowsUsage = record s { owed = Barred }
-at_cell s command Unserved = record s { owed = Barred }
+at_cell s (command.Listen name) (Commits tag) = committing s (s.changes ++ changes_of (command.Listen name)) (Replied tag None)
+at_cell s (command.Notify note) (Commits tag) = committing s (s.changes ++ changes_of (command.Notify note)) (Replied tag None)
+-- a command that no session serves yet, or a state that no served command leads to
+at_cell s other cell = record s { owed = Barred }
 
 -- a line of the script begins
 abbrev pub at_act : State → Act → State

@@ -9,6 +9,7 @@
 //! Laws over the definitions, and worked examples computed from them, stand on public functions with an empty body.
 #![tactic(auto)]
 
+mod answer_laws;
 mod block_state;
 mod bytes_laws;
 mod command;
@@ -18,10 +19,15 @@ mod laws;
 mod line_text;
 mod packing_examples;
 mod packing_laws;
+mod savepoint_examples;
+mod savepoint_laws;
 mod scenario;
 mod trace;
 mod tx;
 
+pub use answer_laws::{
+    in_a_block, in_a_failed_block, only_blank_is_silent, outside_a_block, table_is_total,
+};
 pub use block_state::BlockState;
 pub use bytes_laws::{
     are_bytes, entry_lengths, filler_length, filler_reads_back, no_spelling_begins,
@@ -37,6 +43,16 @@ pub use packing_laws::{
     aborted_ends, cells_apart, cells_give_bytes, cells_of_each, first_place, images_agree,
     is_packed, last_place, leaves_room, next_place, note_moves, notes_in_turn, pages_hold,
     place_bound, place_folds, place_grows, place_rises, places_agree, put_takes,
+};
+pub use savepoint_examples::{
+    back_in_a_failed_block, back_to_one_savepoint_twice, failed_block, newest_savepoint_is_meant,
+    release_takes_later_savepoints, repeat_across_savepoints, repeats_are_sent_once,
+    rolled_back_is_no_repeat, savepoints_need_a_block,
+};
+pub use savepoint_laws::{
+    back_and_free, first_occurrences, live_after_change, live_after_savepoints, live_is_enough,
+    live_one_more, live_savepoints, live_twice, no_such_savepoint, one_more_occurrence,
+    survives_one_more,
 };
 pub use scenario::{Act, Scenario, ScenarioFault, ScriptLine, ScriptLines, Section, Sections};
 pub use trace::Trace;
