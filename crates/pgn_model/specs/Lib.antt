@@ -8,5 +8,8 @@ pub mod Walk
 pub mod Trace
 pub mod Legal
 pub mod Text
+pub mod Tokens
+pub mod Grammar
+pub mod GrammarLaws
 pub mod Laws
 pub mod Examples

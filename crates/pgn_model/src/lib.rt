@@ -12,6 +12,7 @@
 mod block_state;
 mod command;
 mod examples;
+mod grammar_laws;
 mod item;
 mod laws;
 mod line_text;
@@ -22,6 +23,7 @@ mod tx;
 pub use block_state::BlockState;
 pub use command::Command;
 pub use examples::{empty_section, self_notify};
+pub use grammar_laws::{begins_computes, one_reading, reading_computes};
 pub use item::{Item, Items};
 pub use laws::{due_grows, due_splits, lawful_front, lawful_grows, lawful_pushes};
 pub use line_text::LineText;

@@ -1,0 +1,108 @@
+-- The tokens of a line: what they are, where each begins, and which tokens a text has.
+use Rattle.std.specs.Prelude.{ℕ, zero, suc, ◌+◌, ◌-◌, Bool, true, false, ◌||◌, ◌&&◌, ◌==◌, nat_le, List, [], ◌∷◌, length, Option, None, Some, option_map, take_while, is_none}
+use Rattle.std.specs.Char.{is_ascii_alphabetic, is_ascii_digit}
+
+-- what a token is, with its text
+pub data Lexeme : Type 0 where
+  -- a word, as it is written
+  Word : (text : List ℕ) → Lexeme
+  -- a quoted identifier, without its quotes and with each quote inside it once
+  Quoted : (text : List ℕ) → Lexeme
+  -- a literal, without its quotes and with each quote inside it once
+  Literal : (text : List ℕ) → Lexeme
+  -- a number, as it is written
+  Number : (digits : List ℕ) → Lexeme
+  -- one of the signs * , ( ) ;
+  Sign : (byte : ℕ) → Lexeme
+  -- what is none of these
+  Wrong : Lexeme
+
+-- a token, and the byte of the line, from 0, where it begins
+pub record Token : Type 0 where
+  pub lexeme : Lexeme
+  pub at : ℕ
+
+-- space, tab, CR, form feed and vertical tab
+abbrev pub is_blank : ℕ → Bool
+is_blank b = b == 32 || b == 9 || b == 13 || b == 12 || b == 11
+
+-- an ASCII letter, `_` or a byte of a character past ASCII
+abbrev pub begins_word : ℕ → Bool
+begins_word b = is_ascii_alphabetic b || b == 95 || nat_le 128 b
+
+-- what a word goes on with: these, ASCII digits and `$`
+abbrev pub goes_on_word : ℕ → Bool
+goes_on_word b = begins_word b || is_ascii_digit b || b == 36
+
+-- * , ( ) ;
+abbrev pub is_sign : ℕ → Bool
+is_sign b = b == 42 || b == 44 || b == 40 || b == 41 || b == 59
+
+-- `-` and then another one
+abbrev pub begins_comment : ℕ → List ℕ → Bool
+begins_comment b [] = false
+begins_comment b (c ∷ bytes) = b == 45 && c == 45
+
+-- the text before a closing quote, and how many bytes it takes with this quote
+pub record Inside : Type 0 where
+  pub text : List ℕ
+  pub size : ℕ
+
+-- a byte of the text that takes so many bytes, before the rest of it
+abbrev pub preceded : ℕ → ℕ → Inside → Inside
+preceded b size inside = record { text = b ∷ inside.text; size = size + inside.size }
+
+-- what stands before the closing quote, in bytes that follow an opening one; a quote that is written twice is a byte of the text
+abbrev pub closed : ℕ → List ℕ → Option Inside
+closed quote [] = None
+closed quote (b ∷ []) = elim (b == quote) [ true ↦ Some (record { text = []; size = 1 }) | false ↦ None ]
+closed quote (b ∷ c ∷ bytes) = elim (b == quote) [
+    true ↦ elim (c == quote) [ true ↦ option_map (preceded quote 2) (closed quote bytes) | false ↦ Some (record { text = []; size = 1 }) ]
+  | false ↦ option_map (preceded b 1) (closed quote (c ∷ bytes)) ]
+
+-- what bytes begin with
+pub data Front : Type 0 where
+  -- a blank
+  Blank : Front
+  -- a comment, which runs to the end
+  Comment : Front
+  -- a token, and how many bytes it takes after its first
+  Whole : (lexeme : Lexeme) → (more : ℕ) → Front
+  -- no token
+  NoToken : Front
+
+-- a quoted identifier has at least one character
+abbrev pub quoted_front : Option Inside → Front
+quoted_front None = NoToken
+quoted_front (Some inside) = elim inside.text [ [] ↦ NoToken | b ∷ bytes ↦ Whole (Quoted (b ∷ bytes)) inside.size ]
+
+-- a literal may be empty
+abbrev pub literal_front : Option Inside → Front
+literal_front None = NoToken
+literal_front (Some inside) = Whole (Literal inside.text) inside.size
+
+-- what a byte and those after it begin with: a word and a number are as long as they can be
+abbrev pub front : ℕ → List ℕ → Front
+front b bytes =
+    elim (is_blank b) [ true ↦ Blank | false ↦
+    elim (begins_comment b bytes) [ true ↦ Comment | false ↦
+    elim (begins_word b) [ true ↦ Whole (Word (b ∷ take_while goes_on_word bytes)) (length (take_while goes_on_word bytes)) | false ↦
+    elim (is_ascii_digit b) [ true ↦ Whole (Number (b ∷ take_while is_ascii_digit bytes)) (length (take_while is_ascii_digit bytes)) | false ↦
+    elim (is_sign b) [ true ↦ Whole (Sign b) 0 | false ↦
+    elim (b == 34) [ true ↦ quoted_front (closed 34 bytes) | false ↦
+    elim (b == 39) [ true ↦ literal_front (closed 39 bytes) | false ↦ NoToken ] ] ] ] ] ] ]
+
+-- the tokens of the bytes from a place of the line on, of which the first `taken` belong to the token before; what begins no
+-- token is wrong, and nothing is read after it
+abbrev pub tokens_from : ℕ → ℕ → List ℕ → List Token
+tokens_from at taken [] = []
+tokens_from at (suc taken) (b ∷ bytes) = tokens_from (at + 1) taken bytes
+tokens_from at zero (b ∷ bytes) = elim (front b bytes) [
+    Blank ↦ tokens_from (at + 1) 0 bytes
+  | Comment ↦ []
+  | Whole lexeme more ↦ record { lexeme = lexeme; at = at } ∷ tokens_from (at + 1) more bytes
+  | NoToken ↦ record { lexeme = Wrong; at = at } ∷ [] ]
+
+-- the tokens of a line
+abbrev pub tokens : List ℕ → List Token
+tokens text = tokens_from 0 0 text
