@@ -1,6 +1,5 @@
 -- Laws of the grammar.
-use Rattle.std.proofs.Common.{◌≡◌, ◌≢◌, ◌↔◌, ℕ, zero, suc, ◌+◌, Bool, true, false, ◌&&◌, ◌||◌, ◌==◌, not, ◌⊎◌, inl, inr, List, [], ◌∷◌, ◌++◌, map, length, Option, None, Some, sym, ap, ◌∙◌, refl, subst, arith, append_assoc, codes}
-use Rattle.std.specs.List.{list_any}
+use Rattle.std.proofs.Common.{◌≡◌, ◌↔◌, ℕ, Bool, true, false, ◌&&◌, ◌||◌, ◌==◌, not, inl, inr, List, [], ◌∷◌, ◌++◌, length, Option, None, Some, sym, ap, ◌∙◌, refl, subst, append_assoc, codes}
 use Rattle.std.specs.Str.{str_eq_ignore_ascii_case, str_to_ascii_lowercase}
 use Rattle.std.proofs.lemmas.Bool.{false≢true, and_parts, and_from, or_cases, or_left, or_right, both_ways, eq-eqb, eqb-true, not-true, false_from_ne_true}
 use Rattle.std.proofs.lemmas.List.{map-append, append-nil}
@@ -8,7 +7,7 @@ use Rattle.std.proofs.lemmas.Slice.Eq.{bytes_eq-Decides}
 use Rattle.pgn_model.specs.declared.command.Command.{Command}
 use Rattle.pgn_model.specs.declared.command.Command.TheVariants as command
 use Rattle.pgn_model.specs.Tokens.{Lexeme, Word, Quoted, Literal, Number, Sign, Wrong, Token, tokens}
-use Rattle.pgn_model.specs.Grammar.{Place, Key, Name, Text, Count, Mark, fits, all_fit, Line, table, IsOneOf, Begins, lexemes_of, limited, ReadsAs, Whole, Stops, Lacks}
+use Rattle.pgn_model.specs.Grammar.{Place, Key, Name, Text, Count, Mark, fits, all_fit, Line, table, IsOneOf, Begins, lexemes_of, ReadsAs, Whole, Stops, Lacks}
 use Rattle.pgn_model.specs.GrammarLaws.{front_fits, begin_one, command_of, stop, reading_of, reading}
 
 -- a front of tokens that fit
@@ -64,20 +63,23 @@ one-begins (line ∷ lines) lexemes more command (inr h) = or_right _ _ (one-beg
 one-completes : (lines : List Line) (lexemes : List Lexeme) → begin_one lines lexemes ≡ true → (more : List Lexeme) × (command : Command) × IsOneOf lines (lexemes ++ more) command
 one-completes [] lexemes h = absurd (false≢true h)
 one-completes (line ∷ lines) lexemes h = elim (or_cases (front_fits line.places lexemes) (begin_one lines lexemes) h) [
-    inl e ↦ (completion line.places lexemes, line.command (lexemes ++ completion line.places lexemes), inl (completion-fits line.places lexemes e, refl))
-  | inr e ↦ let rest : (more : List Lexeme) × (command : Command) × IsOneOf lines (lexemes ++ more) command = one-completes lines lexemes e in (rest.0, rest.1, inr rest.2) ]
+  | inl e ↦ (completion line.places lexemes, line.command (lexemes ++ completion line.places lexemes), inl (completion-fits line.places lexemes e, refl))
+  | inr e ↦ let rest : (more : List Lexeme) × (command : Command) × IsOneOf lines (lexemes ++ more) command = one-completes lines lexemes e in (rest.0, rest.1, inr rest.2)
+]
 
 begin_one-front : (lines : List Line) (lexemes more : List Lexeme) → begin_one lines (lexemes ++ more) ≡ true → begin_one lines lexemes ≡ true
 begin_one-front [] lexemes more h = absurd (false≢true h)
 begin_one-front (line ∷ lines) lexemes more h = elim (or_cases (front_fits line.places (lexemes ++ more)) (begin_one lines (lexemes ++ more)) h) [
-    inl e ↦ or_left _ _ (front_fits-front line.places lexemes more e)
-  | inr e ↦ or_right _ _ (begin_one-front lines lexemes more e) ]
+  | inl e ↦ or_left _ _ (front_fits-front line.places lexemes more e)
+  | inr e ↦ or_right _ _ (begin_one-front lines lexemes more e)
+]
 
 pub begins-computes : (lexemes : List Lexeme) → Begins lexemes ↔ (begin_one table lexemes ≡ true)
 begins-computes lexemes = (
   (λ h. one-begins table lexemes h.more h.command h.line),
   (λ h. let rest : (more : List Lexeme) × (command : Command) × IsOneOf table (lexemes ++ more) command = one-completes table lexemes h in
-    record { more = rest.0; command = rest.1; line = rest.2 }))
+      record { more = rest.0; command = rest.1; line = rest.2 }),
+)
 
 -- no token may stand at both of these places
 abbrev apart : Place → Place → Bool
@@ -127,8 +129,9 @@ clash-excludes (p ∷ ps) (q ∷ qs) (t ∷ ts) h f g =
     let fs : (fits p t ≡ true) × (all_fit ps ts ≡ true) = and_parts _ _ f in
     let gs : (fits q t ≡ true) × (all_fit qs ts ≡ true) = and_parts _ _ g in
     elim (or_cases (apart p q) (clash ps qs) h) [
-      inl e ↦ apart-excludes p q t e fs.0 gs.0
-    | inr e ↦ clash-excludes ps qs ts e fs.1 gs.1 ]
+      | inl e ↦ apart-excludes p q t e fs.0 gs.0
+      | inr e ↦ clash-excludes ps qs ts e fs.1 gs.1
+    ]
 
 -- no tokens are both this line and one of those
 abbrev clashes : Line → List Line → Bool
@@ -157,8 +160,9 @@ one-command_of : (lines : List Line) (ts : List Lexeme) (command : Command) → 
 one-command_of [] ts command h = cc
 one-command_of (line ∷ lines) ts command h =
     elim (all_fit line.places ts) as (λ b. all_fit line.places ts ≡ b → elim b as (λ _. Option Command) [ true ↦ Some (line.command ts) | false ↦ command_of lines ts ] ≡ Some command → IsOneOf (line ∷ lines) ts command) [
-      true ↦ λ f e. inl (f, cc)
-    | false ↦ λ f e. inr (one-command_of lines ts command e) ] refl h
+      | true ↦ λ f e. inl (f, cc)
+      | false ↦ λ f e. inr (one-command_of lines ts command e)
+    ] refl h
 
 -- the table has no two lines that the same tokens may be
 table_clash : all_clash table ≡ true
@@ -197,11 +201,11 @@ pub reads-computes : (text : List ℕ) (command : Command) → ReadsAs text comm
 reads-computes text _ (Whole command line) = ap (reading_of (length text) (tokens text)) (command_of-one table (lexemes_of (tokens text)) command table_clash line)
 reads-computes text _ (Stops front token rest e begin stuck) =
     let both : lexemes_of (tokens text) ≡ lexemes_of (front ++ token ∷ []) ++ lexemes_of rest =
-      ap lexemes_of (e ∙ sym (append_assoc front (token ∷ []) rest)) ∙ map-append (λ (t : Token). t.lexeme) (front ++ token ∷ []) rest in
+    ap lexemes_of (e ∙ sym (append_assoc front (token ∷ []) rest)) ∙ map-append (λ (t : Token). t.lexeme) (front ++ token ∷ []) rest in
     let none : command_of table (lexemes_of (tokens text)) ≡ None = no_line-none (lexemes_of (tokens text)) (λ c h. stuck ((begins-computes (lexemes_of (front ++ token ∷ []))).1
-      (line-begins (lexemes_of (front ++ token ∷ [])) (lexemes_of rest) c (subst (λ (ts : List Lexeme). IsOneOf table ts c) both h)))) in
+    (line-begins (lexemes_of (front ++ token ∷ [])) (lexemes_of rest) c (subst (λ (ts : List Lexeme). IsOneOf table ts c) both h)))) in
     let at : stop table (length text) [] (tokens text) ≡ token.at = ap (stop table (length text) []) e ∙ stop-at table (length text) [] front token rest ((begins-computes (lexemes_of front)).0 begin)
-      (false_from_ne_true _ (λ h. stuck ((begins-computes (lexemes_of (front ++ token ∷ []))).1 h))) in
+    (false_from_ne_true _ (λ h. stuck ((begins-computes (lexemes_of (front ++ token ∷ []))).1 h))) in
     ap (reading_of (length text) (tokens text)) none ∙ ap (λ n. command.Bad n) at
 reads-computes text _ (Lacks begin stuck) =
     ap (reading_of (length text) (tokens text)) (no_line-none (lexemes_of (tokens text)) stuck)
@@ -215,10 +219,11 @@ reads_where text front [] e h none =
 reads_where text front (t ∷ rest) e h none =
     let more : lexemes_of (front ++ t ∷ []) ≡ lexemes_of front ++ t.lexeme ∷ [] = map-append (λ (t : Token). t.lexeme) front (t ∷ []) in
     elim (begin_one table (lexemes_of front ++ t.lexeme ∷ [])) as (λ b. begin_one table (lexemes_of front ++ t.lexeme ∷ []) ≡ b
-      → ReadsAs text (command.Bad (elim b as (λ _. ℕ) [ true ↦ stop table (length text) (lexemes_of front ++ t.lexeme ∷ []) rest | false ↦ t.at ]))) [
-      true ↦ λ b. subst (λ (ts : List Lexeme). ReadsAs text (command.Bad (stop table (length text) ts rest))) more
-        (reads_where text (front ++ t ∷ []) rest (e ∙ sym (append_assoc front (t ∷ []) rest)) (ap (begin_one table) more ∙ b) none)
-    | false ↦ λ b. Stops front t rest e ((begins-computes (lexemes_of front)).1 h) (λ begin. both_ways _ (ap (begin_one table) more ∙ b) ((begins-computes (lexemes_of (front ++ t ∷ []))).0 begin)) ] refl
+    → ReadsAs text (command.Bad (elim b as (λ _. ℕ) [ true ↦ stop table (length text) (lexemes_of front ++ t.lexeme ∷ []) rest | false ↦ t.at ]))) [
+      | true ↦ λ b. subst (λ (ts : List Lexeme). ReadsAs text (command.Bad (stop table (length text) ts rest))) more
+          (reads_where text (front ++ t ∷ []) rest (e ∙ sym (append_assoc front (t ∷ []) rest)) (ap (begin_one table) more ∙ b) none)
+      | false ↦ λ b. Stops front t rest e ((begins-computes (lexemes_of front)).1 h) (λ begin. both_ways _ (ap (begin_one table) more ∙ b) ((begins-computes (lexemes_of (front ++ t ∷ []))).0 begin))
+    ] refl
 
 nothing_begins : begin_one table [] ≡ true
 unfolding table
@@ -227,8 +232,9 @@ nothing_begins = refl
 pub reading-reads : (text : List ℕ) → ReadsAs text (reading text)
 reading-reads text =
     elim (command_of table (lexemes_of (tokens text))) as (λ o. command_of table (lexemes_of (tokens text)) ≡ o → ReadsAs text (reading_of (length text) (tokens text) o)) [
-      Some command ↦ λ e. Whole command (one-command_of table (lexemes_of (tokens text)) command e)
-    | None ↦ λ e. reads_where text [] (tokens text) refl nothing_begins e ] refl
+      | Some command ↦ λ e. Whole command (one-command_of table (lexemes_of (tokens text)) command e)
+      | None ↦ λ e. reads_where text [] (tokens text) refl nothing_begins e
+    ] refl
 
 pub reading-computes : (text : List ℕ) (command : Command) → ReadsAs text command ↔ (reading text ≡ command)
 reading-computes text command = (reads-computes text command, λ e. subst (λ (c : Command). ReadsAs text c) e (reading-reads text))

@@ -1,3 +1,4 @@
 pub mod DueLaws
 pub mod WalkLaws
 pub mod GrammarLaws
+pub mod TokenLaws

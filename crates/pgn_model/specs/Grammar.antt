@@ -1,5 +1,5 @@
 -- The table of commands, and the command that a line reads as.
-use Rattle.std.specs.Prelude.{◌≡◌, ℕ, zero, suc, ◌+◌, Bool, true, false, ◌&&◌, ◌==◌, not, cond, nat_le, nat_lt, ◌⊎◌, List, [], ◌∷◌, ◌++◌, map, length, take, drop, flat_map, slice_index_or, Option, None, Some, codes}
+use Rattle.std.specs.Prelude.{◌≡◌, ℕ, zero, suc, Bool, true, false, ◌&&◌, ◌==◌, not, cond, nat_le, nat_lt, ◌⊎◌, List, [], ◌∷◌, ◌++◌, map, length, take, drop, flat_map, slice_index_or, Option, None, Some, codes}
 use Rattle.std.specs.Str.{str_eq_ignore_ascii_case, str_to_ascii_lowercase, byte}
 use Rattle.std.specs.Str.Parse.{digits_value}
 use Rattle.std.specs.List.{repeat}
@@ -151,21 +151,21 @@ note texts = record { channel = slice_index_or texts 0 []; payload = slice_index
 unfoldable pub table : List Line
 table =
     row [] (λ texts. command.Empty)
- ++ row (key (codes "begin") ∷ work ∷ []) (λ texts. command.Begin)
- ++ row (key (codes "start") ∷ key (codes "transaction") ∷ []) (λ texts. command.Start)
- ++ row (either (codes "commit") (codes "end") ∷ work ∷ []) (λ texts. command.Commit)
- ++ row (either (codes "rollback") (codes "abort") ∷ work ∷ []) (λ texts. command.Rollback)
- ++ row (key (codes "savepoint") ∷ name ∷ []) (λ texts. command.Savepoint (first texts))
- ++ row (key (codes "rollback") ∷ work ∷ key (codes "to") ∷ optional (key (codes "savepoint")) ∷ name ∷ []) (λ texts. command.RollbackTo (first texts))
- ++ row (key (codes "release") ∷ optional (key (codes "savepoint")) ∷ name ∷ []) (λ texts. command.Release (first texts))
- ++ row (key (codes "listen") ∷ name ∷ []) (λ texts. command.Listen (first texts))
- ++ row (key (codes "unlisten") ∷ name ∷ []) (λ texts. command.Unlisten (first texts))
- ++ row (key (codes "unlisten") ∷ sign (byte "*") ∷ []) (λ texts. command.UnlistenAll)
- ++ row (key (codes "notify") ∷ name ∷ []) (λ texts. command.Notify (note texts))
- ++ row (key (codes "notify") ∷ name ∷ sign (byte ",") ∷ literal ∷ []) (λ texts. command.Notify (note texts))
- ++ row (key (codes "select") ∷ key (codes "pg_notify") ∷ sign (byte "(") ∷ argument ∷ sign (byte ",") ∷ argument ∷ sign (byte ")") ∷ []) (λ texts. command.PgNotify (note texts))
- ++ row (key (codes "select") ∷ key (codes "pg_listening_channels") ∷ sign (byte "(") ∷ sign (byte ")") ∷ []) (λ texts. command.ListeningChannels)
- ++ row (key (codes "select") ∷ key (codes "pg_notification_queue_usage") ∷ sign (byte "(") ∷ sign (byte ")") ∷ []) (λ texts. command.QueueUsage)
+    ++ row (key (codes "begin") ∷ work ∷ []) (λ texts. command.Begin)
+    ++ row (key (codes "start") ∷ key (codes "transaction") ∷ []) (λ texts. command.Start)
+    ++ row (either (codes "commit") (codes "end") ∷ work ∷ []) (λ texts. command.Commit)
+    ++ row (either (codes "rollback") (codes "abort") ∷ work ∷ []) (λ texts. command.Rollback)
+    ++ row (key (codes "savepoint") ∷ name ∷ []) (λ texts. command.Savepoint (first texts))
+    ++ row (key (codes "rollback") ∷ work ∷ key (codes "to") ∷ optional (key (codes "savepoint")) ∷ name ∷ []) (λ texts. command.RollbackTo (first texts))
+    ++ row (key (codes "release") ∷ optional (key (codes "savepoint")) ∷ name ∷ []) (λ texts. command.Release (first texts))
+    ++ row (key (codes "listen") ∷ name ∷ []) (λ texts. command.Listen (first texts))
+    ++ row (key (codes "unlisten") ∷ name ∷ []) (λ texts. command.Unlisten (first texts))
+    ++ row (key (codes "unlisten") ∷ sign (byte "*") ∷ []) (λ texts. command.UnlistenAll)
+    ++ row (key (codes "notify") ∷ name ∷ []) (λ texts. command.Notify (note texts))
+    ++ row (key (codes "notify") ∷ name ∷ sign (byte ",") ∷ literal ∷ []) (λ texts. command.Notify (note texts))
+    ++ row (key (codes "select") ∷ key (codes "pg_notify") ∷ sign (byte "(") ∷ argument ∷ sign (byte ",") ∷ argument ∷ sign (byte ")") ∷ []) (λ texts. command.PgNotify (note texts))
+    ++ row (key (codes "select") ∷ key (codes "pg_listening_channels") ∷ sign (byte "(") ∷ sign (byte ")") ∷ []) (λ texts. command.ListeningChannels)
+    ++ row (key (codes "select") ∷ key (codes "pg_notification_queue_usage") ∷ sign (byte "(") ∷ sign (byte ")") ∷ []) (λ texts. command.QueueUsage)
 
 -- tokens are one of these lines, with this command
 abbrev pub IsOneOf : List Line → List Lexeme → Command → Type 0

@@ -11,5 +11,6 @@ pub mod Text
 pub mod Tokens
 pub mod Grammar
 pub mod GrammarLaws
+pub mod TokenLaws
 pub mod Laws
 pub mod Examples

@@ -1,5 +1,5 @@
 -- The tokens of a line: what they are, where each begins, and which tokens a text has.
-use Rattle.std.specs.Prelude.{ℕ, zero, suc, ◌+◌, ◌-◌, Bool, true, false, ◌||◌, ◌&&◌, ◌==◌, nat_le, List, [], ◌∷◌, length, Option, None, Some, option_map, take_while, is_none}
+use Rattle.std.specs.Prelude.{ℕ, zero, suc, ◌+◌, Bool, true, false, ◌||◌, ◌&&◌, ◌==◌, nat_le, List, [], ◌∷◌, length, Option, None, Some, option_map, take_while}
 use Rattle.std.specs.Char.{is_ascii_alphabetic, is_ascii_digit}
 
 -- what a token is, with its text
@@ -57,8 +57,9 @@ abbrev pub closed : ℕ → List ℕ → Option Inside
 closed quote [] = None
 closed quote (b ∷ []) = elim (b == quote) [ true ↦ Some (record { text = []; size = 1 }) | false ↦ None ]
 closed quote (b ∷ c ∷ bytes) = elim (b == quote) [
-    true ↦ elim (c == quote) [ true ↦ option_map (preceded quote 2) (closed quote bytes) | false ↦ Some (record { text = []; size = 1 }) ]
-  | false ↦ option_map (preceded b 1) (closed quote (c ∷ bytes)) ]
+  | true ↦ elim (c == quote) [ true ↦ option_map (preceded quote 2) (closed quote bytes) | false ↦ Some (record { text = []; size = 1 }) ]
+  | false ↦ option_map (preceded b 1) (closed quote (c ∷ bytes))
+]
 
 -- what bytes begin with
 pub data Front : Type 0 where
@@ -67,30 +68,48 @@ pub data Front : Type 0 where
   -- a comment, which runs to the end
   Comment : Front
   -- a token, and how many bytes it takes after its first
-  Whole : (lexeme : Lexeme) → (more : ℕ) → Front
+  OneToken : (lexeme : Lexeme) → (more : ℕ) → Front
   -- no token
   NoToken : Front
 
 -- a quoted identifier has at least one character
 abbrev pub quoted_front : Option Inside → Front
 quoted_front None = NoToken
-quoted_front (Some inside) = elim inside.text [ [] ↦ NoToken | b ∷ bytes ↦ Whole (Quoted (b ∷ bytes)) inside.size ]
+quoted_front (Some inside) = elim inside.text [ [] ↦ NoToken | b ∷ bytes ↦ OneToken (Quoted (b ∷ bytes)) inside.size ]
 
 -- a literal may be empty
 abbrev pub literal_front : Option Inside → Front
 literal_front None = NoToken
-literal_front (Some inside) = Whole (Literal inside.text) inside.size
+literal_front (Some inside) = OneToken (Literal inside.text) inside.size
 
 -- what a byte and those after it begin with: a word and a number are as long as they can be
 abbrev pub front : ℕ → List ℕ → Front
 front b bytes =
-    elim (is_blank b) [ true ↦ Blank | false ↦
-    elim (begins_comment b bytes) [ true ↦ Comment | false ↦
-    elim (begins_word b) [ true ↦ Whole (Word (b ∷ take_while goes_on_word bytes)) (length (take_while goes_on_word bytes)) | false ↦
-    elim (is_ascii_digit b) [ true ↦ Whole (Number (b ∷ take_while is_ascii_digit bytes)) (length (take_while is_ascii_digit bytes)) | false ↦
-    elim (is_sign b) [ true ↦ Whole (Sign b) 0 | false ↦
-    elim (b == 34) [ true ↦ quoted_front (closed 34 bytes) | false ↦
-    elim (b == 39) [ true ↦ literal_front (closed 39 bytes) | false ↦ NoToken ] ] ] ] ] ] ]
+    elim (is_blank b) [
+      | true ↦ Blank
+      | false ↦
+          elim (begins_comment b bytes) [
+            | true ↦ Comment
+            | false ↦
+                elim (begins_word b) [
+                  | true ↦ OneToken (Word (b ∷ take_while goes_on_word bytes)) (length (take_while goes_on_word bytes))
+                  | false ↦
+                      elim (is_ascii_digit b) [
+                        | true ↦ OneToken (Number (b ∷ take_while is_ascii_digit bytes)) (length (take_while is_ascii_digit bytes))
+                        | false ↦
+                            elim (is_sign b) [
+                              | true ↦ OneToken (Sign b) 0
+                              | false ↦
+                                  elim (b == 34) [
+                                    | true ↦ quoted_front (closed 34 bytes)
+                                    | false ↦
+                                        elim (b == 39) [ true ↦ literal_front (closed 39 bytes) | false ↦ NoToken ]
+                                  ]
+                            ]
+                      ]
+                ]
+          ]
+    ]
 
 -- the tokens of the bytes from a place of the line on, of which the first `taken` belong to the token before; what begins no
 -- token is wrong, and nothing is read after it
@@ -98,10 +117,11 @@ abbrev pub tokens_from : ℕ → ℕ → List ℕ → List Token
 tokens_from at taken [] = []
 tokens_from at (suc taken) (b ∷ bytes) = tokens_from (at + 1) taken bytes
 tokens_from at zero (b ∷ bytes) = elim (front b bytes) [
-    Blank ↦ tokens_from (at + 1) 0 bytes
+  | Blank ↦ tokens_from (at + 1) 0 bytes
   | Comment ↦ []
-  | Whole lexeme more ↦ record { lexeme = lexeme; at = at } ∷ tokens_from (at + 1) more bytes
-  | NoToken ↦ record { lexeme = Wrong; at = at } ∷ [] ]
+  | OneToken lexeme more ↦ record { lexeme = lexeme; at = at } ∷ tokens_from (at + 1) more bytes
+  | NoToken ↦ record { lexeme = Wrong; at = at } ∷ []
+]
 
 -- the tokens of a line
 abbrev pub tokens : List ℕ → List Token

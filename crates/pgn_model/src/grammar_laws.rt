@@ -1,4 +1,5 @@
 ghost use Rattle.pgn_model.specs.GrammarLaws.{BeginsComputes, ReadingComputes, OneReading};
+ghost use Rattle.pgn_model.specs.TokenLaws.{QuotesTell, CutIsLongest};
 
 /// Tokens begin a line of the table of commands exactly where they fit the first places of one.
 pub fn begins_computes()
@@ -13,4 +14,14 @@ pub fn reading_computes()
 /// A line has exactly one reading.
 pub fn one_reading()
     ensures { OneReading }
+{}
+
+/// A quoted text ends at the first quote that is not written twice, and is what stands before it with each quote once.
+pub fn quotes_tell()
+    ensures { QuotesTell }
+{}
+
+/// A cut name is the longest front of whole characters that is short enough.
+pub fn cut_is_longest()
+    ensures { CutIsLongest }
 {}

@@ -24,8 +24,13 @@ mod tx;
 pub use block_state::BlockState;
 pub use command::Command;
 pub use examples::{empty_section, self_notify};
-pub use grammar_examples::{arguments, blank_lines, cut_names, each_command, limits, lines_and_answers, savepoint_word, wrong_tokens};
-pub use grammar_laws::{begins_computes, one_reading, reading_computes};
+pub use grammar_examples::{
+    arguments, blank_lines, cut_names, each_command, limits, lines_and_answers, savepoint_word,
+    wrong_tokens,
+};
+pub use grammar_laws::{
+    begins_computes, cut_is_longest, one_reading, quotes_tell, reading_computes,
+};
 pub use item::{Item, Items};
 pub use laws::{due_grows, due_splits, lawful_front, lawful_grows, lawful_pushes};
 pub use line_text::LineText;

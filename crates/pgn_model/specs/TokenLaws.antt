@@ -1,0 +1,26 @@
+-- Laws of quotes and of cut names.
+use Rattle.std.specs.Prelude.{◌≡◌, ◌≢◌, ◌↔◌, ℕ, ◌+◌, ◌≤◌, List, ◌∷◌, ◌++◌, length, take, drop, flat_map, slice_get, Some, IsUtf8}
+use Rattle.pgn_model.specs.Text.{doubled_byte}
+use Rattle.pgn_model.specs.Tokens.{Inside, closed}
+use Rattle.pgn_model.specs.Grammar.{cut}
+
+-- bytes begin with a text, each quote in it twice, and a closing quote, after which no quote stands
+pub record IsClosed (quote : ℕ) (bytes : List ℕ) (inside : Inside) : Type 0 where
+  pub spelled : bytes ≡ flat_map (doubled_byte quote) inside.text ++ quote ∷ drop inside.size bytes
+  pub size : inside.size ≡ length (flat_map (doubled_byte quote) inside.text) + 1
+  pub ends : slice_get (drop inside.size bytes) 0 ≢ Some quote
+
+-- what stands before the closing quote is the one text that the bytes spell
+abbrev pub QuotesTell : Type 0
+QuotesTell = (quote : ℕ) (bytes : List ℕ) (inside : Inside) → (closed quote bytes ≡ Some inside) ↔ IsClosed quote bytes inside
+
+-- a part of a text is its longest front of whole characters that has at most n bytes
+pub record IsLongestFront (n : ℕ) (text part : List ℕ) : Type 0 where
+  pub front : part ≡ take (length part) text
+  pub short : length part ≤ n
+  pub whole : IsUtf8 part
+  pub longest : (m : ℕ) → m ≤ n → m ≤ length text → IsUtf8 (take m text) → m ≤ length part
+
+-- a cut text is its longest front of whole characters that is short enough
+abbrev pub CutIsLongest : Type 0
+CutIsLongest = (n : ℕ) (text : List ℕ) → IsUtf8 text → IsLongestFront n text (cut n text)
