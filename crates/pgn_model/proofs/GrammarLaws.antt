@@ -1,14 +1,15 @@
 -- Laws of the grammar.
-use Rattle.std.proofs.Common.{◌≡◌, ◌↔◌, ℕ, Bool, true, false, ◌&&◌, ◌||◌, ◌==◌, not, inl, inr, List, [], ◌∷◌, ◌++◌, length, Option, None, Some, sym, ap, ◌∙◌, refl, subst, append_assoc, codes}
+use Rattle.std.specs.List.{list_any}
+use Rattle.std.proofs.Common.{map, ◌≡◌, ◌↔◌, ℕ, Bool, true, false, ◌&&◌, ◌||◌, ◌==◌, not, inl, inr, List, [], ◌∷◌, ◌++◌, length, Option, None, Some, sym, ap, ◌∙◌, refl, subst, append_assoc, codes, filter_map, ◌≢◌}
 use Rattle.std.specs.Str.{str_eq_ignore_ascii_case, str_to_ascii_lowercase}
-use Rattle.std.proofs.lemmas.Bool.{false≢true, and_parts, and_from, or_cases, or_left, or_right, both_ways, eq-eqb, eqb-true, not-true, false_from_ne_true}
+use Rattle.std.proofs.lemmas.Bool.{false≢true, and_parts, and_from, or_cases, or_left, or_right, both_ways, eq-eqb, eqb-true, not-true, false_from_ne_true, cases_Bool}
 use Rattle.std.proofs.lemmas.List.{map-append, append-nil}
 use Rattle.std.proofs.lemmas.Slice.Eq.{bytes_eq-Decides}
 use Rattle.pgn_model.specs.declared.command.Command.{Command}
 use Rattle.pgn_model.specs.declared.command.Command.TheVariants as command
 use Rattle.pgn_model.specs.Tokens.{Lexeme, Word, Quoted, Literal, Number, Sign, Wrong, Token, tokens}
 use Rattle.pgn_model.specs.Grammar.{Place, Key, Name, Text, Count, Mark, fits, all_fit, Line, table, IsOneOf, Begins, lexemes_of, ReadsAs, Whole, Stops, Lacks}
-use Rattle.pgn_model.specs.GrammarLaws.{front_fits, begin_one, command_of, stop, reading_of, reading}
+use Rattle.pgn_model.specs.GrammarLaws.{front_fits, begin_one, command_of, stop, reading_of, reading, after_first, followers, table_places, is_done}
 
 -- a front of tokens that fit
 front_fits-all : (places : List Place) (lexemes more : List Lexeme) → all_fit places (lexemes ++ more) ≡ true → front_fits places lexemes ≡ true
@@ -241,3 +242,74 @@ reading-computes text command = (reads-computes text command, λ e. subst (λ (c
 
 pub one-reading : (text : List ℕ) → (command : Command) × ReadsAs text command × ((other : Command) → ReadsAs text other → other ≡ command)
 one-reading text = (reading text, reading-reads text, λ other h. sym (reads-computes text other h))
+
+-- tokens begin one of these lists of places, and are one of them
+abbrev any_front : List (List Place) → List Lexeme → Bool
+any_front ways lexemes = list_any (λ places. front_fits places lexemes) ways
+
+abbrev any_whole : List (List Place) → List Lexeme → Bool
+any_whole ways lexemes = list_any (λ places. all_fit places lexemes) ways
+
+any_front-step : (ways : List (List Place)) (t : Lexeme) (ts : List Lexeme) → any_front ways (t ∷ ts) ≡ any_front (filter_map (after_first t) ways) ts
+any_front-step [] t ts = refl
+any_front-step ([] ∷ ways) t ts = any_front-step ways t ts
+any_front-step ((p ∷ ps) ∷ ways) t ts = elim (cases_Bool (fits p t)) [
+    inl e ↦ rw e (ap (λ b. front_fits ps ts || b) (any_front-step ways t ts))
+  | inr e ↦ rw e (any_front-step ways t ts) ]
+
+any_whole-step : (ways : List (List Place)) (t : Lexeme) (ts : List Lexeme) → any_whole ways (t ∷ ts) ≡ any_whole (filter_map (after_first t) ways) ts
+any_whole-step [] t ts = refl
+any_whole-step ([] ∷ ways) t ts = any_whole-step ways t ts
+any_whole-step ((p ∷ ps) ∷ ways) t ts = elim (cases_Bool (fits p t)) [
+    inl e ↦ rw e (ap (λ b. all_fit ps ts || b) (any_whole-step ways t ts))
+  | inr e ↦ rw e (any_whole-step ways t ts) ]
+
+any_front-followers : (ways : List (List Place)) (ts : List Lexeme) → any_front ways ts ≡ any_front (followers ways ts) []
+any_front-followers ways [] = refl
+any_front-followers ways (t ∷ ts) = any_front-step ways t ts ∙ any_front-followers (filter_map (after_first t) ways) ts
+
+done-whole : (places : List Place) → all_fit places [] ≡ is_done places
+done-whole [] = refl
+done-whole (p ∷ ps) = refl
+
+any_whole-done : (ways : List (List Place)) → any_whole ways [] ≡ list_any is_done ways
+any_whole-done [] = refl
+any_whole-done (places ∷ ways) = ap (λ b. b || any_whole ways []) (done-whole places) ∙ ap (λ b. is_done places || b) (any_whole-done ways)
+
+any_whole-followers : (ways : List (List Place)) (ts : List Lexeme) → any_whole ways ts ≡ list_any is_done (followers ways ts)
+any_whole-followers ways [] = any_whole-done ways
+any_whole-followers ways (t ∷ ts) = any_whole-step ways t ts ∙ any_whole-followers (filter_map (after_first t) ways) ts
+
+any_front-lines : (lines : List Line) (ts : List Lexeme) → any_front (map (λ line. line.places) lines) ts ≡ begin_one lines ts
+any_front-lines [] ts = refl
+any_front-lines (line ∷ lines) ts = ap (λ b. front_fits line.places ts || b) (any_front-lines lines ts)
+
+any_front-some : (ways : List (List Place)) → ways ≢ [] → any_front ways [] ≡ true
+any_front-some [] h = absurd (h refl)
+any_front-some (places ∷ ways) h = refl
+
+some-any_front : (ways : List (List Place)) → any_front ways [] ≡ true → ways ≢ []
+some-any_front [] h e = false≢true h
+some-any_front (places ∷ ways) h e = cc
+
+pub followers-tell : (lexemes : List Lexeme) → Begins lexemes ↔ (followers table_places lexemes ≢ [])
+followers-tell lexemes =
+    let same : begin_one table lexemes ≡ any_front (followers table_places lexemes) [] = sym (any_front-lines table lexemes) ∙ any_front-followers table_places lexemes in
+    (λ h. some-any_front (followers table_places lexemes) (sym same ∙ (begins-computes lexemes).0 h),
+     λ h. (begins-computes lexemes).1 (same ∙ any_front-some (followers table_places lexemes) h))
+
+one-whole : (lines : List Line) (ts : List Lexeme) (command : Command) → IsOneOf lines ts command → any_whole (map (λ line. line.places) lines) ts ≡ true
+one-whole [] ts command h = absurd h
+one-whole (line ∷ lines) ts command (inl h) = or_left _ _ h.0
+one-whole (line ∷ lines) ts command (inr h) = or_right _ _ (one-whole lines ts command h)
+
+whole-one : (lines : List Line) (ts : List Lexeme) → any_whole (map (λ line. line.places) lines) ts ≡ true → (command : Command) × IsOneOf lines ts command
+whole-one [] ts h = absurd (false≢true h)
+whole-one (line ∷ lines) ts h = elim (or_cases (all_fit line.places ts) (any_whole (map (λ line. line.places) lines) ts) h) [
+    inl e ↦ (line.command ts, inl (e, refl))
+  | inr e ↦ let rest : (command : Command) × IsOneOf lines ts command = whole-one lines ts e in (rest.0, inr rest.1) ]
+
+pub followers-done : (lexemes : List Lexeme) → ((command : Command) × IsOneOf table lexemes command) ↔ (list_any is_done (followers table_places lexemes) ≡ true)
+followers-done lexemes =
+    let same : any_whole table_places lexemes ≡ list_any is_done (followers table_places lexemes) = any_whole-followers table_places lexemes in
+    (λ h. sym same ∙ one-whole table lexemes h.0 h.1, λ h. whole-one table lexemes (same ∙ h))

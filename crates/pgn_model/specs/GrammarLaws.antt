@@ -1,10 +1,10 @@
 -- What a line reads as, computed, and the laws that tie this to the reading.
-use Rattle.std.specs.Prelude.{◌≡◌, ◌↔◌, ℕ, Bool, true, false, ◌&&◌, List, [], ◌∷◌, ◌++◌, length, Option, None, Some}
+use Rattle.std.specs.Prelude.{◌≡◌, ◌≢◌, ◌↔◌, ℕ, Bool, true, false, cond, ◌&&◌, List, [], ◌∷◌, ◌++◌, map, filter_map, length, Option, None, Some}
 use Rattle.std.specs.List.{list_any}
 use Rattle.pgn_model.specs.declared.command.Command.{Command}
 use Rattle.pgn_model.specs.declared.command.Command.TheVariants as command
 use Rattle.pgn_model.specs.Tokens.{Lexeme, Token, tokens}
-use Rattle.pgn_model.specs.Grammar.{Place, fits, all_fit, Line, table, Begins, lexemes_of, limited, ReadsAs}
+use Rattle.pgn_model.specs.Grammar.{Place, fits, all_fit, Line, table, IsLine, Begins, lexemes_of, limited, ReadsAs}
 
 -- there is a place for each token at which it may stand, from the first place on
 abbrev pub front_fits : List Place → List Lexeme → Bool
@@ -34,6 +34,33 @@ reading_of end tokens None = command.Bad (stop table end [] tokens)
 -- the command that a line reads as
 abbrev pub reading : List ℕ → Command
 reading text = reading_of (length text) (tokens text) (command_of table (lexemes_of (tokens text)))
+
+-- the places that are left of a list after a token at the first of them
+abbrev pub after_first : Lexeme → List Place → Option (List Place)
+after_first lexeme [] = None
+after_first lexeme (place ∷ places) = cond (fits place lexeme) (Some places) None
+
+-- what may follow tokens, where these places were left before them
+abbrev pub followers : List (List Place) → List Lexeme → List (List Place)
+followers ways [] = ways
+followers ways (lexeme ∷ lexemes) = followers (filter_map (after_first lexeme) ways) lexemes
+
+-- the places of the table's lines
+abbrev pub table_places : List (List Place)
+table_places = map (λ line. line.places) table
+
+-- nothing is left of a list of places
+abbrev pub is_done : List Place → Bool
+is_done [] = true
+is_done (place ∷ places) = false
+
+-- tokens begin a line of the table exactly where something may follow them, be it nothing more
+abbrev pub FollowersTell : Type 0
+FollowersTell = (lexemes : List Lexeme) → Begins lexemes ↔ (followers table_places lexemes ≢ [])
+
+-- tokens are a line of the table exactly where nothing more may follow them
+abbrev pub FollowersDone : Type 0
+FollowersDone = (lexemes : List Lexeme) → ((command : Command) × IsLine lexemes command) ↔ (list_any is_done (followers table_places lexemes) ≡ true)
 
 -- tokens begin a line of the table exactly where they fit the first places of one
 abbrev pub BeginsComputes : Type 0

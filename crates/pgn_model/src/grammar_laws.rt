@@ -1,9 +1,19 @@
-ghost use Rattle.pgn_model.specs.GrammarLaws.{BeginsComputes, ReadingComputes, OneReading};
+ghost use Rattle.pgn_model.specs.GrammarLaws.{BeginsComputes, FollowersTell, FollowersDone, ReadingComputes, OneReading};
 ghost use Rattle.pgn_model.specs.TokenLaws.{QuotesTell, CutIsLongest};
 
 /// Tokens begin a line of the table of commands exactly where they fit the first places of one.
 pub fn begins_computes()
     ensures { BeginsComputes }
+{}
+
+/// Tokens begin a line of the table exactly where something may follow them, be it nothing more.
+pub fn followers_tell()
+    ensures { FollowersTell }
+{}
+
+/// Tokens are a line of the table exactly where nothing more may follow them.
+pub fn followers_done()
+    ensures { FollowersDone }
 {}
 
 /// What a line reads as can be computed.
