@@ -254,15 +254,17 @@ any_front-step : (ways : List (List Place)) (t : Lexeme) (ts : List Lexeme) → 
 any_front-step [] t ts = refl
 any_front-step ([] ∷ ways) t ts = any_front-step ways t ts
 any_front-step ((p ∷ ps) ∷ ways) t ts = elim (cases_Bool (fits p t)) [
-    inl e ↦ rw e (ap (λ b. front_fits ps ts || b) (any_front-step ways t ts))
-  | inr e ↦ rw e (any_front-step ways t ts) ]
+  | inl e ↦ rw e (ap (λ b. front_fits ps ts || b) (any_front-step ways t ts))
+  | inr e ↦ rw e (any_front-step ways t ts)
+]
 
 any_whole-step : (ways : List (List Place)) (t : Lexeme) (ts : List Lexeme) → any_whole ways (t ∷ ts) ≡ any_whole (filter_map (after_first t) ways) ts
 any_whole-step [] t ts = refl
 any_whole-step ([] ∷ ways) t ts = any_whole-step ways t ts
 any_whole-step ((p ∷ ps) ∷ ways) t ts = elim (cases_Bool (fits p t)) [
-    inl e ↦ rw e (ap (λ b. all_fit ps ts || b) (any_whole-step ways t ts))
-  | inr e ↦ rw e (any_whole-step ways t ts) ]
+  | inl e ↦ rw e (ap (λ b. all_fit ps ts || b) (any_whole-step ways t ts))
+  | inr e ↦ rw e (any_whole-step ways t ts)
+]
 
 any_front-followers : (ways : List (List Place)) (ts : List Lexeme) → any_front ways ts ≡ any_front (followers ways ts) []
 any_front-followers ways [] = refl
@@ -294,9 +296,10 @@ some-any_front (places ∷ ways) h e = cc
 
 pub followers-tell : (lexemes : List Lexeme) → Begins lexemes ↔ (followers table_places lexemes ≢ [])
 followers-tell lexemes =
-    let same : begin_one table lexemes ≡ any_front (followers table_places lexemes) [] = sym (any_front-lines table lexemes) ∙ any_front-followers table_places lexemes in
-    (λ h. some-any_front (followers table_places lexemes) (sym same ∙ (begins-computes lexemes).0 h),
-     λ h. (begins-computes lexemes).1 (same ∙ any_front-some (followers table_places lexemes) h))
+    let same : begin_one table lexemes ≡ any_front (followers table_places lexemes) [] = sym (any_front-lines table lexemes) ∙ any_front-followers table_places lexemes in (
+      λ h. some-any_front (followers table_places lexemes) (sym same ∙ (begins-computes lexemes).0 h),
+      λ h. (begins-computes lexemes).1 (same ∙ any_front-some (followers table_places lexemes) h),
+    )
 
 one-whole : (lines : List Line) (ts : List Lexeme) (command : Command) → IsOneOf lines ts command → any_whole (map (λ line. line.places) lines) ts ≡ true
 one-whole [] ts command h = absurd h
@@ -306,8 +309,9 @@ one-whole (line ∷ lines) ts command (inr h) = or_right _ _ (one-whole lines ts
 whole-one : (lines : List Line) (ts : List Lexeme) → any_whole (map (λ line. line.places) lines) ts ≡ true → (command : Command) × IsOneOf lines ts command
 whole-one [] ts h = absurd (false≢true h)
 whole-one (line ∷ lines) ts h = elim (or_cases (all_fit line.places ts) (any_whole (map (λ line. line.places) lines) ts) h) [
-    inl e ↦ (line.command ts, inl (e, refl))
-  | inr e ↦ let rest : (command : Command) × IsOneOf lines ts command = whole-one lines ts e in (rest.0, inr rest.1) ]
+  | inl e ↦ (line.command ts, inl (e, refl))
+  | inr e ↦ let rest : (command : Command) × IsOneOf lines ts command = whole-one lines ts e in (rest.0, inr rest.1)
+]
 
 pub followers-done : (lexemes : List Lexeme) → ((command : Command) × IsOneOf table lexemes command) ↔ (list_any is_done (followers table_places lexemes) ≡ true)
 followers-done lexemes =

@@ -1,5 +1,5 @@
 -- The tokens of a line: what they are, where each begins, and which tokens a text has.
-use Rattle.std.specs.Prelude.{ℕ, zero, suc, ◌+◌, Bool, true, false, ◌||◌, ◌&&◌, ◌==◌, nat_le, List, [], ◌∷◌, length, Option, None, Some, option_map, take_while}
+use Rattle.std.specs.Prelude.{ℕ, zero, suc, ◌+◌, Bool, true, false, cond, ◌||◌, ◌&&◌, ◌==◌, nat_le, List, [], ◌∷◌, length, Option, None, Some, option_map, take_while}
 use Rattle.std.specs.Char.{is_ascii_alphabetic, is_ascii_digit}
 
 -- what a token is, with its text
@@ -61,7 +61,30 @@ closed quote (b ∷ c ∷ bytes) = elim (b == quote) [
   | false ↦ option_map (preceded b 1) (closed quote (c ∷ bytes))
 ]
 
--- what bytes begin with
+-- what the first byte of some bytes begins
+pub data Kind : Type 0 where
+  ABlank : Kind
+  AComment : Kind
+  AWord : Kind
+  ANumber : Kind
+  ASign : Kind
+  AQuoted : Kind
+  ALiteral : Kind
+  -- none of these
+  ANothing : Kind
+
+-- what a byte, with those after it, begins
+abbrev pub kind : ℕ → List ℕ → Kind
+kind b bytes =
+    cond (is_blank b) ABlank
+    (cond (begins_comment b bytes) AComment
+    (cond (begins_word b) AWord
+    (cond (is_ascii_digit b) ANumber
+    (cond (is_sign b) ASign
+    (cond (b == 34) AQuoted
+    (cond (b == 39) ALiteral ANothing))))))
+
+-- what stands at the front of some bytes
 pub data Front : Type 0 where
   -- a blank
   Blank : Front
@@ -82,41 +105,23 @@ abbrev pub literal_front : Option Inside → Front
 literal_front None = NoToken
 literal_front (Some inside) = OneToken (Literal inside.text) inside.size
 
--- what a byte and those after it begin with: a word and a number are as long as they can be
-abbrev pub front : ℕ → List ℕ → Front
-front b bytes =
-    elim (is_blank b) [
-      | true ↦ Blank
-      | false ↦
-          elim (begins_comment b bytes) [
-            | true ↦ Comment
-            | false ↦
-                elim (begins_word b) [
-                  | true ↦ OneToken (Word (b ∷ take_while goes_on_word bytes)) (length (take_while goes_on_word bytes))
-                  | false ↦
-                      elim (is_ascii_digit b) [
-                        | true ↦ OneToken (Number (b ∷ take_while is_ascii_digit bytes)) (length (take_while is_ascii_digit bytes))
-                        | false ↦
-                            elim (is_sign b) [
-                              | true ↦ OneToken (Sign b) 0
-                              | false ↦
-                                  elim (b == 34) [
-                                    | true ↦ quoted_front (closed 34 bytes)
-                                    | false ↦
-                                        elim (b == 39) [ true ↦ literal_front (closed 39 bytes) | false ↦ NoToken ]
-                                  ]
-                            ]
-                      ]
-                ]
-          ]
-    ]
+-- what a byte of this kind and those after it are at their front: a word and a number are as long as they can be
+abbrev pub front : Kind → ℕ → List ℕ → Front
+front ABlank b bytes = Blank
+front AComment b bytes = Comment
+front AWord b bytes = OneToken (Word (b ∷ take_while goes_on_word bytes)) (length (take_while goes_on_word bytes))
+front ANumber b bytes = OneToken (Number (b ∷ take_while is_ascii_digit bytes)) (length (take_while is_ascii_digit bytes))
+front ASign b bytes = OneToken (Sign b) 0
+front AQuoted b bytes = quoted_front (closed b bytes)
+front ALiteral b bytes = literal_front (closed b bytes)
+front ANothing b bytes = NoToken
 
 -- the tokens of the bytes from a place of the line on, of which the first `taken` belong to the token before; what begins no
 -- token is wrong, and nothing is read after it
 abbrev pub tokens_from : ℕ → ℕ → List ℕ → List Token
 tokens_from at taken [] = []
 tokens_from at (suc taken) (b ∷ bytes) = tokens_from (at + 1) taken bytes
-tokens_from at zero (b ∷ bytes) = elim (front b bytes) [
+tokens_from at zero (b ∷ bytes) = elim (front (kind b bytes) b bytes) [
   | Blank ↦ tokens_from (at + 1) 0 bytes
   | Comment ↦ []
   | OneToken lexeme more ↦ record { lexeme = lexeme; at = at } ∷ tokens_from (at + 1) more bytes

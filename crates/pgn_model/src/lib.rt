@@ -29,7 +29,8 @@ pub use grammar_examples::{
     wrong_tokens,
 };
 pub use grammar_laws::{
-    begins_computes, cut_is_longest, followers_done, followers_tell, one_reading, quotes_tell, reading_computes,
+    begins_computes, cut_is_longest, followers_done, followers_tell, one_reading, quotes_tell,
+    reading_computes,
 };
 pub use item::{Item, Items};
 pub use laws::{due_grows, due_splits, lawful_front, lawful_grows, lawful_pushes};
