@@ -3,6 +3,14 @@ use Rattle.std.proofs.Common.{◌≡◌, ◌≢◌, ◌↔◌, ℕ, zero, suc, �
 use Rattle.std.proofs.lemmas.Bool.{eq-eqb, eqb-true, ne_eqb, le-leb, lt-leb, lt-ltb, le-ltb, cases_lt, both_ways, cases_Bool}
 use Rattle.std.proofs.lemmas.List.{take_all, take_min, length-drop}
 use Rattle.std.proofs.lemmas.Str.{IsUtf8-take, IsUtf8-nil, IsCharBoundary-from_take}
+use Rattle.std.proofs.Common.{length-append, Contains, encode_utf8_all, encode_utf8}
+use Rattle.std.specs.Str.{all_scalars}
+use Rattle.std.specs.Char.{len_utf8}
+use Rattle.std.proofs.lemmas.Bool.{and_parts}
+use Rattle.std.proofs.lemmas.List.{take_at, take-append-drop}
+use Rattle.std.proofs.lemmas.List.Elements.{Contains-append_left}
+use Rattle.std.proofs.lemmas.Str.{IsUtf8-encode, length-encode, len_utf8_bounds}
+use Rattle.pgn_base.specs.Texts.{IsName}
 use Rattle.pgn_model.specs.Text.{doubled_byte}
 use Rattle.pgn_model.specs.Tokens.{Inside, closed, preceded}
 use Rattle.pgn_model.specs.Grammar.{begins_character, cut}
@@ -163,3 +171,25 @@ quotes-tell quote bytes inside = (
   λ h.
       ap (closed quote) h.spelled ∙ closed-doubled quote inside.text (drop inside.size bytes) h.ends ∙ same refl (sym h.size),
 )
+
+-- a text has a first character
+first_from : (cs text : List ℕ) → all_scalars cs ≡ true → encode_utf8_all cs ≡ text → 0 < length text → (m : ℕ) × (0 < m) × (m ≤ 4) × (m ≤ length text) × IsUtf8 (take m text)
+first_from [] text s e l = absurd (omega (arith, ap length e))
+first_from (c ∷ cs) text s e l =
+    let size : length (encode_utf8 c) ≡ len_utf8 c = length-encode c in
+    let bounds : (1 ≤ len_utf8 c) × (len_utf8 c ≤ 4) = len_utf8_bounds c in
+    let whole : length (encode_utf8 c) + length (encode_utf8_all cs) ≡ length text = sym (length-append (encode_utf8 c) (encode_utf8_all cs)) ∙ ap length e in
+    let part : take (length (encode_utf8 c)) text ≡ encode_utf8 c = ap (take (length (encode_utf8 c))) (sym e) ∙ take_at (encode_utf8 c) (encode_utf8_all cs) (length (encode_utf8 c)) refl in
+    (length (encode_utf8 c), omega (arith, bounds.0), omega (arith, bounds.1), omega arith, subst (λ (x : List ℕ). IsUtf8 x) (sym part) (IsUtf8-encode c (and_parts _ _ s).0))
+
+pub cut-name : (text : List ℕ) → IsUtf8 text → 0 < length text → (Contains text 0 → ⊥) → IsName (cut 63 text)
+cut-name text h l no_nul =
+    let part : IsLongestFront 63 text (cut 63 text) = cut-longest 63 text h in
+    let first : (m : ℕ) × (0 < m) × (m ≤ 4) × (m ≤ length text) × IsUtf8 (take m text) = first_from h.0 text h.1.0 h.1.1 l in
+    record {
+      text = part.whole;
+      some = let longer : first.0 ≤ length (cut 63 text) = part.longest first.0 (omega (arith, first.2)) first.3 first.4 in omega (arith, first.1, longer);
+      short = omega (arith, part.short);
+      no_nul = λ nul. no_nul (subst (λ (x : List ℕ). Contains x 0) (take-append-drop (length (cut 63 text)) text)
+        (Contains-append_left (take (length (cut 63 text)) text) (drop (length (cut 63 text)) text) 0 (subst (λ (x : List ℕ). Contains x 0) part.front nul)));
+    }

@@ -1,5 +1,6 @@
 -- Laws of quotes and of cut names.
-use Rattle.std.specs.Prelude.{◌≡◌, ◌≢◌, ◌↔◌, ℕ, ◌+◌, ◌≤◌, List, ◌∷◌, ◌++◌, length, take, drop, flat_map, slice_get, Some, IsUtf8}
+use Rattle.std.specs.Prelude.{◌≡◌, ◌≢◌, ◌↔◌, ℕ, ◌+◌, ◌≤◌, List, ◌∷◌, ◌++◌, length, take, drop, flat_map, slice_get, Some, IsUtf8, ◌<◌, Contains}
+use Rattle.pgn_base.specs.Texts.{IsName}
 use Rattle.pgn_model.specs.Text.{doubled_byte}
 use Rattle.pgn_model.specs.Tokens.{Inside, closed}
 use Rattle.pgn_model.specs.Grammar.{cut}
@@ -24,3 +25,7 @@ pub record IsLongestFront (n : ℕ) (text part : List ℕ) : Type 0 where
 -- a cut text is its longest front of whole characters that is short enough
 abbrev pub CutIsLongest : Type 0
 CutIsLongest = (n : ℕ) (text : List ℕ) → IsUtf8 text → IsLongestFront n text (cut n text)
+
+-- a text with a character and no zero byte is cut to a name
+abbrev pub CutIsName : Type 0
+CutIsName = (text : List ℕ) → IsUtf8 text → 0 < length text → (Contains text 0 → ⊥) → IsName (cut 63 text)

@@ -1,5 +1,5 @@
 ghost use Rattle.pgn_model.specs.GrammarLaws.{BeginsComputes, FollowersTell, FollowersDone, ReadingComputes, OneReading};
-ghost use Rattle.pgn_model.specs.TokenLaws.{QuotesTell, CutIsLongest};
+ghost use Rattle.pgn_model.specs.TokenLaws.{QuotesTell, CutIsLongest, CutIsName};
 
 /// Tokens begin a line of the table of commands exactly where they fit the first places of one.
 pub fn begins_computes()
@@ -34,4 +34,9 @@ pub fn quotes_tell()
 /// A cut name is the longest front of whole characters that is short enough.
 pub fn cut_is_longest()
     ensures { CutIsLongest }
+{}
+
+/// What a text is cut to is a name, if it has a character and no zero byte.
+pub fn cut_is_name()
+    ensures { CutIsName }
 {}

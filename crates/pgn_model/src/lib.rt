@@ -29,7 +29,7 @@ pub use grammar_examples::{
     wrong_tokens,
 };
 pub use grammar_laws::{
-    begins_computes, cut_is_longest, followers_done, followers_tell, one_reading, quotes_tell,
+    begins_computes, cut_is_longest, cut_is_name, followers_done, followers_tell, one_reading, quotes_tell,
     reading_computes,
 };
 pub use item::{Item, Items};
