@@ -191,5 +191,5 @@ cut-name text h l no_nul =
       some = let longer : first.0 ≤ length (cut 63 text) = part.longest first.0 (omega (arith, first.2)) first.3 first.4 in omega (arith, first.1, longer);
       short = omega (arith, part.short);
       no_nul = λ nul. no_nul (subst (λ (x : List ℕ). Contains x 0) (take-append-drop (length (cut 63 text)) text)
-        (Contains-append_left (take (length (cut 63 text)) text) (drop (length (cut 63 text)) text) 0 (subst (λ (x : List ℕ). Contains x 0) part.front nul)));
+          (Contains-append_left (take (length (cut 63 text)) text) (drop (length (cut 63 text)) text) 0 (subst (λ (x : List ℕ). Contains x 0) part.front nul)));
     }

@@ -186,13 +186,21 @@ pub record Begins (lexemes : List Lexeme) : Type 0 where
 abbrev pub lexemes_of : List Token → List Lexeme
 lexemes_of tokens = map (λ token. token.lexeme) tokens
 
--- which limit a notification goes past: the first of the tests of an empty channel, a channel and a payload that are too long
-abbrev pub past_limit : Note → Option Which
-past_limit note = cond (length note.channel == 0) (Some ChannelEmpty) (cond (nat_le 64 (length note.channel)) (Some ChannelTooLong) (cond (nat_le 8000 (length note.payload)) (Some PayloadTooLong) None))
+-- a payload is too long
+abbrev pub is_long : List ℕ → Bool
+is_long payload = nat_le 8000 (length payload)
 
--- a command, or Invalid with the limit that its notification goes past
+-- which limit a call of pg_notify goes past: the first of three tests, of an empty channel, of a channel that is too long and
+-- of a payload that is too long
+abbrev pub past_limit : Note → Option Which
+past_limit note =
+    cond (length note.channel == 0) (Some ChannelEmpty)
+    (cond (nat_le 64 (length note.channel)) (Some ChannelTooLong)
+    (cond (is_long note.payload) (Some PayloadTooLong) None))
+
+-- a command, or Invalid where its notification goes past a limit; the channel of NOTIFY is a name, which goes past none
 abbrev pub limited : Command → Command
-limited (command.Notify note) = elim (past_limit note) [ None ↦ command.Notify note | Some which ↦ command.Invalid which ]
+limited (command.Notify note) = cond (is_long note.payload) (command.Invalid PayloadTooLong) (command.Notify note)
 limited (command.PgNotify note) = elim (past_limit note) [ None ↦ command.PgNotify note | Some which ↦ command.Invalid which ]
 limited command = command
 

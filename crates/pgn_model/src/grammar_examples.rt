@@ -1,4 +1,4 @@
-ghost use Rattle.std.specs.Prelude.{[], codes};
+ghost use Rattle.std.specs.Prelude.{[], ◌∷◌, ◌++◌, codes};
 ghost use Rattle.pgn_base.specs.declared.answers.Which.TheVariants.{ChannelEmpty, ChannelTooLong, PayloadTooLong};
 ghost use Rattle.pgn_model.specs.declared.command.Command.TheVariants as command;
 ghost use Rattle.pgn_model.specs.Grammar.{ReadsAs};
@@ -103,4 +103,11 @@ pub fn limits()
 pub fn cut_names()
     ensures word { ReadsAs (codes "LISTEN AAAAAAAAAAAAAAAAAAAAAAAAAAAAAAAAAAAAAAAAAAAAAAAAAAAAAAAAAAAAAAAA") (command.Listen (codes "aaaaaaaaaaaaaaaaaaaaaaaaaaaaaaaaaaaaaaaaaaaaaaaaaaaaaaaaaaaaaaa")) }
     ensures quoted { ReadsAs (codes "LISTEN \"AAAAAAAAAAAAAAAAAAAAAAAAAAAAAAAAAAAAAAAAAAAAAAAAAAAAAAAAAAAAAAA\"") (command.Listen (codes "AAAAAAAAAAAAAAAAAAAAAAAAAAAAAAAAAAAAAAAAAAAAAAAAAAAAAAAAAAAAAAA")) }
+{}
+
+/// Characters past ASCII are not folded and not cut in two.
+pub fn other_characters()
+    ensures not_folded { ReadsAs (codes "LISTEN A" ++ (195 ∷ 137 ∷ [])) (command.Listen (codes "a" ++ (195 ∷ 137 ∷ []))) }
+    ensures whole_character { ReadsAs (codes "LISTEN aaaaaaaaaaaaaaaaaaaaaaaaaaaaaaaaaaaaaaaaaaaaaaaaaaaaaaaaaaaaaa" ++ (195 ∷ 169 ∷ [])) (command.Listen (codes "aaaaaaaaaaaaaaaaaaaaaaaaaaaaaaaaaaaaaaaaaaaaaaaaaaaaaaaaaaaaaa")) }
+    ensures last_character { ReadsAs (codes "LISTEN aaaaaaaaaaaaaaaaaaaaaaaaaaaaaaaaaaaaaaaaaaaaaaaaaaaaaaaaaaaaa" ++ (195 ∷ 169 ∷ 195 ∷ 169 ∷ [])) (command.Listen (codes "aaaaaaaaaaaaaaaaaaaaaaaaaaaaaaaaaaaaaaaaaaaaaaaaaaaaaaaaaaaaa" ++ (195 ∷ 169 ∷ []))) }
 {}

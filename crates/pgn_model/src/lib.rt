@@ -25,12 +25,12 @@ pub use block_state::BlockState;
 pub use command::Command;
 pub use examples::{empty_section, self_notify};
 pub use grammar_examples::{
-    arguments, blank_lines, cut_names, each_command, limits, lines_and_answers, savepoint_word,
-    wrong_tokens,
+    arguments, blank_lines, cut_names, each_command, limits, lines_and_answers, other_characters,
+    savepoint_word, wrong_tokens,
 };
 pub use grammar_laws::{
-    begins_computes, cut_is_longest, cut_is_name, followers_done, followers_tell, one_reading, quotes_tell,
-    reading_computes,
+    begins_computes, cut_is_longest, cut_is_name, followers_done, followers_tell, one_reading,
+    quotes_tell, reading_computes,
 };
 pub use item::{Item, Items};
 pub use laws::{due_grows, due_splits, lawful_front, lawful_grows, lawful_pushes};
