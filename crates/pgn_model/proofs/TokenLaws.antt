@@ -145,7 +145,7 @@ ended quote b rest inside e ends h =
     let k : Some none ≡ Some inside = sym (ap (λ (x : ℕ). closed quote (x ∷ rest)) p ∙ closed-end quote rest ends) ∙ h in
     same_rest quote (b ∷ rest) none inside (cc) (closed-one quote b rest p ends)
 
-closed-spells : (quote : ℕ) (bytes : List ℕ) (inside : Inside) → closed quote bytes ≡ Some inside → IsClosed quote bytes inside
+pub closed-spells : (quote : ℕ) (bytes : List ℕ) (inside : Inside) → closed quote bytes ≡ Some inside → IsClosed quote bytes inside
 closed-spells quote [] inside h = absurd (cc)
 closed-spells quote (b ∷ []) inside h = elim (cases_Bool (b == quote)) [
   | inl e ↦ ended quote b [] inside e (λ x. absurd (cc)) h

@@ -1,8 +1,8 @@
 -- Laws of quotes and of cut names.
-use Rattle.std.specs.Prelude.{◌≡◌, ◌≢◌, ◌↔◌, ℕ, ◌+◌, ◌≤◌, List, ◌∷◌, ◌++◌, length, take, drop, flat_map, slice_get, Some, IsUtf8, ◌<◌, Contains}
+use Rattle.std.specs.Prelude.{◌≡◌, ◌≢◌, ◌↔◌, ℕ, ◌+◌, ◌≤◌, List, [], ◌∷◌, ◌++◌, length, take, drop, flat_map, slice_get, Some, IsUtf8, ◌<◌, Contains}
 use Rattle.pgn_base.specs.Texts.{IsName}
-use Rattle.pgn_model.specs.Text.{doubled_byte}
-use Rattle.pgn_model.specs.Tokens.{Inside, closed}
+use Rattle.pgn_model.specs.Text.{doubled_byte, quoted}
+use Rattle.pgn_model.specs.Tokens.{Lexeme, Word, Quoted, Literal, Number, Sign, Wrong, Token, tokens, Inside, closed}
 use Rattle.pgn_model.specs.Grammar.{cut}
 
 -- bytes begin with a text, each quote in it twice, and a closing quote, after which no quote stands
@@ -29,3 +29,21 @@ CutIsLongest = (n : ℕ) (text : List ℕ) → IsUtf8 text → IsLongestFront n 
 -- a text with a character and no zero byte is cut to a name
 abbrev pub CutIsName : Type 0
 CutIsName = (text : List ℕ) → IsUtf8 text → 0 < length text → (Contains text 0 → ⊥) → IsName (cut 63 text)
+
+-- a token as it is written, each quote inside quotes twice
+abbrev pub written : Lexeme → List ℕ
+written (Word text) = text
+written (Quoted text) = quoted 34 text
+written (Literal text) = quoted 39 text
+written (Number digits) = digits
+written (Sign sign) = sign ∷ []
+written Wrong = []
+
+-- each token stands in the text where it begins
+abbrev pub AllStand : List ℕ → List Token → Type 0
+AllStand text [] = Unit {0}
+AllStand text (token ∷ tokens) = ((rest : List ℕ) × (drop token.at text ≡ written token.lexeme ++ rest)) × AllStand text tokens
+
+-- the tokens of a text stand in it where they begin
+abbrev pub TokensStand : Type 0
+TokensStand = (text : List ℕ) → AllStand text (tokens text)

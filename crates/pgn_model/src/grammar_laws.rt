@@ -1,5 +1,5 @@
 ghost use Rattle.pgn_model.specs.GrammarLaws.{BeginsComputes, FollowersTell, FollowersDone, ReadingComputes, OneReading};
-ghost use Rattle.pgn_model.specs.TokenLaws.{QuotesTell, CutIsLongest, CutIsName};
+ghost use Rattle.pgn_model.specs.TokenLaws.{QuotesTell, TokensStand, CutIsLongest, CutIsName};
 
 /// Tokens begin a line of the table of commands exactly where they fit the first places of one.
 pub fn begins_computes()
@@ -39,4 +39,9 @@ pub fn cut_is_longest()
 /// What a text is cut to is a name, if it has a character and no zero byte.
 pub fn cut_is_name()
     ensures { CutIsName }
+{}
+
+/// Each token of a text stands in it where it is said to begin.
+pub fn tokens_stand()
+    ensures { TokensStand }
 {}
