@@ -317,3 +317,29 @@ pub followers-done : (lexemes : List Lexeme) → ((command : Command) × IsOneOf
 followers-done lexemes =
     let same : any_whole table_places lexemes ≡ list_any is_done (followers table_places lexemes) = any_whole-followers table_places lexemes in
     (λ h. sym same ∙ one-whole table lexemes h.0 h.1, λ h. whole-one table lexemes (same ∙ h))
+
+pub front-begins : (front rest : List Lexeme) → Begins (front ++ rest) → Begins front
+front-begins front rest h = (begins-computes front).1 (begin_one-front table front rest ((begins-computes (front ++ rest)).0 h))
+
+wrong-fits : (place : Place) → fits place Wrong ≡ false
+wrong-fits (Key word) = refl
+wrong-fits Name = refl
+wrong-fits Text = refl
+wrong-fits Count = refl
+wrong-fits (Mark sign) = refl
+
+wrong-front : (places : List Place) (front rest : List Lexeme) → front_fits places (front ++ Wrong ∷ rest) ≡ true → ⊥
+wrong-front [] [] rest h = false≢true h
+wrong-front [] (t ∷ front) rest h = false≢true h
+wrong-front (p ∷ ps) [] rest h = both_ways (fits p Wrong) (wrong-fits p) (and_parts _ _ h).0
+wrong-front (p ∷ ps) (t ∷ front) rest h = wrong-front ps front rest (and_parts _ _ h).1
+
+wrong-one : (lines : List Line) (front rest : List Lexeme) → begin_one lines (front ++ Wrong ∷ rest) ≡ true → ⊥
+wrong-one [] front rest h = false≢true h
+wrong-one (line ∷ lines) front rest h = elim (or_cases (front_fits line.places (front ++ Wrong ∷ rest)) (begin_one lines (front ++ Wrong ∷ rest)) h) [
+  | inl e ↦ wrong-front line.places front rest e
+  | inr e ↦ wrong-one lines front rest e
+]
+
+pub wrong-fits_nowhere : (front rest : List Lexeme) → Begins (front ++ Wrong ∷ rest) → ⊥
+wrong-fits_nowhere front rest h = wrong-one table front rest ((begins-computes (front ++ Wrong ∷ rest)).0 h)

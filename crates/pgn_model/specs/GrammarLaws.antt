@@ -3,7 +3,7 @@ use Rattle.std.specs.Prelude.{◌≡◌, ◌≢◌, ◌↔◌, ℕ, Bool, true, 
 use Rattle.std.specs.List.{list_any}
 use Rattle.pgn_model.specs.declared.command.Command.{Command}
 use Rattle.pgn_model.specs.declared.command.Command.TheVariants as command
-use Rattle.pgn_model.specs.Tokens.{Lexeme, Token, tokens}
+use Rattle.pgn_model.specs.Tokens.{Lexeme, Wrong, Token, tokens}
 use Rattle.pgn_model.specs.Grammar.{Place, fits, all_fit, Line, table, IsLine, Begins, lexemes_of, limited, ReadsAs}
 
 -- there is a place for each token at which it may stand, from the first place on
@@ -34,6 +34,14 @@ reading_of end tokens None = command.Bad (stop table end [] tokens)
 -- the command that a line reads as
 abbrev pub reading : List ℕ → Command
 reading text = reading_of (length text) (tokens text) (command_of table (lexemes_of (tokens text)))
+
+-- what begins a line of the table has only fronts that begin one
+abbrev pub FrontBegins : Type 0
+FrontBegins = (front rest : List Lexeme) → Begins (front ++ rest) → Begins front
+
+-- what is no token fits nowhere, whatever follows it
+abbrev pub WrongFitsNowhere : Type 0
+WrongFitsNowhere = (front rest : List Lexeme) → Begins (front ++ Wrong ∷ rest) → ⊥
 
 -- the places that are left of a list after a token at the first of them
 abbrev pub after_first : Lexeme → List Place → Option (List Place)

@@ -1,9 +1,19 @@
-ghost use Rattle.pgn_model.specs.GrammarLaws.{BeginsComputes, FollowersTell, FollowersDone, ReadingComputes, OneReading};
+ghost use Rattle.pgn_model.specs.GrammarLaws.{BeginsComputes, FrontBegins, WrongFitsNowhere, FollowersTell, FollowersDone, ReadingComputes, OneReading};
 ghost use Rattle.pgn_model.specs.TokenLaws.{QuotesTell, TokensStand, CutIsLongest, CutIsName};
 
 /// Tokens begin a line of the table of commands exactly where they fit the first places of one.
 pub fn begins_computes()
     ensures { BeginsComputes }
+{}
+
+/// A front of what begins a line of the table begins one, so that a line goes wrong at one place.
+pub fn front_begins()
+    ensures { FrontBegins }
+{}
+
+/// What is no token fits nowhere, whatever follows it.
+pub fn wrong_fits_nowhere()
+    ensures { WrongFitsNowhere }
 {}
 
 /// Tokens begin a line of the table exactly where something may follow them, be it nothing more.
