@@ -6,3 +6,6 @@ pub mod PackingSteps
 pub mod TextBytes
 pub mod AnswerLemmas
 pub mod SavepointLemmas
+pub mod GrammarLaws
+pub mod TokenLaws
+pub mod PlaceLaws

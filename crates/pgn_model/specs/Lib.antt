@@ -11,6 +11,10 @@ pub mod Walk
 pub mod Trace
 pub mod Legal
 pub mod Text
+pub mod Tokens
+pub mod Grammar
+pub mod GrammarLaws
+pub mod TokenLaws
 pub mod Laws
 pub mod BytesLaws
 pub mod PackingLaws

@@ -14,6 +14,8 @@ mod block_state;
 mod bytes_laws;
 mod command;
 mod examples;
+mod grammar_examples;
+mod grammar_laws;
 mod item;
 mod laws;
 mod line_text;
@@ -35,6 +37,14 @@ pub use bytes_laws::{
 };
 pub use command::Command;
 pub use examples::{empty_section, self_notify};
+pub use grammar_examples::{
+    arguments, blank_lines, cut_names, each_command, limits, lines_and_answers, other_characters,
+    savepoint_word, wrong_tokens,
+};
+pub use grammar_laws::{
+    begins_computes, cut_is_longest, cut_is_name, followers_done, followers_tell, front_begins,
+    one_reading, quotes_tell, reading_computes, tokens_stand, wrong_fits_nowhere,
+};
 pub use item::{Item, Items};
 pub use laws::{due_grows, due_splits, lawful_front, lawful_grows, lawful_pushes};
 pub use line_text::LineText;

@@ -1,0 +1,215 @@
+-- The table of commands, and the command that a line reads as.
+use Rattle.std.specs.Prelude.{◌≡◌, ℕ, zero, suc, Bool, true, false, ◌&&◌, ◌==◌, not, cond, nat_le, nat_lt, ◌⊎◌, List, [], ◌∷◌, ◌++◌, map, length, take, drop, flat_map, slice_index_or, Option, None, Some, codes}
+use Rattle.std.specs.Str.{str_eq_ignore_ascii_case, str_to_ascii_lowercase, byte}
+use Rattle.std.specs.Str.Parse.{digits_value}
+use Rattle.std.specs.List.{repeat}
+use Rattle.pgn_base.specs.declared.note.Note.{Note}
+use Rattle.pgn_base.specs.declared.answers.Which.{Which}
+use Rattle.pgn_base.specs.declared.answers.Which.TheVariants.{ChannelEmpty, ChannelTooLong, PayloadTooLong}
+use Rattle.pgn_model.specs.declared.command.Command.{Command}
+use Rattle.pgn_model.specs.declared.command.Command.TheVariants as command
+use Rattle.pgn_model.specs.Tokens.{Lexeme, Word, Quoted, Literal, Number, Sign, Wrong, Token, tokens}
+
+-- what may stand at a place of a line of the table
+pub data Place : Type 0 where
+  -- this word, without regard to ASCII case
+  Key : (word : List ℕ) → Place
+  -- a word or a quoted identifier
+  Name : Place
+  -- a literal
+  Text : Place
+  -- a number of at most 10,000
+  Count : Place
+  -- this sign
+  Mark : (sign : ℕ) → Place
+
+-- the token may stand at the place
+abbrev pub fits : Place → Lexeme → Bool
+fits (Key word) (Word text) = str_eq_ignore_ascii_case word text
+fits Name (Word text) = true
+fits Name (Quoted text) = true
+fits Text (Literal text) = true
+fits Count (Number digits) = nat_le (digits_value 10 digits) 10000
+fits (Mark sign) (Sign other) = sign == other
+fits place lexeme = false
+
+-- there is one token for each place, and each may stand at its own
+abbrev pub all_fit : List Place → List Lexeme → Bool
+all_fit [] [] = true
+all_fit (place ∷ places) (lexeme ∷ lexemes) = fits place lexeme && all_fit places lexemes
+all_fit places lexemes = false
+
+-- a character begins these bytes, or none follows
+abbrev pub begins_character : List ℕ → Bool
+begins_character [] = true
+begins_character (b ∷ bytes) = not (nat_le 128 b && nat_lt b 192)
+
+-- the longest front of whole characters that has at most n bytes
+unfoldable pub cut : ℕ → List ℕ → List ℕ
+cut zero bytes = []
+cut (suc n) bytes = elim (begins_character (drop (suc n) bytes)) [ true ↦ take (suc n) bytes | false ↦ cut n bytes ]
+
+-- the name that a token is: a word in lower case, or a quoted identifier as it is, cut to 63 bytes
+abbrev pub name_of : Lexeme → List ℕ
+name_of (Word text) = cut 63 (str_to_ascii_lowercase text)
+name_of (Quoted text) = cut 63 text
+name_of lexeme = []
+
+-- the text of a literal
+abbrev pub text_of : Lexeme → List ℕ
+text_of (Literal text) = text
+text_of lexeme = []
+
+-- the value of a number
+abbrev pub value_of : Lexeme → ℕ
+value_of (Number digits) = digits_value 10 digits
+value_of lexeme = 0
+
+-- the token at a place, from 0
+abbrev pub token_at : List Lexeme → ℕ → Lexeme
+token_at lexemes n = slice_index_or lexemes n Wrong
+
+-- a way to write a part of a line: its places, and the texts that the tokens at them give
+pub record Way : Type 0 where
+  pub places : List Place
+  pub texts : List Lexeme → List (List ℕ)
+
+-- these places, which give no text
+abbrev pub silent : List Place → Way
+silent places = record { places = places; texts = λ lexemes. [] }
+
+-- a key word
+abbrev pub key : List ℕ → List Way
+key word = silent (Key word ∷ []) ∷ []
+
+-- one of two key words
+abbrev pub either : List ℕ → List ℕ → List Way
+either one other = key one ++ key other
+
+-- a sign
+abbrev pub sign : ℕ → List Way
+sign mark = silent (Mark mark ∷ []) ∷ []
+
+-- a part that may be absent
+abbrev pub optional : List Way → List Way
+optional part = silent [] ∷ part
+
+-- WORK or TRANSACTION, or neither
+abbrev pub work : List Way
+work = optional (either (codes "work") (codes "transaction"))
+
+-- a name gives itself
+abbrev pub name : List Way
+name = record { places = Name ∷ []; texts = λ lexemes. name_of (token_at lexemes 0) ∷ [] } ∷ []
+
+-- a literal gives its text
+abbrev pub literal : List Way
+literal = record { places = Text ∷ []; texts = λ lexemes. text_of (token_at lexemes 0) ∷ [] } ∷ []
+
+-- NULL gives the empty text
+abbrev pub null : List Way
+null = record { places = Key (codes "null") ∷ []; texts = λ lexemes. [] ∷ [] } ∷ []
+
+-- `repeat(text, n)` gives the text n times
+abbrev pub repeated : List Way
+repeated = record {
+  places = Key (codes "repeat") ∷ Mark (byte "(") ∷ Text ∷ Mark (byte ",") ∷ Count ∷ Mark (byte ")") ∷ [];
+  texts = λ lexemes. repeat (value_of (token_at lexemes 4)) (text_of (token_at lexemes 2)) ∷ [];
+} ∷ []
+
+-- an argument of pg_notify
+abbrev pub argument : List Way
+argument = literal ++ null ++ repeated
+
+-- one way after another
+abbrev pub followed : Way → Way → Way
+followed a b = record { places = a.places ++ b.places; texts = λ lexemes. a.texts (take (length a.places) lexemes) ++ b.texts (drop (length a.places) lexemes) }
+
+-- the ways to write parts one after another
+abbrev pub sequence : List (List Way) → List Way
+sequence [] = silent [] ∷ []
+sequence (part ∷ parts) = flat_map (λ way. map (followed way) (sequence parts)) part
+
+-- a line of the table: its places, and the command that tokens at them are
+pub record Line : Type 0 where
+  pub places : List Place
+  pub command : List Lexeme → Command
+
+-- the lines of a row: its parts, after which one `;` may stand, and the command with the texts that they give
+abbrev pub row : List (List Way) → (List (List ℕ) → Command) → List Line
+row parts gives = map (λ way. record { places = way.places; command = λ lexemes. gives (way.texts lexemes) }) (sequence (parts ++ optional (sign (byte ";")) ∷ []))
+
+-- the first of the texts
+abbrev pub first : List (List ℕ) → List ℕ
+first texts = slice_index_or texts 0 []
+
+-- the first of the texts as the channel, and the second as the payload, empty where none stands
+abbrev pub note : List (List ℕ) → Note
+note texts = record { channel = slice_index_or texts 0 []; payload = slice_index_or texts 1 [] }
+
+-- the table of commands
+unfoldable pub table : List Line
+table =
+    row [] (λ texts. command.Empty)
+    ++ row (key (codes "begin") ∷ work ∷ []) (λ texts. command.Begin)
+    ++ row (key (codes "start") ∷ key (codes "transaction") ∷ []) (λ texts. command.Start)
+    ++ row (either (codes "commit") (codes "end") ∷ work ∷ []) (λ texts. command.Commit)
+    ++ row (either (codes "rollback") (codes "abort") ∷ work ∷ []) (λ texts. command.Rollback)
+    ++ row (key (codes "savepoint") ∷ name ∷ []) (λ texts. command.Savepoint (first texts))
+    ++ row (key (codes "rollback") ∷ work ∷ key (codes "to") ∷ optional (key (codes "savepoint")) ∷ name ∷ []) (λ texts. command.RollbackTo (first texts))
+    ++ row (key (codes "release") ∷ optional (key (codes "savepoint")) ∷ name ∷ []) (λ texts. command.Release (first texts))
+    ++ row (key (codes "listen") ∷ name ∷ []) (λ texts. command.Listen (first texts))
+    ++ row (key (codes "unlisten") ∷ name ∷ []) (λ texts. command.Unlisten (first texts))
+    ++ row (key (codes "unlisten") ∷ sign (byte "*") ∷ []) (λ texts. command.UnlistenAll)
+    ++ row (key (codes "notify") ∷ name ∷ []) (λ texts. command.Notify (note texts))
+    ++ row (key (codes "notify") ∷ name ∷ sign (byte ",") ∷ literal ∷ []) (λ texts. command.Notify (note texts))
+    ++ row (key (codes "select") ∷ key (codes "pg_notify") ∷ sign (byte "(") ∷ argument ∷ sign (byte ",") ∷ argument ∷ sign (byte ")") ∷ []) (λ texts. command.PgNotify (note texts))
+    ++ row (key (codes "select") ∷ key (codes "pg_listening_channels") ∷ sign (byte "(") ∷ sign (byte ")") ∷ []) (λ texts. command.ListeningChannels)
+    ++ row (key (codes "select") ∷ key (codes "pg_notification_queue_usage") ∷ sign (byte "(") ∷ sign (byte ")") ∷ []) (λ texts. command.QueueUsage)
+
+-- tokens are one of these lines, with this command
+abbrev pub IsOneOf : List Line → List Lexeme → Command → Type 0
+IsOneOf [] lexemes command = ⊥
+IsOneOf (line ∷ lines) lexemes command = ((all_fit line.places lexemes ≡ true) × (line.command lexemes ≡ command)) ⊎ IsOneOf lines lexemes command
+
+-- tokens are a line of the table, with this command
+abbrev pub IsLine : List Lexeme → Command → Type 0
+IsLine lexemes command = IsOneOf table lexemes command
+
+-- there are further tokens with which these are a line of the table
+pub record Begins (lexemes : List Lexeme) : Type 0 where
+  pub more : List Lexeme
+  pub command : Command
+  pub line : IsLine (lexemes ++ more) command
+
+-- what tokens are, without their places in the text
+abbrev pub lexemes_of : List Token → List Lexeme
+lexemes_of tokens = map (λ token. token.lexeme) tokens
+
+-- a payload is too long
+abbrev pub is_long : List ℕ → Bool
+is_long payload = nat_le 8000 (length payload)
+
+-- which limit a call of pg_notify goes past: the first of three tests, of an empty channel, of a channel that is too long and
+-- of a payload that is too long
+abbrev pub past_limit : Note → Option Which
+past_limit note =
+    cond (length note.channel == 0) (Some ChannelEmpty)
+    (cond (nat_le 64 (length note.channel)) (Some ChannelTooLong)
+    (cond (is_long note.payload) (Some PayloadTooLong) None))
+
+-- a command, or Invalid where its notification goes past a limit; the channel of NOTIFY is a name, which goes past none
+abbrev pub limited : Command → Command
+limited (command.Notify note) = cond (is_long note.payload) (command.Invalid PayloadTooLong) (command.Notify note)
+limited (command.PgNotify note) = elim (past_limit note) [ None ↦ command.PgNotify note | Some which ↦ command.Invalid which ]
+limited command = command
+
+-- the command that a line reads as
+pub data ReadsAs (text : List ℕ) : Command → Type 0 where
+  -- its tokens are a line of the table
+  Whole : (command : Command) → IsLine (lexemes_of (tokens text)) command → ReadsAs text (limited command)
+  -- it goes wrong at the first token such that the tokens up to and including it begin no line of the table
+  Stops : (front : List Token) → (token : Token) → (rest : List Token) → tokens text ≡ front ++ token ∷ rest → Begins (lexemes_of front)
+      → (Begins (lexemes_of (front ++ token ∷ [])) → ⊥) → ReadsAs text (command.Bad token.at)
+  -- it goes wrong at its end where all of its tokens begin a line of the table but are none
+  Lacks : Begins (lexemes_of (tokens text)) → ((command : Command) → IsLine (lexemes_of (tokens text)) command → ⊥) → ReadsAs text (command.Bad (length text))
