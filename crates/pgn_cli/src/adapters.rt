@@ -3,7 +3,7 @@ ghost use Rattle.std.specs.Prelude.{◌≡◌};
 use pgn_base::{Failed, Sink, Source};
 use std::io::{Read, Write};
 
-/// A reader as a source. It tells no bytes.
+/// A reader as a source. It tells the bytes that its reader tells; standard input tells none.
 #[derive(Drop)]
 pub struct Input<R> {
     reader: R,
@@ -19,9 +19,7 @@ impl<R: Read> Input<R> {
 }
 
 impl<R: Read> Source for Input<R> {
-    ghost use Rattle.std.specs.Prelude.{None};
-
-    ghost left = { λ _. None };
+    ghost left = { λ input. R.remaining input.reader };
 
     ghost faults = { λ input. input.faults };
 
@@ -36,7 +34,8 @@ impl<R: Read> Source for Input<R> {
     }
 }
 
-/// A writer as a sink. It tells no bytes. A write of nothing counts as a fault.
+/// A writer as a sink. It tells the bytes that its writer tells; standard output tells none. A write of nothing counts as a
+/// fault.
 #[derive(Drop)]
 pub struct Output<W> {
     writer: W,
@@ -57,9 +56,7 @@ impl<W: Write> Output<W> {
 }
 
 impl<W: Write> Sink for Output<W> {
-    ghost use Rattle.std.specs.Prelude.{None};
-
-    ghost held = { λ _. None };
+    ghost held = { λ output. W.contents output.writer };
 
     ghost faults = { λ output. output.faults };
 

@@ -4,6 +4,8 @@
 //! What the streams give and take, and what stands on standard error, no contract can say: tests show it.
 #![tactic(auto)]
 
+ghost use Rattle.std.specs.Prelude.{◌≡◌, map, string_bytes, IfOk};
+
 mod adapters;
 mod fault_line;
 #[cfg(test)]
@@ -45,7 +47,9 @@ fn words<R: Env + AllocGlobal>(rt: &R) -> Result<Vec<String>, Status> {
     Ok(words)
 }
 
-fn borrowed(alloc: Global, words: &[String]) -> Result<Vec<&str>, AllocError> {
+fn borrowed(alloc: Global, words: &[String]) -> Result<Vec<&str>, AllocError>
+    ensures { IfOk result (λ texts. map (λ text. text.now) texts.items ≡ map string_bytes words.now) }
+{
     let mut texts = Vec::new(alloc);
     for word in words {
         texts.push(word.as_str())?;

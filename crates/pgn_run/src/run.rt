@@ -14,6 +14,7 @@ use crate::session::run_scenario;
 use pgn_base::{Sink, Source};
 use std::alloc::{AllocError, Global};
 
+/// How many bytes of an input are read at most: one more than an input may have.
 const READ_LIMIT: usize = 16_777_217;
 
 /// Does all that the program does. `words` are those after the program's name; the one command is `run`: it reads a scenario
@@ -54,7 +55,7 @@ pub fn run_notify<S: Source, K: Sink>(
 
     // What was left is what was read and then what is left now; all of it was read, or its first 16,777,217 bytes.
     ensures what_was_read { HasRead result → IfSome (S.left source.old) (λ left.
-        Consumes (S.left source.old) (S.left source.new) (take READ_LIMIT left)) }
+        Consumes (S.left source.old) (S.left source.new) (take 16777217 left)) }
 
     ensures complete { (scenario : Scenario) → map (λ word. word.now) words.now ≡ run_words
         → IsSomeAnd (S.left source.old) (λ input. ReadsAsScenario input scenario)
