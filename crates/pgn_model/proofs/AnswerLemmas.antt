@@ -1,11 +1,12 @@
 -- The table of answers, case by case.
-use Rattle.std.proofs.Common.{◌≡◌, ℕ, false, not, ◌||◌, ◌⊎◌, inl, inr, List, refl, arith}
+use Rattle.std.proofs.Common.{◌≡◌, ℕ, false, not, ◌||◌, ◌⊎◌, inl, inr, List, length, Some, refl, arith}
+use Rattle.pgn_base.specs.declared.answers.Tag.TheVariants as tag
 use Rattle.pgn_model.specs.declared.block_state.BlockState.{BlockState}
 use Rattle.pgn_model.specs.declared.block_state.BlockState.TheVariants.{Idle, InBlock, Failed}
 use Rattle.pgn_model.specs.declared.command.Command.{Command}
-use Rattle.pgn_model.specs.declared.command.Command.TheVariants.{RollbackTo, Release}
-use Rattle.pgn_model.specs.Answers.{answer}
-use Rattle.pgn_model.specs.AnswerLaws.{is_idle, is_in_block, is_failed, block_after, begins_block, ends_block, goes_back, is_refused, is_silent, is_blank}
+use Rattle.pgn_model.specs.declared.command.Command.TheVariants.{RollbackTo, Release, ListeningChannels}
+use Rattle.pgn_model.specs.Answers.{ShowsChannels, answer, ending_tag}
+use Rattle.pgn_model.specs.AnswerLaws.{is_idle, is_in_block, is_failed, block_after, begins_block, ends_block, goes_back, is_refused, is_silent, is_empty_line}
 
 -- a state is one of three
 three : (state : BlockState) → (state ≡ Idle) ⊎ (state ≡ InBlock) ⊎ (state ≡ Failed)
@@ -52,15 +53,21 @@ goes-on live set (RollbackTo name) = grind arith
 goes-on live set (Release name) = grind arith
 goes-on live set command = refl
 
-pub silent-blank : (state : BlockState) (live set : List (List ℕ)) (command : Command) → is_silent (answer state live set command) ≡ is_blank command
-silent-blank Idle live set (RollbackTo name) = grind arith
-silent-blank Idle live set (Release name) = grind arith
-silent-blank Idle live set command = refl
-silent-blank InBlock live set (RollbackTo name) = grind arith
-silent-blank InBlock live set (Release name) = grind arith
-silent-blank InBlock live set command = refl
-silent-blank Failed live set (RollbackTo name) = grind arith
-silent-blank Failed live set (Release name) = grind arith
-silent-blank Failed live set command = refl
+pub silent-empty : (state : BlockState) (live set : List (List ℕ)) (command : Command) → is_silent (answer state live set command) ≡ is_empty_line command
+silent-empty Idle live set (RollbackTo name) = grind arith
+silent-empty Idle live set (Release name) = grind arith
+silent-empty Idle live set command = refl
+silent-empty InBlock live set (RollbackTo name) = grind arith
+silent-empty InBlock live set (Release name) = grind arith
+silent-empty InBlock live set command = refl
+silent-empty Failed live set (RollbackTo name) = grind arith
+silent-empty Failed live set (Release name) = grind arith
+silent-empty Failed live set command = refl
 
-pub ruleset answer_laws = (table-is-total, nothing-fails_outside, blocks-begin, blocks-end, blocks-fail, ways-out, ends-failed, goes-on, silent-blank)
+pub channels-counted : (live set : List (List ℕ)) (state : BlockState) → is_failed state ≡ false
+    → (answer state live set ListeningChannels ≡ ShowsChannels set) × (ending_tag (answer state live set ListeningChannels) ≡ Some (tag.Select (length set)))
+channels-counted live set Idle h = (refl, refl)
+channels-counted live set InBlock h = (refl, refl)
+channels-counted live set Failed h = absurd (cc)
+
+pub ruleset answer_laws = (table-is-total, nothing-fails_outside, blocks-begin, blocks-end, blocks-fail, ways-out, ends-failed, goes-on, silent-empty, channels-counted)

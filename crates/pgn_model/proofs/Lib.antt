@@ -8,4 +8,6 @@ pub mod AnswerLemmas
 pub mod SavepointLemmas
 pub mod GrammarLaws
 pub mod TokenLaws
+pub mod LineLaws
+pub mod InputLaws
 pub mod PlaceLaws

@@ -1,10 +1,11 @@
 -- Laws of the table of answers.
-use Rattle.std.specs.Prelude.{◌≡◌, ℕ, Bool, true, false, not, ◌||◌, ◌⊎◌, List}
+use Rattle.std.specs.Prelude.{◌≡◌, ℕ, Bool, true, false, not, ◌||◌, ◌⊎◌, List, length, Some}
+use Rattle.pgn_base.specs.declared.answers.Tag.TheVariants as tag
 use Rattle.pgn_model.specs.declared.block_state.BlockState.{BlockState}
 use Rattle.pgn_model.specs.declared.block_state.BlockState.TheVariants.{Idle, InBlock, Failed}
 use Rattle.pgn_model.specs.declared.command.Command.{Command}
-use Rattle.pgn_model.specs.declared.command.Command.TheVariants.{Empty, Begin, Start, Commit, Rollback, RollbackTo}
-use Rattle.pgn_model.specs.Answers.{Cell, Refuses, Silent, answer, is_live, next_state}
+use Rattle.pgn_model.specs.declared.command.Command.TheVariants.{Empty, Begin, Start, Commit, Rollback, RollbackTo, ListeningChannels}
+use Rattle.pgn_model.specs.Answers.{Outcome, Refuses, Silent, ShowsChannels, answer, is_live, next_state, ending_tag}
 
 -- no block is open
 abbrev pub is_idle : BlockState → Bool
@@ -43,19 +44,19 @@ goes_back live (RollbackTo name) = is_live live name
 goes_back live command = false
 
 -- the command is refused
-abbrev pub is_refused : Cell → Bool
+abbrev pub is_refused : Outcome → Bool
 is_refused (Refuses refusal next) = true
-is_refused cell = false
+is_refused outcome = false
 
 -- nothing is answered
-abbrev pub is_silent : Cell → Bool
+abbrev pub is_silent : Outcome → Bool
 is_silent Silent = true
-is_silent cell = false
+is_silent outcome = false
 
--- a line without a command
-abbrev pub is_blank : Command → Bool
-is_blank Empty = true
-is_blank command = false
+-- the command of an empty line
+abbrev pub is_empty_line : Command → Bool
+is_empty_line Empty = true
+is_empty_line command = false
 
 -- the table is total: each command leads from each state to one of the three
 abbrev pub TableIsTotal : Type 0
@@ -87,6 +88,11 @@ abbrev pub WaysOn : Type 0
 WaysOn = (live set : List (List ℕ)) (command : Command)
     → (is_idle (block_after Failed live set command) ≡ ends_block command) × (is_in_block (block_after Failed live set command) ≡ goes_back live command)
 
--- exactly a line without a command has no answer
-abbrev pub OnlyBlankIsSilent : Type 0
-OnlyBlankIsSilent = (state : BlockState) (live set : List (List ℕ)) (command : Command) → is_silent (answer state live set command) ≡ is_blank command
+-- exactly an empty line has no answer
+abbrev pub OnlyEmptyIsSilent : Type 0
+OnlyEmptyIsSilent = (state : BlockState) (live set : List (List ℕ)) (command : Command) → is_silent (answer state live set command) ≡ is_empty_line command
+
+-- outside a failed block the channels that are shown are those listened to, and their number stands in the tag
+abbrev pub ChannelsAreCounted : Type 0
+ChannelsAreCounted = (live set : List (List ℕ)) (state : BlockState) → is_failed state ≡ false
+    → (answer state live set ListeningChannels ≡ ShowsChannels set) × (ending_tag (answer state live set ListeningChannels) ≡ Some (tag.Select (length set)))

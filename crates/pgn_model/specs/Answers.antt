@@ -1,5 +1,5 @@
 -- The table of answers: a row for each command and a column for each state of the block.
-use Rattle.std.specs.Prelude.{ℕ, Bool, cond, List, Option, Some, None, bytes_eq}
+use Rattle.std.specs.Prelude.{ℕ, Bool, cond, List, length, Option, Some, None, bytes_eq}
 use Rattle.std.specs.List.{list_any}
 use Rattle.pgn_base.specs.declared.answers.Tag.{Tag}
 use Rattle.pgn_base.specs.declared.answers.Tag.TheVariants as tag
@@ -13,29 +13,29 @@ use Rattle.pgn_model.specs.declared.block_state.BlockState.TheVariants.{Idle, In
 use Rattle.pgn_model.specs.declared.command.Command.{Command}
 use Rattle.pgn_model.specs.declared.command.Command.TheVariants.{Empty, Begin, Start, Commit, Rollback, Savepoint, RollbackTo, Release, Listen, Unlisten, UnlistenAll, Notify, PgNotify, ListeningChannels, QueueUsage, Invalid, Bad}
 
--- a cell of the table
-pub data Cell : Type 0 where
-  -- the command commits: the steps of a commit, then the tag, or the refusal of a full queue; the state is idle
-  Commits : (tag : Tag) → Cell
+-- what a command comes to
+pub data Outcome : Type 0 where
+  -- it commits: the steps of a commit, then the tag, or the refusal of a full queue; the state is idle
+  Commits : (tag : Tag) → Outcome
   -- the tag, with a warning before it where there is one, and the new state
-  Replies : (tag : Tag) → (warning : Option Warning) → (next : BlockState) → Cell
+  Replies : (tag : Tag) → (warning : Option Warning) → (next : BlockState) → Outcome
   -- the refusal, and the new state
-  Refuses : (refusal : Refusal) → (next : BlockState) → Cell
+  Refuses : (refusal : Refusal) → (next : BlockState) → Outcome
   -- nothing is answered; the state stays
-  Silent : Cell
-  -- the rows of the listening set, and their number; the state stays
-  ShowsChannels : Cell
-  -- the row of the queue's usage; the state stays
-  ShowsUsage : Cell
+  Silent : Outcome
+  -- a row for each of these channels, and the tag SELECT with their number; the state stays
+  ShowsChannels : (names : List (List ℕ)) → Outcome
+  -- the row of the queue's usage, and the tag SELECT 1; the state stays
+  ShowsUsage : Outcome
 
 -- the columns of a row: in no block, in a block, in a failed block
-abbrev pub in_state : BlockState → Cell → Cell → Cell → Cell
+abbrev pub in_state : BlockState → Outcome → Outcome → Outcome → Outcome
 in_state Idle idle in_block failed = idle
 in_state InBlock idle in_block failed = in_block
 in_state Failed idle in_block failed = failed
 
 -- what a failed block answers to most commands
-abbrev pub ignored : Cell
+abbrev pub ignored : Outcome
 ignored = Refuses Aborted Failed
 
 -- a live savepoint has the name
@@ -43,7 +43,7 @@ abbrev pub is_live : List (List ℕ) → List ℕ → Bool
 is_live live name = list_any (bytes_eq name) live
 
 -- the answer to a command in a state of the block, with these names of live savepoints and this listening set
-abbrev pub answer : BlockState → List (List ℕ) → List (List ℕ) → Command → Cell
+abbrev pub answer : BlockState → List (List ℕ) → List (List ℕ) → Command → Outcome
 answer state live set Begin = in_state state (Replies tag.Begin None InBlock) (Replies tag.Begin (Some AlreadyInBlock) InBlock) ignored
 answer state live set Start = in_state state (Replies tag.Start None InBlock) (Replies tag.Start (Some AlreadyInBlock) InBlock) ignored
 answer state live set Commit = in_state state (Replies tag.Commit (Some NotInBlock) Idle) (Commits tag.Commit) (Replies tag.Rollback None Idle)
@@ -60,17 +60,26 @@ answer state live set (Unlisten name) = in_state state (Commits tag.Unlisten) (R
 answer state live set UnlistenAll = in_state state (Commits tag.Unlisten) (Replies tag.Unlisten None InBlock) ignored
 answer state live set (Notify note) = in_state state (Commits tag.Notify) (Replies tag.Notify None InBlock) ignored
 answer state live set (PgNotify note) = in_state state (Commits (tag.Select 1)) (Replies (tag.Select 1) None InBlock) ignored
-answer state live set ListeningChannels = in_state state ShowsChannels ShowsChannels ignored
+answer state live set ListeningChannels = in_state state (ShowsChannels set) (ShowsChannels set) ignored
 answer state live set QueueUsage = in_state state ShowsUsage ShowsUsage ignored
 answer state live set (Invalid which) = in_state state (Refuses (Bounds which) Idle) (Refuses (Bounds which) Failed) ignored
 answer state live set (Bad at) = in_state state (Refuses (Syntax at) Idle) (Refuses (Syntax at) Failed) (Refuses (Syntax at) Failed)
 answer state live set Empty = in_state state Silent Silent Silent
 
--- the state of the block after a cell, from the state before it
-abbrev pub next_state : BlockState → Cell → BlockState
+-- the state of the block after a command that comes to this, from the state before it
+abbrev pub next_state : BlockState → Outcome → BlockState
 next_state state (Commits tag) = Idle
 next_state state (Replies tag warning next) = next
 next_state state (Refuses refusal next) = next
 next_state state Silent = state
-next_state state ShowsChannels = state
+next_state state (ShowsChannels names) = state
 next_state state ShowsUsage = state
+
+-- the tag that ends an answer, where one does; that of a commit comes where its transaction has committed
+abbrev pub ending_tag : Outcome → Option Tag
+ending_tag (Commits done) = Some done
+ending_tag (Replies done warning next) = Some done
+ending_tag (Refuses refusal next) = None
+ending_tag Silent = None
+ending_tag (ShowsChannels names) = Some (tag.Select (length names))
+ending_tag ShowsUsage = Some (tag.Select 1)

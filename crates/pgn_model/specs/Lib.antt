@@ -15,11 +15,15 @@ pub mod Tokens
 pub mod Grammar
 pub mod GrammarLaws
 pub mod TokenLaws
+pub mod Lines
+pub mod Inputs
+pub mod InputLaws
 pub mod Laws
 pub mod BytesLaws
 pub mod PackingLaws
 pub mod AnswerLaws
 pub mod SavepointLaws
 pub mod Examples
+pub mod InputExamples
 pub mod PackingExamples
 pub mod SavepointExamples

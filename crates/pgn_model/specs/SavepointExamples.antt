@@ -10,7 +10,7 @@ use Rattle.pgn_model.specs.declared.block_state.BlockState.TheVariants.{Idle, In
 use Rattle.pgn_model.specs.declared.command.Command.{Command}
 use Rattle.pgn_model.specs.declared.command.Command.TheVariants.{Begin, Commit, Rollback, Savepoint, RollbackTo, Release, Notify, Bad}
 use Rattle.pgn_model.specs.Savepoints.{Change, changes_of, firsts, surviving_notes, live_names}
-use Rattle.pgn_model.specs.Answers.{Cell, Commits, Replies, Refuses, answer, next_state}
+use Rattle.pgn_model.specs.Answers.{Outcome, Commits, Replies, Refuses, answer, next_state}
 use Rattle.pgn_model.specs.Text.{line, tag_text, warning_line, refusal_text}
 
 -- the name `s`
@@ -59,37 +59,37 @@ abbrev pub repeat_across : List Command
 repeat_across = Notify (on_c (codes "a")) ∷ Savepoint s_name ∷ Notify (on_c (codes "a")) ∷ Notify (on_c (codes "b")) ∷ RollbackTo s_name ∷ Notify (on_c (codes "b")) ∷ []
 
 -- the list of the block after a command: what is kept stands at its end, a refused command leaves it, and a block that ends has none
-abbrev pub list_after : List Change → Command → Cell → List Change
+abbrev pub list_after : List Change → Command → Outcome → List Change
 list_after changes command (Replies tag warning InBlock) = changes ++ changes_of command
 list_after changes command (Replies tag warning next) = []
 list_after changes command (Commits tag) = []
-list_after changes command cell = changes
+list_after changes command outcome = changes
 
--- the cells that commands meet one after another, from a state of the block and its list
-abbrev pub cells_from : BlockState → List Change → List Command → List Cell
-cells_from state changes [] = []
-cells_from state changes (command ∷ commands) =
-    let cell = answer state (live_names changes) [] command in
-    cell ∷ cells_from (next_state state cell) (list_after changes command cell) commands
+-- what commands come to one after another, from a state of the block and its list
+abbrev pub outcomes_from : BlockState → List Change → List Command → List Outcome
+outcomes_from state changes [] = []
+outcomes_from state changes (command ∷ commands) =
+    let outcome = answer state (live_names changes) [] command in
+    outcome ∷ outcomes_from (next_state state outcome) (list_after changes command outcome) commands
 
--- the cells that a session's commands meet
-abbrev pub cells_of : List Command → List Cell
-cells_of commands = cells_from Idle [] commands
+-- what a session's commands come to
+abbrev pub outcomes_of : List Command → List Outcome
+outcomes_of commands = outcomes_from Idle [] commands
 
--- the lines that show a cell where its commit meets no full queue
-abbrev pub cell_text : Cell → List ℕ
-cell_text (Commits tag) = line (tag_text tag)
-cell_text (Replies tag warning next) = warning_line warning ++ line (tag_text tag)
-cell_text (Refuses refusal next) = line (codes "ERROR: " ++ refusal_text refusal)
-cell_text cell = []
+-- the lines that show an outcome where its commit meets no full queue
+abbrev pub outcome_text : Outcome → List ℕ
+outcome_text (Commits tag) = line (tag_text tag)
+outcome_text (Replies tag warning next) = warning_line warning ++ line (tag_text tag)
+outcome_text (Refuses refusal next) = line (codes "ERROR: " ++ refusal_text refusal)
+outcome_text outcome = []
 
 -- BEGIN; ROLLBACK TO s; NOTIFY c; LISTEN 5; COMMIT; and a further COMMIT
 abbrev pub failed_block_commands : List Command
 failed_block_commands = Begin ∷ RollbackTo s_name ∷ Notify (on_c []) ∷ Bad 7 ∷ Commit ∷ Commit ∷ []
 
 -- its answers, with the state that each leads to
-abbrev pub failed_block_cells : List Cell
-failed_block_cells = Replies tag.Begin None InBlock ∷ Refuses (NoSavepoint s_name) Failed ∷ Refuses Aborted Failed ∷ Refuses (Syntax 7) Failed
+abbrev pub failed_block_outcomes : List Outcome
+failed_block_outcomes = Replies tag.Begin None InBlock ∷ Refuses (NoSavepoint s_name) Failed ∷ Refuses Aborted Failed ∷ Refuses (Syntax 7) Failed
     ∷ Replies tag.Rollback None Idle ∷ Replies tag.Commit (Some NotInBlock) Idle ∷ []
 
 -- their lines
@@ -101,8 +101,8 @@ abbrev pub back_in_block_commands : List Command
 back_in_block_commands = Begin ∷ Savepoint s_name ∷ Release t_name ∷ Release s_name ∷ RollbackTo t_name ∷ RollbackTo s_name ∷ Release s_name ∷ RollbackTo s_name ∷ Rollback ∷ []
 
 -- its answers: the block fails, ROLLBACK TO the live savepoint goes on in it, and it fails again once that is released
-abbrev pub back_in_block_cells : List Cell
-back_in_block_cells = Replies tag.Begin None InBlock ∷ Replies tag.Savepoint None InBlock ∷ Refuses (NoSavepoint t_name) Failed ∷ Refuses Aborted Failed
+abbrev pub back_in_block_outcomes : List Outcome
+back_in_block_outcomes = Replies tag.Begin None InBlock ∷ Replies tag.Savepoint None InBlock ∷ Refuses (NoSavepoint t_name) Failed ∷ Refuses Aborted Failed
     ∷ Refuses (NoSavepoint t_name) Failed ∷ Replies tag.Rollback None InBlock ∷ Replies tag.Release None InBlock ∷ Refuses (NoSavepoint s_name) Failed
     ∷ Replies tag.Rollback None Idle ∷ []
 

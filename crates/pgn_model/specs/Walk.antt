@@ -23,7 +23,7 @@ use Rattle.pgn_model.specs.declared.item.Item.TheVariants.{Line, Enlist, Publish
 use Rattle.pgn_model.specs.Journal.{entry}
 use Rattle.pgn_model.specs.Due.{due}
 use Rattle.pgn_model.specs.Savepoints.{Change, live_names, surviving_actions, surviving_notes, firsts, is_listen, changes_of}
-use Rattle.pgn_model.specs.Answers.{Cell, Commits, answer}
+use Rattle.pgn_model.specs.Answers.{Outcome, Commits, answer}
 
 -- what the command line sets: the queue's limit in pages, and how many looks an await takes
 pub record Settings : Type 0 where
@@ -109,16 +109,16 @@ committing s changes ending =
     let idle : State = record s { block = Idle; changes = [] } in
     if list_any is_listen actions && is_none s.mark then record idle { owed = Enlisting actions notes ending } else joined idle actions notes ending
 
--- a command begins, with its cell of the table
-abbrev pub at_cell : State → Command → Cell → State
-at_cell s (command.Listen name) (Commits tag) = committing s (s.changes ++ changes_of (command.Listen name)) (Replied tag None)
-at_cell s (command.Notify note) (Commits tag) = committing s (s.changes ++ changes_of (command.Notify note)) (Replied tag None)
+-- a command begins, which comes to this
+abbrev pub at_outcome : State → Command → Outcome → State
+at_outcome s (command.Listen name) (Commits tag) = committing s (s.changes ++ changes_of (command.Listen name)) (Replied tag None)
+at_outcome s (command.Notify note) (Commits tag) = committing s (s.changes ++ changes_of (command.Notify note)) (Replied tag None)
 -- a command that no session serves yet, or a state that no served command leads to
-at_cell s other cell = record s { owed = Barred }
+at_outcome s other outcome = record s { owed = Barred }
 
 -- a line of the script begins
 abbrev pub at_act : State → Act → State
-at_act s (Run command) = at_cell s command (answer s.block (live_names s.changes) s.set command)
+at_act s (Run command) = at_outcome s command (answer s.block (live_names s.changes) s.set command)
 at_act s (Signal flag) = record s { owed = Barred }
 at_act s (Await flag) = record s { owed = Barred }
 at_act s Quit = record s { owed = Barred }

@@ -1,4 +1,4 @@
-ghost use Rattle.pgn_model.specs.AnswerLaws.{TableIsTotal, NothingFailsOutside, BlocksBegin, BlocksEnd, BlocksFail, WaysOut, WaysOn, OnlyBlankIsSilent};
+ghost use Rattle.pgn_model.specs.AnswerLaws.{TableIsTotal, NothingFailsOutside, BlocksBegin, BlocksEnd, BlocksFail, WaysOut, WaysOn, OnlyEmptyIsSilent, ChannelsAreCounted};
 
 /// Each command has one answer in each state, and leads to one of the three states.
 #[tactic(auto, using(crate::proofs::AnswerLemmas::answer_laws))]
@@ -27,8 +27,14 @@ pub fn in_a_failed_block()
     ensures ways_on { WaysOn }
 {}
 
-/// Only a line without a command is not answered.
+/// Only an empty line is not answered.
 #[tactic(auto, using(crate::proofs::AnswerLemmas::answer_laws))]
-pub fn only_blank_is_silent()
-    ensures { OnlyBlankIsSilent }
+pub fn only_empty_is_silent()
+    ensures { OnlyEmptyIsSilent }
+{}
+
+/// The channels that are shown are those listened to, and their number is in the answer.
+#[tactic(auto, using(crate::proofs::AnswerLemmas::answer_laws))]
+pub fn channels_are_counted()
+    ensures { ChannelsAreCounted }
 {}

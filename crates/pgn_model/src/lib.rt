@@ -16,6 +16,8 @@ mod command;
 mod examples;
 mod grammar_examples;
 mod grammar_laws;
+mod input_examples;
+mod input_laws;
 mod item;
 mod laws;
 mod line_text;
@@ -28,7 +30,8 @@ mod trace;
 mod tx;
 
 pub use answer_laws::{
-    in_a_block, in_a_failed_block, only_blank_is_silent, outside_a_block, table_is_total,
+    channels_are_counted, in_a_block, in_a_failed_block, only_empty_is_silent, outside_a_block,
+    table_is_total,
 };
 pub use block_state::BlockState;
 pub use bytes_laws::{
@@ -44,6 +47,13 @@ pub use grammar_examples::{
 pub use grammar_laws::{
     begins_computes, cut_is_longest, cut_is_name, followers_done, followers_tell, front_begins,
     one_reading, quotes_tell, reading_computes, tokens_stand, wrong_fits_nowhere,
+};
+pub use input_examples::{
+    faults_of_bytes, faults_of_meta_lines, faults_of_sections, faults_of_size, whole_inputs,
+};
+pub use input_laws::{
+    blank_reads_empty, input_reading_computes, lines_are_cut, one_input_reading, parts_are_cut,
+    texts_are_trimmed,
 };
 pub use item::{Item, Items};
 pub use laws::{due_grows, due_splits, lawful_front, lawful_grows, lawful_pushes};

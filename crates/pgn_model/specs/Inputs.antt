@@ -1,0 +1,302 @@
+-- The scenario that an input reads as, or its one fault.
+use Rattle.std.specs.Prelude.{◌≡◌, ℕ, ◌+◌, ◌<◌, ◌≤◌, Bool, true, false, cond, not, ◌&&◌, ◌||◌, ◌==◌, nat_lt, List, [], ◌∷◌, ◌++◌, map, length, filter_map, fold, count_by, sum_by, Option, None, Some, option_map, Result, Ok, Err, bytes_eq, Contains, All}
+use Rattle.std.specs.List.{list_any, position_or_len, position_from}
+use Rattle.std.specs.Option.{option_to_list}
+use Rattle.std.specs.Str.{is_utf8}
+use Rattle.std.specs.Str.Lossy.{utf8_valid_len}
+use Rattle.pgn_model.specs.declared.command.Command.{Command}
+use Rattle.pgn_model.specs.declared.command.Command.TheVariants.{Savepoint, RollbackTo, Release, Listen, Unlisten, Notify, PgNotify}
+use Rattle.pgn_model.specs.declared.scenario.Act.{Act}
+use Rattle.pgn_model.specs.declared.scenario.Act.TheVariants.{Run, Signal, Await, Quit}
+use Rattle.pgn_model.specs.declared.scenario.ScriptLine.{ScriptLine}
+use Rattle.pgn_model.specs.declared.scenario.Section.{Section}
+use Rattle.pgn_model.specs.declared.scenario.Scenario.{Scenario}
+use Rattle.pgn_model.specs.declared.scenario.ScenarioFault.{ScenarioFault}
+use Rattle.pgn_model.specs.declared.scenario.ScenarioFault.TheVariants as fault
+use Rattle.pgn_model.specs.Lines.{Says, Nothing, Opens, Runs, Signals, Awaits, Quits, Unclear, says, trimmed, lines_of}
+
+-- the largest input, in bytes
+abbrev pub input_limit : ℕ
+input_limit = 16777216
+
+-- the longest line, in bytes without its LF
+abbrev pub line_limit : ℕ
+line_limit = 65536
+
+-- the most sections
+abbrev pub section_limit : ℕ
+section_limit = 256
+
+-- the most flags
+abbrev pub flag_limit : ℕ
+flag_limit = 256
+
+-- the most lines that notify
+abbrev pub note_line_limit : ℕ
+note_line_limit = 65536
+
+-- what lines say, one after another
+abbrev pub all_say : List (List ℕ) → List Says
+all_say lines = map says lines
+
+-- a section begins
+abbrev pub is_opening : Says → Bool
+is_opening (Opens name db) = true
+is_opening said = false
+
+-- a session ends
+abbrev pub is_quit : Says → Bool
+is_quit Quits = true
+is_quit said = false
+
+-- the command notifies
+abbrev pub is_note_command : Command → Bool
+is_note_command (Notify note) = true
+is_note_command (PgNotify note) = true
+is_note_command command = false
+
+-- a line that notifies
+abbrev pub is_note : Says → Bool
+is_note (Runs command) = is_note_command command
+is_note said = false
+
+-- the name of the section that begins
+abbrev pub opened_name : Says → Option (List ℕ)
+opened_name (Opens name db) = Some name
+opened_name said = None
+
+-- the flag that is signalled
+abbrev pub signalled_flag : Says → Option (List ℕ)
+signalled_flag (Signals flag) = Some flag
+signalled_flag said = None
+
+-- the flag that is signalled or awaited
+abbrev pub named_flag : Says → Option (List ℕ)
+named_flag (Signals flag) = Some flag
+named_flag (Awaits flag) = Some flag
+named_flag said = None
+
+-- the name is among names
+abbrev pub has_name : List (List ℕ) → List ℕ → Bool
+has_name names name = list_any (bytes_eq name) names
+
+-- names, and one more at their end where it is not among them
+abbrev pub with_name : List (List ℕ) → List ℕ → List (List ℕ)
+with_name names name = cond (has_name names name) names (names ++ name ∷ [])
+
+-- the names of the sections
+abbrev pub section_names : List Says → List (List ℕ)
+section_names said = filter_map opened_name said
+
+-- the flags, each once, in order of first appearance
+abbrev pub flags_of : List Says → List (List ℕ)
+flags_of said = fold with_name [] (filter_map named_flag said)
+
+-- a `\quit` stands after the last line at which a section begins
+abbrev pub has_quit : List Says → Bool
+has_quit said = fold (λ quit line. cond (is_opening line) false (quit || is_quit line)) false said
+
+-- The faults of a line after the lines before it, in their order.
+
+-- a line begins as a meta line and is none; or it stands after a `\quit` of its section, and is neither blank nor begins a section
+abbrev pub is_bad_meta : List Says → Says → Bool
+is_bad_meta before Unclear = true
+is_bad_meta before Nothing = false
+is_bad_meta before (Opens name db) = false
+is_bad_meta before said = has_quit before
+
+-- no section has begun, and the line is neither blank nor begins one
+abbrev pub lacks_session : List Says → Says → Bool
+lacks_session before Nothing = false
+lacks_session before (Opens name db) = false
+lacks_session before said = not (list_any is_opening before)
+
+-- an earlier section has the name of the one that begins
+abbrev pub repeats_name : List Says → Says → Bool
+repeats_name before (Opens name db) = has_name (section_names before) name
+repeats_name before said = false
+
+-- there are more sections, more flags or more lines that notify than there may be
+abbrev pub are_too_many : List Says → Bool
+are_too_many said =
+    nat_lt section_limit (length (section_names said)) || nat_lt flag_limit (length (flags_of said)) || nat_lt note_line_limit (count_by is_note said)
+
+-- the fault of the line numbered n by what it says, after lines that say this
+abbrev pub fault_said : ℕ → List Says → Says → Option ScenarioFault
+fault_said n before said =
+    cond (is_bad_meta before said) (Some (fault.BadMeta n))
+    (cond (lacks_session before said) (Some (fault.NoSession n))
+    (cond (repeats_name before said) (Some (fault.SameName n))
+    (cond (are_too_many (before ++ said ∷ [])) (Some (fault.TooMany n)) None)))
+
+-- the number of the line after these, from 1
+abbrev pub line_number : List (List ℕ) → ℕ
+line_number before = length before + 1
+
+-- the byte of the input, from 0, at which the line after these begins: each of them has its LF
+abbrev pub line_start : List (List ℕ) → ℕ
+line_start before = sum_by (λ line. length line + 1) before
+
+-- the fault of a line after the lines before it; what is not UTF-8 is so from the byte at which its longest front of whole
+-- characters ends
+unfoldable pub fault_of : List (List ℕ) → List ℕ → Option ScenarioFault
+fault_of before line =
+    cond (nat_lt line_limit (length line)) (Some (fault.LineTooLong (line_number before)))
+    (cond (not (is_utf8 line)) (Some (fault.NotUtf8 (line_start before + utf8_valid_len line)))
+    (cond (list_any (λ byte. byte == 0) line) (Some (fault.NulByte (line_number before)))
+    (fault_said (line_number before) (all_say before) (says line))))
+
+-- The scenario of lines without faults.
+
+-- the number of a flag: its place among the flags, from 0
+abbrev pub flag_number : List (List ℕ) → List ℕ → ℕ
+flag_number flags flag = position_or_len (bytes_eq flag) flags
+
+-- what a session does at a line, where it does something
+abbrev pub act_of : List (List ℕ) → Says → Option Act
+act_of flags (Runs command) = Some (Run command)
+act_of flags (Signals flag) = Some (Signal (flag_number flags flag))
+act_of flags (Awaits flag) = Some (Await (flag_number flags flag))
+act_of flags Quits = Some Quit
+act_of flags said = None
+
+-- the script line with this number, this text and this act
+abbrev pub script_line : ℕ → List ℕ → Act → ScriptLine
+script_line n text act = record { line = n; text = text; act = act }
+
+-- the script line of the line numbered n, where a session does something at it
+abbrev pub script_line_of : List (List ℕ) → ℕ → List ℕ → Option ScriptLine
+script_line_of flags n line = option_map (script_line n (trimmed line)) (act_of flags (says line))
+
+-- the script lines of lines, of which the first is numbered n, up to the next at which a section begins
+abbrev pub script_from : List (List ℕ) → ℕ → List (List ℕ) → List ScriptLine
+script_from flags n [] = []
+script_from flags n (line ∷ lines) = cond (is_opening (says line)) [] (option_to_list (script_line_of flags n line) ++ script_from flags (n + 1) lines)
+
+-- a script line that notifies
+abbrev pub is_note_act : Act → Bool
+is_note_act (Run command) = is_note_command command
+is_note_act act = false
+
+-- how many script lines notify
+abbrev pub note_lines_of : List ScriptLine → ℕ
+note_lines_of script = count_by (λ line. is_note_act line.act) script
+
+-- a section with its script
+abbrev pub section : ℕ → List ℕ → ℕ → List ScriptLine → Section
+section number name db script = record { no = number; name = name; db = db; lines = script; note_lines = note_lines_of script }
+
+-- the section that begins at a line, where one does: it has this number, and its lines are those that follow, of which the first
+-- is numbered n
+abbrev pub section_at : List (List ℕ) → ℕ → ℕ → Says → List (List ℕ) → List Section
+section_at flags number n (Opens name db) lines = section number name db (script_from flags n lines) ∷ []
+section_at flags number n said lines = []
+
+-- the sections of lines, of which the first is numbered n; the first section has this number
+abbrev pub sections_from : List (List ℕ) → ℕ → ℕ → List (List ℕ) → List Section
+sections_from flags number n [] = []
+sections_from flags number n (line ∷ lines) =
+    let here = section_at flags number (n + 1) (says line) lines in
+    here ++ sections_from flags (number + length here) (n + 1) lines
+
+-- the scenario of lines
+unfoldable pub scenario_of : List (List ℕ) → Scenario
+scenario_of lines = let flags = flags_of (all_say lines) in record { sections = sections_from flags 1 1 lines; flags = flags }
+
+-- The reading of an input.
+
+-- a flag is awaited, and is not among those that are signalled
+abbrev pub is_unsignalled : List (List ℕ) → Says → Bool
+is_unsignalled signalled (Awaits flag) = not (has_name signalled flag)
+is_unsignalled signalled said = false
+
+-- the number of the lowest line that awaits a flag which no line signals
+abbrev pub unsignalled : List Says → Option ℕ
+unsignalled said = position_from (is_unsignalled (filter_map signalled_flag said)) 1 said
+
+-- none of these lines has a fault after those before it
+abbrev pub AreSound : List (List ℕ) → Type 0
+AreSound lines = (before : List (List ℕ)) (line : List ℕ) (rest : List (List ℕ)) → lines ≡ before ++ line ∷ rest → fault_of before line ≡ None
+
+-- some line begins a section
+abbrev pub has_section : List Says → Bool
+has_section said = list_any is_opening said
+
+-- the scenario, or the one fault, that an input reads as
+pub data ReadsAsScenario (input : List ℕ) : Result Scenario ScenarioFault → Type 0 where
+  -- it is too large
+  Large : input_limit < length input → ReadsAsScenario input (Err fault.TooLarge)
+  -- a line has a fault, and none before it has
+  Faulty : length input ≤ input_limit → (before : List (List ℕ)) → (line : List ℕ) → (rest : List (List ℕ)) → lines_of input ≡ before ++ line ∷ rest
+      → AreSound before → (found : ScenarioFault) → fault_of before line ≡ Some found → ReadsAsScenario input (Err found)
+  -- no line has a fault, and no section begins
+  Sectionless : length input ≤ input_limit → AreSound (lines_of input) → has_section (all_say (lines_of input)) ≡ false
+      → ReadsAsScenario input (Err fault.Empty)
+  -- no line has a fault, and the line numbered n is the lowest that awaits a flag which no line signals
+  Unsignalled : length input ≤ input_limit → AreSound (lines_of input) → has_section (all_say (lines_of input)) ≡ true
+      → (n : ℕ) → unsignalled (all_say (lines_of input)) ≡ Some n → ReadsAsScenario input (Err (fault.NeverSignalled n))
+  -- none of these
+  Reads : length input ≤ input_limit → AreSound (lines_of input) → has_section (all_say (lines_of input)) ≡ true
+      → unsignalled (all_say (lines_of input)) ≡ None → ReadsAsScenario input (Ok (scenario_of (lines_of input)))
+
+-- A sound scenario.
+
+-- sections are numbered one after another
+abbrev pub AreNumbered : ℕ → List Section → Type 0
+AreNumbered n [] = Unit {0}
+AreNumbered n (section ∷ sections) = (section.no ≡ n) × AreNumbered (n + 1) sections
+
+-- the flag of an act is one of so many
+abbrev pub HasFlagBelow : ℕ → Act → Type 0
+HasFlagBelow flags (Signal flag) = flag < flags
+HasFlagBelow flags (Await flag) = flag < flags
+HasFlagBelow flags act = Unit {0}
+
+-- the numbers of script lines rise, from one past n on
+abbrev pub Rise : ℕ → List ScriptLine → Type 0
+Rise n [] = Unit {0}
+Rise n (line ∷ lines) = (n < line.line) × Rise line.line lines
+
+-- a session quits at its last line alone
+abbrev pub QuitsLast : List ScriptLine → Type 0
+QuitsLast [] = Unit {0}
+QuitsLast (line ∷ lines) = (line.act ≡ Quit → lines ≡ []) × QuitsLast lines
+
+-- no LF stands in a text
+abbrev pub IsOneLine : List ℕ → Type 0
+IsOneLine text = Contains text 10 → ⊥
+
+-- no LF stands in a name or payload of a command
+abbrev pub IsOneLineCommand : Command → Type 0
+IsOneLineCommand (Savepoint name) = IsOneLine name
+IsOneLineCommand (RollbackTo name) = IsOneLine name
+IsOneLineCommand (Release name) = IsOneLine name
+IsOneLineCommand (Listen name) = IsOneLine name
+IsOneLineCommand (Unlisten name) = IsOneLine name
+IsOneLineCommand (Notify note) = IsOneLine note.channel × IsOneLine note.payload
+IsOneLineCommand (PgNotify note) = IsOneLine note.channel × IsOneLine note.payload
+IsOneLineCommand command = Unit {0}
+
+-- no LF stands in a name or payload of an act
+abbrev pub IsOneLineAct : Act → Type 0
+IsOneLineAct (Run command) = IsOneLineCommand command
+IsOneLineAct act = Unit {0}
+
+-- a section's script is sound, with so many flags
+pub record IsSoundSection (flags : ℕ) (of : Section) : Type 0 where
+  pub flags_known : All (λ line. HasFlagBelow flags line.act) of.lines
+  pub rising : Rise 0 of.lines
+  pub quits_last : QuitsLast of.lines
+  pub counted : of.note_lines ≡ note_lines_of of.lines
+  pub name : IsOneLine of.name
+  pub texts : All (λ line. IsOneLine line.text × IsOneLineAct line.act) of.lines
+
+-- a scenario is sound
+pub record IsSound (scenario : Scenario) : Type 0 where
+  pub some : 0 < length scenario.sections
+  pub few : length scenario.sections ≤ section_limit
+  pub numbered : AreNumbered 1 scenario.sections
+  pub few_flags : length scenario.flags ≤ flag_limit
+  pub flags : All IsOneLine scenario.flags
+  pub sections : All (IsSoundSection (length scenario.flags)) scenario.sections
+  pub few_note_lines : sum_by (λ section. section.note_lines) scenario.sections ≤ note_line_limit
