@@ -3,7 +3,7 @@ use Rattle.std.proofs.Common.{◌≡◌, ℕ, ◌+◌, ◌<◌, ◌≤◌, ◌==
 use Rattle.std.proofs.lemmas.Bool.{and_parts, not-true, cond-false}
 use Rattle.std.proofs.lemmas.List.{take_all, drop_all}
 use Rattle.std.specs.List.{onto_first}
-use Rattle.pgn_run.specs.Reading.{lines_of}
+use Rattle.pgn_model.specs.Lines.{lines_of}
 use Rattle.pgn_run.specs.Spelling.{lacks}
 
 -- a line that ends with LF, and the lines of what follows

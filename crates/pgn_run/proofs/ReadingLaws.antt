@@ -8,7 +8,8 @@ use Rattle.pgn_model.specs.declared.scenario.Act.TheVariants.{Run, Signal, Await
 use Rattle.pgn_model.specs.declared.scenario.ScriptLine.{ScriptLine}
 use Rattle.pgn_model.specs.declared.scenario.Section.{Section}
 use Rattle.pgn_model.specs.declared.scenario.Scenario.{Scenario}
-use Rattle.pgn_run.specs.Reading.{lines_of, RunsLine, ReadAsLines, ReadAsSection, ReadsAsScenario, IsCommandLine, BreaksFrom, LinesBreakAt, BreaksAt, IsServedAct, IsServed}
+use Rattle.pgn_run.specs.Reading.{RunsLine, ReadAsLines, ReadAsSection, ReadsAsScenario, IsCommandLine, BreaksFrom, LinesBreakAt, BreaksAt, IsServedAct, IsServed}
+use Rattle.pgn_model.specs.Lines.{lines_of}
 use Rattle.pgn_run.proofs.LinesLaws.{lines_few}
 
 runs_command : (line : List ℕ) (act : Act) → RunsLine line act → IsCommandLine line

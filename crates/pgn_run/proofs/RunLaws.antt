@@ -6,7 +6,9 @@ use Rattle.pgn_base.specs.Outside.{AppendsFront, Rose}
 use Rattle.pgn_model.specs.declared.scenario.Scenario.{Scenario}
 use Rattle.pgn_run.specs.declared.status.Status.{Status}
 use Rattle.pgn_run.specs.declared.status.Status.TheVariants.{Done, BadWords, BadScenario, ReadFault, WriteFault, NoMemory, NotBuilt}
-use Rattle.pgn_run.specs.Reading.{input_limit, lines_of, LinesBreakAt, ReadsAsScenario, BreaksAt}
+use Rattle.pgn_run.specs.Reading.{LinesBreakAt, ReadsAsScenario, BreaksAt}
+use Rattle.pgn_model.specs.Inputs.{input_limit}
+use Rattle.pgn_model.specs.Lines.{lines_of}
 use Rattle.pgn_run.specs.Run.{Runs, Answers, run_words}
 use Rattle.pgn_run.proofs.ReadingLaws.{reads-not-breaks, breaks-once}
 

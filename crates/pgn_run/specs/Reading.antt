@@ -9,15 +9,8 @@ use Rattle.pgn_model.specs.declared.scenario.Act.TheVariants.{Run}
 use Rattle.pgn_model.specs.declared.scenario.ScriptLine.{ScriptLine}
 use Rattle.pgn_model.specs.declared.scenario.Section.{Section}
 use Rattle.pgn_model.specs.declared.scenario.Scenario.{Scenario}
-
--- the largest input, in bytes
-abbrev pub input_limit : ℕ
-input_limit = 16777216
-
--- the lines of an input, cut at each LF; the last may lack it, and an input that ends with LF has no further line
-abbrev pub lines_of : List ℕ → List (List ℕ)
-lines_of [] = []
-lines_of (byte ∷ bytes) = cond (byte == 10) ([] ∷ lines_of bytes) (onto_first byte (lines_of bytes))
+use Rattle.pgn_model.specs.Lines.{lines_of}
+use Rattle.pgn_model.specs.Inputs.{input_limit, is_note_act}
 
 -- a byte between two others, both included
 abbrev pub is_between : ℕ → ℕ → ℕ → Bool
@@ -114,12 +107,6 @@ abbrev pub ReadAsLines : ℕ → List (List ℕ) → List ScriptLine → Type 0
 ReadAsLines n [] [] = Unit {0}
 ReadAsLines n (line ∷ lines) (script_line ∷ script_lines) = ReadsAsLine n line script_line × ReadAsLines (n + 1) lines script_lines
 ReadAsLines n lines script_lines = ⊥
-
--- a NOTIFY or a pg_notify
-abbrev pub is_note_act : Act → Bool
-is_note_act (Run (Notify note)) = true
-is_note_act (Run (PgNotify note)) = true
-is_note_act act = false
 
 -- a script line that notifies
 abbrev pub is_note_line : ScriptLine → Bool

@@ -1,5 +1,7 @@
 ghost use Rattle.std.specs.Prelude.{◌≡◌, ◌+◌, ◌<◌, ◌≤◌, ◌∷◌, length, count_by, IfOk, IfErr, IfSome, IfNone};
-ghost use Rattle.pgn_run.specs.Reading.{ReadsAsScenario, BreaksAt, IsServed, ReadAsSection, LinesBreakAt, ReadAsLines, BreaksFrom, ReadsAsLine, IsCommandLine, lines_of, is_note_line, input_limit};
+ghost use Rattle.pgn_run.specs.Reading.{ReadsAsScenario, BreaksAt, IsServed, ReadAsSection, LinesBreakAt, ReadAsLines, BreaksFrom, ReadsAsLine, IsCommandLine, is_note_line};
+ghost use Rattle.pgn_model.specs.Lines.{lines_of};
+ghost use Rattle.pgn_model.specs.Inputs.{input_limit};
 
 mod command_line;
 mod head_line;

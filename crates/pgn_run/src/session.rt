@@ -2,7 +2,8 @@ ghost use Rattle.std.specs.Prelude.{◌≡◌, ℕ, ◌+◌, ◌^◌, ◌<◌, �
 ghost use Rattle.pgn_model.specs.Due.{due, given, listens, delivery};
 ghost use Rattle.pgn_model.specs.Walk.{default_settings};
 ghost use Rattle.pgn_model.specs.Legal.{Legal};
-ghost use Rattle.pgn_run.specs.Reading.{IsServedAct, IsServed, input_limit};
+ghost use Rattle.pgn_run.specs.Reading.{IsServedAct, IsServed};
+ghost use Rattle.pgn_model.specs.Inputs.{input_limit};
 ghost use Rattle.pgn_run.specs.SoFar.{IsSoFar};
 
 use pgn_base::{

@@ -1,5 +1,5 @@
 use Rattle.std.proofs.Common.{ap, ◌∙◌}
-use Rattle.pgn_run.specs.Reading.{lines_of}
+use Rattle.pgn_model.specs.Lines.{lines_of}
 use Rattle.pgn_run.proofs.LinesLaws.{lines_of-cut, lines_of-uncut}
 use Rattle.pgn_run.proofs.reading.first_line.Goals as goal
 

@@ -1,6 +1,7 @@
 use Rattle.std.proofs.Common.{◌≡◌, ℕ, ◌+◌, ◌≤◌, List, ◌++◌, length}
 use Rattle.pgn_model.specs.declared.scenario.ScriptLine.{ScriptLine}
-use Rattle.pgn_run.specs.Reading.{lines_of, ReadAsLines, BreaksFrom}
+use Rattle.pgn_run.specs.Reading.{ReadAsLines, BreaksFrom}
+use Rattle.pgn_model.specs.Lines.{lines_of}
 use Rattle.pgn_run.proofs.reading.script_of.Given as goal
 
 abbrev pub invariant-loop-rest : goal.invariant-loop-rest
