@@ -15,7 +15,7 @@ use Rattle.pgn_model.specs.Inputs.{input_limit, line_limit, section_limit, flag_
 use Rattle.pgn_model.specs.InputLaws.{lacks, first_fault, whole_reading, lines_reading, input_reading}
 
 -- none of these lines has a fault after those before it and the first ones
-abbrev SoundAfter : List (List ℕ) → List (List ℕ) → Type 0
+abbrev pub SoundAfter : List (List ℕ) → List (List ℕ) → Type 0
 SoundAfter before lines = (front : List (List ℕ)) (line : List ℕ) (rest : List (List ℕ)) → lines ≡ front ++ line ∷ rest → fault_of (before ++ front) line ≡ None
 
 -- the first of these lines with a fault
@@ -55,10 +55,10 @@ none-sound before (line ∷ lines) h = elim (one_of (fault_of before line)) [
 ]
 
 -- what the first line of sound ones says, and what the others say
-sound-first : (before : List (List ℕ)) (line : List ℕ) (lines : List (List ℕ)) → SoundAfter before (line ∷ lines) → fault_of before line ≡ None
+pub sound-first : (before : List (List ℕ)) (line : List ℕ) (lines : List (List ℕ)) → SoundAfter before (line ∷ lines) → fault_of before line ≡ None
 sound-first before line lines h = ap (λ (b : List (List ℕ)). fault_of b line) (sym (append-nil before)) ∙ h [] line lines refl
 
-sound-rest : (before : List (List ℕ)) (line : List ℕ) (lines : List (List ℕ)) → SoundAfter before (line ∷ lines) → SoundAfter (before ++ line ∷ []) lines
+pub sound-rest : (before : List (List ℕ)) (line : List ℕ) (lines : List (List ℕ)) → SoundAfter before (line ∷ lines) → SoundAfter (before ++ line ∷ []) lines
 sound-rest before line lines h front other more e =
     ap (λ (b : List (List ℕ)). fault_of b other) (append_assoc before (line ∷ []) front) ∙ h (line ∷ front) other more (ap (λ (l : List (List ℕ)). line ∷ l) e)
 

@@ -10,4 +10,5 @@ pub mod GrammarLaws
 pub mod TokenLaws
 pub mod LineLaws
 pub mod InputLaws
+pub mod SoundLaws
 pub mod PlaceLaws

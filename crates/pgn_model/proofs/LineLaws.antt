@@ -25,7 +25,7 @@ lines-cut (x ∷ line) rest h = elim (cases_Bool (x == 10)) [
 ]
 
 -- a text that lacks a byte begins with another, and the rest of it lacks the byte too
-lacks-parts : (x : ℕ) (line : List ℕ) → lacks 10 (x ∷ line) ≡ true → ((x == 10) ≡ false) × (lacks 10 line ≡ true)
+pub lacks-parts : (x : ℕ) (line : List ℕ) → lacks 10 (x ∷ line) ≡ true → ((x == 10) ≡ false) × (lacks 10 line ≡ true)
 lacks-parts x line h = elim (cases_Bool (x == 10)) [
   | inl e ↦ let no_more : not (true || list_any (λ b. b == 10) line) ≡ true = subst (λ (t : Bool). not (t || list_any (λ b. b == 10) line) ≡ true) e h in absurd (false≢true no_more)
   | inr e ↦ (e, subst (λ (t : Bool). not (t || list_any (λ b. b == 10) line) ≡ true) e h)
@@ -112,7 +112,7 @@ trimmed-is before (x ∷ text) after h k f l =
     sym (ap trimmed_end start ∙ ap (λ (t : List ℕ). reverse (trimmed_start t)) turned ∙ ap reverse end ∙ reverse-reverse (x ∷ text))
 
 -- what is trimmed is a text between blanks
-is-trimmed : (line : List ℕ) → IsTextOf line (trimmed line)
+pub is-trimmed : (line : List ℕ) → IsTextOf line (trimmed line)
 is-trimmed line =
     let start : List ℕ = trimmed_start line in
     let turned : List ℕ = reverse start in
