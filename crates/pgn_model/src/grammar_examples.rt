@@ -3,7 +3,7 @@ ghost use Rattle.pgn_base.specs.declared.answers.Which.TheVariants.{ChannelEmpty
 ghost use Rattle.pgn_model.specs.declared.command.Command.TheVariants as command;
 ghost use Rattle.pgn_model.specs.Grammar.{ReadsAs};
 
-/// The table of lines and answers.
+/// Lines, each with its answer.
 pub fn lines_and_answers()
     ensures no_name { ReadsAs (codes "LISTEN") (command.Bad 6) }
     ensures number_for_name { ReadsAs (codes "LISTEN 5") (command.Bad 7) }

@@ -1,12 +1,12 @@
 ghost use Rattle.pgn_model.specs.GrammarLaws.{BeginsComputes, FrontBegins, WrongFitsNowhere, FollowersTell, FollowersDone, ReadingComputes, OneReading};
 ghost use Rattle.pgn_model.specs.TokenLaws.{QuotesTell, TokensStand, CutIsLongest, CutIsName};
 
-/// Tokens begin a line of the table of commands exactly where they fit the first places of one.
+/// Tokens begin a form of the table of commands exactly where they fit the first places of one.
 pub fn begins_computes()
     ensures { BeginsComputes }
 {}
 
-/// A front of what begins a line of the table begins one, so that a line goes wrong at one place.
+/// A front of what begins a form of the table begins one, so that a line goes wrong at one byte.
 pub fn front_begins()
     ensures { FrontBegins }
 {}
@@ -16,12 +16,12 @@ pub fn wrong_fits_nowhere()
     ensures { WrongFitsNowhere }
 {}
 
-/// Tokens begin a line of the table exactly where something may follow them, be it nothing more.
+/// Tokens begin a form of the table exactly where something may follow them, be it nothing more.
 pub fn followers_tell()
     ensures { FollowersTell }
 {}
 
-/// Tokens are a line of the table exactly where nothing more may follow them.
+/// Tokens are a form of the table exactly where nothing more may follow them.
 pub fn followers_done()
     ensures { FollowersDone }
 {}

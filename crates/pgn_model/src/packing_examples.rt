@@ -1,14 +1,14 @@
 ghost use Rattle.std.specs.Prelude.{◌≡◌, true, false, [], ◌∷◌, map, Some};
 ghost use Rattle.std.specs.Str.{byte};
 ghost use Rattle.pgn_model.specs.Bytes.{entry_length, spelled, filler};
-ghost use Rattle.pgn_model.specs.Packing.{page_of, place_at, bytes_left, fits, filled, image, place, put, put_all};
+ghost use Rattle.pgn_model.specs.Packing.{page_of, place_at, bytes_left, fits, filled_cells, image, place, put, put_all};
 ghost use Rattle.pgn_model.specs.Examples.{self_notify_journal};
 ghost use Rattle.pgn_model.specs.PackingExamples.{virtual_note, virtual_bytes, virtual_cells, bare_note, bare_bytes, filler_bytes, letters, full_journal, larger_journal};
 
 /// The bytes of two entries and of a filler.
 pub fn entry_bytes()
     ensures whole { spelled virtual_note 1 3 1001 ≡ virtual_bytes }
-    ensures cells { filled virtual_bytes ≡ virtual_cells }
+    ensures cells { filled_cells virtual_bytes ≡ virtual_cells }
     ensures shortest { spelled bare_note 7 4 1003 ≡ bare_bytes }
     ensures filler { filler 20 5 1002 ≡ filler_bytes }
 {}
