@@ -9,3 +9,4 @@ pub mod SavepointLemmas
 pub mod GrammarLaws
 pub mod TokenLaws
 pub mod PlaceLaws
+pub mod CoverLaws

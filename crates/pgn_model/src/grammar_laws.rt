@@ -1,5 +1,5 @@
 ghost use Rattle.pgn_model.specs.GrammarLaws.{BeginsComputes, FrontBegins, WrongFitsNowhere, FollowersTell, FollowersDone, ReadingComputes, OneReading};
-ghost use Rattle.pgn_model.specs.TokenLaws.{QuotesTell, TokensStand, CutIsLongest, CutIsName};
+ghost use Rattle.pgn_model.specs.TokenLaws.{QuotesTell, TokensStand, TokensCover, OneCover, CutIsLongest, CutIsName};
 
 /// Tokens begin a form of the table of commands exactly where they fit the first places of one.
 pub fn begins_computes()
@@ -54,4 +54,12 @@ pub fn cut_is_name()
 /// Each token of a text stands in it where it is said to begin.
 pub fn tokens_stand()
     ensures { TokensStand }
+{}
+
+/// The tokens of a text cover it: nothing but blanks stands before them and between them, and nothing but blanks and a comment
+/// after them. Words, numbers and quoted texts are as long as they can be. After what is no token anything may stand. No other
+/// tokens cover it, so that no other order of reading gives others.
+pub fn tokens_cover()
+    ensures cover { TokensCover }
+    ensures alone { OneCover }
 {}

@@ -43,7 +43,8 @@ pub use grammar_examples::{
 };
 pub use grammar_laws::{
     begins_computes, cut_is_longest, cut_is_name, followers_done, followers_tell, front_begins,
-    one_reading, quotes_tell, reading_computes, tokens_stand, wrong_fits_nowhere,
+    one_reading, quotes_tell, reading_computes, tokens_cover, tokens_stand,
+    wrong_fits_nowhere,
 };
 pub use item::{Item, Items};
 pub use laws::{due_grows, due_splits, lawful_front, lawful_grows, lawful_pushes};
