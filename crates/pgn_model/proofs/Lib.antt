@@ -10,3 +10,5 @@ pub mod GrammarLaws
 pub mod TokenLaws
 pub mod PlaceLaws
 pub mod CoverLaws
+pub mod CleanTokens
+pub mod ValidForms

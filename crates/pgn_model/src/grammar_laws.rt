@@ -1,4 +1,5 @@
 ghost use Rattle.pgn_model.specs.GrammarLaws.{BeginsComputes, FrontBegins, WrongFitsNowhere, FollowersTell, FollowersDone, ReadingComputes, OneReading};
+ghost use Rattle.pgn_model.specs.ValidCommands.{ReadingsAreValid};
 ghost use Rattle.pgn_model.specs.TokenLaws.{QuotesTell, TokensStand, TokensCover, OneCover, CutIsLongest, CutIsName};
 
 /// Tokens begin a form of the table of commands exactly where they fit the first places of one.
@@ -34,6 +35,12 @@ pub fn reading_computes()
 /// A line has exactly one reading.
 pub fn one_reading()
     ensures { OneReading }
+{}
+
+/// What a line of UTF-8 without a zero byte reads as is valid: each name is one, and a notification can be sent. So the channel
+/// of NOTIFY is never empty, and no name is cut in the middle of a character.
+pub fn readings_are_valid()
+    ensures { ReadingsAreValid }
 {}
 
 /// A quoted text ends at the first quote that is not written twice, and is what stands before it with each quote once.

@@ -43,7 +43,7 @@ pub use grammar_examples::{
 };
 pub use grammar_laws::{
     begins_computes, cut_is_longest, cut_is_name, followers_done, followers_tell, front_begins,
-    one_reading, quotes_tell, reading_computes, tokens_cover, tokens_stand,
+    one_reading, quotes_tell, reading_computes, readings_are_valid, tokens_cover, tokens_stand,
     wrong_fits_nowhere,
 };
 pub use item::{Item, Items};
