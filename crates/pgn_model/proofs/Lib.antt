@@ -12,3 +12,4 @@ pub mod PlaceLaws
 pub mod CoverLaws
 pub mod CleanTokens
 pub mod ValidForms
+pub mod LongLiterals
