@@ -1,5 +1,5 @@
 -- The tokens of a text of UTF-8 without a zero byte are such texts.
-use Rattle.std.proofs.Common.{◌≡◌, ◌≢◌, ℕ, zero, suc, ◌+◌, ◌<◌, ◌≤◌, Bool, true, false, cond, ◌==◌, inl, inr, List, [], ◌∷◌, ◌++◌, map, length, take, drop, get_or, flat_map, Option, None, Some, sym, ap, ◌∙◌, refl, subst, arith, append_assoc, length-append, IsUtf8, IsCharBoundary, Contains}
+use Rattle.std.proofs.Common.{◌≡◌, ◌≢◌, ℕ, zero, suc, ◌+◌, ◌<◌, Bool, true, false, cond, ◌==◌, inl, inr, List, [], ◌∷◌, ◌++◌, map, length, get_or, flat_map, sym, ap, ◌∙◌, refl, subst, arith, append_assoc, length-append, IsUtf8, IsCharBoundary, Contains}
 use Rattle.std.specs.Prelude.{All}
 use Rattle.std.specs.List.{repeat}
 use Rattle.std.specs.Char.{is_ascii_digit, to_ascii_lowercase}
@@ -11,9 +11,9 @@ use Rattle.std.proofs.lemmas.List.Elements.{All-head, All-tail, Contains-append_
 use Rattle.std.proofs.lemmas.Str.{IsUtf8-take, IsUtf8-drop, IsUtf8-append, IsUtf8-nil, IsUtf8-from_ascii, IsCharBoundary-before_ascii, IsCharBoundary-after_ascii, IsCharBoundary-end}
 use Rattle.std.proofs.lemmas.Str.Ascii.{IsAscii-cons, IsAscii-nil, lowercase_ascii, lowercase_is}
 use Rattle.pgn_model.specs.Text.{doubled_byte, quoted}
-use Rattle.pgn_model.specs.Tokens.{Lexeme, Word, Quoted, Literal, Number, Sign, Wrong, Token, tokens, is_blank, begins_word, goes_on_word, is_sign}
+use Rattle.pgn_model.specs.Tokens.{Lexeme, Word, Quoted, Literal, Number, Sign, Wrong, Token, tokens, is_blank, goes_on_word, is_sign}
 use Rattle.pgn_model.specs.Grammar.{lexemes_of}
-use Rattle.pgn_model.specs.TokenLaws.{written, NoneFollows, IsWord, IsNumber, IsWhole, Covers, Ended, Commented, Spaced, Tokened, Stuck}
+use Rattle.pgn_model.specs.TokenLaws.{written, NoneFollows, IsWhole, Covers, Ended, Commented, Spaced, Tokened, Stuck}
 use Rattle.pgn_model.proofs.CoverLaws.{tokens-cover}
 
 -- no byte is zero

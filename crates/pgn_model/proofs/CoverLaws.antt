@@ -1,5 +1,5 @@
 -- The tokens of a text cover it, and no others do.
-use Rattle.std.proofs.Common.{◌≡◌, ◌≢◌, ℕ, zero, suc, ◌+◌, Bool, true, false, cond, ◌&&◌, ◌||◌, ◌==◌, inl, inr, List, [], ◌∷◌, ◌++◌, length, take, drop, flat_map, slice_get, Option, None, Some, sym, ap, ◌∙◌, refl, subst, arith, append_assoc, length-append}
+use Rattle.std.proofs.Common.{◌≡◌, ◌≢◌, ℕ, zero, suc, ◌+◌, Bool, true, false, cond, ◌==◌, inl, inr, List, [], ◌∷◌, ◌++◌, length, drop, flat_map, slice_get, Option, None, Some, sym, ap, ◌∙◌, refl, subst, arith, append_assoc, length-append}
 use Rattle.std.specs.Prelude.{All, take_while}
 use Rattle.std.specs.List.{prefix_len}
 use Rattle.std.specs.Char.{is_ascii_digit}
@@ -11,7 +11,7 @@ use Rattle.std.proofs.lemmas.List.Elements.{All-nil, All-cons, All-head, All-tai
 use Rattle.std.proofs.lemmas.List.Sums.{take_while-cons}
 use Rattle.pgn_model.specs.Text.{doubled_byte, quoted}
 use Rattle.pgn_model.specs.Tokens.{Lexeme, Word, Quoted, Literal, Number, Sign, Wrong, Token, tokens, tokens_from, Inside, closed, Kind, ABlank, AComment, AWord, ANumber, ASign, AQuoted, ALiteral, ANothing, kind, Front, Blank, Comment, OneToken, NoToken, front, quoted_front, literal_front, is_blank, begins_comment, begins_word, goes_on_word, is_sign}
-use Rattle.pgn_model.specs.TokenLaws.{IsClosed, written, NoneFollows, IsWord, IsNumber, IsWhole, NothingStands, Covers, Ended, Commented, Spaced, Tokened, Stuck}
+use Rattle.pgn_model.specs.TokenLaws.{IsClosed, written, NoneFollows, IsWhole, NothingStands, Covers, Ended, Commented, Spaced, Tokened, Stuck}
 use Rattle.pgn_model.proofs.TokenLaws.{closed-spells, closed-doubled}
 use Rattle.pgn_model.proofs.PlaceLaws.{tokens-skip}
 

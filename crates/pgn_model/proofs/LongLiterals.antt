@@ -1,13 +1,12 @@
 -- What NOTIFY with a long literal reads as.
-use Rattle.std.proofs.Common.{◌≡◌, ℕ, zero, suc, ◌+◌, Bool, true, false, nat_le, List, [], ◌∷◌, ◌++◌, length, replicate, flat_map, codes, sym, ap, ◌∙◌, refl, subst, append_assoc}
-use Rattle.std.specs.Prelude.{All}
+use Rattle.std.proofs.Common.{◌≡◌, ℕ, zero, suc, ◌+◌, Bool, true, false, nat_le, List, [], ◌∷◌, ◌++◌, length, replicate, flat_map, codes, sym, ap, ◌∙◌, refl, subst}
 use Rattle.std.proofs.lemmas.List.{length-replicate, append-nil}
 use Rattle.std.proofs.lemmas.List.Elements.{All-from_recursion}
 use Rattle.pgn_base.specs.declared.answers.Which.TheVariants.{PayloadTooLong}
 use Rattle.pgn_model.specs.declared.command.Command.{Command}
 use Rattle.pgn_model.specs.declared.command.Command.TheVariants as command
 use Rattle.pgn_model.specs.Text.{doubled_byte, quoted}
-use Rattle.pgn_model.specs.Tokens.{Lexeme, Word, Literal, Sign, Token, tokens, goes_on_word}
+use Rattle.pgn_model.specs.Tokens.{Word, Literal, Sign, Token, tokens, goes_on_word}
 use Rattle.pgn_model.specs.TokenLaws.{IsWord, Covers, Ended, Spaced, Tokened}
 use Rattle.pgn_model.specs.Grammar.{table, cut, lexemes_of, is_long, limited, ReadsAs}
 use Rattle.pgn_model.specs.GrammarLaws.{reading, reading_of, command_of}

@@ -1,8 +1,7 @@
 -- What the table of commands makes of clean tokens is valid.
-use Rattle.std.proofs.Common.{◌≡◌, ◌≢◌, ℕ, zero, suc, ◌+◌, ◌<◌, ◌≤◌, Bool, true, false, cond, nat_le, ◌&&◌, ◌==◌, ◌⊎◌, inl, inr, List, [], ◌∷◌, ◌++◌, map, length, take, drop, flat_map, Option, None, Some, sym, ap, ◌∙◌, refl, subst, arith, codes, IsUtf8, Contains}
+use Rattle.std.proofs.Common.{◌≡◌, ◌≢◌, ℕ, zero, suc, Bool, true, false, cond, nat_le, ◌==◌, ◌⊎◌, inl, inr, List, [], ◌∷◌, ◌++◌, map, length, take, drop, flat_map, Option, None, Some, sym, refl, subst, arith, codes, IsUtf8, Contains}
 use Rattle.std.specs.Str.{str_to_ascii_lowercase, byte}
-use Rattle.std.specs.List.{repeat}
-use Rattle.std.proofs.lemmas.Bool.{false≢true, and_parts, cases_Bool, leb-false, eqb-false, both_ways}
+use Rattle.std.proofs.lemmas.Bool.{false≢true, and_parts, cases_Bool, leb-false, eqb-false}
 use Rattle.pgn_base.specs.Texts.{IsName, IsPayload}
 use Rattle.pgn_base.specs.declared.note.Note.{Note}
 use Rattle.pgn_base.specs.declared.answers.Which.{Which}
@@ -11,10 +10,10 @@ use Rattle.pgn_model.specs.declared.command.Command.{Command}
 use Rattle.pgn_model.specs.declared.command.Command.TheVariants as command
 use Rattle.pgn_model.specs.Bytes.{IsNote}
 use Rattle.pgn_model.specs.Tokens.{Lexeme, Word, Quoted, Literal, Number, Sign, Wrong, tokens}
-use Rattle.pgn_model.specs.Grammar.{Place, Key, Name, Quote, Count, Mark, fits, all_fit, cut, name_of, text_of, value_of, token_at, Way, silent, key, either, sign, optional, work, name, literal, null, repeated, argument, followed, sequence, Form, row, first, note, table, IsOneOf, lexemes_of, is_long, past_limit, limited, ReadsAs, Whole, Stops, Lacks}
+use Rattle.pgn_model.specs.Grammar.{Place, Key, Name, Quote, Mark, fits, all_fit, cut, name_of, text_of, value_of, token_at, Way, silent, key, either, sign, optional, work, name, literal, argument, followed, sequence, Form, row, first, note, table, IsOneOf, lexemes_of, is_long, past_limit, limited, ReadsAs, Whole, Stops, Lacks}
 use Rattle.pgn_model.specs.ValidCommands.{IsValid}
 use Rattle.pgn_model.proofs.TokenLaws.{cut-name}
-use Rattle.pgn_model.proofs.CleanTokens.{NoNul, nul-from, nul-none, IsText, IsClean, AllClean, folded, none-text, repeated-text, tokens-clean}
+use Rattle.pgn_model.proofs.CleanTokens.{nul-from, nul-none, IsText, IsClean, AllClean, folded, none-text, repeated-text, tokens-clean}
 
 -- what a way gives: a name or a text
 data Sort : Type 0 where
