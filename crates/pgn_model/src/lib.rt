@@ -27,44 +27,104 @@ mod scenario;
 mod trace;
 mod tx;
 
-pub use answer_laws::{
-    in_a_block, in_a_failed_block, only_blank_is_silent, outside_a_block, table_is_total,
-};
+pub use answer_laws::in_a_block;
+pub use answer_laws::in_a_failed_block;
+pub use answer_laws::only_blank_is_silent;
+pub use answer_laws::outside_a_block;
+pub use answer_laws::table_is_total;
 pub use block_state::BlockState;
-pub use bytes_laws::{
-    are_bytes, entry_lengths, filler_length, filler_reads_back, no_spelling_begins,
-    no_spelling_is_filler, spelled_length, spelling_reads_back,
-};
+pub use bytes_laws::are_bytes;
+pub use bytes_laws::entry_lengths;
+pub use bytes_laws::filler_length;
+pub use bytes_laws::filler_reads_back;
+pub use bytes_laws::no_spelling_begins;
+pub use bytes_laws::no_spelling_is_filler;
+pub use bytes_laws::spelled_length;
+pub use bytes_laws::spelling_reads_back;
 pub use command::Command;
-pub use examples::{empty_section, self_notify};
-pub use grammar_examples::{
-    arguments, blank_lines, cut_names, each_command, limits, lines_and_answers, other_characters,
-    savepoint_word, wrong_tokens,
-};
-pub use grammar_laws::{
-    begins_computes, cut_is_longest, cut_is_name, followers_done, followers_tell, front_begins,
-    one_reading, quotes_tell, reading_computes, readings_are_valid, tokens_cover, tokens_stand,
-    wrong_fits_nowhere,
-};
-pub use item::{Item, Items};
-pub use laws::{due_grows, due_splits, lawful_front, lawful_grows, lawful_pushes};
+pub use examples::empty_section;
+pub use examples::self_notify;
+pub use grammar_examples::arguments;
+pub use grammar_examples::blank_lines;
+pub use grammar_examples::cut_names;
+pub use grammar_examples::each_command;
+pub use grammar_examples::limits;
+pub use grammar_examples::lines_and_answers;
+pub use grammar_examples::other_characters;
+pub use grammar_examples::savepoint_word;
+pub use grammar_examples::wrong_tokens;
+pub use grammar_laws::begins_computes;
+pub use grammar_laws::cut_is_longest;
+pub use grammar_laws::cut_is_name;
+pub use grammar_laws::followers_done;
+pub use grammar_laws::followers_tell;
+pub use grammar_laws::front_begins;
+pub use grammar_laws::one_reading;
+pub use grammar_laws::quotes_tell;
+pub use grammar_laws::reading_computes;
+pub use grammar_laws::readings_are_valid;
+pub use grammar_laws::tokens_cover;
+pub use grammar_laws::tokens_stand;
+pub use grammar_laws::wrong_fits_nowhere;
+pub use item::Item;
+pub use item::Items;
+pub use laws::due_grows;
+pub use laws::due_splits;
+pub use laws::lawful_front;
+pub use laws::lawful_grows;
+pub use laws::lawful_pushes;
 pub use line_text::LineText;
-pub use packing_examples::{entry_bytes, full_places, larger_places, one_entry, page_edge};
-pub use packing_laws::{
-    aborted_ends, cells_apart, cells_give_bytes, cells_of_each, first_place, images_agree,
-    is_packed, last_place, leaves_room, next_place, note_moves, notes_in_turn, pages_hold,
-    place_bound, place_folds, place_grows, place_rises, places_agree, put_takes,
-};
-pub use savepoint_examples::{
-    back_in_a_failed_block, back_to_one_savepoint_twice, failed_block, newest_savepoint_is_meant,
-    release_takes_later_savepoints, repeat_across_savepoints, repeats_are_sent_once,
-    rolled_back_is_no_repeat, savepoints_need_a_block,
-};
-pub use savepoint_laws::{
-    back_and_free, first_occurrences, live_after_change, live_after_savepoints, live_is_enough,
-    live_one_more, live_savepoints, live_twice, no_such_savepoint, one_more_occurrence,
-    survives_one_more,
-};
-pub use scenario::{Act, Scenario, ScenarioFault, ScriptLine, ScriptLines, Section, Sections};
+pub use packing_examples::entry_bytes;
+pub use packing_examples::full_places;
+pub use packing_examples::larger_places;
+pub use packing_examples::one_entry;
+pub use packing_examples::page_edge;
+pub use packing_laws::aborted_ends;
+pub use packing_laws::cells_apart;
+pub use packing_laws::cells_give_bytes;
+pub use packing_laws::cells_of_each;
+pub use packing_laws::first_place;
+pub use packing_laws::images_agree;
+pub use packing_laws::is_packed;
+pub use packing_laws::last_place;
+pub use packing_laws::leaves_room;
+pub use packing_laws::next_place;
+pub use packing_laws::note_moves;
+pub use packing_laws::notes_in_turn;
+pub use packing_laws::pages_hold;
+pub use packing_laws::place_bound;
+pub use packing_laws::place_folds;
+pub use packing_laws::place_grows;
+pub use packing_laws::place_rises;
+pub use packing_laws::places_agree;
+pub use packing_laws::put_takes;
+pub use savepoint_examples::back_in_a_failed_block;
+pub use savepoint_examples::back_to_one_savepoint_twice;
+pub use savepoint_examples::failed_block;
+pub use savepoint_examples::newest_savepoint_is_meant;
+pub use savepoint_examples::release_takes_later_savepoints;
+pub use savepoint_examples::repeat_across_savepoints;
+pub use savepoint_examples::repeats_are_sent_once;
+pub use savepoint_examples::rolled_back_is_no_repeat;
+pub use savepoint_examples::savepoints_need_a_block;
+pub use savepoint_laws::back_and_free;
+pub use savepoint_laws::first_occurrences;
+pub use savepoint_laws::live_after_change;
+pub use savepoint_laws::live_after_savepoints;
+pub use savepoint_laws::live_is_enough;
+pub use savepoint_laws::live_one_more;
+pub use savepoint_laws::live_savepoints;
+pub use savepoint_laws::live_twice;
+pub use savepoint_laws::no_such_savepoint;
+pub use savepoint_laws::one_more_occurrence;
+pub use savepoint_laws::survives_one_more;
+pub use scenario::Act;
+pub use scenario::Scenario;
+pub use scenario::ScenarioFault;
+pub use scenario::ScriptLine;
+pub use scenario::ScriptLines;
+pub use scenario::Section;
+pub use scenario::Sections;
 pub use trace::Trace;
-pub use tx::{Fate, Tx};
+pub use tx::Fate;
+pub use tx::Tx;
