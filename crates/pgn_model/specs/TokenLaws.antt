@@ -64,7 +64,7 @@ abbrev pub IsNumber : List ℕ → Type 0
 IsNumber [] = ⊥
 IsNumber (b ∷ bytes) = (is_ascii_digit b ≡ true) × All (λ byte. is_ascii_digit byte ≡ true) bytes
 
--- a token is in its form, and does not go on with the bytes that follow it
+-- a token is well formed, and does not go on with the bytes that follow it
 abbrev pub IsWhole : Lexeme → List ℕ → Type 0
 IsWhole (Word text) rest = IsWord text × NoneFollows goes_on_word rest
 IsWhole (Quoted text) rest = (text ≢ []) × NoneFollows (λ byte. byte == 34) rest
@@ -98,6 +98,6 @@ pub data Covers : ℕ → List ℕ → List Token → Type 0 where
 abbrev pub TokensCover : Type 0
 TokensCover = (text : List ℕ) → Covers 0 text (tokens text)
 
--- no others cover it
+-- they are the only ones that cover it, in whatever order it is read
 abbrev pub OneCover : Type 0
 OneCover = (text : List ℕ) (some : List Token) → Covers 0 text some → some ≡ tokens text

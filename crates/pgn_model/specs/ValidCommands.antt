@@ -1,4 +1,4 @@
--- Which commands are valid, and that each line reads as one.
+-- Which commands are valid, and that lines read as such.
 use Rattle.std.specs.Prelude.{ℕ, List, Contains, IsUtf8}
 use Rattle.pgn_base.specs.Texts.{IsName}
 use Rattle.pgn_model.specs.declared.command.Command.{Command}
