@@ -8,7 +8,7 @@ use Rattle.std.proofs.lemmas.Slice.Eq.{bytes_eq-Decides}
 use Rattle.pgn_model.specs.declared.command.Command.{Command}
 use Rattle.pgn_model.specs.declared.command.Command.TheVariants as command
 use Rattle.pgn_model.specs.Tokens.{Lexeme, Word, Quoted, Literal, Number, Sign, Wrong, Token, tokens}
-use Rattle.pgn_model.specs.Grammar.{Place, Key, Name, Text, Count, Mark, fits, all_fit, Line, table, IsOneOf, Begins, lexemes_of, ReadsAs, Whole, Stops, Lacks}
+use Rattle.pgn_model.specs.Grammar.{Place, Key, Name, Quote, Count, Mark, fits, all_fit, Form, table, IsOneOf, Begins, lexemes_of, ReadsAs, Whole, Stops, Lacks}
 use Rattle.pgn_model.specs.GrammarLaws.{front_fits, begin_one, command_of, stop, reading_of, reading, after_first, followers, table_places, is_done}
 
 -- a front of tokens that fit
@@ -30,14 +30,14 @@ front_fits-front (p ∷ ps) (t ∷ ts) more h =
 abbrev sample : Place → Lexeme
 sample (Key word) = Word word
 sample Name = Word (codes "x")
-sample Text = Literal []
+sample Quote = Literal []
 sample Count = Number (codes "0")
 sample (Mark sign) = Sign sign
 
 sample-fits : (place : Place) → fits place (sample place) ≡ true
 sample-fits (Key word) = (bytes_eq-Decides (str_to_ascii_lowercase word) (str_to_ascii_lowercase word)).1 refl
 sample-fits Name = refl
-sample-fits Text = refl
+sample-fits Quote = refl
 sample-fits Count = refl
 sample-fits (Mark sign) = eq-eqb sign sign refl
 
@@ -55,31 +55,31 @@ completion-fits (p ∷ ps) (t ∷ ts) h =
     let parts : (fits p t ≡ true) × (front_fits ps ts ≡ true) = and_parts _ _ h in
     and_from _ _ parts.0 (completion-fits ps ts parts.1)
 
--- a front of one of the lines begins it
-one-begins : (lines : List Line) (lexemes more : List Lexeme) (command : Command) → IsOneOf lines (lexemes ++ more) command → begin_one lines lexemes ≡ true
+-- a front of one of the forms begins it
+one-begins : (forms : List Form) (lexemes more : List Lexeme) (command : Command) → IsOneOf forms (lexemes ++ more) command → begin_one forms lexemes ≡ true
 one-begins [] lexemes more command h = absurd h
-one-begins (line ∷ lines) lexemes more command (inl h) = or_left _ _ (front_fits-all line.places lexemes more h.0)
-one-begins (line ∷ lines) lexemes more command (inr h) = or_right _ _ (one-begins lines lexemes more command h)
+one-begins (form ∷ forms) lexemes more command (inl h) = or_left _ _ (front_fits-all form.places lexemes more h.0)
+one-begins (form ∷ forms) lexemes more command (inr h) = or_right _ _ (one-begins forms lexemes more command h)
 
-one-completes : (lines : List Line) (lexemes : List Lexeme) → begin_one lines lexemes ≡ true → (more : List Lexeme) × (command : Command) × IsOneOf lines (lexemes ++ more) command
+one-completes : (forms : List Form) (lexemes : List Lexeme) → begin_one forms lexemes ≡ true → (more : List Lexeme) × (command : Command) × IsOneOf forms (lexemes ++ more) command
 one-completes [] lexemes h = absurd (false≢true h)
-one-completes (line ∷ lines) lexemes h = elim (or_cases (front_fits line.places lexemes) (begin_one lines lexemes) h) [
-  | inl e ↦ (completion line.places lexemes, line.command (lexemes ++ completion line.places lexemes), inl (completion-fits line.places lexemes e, refl))
-  | inr e ↦ let rest : (more : List Lexeme) × (command : Command) × IsOneOf lines (lexemes ++ more) command = one-completes lines lexemes e in (rest.0, rest.1, inr rest.2)
+one-completes (form ∷ forms) lexemes h = elim (or_cases (front_fits form.places lexemes) (begin_one forms lexemes) h) [
+  | inl e ↦ (completion form.places lexemes, form.command (lexemes ++ completion form.places lexemes), inl (completion-fits form.places lexemes e, refl))
+  | inr e ↦ let rest : (more : List Lexeme) × (command : Command) × IsOneOf forms (lexemes ++ more) command = one-completes forms lexemes e in (rest.0, rest.1, inr rest.2)
 ]
 
-begin_one-front : (lines : List Line) (lexemes more : List Lexeme) → begin_one lines (lexemes ++ more) ≡ true → begin_one lines lexemes ≡ true
+begin_one-front : (forms : List Form) (lexemes more : List Lexeme) → begin_one forms (lexemes ++ more) ≡ true → begin_one forms lexemes ≡ true
 begin_one-front [] lexemes more h = absurd (false≢true h)
-begin_one-front (line ∷ lines) lexemes more h = elim (or_cases (front_fits line.places (lexemes ++ more)) (begin_one lines (lexemes ++ more)) h) [
-  | inl e ↦ or_left _ _ (front_fits-front line.places lexemes more e)
-  | inr e ↦ or_right _ _ (begin_one-front lines lexemes more e)
+begin_one-front (form ∷ forms) lexemes more h = elim (or_cases (front_fits form.places (lexemes ++ more)) (begin_one forms (lexemes ++ more)) h) [
+  | inl e ↦ or_left _ _ (front_fits-front form.places lexemes more e)
+  | inr e ↦ or_right _ _ (begin_one-front forms lexemes more e)
 ]
 
 pub begins-computes : (lexemes : List Lexeme) → Begins lexemes ↔ (begin_one table lexemes ≡ true)
 begins-computes lexemes = (
-  (λ h. one-begins table lexemes h.more h.command h.line),
+  (λ h. one-begins table lexemes h.more h.command h.form),
   (λ h. let rest : (more : List Lexeme) × (command : Command) × IsOneOf table (lexemes ++ more) command = one-completes table lexemes h in
-      record { more = rest.0; command = rest.1; line = rest.2 }),
+      record { more = rest.0; command = rest.1; form = rest.2 }),
 )
 
 -- no token may stand at both of these places
@@ -88,7 +88,7 @@ apart (Key a) (Key b) = not (str_eq_ignore_ascii_case a b)
 apart (Key a) Name = false
 apart Name (Key b) = false
 apart Name Name = false
-apart Text Text = false
+apart Quote Quote = false
 apart Count Count = false
 apart (Mark a) (Mark b) = not (a == b)
 apart p q = true
@@ -101,7 +101,7 @@ apart-excludes (Key a) (Key b) (Word t) h f g =
 apart-excludes (Key a) Name t h f g = absurd (false≢true h)
 apart-excludes Name (Key b) t h f g = absurd (false≢true h)
 apart-excludes Name Name t h f g = absurd (false≢true h)
-apart-excludes Text Text t h f g = absurd (false≢true h)
+apart-excludes Quote Quote t h f g = absurd (false≢true h)
 apart-excludes Count Count t h f g = absurd (false≢true h)
 apart-excludes (Mark a) (Mark b) (Sign t) h f g =
     both_ways (a == b) (not-true _ h) (eq-eqb a b (eqb-true a t f ∙ sym (eqb-true b t g)))
@@ -134,38 +134,38 @@ clash-excludes (p ∷ ps) (q ∷ qs) (t ∷ ts) h f g =
       | inr e ↦ clash-excludes ps qs ts e fs.1 gs.1
     ]
 
--- no tokens are both this line and one of those
-abbrev clashes : Line → List Line → Bool
-clashes line [] = true
-clashes line (other ∷ lines) = clash line.places other.places && clashes line lines
+-- no tokens are both this form and one of those
+abbrev clashes : Form → List Form → Bool
+clashes form [] = true
+clashes form (other ∷ forms) = clash form.places other.places && clashes form forms
 
--- no tokens are two of these lines
-abbrev all_clash : List Line → Bool
+-- no tokens are two of these forms
+abbrev all_clash : List Form → Bool
 all_clash [] = true
-all_clash (line ∷ lines) = clashes line lines && all_clash lines
+all_clash (form ∷ forms) = clashes form forms && all_clash forms
 
-clashes-exclude : (line : Line) (lines : List Line) (ts : List Lexeme) (command : Command) → clashes line lines ≡ true → all_fit line.places ts ≡ true → IsOneOf lines ts command → ⊥
-clashes-exclude line [] ts command h f g = g
-clashes-exclude line (other ∷ lines) ts command h f (inl g) = clash-excludes line.places other.places ts (and_parts _ _ h).0 f g.0
-clashes-exclude line (other ∷ lines) ts command h f (inr g) = clashes-exclude line lines ts command (and_parts _ _ h).1 f g
+clashes-exclude : (form : Form) (forms : List Form) (ts : List Lexeme) (command : Command) → clashes form forms ≡ true → all_fit form.places ts ≡ true → IsOneOf forms ts command → ⊥
+clashes-exclude form [] ts command h f g = g
+clashes-exclude form (other ∷ forms) ts command h f (inl g) = clash-excludes form.places other.places ts (and_parts _ _ h).0 f g.0
+clashes-exclude form (other ∷ forms) ts command h f (inr g) = clashes-exclude form forms ts command (and_parts _ _ h).1 f g
 
-command_of-one : (lines : List Line) (ts : List Lexeme) (command : Command) → all_clash lines ≡ true → IsOneOf lines ts command → command_of lines ts ≡ Some command
+command_of-one : (forms : List Form) (ts : List Lexeme) (command : Command) → all_clash forms ≡ true → IsOneOf forms ts command → command_of forms ts ≡ Some command
 command_of-one [] ts command h g = absurd g
-command_of-one (line ∷ lines) ts command h (inl g) = rw (g.0, command_of) (ap Some g.1)
-command_of-one (line ∷ lines) ts command h (inr g) =
-    let parts : (clashes line lines ≡ true) × (all_clash lines ≡ true) = and_parts _ _ h in
-    let no_fit : all_fit line.places ts ≡ false = false_from_ne_true _ (λ f. clashes-exclude line lines ts command parts.0 f g) in
-    rw (no_fit, command_of) (command_of-one lines ts command parts.1 g)
+command_of-one (form ∷ forms) ts command h (inl g) = rw (g.0, command_of) (ap Some g.1)
+command_of-one (form ∷ forms) ts command h (inr g) =
+    let parts : (clashes form forms ≡ true) × (all_clash forms ≡ true) = and_parts _ _ h in
+    let no_fit : all_fit form.places ts ≡ false = false_from_ne_true _ (λ f. clashes-exclude form forms ts command parts.0 f g) in
+    rw (no_fit, command_of) (command_of-one forms ts command parts.1 g)
 
-one-command_of : (lines : List Line) (ts : List Lexeme) (command : Command) → command_of lines ts ≡ Some command → IsOneOf lines ts command
+one-command_of : (forms : List Form) (ts : List Lexeme) (command : Command) → command_of forms ts ≡ Some command → IsOneOf forms ts command
 one-command_of [] ts command h = cc
-one-command_of (line ∷ lines) ts command h =
-    elim (all_fit line.places ts) as (λ b. all_fit line.places ts ≡ b → elim b as (λ _. Option Command) [ true ↦ Some (line.command ts) | false ↦ command_of lines ts ] ≡ Some command → IsOneOf (line ∷ lines) ts command) [
+one-command_of (form ∷ forms) ts command h =
+    elim (all_fit form.places ts) as (λ b. all_fit form.places ts ≡ b → elim b as (λ _. Option Command) [ true ↦ Some (form.command ts) | false ↦ command_of forms ts ] ≡ Some command → IsOneOf (form ∷ forms) ts command) [
       | true ↦ λ f e. inl (f, cc)
-      | false ↦ λ f e. inr (one-command_of lines ts command e)
+      | false ↦ λ f e. inr (one-command_of forms ts command e)
     ] refl h
 
--- the table has no two lines that the same tokens may be
+-- the table has no two forms that the same tokens may be
 table_clash : all_clash table ≡ true
 unfolding table
 table_clash = refl
@@ -174,49 +174,49 @@ none_from : (o : Option Command) → ((command : Command) → o ≡ Some command
 none_from None h = refl
 none_from (Some command) h = absurd (h command refl)
 
-no_line-none : (ts : List Lexeme) → ((command : Command) → IsOneOf table ts command → ⊥) → command_of table ts ≡ None
-no_line-none ts h = none_from (command_of table ts) (λ command e. h command (one-command_of table ts command e))
+no_form-none : (ts : List Lexeme) → ((command : Command) → IsOneOf table ts command → ⊥) → command_of table ts ≡ None
+no_form-none ts h = none_from (command_of table ts) (λ command e. h command (one-command_of table ts command e))
 
-none-no_line : (ts : List Lexeme) → command_of table ts ≡ None → (command : Command) → IsOneOf table ts command → ⊥
-none-no_line ts e command h = let f : command_of table ts ≡ Some command = command_of-one table ts command table_clash h in cc
+none-no_form : (ts : List Lexeme) → command_of table ts ≡ None → (command : Command) → IsOneOf table ts command → ⊥
+none-no_form ts e command h = let f : command_of table ts ≡ Some command = command_of-one table ts command table_clash h in cc
 
--- a line begins one, at each of its fronts
-line-begins : (front rest : List Lexeme) (command : Command) → IsOneOf table (front ++ rest) command → begin_one table front ≡ true
-line-begins front rest command h = one-begins table front rest command h
+-- a form begins one, at each of its fronts
+form-begins : (front rest : List Lexeme) (command : Command) → IsOneOf table (front ++ rest) command → begin_one table front ≡ true
+form-begins front rest command h = one-begins table front rest command h
 
-stop-end : (lines : List Line) (end : ℕ) (front : List Lexeme) (ts : List Token) → begin_one lines (front ++ lexemes_of ts) ≡ true → stop lines end front ts ≡ end
-stop-end lines end front [] h = refl
-stop-end lines end front (t ∷ ts) h =
-    let next : begin_one lines (front ++ t.lexeme ∷ [] ++ lexemes_of ts) ≡ true = ap (begin_one lines) (append_assoc front (t.lexeme ∷ []) (lexemes_of ts)) ∙ h in
-    rw (begin_one-front lines (front ++ t.lexeme ∷ []) (lexemes_of ts) next, stop) (stop-end lines end (front ++ t.lexeme ∷ []) ts next)
+stop-end : (forms : List Form) (end : ℕ) (front : List Lexeme) (ts : List Token) → begin_one forms (front ++ lexemes_of ts) ≡ true → stop forms end front ts ≡ end
+stop-end forms end front [] h = refl
+stop-end forms end front (t ∷ ts) h =
+    let next : begin_one forms (front ++ t.lexeme ∷ [] ++ lexemes_of ts) ≡ true = ap (begin_one forms) (append_assoc front (t.lexeme ∷ []) (lexemes_of ts)) ∙ h in
+    rw (begin_one-front forms (front ++ t.lexeme ∷ []) (lexemes_of ts) next, stop) (stop-end forms end (front ++ t.lexeme ∷ []) ts next)
 
-stop-at : (lines : List Line) (end : ℕ) (front : List Lexeme) (ts : List Token) (token : Token) (rest : List Token) → begin_one lines (front ++ lexemes_of ts) ≡ true
-    → begin_one lines (front ++ lexemes_of (ts ++ token ∷ [])) ≡ false → stop lines end front (ts ++ token ∷ rest) ≡ token.at
-stop-at lines end front [] token rest h k = rw (k, stop)
-stop-at lines end front (t ∷ ts) token rest h k =
-    let next : begin_one lines (front ++ t.lexeme ∷ [] ++ lexemes_of ts) ≡ true = ap (begin_one lines) (append_assoc front (t.lexeme ∷ []) (lexemes_of ts)) ∙ h in
-    let last : begin_one lines (front ++ t.lexeme ∷ [] ++ lexemes_of (ts ++ token ∷ [])) ≡ false = ap (begin_one lines) (append_assoc front (t.lexeme ∷ []) (lexemes_of (ts ++ token ∷ []))) ∙ k in
-    rw (begin_one-front lines (front ++ t.lexeme ∷ []) (lexemes_of ts) next, stop) (stop-at lines end (front ++ t.lexeme ∷ []) ts token rest next last)
+stop-at : (forms : List Form) (end : ℕ) (front : List Lexeme) (ts : List Token) (token : Token) (rest : List Token) → begin_one forms (front ++ lexemes_of ts) ≡ true
+    → begin_one forms (front ++ lexemes_of (ts ++ token ∷ [])) ≡ false → stop forms end front (ts ++ token ∷ rest) ≡ token.at
+stop-at forms end front [] token rest h k = rw (k, stop)
+stop-at forms end front (t ∷ ts) token rest h k =
+    let next : begin_one forms (front ++ t.lexeme ∷ [] ++ lexemes_of ts) ≡ true = ap (begin_one forms) (append_assoc front (t.lexeme ∷ []) (lexemes_of ts)) ∙ h in
+    let last : begin_one forms (front ++ t.lexeme ∷ [] ++ lexemes_of (ts ++ token ∷ [])) ≡ false = ap (begin_one forms) (append_assoc front (t.lexeme ∷ []) (lexemes_of (ts ++ token ∷ []))) ∙ k in
+    rw (begin_one-front forms (front ++ t.lexeme ∷ []) (lexemes_of ts) next, stop) (stop-at forms end (front ++ t.lexeme ∷ []) ts token rest next last)
 
 pub reads-computes : (text : List ℕ) (command : Command) → ReadsAs text command → reading text ≡ command
-reads-computes text _ (Whole command line) = ap (reading_of (length text) (tokens text)) (command_of-one table (lexemes_of (tokens text)) command table_clash line)
+reads-computes text _ (Whole command form) = ap (reading_of (length text) (tokens text)) (command_of-one table (lexemes_of (tokens text)) command table_clash form)
 reads-computes text _ (Stops front token rest e begin stuck) =
     let both : lexemes_of (tokens text) ≡ lexemes_of (front ++ token ∷ []) ++ lexemes_of rest =
     ap lexemes_of (e ∙ sym (append_assoc front (token ∷ []) rest)) ∙ map-append (λ (t : Token). t.lexeme) (front ++ token ∷ []) rest in
-    let none : command_of table (lexemes_of (tokens text)) ≡ None = no_line-none (lexemes_of (tokens text)) (λ c h. stuck ((begins-computes (lexemes_of (front ++ token ∷ []))).1
-    (line-begins (lexemes_of (front ++ token ∷ [])) (lexemes_of rest) c (subst (λ (ts : List Lexeme). IsOneOf table ts c) both h)))) in
+    let none : command_of table (lexemes_of (tokens text)) ≡ None = no_form-none (lexemes_of (tokens text)) (λ c h. stuck ((begins-computes (lexemes_of (front ++ token ∷ []))).1
+    (form-begins (lexemes_of (front ++ token ∷ [])) (lexemes_of rest) c (subst (λ (ts : List Lexeme). IsOneOf table ts c) both h)))) in
     let at : stop table (length text) [] (tokens text) ≡ token.at = ap (stop table (length text) []) e ∙ stop-at table (length text) [] front token rest ((begins-computes (lexemes_of front)).0 begin)
     (false_from_ne_true _ (λ h. stuck ((begins-computes (lexemes_of (front ++ token ∷ []))).1 h))) in
     ap (reading_of (length text) (tokens text)) none ∙ ap (λ n. command.Bad n) at
 reads-computes text _ (Lacks begin stuck) =
-    ap (reading_of (length text) (tokens text)) (no_line-none (lexemes_of (tokens text)) stuck)
+    ap (reading_of (length text) (tokens text)) (no_form-none (lexemes_of (tokens text)) stuck)
     ∙ ap (λ n. command.Bad n) (stop-end table (length text) [] (tokens text) ((begins-computes (lexemes_of (tokens text))).0 begin))
 
 reads_where : (text : List ℕ) (front rest : List Token) → tokens text ≡ front ++ rest → begin_one table (lexemes_of front) ≡ true → command_of table (lexemes_of (tokens text)) ≡ None
     → ReadsAs text (command.Bad (stop table (length text) (lexemes_of front) rest))
 reads_where text front [] e h none =
     let whole : tokens text ≡ front = e ∙ append-nil front in
-    Lacks ((begins-computes (lexemes_of (tokens text))).1 (ap (λ (ts : List Token). begin_one table (lexemes_of ts)) whole ∙ h)) (none-no_line (lexemes_of (tokens text)) none)
+    Lacks ((begins-computes (lexemes_of (tokens text))).1 (ap (λ (ts : List Token). begin_one table (lexemes_of ts)) whole ∙ h)) (none-no_form (lexemes_of (tokens text)) none)
 reads_where text front (t ∷ rest) e h none =
     let more : lexemes_of (front ++ t ∷ []) ≡ lexemes_of front ++ t.lexeme ∷ [] = map-append (λ (t : Token). t.lexeme) front (t ∷ []) in
     elim (begin_one table (lexemes_of front ++ t.lexeme ∷ [])) as (λ b. begin_one table (lexemes_of front ++ t.lexeme ∷ []) ≡ b
@@ -282,9 +282,9 @@ any_whole-followers : (ways : List (List Place)) (ts : List Lexeme) → any_whol
 any_whole-followers ways [] = any_whole-done ways
 any_whole-followers ways (t ∷ ts) = any_whole-step ways t ts ∙ any_whole-followers (filter_map (after_first t) ways) ts
 
-any_front-lines : (lines : List Line) (ts : List Lexeme) → any_front (map (λ line. line.places) lines) ts ≡ begin_one lines ts
-any_front-lines [] ts = refl
-any_front-lines (line ∷ lines) ts = ap (λ b. front_fits line.places ts || b) (any_front-lines lines ts)
+any_front-forms : (forms : List Form) (ts : List Lexeme) → any_front (map (λ form. form.places) forms) ts ≡ begin_one forms ts
+any_front-forms [] ts = refl
+any_front-forms (form ∷ forms) ts = ap (λ b. front_fits form.places ts || b) (any_front-forms forms ts)
 
 any_front-some : (ways : List (List Place)) → ways ≢ [] → any_front ways [] ≡ true
 any_front-some [] h = absurd (h refl)
@@ -296,21 +296,21 @@ some-any_front (places ∷ ways) h e = cc
 
 pub followers-tell : (lexemes : List Lexeme) → Begins lexemes ↔ (followers table_places lexemes ≢ [])
 followers-tell lexemes =
-    let same : begin_one table lexemes ≡ any_front (followers table_places lexemes) [] = sym (any_front-lines table lexemes) ∙ any_front-followers table_places lexemes in (
+    let same : begin_one table lexemes ≡ any_front (followers table_places lexemes) [] = sym (any_front-forms table lexemes) ∙ any_front-followers table_places lexemes in (
       λ h. some-any_front (followers table_places lexemes) (sym same ∙ (begins-computes lexemes).0 h),
       λ h. (begins-computes lexemes).1 (same ∙ any_front-some (followers table_places lexemes) h),
     )
 
-one-whole : (lines : List Line) (ts : List Lexeme) (command : Command) → IsOneOf lines ts command → any_whole (map (λ line. line.places) lines) ts ≡ true
+one-whole : (forms : List Form) (ts : List Lexeme) (command : Command) → IsOneOf forms ts command → any_whole (map (λ form. form.places) forms) ts ≡ true
 one-whole [] ts command h = absurd h
-one-whole (line ∷ lines) ts command (inl h) = or_left _ _ h.0
-one-whole (line ∷ lines) ts command (inr h) = or_right _ _ (one-whole lines ts command h)
+one-whole (form ∷ forms) ts command (inl h) = or_left _ _ h.0
+one-whole (form ∷ forms) ts command (inr h) = or_right _ _ (one-whole forms ts command h)
 
-whole-one : (lines : List Line) (ts : List Lexeme) → any_whole (map (λ line. line.places) lines) ts ≡ true → (command : Command) × IsOneOf lines ts command
+whole-one : (forms : List Form) (ts : List Lexeme) → any_whole (map (λ form. form.places) forms) ts ≡ true → (command : Command) × IsOneOf forms ts command
 whole-one [] ts h = absurd (false≢true h)
-whole-one (line ∷ lines) ts h = elim (or_cases (all_fit line.places ts) (any_whole (map (λ line. line.places) lines) ts) h) [
-  | inl e ↦ (line.command ts, inl (e, refl))
-  | inr e ↦ let rest : (command : Command) × IsOneOf lines ts command = whole-one lines ts e in (rest.0, inr rest.1)
+whole-one (form ∷ forms) ts h = elim (or_cases (all_fit form.places ts) (any_whole (map (λ form. form.places) forms) ts) h) [
+  | inl e ↦ (form.command ts, inl (e, refl))
+  | inr e ↦ let rest : (command : Command) × IsOneOf forms ts command = whole-one forms ts e in (rest.0, inr rest.1)
 ]
 
 pub followers-done : (lexemes : List Lexeme) → ((command : Command) × IsOneOf table lexemes command) ↔ (list_any is_done (followers table_places lexemes) ≡ true)
@@ -324,7 +324,7 @@ front-begins front rest h = (begins-computes front).1 (begin_one-front table fro
 wrong-fits : (place : Place) → fits place Wrong ≡ false
 wrong-fits (Key word) = refl
 wrong-fits Name = refl
-wrong-fits Text = refl
+wrong-fits Quote = refl
 wrong-fits Count = refl
 wrong-fits (Mark sign) = refl
 
@@ -334,11 +334,11 @@ wrong-front [] (t ∷ front) rest h = false≢true h
 wrong-front (p ∷ ps) [] rest h = both_ways (fits p Wrong) (wrong-fits p) (and_parts _ _ h).0
 wrong-front (p ∷ ps) (t ∷ front) rest h = wrong-front ps front rest (and_parts _ _ h).1
 
-wrong-one : (lines : List Line) (front rest : List Lexeme) → begin_one lines (front ++ Wrong ∷ rest) ≡ true → ⊥
+wrong-one : (forms : List Form) (front rest : List Lexeme) → begin_one forms (front ++ Wrong ∷ rest) ≡ true → ⊥
 wrong-one [] front rest h = false≢true h
-wrong-one (line ∷ lines) front rest h = elim (or_cases (front_fits line.places (front ++ Wrong ∷ rest)) (begin_one lines (front ++ Wrong ∷ rest)) h) [
-  | inl e ↦ wrong-front line.places front rest e
-  | inr e ↦ wrong-one lines front rest e
+wrong-one (form ∷ forms) front rest h = elim (or_cases (front_fits form.places (front ++ Wrong ∷ rest)) (begin_one forms (front ++ Wrong ∷ rest)) h) [
+  | inl e ↦ wrong-front form.places front rest e
+  | inr e ↦ wrong-one forms front rest e
 ]
 
 pub wrong-fits_nowhere : (front rest : List Lexeme) → Begins (front ++ Wrong ∷ rest) → ⊥

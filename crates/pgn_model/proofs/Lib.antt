@@ -12,3 +12,7 @@ pub mod LineLaws
 pub mod InputLaws
 pub mod SoundLaws
 pub mod PlaceLaws
+pub mod CoverLaws
+pub mod CleanTokens
+pub mod ValidForms
+pub mod LongLiterals

@@ -15,18 +15,18 @@ use Rattle.pgn_model.specs.declared.tx.Fate.{Fate}
 use Rattle.pgn_model.specs.declared.tx.Fate.TheVariants.{Committed, Aborted}
 use Rattle.pgn_model.specs.Journal.{entry, IsQueued}
 use Rattle.pgn_model.specs.Bytes.{four_bytes, entry_length, spelled, filler, IsNote}
-use Rattle.pgn_model.specs.Packing.{fits, has_room, next_page, is_page_start, bytes_left, cells_left, filled, page_rest, entry_cells, filler_cells, note_cells, notes_cells, end_cells, tx_cells, image_from, image, place, Sender, sender_of, after_rest, after_bytes, put_bytes, put, put_all, ended, after}
+use Rattle.pgn_model.specs.Packing.{fits, has_room, next_page, is_page_start, bytes_left, cells_left, filled_cells, page_rest, entry_cells, filler_cells, note_cells, notes_cells, end_cells, tx_cells, image_from, image, place, Sender, sender_of, after_rest, after_bytes, put_bytes, put, put_all, ended, after}
 use Rattle.pgn_model.specs.PackingLaws.{HasRoom, bytes_of, CellsGiveBytes, NoteMoves, PlaceRises, IsSent, PlaceBound, PlaceFolds, PutTakes, PagesHold, NotesInTurn, FirstPlace, NextPlace, LastPlace, IsPacked, LeavesRoom, PlaceGrows, AbortedEnds, PlacesAgree, ImagesAgree, CellsOfEach, CellsApart}
 use Rattle.pgn_model.proofs.BytesLemmas.{length-spelled, length-filler, entry_lengths, are_bytes}
 
 -- one cell for each four bytes
-pub length-filled : (bytes : List ℕ) → length (filled bytes) ≡ length bytes / 4
-unfolding filled
-length-filled [] = refl
-length-filled (a ∷ []) = refl
-length-filled (a ∷ b ∷ []) = refl
-length-filled (a ∷ b ∷ c ∷ []) = refl
-length-filled (a ∷ b ∷ c ∷ d ∷ bytes) = omega (arith, length-filled bytes)
+pub length-filled_cells : (bytes : List ℕ) → length (filled_cells bytes) ≡ length bytes / 4
+unfolding filled_cells
+length-filled_cells [] = refl
+length-filled_cells (a ∷ []) = refl
+length-filled_cells (a ∷ b ∷ []) = refl
+length-filled_cells (a ∷ b ∷ c ∷ []) = refl
+length-filled_cells (a ∷ b ∷ c ∷ d ∷ bytes) = omega (arith, length-filled_cells bytes)
 
 -- the place after the page rest
 length-page_rest : (at : ℕ) → at + length (page_rest at) ≡ after_rest at
@@ -53,16 +53,16 @@ pub packed_bytes : (note : Note) (db xid pid at : ℕ) → at + length (entry_ce
 unfolding entry_cells after_bytes
 packed_bytes note db xid pid at =
     let bytes = spelled note db xid pid in
-    let cells : length (filled bytes) ≡ entry_length note / 4 = length-filled bytes ∙ ap (λ n. n / 4) (length-spelled note db xid pid) in
-    let rest : (at + length (filled bytes)) + length (page_rest (at + length (filled bytes))) ≡ after_rest (at + length (filled bytes)) = length-page_rest (at + length (filled bytes)) in
-    let sum : at + length (filled bytes ++ page_rest (at + length (filled bytes))) ≡ after_rest (at + length (filled bytes)) = simp length-append (omega (arith, rest)) in
+    let cells : length (filled_cells bytes) ≡ entry_length note / 4 = length-filled_cells bytes ∙ ap (λ n. n / 4) (length-spelled note db xid pid) in
+    let rest : (at + length (filled_cells bytes)) + length (page_rest (at + length (filled_cells bytes))) ≡ after_rest (at + length (filled_cells bytes)) = length-page_rest (at + length (filled_cells bytes)) in
+    let sum : at + length (filled_cells bytes ++ page_rest (at + length (filled_cells bytes))) ≡ after_rest (at + length (filled_cells bytes)) = simp length-append (omega (arith, rest)) in
     sum ∙ ap (λ n. after_rest (at + n)) cells
 
 -- a filler takes the rest of the page
 length-filler_cells : (s : Sender) (at : ℕ) → HasRoom at → at + length (filler_cells s at) ≡ next_page at
 unfolding filler_cells
 length-filler_cells s at room =
-    let cells : length (filled (filler (bytes_left at) s.xid s.pid)) ≡ bytes_left at / 4 = length-filled (filler (bytes_left at) s.xid s.pid) ∙ ap (λ n. n / 4) (length-filler (bytes_left at) s.xid s.pid (omega arith)) in
+    let cells : length (filled_cells (filler (bytes_left at) s.xid s.pid)) ≡ bytes_left at / 4 = length-filled_cells (filler (bytes_left at) s.xid s.pid) ∙ ap (λ n. n / 4) (length-filler (bytes_left at) s.xid s.pid (omega arith)) in
     omega (arith, cells)
 
 pub packed_note : (s : Sender) (at : ℕ) (note : Note) → HasRoom at → at + length (note_cells s at note) ≡ put at note
@@ -387,13 +387,13 @@ four_below a b c d p q r s (suc (suc zero)) = r
 four_below a b c d p q r s (suc (suc (suc zero))) = s
 four_below a b c d p q r s (suc (suc (suc (suc i)))) = omega arith
 
-filled_give : (bytes : List ℕ) → length bytes % 4 ≡ 0 → All (λ byte. byte < 256) bytes → bytes_of (filled bytes) ≡ bytes
-unfolding filled
-filled_give [] whole below = refl
-filled_give (a ∷ []) whole below = absurd (omega (arith, whole))
-filled_give (a ∷ b ∷ []) whole below = absurd (omega (arith, whole))
-filled_give (a ∷ b ∷ c ∷ []) whole below = absurd (omega (arith, whole))
-filled_give (a ∷ b ∷ c ∷ d ∷ bytes) whole below =
+filled_cells-give : (bytes : List ℕ) → length bytes % 4 ≡ 0 → All (λ byte. byte < 256) bytes → bytes_of (filled_cells bytes) ≡ bytes
+unfolding filled_cells
+filled_cells-give [] whole below = refl
+filled_cells-give (a ∷ []) whole below = absurd (omega (arith, whole))
+filled_cells-give (a ∷ b ∷ []) whole below = absurd (omega (arith, whole))
+filled_cells-give (a ∷ b ∷ c ∷ []) whole below = absurd (omega (arith, whole))
+filled_cells-give (a ∷ b ∷ c ∷ d ∷ bytes) whole below =
     let P : ℕ → Type 0 = λ n. n < 256 in
     let from_b = All-tail P a (b ∷ c ∷ d ∷ bytes) below in
     let from_c = All-tail P b (c ∷ d ∷ bytes) from_b in
@@ -401,12 +401,12 @@ filled_give (a ∷ b ∷ c ∷ d ∷ bytes) whole below =
     let rest = All-tail P d bytes from_d in
     let each = four_below a b c d (All-head P a (b ∷ c ∷ d ∷ bytes) below) (All-head P b (c ∷ d ∷ bytes) from_b) (All-head P c (d ∷ bytes) from_c) (All-head P d bytes from_d) in
     let four : four_bytes (from_le_bytes w32 (a ∷ b ∷ c ∷ d ∷ [])) ≡ a ∷ b ∷ c ∷ d ∷ [] = le_bytes_4 (a ∷ b ∷ c ∷ d ∷ []) (from_le_bytes w32 (a ∷ b ∷ c ∷ d ∷ [])) refl each refl in
-    let more : bytes_of (filled bytes) ≡ bytes = filled_give bytes (omega (arith, whole)) rest in
-    ap (λ (front : List ℕ). front ++ bytes_of (filled bytes)) four ∙ ap (λ (ys : List ℕ). a ∷ b ∷ c ∷ d ∷ ys) more
+    let more : bytes_of (filled_cells bytes) ≡ bytes = filled_cells-give bytes (omega (arith, whole)) rest in
+    ap (λ (front : List ℕ). front ++ bytes_of (filled_cells bytes)) four ∙ ap (λ (ys : List ℕ). a ∷ b ∷ c ∷ d ∷ ys) more
 
 pub cells_give_bytes : CellsGiveBytes
 cells_give_bytes = record {
-  of_bytes = filled_give;
-  of_entry = λ note db xid pid h. filled_give (spelled note db xid pid) (omega (arith, length-spelled note db xid pid, (entry_lengths note h).whole)) (are_bytes.of_entry note db xid pid h);
-  of_filler = λ len xid pid h. filled_give (filler len xid pid) (omega (arith, length-filler len xid pid (omega (arith, h.least)), h.whole)) (are_bytes.of_filler len xid pid);
+  of_bytes = filled_cells-give;
+  of_entry = λ note db xid pid h. filled_cells-give (spelled note db xid pid) (omega (arith, length-spelled note db xid pid, (entry_lengths note h).whole)) (are_bytes.of_entry note db xid pid h);
+  of_filler = λ len xid pid h. filled_cells-give (filler len xid pid) (omega (arith, length-filler len xid pid (omega (arith, h.least)), h.whole)) (are_bytes.of_filler len xid pid);
 }

@@ -1,14 +1,14 @@
--- The places of the worked examples, step by step.
-use Rattle.std.proofs.Common.{◌≡◌, ℕ, ◌+◌, [], ◌∷◌, ap, ◌∙◌, refl, arith}
-use Rattle.std.proofs.lemmas.List.{length-replicate}
+-- The places and the cells of the worked examples, step by step.
+use Rattle.std.proofs.Common.{◌≡◌, ℕ, ◌+◌, List, [], ◌∷◌, ◌++◌, length, drop, None, sym, ap, ◌∙◌, refl, arith}
+use Rattle.std.proofs.lemmas.List.{length-replicate, append-nil, drop-drop, drop_at}
 use Rattle.std.specs.Prelude.{codes}
 use Rattle.std.specs.Str.{byte}
 use Rattle.pgn_base.specs.declared.note.Note.{Note}
 use Rattle.pgn_model.specs.declared.tx.Fate.TheVariants.{Aborted}
-use Rattle.pgn_model.specs.Bytes.{aligned, entry_length}
-use Rattle.pgn_model.specs.Packing.{place, place_at, put_bytes, after_bytes, after_rest, put, put_all, ended, after}
-use Rattle.pgn_model.specs.PackingExamples.{bare_note, letters, full_journal, larger_journal}
-use Rattle.pgn_model.proofs.PackingLemmas.{place_folds}
+use Rattle.pgn_model.specs.Bytes.{aligned, header, entry_length, spelled, filler}
+use Rattle.pgn_model.specs.Packing.{Sender, page_rest, filled_cells, entry_cells, filler_cells, note_cells, notes_cells, end_cells, tx_cells, image_from, image, place, place_at, put_bytes, after_bytes, after_rest, put, put_all, ended, after}
+use Rattle.pgn_model.specs.PackingExamples.{bare_note, letters, longest_note, rest_journal, filler_journal, filler_and_entry, full_journal, larger_journal}
+use Rattle.pgn_model.proofs.PackingLemmas.{place_folds, packed_notes, notes_in_turn}
 
 -- an entry's length by the number of letters alone
 pub length-letters : (letter count : ℕ) → entry_length (letters letter count) ≡ aligned (19 + count)
@@ -78,3 +78,51 @@ short_of_edge = put_letters (place_at 0 8172) (byte "x") 1
 pub past_edge : put (place_at 0 8172) (letters (byte "x") 5) ≡ place_at 1 24
 unfolding put_bytes after_bytes after_rest
 past_edge = put_letters (place_at 0 8172) (byte "x") 5
+
+pub length-longest : entry_length longest_note ≡ 8080
+unfolding entry_length longest_note
+length-longest =
+    ap (λ n. aligned (16 + (n + 1) + (length longest_note.payload + 1))) (length-replicate 63 (byte "c")) ∙ ap (λ n. aligned (16 + (63 + 1) + (n + 1))) (length-replicate 7999 (byte "x"))
+
+pub no_room : put_all 0 (letters (byte "x") 7999 ∷ letters (byte "x") 137 ∷ []) ≡ place_at 1 0
+unfolding put_bytes after_bytes after_rest
+no_room = ap (λ at. put at (letters (byte "x") 137)) (put_letters 0 (byte "x") 7999) ∙ put_letters 2005 (byte "x") 137
+
+-- the sender of the only transaction
+sender : Sender
+sender = record { db = 1; xid = 3; pid = 1002 }
+
+-- after notifications that end at a place stand those that follow them
+drop-notes : (notes more : List Note) (end : ℕ) → put_all 0 notes ≡ end → drop end (notes_cells sender 0 (notes ++ more)) ≡ notes_cells sender end more
+drop-notes notes more end h =
+    let size : length (notes_cells sender 0 notes) ≡ end = let sum : 0 + length (notes_cells sender 0 notes) ≡ end = packed_notes sender 0 notes (omega arith) ∙ h in omega (arith, sum) in
+    ap (drop end) (notes_in_turn sender 0 notes more) ∙ drop_at (notes_cells sender 0 notes) (notes_cells sender (0 + length (notes_cells sender 0 notes)) more) end size
+    ∙ ap (λ at. notes_cells sender at more) (let at : 0 + length (notes_cells sender 0 notes) ≡ end = omega (arith, size) in at)
+
+filler-image : image filler_journal ≡ notes_cells sender 0 ((letters (byte "x") 7999 ∷ letters (byte "x") 133 ∷ []) ++ letters (byte "x") 5 ∷ [])
+unfolding image image_from tx_cells end_cells sender
+filler-image = append-nil _ ∙ append-nil _
+
+filler-last : notes_cells sender 2043 (letters (byte "x") 5 ∷ []) ≡ filler_and_entry
+unfolding sender notes_cells note_cells entry_cells filler_cells page_rest filled_cells spelled filler entry_length header letters
+filler-last = refl
+
+pub filler_cells-edge : drop (place_at 0 8172) (image filler_journal) ≡ filler_and_entry
+filler_cells-edge = ap (drop 2043) filler-image ∙ drop-notes (letters (byte "x") 7999 ∷ letters (byte "x") 133 ∷ []) (letters (byte "x") 5 ∷ []) 2043 edge ∙ filler-last
+
+rest-image : image rest_journal ≡ notes_cells sender 0 ((letters (byte "x") 7999 ∷ []) ++ letters (byte "x") 137 ∷ [])
+unfolding image image_from tx_cells end_cells sender
+rest-image = append-nil _ ∙ append-nil _
+
+rest-last : drop 39 (notes_cells sender 2005 (letters (byte "x") 137 ∷ [])) ≡ None ∷ None ∷ None ∷ None ∷ []
+unfolding sender notes_cells note_cells entry_cells page_rest filled_cells spelled entry_length header letters
+rest-last = refl
+
+first_put : put 0 (letters (byte "x") 7999) ≡ 2005
+unfolding put_bytes after_bytes after_rest
+first_put = put_letters 0 (byte "x") 7999
+
+pub rest_empty : drop (place_at 0 8176) (image rest_journal) ≡ None ∷ None ∷ None ∷ None ∷ []
+rest_empty =
+    ap (drop 2044) rest-image ∙ sym (drop-drop 39 2005 (notes_cells sender 0 ((letters (byte "x") 7999 ∷ []) ++ letters (byte "x") 137 ∷ [])))
+    ∙ ap (drop 39) (drop-notes (letters (byte "x") 7999 ∷ []) (letters (byte "x") 137 ∷ []) 2005 first_put) ∙ rest-last

@@ -34,7 +34,7 @@ same : {t u : List ℕ} {m n : ℕ} → t ≡ u → m ≡ n → Some (let i : In
 same {t} {u} {m} {n} p q = ap (λ (x : List ℕ). Some (let i : Inside = record { text = x; size = m } in i)) p ∙ ap (λ (x : ℕ). Some (let i : Inside = record { text = u; size = x } in i)) q
 
 -- a text in quotes is read back
-closed-doubled : (quote : ℕ) (text rest : List ℕ) → slice_get rest 0 ≢ Some quote
+pub closed-doubled : (quote : ℕ) (text rest : List ℕ) → slice_get rest 0 ≢ Some quote
     → closed quote (flat_map (doubled_byte quote) text ++ quote ∷ rest) ≡ Some (record { text = text; size = length (flat_map (doubled_byte quote) text) + 1 })
 closed-doubled quote [] rest h = closed-end quote rest h
 closed-doubled quote (b ∷ text) rest h =

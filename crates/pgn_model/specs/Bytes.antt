@@ -53,7 +53,7 @@ pub record IsNote (note : Note) : Type 0 where
   pub name : IsName note.channel
   pub text : IsPayload note.payload
 
--- the database, transaction and process number of an entry: each fits in four bytes
+-- an entry's database, transaction and process number each fit in four bytes
 pub record IsHead (db xid pid : ℕ) : Type 0 where
   pub db_fits : db < 2 ^ 32
   pub xid_fits : xid < 2 ^ 32

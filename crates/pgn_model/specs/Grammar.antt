@@ -1,4 +1,4 @@
--- The table of commands, and the command that a line reads as.
+-- The table of commands, and the command that a line reads as. A line is a line of text; the table has forms of commands.
 use Rattle.std.specs.Prelude.{◌≡◌, ℕ, zero, suc, Bool, true, false, ◌&&◌, ◌==◌, not, cond, nat_le, nat_lt, ◌⊎◌, List, [], ◌∷◌, ◌++◌, map, length, take, drop, flat_map, slice_index_or, Option, None, Some, codes}
 use Rattle.std.specs.Str.{str_eq_ignore_ascii_case, str_to_ascii_lowercase, byte}
 use Rattle.std.specs.Str.Parse.{digits_value}
@@ -10,14 +10,14 @@ use Rattle.pgn_model.specs.declared.command.Command.{Command}
 use Rattle.pgn_model.specs.declared.command.Command.TheVariants as command
 use Rattle.pgn_model.specs.Tokens.{Lexeme, Word, Quoted, Literal, Number, Sign, Wrong, Token, tokens}
 
--- what may stand at a place of a line of the table
+-- what may stand at a place of a form of the table
 pub data Place : Type 0 where
   -- this word, without regard to ASCII case
   Key : (word : List ℕ) → Place
   -- a word or a quoted identifier
   Name : Place
   -- a literal
-  Text : Place
+  Quote : Place
   -- a number of at most 10,000
   Count : Place
   -- this sign
@@ -28,7 +28,7 @@ abbrev pub fits : Place → Lexeme → Bool
 fits (Key word) (Word text) = str_eq_ignore_ascii_case word text
 fits Name (Word text) = true
 fits Name (Quoted text) = true
-fits Text (Literal text) = true
+fits Quote (Literal text) = true
 fits Count (Number digits) = nat_le (digits_value 10 digits) 10000
 fits (Mark sign) (Sign other) = sign == other
 fits place lexeme = false
@@ -69,7 +69,7 @@ value_of lexeme = 0
 abbrev pub token_at : List Lexeme → ℕ → Lexeme
 token_at lexemes n = slice_index_or lexemes n Wrong
 
--- a way to write a part of a line: its places, and the texts that the tokens at them give
+-- a way to write a part of a form: its places, and the texts that the tokens at them give
 pub record Way : Type 0 where
   pub places : List Place
   pub texts : List Lexeme → List (List ℕ)
@@ -104,7 +104,7 @@ name = record { places = Name ∷ []; texts = λ lexemes. name_of (token_at lexe
 
 -- a literal gives its text
 abbrev pub literal : List Way
-literal = record { places = Text ∷ []; texts = λ lexemes. text_of (token_at lexemes 0) ∷ [] } ∷ []
+literal = record { places = Quote ∷ []; texts = λ lexemes. text_of (token_at lexemes 0) ∷ [] } ∷ []
 
 -- NULL gives the empty text
 abbrev pub null : List Way
@@ -113,7 +113,7 @@ null = record { places = Key (codes "null") ∷ []; texts = λ lexemes. [] ∷ [
 -- `repeat(text, n)` gives the text n times
 abbrev pub repeated : List Way
 repeated = record {
-  places = Key (codes "repeat") ∷ Mark (byte "(") ∷ Text ∷ Mark (byte ",") ∷ Count ∷ Mark (byte ")") ∷ [];
+  places = Key (codes "repeat") ∷ Mark (byte "(") ∷ Quote ∷ Mark (byte ",") ∷ Count ∷ Mark (byte ")") ∷ [];
   texts = λ lexemes. repeat (value_of (token_at lexemes 4)) (text_of (token_at lexemes 2)) ∷ [];
 } ∷ []
 
@@ -130,13 +130,13 @@ abbrev pub sequence : List (List Way) → List Way
 sequence [] = silent [] ∷ []
 sequence (part ∷ parts) = flat_map (λ way. map (followed way) (sequence parts)) part
 
--- a line of the table: its places, and the command that tokens at them are
-pub record Line : Type 0 where
+-- a form of a command: its places, and the command that tokens at them are
+pub record Form : Type 0 where
   pub places : List Place
   pub command : List Lexeme → Command
 
--- the lines of a row: its parts, after which one `;` may stand, and the command with the texts that they give
-abbrev pub row : List (List Way) → (List (List ℕ) → Command) → List Line
+-- the forms of a row: its parts, after which one `;` may stand, and the command with the texts that they give
+abbrev pub row : List (List Way) → (List (List ℕ) → Command) → List Form
 row parts gives = map (λ way. record { places = way.places; command = λ lexemes. gives (way.texts lexemes) }) (sequence (parts ++ optional (sign (byte ";")) ∷ []))
 
 -- the first of the texts
@@ -148,7 +148,7 @@ abbrev pub note : List (List ℕ) → Note
 note texts = record { channel = slice_index_or texts 0 []; payload = slice_index_or texts 1 [] }
 
 -- the table of commands
-unfoldable pub table : List Line
+unfoldable pub table : List Form
 table =
     row [] (λ texts. command.Empty)
     ++ row (key (codes "begin") ∷ work ∷ []) (λ texts. command.Begin)
@@ -167,22 +167,22 @@ table =
     ++ row (key (codes "select") ∷ key (codes "pg_listening_channels") ∷ sign (byte "(") ∷ sign (byte ")") ∷ []) (λ texts. command.ListeningChannels)
     ++ row (key (codes "select") ∷ key (codes "pg_notification_queue_usage") ∷ sign (byte "(") ∷ sign (byte ")") ∷ []) (λ texts. command.QueueUsage)
 
--- tokens are one of these lines, with this command
-abbrev pub IsOneOf : List Line → List Lexeme → Command → Type 0
+-- tokens are one of these forms, with this command
+abbrev pub IsOneOf : List Form → List Lexeme → Command → Type 0
 IsOneOf [] lexemes command = ⊥
-IsOneOf (line ∷ lines) lexemes command = ((all_fit line.places lexemes ≡ true) × (line.command lexemes ≡ command)) ⊎ IsOneOf lines lexemes command
+IsOneOf (form ∷ forms) lexemes command = ((all_fit form.places lexemes ≡ true) × (form.command lexemes ≡ command)) ⊎ IsOneOf forms lexemes command
 
--- tokens are a line of the table, with this command
-abbrev pub IsLine : List Lexeme → Command → Type 0
-IsLine lexemes command = IsOneOf table lexemes command
+-- tokens are a form of the table, with this command
+abbrev pub IsForm : List Lexeme → Command → Type 0
+IsForm lexemes command = IsOneOf table lexemes command
 
--- there are further tokens with which these are a line of the table
+-- there are further tokens, or none, with which these are a form of the table
 pub record Begins (lexemes : List Lexeme) : Type 0 where
   pub more : List Lexeme
   pub command : Command
-  pub line : IsLine (lexemes ++ more) command
+  pub form : IsForm (lexemes ++ more) command
 
--- what tokens are, without their places in the text
+-- what tokens are, without the bytes where they begin
 abbrev pub lexemes_of : List Token → List Lexeme
 lexemes_of tokens = map (λ token. token.lexeme) tokens
 
@@ -206,10 +206,10 @@ limited command = command
 
 -- the command that a line reads as
 pub data ReadsAs (text : List ℕ) : Command → Type 0 where
-  -- its tokens are a line of the table
-  Whole : (command : Command) → IsLine (lexemes_of (tokens text)) command → ReadsAs text (limited command)
-  -- it goes wrong at the first token such that the tokens up to and including it begin no line of the table
+  -- its tokens are a form of the table
+  Whole : (command : Command) → IsForm (lexemes_of (tokens text)) command → ReadsAs text (limited command)
+  -- it goes wrong at the first token such that the tokens up to and including it begin no form of the table
   Stops : (front : List Token) → (token : Token) → (rest : List Token) → tokens text ≡ front ++ token ∷ rest → Begins (lexemes_of front)
       → (Begins (lexemes_of (front ++ token ∷ [])) → ⊥) → ReadsAs text (command.Bad token.at)
-  -- it goes wrong at its end where all of its tokens begin a line of the table but are none
-  Lacks : Begins (lexemes_of (tokens text)) → ((command : Command) → IsLine (lexemes_of (tokens text)) command → ⊥) → ReadsAs text (command.Bad (length text))
+  -- it goes wrong at its end where all of its tokens begin a form of the table but are none
+  Lacks : Begins (lexemes_of (tokens text)) → ((command : Command) → IsForm (lexemes_of (tokens text)) command → ⊥) → ReadsAs text (command.Bad (length text))

@@ -4,7 +4,7 @@ use Rattle.std.specs.List.{list_any}
 use Rattle.pgn_model.specs.declared.command.Command.{Command}
 use Rattle.pgn_model.specs.declared.command.Command.TheVariants as command
 use Rattle.pgn_model.specs.Tokens.{Lexeme, Wrong, Token, tokens}
-use Rattle.pgn_model.specs.Grammar.{Place, fits, all_fit, Line, table, IsLine, Begins, lexemes_of, limited, ReadsAs}
+use Rattle.pgn_model.specs.Grammar.{Place, fits, all_fit, Form, table, IsForm, Begins, lexemes_of, limited, ReadsAs}
 
 -- there is a place for each token at which it may stand, from the first place on
 abbrev pub front_fits : List Place → List Lexeme → Bool
@@ -12,21 +12,21 @@ front_fits places [] = true
 front_fits [] (lexeme ∷ lexemes) = false
 front_fits (place ∷ places) (lexeme ∷ lexemes) = fits place lexeme && front_fits places lexemes
 
--- tokens begin one of these lines
-abbrev pub begin_one : List Line → List Lexeme → Bool
-begin_one lines lexemes = list_any (λ line. front_fits line.places lexemes) lines
+-- tokens begin one of these forms
+abbrev pub begin_one : List Form → List Lexeme → Bool
+begin_one forms lexemes = list_any (λ form. front_fits form.places lexemes) forms
 
--- the command of the first of these lines that tokens are
-abbrev pub command_of : List Line → List Lexeme → Option Command
+-- the command of the first of these forms that tokens are
+abbrev pub command_of : List Form → List Lexeme → Option Command
 command_of [] lexemes = None
-command_of (line ∷ lines) lexemes = elim (all_fit line.places lexemes) [ true ↦ Some (line.command lexemes) | false ↦ command_of lines lexemes ]
+command_of (form ∷ forms) lexemes = elim (all_fit form.places lexemes) [ true ↦ Some (form.command lexemes) | false ↦ command_of forms lexemes ]
 
--- where the first token begins with which those before it begin none of these lines, or the end
-abbrev pub stop : List Line → ℕ → List Lexeme → List Token → ℕ
-stop lines end front [] = end
-stop lines end front (token ∷ tokens) = elim (begin_one lines (front ++ token.lexeme ∷ [])) [ true ↦ stop lines end (front ++ token.lexeme ∷ []) tokens | false ↦ token.at ]
+-- where the first token begins with which those before it begin none of these forms, or the end
+abbrev pub stop : List Form → ℕ → List Lexeme → List Token → ℕ
+stop forms end front [] = end
+stop forms end front (token ∷ tokens) = elim (begin_one forms (front ++ token.lexeme ∷ [])) [ true ↦ stop forms end (front ++ token.lexeme ∷ []) tokens | false ↦ token.at ]
 
--- the command that tokens are, or Bad with the place where they stop
+-- the command that tokens are, or Bad with the byte where they stop
 abbrev pub reading_of : ℕ → List Token → Option Command → Command
 reading_of end tokens (Some command) = limited command
 reading_of end tokens None = command.Bad (stop table end [] tokens)
@@ -35,7 +35,7 @@ reading_of end tokens None = command.Bad (stop table end [] tokens)
 abbrev pub reading : List ℕ → Command
 reading text = reading_of (length text) (tokens text) (command_of table (lexemes_of (tokens text)))
 
--- what begins a line of the table has only fronts that begin one
+-- what begins a form of the table has only fronts that begin one
 abbrev pub FrontBegins : Type 0
 FrontBegins = (front rest : List Lexeme) → Begins (front ++ rest) → Begins front
 
@@ -53,24 +53,24 @@ abbrev pub followers : List (List Place) → List Lexeme → List (List Place)
 followers ways [] = ways
 followers ways (lexeme ∷ lexemes) = followers (filter_map (after_first lexeme) ways) lexemes
 
--- the places of the table's lines
+-- the places of the table's forms
 abbrev pub table_places : List (List Place)
-table_places = map (λ line. line.places) table
+table_places = map (λ form. form.places) table
 
 -- nothing is left of a list of places
 abbrev pub is_done : List Place → Bool
 is_done [] = true
 is_done (place ∷ places) = false
 
--- tokens begin a line of the table exactly where something may follow them, be it nothing more
+-- tokens begin a form of the table exactly where something may follow them, be it nothing more
 abbrev pub FollowersTell : Type 0
 FollowersTell = (lexemes : List Lexeme) → Begins lexemes ↔ (followers table_places lexemes ≢ [])
 
--- tokens are a line of the table exactly where nothing more may follow them
+-- tokens are a form of the table exactly where nothing more may follow them
 abbrev pub FollowersDone : Type 0
-FollowersDone = (lexemes : List Lexeme) → ((command : Command) × IsLine lexemes command) ↔ (list_any is_done (followers table_places lexemes) ≡ true)
+FollowersDone = (lexemes : List Lexeme) → ((command : Command) × IsForm lexemes command) ↔ (list_any is_done (followers table_places lexemes) ≡ true)
 
--- tokens begin a line of the table exactly where they fit the first places of one
+-- tokens begin a form of the table exactly where they fit the first places of one
 abbrev pub BeginsComputes : Type 0
 BeginsComputes = (lexemes : List Lexeme) → Begins lexemes ↔ (begin_one table lexemes ≡ true)
 

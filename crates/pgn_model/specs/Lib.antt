@@ -15,6 +15,7 @@ pub mod Tokens
 pub mod Grammar
 pub mod GrammarLaws
 pub mod TokenLaws
+pub mod ValidCommands
 pub mod Lines
 pub mod Inputs
 pub mod InputLaws

@@ -63,9 +63,9 @@ has_room at = fits at least_bytes
 -- The image: what the cells hold, one item for each cell from the first of page 0.
 
 -- the cells that bytes fill: each holds the number that its four bytes spell, the lowest first
-unfoldable pub filled : List ℕ → List (Option ℕ)
-filled (a ∷ b ∷ c ∷ d ∷ bytes) = Some (from_le_bytes w32 (a ∷ b ∷ c ∷ d ∷ [])) ∷ filled bytes
-filled bytes = []
+unfoldable pub filled_cells : List ℕ → List (Option ℕ)
+filled_cells (a ∷ b ∷ c ∷ d ∷ bytes) = Some (from_le_bytes w32 (a ∷ b ∷ c ∷ d ∷ [])) ∷ filled_cells bytes
+filled_cells bytes = []
 
 -- the page rest at a place: nothing where the shortest entry fits there, and otherwise the cells to the end of the page, empty
 unfoldable pub page_rest : ℕ → List (Option ℕ)
@@ -73,7 +73,7 @@ page_rest at = cond (has_room at) [] (replicate (cells_left at) None)
 
 -- the cells from a place on of an entry's bytes, and the page rest after them
 unfoldable pub entry_cells : ℕ → List ℕ → List (Option ℕ)
-entry_cells at bytes = filled bytes ++ page_rest (at + length (filled bytes))
+entry_cells at bytes = filled_cells bytes ++ page_rest (at + length (filled_cells bytes))
 
 -- what each entry of a transaction says of it: its database, its number and the process number of its session
 pub record Sender : Type 0 where
@@ -87,7 +87,7 @@ sender_of x tx = record { db = tx.db; xid = x; pid = 1000 + tx.session }
 
 -- the cells of a filler that takes the rest of the page
 unfoldable pub filler_cells : Sender → ℕ → List (Option ℕ)
-filler_cells sender at = filled (filler (bytes_left at) sender.xid sender.pid)
+filler_cells sender at = filled_cells (filler (bytes_left at) sender.xid sender.pid)
 
 -- the cells from a place on of a notification: its entry, where that fits on the rest of the page; otherwise a filler, and then
 -- its entry on the next page
@@ -126,7 +126,7 @@ image journal = image_from 3 0 journal
 unfoldable pub place : List Tx → ℕ → ℕ
 place journal x = length (image (take (x - 3) journal))
 
--- a cell of the transaction numbered x
+-- a cell of the transaction numbered x, among whose cells the page rests after its entries count
 pub record IsCellOf (journal : List Tx) (x cell : ℕ) : Type 0 where
   pub from : place journal x ≤ cell
   pub before : cell < place journal (x + 1)

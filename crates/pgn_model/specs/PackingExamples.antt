@@ -40,6 +40,23 @@ letters letter count = record { channel = codes "c"; payload = replicate count l
 abbrev pub sent : List Note → ℕ → Fate → Tx
 sent notes queued fate = record { session = 2; db = 1; notes = notes; queued = queued; fate = fate }
 
+-- a notification whose channel and payload are as long as they can be
+unfoldable pub longest_note : Note
+longest_note = record { channel = replicate 63 (byte "c"); payload = replicate 7999 (byte "x") }
+
+-- a transaction of two notifications, after which the rest of the page is shorter than the shortest entry
+abbrev pub rest_journal : List Tx
+rest_journal = sent (letters (byte "x") 7999 ∷ letters (byte "x") 137 ∷ []) 2 Committed ∷ []
+
+-- a transaction of three notifications, of which the third doesn't fit on the rest of the page
+abbrev pub filler_journal : List Tx
+filler_journal = sent (letters (byte "x") 7999 ∷ letters (byte "x") 133 ∷ letters (byte "x") 5 ∷ []) 3 Committed ∷ []
+
+-- the cells from the end of the second notification on: a filler, and the third notification on the next page
+abbrev pub filler_and_entry : List (Option ℕ)
+filler_and_entry = Some 20 ∷ Some 0 ∷ Some 3 ∷ Some 1002 ∷ Some 0
+    ∷ Some 24 ∷ Some 1 ∷ Some 3 ∷ Some 1002 ∷ Some 0x78780063 ∷ Some 0x00787878 ∷ []
+
 -- four transactions of one long notification, of which the third and the fourth met a full queue, and one of the payload `last`
 abbrev pub full_journal : List Tx
 full_journal = sent (letters (byte "x") 7999 ∷ []) 1 Committed

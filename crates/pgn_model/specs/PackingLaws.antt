@@ -7,7 +7,7 @@ use Rattle.pgn_model.specs.declared.tx.Fate.TheVariants.{Aborted}
 use Rattle.pgn_model.specs.Journal.{entry, IsQueued}
 use Rattle.pgn_model.specs.Bytes.{four_bytes, least_bytes, entry_length, spelled, filler, IsNote}
 use Rattle.pgn_model.specs.BytesLaws.{IsEntryLength}
-use Rattle.pgn_model.specs.Packing.{Sender, cell_bytes, page_cells, is_page_start, next_page, bytes_left, fits, filled, entry_cells, filler_cells, note_cells, notes_cells, end_cells, tx_cells, image_from, image, place, IsCellOf, after_bytes, put, put_all, ended, after}
+use Rattle.pgn_model.specs.Packing.{Sender, cell_bytes, page_cells, is_page_start, next_page, bytes_left, fits, filled_cells, entry_cells, filler_cells, note_cells, notes_cells, end_cells, tx_cells, image_from, image, place, IsCellOf, after_bytes, put, put_all, ended, after}
 
 -- the shortest entry fits on the page of a place, from the place on
 abbrev pub HasRoom : ℕ → Type 0
@@ -21,9 +21,9 @@ bytes_of (Some n ∷ cells) = four_bytes n ++ bytes_of cells
 
 -- cells give back the bytes that fill them
 pub record CellsGiveBytes : Type 0 where
-  pub of_bytes : (bytes : List ℕ) → length bytes % cell_bytes ≡ 0 → All (λ byte. byte < 256) bytes → bytes_of (filled bytes) ≡ bytes
-  pub of_entry : (note : Note) (db xid pid : ℕ) → IsNote note → bytes_of (filled (spelled note db xid pid)) ≡ spelled note db xid pid
-  pub of_filler : (len xid pid : ℕ) → IsEntryLength len → bytes_of (filled (filler len xid pid)) ≡ filler len xid pid
+  pub of_bytes : (bytes : List ℕ) → length bytes % cell_bytes ≡ 0 → All (λ byte. byte < 256) bytes → bytes_of (filled_cells bytes) ≡ bytes
+  pub of_entry : (note : Note) (db xid pid : ℕ) → IsNote note → bytes_of (filled_cells (spelled note db xid pid)) ≡ spelled note db xid pid
+  pub of_filler : (len xid pid : ℕ) → IsEntryLength len → bytes_of (filled_cells (filler len xid pid)) ≡ filler len xid pid
 
 -- the arithmetic gives the place after the cells of an entry, a filler, a notification, several of them, an end, a transaction
 pub record IsPacked : Type 0 where

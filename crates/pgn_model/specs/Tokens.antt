@@ -52,7 +52,8 @@ pub record Inside : Type 0 where
 abbrev pub preceded : ℕ → ℕ → Inside → Inside
 preceded b size inside = record { text = b ∷ inside.text; size = size + inside.size }
 
--- what stands before the closing quote, in bytes that follow an opening one; a quote that is written twice is a byte of the text
+-- what stands before the closing quote, in bytes that follow an opening one, or nothing where no closing quote stands; a quote
+-- that is written twice is a byte of the text
 abbrev pub closed : ℕ → List ℕ → Option Inside
 closed quote [] = None
 closed quote (b ∷ []) = elim (b == quote) [ true ↦ Some (record { text = []; size = 1 }) | false ↦ None ]
@@ -116,7 +117,7 @@ front AQuoted b bytes = quoted_front (closed b bytes)
 front ALiteral b bytes = literal_front (closed b bytes)
 front ANothing b bytes = NoToken
 
--- the tokens of the bytes from a place of the line on, of which the first `taken` belong to the token before; what begins no
+-- the tokens of the bytes from an offset of the line on, of which the first `taken` belong to the token before; what begins no
 -- token is wrong, and nothing is read after it
 abbrev pub tokens_from : ℕ → ℕ → List ℕ → List Token
 tokens_from at taken [] = []

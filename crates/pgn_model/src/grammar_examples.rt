@@ -1,9 +1,9 @@
-ghost use Rattle.std.specs.Prelude.{[], ◌∷◌, ◌++◌, codes};
+ghost use Rattle.std.specs.Prelude.{[], ◌∷◌, ◌++◌, replicate, codes};
 ghost use Rattle.pgn_base.specs.declared.answers.Which.TheVariants.{ChannelEmpty, ChannelTooLong, PayloadTooLong};
 ghost use Rattle.pgn_model.specs.declared.command.Command.TheVariants as command;
 ghost use Rattle.pgn_model.specs.Grammar.{ReadsAs};
 
-/// The table of lines and answers.
+/// Lines, each with its answer.
 pub fn lines_and_answers()
     ensures no_name { ReadsAs (codes "LISTEN") (command.Bad 6) }
     ensures number_for_name { ReadsAs (codes "LISTEN 5") (command.Bad 7) }
@@ -13,6 +13,11 @@ pub fn lines_and_answers()
     ensures quoted_name { ReadsAs (codes "listen \"A\"\"b\" ; -- now") (command.Listen (codes "A\"b")) }
     ensures savepoint_as_name { ReadsAs (codes "Rollback To Savepoint") (command.RollbackTo (codes "savepoint")) }
     ensures folded_name { ReadsAs (codes "notify Foo, 'it''s'") (command.Notify (record { channel = codes "foo"; payload = codes "it's" })) }
+    ensures only_a_quote { ReadsAs (codes "notify c, ''''") (command.Notify (record { channel = codes "c"; payload = codes "'" })) }
+    ensures plain_backslash { ReadsAs (codes "NOTIFY c, '\\'") (command.Notify (record { channel = codes "c"; payload = codes "\\" })) }
+    ensures two_semicolons { ReadsAs (codes "LISTEN a;;") (command.Bad 9) }
+    ensures two_commands { ReadsAs (codes "LISTEN a; LISTEN b") (command.Bad 10) }
+    ensures work_and_transaction { ReadsAs (codes "BEGIN WORK TRANSACTION") (command.Bad 11) }
 {}
 
 /// A line of each command.
@@ -39,6 +44,7 @@ pub fn each_command()
 /// What says nothing is the command Empty.
 pub fn blank_lines()
     ensures blanks { ReadsAs (codes " \t\r") (command.Empty) }
+    ensures feed_and_vertical_tab { ReadsAs (codes "LISTEN" ++ 12 ∷ 11 ∷ codes "a") (command.Listen (codes "a")) }
     ensures comment { ReadsAs (codes "-- LISTEN c") (command.Empty) }
     ensures semicolon { ReadsAs (codes " ; -- x") (command.Empty) }
     ensures two { ReadsAs (codes "; ;") (command.Bad 2) }
@@ -66,6 +72,8 @@ pub fn wrong_tokens()
     ensures one_quote { ReadsAs (codes "LISTEN \"\"\"\"") (command.Listen (codes "\"")) }
     ensures unclosed_literal { ReadsAs (codes "NOTIFY c, 'x''") (command.Bad 10) }
     ensures other_character { ReadsAs (codes "LISTEN a-b") (command.Bad 8) }
+    ensures one_dash { ReadsAs (codes "-") (command.Bad 0) }
+    ensures dash_for_name { ReadsAs (codes "LISTEN -") (command.Bad 7) }
     ensures comment { ReadsAs (codes "LISTEN a--b") (command.Listen (codes "a")) }
     ensures comment_only { ReadsAs (codes "LISTEN -- x") (command.Bad 11) }
     ensures comment_in_quotes { ReadsAs (codes "LISTEN \"a--b\"") (command.Listen (codes "a--b")) }
@@ -87,6 +95,7 @@ pub fn arguments()
     ensures longer_number { ReadsAs (codes "select pg_notify('c', repeat('', 100000000000000000000000))") (command.Bad 33) }
     ensures one_argument { ReadsAs (codes "select pg_notify('c')") (command.Bad 20) }
     ensures word { ReadsAs (codes "select pg_notify(c, 'x')") (command.Bad 17) }
+    ensures quoted_null { ReadsAs (codes "select pg_notify(\"NULL\", 'x')") (command.Bad 17) }
     ensures negative { ReadsAs (codes "select pg_notify('c', repeat('x', -1))") (command.Bad 34) }
 {}
 
@@ -97,6 +106,8 @@ pub fn limits()
     ensures long_channel { ReadsAs (codes "select pg_notify(repeat('c', 64), repeat('x', 8000))") (command.Invalid ChannelTooLong) }
     ensures longest_channel { ReadsAs (codes "select pg_notify(repeat('c', 63), '')") (command.PgNotify (record { channel = codes "ccccccccccccccccccccccccccccccccccccccccccccccccccccccccccccccc"; payload = [] })) }
     ensures long_payload { ReadsAs (codes "select pg_notify('c', repeat('x', 8000))") (command.Invalid PayloadTooLong) }
+    ensures long_literal { ReadsAs (codes "NOTIFY c, '" ++ replicate 8000 120 ++ codes "'") (command.Invalid PayloadTooLong) }
+    ensures longest_literal { ReadsAs (codes "NOTIFY c, '" ++ replicate 7999 120 ++ codes "'") (command.Notify (record { channel = codes "c"; payload = replicate 7999 120 })) }
 {}
 
 /// Names are cut to 63 bytes, and key words are not.
@@ -110,4 +121,6 @@ pub fn other_characters()
     ensures not_folded { ReadsAs (codes "LISTEN A" ++ (195 ∷ 137 ∷ [])) (command.Listen (codes "a" ++ (195 ∷ 137 ∷ []))) }
     ensures whole_character { ReadsAs (codes "LISTEN aaaaaaaaaaaaaaaaaaaaaaaaaaaaaaaaaaaaaaaaaaaaaaaaaaaaaaaaaaaaaa" ++ (195 ∷ 169 ∷ [])) (command.Listen (codes "aaaaaaaaaaaaaaaaaaaaaaaaaaaaaaaaaaaaaaaaaaaaaaaaaaaaaaaaaaaaaa")) }
     ensures last_character { ReadsAs (codes "LISTEN aaaaaaaaaaaaaaaaaaaaaaaaaaaaaaaaaaaaaaaaaaaaaaaaaaaaaaaaaaaaa" ++ (195 ∷ 169 ∷ 195 ∷ 169 ∷ [])) (command.Listen (codes "aaaaaaaaaaaaaaaaaaaaaaaaaaaaaaaaaaaaaaaaaaaaaaaaaaaaaaaaaaaaa" ++ (195 ∷ 169 ∷ []))) }
+    ensures three_bytes { ReadsAs (codes "LISTEN aaaaaaaaaaaaaaaaaaaaaaaaaaaaaaaaaaaaaaaaaaaaaaaaaaaaaaaaaaaaa" ++ (226 ∷ 130 ∷ 172 ∷ [])) (command.Listen (codes "aaaaaaaaaaaaaaaaaaaaaaaaaaaaaaaaaaaaaaaaaaaaaaaaaaaaaaaaaaaaa")) }
+    ensures last_three_bytes { ReadsAs (codes "LISTEN aaaaaaaaaaaaaaaaaaaaaaaaaaaaaaaaaaaaaaaaaaaaaaaaaaaaaaaaaaaa" ++ (226 ∷ 130 ∷ 172 ∷ 97 ∷ [])) (command.Listen (codes "aaaaaaaaaaaaaaaaaaaaaaaaaaaaaaaaaaaaaaaaaaaaaaaaaaaaaaaaaaaa" ++ (226 ∷ 130 ∷ 172 ∷ []))) }
 {}

@@ -42,3 +42,7 @@ returns-clause-word c = reading-reads (codes "select pg_notify(c, 'x')")
 pub returns-clause-negative : goal.returns-clause-negative
 unfolding table cut
 returns-clause-negative c = reading-reads (codes "select pg_notify('c', repeat('x', -1))")
+
+pub returns-clause-quoted_null : goal.returns-clause-quoted_null
+unfolding table cut
+returns-clause-quoted_null c = reading-reads (codes "select pg_notify(\"NULL\", 'x')")

@@ -1,4 +1,4 @@
-use Rattle.std.specs.Prelude.{codes}
+use Rattle.std.specs.Prelude.{◌∷◌, ◌++◌, codes}
 use Rattle.pgn_model.specs.Grammar.{table, cut}
 use Rattle.pgn_model.proofs.GrammarLaws.{reading-reads}
 use Rattle.pgn_model.proofs.grammar_examples.blank_lines.Goals as goal
@@ -18,3 +18,7 @@ returns-clause-semicolon c = reading-reads (codes " ; -- x")
 pub returns-clause-two : goal.returns-clause-two
 unfolding table cut
 returns-clause-two c = reading-reads (codes "; ;")
+
+pub returns-clause-feed_and_vertical_tab : goal.returns-clause-feed_and_vertical_tab
+unfolding table cut
+returns-clause-feed_and_vertical_tab c = reading-reads (codes "LISTEN" ++ 12 ∷ 11 ∷ codes "a")

@@ -1,5 +1,7 @@
 use Rattle.std.specs.Prelude.{codes}
 use Rattle.pgn_model.specs.Grammar.{table, cut}
+use Rattle.std.proofs.Common.{refl}
+use Rattle.pgn_model.proofs.LongLiterals.{long-literal, short-literal}
 use Rattle.pgn_model.proofs.GrammarLaws.{reading-reads}
 use Rattle.pgn_model.proofs.grammar_examples.limits.Goals as goal
 
@@ -22,3 +24,9 @@ returns-clause-longest_channel c = reading-reads (codes "select pg_notify(repeat
 pub returns-clause-long_payload : goal.returns-clause-long_payload
 unfolding table cut
 returns-clause-long_payload c = reading-reads (codes "select pg_notify('c', repeat('x', 8000))")
+
+pub returns-clause-long_literal : goal.returns-clause-long_literal
+returns-clause-long_literal c = long-literal 8000 refl
+
+pub returns-clause-longest_literal : goal.returns-clause-longest_literal
+returns-clause-longest_literal c = short-literal 7999 refl

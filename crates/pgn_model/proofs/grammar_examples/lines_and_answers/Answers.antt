@@ -34,3 +34,23 @@ returns-clause-savepoint_as_name c = reading-reads (codes "Rollback To Savepoint
 pub returns-clause-folded_name : goal.returns-clause-folded_name
 unfolding table cut
 returns-clause-folded_name c = reading-reads (codes "notify Foo, 'it''s'")
+
+pub returns-clause-only_a_quote : goal.returns-clause-only_a_quote
+unfolding table cut
+returns-clause-only_a_quote c = reading-reads (codes "notify c, ''''")
+
+pub returns-clause-plain_backslash : goal.returns-clause-plain_backslash
+unfolding table cut
+returns-clause-plain_backslash c = reading-reads (codes "NOTIFY c, '\\'")
+
+pub returns-clause-two_semicolons : goal.returns-clause-two_semicolons
+unfolding table cut
+returns-clause-two_semicolons c = reading-reads (codes "LISTEN a;;")
+
+pub returns-clause-two_commands : goal.returns-clause-two_commands
+unfolding table cut
+returns-clause-two_commands c = reading-reads (codes "LISTEN a; LISTEN b")
+
+pub returns-clause-work_and_transaction : goal.returns-clause-work_and_transaction
+unfolding table cut
+returns-clause-work_and_transaction c = reading-reads (codes "BEGIN WORK TRANSACTION")

@@ -14,3 +14,11 @@ returns-clause-whole_character c = reading-reads (codes "LISTEN aaaaaaaaaaaaaaaa
 pub returns-clause-last_character : goal.returns-clause-last_character
 unfolding table cut
 returns-clause-last_character c = reading-reads (codes "LISTEN aaaaaaaaaaaaaaaaaaaaaaaaaaaaaaaaaaaaaaaaaaaaaaaaaaaaaaaaaaaaa" ++ (195 ∷ 169 ∷ 195 ∷ 169 ∷ []))
+
+pub returns-clause-three_bytes : goal.returns-clause-three_bytes
+unfolding table cut
+returns-clause-three_bytes c = reading-reads (codes "LISTEN aaaaaaaaaaaaaaaaaaaaaaaaaaaaaaaaaaaaaaaaaaaaaaaaaaaaaaaaaaaaa" ++ (226 ∷ 130 ∷ 172 ∷ []))
+
+pub returns-clause-last_three_bytes : goal.returns-clause-last_three_bytes
+unfolding table cut
+returns-clause-last_three_bytes c = reading-reads (codes "LISTEN aaaaaaaaaaaaaaaaaaaaaaaaaaaaaaaaaaaaaaaaaaaaaaaaaaaaaaaaaaaa" ++ (226 ∷ 130 ∷ 172 ∷ 97 ∷ []))

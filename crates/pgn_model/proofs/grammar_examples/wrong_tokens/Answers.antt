@@ -58,3 +58,11 @@ returns-clause-quoted_key_word c = reading-reads (codes "\"LISTEN\" a")
 pub returns-clause-earlier_token : goal.returns-clause-earlier_token
 unfolding table cut
 returns-clause-earlier_token c = reading-reads (codes "COMMIT c 'x")
+
+pub returns-clause-one_dash : goal.returns-clause-one_dash
+unfolding table cut
+returns-clause-one_dash c = reading-reads (codes "-")
+
+pub returns-clause-dash_for_name : goal.returns-clause-dash_for_name
+unfolding table cut
+returns-clause-dash_for_name c = reading-reads (codes "LISTEN -")
