@@ -14,5 +14,6 @@ pub mod SoundLaws
 pub mod PlaceLaws
 pub mod CoverLaws
 pub mod CleanTokens
+pub mod KeptForms
 pub mod ValidForms
 pub mod LongLiterals
