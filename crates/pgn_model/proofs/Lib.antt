@@ -15,5 +15,6 @@ pub mod PlaceLaws
 pub mod CoverLaws
 pub mod CleanTokens
 pub mod KeptForms
+pub mod OneLineCommands
 pub mod ValidForms
 pub mod LongLiterals

@@ -25,6 +25,7 @@ use Rattle.std.specs.Str.Parse.{digits_value}
 use Rattle.pgn_model.specs.GrammarLaws.{reading}
 use Rattle.pgn_model.specs.InputLaws.{IsTextOf}
 use Rattle.pgn_model.proofs.LineLaws.{is-trimmed}
+use Rattle.pgn_model.proofs.OneLineCommands.{none-line, line-cons, reads-one_line}
 use Rattle.pgn_model.specs.declared.scenario.Scenario.{Scenario}
 use Rattle.pgn_model.specs.Inputs.{section_limit, flag_limit, note_line_limit, line_limit, all_say, is_opening, is_quit, is_note_command, is_note, opened_name, named_flag, has_name, with_name, section_names, flags_of, has_quit, is_bad_meta, lacks_session, repeats_name, are_too_many, fault_said, fault_of, line_number, line_start, flag_number, act_of, script_line, script_line_of, script_from, is_note_act, note_lines_of, section, section_at, scenario_of, AreSound, IsSoundSection, IsSound, IsOneLineCommand, IsOneLineAct, ReadsAsScenario, Large, Faulty, Sectionless, Unsignalled, Reads, sections_from, AreNumbered, HasFlagBelow, Rise, QuitsLast, IsOneLine, has_section}
 use Rattle.pgn_model.proofs.InputLaws.{SoundAfter, sound-first, sound-rest}
@@ -431,18 +432,6 @@ flags-lines names (line ∷ lines) h =
 
 -- Texts.
 
-none-line : IsOneLine []
-none-line c = omega (arith, c.1)
-
-line-cons : (b : ℕ) (text : List ℕ) → (b == 10) ≡ false → IsOneLine text → IsOneLine (b ∷ text)
-line-cons b text e h c = elim (Contains-append_cases (b ∷ []) text 10 c) [
-  | inl d ↦
-      let first : d.0 ≡ 0 = omega (arith, d.1) in
-      let ten : b ≡ 10 = subst (λ (k : ℕ). get_or (b ∷ []) k 10 ≡ 10) first d.2 in
-      both_ways (b == 10) e (eq-eqb b 10 ten)
-  | inr d ↦ h d
-]
-
 -- the lines of an input have no LF
 onto-lines : (b : ℕ) (lines : List (List ℕ)) → (b == 10) ≡ false → All IsOneLine lines → All IsOneLine (onto_first b lines)
 onto-lines b [] e h = All-cons IsOneLine (b ∷ []) [] (line-cons b [] e none-line) (All-nil IsOneLine)
@@ -459,10 +448,6 @@ trimmed-line : (line : List ℕ) → IsOneLine line → IsOneLine (trimmed line)
 trimmed-line line h c =
     let parts : IsTextOf line (trimmed line) = is-trimmed line in
     h (subst (λ (l : List ℕ). Contains l 10) (sym parts.whole) (Contains-append_left (parts.before ++ trimmed line) parts.after 10 (Contains-append_right parts.before (trimmed line) 10 c)))
-
--- what commands of one line name has one line
-abbrev pub ReadsOneLine : Type 0
-ReadsOneLine = (text : List ℕ) → IsOneLine text → IsOneLineCommand (reading text)
 
 cond_runs : (b : Bool) (x y : Says) (run : Command) → (x ≡ Runs run → ⊥) → (y ≡ Runs run → ⊥) → cond b x y ≡ Runs run → ⊥
 cond_runs true x y run f g h = f h
@@ -493,24 +478,24 @@ runs-reading : (line : List ℕ) (run : Command) → says line ≡ Runs run → 
 unfolding says
 runs-reading line run h = text-runs (trimmed line) run h
 
-act-line : (reads : ReadsOneLine) (flags : List (List ℕ)) (line : List ℕ) (said : Says) (act : Act) → IsOneLine line → says line ≡ said → act_of flags said ≡ Some act → IsOneLineAct act
-act-line reads flags line (Runs run) act h e a =
-    subst (λ (o : Option Act). IfSome o IsOneLineAct) a (subst IsOneLineCommand (sym (runs-reading line run e)) (reads (trimmed line) (trimmed-line line h)))
-act-line reads flags line (Signals flag) act h e a = subst (λ (o : Option Act). IfSome o IsOneLineAct) a tt
-act-line reads flags line (Awaits flag) act h e a = subst (λ (o : Option Act). IfSome o IsOneLineAct) a tt
-act-line reads flags line Quits act h e a = subst (λ (o : Option Act). IfSome o IsOneLineAct) a tt
-act-line reads flags line Nothing act h e a = absurd (cc)
-act-line reads flags line (Opens name db) act h e a = absurd (cc)
-act-line reads flags line Unclear act h e a = absurd (cc)
+act-line : (flags : List (List ℕ)) (line : List ℕ) (said : Says) (act : Act) → IsOneLine line → says line ≡ said → act_of flags said ≡ Some act → IsOneLineAct act
+act-line flags line (Runs run) act h e a =
+    subst (λ (o : Option Act). IfSome o IsOneLineAct) a (subst IsOneLineCommand (sym (runs-reading line run e)) (reads-one_line (trimmed line) (trimmed-line line h)))
+act-line flags line (Signals flag) act h e a = subst (λ (o : Option Act). IfSome o IsOneLineAct) a tt
+act-line flags line (Awaits flag) act h e a = subst (λ (o : Option Act). IfSome o IsOneLineAct) a tt
+act-line flags line Quits act h e a = subst (λ (o : Option Act). IfSome o IsOneLineAct) a tt
+act-line flags line Nothing act h e a = absurd (cc)
+act-line flags line (Opens name db) act h e a = absurd (cc)
+act-line flags line Unclear act h e a = absurd (cc)
 
-script-lines : (reads : ReadsOneLine) (flags : List (List ℕ)) (n : ℕ) (lines : List (List ℕ)) → All IsOneLine lines → All (λ (l : ScriptLine). IsOneLine l.text × IsOneLineAct l.act) (script_from flags n lines)
-script-lines reads flags n [] h = All-nil (λ (l : ScriptLine). IsOneLine l.text × IsOneLineAct l.act)
-script-lines reads flags n (line ∷ lines) h =
+script-lines : (flags : List (List ℕ)) (n : ℕ) (lines : List (List ℕ)) → All IsOneLine lines → All (λ (l : ScriptLine). IsOneLine l.text × IsOneLineAct l.act) (script_from flags n lines)
+script-lines flags n [] h = All-nil (λ (l : ScriptLine). IsOneLine l.text × IsOneLineAct l.act)
+script-lines flags n (line ∷ lines) h =
     let P : ScriptLine → Type 0 = λ l. IsOneLine l.text × IsOneLineAct l.act in
     let one : IsOneLine line = All-head IsOneLine line lines h in
-    let rest : All P (script_from flags (n + 1) lines) = script-lines reads flags (n + 1) lines (All-tail IsOneLine line lines h) in
+    let rest : All P (script_from flags (n + 1) lines) = script-lines flags (n + 1) lines (All-tail IsOneLine line lines h) in
     let more : All P (option_to_list (script_line_of flags n line) ++ script_from flags (n + 1) lines)
-    = script-cons P flags n line (says line) (script_from flags (n + 1) lines) (λ act e. (trimmed-line line one, act-line reads flags line (says line) act one refl e)) rest in
+    = script-cons P flags n line (says line) (script_from flags (n + 1) lines) (λ act e. (trimmed-line line one, act-line flags line (says line) act one refl e)) rest in
     elim (cases_Bool (is_opening (says line))) [
       | inl e ↦ rw e (All-nil P)
       | inr e ↦ rw e more
@@ -531,40 +516,40 @@ given-rest flags before line lines h = record {
   one_line = All-tail IsOneLine line lines h.one_line;
 }
 
-section-sound : (reads : ReadsOneLine) (flags before lines : List (List ℕ)) (number n : ℕ) (name : List ℕ) (db : ℕ) → 0 < n → is_label name ≡ true → AreGiven flags before lines
+section-sound : (flags before lines : List (List ℕ)) (number n : ℕ) (name : List ℕ) (db : ℕ) → 0 < n → is_label name ≡ true → AreGiven flags before lines
     → IsSoundSection (length flags) (section number name db (script_from flags n lines))
-section-sound reads flags before lines number n name db some label h = record {
+section-sound flags before lines number n name db some label h = record {
   flags_known = flags-below flags n lines h.named;
   rising = rising flags 0 n lines some;
   quits_last = quits-last flags n before lines h.sound;
   counted = refl;
   name = label-line name label;
-  texts = script-lines reads flags n lines h.one_line;
+  texts = script-lines flags n lines h.one_line;
 }
 
-section_at-sound : (reads : ReadsOneLine) (flags before lines : List (List ℕ)) (number n : ℕ) (said : Says) (rest : List Section) → 0 < n → HasLabel said → AreGiven flags before lines
+section_at-sound : (flags before lines : List (List ℕ)) (number n : ℕ) (said : Says) (rest : List Section) → 0 < n → HasLabel said → AreGiven flags before lines
     → All (IsSoundSection (length flags)) rest → All (IsSoundSection (length flags)) (section_at flags number n said lines ++ rest)
-section_at-sound reads flags before lines number n (Opens name db) rest some label h k =
-    All-cons (IsSoundSection (length flags)) (section number name db (script_from flags n lines)) rest (section-sound reads flags before lines number n name db some label h) k
-section_at-sound reads flags before lines number n Nothing rest some label h k = k
-section_at-sound reads flags before lines number n (Runs run) rest some label h k = k
-section_at-sound reads flags before lines number n (Signals flag) rest some label h k = k
-section_at-sound reads flags before lines number n (Awaits flag) rest some label h k = k
-section_at-sound reads flags before lines number n Quits rest some label h k = k
-section_at-sound reads flags before lines number n Unclear rest some label h k = k
+section_at-sound flags before lines number n (Opens name db) rest some label h k =
+    All-cons (IsSoundSection (length flags)) (section number name db (script_from flags n lines)) rest (section-sound flags before lines number n name db some label h) k
+section_at-sound flags before lines number n Nothing rest some label h k = k
+section_at-sound flags before lines number n (Runs run) rest some label h k = k
+section_at-sound flags before lines number n (Signals flag) rest some label h k = k
+section_at-sound flags before lines number n (Awaits flag) rest some label h k = k
+section_at-sound flags before lines number n Quits rest some label h k = k
+section_at-sound flags before lines number n Unclear rest some label h k = k
 
-sections-sound : (reads : ReadsOneLine) (flags before lines : List (List ℕ)) (number n : ℕ) → AreGiven flags before lines → All (IsSoundSection (length flags)) (sections_from flags number n lines)
-sections-sound reads flags before [] number n h = All-nil (IsSoundSection (length flags))
-sections-sound reads flags before (line ∷ lines) number n h =
+sections-sound : (flags before lines : List (List ℕ)) (number n : ℕ) → AreGiven flags before lines → All (IsSoundSection (length flags)) (sections_from flags number n lines)
+sections-sound flags before [] number n h = All-nil (IsSoundSection (length flags))
+sections-sound flags before (line ∷ lines) number n h =
     let here : List Section = section_at flags number (n + 1) (says line) lines in
     let rest : AreGiven flags (before ++ line ∷ []) lines = given-rest flags before line lines h in
-    section_at-sound reads flags (before ++ line ∷ []) lines number (n + 1) (says line) (sections_from flags (number + length here) (n + 1) lines) (omega arith) (says-label line) rest
-    (sections-sound reads flags (before ++ line ∷ []) lines (number + length here) (n + 1) rest)
+    section_at-sound flags (before ++ line ∷ []) lines number (n + 1) (says line) (sections_from flags (number + length here) (n + 1) lines) (omega arith) (says-label line) rest
+    (sections-sound flags (before ++ line ∷ []) lines (number + length here) (n + 1) rest)
 
 -- the scenario of sound lines with a section
-sound-scenario : (reads : ReadsOneLine) (lines : List (List ℕ)) → AreSound lines → All IsOneLine lines → has_section (all_say lines) ≡ true → IsSound (scenario_of lines)
+sound-scenario : (lines : List (List ℕ)) → AreSound lines → All IsOneLine lines → has_section (all_say lines) ≡ true → IsSound (scenario_of lines)
 unfolding scenario_of
-sound-scenario reads lines sound one_line some =
+sound-scenario lines sound one_line some =
     let said : List Says = all_say lines in
     let flags : List (List ℕ) = flags_of said in
     let within : AreFew said = few said (few-after [] lines sound refl) in
@@ -579,13 +564,16 @@ sound-scenario reads lines sound one_line some =
       numbered = numbered flags 1 1 lines;
       few_flags = within.flags;
       flags = flags-lines [] lines (All-nil IsOneLine);
-      sections = sections-sound reads flags [] lines 1 1 (record { sound = sound; named = flags-named [] said; one_line = one_line });
+      sections = sections-sound flags [] lines 1 1 (record { sound = sound; named = flags-named [] said; one_line = one_line });
       few_note_lines = omega (arith, notes, few_notes);
     }
 
-readings-sound : (reads : ReadsOneLine) (input : List ℕ) (read : Result Scenario ScenarioFault) → ReadsAsScenario input read → IfOk read IsSound
-readings-sound reads input _ (Large l) = tt
-readings-sound reads input _ (Faulty l before line rest e sound found here) = tt
-readings-sound reads input _ (Sectionless l sound e) = tt
-readings-sound reads input _ (Unsignalled l sound e n f) = tt
-readings-sound reads input _ (Reads l sound e f) = sound-scenario reads (lines_of input) sound (lines-lack input) e
+readings-sound : (input : List ℕ) (read : Result Scenario ScenarioFault) → ReadsAsScenario input read → IfOk read IsSound
+readings-sound input _ (Large l) = tt
+readings-sound input _ (Faulty l before line rest e sound found here) = tt
+readings-sound input _ (Sectionless l sound e) = tt
+readings-sound input _ (Unsignalled l sound e n f) = tt
+readings-sound input _ (Reads l sound e f) = sound-scenario (lines_of input) sound (lines-lack input) e
+
+pub only-sound : (input : List ℕ) (scenario : Scenario) → ReadsAsScenario input (Ok scenario) → IsSound scenario
+only-sound input scenario h = readings-sound input (Ok scenario) h

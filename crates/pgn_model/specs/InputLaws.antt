@@ -1,6 +1,7 @@
 -- What an input reads as, computed, and the laws of lines and of inputs.
 use Rattle.std.specs.Prelude.{◌≡◌, ◌↔◌, ℕ, ◌<◌, Bool, true, false, cond, not, ◌==◌, nat_lt, List, [], ◌∷◌, ◌++◌, length, filter_map, Option, None, Some, Result, Ok, Err, slice_get, IfSome}
 use Rattle.std.specs.List.{list_all, list_any}
+use Rattle.pgn_model.specs.declared.command.Command.{Command}
 use Rattle.pgn_model.specs.declared.command.Command.TheVariants.{Empty}
 use Rattle.pgn_model.specs.declared.scenario.Scenario.{Scenario}
 use Rattle.pgn_model.specs.declared.scenario.ScenarioFault.{ScenarioFault}
@@ -8,7 +9,7 @@ use Rattle.pgn_model.specs.declared.scenario.ScenarioFault.TheVariants as fault
 use Rattle.pgn_model.specs.Tokens.{is_blank}
 use Rattle.pgn_model.specs.Grammar.{ReadsAs}
 use Rattle.pgn_model.specs.Lines.{Says, Nothing, says, trimmed, is_gap, parts_of, lines_of}
-use Rattle.pgn_model.specs.Inputs.{input_limit, all_say, fault_of, has_section, unsignalled, scenario_of, ReadsAsScenario, IsSound}
+use Rattle.pgn_model.specs.Inputs.{input_limit, all_say, fault_of, has_section, unsignalled, scenario_of, IsOneLine, IsOneLineCommand, ReadsAsScenario, IsSound}
 
 -- the byte does not stand in the text
 abbrev pub lacks : ℕ → List ℕ → Bool
@@ -72,6 +73,10 @@ InputReadingComputes = (input : List ℕ) (read : Result Scenario ScenarioFault)
 abbrev pub OneInputReading : Type 0
 OneInputReading = (input : List ℕ)
     → (read : Result Scenario ScenarioFault) × ReadsAsScenario input read × ((other : Result Scenario ScenarioFault) → ReadsAsScenario input other → other ≡ read)
+
+-- where no LF stands in a line, none stands in the command that it reads as
+abbrev pub CommandsHaveOneLine : Type 0
+CommandsHaveOneLine = (text : List ℕ) (command : Command) → IsOneLine text → ReadsAs text command → IsOneLineCommand command
 
 -- only sound scenarios are read
 abbrev pub ReadingsAreSound : Type 0

@@ -1,4 +1,4 @@
-ghost use Rattle.pgn_model.specs.InputLaws.{LinesAreCut, TextsAreTrimmed, PartsAreCut, BlankReadsEmpty, InputReadingComputes, OneInputReading};
+ghost use Rattle.pgn_model.specs.InputLaws.{LinesAreCut, TextsAreTrimmed, PartsAreCut, BlankReadsEmpty, CommandsHaveOneLine, InputReadingComputes, OneInputReading, ReadingsAreSound};
 
 /// A line ends before its LF, and the last one where the input ends.
 pub fn lines_are_cut()
@@ -28,4 +28,14 @@ pub fn input_reading_computes()
 /// An input has exactly one reading: a scenario or a fault.
 pub fn one_input_reading()
     ensures { OneInputReading }
+{}
+
+/// A line without a line feed reads as a command without one.
+pub fn commands_have_one_line()
+    ensures { CommandsHaveOneLine }
+{}
+
+/// Only sound scenarios are read.
+pub fn readings_are_sound()
+    ensures { ReadingsAreSound }
 {}
