@@ -10,7 +10,7 @@ use Rattle.pgn_model.specs.declared.command.Command.TheVariants as command
 use Rattle.pgn_model.specs.Tokens.{Wrong, Token, is_blank, tokens}
 use Rattle.pgn_model.specs.Grammar.{table, ReadsAs, lexemes_of}
 use Rattle.pgn_model.specs.GrammarLaws.{reading, reading_of, command_of}
-use Rattle.pgn_model.specs.Lines.{Says, Nothing, Opens, Runs, Signals, Awaits, Quits, Unclear, says, text_says, command_says, meta_says, begins_meta, trimmed, trimmed_start, trimmed_end, is_gap, is_empty, is_label, is_database, parts_of, lines_of}
+use Rattle.pgn_model.specs.Lines.{Says, Nothing, Opens, Runs, Signals, Awaits, Quits, NoMeta, says, text_says, command_says, meta_says, begins_meta, trimmed, trimmed_start, trimmed_end, is_gap, is_empty, is_label, is_database, parts_of, lines_of}
 use Rattle.pgn_model.specs.InputLaws.{lacks, LinesAreCut, IsTextOf, PartsAreCut}
 use Rattle.pgn_model.proofs.GrammarLaws.{reading-computes}
 
@@ -91,7 +91,7 @@ both_pass : {X : Type 0} (p : X → Bool) (xs ys : List X) → list_all p xs ≡
 both_pass p xs ys h k = list_all-append p xs ys ∙ and_from (list_all p xs) (list_all p ys) h k
 
 -- a blank line has no text
-trimmed-blank : (line : List ℕ) → list_all is_blank line ≡ true → trimmed line ≡ []
+pub trimmed-blank : (line : List ℕ) → list_all is_blank line ≡ true → trimmed line ≡ []
 trimmed-blank line h =
     let nothing : drop (prefix_len is_blank (line ++ [])) (line ++ []) ≡ [] = drops is_blank line [] h (λ y ys e. absurd (cc)) in
     let start : trimmed_start line ≡ [] = ap trimmed_start (sym (append-nil line)) ∙ nothing in
@@ -190,12 +190,12 @@ cond_not false x y f g h = g h
 -- a meta line says something
 meta-something : (parts : List (List ℕ)) → meta_says parts ≡ Nothing → ⊥
 meta-something [] h = absurd (cc)
-meta-something (word ∷ []) h = cond_not (bytes_eq word (codes "\\quit")) Quits Unclear (λ e. absurd (cc)) (λ e. absurd (cc)) h
+meta-something (word ∷ []) h = cond_not (bytes_eq word (codes "\\quit")) Quits NoMeta (λ e. absurd (cc)) (λ e. absurd (cc)) h
 meta-something (word ∷ flag ∷ []) h =
-    cond_not (bytes_eq word (codes "\\signal") && is_label flag) (Signals flag) (cond (bytes_eq word (codes "\\await") && is_label flag) (Awaits flag) Unclear) (λ e. absurd (cc))
-    (cond_not (bytes_eq word (codes "\\await") && is_label flag) (Awaits flag) Unclear (λ e. absurd (cc)) (λ e. absurd (cc))) h
+    cond_not (bytes_eq word (codes "\\signal") && is_label flag) (Signals flag) (cond (bytes_eq word (codes "\\await") && is_label flag) (Awaits flag) NoMeta) (λ e. absurd (cc))
+    (cond_not (bytes_eq word (codes "\\await") && is_label flag) (Awaits flag) NoMeta (λ e. absurd (cc)) (λ e. absurd (cc))) h
 meta-something (word ∷ name ∷ digits ∷ []) h =
-    cond_not (bytes_eq word (codes "\\session") && is_label name && is_database digits) (Opens name (digits_value 10 digits)) Unclear (λ e. absurd (cc)) (λ e. absurd (cc)) h
+    cond_not (bytes_eq word (codes "\\session") && is_label name && is_database digits) (Opens name (digits_value 10 digits)) NoMeta (λ e. absurd (cc)) (λ e. absurd (cc)) h
 meta-something (a ∷ b ∷ c ∷ d ∷ parts) h = absurd (cc)
 
 -- what begins with `\` has one token, and that is none

@@ -20,14 +20,14 @@ use Rattle.pgn_model.specs.declared.scenario.ScriptLine.{ScriptLine}
 use Rattle.pgn_model.specs.declared.scenario.Section.{Section}
 use Rattle.pgn_model.specs.declared.scenario.ScenarioFault.{ScenarioFault}
 use Rattle.pgn_model.specs.declared.scenario.ScenarioFault.TheVariants as fault
-use Rattle.pgn_model.specs.Lines.{Says, Nothing, Opens, Runs, Signals, Awaits, Quits, Unclear, says, trimmed, is_label, is_label_byte, is_database, meta_says, command_says, text_says, begins_meta, parts_of, lines_of}
+use Rattle.pgn_model.specs.Lines.{Says, Nothing, Opens, Runs, Signals, Awaits, Quits, NoMeta, says, trimmed, is_label, is_label_byte, is_database, meta_says, command_says, text_says, begins_meta, parts_of, lines_of}
 use Rattle.std.specs.Str.Parse.{digits_value}
 use Rattle.pgn_model.specs.GrammarLaws.{reading}
 use Rattle.pgn_model.specs.InputLaws.{IsTextOf}
 use Rattle.pgn_model.proofs.LineLaws.{is-trimmed}
 use Rattle.pgn_model.proofs.OneLineCommands.{none-line, line-cons, reads-one_line}
 use Rattle.pgn_model.specs.declared.scenario.Scenario.{Scenario}
-use Rattle.pgn_model.specs.Inputs.{section_limit, flag_limit, note_line_limit, line_limit, all_say, is_opening, is_quit, is_note_command, is_note, opened_name, named_flag, has_name, with_name, section_names, flags_of, has_quit, is_bad_meta, lacks_session, repeats_name, are_too_many, fault_said, fault_of, line_number, line_start, flag_number, act_of, script_line, script_line_of, script_from, is_note_act, note_lines_of, section, section_at, scenario_of, AreSound, IsSoundSection, IsSound, IsOneLineCommand, IsOneLineAct, ReadsAsScenario, Large, Faulty, Sectionless, Unsignalled, Reads, sections_from, AreNumbered, HasFlagBelow, Rise, QuitsLast, IsOneLine, has_section}
+use Rattle.pgn_model.specs.Inputs.{section_limit, flag_limit, note_line_limit, line_limit, all_say, is_opening, is_quit, is_note_command, is_note, opened_name, named_flag, has_name, with_name, section_names, flags_of, has_quit, is_bad_meta, lacks_session, repeats_name, are_too_many, fault_said, fault_of, line_number, line_start, flag_number, act_of, script_line, script_line_of, script_from, is_note_act, note_lines_of, section, section_at, scenario_of, HaveNoFault, IsSoundSection, IsSound, IsOneLineCommand, IsOneLineAct, ReadsAsScenario, Large, Faulty, Sectionless, Unsignalled, Reads, sections_from, AreNumbered, HasFlagBelow, IsBelowFirst, Rise, QuitsLast, IsOneLine, has_section}
 use Rattle.pgn_model.proofs.InputLaws.{SoundAfter, sound-first, sound-rest}
 
 -- what holds of a line without a fault
@@ -102,7 +102,7 @@ count_at flags number n (Runs run) lines = refl
 count_at flags number n (Signals flag) lines = refl
 count_at flags number n (Awaits flag) lines = refl
 count_at flags number n Quits lines = refl
-count_at flags number n Unclear lines = refl
+count_at flags number n NoMeta lines = refl
 
 names_cons : (said : Says) (more : List Says) → section_names (said ∷ more) ≡ section_names (said ∷ []) ++ section_names more
 names_cons said more = filter_map-append opened_name (said ∷ []) more
@@ -127,7 +127,7 @@ numbered_at flags number n (Runs run) lines rest h = subst (λ (k : ℕ). AreNum
 numbered_at flags number n (Signals flag) lines rest h = subst (λ (k : ℕ). AreNumbered k rest) (let same : number + 0 ≡ number = omega arith in same) h
 numbered_at flags number n (Awaits flag) lines rest h = subst (λ (k : ℕ). AreNumbered k rest) (let same : number + 0 ≡ number = omega arith in same) h
 numbered_at flags number n Quits lines rest h = subst (λ (k : ℕ). AreNumbered k rest) (let same : number + 0 ≡ number = omega arith in same) h
-numbered_at flags number n Unclear lines rest h = subst (λ (k : ℕ). AreNumbered k rest) (let same : number + 0 ≡ number = omega arith in same) h
+numbered_at flags number n NoMeta lines rest h = subst (λ (k : ℕ). AreNumbered k rest) (let same : number + 0 ≡ number = omega arith in same) h
 
 numbered : (flags : List (List ℕ)) (number n : ℕ) (lines : List (List ℕ)) → AreNumbered number (sections_from flags number n lines)
 numbered flags number n [] = tt
@@ -143,7 +143,7 @@ one_named (Runs run) h = absurd (cc)
 one_named (Signals flag) h = absurd (cc)
 one_named (Awaits flag) h = absurd (cc)
 one_named Quits h = absurd (cc)
-one_named Unclear h = absurd (cc)
+one_named NoMeta h = absurd (cc)
 
 some_named : (said : List Says) → has_section said ≡ true → 0 < length (section_names said)
 some_named [] h = absurd (false≢true h)
@@ -178,7 +178,7 @@ notes_at flags number n line (Runs run) lines =
 notes_at flags number n line (Signals flag) lines = omega arith
 notes_at flags number n line (Awaits flag) lines = omega arith
 notes_at flags number n line Quits lines = omega arith
-notes_at flags number n line Unclear lines = omega arith
+notes_at flags number n line NoMeta lines = omega arith
 
 notes-counted : (flags : List (List ℕ)) (number n : ℕ) (lines : List (List ℕ)) → note_lines_of (script_from flags n lines) + notes_in (sections_from flags number n lines) ≡ count_by is_note (all_say lines)
 notes-counted flags number n [] = refl
@@ -225,7 +225,7 @@ named-rest flags (Runs run) said h = h
 named-rest flags (Signals flag) said h = h.1
 named-rest flags (Awaits flag) said h = h.1
 named-rest flags Quits said h = h
-named-rest flags Unclear said h = h
+named-rest flags NoMeta said h = h
 
 -- a name stays among names
 kept-with : (names : List (List ℕ)) (name other : List ℕ) → has_name names name ≡ true → has_name (with_name names other) name ≡ true
@@ -253,7 +253,7 @@ flags-named before (Nothing ∷ said) = flags-named before said
 flags-named before (Opens name db ∷ said) = flags-named before said
 flags-named before (Runs run ∷ said) = flags-named before said
 flags-named before (Quits ∷ said) = flags-named before said
-flags-named before (Unclear ∷ said) = flags-named before said
+flags-named before (NoMeta ∷ said) = flags-named before said
 
 -- Script lines.
 
@@ -261,7 +261,7 @@ script-cons : (P : ScriptLine → Type 0) (flags : List (List ℕ)) (n : ℕ) (l
     → All P (option_to_list (option_map (script_line n (trimmed line)) (act_of flags said)) ++ rest)
 script-cons P flags n line Nothing rest h k = k
 script-cons P flags n line (Opens name db) rest h k = k
-script-cons P flags n line Unclear rest h k = k
+script-cons P flags n line NoMeta rest h k = k
 script-cons P flags n line (Runs run) rest h k = All-cons P (script_line n (trimmed line) (Run run)) rest (h (Run run) refl) k
 script-cons P flags n line (Signals flag) rest h k = All-cons P (script_line n (trimmed line) (Signal (flag_number flags flag))) rest (h (Signal (flag_number flags flag)) refl) k
 script-cons P flags n line (Awaits flag) rest h k = All-cons P (script_line n (trimmed line) (Await (flag_number flags flag))) rest (h (Await (flag_number flags flag)) refl) k
@@ -274,7 +274,7 @@ below-act flags (Runs run) said act h e = subst (λ (o : Option Act). IfSome o (
 below-act flags Quits said act h e = subst (λ (o : Option Act). IfSome o (HasFlagBelow (length flags))) e tt
 below-act flags Nothing said act h e = absurd (cc)
 below-act flags (Opens name db) said act h e = absurd (cc)
-below-act flags Unclear said act h e = absurd (cc)
+below-act flags NoMeta said act h e = absurd (cc)
 
 flags-below : (flags : List (List ℕ)) (n : ℕ) (lines : List (List ℕ)) → AreNamed flags (all_say lines) → All (λ (l : ScriptLine). HasFlagBelow (length flags) l.act) (script_from flags n lines)
 flags-below flags n [] h = All-nil (λ (l : ScriptLine). HasFlagBelow (length flags) l.act)
@@ -288,21 +288,33 @@ flags-below flags n (line ∷ lines) h =
       | inr e ↦ rw e more
     ]
 
--- the numbers rise
-rise-cons : (m n : ℕ) (flags : List (List ℕ)) (line : List ℕ) (said : Says) (rest : List ScriptLine) → m < n → Rise n rest → Rise m rest → Rise m (option_to_list (option_map (script_line n (trimmed line)) (act_of flags said)) ++ rest)
+-- the numbers rise, from one past n on
+abbrev RiseAfter : ℕ → List ScriptLine → Type 0
+RiseAfter n [] = Unit {0}
+RiseAfter n (line ∷ lines) = (n < line.line) × RiseAfter line.line lines
+
+below-first : (n : ℕ) (lines : List ScriptLine) → RiseAfter n lines → IsBelowFirst n lines
+below-first n [] h = tt
+below-first n (line ∷ lines) h = h.0
+
+rise-after : (n : ℕ) (lines : List ScriptLine) → RiseAfter n lines → Rise lines
+rise-after n [] h = tt
+rise-after n (line ∷ lines) h = (below-first line.line lines h.1, rise-after line.line lines h.1)
+
+rise-cons : (m n : ℕ) (flags : List (List ℕ)) (line : List ℕ) (said : Says) (rest : List ScriptLine) → m < n → RiseAfter n rest → RiseAfter m rest → RiseAfter m (option_to_list (option_map (script_line n (trimmed line)) (act_of flags said)) ++ rest)
 rise-cons m n flags line Nothing rest l h k = k
 rise-cons m n flags line (Opens name db) rest l h k = k
-rise-cons m n flags line Unclear rest l h k = k
+rise-cons m n flags line NoMeta rest l h k = k
 rise-cons m n flags line (Runs run) rest l h k = (l, h)
 rise-cons m n flags line (Signals flag) rest l h k = (l, h)
 rise-cons m n flags line (Awaits flag) rest l h k = (l, h)
 rise-cons m n flags line Quits rest l h k = (l, h)
 
-rising : (flags : List (List ℕ)) (m n : ℕ) (lines : List (List ℕ)) → m < n → Rise m (script_from flags n lines)
+rising : (flags : List (List ℕ)) (m n : ℕ) (lines : List (List ℕ)) → m < n → RiseAfter m (script_from flags n lines)
 rising flags m n [] l = tt
 rising flags m n (line ∷ lines) l =
-    let after : Rise n (script_from flags (n + 1) lines) = rising flags n (n + 1) lines (omega arith) in
-    let before : Rise m (script_from flags (n + 1) lines) = rising flags m (n + 1) lines (omega (arith, l)) in
+    let after : RiseAfter n (script_from flags (n + 1) lines) = rising flags n (n + 1) lines (omega arith) in
+    let before : RiseAfter m (script_from flags (n + 1) lines) = rising flags m (n + 1) lines (omega (arith, l)) in
     elim (cases_Bool (is_opening (says line))) [
       | inl e ↦ rw e tt
       | inr e ↦ rw e (rise-cons m n flags line (says line) (script_from flags (n + 1) lines) l after before)
@@ -317,7 +329,7 @@ quit_at said one = fold_push (λ (quit : Bool) (line : Says). cond (is_opening l
 quiet : (before : List Says) (one : Says) → has_quit before ≡ true → is_bad_meta before one ≡ false → (is_opening one ≡ true) ⊎ (one ≡ Nothing)
 quiet before Nothing h e = inr refl
 quiet before (Opens name db) h e = inl refl
-quiet before Unclear h e = absurd (cc)
+quiet before NoMeta h e = absurd (cc)
 quiet before (Runs run) h e = absurd (both_ways (has_quit before) e h)
 quiet before (Signals flag) h e = absurd (both_ways (has_quit before) e h)
 quiet before (Awaits flag) h e = absurd (both_ways (has_quit before) e h)
@@ -339,7 +351,7 @@ quits-cons : (flags : List (List ℕ)) (n : ℕ) (line : List ℕ) (said : Says)
     → QuitsLast (option_to_list (option_map (script_line n (trimmed line)) (act_of flags said)) ++ rest)
 quits-cons flags n line Nothing rest h k = k
 quits-cons flags n line (Opens name db) rest h k = k
-quits-cons flags n line Unclear rest h k = k
+quits-cons flags n line NoMeta rest h k = k
 quits-cons flags n line (Runs run) rest h k = (λ e. absurd (cc), k)
 quits-cons flags n line (Signals flag) rest h k = (λ e. absurd (cc), k)
 quits-cons flags n line (Awaits flag) rest h k = (λ e. absurd (cc), k)
@@ -380,13 +392,13 @@ cond_label false x y f g = g
 
 meta-label : (parts : List (List ℕ)) → HasLabel (meta_says parts)
 meta-label [] = tt
-meta-label (word ∷ []) = cond_label (bytes_eq word (codes "\\quit")) Quits Unclear (λ e. tt) tt
+meta-label (word ∷ []) = cond_label (bytes_eq word (codes "\\quit")) Quits NoMeta (λ e. tt) tt
 meta-label (word ∷ flag ∷ []) =
-    cond_label (bytes_eq word (codes "\\signal") && is_label flag) (Signals flag) (cond (bytes_eq word (codes "\\await") && is_label flag) (Awaits flag) Unclear)
+    cond_label (bytes_eq word (codes "\\signal") && is_label flag) (Signals flag) (cond (bytes_eq word (codes "\\await") && is_label flag) (Awaits flag) NoMeta)
     (λ e. (and_parts (bytes_eq word (codes "\\signal")) (is_label flag) e).1)
-    (cond_label (bytes_eq word (codes "\\await") && is_label flag) (Awaits flag) Unclear (λ e. (and_parts (bytes_eq word (codes "\\await")) (is_label flag) e).1) tt)
+    (cond_label (bytes_eq word (codes "\\await") && is_label flag) (Awaits flag) NoMeta (λ e. (and_parts (bytes_eq word (codes "\\await")) (is_label flag) e).1) tt)
 meta-label (word ∷ name ∷ digits ∷ []) =
-    cond_label (bytes_eq word (codes "\\session") && is_label name && is_database digits) (Opens name (digits_value 10 digits)) Unclear
+    cond_label (bytes_eq word (codes "\\session") && is_label name && is_database digits) (Opens name (digits_value 10 digits)) NoMeta
     (λ e. (and_parts (bytes_eq word (codes "\\session")) (is_label name) (and_parts (bytes_eq word (codes "\\session") && is_label name) (is_database digits) e).0).1) tt
 meta-label (a ∷ b ∷ c ∷ d ∷ parts) = tt
 
@@ -413,7 +425,7 @@ flag-lines Nothing names more h k f = f names k
 flag-lines (Opens name db) names more h k f = f names k
 flag-lines (Runs run) names more h k f = f names k
 flag-lines Quits names more h k f = f names k
-flag-lines Unclear names more h k f = f names k
+flag-lines NoMeta names more h k f = f names k
 
 named-cons : (said : Says) (more : List Says) → filter_map named_flag (said ∷ more) ≡ option_to_list (named_flag said) ++ filter_map named_flag more
 named-cons Nothing more = refl
@@ -422,7 +434,7 @@ named-cons (Runs run) more = refl
 named-cons (Signals flag) more = refl
 named-cons (Awaits flag) more = refl
 named-cons Quits more = refl
-named-cons Unclear more = refl
+named-cons NoMeta more = refl
 
 flags-lines : (names lines : List (List ℕ)) → All IsOneLine names → All IsOneLine (fold with_name names (filter_map named_flag (all_say lines)))
 flags-lines names [] h = h
@@ -460,12 +472,12 @@ command-runs other run h = cc
 
 meta-runs : (parts : List (List ℕ)) (run : Command) → meta_says parts ≡ Runs run → ⊥
 meta-runs [] run h = absurd (cc)
-meta-runs (word ∷ []) run h = cond_runs (bytes_eq word (codes "\\quit")) Quits Unclear run (λ e. absurd (cc)) (λ e. absurd (cc)) h
+meta-runs (word ∷ []) run h = cond_runs (bytes_eq word (codes "\\quit")) Quits NoMeta run (λ e. absurd (cc)) (λ e. absurd (cc)) h
 meta-runs (word ∷ flag ∷ []) run h =
-    cond_runs (bytes_eq word (codes "\\signal") && is_label flag) (Signals flag) (cond (bytes_eq word (codes "\\await") && is_label flag) (Awaits flag) Unclear) run (λ e. absurd (cc))
-    (cond_runs (bytes_eq word (codes "\\await") && is_label flag) (Awaits flag) Unclear run (λ e. absurd (cc)) (λ e. absurd (cc))) h
+    cond_runs (bytes_eq word (codes "\\signal") && is_label flag) (Signals flag) (cond (bytes_eq word (codes "\\await") && is_label flag) (Awaits flag) NoMeta) run (λ e. absurd (cc))
+    (cond_runs (bytes_eq word (codes "\\await") && is_label flag) (Awaits flag) NoMeta run (λ e. absurd (cc)) (λ e. absurd (cc))) h
 meta-runs (word ∷ name ∷ digits ∷ []) run h =
-    cond_runs (bytes_eq word (codes "\\session") && is_label name && is_database digits) (Opens name (digits_value 10 digits)) Unclear run (λ e. absurd (cc)) (λ e. absurd (cc)) h
+    cond_runs (bytes_eq word (codes "\\session") && is_label name && is_database digits) (Opens name (digits_value 10 digits)) NoMeta run (λ e. absurd (cc)) (λ e. absurd (cc)) h
 meta-runs (a ∷ b ∷ c ∷ d ∷ parts) run h = absurd (cc)
 
 text-runs : (text : List ℕ) (run : Command) → text_says text ≡ Runs run → run ≡ reading text
@@ -486,7 +498,7 @@ act-line flags line (Awaits flag) act h e a = subst (λ (o : Option Act). IfSome
 act-line flags line Quits act h e a = subst (λ (o : Option Act). IfSome o IsOneLineAct) a tt
 act-line flags line Nothing act h e a = absurd (cc)
 act-line flags line (Opens name db) act h e a = absurd (cc)
-act-line flags line Unclear act h e a = absurd (cc)
+act-line flags line NoMeta act h e a = absurd (cc)
 
 script-lines : (flags : List (List ℕ)) (n : ℕ) (lines : List (List ℕ)) → All IsOneLine lines → All (λ (l : ScriptLine). IsOneLine l.text × IsOneLineAct l.act) (script_from flags n lines)
 script-lines flags n [] h = All-nil (λ (l : ScriptLine). IsOneLine l.text × IsOneLineAct l.act)
@@ -520,11 +532,11 @@ section-sound : (flags before lines : List (List ℕ)) (number n : ℕ) (name : 
     → IsSoundSection (length flags) (section number name db (script_from flags n lines))
 section-sound flags before lines number n name db some label h = record {
   flags_known = flags-below flags n lines h.named;
-  rising = rising flags 0 n lines some;
+  rising = rise-after 0 (script_from flags n lines) (rising flags 0 n lines some);
   quits_last = quits-last flags n before lines h.sound;
   counted = refl;
-  name = label-line name label;
-  texts = script-lines flags n lines h.one_line;
+  one_line_name = label-line name label;
+  one_line_texts = script-lines flags n lines h.one_line;
 }
 
 section_at-sound : (flags before lines : List (List ℕ)) (number n : ℕ) (said : Says) (rest : List Section) → 0 < n → HasLabel said → AreGiven flags before lines
@@ -536,7 +548,7 @@ section_at-sound flags before lines number n (Runs run) rest some label h k = k
 section_at-sound flags before lines number n (Signals flag) rest some label h k = k
 section_at-sound flags before lines number n (Awaits flag) rest some label h k = k
 section_at-sound flags before lines number n Quits rest some label h k = k
-section_at-sound flags before lines number n Unclear rest some label h k = k
+section_at-sound flags before lines number n NoMeta rest some label h k = k
 
 sections-sound : (flags before lines : List (List ℕ)) (number n : ℕ) → AreGiven flags before lines → All (IsSoundSection (length flags)) (sections_from flags number n lines)
 sections-sound flags before [] number n h = All-nil (IsSoundSection (length flags))
@@ -547,7 +559,7 @@ sections-sound flags before (line ∷ lines) number n h =
     (sections-sound flags (before ++ line ∷ []) lines (number + length here) (n + 1) rest)
 
 -- the scenario of sound lines with a section
-sound-scenario : (lines : List (List ℕ)) → AreSound lines → All IsOneLine lines → has_section (all_say lines) ≡ true → IsSound (scenario_of lines)
+sound-scenario : (lines : List (List ℕ)) → HaveNoFault lines → All IsOneLine lines → has_section (all_say lines) ≡ true → IsSound (scenario_of lines)
 unfolding scenario_of
 sound-scenario lines sound one_line some =
     let said : List Says = all_say lines in
@@ -563,7 +575,7 @@ sound-scenario lines sound one_line some =
       few = omega (arith, count, few_sections);
       numbered = numbered flags 1 1 lines;
       few_flags = within.flags;
-      flags = flags-lines [] lines (All-nil IsOneLine);
+      one_line_flags = flags-lines [] lines (All-nil IsOneLine);
       sections = sections-sound flags [] lines 1 1 (record { sound = sound; named = flags-named [] said; one_line = one_line });
       few_note_lines = omega (arith, notes, few_notes);
     }

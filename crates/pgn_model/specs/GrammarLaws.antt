@@ -66,7 +66,7 @@ is_done (place ∷ places) = false
 abbrev pub FollowersTell : Type 0
 FollowersTell = (lexemes : List Lexeme) → Begins lexemes ↔ (followers table_places lexemes ≢ [])
 
--- tokens are a form of the table exactly where nothing more may follow them
+-- tokens are a form of the table exactly where nothing more need follow them
 abbrev pub FollowersDone : Type 0
 FollowersDone = (lexemes : List Lexeme) → ((command : Command) × IsForm lexemes command) ↔ (list_any is_done (followers table_places lexemes) ≡ true)
 

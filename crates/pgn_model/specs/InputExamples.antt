@@ -2,17 +2,18 @@
 use Rattle.std.specs.Prelude.{ℕ, List, [], ◌∷◌, ◌++◌, flat_map, codes, decimal}
 use Rattle.std.specs.List.{range_with_len}
 use Rattle.pgn_base.specs.declared.note.Note.{Note}
+use Rattle.pgn_base.specs.declared.answers.Which.TheVariants.{ChannelEmpty}
 use Rattle.pgn_model.specs.declared.command.Command.TheVariants as command
 use Rattle.pgn_model.specs.declared.scenario.Act.TheVariants.{Run, Signal, Await, Quit}
 use Rattle.pgn_model.specs.declared.scenario.ScriptLine.{ScriptLine}
 use Rattle.pgn_model.specs.declared.scenario.Section.{Section}
 use Rattle.pgn_model.specs.declared.scenario.Scenario.{Scenario}
 
--- each meta line once, with blanks of both kinds, a blank line and a line that is no command
+-- each kind of meta line, with spaces, tabs and a carriage return, a blank line, and a line that goes wrong
 abbrev pub meta_input : List ℕ
 meta_input = codes " \\session  a-1\t007 \n\\signal up\n\n \\await\tup\r\nLISTEN 5 \n\\await up\n\\quit\n"
 
--- its scenario: the flag is one, and the numbers are those of the lines
+-- its scenario: it has one flag, and its lines keep their numbers in the input
 abbrev pub meta_scenario : Scenario
 meta_scenario = record {
   sections = record {
@@ -61,6 +62,38 @@ two_scenario = record {
 abbrev pub many_sections : ℕ → List ℕ
 many_sections n = flat_map (λ k. codes "\\session s" ++ decimal k ++ codes " 1\n") (range_with_len 1 n)
 
--- a section that signals so many different flags
-abbrev pub many_flags : ℕ → List ℕ
-many_flags n = codes "\\session a 1\n" ++ flat_map (λ k. codes "\\signal f" ++ decimal k ++ codes "\n") (range_with_len 1 n)
+-- a section with so many lines, which begin with this text and end with the numbers from 1 on
+abbrev pub many_flags : List ℕ → ℕ → List ℕ
+many_flags text n = codes "\\session a 1\n" ++ flat_map (λ k. text ++ decimal k ++ codes "\n") (range_with_len 1 n)
+
+-- the scenario of `\session a_b 1`, `\quit`, a blank line, `\session b 1`, `LISTEN c`
+abbrev pub quit_scenario : Scenario
+quit_scenario = record {
+  sections = record {
+    no = 1;
+    name = codes "a_b";
+    db = 1;
+    lines = record { line = 2; text = codes "\\quit"; act = Quit } ∷ [];
+    note_lines = 0;
+  } ∷ record {
+    no = 2;
+    name = codes "b";
+    db = 1;
+    lines = record { line = 5; text = codes "LISTEN c"; act = Run (command.Listen (codes "c")) } ∷ [];
+    note_lines = 0;
+  } ∷ [];
+  flags = [];
+}
+
+-- the scenario of a section with a name of 63 letters and a call of pg_notify that is past a limit: it is not counted
+abbrev pub limit_scenario : Scenario
+limit_scenario = record {
+  sections = record {
+    no = 1;
+    name = codes "aaaaaaaaaaaaaaaaaaaaaaaaaaaaaaaaaaaaaaaaaaaaaaaaaaaaaaaaaaaaaaa";
+    db = 1;
+    lines = record { line = 2; text = codes "SELECT pg_notify('', '')"; act = Run (command.Invalid ChannelEmpty) } ∷ [];
+    note_lines = 0;
+  } ∷ [];
+  flags = [];
+}

@@ -13,7 +13,7 @@ use Rattle.pgn_model.specs.declared.scenario.Section.{Section}
 use Rattle.pgn_model.specs.declared.scenario.Scenario.{Scenario}
 use Rattle.pgn_model.specs.declared.scenario.ScenarioFault.{ScenarioFault}
 use Rattle.pgn_model.specs.declared.scenario.ScenarioFault.TheVariants as fault
-use Rattle.pgn_model.specs.Lines.{Says, Nothing, Opens, Runs, Signals, Awaits, Quits, Unclear, says, trimmed, lines_of}
+use Rattle.pgn_model.specs.Lines.{Says, Nothing, Opens, Runs, Signals, Awaits, Quits, NoMeta, says, trimmed, lines_of}
 
 -- the largest input, in bytes
 abbrev pub input_limit : ℕ
@@ -27,11 +27,11 @@ line_limit = 65536
 abbrev pub section_limit : ℕ
 section_limit = 256
 
--- the most flags
+-- the most different flags
 abbrev pub flag_limit : ℕ
 flag_limit = 256
 
--- the most lines that notify
+-- the most lines whose command is NOTIFY or a call of pg_notify
 abbrev pub note_line_limit : ℕ
 note_line_limit = 65536
 
@@ -39,23 +39,23 @@ note_line_limit = 65536
 abbrev pub all_say : List (List ℕ) → List Says
 all_say lines = map says lines
 
--- a section begins
+-- the line begins a section
 abbrev pub is_opening : Says → Bool
 is_opening (Opens name db) = true
 is_opening said = false
 
--- a session ends
+-- the line is `\quit`
 abbrev pub is_quit : Says → Bool
 is_quit Quits = true
 is_quit said = false
 
--- the command notifies
+-- the command is NOTIFY or a call of pg_notify
 abbrev pub is_note_command : Command → Bool
 is_note_command (Notify note) = true
 is_note_command (PgNotify note) = true
 is_note_command command = false
 
--- a line that notifies
+-- the line has such a command
 abbrev pub is_note : Says → Bool
 is_note (Runs command) = is_note_command command
 is_note said = false
@@ -92,7 +92,7 @@ section_names said = filter_map opened_name said
 abbrev pub flags_of : List Says → List (List ℕ)
 flags_of said = fold with_name [] (filter_map named_flag said)
 
--- a `\quit` stands after the last line at which a section begins
+-- a `\quit` stands after the last line that begins a section or, where none does, anywhere
 abbrev pub has_quit : List Says → Bool
 has_quit said = fold (λ quit line. cond (is_opening line) false (quit || is_quit line)) false said
 
@@ -100,7 +100,7 @@ has_quit said = fold (λ quit line. cond (is_opening line) false (quit || is_qui
 
 -- a line begins as a meta line and is none; or it stands after a `\quit` of its section, and is neither blank nor begins a section
 abbrev pub is_bad_meta : List Says → Says → Bool
-is_bad_meta before Unclear = true
+is_bad_meta before NoMeta = true
 is_bad_meta before Nothing = false
 is_bad_meta before (Opens name db) = false
 is_bad_meta before said = has_quit before
@@ -121,7 +121,7 @@ abbrev pub are_too_many : List Says → Bool
 are_too_many said =
     nat_lt section_limit (length (section_names said)) || nat_lt flag_limit (length (flags_of said)) || nat_lt note_line_limit (count_by is_note said)
 
--- the fault of the line numbered n by what it says, after lines that say this
+-- the fault of the line numbered n by what it says, after lines that say what is before
 abbrev pub fault_said : ℕ → List Says → Says → Option ScenarioFault
 fault_said n before said =
     cond (is_bad_meta before said) (Some (fault.BadMeta n))
@@ -137,8 +137,8 @@ line_number before = length before + 1
 abbrev pub line_start : List (List ℕ) → ℕ
 line_start before = sum_by (λ line. length line + 1) before
 
--- the fault of a line after the lines before it; what is not UTF-8 is so from the byte at which its longest front of whole
--- characters ends
+-- the fault of a line after the lines before it; a line that is not UTF-8 is at fault at the byte after its longest front that
+-- is
 unfoldable pub fault_of : List (List ℕ) → List ℕ → Option ScenarioFault
 fault_of before line =
     cond (nat_lt line_limit (length line)) (Some (fault.LineTooLong (line_number before)))
@@ -214,9 +214,9 @@ is_unsignalled signalled said = false
 abbrev pub unsignalled : List Says → Option ℕ
 unsignalled said = position_from (is_unsignalled (filter_map signalled_flag said)) 1 said
 
--- none of these lines has a fault after those before it
-abbrev pub AreSound : List (List ℕ) → Type 0
-AreSound lines = (before : List (List ℕ)) (line : List ℕ) (rest : List (List ℕ)) → lines ≡ before ++ line ∷ rest → fault_of before line ≡ None
+-- no line has a fault after the lines before it
+abbrev pub HaveNoFault : List (List ℕ) → Type 0
+HaveNoFault lines = (before : List (List ℕ)) (line : List ℕ) (rest : List (List ℕ)) → lines ≡ before ++ line ∷ rest → fault_of before line ≡ None
 
 -- some line begins a section
 abbrev pub has_section : List Says → Bool
@@ -228,20 +228,20 @@ pub data ReadsAsScenario (input : List ℕ) : Result Scenario ScenarioFault → 
   Large : input_limit < length input → ReadsAsScenario input (Err fault.TooLarge)
   -- a line has a fault, and none before it has
   Faulty : length input ≤ input_limit → (before : List (List ℕ)) → (line : List ℕ) → (rest : List (List ℕ)) → lines_of input ≡ before ++ line ∷ rest
-      → AreSound before → (found : ScenarioFault) → fault_of before line ≡ Some found → ReadsAsScenario input (Err found)
+      → HaveNoFault before → (found : ScenarioFault) → fault_of before line ≡ Some found → ReadsAsScenario input (Err found)
   -- no line has a fault, and no section begins
-  Sectionless : length input ≤ input_limit → AreSound (lines_of input) → has_section (all_say (lines_of input)) ≡ false
+  Sectionless : length input ≤ input_limit → HaveNoFault (lines_of input) → has_section (all_say (lines_of input)) ≡ false
       → ReadsAsScenario input (Err fault.Empty)
   -- no line has a fault, and the line numbered n is the lowest that awaits a flag which no line signals
-  Unsignalled : length input ≤ input_limit → AreSound (lines_of input) → has_section (all_say (lines_of input)) ≡ true
+  Unsignalled : length input ≤ input_limit → HaveNoFault (lines_of input) → has_section (all_say (lines_of input)) ≡ true
       → (n : ℕ) → unsignalled (all_say (lines_of input)) ≡ Some n → ReadsAsScenario input (Err (fault.NeverSignalled n))
   -- none of these
-  Reads : length input ≤ input_limit → AreSound (lines_of input) → has_section (all_say (lines_of input)) ≡ true
+  Reads : length input ≤ input_limit → HaveNoFault (lines_of input) → has_section (all_say (lines_of input)) ≡ true
       → unsignalled (all_say (lines_of input)) ≡ None → ReadsAsScenario input (Ok (scenario_of (lines_of input)))
 
 -- A sound scenario.
 
--- sections are numbered one after another
+-- sections are numbered one after another, from n on
 abbrev pub AreNumbered : ℕ → List Section → Type 0
 AreNumbered n [] = Unit {0}
 AreNumbered n (section ∷ sections) = (section.no ≡ n) × AreNumbered (n + 1) sections
@@ -252,12 +252,17 @@ HasFlagBelow flags (Signal flag) = flag < flags
 HasFlagBelow flags (Await flag) = flag < flags
 HasFlagBelow flags act = Unit {0}
 
--- the numbers of script lines rise, from one past n on
-abbrev pub Rise : ℕ → List ScriptLine → Type 0
-Rise n [] = Unit {0}
-Rise n (line ∷ lines) = (n < line.line) × Rise line.line lines
+-- the number is below that of the first of these script lines, if there is one
+abbrev pub IsBelowFirst : ℕ → List ScriptLine → Type 0
+IsBelowFirst n [] = Unit {0}
+IsBelowFirst n (line ∷ lines) = n < line.line
 
--- a session quits at its last line alone
+-- the numbers of script lines rise
+abbrev pub Rise : List ScriptLine → Type 0
+Rise [] = Unit {0}
+Rise (line ∷ lines) = IsBelowFirst line.line lines × Rise lines
+
+-- a `\quit` stands only as the last of these lines
 abbrev pub QuitsLast : List ScriptLine → Type 0
 QuitsLast [] = Unit {0}
 QuitsLast (line ∷ lines) = (line.act ≡ Quit → lines ≡ []) × QuitsLast lines
@@ -282,21 +287,34 @@ abbrev pub IsOneLineAct : Act → Type 0
 IsOneLineAct (Run command) = IsOneLineCommand command
 IsOneLineAct act = Unit {0}
 
--- a section's script is sound, with so many flags
-pub record IsSoundSection (flags : ℕ) (of : Section) : Type 0 where
-  pub flags_known : All (λ line. HasFlagBelow flags line.act) of.lines
-  pub rising : Rise 0 of.lines
-  pub quits_last : QuitsLast of.lines
-  pub counted : of.note_lines ≡ note_lines_of of.lines
-  pub name : IsOneLine of.name
-  pub texts : All (λ line. IsOneLine line.text × IsOneLineAct line.act) of.lines
+-- what holds of each section of a scenario with so many flags
+pub record IsSoundSection (flags : ℕ) (part : Section) : Type 0 where
+  -- each flag that it names is one of them
+  pub flags_known : All (λ line. HasFlagBelow flags line.act) part.lines
+  -- its lines are in the order of the input
+  pub rising : Rise part.lines
+  -- nothing follows a `\quit`
+  pub quits_last : QuitsLast part.lines
+  -- the lines that notify are counted
+  pub counted : part.note_lines ≡ note_lines_of part.lines
+  -- no LF stands in its name
+  pub one_line_name : IsOneLine part.name
+  -- no LF stands in a line, nor in what its command names
+  pub one_line_texts : All (λ line. IsOneLine line.text × IsOneLineAct line.act) part.lines
 
--- a scenario is sound
+-- what holds of each scenario that an input reads as
 pub record IsSound (scenario : Scenario) : Type 0 where
+  -- there is a section
   pub some : 0 < length scenario.sections
+  -- and no more than there may be
   pub few : length scenario.sections ≤ section_limit
+  -- numbered from 1
   pub numbered : AreNumbered 1 scenario.sections
+  -- no more flags than there may be
   pub few_flags : length scenario.flags ≤ flag_limit
-  pub flags : All IsOneLine scenario.flags
+  -- no LF stands in their names
+  pub one_line_flags : All IsOneLine scenario.flags
+  -- each section is sound
   pub sections : All (IsSoundSection (length scenario.flags)) scenario.sections
+  -- no more lines that notify than there may be
   pub few_note_lines : sum_by (λ section. section.note_lines) scenario.sections ≤ note_line_limit

@@ -66,23 +66,23 @@ pub data Says : Type 0 where
   -- `\quit`
   Quits : Says
   -- it begins as a meta line and is none
-  Unclear : Says
+  NoMeta : Says
 
--- what the parts of a meta line say
+-- what a text that begins with `\` says, by its parts
 abbrev pub meta_says : List (List ℕ) → Says
-meta_says (word ∷ []) = cond (bytes_eq word (codes "\\quit")) Quits Unclear
+meta_says (word ∷ []) = cond (bytes_eq word (codes "\\quit")) Quits NoMeta
 meta_says (word ∷ flag ∷ []) =
     cond (bytes_eq word (codes "\\signal") && is_label flag) (Signals flag)
-    (cond (bytes_eq word (codes "\\await") && is_label flag) (Awaits flag) Unclear)
-meta_says (word ∷ name ∷ digits ∷ []) = cond (bytes_eq word (codes "\\session") && is_label name && is_database digits) (Opens name (digits_value 10 digits)) Unclear
-meta_says parts = Unclear
+    (cond (bytes_eq word (codes "\\await") && is_label flag) (Awaits flag) NoMeta)
+meta_says (word ∷ name ∷ digits ∷ []) = cond (bytes_eq word (codes "\\session") && is_label name && is_database digits) (Opens name (digits_value 10 digits)) NoMeta
+meta_says parts = NoMeta
 
--- what a command says
+-- what a line that reads as this command says: nothing where it is Empty
 abbrev pub command_says : Command → Says
 command_says Empty = Nothing
 command_says command = Runs command
 
--- the text is that of a meta line: it begins with `\`
+-- the text begins with `\`, as each meta line does
 abbrev pub begins_meta : List ℕ → Bool
 begins_meta [] = false
 begins_meta (byte ∷ bytes) = byte == 92

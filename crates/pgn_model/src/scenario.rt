@@ -11,7 +11,7 @@ pub enum Act {
     Quit,
 }
 
-/// A line of a script: its number in the input, from 1, its text and its act.
+/// A line of a script: its number in the input, from 1, its text without the blanks at both ends, and its act.
 #[derive(Debug, Drop)]
 pub struct ScriptLine {
     pub line: u32,
@@ -21,7 +21,8 @@ pub struct ScriptLine {
 
 pub type ScriptLines = Seq<ScriptLine>;
 
-/// One session's script. `note_lines` is how many of its lines are NOTIFY or pg_notify.
+/// One session's script. `note_lines` is how many of its lines have the command Notify or PgNotify; one that is Invalid or Bad
+/// does not count.
 #[derive(Debug, Drop)]
 pub struct Section {
     pub no: SessionNo,
@@ -43,15 +44,25 @@ pub struct Scenario {
 /// Why an input is no scenario. `line` counts from 1, and `at` counts bytes of the input from 0.
 #[derive(Clone, Copy, Debug, PartialEq, Eq)]
 pub enum ScenarioFault {
+    /// It has more than 16,777,216 bytes.
     TooLarge,
+    /// A line has more than 65,536 bytes.
     LineTooLong { line: u32 },
+    /// A line is not UTF-8, from this byte on.
     NotUtf8 { at: u32 },
+    /// A line has a zero byte.
     NulByte { line: u32 },
+    /// A line begins with `\` and is no meta line, or stands after the `\quit` of its section.
     BadMeta { line: u32 },
+    /// A line stands before the first section.
     NoSession { line: u32 },
+    /// A section has the name of an earlier one.
     SameName { line: u32 },
+    /// There are more than 256 sections, 256 flags or 65,536 lines that notify.
     TooMany { line: u32 },
+    /// There is no section.
     Empty,
+    /// A flag is awaited that no line signals.
     NeverSignalled { line: u32 },
 }
 

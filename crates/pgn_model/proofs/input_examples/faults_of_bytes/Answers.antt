@@ -23,3 +23,15 @@ returns-clause-zero_byte c = input-reads (codes "\\session a 1\nLISTEN c" ++ 0 �
 pub returns-clause-zero_byte_in_meta : goal.returns-clause-zero_byte_in_meta
 unfolding table cut says fault_of scenario_of is_utf8 chars encode utf8_valid_len
 returns-clause-zero_byte_in_meta c = input-reads (codes "\\x" ++ 0 ∷ [])
+
+pub returns-clause-after_character : goal.returns-clause-after_character
+unfolding table cut says fault_of scenario_of is_utf8 chars encode utf8_valid_len
+returns-clause-after_character c = input-reads (codes "--" ++ 195 ∷ 169 ∷ 255 ∷ [])
+
+pub returns-clause-zero_byte_before : goal.returns-clause-zero_byte_before
+unfolding table cut says fault_of scenario_of is_utf8 chars encode utf8_valid_len
+returns-clause-zero_byte_before c = input-reads (0 ∷ 255 ∷ [])
+
+pub returns-clause-blank_line : goal.returns-clause-blank_line
+unfolding table cut says fault_of scenario_of is_utf8 chars encode utf8_valid_len
+returns-clause-blank_line c = input-reads (10 ∷ 32 ∷ 0 ∷ [])

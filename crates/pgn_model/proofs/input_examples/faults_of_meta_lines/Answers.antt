@@ -63,3 +63,19 @@ returns-clause-command_after_quit c = input-reads (codes "\\session a 1\n\\quit\
 pub returns-clause-quit_after_quit : goal.returns-clause-quit_after_quit
 unfolding table cut says fault_of scenario_of is_utf8 chars encode utf8_valid_len
 returns-clause-quit_after_quit c = input-reads (codes "\\session a 1\n\\quit\n\\quit")
+
+pub returns-clause-carriage_return : goal.returns-clause-carriage_return
+unfolding table cut says fault_of scenario_of is_utf8 chars encode utf8_valid_len
+returns-clause-carriage_return c = input-reads (codes "\\session a\r1")
+
+pub returns-clause-upper_case_quit : goal.returns-clause-upper_case_quit
+unfolding table cut says fault_of scenario_of is_utf8 chars encode utf8_valid_len
+returns-clause-upper_case_quit c = input-reads (codes "\\session a 1\n\\QUIT")
+
+pub returns-clause-odd_flag : goal.returns-clause-odd_flag
+unfolding table cut says fault_of scenario_of is_utf8 chars encode utf8_valid_len
+returns-clause-odd_flag c = input-reads (codes "\\session a 1\n\\signal a.b")
+
+pub returns-clause-long_flag : goal.returns-clause-long_flag
+unfolding table cut says fault_of scenario_of is_utf8 chars encode utf8_valid_len
+returns-clause-long_flag c = input-reads (codes "\\session a 1\n\\await aaaaaaaaaaaaaaaaaaaaaaaaaaaaaaaaaaaaaaaaaaaaaaaaaaaaaaaaaaaaaaaa")

@@ -43,3 +43,7 @@ returns-clause-lowest_await c = input-reads (codes "\\session a 1\n\\signal g\n\
 pub returns-clause-lowest_line : goal.returns-clause-lowest_line
 unfolding table cut says fault_of scenario_of is_utf8 chars encode utf8_valid_len
 returns-clause-lowest_line c = input-reads (codes "\\session a 1\n\\await f\n\\session a 1\n\\x")
+
+pub returns-clause-other_case_flag : goal.returns-clause-other_case_flag
+unfolding table cut says fault_of scenario_of is_utf8 chars encode utf8_valid_len
+returns-clause-other_case_flag c = input-reads (codes "\\session a 1\n\\await f\n\\signal F")

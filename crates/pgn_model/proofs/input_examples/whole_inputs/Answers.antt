@@ -13,9 +13,9 @@ pub returns-clause-self_notify : goal.returns-clause-self_notify
 unfolding table cut says fault_of scenario_of is_utf8 chars encode utf8_valid_len
 returns-clause-self_notify c = input-reads (codes "\\session a 1\nLISTEN c\nNOTIFY c, 'x'\n")
 
-pub returns-clause-no_last_feed : goal.returns-clause-no_last_feed
+pub returns-clause-no_last_line_feed : goal.returns-clause-no_last_line_feed
 unfolding table cut says fault_of scenario_of is_utf8 chars encode utf8_valid_len
-returns-clause-no_last_feed c = input-reads (codes "\\session a 1\nLISTEN c\nNOTIFY c, 'x'")
+returns-clause-no_last_line_feed c = input-reads (codes "\\session a 1\nLISTEN c\nNOTIFY c, 'x'")
 
 pub returns-clause-no_line : goal.returns-clause-no_line
 unfolding table cut says fault_of scenario_of is_utf8 chars encode utf8_valid_len
@@ -32,3 +32,11 @@ returns-clause-meta_lines c = input-reads meta_input
 pub returns-clause-sections : goal.returns-clause-sections
 unfolding table cut says fault_of scenario_of is_utf8 chars encode utf8_valid_len
 returns-clause-sections c = input-reads two_sections
+
+pub returns-clause-section_after_quit : goal.returns-clause-section_after_quit
+unfolding table cut says fault_of scenario_of is_utf8 chars encode utf8_valid_len
+returns-clause-section_after_quit c = input-reads (codes "\\session a_b 1\n\\quit\n\n\\session b 1\nLISTEN c")
+
+pub returns-clause-past_a_limit : goal.returns-clause-past_a_limit
+unfolding table cut says fault_of scenario_of is_utf8 chars encode utf8_valid_len
+returns-clause-past_a_limit c = input-reads (codes "\\session aaaaaaaaaaaaaaaaaaaaaaaaaaaaaaaaaaaaaaaaaaaaaaaaaaaaaaaaaaaaaaa 1\nSELECT pg_notify('', '')")
