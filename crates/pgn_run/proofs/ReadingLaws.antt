@@ -8,7 +8,7 @@ use Rattle.pgn_model.specs.declared.scenario.Act.TheVariants.{Run, Signal, Await
 use Rattle.pgn_model.specs.declared.scenario.ScriptLine.{ScriptLine}
 use Rattle.pgn_model.specs.declared.scenario.Section.{Section}
 use Rattle.pgn_model.specs.declared.scenario.Scenario.{Scenario}
-use Rattle.pgn_run.specs.Reading.{RunsLine, ReadAsLines, ReadAsSection, ReadsAsScenario, IsCommandLine, BreaksFrom, LinesBreakAt, BreaksAt, IsServedAct, IsServed}
+use Rattle.pgn_run.specs.Reading.{RunsLine, ReadAsLines, ReadAsSection, ReadsAsPlainScenario, IsCommandLine, BreaksFrom, LinesBreakAt, BreaksAt, IsServedAct, IsServed}
 use Rattle.pgn_model.specs.Lines.{lines_of}
 use Rattle.pgn_run.proofs.LinesLaws.{lines_few}
 
@@ -36,7 +36,7 @@ section-not-breaks (head ∷ lines) section at h b =
     ]
 
 -- an input that reads as a scenario breaks at no line
-pub reads-not-breaks : (input : List ℕ) (scenario : Scenario) (at : ℕ) → ReadsAsScenario input scenario → BreaksAt input at → ⊥
+pub reads-not-breaks : (input : List ℕ) (scenario : Scenario) (at : ℕ) → ReadsAsPlainScenario input scenario → BreaksAt input at → ⊥
 reads-not-breaks input scenario at h b =
     let within = h.within in
     elim b [
@@ -106,7 +106,7 @@ section_served (head ∷ lines) section h =
     (h.0, served.0, omega arith)
 
 -- what an input reads as is served
-pub reads_served : (input : List ℕ) (scenario : Scenario) → ReadsAsScenario input scenario → IsServed scenario
+pub reads_served : (input : List ℕ) (scenario : Scenario) → ReadsAsPlainScenario input scenario → IsServed scenario
 reads_served input scenario h =
     let served = section_served (lines_of input) h.section h.lines in
     let few = served.2 in

@@ -6,7 +6,7 @@ use Rattle.pgn_base.specs.Outside.{AppendsFront, Rose}
 use Rattle.pgn_model.specs.declared.scenario.Scenario.{Scenario}
 use Rattle.pgn_run.specs.declared.status.Status.{Status}
 use Rattle.pgn_run.specs.declared.status.Status.TheVariants.{Done, BadWords, BadScenario, ReadFault, WriteFault, NoMemory, NotBuilt}
-use Rattle.pgn_run.specs.Reading.{LinesBreakAt, ReadsAsScenario, BreaksAt}
+use Rattle.pgn_run.specs.Reading.{LinesBreakAt, ReadsAsPlainScenario, BreaksAt}
 use Rattle.pgn_model.specs.Inputs.{input_limit}
 use Rattle.pgn_model.specs.Lines.{lines_of}
 use Rattle.pgn_run.specs.Run.{Runs, Answers, run_words}
@@ -32,8 +32,8 @@ within-is-whole xs input e h =
     e ∙ whole 16777216 xs short
 
 -- an input has the reading of what was read of it
-reads-whole : (xs input : List ℕ) (scenario : Scenario) → input ≡ take 16777217 xs → ReadsAsScenario input scenario → ReadsAsScenario xs scenario
-reads-whole xs input scenario e h = subst (λ (bytes : List ℕ). ReadsAsScenario bytes scenario) (within-is-whole xs input e h.within) h
+reads-whole : (xs input : List ℕ) (scenario : Scenario) → input ≡ take 16777217 xs → ReadsAsPlainScenario input scenario → ReadsAsPlainScenario xs scenario
+reads-whole xs input scenario e h = subst (λ (bytes : List ℕ). ReadsAsPlainScenario bytes scenario) (within-is-whole xs input e h.within) h
 
 -- an input breaks where what was read of it does
 breaks-whole : (xs input : List ℕ) (line : ℕ) → input ≡ take 16777217 xs → BreaksAt input line → BreaksAt xs line
@@ -91,7 +91,7 @@ module _ (left : Option (List ℕ)) (input : List ℕ) (old new : Option (List �
 -- what comes of an input that reads as a scenario, where no write failed
 pub reads-done : (left : Option (List ℕ)) (input : List ℕ) (old new : Option (List ℕ)) (before now : ℕ) (status : Status) (scenario : Scenario)
     → IfSome left (λ xs. input ≡ take 16777217 xs) → Answers input old new before now status
-    → IsSomeAnd left (λ xs. ReadsAsScenario xs scenario) → ¬ Rose before now → (status ≡ Done) ⊎ (status ≡ NoMemory)
+    → IsSomeAnd left (λ xs. ReadsAsPlainScenario xs scenario) → ¬ Rose before now → (status ≡ Done) ⊎ (status ≡ NoMemory)
 reads-done None input old new before now status scenario bytes answers reads rose = absurd reads
 reads-done (Some xs) input old new before now Done scenario bytes answers reads rose = inl refl
 reads-done (Some xs) input old new before now BadWords scenario bytes answers reads rose = absurd answers

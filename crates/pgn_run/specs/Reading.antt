@@ -123,7 +123,7 @@ abbrev pub one_section : Section → Scenario
 one_section section = record { sections = section ∷ []; flags = [] }
 
 -- an input reads as a scenario
-pub record ReadsAsScenario (input : List ℕ) (scenario : Scenario) : Type 0 where
+pub record ReadsAsPlainScenario (input : List ℕ) (scenario : Scenario) : Type 0 where
   pub section : Section
   pub within : length input ≤ input_limit
   pub lines : ReadAsSection (lines_of input) section

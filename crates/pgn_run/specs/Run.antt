@@ -10,7 +10,7 @@ use Rattle.pgn_model.specs.Legal.{Legal}
 use Rattle.pgn_model.specs.Text.{text}
 use Rattle.pgn_run.specs.declared.status.Status.{Status}
 use Rattle.pgn_run.specs.declared.status.Status.TheVariants.{Done, BadWords, BadScenario, ReadFault, WriteFault, NoMemory, NotBuilt}
-use Rattle.pgn_run.specs.Reading.{ReadsAsScenario, BreaksAt}
+use Rattle.pgn_run.specs.Reading.{ReadsAsPlainScenario, BreaksAt}
 
 -- the exit status of each outcome
 abbrev pub code_of : Status → ℕ
@@ -31,7 +31,7 @@ pub record Runs (input : List ℕ) (P : List ℕ → Type 0) : Type 0 where
   pub scenario : Scenario
   pub journal : List Tx
   pub traces : List Trace
-  pub reads : ReadsAsScenario input scenario
+  pub reads : ReadsAsPlainScenario input scenario
   pub legal : Legal scenario default_settings journal traces
   pub output : P (text scenario journal traces)
 

@@ -1,5 +1,5 @@
 ghost use Rattle.std.specs.Prelude.{◌≡◌, ◌+◌, ◌<◌, ◌≤◌, ◌∷◌, length, count_by, IfOk, IfErr, IfSome, IfNone};
-ghost use Rattle.pgn_run.specs.Reading.{ReadsAsScenario, BreaksAt, IsServed, ReadAsSection, LinesBreakAt, ReadAsLines, BreaksFrom, ReadsAsLine, IsCommandLine, is_note_line};
+ghost use Rattle.pgn_run.specs.Reading.{ReadsAsPlainScenario, BreaksAt, IsServed, ReadAsSection, LinesBreakAt, ReadAsLines, BreaksFrom, ReadsAsLine, IsCommandLine, is_note_line};
 ghost use Rattle.pgn_model.specs.Lines.{lines_of};
 ghost use Rattle.pgn_model.specs.Inputs.{input_limit};
 
@@ -21,7 +21,7 @@ const INPUT_LIMIT: usize = 16_777_216;
 
 /// The scenario that an input reads as, or the lowest line that breaks its reading: 0 for an input past the limit.
 pub fn read(alloc: Global, input: &[u8]) -> Result<Result<Scenario, u32>, AllocError>
-    ensures reads { IfOk result (λ reading. IfOk reading (ReadsAsScenario input.now)) }
+    ensures reads { IfOk result (λ reading. IfOk reading (ReadsAsPlainScenario input.now)) }
     ensures served { IfOk result (λ reading. IfOk reading IsServed) }
     ensures breaks { IfOk result (λ reading. IfErr reading (BreaksAt input.now)) }
 {

@@ -3,7 +3,7 @@ ghost use Rattle.std.specs.Io.KnownBytes.{Appends, Consumes, IsAtEnd};
 ghost use Rattle.pgn_base.specs.Outside.{AppendsFront, Rose};
 ghost use Rattle.pgn_model.specs.declared.scenario.Scenario.{Scenario};
 ghost use Rattle.pgn_model.specs.declared.scenario.ScenarioFault.{ScenarioFault};
-ghost use Rattle.pgn_run.specs.Reading.{ReadsAsScenario, BreaksAt};
+ghost use Rattle.pgn_run.specs.Reading.{ReadsAsPlainScenario, BreaksAt};
 ghost use Rattle.pgn_run.specs.Run.{Runs, Answers, HasRead, run_words};
 
 use crate::Status;
@@ -58,7 +58,7 @@ pub fn run_notify<S: Source, K: Sink>(
         Consumes (S.left source.old) (S.left source.new) (take 16777217 left)) }
 
     ensures complete { (scenario : Scenario) → map (λ word. word.now) words.now ≡ run_words
-        → IsSomeAnd (S.left source.old) (λ input. ReadsAsScenario input scenario)
+        → IsSomeAnd (S.left source.old) (λ input. ReadsAsPlainScenario input scenario)
         → ¬ Rose (S.faults source.old) (S.faults source.new)
         → ¬ Rose (K.faults sink.old) (K.faults sink.new)
         → (result ≡ Status.Done) ⊎ (result ≡ Status.NoMemory) }
