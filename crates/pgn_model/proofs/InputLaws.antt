@@ -1,5 +1,5 @@
 -- An input has one reading.
-use Rattle.std.proofs.Common.{◌≡◌, ◌↔◌, ℕ, ◌+◌, ◌<◌, ◌≤◌, ◌⊎◌, zero, suc, Bool, true, false, cond, inl, inr, List, [], ◌∷◌, ◌++◌, length, Option, None, Some, Result, Ok, Err, sym, ap, ◌∙◌, refl, subst, arith, append_assoc}
+use Rattle.std.proofs.Common.{◌≡◌, ◌↔◌, ℕ, ◌+◌, ◌<◌, ◌≤◌, ◌⊎◌, zero, suc, Bool, true, false, cond, inl, inr, List, [], ◌∷◌, ◌++◌, length, Option, None, Some, Result, Err, sym, ap, ◌∙◌, refl, subst, arith, append_assoc}
 use Rattle.std.specs.Prelude.{nat_lt, count_by, fold, filter_map, replicate, ◌||◌, ◌==◌, not}
 use Rattle.std.specs.List.{list_all, list_any}
 use Rattle.std.specs.Str.{is_utf8}
@@ -9,7 +9,7 @@ use Rattle.std.proofs.lemmas.List.Elements.{filter_map-append, All-replicate}
 use Rattle.std.proofs.lemmas.Str.{is_utf8-from_IsUtf8, IsUtf8-from_ascii}
 use Rattle.std.proofs.lemmas.Str.Ascii.{IsAscii-from_all}
 use Rattle.pgn_model.proofs.LineLaws.{lines_last, trimmed-blank}
-use Rattle.std.proofs.lemmas.Bool.{cases_Bool, cases_lt, lt-ltb, le-ltb, both_ways}
+use Rattle.std.proofs.lemmas.Bool.{cases_Bool, cases_lt, lt-ltb, le-ltb}
 use Rattle.std.proofs.lemmas.List.{append-nil}
 use Rattle.std.proofs.lemmas.List.Sums.{sum_by_push}
 use Rattle.pgn_model.specs.declared.scenario.Scenario.{Scenario}
@@ -20,7 +20,7 @@ use Rattle.pgn_model.specs.declared.command.Command.TheVariants as command
 use Rattle.pgn_model.specs.Tokens.{is_blank}
 use Rattle.pgn_model.specs.Grammar.{table}
 use Rattle.pgn_model.specs.Lines.{Says, Nothing, Runs, says, text_says, lines_of}
-use Rattle.pgn_model.specs.Inputs.{input_limit, line_limit, section_limit, flag_limit, note_line_limit, all_say, section_names, flags_of, is_note, has_quit, opened_name, named_flag, with_name, is_bad_meta, lacks_session, repeats_name, line_number, line_start, are_too_many, fault_said, fault_of, has_section, unsignalled, scenario_of, HaveNoFault, ReadsAsScenario, Large, Faulty, Sectionless, Unsignalled, Reads}
+use Rattle.pgn_model.specs.Inputs.{input_limit, line_limit, section_limit, flag_limit, note_line_limit, all_say, section_names, flags_of, is_note, has_quit, opened_name, named_flag, with_name, is_bad_meta, lacks_session, repeats_name, line_number, line_start, are_too_many, fault_said, fault_of, has_section, unsignalled, HaveNoFault, ReadsAsScenario, Large, Faulty, Sectionless, Unsignalled, Reads}
 use Rattle.pgn_model.specs.InputLaws.{lacks, first_fault, whole_reading, lines_reading, input_reading}
 
 -- none of these lines has a fault after those before it and the first ones
@@ -80,7 +80,7 @@ first-faulty before [] found h = absurd (cc)
 first-faulty before (line ∷ lines) found h = elim (one_of (fault_of before line)) [
   | inl e ↦
       let next : FirstFaulty (before ++ line ∷ []) lines found = first-faulty (before ++ line ∷ []) lines found
-          (subst (λ (o : Option ScenarioFault). elim o as (λ _. Option ScenarioFault) [ None ↦ first_fault (before ++ line ∷ []) lines | Some other ↦ Some other ] ≡ Some found) e h) in
+      (subst (λ (o : Option ScenarioFault). elim o as (λ _. Option ScenarioFault) [ None ↦ first_fault (before ++ line ∷ []) lines | Some other ↦ Some other ] ≡ Some found) e h) in
       record {
         front = line ∷ next.front;
         line = next.line;
@@ -108,7 +108,7 @@ faulty-first before [] line rest found h e =
     rw (here, first_fault) refl
 faulty-first before (x ∷ front) line rest found h e =
     rw (sound-first before x front h, first_fault)
-        (faulty-first (before ++ x ∷ []) front line rest found (sound-rest before x front h) (ap (λ (b : List (List ℕ)). fault_of b line) (append_assoc before (x ∷ []) front) ∙ e))
+    (faulty-first (before ++ x ∷ []) front line rest found (sound-rest before x front h) (ap (λ (b : List (List ℕ)). fault_of b line) (append_assoc before (x ∷ []) front) ∙ e))
 
 -- what is computed is read
 reads-whole : (input : List ℕ) → length input ≤ input_limit → HaveNoFault (lines_of input) → ReadsAsScenario input (whole_reading (lines_of input))
@@ -184,7 +184,7 @@ one-note_line_more n before note q s c =
     let said : List Says = before ++ Runs (command.Notify note) ∷ [] in
     let more : count_by is_note said ≡ count_by is_note before + 1 = sum_by_push (λ s. cond (is_note s) 1 0) before (Runs (command.Notify note)) in
     let many : are_too_many said ≡ true = last_passes (nat_lt section_limit (length (section_names said))) (nat_lt flag_limit (length (flags_of said))) (nat_lt note_line_limit (count_by is_note said))
-        (lt-ltb note_line_limit (count_by is_note said) (omega (arith, more, c))) in
+    (lt-ltb note_line_limit (count_by is_note said) (omega (arith, more, c))) in
     no_fault_before n (has_quit before) (has_section before) (are_too_many said) q s many
 
 -- a line that notifies after fewer than there may be
@@ -217,8 +217,8 @@ one-note_line_within n before note q s few c =
     let old : (nat_lt section_limit (length (section_names before)) ≡ false) × (nat_lt flag_limit (length (flags_of before)) ≡ false)
     = none_of (nat_lt section_limit (length (section_names before))) (nat_lt flag_limit (length (flags_of before))) (nat_lt note_line_limit (count_by is_note before)) few in
     let many : are_too_many said ≡ false = three_fail (nat_lt section_limit (length (section_names said))) (nat_lt flag_limit (length (flags_of said))) (nat_lt note_line_limit (count_by is_note said))
-        (ap (λ (l : List (List ℕ)). nat_lt section_limit (length l)) names ∙ old.0) (ap (λ (l : List (List ℕ)). nat_lt flag_limit (length l)) flags ∙ old.1)
-        (le-ltb note_line_limit (count_by is_note said) (omega (arith, more, c))) in
+    (ap (λ (l : List (List ℕ)). nat_lt section_limit (length l)) names ∙ old.0) (ap (λ (l : List (List ℕ)). nat_lt flag_limit (length l)) flags ∙ old.1)
+    (le-ltb note_line_limit (count_by is_note said) (omega (arith, more, c))) in
     no_fault n (has_quit before) (has_section before) (are_too_many said) q s many
 
 -- a line is never too large

@@ -1,5 +1,5 @@
 -- What the table of commands keeps of the texts of tokens.
-use Rattle.std.proofs.Common.{◌≡◌, ℕ, zero, suc, ◌+◌, Bool, true, ◌&&◌, ◌==◌, ◌⊎◌, inl, inr, List, [], ◌∷◌, ◌++◌, map, length, take, drop, flat_map, refl, subst, codes}
+use Rattle.std.proofs.Common.{◌≡◌, ℕ, zero, suc, true, ◌⊎◌, inl, inr, List, [], ◌∷◌, ◌++◌, map, length, take, drop, flat_map, refl, subst, codes}
 use Rattle.std.specs.Str.{byte}
 use Rattle.std.specs.List.{repeat}
 use Rattle.std.proofs.lemmas.Bool.{false≢true, and_parts}
@@ -7,7 +7,7 @@ use Rattle.pgn_base.specs.declared.note.Note.{Note}
 use Rattle.pgn_model.specs.declared.command.Command.{Command}
 use Rattle.pgn_model.specs.declared.command.Command.TheVariants as command
 use Rattle.pgn_model.specs.Tokens.{Lexeme, Wrong, tokens}
-use Rattle.pgn_model.specs.Grammar.{Place, Key, Name, Quote, Mark, fits, all_fit, name_of, text_of, value_of, token_at, Way, silent, key, either, sign, optional, work, name, literal, null, repeated, argument, followed, sequence, Form, row, first, note, table, IsOneOf, lexemes_of, limited, ReadsAs, Whole, Stops, Lacks}
+use Rattle.pgn_model.specs.Grammar.{Place, Key, Name, Quote, Mark, fits, all_fit, name_of, text_of, value_of, token_at, Way, silent, key, either, sign, optional, work, name, literal, argument, followed, sequence, Form, row, first, note, table, IsOneOf, lexemes_of, limited, ReadsAs, Whole, Stops, Lacks}
 
 -- what a way gives: a name or a text
 pub data Sort : Type 0 where
@@ -286,9 +286,9 @@ pub table-valid : (r : Rule) → Keeps r → AllValid r table
 unfolding table
 table-valid r h =
     let to_3 = valid-append r _ _ (valid-append r _ _ (plain-valid r [] command.Empty (h.plain command.Empty tt)) (plain-valid r (key (codes "begin") ∷ work ∷ []) command.Begin (h.plain command.Begin tt)))
-        (plain-valid r (key (codes "start") ∷ key (codes "transaction") ∷ []) command.Start (h.plain command.Start tt)) in
+    (plain-valid r (key (codes "start") ∷ key (codes "transaction") ∷ []) command.Start (h.plain command.Start tt)) in
     let to_5 = valid-append r _ _ (valid-append r _ _ to_3 (plain-valid r (either (codes "commit") (codes "end") ∷ work ∷ []) command.Commit (h.plain command.Commit tt)))
-        (plain-valid r (either (codes "rollback") (codes "abort") ∷ work ∷ []) command.Rollback (h.plain command.Rollback tt)) in
+    (plain-valid r (either (codes "rollback") (codes "abort") ∷ work ∷ []) command.Rollback (h.plain command.Rollback tt)) in
     let to_8 = valid-append r _ _ (valid-append r _ _ (valid-append r _ _ to_5 (savepoint-valid r h)) (rollback_to-valid r h)) (release-valid r h) in
     let to_11 = valid-append r _ _ (valid-append r _ _ (valid-append r _ _ to_8 (listen-valid r h)) (unlisten-valid r h)) (plain-valid r (key (codes "unlisten") ∷ sign (byte "*") ∷ []) command.UnlistenAll (h.plain command.UnlistenAll tt)) in
     let to_14 = valid-append r _ _ (valid-append r _ _ (valid-append r _ _ to_11 (notify-valid r h)) (notify_with-valid r h)) (pg_notify-valid r h) in

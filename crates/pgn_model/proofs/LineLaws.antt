@@ -1,8 +1,8 @@
 -- Laws of lines, of their texts and of the parts of meta lines.
-use Rattle.std.proofs.Common.{◌≡◌, ◌↔◌, ℕ, suc, ◌+◌, ◌<◌, Bool, true, false, cond, not, ◌&&◌, ◌||◌, ◌==◌, inl, inr, List, [], ◌∷◌, ◌++◌, length, take, drop, reverse, filter, bytes_eq, codes, Option, None, Some, sym, ap, ◌∙◌, refl, subst, arith, append_assoc}
+use Rattle.std.proofs.Common.{◌≡◌, ◌↔◌, ℕ, suc, ◌+◌, ◌<◌, Bool, true, false, cond, not, ◌&&◌, ◌||◌, ◌==◌, inl, inr, List, [], ◌∷◌, ◌++◌, length, take, drop, reverse, filter, bytes_eq, codes, sym, ap, ◌∙◌, refl, subst, arith, append_assoc}
 use Rattle.std.specs.List.{list_all, list_any, prefix_len, onto_first, slice_split}
 use Rattle.std.specs.Str.Parse.{digits_value}
-use Rattle.std.proofs.lemmas.Bool.{and_parts, and_from, or_cases, not-true, cond-false, cases_Bool, false≢true, eqb-true}
+use Rattle.std.proofs.lemmas.Bool.{and_parts, and_from, cond-false, cases_Bool, false≢true, eqb-true}
 use Rattle.std.proofs.lemmas.List.{take-append-drop, reverse-append, reverse-reverse, append-nil}
 use Rattle.std.proofs.lemmas.List.Folds.{list_all-append}
 use Rattle.pgn_model.specs.declared.command.Command.{Command}
@@ -10,7 +10,7 @@ use Rattle.pgn_model.specs.declared.command.Command.TheVariants as command
 use Rattle.pgn_model.specs.Tokens.{Wrong, Token, is_blank, tokens}
 use Rattle.pgn_model.specs.Grammar.{table, ReadsAs, lexemes_of}
 use Rattle.pgn_model.specs.GrammarLaws.{reading, reading_of, command_of}
-use Rattle.pgn_model.specs.Lines.{Says, Nothing, Opens, Runs, Signals, Awaits, Quits, NoMeta, says, text_says, command_says, meta_says, begins_meta, trimmed, trimmed_start, trimmed_end, is_gap, is_empty, is_label, is_database, parts_of, lines_of}
+use Rattle.pgn_model.specs.Lines.{Says, Nothing, Opens, Signals, Awaits, Quits, NoMeta, says, text_says, command_says, meta_says, trimmed, trimmed_start, trimmed_end, is_gap, is_empty, is_label, is_database, parts_of, lines_of}
 use Rattle.pgn_model.specs.InputLaws.{lacks, LinesAreCut, IsTextOf, PartsAreCut}
 use Rattle.pgn_model.proofs.GrammarLaws.{reading-computes}
 
@@ -108,7 +108,7 @@ trimmed-is before (x ∷ text) after h k f l =
     let turned : reverse ((x ∷ text) ++ after) ≡ reverse after ++ reverse (x ∷ text) = reverse-append (x ∷ text) after in
     let end : trimmed_start (reverse after ++ reverse (x ∷ text)) ≡ reverse (x ∷ text)
     = drops is_blank (reverse after) (reverse (x ∷ text)) (reversed_passes is_blank after k)
-        (λ y ys e. l y (reverse ys) (sym (reverse-reverse (x ∷ text)) ∙ ap reverse e ∙ reverse-append (y ∷ []) ys)) in
+    (λ y ys e. l y (reverse ys) (sym (reverse-reverse (x ∷ text)) ∙ ap reverse e ∙ reverse-append (y ∷ []) ys)) in
     sym (ap trimmed_end start ∙ ap (λ (t : List ℕ). reverse (trimmed_start t)) turned ∙ ap reverse end ∙ reverse-reverse (x ∷ text))
 
 -- what is trimmed is a text between blanks

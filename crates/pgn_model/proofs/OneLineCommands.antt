@@ -1,5 +1,5 @@
 -- Where no LF stands in a line, none stands in the names and payloads of the command that it reads as.
-use Rattle.std.proofs.Common.{◌≡◌, ℕ, zero, suc, ◌+◌, ◌<◌, ◌≤◌, Bool, true, false, cond, ◌==◌, inl, inr, List, [], ◌∷◌, ◌++◌, map, length, take, drop, get_or, flat_map, Option, None, Some, sym, ap, ◌∙◌, refl, subst, arith, append_assoc, Contains}
+use Rattle.std.proofs.Common.{◌≡◌, ℕ, zero, suc, ◌+◌, Bool, true, false, cond, ◌==◌, inl, inr, List, [], ◌∷◌, ◌++◌, map, length, take, drop, get_or, flat_map, Option, None, Some, sym, ap, ◌∙◌, refl, subst, arith}
 use Rattle.std.specs.List.{repeat}
 use Rattle.std.specs.Char.{to_ascii_lowercase}
 use Rattle.std.specs.Str.{str_to_ascii_lowercase}
@@ -16,11 +16,11 @@ use Rattle.pgn_model.specs.Text.{doubled_byte, quoted}
 use Rattle.pgn_model.specs.Tokens.{Lexeme, Word, Quoted, Literal, Number, Sign, Wrong, Token, tokens}
 use Rattle.pgn_model.specs.Grammar.{Name, fits, cut, begins_character, name_of, text_of, lexemes_of, is_long, past_limit, limited, ReadsAs}
 use Rattle.pgn_model.specs.GrammarLaws.{reading}
-use Rattle.pgn_model.specs.TokenLaws.{written, IsWhole, Covers, Ended, Commented, Spaced, Tokened, Stuck}
+use Rattle.pgn_model.specs.TokenLaws.{written, Covers, Ended, Commented, Spaced, Tokened, Stuck}
 use Rattle.pgn_model.specs.Inputs.{IsOneLine, IsOneLineCommand}
 use Rattle.pgn_model.proofs.GrammarLaws.{reading-reads}
 use Rattle.pgn_model.proofs.CoverLaws.{tokens-cover}
-use Rattle.pgn_model.proofs.KeptForms.{Sort, Rule, AllClean, Keeps, IsPlain, kept-reading}
+use Rattle.pgn_model.proofs.KeptForms.{Rule, AllClean, Keeps, IsPlain, kept-reading}
 
 pub none-line : IsOneLine []
 none-line c = omega (arith, c.1)

@@ -1,17 +1,17 @@
 -- Only sound scenarios are read.
-use Rattle.std.proofs.Common.{◌≡◌, ℕ, zero, suc, ◌+◌, ◌<◌, ◌≤◌, Bool, true, false, cond, not, ◌&&◌, ◌||◌, ◌==◌, ◌⊎◌, inl, inr, List, [], ◌∷◌, ◌++◌, map, length, get_or, filter_map, Option, None, Some, Result, Ok, sym, ap, ◌∙◌, refl, subst, arith, append_assoc, length-append, codes, bytes_eq}
+use Rattle.std.proofs.Common.{◌≡◌, ℕ, ◌+◌, ◌<◌, ◌≤◌, Bool, true, false, cond, not, ◌&&◌, ◌||◌, ◌==◌, ◌⊎◌, inl, inr, List, [], ◌∷◌, ◌++◌, length, filter_map, Option, None, Some, Result, Ok, sym, ap, ◌∙◌, refl, subst, arith, append_assoc, length-append, codes, bytes_eq}
 use Rattle.std.specs.Prelude.{nat_lt, nat_le, count_by, sum_by, fold, All, IfSome, IfOk, Contains, option_map}
 use Rattle.std.specs.List.{list_all, list_any, onto_first, position_or_len}
 use Rattle.std.specs.Option.{option_to_list}
 use Rattle.std.specs.Str.{is_utf8}
 use Rattle.std.specs.Str.Lossy.{utf8_valid_len}
-use Rattle.std.proofs.lemmas.Bool.{and_parts, and_from, or_cases, or_left, or_right, cases_Bool, false≢true, both_ways, not-true, ltb-false, eq-eqb}
+use Rattle.std.proofs.lemmas.Bool.{and_parts, or_cases, or_left, or_right, cases_Bool, false≢true, both_ways, ltb-false}
 use Rattle.std.proofs.lemmas.List.{append-nil, map-append}
 use Rattle.std.proofs.lemmas.List.Sums.{sum_by-append, fold_push, AllPass-from_list_all}
 use Rattle.std.proofs.lemmas.List.Folds.{list_any-append}
 use Rattle.std.proofs.lemmas.Slice.Eq.{bytes_eq-Decides}
 use Rattle.std.proofs.lemmas.List.Recursion.{is_position_or_len}
-use Rattle.std.proofs.lemmas.List.Elements.{filter_map-append, All-nil, All-cons, All-head, All-tail, All-append, All-contains, Contains-append_left, Contains-append_right, Contains-append_cases}
+use Rattle.std.proofs.lemmas.List.Elements.{filter_map-append, All-nil, All-cons, All-head, All-tail, All-append, All-contains, Contains-append_left, Contains-append_right}
 use Rattle.pgn_model.specs.declared.command.Command.{Command}
 use Rattle.pgn_model.specs.declared.command.Command.TheVariants as command
 use Rattle.pgn_model.specs.declared.scenario.Act.{Act}
@@ -27,7 +27,7 @@ use Rattle.pgn_model.specs.InputLaws.{IsTextOf}
 use Rattle.pgn_model.proofs.LineLaws.{is-trimmed}
 use Rattle.pgn_model.proofs.OneLineCommands.{none-line, line-cons, reads-one_line}
 use Rattle.pgn_model.specs.declared.scenario.Scenario.{Scenario}
-use Rattle.pgn_model.specs.Inputs.{section_limit, flag_limit, note_line_limit, line_limit, all_say, is_opening, is_quit, is_note_command, is_note, opened_name, named_flag, has_name, with_name, section_names, flags_of, has_quit, is_bad_meta, lacks_session, repeats_name, are_too_many, fault_said, fault_of, line_number, line_start, flag_number, act_of, script_line, script_line_of, script_from, is_note_act, note_lines_of, section, section_at, scenario_of, HaveNoFault, IsSoundSection, IsSound, IsOneLineCommand, IsOneLineAct, ReadsAsScenario, Large, Faulty, Sectionless, Unsignalled, Reads, sections_from, AreNumbered, HasFlagBelow, IsBelowFirst, Rise, QuitsLast, IsOneLine, has_section}
+use Rattle.pgn_model.specs.Inputs.{section_limit, flag_limit, note_line_limit, line_limit, all_say, is_opening, is_quit, is_note, opened_name, named_flag, has_name, with_name, section_names, flags_of, has_quit, is_bad_meta, lacks_session, repeats_name, are_too_many, fault_said, fault_of, line_number, line_start, flag_number, act_of, script_line, script_line_of, script_from, is_note_act, note_lines_of, section, section_at, scenario_of, HaveNoFault, IsSoundSection, IsSound, IsOneLineCommand, IsOneLineAct, ReadsAsScenario, Large, Faulty, Sectionless, Unsignalled, Reads, sections_from, AreNumbered, HasFlagBelow, IsBelowFirst, Rise, QuitsLast, IsOneLine, has_section}
 use Rattle.pgn_model.proofs.InputLaws.{SoundAfter, sound-first, sound-rest}
 
 -- what holds of a line without a fault
@@ -54,10 +54,10 @@ clean before line h =
     let n : ℕ = line_number before in
     let said : fault_said n (all_say before) (says line) ≡ None
     = past_bytes (nat_lt line_limit (length line)) (not (is_utf8 line)) (list_any (λ byte. byte == 0) line)
-        (fault.LineTooLong n) (fault.NotUtf8 (line_start before + utf8_valid_len line)) (fault.NulByte n) (fault_said n (all_say before) (says line)) h in
+    (fault.LineTooLong n) (fault.NotUtf8 (line_start before + utf8_valid_len line)) (fault.NulByte n) (fault_said n (all_say before) (says line)) h in
     let parts : (is_bad_meta (all_say before) (says line) ≡ false) × (are_too_many (all_say before ++ says line ∷ []) ≡ false)
     = last_two (is_bad_meta (all_say before) (says line)) (lacks_session (all_say before) (says line)) (repeats_name (all_say before) (says line)) (are_too_many (all_say before ++ says line ∷ []))
-        (fault.BadMeta n) (fault.NoSession n) (fault.SameName n) (fault.TooMany n) said in
+    (fault.BadMeta n) (fault.NoSession n) (fault.SameName n) (fault.TooMany n) said in
     record { meta = parts.0; few = parts.1 }
 
 said_more : (before : List (List ℕ)) (line : List ℕ) → all_say (before ++ line ∷ []) ≡ all_say before ++ says line ∷ []
@@ -166,7 +166,7 @@ notes_in sections = sum_by (λ (one : Section). one.note_lines) sections
 
 notes_at : (flags : List (List ℕ)) (number n : ℕ) (line : List ℕ) (said : Says) (lines : List (List ℕ))
     → note_lines_of (cond (is_opening said) [] (option_to_list (option_map (script_line n (trimmed line)) (act_of flags said)) ++ script_from flags (n + 1) lines))
-        + notes_in (section_at flags number (n + 1) said lines) ≡ noting said + note_lines_of (script_from flags (n + 1) lines)
+    + notes_in (section_at flags number (n + 1) said lines) ≡ noting said + note_lines_of (script_from flags (n + 1) lines)
 notes_at flags number n line (Opens name db) lines =
     let sum : notes_in (section_at flags number (n + 1) (Opens name db) lines) ≡ 0 + note_lines_of (script_from flags (n + 1) lines) = refl in omega (arith, sum)
 notes_at flags number n line Nothing lines = omega arith
@@ -363,8 +363,8 @@ quits-last flags n before (line ∷ lines) sound =
     let after : SoundAfter (before ++ line ∷ []) lines = sound-rest before line lines sound in
     let rest : QuitsLast (script_from flags (n + 1) lines) = quits-last flags (n + 1) (before ++ line ∷ []) lines after in
     let none : says line ≡ Quits → script_from flags (n + 1) lines ≡ [] = λ e.
-        nothing-after flags (n + 1) (before ++ line ∷ []) lines after
-        (ap has_quit (said_more before line) ∙ ap (λ (s : Says). has_quit (all_say before ++ s ∷ [])) e ∙ quit_at (all_say before) Quits ∙ or_right (has_quit (all_say before)) true refl) in
+    nothing-after flags (n + 1) (before ++ line ∷ []) lines after
+    (ap has_quit (said_more before line) ∙ ap (λ (s : Says). has_quit (all_say before ++ s ∷ [])) e ∙ quit_at (all_say before) Quits ∙ or_right (has_quit (all_say before)) true refl) in
     elim (cases_Bool (is_opening (says line))) [
       | inl e ↦ rw e tt
       | inr e ↦ rw e (quits-cons flags n line (says line) (script_from flags (n + 1) lines) none rest)

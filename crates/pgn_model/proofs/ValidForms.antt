@@ -1,7 +1,7 @@
 -- What the table of commands makes of clean tokens is valid.
-use Rattle.std.proofs.Common.{◌≡◌, ◌≢◌, ℕ, zero, suc, Bool, true, false, cond, nat_le, ◌==◌, ◌⊎◌, inl, inr, List, [], ◌∷◌, ◌++◌, map, length, take, drop, flat_map, Option, None, Some, sym, refl, subst, arith, codes, IsUtf8, Contains}
-use Rattle.std.specs.Str.{str_to_ascii_lowercase, byte}
-use Rattle.std.proofs.lemmas.Bool.{false≢true, and_parts, cases_Bool, leb-false, eqb-false}
+use Rattle.std.proofs.Common.{◌≡◌, ◌≢◌, ℕ, Bool, true, false, cond, nat_le, ◌==◌, inl, inr, List, [], ◌∷◌, length, Option, None, Some, sym, refl, subst, arith, IsUtf8, Contains}
+use Rattle.std.specs.Str.{str_to_ascii_lowercase}
+use Rattle.std.proofs.lemmas.Bool.{false≢true, cases_Bool, leb-false, eqb-false}
 use Rattle.pgn_base.specs.Texts.{IsName, IsPayload}
 use Rattle.pgn_base.specs.declared.note.Note.{Note}
 use Rattle.pgn_base.specs.declared.answers.Which.{Which}
@@ -10,7 +10,7 @@ use Rattle.pgn_model.specs.declared.command.Command.{Command}
 use Rattle.pgn_model.specs.declared.command.Command.TheVariants as command
 use Rattle.pgn_model.specs.Bytes.{IsNote}
 use Rattle.pgn_model.specs.Tokens.{Lexeme, Word, Quoted, Literal, Number, Sign, Wrong, tokens}
-use Rattle.pgn_model.specs.Grammar.{Place, Key, Name, Quote, Mark, fits, all_fit, cut, name_of, text_of, value_of, token_at, Way, silent, key, either, sign, optional, work, name, literal, argument, followed, sequence, Form, row, first, note, table, IsOneOf, lexemes_of, is_long, past_limit, limited, ReadsAs, Whole, Stops, Lacks}
+use Rattle.pgn_model.specs.Grammar.{Name, fits, cut, name_of, text_of, sign, lexemes_of, is_long, past_limit, limited, ReadsAs}
 use Rattle.pgn_model.specs.ValidCommands.{IsValid}
 use Rattle.pgn_model.proofs.TokenLaws.{cut-name}
 use Rattle.pgn_model.proofs.KeptForms as kept

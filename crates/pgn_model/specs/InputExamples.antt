@@ -1,12 +1,9 @@
 -- Inputs and the scenarios that they read as, written out.
 use Rattle.std.specs.Prelude.{ℕ, List, [], ◌∷◌, ◌++◌, flat_map, codes, decimal}
 use Rattle.std.specs.List.{range_with_len}
-use Rattle.pgn_base.specs.declared.note.Note.{Note}
 use Rattle.pgn_base.specs.declared.answers.Which.TheVariants.{ChannelEmpty}
 use Rattle.pgn_model.specs.declared.command.Command.TheVariants as command
 use Rattle.pgn_model.specs.declared.scenario.Act.TheVariants.{Run, Signal, Await, Quit}
-use Rattle.pgn_model.specs.declared.scenario.ScriptLine.{ScriptLine}
-use Rattle.pgn_model.specs.declared.scenario.Section.{Section}
 use Rattle.pgn_model.specs.declared.scenario.Scenario.{Scenario}
 
 -- each kind of meta line, with spaces, tabs and a carriage return, a blank line, and a line that goes wrong

@@ -1,5 +1,5 @@
 -- What an input reads as, computed, and the laws of lines and of inputs.
-use Rattle.std.specs.Prelude.{◌≡◌, ◌↔◌, ℕ, ◌<◌, Bool, true, false, cond, not, ◌==◌, nat_lt, List, [], ◌∷◌, ◌++◌, length, filter_map, Option, None, Some, Result, Ok, Err, slice_get, IfSome}
+use Rattle.std.specs.Prelude.{◌≡◌, ◌↔◌, ℕ, ◌<◌, Bool, true, false, cond, not, ◌==◌, nat_lt, List, [], ◌∷◌, ◌++◌, length, Option, None, Some, Result, Ok, Err}
 use Rattle.std.specs.List.{list_all, list_any}
 use Rattle.pgn_model.specs.declared.command.Command.{Command}
 use Rattle.pgn_model.specs.declared.command.Command.TheVariants.{Empty}
@@ -8,7 +8,7 @@ use Rattle.pgn_model.specs.declared.scenario.ScenarioFault.{ScenarioFault}
 use Rattle.pgn_model.specs.declared.scenario.ScenarioFault.TheVariants as fault
 use Rattle.pgn_model.specs.Tokens.{is_blank}
 use Rattle.pgn_model.specs.Grammar.{ReadsAs}
-use Rattle.pgn_model.specs.Lines.{Says, Nothing, says, trimmed, is_gap, parts_of, lines_of}
+use Rattle.pgn_model.specs.Lines.{Nothing, says, trimmed, is_gap, parts_of, lines_of}
 use Rattle.pgn_model.specs.Inputs.{input_limit, all_say, fault_of, has_section, unsignalled, scenario_of, IsOneLine, IsOneLineCommand, ReadsAsScenario, IsSound}
 
 -- the byte does not stand in the text
