@@ -1,14 +1,13 @@
 -- From what was read and answered to what the program's call says.
-use Rattle.std.proofs.Common.{◌≡◌, ◌≢◌, ℕ, ◌+◌, ◌<◌, ◌≤◌, ◌⊎◌, Bool, bytes_eq, codes, map, List, [], ◌∷◌, ◌++◌, length, take, get_or, Option, Some, None, IfSome, OnSome, IsSomeAnd, IsTrue, sym, ap, ◌∙◌, refl, subst, inl, inr, arith, length-take, length-append, take_all, Bor}
+use Rattle.std.proofs.Common.{◌≡◌, ℕ, ◌+◌, ◌<◌, ◌≤◌, ◌⊎◌, Bool, bytes_eq, codes, map, List, [], ◌∷◌, length, take, get_or, Option, Some, None, IfSome, OnSome, IsSomeAnd, IsTrue, sym, ap, ◌∙◌, refl, subst, inl, inr, arith, length-take, length-append, take_all, Bor}
 use Rattle.std.proofs.lemmas.Slice.Eq.{bytes_eq-Decides}
 use Rattle.std.specs.Io.KnownBytes.{Appends, Consumes, IsAtEnd}
 use Rattle.pgn_base.specs.Outside.{AppendsFront, Rose}
 use Rattle.pgn_model.specs.declared.scenario.Scenario.{Scenario}
 use Rattle.pgn_run.specs.declared.status.Status.{Status}
 use Rattle.pgn_run.specs.declared.status.Status.TheVariants.{Done, BadWords, BadScenario, ReadFault, WriteFault, NoMemory, NotBuilt}
-use Rattle.pgn_run.specs.Reading.{LinesBreakAt, ReadsAsPlainScenario, BreaksAt}
+use Rattle.pgn_run.specs.Reading.{ReadsAsPlainScenario, BreaksAt}
 use Rattle.pgn_model.specs.Inputs.{input_limit}
-use Rattle.pgn_model.specs.Lines.{lines_of}
 use Rattle.pgn_run.specs.Run.{Runs, Answers, run_words}
 use Rattle.pgn_run.proofs.ReadingLaws.{reads-not-breaks, breaks-once}
 

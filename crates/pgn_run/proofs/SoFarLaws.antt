@@ -1,10 +1,9 @@
 -- A line of the script leads from one state between lines to the next, and the end of the script to a legal run.
-use Rattle.std.proofs.Common.{◌≡◌, ℕ, zero, suc, ◌+◌, ◌-◌, ◌<◌, ◌≤◌, max, Bool, true, false, cond, ◌&&◌, ◌||◌, List, [], ◌∷◌, ◌++◌, length, take, drop, Option, Some, None, IsSomeAnd, IfSome, All, slice_get, fold, filter_map, nat_lt, ◌==◌, eq-eqb, ltb-true, ltb-false, lt-ltb, le-ltb, is_some, is_none, if◌then◌else◌, not, slice_index_or, get_or, drop-cons, add-one, add-zero, sym, ap, ◌∙◌, refl, subst, inl, arith, length-append, append_assoc, append-nil}
+use Rattle.std.proofs.Common.{◌≡◌, ℕ, zero, suc, ◌+◌, ◌-◌, ◌<◌, ◌≤◌, max, Bool, true, false, cond, ◌&&◌, ◌||◌, List, [], ◌∷◌, ◌++◌, length, take, drop, Option, Some, None, IsSomeAnd, IfSome, All, slice_get, nat_lt, ◌==◌, eq-eqb, ltb-true, ltb-false, is_some, if◌then◌else◌, slice_index_or, get_or, drop-cons, add-one, add-zero, sym, ap, ◌∙◌, refl, subst, inl, arith, length-append, append-nil}
 use Rattle.std.proofs.lemmas.List.{take-append-le}
-use Rattle.std.proofs.lemmas.List.Elements.{All-append, All-push, All-nil, filter_map-append}
+use Rattle.std.proofs.lemmas.List.Elements.{All-push, All-nil, filter_map-append}
 use Rattle.std.specs.List.{list_any, cons_option}
 use Rattle.pgn_base.specs.declared.note.Note.{Note}
-use Rattle.pgn_base.specs.declared.answers.Tag.{Tag}
 use Rattle.pgn_base.specs.declared.answers.Tag.TheVariants as tag
 use Rattle.pgn_base.specs.declared.listen_set.Action.TheVariants.{Listen}
 use Rattle.pgn_base.specs.Channels.{after_action, has_channel}
@@ -17,17 +16,17 @@ use Rattle.pgn_model.specs.declared.scenario.Act.TheVariants.{Run, Signal, Await
 use Rattle.pgn_model.specs.declared.scenario.ScriptLine.{ScriptLine}
 use Rattle.pgn_model.specs.declared.scenario.Section.{Section}
 use Rattle.pgn_model.specs.declared.scenario.Scenario.{Scenario}
-use Rattle.pgn_model.specs.Journal.{IsFinished, entries_between, is_committed_in, xids_of, xids_from, entry}
+use Rattle.pgn_model.specs.Journal.{IsFinished, entries_between, is_committed_in, xids_from, entry}
 use Rattle.pgn_model.specs.Due.{due}
 use Rattle.pgn_model.specs.Along.{Along}
-use Rattle.pgn_model.specs.Walk.{Terms, State, Owed, Nothing, Enlisting, Queueing, Answering, Ending, Replied, start, after, Allowed, is_empty, Leaving, leaving_or_answering, IsCommittedBy, default_settings}
+use Rattle.pgn_model.specs.Walk.{Terms, State, Queueing, Answering, Ending, Replied, start, after, Allowed, is_empty, Leaving, leaving_or_answering, IsCommittedBy, default_settings}
 use Rattle.pgn_model.specs.declared.trace.Trace.{Trace}
-use Rattle.pgn_model.specs.Trace.{IsFreshAt, IsUpToDate, IsEnd, Stands, state_after}
+use Rattle.pgn_model.specs.Trace.{IsFreshAt, IsUpToDate, IsEnd, state_after}
 use Rattle.pgn_model.specs.Legal.{finished_xid, finished_xids, IsShownWithin, names_section, Legal}
 use Rattle.pgn_model.proofs.WalkLaws.{Along-push_at, Along-weaker, Stands-push, Stands-grows}
 use Rattle.pgn_run.specs.declared.session.Session.{Session}
 use Rattle.pgn_run.specs.Reading.{IsServedAct, IsServed, one_section}
-use Rattle.pgn_run.specs.Session.{fresh_session, listened, notified, sent, ran, read_on, read_from, acted}
+use Rattle.pgn_run.specs.Session.{fresh_session, listened, notified, sent, ran, read_on}
 use Rattle.pgn_run.specs.SoFar.{terms_of, standing, IsFreshWithin, IsAt, IsAnswered, IsSoFar, trace_of}
 
 -- nothing stands between a place and itself

@@ -1,9 +1,9 @@
 -- What an input reads as, as far as it is built: one section, whose lines are LISTEN and NOTIFY in one exact spelling.
-use Rattle.std.specs.Prelude.{◌≡◌, ℕ, ◌+◌, ◌-◌, ◌*◌, ◌<◌, ◌≤◌, ◌⊎◌, ◌&&◌, ◌||◌, ◌==◌, not, Bool, true, false, List, [], ◌∷◌, ◌++◌, length, cond, codes, fold, nat_le, slice_get, IfSome, count_by, All}
-use Rattle.std.specs.List.{list_all, onto_first}
+use Rattle.std.specs.Prelude.{◌≡◌, ℕ, ◌+◌, ◌-◌, ◌*◌, ◌<◌, ◌≤◌, ◌⊎◌, ◌&&◌, ◌||◌, ◌==◌, not, Bool, true, List, [], ◌∷◌, ◌++◌, length, codes, fold, nat_le, slice_get, IfSome, count_by, All}
+use Rattle.std.specs.List.{list_all}
 use Rattle.pgn_base.specs.declared.note.Note.{Note}
 use Rattle.pgn_model.specs.declared.command.Command.{Command}
-use Rattle.pgn_model.specs.declared.command.Command.TheVariants.{Listen, Notify, PgNotify}
+use Rattle.pgn_model.specs.declared.command.Command.TheVariants.{Listen, Notify}
 use Rattle.pgn_model.specs.declared.scenario.Act.{Act}
 use Rattle.pgn_model.specs.declared.scenario.Act.TheVariants.{Run}
 use Rattle.pgn_model.specs.declared.scenario.ScriptLine.{ScriptLine}

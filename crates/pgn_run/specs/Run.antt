@@ -1,6 +1,6 @@
 -- What the call of the program says of its input and its output.
-use Rattle.std.specs.Prelude.{◌≡◌, ◌⊎◌, ℕ, List, [], ◌∷◌, Option, IfSome, codes, take}
-use Rattle.std.specs.Io.KnownBytes.{Appends, Consumes, Keeps}
+use Rattle.std.specs.Prelude.{◌≡◌, ℕ, List, [], ◌∷◌, Option, codes}
+use Rattle.std.specs.Io.KnownBytes.{Appends}
 use Rattle.pgn_base.specs.Outside.{AppendsFront, Rose}
 use Rattle.pgn_model.specs.declared.tx.Tx.{Tx}
 use Rattle.pgn_model.specs.declared.scenario.Scenario.{Scenario}

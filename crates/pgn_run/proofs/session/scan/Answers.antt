@@ -1,5 +1,4 @@
-use Rattle.std.proofs.Common.{◌≡◌, ◌++◌, ◌-◌, ◌<◌, ◌≤◌, length, ap, ◌∙◌, arith, List}
-use Rattle.pgn_base.specs.declared.note.Delivery.{Delivery}
+use Rattle.std.proofs.Common.{◌++◌, ◌-◌, ◌<◌, ◌≤◌, length, ap, ◌∙◌, arith}
 use Rattle.pgn_model.specs.Due.{given}
 use Rattle.pgn_run.proofs.ScanLaws.{scan-step}
 use Rattle.pgn_run.proofs.session.scan.Goals as goal
