@@ -1,0 +1,3 @@
+pub use Rattle.pgn_model.specs.Savepoints
+pub mod Kept
+pub mod Calls
