@@ -15,7 +15,6 @@ use Rattle.pgn_model.proofs.SavepointLemmas.{back-cuts, free-keeps, cut_back-non
 use Rattle.pgn_pending.specs.declared.mark.Mark.{Mark}
 use Rattle.pgn_pending.specs.Kept.{Kept, kept, marks_after, kept_of, StandsFor, has_name, is_marked}
 
-
 -- the savepoints of one list and then another
 marks-append : (n a : ℕ) (xs ys : List Change)
     → marks_after n a (xs ++ ys) ≡ marks_after n a xs ++ marks_after (n + length (filter_map noted_note xs)) (a + length (filter_map acted_action xs)) ys
@@ -60,8 +59,8 @@ newest-last name marks at found =
     let Unnamed : Mark → Type 0 = λ (mark : Mark). has_name name mark ≡ false in
     let within : at < length marks = found.within in
     list_any_none (has_name name) (drop (at + 1) marks)
-      (All-from_get_or Unnamed (drop (at + 1) marks) other (λ k inside. subst Unnamed (sym (get_or-drop (at + 1) marks k other))
-        (found.newest (at + 1 + k) other (omega arith) (omega (arith, length-drop (at + 1) marks)))))
+    (All-from_get_or Unnamed (drop (at + 1) marks) other (λ k inside. subst Unnamed (sym (get_or-drop (at + 1) marks k other))
+    (found.newest (at + 1 + k) other (omega arith) (omega (arith, length-drop (at + 1) marks)))))
 
 -- a refusal that comes exactly where a test fails, where the test fails
 pub refused : (test : Bool) → test ≡ false → (true ≡ true → test ≡ false) × (test ≡ false → true ≡ true)
@@ -79,8 +78,8 @@ kept-same fewer more xs ys ms ns a x m = ap (λ (l : List Action). kept l xs ms)
 kept-middle : (name : List ℕ) (before after : List Change)
     → kept_of (before ++ Marked name ∷ after)
     ≡ kept (filter_map acted_action before ++ filter_map acted_action after) (filter_map noted_note before ++ filter_map noted_note after)
-        (marks_after 0 0 before ++ (record { name = name; notes = 0 + length (filter_map noted_note before); actions = 0 + length (filter_map acted_action before) })
-            ∷ marks_after (0 + length (filter_map noted_note before)) (0 + length (filter_map acted_action before)) after)
+    (marks_after 0 0 before ++ (record { name = name; notes = 0 + length (filter_map noted_note before); actions = 0 + length (filter_map acted_action before) })
+    ∷ marks_after (0 + length (filter_map noted_note before)) (0 + length (filter_map acted_action before)) after)
 kept-middle name before after =
     kept-same _ _ _ _ _ _ (filter_map-append acted_action before (Marked name ∷ after)) (filter_map-append noted_note before (Marked name ∷ after)) (marks-append 0 0 before (Marked name ∷ after))
 
@@ -227,12 +226,12 @@ free-kept changes name at mark e same none =
     let a : ℕ = 0 + length (filter_map acted_action l.before) in
     let all : kept_of changes ≡ kept (filter_map acted_action l.before ++ filter_map acted_action l.after) (filter_map noted_note l.before ++ filter_map noted_note l.after) (marks_after 0 0 l.before ++ (record { name = name; notes = n; actions = a }) ∷ marks_after n a l.after) = ap kept_of l.whole ∙ kept-middle name l.before l.after in
     let left : kept_of (l.before ++ later) ≡ kept (filter_map acted_action l.before ++ filter_map acted_action later) (filter_map noted_note l.before ++ filter_map noted_note later) (marks_after 0 0 l.before ++ marks_after n a later) =
-        kept-same _ _ _ _ _ _ (filter_map-append acted_action l.before later) (filter_map-append noted_note l.before later) (marks-append 0 0 l.before later) in
+    kept-same _ _ _ _ _ _ (filter_map-append acted_action l.before later) (filter_map-append noted_note l.before later) (marks-append 0 0 l.before later) in
     ap (λ (cs : List Change). kept_of (freed name cs)) l.whole ∙ ap kept_of (free-keeps name l.before l.after l.later) ∙ left
     ∙ kept-same _ _ _ _ _ _
-        (ap (λ (more : List Action). filter_map acted_action l.before ++ more) (actions-unmarked l.after) ∙ sym (ap (λ (k : Kept). k.actions) all))
-        (ap (λ (more : List Note). filter_map noted_note l.before ++ more) (notes-unmarked l.after) ∙ sym (ap (λ (k : Kept). k.notes) all))
-        (ap (λ (more : List Mark). marks_after 0 0 l.before ++ more) (marks-unmarked n a l.after) ∙ append-nil (marks_after 0 0 l.before) ∙ sym l.marks)
+    (ap (λ (more : List Action). filter_map acted_action l.before ++ more) (actions-unmarked l.after) ∙ sym (ap (λ (k : Kept). k.actions) all))
+    (ap (λ (more : List Note). filter_map noted_note l.before ++ more) (notes-unmarked l.after) ∙ sym (ap (λ (k : Kept). k.notes) all))
+    (ap (λ (more : List Mark). marks_after 0 0 l.before ++ more) (marks-unmarked n a l.after) ∙ append-nil (marks_after 0 0 l.before) ∙ sym l.marks)
 
 -- what stood for a value stands for the next, after a SAVEPOINT
 pub after-marked : (changes : List Change) (old : Kept) (name : List ℕ) (n a : ℕ) → n ≡ length old.notes → a ≡ length old.actions → StandsFor changes old
@@ -240,9 +239,9 @@ pub after-marked : (changes : List Change) (old : Kept) (name : List ℕ) (n a :
 after-marked changes old name n a sent done h =
     let live : List Change = live_changes changes in
     (subst (λ (k : Kept). n ≡ length k.notes → a ≡ length k.actions → StandsFor (changes ++ Marked name ∷ []) (kept k.actions k.notes (k.marks ++ (record { name = name; notes = n; actions = a }) ∷ []))) h
-      (λ ns acts. ap kept_of (live-marked changes name) ∙ kept-middle name live []
-      ∙ kept-same _ _ _ _ _ _ (append-nil (filter_map acted_action live)) (append-nil (filter_map noted_note live))
-          (counted live (0 + length (filter_map noted_note live)) n (0 + length (filter_map acted_action live)) a (omega arith) (omega arith)))) sent done
+    (λ ns acts. ap kept_of (live-marked changes name) ∙ kept-middle name live []
+    ∙ kept-same _ _ _ _ _ _ (append-nil (filter_map acted_action live)) (append-nil (filter_map noted_note live))
+    (counted live (0 + length (filter_map noted_note live)) n (0 + length (filter_map acted_action live)) a (omega arith) (omega arith)))) sent done
   where
     counted : (live : List Change) (n m a b : ℕ) → n ≡ m → a ≡ b
         → marks_after 0 0 live ++ (record { name = name; notes = n; actions = a }) ∷ [] ≡ marks_after 0 0 live ++ (record { name = name; notes = m; actions = b }) ∷ []
@@ -255,9 +254,9 @@ pub after-acted : (changes : List Change) (old : Kept) (action : Action) → Sta
 after-acted changes old action h =
     let live : List Change = live_changes changes in
     subst (λ (k : Kept). StandsFor (changes ++ Acted action ∷ []) (kept (k.actions ++ action ∷ []) k.notes k.marks)) h
-      (ap kept_of (live-acted changes action)
-      ∙ kept-same _ _ _ _ _ _ (filter_map-append acted_action live (Acted action ∷ [])) (filter_map-append noted_note live (Acted action ∷ []) ∙ append-nil (filter_map noted_note live))
-          (marks-append 0 0 live (Acted action ∷ []) ∙ append-nil (marks_after 0 0 live)))
+    (ap kept_of (live-acted changes action)
+    ∙ kept-same _ _ _ _ _ _ (filter_map-append acted_action live (Acted action ∷ [])) (filter_map-append noted_note live (Acted action ∷ []) ∙ append-nil (filter_map noted_note live))
+    (marks-append 0 0 live (Acted action ∷ []) ∙ append-nil (marks_after 0 0 live)))
 
 -- after a NOTIFY
 pub after-noted : (changes : List Change) (old : Kept) (note : Note) → StandsFor changes old
@@ -265,10 +264,10 @@ pub after-noted : (changes : List Change) (old : Kept) (note : Note) → StandsF
 after-noted changes old note h =
     let live : List Change = live_changes changes in
     let pushed : kept_of (live ++ Noted note ∷ []) ≡ kept (filter_map acted_action live) (filter_map noted_note live ++ note ∷ []) (marks_after 0 0 live) =
-        kept-same _ _ _ _ _ _ (filter_map-append acted_action live (Noted note ∷ []) ∙ append-nil (filter_map acted_action live)) (filter_map-append noted_note live (Noted note ∷ []))
-          (marks-append 0 0 live (Noted note ∷ []) ∙ append-nil (marks_after 0 0 live)) in
+    kept-same _ _ _ _ _ _ (filter_map-append acted_action live (Noted note ∷ []) ∙ append-nil (filter_map acted_action live)) (filter_map-append noted_note live (Noted note ∷ []))
+    (marks-append 0 0 live (Noted note ∷ []) ∙ append-nil (marks_after 0 0 live)) in
     subst (λ (k : Kept). StandsFor (changes ++ Noted note ∷ []) (kept k.actions (cond (list_any (same_note note) k.notes) k.notes (k.notes ++ note ∷ [])) k.marks)) h
-      (ap kept_of (live-after_change changes live (Noted note) refl) ∙ ap (λ (b : Bool). kept_of (cond b live (live ++ Noted note ∷ []))) (noted-has_note note live) ∙ either (list_any (same_note note) (filter_map noted_note live)) live note pushed)
+    (ap kept_of (live-after_change changes live (Noted note) refl) ∙ ap (λ (b : Bool). kept_of (cond b live (live ++ Noted note ∷ []))) (noted-has_note note live) ∙ either (list_any (same_note note) (filter_map noted_note live)) live note pushed)
   where
     either : (b : Bool) (live : List Change) (note : Note) → kept_of (live ++ Noted note ∷ []) ≡ kept (filter_map acted_action live) (filter_map noted_note live ++ note ∷ []) (marks_after 0 0 live)
         → kept_of (cond b live (live ++ Noted note ∷ [])) ≡ kept (filter_map acted_action live) (cond b (filter_map noted_note live) (filter_map noted_note live ++ note ∷ [])) (marks_after 0 0 live)
@@ -280,20 +279,20 @@ pub after-back : (changes : List Change) (old : Kept) (name : List ℕ) (at : �
     → StandsFor changes old → StandsFor (changes ++ Back name ∷ []) (kept (take mark.actions old.actions) (take mark.notes old.notes) (take (at + 1) old.marks))
 after-back changes old name at mark found here h =
     (subst (λ (k : Kept). IsNewest name k.marks at → mark ≡ get_or k.marks at mark
-        → StandsFor (changes ++ Back name ∷ []) (kept (take mark.actions k.actions) (take mark.notes k.notes) (take (at + 1) k.marks))) h
-      (λ f e. let marks : List Mark = marks_after 0 0 (live_changes changes) in
-        ap kept_of (live-back changes name)
-        ∙ back-kept (live_changes changes) name at mark (slice_get_read marks (length marks) at mark refl f.within e) (ap (has_name name) e ∙ f.named mark) (newest-last name marks at f))) found here
+    → StandsFor (changes ++ Back name ∷ []) (kept (take mark.actions k.actions) (take mark.notes k.notes) (take (at + 1) k.marks))) h
+    (λ f e. let marks : List Mark = marks_after 0 0 (live_changes changes) in
+    ap kept_of (live-back changes name)
+    ∙ back-kept (live_changes changes) name at mark (slice_get_read marks (length marks) at mark refl f.within e) (ap (has_name name) e ∙ f.named mark) (newest-last name marks at f))) found here
 
 -- after a RELEASE of the savepoint at this place
 pub after-free : (changes : List Change) (old : Kept) (name : List ℕ) (at : ℕ) → IsNewest name old.marks at
     → StandsFor changes old → StandsFor (changes ++ Free name ∷ []) (kept old.actions old.notes (take at old.marks))
 after-free changes old name at found h =
     (subst (λ (k : Kept). IsNewest name k.marks at → StandsFor (changes ++ Free name ∷ []) (kept k.actions k.notes (take at k.marks))) h
-      (λ f. let marks : List Mark = marks_after 0 0 (live_changes changes) in
-        let other : Mark = record { name = []; notes = 0; actions = 0 } in
-        ap kept_of (live-free changes name)
-        ∙ free-kept (live_changes changes) name at (get_or marks at other) (slice_get-get_or marks at other f.within) (f.named other) (newest-last name marks at f))) found
+    (λ f. let marks : List Mark = marks_after 0 0 (live_changes changes) in
+    let other : Mark = record { name = []; notes = 0; actions = 0 } in
+    ap kept_of (live-free changes name)
+    ∙ free-kept (live_changes changes) name at (get_or marks at other) (slice_get-get_or marks at other f.within) (f.named other) (newest-last name marks at f))) found
 
 -- a savepoint of a history is live where one of those that stand has the name
 pub live-is_marked : (changes : List Change) (old : Kept) (name : List ℕ) → StandsFor changes old → is_live (live_names changes) name ≡ is_marked name old.marks

@@ -33,6 +33,10 @@ kept_of live = kept (filter_map acted_action live) (filter_map noted_note live) 
 abbrev pub StandsFor : List Change → Kept → Type 0
 StandsFor changes kept = kept_of (live_changes changes) ≡ kept
 
+-- some history is kept so
+abbrev pub HasHistory : Kept → Type 0
+HasHistory kept = (changes : List Change) × StandsFor changes kept
+
 -- the savepoint has this name
 abbrev pub has_name : List ℕ → Mark → Bool
 has_name name mark = bytes_eq name mark.name

@@ -18,7 +18,7 @@ mod pending;
 
 pub use call::{Call, finish_after};
 pub use mark::Mark;
-pub use pending::{NoSuch, Pending};
+pub use pending::{NoSuch, Pending, each_has_a_history};
 
 #[cfg(test)]
 mod tests;

@@ -1,7 +1,7 @@
 ghost use Rattle.std.specs.Prelude.{◌≡◌, ◌≤◌, ◌↔◌, [], ◌∷◌, ◌++◌, List, length, vec_capacity, false, IsErr, OnOk, OnErr};
 ghost use Rattle.pgn_model.specs.Answers.{is_live};
 ghost use Rattle.pgn_model.specs.Savepoints.{Change, Marked, Acted, Noted, Back, Free, live_names, surviving_actions, surviving_notes, firsts};
-ghost use Rattle.pgn_pending.specs.Kept.{StandsFor, is_marked};
+ghost use Rattle.pgn_pending.specs.Kept.{HasHistory, StandsFor, is_marked};
 
 use crate::Mark;
 use crate::mark::newest;
@@ -25,16 +25,15 @@ pub struct Pending {
 pub struct NoSuch;
 
 impl Model for Pending {
-    ghost use Rattle.std.specs.Prelude.{◌≡◌, ◌≤◌, [], List, length, vec_capacity};
-    ghost use Rattle.pgn_model.specs.Savepoints.{Change};
-    ghost use Rattle.pgn_pending.specs.Kept.{Kept, StandsFor, kept};
+    ghost use Rattle.std.specs.Prelude.{◌≡◌, ◌≤◌, [], length, vec_capacity};
+    ghost use Rattle.pgn_pending.specs.Kept.{Kept, HasHistory, kept};
 
     ghost Value = { Kept };
 
     ghost view = { λ p. kept p.actions.items p.notes.keys p.marks.items };
 
     ghost invariant = { λ p. (p.room.items ≡ []) × (length p.notes.keys ≤ vec_capacity p.room)
-        × ((changes : List Change) × StandsFor changes (kept p.actions.items p.notes.keys p.marks.items)) };
+        × HasHistory (kept p.actions.items p.notes.keys p.marks.items) };
 }
 
 impl Pending {
@@ -48,13 +47,6 @@ impl Pending {
             marks: Vec::new(alloc),
             room: Vec::new(alloc),
         }
-    }
-
-    /// Each value has a history that it stands for, so that what is said of all of them is said of some.
-    pub fn has_history(&self)
-        ensures { (changes : List Change) × StandsFor changes self.now }
-    {
-        let _ = &self.notes;
     }
 
     /// NOTIFY. A notification that is kept already stays in its place.
@@ -114,10 +106,10 @@ impl Pending {
         ensures unchanged { OnErr result (self.new ≡ self.old) }
         ensures after { (changes : List Change) → StandsFor changes self.old → StandsFor (changes ++ Free name.now ∷ []) self.new }
     {
-        let Some(at) = newest(&self.marks, name) else {
+        let Some(from) = newest(&self.marks, name) else {
             return Err(NoSuch);
         };
-        self.marks.truncate(at);
+        self.marks.truncate(from);
         Ok(())
     }
 
@@ -147,4 +139,11 @@ fn in_list(set: IndexSet<Note>, room: Vec<Note>) -> Notes
         notes.push(note).unwrap();
     }
     Notes::from_items(notes)
+}
+
+/// Each value has a history that it stands for, so that what the calls say of all of them they say of some.
+pub fn each_has_a_history(pending: &Pending)
+    ensures { HasHistory pending.now }
+{
+    let _ = &pending.notes;
 }

@@ -21,25 +21,25 @@ returns-in_default-clause-after c =
 
 pub invariant_of-self : goal.invariant_of-self
 invariant_of-self c =
-    let found : IsNewest c.args.name.now c.self.inside.marks.items c.in-Some.at =
-        rw (← c.deref.ensures.value) (record { within = c.in-Some.ensures.within; named = c.in-Some.ensures.named; newest = c.in-Some.ensures.newest }) in
+    let found : IsNewest c.args.name.now c.self.inside.marks.items c.in-Some.from =
+    rw (← c.deref.ensures.value) (record { within = c.in-Some.ensures.within; named = c.in-Some.ensures.named; newest = c.in-Some.ensures.newest }) in
     let history = c.self.invariant.2 in
-    (c.self.invariant.0, c.self.invariant.1, (history.0 ++ Free c.args.name.now ∷ [], rw c.truncate.ensures.items (after-free history.0 _ c.args.name.now c.in-Some.at found history.1)))
+    (c.self.invariant.0, c.self.invariant.1, (history.0 ++ Free c.args.name.now ∷ [], rw c.truncate.ensures.items (after-free history.0 _ c.args.name.now c.in-Some.from found history.1)))
 
 pub returns-clause-no_such : goal.returns-clause-no_such
 returns-clause-no_such c =
-    let found : IsNewest c.args.name.now c.self.inside.marks.items c.in-Some.at =
-        rw (← c.deref.ensures.value) (record { within = c.in-Some.ensures.within; named = c.in-Some.ensures.named; newest = c.in-Some.ensures.newest }) in
-    granted _ (ap (λ (k : Kept). is_marked c.args.name.now k.marks) (sym c.self.view_is) ∙ newest-marked c.args.name.now _ c.in-Some.at found)
+    let found : IsNewest c.args.name.now c.self.inside.marks.items c.in-Some.from =
+    rw (← c.deref.ensures.value) (record { within = c.in-Some.ensures.within; named = c.in-Some.ensures.named; newest = c.in-Some.ensures.newest }) in
+    granted _ (ap (λ (k : Kept). is_marked c.args.name.now k.marks) (sym c.self.view_is) ∙ newest-marked c.args.name.now _ c.in-Some.from found)
 
 pub returns-clause-not_live : goal.returns-clause-not_live
 returns-clause-not_live c =
-    let found : IsNewest c.args.name.now c.self.inside.marks.items c.in-Some.at =
-        rw (← c.deref.ensures.value) (record { within = c.in-Some.ensures.within; named = c.in-Some.ensures.named; newest = c.in-Some.ensures.newest }) in
-    λ changes h. granted _ (live-is_marked changes _ c.args.name.now (h ∙ sym c.self.view_is) ∙ newest-marked c.args.name.now _ c.in-Some.at found)
+    let found : IsNewest c.args.name.now c.self.inside.marks.items c.in-Some.from =
+    rw (← c.deref.ensures.value) (record { within = c.in-Some.ensures.within; named = c.in-Some.ensures.named; newest = c.in-Some.ensures.newest }) in
+    λ changes h. granted _ (live-is_marked changes _ c.args.name.now (h ∙ sym c.self.view_is) ∙ newest-marked c.args.name.now _ c.in-Some.from found)
 
 pub returns-clause-after : goal.returns-clause-after
 returns-clause-after c =
-    let found : IsNewest c.args.name.now c.self.inside.marks.items c.in-Some.at =
-        rw (← c.deref.ensures.value) (record { within = c.in-Some.ensures.within; named = c.in-Some.ensures.named; newest = c.in-Some.ensures.newest }) in
-    λ changes h. rw c.truncate.ensures.items (after-free changes _ c.args.name.now c.in-Some.at found (h ∙ sym c.self.view_is))
+    let found : IsNewest c.args.name.now c.self.inside.marks.items c.in-Some.from =
+    rw (← c.deref.ensures.value) (record { within = c.in-Some.ensures.within; named = c.in-Some.ensures.named; newest = c.in-Some.ensures.newest }) in
+    λ changes h. rw c.truncate.ensures.items (after-free changes _ c.args.name.now c.in-Some.from found (h ∙ sym c.self.view_is))
