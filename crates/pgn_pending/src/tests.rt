@@ -3,35 +3,33 @@ use pgn_base::{Action, Actions, Name, Note, Notes, Payload};
 use std::alloc::{AllocError, Global};
 use std::test::Fail;
 
-#[derive(Clone, Copy, PartialEq, Eq)]
-enum Verb {
-    Notify,
-    Listen,
-    Unlisten,
-    UnlistenAll,
-    Savepoint,
-    RollbackTo,
-    Release,
+fn note(alloc: Global, words: &str) -> Result<Note, Fail> {
+    let Some((channel, payload)) = words.split_once(' ') else {
+        return Err("a channel and a payload")?;
+    };
+    Ok(Note {
+        channel: Name::new(alloc, channel)?,
+        payload: Payload::new(alloc, payload)?,
+    })
 }
 
-use Verb::{Listen, Notify, Release, RollbackTo, Savepoint, Unlisten, UnlistenAll};
-
-// A command: its verb, and a channel, a savepoint or, on the channel `c`, a payload.
-type Step<'a> = (Verb, &'a str);
-
-fn call(alloc: Global, (verb, word): Step<'_>) -> Result<Call, Fail> {
-    Ok(match verb {
-        Verb::Notify => Call::Note(Note {
-            channel: Name::new(alloc, "c")?,
-            payload: Payload::new(alloc, word)?,
-        }),
-        Verb::Listen => Call::Action(Action::Listen(Name::new(alloc, word)?)),
-        Verb::Unlisten => Call::Action(Action::Unlisten(Name::new(alloc, word)?)),
-        Verb::UnlistenAll => Call::Action(Action::UnlistenAll),
-        Verb::Savepoint => Call::Mark(Name::new(alloc, word)?),
-        Verb::RollbackTo => Call::BackTo(Name::new(alloc, word)?),
-        Verb::Release => Call::Release(Name::new(alloc, word)?),
-    })
+fn call(alloc: Global, command: &str) -> Result<Call, Fail> {
+    let Some((verb, words)) = command.split_once(' ') else {
+        return Err("a verb and its words")?;
+    };
+    if verb == "NOTIFY" {
+        return Ok(Call::Note(note(alloc, words)?));
+    }
+    let name = Name::new(alloc, words)?;
+    match verb {
+        "LISTEN" => Ok(Call::Action(Action::Listen(name))),
+        "UNLISTEN" if words == "*" => Ok(Call::Action(Action::UnlistenAll)),
+        "UNLISTEN" => Ok(Call::Action(Action::Unlisten(name))),
+        "SAVEPOINT" => Ok(Call::Mark(name)),
+        "ROLLBACK" => Ok(Call::BackTo(name)),
+        "RELEASE" => Ok(Call::Release(name)),
+        _ => Err("another verb")?,
+    }
 }
 
 // Whether there was such a savepoint.
@@ -47,228 +45,152 @@ fn tell(pending: &mut Pending, call: Call) -> Result<bool, AllocError> {
 }
 
 // What is left, and how often there was no such savepoint.
-fn tell_all(alloc: Global, steps: &[Step<'_>]) -> Result<(u32, (Actions, Notes)), Fail> {
+fn tell_all(alloc: Global, commands: &str) -> Result<(u32, Actions, Notes), Fail> {
     let mut pending = Pending::new(alloc);
     let mut refused = 0u32;
-    for step in steps {
-        let call = call(alloc, *step)?;
+    for command in commands.split("; ") {
+        let call = call(alloc, command)?;
         if !tell(&mut pending, call)? {
             refused = refused.saturating_add(1);
         }
     }
-    Ok((refused, pending.finish()))
+    let (actions, notes) = pending.finish();
+    Ok((refused, actions, notes))
 }
 
-fn all_calls(alloc: Global, steps: &[Step<'_>]) -> Result<Vec<Call>, Fail> {
+fn all_calls(alloc: Global, commands: &str) -> Result<Vec<Call>, Fail> {
     let mut calls = Vec::new(alloc);
-    for step in steps {
-        calls.push(call(alloc, *step)?)?;
+    for command in commands.split("; ") {
+        calls.push(call(alloc, command)?)?;
     }
     Ok(calls)
 }
 
-fn is_action(action: &Action, (verb, word): Step<'_>) -> bool {
-    match action {
-        Action::Listen(name) => verb == Listen && name.as_bytes() == word.as_bytes(),
-        Action::Unlisten(name) => verb == Unlisten && name.as_bytes() == word.as_bytes(),
-        Action::UnlistenAll => verb == UnlistenAll,
+fn push_words(text: &mut Vec<u8>, verb: &[u8], words: &[u8]) -> Result<(), AllocError> {
+    if !text.is_empty() {
+        text.extend_from_slice(b"; ")?;
     }
+    text.extend_from_slice(verb)?;
+    text.extend_from_slice(words)?;
+    Ok(())
 }
 
-fn is_left(left: &(Actions, Notes), actions: &[Step<'_>], payloads: &[&str]) -> bool {
-    let (did, sent) = (left.0.as_slice(), left.1.as_slice());
-    did.len() == actions.len()
-        && sent.len() == payloads.len()
-        && did
-            .iter()
-            .zip(actions)
-            .all(|(action, step)| is_action(action, *step))
-        && sent.iter().zip(payloads).all(|(note, payload)| note.channel.as_bytes()
-            == b"c".as_slice()
-            && note.payload.as_bytes() == payload.as_bytes())
+// What is left as commands, the actions first.
+fn as_commands(alloc: Global, actions: &Actions, notes: &Notes) -> Result<Vec<u8>, AllocError> {
+    let mut text = Vec::new(alloc);
+    for action in actions.as_slice() {
+        match action {
+            Action::Listen(name) => push_words(&mut text, b"LISTEN ", name.as_bytes())?,
+            Action::Unlisten(name) => push_words(&mut text, b"UNLISTEN ", name.as_bytes())?,
+            Action::UnlistenAll => push_words(&mut text, b"UNLISTEN ", b"*")?,
+        }
+    }
+    for note in notes.as_slice() {
+        push_words(&mut text, b"NOTIFY ", note.channel.as_bytes())?;
+        text.extend_from_slice(b" ")?;
+        text.extend_from_slice(note.payload.as_bytes())?;
+    }
+    Ok(text)
 }
 
 #[test]
 fn what_is_left_of_a_transaction(rt: HostRuntime) -> Result<(), Fail> {
     let alloc = rt.alloc();
-    for (row, steps, refusals, actions, payloads) in [
-        ("nothing", [].as_slice(), 0, [].as_slice(), [].as_slice()),
+    for (row, commands, refusals, want) in [
         (
             "repeats",
-            [(Notify, "a"), (Notify, "b"), (Notify, "a")].as_slice(),
+            "NOTIFY c a; NOTIFY c b; NOTIFY c a",
             0,
-            [].as_slice(),
-            ["a", "b"].as_slice(),
+            "NOTIFY c a; NOTIFY c b",
         ),
         (
             "a rolled back repeat",
-            [
-                (Savepoint, "s"),
-                (Notify, "a"),
-                (RollbackTo, "s"),
-                (Notify, "a"),
-            ]
-            .as_slice(),
+            "SAVEPOINT s; NOTIFY c a; ROLLBACK s; NOTIFY c a",
             0,
-            [].as_slice(),
-            ["a"].as_slice(),
+            "NOTIFY c a",
         ),
         (
             "savepoints of one name",
-            [
-                (Savepoint, "s"),
-                (Notify, "1"),
-                (Savepoint, "s"),
-                (Notify, "2"),
-                (Release, "s"),
-                (Notify, "3"),
-                (RollbackTo, "s"),
-                (Notify, "4"),
-            ]
-            .as_slice(),
+            "SAVEPOINT s; NOTIFY c 1; SAVEPOINT s; NOTIFY c 2; RELEASE s; NOTIFY c 3; ROLLBACK s; NOTIFY c 4",
             0,
-            [].as_slice(),
-            ["4"].as_slice(),
+            "NOTIFY c 4",
         ),
         (
             "a repeat whose first occurrence is rolled back",
-            [
-                (Notify, "a"),
-                (Savepoint, "s"),
-                (Notify, "b"),
-                (RollbackTo, "s"),
-                (Notify, "c"),
-                (Notify, "b"),
-            ]
-            .as_slice(),
+            "NOTIFY c a; SAVEPOINT s; NOTIFY c b; ROLLBACK s; NOTIFY c d; NOTIFY c b",
             0,
-            [].as_slice(),
-            ["a", "c", "b"].as_slice(),
+            "NOTIFY c a; NOTIFY c d; NOTIFY c b",
         ),
         (
             "a repeat that is rolled back",
-            [
-                (Notify, "a"),
-                (Savepoint, "s"),
-                (Notify, "a"),
-                (RollbackTo, "s"),
-            ]
-            .as_slice(),
+            "NOTIFY c a; SAVEPOINT s; NOTIFY c a; ROLLBACK s",
             0,
-            [].as_slice(),
-            ["a"].as_slice(),
+            "NOTIFY c a",
         ),
         (
             "a repeat across a released savepoint",
-            [
-                (Notify, "a"),
-                (Savepoint, "s"),
-                (Notify, "b"),
-                (Release, "s"),
-                (Notify, "b"),
-                (Notify, "a"),
-            ]
-            .as_slice(),
+            "NOTIFY c a; SAVEPOINT s; NOTIFY c b; RELEASE s; NOTIFY c b; NOTIFY c a",
             0,
-            [].as_slice(),
-            ["a", "b"].as_slice(),
+            "NOTIFY c a; NOTIFY c b",
+        ),
+        (
+            "one payload on two channels",
+            "NOTIFY c a; NOTIFY d a; NOTIFY c a",
+            0,
+            "NOTIFY c a; NOTIFY d a",
         ),
         (
             "back to one savepoint twice",
-            [
-                (Notify, "a"),
-                (Savepoint, "s"),
-                (Notify, "b"),
-                (RollbackTo, "s"),
-                (Notify, "c"),
-                (RollbackTo, "s"),
-                (Notify, "d"),
-            ]
-            .as_slice(),
+            "NOTIFY c a; SAVEPOINT s; NOTIFY c b; ROLLBACK s; NOTIFY c d; ROLLBACK s; NOTIFY c e",
             0,
-            [].as_slice(),
-            ["a", "d"].as_slice(),
+            "NOTIFY c a; NOTIFY c e",
         ),
         (
             "the release of an outer savepoint",
-            [
-                (Savepoint, "o"),
-                (Notify, "a"),
-                (Savepoint, "i"),
-                (Notify, "b"),
-                (Release, "o"),
-                (RollbackTo, "i"),
-                (Release, "i"),
-                (RollbackTo, "o"),
-            ]
-            .as_slice(),
+            "SAVEPOINT o; NOTIFY c a; SAVEPOINT i; NOTIFY c b; RELEASE o; ROLLBACK i; RELEASE i; ROLLBACK o",
             3,
-            [].as_slice(),
-            ["a", "b"].as_slice(),
+            "NOTIFY c a; NOTIFY c b",
         ),
         (
             "a name that was released",
-            [
-                (Savepoint, "s"),
-                (Notify, "a"),
-                (Release, "s"),
-                (Notify, "b"),
-                (RollbackTo, "s"),
-            ]
-            .as_slice(),
+            "SAVEPOINT s; NOTIFY c a; RELEASE s; NOTIFY c b; ROLLBACK s",
             1,
-            [].as_slice(),
-            ["a", "b"].as_slice(),
+            "NOTIFY c a; NOTIFY c b",
         ),
         (
             "listening in a level that is rolled back",
-            [
-                (Listen, "c"),
-                (Savepoint, "s"),
-                (Listen, "d"),
-                (UnlistenAll, ""),
-                (RollbackTo, "s"),
-                (Unlisten, "e"),
-            ]
-            .as_slice(),
+            "LISTEN c; SAVEPOINT s; LISTEN d; UNLISTEN *; ROLLBACK s; UNLISTEN e",
             0,
-            [(Listen, "c"), (Unlisten, "e")].as_slice(),
-            [].as_slice(),
+            "LISTEN c; UNLISTEN e",
         ),
         (
             "listening in a level that is released",
-            [
-                (Listen, "c"),
-                (Savepoint, "s"),
-                (Notify, "a"),
-                (UnlistenAll, ""),
-                (Release, "s"),
-                (Listen, "c"),
-            ]
-            .as_slice(),
+            "LISTEN c; SAVEPOINT s; NOTIFY c a; UNLISTEN *; RELEASE s; LISTEN c",
             0,
-            [(Listen, "c"), (UnlistenAll, ""), (Listen, "c")].as_slice(),
-            ["a"].as_slice(),
+            "LISTEN c; UNLISTEN *; LISTEN c; NOTIFY c a",
         ),
     ] {
-        let (refused, left) = tell_all(alloc, steps)?;
+        let (refused, actions, notes) = tell_all(alloc, commands)?;
         assert_eq!(rt; refused, refusals, "at {row}");
-        assert!(rt; is_left(&left, actions, payloads), "at {row}");
-        let left = finish_after(alloc, all_calls(alloc, steps)?)?;
-        assert!(rt; is_left(&left, actions, payloads), "at {row}");
+        let left = as_commands(alloc, &actions, &notes)?;
+        assert_eq!(rt; left.as_slice(), want.as_bytes(), "at {row}");
+        let (actions, notes) = finish_after(alloc, all_calls(alloc, commands)?)?;
+        let left = as_commands(alloc, &actions, &notes)?;
+        assert_eq!(rt; left.as_slice(), want.as_bytes(), "at {row}");
     }
     Ok(())
 }
 
+// Each of 300 levels sends its number. Half of them are rolled back and released, from the innermost.
 #[test]
 fn three_hundred_nested_savepoints(rt: HostRuntime) -> Result<(), Fail> {
     let alloc = rt.alloc();
     let name = Name::new(alloc, "s")?;
     let mut pending = Pending::new(alloc);
     for level in 0..300u32 {
-        let payload = format!(in alloc; "{level}")?;
         pending.mark(Name::new(alloc, "s")?)?;
-        tell(&mut pending, call(alloc, (Notify, &payload))?)?;
+        let words = format!(in alloc; "c {level}")?;
+        pending.note(note(alloc, &words)?)?;
     }
     for _ in 0..150u32 {
         assert_eq!(rt; pending.back_to(&name), Ok(()));
@@ -279,8 +201,7 @@ fn three_hundred_nested_savepoints(rt: HostRuntime) -> Result<(), Fail> {
     }
     assert_eq!(rt; pending.release(&name), Err(NoSuch));
     assert_eq!(rt; pending.back_to(&name), Err(NoSuch));
-    let (actions, notes) = pending.finish();
-    assert!(rt; actions.as_slice().is_empty());
+    let (_, notes) = pending.finish();
     assert_eq!(rt; notes.as_slice().len(), 150);
     for (level, note) in notes.as_slice().iter().enumerate() {
         let payload = format!(in alloc; "{level}")?;
