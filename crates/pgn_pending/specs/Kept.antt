@@ -31,11 +31,11 @@ kept_of live = kept (filter_map acted_action live) (filter_map noted_note live) 
 
 -- what is kept is that of this history, after its savepoints and without its repeats
 abbrev pub StandsFor : List Change → Kept → Type 0
-StandsFor changes kept = kept_of (live_changes changes) ≡ kept
+StandsFor changes value = kept_of (live_changes changes) ≡ value
 
 -- some history is kept so
 abbrev pub HasHistory : Kept → Type 0
-HasHistory kept = (changes : List Change) × StandsFor changes kept
+HasHistory value = (changes : List Change) × StandsFor changes value
 
 -- the savepoint has this name
 abbrev pub has_name : List ℕ → Mark → Bool

@@ -17,7 +17,6 @@ mod mark;
 mod pending;
 
 pub use call::{Call, finish_after};
-pub use mark::Mark;
 pub use pending::{NoSuch, Pending, each_has_a_history};
 
 #[cfg(test)]

@@ -3,8 +3,7 @@ ghost use Rattle.pgn_model.specs.Answers.{is_live};
 ghost use Rattle.pgn_model.specs.Savepoints.{Change, Marked, Acted, Noted, Back, Free, live_names, surviving_actions, surviving_notes, firsts};
 ghost use Rattle.pgn_pending.specs.Kept.{HasHistory, StandsFor, is_marked};
 
-use crate::Mark;
-use crate::mark::newest;
+use crate::mark::{Mark, newest};
 use indexmap::IndexSet;
 use pgn_base::{Action, Actions, Name, Note, Notes};
 use std::alloc::{AllocError, Global};

@@ -1,4 +1,4 @@
-use Rattle.std.proofs.Common.{◌≡◌, ◌≤◌, false, [], ◌∷◌, ◌++◌, length, take, vec_capacity, sym, ap, ◌∙◌, arith, length-take}
+use Rattle.std.proofs.Common.{◌≡◌, ◌≤◌, false, [], ◌∷◌, ◌++◌, length, vec_capacity, sym, ap, ◌∙◌, arith, length-take}
 use Rattle.pgn_model.specs.Savepoints.{Back}
 use Rattle.pgn_pending.specs.Kept.{Kept, is_marked}
 use Rattle.pgn_pending.proofs.KeptLemmas.{IsNewest, none-marked, newest-marked, refused, granted, live-is_marked, after-back_none, after-back}
