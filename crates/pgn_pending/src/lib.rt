@@ -7,6 +7,7 @@
 //!
 //! Contracts see a `Pending` as what it keeps, `Kept`, and each call says what this becomes for every history that it stands
 //! for: for every list of changes whose live list, as `live_changes` has it, is kept so. Some history stands for each value.
+//! `finish_after` says the same of a whole list of calls.
 //!
 //! The room for what `finish` hands out is made by `note` and `action`, so that to roll back, to release and to finish take no
 //! memory. A notification is hashed once and its text kept once, whatever the savepoints.
