@@ -1,0 +1,148 @@
+ghost use Rattle.std.specs.Prelude.{◌≡◌, ◌≤◌, ◌↔◌, [], ◌∷◌, ◌++◌, List, length, vec_capacity, false, IsErr, OnOk, OnErr};
+ghost use Rattle.pgn_model.specs.Answers.{is_live};
+ghost use Rattle.pgn_model.specs.Savepoints.{Change, Marked, Acted, Noted, Back, Free, live_names, surviving_actions, surviving_notes, firsts};
+ghost use Rattle.pgn_pending.specs.Kept.{HasHistory, StandsFor, is_marked};
+
+use crate::mark::{Mark, newest};
+use indexmap::IndexSet;
+use pgn_base::{Action, Actions, Name, Note, Notes};
+use std::alloc::{AllocError, Global};
+use std::marker::Model;
+
+/// What a transaction has sent and done so far, and its savepoints. Contracts see it as `Kept`.
+#[derive(Drop)]
+pub struct Pending {
+    actions: Vec<Action>,
+    notes: IndexSet<Note>,
+    marks: Vec<Mark>,
+    // Empty, with room for all the notes: what `finish` puts them into.
+    room: Vec<Note>,
+}
+
+/// No savepoint that stands has the name.
+#[derive(Clone, Copy, Debug, PartialEq, Eq)]
+pub struct NoSuch;
+
+impl Model for Pending {
+    ghost use Rattle.std.specs.Prelude.{◌≡◌, ◌≤◌, [], length, vec_capacity};
+    ghost use Rattle.pgn_pending.specs.Kept.{Kept, HasHistory, kept};
+
+    ghost Value = { Kept };
+
+    ghost view = { λ p. kept p.actions.items p.notes.keys p.marks.items };
+
+    ghost invariant = { λ p. (p.room.items ≡ []) × (length p.notes.keys ≤ vec_capacity p.room)
+        × HasHistory (kept p.actions.items p.notes.keys p.marks.items) };
+}
+
+impl Pending {
+    /// What a transaction has at its start: nothing. It takes no memory.
+    pub fn new(alloc: Global) -> Pending
+        ensures { StandsFor [] result }
+    {
+        Pending {
+            actions: Vec::new(alloc),
+            notes: IndexSet::new(alloc),
+            marks: Vec::new(alloc),
+            room: Vec::new(alloc),
+        }
+    }
+
+    /// NOTIFY. A notification that is kept already stays in its place.
+    pub fn note(&mut self, note: Note) -> Result<(), AllocError>
+        ensures ok { OnOk result ((changes : List Change) → StandsFor changes self.old → StandsFor (changes ++ Noted note ∷ []) self.new) }
+        ensures err { OnErr result (self.new ≡ self.old) }
+    {
+        self.room.reserve(self.notes.len() + 1)?;
+        self.notes.insert(note)?;
+        Ok(())
+    }
+
+    /// LISTEN and UNLISTEN.
+    pub fn action(&mut self, action: Action) -> Result<(), AllocError>
+        ensures ok { OnOk result ((changes : List Change) → StandsFor changes self.old → StandsFor (changes ++ Acted action ∷ []) self.new) }
+        ensures err { OnErr result (self.new ≡ self.old) }
+    {
+        self.actions.push(action)?;
+        Ok(())
+    }
+
+    /// SAVEPOINT.
+    pub fn mark(&mut self, name: Name) -> Result<(), AllocError>
+        ensures ok { OnOk result ((changes : List Change) → StandsFor changes self.old → StandsFor (changes ++ Marked name ∷ []) self.new) }
+        ensures err { OnErr result (self.new ≡ self.old) }
+    {
+        let mark = Mark {
+            name,
+            notes: self.notes.len(),
+            actions: self.actions.len(),
+        };
+        self.marks.push(mark)?;
+        Ok(())
+    }
+
+    /// ROLLBACK TO: drops what came after the newest savepoint of this name, and keeps the savepoint. It takes no memory.
+    pub fn back_to(&mut self, name: &Name) -> Result<(), NoSuch>
+        ensures no_such { IsErr result ↔ (is_marked name.now self.old.marks ≡ false) }
+        ensures not_live { (changes : List Change) → StandsFor changes self.old → (IsErr result ↔ (is_live (live_names changes) name.now ≡ false)) }
+        ensures unchanged { OnErr result (self.new ≡ self.old) }
+        ensures after { (changes : List Change) → StandsFor changes self.old → StandsFor (changes ++ Back name.now ∷ []) self.new }
+    {
+        let Some(at) = newest(&self.marks, name) else {
+            return Err(NoSuch);
+        };
+        let mark = &self.marks[at];
+        self.notes.truncate(mark.notes);
+        self.actions.truncate(mark.actions);
+        self.marks.truncate(at + 1);
+        Ok(())
+    }
+
+    /// RELEASE: drops the newest savepoint of this name and later ones, and keeps what came after. It takes no memory.
+    pub fn release(&mut self, name: &Name) -> Result<(), NoSuch>
+        ensures no_such { IsErr result ↔ (is_marked name.now self.old.marks ≡ false) }
+        ensures not_live { (changes : List Change) → StandsFor changes self.old → (IsErr result ↔ (is_live (live_names changes) name.now ≡ false)) }
+        ensures unchanged { OnErr result (self.new ≡ self.old) }
+        ensures after { (changes : List Change) → StandsFor changes self.old → StandsFor (changes ++ Free name.now ∷ []) self.new }
+    {
+        let Some(from) = newest(&self.marks, name) else {
+            return Err(NoSuch);
+        };
+        self.marks.truncate(from);
+        Ok(())
+    }
+
+    /// The surviving actions, and the surviving notifications without their repeats, each in order. It takes no memory.
+    pub fn finish(self) -> (Actions, Notes)
+        ensures actions { (changes : List Change) → StandsFor changes self → result.0 ≡ surviving_actions changes }
+        ensures notes { (changes : List Change) → StandsFor changes self → result.1 ≡ firsts (surviving_notes changes) }
+    {
+        let Pending {
+            actions,
+            notes,
+            room,
+            ..
+        } = self;
+        (Actions::from_items(actions), in_list(notes, room))
+    }
+}
+
+// The notes of a set, put into a list that has room for them.
+fn in_list(set: IndexSet<Note>, room: Vec<Note>) -> Notes
+    requires empty { room.items ≡ [] }
+    requires fits { length set.keys ≤ vec_capacity room }
+    ensures { result ≡ set.keys }
+{
+    let mut notes = room;
+    for note in set {
+        notes.push(note).unwrap();
+    }
+    Notes::from_items(notes)
+}
+
+/// Each value has a history that it stands for, so that what the calls say of all of them they say of some.
+pub fn each_has_a_history(pending: &Pending)
+    ensures { HasHistory pending.now }
+{
+    let _ = &pending.notes;
+}
