@@ -17,6 +17,7 @@ mod first_zero;
 mod format;
 mod head;
 
+mod laws;
 mod length;
 mod reading;
 
@@ -26,6 +27,7 @@ mod writing;
 pub use entry_fault::EntryFault;
 pub use entry_view::EntryView;
 
+pub use laws::{one_answer, reads_back};
 pub use length::entry_len;
 pub use reading::read_entry;
 
