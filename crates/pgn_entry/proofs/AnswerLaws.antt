@@ -43,7 +43,7 @@ entry_not_refused note db xid pid bytes fault h =
     let some : number_at 4 bytes ≢ 0 = λ none. let of = h.of_database in let is = parts.states.stated_db in absurd (omega arith) in
     let head : HasHead bytes = head_from bytes (subst IsEntryLength (sym len) (entry_lengths note h.valid)) (let room = parts.room in omega arith) in
     let whole : IsWhole (number_at 0 bytes) (body bytes) =
-        subst (λ (n : ℕ). IsWhole n (body bytes)) (sym len) (subst (IsWhole (entry_length note)) (sym parts.whole) (entry_is_whole note h.valid).0) in
+    subst (λ (n : ℕ). IsWhole n (body bytes)) (sym len) (subst (IsWhole (entry_length note)) (sym parts.whole) (entry_is_whole note h.valid).0) in
     entry_refutes bytes fault head some whole
 
 -- no bytes whose parts are those of a filler are refused
@@ -127,14 +127,16 @@ entry_reads : (bytes : List ℕ) → AreBytes bytes → HasHead bytes → (numbe
     → ReadsAs bytes (AnEntry (number_at 0 bytes) (note_of (body bytes)) (number_at 4 bytes) (number_at 8 bytes) (number_at 12 bytes))
 entry_reads bytes are head some whole =
     let tells = head_tells bytes head in
-    let low = tells.0.least in
-    (whole.size, record {
-      valid = whole.valid;
-      numbers = record { db_fits = number_fits 4 bytes are; xid_fits = number_fits 8 bytes are; pid_fits = number_fits 12 bytes are };
-      of_database = omega arith;
-      rest = drop (number_at 0 bytes) bytes;
-      spelling = entry_from_parts bytes are (omega arith) tells.1 whole;
-    })
+    let low = tells.0.least in (
+      whole.size,
+      record {
+        valid = whole.valid;
+        numbers = record { db_fits = number_fits 4 bytes are; xid_fits = number_fits 8 bytes are; pid_fits = number_fits 12 bytes are };
+        of_database = omega arith;
+        rest = drop (number_at 0 bytes) bytes;
+        spelling = entry_from_parts bytes are (omega arith) tells.1 whole;
+      },
+    )
 
 -- a filler whose parts are read begins the bytes
 filler_reads : (bytes : List ℕ) → AreBytes bytes → HasHead bytes → number_at 4 bytes ≡ 0 → IsAllZero (body bytes)

@@ -33,7 +33,7 @@ unfolding spelled
 entry_split note db xid pid rest =
     let head : List ℕ = header (entry_length note) db xid pid in
     let size : length (head ++ (note.channel ++ 0 ∷ []) ++ (note.payload ++ 0 ∷ [])) ≡ 16 + (length note.channel + 1) + (length note.payload + 1) =
-        simp length-append (omega (arith, length-header (entry_length note) db xid pid)) in
+    simp length-append (omega (arith, length-header (entry_length note) db xid pid)) in
     rw size (simp append_assoc)
 
 -- a filler, and bytes after it, from the left
@@ -117,16 +117,18 @@ entry_is_whole note valid =
     let payload : before_first is_zero (after_first is_zero (entry_body note)) ≡ note.payload = ap (before_first is_zero) rest ∙ before_zero note.payload (replicate (fill note) 0) valid.text.no_nul in
     let padding : padding_of (entry_body note) ≡ replicate (fill note) 0 = ap (after_first is_zero) rest ∙ after_zero note.payload (replicate (fill note) 0) valid.text.no_nul in
     let same : note_of (entry_body note) ≡ note =
-        ap (λ (c : List ℕ). let n : Note = record { channel = c; payload = before_first is_zero (after_first is_zero (entry_body note)) } in n) channel
-        ∙ ap (λ (t : List ℕ). let n : Note = record { channel = note.channel; payload = t } in n) payload in
+    ap (λ (c : List ℕ). let n : Note = record { channel = c; payload = before_first is_zero (after_first is_zero (entry_body note)) } in n) channel
+    ∙ ap (λ (t : List ℕ). let n : Note = record { channel = note.channel; payload = t } in n) payload in
     let one = count_zero note.channel tail valid.name.no_nul in
-    let two = count_zero note.payload (replicate (fill note) 0) valid.text.no_nul in
-    (record {
-      zeros = omega (arith, one, two);
-      valid = subst IsNote (sym same) valid;
-      size = ap entry_length (sym same);
-      padding = subst IsAllZero (sym padding) (are_zeros (fill note));
-    }, same)
+    let two = count_zero note.payload (replicate (fill note) 0) valid.text.no_nul in (
+      record {
+        zeros = omega (arith, one, two);
+        valid = subst IsNote (sym same) valid;
+        size = ap entry_length (sym same);
+        padding = subst IsAllZero (sym padding) (are_zeros (fill note));
+      },
+      same,
+    )
 
 -- bytes with enough of them and a length that fits
 pub head_from : (bytes : List ℕ) → IsEntryLength (number_at 0 bytes) → number_at 0 bytes ≤ length bytes → HasHead bytes
@@ -142,9 +144,11 @@ head_from bytes fits room =
 -- the same from what is not wrong with them
 pub head_tells : (bytes : List ℕ) → HasHead bytes → IsEntryLength (number_at 0 bytes) × (number_at 0 bytes ≤ length bytes)
 head_tells bytes h =
-    let len : ℕ = number_at 0 bytes in
-    (record {
-      whole = elim (cases_eq (len % 4) 0) [ inl same ↦ same | inr other ↦ absurd (h.fits (inr (inr other))) ];
-      least = elim (cases_lt len 20) [ inl low ↦ absurd (h.fits (inl low)) | inr high ↦ high ];
-      fits = elim (cases_lt 8192 len) [ inl high ↦ absurd (h.fits (inr (inl high))) | inr low ↦ low ];
-    }, elim (cases_lt (length bytes) len) [ inl few ↦ absurd (h.enough (inr few)) | inr many ↦ many ])
+    let len : ℕ = number_at 0 bytes in (
+      record {
+        whole = elim (cases_eq (len % 4) 0) [ inl same ↦ same | inr other ↦ absurd (h.fits (inr (inr other))) ];
+        least = elim (cases_lt len 20) [ inl low ↦ absurd (h.fits (inl low)) | inr high ↦ high ];
+        fits = elim (cases_lt 8192 len) [ inl high ↦ absurd (h.fits (inr (inl high))) | inr low ↦ low ];
+      },
+      elim (cases_lt (length bytes) len) [ inl few ↦ absurd (h.enough (inr few)) | inr many ↦ many ],
+    )

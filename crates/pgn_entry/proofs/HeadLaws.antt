@@ -38,7 +38,7 @@ header_back bytes are room =
     let third = four_back 8 bytes are (omega arith) in
     let fourth = four_back 12 bytes are (omega arith) in
     let split : take 16 bytes ≡ take 4 bytes ++ take 4 (drop 4 bytes) ++ take 4 (drop 8 bytes) ++ take 4 (drop 12 bytes) =
-        take-add 12 4 bytes ∙ ap (λ (l : List ℕ). l ++ take 4 (drop 12 bytes)) (take-add 8 4 bytes ∙ ap (λ (l : List ℕ). l ++ take 4 (drop 8 bytes)) (take-add 4 4 bytes)) in
+    take-add 12 4 bytes ∙ ap (λ (l : List ℕ). l ++ take 4 (drop 12 bytes)) (take-add 8 4 bytes ∙ ap (λ (l : List ℕ). l ++ take 4 (drop 8 bytes)) (take-add 4 4 bytes)) in
     cc
 
 -- bytes are their head, their body, and what stands after

@@ -11,5 +11,9 @@ pub enum EntryView<'a> {
         payload: &'a [u8],
     },
     /// `len` bytes that say nothing.
-    Filler { len: u32, xid: u32, pid: u32 },
+    Filler {
+        len: u32,
+        xid: u32,
+        pid: u32,
+    },
 }

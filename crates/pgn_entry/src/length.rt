@@ -18,10 +18,7 @@ pub fn length_of(channel: usize, payload: usize) -> usize
 pub fn entry_len(note: &Note) -> u32
     ensures { result ≡ entry_length note.now }
 {
-    length_of(
-        note.channel.as_bytes().len(),
-        note.payload.as_bytes().len(),
-    ) as u32
+    length_of(note.channel.as_bytes().len(), note.payload.as_bytes().len()) as u32
 }
 
 /// Whether an entry or a filler may have this length.

@@ -16,22 +16,18 @@ mod entry_view;
 mod first_zero;
 mod format;
 mod head;
-
 mod laws;
 mod length;
 mod reading;
-
 mod texts;
 mod writing;
 
 pub use entry_fault::EntryFault;
 pub use entry_view::EntryView;
-
 pub use laws::{one_answer, reads_back};
 pub use length::entry_len;
 pub use reading::read_entry;
-
 pub use writing::{write_entry, write_filler};
 
-
-
+#[cfg(test)]
+mod tests;
