@@ -1,8 +1,8 @@
 -- Bytes read as one thing, and what it is follows from what their parts read as.
-use Rattle.std.proofs.Common.{◌≡◌, ◌≢◌, ℕ, ◌+◌, ◌-◌, ◌<◌, ◌≤◌, ◌^◌, List, ◌++◌, length, drop, Result, Ok, Err, refl, sym, ap, subst, ◌∙◌, inl, inr, arith}
-use Rattle.std.specs.Prelude.{count_by, ◌↔◌}
+use Rattle.std.proofs.Common.{◌≡◌, ◌≢◌, ℕ, ◌-◌, List, length, drop, Result, Ok, Err, refl, sym, ap, subst, ◌∙◌, inl, inr, arith}
+use Rattle.std.specs.Prelude.{◌↔◌}
 use Rattle.pgn_base.specs.declared.note.Note.{Note}
-use Rattle.pgn_model.specs.Bytes.{entry_length, spelled, filler, IsNote, IsHead}
+use Rattle.pgn_model.specs.Bytes.{entry_length, filler}
 use Rattle.pgn_model.specs.BytesLaws.{IsEntryLength}
 use Rattle.pgn_model.proofs.BytesLemmas.{entry_lengths, reads_back, none_is_filler, filler_reads_back}
 use Rattle.pgn_entry.specs.declared.entry_fault.EntryFault.{EntryFault}
@@ -10,12 +10,12 @@ use Rattle.pgn_entry.specs.declared.entry_fault.EntryFault.TheVariants.{Short, B
 use Rattle.pgn_entry.specs.declared.entry_view.EntryView.{EntryView}
 use Rattle.pgn_entry.specs.declared.entry_view.EntryView.TheVariants.{Entry, Filler}
 use Rattle.pgn_entry.specs.declared.head.Head.{Head}
-use Rattle.pgn_entry.specs.Reading.{is_zero, number_at, body, IsAllZero, note_of, padding_of, HasHead, LacksZeros, HasBadTexts, HasBadPadding, IsRefused, BeginsEntry, BeginsFiller, Reading, AnEntry, AFiller, AFault, ReadsAs, told}
+use Rattle.pgn_entry.specs.Reading.{number_at, body, IsAllZero, note_of, HasHead, LacksZeros, HasBadTexts, HasBadPadding, IsRefused, BeginsEntry, BeginsFiller, Reading, AnEntry, AFiller, AFault, ReadsAs, told}
 use Rattle.pgn_entry.specs.Parts.{IsHeadOf, IsWhole, BodyReadsAs, FillerReadsAs}
-use Rattle.pgn_entry.specs.Laws.{ReadsAsOne, EntryReadsBack, FillerReadsBack}
+use Rattle.pgn_entry.specs.Laws.{ReadsAsOne}
 use Rattle.pgn_entry.proofs.BodyLaws.{are_zeros}
-use Rattle.pgn_entry.proofs.HeadLaws.{AreBytes, States, number_fits}
-use Rattle.pgn_entry.proofs.BeginsLaws.{entry_body, entry_from_parts, filler_from_parts, Parts, parts_of_entry, parts_of_filler, entry_is_whole, head_from, head_tells}
+use Rattle.pgn_entry.proofs.HeadLaws.{AreBytes, number_fits}
+use Rattle.pgn_entry.proofs.BeginsLaws.{entry_from_parts, filler_from_parts, parts_of_entry, parts_of_filler, entry_is_whole, head_from, head_tells}
 
 -- a body that is whole has no fault
 whole_has_zeros : (len : ℕ) (bytes : List ℕ) → IsWhole len bytes → ¬ (LacksZeros bytes)

@@ -1,18 +1,17 @@
 -- What bytes begin with an entry or a filler: from their parts, and their parts from it.
-use Rattle.std.proofs.Common.{◌≡◌, ◌≢◌, ℕ, ◌+◌, ◌-◌, ◌%◌, ◌^◌, ◌<◌, ◌≤◌, List, [], ◌∷◌, ◌++◌, length, take, drop, replicate, refl, sym, ap, subst, ◌∙◌, inl, inr, arith, append_assoc, length-append}
-use Rattle.std.specs.Prelude.{count_by}
+use Rattle.std.proofs.Common.{◌≡◌, ℕ, ◌+◌, ◌-◌, ◌%◌, ◌^◌, ◌<◌, ◌≤◌, List, [], ◌∷◌, ◌++◌, length, take, drop, replicate, sym, ap, subst, ◌∙◌, inl, inr, arith, append_assoc, length-append}
 use Rattle.std.specs.List.{before_first, after_first}
 use Rattle.std.proofs.lemmas.List.{length-replicate}
 use Rattle.std.proofs.lemmas.Bool.{cases_lt, cases_eq}
 use Rattle.pgn_base.specs.declared.note.Note.{Note}
 use Rattle.pgn_model.specs.Bytes.{header, entry_length, spelled, filler, IsNote, IsHead}
 use Rattle.pgn_model.specs.BytesLaws.{IsEntryLength}
-use Rattle.pgn_model.proofs.BytesLemmas.{length-header, length-spelled, length-filler, entry_lengths}
+use Rattle.pgn_model.proofs.BytesLemmas.{length-header, entry_lengths}
 use Rattle.pgn_entry.specs.Reading.{is_zero, number_at, body, IsAllZero, note_of, padding_of, HasHead, BeginsEntry, BeginsFiller}
 use Rattle.pgn_entry.specs.Parts.{IsWhole}
 use Rattle.pgn_entry.proofs.WrittenLaws.{entry_has_room}
 use Rattle.pgn_entry.proofs.BodyLaws.{body_parts, before_zero, after_zero, count_zero, zeros_are, are_zeros}
-use Rattle.pgn_entry.proofs.HeadLaws.{AreBytes, header_back, parts_back, States, head_states, body_after, number_fits, length-body}
+use Rattle.pgn_entry.proofs.HeadLaws.{AreBytes, header_back, parts_back, States, head_states, body_after, length-body}
 
 -- how many zero bytes fill an entry up
 abbrev pub fill : Note → ℕ

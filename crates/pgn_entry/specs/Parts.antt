@@ -1,5 +1,5 @@
 -- What the parts of bytes read as: the head, the body of an entry, the body of a filler.
-use Rattle.std.specs.Prelude.{◌≡◌, ◌≢◌, ℕ, ◌≤◌, List, count_by}
+use Rattle.std.specs.Prelude.{◌≡◌, ℕ, ◌≤◌, List, count_by}
 use Rattle.pgn_model.specs.Bytes.{entry_length, IsNote}
 use Rattle.pgn_entry.specs.declared.entry_fault.EntryFault.TheVariants.{Short, BadLength, NoNul, BadText, BadPad}
 use Rattle.pgn_entry.specs.declared.head.Head.{Head}

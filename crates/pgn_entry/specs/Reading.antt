@@ -76,7 +76,7 @@ pub record HasHead (bytes : List ℕ) : Type 0 where
   pub enough : ¬ (IsShort bytes)
   pub fits : ¬ (HasBadLength bytes)
 
--- how bytes are refused: the first fault that they have
+-- how bytes are refused, by the first fault that they have; database 0 stands for a filler
 abbrev pub IsRefused : EntryFault → List ℕ → Type 0
 IsRefused Short bytes = IsShort bytes
 IsRefused BadLength bytes = ¬ (IsShort bytes) × HasBadLength bytes

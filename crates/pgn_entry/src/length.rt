@@ -16,7 +16,8 @@ pub fn length_of(channel: usize, payload: usize) -> usize
 
 /// How many bytes `write_entry` writes.
 pub fn entry_len(note: &Note) -> u32
-    ensures { result ≡ entry_length note.now }
+    ensures value { result ≡ entry_length note.now }
+    ensures fits { IsEntryLength result }
 {
     length_of(note.channel.as_bytes().len(), note.payload.as_bytes().len()) as u32
 }

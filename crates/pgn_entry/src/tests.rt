@@ -39,9 +39,15 @@ fn note(alloc: Global, channel: &str, payload: &str) -> Result<Note, Fail> {
 }
 
 // The bytes of an entry, written over bytes that are not zero.
-fn written(alloc: Global, note: &Note, db: u32, xid: u32, pid: u32) -> Result<Vec<u8>, AllocError> {
+fn written(
+    alloc: Global,
+    note: &Note,
+    db: DbOid,
+    xid: Xid,
+    pid: u32,
+) -> Result<Vec<u8>, AllocError> {
     let mut out = vec![in alloc; 0xaa; entry_len(note) as usize]?;
-    write_entry(note, DbOid::new(db), Xid::new(xid), pid, &mut out);
+    write_entry(note, db, xid, pid, &mut out);
     Ok(out)
 }
 
@@ -90,13 +96,13 @@ fn entry_bytes(rt: HostRuntime) -> Result<(), Fail> {
     let alloc = rt.alloc();
     let long = note(alloc, "virtual", "This is the payload")?;
     assert_eq!(rt; entry_len(&long), 44);
-    let bytes = written(alloc, &long, 1, 3, 1001)?;
+    let bytes = written(alloc, &long, DbOid::new(1), Xid::new(3), 1001)?;
     assert_eq!(rt; bytes.as_slice(), LONG.as_slice());
     assert_eq!(rt; read_entry(&LONG), Ok(LONG_VIEW));
 
     let short = note(alloc, "c", "")?;
     assert_eq!(rt; entry_len(&short), 20);
-    let bytes = written(alloc, &short, 7, 4, 1003)?;
+    let bytes = written(alloc, &short, DbOid::new(7), Xid::new(4), 1003)?;
     assert_eq!(rt; bytes.as_slice(), SHORT.as_slice());
     assert_eq!(rt; read_entry(&SHORT), Ok(SHORT_VIEW));
 
@@ -137,7 +143,7 @@ fn largest(rt: HostRuntime) -> Result<(), Fail> {
         payload: Payload::new(alloc, str::from_utf8(&payload)?)?,
     };
     assert_eq!(rt; entry_len(&largest), 8080);
-    let bytes = written(alloc, &largest, 1, 3, 1001)?;
+    let bytes = written(alloc, &largest, DbOid::new(1), Xid::new(3), 1001)?;
     assert_eq!(rt;
         bytes.as_slice(),
         by_hand(alloc, 8080, &channel, &payload)?.as_slice()

@@ -1,4 +1,4 @@
-use Rattle.std.proofs.Common.{◌≡◌, ℕ, ◌<◌, true, false, get_or, length, ap, arith}
+use Rattle.std.proofs.Common.{ap, arith}
 use Rattle.pgn_entry.proofs.SplitLaws.{found_at, found_none}
 use Rattle.pgn_entry.specs.Reading.{is_zero}
 use Rattle.pgn_entry.proofs.first_zero.first_zero.Goals as goal

@@ -1,7 +1,5 @@
-use Rattle.std.proofs.Common.{◌≡◌, ℕ, None, sym, ◌∙◌, arith}
-use Rattle.std.specs.List.{count_by}
+use Rattle.std.proofs.Common.{sym, ◌∙◌, arith}
 use Rattle.pgn_entry.proofs.SplitLaws.{split_none, split_count, split_no_nul}
-use Rattle.pgn_entry.specs.Reading.{is_zero}
 use Rattle.pgn_entry.proofs.texts.split_at_zero.Goals as goal
 
 pub returns-in_err-end-clause-none : goal.returns-in_err-end-clause-none

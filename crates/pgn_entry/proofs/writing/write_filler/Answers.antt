@@ -1,4 +1,4 @@
-use Rattle.std.proofs.Common.{◌≡◌, ◌≤◌, ℕ, length, replicate, refl, arith}
+use Rattle.std.proofs.Common.{◌≡◌, ◌≤◌, length, replicate, refl, arith}
 use Rattle.pgn_model.specs.Bytes.{header}
 use Rattle.pgn_entry.proofs.WrittenLaws.{left_after, filler_stands}
 use Rattle.pgn_entry.proofs.writing.write_filler.Goals as goal

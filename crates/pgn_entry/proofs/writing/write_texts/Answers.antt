@@ -1,4 +1,4 @@
-use Rattle.std.proofs.Common.{◌≡◌, ◌+◌, ◌-◌, List, ℕ, ◌++◌, length, replicate, drop, arith}
+use Rattle.std.proofs.Common.{◌≡◌, ◌+◌, ◌-◌, length, replicate, arith}
 use Rattle.pgn_entry.proofs.WrittenLaws.{texts_written}
 use Rattle.pgn_entry.proofs.writing.write_texts.Goals as goal
 
