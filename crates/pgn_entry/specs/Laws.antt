@@ -9,12 +9,12 @@ use Rattle.pgn_entry.specs.Reading.{Reading, AnEntry, AFiller, ReadsAs}
 abbrev pub ReadsAsOne : Type 0
 ReadsAsOne = (bytes : List ℕ) (a b : Reading) → ReadsAs bytes a → ReadsAs bytes b → a ≡ b
 
--- an entry and any bytes after it read as nothing but its fields, and as these
-abbrev pub EntryReadsBack : List ℕ → Reading → Type 0
-EntryReadsBack bytes answer = (note : Note) (db xid pid : ℕ) (rest : List ℕ) → IsNote note → IsHead db xid pid → 0 < db
-    → bytes ≡ spelled note db xid pid ++ rest → answer ≡ AnEntry (entry_length note) note db xid pid
+-- an entry and any bytes after it read as its fields, and as nothing else
+abbrev pub EntryReadsBack : Type 0
+EntryReadsBack = (note : Note) (db xid pid : ℕ) (rest : List ℕ) → IsNote note → IsHead db xid pid → 0 < db
+    → (answer : Reading) → ReadsAs (spelled note db xid pid ++ rest) answer → answer ≡ AnEntry (entry_length note) note db xid pid
 
--- a filler and any bytes after it read as nothing but its fields, and as these
-abbrev pub FillerReadsBack : List ℕ → Reading → Type 0
-FillerReadsBack bytes answer = (len xid pid : ℕ) (rest : List ℕ) → IsEntryLength len → IsHead 0 xid pid
-    → bytes ≡ filler len xid pid ++ rest → answer ≡ AFiller len xid pid
+-- a filler and any bytes after it read as its fields, and as nothing else
+abbrev pub FillerReadsBack : Type 0
+FillerReadsBack = (len xid pid : ℕ) (rest : List ℕ) → IsEntryLength len → IsHead 0 xid pid
+    → (answer : Reading) → ReadsAs (filler len xid pid ++ rest) answer → answer ≡ AFiller len xid pid
