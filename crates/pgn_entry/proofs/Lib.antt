@@ -1,0 +1,7 @@
+pub mod NumberLaws
+pub mod WrittenLaws
+pub mod SplitLaws
+pub mod BodyLaws
+pub mod HeadLaws
+pub mod BeginsLaws
+pub mod AnswerLaws

@@ -1,0 +1,21 @@
+-- The numbers that byteorder reads and writes are those of the definitions.
+use Rattle.std.proofs.Common.{◌≡◌, ℕ, List, length, drop, refl, ap, ◌∙◌, arith}
+use Rattle.std.specs.Int.{w32, from_le_bytes}
+use Rattle.std.specs.List.{between}
+use Rattle.std.proofs.lemmas.Slice.{between_to_end}
+use Rattle.byteorder.specs.Endian.{little_number, little_bytes}
+use Rattle.pgn_model.specs.Bytes.{four_bytes}
+use Rattle.pgn_entry.specs.Reading.{number_at}
+
+-- byteorder reads the number of std's words from four bytes
+pub little_number_is : (bytes : List ℕ) → little_number 4 bytes ≡ from_le_bytes w32 bytes
+little_number_is bytes = omega arith
+
+-- byteorder writes the bytes of std's words for a number
+pub little_bytes_are : (n : ℕ) → little_bytes 4 n ≡ four_bytes n
+little_bytes_are n = refl
+
+-- a number that byteorder reads from a place on
+pub read_at : (place : ℕ) (bytes : List ℕ) → little_number 4 (between place (length bytes) bytes) ≡ number_at place bytes
+unfolding number_at
+read_at place bytes = ap (little_number 4) (between_to_end bytes place (length bytes) (omega arith)) ∙ little_number_is (drop place bytes)

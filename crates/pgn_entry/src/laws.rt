@@ -1,0 +1,18 @@
+ghost use Rattle.pgn_entry.specs.Laws.{ReadsAsOne, EntryReadsBack, FillerReadsBack};
+ghost use Rattle.pgn_entry.specs.Reading.{Reading, ReadsAs};
+
+use crate::read_entry;
+
+/// Any bytes read as one thing, an entry, a filler or a fault, and as no other.
+pub fn one_answer(bytes: &[u8])
+    ensures some { (answer : Reading) × ReadsAs bytes.now answer }
+    ensures no_other { ReadsAsOne }
+{
+    let _answer = read_entry(bytes);
+}
+
+/// Whatever follows an entry or a filler, its fields are read back.
+pub fn reads_back()
+    ensures entry { EntryReadsBack }
+    ensures filler { FillerReadsBack }
+{}

@@ -1,0 +1,30 @@
+ghost use Rattle.std.specs.Prelude.{◌≡◌, ◌+◌, ◌<◌, ◌↔◌, IsTrue};
+ghost use Rattle.pgn_model.specs.Bytes.{header_bytes, aligned, entry_length};
+ghost use Rattle.pgn_model.specs.BytesLaws.{IsEntryLength};
+
+use crate::format::{ALIGNMENT, HEADER_BYTES, LEAST_BYTES, PAGE_BYTES};
+use pgn_base::Note;
+
+/// The length of an entry with a channel and a payload of so many bytes: each has a zero byte after it.
+pub fn length_of(channel: usize, payload: usize) -> usize
+    requires name { channel < 64 }
+    requires text { payload < 8000 }
+    ensures { result ≡ aligned (header_bytes + (channel + 1) + (payload + 1)) }
+{
+    (HEADER_BYTES + (channel + 1) + (payload + 1)).div_ceil(ALIGNMENT) * ALIGNMENT
+}
+
+/// How many bytes `write_entry` writes.
+pub fn entry_len(note: &Note) -> u32
+    ensures value { result ≡ entry_length note.now }
+    ensures fits { IsEntryLength result }
+{
+    length_of(note.channel.as_bytes().len(), note.payload.as_bytes().len()) as u32
+}
+
+/// Whether an entry or a filler may have this length.
+pub fn is_entry_length(len: usize) -> bool
+    ensures { IsTrue result ↔ IsEntryLength len }
+{
+    LEAST_BYTES <= len && len <= PAGE_BYTES && len % ALIGNMENT == 0
+}

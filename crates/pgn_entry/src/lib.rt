@@ -1,0 +1,33 @@
+//! The queue's entries and fillers as bytes.
+//!
+//! Everything that a listener receives has been these bytes on a page. `write_entry` and `write_filler` write the one spelling of
+//! an entry and of a filler, for the whole slice that they are given. `read_entry` accepts these spellings and nothing else: it
+//! gives the fields back where the bytes begin with a spelling, and else the first fault that they have.
+//!
+//! An entry is its length, its database, its transaction and the process number of its sender, four bytes each with the lowest
+//! first, then the channel and the payload, each with a zero byte after it, and zero bytes up to its length. A filler is such a
+//! head with database 0, and zero bytes. Both definitions are `spelled` and `filler` of `pgn_model`.
+//!
+//! None of these calls takes memory. What is read is shown as parts of the bytes that were given.
+#![tactic(auto)]
+
+mod entry_fault;
+mod entry_view;
+mod first_zero;
+mod format;
+mod head;
+mod laws;
+mod length;
+mod reading;
+mod texts;
+mod writing;
+
+pub use entry_fault::EntryFault;
+pub use entry_view::EntryView;
+pub use laws::{one_answer, reads_back};
+pub use length::entry_len;
+pub use reading::read_entry;
+pub use writing::{write_entry, write_filler};
+
+#[cfg(test)]
+mod tests;
