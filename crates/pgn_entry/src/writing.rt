@@ -18,8 +18,8 @@ fn write_texts(channel: &[u8], payload: &[u8], out: &mut [u8])
     out[payload_at..payload_at + payload.len()].copy_from_slice(payload);
 }
 
-#[tactic(auto, using(crate::proofs::WrittenLaws::entry_has_room))]
 /// Writes the entry of a notification over all of `out`.
+#[tactic(auto, using(crate::proofs::WrittenLaws::entry_has_room))]
 pub fn write_entry(note: &Note, db: DbOid, xid: Xid, pid: u32, out: &mut [u8])
     requires { length out.old ≡ entry_length note.now }
     ensures { out.new ≡ spelled note.now db xid pid }
