@@ -153,9 +153,9 @@ fn what_is_left_of_a_transaction(rt: HostRuntime) -> Result<(), Fail> {
         ),
         (
             "a name that was released",
-            "SAVEPOINT s; NOTIFY c a; RELEASE s; NOTIFY c b; ROLLBACK s",
+            "LISTEN c; SAVEPOINT s; NOTIFY c a; RELEASE s; NOTIFY c b; ROLLBACK s",
             1,
-            "NOTIFY c a; NOTIFY c b",
+            "LISTEN c; NOTIFY c a; NOTIFY c b",
         ),
         (
             "listening in a level that is rolled back",
