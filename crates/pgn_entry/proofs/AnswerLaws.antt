@@ -1,8 +1,8 @@
 -- Bytes read as one thing, and what it is follows from what their parts read as.
-use Rattle.std.proofs.Common.{◌≡◌, ◌≢◌, ℕ, ◌-◌, List, length, drop, Result, Ok, Err, refl, sym, ap, subst, ◌∙◌, inl, inr, arith}
+use Rattle.std.proofs.Common.{◌≡◌, ◌≢◌, ℕ, ◌-◌, List, drop, Result, Ok, Err, refl, sym, ap, subst, ◌∙◌, inl, inr, arith}
 use Rattle.std.specs.Prelude.{◌↔◌}
 use Rattle.pgn_base.specs.declared.note.Note.{Note}
-use Rattle.pgn_model.specs.Bytes.{entry_length, filler}
+use Rattle.pgn_model.specs.Bytes.{entry_length}
 use Rattle.pgn_model.specs.BytesLaws.{IsEntryLength}
 use Rattle.pgn_model.proofs.BytesLemmas.{entry_lengths, reads_back, none_is_filler, filler_reads_back}
 use Rattle.pgn_entry.specs.declared.entry_fault.EntryFault.{EntryFault}
@@ -211,20 +211,3 @@ exact bytes answer r = record {
   filler = λ len xid pid. answers bytes answer r (AFiller len xid pid);
   refused = refuses bytes answer r;
 }
-
--- what an answer tells, where that is exact, the bytes read as
-pub reads_as_some : (bytes : List ℕ) (answer : Result EntryView EntryFault)
-    → ((len : ℕ) (note : Note) (db xid pid : ℕ) → (told answer ≡ AnEntry len note db xid pid) ↔ ((len ≡ entry_length note) × BeginsEntry note db xid pid bytes))
-    → ((len xid pid : ℕ) → (told answer ≡ AFiller len xid pid) ↔ BeginsFiller len xid pid bytes)
-    → (answer ≡ Err Short) ↔ IsRefused Short bytes → (answer ≡ Err BadLength) ↔ IsRefused BadLength bytes → (answer ≡ Err NoNul) ↔ IsRefused NoNul bytes
-    → (answer ≡ Err BadText) ↔ IsRefused BadText bytes → (answer ≡ Err BadPad) ↔ IsRefused BadPad bytes
-    → ReadsAs bytes (told answer)
-reads_as_some bytes (Ok (Entry len db xid pid channel payload)) entry filler short length nul text pad =
-    let note : Note = record { channel = channel.now; payload = payload.now } in
-    (entry len note db xid pid).0 refl
-reads_as_some bytes (Ok (Filler len xid pid)) entry filler short length nul text pad = (filler len xid pid).0 refl
-reads_as_some bytes (Err Short) entry filler short length nul text pad = short.0 refl
-reads_as_some bytes (Err BadLength) entry filler short length nul text pad = length.0 refl
-reads_as_some bytes (Err NoNul) entry filler short length nul text pad = nul.0 refl
-reads_as_some bytes (Err BadText) entry filler short length nul text pad = text.0 refl
-reads_as_some bytes (Err BadPad) entry filler short length nul text pad = pad.0 refl

@@ -1,7 +1,8 @@
 /// What bytes begin with. The channel and the payload are parts of the bytes that were read.
 #[derive(Clone, Copy, Debug, PartialEq, Eq)]
 pub enum EntryView<'a> {
-    /// A notification of the database `db`, in `len` bytes.
+    /// A notification, in `len` bytes. `db` is its sender's database, from 1, `xid` the transaction and `pid` the process number
+    /// of its sender, each any number of 32 bits.
     Entry {
         len: u32,
         db: u32,
@@ -10,7 +11,7 @@ pub enum EntryView<'a> {
         channel: &'a [u8],
         payload: &'a [u8],
     },
-    /// `len` bytes that say nothing.
+    /// `len` bytes that say nothing, written by this transaction and process.
     Filler {
         len: u32,
         xid: u32,

@@ -6,12 +6,12 @@ use crate::format::{ALIGNMENT, HEADER_BYTES, LEAST_BYTES, PAGE_BYTES};
 use pgn_base::Note;
 
 /// The length of an entry with a channel and a payload of so many bytes: each has a zero byte after it.
-pub fn length_of(channel: usize, payload: usize) -> usize
-    requires name { channel < 64 }
-    requires text { payload < 8000 }
-    ensures { result ≡ aligned (header_bytes + (channel + 1) + (payload + 1)) }
+pub fn length_of(channel_len: usize, payload_len: usize) -> usize
+    requires name { channel_len < 64 }
+    requires text { payload_len < 8000 }
+    ensures { result ≡ aligned (header_bytes + (channel_len + 1) + (payload_len + 1)) }
 {
-    (HEADER_BYTES + (channel + 1) + (payload + 1)).div_ceil(ALIGNMENT) * ALIGNMENT
+    (HEADER_BYTES + (channel_len + 1) + (payload_len + 1)).div_ceil(ALIGNMENT) * ALIGNMENT
 }
 
 /// How many bytes `write_entry` writes.
@@ -26,5 +26,5 @@ pub fn entry_len(note: &Note) -> u32
 pub fn is_entry_length(len: usize) -> bool
     ensures { IsTrue result ↔ IsEntryLength len }
 {
-    LEAST_BYTES <= len && len <= PAGE_BYTES && len % ALIGNMENT == 0
+    (LEAST_BYTES..=PAGE_BYTES).contains(&len) && len % ALIGNMENT == 0
 }

@@ -2,7 +2,7 @@ ghost use Rattle.std.specs.Prelude.{◌≡◌, ℕ, ◌↔◌, IfOk, IfErr, IsEr
 ghost use Rattle.pgn_base.specs.declared.note.Note.{Note};
 ghost use Rattle.pgn_model.specs.Bytes.{entry_length};
 ghost use Rattle.pgn_entry.specs.Parts.{IsHeadOf, BodyReadsAs, FillerReadsAs};
-ghost use Rattle.pgn_entry.specs.Reading.{IsRefused, BeginsEntry, BeginsFiller, AnEntry, AFiller, body, told};
+ghost use Rattle.pgn_entry.specs.Reading.{IsRefused, BeginsEntry, BeginsFiller, AnEntry, AFiller, ReadsAs, body, told};
 
 use crate::format::{HEADER_BYTES, LEAST_BYTES};
 use crate::head::Head;
@@ -10,7 +10,7 @@ use crate::length::{is_entry_length, length_of};
 use crate::texts::{is_all_zero, is_name, is_payload, split_at_zero};
 use crate::{EntryFault, EntryView};
 
-/// The head of these bytes and the body after it, where there are as many bytes as it says and it says a length that fits.
+// The head of these bytes and the body after it, where there are as many bytes as it says and it says a length that fits.
 #[tactic(auto, unfolding(crate::specs::Reading::body))]
 fn read_head(bytes: &[u8]) -> Result<(Head, &[u8]), EntryFault>
     ensures head { IfOk result (λ parts. IsHeadOf bytes.now parts.0) }
@@ -31,7 +31,7 @@ fn read_head(bytes: &[u8]) -> Result<(Head, &[u8]), EntryFault>
     Ok((head, &bytes[HEADER_BYTES..len]))
 }
 
-/// The filler with this head, whose body stands after it up to its length.
+// The filler with this head, whose body stands after it up to its length.
 fn read_filler<'a>(head: &Head, body: &[u8]) -> Result<EntryView<'a>, EntryFault>
     ensures { FillerReadsAs head.now body.now (told result) }
 {
@@ -45,7 +45,7 @@ fn read_filler<'a>(head: &Head, body: &[u8]) -> Result<EntryView<'a>, EntryFault
     })
 }
 
-/// The entry with this head, whose body stands after it up to its length.
+// The entry with this head, whose body stands after it up to its length.
 #[tactic(auto, unfolding(pgn_model::specs::Bytes::entry_length))]
 fn read_body<'a>(head: &Head, body: &'a [u8]) -> Result<EntryView<'a>, EntryFault>
     ensures { BodyReadsAs head.now body.now (told result) }
@@ -71,6 +71,7 @@ fn read_body<'a>(head: &Head, body: &'a [u8]) -> Result<EntryView<'a>, EntryFaul
 
 /// The entry or the filler that these bytes begin with, whatever follows it. The faults are tested in the order of `EntryFault`.
 pub fn read_entry(bytes: &[u8]) -> Result<EntryView<'_>, EntryFault>
+    ensures reads { ReadsAs bytes.now (told result) }
     ensures entry { (len : ℕ) (note : Note) (db xid pid : ℕ) → (told result ≡ AnEntry len note db xid pid) ↔ ((len ≡ entry_length note) × BeginsEntry note db xid pid bytes.now) }
     ensures filler { (len xid pid : ℕ) → (told result ≡ AFiller len xid pid) ↔ BeginsFiller len xid pid bytes.now }
     ensures short { IsErrOf result EntryFault.Short ↔ IsRefused EntryFault.Short bytes.now }

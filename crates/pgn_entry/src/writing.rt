@@ -7,7 +7,7 @@ use crate::head::Head;
 use crate::length::entry_len;
 use pgn_base::{DbOid, Note, Xid};
 
-/// Writes the texts, each with a zero byte after it, and zero bytes up to the end of `out`.
+// Writes the texts, each with a zero byte after it, and zero bytes up to the end of `out`.
 fn write_texts(channel: &[u8], payload: &[u8], out: &mut [u8])
     requires { (length channel.now + 1) + (length payload.now + 1) ≤ length out.old }
     ensures { out.new ≡ padded (length out.old) ((channel.now ++ 0 ∷ []) ++ (payload.now ++ 0 ∷ [])) }

@@ -7,17 +7,23 @@ use crate::Pending;
 use pgn_base::{Action, Actions, Name, Note, Notes};
 use std::alloc::{AllocError, Global};
 
-/// A call on a `Pending`.
+/// A call on a `Pending`, which is a command of a transaction.
 #[derive(Debug, Drop)]
 pub enum Call {
+    /// NOTIFY or pg_notify.
     Note(Note),
+    /// LISTEN or UNLISTEN.
     Action(Action),
+    /// SAVEPOINT.
     Mark(Name),
+    /// ROLLBACK TO.
     BackTo(Name),
+    /// RELEASE.
     Release(Name),
 }
 
-/// What is left after these calls, one after another. Those of a name that no savepoint has are passed over.
+/// What is left after these calls, one after another. A ROLLBACK TO or RELEASE of a name that no savepoint has is passed over.
+/// The error is that memory did not suffice for one of them.
 pub fn finish_after(alloc: Global, calls: Vec<Call>) -> Result<(Actions, Notes), AllocError>
     ensures actions { IfOk result (λ left. left.0 ≡ surviving_actions (map change_of calls.items)) }
     ensures notes { IfOk result (λ left. left.1 ≡ firsts (surviving_notes (map change_of calls.items))) }

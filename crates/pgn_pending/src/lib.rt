@@ -5,12 +5,12 @@
 //! what came after the savepoint and keeps the savepoint, RELEASE drops the savepoint and later ones and keeps what came after,
 //! and of equal names the newest is meant.
 //!
-//! Contracts see a `Pending` as what it keeps, `Kept`, and each call says what this becomes for every history that it stands
-//! for: for every list of changes whose live list, as `live_changes` has it, is kept so. Some history stands for each value.
-//! `finish_after` says the same of a whole list of calls.
+//! Contracts see a `Pending` as what it keeps, `Kept`. It stands for a history, a list of changes, where the live list of that
+//! history, as `live_changes` has it, is kept so. Each value stands for some history, and each call says for every history of the
+//! old value what the new value stands for. `finish_after` says the same of a whole list of calls.
 //!
-//! The room for what `finish` hands out is made by `note` and `action`, so that to roll back, to release and to finish take no
-//! memory. A notification is hashed once and its text kept once, whatever the savepoints.
+//! The room for what `finish` hands out is made by `note` and `action`, so that to roll back, to release and to finish cannot be
+//! refused for want of memory. A notification is hashed once and its text kept once, whatever the savepoints.
 #![tactic(auto)]
 
 mod call;

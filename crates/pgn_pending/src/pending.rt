@@ -10,7 +10,7 @@ use std::alloc::{AllocError, Global};
 use std::marker::Model;
 
 /// What a transaction has sent and done so far, and its savepoints. Contracts see it as `Kept`.
-#[derive(Drop)]
+#[derive(Debug, Drop)]
 pub struct Pending {
     actions: Vec<Action>,
     notes: IndexSet<Note>,
@@ -48,7 +48,7 @@ impl Pending {
         }
     }
 
-    /// NOTIFY. A notification that is kept already stays in its place.
+    /// NOTIFY. A notification that is kept already stays in its place. Where memory does not suffice, nothing changes.
     pub fn note(&mut self, note: Note) -> Result<(), AllocError>
         ensures ok { OnOk result ((changes : List Change) → StandsFor changes self.old → StandsFor (changes ++ Noted note ∷ []) self.new) }
         ensures err { OnErr result (self.new ≡ self.old) }
@@ -58,7 +58,7 @@ impl Pending {
         Ok(())
     }
 
-    /// LISTEN and UNLISTEN.
+    /// LISTEN and UNLISTEN. Where memory does not suffice, nothing changes.
     pub fn action(&mut self, action: Action) -> Result<(), AllocError>
         ensures ok { OnOk result ((changes : List Change) → StandsFor changes self.old → StandsFor (changes ++ Acted action ∷ []) self.new) }
         ensures err { OnErr result (self.new ≡ self.old) }
@@ -67,7 +67,7 @@ impl Pending {
         Ok(())
     }
 
-    /// SAVEPOINT.
+    /// SAVEPOINT. Where memory does not suffice, nothing changes.
     pub fn mark(&mut self, name: Name) -> Result<(), AllocError>
         ensures ok { OnOk result ((changes : List Change) → StandsFor changes self.old → StandsFor (changes ++ Marked name ∷ []) self.new) }
         ensures err { OnErr result (self.new ≡ self.old) }
@@ -81,7 +81,8 @@ impl Pending {
         Ok(())
     }
 
-    /// ROLLBACK TO: drops what came after the newest savepoint of this name, and keeps the savepoint. It takes no memory.
+    /// ROLLBACK TO: drops what came after the newest savepoint of this name, later savepoints too, and keeps this one. It takes no
+    /// memory. `NoSuch` where no savepoint that stands has the name; nothing changes then.
     pub fn back_to(&mut self, name: &Name) -> Result<(), NoSuch>
         ensures no_such { IsErr result ↔ (is_marked name.now self.old.marks ≡ false) }
         ensures not_live { (changes : List Change) → StandsFor changes self.old → (IsErr result ↔ (is_live (live_names changes) name.now ≡ false)) }
@@ -98,7 +99,8 @@ impl Pending {
         Ok(())
     }
 
-    /// RELEASE: drops the newest savepoint of this name and later ones, and keeps what came after. It takes no memory.
+    /// RELEASE: drops the newest savepoint of this name and later ones, and keeps what came after. It takes no memory. `NoSuch`
+    /// where no savepoint that stands has the name; nothing changes then.
     pub fn release(&mut self, name: &Name) -> Result<(), NoSuch>
         ensures no_such { IsErr result ↔ (is_marked name.now self.old.marks ≡ false) }
         ensures not_live { (changes : List Change) → StandsFor changes self.old → (IsErr result ↔ (is_live (live_names changes) name.now ≡ false)) }
@@ -140,9 +142,10 @@ fn in_list(set: IndexSet<Note>, room: Vec<Note>) -> Notes
     Notes::from_items(notes)
 }
 
-/// Each value has a history that it stands for, so that what the calls say of all of them they say of some.
+/// Each value stands for some history, so that what the calls say of all of its histories they say of one.
 pub fn each_has_a_history(pending: &Pending)
     ensures { HasHistory pending.now }
 {
+    // A field is named, so that the type's invariant is at hand.
     let _ = &pending.notes;
 }

@@ -134,6 +134,24 @@ fn what_is_left_of_a_transaction(rt: HostRuntime) -> Result<(), Fail> {
             "NOTIFY c a; NOTIFY c b",
         ),
         (
+            "a repeat in a level that is released",
+            "NOTIFY c a; SAVEPOINT s; NOTIFY c a; NOTIFY c b; RELEASE s",
+            0,
+            "NOTIFY c a; NOTIFY c b",
+        ),
+        (
+            "a repeat in a level that stands at the end",
+            "NOTIFY c a; SAVEPOINT s; NOTIFY c b; NOTIFY c a",
+            0,
+            "NOTIFY c a; NOTIFY c b",
+        ),
+        (
+            "back to an outer savepoint",
+            "SAVEPOINT o; NOTIFY c a; SAVEPOINT i; NOTIFY c b; ROLLBACK o; ROLLBACK i; RELEASE i; NOTIFY c d",
+            2,
+            "NOTIFY c d",
+        ),
+        (
             "one payload on two channels",
             "NOTIFY c a; NOTIFY d a; NOTIFY c a",
             0,
