@@ -1,16 +1,12 @@
 -- What a transaction's actions do to a listening set.
-use Rattle.std.specs.Prelude.{ℕ, Bool, cond, not, List, [], ◌∷◌, ◌++◌, bytes_eq, filter}
-use Rattle.std.specs.List.{list_any}
+use Rattle.std.specs.Prelude.{ℕ, cond, not, List, [], ◌∷◌, ◌++◌, bytes_eq, filter}
+use Rattle.pgn_base.specs.Names.{has_name}
 use Rattle.pgn_base.specs.declared.listen_set.Action.{Action}
 use Rattle.pgn_base.specs.declared.listen_set.Action.TheVariants.{Listen, Unlisten, UnlistenAll}
 
--- the channel is in the set
-abbrev pub has_channel : List (List ℕ) → List ℕ → Bool
-has_channel set channel = list_any (bytes_eq channel) set
-
 -- a set after one action: a channel that is listened to is put at the end where it is absent
 abbrev pub after_action : List (List ℕ) → Action → List (List ℕ)
-after_action set (Listen channel) = cond (has_channel set channel) set (set ++ channel ∷ [])
+after_action set (Listen channel) = cond (has_name set channel) set (set ++ channel ∷ [])
 after_action set (Unlisten channel) = filter (λ other. not (bytes_eq channel other)) set
 after_action set UnlistenAll = []
 

@@ -1,4 +1,5 @@
 pub mod Texts
+pub mod Names
 pub mod Channels
 pub mod Outside
 pub mod Memory

@@ -16,11 +16,11 @@ pub record HasCause {T E : Type 0} (before now : ℕ) (result : Result T E) : Ty
   pub failed : OnErr result (Rose before now)
 
 -- known bytes grow by a front of a text
-abbrev pub AppendsFront : Option (List ℕ) → Option (List ℕ) → List ℕ → Type 0
-AppendsFront None new text = Unit {0}
-AppendsFront (Some xs) None text = ⊥
-AppendsFront (Some xs) (Some ys) text = (front : List ℕ) × (rest : List ℕ) × (text ≡ front ++ rest) × (ys ≡ xs ++ front)
+abbrev pub AppendsPrefix : Option (List ℕ) → Option (List ℕ) → List ℕ → Type 0
+AppendsPrefix None new text = Unit {0}
+AppendsPrefix (Some xs) None text = ⊥
+AppendsPrefix (Some xs) (Some ys) text = (front : List ℕ) × (rest : List ℕ) × (text ≡ front ++ rest) × (ys ≡ xs ++ front)
 
 -- known bytes grow by a text, or by a front of it where the call fails
 abbrev pub Writes : {T E : Type 0} → Option (List ℕ) → Option (List ℕ) → Result T E → List ℕ → Type 0
-Writes old new result text = MatchResult result (λ _. Appends old new text) (λ _. AppendsFront old new text)
+Writes old new result text = MatchResult result (λ _. Appends old new text) (λ _. AppendsPrefix old new text)

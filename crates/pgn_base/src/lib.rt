@@ -10,6 +10,8 @@
 
 mod answers;
 mod copied;
+mod format;
+mod limits;
 mod listen_set;
 mod memory_sink;
 mod memory_source;
@@ -24,6 +26,11 @@ mod source;
 
 pub use answers::{Needs, Refusal, Tag, Warning, Which};
 pub use copied::Copied;
+pub use format::Format;
+pub use limits::{
+    CELL_BYTES, FIRST_XID, FLAGS_MAX, INPUT_BYTES_MAX, LINE_BYTES_MAX, NAME_BYTES_MAX, NOTE_LINES_MAX,
+    PAGES_DEFAULT, PAGE_BYTES, PATIENCE_DEFAULT, PAYLOAD_BYTES_MAX, PID_BASE, REPEATS_MAX, SECTIONS_MAX,
+};
 pub use listen_set::{Action, Actions, ListenSet};
 pub use memory_sink::MemSink;
 pub use memory_source::MemSource;

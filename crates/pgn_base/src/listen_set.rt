@@ -45,7 +45,8 @@ impl Model for ListenSet {
 }
 
 impl ListenSet {
-    ghost use Rattle.pgn_base.specs.Channels.{applied, after_action, has_channel};
+    ghost use Rattle.pgn_base.specs.Names.{has_name};
+    ghost use Rattle.pgn_base.specs.Channels.{applied, after_action};
 
     /// The empty set. It takes no memory.
     pub fn new(alloc: Global) -> ListenSet
@@ -102,7 +103,7 @@ impl ListenSet {
     }
 
     pub fn contains(&self, channel: &[u8]) -> bool
-        ensures { result ≡ has_channel self.now channel.now }
+        ensures { result ≡ has_name self.now channel.now }
     {
         self.channels.iter().any(|name| channel == name.as_bytes())
     }

@@ -6,7 +6,7 @@ ghost use Rattle.std.specs.Cmp.Lexicographic.{nat_list_eq_equiv};
 ghost use Rattle.std.specs.Cmp.Rules.{hashing};
 ghost use Rattle.pgn_base.specs.Texts.{IsName};
 
-use crate::{Copied, Seq};
+use crate::{Copied, NAME_BYTES_MAX, Seq};
 use arrayvec::ArrayString;
 use std::alloc::{AllocError, Global};
 use std::hash::{Hash, Hasher};
@@ -16,7 +16,7 @@ use std::marker::Model;
 /// itself, as PostgreSQL's `NameData` does. Contracts see its bytes.
 #[derive(Debug, Drop)]
 pub struct Name {
-    text: ArrayString<63>,
+    text: ArrayString<NAME_BYTES_MAX>,
 }
 
 pub type Names = Seq<Name>;
@@ -46,13 +46,13 @@ impl Name {
     pub fn new(_alloc: Global, text: &str) -> Result<Name, NameFault>
         ensures ok { IfOk result (λ name. name ≡ text.now) }
         ensures empty { IsErrOf result NameFault.Empty ↔ (text.now ≡ []) }
-        ensures too_long { IsErrOf result NameFault.TooLong ↔ (64 ≤ length text.now) }
-        ensures nul { IsErrOf result NameFault.Nul ↔ ((length text.now < 64) × Contains text.now 0) }
+        ensures too_long { IsErrOf result NameFault.TooLong ↔ (NAME_BYTES_MAX < length text.now) }
+        ensures nul { IsErrOf result NameFault.Nul ↔ ((length text.now ≤ NAME_BYTES_MAX) × Contains text.now 0) }
     {
         if text.is_empty() {
             return Err(NameFault::Empty);
         }
-        if text.len() >= 64 {
+        if text.len() > NAME_BYTES_MAX {
             return Err(NameFault::TooLong);
         }
         if text.as_bytes().contains(&0) {

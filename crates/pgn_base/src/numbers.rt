@@ -1,5 +1,6 @@
 ghost use Rattle.std.specs.Prelude.{◌≡◌, ◌^◌, ◌<◌, ◌≤◌};
 
+use crate::{FIRST_XID, SECTIONS_MAX};
 use std::marker::Model;
 
 /// A session's number in its scenario, from 1 to 256.
@@ -10,12 +11,13 @@ pub struct SessionNo {
 
 impl Model for SessionNo {
     ghost use Rattle.std.specs.Prelude.{ℕ, ◌≤◌};
+    ghost use Rattle.pgn_base.specs.declared.limits.TheConstants.{SECTIONS_MAX};
 
     ghost Value = { ℕ };
 
     ghost view = { λ session. session.number };
 
-    ghost invariant = { λ session. (1 ≤ session.number) × (session.number ≤ 256) };
+    ghost invariant = { λ session. (1 ≤ session.number) × (session.number ≤ SECTIONS_MAX) };
 
     ghost inverse = { λ n. record { number = n } };
 }
@@ -23,7 +25,7 @@ impl Model for SessionNo {
 impl SessionNo {
     pub fn new(n: u32) -> Self
         requires positive { 1 ≤ n }
-        requires within { n ≤ 256 }
+        requires within { n ≤ SECTIONS_MAX }
         ensures { result ≡ n }
     {
         SessionNo { number: n }
@@ -32,7 +34,7 @@ impl SessionNo {
     pub fn get(&self) -> u32
         ensures value { result ≡ self.now }
         ensures positive { 1 ≤ self.now }
-        ensures within { self.now ≤ 256 }
+        ensures within { self.now ≤ SECTIONS_MAX }
     {
         self.number
     }
@@ -82,19 +84,20 @@ pub struct Xid {
 
 impl Model for Xid {
     ghost use Rattle.std.specs.Prelude.{ℕ, ◌^◌, ◌<◌, ◌≤◌};
+    ghost use Rattle.pgn_base.specs.declared.limits.TheConstants.{FIRST_XID};
 
     ghost Value = { ℕ };
 
     ghost view = { λ xid. xid.number };
 
-    ghost invariant = { λ xid. (3 ≤ xid.number) × (xid.number < 2 ^ 32) };
+    ghost invariant = { λ xid. (FIRST_XID ≤ xid.number) × (xid.number < 2 ^ 32) };
 
     ghost inverse = { λ n. record { number = n } };
 }
 
 impl Xid {
     pub fn new(n: u32) -> Self
-        requires { 3 ≤ n }
+        requires { FIRST_XID ≤ n }
         ensures { result ≡ n }
     {
         Xid { number: n }
@@ -102,7 +105,7 @@ impl Xid {
 
     pub fn get(&self) -> u32
         ensures value { result ≡ self.now }
-        ensures first { 3 ≤ self.now }
+        ensures first { FIRST_XID ≤ self.now }
         ensures within { self.now < 2 ^ 32 }
     {
         self.number

@@ -6,7 +6,7 @@ ghost use Rattle.std.specs.Cmp.Lexicographic.{nat_list_eq_equiv};
 ghost use Rattle.std.specs.Cmp.Rules.{hashing};
 ghost use Rattle.pgn_base.specs.Texts.{IsPayload};
 
-use crate::Copied;
+use crate::{Copied, PAYLOAD_BYTES_MAX};
 use std::alloc::{AllocError, Global};
 use std::hash::{Hash, Hasher};
 use std::marker::Model;
@@ -40,10 +40,10 @@ impl Payload {
     /// The payload of this text. The faults are tested in the order of `PayloadFault`.
     pub fn new(alloc: Global, text: &str) -> Result<Payload, PayloadFault>
         ensures ok { IfOk result (λ payload. payload ≡ text.now) }
-        ensures too_long { IsErrOf result PayloadFault.TooLong ↔ (8000 ≤ length text.now) }
-        ensures nul { IsErrOf result PayloadFault.Nul ↔ ((length text.now < 8000) × Contains text.now 0) }
+        ensures too_long { IsErrOf result PayloadFault.TooLong ↔ (PAYLOAD_BYTES_MAX < length text.now) }
+        ensures nul { IsErrOf result PayloadFault.Nul ↔ ((length text.now ≤ PAYLOAD_BYTES_MAX) × Contains text.now 0) }
     {
-        if text.len() >= 8000 {
+        if text.len() > PAYLOAD_BYTES_MAX {
             return Err(PayloadFault::TooLong);
         }
         if text.as_bytes().contains(&0) {

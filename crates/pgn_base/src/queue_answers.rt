@@ -1,7 +1,8 @@
 use crate::{SessionNo, Xid};
 
-/// Why a transaction met a full queue: its number, how many of its notifications were written, the head's page, and the floor
-/// below which no page is free: its mark, its page, and the session that holds it, if one does. Pages count from 0.
+/// Why a transaction met a full queue: its number, how many of its notifications were written, the head's page, and the floor:
+/// its mark, its page, and the session that holds it, if one does. Pages from the floor's on are still needed, and those below it
+/// may be used again. Pages count from 0.
 #[derive(Clone, Copy, Debug, PartialEq, Eq)]
 pub struct Full {
     pub xid: Xid,
@@ -12,7 +13,8 @@ pub struct Full {
     pub holder: Option<SessionNo>,
 }
 
-/// How much of the queue is in use at a transaction number: `occupied` pages of `limit`, above the floor.
+/// How much of the queue is in use at a transaction number: `occupied` pages of `limit`, from the floor's page up to the head's.
+/// Pages from the floor's on are still needed, and those below it may be used again.
 #[derive(Clone, Copy, Debug, PartialEq, Eq)]
 pub struct Usage {
     pub at: Xid,

@@ -202,7 +202,7 @@ fn a_source_fails_where_it_is_told_to(rt: HostRuntime) -> Result<(), Fail> {
 }
 
 #[test]
-fn a_sink_holds_a_front_where_it_fails(rt: HostRuntime) -> Result<(), Fail> {
+fn a_sink_holds_a_prefix_where_it_fails(rt: HostRuntime) -> Result<(), Fail> {
     let alloc = rt.alloc();
     for (room, fails, want, held) in [
         (16, 0, Ok(()), b"notification".as_slice()),

@@ -2,8 +2,7 @@
 use Rattle.std.proofs.Common.{◌≡◌, ◌≢◌, ℕ, ◌-◌, List, drop, Result, Ok, Err, refl, sym, ap, subst, ◌∙◌, inl, inr, arith}
 use Rattle.std.specs.Prelude.{◌↔◌}
 use Rattle.pgn_base.specs.declared.note.Note.{Note}
-use Rattle.pgn_model.specs.Bytes.{entry_length}
-use Rattle.pgn_model.specs.BytesLaws.{IsEntryLength}
+use Rattle.pgn_model.specs.Bytes.{entry_length, IsEntryLength}
 use Rattle.pgn_model.proofs.BytesLemmas.{entry_lengths, reads_back, none_is_filler, filler_reads_back}
 use Rattle.pgn_entry.specs.declared.entry_fault.EntryFault.{EntryFault}
 use Rattle.pgn_entry.specs.declared.entry_fault.EntryFault.TheVariants.{Short, BadLength, NoNul, BadText, BadPad}

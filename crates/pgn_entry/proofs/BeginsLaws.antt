@@ -4,8 +4,7 @@ use Rattle.std.specs.List.{before_first, after_first}
 use Rattle.std.proofs.lemmas.List.{length-replicate}
 use Rattle.std.proofs.lemmas.Bool.{cases_lt, cases_eq}
 use Rattle.pgn_base.specs.declared.note.Note.{Note}
-use Rattle.pgn_model.specs.Bytes.{header, entry_length, spelled, filler, IsNote, IsHead}
-use Rattle.pgn_model.specs.BytesLaws.{IsEntryLength}
+use Rattle.pgn_model.specs.Bytes.{header, entry_length, spelled, filler, IsNote, IsHead, IsEntryLength}
 use Rattle.pgn_model.proofs.BytesLemmas.{length-header, entry_lengths}
 use Rattle.pgn_entry.specs.Reading.{is_zero, number_at, body, IsAllZero, note_of, padding_of, HasHead, BeginsEntry, BeginsFiller}
 use Rattle.pgn_entry.specs.Parts.{IsWhole}

@@ -1,8 +1,7 @@
 -- Laws of what bytes read as.
 use Rattle.std.specs.Prelude.{◌≡◌, ℕ, ◌<◌, List, ◌++◌}
 use Rattle.pgn_base.specs.declared.note.Note.{Note}
-use Rattle.pgn_model.specs.Bytes.{entry_length, spelled, filler, IsNote, IsHead}
-use Rattle.pgn_model.specs.BytesLaws.{IsEntryLength}
+use Rattle.pgn_model.specs.Bytes.{entry_length, spelled, filler, IsNote, IsHead, IsEntryLength}
 use Rattle.pgn_entry.specs.Reading.{Reading, AnEntry, AFiller, ReadsAs}
 
 -- bytes read as one thing at most

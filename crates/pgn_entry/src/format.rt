@@ -6,6 +6,3 @@ pub const ALIGNMENT: usize = 4;
 
 /// The shortest entry has this many bytes.
 pub const LEAST_BYTES: usize = 20;
-
-/// A page has this many bytes, and so has the longest entry.
-pub const PAGE_BYTES: usize = 8192;

@@ -1,14 +1,14 @@
-ghost use Rattle.std.specs.Prelude.{◌≡◌, ◌+◌, ◌<◌, ◌↔◌, IsTrue};
-ghost use Rattle.pgn_model.specs.Bytes.{header_bytes, aligned, entry_length};
-ghost use Rattle.pgn_model.specs.BytesLaws.{IsEntryLength};
+ghost use Rattle.std.specs.Prelude.{◌≡◌, ◌+◌, ◌≤◌, ◌↔◌, IsTrue};
+ghost use Rattle.pgn_base.specs.declared.limits.TheConstants.{NAME_BYTES_MAX, PAYLOAD_BYTES_MAX};
+ghost use Rattle.pgn_model.specs.Bytes.{header_bytes, aligned, entry_length, IsEntryLength};
 
-use crate::format::{ALIGNMENT, HEADER_BYTES, LEAST_BYTES, PAGE_BYTES};
-use pgn_base::Note;
+use crate::format::{ALIGNMENT, HEADER_BYTES, LEAST_BYTES};
+use pgn_base::{Note, PAGE_BYTES};
 
 /// The length of an entry with a channel and a payload of so many bytes: each has a zero byte after it.
 pub fn length_of(channel_len: usize, payload_len: usize) -> usize
-    requires name { channel_len < 64 }
-    requires text { payload_len < 8000 }
+    requires name { channel_len ≤ NAME_BYTES_MAX }
+    requires text { payload_len ≤ PAYLOAD_BYTES_MAX }
     ensures { result ≡ aligned (header_bytes + (channel_len + 1) + (payload_len + 1)) }
 {
     (HEADER_BYTES + (channel_len + 1) + (payload_len + 1)).div_ceil(ALIGNMENT) * ALIGNMENT

@@ -4,6 +4,7 @@ ghost use Rattle.pgn_base.specs.Texts.{IsName, IsPayload};
 ghost use Rattle.pgn_entry.specs.Reading.{is_zero, IsAllZero};
 
 use crate::first_zero::first_zero;
+use pgn_base::{NAME_BYTES_MAX, PAYLOAD_BYTES_MAX};
 use std::str;
 
 /// What stands before the first zero byte, and what stands after it.
@@ -23,7 +24,7 @@ pub fn is_name(bytes: &[u8]) -> bool
     requires { ¬ (Contains bytes.now 0) }
     ensures { IsTrue result ↔ IsName bytes.now }
 {
-    !bytes.is_empty() && bytes.len() < 64 && str::from_utf8(bytes).is_ok()
+    !bytes.is_empty() && bytes.len() <= NAME_BYTES_MAX && str::from_utf8(bytes).is_ok()
 }
 
 /// Whether bytes that have no zero byte are a payload.
@@ -31,7 +32,7 @@ pub fn is_payload(bytes: &[u8]) -> bool
     requires { ¬ (Contains bytes.now 0) }
     ensures { IsTrue result ↔ IsPayload bytes.now }
 {
-    bytes.len() < 8000 && str::from_utf8(bytes).is_ok()
+    bytes.len() <= PAYLOAD_BYTES_MAX && str::from_utf8(bytes).is_ok()
 }
 
 /// Whether no byte is other than zero.

@@ -1,6 +1,5 @@
 ghost use Rattle.std.specs.Prelude.{◌≡◌, ◌+◌, ◌≤◌, [], ◌∷◌, ◌++◌, length};
-ghost use Rattle.pgn_model.specs.Bytes.{padded, entry_length, spelled, filler};
-ghost use Rattle.pgn_model.specs.BytesLaws.{IsEntryLength};
+ghost use Rattle.pgn_model.specs.Bytes.{padded, entry_length, spelled, filler, IsEntryLength};
 
 use crate::format::HEADER_BYTES;
 use crate::head::Head;

@@ -6,7 +6,7 @@ use Rattle.pgn_model.specs.declared.block_state.BlockState.TheVariants.{Idle, In
 use Rattle.pgn_model.specs.declared.command.Command.{Command}
 use Rattle.pgn_model.specs.declared.command.Command.TheVariants.{RollbackTo, Release, ListeningChannels}
 use Rattle.pgn_model.specs.Answers.{ShowsChannels, answer, ending_tag}
-use Rattle.pgn_model.specs.AnswerLaws.{is_idle, is_in_block, is_failed, block_after, begins_block, ends_block, goes_back, is_refused, is_silent, is_empty_line}
+use Rattle.pgn_model.specs.laws.Answers.{is_idle, is_in_block, is_failed, block_after, begins_block, ends_block, goes_back, is_refused, is_silent, is_empty_line}
 
 -- a state is one of three
 three : (state : BlockState) → (state ≡ Idle) ⊎ (state ≡ InBlock) ⊎ (state ≡ Failed)

@@ -8,7 +8,7 @@ use Rattle.std.proofs.lemmas.Nat.{from_le_bytes-to_le_bytes_4}
 use Rattle.pgn_model.proofs.TextBytes.{utf8_are}
 use Rattle.pgn_base.specs.declared.note.Note.{Note}
 use Rattle.pgn_model.specs.Bytes.{four_bytes, header, padded, entry_length, spelled, filler}
-use Rattle.pgn_model.specs.BytesLaws.{SpelledLength, AreBytes, FillerLength, EntryLengths, SpellingReadsBack, NoSpellingBegins, NoSpellingIsFiller, FillerReadsBack}
+use Rattle.pgn_model.specs.laws.Bytes.{SpelledLength, AreBytes, FillerLength, EntryLengths, SpellingReadsBack, NoSpellingBegins, NoSpellingIsFiller, FillerReadsBack}
 
 -- two lists that are equal, where their fronts have one length
 pub same_fronts : {A : Type 0} (a b c d : List A) → length a ≡ length b → a ++ c ≡ b ++ d → (a ≡ b) × (c ≡ d)
@@ -69,8 +69,8 @@ pub entry_lengths : EntryLengths
 unfolding entry_length
 entry_lengths note h =
     let some : 0 < length note.channel = h.name.some in
-    let short : length note.channel < 64 = h.name.short in
-    let short_text : length note.payload < 8000 = h.text.short in
+    let short : length note.channel ≤ 63 = h.name.short in
+    let short_text : length note.payload ≤ 7999 = h.text.short in
     record { whole = omega arith; least = omega arith; fits = omega arith }
 
 -- the zero bytes at the end of an entry

@@ -13,7 +13,7 @@ use Rattle.std.proofs.lemmas.Str.Ascii.{IsAscii-cons, IsAscii-nil, lowercase_asc
 use Rattle.pgn_model.specs.Text.{doubled_byte, quoted}
 use Rattle.pgn_model.specs.Tokens.{Lexeme, Word, Quoted, Literal, Number, Sign, Wrong, Token, tokens, is_blank, goes_on_word, is_sign}
 use Rattle.pgn_model.specs.Grammar.{lexemes_of}
-use Rattle.pgn_model.specs.TokenLaws.{written, NoneFollows, IsWhole, Covers, Ended, Commented, Spaced, Tokened, Stuck}
+use Rattle.pgn_model.specs.laws.Tokens.{written, NoneFollows, IsWhole, Covers, Ended, Commented, Spaced, Tokened, Stuck}
 use Rattle.pgn_model.proofs.CoverLaws.{tokens-cover}
 
 -- no byte is zero

@@ -11,9 +11,9 @@ use Rattle.std.proofs.lemmas.List.Elements.{All-nil, All-cons, All-head, All-tai
 use Rattle.std.proofs.lemmas.List.Sums.{take_while-cons}
 use Rattle.pgn_model.specs.Text.{doubled_byte, quoted}
 use Rattle.pgn_model.specs.Tokens.{Lexeme, Word, Quoted, Literal, Number, Sign, Wrong, Token, tokens, tokens_from, Inside, closed, Kind, ABlank, AComment, AWord, ANumber, ASign, AQuoted, ALiteral, ANothing, kind, Front, Blank, Comment, OneToken, NoToken, front, quoted_front, literal_front, is_blank, begins_comment, begins_word, goes_on_word, is_sign}
-use Rattle.pgn_model.specs.TokenLaws.{IsClosed, written, NoneFollows, IsWhole, NothingStands, Covers, Ended, Commented, Spaced, Tokened, Stuck}
+use Rattle.pgn_model.specs.laws.Tokens.{IsClosed, written, NoneFollows, IsWhole, NothingStands, Covers, Ended, Commented, Spaced, Tokened, Stuck}
 use Rattle.pgn_model.proofs.TokenLaws.{closed-spells, closed-doubled}
-use Rattle.pgn_model.proofs.PlaceLaws.{tokens-skip}
+use Rattle.pgn_model.proofs.SlotLaws.{tokens-skip}
 
 -- the longest front of bytes that pass a test
 while-true : (test : ℕ → Bool) (b : ℕ) (bytes : List ℕ) → test b ≡ true → take_while test (b ∷ bytes) ≡ b ∷ take_while test bytes

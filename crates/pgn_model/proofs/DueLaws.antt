@@ -3,7 +3,7 @@ use Rattle.std.proofs.Common.{◌≡◌, ℕ, ◌+◌, ◌-◌, ◌≤◌, List,
 use Rattle.std.proofs.lemmas.List.{take-append-le, drop-append-le}
 use Rattle.pgn_model.specs.declared.tx.Tx.{Tx}
 use Rattle.pgn_model.specs.Journal.{entries_between}
-use Rattle.pgn_model.specs.Due.{due, due_from, given}
+use Rattle.pgn_model.specs.Due.{due, due_from, delivered_by}
 
 -- what two lists give, one after the other
 pub due_from-append : (db : ℕ) (channels : List (List ℕ)) (x : ℕ) (xs ys : List Tx) → due_from db channels x (xs ++ ys) ≡ due_from db channels x xs ++ due_from db channels (x + length xs) ys
@@ -11,7 +11,7 @@ due_from-append db channels x [] ys = ap (λ y. due_from db channels y ys) (sym 
 due_from-append db channels x (tx ∷ xs) ys =
     let step : (x + 1) + length xs ≡ x + length (tx ∷ xs) = omega arith in
     let rest = due_from-append db channels (x + 1) xs ys ∙ ap (λ y. due_from db channels (x + 1) xs ++ due_from db channels y ys) step in
-    ap (λ ds. given db channels x tx ++ ds) rest ∙ sym (append_assoc (given db channels x tx) (due_from db channels (x + 1) xs) (due_from db channels (x + length (tx ∷ xs)) ys))
+    ap (λ ds. delivered_by db channels x tx ++ ds) rest ∙ sym (append_assoc (delivered_by db channels x tx) (due_from db channels (x + 1) xs) (due_from db channels (x + length (tx ∷ xs)) ys))
 
 pub due-grows : (journal more : List Tx) (m n db : ℕ) (channels : List (List ℕ)) → n ≤ 3 + length journal → due (journal ++ more) m n db channels ≡ due journal m n db channels
 due-grows journal more m n db channels h =

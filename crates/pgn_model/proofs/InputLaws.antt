@@ -8,6 +8,7 @@ use Rattle.std.proofs.lemmas.List.{length-replicate}
 use Rattle.std.proofs.lemmas.List.Elements.{filter_map-append, All-replicate}
 use Rattle.std.proofs.lemmas.Str.{is_utf8-from_IsUtf8, IsUtf8-from_ascii}
 use Rattle.std.proofs.lemmas.Str.Ascii.{IsAscii-from_all}
+use Rattle.pgn_base.specs.declared.limits.TheConstants.{FLAGS_MAX, INPUT_BYTES_MAX, LINE_BYTES_MAX, NOTE_LINES_MAX, SECTIONS_MAX}
 use Rattle.pgn_model.proofs.LineLaws.{lines_last, trimmed-blank}
 use Rattle.std.proofs.lemmas.Bool.{cases_Bool, cases_lt, lt-ltb, le-ltb}
 use Rattle.std.proofs.lemmas.List.{append-nil}
@@ -20,8 +21,8 @@ use Rattle.pgn_model.specs.declared.command.Command.TheVariants as command
 use Rattle.pgn_model.specs.Tokens.{is_blank}
 use Rattle.pgn_model.specs.Grammar.{table}
 use Rattle.pgn_model.specs.Lines.{Says, Nothing, Runs, says, text_says, lines_of}
-use Rattle.pgn_model.specs.Inputs.{input_limit, line_limit, section_limit, flag_limit, note_line_limit, all_say, section_names, flags_of, is_note, has_quit, opened_name, named_flag, with_name, is_bad_meta, lacks_session, repeats_name, line_number, line_start, are_too_many, fault_said, fault_of, has_section, unsignalled, HaveNoFault, ReadsAsScenario, Large, Faulty, Sectionless, Unsignalled, Reads}
-use Rattle.pgn_model.specs.InputLaws.{lacks, first_fault, whole_reading, lines_reading, input_reading}
+use Rattle.pgn_model.specs.Inputs.{all_say, section_names, flags_of, notifies, has_quit, opened_name, named_flag, with_name, is_bad_meta, lacks_session, repeats_name, line_number, line_start, are_too_many, fault_said, fault_of, has_section, unsignalled, HaveNoFault, ReadsAsScenario, Large, Faulty, Sectionless, Unsignalled, Faultless}
+use Rattle.pgn_model.specs.laws.Inputs.{lacks, first_fault, whole_reading, lines_reading, input_reading}
 
 -- none of these lines has a fault after those before it and the first ones
 abbrev pub SoundAfter : List (List ℕ) → List (List ℕ) → Type 0
@@ -111,16 +112,16 @@ faulty-first before (x ∷ front) line rest found h e =
     (faulty-first (before ++ x ∷ []) front line rest found (sound-rest before x front h) (ap (λ (b : List (List ℕ)). fault_of b line) (append_assoc before (x ∷ []) front) ∙ e))
 
 -- what is computed is read
-reads-whole : (input : List ℕ) → length input ≤ input_limit → HaveNoFault (lines_of input) → ReadsAsScenario input (whole_reading (lines_of input))
+reads-whole : (input : List ℕ) → length input ≤ INPUT_BYTES_MAX → HaveNoFault (lines_of input) → ReadsAsScenario input (whole_reading (lines_of input))
 reads-whole input within sound = elim (cases_Bool (has_section (all_say (lines_of input)))) [
   | inl e ↦ elim (one_of (unsignalled (all_say (lines_of input)))) [
-    | inl f ↦ rw (e, f, whole_reading) (Reads within sound e f)
+    | inl f ↦ rw (e, f, whole_reading) (Faultless within sound e f)
     | inr p ↦ rw (e, p.1, whole_reading) (Unsignalled within sound e p.0 p.1)
   ]
   | inr e ↦ rw (e, whole_reading) (Sectionless within sound e)
 ]
 
-reads-lines : (input : List ℕ) → length input ≤ input_limit → ReadsAsScenario input (lines_reading (lines_of input))
+reads-lines : (input : List ℕ) → length input ≤ INPUT_BYTES_MAX → ReadsAsScenario input (lines_reading (lines_of input))
 reads-lines input within = elim (one_of (first_fault [] (lines_of input))) [
   | inl e ↦ rw (e, lines_reading) (reads-whole input within (none-sound [] (lines_of input) e))
   | inr p ↦ let first : FirstFaulty [] (lines_of input) p.0 = first-faulty [] (lines_of input) p.0 p.1 in
@@ -128,26 +129,26 @@ reads-lines input within = elim (one_of (first_fault [] (lines_of input))) [
 ]
 
 pub input-reads : (input : List ℕ) → ReadsAsScenario input (input_reading input)
-input-reads input = elim (cases_lt input_limit (length input)) [
-  | inl l ↦ rw (lt-ltb input_limit (length input) l, input_reading) (Large l)
-  | inr l ↦ rw (le-ltb input_limit (length input) l, input_reading) (reads-lines input l)
+input-reads input = elim (cases_lt INPUT_BYTES_MAX (length input)) [
+  | inl l ↦ rw (lt-ltb INPUT_BYTES_MAX (length input) l, input_reading) (Large l)
+  | inr l ↦ rw (le-ltb INPUT_BYTES_MAX (length input) l, input_reading) (reads-lines input l)
 ]
 
 -- what is read is computed
-within-lines : (input : List ℕ) → length input ≤ input_limit → input_reading input ≡ lines_reading (lines_of input)
-within-lines input l = rw (le-ltb input_limit (length input) l, input_reading) refl
+within-lines : (input : List ℕ) → length input ≤ INPUT_BYTES_MAX → input_reading input ≡ lines_reading (lines_of input)
+within-lines input l = rw (le-ltb INPUT_BYTES_MAX (length input) l, input_reading) refl
 
 sound-whole : (lines : List (List ℕ)) → HaveNoFault lines → lines_reading lines ≡ whole_reading lines
 sound-whole lines h = rw (sound-none [] lines h, lines_reading) refl
 
 pub reads-input : (input : List ℕ) (read : Result Scenario ScenarioFault) → ReadsAsScenario input read → input_reading input ≡ read
-reads-input input _ (Large l) = rw (lt-ltb input_limit (length input) l, input_reading) refl
+reads-input input _ (Large l) = rw (lt-ltb INPUT_BYTES_MAX (length input) l, input_reading) refl
 reads-input input _ (Faulty l before line rest e sound found here) =
     let first : first_fault [] (lines_of input) ≡ Some found = ap (first_fault []) e ∙ faulty-first [] before line rest found sound here in
     within-lines input l ∙ rw (first, lines_reading) refl
 reads-input input _ (Sectionless l sound e) = within-lines input l ∙ sound-whole (lines_of input) sound ∙ rw (e, whole_reading) refl
 reads-input input _ (Unsignalled l sound e n f) = within-lines input l ∙ sound-whole (lines_of input) sound ∙ rw (e, f, whole_reading) refl
-reads-input input _ (Reads l sound e f) = within-lines input l ∙ sound-whole (lines_of input) sound ∙ rw (e, f, whole_reading) refl
+reads-input input _ (Faultless l sound e f) = within-lines input l ∙ sound-whole (lines_of input) sound ∙ rw (e, f, whole_reading) refl
 
 pub input-computes : (input : List ℕ) (read : Result Scenario ScenarioFault) → ReadsAsScenario input read ↔ (input_reading input ≡ read)
 input-computes input read = (reads-input input read, λ e. subst (λ (r : Result Scenario ScenarioFault). ReadsAsScenario input r) e (input-reads input))
@@ -157,10 +158,10 @@ pub one-input_reading : (input : List ℕ)
 one-input_reading input = (input_reading input, input-reads input, λ other h. sym (reads-input input other h))
 
 -- a line that is too long
-pub long-line : (line : List ℕ) → length line ≤ input_limit → line_limit < length line → lacks 10 line ≡ true → ReadsAsScenario line (Err (fault.LineTooLong 1))
+pub long-line : (line : List ℕ) → length line ≤ INPUT_BYTES_MAX → LINE_BYTES_MAX < length line → lacks 10 line ≡ true → ReadsAsScenario line (Err (fault.LineTooLong 1))
 unfolding fault_of
 long-line line within long h =
-    let here : fault_of [] line ≡ Some (fault.LineTooLong 1) = rw (lt-ltb line_limit (length line) long) refl in
+    let here : fault_of [] line ≡ Some (fault.LineTooLong 1) = rw (lt-ltb LINE_BYTES_MAX (length line) long) refl in
     Faulty within [] line [] (lines_last line h (omega arith)) (λ front other more e. absurd (nothing_in front other more e)) (fault.LineTooLong 1) here
 
 -- the last of three tests passes
@@ -178,13 +179,13 @@ no_fault_before n false false many q s m = absurd (cc)
 no_fault_before n false true false q s m = absurd (cc)
 
 -- a line that notifies after as many as there may be
-pub one-note_line_more : (n : ℕ) (before : List Says) (note : Note) → has_quit before ≡ false → has_section before ≡ true → count_by is_note before ≡ note_line_limit
+pub one-note_line_more : (n : ℕ) (before : List Says) (note : Note) → has_quit before ≡ false → has_section before ≡ true → count_by notifies before ≡ NOTE_LINES_MAX
     → fault_said n before (Runs (command.Notify note)) ≡ Some (fault.TooMany n)
 one-note_line_more n before note q s c =
     let said : List Says = before ++ Runs (command.Notify note) ∷ [] in
-    let more : count_by is_note said ≡ count_by is_note before + 1 = sum_by_push (λ s. cond (is_note s) 1 0) before (Runs (command.Notify note)) in
-    let many : are_too_many said ≡ true = last_passes (nat_lt section_limit (length (section_names said))) (nat_lt flag_limit (length (flags_of said))) (nat_lt note_line_limit (count_by is_note said))
-    (lt-ltb note_line_limit (count_by is_note said) (omega (arith, more, c))) in
+    let more : count_by notifies said ≡ count_by notifies before + 1 = sum_by_push (λ s. cond (notifies s) 1 0) before (Runs (command.Notify note)) in
+    let many : are_too_many said ≡ true = last_passes (nat_lt SECTIONS_MAX (length (section_names said))) (nat_lt FLAGS_MAX (length (flags_of said))) (nat_lt NOTE_LINES_MAX (count_by notifies said))
+    (lt-ltb NOTE_LINES_MAX (count_by notifies said) (omega (arith, more, c))) in
     no_fault_before n (has_quit before) (has_section before) (are_too_many said) q s many
 
 -- a line that notifies after fewer than there may be
@@ -207,18 +208,18 @@ three_fail true b c p q r = absurd (cc)
 three_fail false true c p q r = absurd (cc)
 three_fail false false true p q r = absurd (cc)
 
-pub one-note_line_within : (n : ℕ) (before : List Says) (note : Note) → has_quit before ≡ false → has_section before ≡ true → are_too_many before ≡ false → count_by is_note before ≤ 65535
+pub one-note_line_within : (n : ℕ) (before : List Says) (note : Note) → has_quit before ≡ false → has_section before ≡ true → are_too_many before ≡ false → count_by notifies before ≤ 65535
     → fault_said n before (Runs (command.Notify note)) ≡ None
 one-note_line_within n before note q s few c =
     let said : List Says = before ++ Runs (command.Notify note) ∷ [] in
-    let more : count_by is_note said ≡ count_by is_note before + 1 = sum_by_push (λ s. cond (is_note s) 1 0) before (Runs (command.Notify note)) in
+    let more : count_by notifies said ≡ count_by notifies before + 1 = sum_by_push (λ s. cond (notifies s) 1 0) before (Runs (command.Notify note)) in
     let names : section_names said ≡ section_names before = filter_map-append opened_name before (Runs (command.Notify note) ∷ []) ∙ append-nil (section_names before) in
     let flags : flags_of said ≡ flags_of before = ap (fold with_name []) (filter_map-append named_flag before (Runs (command.Notify note) ∷ []) ∙ append-nil (filter_map named_flag before)) in
-    let old : (nat_lt section_limit (length (section_names before)) ≡ false) × (nat_lt flag_limit (length (flags_of before)) ≡ false)
-    = none_of (nat_lt section_limit (length (section_names before))) (nat_lt flag_limit (length (flags_of before))) (nat_lt note_line_limit (count_by is_note before)) few in
-    let many : are_too_many said ≡ false = three_fail (nat_lt section_limit (length (section_names said))) (nat_lt flag_limit (length (flags_of said))) (nat_lt note_line_limit (count_by is_note said))
-    (ap (λ (l : List (List ℕ)). nat_lt section_limit (length l)) names ∙ old.0) (ap (λ (l : List (List ℕ)). nat_lt flag_limit (length l)) flags ∙ old.1)
-    (le-ltb note_line_limit (count_by is_note said) (omega (arith, more, c))) in
+    let old : (nat_lt SECTIONS_MAX (length (section_names before)) ≡ false) × (nat_lt FLAGS_MAX (length (flags_of before)) ≡ false)
+    = none_of (nat_lt SECTIONS_MAX (length (section_names before))) (nat_lt FLAGS_MAX (length (flags_of before))) (nat_lt NOTE_LINES_MAX (count_by notifies before)) few in
+    let many : are_too_many said ≡ false = three_fail (nat_lt SECTIONS_MAX (length (section_names said))) (nat_lt FLAGS_MAX (length (flags_of said))) (nat_lt NOTE_LINES_MAX (count_by notifies said))
+    (ap (λ (l : List (List ℕ)). nat_lt SECTIONS_MAX (length l)) names ∙ old.0) (ap (λ (l : List (List ℕ)). nat_lt FLAGS_MAX (length l)) flags ∙ old.1)
+    (le-ltb NOTE_LINES_MAX (count_by notifies said) (omega (arith, more, c))) in
     no_fault n (has_quit before) (has_section before) (are_too_many said) q s many
 
 -- a line is never too large
@@ -236,18 +237,18 @@ not_large false false false false false false false n m k h = absurd (cc)
 line-not_large : (before : List (List ℕ)) (line : List ℕ) → fault_of before line ≡ Some fault.TooLarge → ⊥
 unfolding fault_of
 line-not_large before line h =
-    not_large (nat_lt line_limit (length line)) (not (is_utf8 line)) (list_any (λ byte. byte == 0) line) (is_bad_meta (all_say before) (says line)) (lacks_session (all_say before) (says line))
+    not_large (nat_lt LINE_BYTES_MAX (length line)) (not (is_utf8 line)) (list_any (λ byte. byte == 0) line) (is_bad_meta (all_say before) (says line)) (lacks_session (all_say before) (says line))
     (repeats_name (all_say before) (says line)) (are_too_many (all_say before ++ says line ∷ [])) (line_number before) (line_start before + utf8_valid_len line) (line_number before) h
 
 -- only an input past the limit is too large
-large-read : (input : List ℕ) (read : Result Scenario ScenarioFault) → length input ≤ input_limit → read ≡ Err fault.TooLarge → ReadsAsScenario input read → ⊥
+large-read : (input : List ℕ) (read : Result Scenario ScenarioFault) → length input ≤ INPUT_BYTES_MAX → read ≡ Err fault.TooLarge → ReadsAsScenario input read → ⊥
 large-read input _ within e (Large l) = absurd (omega (arith, l, within))
 large-read input _ within e (Faulty l before line rest whole sound found here) = let same : found ≡ fault.TooLarge = cc in line-not_large before line (here ∙ ap (λ (f : ScenarioFault). Some f) same)
 large-read input _ within e (Sectionless l sound none) = absurd (cc)
 large-read input _ within e (Unsignalled l sound some n f) = absurd (cc)
-large-read input _ within e (Reads l sound some f) = absurd (cc)
+large-read input _ within e (Faultless l sound some f) = absurd (cc)
 
-pub large-only : (input : List ℕ) → length input ≤ input_limit → ReadsAsScenario input (Err fault.TooLarge) → ⊥
+pub large-only : (input : List ℕ) → length input ≤ INPUT_BYTES_MAX → ReadsAsScenario input (Err fault.TooLarge) → ⊥
 large-only input within h = large-read input (Err fault.TooLarge) within refl h
 
 -- a line of blanks
@@ -277,7 +278,7 @@ unfolding fault_of
 spaces-no_fault n within =
     let line : List ℕ = replicate n 32 in
     let size : length line ≡ n = length-replicate {A = ℕ} n 32 in
-    let short : nat_lt line_limit (length line) ≡ false = le-ltb line_limit (length line) (omega (arith, within, size)) in
+    let short : nat_lt LINE_BYTES_MAX (length line) ≡ false = le-ltb LINE_BYTES_MAX (length line) (omega (arith, within, size)) in
     rw (short, spaces-utf8 n, no_zeros n, spaces-say_nothing n) refl
 
 one_line-sound : (line : List ℕ) → fault_of [] line ≡ None → HaveNoFault (line ∷ [])

@@ -7,7 +7,7 @@ use Rattle.pgn_base.specs.declared.note.Note.{Note}
 use Rattle.pgn_model.specs.declared.command.Command.{Command}
 use Rattle.pgn_model.specs.declared.command.Command.TheVariants as command
 use Rattle.pgn_model.specs.Tokens.{Lexeme, Wrong, tokens}
-use Rattle.pgn_model.specs.Grammar.{Place, Key, Name, Quote, Mark, fits, all_fit, name_of, text_of, value_of, token_at, Way, silent, key, either, sign, optional, work, name, literal, argument, followed, sequence, Form, row, first, note, table, IsOneOf, lexemes_of, limited, ReadsAs, Whole, Stops, Lacks}
+use Rattle.pgn_model.specs.Grammar.{Slot, Key, Name, Quote, Punct, fits_slot, all_fit, name_of, text_of, value_of, token_at, Way, silent, key, either, sign, optional, work, name, literal, argument, followed, sequence, Form, row, first, note, table, IsOneOf, lexemes_of, limited, ReadsAs, Whole, Stops, Lacks}
 
 -- what a way gives: a name or a text
 pub data Sort : Type 0 where
@@ -46,17 +46,17 @@ clean-drop r zero lexemes h = h
 clean-drop r (suc n) [] h = tt
 clean-drop r (suc n) (t ∷ lexemes) h = clean-drop r n lexemes h.1
 
-all_fit-split : (a b : List Place) (lexemes : List Lexeme) → all_fit (a ++ b) lexemes ≡ true → (all_fit a (take (length a) lexemes) ≡ true) × (all_fit b (drop (length a) lexemes) ≡ true)
+all_fit-split : (a b : List Slot) (lexemes : List Lexeme) → all_fit (a ++ b) lexemes ≡ true → (all_fit a (take (length a) lexemes) ≡ true) × (all_fit b (drop (length a) lexemes) ≡ true)
 all_fit-split [] b lexemes h = (refl, h)
 all_fit-split (p ∷ a) b [] h = absurd (false≢true h)
 all_fit-split (p ∷ a) b (t ∷ lexemes) h =
-    let parts : (fits p t ≡ true) × (all_fit (a ++ b) lexemes ≡ true) = and_parts _ _ h in
+    let parts : (fits_slot p t ≡ true) × (all_fit (a ++ b) lexemes ≡ true) = and_parts _ _ h in
     let rest : (all_fit a (take (length a) lexemes) ≡ true) × (all_fit b (drop (length a) lexemes) ≡ true) = all_fit-split a b lexemes parts.1 in
     (rw parts.0 rest.0, rest.1)
 
 -- the texts that a way gives at clean tokens
 record Gives (r : Rule) (sorts : List Sort) (way : Way) : Type 0 where
-  texts : (lexemes : List Lexeme) → all_fit way.places lexemes ≡ true → AllClean r lexemes → AllSuit r sorts (way.texts lexemes)
+  texts : (lexemes : List Lexeme) → all_fit way.slots lexemes ≡ true → AllClean r lexemes → AllSuit r sorts (way.texts lexemes)
 
 abbrev EachGives : Rule → List Sort → List Way → Type 0
 EachGives r sorts [] = Unit {0}
@@ -69,10 +69,10 @@ each-append r sorts (way ∷ a) b h k = (h.0, each-append r sorts a b h.1 k)
 followed-gives : (r : Rule) (some more : List Sort) (a b : Way) → Gives r some a → Gives r more b → Gives r (some ++ more) (followed a b)
 followed-gives r some more a b h k = record {
   texts = λ lexemes fit clean.
-      let parts : (all_fit a.places (take (length a.places) lexemes) ≡ true) × (all_fit b.places (drop (length a.places) lexemes) ≡ true) = all_fit-split a.places b.places lexemes fit in
-      all_suit-append r some more (a.texts (take (length a.places) lexemes)) (b.texts (drop (length a.places) lexemes))
-      (h.texts (take (length a.places) lexemes) parts.0 (clean-take r (length a.places) lexemes clean))
-      (k.texts (drop (length a.places) lexemes) parts.1 (clean-drop r (length a.places) lexemes clean));
+      let parts : (all_fit a.slots (take (length a.slots) lexemes) ≡ true) × (all_fit b.slots (drop (length a.slots) lexemes) ≡ true) = all_fit-split a.slots b.slots lexemes fit in
+      all_suit-append r some more (a.texts (take (length a.slots) lexemes)) (b.texts (drop (length a.slots) lexemes))
+      (h.texts (take (length a.slots) lexemes) parts.0 (clean-take r (length a.slots) lexemes clean))
+      (k.texts (drop (length a.slots) lexemes) parts.1 (clean-drop r (length a.slots) lexemes clean));
 }
 
 each-followed : (r : Rule) (some more : List Sort) (way : Way) (ways : List Way) → Gives r some way → EachGives r more ways → EachGives r (some ++ more) (map (followed way) ways)
@@ -84,8 +84,8 @@ each-part r some more [] rest h k = tt
 each-part r some more (way ∷ part) rest h k =
     each-append r (some ++ more) (map (followed way) rest) (flat_map (λ way. map (followed way) rest) part) (each-followed r some more way rest h.0 k) (each-part r some more part rest h.1 k)
 
-silent-gives : (r : Rule) (places : List Place) → Gives r [] (silent places)
-silent-gives r places = record { texts = λ lexemes fit clean. tt }
+silent-gives : (r : Rule) (slots : List Slot) → Gives r [] (silent slots)
+silent-gives r slots = record { texts = λ lexemes fit clean. tt }
 
 -- each way of a part gives such texts
 record PartGives (r : Rule) (sorts : List Sort) (part : List Way) : Type 0 where
@@ -100,7 +100,7 @@ also : (r : Rule) {part : List Way} {parts : List (List Way)} {some more : List 
 also r {part} {parts} {some} {more} h k = OnePart part parts some more h k
 
 semicolon-gives : (r : Rule) → EachGives r [] (optional (sign (byte ";")))
-semicolon-gives r = (silent-gives r [], (silent-gives r (Mark (byte ";") ∷ []), tt))
+semicolon-gives r = (silent-gives r [], (silent-gives r (Punct (byte ";") ∷ []), tt))
 
 -- one after another, and the semicolon that may follow
 sequence-gives : (r : Rule) (parts : List (List Way)) (sorts : List Sort) → AllGive r parts sorts → EachGives r sorts (sequence (parts ++ optional (sign (byte ";")) ∷ []))
@@ -128,7 +128,7 @@ valid-append r a b h k = record {
 }
 
 abbrev form_of : (List (List ℕ) → Command) → Way → Form
-form_of gives way = record { places = way.places; command = λ lexemes. gives (way.texts lexemes) }
+form_of gives way = record { slots = way.slots; command = λ lexemes. gives (way.texts lexemes) }
 
 ways-valid : (r : Rule) (sorts : List Sort) (gives : List (List ℕ) → Command) → ((texts : List (List ℕ)) → AllSuit r sorts texts → r.valid (limited (gives texts)))
     → (ways : List Way) → EachGives r sorts ways → (lexemes : List Lexeme) (command : Command) → IsOneOf (map (form_of gives) ways) lexemes command → AllClean r lexemes → r.valid (limited command)
@@ -168,7 +168,7 @@ IsPlain other = ⊥
 
 pub record Keeps (r : Rule) : Type 0 where
   pub nothing : r.clean Wrong
-  pub named : (lexeme : Lexeme) → fits Name lexeme ≡ true → r.clean lexeme → r.suits AName (name_of lexeme)
+  pub named : (lexeme : Lexeme) → fits_slot Name lexeme ≡ true → r.clean lexeme → r.suits AName (name_of lexeme)
   pub written : (lexeme : Lexeme) → r.clean lexeme → r.suits AText (text_of lexeme)
   pub empty : r.suits AText []
   pub again : (n : ℕ) (text : List ℕ) → r.suits AText text → r.suits AText (repeat n text)
@@ -189,7 +189,7 @@ token_at-clean r h (t ∷ lexemes) (suc n) c = token_at-clean r h lexemes n c.1
 
 name_at : (r : Rule) → Keeps r → (lexemes : List Lexeme) → all_fit (Name ∷ []) lexemes ≡ true → AllClean r lexemes → r.suits AName (name_of (token_at lexemes 0))
 name_at r h [] fit c = absurd (false≢true fit)
-name_at r h (t ∷ lexemes) fit c = h.named t (and_parts (fits Name t) (all_fit [] lexemes) fit).0 c.0
+name_at r h (t ∷ lexemes) fit c = h.named t (and_parts (fits_slot Name t) (all_fit [] lexemes) fit).0 c.0
 
 text_at : (r : Rule) → Keeps r → (lexemes : List Lexeme) (n : ℕ) → AllClean r lexemes → r.suits AText (text_of (token_at lexemes n))
 text_at r h lexemes n c = h.written (token_at lexemes n) (token_at-clean r h lexemes n c)
@@ -197,7 +197,7 @@ text_at r h lexemes n c = h.written (token_at lexemes n) (token_at-clean r h lex
 name-gives : (r : Rule) → Keeps r → PartGives r (AName ∷ []) name
 name-gives r h = record { ways = (record { texts = λ lexemes fit c. (name_at r h lexemes fit c, tt) }, tt) }
 
-literal_way : (r : Rule) → Keeps r → Gives r (AText ∷ []) (record { places = Quote ∷ []; texts = λ lexemes. text_of (token_at lexemes 0) ∷ [] })
+literal_way : (r : Rule) → Keeps r → Gives r (AText ∷ []) (record { slots = Quote ∷ []; texts = λ lexemes. text_of (token_at lexemes 0) ∷ [] })
 literal_way r h = record { texts = λ lexemes fit c. (text_at r h lexemes 0 c, tt) }
 
 literal-gives : (r : Rule) → Keeps r → PartGives r (AText ∷ []) literal
@@ -218,7 +218,7 @@ optional_key-gives : (r : Rule) (word : List ℕ) → PartGives r [] (optional (
 optional_key-gives r word = record { ways = (silent-gives r [], (silent-gives r (Key word ∷ []), tt)) }
 
 sign-gives : (r : Rule) (mark : ℕ) → PartGives r [] (sign mark)
-sign-gives r mark = record { ways = (silent-gives r (Mark mark ∷ []), tt) }
+sign-gives r mark = record { ways = (silent-gives r (Punct mark ∷ []), tt) }
 
 work-gives : (r : Rule) → PartGives r [] work
 work-gives r = record { ways = (silent-gives r [], (silent-gives r (Key (codes "work") ∷ []), (silent-gives r (Key (codes "transaction") ∷ []), tt))) }

@@ -11,7 +11,7 @@ pub mod TokenLaws
 pub mod LineLaws
 pub mod InputLaws
 pub mod SoundLaws
-pub mod PlaceLaws
+pub mod SlotLaws
 pub mod CoverLaws
 pub mod CleanTokens
 pub mod KeptForms

@@ -8,10 +8,9 @@ use Rattle.std.proofs.lemmas.List.Folds.{list_all-append}
 use Rattle.pgn_model.specs.declared.command.Command.{Command}
 use Rattle.pgn_model.specs.declared.command.Command.TheVariants as command
 use Rattle.pgn_model.specs.Tokens.{Wrong, Token, is_blank, tokens}
-use Rattle.pgn_model.specs.Grammar.{table, ReadsAs, lexemes_of}
-use Rattle.pgn_model.specs.GrammarLaws.{reading, reading_of, command_of}
+use Rattle.pgn_model.specs.Grammar.{table, ReadsAs, lexemes_of, reading, reading_of, command_of}
 use Rattle.pgn_model.specs.Lines.{Says, Nothing, Opens, Signals, Awaits, Quits, NoMeta, says, text_says, command_says, meta_says, trimmed, trimmed_start, trimmed_end, is_gap, is_empty, is_label, is_database, parts_of, lines_of}
-use Rattle.pgn_model.specs.InputLaws.{lacks, LinesAreCut, IsTextOf, PartsAreCut}
+use Rattle.pgn_model.specs.laws.Inputs.{lacks, LinesAreCut, IsTextOf, PartsAreCut}
 use Rattle.pgn_model.proofs.GrammarLaws.{reading-computes}
 
 -- a line that ends with LF, and the lines of what follows

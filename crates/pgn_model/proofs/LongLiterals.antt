@@ -7,9 +7,8 @@ use Rattle.pgn_model.specs.declared.command.Command.{Command}
 use Rattle.pgn_model.specs.declared.command.Command.TheVariants as command
 use Rattle.pgn_model.specs.Text.{doubled_byte, quoted}
 use Rattle.pgn_model.specs.Tokens.{Word, Literal, Sign, Token, tokens, goes_on_word}
-use Rattle.pgn_model.specs.TokenLaws.{IsWord, Covers, Ended, Spaced, Tokened}
-use Rattle.pgn_model.specs.Grammar.{table, cut, lexemes_of, is_long, limited, ReadsAs}
-use Rattle.pgn_model.specs.GrammarLaws.{reading, reading_of, command_of}
+use Rattle.pgn_model.specs.laws.Tokens.{IsWord, Covers, Ended, Spaced, Tokened}
+use Rattle.pgn_model.specs.Grammar.{table, cut, lexemes_of, is_long, limited, ReadsAs, reading, reading_of, command_of}
 use Rattle.pgn_model.proofs.GrammarLaws.{reading-reads}
 use Rattle.pgn_model.proofs.CoverLaws.{one-cover}
 

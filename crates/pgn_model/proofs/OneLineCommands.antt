@@ -14,9 +14,8 @@ use Rattle.pgn_model.specs.declared.command.Command.{Command}
 use Rattle.pgn_model.specs.declared.command.Command.TheVariants as command
 use Rattle.pgn_model.specs.Text.{doubled_byte, quoted}
 use Rattle.pgn_model.specs.Tokens.{Lexeme, Word, Quoted, Literal, Number, Sign, Wrong, Token, tokens}
-use Rattle.pgn_model.specs.Grammar.{Name, fits, cut, begins_character, name_of, text_of, lexemes_of, is_long, past_limit, limited, ReadsAs}
-use Rattle.pgn_model.specs.GrammarLaws.{reading}
-use Rattle.pgn_model.specs.TokenLaws.{written, Covers, Ended, Commented, Spaced, Tokened, Stuck}
+use Rattle.pgn_model.specs.Grammar.{Name, fits_slot, cut, begins_character, name_of, text_of, lexemes_of, is_long, past_limit, limited, ReadsAs, reading}
+use Rattle.pgn_model.specs.laws.Tokens.{written, Covers, Ended, Commented, Spaced, Tokened, Stuck}
 use Rattle.pgn_model.specs.Inputs.{IsOneLine, IsOneLineCommand}
 use Rattle.pgn_model.proofs.GrammarLaws.{reading-reads}
 use Rattle.pgn_model.proofs.CoverLaws.{tokens-cover}
@@ -123,7 +122,7 @@ covered-clean at _ some (Spaced _ b bytes _ e next) h = covered-clean (at + 1) b
 covered-clean at _ _ (Tokened _ lexeme rest some whole next) h = (token-clean lexeme rest h, covered-clean (at + length (written lexeme)) rest some next (line-right (written lexeme) rest h))
 covered-clean at _ _ (Stuck _ b bytes n) h = (tt, tt)
 
-name-line : (lexeme : Lexeme) → fits Name lexeme ≡ true → IsClean lexeme → IsOneLine (name_of lexeme)
+name-line : (lexeme : Lexeme) → fits_slot Name lexeme ≡ true → IsClean lexeme → IsOneLine (name_of lexeme)
 name-line (Word text) h c = cut-line 63 (str_to_ascii_lowercase text) (folded text c)
 name-line (Quoted text) h c = cut-line 63 text c
 name-line (Literal text) h c = absurd (false≢true h)

@@ -15,8 +15,8 @@ use Rattle.pgn_model.specs.declared.tx.Fate.{Fate}
 use Rattle.pgn_model.specs.declared.tx.Fate.TheVariants.{Committed, Aborted}
 use Rattle.pgn_model.specs.Journal.{entry, IsQueued}
 use Rattle.pgn_model.specs.Bytes.{four_bytes, entry_length, spelled, filler, IsNote}
-use Rattle.pgn_model.specs.Packing.{fits, has_room, next_page, is_page_start, bytes_left, cells_left, filled_cells, page_rest, entry_cells, filler_cells, note_cells, notes_cells, end_cells, tx_cells, image_from, image, place, Sender, sender_of, after_rest, after_bytes, put_bytes, put, put_all, ended, after}
-use Rattle.pgn_model.specs.PackingLaws.{HasRoom, bytes_of, CellsGiveBytes, NoteMoves, PlaceRises, IsSent, PlaceBound, PlaceFolds, PutTakes, PagesHold, NotesInTurn, FirstPlace, NextPlace, LastPlace, IsPacked, LeavesRoom, PlaceGrows, AbortedEnds, PlacesAgree, ImagesAgree, CellsOfEach, CellsApart}
+use Rattle.pgn_model.specs.Packing.{fits, has_room, next_page, is_page_start, bytes_left, cells_left, filled_cells, page_rest, entry_cells, filler_cells, note_cells, notes_cells, end_cells, tx_cells, image_from, image, place, Sender, sender_of, after_rest, after_bytes, put_bytes, put, put_all, ended, after, HasRoom, bytes_of}
+use Rattle.pgn_model.specs.laws.Packing.{CellsGiveBytes, NoteMoves, PlaceRises, IsSent, PlaceBound, PlaceFolds, PutTakes, PagesHold, NotesInTurn, FirstPlace, NextPlace, LastPlace, IsPacked, LeavesRoom, PlaceGrows, AbortedEnds, PlacesAgree, ImagesAgree, CellsOfEach, CellsApart}
 use Rattle.pgn_model.proofs.BytesLemmas.{length-spelled, length-filler, entry_lengths, are_bytes}
 
 -- one cell for each four bytes
@@ -185,8 +185,8 @@ unfolding place
 places_agree journal more x h = ap (λ (txs : List Tx). length (image txs)) (take-append-le (x - 3) journal more (omega arith))
 
 -- the image of a front is no longer
-front_fits : (xs ys : List Tx) → length (image xs) ≤ length (image (xs ++ ys))
-front_fits xs ys = omega (arith, ap length (images_agree xs ys) ∙ length-append (image xs) (image_from (3 + length xs) (length (image xs)) ys))
+prefix_fits : (xs ys : List Tx) → length (image xs) ≤ length (image (xs ++ ys))
+prefix_fits xs ys = omega (arith, ap length (images_agree xs ys) ∙ length-append (image xs) (image_from (3 + length xs) (length (image xs)) ys))
 
 pub place_grows : PlaceGrows
 unfolding place
@@ -195,7 +195,7 @@ place_grows journal x y h =
     let front : take (x - 3) journal ++ drop (x - 3) (take (y - 3) journal) ≡ take (y - 3) journal
     = ap (λ (txs : List Tx). txs ++ drop (x - 3) (take (y - 3) journal)) (sym (take-take (x - 3) (y - 3) journal fits)) ∙ take-append-drop (x - 3) (take (y - 3) journal) in
     let P : List Tx → Type 0 = λ txs. length (image (take (x - 3) journal)) ≤ length (image txs) in
-    subst P front (front_fits (take (x - 3) journal) (drop (x - 3) (take (y - 3) journal)))
+    subst P front (prefix_fits (take (x - 3) journal) (drop (x - 3) (take (y - 3) journal)))
 
 pub cells_apart : CellsApart
 cells_apart journal x y cell p q = elim (cases_lt x y) as (λ _. x ≡ y) [

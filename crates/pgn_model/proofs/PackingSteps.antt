@@ -7,7 +7,7 @@ use Rattle.pgn_base.specs.declared.note.Note.{Note}
 use Rattle.pgn_model.specs.declared.tx.Fate.TheVariants.{Aborted}
 use Rattle.pgn_model.specs.Bytes.{aligned, header, entry_length, spelled, filler}
 use Rattle.pgn_model.specs.Packing.{Sender, page_rest, filled_cells, entry_cells, filler_cells, note_cells, notes_cells, end_cells, tx_cells, image_from, image, place, place_at, put_bytes, after_bytes, after_rest, put, put_all, ended, after}
-use Rattle.pgn_model.specs.PackingExamples.{bare_note, letters, longest_note, rest_journal, filler_journal, filler_and_entry, full_journal, larger_journal}
+use Rattle.pgn_model.specs.examples.Packing.{bare_note, letters, longest_note, rest_journal, filler_journal, filler_and_entry, full_journal, larger_journal}
 use Rattle.pgn_model.proofs.PackingLemmas.{place_folds, packed_notes, notes_in_turn}
 
 -- an entry's length by the number of letters alone

@@ -6,29 +6,29 @@ use Rattle.std.proofs.lemmas.List.Folds.{list_any-append, list_any_at}
 use Rattle.std.proofs.lemmas.Map.Views.{Contains-from_any}
 use Rattle.std.proofs.lemmas.List.Elements.{All-nil, All-cons, All-weaker}
 use Rattle.std.proofs.lemmas.List.Kept.{AllPairs-cons}
+use Rattle.pgn_base.specs.Names.{has_name}
 use Rattle.pgn_base.specs.declared.note.Note.{Note}
 use Rattle.pgn_base.specs.declared.listen_set.Action.{Action}
-use Rattle.pgn_model.specs.Answers.{is_live}
-use Rattle.pgn_model.specs.Savepoints.{Change, Marked, Acted, Noted, Back, Free, is_mark, is_mark_of, has_mark, cut_back, freed, survivors, survivors_from, live_names, marked_name, acted_action, noted_note, surviving_actions, surviving_notes, same_note, firsts, firsts_after, has_note, once_after, once, live_changes, after_change}
-use Rattle.pgn_model.specs.SavepointLaws.{IsSublist}
+use Rattle.pgn_model.specs.Savepoints.{Change, Saved, Acted, Noted, RolledBack, Released, is_savepoint, is_savepoint_of, has_savepoint, rolled_back, released, survivors, survivors_from, live_names, saved_name, acted_action, noted_note, surviving_actions, surviving_notes, same_note, firsts, firsts_after, has_note, once_after, once, live_changes, after_change}
+use Rattle.pgn_model.specs.laws.Savepoints.{IsSublist}
 
 -- one more change comes after what is left of those before it
 survivors_from-push : (kept changes : List Change) (change : Change) → survivors_from kept (changes ++ change ∷ []) ≡ survivors_from (survivors_from kept changes) (change ∷ [])
 survivors_from-push kept [] change = refl
-survivors_from-push kept (Back name ∷ changes) change = survivors_from-push (cut_back name kept) changes change
-survivors_from-push kept (Free name ∷ changes) change = survivors_from-push (freed name kept) changes change
-survivors_from-push kept (Marked name ∷ changes) change = survivors_from-push (kept ++ Marked name ∷ []) changes change
+survivors_from-push kept (RolledBack name ∷ changes) change = survivors_from-push (rolled_back name kept) changes change
+survivors_from-push kept (Released name ∷ changes) change = survivors_from-push (released name kept) changes change
+survivors_from-push kept (Saved name ∷ changes) change = survivors_from-push (kept ++ Saved name ∷ []) changes change
 survivors_from-push kept (Acted action ∷ changes) change = survivors_from-push (kept ++ Acted action ∷ []) changes change
 survivors_from-push kept (Noted note ∷ changes) change = survivors_from-push (kept ++ Noted note ∷ []) changes change
 
-pub survives-back : (changes : List Change) (name : List ℕ) → survivors (changes ++ Back name ∷ []) ≡ cut_back name (survivors changes)
-survives-back changes name = survivors_from-push [] changes (Back name)
+pub survives-rolled_back : (changes : List Change) (name : List ℕ) → survivors (changes ++ RolledBack name ∷ []) ≡ rolled_back name (survivors changes)
+survives-rolled_back changes name = survivors_from-push [] changes (RolledBack name)
 
-pub survives-free : (changes : List Change) (name : List ℕ) → survivors (changes ++ Free name ∷ []) ≡ freed name (survivors changes)
-survives-free changes name = survivors_from-push [] changes (Free name)
+pub survives-released : (changes : List Change) (name : List ℕ) → survivors (changes ++ Released name ∷ []) ≡ released name (survivors changes)
+survives-released changes name = survivors_from-push [] changes (Released name)
 
-pub survives-marked : (changes : List Change) (name : List ℕ) → survivors (changes ++ Marked name ∷ []) ≡ survivors changes ++ Marked name ∷ []
-survives-marked changes name = survivors_from-push [] changes (Marked name)
+pub survives-saved : (changes : List Change) (name : List ℕ) → survivors (changes ++ Saved name ∷ []) ≡ survivors changes ++ Saved name ∷ []
+survives-saved changes name = survivors_from-push [] changes (Saved name)
 
 pub survives-acted : (changes : List Change) (action : Action) → survivors (changes ++ Acted action ∷ []) ≡ survivors changes ++ Acted action ∷ []
 survives-acted changes action = survivors_from-push [] changes (Acted action)
@@ -41,74 +41,74 @@ pub same-name : (name : List ℕ) → bytes_eq name name ≡ true
 same-name name = (bytes_eq-Decides name name).1 refl
 
 -- where no mark has the name, nothing is cut
-pub cut_back-none : (name : List ℕ) (changes : List Change) → has_mark name changes ≡ false → cut_back name changes ≡ changes
-cut_back-none name [] e = refl
-cut_back-none name (change ∷ changes) e = none (is_mark_of name change) (has_mark name changes) e
+pub rolled_back-none : (name : List ℕ) (changes : List Change) → has_savepoint name changes ≡ false → rolled_back name changes ≡ changes
+rolled_back-none name [] e = refl
+rolled_back-none name (change ∷ changes) e = none (is_savepoint_of name change) (has_savepoint name changes) e
   where
-    none : (here later : Bool) → (here || later) ≡ false → cond later (change ∷ cut_back name changes) (cond here (change ∷ []) (change ∷ changes)) ≡ change ∷ changes
+    none : (here later : Bool) → (here || later) ≡ false → cond later (change ∷ rolled_back name changes) (cond here (change ∷ []) (change ∷ changes)) ≡ change ∷ changes
     none true later e = cc
     none false true e = cc
     none false false e = refl
 
--- and nothing is freed
-pub freed-none : (name : List ℕ) (changes : List Change) → has_mark name changes ≡ false → freed name changes ≡ changes
-freed-none name [] e = refl
-freed-none name (change ∷ changes) e = none (is_mark_of name change) (has_mark name changes) e
+-- and nothing is released
+pub released-none : (name : List ℕ) (changes : List Change) → has_savepoint name changes ≡ false → released name changes ≡ changes
+released-none name [] e = refl
+released-none name (change ∷ changes) e = none (is_savepoint_of name change) (has_savepoint name changes) e
   where
-    none : (here later : Bool) → (here || later) ≡ false → cond later (change ∷ freed name changes) (cond here (filter (λ other. not (is_mark other)) changes) (change ∷ changes)) ≡ change ∷ changes
+    none : (here later : Bool) → (here || later) ≡ false → cond later (change ∷ released name changes) (cond here (filter (λ other. not (is_savepoint other)) changes) (change ∷ changes)) ≡ change ∷ changes
     none true later e = cc
     none false true e = cc
     none false false e = refl
 
 -- a mark in the middle of a list stands in it
-pub has_mark-middle : (name : List ℕ) (before after : List Change) → has_mark name (before ++ Marked name ∷ after) ≡ true
-has_mark-middle name [] after = rw (same-name name) refl
-has_mark-middle name (change ∷ before) after = later (is_mark_of name change) (has_mark name (before ++ Marked name ∷ after)) (has_mark-middle name before after)
+pub has_savepoint-middle : (name : List ℕ) (before after : List Change) → has_savepoint name (before ++ Saved name ∷ after) ≡ true
+has_savepoint-middle name [] after = rw (same-name name) refl
+has_savepoint-middle name (change ∷ before) after = later (is_savepoint_of name change) (has_savepoint name (before ++ Saved name ∷ after)) (has_savepoint-middle name before after)
   where
     later : (a b : Bool) → b ≡ true → (a || b) ≡ true
     later true b e = refl
     later false b e = e
 
-pub back-cuts : (name : List ℕ) (before after : List Change) → has_mark name after ≡ false → cut_back name (before ++ Marked name ∷ after) ≡ before ++ Marked name ∷ []
-back-cuts name [] after e = rw (e, same-name name) refl
-back-cuts name (change ∷ before) after e = rw (has_mark-middle name before after) (ap (λ (cs : List Change). change ∷ cs) (back-cuts name before after e))
+pub rolled_back-cuts : (name : List ℕ) (before after : List Change) → has_savepoint name after ≡ false → rolled_back name (before ++ Saved name ∷ after) ≡ before ++ Saved name ∷ []
+rolled_back-cuts name [] after e = rw (e, same-name name) refl
+rolled_back-cuts name (change ∷ before) after e = rw (has_savepoint-middle name before after) (ap (λ (cs : List Change). change ∷ cs) (rolled_back-cuts name before after e))
 
-pub free-keeps : (name : List ℕ) (before after : List Change) → has_mark name after ≡ false → freed name (before ++ Marked name ∷ after) ≡ before ++ filter (λ change. not (is_mark change)) after
-free-keeps name [] after e = rw (e, same-name name) refl
-free-keeps name (change ∷ before) after e = rw (has_mark-middle name before after) (ap (λ (cs : List Change). change ∷ cs) (free-keeps name before after e))
+pub release-keeps : (name : List ℕ) (before after : List Change) → has_savepoint name after ≡ false → released name (before ++ Saved name ∷ after) ≡ before ++ filter (λ change. not (is_savepoint change)) after
+release-keeps name [] after e = rw (e, same-name name) refl
+release-keeps name (change ∷ before) after e = rw (has_savepoint-middle name before after) (ap (λ (cs : List Change). change ∷ cs) (release-keeps name before after e))
 
 -- a name is one of the marks' names where a mark has it
-pub named : (name : List ℕ) (changes : List Change) → is_live (filter_map marked_name changes) name ≡ has_mark name changes
+pub named : (name : List ℕ) (changes : List Change) → has_name (filter_map saved_name changes) name ≡ has_savepoint name changes
 named name [] = refl
-named name (Marked other ∷ changes) = ap (λ (b : Bool). bytes_eq name other || b) (named name changes)
+named name (Saved other ∷ changes) = ap (λ (b : Bool). bytes_eq name other || b) (named name changes)
 named name (Acted action ∷ changes) = named name changes
 named name (Noted note ∷ changes) = named name changes
-named name (Back other ∷ changes) = named name changes
-named name (Free other ∷ changes) = named name changes
+named name (RolledBack other ∷ changes) = named name changes
+named name (Released other ∷ changes) = named name changes
 
-pub live-is_marked : (changes : List Change) (name : List ℕ) → is_live (live_names changes) name ≡ has_mark name (survivors changes)
-live-is_marked changes name = named name (survivors changes)
+pub live-is_saved : (changes : List Change) (name : List ℕ) → has_name (live_names changes) name ≡ has_savepoint name (survivors changes)
+live-is_saved changes name = named name (survivors changes)
 
 -- the mark that is cut back to stays
-pub has_mark-cut : (name : List ℕ) (changes : List Change) → has_mark name (cut_back name changes) ≡ has_mark name changes
-has_mark-cut name [] = refl
-has_mark-cut name (change ∷ changes) = cut (has_mark name changes) (is_mark_of name change) refl refl (has_mark-cut name changes)
+pub has_savepoint-cut : (name : List ℕ) (changes : List Change) → has_savepoint name (rolled_back name changes) ≡ has_savepoint name changes
+has_savepoint-cut name [] = refl
+has_savepoint-cut name (change ∷ changes) = cut (has_savepoint name changes) (is_savepoint_of name change) refl refl (has_savepoint-cut name changes)
   where
-    cut : (later here : Bool) → has_mark name changes ≡ later → is_mark_of name change ≡ here → has_mark name (cut_back name changes) ≡ has_mark name changes
-        → has_mark name (cond later (change ∷ cut_back name changes) (cond here (change ∷ []) (change ∷ changes))) ≡ (is_mark_of name change || has_mark name changes)
-    cut true here l h ih = ap (λ (b : Bool). is_mark_of name change || b) ih
-    cut false true l h ih = ap (λ (b : Bool). is_mark_of name change || b) (sym l)
+    cut : (later here : Bool) → has_savepoint name changes ≡ later → is_savepoint_of name change ≡ here → has_savepoint name (rolled_back name changes) ≡ has_savepoint name changes
+        → has_savepoint name (cond later (change ∷ rolled_back name changes) (cond here (change ∷ []) (change ∷ changes))) ≡ (is_savepoint_of name change || has_savepoint name changes)
+    cut true here l h ih = ap (λ (b : Bool). is_savepoint_of name change || b) ih
+    cut false true l h ih = ap (λ (b : Bool). is_savepoint_of name change || b) (sym l)
     cut false false l h ih = refl
 
-pub back-keeps_mark : (changes : List Change) (name : List ℕ) → is_live (live_names (changes ++ Back name ∷ [])) name ≡ is_live (live_names changes) name
-back-keeps_mark changes name =
-    live-is_marked (changes ++ Back name ∷ []) name ∙ ap (has_mark name) (survives-back changes name) ∙ has_mark-cut name (survivors changes) ∙ sym (live-is_marked changes name)
+pub rolled_back-keeps_mark : (changes : List Change) (name : List ℕ) → has_name (live_names (changes ++ RolledBack name ∷ [])) name ≡ has_name (live_names changes) name
+rolled_back-keeps_mark changes name =
+    live-is_saved (changes ++ RolledBack name ∷ []) name ∙ ap (has_savepoint name) (survives-rolled_back changes name) ∙ has_savepoint-cut name (survivors changes) ∙ sym (live-is_saved changes name)
 
-pub back-of_none : (changes : List Change) (name : List ℕ) → is_live (live_names changes) name ≡ false → survivors (changes ++ Back name ∷ []) ≡ survivors changes
-back-of_none changes name e = survives-back changes name ∙ cut_back-none name (survivors changes) (sym (live-is_marked changes name) ∙ e)
+pub rolled_back-of_none : (changes : List Change) (name : List ℕ) → has_name (live_names changes) name ≡ false → survivors (changes ++ RolledBack name ∷ []) ≡ survivors changes
+rolled_back-of_none changes name e = survives-rolled_back changes name ∙ rolled_back-none name (survivors changes) (sym (live-is_saved changes name) ∙ e)
 
-pub free-of_none : (changes : List Change) (name : List ℕ) → is_live (live_names changes) name ≡ false → survivors (changes ++ Free name ∷ []) ≡ survivors changes
-free-of_none changes name e = survives-free changes name ∙ freed-none name (survivors changes) (sym (live-is_marked changes name) ∙ e)
+pub released-of_none : (changes : List Change) (name : List ℕ) → has_name (live_names changes) name ≡ false → survivors (changes ++ Released name ∷ []) ≡ survivors changes
+released-of_none changes name e = survives-released changes name ∙ released-none name (survivors changes) (sym (live-is_saved changes name) ∙ e)
 
 -- a notification is itself
 pub same_note-same : (note : Note) → same_note note note ≡ true
@@ -275,96 +275,96 @@ pub firsts-twice : (notes : List Note) → firsts (firsts notes) ≡ firsts note
 firsts-twice notes = firsts_after-twice [] notes
 
 -- dropping repeats leaves the marks
-pub has_mark-once : (name : List ℕ) (seen : List Note) (changes : List Change) → has_mark name (once_after seen changes) ≡ has_mark name changes
-has_mark-once name seen [] = refl
-has_mark-once name seen (Noted note ∷ changes) = elim (list_any (same_note note) seen) as (λ b. has_mark name (cond b (once_after seen changes) (Noted note ∷ once_after (seen ++ note ∷ []) changes)) ≡ has_mark name changes) [
-  | true ↦ has_mark-once name seen changes
-  | false ↦ has_mark-once name (seen ++ note ∷ []) changes
+pub has_savepoint-once : (name : List ℕ) (seen : List Note) (changes : List Change) → has_savepoint name (once_after seen changes) ≡ has_savepoint name changes
+has_savepoint-once name seen [] = refl
+has_savepoint-once name seen (Noted note ∷ changes) = elim (list_any (same_note note) seen) as (λ b. has_savepoint name (cond b (once_after seen changes) (Noted note ∷ once_after (seen ++ note ∷ []) changes)) ≡ has_savepoint name changes) [
+  | true ↦ has_savepoint-once name seen changes
+  | false ↦ has_savepoint-once name (seen ++ note ∷ []) changes
 ]
-has_mark-once name seen (Marked other ∷ changes) = ap (λ (b : Bool). bytes_eq name other || b) (has_mark-once name seen changes)
-has_mark-once name seen (Acted action ∷ changes) = has_mark-once name seen changes
-has_mark-once name seen (Back other ∷ changes) = has_mark-once name seen changes
-has_mark-once name seen (Free other ∷ changes) = has_mark-once name seen changes
+has_savepoint-once name seen (Saved other ∷ changes) = ap (λ (b : Bool). bytes_eq name other || b) (has_savepoint-once name seen changes)
+has_savepoint-once name seen (Acted action ∷ changes) = has_savepoint-once name seen changes
+has_savepoint-once name seen (RolledBack other ∷ changes) = has_savepoint-once name seen changes
+has_savepoint-once name seen (Released other ∷ changes) = has_savepoint-once name seen changes
 
 -- what is no such mark is not cut away before a list
-pub cut_back-keeps : (name : List ℕ) (change : Change) (changes : List Change) → is_mark_of name change ≡ false → cut_back name (change ∷ changes) ≡ change ∷ cut_back name changes
-cut_back-keeps name change changes other = (elim (has_mark name changes) as (λ b. has_mark name changes ≡ b → cond b (change ∷ cut_back name changes) (cond (is_mark_of name change) (change ∷ []) (change ∷ changes)) ≡ change ∷ cut_back name changes) [
+pub rolled_back-keeps : (name : List ℕ) (change : Change) (changes : List Change) → is_savepoint_of name change ≡ false → rolled_back name (change ∷ changes) ≡ change ∷ rolled_back name changes
+rolled_back-keeps name change changes other = (elim (has_savepoint name changes) as (λ b. has_savepoint name changes ≡ b → cond b (change ∷ rolled_back name changes) (cond (is_savepoint_of name change) (change ∷ []) (change ∷ changes)) ≡ change ∷ rolled_back name changes) [
   | true ↦ λ e. refl
-  | false ↦ λ e. rw other (ap (λ (cs : List Change). change ∷ cs) (sym (cut_back-none name changes e)))
+  | false ↦ λ e. rw other (ap (λ (cs : List Change). change ∷ cs) (sym (rolled_back-none name changes e)))
 ]) refl
 
--- and is not freed
-pub freed-keeps : (name : List ℕ) (change : Change) (changes : List Change) → is_mark_of name change ≡ false → freed name (change ∷ changes) ≡ change ∷ freed name changes
-freed-keeps name change changes other = (elim (has_mark name changes) as (λ b. has_mark name changes ≡ b → cond b (change ∷ freed name changes) (cond (is_mark_of name change) (filter (λ later. not (is_mark later)) changes) (change ∷ changes)) ≡ change ∷ freed name changes) [
+-- and is not released
+pub released-keeps : (name : List ℕ) (change : Change) (changes : List Change) → is_savepoint_of name change ≡ false → released name (change ∷ changes) ≡ change ∷ released name changes
+released-keeps name change changes other = (elim (has_savepoint name changes) as (λ b. has_savepoint name changes ≡ b → cond b (change ∷ released name changes) (cond (is_savepoint_of name change) (filter (λ later. not (is_savepoint later)) changes) (change ∷ changes)) ≡ change ∷ released name changes) [
   | true ↦ λ e. refl
-  | false ↦ λ e. rw other (ap (λ (cs : List Change). change ∷ cs) (sym (freed-none name changes e)))
+  | false ↦ λ e. rw other (ap (λ (cs : List Change). change ∷ cs) (sym (released-none name changes e)))
 ]) refl
 
 -- dropping repeats goes past ROLLBACK TO
-once-cut : (name : List ℕ) (seen : List Note) (changes : List Change) → once_after seen (cut_back name changes) ≡ cut_back name (once_after seen changes)
+once-cut : (name : List ℕ) (seen : List Note) (changes : List Change) → once_after seen (rolled_back name changes) ≡ rolled_back name (once_after seen changes)
 once-cut name seen [] = refl
 once-cut name seen (Noted note ∷ changes) =
     let more : List Note = seen ++ note ∷ [] in
-    ap (once_after seen) (cut_back-keeps name (Noted note) changes refl)
-    ∙ elim (list_any (same_note note) seen) as (λ b. cond b (once_after seen (cut_back name changes)) (Noted note ∷ once_after more (cut_back name changes)) ≡ cut_back name (cond b (once_after seen changes) (Noted note ∷ once_after more changes))) [
+    ap (once_after seen) (rolled_back-keeps name (Noted note) changes refl)
+    ∙ elim (list_any (same_note note) seen) as (λ b. cond b (once_after seen (rolled_back name changes)) (Noted note ∷ once_after more (rolled_back name changes)) ≡ rolled_back name (cond b (once_after seen changes) (Noted note ∷ once_after more changes))) [
       | true ↦ once-cut name seen changes
-      | false ↦ ap (λ (cs : List Change). Noted note ∷ cs) (once-cut name more changes) ∙ sym (cut_back-keeps name (Noted note) (once_after more changes) refl)
+      | false ↦ ap (λ (cs : List Change). Noted note ∷ cs) (once-cut name more changes) ∙ sym (rolled_back-keeps name (Noted note) (once_after more changes) refl)
     ]
-once-cut name seen (Marked other ∷ changes) =
-    let mark : Change = Marked other in
+once-cut name seen (Saved other ∷ changes) =
+    let mark : Change = Saved other in
     let rest : List Change = once_after seen changes in
-    (elim (has_mark name changes) as (λ b. once_after seen (cond b (mark ∷ cut_back name changes) (cond (bytes_eq name other) (mark ∷ []) (mark ∷ changes))) ≡ cond b (mark ∷ cut_back name rest) (cond (bytes_eq name other) (mark ∷ []) (mark ∷ rest))) [
+    (elim (has_savepoint name changes) as (λ b. once_after seen (cond b (mark ∷ rolled_back name changes) (cond (bytes_eq name other) (mark ∷ []) (mark ∷ changes))) ≡ cond b (mark ∷ rolled_back name rest) (cond (bytes_eq name other) (mark ∷ []) (mark ∷ rest))) [
       | true ↦ ap (λ (cs : List Change). mark ∷ cs) (once-cut name seen changes)
       | false ↦ elim (bytes_eq name other) as (λ b. once_after seen (cond b (mark ∷ []) (mark ∷ changes)) ≡ cond b (mark ∷ []) (mark ∷ rest)) [ true ↦ refl | false ↦ refl ]
     ])
-    ∙ ap (λ (b : Bool). cond b (mark ∷ cut_back name rest) (cond (bytes_eq name other) (mark ∷ []) (mark ∷ rest))) (sym (has_mark-once name seen changes))
+    ∙ ap (λ (b : Bool). cond b (mark ∷ rolled_back name rest) (cond (bytes_eq name other) (mark ∷ []) (mark ∷ rest))) (sym (has_savepoint-once name seen changes))
 once-cut name seen (Acted action ∷ changes) =
-    ap (once_after seen) (cut_back-keeps name (Acted action) changes refl) ∙ ap (λ (cs : List Change). Acted action ∷ cs) (once-cut name seen changes) ∙ sym (cut_back-keeps name (Acted action) (once_after seen changes) refl)
-once-cut name seen (Back other ∷ changes) =
-    ap (once_after seen) (cut_back-keeps name (Back other) changes refl) ∙ ap (λ (cs : List Change). Back other ∷ cs) (once-cut name seen changes) ∙ sym (cut_back-keeps name (Back other) (once_after seen changes) refl)
-once-cut name seen (Free other ∷ changes) =
-    ap (once_after seen) (cut_back-keeps name (Free other) changes refl) ∙ ap (λ (cs : List Change). Free other ∷ cs) (once-cut name seen changes) ∙ sym (cut_back-keeps name (Free other) (once_after seen changes) refl)
+    ap (once_after seen) (rolled_back-keeps name (Acted action) changes refl) ∙ ap (λ (cs : List Change). Acted action ∷ cs) (once-cut name seen changes) ∙ sym (rolled_back-keeps name (Acted action) (once_after seen changes) refl)
+once-cut name seen (RolledBack other ∷ changes) =
+    ap (once_after seen) (rolled_back-keeps name (RolledBack other) changes refl) ∙ ap (λ (cs : List Change). RolledBack other ∷ cs) (once-cut name seen changes) ∙ sym (rolled_back-keeps name (RolledBack other) (once_after seen changes) refl)
+once-cut name seen (Released other ∷ changes) =
+    ap (once_after seen) (rolled_back-keeps name (Released other) changes refl) ∙ ap (λ (cs : List Change). Released other ∷ cs) (once-cut name seen changes) ∙ sym (rolled_back-keeps name (Released other) (once_after seen changes) refl)
 
 -- dropping repeats goes past dropping marks
-once-unmarked : (seen : List Note) (changes : List Change) → once_after seen (filter (λ change. not (is_mark change)) changes) ≡ filter (λ change. not (is_mark change)) (once_after seen changes)
+once-unmarked : (seen : List Note) (changes : List Change) → once_after seen (filter (λ change. not (is_savepoint change)) changes) ≡ filter (λ change. not (is_savepoint change)) (once_after seen changes)
 once-unmarked seen [] = refl
 once-unmarked seen (Noted note ∷ changes) =
     let more : List Note = seen ++ note ∷ [] in
-    let kept : List Change = filter (λ change. not (is_mark change)) changes in
-    elim (list_any (same_note note) seen) as (λ b. cond b (once_after seen kept) (Noted note ∷ once_after more kept) ≡ filter (λ change. not (is_mark change)) (cond b (once_after seen changes) (Noted note ∷ once_after more changes))) [
+    let kept : List Change = filter (λ change. not (is_savepoint change)) changes in
+    elim (list_any (same_note note) seen) as (λ b. cond b (once_after seen kept) (Noted note ∷ once_after more kept) ≡ filter (λ change. not (is_savepoint change)) (cond b (once_after seen changes) (Noted note ∷ once_after more changes))) [
       | true ↦ once-unmarked seen changes
       | false ↦ ap (λ (cs : List Change). Noted note ∷ cs) (once-unmarked more changes)
     ]
-once-unmarked seen (Marked other ∷ changes) = once-unmarked seen changes
+once-unmarked seen (Saved other ∷ changes) = once-unmarked seen changes
 once-unmarked seen (Acted action ∷ changes) = ap (λ (cs : List Change). Acted action ∷ cs) (once-unmarked seen changes)
-once-unmarked seen (Back other ∷ changes) = ap (λ (cs : List Change). Back other ∷ cs) (once-unmarked seen changes)
-once-unmarked seen (Free other ∷ changes) = ap (λ (cs : List Change). Free other ∷ cs) (once-unmarked seen changes)
+once-unmarked seen (RolledBack other ∷ changes) = ap (λ (cs : List Change). RolledBack other ∷ cs) (once-unmarked seen changes)
+once-unmarked seen (Released other ∷ changes) = ap (λ (cs : List Change). Released other ∷ cs) (once-unmarked seen changes)
 
 -- dropping repeats goes past RELEASE
-once-freed : (name : List ℕ) (seen : List Note) (changes : List Change) → once_after seen (freed name changes) ≡ freed name (once_after seen changes)
-once-freed name seen [] = refl
-once-freed name seen (Noted note ∷ changes) =
+once-released : (name : List ℕ) (seen : List Note) (changes : List Change) → once_after seen (released name changes) ≡ released name (once_after seen changes)
+once-released name seen [] = refl
+once-released name seen (Noted note ∷ changes) =
     let more : List Note = seen ++ note ∷ [] in
-    ap (once_after seen) (freed-keeps name (Noted note) changes refl)
-    ∙ elim (list_any (same_note note) seen) as (λ b. cond b (once_after seen (freed name changes)) (Noted note ∷ once_after more (freed name changes)) ≡ freed name (cond b (once_after seen changes) (Noted note ∷ once_after more changes))) [
-      | true ↦ once-freed name seen changes
-      | false ↦ ap (λ (cs : List Change). Noted note ∷ cs) (once-freed name more changes) ∙ sym (freed-keeps name (Noted note) (once_after more changes) refl)
+    ap (once_after seen) (released-keeps name (Noted note) changes refl)
+    ∙ elim (list_any (same_note note) seen) as (λ b. cond b (once_after seen (released name changes)) (Noted note ∷ once_after more (released name changes)) ≡ released name (cond b (once_after seen changes) (Noted note ∷ once_after more changes))) [
+      | true ↦ once-released name seen changes
+      | false ↦ ap (λ (cs : List Change). Noted note ∷ cs) (once-released name more changes) ∙ sym (released-keeps name (Noted note) (once_after more changes) refl)
     ]
-once-freed name seen (Marked other ∷ changes) =
-    let mark : Change = Marked other in
+once-released name seen (Saved other ∷ changes) =
+    let mark : Change = Saved other in
     let rest : List Change = once_after seen changes in
-    let unmarked : List Change → List Change = λ cs. filter (λ change. not (is_mark change)) cs in
-    (elim (has_mark name changes) as (λ b. once_after seen (cond b (mark ∷ freed name changes) (cond (bytes_eq name other) (unmarked changes) (mark ∷ changes))) ≡ cond b (mark ∷ freed name rest) (cond (bytes_eq name other) (unmarked rest) (mark ∷ rest))) [
-      | true ↦ ap (λ (cs : List Change). mark ∷ cs) (once-freed name seen changes)
+    let unmarked : List Change → List Change = λ cs. filter (λ change. not (is_savepoint change)) cs in
+    (elim (has_savepoint name changes) as (λ b. once_after seen (cond b (mark ∷ released name changes) (cond (bytes_eq name other) (unmarked changes) (mark ∷ changes))) ≡ cond b (mark ∷ released name rest) (cond (bytes_eq name other) (unmarked rest) (mark ∷ rest))) [
+      | true ↦ ap (λ (cs : List Change). mark ∷ cs) (once-released name seen changes)
       | false ↦ elim (bytes_eq name other) as (λ b. once_after seen (cond b (unmarked changes) (mark ∷ changes)) ≡ cond b (unmarked rest) (mark ∷ rest)) [ true ↦ once-unmarked seen changes | false ↦ refl ]
     ])
-    ∙ ap (λ (b : Bool). cond b (mark ∷ freed name rest) (cond (bytes_eq name other) (unmarked rest) (mark ∷ rest))) (sym (has_mark-once name seen changes))
-once-freed name seen (Acted action ∷ changes) =
-    ap (once_after seen) (freed-keeps name (Acted action) changes refl) ∙ ap (λ (cs : List Change). Acted action ∷ cs) (once-freed name seen changes) ∙ sym (freed-keeps name (Acted action) (once_after seen changes) refl)
-once-freed name seen (Back other ∷ changes) =
-    ap (once_after seen) (freed-keeps name (Back other) changes refl) ∙ ap (λ (cs : List Change). Back other ∷ cs) (once-freed name seen changes) ∙ sym (freed-keeps name (Back other) (once_after seen changes) refl)
-once-freed name seen (Free other ∷ changes) =
-    ap (once_after seen) (freed-keeps name (Free other) changes refl) ∙ ap (λ (cs : List Change). Free other ∷ cs) (once-freed name seen changes) ∙ sym (freed-keeps name (Free other) (once_after seen changes) refl)
+    ∙ ap (λ (b : Bool). cond b (mark ∷ released name rest) (cond (bytes_eq name other) (unmarked rest) (mark ∷ rest))) (sym (has_savepoint-once name seen changes))
+once-released name seen (Acted action ∷ changes) =
+    ap (once_after seen) (released-keeps name (Acted action) changes refl) ∙ ap (λ (cs : List Change). Acted action ∷ cs) (once-released name seen changes) ∙ sym (released-keeps name (Acted action) (once_after seen changes) refl)
+once-released name seen (RolledBack other ∷ changes) =
+    ap (once_after seen) (released-keeps name (RolledBack other) changes refl) ∙ ap (λ (cs : List Change). RolledBack other ∷ cs) (once-released name seen changes) ∙ sym (released-keeps name (RolledBack other) (once_after seen changes) refl)
+once-released name seen (Released other ∷ changes) =
+    ap (once_after seen) (released-keeps name (Released other) changes refl) ∙ ap (λ (cs : List Change). Released other ∷ cs) (once-released name seen changes) ∙ sym (released-keeps name (Released other) (once_after seen changes) refl)
 
 -- what is no notification goes to the end
 once-other : (change : Change) → ((seen : List Note) → once_after seen (change ∷ []) ≡ change ∷ []) → (seen : List Note) (changes : List Change) → once_after seen (changes ++ change ∷ []) ≡ once_after seen changes ++ change ∷ []
@@ -375,10 +375,10 @@ once-other change h seen (Noted note ∷ changes) =
       | true ↦ once-other change h seen changes
       | false ↦ ap (λ (cs : List Change). Noted note ∷ cs) (once-other change h more changes)
     ]
-once-other change h seen (Marked other ∷ changes) = ap (λ (cs : List Change). Marked other ∷ cs) (once-other change h seen changes)
+once-other change h seen (Saved other ∷ changes) = ap (λ (cs : List Change). Saved other ∷ cs) (once-other change h seen changes)
 once-other change h seen (Acted action ∷ changes) = ap (λ (cs : List Change). Acted action ∷ cs) (once-other change h seen changes)
-once-other change h seen (Back other ∷ changes) = ap (λ (cs : List Change). Back other ∷ cs) (once-other change h seen changes)
-once-other change h seen (Free other ∷ changes) = ap (λ (cs : List Change). Free other ∷ cs) (once-other change h seen changes)
+once-other change h seen (RolledBack other ∷ changes) = ap (λ (cs : List Change). RolledBack other ∷ cs) (once-other change h seen changes)
+once-other change h seen (Released other ∷ changes) = ap (λ (cs : List Change). Released other ∷ cs) (once-other change h seen changes)
 
 -- the notifications without repeats are the first occurrences of the notifications
 notes-once : (seen : List Note) (changes : List Change) → filter_map noted_note (once_after seen changes) ≡ firsts_after seen (filter_map noted_note changes)
@@ -390,19 +390,19 @@ notes-once seen (Noted note ∷ changes) =
       | true ↦ notes-once seen changes
       | false ↦ ap (λ (ns : List Note). note ∷ ns) (notes-once more changes)
     ]
-notes-once seen (Marked other ∷ changes) = notes-once seen changes
+notes-once seen (Saved other ∷ changes) = notes-once seen changes
 notes-once seen (Acted action ∷ changes) = notes-once seen changes
-notes-once seen (Back other ∷ changes) = notes-once seen changes
-notes-once seen (Free other ∷ changes) = notes-once seen changes
+notes-once seen (RolledBack other ∷ changes) = notes-once seen changes
+notes-once seen (Released other ∷ changes) = notes-once seen changes
 
 -- the notification stands in a list where it stands among its notifications
 pub noted : (note : Note) (changes : List Change) → has_note note changes ≡ list_any (same_note note) (filter_map noted_note changes)
 noted note [] = refl
 noted note (Noted other ∷ changes) = ap (λ (b : Bool). same_note note other || b) (noted note changes)
-noted note (Marked other ∷ changes) = noted note changes
+noted note (Saved other ∷ changes) = noted note changes
 noted note (Acted action ∷ changes) = noted note changes
-noted note (Back other ∷ changes) = noted note changes
-noted note (Free other ∷ changes) = noted note changes
+noted note (RolledBack other ∷ changes) = noted note changes
+noted note (Released other ∷ changes) = noted note changes
 
 -- dropping repeats leaves each notification
 pub has_note-once : (note : Note) (changes : List Change) → has_note note (once changes) ≡ has_note note changes
@@ -416,24 +416,24 @@ actions-once seen (Noted note ∷ changes) = elim (list_any (same_note note) see
   | true ↦ actions-once seen changes
   | false ↦ actions-once (seen ++ note ∷ []) changes
 ]
-actions-once seen (Marked other ∷ changes) = actions-once seen changes
+actions-once seen (Saved other ∷ changes) = actions-once seen changes
 actions-once seen (Acted action ∷ changes) = ap (λ (actions : List Action). action ∷ actions) (actions-once seen changes)
-actions-once seen (Back other ∷ changes) = actions-once seen changes
-actions-once seen (Free other ∷ changes) = actions-once seen changes
+actions-once seen (RolledBack other ∷ changes) = actions-once seen changes
+actions-once seen (Released other ∷ changes) = actions-once seen changes
 
 -- the names stay
-names-once : (seen : List Note) (changes : List Change) → filter_map marked_name (once_after seen changes) ≡ filter_map marked_name changes
+names-once : (seen : List Note) (changes : List Change) → filter_map saved_name (once_after seen changes) ≡ filter_map saved_name changes
 names-once seen [] = refl
-names-once seen (Noted note ∷ changes) = elim (list_any (same_note note) seen) as (λ b. filter_map marked_name (cond b (once_after seen changes) (Noted note ∷ once_after (seen ++ note ∷ []) changes)) ≡ filter_map marked_name changes) [
+names-once seen (Noted note ∷ changes) = elim (list_any (same_note note) seen) as (λ b. filter_map saved_name (cond b (once_after seen changes) (Noted note ∷ once_after (seen ++ note ∷ []) changes)) ≡ filter_map saved_name changes) [
   | true ↦ names-once seen changes
   | false ↦ names-once (seen ++ note ∷ []) changes
 ]
-names-once seen (Marked name ∷ changes) = ap (λ (names : List (List ℕ)). name ∷ names) (names-once seen changes)
+names-once seen (Saved name ∷ changes) = ap (λ (names : List (List ℕ)). name ∷ names) (names-once seen changes)
 names-once seen (Acted action ∷ changes) = names-once seen changes
-names-once seen (Back other ∷ changes) = names-once seen changes
-names-once seen (Free other ∷ changes) = names-once seen changes
+names-once seen (RolledBack other ∷ changes) = names-once seen changes
+names-once seen (Released other ∷ changes) = names-once seen changes
 
-pub live-has_names : (changes : List Change) → filter_map marked_name (live_changes changes) ≡ live_names changes
+pub live-has_names : (changes : List Change) → filter_map saved_name (live_changes changes) ≡ live_names changes
 live-has_names changes = names-once [] (survivors changes)
 
 pub live-has_actions : (changes : List Change) → filter_map acted_action (live_changes changes) ≡ surviving_actions changes
@@ -450,10 +450,10 @@ once-note note seen [] = last (list_any (same_note note) seen)
     last : (b : Bool) → cond b (once_after seen []) (Noted note ∷ []) ≡ cond (b || false) [] (Noted note ∷ [])
     last true = refl
     last false = refl
-once-note note seen (Marked other ∷ changes) = ap (λ (cs : List Change). Marked other ∷ cs) (once-note note seen changes)
+once-note note seen (Saved other ∷ changes) = ap (λ (cs : List Change). Saved other ∷ cs) (once-note note seen changes)
 once-note note seen (Acted action ∷ changes) = ap (λ (cs : List Change). Acted action ∷ cs) (once-note note seen changes)
-once-note note seen (Back other ∷ changes) = ap (λ (cs : List Change). Back other ∷ cs) (once-note note seen changes)
-once-note note seen (Free other ∷ changes) = ap (λ (cs : List Change). Free other ∷ cs) (once-note note seen changes)
+once-note note seen (RolledBack other ∷ changes) = ap (λ (cs : List Change). RolledBack other ∷ cs) (once-note note seen changes)
+once-note note seen (Released other ∷ changes) = ap (λ (cs : List Change). Released other ∷ cs) (once-note note seen changes)
 once-note note seen (Noted other ∷ changes) =
     let has : Bool = list_any (same_note note) seen in
     let same : Bool = same_note note other in
@@ -469,9 +469,9 @@ once-note note seen (Noted other ∷ changes) =
 
 -- what is live takes one more change in
 live-push : (changes : List Change) (change : Change) → live_changes (changes ++ change ∷ []) ≡ after_change (live_changes changes) change
-live-push changes (Back name) = ap once (survives-back changes name) ∙ once-cut name [] (survivors changes)
-live-push changes (Free name) = ap once (survives-free changes name) ∙ once-freed name [] (survivors changes)
-live-push changes (Marked name) = ap once (survives-marked changes name) ∙ once-other (Marked name) (λ seen. refl) [] (survivors changes)
+live-push changes (RolledBack name) = ap once (survives-rolled_back changes name) ∙ once-cut name [] (survivors changes)
+live-push changes (Released name) = ap once (survives-released changes name) ∙ once-released name [] (survivors changes)
+live-push changes (Saved name) = ap once (survives-saved changes name) ∙ once-other (Saved name) (λ seen. refl) [] (survivors changes)
 live-push changes (Acted action) = ap once (survives-acted changes action) ∙ once-other (Acted action) (λ seen. refl) [] (survivors changes)
 live-push changes (Noted note) =
     let live : List Change = live_changes changes in
@@ -481,8 +481,8 @@ live-push changes (Noted note) =
 pub live-after_change : (changes live : List Change) (change : Change) → live_changes changes ≡ live → live_changes (changes ++ change ∷ []) ≡ after_change live change
 live-after_change changes live change e = live-push changes change ∙ ap (λ (cs : List Change). after_change cs change) e
 
-pub live-marked : (changes : List Change) (name : List ℕ) → live_changes (changes ++ Marked name ∷ []) ≡ live_changes changes ++ Marked name ∷ []
-live-marked changes name = live-push changes (Marked name)
+pub live-saved : (changes : List Change) (name : List ℕ) → live_changes (changes ++ Saved name ∷ []) ≡ live_changes changes ++ Saved name ∷ []
+live-saved changes name = live-push changes (Saved name)
 
 pub live-acted : (changes : List Change) (action : Action) → live_changes (changes ++ Acted action ∷ []) ≡ live_changes changes ++ Acted action ∷ []
 live-acted changes action = live-push changes (Acted action)
@@ -493,75 +493,75 @@ live-new changes note e = live-push changes (Noted note) ∙ ap (λ (b : Bool). 
 pub live-repeated : (changes : List Change) (note : Note) → has_note note (live_changes changes) ≡ true → live_changes (changes ++ Noted note ∷ []) ≡ live_changes changes
 live-repeated changes note e = live-push changes (Noted note) ∙ ap (λ (b : Bool). cond b (live_changes changes) (live_changes changes ++ Noted note ∷ [])) e
 
-pub live-back : (changes : List Change) (name : List ℕ) → live_changes (changes ++ Back name ∷ []) ≡ cut_back name (live_changes changes)
-live-back changes name = live-push changes (Back name)
+pub live-rolled_back : (changes : List Change) (name : List ℕ) → live_changes (changes ++ RolledBack name ∷ []) ≡ rolled_back name (live_changes changes)
+live-rolled_back changes name = live-push changes (RolledBack name)
 
-pub live-free : (changes : List Change) (name : List ℕ) → live_changes (changes ++ Free name ∷ []) ≡ freed name (live_changes changes)
-live-free changes name = live-push changes (Free name)
+pub live-released : (changes : List Change) (name : List ℕ) → live_changes (changes ++ Released name ∷ []) ≡ released name (live_changes changes)
+live-released changes name = live-push changes (Released name)
 
-pub live-has_mark : (changes : List Change) (name : List ℕ) → is_live (live_names changes) name ≡ has_mark name (live_changes changes)
-live-has_mark changes name = live-is_marked changes name ∙ sym (has_mark-once name [] (survivors changes))
+pub live-has_savepoint : (changes : List Change) (name : List ℕ) → has_name (live_names changes) name ≡ has_savepoint name (live_changes changes)
+live-has_savepoint changes name = live-is_saved changes name ∙ sym (has_savepoint-once name [] (survivors changes))
 
 -- there is no ROLLBACK TO and no RELEASE in a list
 IsSettled : List Change → Type 0
 IsSettled [] = Unit {0}
-IsSettled (Back name ∷ changes) = ⊥
-IsSettled (Free name ∷ changes) = ⊥
+IsSettled (RolledBack name ∷ changes) = ⊥
+IsSettled (Released name ∷ changes) = ⊥
 IsSettled (change ∷ changes) = IsSettled changes
 
-settled-cut : (name : List ℕ) (changes : List Change) → IsSettled changes → IsSettled (cut_back name changes)
+settled-cut : (name : List ℕ) (changes : List Change) → IsSettled changes → IsSettled (rolled_back name changes)
 unfolding IsSettled
 settled-cut name [] h = tt
-settled-cut name (Noted note ∷ changes) h = subst IsSettled (sym (cut_back-keeps name (Noted note) changes refl)) (settled-cut name changes h)
-settled-cut name (Acted action ∷ changes) h = subst IsSettled (sym (cut_back-keeps name (Acted action) changes refl)) (settled-cut name changes h)
-settled-cut name (Marked other ∷ changes) h =
-    let mark : Change = Marked other in
-    elim (has_mark name changes) as (λ b. IsSettled (cond b (mark ∷ cut_back name changes) (cond (bytes_eq name other) (mark ∷ []) (mark ∷ changes)))) [
+settled-cut name (Noted note ∷ changes) h = subst IsSettled (sym (rolled_back-keeps name (Noted note) changes refl)) (settled-cut name changes h)
+settled-cut name (Acted action ∷ changes) h = subst IsSettled (sym (rolled_back-keeps name (Acted action) changes refl)) (settled-cut name changes h)
+settled-cut name (Saved other ∷ changes) h =
+    let mark : Change = Saved other in
+    elim (has_savepoint name changes) as (λ b. IsSettled (cond b (mark ∷ rolled_back name changes) (cond (bytes_eq name other) (mark ∷ []) (mark ∷ changes)))) [
       | true ↦ settled-cut name changes h
       | false ↦ elim (bytes_eq name other) as (λ b. IsSettled (cond b (mark ∷ []) (mark ∷ changes))) [ true ↦ tt | false ↦ h ]
     ]
-settled-cut name (Back other ∷ changes) h = absurd h
-settled-cut name (Free other ∷ changes) h = absurd h
+settled-cut name (RolledBack other ∷ changes) h = absurd h
+settled-cut name (Released other ∷ changes) h = absurd h
 
-settled-unmarked : (changes : List Change) → IsSettled changes → IsSettled (filter (λ change. not (is_mark change)) changes)
+settled-unmarked : (changes : List Change) → IsSettled changes → IsSettled (filter (λ change. not (is_savepoint change)) changes)
 unfolding IsSettled
 settled-unmarked [] h = tt
 settled-unmarked (Noted note ∷ changes) h = settled-unmarked changes h
 settled-unmarked (Acted action ∷ changes) h = settled-unmarked changes h
-settled-unmarked (Marked other ∷ changes) h = settled-unmarked changes h
-settled-unmarked (Back other ∷ changes) h = absurd h
-settled-unmarked (Free other ∷ changes) h = absurd h
+settled-unmarked (Saved other ∷ changes) h = settled-unmarked changes h
+settled-unmarked (RolledBack other ∷ changes) h = absurd h
+settled-unmarked (Released other ∷ changes) h = absurd h
 
-settled-freed : (name : List ℕ) (changes : List Change) → IsSettled changes → IsSettled (freed name changes)
+settled-released : (name : List ℕ) (changes : List Change) → IsSettled changes → IsSettled (released name changes)
 unfolding IsSettled
-settled-freed name [] h = tt
-settled-freed name (Noted note ∷ changes) h = subst IsSettled (sym (freed-keeps name (Noted note) changes refl)) (settled-freed name changes h)
-settled-freed name (Acted action ∷ changes) h = subst IsSettled (sym (freed-keeps name (Acted action) changes refl)) (settled-freed name changes h)
-settled-freed name (Marked other ∷ changes) h =
-    let mark : Change = Marked other in
-    elim (has_mark name changes) as (λ b. IsSettled (cond b (mark ∷ freed name changes) (cond (bytes_eq name other) (filter (λ change. not (is_mark change)) changes) (mark ∷ changes)))) [
-      | true ↦ settled-freed name changes h
-      | false ↦ elim (bytes_eq name other) as (λ b. IsSettled (cond b (filter (λ change. not (is_mark change)) changes) (mark ∷ changes))) [ true ↦ settled-unmarked changes h | false ↦ h ]
+settled-released name [] h = tt
+settled-released name (Noted note ∷ changes) h = subst IsSettled (sym (released-keeps name (Noted note) changes refl)) (settled-released name changes h)
+settled-released name (Acted action ∷ changes) h = subst IsSettled (sym (released-keeps name (Acted action) changes refl)) (settled-released name changes h)
+settled-released name (Saved other ∷ changes) h =
+    let mark : Change = Saved other in
+    elim (has_savepoint name changes) as (λ b. IsSettled (cond b (mark ∷ released name changes) (cond (bytes_eq name other) (filter (λ change. not (is_savepoint change)) changes) (mark ∷ changes)))) [
+      | true ↦ settled-released name changes h
+      | false ↦ elim (bytes_eq name other) as (λ b. IsSettled (cond b (filter (λ change. not (is_savepoint change)) changes) (mark ∷ changes))) [ true ↦ settled-unmarked changes h | false ↦ h ]
     ]
-settled-freed name (Back other ∷ changes) h = absurd h
-settled-freed name (Free other ∷ changes) h = absurd h
+settled-released name (RolledBack other ∷ changes) h = absurd h
+settled-released name (Released other ∷ changes) h = absurd h
 
 settled-append : (xs ys : List Change) → IsSettled xs → IsSettled ys → IsSettled (xs ++ ys)
 unfolding IsSettled
 settled-append [] ys h k = k
 settled-append (Noted note ∷ xs) ys h k = settled-append xs ys h k
 settled-append (Acted action ∷ xs) ys h k = settled-append xs ys h k
-settled-append (Marked other ∷ xs) ys h k = settled-append xs ys h k
-settled-append (Back other ∷ xs) ys h k = absurd h
-settled-append (Free other ∷ xs) ys h k = absurd h
+settled-append (Saved other ∷ xs) ys h k = settled-append xs ys h k
+settled-append (RolledBack other ∷ xs) ys h k = absurd h
+settled-append (Released other ∷ xs) ys h k = absurd h
 
 -- what survives is settled
 settled-survivors : (kept changes : List Change) → IsSettled kept → IsSettled (survivors_from kept changes)
 unfolding IsSettled
 settled-survivors kept [] h = h
-settled-survivors kept (Back name ∷ changes) h = settled-survivors (cut_back name kept) changes (settled-cut name kept h)
-settled-survivors kept (Free name ∷ changes) h = settled-survivors (freed name kept) changes (settled-freed name kept h)
-settled-survivors kept (Marked name ∷ changes) h = settled-survivors (kept ++ Marked name ∷ []) changes (settled-append kept (Marked name ∷ []) h tt)
+settled-survivors kept (RolledBack name ∷ changes) h = settled-survivors (rolled_back name kept) changes (settled-cut name kept h)
+settled-survivors kept (Released name ∷ changes) h = settled-survivors (released name kept) changes (settled-released name kept h)
+settled-survivors kept (Saved name ∷ changes) h = settled-survivors (kept ++ Saved name ∷ []) changes (settled-append kept (Saved name ∷ []) h tt)
 settled-survivors kept (Acted action ∷ changes) h = settled-survivors (kept ++ Acted action ∷ []) changes (settled-append kept (Acted action ∷ []) h tt)
 settled-survivors kept (Noted note ∷ changes) h = settled-survivors (kept ++ Noted note ∷ []) changes (settled-append kept (Noted note ∷ []) h tt)
 
@@ -573,9 +573,9 @@ settled-once seen (Noted note ∷ changes) h = elim (list_any (same_note note) s
   | false ↦ settled-once (seen ++ note ∷ []) changes h
 ]
 settled-once seen (Acted action ∷ changes) h = settled-once seen changes h
-settled-once seen (Marked other ∷ changes) h = settled-once seen changes h
-settled-once seen (Back other ∷ changes) h = absurd h
-settled-once seen (Free other ∷ changes) h = absurd h
+settled-once seen (Saved other ∷ changes) h = settled-once seen changes h
+settled-once seen (RolledBack other ∷ changes) h = absurd h
+settled-once seen (Released other ∷ changes) h = absurd h
 
 -- a settled list survives whole
 survivors_from-settled : (kept changes : List Change) → IsSettled changes → survivors_from kept changes ≡ kept ++ changes
@@ -583,9 +583,9 @@ unfolding IsSettled
 survivors_from-settled kept [] h = sym (append-nil kept)
 survivors_from-settled kept (Noted note ∷ changes) h = survivors_from-settled (kept ++ Noted note ∷ []) changes h ∙ append_assoc kept (Noted note ∷ []) changes
 survivors_from-settled kept (Acted action ∷ changes) h = survivors_from-settled (kept ++ Acted action ∷ []) changes h ∙ append_assoc kept (Acted action ∷ []) changes
-survivors_from-settled kept (Marked name ∷ changes) h = survivors_from-settled (kept ++ Marked name ∷ []) changes h ∙ append_assoc kept (Marked name ∷ []) changes
-survivors_from-settled kept (Back name ∷ changes) h = absurd h
-survivors_from-settled kept (Free name ∷ changes) h = absurd h
+survivors_from-settled kept (Saved name ∷ changes) h = survivors_from-settled (kept ++ Saved name ∷ []) changes h ∙ append_assoc kept (Saved name ∷ []) changes
+survivors_from-settled kept (RolledBack name ∷ changes) h = absurd h
+survivors_from-settled kept (Released name ∷ changes) h = absurd h
 
 -- a list without repeats has none to drop
 once-twice : (seen : List Note) (changes : List Change) → once_after seen (once_after seen changes) ≡ once_after seen changes
@@ -596,18 +596,18 @@ once-twice seen (Noted note ∷ changes) =
       | true ↦ λ e. once-twice seen changes
       | false ↦ λ e. rw e (ap (λ (cs : List Change). Noted note ∷ cs) (once-twice (seen ++ note ∷ []) changes))
     ]) refl
-once-twice seen (Marked other ∷ changes) = ap (λ (cs : List Change). Marked other ∷ cs) (once-twice seen changes)
+once-twice seen (Saved other ∷ changes) = ap (λ (cs : List Change). Saved other ∷ cs) (once-twice seen changes)
 once-twice seen (Acted action ∷ changes) = ap (λ (cs : List Change). Acted action ∷ cs) (once-twice seen changes)
-once-twice seen (Back other ∷ changes) = ap (λ (cs : List Change). Back other ∷ cs) (once-twice seen changes)
-once-twice seen (Free other ∷ changes) = ap (λ (cs : List Change). Free other ∷ cs) (once-twice seen changes)
+once-twice seen (RolledBack other ∷ changes) = ap (λ (cs : List Change). RolledBack other ∷ cs) (once-twice seen changes)
+once-twice seen (Released other ∷ changes) = ap (λ (cs : List Change). Released other ∷ cs) (once-twice seen changes)
 
 pub live-twice : (changes : List Change) → live_changes (live_changes changes) ≡ live_changes changes
 unfolding IsSettled
 live-twice changes =
     ap once (survivors_from-settled [] (live_changes changes) (settled-once [] (survivors changes) (settled-survivors [] changes tt))) ∙ once-twice [] (survivors changes)
 
-pub ruleset savepoint_laws = (survives-back, survives-free, survives-marked, survives-acted, survives-noted, back-cuts, free-keeps, live-is_marked, live-has_mark, back-keeps_mark, back-of_none, free-of_none)
+pub ruleset savepoint_laws = (survives-rolled_back, survives-released, survives-saved, survives-acted, survives-noted, rolled_back-cuts, release-keeps, live-is_saved, live-has_savepoint, rolled_back-keeps_mark, rolled_back-of_none, released-of_none)
 
 pub ruleset firsts_laws = (firsts-in_order, firsts-differ, firsts-have_all, firsts-push, firsts-twice)
 
-pub ruleset live_laws = (live-after_change, live-marked, live-acted, live-new, live-repeated, live-back, live-free, live-twice, live-has_names, live-has_actions, live-has_firsts)
+pub ruleset live_laws = (live-after_change, live-saved, live-acted, live-new, live-repeated, live-rolled_back, live-released, live-twice, live-has_names, live-has_actions, live-has_firsts)

@@ -12,6 +12,8 @@ use Rattle.std.proofs.lemmas.List.Folds.{list_any-append}
 use Rattle.std.proofs.lemmas.Slice.Eq.{bytes_eq-Decides}
 use Rattle.std.proofs.lemmas.List.Recursion.{is_position_or_len}
 use Rattle.std.proofs.lemmas.List.Elements.{filter_map-append, All-nil, All-cons, All-head, All-tail, All-append, All-contains, Contains-append_left, Contains-append_right}
+use Rattle.pgn_base.specs.declared.limits.TheConstants.{FLAGS_MAX, LINE_BYTES_MAX, NOTE_LINES_MAX, SECTIONS_MAX}
+use Rattle.pgn_base.specs.Names.{has_name}
 use Rattle.pgn_model.specs.declared.command.Command.{Command}
 use Rattle.pgn_model.specs.declared.command.Command.TheVariants as command
 use Rattle.pgn_model.specs.declared.scenario.Act.{Act}
@@ -22,13 +24,13 @@ use Rattle.pgn_model.specs.declared.scenario.ScenarioFault.{ScenarioFault}
 use Rattle.pgn_model.specs.declared.scenario.ScenarioFault.TheVariants as fault
 use Rattle.pgn_model.specs.Lines.{Says, Nothing, Opens, Runs, Signals, Awaits, Quits, NoMeta, says, trimmed, is_label, is_label_byte, is_database, meta_says, command_says, text_says, begins_meta, parts_of, lines_of}
 use Rattle.std.specs.Str.Parse.{digits_value}
-use Rattle.pgn_model.specs.GrammarLaws.{reading}
-use Rattle.pgn_model.specs.InputLaws.{IsTextOf}
+use Rattle.pgn_model.specs.laws.Inputs.{IsTextOf}
 use Rattle.pgn_model.proofs.LineLaws.{is-trimmed}
 use Rattle.pgn_model.proofs.OneLineCommands.{none-line, line-cons, reads-one_line}
 use Rattle.pgn_model.specs.declared.scenario.Scenario.{Scenario}
-use Rattle.pgn_model.specs.Inputs.{section_limit, flag_limit, note_line_limit, line_limit, all_say, is_opening, is_quit, is_note, opened_name, named_flag, has_name, with_name, section_names, flags_of, has_quit, is_bad_meta, lacks_session, repeats_name, are_too_many, fault_said, fault_of, line_number, line_start, flag_number, act_of, script_line, script_line_of, script_from, is_note_act, note_lines_of, section, section_at, scenario_of, HaveNoFault, IsSoundSection, IsSound, IsOneLineCommand, IsOneLineAct, ReadsAsScenario, Large, Faulty, Sectionless, Unsignalled, Reads, sections_from, AreNumbered, HasFlagBelow, IsBelowFirst, Rise, QuitsLast, IsOneLine, has_section}
+use Rattle.pgn_model.specs.Inputs.{all_say, is_opening, is_quit, notifies, opened_name, named_flag, with_name, section_names, flags_of, has_quit, is_bad_meta, lacks_session, repeats_name, are_too_many, fault_said, fault_of, line_number, line_start, flag_number, act_of, script_line, script_line_of, script_from, is_note_act, note_lines_of, section, section_at, scenario_of, HaveNoFault, IsSoundSection, IsSound, IsOneLineCommand, IsOneLineAct, ReadsAsScenario, Large, Faulty, Sectionless, Unsignalled, Faultless, sections_from, AreNumbered, HasFlagBelow, IsBelowFirst, Rise, QuitsLast, IsOneLine, has_section}
 use Rattle.pgn_model.proofs.InputLaws.{SoundAfter, sound-first, sound-rest}
+use Rattle.pgn_model.specs.Grammar.{reading}
 
 -- what holds of a line without a fault
 record IsClean (before : List (List ℕ)) (line : List ℕ) : Type 0 where
@@ -53,7 +55,7 @@ unfolding fault_of
 clean before line h =
     let n : ℕ = line_number before in
     let said : fault_said n (all_say before) (says line) ≡ None
-    = past_bytes (nat_lt line_limit (length line)) (not (is_utf8 line)) (list_any (λ byte. byte == 0) line)
+    = past_bytes (nat_lt LINE_BYTES_MAX (length line)) (not (is_utf8 line)) (list_any (λ byte. byte == 0) line)
     (fault.LineTooLong n) (fault.NotUtf8 (line_start before + utf8_valid_len line)) (fault.NulByte n) (fault_said n (all_say before) (says line)) h in
     let parts : (is_bad_meta (all_say before) (says line) ≡ false) × (are_too_many (all_say before ++ says line ∷ []) ≡ false)
     = last_two (is_bad_meta (all_say before) (says line)) (lacks_session (all_say before) (says line)) (repeats_name (all_say before) (says line)) (are_too_many (all_say before ++ says line ∷ []))
@@ -73,9 +75,9 @@ few-after before (line ∷ lines) sound h =
 
 -- what is not too many
 record AreFew (said : List Says) : Type 0 where
-  sections : length (section_names said) ≤ section_limit
-  flags : length (flags_of said) ≤ flag_limit
-  notes : count_by is_note said ≤ note_line_limit
+  sections : length (section_names said) ≤ SECTIONS_MAX
+  flags : length (flags_of said) ≤ FLAGS_MAX
+  notes : count_by notifies said ≤ NOTE_LINES_MAX
 
 none_of_three : (a b c : Bool) → (a || b || c) ≡ false → (a ≡ false) × (b ≡ false) × (c ≡ false)
 none_of_three true true c h = absurd (cc)
@@ -86,12 +88,12 @@ none_of_three false false false h = (refl, refl, refl)
 
 few : (said : List Says) → are_too_many said ≡ false → AreFew said
 few said h =
-    let parts : (nat_lt section_limit (length (section_names said)) ≡ false) × (nat_lt flag_limit (length (flags_of said)) ≡ false) × (nat_lt note_line_limit (count_by is_note said) ≡ false)
-    = none_of_three (nat_lt section_limit (length (section_names said))) (nat_lt flag_limit (length (flags_of said))) (nat_lt note_line_limit (count_by is_note said)) h in
+    let parts : (nat_lt SECTIONS_MAX (length (section_names said)) ≡ false) × (nat_lt FLAGS_MAX (length (flags_of said)) ≡ false) × (nat_lt NOTE_LINES_MAX (count_by notifies said) ≡ false)
+    = none_of_three (nat_lt SECTIONS_MAX (length (section_names said))) (nat_lt FLAGS_MAX (length (flags_of said))) (nat_lt NOTE_LINES_MAX (count_by notifies said)) h in
     record {
-      sections = ltb-false section_limit (length (section_names said)) parts.0;
-      flags = ltb-false flag_limit (length (flags_of said)) parts.1;
-      notes = ltb-false note_line_limit (count_by is_note said) parts.2;
+      sections = ltb-false SECTIONS_MAX (length (section_names said)) parts.0;
+      flags = ltb-false FLAGS_MAX (length (flags_of said)) parts.1;
+      notes = ltb-false NOTE_LINES_MAX (count_by notifies said) parts.2;
     }
 
 -- sections are those that lines open, numbered
@@ -159,7 +161,7 @@ some_named (one ∷ more) h =
 
 -- whether a line notifies, as a number
 abbrev noting : Says → ℕ
-noting said = cond (is_note said) 1 0
+noting said = cond (notifies said) 1 0
 
 abbrev notes_in : List Section → ℕ
 notes_in sections = sum_by (λ (one : Section). one.note_lines) sections
@@ -180,15 +182,15 @@ notes_at flags number n line (Awaits flag) lines = omega arith
 notes_at flags number n line Quits lines = omega arith
 notes_at flags number n line NoMeta lines = omega arith
 
-notes-counted : (flags : List (List ℕ)) (number n : ℕ) (lines : List (List ℕ)) → note_lines_of (script_from flags n lines) + notes_in (sections_from flags number n lines) ≡ count_by is_note (all_say lines)
+notes-counted : (flags : List (List ℕ)) (number n : ℕ) (lines : List (List ℕ)) → note_lines_of (script_from flags n lines) + notes_in (sections_from flags number n lines) ≡ count_by notifies (all_say lines)
 notes-counted flags number n [] = refl
 notes-counted flags number n (line ∷ lines) =
     let here : List Section = section_at flags number (n + 1) (says line) lines in
     let more : List Section = sections_from flags (number + length here) (n + 1) lines in
-    let rest : note_lines_of (script_from flags (n + 1) lines) + notes_in more ≡ count_by is_note (all_say lines) = notes-counted flags (number + length here) (n + 1) lines in
+    let rest : note_lines_of (script_from flags (n + 1) lines) + notes_in more ≡ count_by notifies (all_say lines) = notes-counted flags (number + length here) (n + 1) lines in
     let one : note_lines_of (script_from flags n (line ∷ lines)) + notes_in here ≡ noting (says line) + note_lines_of (script_from flags (n + 1) lines) = notes_at flags number n line (says line) lines in
     let whole : notes_in (here ++ more) ≡ notes_in here + notes_in more = sum_by-append (λ (s : Section). s.note_lines) here more in
-    let said : count_by is_note (says line ∷ all_say lines) ≡ count_by is_note (says line ∷ []) + count_by is_note (all_say lines) = sum_by-append (λ (s : Says). cond (is_note s) 1 0) (says line ∷ []) (all_say lines) in
+    let said : count_by notifies (says line ∷ all_say lines) ≡ count_by notifies (says line ∷ []) + count_by notifies (all_say lines) = sum_by-append (λ (s : Says). cond (notifies s) 1 0) (says line ∷ []) (all_say lines) in
     omega (arith, rest, one, whole, said)
 
 -- The flags.
@@ -567,9 +569,9 @@ sound-scenario lines sound one_line some =
     let within : AreFew said = few said (few-after [] lines sound refl) in
     let count : length (sections_from flags 1 1 lines) ≡ length (section_names said) = sections-counted flags 1 1 lines in
     let names : 0 < length (section_names said) = some_named said some in
-    let notes : note_lines_of (script_from flags 1 lines) + notes_in (sections_from flags 1 1 lines) ≡ count_by is_note said = notes-counted flags 1 1 lines in
-    let few_sections : length (section_names said) ≤ section_limit = within.sections in
-    let few_notes : count_by is_note said ≤ note_line_limit = within.notes in
+    let notes : note_lines_of (script_from flags 1 lines) + notes_in (sections_from flags 1 1 lines) ≡ count_by notifies said = notes-counted flags 1 1 lines in
+    let few_sections : length (section_names said) ≤ SECTIONS_MAX = within.sections in
+    let few_notes : count_by notifies said ≤ NOTE_LINES_MAX = within.notes in
     record {
       some = omega (arith, count, names);
       few = omega (arith, count, few_sections);
@@ -585,7 +587,7 @@ readings-sound input _ (Large l) = tt
 readings-sound input _ (Faulty l before line rest e sound found here) = tt
 readings-sound input _ (Sectionless l sound e) = tt
 readings-sound input _ (Unsignalled l sound e n f) = tt
-readings-sound input _ (Reads l sound e f) = sound-scenario (lines_of input) sound (lines-lack input) e
+readings-sound input _ (Faultless l sound e f) = sound-scenario (lines_of input) sound (lines-lack input) e
 
 pub only-sound : (input : List ℕ) (scenario : Scenario) → ReadsAsScenario input (Ok scenario) → IsSound scenario
 only-sound input scenario h = readings-sound input (Ok scenario) h

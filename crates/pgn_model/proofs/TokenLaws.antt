@@ -14,7 +14,7 @@ use Rattle.pgn_base.specs.Texts.{IsName}
 use Rattle.pgn_model.specs.Text.{doubled_byte}
 use Rattle.pgn_model.specs.Tokens.{Inside, closed, preceded}
 use Rattle.pgn_model.specs.Grammar.{begins_character, cut}
-use Rattle.pgn_model.specs.TokenLaws.{IsClosed, IsLongestFront}
+use Rattle.pgn_model.specs.laws.Tokens.{IsClosed, IsLongestPrefix}
 
 -- a byte that is no quote belongs to the text
 closed-step : (quote b : ℕ) (bytes : List ℕ) → (b == quote) ≡ false → closed quote (b ∷ bytes) ≡ option_map (preceded b 1) (closed quote bytes)
@@ -76,7 +76,7 @@ begins_character-at text k h = boundary_at (drop k text) (λ some b.
     let e : get_or (drop k text) 0 0 ≡ get_or text k 0 = at_drop text k in
     let r : 192 ≤ get_or text k 0 = h.1 (omega (arith, length-drop k text)) (omega arith) in omega arith)
 
-taken : (k : ℕ) (text : List ℕ) → IsUtf8 text → begins_character (drop k text) ≡ true → IsLongestFront k text (take k text)
+taken : (k : ℕ) (text : List ℕ) → IsUtf8 text → begins_character (drop k text) ≡ true → IsLongestPrefix k text (take k text)
 taken k text h e = record {
   front = sym (ap (λ (i : ℕ). take i text) (length-take k text) ∙ take_min k text);
   short = omega (arith, length-take k text);
@@ -87,12 +87,12 @@ taken k text h e = record {
   longest = λ m a b c. omega (arith, length-take k text);
 }
 
-pub cut-longest : (n : ℕ) (text : List ℕ) → IsUtf8 text → IsLongestFront n text (cut n text)
+pub cut-longest : (n : ℕ) (text : List ℕ) → IsUtf8 text → IsLongestPrefix n text (cut n text)
 unfolding cut
 cut-longest zero text h = record { front = refl; short = omega arith; whole = IsUtf8-nil; longest = λ m a b c. a }
 cut-longest (suc n) text h = elim (cases_Bool (begins_character (drop (suc n) text))) [
   | inl e ↦ rw (e, cut) (taken (suc n) text h e)
-  | inr e ↦ rw (e, cut) (let ih : IsLongestFront n text (cut n text) = cut-longest n text h in record {
+  | inr e ↦ rw (e, cut) (let ih : IsLongestPrefix n text (cut n text) = cut-longest n text h in record {
     front = ih.front;
     short = omega (arith, ih.short);
     whole = ih.whole;
@@ -184,7 +184,7 @@ first_from (c ∷ cs) text s e l =
 
 pub cut-name : (text : List ℕ) → IsUtf8 text → 0 < length text → (Contains text 0 → ⊥) → IsName (cut 63 text)
 cut-name text h l no_nul =
-    let part : IsLongestFront 63 text (cut 63 text) = cut-longest 63 text h in
+    let part : IsLongestPrefix 63 text (cut 63 text) = cut-longest 63 text h in
     let first : (m : ℕ) × (0 < m) × (m ≤ 4) × (m ≤ length text) × IsUtf8 (take m text) = first_from h.0 text h.1.0 h.1.1 l in
     record {
       text = part.whole;

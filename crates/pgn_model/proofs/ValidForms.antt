@@ -1,5 +1,5 @@
 -- What the table of commands makes of clean tokens is valid.
-use Rattle.std.proofs.Common.{◌≡◌, ◌≢◌, ℕ, Bool, true, false, cond, nat_le, ◌==◌, inl, inr, List, [], ◌∷◌, length, Option, None, Some, sym, refl, subst, arith, IsUtf8, Contains}
+use Rattle.std.proofs.Common.{◌≡◌, ◌≢◌, ℕ, Bool, true, false, cond, nat_le, ◌==◌, inl, inr, List, [], ◌∷◌, length, Option, None, Some, sym, refl, subst, arith, IsUtf8, Contains, ◌<◌}
 use Rattle.std.specs.Str.{str_to_ascii_lowercase}
 use Rattle.std.proofs.lemmas.Bool.{false≢true, cases_Bool, leb-false, eqb-false}
 use Rattle.pgn_base.specs.Texts.{IsName, IsPayload}
@@ -10,8 +10,8 @@ use Rattle.pgn_model.specs.declared.command.Command.{Command}
 use Rattle.pgn_model.specs.declared.command.Command.TheVariants as command
 use Rattle.pgn_model.specs.Bytes.{IsNote}
 use Rattle.pgn_model.specs.Tokens.{Lexeme, Word, Quoted, Literal, Number, Sign, Wrong, tokens}
-use Rattle.pgn_model.specs.Grammar.{Name, fits, cut, name_of, text_of, sign, lexemes_of, is_long, past_limit, limited, ReadsAs}
-use Rattle.pgn_model.specs.ValidCommands.{IsValid}
+use Rattle.pgn_model.specs.Grammar.{Name, fits_slot, cut, name_of, text_of, sign, lexemes_of, is_long, past_limit, limited, ReadsAs}
+use Rattle.pgn_model.specs.laws.Commands.{IsValid}
 use Rattle.pgn_model.proofs.TokenLaws.{cut-name}
 use Rattle.pgn_model.proofs.KeptForms as kept
 use Rattle.pgn_model.proofs.KeptForms.{Sort, AName, AText, Rule, Keeps, IsPlain, kept-reading}
@@ -45,7 +45,7 @@ folded-some : (text : List ℕ) → text ≢ [] → str_to_ascii_lowercase text 
 folded-some [] h e = h refl
 folded-some (b ∷ text) h e = absurd (cc)
 
-name-named : (lexeme : Lexeme) → fits Name lexeme ≡ true → IsClean lexeme → IsName (name_of lexeme)
+name-named : (lexeme : Lexeme) → fits_slot Name lexeme ≡ true → IsClean lexeme → IsName (name_of lexeme)
 name-named (Word text) h c = cut-named (str_to_ascii_lowercase text) (folded text c.0) (folded-some text c.1)
 name-named (Quoted text) h c = cut-named text c.0 c.1
 name-named (Literal text) h c = absurd (false≢true h)
@@ -54,7 +54,7 @@ name-named (Sign sign) h c = absurd (false≢true h)
 name-named Wrong h c = absurd (false≢true h)
 
 payload-from : (payload : List ℕ) → IsText payload → is_long payload ≡ false → IsPayload payload
-payload-from payload t e = record { text = t.utf8; short = leb-false 8000 (length payload) e; no_nul = nul-none payload t.no_nul }
+payload-from payload t e = record { text = t.utf8; short = let e : length payload < 8000 = leb-false 8000 (length payload) e in omega (arith, e); no_nul = nul-none payload t.no_nul }
 
 limited-notify : (n : Note) → IsName n.channel → IsText n.payload → IsValid (limited (command.Notify n))
 limited-notify n channel payload = elim (cases_Bool (is_long n.payload)) [
@@ -76,7 +76,7 @@ within_limits n channel payload h =
       name = record {
         text = channel.utf8;
         some = let some : length n.channel ≡ 0 → ⊥ = eqb-false (length n.channel) 0 tests.0 in omega (arith, some);
-        short = leb-false 64 (length n.channel) tests.1;
+        short = let e : length n.channel < 64 = leb-false 64 (length n.channel) tests.1 in omega (arith, e);
         no_nul = nul-none n.channel channel.no_nul;
       };
       text = payload-from n.payload payload tests.2;

@@ -4,7 +4,7 @@ use Rattle.pgn_model.specs.declared.tx.Tx.{Tx}
 use Rattle.pgn_model.specs.declared.item.Item.{Item}
 use Rattle.pgn_model.specs.declared.item.Item.TheVariants.{Line, Enlist, Publish, QueueFull, Leave, Reply, Refuse, Channels, Used, Raise, Found, TimedOut, Read}
 use Rattle.pgn_model.specs.Along.{Along}
-use Rattle.pgn_model.specs.Walk.{Terms, State, after, start, Allowed, IsCommittedBy}
+use Rattle.pgn_model.specs.Walk.{Terms, State, after_item, start, Allowed, IsCommittedBy}
 use Rattle.pgn_model.specs.Trace.{IsLawful, Stands}
 use Rattle.pgn_model.proofs.DueLaws.{due-grows}
 
@@ -31,10 +31,10 @@ Along-weaker next P Q f s (i ∷ items) h = (f s i h.0, Along-weaker next P Q f 
 pub Along-push_at : {S I : Type 0} (next : S → I → S) (P : S → I → Type 0) (first s : S) (items : List I) (item : I) → fold next first items ≡ s → Along next P first items → P s item → Along next P first (items ++ item ∷ [])
 Along-push_at {S = S} next P first s items item e h p = Along-push next P first items item h (subst (λ (t : S). P t item) (sym e) p)
 
-pub Stands-push : (terms : Terms) (journal : List Tx) (items : List Item) (s : State) (item : Item) → Stands terms journal items s → Allowed terms journal s item → Stands terms journal (items ++ item ∷ []) (after s item)
+pub Stands-push : (terms : Terms) (journal : List Tx) (items : List Item) (s : State) (item : Item) → Stands terms journal items s → Allowed terms journal s item → Stands terms journal (items ++ item ∷ []) (after_item s item)
 Stands-push terms journal items s item h p = record {
-  lawful = Along-push_at after (Allowed terms journal) (start terms.section) s items item h.state h.lawful p;
-  state = fold-push after (start terms.section) items item ∙ ap (λ (t : State). after t item) h.state;
+  lawful = Along-push_at after_item (Allowed terms journal) (start terms.section) s items item h.state h.lawful p;
+  state = fold-push after_item (start terms.section) items item ∙ ap (λ (t : State). after_item t item) h.state;
 }
 
 -- an entry stays where it is as the journal grows
@@ -83,11 +83,11 @@ Allowed-grows terms journal more s (Read from to got) h = record {
 
 pub Stands-grows : (terms : Terms) (journal more : List Tx) (items : List Item) (s : State) → Stands terms journal items s → Stands terms (journal ++ more) items s
 Stands-grows terms journal more items s h = record {
-  lawful = Along-weaker after (Allowed terms journal) (Allowed terms (journal ++ more)) (λ t item. Allowed-grows terms journal more t item) (start terms.section) items h.lawful;
+  lawful = Along-weaker after_item (Allowed terms journal) (Allowed terms (journal ++ more)) (λ t item. Allowed-grows terms journal more t item) (start terms.section) items h.lawful;
   state = h.state;
 }
 
-pub lawful-front : (terms : Terms) (journal : List Tx) (front rest : List Item) → IsLawful terms journal (front ++ rest) → IsLawful terms journal front
-lawful-front terms journal front rest h = Along-front after (Allowed terms journal) (start terms.section) front rest h
+pub lawful-prefix : (terms : Terms) (journal : List Tx) (front rest : List Item) → IsLawful terms journal (front ++ rest) → IsLawful terms journal front
+lawful-prefix terms journal front rest h = Along-front after_item (Allowed terms journal) (start terms.section) front rest h
 
-pub ruleset walk_laws = (Stands-grows, lawful-front)
+pub ruleset walk_laws = (Stands-grows, lawful-prefix)

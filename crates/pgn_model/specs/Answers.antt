@@ -1,6 +1,7 @@
 -- The table of answers: a row for each command and a column for each state of the block.
 use Rattle.std.specs.Prelude.{ℕ, Bool, cond, List, length, Option, Some, None, bytes_eq}
 use Rattle.std.specs.List.{list_any}
+use Rattle.pgn_base.specs.Names.{has_name}
 use Rattle.pgn_base.specs.declared.answers.Tag.{Tag}
 use Rattle.pgn_base.specs.declared.answers.Tag.TheVariants as tag
 use Rattle.pgn_base.specs.declared.answers.Warning.{Warning}
@@ -38,10 +39,6 @@ in_state Failed idle in_block failed = failed
 abbrev pub ignored : Outcome
 ignored = Refuses Aborted Failed
 
--- a live savepoint has the name
-abbrev pub is_live : List (List ℕ) → List ℕ → Bool
-is_live live name = list_any (bytes_eq name) live
-
 -- the answer to a command in a state of the block, with these names of live savepoints and this listening set
 abbrev pub answer : BlockState → List (List ℕ) → List (List ℕ) → Command → Outcome
 answer state live set Begin = in_state state (Replies tag.Begin None InBlock) (Replies tag.Begin (Some AlreadyInBlock) InBlock) ignored
@@ -49,10 +46,10 @@ answer state live set Start = in_state state (Replies tag.Start None InBlock) (R
 answer state live set Commit = in_state state (Replies tag.Commit (Some NotInBlock) Idle) (Commits tag.Commit) (Replies tag.Rollback None Idle)
 answer state live set Rollback = in_state state (Replies tag.Rollback (Some NotInBlock) Idle) (Replies tag.Rollback None Idle) (Replies tag.Rollback None Idle)
 answer state live set (Savepoint name) = in_state state (Refuses (NeedsBlock needs.Savepoint) Idle) (Replies tag.Savepoint None InBlock) ignored
-answer state live set (RollbackTo name) = cond (is_live live name)
+answer state live set (RollbackTo name) = cond (has_name live name)
     (in_state state (Refuses (NeedsBlock needs.RollbackTo) Idle) (Replies tag.Rollback None InBlock) (Replies tag.Rollback None InBlock))
     (in_state state (Refuses (NeedsBlock needs.RollbackTo) Idle) (Refuses (NoSavepoint name) Failed) (Refuses (NoSavepoint name) Failed))
-answer state live set (Release name) = cond (is_live live name)
+answer state live set (Release name) = cond (has_name live name)
     (in_state state (Refuses (NeedsBlock needs.Release) Idle) (Replies tag.Release None InBlock) ignored)
     (in_state state (Refuses (NeedsBlock needs.Release) Idle) (Refuses (NoSavepoint name) Failed) ignored)
 answer state live set (Listen name) = in_state state (Commits tag.Listen) (Replies tag.Listen None InBlock) ignored

@@ -1,5 +1,5 @@
 -- The bytes of the queue's entries and fillers.
-use Rattle.std.specs.Prelude.{ℕ, ◌+◌, ◌-◌, ◌*◌, ◌/◌, ◌<◌, ◌^◌, List, [], ◌∷◌, ◌++◌, length, replicate}
+use Rattle.std.specs.Prelude.{ℕ, ◌+◌, ◌-◌, ◌*◌, ◌/◌, ◌<◌, ◌^◌, List, [], ◌∷◌, ◌++◌, length, replicate, ◌%◌, ◌≡◌, ◌≤◌}
 use Rattle.std.specs.Int.{w32, to_le_bytes}
 use Rattle.pgn_base.specs.Texts.{IsName, IsPayload}
 use Rattle.pgn_base.specs.declared.note.Note.{Note}
@@ -35,6 +35,12 @@ padded len bytes = bytes ++ replicate (len - length bytes) 0
 -- a number of bytes, rounded up to a multiple of the alignment
 abbrev pub aligned : ℕ → ℕ
 aligned n = (n + (alignment - 1)) / alignment * alignment
+
+-- an entry or a filler may have this length: a multiple of the alignment, from the least one to that of a page
+pub record IsEntryLength (len : ℕ) : Type 0 where
+  pub whole : len % alignment ≡ 0
+  pub least : least_bytes ≤ len
+  pub fits : len ≤ page_bytes
 
 -- the length of an entry in bytes: that of its head and of its two texts, each with a zero byte, rounded up
 unfoldable pub entry_length : Note → ℕ

@@ -4,6 +4,8 @@ use Rattle.std.specs.List.{list_any, position_or_len, position_from}
 use Rattle.std.specs.Option.{option_to_list}
 use Rattle.std.specs.Str.{is_utf8}
 use Rattle.std.specs.Str.Lossy.{utf8_valid_len}
+use Rattle.pgn_base.specs.declared.limits.TheConstants.{FLAGS_MAX, INPUT_BYTES_MAX, LINE_BYTES_MAX, NOTE_LINES_MAX, SECTIONS_MAX}
+use Rattle.pgn_base.specs.Names.{has_name}
 use Rattle.pgn_model.specs.declared.command.Command.{Command}
 use Rattle.pgn_model.specs.declared.command.Command.TheVariants.{Savepoint, RollbackTo, Release, Listen, Unlisten, Notify, PgNotify}
 use Rattle.pgn_model.specs.declared.scenario.Act.{Act}
@@ -14,26 +16,6 @@ use Rattle.pgn_model.specs.declared.scenario.Scenario.{Scenario}
 use Rattle.pgn_model.specs.declared.scenario.ScenarioFault.{ScenarioFault}
 use Rattle.pgn_model.specs.declared.scenario.ScenarioFault.TheVariants as fault
 use Rattle.pgn_model.specs.Lines.{Says, Nothing, Opens, Runs, Signals, Awaits, Quits, NoMeta, says, trimmed, lines_of}
-
--- the largest input, in bytes
-abbrev pub input_limit : ℕ
-input_limit = 16777216
-
--- the longest line, in bytes without its LF
-abbrev pub line_limit : ℕ
-line_limit = 65536
-
--- the most sections
-abbrev pub section_limit : ℕ
-section_limit = 256
-
--- the most different flags
-abbrev pub flag_limit : ℕ
-flag_limit = 256
-
--- the most lines whose command is NOTIFY or a call of pg_notify
-abbrev pub note_line_limit : ℕ
-note_line_limit = 65536
 
 -- what lines say, one after another
 abbrev pub all_say : List (List ℕ) → List Says
@@ -56,9 +38,9 @@ is_note_command (PgNotify note) = true
 is_note_command command = false
 
 -- the line has such a command
-abbrev pub is_note : Says → Bool
-is_note (Runs command) = is_note_command command
-is_note said = false
+abbrev pub notifies : Says → Bool
+notifies (Runs command) = is_note_command command
+notifies said = false
 
 -- the name of the section that begins
 abbrev pub opened_name : Says → Option (List ℕ)
@@ -75,10 +57,6 @@ abbrev pub named_flag : Says → Option (List ℕ)
 named_flag (Signals flag) = Some flag
 named_flag (Awaits flag) = Some flag
 named_flag said = None
-
--- the name is among names
-abbrev pub has_name : List (List ℕ) → List ℕ → Bool
-has_name names name = list_any (bytes_eq name) names
 
 -- names, and one more at their end where it is not among them
 abbrev pub with_name : List (List ℕ) → List ℕ → List (List ℕ)
@@ -119,7 +97,7 @@ repeats_name before said = false
 -- there are more sections, more flags or more lines that notify than there may be
 abbrev pub are_too_many : List Says → Bool
 are_too_many said =
-    nat_lt section_limit (length (section_names said)) || nat_lt flag_limit (length (flags_of said)) || nat_lt note_line_limit (count_by is_note said)
+    nat_lt SECTIONS_MAX (length (section_names said)) || nat_lt FLAGS_MAX (length (flags_of said)) || nat_lt NOTE_LINES_MAX (count_by notifies said)
 
 -- the fault of the line numbered n by what it says, after lines that say what is before
 abbrev pub fault_said : ℕ → List Says → Says → Option ScenarioFault
@@ -141,7 +119,7 @@ line_start before = sum_by (λ line. length line + 1) before
 -- is
 unfoldable pub fault_of : List (List ℕ) → List ℕ → Option ScenarioFault
 fault_of before line =
-    cond (nat_lt line_limit (length line)) (Some (fault.LineTooLong (line_number before)))
+    cond (nat_lt LINE_BYTES_MAX (length line)) (Some (fault.LineTooLong (line_number before)))
     (cond (not (is_utf8 line)) (Some (fault.NotUtf8 (line_start before + utf8_valid_len line)))
     (cond (list_any (λ byte. byte == 0) line) (Some (fault.NulByte (line_number before)))
     (fault_said (line_number before) (all_say before) (says line))))
@@ -225,18 +203,18 @@ has_section said = list_any is_opening said
 -- the scenario, or the one fault, that an input reads as
 pub data ReadsAsScenario (input : List ℕ) : Result Scenario ScenarioFault → Type 0 where
   -- it is too large
-  Large : input_limit < length input → ReadsAsScenario input (Err fault.TooLarge)
+  Large : INPUT_BYTES_MAX < length input → ReadsAsScenario input (Err fault.TooLarge)
   -- a line has a fault, and none before it has
-  Faulty : length input ≤ input_limit → (before : List (List ℕ)) → (line : List ℕ) → (rest : List (List ℕ)) → lines_of input ≡ before ++ line ∷ rest
+  Faulty : length input ≤ INPUT_BYTES_MAX → (before : List (List ℕ)) → (line : List ℕ) → (rest : List (List ℕ)) → lines_of input ≡ before ++ line ∷ rest
       → HaveNoFault before → (found : ScenarioFault) → fault_of before line ≡ Some found → ReadsAsScenario input (Err found)
   -- no line has a fault, and no section begins
-  Sectionless : length input ≤ input_limit → HaveNoFault (lines_of input) → has_section (all_say (lines_of input)) ≡ false
+  Sectionless : length input ≤ INPUT_BYTES_MAX → HaveNoFault (lines_of input) → has_section (all_say (lines_of input)) ≡ false
       → ReadsAsScenario input (Err fault.Empty)
   -- no line has a fault, and the line numbered n is the lowest that awaits a flag which no line signals
-  Unsignalled : length input ≤ input_limit → HaveNoFault (lines_of input) → has_section (all_say (lines_of input)) ≡ true
+  Unsignalled : length input ≤ INPUT_BYTES_MAX → HaveNoFault (lines_of input) → has_section (all_say (lines_of input)) ≡ true
       → (n : ℕ) → unsignalled (all_say (lines_of input)) ≡ Some n → ReadsAsScenario input (Err (fault.NeverSignalled n))
   -- none of these
-  Reads : length input ≤ input_limit → HaveNoFault (lines_of input) → has_section (all_say (lines_of input)) ≡ true
+  Faultless : length input ≤ INPUT_BYTES_MAX → HaveNoFault (lines_of input) → has_section (all_say (lines_of input)) ≡ true
       → unsignalled (all_say (lines_of input)) ≡ None → ReadsAsScenario input (Ok (scenario_of (lines_of input)))
 
 -- A sound scenario.
@@ -307,14 +285,14 @@ pub record IsSound (scenario : Scenario) : Type 0 where
   -- there is a section
   pub some : 0 < length scenario.sections
   -- and no more than there may be
-  pub few : length scenario.sections ≤ section_limit
+  pub few : length scenario.sections ≤ SECTIONS_MAX
   -- numbered from 1
   pub numbered : AreNumbered 1 scenario.sections
   -- no more flags than there may be
-  pub few_flags : length scenario.flags ≤ flag_limit
+  pub few_flags : length scenario.flags ≤ FLAGS_MAX
   -- no LF stands in their names
   pub one_line_flags : All IsOneLine scenario.flags
   -- each section is sound
   pub sections : All (IsSoundSection (length scenario.flags)) scenario.sections
   -- no more lines that notify than there may be
-  pub few_note_lines : sum_by (λ section. section.note_lines) scenario.sections ≤ note_line_limit
+  pub few_note_lines : sum_by (λ section. section.note_lines) scenario.sections ≤ NOTE_LINES_MAX

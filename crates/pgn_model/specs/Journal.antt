@@ -1,16 +1,21 @@
 -- The journal: the list of finished transactions. It grows at its end, and entry k, from 0, has the number 3 + k.
 use Rattle.std.specs.Prelude.{◌≡◌, ◌≢◌, ℕ, ◌+◌, ◌-◌, ◌<◌, ◌&&◌, ◌==◌, Bool, true, false, cond, List, [], ◌∷◌, length, take, drop, Option, slice_get, AllPairs}
+use Rattle.pgn_base.specs.declared.limits.TheConstants.{FIRST_XID}
 use Rattle.pgn_model.specs.declared.tx.Tx.{Tx}
 use Rattle.pgn_model.specs.declared.tx.Fate.{Fate}
 use Rattle.pgn_model.specs.declared.tx.Fate.TheVariants.{Committed, Aborted}
 
+-- the number that the next transaction draws: one past the last of the journal
+abbrev pub next_xid : List Tx → ℕ
+next_xid journal = FIRST_XID + length journal
+
 -- the transaction with a number, from 3 on
 abbrev pub entry : List Tx → ℕ → Option Tx
-entry journal x = slice_get journal (x - 3)
+entry journal x = slice_get journal (x - FIRST_XID)
 
 -- the transactions numbered from m, which is at least 3, up to n, and not n
 abbrev pub entries_between : List Tx → ℕ → ℕ → List Tx
-entries_between journal m n = drop (m - 3) (take (n - 3) journal)
+entries_between journal m n = drop (m - FIRST_XID) (take (n - FIRST_XID) journal)
 
 -- it committed
 abbrev pub is_committed : Fate → Bool
@@ -39,4 +44,4 @@ xids_from session x (tx ∷ txs) = cond (tx.session == session) (x ∷ xids_from
 
 -- the numbers of the transactions of a session, in order
 abbrev pub xids_of : ℕ → List Tx → List ℕ
-xids_of session journal = xids_from session 3 journal
+xids_of session journal = xids_from session FIRST_XID journal

@@ -7,7 +7,7 @@ use Rattle.pgn_model.specs.declared.scenario.Scenario.{Scenario}
 use Rattle.pgn_model.specs.declared.item.Item.{Item}
 use Rattle.pgn_model.specs.declared.item.Item.TheVariants.{Enlist, Publish, QueueFull, Used, Raise, Found, Read}
 use Rattle.pgn_model.specs.declared.trace.Trace.{Trace}
-use Rattle.pgn_model.specs.Journal.{IsFinished, xids_of}
+use Rattle.pgn_model.specs.Journal.{next_xid, IsFinished, xids_of}
 use Rattle.pgn_model.specs.Walk.{Settings, Terms}
 use Rattle.pgn_model.specs.Trace.{TraceOk, Fresh}
 
@@ -55,6 +55,6 @@ pub record Legal (scenario : Scenario) (settings : Settings) (journal : List Tx)
   -- each transaction of the journal is some session's
   pub named : All (λ tx. names_section scenario.sections tx.session ≡ true) journal
   -- no number is shown that is past 3 and the journal's length
-  pub shown : All (λ trace. All (IsShownWithin (3 + length journal)) trace.items) traces
+  pub shown : All (λ trace. All (IsShownWithin (next_xid journal)) trace.items) traces
   -- who is a listener at the end has read all of the journal
-  pub read_all : All (λ trace. IfSome trace.last (λ mark. mark ≡ 3 + length journal)) traces
+  pub read_all : All (λ trace. IfSome trace.last (λ mark. mark ≡ next_xid journal)) traces

@@ -1,30 +1,25 @@
 pub use Rattle.pgn_base.specs.Channels
+-- the journal, and what is due from it
 pub mod Journal
 pub mod Due
+-- the queue: the bytes of entries, and where they lie
 pub mod Bytes
 pub mod Packing
+-- a transaction's list, and what its commands are answered
 pub mod Savepoints
 pub mod Answers
 pub mod Refusals
+-- a session's trace, a legal run, and the output
 pub mod Along
 pub mod Walk
 pub mod Trace
 pub mod Legal
 pub mod Text
+-- what a line and an input read as
 pub mod Tokens
 pub mod Grammar
-pub mod GrammarLaws
-pub mod TokenLaws
-pub mod ValidCommands
 pub mod Lines
 pub mod Inputs
-pub mod InputLaws
-pub mod Laws
-pub mod BytesLaws
-pub mod PackingLaws
-pub mod AnswerLaws
-pub mod SavepointLaws
-pub mod Examples
-pub mod InputExamples
-pub mod PackingExamples
-pub mod SavepointExamples
+-- laws over these definitions, and worked examples
+pub mod laws
+pub mod examples

@@ -3,10 +3,11 @@ use Rattle.std.specs.Prelude.{ℕ, Bool, true, false, cond, not, ◌&&◌, ◌||
 use Rattle.std.specs.List.{list_all, onto_first, prefix_len, slice_split}
 use Rattle.std.specs.Char.{is_ascii_alphanumeric, is_ascii_digit}
 use Rattle.std.specs.Str.Parse.{digits_value}
+use Rattle.pgn_base.specs.declared.limits.TheConstants.{NAME_BYTES_MAX}
 use Rattle.pgn_model.specs.declared.command.Command.{Command}
 use Rattle.pgn_model.specs.declared.command.Command.TheVariants.{Empty}
 use Rattle.pgn_model.specs.Tokens.{is_blank}
-use Rattle.pgn_model.specs.GrammarLaws.{reading}
+use Rattle.pgn_model.specs.Grammar.{reading}
 
 -- the lines of an input, cut at each LF; the last may lack it, and an input that ends with LF has no further line
 abbrev pub lines_of : List ℕ → List (List ℕ)
@@ -44,7 +45,7 @@ is_label_byte byte = is_ascii_alphanumeric byte || byte == 95 || byte == 45
 
 -- the name of a section or of a flag: 1 to 63 ASCII letters, digits, `_` or `-`
 abbrev pub is_label : List ℕ → Bool
-is_label text = nat_le 1 (length text) && nat_le (length text) 63 && list_all is_label_byte text
+is_label text = nat_le 1 (length text) && nat_le (length text) NAME_BYTES_MAX && list_all is_label_byte text
 
 -- the number of a database: 1 to 10 ASCII digits with a value from 1 to 4,294,967,295
 abbrev pub is_database : List ℕ → Bool

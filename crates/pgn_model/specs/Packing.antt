@@ -2,11 +2,12 @@
 -- are added to numbers of cells; a number of bytes becomes one of cells by `cells_in`, and back by `bytes_in`.
 use Rattle.std.specs.Prelude.{ℕ, ◌+◌, ◌-◌, ◌*◌, ◌/◌, ◌<◌, ◌≤◌, Bool, cond, nat_le, ◌==◌, List, [], ◌∷◌, ◌++◌, length, take, replicate, fold, Option, Some, None}
 use Rattle.std.specs.Int.{w32, from_le_bytes}
+use Rattle.pgn_base.specs.declared.limits.TheConstants.{PID_BASE, FIRST_XID}
 use Rattle.pgn_base.specs.declared.note.Note.{Note}
 use Rattle.pgn_model.specs.declared.tx.Tx.{Tx}
 use Rattle.pgn_model.specs.declared.tx.Fate.{Fate}
 use Rattle.pgn_model.specs.declared.tx.Fate.TheVariants.{Committed, Aborted}
-use Rattle.pgn_model.specs.Bytes.{least_bytes, page_bytes, entry_length, spelled, filler}
+use Rattle.pgn_model.specs.Bytes.{least_bytes, page_bytes, entry_length, spelled, filler, four_bytes}
 
 -- a cell has this many bytes
 abbrev pub cell_bytes : ℕ
@@ -60,12 +61,22 @@ fits at bytes = nat_le bytes (bytes_left at)
 abbrev pub has_room : ℕ → Bool
 has_room at = fits at least_bytes
 
+-- the shortest entry fits on the page of a place, from the place on
+abbrev pub HasRoom : ℕ → Type 0
+HasRoom at = least_bytes ≤ bytes_left at
+
 -- The image: what the cells hold, one item for each cell from the first of page 0.
 
 -- the cells that bytes fill: each holds the number that its four bytes spell, the lowest first
 unfoldable pub filled_cells : List ℕ → List (Option ℕ)
 filled_cells (a ∷ b ∷ c ∷ d ∷ bytes) = Some (from_le_bytes w32 (a ∷ b ∷ c ∷ d ∷ [])) ∷ filled_cells bytes
 filled_cells bytes = []
+
+-- the bytes whose numbers stand in cells
+abbrev pub bytes_of : List (Option ℕ) → List ℕ
+bytes_of [] = []
+bytes_of (None ∷ cells) = bytes_of cells
+bytes_of (Some n ∷ cells) = four_bytes n ++ bytes_of cells
 
 -- the page rest at a place: nothing where the shortest entry fits there, and otherwise the cells to the end of the page, empty
 unfoldable pub page_rest : ℕ → List (Option ℕ)
@@ -83,7 +94,7 @@ pub record Sender : Type 0 where
 
 -- the sender of the transaction numbered x
 abbrev pub sender_of : ℕ → Tx → Sender
-sender_of x tx = record { db = tx.db; xid = x; pid = 1000 + tx.session }
+sender_of x tx = record { db = tx.db; xid = x; pid = PID_BASE + tx.session }
 
 -- the cells of a filler that takes the rest of the page
 unfoldable pub filler_cells : Sender → ℕ → List (Option ℕ)
@@ -120,11 +131,11 @@ image_from x at (tx ∷ txs) = tx_cells x at tx ++ image_from (x + 1) (at + leng
 
 -- the cells of a whole journal
 unfoldable pub image : List Tx → List (Option ℕ)
-image journal = image_from 3 0 journal
+image journal = image_from FIRST_XID 0 journal
 
 -- the place where the transaction numbered x begins: after the cells of those before it. Past the journal's end it is the end
 unfoldable pub place : List Tx → ℕ → ℕ
-place journal x = length (image (take (x - 3) journal))
+place journal x = length (image (take (x - FIRST_XID) journal))
 
 -- a cell of the transaction numbered x, among whose cells the page rests after its entries count
 pub record IsCellOf (journal : List Tx) (x cell : ℕ) : Type 0 where

@@ -10,46 +10,46 @@ use Rattle.pgn_model.specs.declared.command.Command.TheVariants as command
 -- what a transaction's commands put into its list, one after another
 pub data Change : Type 0 where
   -- SAVEPOINT
-  Marked : (name : List ℕ) → Change
+  Saved : (name : List ℕ) → Change
   -- LISTEN and UNLISTEN
   Acted : (action : Action) → Change
   -- NOTIFY
   Noted : (note : Note) → Change
   -- ROLLBACK TO
-  Back : (name : List ℕ) → Change
+  RolledBack : (name : List ℕ) → Change
   -- RELEASE
-  Free : (name : List ℕ) → Change
+  Released : (name : List ℕ) → Change
 
 -- a mark
-abbrev pub is_mark : Change → Bool
-is_mark (Marked name) = true
-is_mark change = false
+abbrev pub is_savepoint : Change → Bool
+is_savepoint (Saved name) = true
+is_savepoint change = false
 
 -- a mark of this name
-abbrev pub is_mark_of : List ℕ → Change → Bool
-is_mark_of name (Marked other) = bytes_eq name other
-is_mark_of name change = false
+abbrev pub is_savepoint_of : List ℕ → Change → Bool
+is_savepoint_of name (Saved other) = bytes_eq name other
+is_savepoint_of name change = false
 
 -- some mark has this name
-abbrev pub has_mark : List ℕ → List Change → Bool
-has_mark name changes = list_any (is_mark_of name) changes
+abbrev pub has_savepoint : List ℕ → List Change → Bool
+has_savepoint name changes = list_any (is_savepoint_of name) changes
 
 -- without what stands after the last mark of this name; where there is none, the whole
-abbrev pub cut_back : List ℕ → List Change → List Change
-cut_back name [] = []
-cut_back name (change ∷ changes) = cond (has_mark name changes) (change ∷ cut_back name changes) (cond (is_mark_of name change) (change ∷ []) (change ∷ changes))
+abbrev pub rolled_back : List ℕ → List Change → List Change
+rolled_back name [] = []
+rolled_back name (change ∷ changes) = cond (has_savepoint name changes) (change ∷ rolled_back name changes) (cond (is_savepoint_of name change) (change ∷ []) (change ∷ changes))
 
 -- without the last mark of this name and all later marks; where there is none, the whole
-abbrev pub freed : List ℕ → List Change → List Change
-freed name [] = []
-freed name (change ∷ changes) = cond (has_mark name changes) (change ∷ freed name changes) (cond (is_mark_of name change) (filter (λ later. not (is_mark later)) changes) (change ∷ changes))
+abbrev pub released : List ℕ → List Change → List Change
+released name [] = []
+released name (change ∷ changes) = cond (has_savepoint name changes) (change ∷ released name changes) (cond (is_savepoint_of name change) (filter (λ later. not (is_savepoint later)) changes) (change ∷ changes))
 
 -- what is kept, and then what is left of changes
 abbrev pub survivors_from : List Change → List Change → List Change
 survivors_from kept [] = kept
-survivors_from kept (Back name ∷ changes) = survivors_from (cut_back name kept) changes
-survivors_from kept (Free name ∷ changes) = survivors_from (freed name kept) changes
-survivors_from kept (Marked name ∷ changes) = survivors_from (kept ++ Marked name ∷ []) changes
+survivors_from kept (RolledBack name ∷ changes) = survivors_from (rolled_back name kept) changes
+survivors_from kept (Released name ∷ changes) = survivors_from (released name kept) changes
+survivors_from kept (Saved name ∷ changes) = survivors_from (kept ++ Saved name ∷ []) changes
 survivors_from kept (Acted action ∷ changes) = survivors_from (kept ++ Acted action ∷ []) changes
 survivors_from kept (Noted note ∷ changes) = survivors_from (kept ++ Noted note ∷ []) changes
 
@@ -58,13 +58,13 @@ abbrev pub survivors : List Change → List Change
 survivors changes = survivors_from [] changes
 
 -- the name of a mark
-abbrev pub marked_name : Change → Option (List ℕ)
-marked_name (Marked name) = Some name
-marked_name change = None
+abbrev pub saved_name : Change → Option (List ℕ)
+saved_name (Saved name) = Some name
+saved_name change = None
 
 -- the names of the marks that stand
 abbrev pub live_names : List Change → List (List ℕ)
-live_names changes = filter_map marked_name (survivors changes)
+live_names changes = filter_map saved_name (survivors changes)
 
 -- the action of a change
 abbrev pub acted_action : Change → Option Action
@@ -104,9 +104,9 @@ is_listen action = false
 
 -- what a command puts into its transaction's list
 abbrev pub changes_of : Command → List Change
-changes_of (command.Savepoint name) = Marked name ∷ []
-changes_of (command.RollbackTo name) = Back name ∷ []
-changes_of (command.Release name) = Free name ∷ []
+changes_of (command.Savepoint name) = Saved name ∷ []
+changes_of (command.RollbackTo name) = RolledBack name ∷ []
+changes_of (command.Release name) = Released name ∷ []
 changes_of (command.Listen name) = Acted (Listen name) ∷ []
 changes_of (command.Unlisten name) = Acted (Unlisten name) ∷ []
 changes_of command.UnlistenAll = Acted UnlistenAll ∷ []
@@ -139,8 +139,8 @@ live_changes changes = once (survivors changes)
 
 -- such a list after one more change
 abbrev pub after_change : List Change → Change → List Change
-after_change live (Back name) = cut_back name live
-after_change live (Free name) = freed name live
+after_change live (RolledBack name) = rolled_back name live
+after_change live (Released name) = released name live
 after_change live (Noted note) = cond (has_note note live) live (live ++ Noted note ∷ [])
-after_change live (Marked name) = live ++ Marked name ∷ []
+after_change live (Saved name) = live ++ Saved name ∷ []
 after_change live (Acted action) = live ++ Acted action ∷ []

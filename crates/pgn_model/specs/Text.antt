@@ -1,5 +1,6 @@
 -- The output text.
 use Rattle.std.specs.Prelude.{ℕ, ◌+◌, ◌==◌, cond, List, [], ◌∷◌, ◌++◌, length, Option, Some, None, codes, decimal, flat_map}
+use Rattle.pgn_base.specs.declared.limits.TheConstants.{PID_BASE, FIRST_XID}
 use Rattle.pgn_base.specs.declared.note.Note.{Note}
 use Rattle.pgn_base.specs.declared.note.Delivery.{Delivery}
 use Rattle.pgn_base.specs.declared.answers.Tag.{Tag}
@@ -53,7 +54,7 @@ entries_text x (tx ∷ txs) = entry_text x tx ++ entries_text (x + 1) txs
 
 -- the journal
 abbrev pub journal_text : List Tx → List ℕ
-journal_text journal = line (codes "journal " ++ decimal (length journal)) ++ entries_text 3 journal
+journal_text journal = line (codes "journal " ++ decimal (length journal)) ++ entries_text FIRST_XID journal
 
 -- the text of the first script line with this number
 abbrev pub line_text : ℕ → List ScriptLine → List ℕ
@@ -106,7 +107,7 @@ end_line (Some mark) = line (codes "end mark " ++ decimal mark)
 
 -- a section's head: its number, its name, its database and its process number
 abbrev pub section_line : Section → List ℕ
-section_line section = line (codes "session " ++ decimal section.no ++ codes " " ++ section.name ++ codes " db " ++ decimal section.db ++ codes " pid " ++ decimal (1000 + section.no))
+section_line section = line (codes "session " ++ decimal section.no ++ codes " " ++ section.name ++ codes " db " ++ decimal section.db ++ codes " pid " ++ decimal (PID_BASE + section.no))
 
 -- a section with its trace
 abbrev pub trace_text : Section → Trace → List ℕ

@@ -8,15 +8,15 @@ use Rattle.pgn_model.specs.declared.item.Item.TheVariants.{Line}
 use Rattle.pgn_model.specs.declared.trace.Trace.{Trace}
 use Rattle.pgn_model.specs.Journal.{entries_between, is_committed_in}
 use Rattle.pgn_model.specs.Along.{Along}
-use Rattle.pgn_model.specs.Walk.{Terms, State, Nothing, start, after, Allowed}
+use Rattle.pgn_model.specs.Walk.{Terms, State, Nothing, start, after_item, Allowed}
 
 -- the state after items
 abbrev pub state_after : Terms → List Item → State
-state_after terms items = fold after (start terms.section) items
+state_after terms items = fold after_item (start terms.section) items
 
 -- each item so far is allowed in the state before it
 abbrev pub IsLawful : Terms → List Tx → List Item → Type 0
-IsLawful terms journal items = Along after (Allowed terms journal) (start terms.section) items
+IsLawful terms journal items = Along after_item (Allowed terms journal) (start terms.section) items
 
 -- the script is done, its last line has its whole answer, and this is the mark
 pub record IsEnd (s : State) (last : Option ℕ) : Type 0 where
@@ -42,7 +42,7 @@ IsFreshAt terms journal s item = Unit {0}
 
 -- no read was left out at the end of any line; after the last line no block is open any more
 pub record Fresh (terms : Terms) (trace : Trace) (journal : List Tx) : Type 0 where
-  pub between_lines : Along after (IsFreshAt terms journal) (start terms.section) trace.items
+  pub between_lines : Along after_item (IsFreshAt terms journal) (start terms.section) trace.items
   pub at_end : IsUpToDate terms journal (state_after terms trace.items)
 
 -- items that are lawful so far, and the state that they lead to

@@ -1,6 +1,7 @@
 -- The walk over a session's trace: what it carries, what each item does to it, and which item is allowed.
 use Rattle.std.specs.Prelude.{◌≡◌, ℕ, ◌+◌, ◌<◌, ◌≤◌, ◌⊎◌, max, Bool, true, false, ◌&&◌, List, [], ◌∷◌, ◌++◌, length, Option, Some, None, if◌then◌else◌, is_some, is_none, IfSome, IsSomeAnd, All}
 use Rattle.std.specs.List.{list_any}
+use Rattle.pgn_base.specs.declared.limits.TheConstants.{FIRST_XID, PAGES_DEFAULT, PATIENCE_DEFAULT}
 use Rattle.pgn_base.specs.declared.note.Note.{Note}
 use Rattle.pgn_base.specs.declared.note.Delivery.{Delivery}
 use Rattle.pgn_base.specs.declared.answers.Tag.{Tag}
@@ -20,7 +21,7 @@ use Rattle.pgn_model.specs.declared.scenario.ScriptLine.{ScriptLine}
 use Rattle.pgn_model.specs.declared.scenario.Section.{Section}
 use Rattle.pgn_model.specs.declared.item.Item.{Item}
 use Rattle.pgn_model.specs.declared.item.Item.TheVariants.{Line, Enlist, Publish, Reply, Read}
-use Rattle.pgn_model.specs.Journal.{entry}
+use Rattle.pgn_model.specs.Journal.{entry, next_xid}
 use Rattle.pgn_model.specs.Due.{due}
 use Rattle.pgn_model.specs.Savepoints.{Change, live_names, surviving_actions, surviving_notes, firsts, is_listen, changes_of}
 use Rattle.pgn_model.specs.Answers.{Outcome, Commits, answer}
@@ -32,7 +33,7 @@ pub record Settings : Type 0 where
 
 -- what holds where the command line sets nothing
 abbrev pub default_settings : Settings
-default_settings = record { limit = 256; patience = 10000000 }
+default_settings = record { limit = PAGES_DEFAULT; patience = PATIENCE_DEFAULT }
 
 -- what a trace is judged by
 pub record Terms : Type 0 where
@@ -81,25 +82,25 @@ pub record State : Type 0 where
 
 -- before the first item
 abbrev pub start : Section → State
-start section = record { rest = section.lines; owed = Nothing; block = Idle; changes = []; set = []; mark = None; told = 3; marks = []; flags = [] }
+start section = record { rest = section.lines; owed = Nothing; block = Idle; changes = []; set = []; mark = None; told = FIRST_XID; marks = []; flags = [] }
 
 -- no channel is listened to
-abbrev pub is_empty : List (List ℕ) → Bool
-is_empty [] = true
-is_empty (channel ∷ channels) = false
+abbrev pub is_empty_set : List (List ℕ) → Bool
+is_empty_set [] = true
+is_empty_set (channel ∷ channels) = false
 
 -- the answer comes next; a listener whose set is empty leaves first
 abbrev pub leaving_or_answering : State → Ending → State
-leaving_or_answering s ending = if is_some s.mark && is_empty s.set then record s { owed = Leaving ending } else record s { owed = Answering ending }
+leaving_or_answering s ending = if is_some s.mark && is_empty_set s.set then record s { owed = Leaving ending } else record s { owed = Answering ending }
 
 -- the actions take effect
 abbrev pub settled : State → List Action → Ending → State
 settled s actions ending = leaving_or_answering (record s { set = applied s.set actions }) ending
 
 -- the notifications come next, if there are any
-abbrev pub joined : State → List Action → List Note → Ending → State
-joined s actions [] ending = settled s actions ending
-joined s actions (note ∷ notes) ending = record s { owed = Queueing actions (note ∷ notes) ending }
+abbrev pub queueing_or_settled : State → List Action → List Note → Ending → State
+queueing_or_settled s actions [] ending = settled s actions ending
+queueing_or_settled s actions (note ∷ notes) ending = record s { owed = Queueing actions (note ∷ notes) ending }
 
 -- a commit of a transaction's list: a session that is to listen and is no listener becomes one first
 abbrev pub committing : State → List Change → Ending → State
@@ -107,7 +108,7 @@ committing s changes ending =
     let actions = surviving_actions changes in
     let notes = firsts (surviving_notes changes) in
     let idle : State = record s { block = Idle; changes = [] } in
-    if list_any is_listen actions && is_none s.mark then record idle { owed = Enlisting actions notes ending } else joined idle actions notes ending
+    if list_any is_listen actions && is_none s.mark then record idle { owed = Enlisting actions notes ending } else queueing_or_settled idle actions notes ending
 
 -- a command begins, which comes to this
 abbrev pub at_outcome : State → Command → Outcome → State
@@ -130,7 +131,7 @@ at_line s (line ∷ lines) = at_act (record s { rest = lines }) line.act
 
 -- a session has become a listener
 abbrev pub at_enlist : State → Owed → State
-at_enlist s (Enlisting actions notes ending) = joined s actions notes ending
+at_enlist s (Enlisting actions notes ending) = queueing_or_settled s actions notes ending
 at_enlist s owed = s
 
 -- a transaction has committed
@@ -139,13 +140,13 @@ at_publish s (Queueing actions notes ending) = settled s actions ending
 at_publish s owed = s
 
 -- the state after an item
-abbrev pub after : State → Item → State
-after s (Line line) = at_line s s.rest
-after s (Enlist base point) = at_enlist (record s { mark = Some point; marks = s.marks ++ base ∷ [] ++ point ∷ [] }) s.owed
-after s (Publish xid notes) = at_publish (record s { told = max s.told (xid + 1) }) s.owed
-after s (Reply tag warning) = record s { owed = Nothing }
-after s (Read from to got) = record s { mark = Some to; marks = s.marks ++ to ∷ [] }
-after s item = s
+abbrev pub after_item : State → Item → State
+after_item s (Line line) = at_line s s.rest
+after_item s (Enlist base point) = at_enlist (record s { mark = Some point; marks = s.marks ++ base ∷ [] ++ point ∷ [] }) s.owed
+after_item s (Publish xid notes) = at_publish (record s { told = max s.told (xid + 1) }) s.owed
+after_item s (Reply tag warning) = record s { owed = Nothing }
+after_item s (Read from to got) = record s { mark = Some to; marks = s.marks ++ to ∷ [] }
+after_item s item = s
 
 -- a line of this number comes next
 abbrev pub IsNext : ℕ → List ScriptLine → Type 0
@@ -170,7 +171,7 @@ pub record IsCommittedBy (section : Section) (notes : List Note) (tx : Tx) : Typ
   pub committed : tx.fate ≡ Committed
 
 -- a script line begins: the one before it has its whole answer, and it is the next
-pub record Begins (s : State) (line : ℕ) : Type 0 where
+pub record BeginsLine (s : State) (line : ℕ) : Type 0 where
   pub answered : s.owed ≡ Nothing
   pub next : IsNext line s.rest
 
@@ -178,11 +179,11 @@ pub record Begins (s : State) (line : ℕ) : Type 0 where
 -- and within the journal, so that a longer journal changes nothing
 pub record Enlists (journal : List Tx) (s : State) (base point : ℕ) : Type 0 where
   pub expected : IsEnlisting s.owed
-  pub from_first : 3 ≤ base
+  pub from_first : FIRST_XID ≤ base
   pub ordered : base ≤ point
   pub after_told : s.told ≤ point
   pub after_marks : All (λ mark. mark ≤ point) s.marks
-  pub in_journal : point ≤ 3 + length journal
+  pub in_journal : point ≤ next_xid journal
 
 -- a transaction committed: it stands in the journal, after what the session was told or has read
 pub record Publishes (terms : Terms) (journal : List Tx) (s : State) (xid : ℕ) (notes : List Note) : Type 0 where
@@ -203,12 +204,12 @@ pub record Reads (terms : Terms) (journal : List Tx) (s : State) (from to : ℕ)
   pub from_mark : s.mark ≡ Some from
   pub forward : from < to
   pub after_told : s.told ≤ to
-  pub in_journal : to ≤ 3 + length journal
+  pub in_journal : to ≤ next_xid journal
   pub received : got ≡ due journal from to terms.section.db s.set
 
 -- the item is allowed in a state; a kind that nothing makes yet is not
 abbrev pub Allowed : Terms → List Tx → State → Item → Type 0
-Allowed terms journal s (Line line) = Begins s line
+Allowed terms journal s (Line line) = BeginsLine s line
 Allowed terms journal s (Enlist base point) = Enlists journal s base point
 Allowed terms journal s (Publish xid notes) = Publishes terms journal s xid notes
 Allowed terms journal s (Reply tag warning) = s.owed ≡ Answering (Replied tag warning)

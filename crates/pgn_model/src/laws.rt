@@ -1,30 +1,274 @@
-ghost use Rattle.pgn_model.specs.Laws.{DueSplits, DueGrows, LawfulPushes, LawfulFront, LawfulGrows};
+ghost use Rattle.pgn_model.specs.laws.Bytes.{AreBytes, SpelledLength, FillerLength, EntryLengths, SpellingReadsBack, NoSpellingBegins, NoSpellingIsFiller, FillerReadsBack};
+ghost use Rattle.pgn_model.specs.laws.Packing.{CellsGiveBytes, FirstPlace, NextPlace, LastPlace, IsPacked, PlaceFolds, LeavesRoom, PutTakes, PagesHold, NoteMoves, PlaceRises, PlaceBound, NotesInTurn, PlaceGrows, AbortedEnds, PlacesAgree, ImagesAgree, CellsOfEach, CellsApart};
+ghost use Rattle.pgn_model.specs.laws.Grammar.{BeginsComputes, PrefixBegins, WrongFitsNowhere, FollowersTell, FollowersDone, ReadingComputes, OneReading};
+ghost use Rattle.pgn_model.specs.laws.Commands.{ReadingsAreValid};
+ghost use Rattle.pgn_model.specs.laws.Tokens.{QuotesTell, TokensStand, TokensCover, OneCover, CutIsLongest, CutIsName};
+ghost use Rattle.pgn_model.specs.laws.Inputs.{LinesAreCut, TextsAreTrimmed, PartsAreCut, BlankReadsEmpty, CommandsHaveOneLine, InputReadingComputes, OneInputReading, ReadingsAreSound};
+ghost use Rattle.pgn_model.specs.laws.Due.{DueSplits, DueGrows};
+ghost use Rattle.pgn_model.specs.laws.Walk.{LawfulPushes, LawfulPrefix, LawfulGrows};
+ghost use Rattle.pgn_model.specs.laws.Savepoints.{RolledBackCuts, ReleasedKeeps, SurvivesRolledBack, SurvivesReleased, SurvivesSaved, SurvivesActed, SurvivesNoted, LiveIsSaved, LiveHasSavepoint, RolledBackKeepsSavepoint, RolledBackOfNone, ReleasedOfNone, FirstsInOrder, FirstsDiffer, FirstsHaveAll, FirstsPush, FirstsTwice, LiveAfterChange, LiveSaved, LiveActed, LiveNew, LiveRepeated, LiveRolledBack, LiveReleased, LiveTwice, LiveHasNames, LiveHasActions, LiveHasFirsts};
+ghost use Rattle.pgn_model.specs.laws.Answers.{TableIsTotal, NothingFailsOutside, BlocksBegin, BlocksEnd, BlocksFail, WaysOut, WaysOn, OnlyEmptyIsSilent, ChannelsAreCounted};
 
-/// What is due up to a number is what is due up to one before it, and then from there on.
+/// What is due to a reader.
 #[tactic(auto, using(crate::proofs::DueLaws::due_laws))]
-pub fn due_splits()
-    ensures { DueSplits }
+pub fn due()
+    // What is due up to a number is what is due up to one before it, and then from there on.
+    ensures splits { DueSplits }
+    // A longer journal changes nothing of what is due before its new part.
+    ensures grows { DueGrows }
 {}
 
-/// A longer journal changes nothing of what is due before its new part.
-#[tactic(auto, using(crate::proofs::DueLaws::due_laws))]
-pub fn due_grows()
-    ensures { DueGrows }
-{}
-
-/// One more item at the end of a lawful trace is one more fact.
-pub fn lawful_pushes()
-    ensures { LawfulPushes }
-{}
-
-/// A front of a lawful trace is lawful so far.
+/// Lawful traces.
 #[tactic(auto, using(crate::proofs::WalkLaws::walk_laws))]
-pub fn lawful_front()
-    ensures { LawfulFront }
+pub fn walk()
+    // One more item at the end of a lawful trace is one more fact.
+    ensures pushes { LawfulPushes }
+    // A prefix of a lawful trace is lawful so far.
+    ensures prefix { LawfulPrefix }
+    // What is lawful over a journal is lawful over a longer one.
+    ensures grows { LawfulGrows }
 {}
 
-/// What is lawful over a journal is lawful over a longer one.
-#[tactic(auto, using(crate::proofs::WalkLaws::walk_laws))]
-pub fn lawful_grows()
-    ensures { LawfulGrows }
+/// The bytes of entries and fillers.
+pub fn bytes()
+    // The bytes of an entry are as many as its length says.
+    ensures spelled_length { SpelledLength }
+    // The bytes of a filler are as many as its length says.
+    ensures filler_length { FillerLength }
+    // An entry's length is a multiple of the alignment, no less than the least one, and a page holds it.
+    ensures entry_lengths { EntryLengths }
+    // What an entry and a filler are made of is bytes.
+    ensures are_bytes { AreBytes }
+    // An entry's bytes give its fields back, whatever follows them.
+    ensures spelling_reads_back { SpellingReadsBack }
+    // No entry's bytes begin another's.
+    ensures no_spelling_begins { NoSpellingBegins }
+    // No entry's bytes are a filler's, nor begin one.
+    ensures no_spelling_is_filler { NoSpellingIsFiller }
+    // A filler's bytes give its fields back, whatever follows them.
+    ensures filler_reads_back { FillerReadsBack }
+{}
+
+/// Where the entries of a journal lie on the pages of the queue.
+pub fn packing()
+    // The first transaction begins at cell 0.
+    ensures first_place { FirstPlace }
+    // The next transaction begins where the arithmetic says that one ends.
+    ensures next_place { NextPlace }
+    // Past the journal's end a place is the end.
+    ensures last_place { LastPlace }
+    // The numbers of cells give back the bytes that fill them.
+    ensures cells_give_bytes { CellsGiveBytes }
+    // The arithmetic of places counts the cells of the image.
+    ensures is_packed { IsPacked }
+    // Where a transaction begins is counted by the arithmetic alone.
+    ensures place_folds { PlaceFolds }
+    // The shortest entry always fits on the page where the next one begins.
+    ensures leaves_room { LeavesRoom }
+    // A notification takes some cells, and at most those of two pages.
+    ensures put_takes { PutTakes }
+    // The rest of a page is the length of a filler, and a page holds each entry.
+    ensures pages_hold { PagesHold }
+    // A notification that does not fit on the rest of the page is a filler, and then the same on the next page.
+    ensures note_moves { NoteMoves }
+    // Notifications lie one after another.
+    ensures notes_in_turn { NotesInTurn }
+    // Later transactions begin no earlier.
+    ensures place_grows { PlaceGrows }
+    // A transaction with a queued notification takes some cells.
+    ensures place_rises { PlaceRises }
+    // The queue has at most two pages for each notification.
+    ensures place_bound { PlaceBound }
+    // An aborted transaction ends where a page begins.
+    ensures aborted_ends { AbortedEnds }
+    // A longer journal changes no place of its front.
+    ensures places_agree { PlacesAgree }
+    // A longer journal changes no cell of its front.
+    ensures images_agree { ImagesAgree }
+    // The cells between two places are those of the transaction that begins at the first.
+    ensures cells_of_each { CellsOfEach }
+    // No two transactions share a cell.
+    ensures cells_apart { CellsApart }
+{}
+
+/// What a ROLLBACK TO cuts and what a RELEASE keeps, said by the last mark of the name.
+#[tactic(auto, using(crate::proofs::SavepointLemmas::savepoint_laws))]
+pub fn rolled_back_and_released()
+    ensures cuts { RolledBackCuts }
+    ensures keeps { ReleasedKeeps }
+{}
+
+/// What survives one more change.
+#[tactic(auto, using(crate::proofs::SavepointLemmas::savepoint_laws))]
+pub fn survives_one_more()
+    ensures rolled_back { SurvivesRolledBack }
+    ensures released { SurvivesReleased }
+    ensures saved { SurvivesSaved }
+    ensures acted { SurvivesActed }
+    ensures noted { SurvivesNoted }
+{}
+
+/// A savepoint is live where its mark survives, and stays live after a ROLLBACK TO it.
+#[tactic(auto, using(crate::proofs::SavepointLemmas::savepoint_laws))]
+pub fn live_savepoints()
+    ensures saved { LiveIsSaved }
+    ensures live { LiveHasSavepoint }
+    ensures kept { RolledBackKeepsSavepoint }
+{}
+
+/// ROLLBACK TO and RELEASE of a name that no live savepoint has change nothing.
+#[tactic(auto, using(crate::proofs::SavepointLemmas::savepoint_laws))]
+pub fn no_such_savepoint()
+    ensures rolled_back { RolledBackOfNone }
+    ensures released { ReleasedOfNone }
+{}
+
+/// First occurrences keep their order, each stands once, and all that stood are there.
+#[tactic(auto, using(crate::proofs::SavepointLemmas::firsts_laws))]
+pub fn first_occurrences()
+    ensures in_order { FirstsInOrder }
+    ensures once { FirstsDiffer }
+    ensures all { FirstsHaveAll }
+{}
+
+/// One more notification is a first occurrence where it has not stood before, and first occurrences have no repeats to drop.
+#[tactic(auto, using(crate::proofs::SavepointLemmas::firsts_laws))]
+pub fn one_more_occurrence()
+    ensures push { FirstsPush }
+    ensures twice { FirstsTwice }
+{}
+
+/// What is live, without repeats, takes one more change in, whatever led to it.
+#[tactic(auto, using(crate::proofs::SavepointLemmas::live_laws))]
+pub fn live_after_change()
+    ensures { LiveAfterChange }
+{}
+
+/// What is live leads to itself: nothing in it is left to cut, to free or to drop.
+#[tactic(auto, using(crate::proofs::SavepointLemmas::live_laws))]
+pub fn live_twice()
+    ensures { LiveTwice }
+{}
+
+/// What is live after a mark, an action, a new and a repeated notification.
+#[tactic(auto, using(crate::proofs::SavepointLemmas::live_laws))]
+pub fn live_one_more()
+    ensures saved { LiveSaved }
+    ensures acted { LiveActed }
+    ensures new { LiveNew }
+    ensures repeated { LiveRepeated }
+{}
+
+/// What is live after a ROLLBACK TO and a RELEASE.
+#[tactic(auto, using(crate::proofs::SavepointLemmas::live_laws))]
+pub fn live_after_savepoints()
+    ensures rolled_back { LiveRolledBack }
+    ensures released { LiveReleased }
+{}
+
+/// What is live has all that a commit and the answers ask for: the names, the actions, and the notifications without repeats.
+#[tactic(auto, using(crate::proofs::SavepointLemmas::live_laws))]
+pub fn live_is_enough()
+    ensures names { LiveHasNames }
+    ensures actions { LiveHasActions }
+    ensures notes { LiveHasFirsts }
+{}
+
+/// Each command has one answer in each state, and leads to one of the three states.
+#[tactic(auto, using(crate::proofs::AnswerLemmas::answer_laws))]
+pub fn table_is_total()
+    ensures { TableIsTotal }
+{}
+
+/// Outside a block a command may open one, and never fails one.
+#[tactic(auto, using(crate::proofs::AnswerLemmas::answer_laws))]
+pub fn outside_a_block()
+    ensures opens { BlocksBegin }
+    ensures never_fails { NothingFailsOutside }
+{}
+
+/// COMMIT and ROLLBACK end a block, and it fails where a command in it is refused.
+#[tactic(auto, using(crate::proofs::AnswerLemmas::answer_laws))]
+pub fn in_a_block()
+    ensures ends { BlocksEnd }
+    ensures fails { BlocksFail }
+{}
+
+/// A failed block ends by COMMIT or ROLLBACK, and goes on by ROLLBACK TO a live savepoint; by nothing else.
+#[tactic(auto, using(crate::proofs::AnswerLemmas::answer_laws))]
+pub fn in_a_failed_block()
+    ensures ways_out { WaysOut }
+    ensures ways_on { WaysOn }
+{}
+
+/// Only an empty line is not answered.
+#[tactic(auto, using(crate::proofs::AnswerLemmas::answer_laws))]
+pub fn only_empty_is_silent()
+    ensures { OnlyEmptyIsSilent }
+{}
+
+/// The channels that are shown are those listened to, and their number is in the answer.
+#[tactic(auto, using(crate::proofs::AnswerLemmas::answer_laws))]
+pub fn channels_are_counted()
+    ensures { ChannelsAreCounted }
+{}
+
+/// The tokens of a line.
+pub fn tokens()
+    // A quoted text ends at the first quote that is not written twice, and is what stands before it with each quote once.
+    ensures quotes_tell { QuotesTell }
+    // A cut name is the longest front of whole characters that is short enough.
+    ensures cut_is_longest { CutIsLongest }
+    // What a text is cut to is a name, if it has a character and no zero byte.
+    ensures cut_is_name { CutIsName }
+    // Each token of a text stands in it where it is said to begin.
+    ensures tokens_stand { TokensStand }
+    // The tokens of a text cover it: nothing but blanks stands before them and between them, and nothing but blanks and a comment after them. Words, numbers and quoted texts are as long as they can be. After what is no token anything may stand. No other tokens cover it, so that no other order of reading gives others.
+    ensures tokens_cover { TokensCover }
+    // No other tokens cover it, so that no other order of reading gives others.
+    ensures one_cover { OneCover }
+{}
+
+/// The table of commands, and what a line reads as.
+pub fn grammar()
+    // Tokens begin a form of the table of commands exactly where they fit the first slots of one.
+    ensures begins_computes { BeginsComputes }
+    // A front of what begins a form of the table begins one, so that a line goes wrong at one byte.
+    ensures prefix_begins { PrefixBegins }
+    // What is no token fits_slot nowhere, whatever follows it.
+    ensures wrong_fits_nowhere { WrongFitsNowhere }
+    // Tokens begin a form of the table exactly where something may follow them, be it nothing more.
+    ensures followers_tell { FollowersTell }
+    // Tokens are a form of the table exactly where nothing more may follow them.
+    ensures followers_done { FollowersDone }
+    // What a line reads as can be computed.
+    ensures reading_computes { ReadingComputes }
+    // A line has exactly one reading.
+    ensures one_reading { OneReading }
+    // What a line of UTF-8 without a zero byte reads as is valid: each name is one, and a notification can be sent. So the channel of NOTIFY is never empty, and no name is cut in the middle of a character.
+    ensures readings_are_valid { ReadingsAreValid }
+{}
+
+/// The lines of an input, their texts and their parts.
+pub fn lines()
+    // A line ends before its LF, and the last one where the input ends.
+    ensures lines_are_cut { LinesAreCut }
+    // The text of a line is what stands between the blanks at its ends.
+    ensures texts_are_trimmed { TextsAreTrimmed }
+    // Spaces and tabs, one or more, separate the parts of a meta line.
+    ensures parts_are_cut { PartsAreCut }
+    // A line is blank exactly where its text reads as the empty command.
+    ensures blank_reads_empty { BlankReadsEmpty }
+{}
+
+/// What an input reads as.
+pub fn inputs()
+    // What an input reads as can be computed.
+    ensures input_reading_computes { InputReadingComputes }
+    // An input has exactly one reading: a scenario or a fault.
+    ensures one_input_reading { OneInputReading }
+    // A line without a line feed reads as a command without one.
+    ensures commands_have_one_line { CommandsHaveOneLine }
+    // Only sound scenarios are read.
+    ensures readings_are_sound { ReadingsAreSound }
 {}

@@ -10,22 +10,12 @@
 //! modules that are named after them.
 #![tactic(auto)]
 
-pub mod answer_laws;
 mod block_state;
-pub mod bytes_laws;
 mod command;
 pub mod examples;
-pub mod grammar_examples;
-pub mod grammar_laws;
-pub mod input_examples;
-pub mod input_laws;
 mod item;
 pub mod laws;
 mod line_text;
-pub mod packing_examples;
-pub mod packing_laws;
-pub mod savepoint_examples;
-pub mod savepoint_laws;
 mod scenario;
 mod trace;
 mod tx;

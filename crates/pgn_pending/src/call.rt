@@ -15,7 +15,7 @@ pub enum Call {
     /// LISTEN or UNLISTEN.
     Action(Action),
     /// SAVEPOINT.
-    Mark(Name),
+    Savepoint(Name),
     /// ROLLBACK TO.
     BackTo(Name),
     /// RELEASE.
@@ -41,7 +41,7 @@ fn make(pending: &mut Pending, call: Call) -> Result<(), AllocError>
     match call {
         Call::Note(note) => pending.note(note),
         Call::Action(action) => pending.action(action),
-        Call::Mark(name) => pending.mark(name),
+        Call::Savepoint(name) => pending.mark(name),
         Call::BackTo(name) => {
             let _no_such = pending.back_to(&name);
             Ok(())

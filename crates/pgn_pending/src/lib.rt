@@ -14,7 +14,7 @@
 #![tactic(auto)]
 
 mod call;
-mod mark;
+mod savepoint;
 mod pending;
 
 pub use call::{Call, finish_after};

@@ -1,9 +1,9 @@
 ghost use Rattle.std.specs.Prelude.{◌≡◌, ◌≤◌, ◌↔◌, [], ◌∷◌, ◌++◌, List, length, vec_capacity, false, IsErr, OnOk, OnErr};
-ghost use Rattle.pgn_model.specs.Answers.{is_live};
-ghost use Rattle.pgn_model.specs.Savepoints.{Change, Marked, Acted, Noted, Back, Free, live_names, surviving_actions, surviving_notes, firsts};
-ghost use Rattle.pgn_pending.specs.Kept.{HasHistory, StandsFor, is_marked};
+ghost use Rattle.pgn_base.specs.Names.{has_name};
+ghost use Rattle.pgn_model.specs.Savepoints.{Change, Saved, Acted, Noted, RolledBack, Released, live_names, surviving_actions, surviving_notes, firsts};
+ghost use Rattle.pgn_pending.specs.Kept.{HasHistory, StandsFor, is_saved};
 
-use crate::mark::{Mark, newest};
+use crate::savepoint::{Savepoint, newest};
 use indexmap::IndexSet;
 use pgn_base::{Action, Actions, Name, Note, Notes};
 use std::alloc::{AllocError, Global};
@@ -14,7 +14,7 @@ use std::marker::Model;
 pub struct Pending {
     actions: Vec<Action>,
     notes: IndexSet<Note>,
-    marks: Vec<Mark>,
+    savepoints: Vec<Savepoint>,
     // Empty, with room for all the notes: what `finish` puts them into.
     room: Vec<Note>,
 }
@@ -29,10 +29,10 @@ impl Model for Pending {
 
     ghost Value = { Kept };
 
-    ghost view = { λ p. kept p.actions.items p.notes.keys p.marks.items };
+    ghost view = { λ p. kept p.actions.items p.notes.keys p.savepoints.items };
 
     ghost invariant = { λ p. (p.room.items ≡ []) × (length p.notes.keys ≤ vec_capacity p.room)
-        × HasHistory (kept p.actions.items p.notes.keys p.marks.items) };
+        × HasHistory (kept p.actions.items p.notes.keys p.savepoints.items) };
 }
 
 impl Pending {
@@ -43,7 +43,7 @@ impl Pending {
         Pending {
             actions: Vec::new(alloc),
             notes: IndexSet::new(alloc),
-            marks: Vec::new(alloc),
+            savepoints: Vec::new(alloc),
             room: Vec::new(alloc),
         }
     }
@@ -69,48 +69,48 @@ impl Pending {
 
     /// SAVEPOINT. Where memory does not suffice, nothing changes.
     pub fn mark(&mut self, name: Name) -> Result<(), AllocError>
-        ensures ok { OnOk result ((changes : List Change) → StandsFor changes self.old → StandsFor (changes ++ Marked name ∷ []) self.new) }
+        ensures ok { OnOk result ((changes : List Change) → StandsFor changes self.old → StandsFor (changes ++ Saved name ∷ []) self.new) }
         ensures err { OnErr result (self.new ≡ self.old) }
     {
-        let mark = Mark {
+        let savepoint = Savepoint {
             name,
             notes: self.notes.len(),
             actions: self.actions.len(),
         };
-        self.marks.push(mark)?;
+        self.savepoints.push(savepoint)?;
         Ok(())
     }
 
     /// ROLLBACK TO: drops what came after the newest savepoint of this name, later savepoints too, and keeps this one. It takes no
     /// memory. `NoSuch` where no savepoint that stands has the name; nothing changes then.
     pub fn back_to(&mut self, name: &Name) -> Result<(), NoSuch>
-        ensures no_such { IsErr result ↔ (is_marked name.now self.old.marks ≡ false) }
-        ensures not_live { (changes : List Change) → StandsFor changes self.old → (IsErr result ↔ (is_live (live_names changes) name.now ≡ false)) }
+        ensures no_such { IsErr result ↔ (is_saved name.now self.old.savepoints ≡ false) }
+        ensures not_live { (changes : List Change) → StandsFor changes self.old → (IsErr result ↔ (has_name (live_names changes) name.now ≡ false)) }
         ensures unchanged { OnErr result (self.new ≡ self.old) }
-        ensures after { (changes : List Change) → StandsFor changes self.old → StandsFor (changes ++ Back name.now ∷ []) self.new }
+        ensures after { (changes : List Change) → StandsFor changes self.old → StandsFor (changes ++ RolledBack name.now ∷ []) self.new }
     {
-        let Some(at) = newest(&self.marks, name) else {
+        let Some(at) = newest(&self.savepoints, name) else {
             return Err(NoSuch);
         };
-        let mark = &self.marks[at];
-        self.notes.truncate(mark.notes);
-        self.actions.truncate(mark.actions);
-        self.marks.truncate(at + 1);
+        let savepoint = &self.savepoints[at];
+        self.notes.truncate(savepoint.notes);
+        self.actions.truncate(savepoint.actions);
+        self.savepoints.truncate(at + 1);
         Ok(())
     }
 
     /// RELEASE: drops the newest savepoint of this name and later ones, and keeps what came after. It takes no memory. `NoSuch`
     /// where no savepoint that stands has the name; nothing changes then.
     pub fn release(&mut self, name: &Name) -> Result<(), NoSuch>
-        ensures no_such { IsErr result ↔ (is_marked name.now self.old.marks ≡ false) }
-        ensures not_live { (changes : List Change) → StandsFor changes self.old → (IsErr result ↔ (is_live (live_names changes) name.now ≡ false)) }
+        ensures no_such { IsErr result ↔ (is_saved name.now self.old.savepoints ≡ false) }
+        ensures not_live { (changes : List Change) → StandsFor changes self.old → (IsErr result ↔ (has_name (live_names changes) name.now ≡ false)) }
         ensures unchanged { OnErr result (self.new ≡ self.old) }
-        ensures after { (changes : List Change) → StandsFor changes self.old → StandsFor (changes ++ Free name.now ∷ []) self.new }
+        ensures after { (changes : List Change) → StandsFor changes self.old → StandsFor (changes ++ Released name.now ∷ []) self.new }
     {
-        let Some(from) = newest(&self.marks, name) else {
+        let Some(from) = newest(&self.savepoints, name) else {
             return Err(NoSuch);
         };
-        self.marks.truncate(from);
+        self.savepoints.truncate(from);
         Ok(())
     }
 

@@ -25,7 +25,7 @@ fn call(alloc: Global, command: &str) -> Result<Call, Fail> {
         "LISTEN" => Ok(Call::Action(Action::Listen(name))),
         "UNLISTEN" if words == "*" => Ok(Call::Action(Action::UnlistenAll)),
         "UNLISTEN" => Ok(Call::Action(Action::Unlisten(name))),
-        "SAVEPOINT" => Ok(Call::Mark(name)),
+        "SAVEPOINT" => Ok(Call::Savepoint(name)),
         "ROLLBACK" => Ok(Call::BackTo(name)),
         "RELEASE" => Ok(Call::Release(name)),
         _ => Err("another verb")?,
@@ -37,7 +37,7 @@ fn tell(pending: &mut Pending, call: Call) -> Result<bool, AllocError> {
     match call {
         Call::Note(note) => pending.note(note)?,
         Call::Action(action) => pending.action(action)?,
-        Call::Mark(name) => pending.mark(name)?,
+        Call::Savepoint(name) => pending.mark(name)?,
         Call::BackTo(name) => return Ok(pending.back_to(&name) != Err(NoSuch)),
         Call::Release(name) => return Ok(pending.release(&name) != Err(NoSuch)),
     }

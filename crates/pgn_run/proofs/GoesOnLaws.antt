@@ -2,14 +2,14 @@
 use Rattle.std.proofs.Common.{◌≡◌, ℕ, ◌+◌, ◌<◌, suc, List, [], ◌∷◌, ◌++◌, length, drop, get_or, Option, None, Some, Result, Ok, Err, sym, ap, ◌∙◌, subst, refl, append_assoc, append-nil, add-one, drop-cons}
 use Rattle.std.specs.Prelude.{flat_map, OnOk}
 use Rattle.std.specs.Io.KnownBytes.{Appends}
-use Rattle.pgn_base.specs.Outside.{AppendsFront, Writes}
+use Rattle.pgn_base.specs.Outside.{AppendsPrefix, Writes}
 use Rattle.pgn_run.specs.Rendering.{GrewBut, IsOut, GoesOn}
 
 -- a front of a text is a front of a longer one
-AppendsFront-more : (start held : Option (List ℕ)) (before text : List ℕ) → AppendsFront start held before → AppendsFront start held (before ++ text)
-AppendsFront-more None held before text h = tt
-AppendsFront-more (Some xs) None before text h = absurd h
-AppendsFront-more (Some xs) (Some ys) before text h = (h.0, h.1 ++ text, ap (λ t. t ++ text) h.2 ∙ append_assoc h.0 h.1 text, h.3)
+AppendsPrefix-more : (start held : Option (List ℕ)) (before text : List ℕ) → AppendsPrefix start held before → AppendsPrefix start held (before ++ text)
+AppendsPrefix-more None held before text h = tt
+AppendsPrefix-more (Some xs) None before text h = absurd h
+AppendsPrefix-more (Some xs) (Some ys) before text h = (h.0, h.1 ++ text, ap (λ t. t ++ text) h.2 ∙ append_assoc h.0 h.1 text, h.3)
 
 GrewBut-more : (start held : Option (List ℕ)) (kept before text : List ℕ) → GrewBut start held kept before → GrewBut start held (kept ++ text) (before ++ text)
 GrewBut-more None held kept before text h = tt
@@ -26,11 +26,11 @@ GrewBut-written (Some xs) (Some ys) (Some zs) kept before text all e a h =
     (before ++ text, sym (append-nil (before ++ text)), a ∙ ap (λ t. t ++ all) h.2 ∙ append_assoc xs h.0 all ∙ ap (λ t. xs ++ t) (sym parts))
 
 -- of the buffer's content and a text after it a front is written
-AppendsFront-written : (start held now : Option (List ℕ)) (kept before text all : List ℕ) → kept ++ text ≡ all → AppendsFront held now all → GrewBut start held kept before → AppendsFront start now (before ++ text)
-AppendsFront-written None held now kept before text all e a h = tt
-AppendsFront-written (Some xs) None now kept before text all e a h = absurd h
-AppendsFront-written (Some xs) (Some ys) None kept before text all e a h = absurd a
-AppendsFront-written (Some xs) (Some ys) (Some zs) kept before text all e a h =
+AppendsPrefix-written : (start held now : Option (List ℕ)) (kept before text all : List ℕ) → kept ++ text ≡ all → AppendsPrefix held now all → GrewBut start held kept before → AppendsPrefix start now (before ++ text)
+AppendsPrefix-written None held now kept before text all e a h = tt
+AppendsPrefix-written (Some xs) None now kept before text all e a h = absurd h
+AppendsPrefix-written (Some xs) (Some ys) None kept before text all e a h = absurd a
+AppendsPrefix-written (Some xs) (Some ys) (Some zs) kept before text all e a h =
     let parts : before ++ text ≡ h.0 ++ all = ap (λ t. t ++ text) h.1 ∙ append_assoc h.0 kept text ∙ ap (λ t. h.0 ++ t) e in
     (h.0 ++ a.0, a.1, parts ∙ ap (λ t. h.0 ++ t) a.2 ∙ sym (append_assoc h.0 a.0 a.1), a.3 ∙ ap (λ t. t ++ a.0) h.2 ∙ append_assoc xs h.0 a.0)
 
@@ -40,7 +40,7 @@ GoesOn-none held kept so_far = record { on = λ start before h. subst (λ t. IsO
 
 -- after a failure any text is as good as given out
 pub GoesOn-failed : {T E : Type 0} (held : Option (List ℕ)) (kept now : List ℕ) (e : E) (text : List ℕ) → GoesOn {T = T} held kept (Err e) held now (Err e) text
-GoesOn-failed held kept now e text = record { on = λ start before h. AppendsFront-more start held before text h }
+GoesOn-failed held kept now e text = record { on = λ start before h. AppendsPrefix-more start held before text h }
 
 -- the buffer keeps the text back
 pub GoesOn-kept : {T E : Type 0} {held : Option (List ℕ)} {kept now : List ℕ} {x : T} {text : List ℕ} → now ≡ kept ++ text → GoesOn {E = E} held kept (Ok x) held now (Ok x) text
@@ -50,7 +50,7 @@ GoesOn-kept {E = E} {held = held} {kept = kept} {x = x} {text = text} e =
 -- the buffer's content and the text are written
 pub GoesOn-written : {T E : Type 0} (held now : Option (List ℕ)) (kept : List ℕ) (x : T) (result : Result T E) (text all : List ℕ) → kept ++ text ≡ all → Writes held now result all → GoesOn held kept (Ok x) now [] result text
 GoesOn-written held now kept x (Ok y) text all e w = record { on = λ start before h. GrewBut-written start held now kept before text all e w h }
-GoesOn-written held now kept x (Err y) text all e w = record { on = λ start before h. AppendsFront-written start held now kept before text all e w h }
+GoesOn-written held now kept x (Err y) text all e w = record { on = λ start before h. AppendsPrefix-written start held now kept before text all e w h }
 
 -- one text after another
 pub GoesOn-trans : {T E : Type 0} {h₀ h₁ h₂ : Option (List ℕ)} {k₀ k₁ k₂ : List ℕ} {r₀ r₁ r₂ : Result T E} {first second : List ℕ} → GoesOn h₀ k₀ r₀ h₁ k₁ r₁ first → GoesOn h₁ k₁ r₁ h₂ k₂ r₂ second → GoesOn h₀ k₀ r₀ h₂ k₂ r₂ (first ++ second)

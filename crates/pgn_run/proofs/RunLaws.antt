@@ -2,12 +2,12 @@
 use Rattle.std.proofs.Common.{◌≡◌, ℕ, ◌+◌, ◌<◌, ◌≤◌, ◌⊎◌, Bool, bytes_eq, codes, map, List, [], ◌∷◌, length, take, get_or, Option, Some, None, IfSome, OnSome, IsSomeAnd, IsTrue, sym, ap, ◌∙◌, refl, subst, inl, inr, arith, length-take, length-append, take_all, Bor}
 use Rattle.std.proofs.lemmas.Slice.Eq.{bytes_eq-Decides}
 use Rattle.std.specs.Io.KnownBytes.{Appends, Consumes, IsAtEnd}
-use Rattle.pgn_base.specs.Outside.{AppendsFront, Rose}
+use Rattle.pgn_base.specs.declared.limits.TheConstants.{INPUT_BYTES_MAX}
+use Rattle.pgn_base.specs.Outside.{AppendsPrefix, Rose}
 use Rattle.pgn_model.specs.declared.scenario.Scenario.{Scenario}
 use Rattle.pgn_run.specs.declared.status.Status.{Status}
 use Rattle.pgn_run.specs.declared.status.Status.TheVariants.{Done, BadWords, BadScenario, ReadFault, WriteFault, NoMemory, NotBuilt}
 use Rattle.pgn_run.specs.Reading.{ReadsAsPlainScenario, BreaksAt}
-use Rattle.pgn_model.specs.Inputs.{input_limit}
 use Rattle.pgn_run.specs.Run.{Runs, Answers, run_words}
 use Rattle.pgn_run.proofs.ReadingLaws.{reads-not-breaks, breaks-once}
 
@@ -25,7 +25,7 @@ whole : (n : ℕ) (xs : List ℕ) → length (take (n + 1) xs) ≤ n → take (n
 whole n xs h = take_all (n + 1) xs (omega (arith, length-take (n + 1) xs))
 
 -- what was read is all of it, where it is within the limit
-within-is-whole : (xs input : List ℕ) → input ≡ take 16777217 xs → length input ≤ input_limit → input ≡ xs
+within-is-whole : (xs input : List ℕ) → input ≡ take 16777217 xs → length input ≤ INPUT_BYTES_MAX → input ≡ xs
 within-is-whole xs input e h =
     let short : length (take 16777217 xs) ≤ 16777216 = omega (arith, ap length e) in
     e ∙ whole 16777216 xs short
@@ -37,7 +37,7 @@ reads-whole xs input scenario e h = subst (λ (bytes : List ℕ). ReadsAsPlainSc
 -- an input breaks where what was read of it does
 breaks-whole : (xs input : List ℕ) (line : ℕ) → input ≡ take 16777217 xs → BreaksAt input line → BreaksAt xs line
 breaks-whole xs input line e (inl large) =
-    let past : input_limit < length input = large.0 in
+    let past : INPUT_BYTES_MAX < length input = large.0 in
     inl (omega (arith, ap length e, length-take 16777217 xs), large.1)
 breaks-whole xs input line e (inr broken) = subst (λ (bytes : List ℕ). BreaksAt bytes line) (within-is-whole xs input e broken.0) (inr broken)
 
@@ -58,12 +58,12 @@ module _ (left : Option (List ℕ)) (input : List ℕ) (old new : Option (List �
       with None b = b
       with (Some xs) b = runs-whole xs input (Appends old new) b (answered Done e)
 
-  pub write-fault-runs : status ≡ WriteFault → IfSome left (λ xs. Runs xs (AppendsFront old new))
+  pub write-fault-runs : status ≡ WriteFault → IfSome left (λ xs. Runs xs (AppendsPrefix old new))
   write-fault-runs e = with left bytes
     where
-      with : (o : Option (List ℕ)) → IfSome o (λ xs. input ≡ take 16777217 xs) → IfSome o (λ xs. Runs xs (AppendsFront old new))
+      with : (o : Option (List ℕ)) → IfSome o (λ xs. input ≡ take 16777217 xs) → IfSome o (λ xs. Runs xs (AppendsPrefix old new))
       with None b = b
-      with (Some xs) b = runs-whole xs input (AppendsFront old new) b (answered WriteFault e).0
+      with (Some xs) b = runs-whole xs input (AppendsPrefix old new) b (answered WriteFault e).0
 
   pub not-built-breaks : (line : ℕ) → status ≡ NotBuilt line → IfSome left (λ xs. BreaksAt xs line)
   not-built-breaks line e = with left bytes

@@ -3,10 +3,11 @@ use Rattle.std.proofs.Common.{◌≡◌, ℕ, zero, suc, ◌+◌, ◌-◌, ◌<�
 use Rattle.std.proofs.lemmas.List.{take-append-le}
 use Rattle.std.proofs.lemmas.List.Elements.{All-push, All-nil, filter_map-append}
 use Rattle.std.specs.List.{list_any, cons_option}
+use Rattle.pgn_base.specs.Names.{has_name}
 use Rattle.pgn_base.specs.declared.note.Note.{Note}
 use Rattle.pgn_base.specs.declared.answers.Tag.TheVariants as tag
 use Rattle.pgn_base.specs.declared.listen_set.Action.TheVariants.{Listen}
-use Rattle.pgn_base.specs.Channels.{after_action, has_channel}
+use Rattle.pgn_base.specs.Channels.{after_action}
 use Rattle.pgn_model.specs.declared.tx.Tx.{Tx}
 use Rattle.pgn_model.specs.declared.item.Item.{Item}
 use Rattle.pgn_model.specs.declared.item.Item.TheVariants.{Line, Enlist, Publish, QueueFull, Leave, Reply, Refuse, Channels, Used, Raise, Found, TimedOut, Read}
@@ -19,7 +20,7 @@ use Rattle.pgn_model.specs.declared.scenario.Scenario.{Scenario}
 use Rattle.pgn_model.specs.Journal.{IsFinished, entries_between, is_committed_in, xids_from, entry}
 use Rattle.pgn_model.specs.Due.{due}
 use Rattle.pgn_model.specs.Along.{Along}
-use Rattle.pgn_model.specs.Walk.{Terms, State, Queueing, Answering, Ending, Replied, start, after, Allowed, is_empty, Leaving, leaving_or_answering, IsCommittedBy, default_settings}
+use Rattle.pgn_model.specs.Walk.{Terms, State, Queueing, Answering, Ending, Replied, start, after_item, Allowed, is_empty_set, Leaving, leaving_or_answering, IsCommittedBy, default_settings}
 use Rattle.pgn_model.specs.declared.trace.Trace.{Trace}
 use Rattle.pgn_model.specs.Trace.{IsFreshAt, IsUpToDate, IsEnd, state_after}
 use Rattle.pgn_model.specs.Legal.{finished_xid, finished_xids, IsShownWithin, names_section, Legal}
@@ -42,10 +43,10 @@ up-to-date db journal m n e = subst (λ (k : ℕ). list_any (is_committed_in db)
 -- one more item, over the same journal
 pub IsAt-push : (section : Section) (state : State) (journal : List Tx) (items : List Item) (item : Item)
     → IsAt section state journal items → Allowed (terms_of section) journal state item → IsFreshWithin (terms_of section) journal state item
-    → IsShownWithin (3 + length journal) item → finished_xid item ≡ None → IsAt section (after state item) journal (items ++ item ∷ [])
+    → IsShownWithin (3 + length journal) item → finished_xid item ≡ None → IsAt section (after_item state item) journal (items ++ item ∷ [])
 IsAt-push section state journal items item h allowed fresh shown none = record {
   stands = Stands-push (terms_of section) journal items state item h.stands allowed;
-  fresh = Along-push_at after (IsFreshWithin (terms_of section) journal) (start section) state items item h.stands.state h.fresh fresh;
+  fresh = Along-push_at after_item (IsFreshWithin (terms_of section) journal) (start section) state items item h.stands.state h.fresh fresh;
   own = filter_map-append finished_xid items (item ∷ []) ∙ ap (λ (o : Option ℕ). finished_xids items ++ cons_option o []) none ∙ append-nil (finished_xids items) ∙ h.own;
   finished = h.finished;
   alone = h.alone;
@@ -120,16 +121,16 @@ sent-finished section note = record {
 pub IsAt-publish : (section : Section) (state : State) (journal : List Tx) (items : List Item) (note : Note)
     → IsAt section state journal items → Allowed (terms_of section) (journal ++ sent section note ∷ []) state (Publish (3 + length journal) (note ∷ []))
     → state.told ≤ 3 + length journal
-    → IsAt section (after state (Publish (3 + length journal) (note ∷ []))) (journal ++ sent section note ∷ []) (items ++ Publish (3 + length journal) (note ∷ []) ∷ [])
+    → IsAt section (after_item state (Publish (3 + length journal) (note ∷ []))) (journal ++ sent section note ∷ []) (items ++ Publish (3 + length journal) (note ∷ []) ∷ [])
 IsAt-publish section state journal items note h allowed told =
     let item : Item = Publish (3 + length journal) (note ∷ []) in
     let longer : List Tx = journal ++ sent section note ∷ [] in
     let len : length longer ≡ length journal + 1 = length-append journal (sent section note ∷ []) in
-    let grown = Along-weaker after (IsFreshWithin (terms_of section) journal) (IsFreshWithin (terms_of section) longer) (λ t i p. fresh-grows (terms_of section) journal (sent section note ∷ []) t i p) (start section) items h.fresh in
+    let grown = Along-weaker after_item (IsFreshWithin (terms_of section) journal) (IsFreshWithin (terms_of section) longer) (λ t i p. fresh-grows (terms_of section) journal (sent section note ∷ []) t i p) (start section) items h.fresh in
     let same : (section.no == section.no) ≡ true = eq-eqb section.no section.no refl in
     record {
       stands = Stands-push (terms_of section) longer items state item (Stands-grows (terms_of section) journal (sent section note ∷ []) items state h.stands) allowed;
-      fresh = Along-push_at after (IsFreshWithin (terms_of section) longer) (start section) state items item h.stands.state grown (tt, omega (arith, len));
+      fresh = Along-push_at after_item (IsFreshWithin (terms_of section) longer) (start section) state items item h.stands.state grown (tt, omega (arith, len));
       own = filter_map-append finished_xid items (item ∷ []) ∙ ap (λ (xs : List ℕ). xs ++ (3 + length journal) ∷ []) h.own ∙ sym (xids_from-push section.no 3 journal (sent section note) same);
       finished = All-push IsFinished journal (sent section note) h.finished (sent-finished section note);
       alone = All-push (λ (tx : Tx). tx.session ≡ section.no) journal (sent section note) h.alone refl;
@@ -137,16 +138,16 @@ IsAt-publish section state journal items note h allowed told =
     }
 
 -- a set that a channel was put into is not empty
-listened-some : (set : List (List ℕ)) (channel : List ℕ) → is_empty (after_action set (Listen channel)) ≡ false
+listened-some : (set : List (List ℕ)) (channel : List ℕ) → is_empty_set (after_action set (Listen channel)) ≡ false
 listened-some [] channel = refl
-listened-some (other ∷ set) channel = either (has_channel (other ∷ set) channel)
+listened-some (other ∷ set) channel = either (has_name (other ∷ set) channel)
   where
-    either : (b : Bool) → is_empty (cond b (other ∷ set) ((other ∷ set) ++ channel ∷ [])) ≡ false
+    either : (b : Bool) → is_empty_set (cond b (other ∷ set) ((other ∷ set) ++ channel ∷ [])) ≡ false
     either true = refl
     either false = refl
 
 -- a listener whose set is not empty stays one
-answering-stays : (s : State) (ending : Ending) → (is_some s.mark && is_empty s.set) ≡ false → leaving_or_answering s ending ≡ record s { owed = Answering ending }
+answering-stays : (s : State) (ending : Ending) → (is_some s.mark && is_empty_set s.set) ≡ false → leaving_or_answering s ending ≡ record s { owed = Answering ending }
 answering-stays s ending e =
     let leaving : State = record s { owed = Leaving ending } in
     let answering : State = record s { owed = Answering ending } in
@@ -175,10 +176,10 @@ listen-first section n text channel rest journal items set told h =
     let joined : State = record (standing rest now (Some point) told marks) { owed = Answering ending } in
     let told_within : told ≤ point = omega (arith, h.told) in
     let one = IsAt-push section before journal items (Line n) h.at (record { answered = refl; next = refl }) (line-is-fresh section journal before n h.told h.caught_up) tt refl in
-    let two = IsAt-push section (after before (Line n)) journal (items ++ Line n ∷ []) (Enlist 3 point) one
+    let two = IsAt-push section (after_item before (Line n)) journal (items ++ Line n ∷ []) (Enlist 3 point) one
     (record { expected = tt; from_first = omega arith; ordered = omega arith; after_told = told_within; after_marks = h.marks_within; in_journal = omega arith })
     (tt, told_within) (omega arith, omega arith) refl in
-    let stays : after (after before (Line n)) (Enlist 3 point) ≡ joined = answering-stays (standing rest now (Some point) told marks) ending (listened-some set channel) in
+    let stays : after_item (after_item before (Line n)) (Enlist 3 point) ≡ joined = answering-stays (standing rest now (Some point) told marks) ending (listened-some set channel) in
     let at : IsAt section joined journal ((items ++ Line n ∷ []) ++ Enlist 3 point ∷ []) = subst (λ (t : State). IsAt section t journal ((items ++ Line n ∷ []) ++ Enlist 3 point ∷ [])) stays two in
     let three = IsAt-push section joined journal ((items ++ Line n ∷ []) ++ Enlist 3 point ∷ []) (Reply tag.Listen None) at refl (tt, told_within) tt refl in
     record {
@@ -202,7 +203,7 @@ listen-again section n text channel rest journal items set mark told h =
     let joined : State = record (standing rest now (Some mark) told h.marks) { owed = Answering ending } in
     let told_within : told ≤ 3 + length journal = omega (arith, h.told) in
     let one = IsAt-push section before journal items (Line n) h.at (record { answered = refl; next = refl }) (line-is-fresh section journal before n h.told h.caught_up) tt refl in
-    let stays : after before (Line n) ≡ joined = answering-stays (standing rest now (Some mark) told h.marks) ending (listened-some set channel) in
+    let stays : after_item before (Line n) ≡ joined = answering-stays (standing rest now (Some mark) told h.marks) ending (listened-some set channel) in
     let at : IsAt section joined journal (items ++ Line n ∷ []) = subst (λ (t : State). IsAt section t journal (items ++ Line n ∷ [])) stays one in
     let two = IsAt-push section joined journal (items ++ Line n ∷ []) (Reply tag.Listen None) at refl (tt, told_within) tt refl in
     record {
@@ -242,7 +243,7 @@ notify-line section n text note rest journal items set mark told h =
     let stands_there : IsSomeAnd (entry longer x) (IsCommittedBy section (note ∷ [])) = subst (λ (k : ℕ). IsSomeAnd (slice_get longer k) (IsCommittedBy section (note ∷ []))) (sym place) (entry-last journal (sent section note) (IsCommittedBy section (note ∷ [])) by) in
     let two = IsAt-publish section queueing journal begun note one (record { expected = refl; after_told = told_within; after_mark = unread mark h.caught_up; in_journal = stands_there }) told_within in
     let told_is : max told (x + 1) ≡ x + 1 = omega (arith, h.told) in
-    let stays : after queueing (Publish x (note ∷ [])) ≡ answering = answering-stays published ending (listens_on mark h.listening) ∙ ap (λ (k : ℕ). let t : State = record (standing rest set mark k h.marks) { owed = Answering ending } in t) told_is in
+    let stays : after_item queueing (Publish x (note ∷ [])) ≡ answering = answering-stays published ending (listens_on mark h.listening) ∙ ap (λ (k : ℕ). let t : State = record (standing rest set mark k h.marks) { owed = Answering ending } in t) told_is in
     let at : IsAt section answering longer done = subst (λ (t : State). IsAt section t longer done) stays two in
     let three = IsAt-push section answering longer done (Reply tag.Notify None) at refl (tt, omega (arith, len)) tt refl in
     record {
@@ -262,7 +263,7 @@ notify-line section n text note rest journal items set mark told h =
     earlier None e = e
     earlier (Some m) e = omega (arith, e, length-append journal (sent section note ∷ []))
 
-    listens_on : (mark : Option ℕ) → IfSome mark (λ m. is_empty set ≡ false) → (is_some mark && is_empty set) ≡ false
+    listens_on : (mark : Option ℕ) → IfSome mark (λ m. is_empty_set set ≡ false) → (is_some mark && is_empty_set set) ≡ false
     listens_on None e = refl
     listens_on (Some m) e = e
 
@@ -366,8 +367,8 @@ run-is-legal section s h = record {
     ended : IsEnd (state_after (terms_of section) s.items) s.mark
     ended = subst (λ (t : State). IsEnd t s.mark) (sym h.at.stands.state) (record { answered = refl; done = refl; mark = refl })
 
-    between : Along after (IsFreshAt (terms_of section) s.journal) (start section) s.items
-    between = Along-weaker after (IsFreshWithin (terms_of section) s.journal) (IsFreshAt (terms_of section) s.journal) (λ t i p. p.0) (start section) s.items h.at.fresh
+    between : Along after_item (IsFreshAt (terms_of section) s.journal) (start section) s.items
+    between = Along-weaker after_item (IsFreshWithin (terms_of section) s.journal) (IsFreshAt (terms_of section) s.journal) (λ t i p. p.0) (start section) s.items h.at.fresh
 
     unread : (mark : Option ℕ) → IfSome mark (λ m. m ≡ 3 + length s.journal) → IfSome mark (λ m. list_any (is_committed_in section.db) (entries_between s.journal m s.told) ≡ false)
     unread None e = e

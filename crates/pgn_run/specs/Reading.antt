@@ -1,6 +1,7 @@
 -- What an input reads as, as far as it is built: one section, whose lines are LISTEN and NOTIFY in one exact spelling.
 use Rattle.std.specs.Prelude.{◌≡◌, ℕ, ◌+◌, ◌-◌, ◌*◌, ◌<◌, ◌≤◌, ◌⊎◌, ◌&&◌, ◌||◌, ◌==◌, not, Bool, true, List, [], ◌∷◌, ◌++◌, length, codes, fold, nat_le, slice_get, IfSome, count_by, All}
 use Rattle.std.specs.List.{list_all}
+use Rattle.pgn_base.specs.declared.limits.TheConstants.{INPUT_BYTES_MAX, NAME_BYTES_MAX, PAYLOAD_BYTES_MAX}
 use Rattle.pgn_base.specs.declared.note.Note.{Note}
 use Rattle.pgn_model.specs.declared.command.Command.{Command}
 use Rattle.pgn_model.specs.declared.command.Command.TheVariants.{Listen, Notify}
@@ -10,7 +11,7 @@ use Rattle.pgn_model.specs.declared.scenario.ScriptLine.{ScriptLine}
 use Rattle.pgn_model.specs.declared.scenario.Section.{Section}
 use Rattle.pgn_model.specs.declared.scenario.Scenario.{Scenario}
 use Rattle.pgn_model.specs.Lines.{lines_of}
-use Rattle.pgn_model.specs.Inputs.{input_limit, is_note_act}
+use Rattle.pgn_model.specs.Inputs.{is_note_act}
 
 -- a byte between two others, both included
 abbrev pub is_between : ℕ → ℕ → ℕ → Bool
@@ -41,18 +42,18 @@ pub record IsWord (bytes : List ℕ) : Type 0 where
   pub first : IfSome (slice_get bytes 0) (λ byte. is_lower byte ≡ true)
   pub word : list_all is_word_byte bytes ≡ true
   pub some : 0 < length bytes
-  pub short : length bytes ≤ 63
+  pub short : length bytes ≤ NAME_BYTES_MAX
 
 -- at most 7,999 printable bytes of ASCII, none of them `'`
 pub record IsPlain (bytes : List ℕ) : Type 0 where
   pub plain : list_all is_plain_byte bytes ≡ true
-  pub short : length bytes ≤ 7999
+  pub short : length bytes ≤ PAYLOAD_BYTES_MAX
 
 -- 1 to 63 letters, digits, `_` or `-`
 pub record IsSectionName (bytes : List ℕ) : Type 0 where
   pub name : list_all is_name_byte bytes ≡ true
   pub some : 0 < length bytes
-  pub short : length bytes ≤ 63
+  pub short : length bytes ≤ NAME_BYTES_MAX
 
 -- the number that decimal digits stand for
 abbrev pub value_of : List ℕ → ℕ
@@ -125,7 +126,7 @@ one_section section = record { sections = section ∷ []; flags = [] }
 -- an input reads as a scenario
 pub record ReadsAsPlainScenario (input : List ℕ) (scenario : Scenario) : Type 0 where
   pub section : Section
-  pub within : length input ≤ input_limit
+  pub within : length input ≤ INPUT_BYTES_MAX
   pub lines : ReadAsSection (lines_of input) section
   pub alone : scenario ≡ one_section section
 
@@ -149,7 +150,7 @@ LinesBreakAt (head ∷ lines) at = ((at ≡ 1) × (IsHeadLine head → ⊥)) ⊎
 
 -- the lowest line that breaks an input's reading, and 0 for an input past the limit
 abbrev pub BreaksAt : List ℕ → ℕ → Type 0
-BreaksAt input at = ((input_limit < length input) × (at ≡ 0)) ⊎ ((length input ≤ input_limit) × LinesBreakAt (lines_of input) at)
+BreaksAt input at = ((INPUT_BYTES_MAX < length input) × (at ≡ 0)) ⊎ ((length input ≤ INPUT_BYTES_MAX) × LinesBreakAt (lines_of input) at)
 
 -- an act that a session serves
 abbrev pub IsServedAct : Act → Type 0
@@ -163,4 +164,4 @@ pub record IsServed (scenario : Scenario) : Type 0 where
   pub alone : scenario ≡ one_section section
   pub first : section.no ≡ 1
   pub served : All (λ line. IsServedAct line.act) section.lines
-  pub few : length section.lines ≤ input_limit
+  pub few : length section.lines ≤ INPUT_BYTES_MAX

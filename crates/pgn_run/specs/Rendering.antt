@@ -1,6 +1,6 @@
 -- What is given out to a sink through a buffer.
 use Rattle.std.specs.Prelude.{◌≡◌, ℕ, ◌<◌, ◌≤◌, List, ◌++◌, length, drop, Option, None, Some, Result, MatchResult}
-use Rattle.pgn_base.specs.Outside.{AppendsFront, HasCause}
+use Rattle.pgn_base.specs.Outside.{AppendsPrefix, HasCause}
 use Rattle.pgn_model.specs.declared.scenario.ScriptLine.{ScriptLine}
 use Rattle.pgn_model.specs.Text.{line_text}
 use Rattle.pgn_run.specs.declared.line_cursor.LineCursor.{LineCursor}
@@ -13,7 +13,7 @@ GrewBut (Some start) (Some held) kept text = (sent : List ℕ) × (text ≡ sent
 
 -- a text is given out: the sink has a front of it, and while nothing has failed the buffer has the rest
 abbrev pub IsOut : {T E : Type 0} → Option (List ℕ) → Option (List ℕ) → List ℕ → Result T E → List ℕ → Type 0
-IsOut start held kept so_far text = MatchResult so_far (λ _. GrewBut start held kept text) (λ _. AppendsFront start held text)
+IsOut start held kept so_far text = MatchResult so_far (λ _. GrewBut start held kept text) (λ _. AppendsPrefix start held text)
 
 -- whatever was given out before, this text is given out after it
 pub record GoesOn {T E : Type 0} (held : Option (List ℕ)) (kept : List ℕ) (so_far : Result T E) (held_now : Option (List ℕ)) (kept_now : List ℕ) (result : Result T E) (text : List ℕ) : Type 0 where

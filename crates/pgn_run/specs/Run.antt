@@ -1,7 +1,7 @@
 -- What the call of the program says of its input and its output.
 use Rattle.std.specs.Prelude.{◌≡◌, ℕ, List, [], ◌∷◌, Option, codes}
 use Rattle.std.specs.Io.KnownBytes.{Appends}
-use Rattle.pgn_base.specs.Outside.{AppendsFront, Rose}
+use Rattle.pgn_base.specs.Outside.{AppendsPrefix, Rose}
 use Rattle.pgn_model.specs.declared.tx.Tx.{Tx}
 use Rattle.pgn_model.specs.declared.scenario.Scenario.{Scenario}
 use Rattle.pgn_model.specs.declared.trace.Trace.{Trace}
@@ -38,7 +38,7 @@ pub record Runs (input : List ℕ) (P : List ℕ → Type 0) : Type 0 where
 -- what each outcome says of an input that was read, of what the sink holds and of its count of faults
 abbrev pub Answers : List ℕ → Option (List ℕ) → Option (List ℕ) → ℕ → ℕ → Status → Type 0
 Answers input old new before now Done = Runs input (Appends old new)
-Answers input old new before now WriteFault = Runs input (AppendsFront old new) × Rose before now
+Answers input old new before now WriteFault = Runs input (AppendsPrefix old new) × Rose before now
 Answers input old new before now NoMemory = new ≡ old
 Answers input old new before now (NotBuilt line) = BreaksAt input line × (new ≡ old)
 Answers input old new before now status = ⊥

@@ -1,5 +1,6 @@
 -- What one session over the list of finished transactions does at each line.
 use Rattle.std.specs.Prelude.{ℕ, ◌+◌, List, [], ◌∷◌, ◌++◌, length, Option, Some, None, cond, nat_lt}
+use Rattle.pgn_base.specs.declared.limits.TheConstants.{FIRST_XID}
 use Rattle.pgn_base.specs.declared.note.Note.{Note}
 use Rattle.pgn_base.specs.declared.answers.Tag.TheVariants as tag
 use Rattle.pgn_base.specs.declared.listen_set.Action.TheVariants.{Listen}
@@ -13,12 +14,13 @@ use Rattle.pgn_model.specs.declared.scenario.ScriptLine.{ScriptLine}
 use Rattle.pgn_model.specs.declared.scenario.Section.{Section}
 use Rattle.pgn_model.specs.declared.item.Item.{Item}
 use Rattle.pgn_model.specs.declared.item.Item.TheVariants.{Line, Enlist, Publish, Reply, Read}
+use Rattle.pgn_model.specs.Journal.{next_xid}
 use Rattle.pgn_model.specs.Due.{due}
 use Rattle.pgn_run.specs.declared.session.Session.{Session}
 
 -- before the first line
 abbrev pub fresh_session : Session
-fresh_session = record { journal = []; items = []; set = []; mark = None; told = 3 }
+fresh_session = record { journal = []; items = []; set = []; mark = None; told = FIRST_XID }
 
 -- one more item is shown
 abbrev pub shown : Item → Session → Session
@@ -30,7 +32,7 @@ begun line s = shown (Line line.line) s
 
 -- a session with this mark becomes a listener, if it is none
 abbrev pub enlisted_at : Option ℕ → Session → Session
-enlisted_at None s = record (shown (Enlist 3 (3 + length s.journal)) s) { mark = Some (3 + length s.journal) }
+enlisted_at None s = record (shown (Enlist FIRST_XID (next_xid s.journal)) s) { mark = Some (next_xid s.journal) }
 enlisted_at (Some mark) s = s
 
 abbrev pub enlisted : Session → Session
@@ -47,7 +49,7 @@ sent section note = record { session = section.no; db = section.db; notes = note
 -- NOTIFY
 abbrev pub notified : Section → Note → Session → Session
 notified section note s =
-    let x : ℕ = 3 + length s.journal in
+    let x : ℕ = next_xid s.journal in
     let published : Session = record s { journal = s.journal ++ sent section note ∷ []; items = s.items ++ Publish x (note ∷ []) ∷ []; told = x + 1 } in
     shown (Reply tag.Notify None) published
 
@@ -61,7 +63,7 @@ acted section act s = s
 abbrev pub read_from : ℕ → Option ℕ → Session → Session
 read_from db None s = s
 read_from db (Some mark) s =
-    let to : ℕ = 3 + length s.journal in
+    let to : ℕ = next_xid s.journal in
     cond (nat_lt mark to) (record (shown (Read mark to (due s.journal mark to db s.set)) s) { mark = Some to }) s
 
 abbrev pub read_on : ℕ → Session → Session

@@ -85,7 +85,7 @@ pub fn flush<K: Sink>(
 
 /// Fills the buffer up with a front of a piece, and sends it.
 #[tactic(auto, using(crate::proofs::GoesOnLaws::buffer_goings))]
-fn put_front<K: Sink>(sink: &mut K, buffer: &mut Buffer, front: &[u8]) -> Result<(), Failed>
+fn put_prefix<K: Sink>(sink: &mut K, buffer: &mut Buffer, front: &[u8]) -> Result<(), Failed>
     requires { length buffer.old + length front.now ≤ SIZE }
     ensures bytes { GoesOn (K.held sink.old) buffer.old (Ok tt) (K.held sink.new) buffer.new result front.now }
     ensures cause { CauseGoesOn (K.faults sink.old) (Ok tt) (K.faults sink.new) result }
@@ -125,7 +125,7 @@ fn put_past<K: Sink>(sink: &mut K, buffer: &mut Buffer, piece: &[u8]) -> Result<
     ensures cause { CauseGoesOn (K.faults sink.old) (Ok tt) (K.faults sink.new) result }
 {
     let (front, rest) = piece.split_at(buffer.room());
-    let sent = put_front(sink, buffer, front);
+    let sent = put_prefix(sink, buffer, front);
     put_rest(sink, buffer, sent, rest)
 }
 

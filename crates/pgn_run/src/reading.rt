@@ -1,7 +1,6 @@
 ghost use Rattle.std.specs.Prelude.{◌≡◌, ◌+◌, ◌<◌, ◌≤◌, ◌∷◌, length, count_by, IfOk, IfErr, IfSome, IfNone};
 ghost use Rattle.pgn_run.specs.Reading.{ReadsAsPlainScenario, BreaksAt, IsServed, ReadAsSection, LinesBreakAt, ReadAsLines, BreaksFrom, ReadsAsLine, IsCommandLine, is_note_line};
 ghost use Rattle.pgn_model.specs.Lines.{lines_of};
-ghost use Rattle.pgn_model.specs.Inputs.{input_limit};
 
 mod command_line;
 mod head_line;
@@ -11,13 +10,10 @@ mod text;
 
 use command_line::command_of;
 use head_line::head_of;
-use pgn_base::{DbOid, Name, Names, SessionNo};
+use pgn_base::{DbOid, INPUT_BYTES_MAX, Name, Names, SessionNo};
 use pgn_model::{Act, Command, LineText, Scenario, ScriptLine, ScriptLines, Section, Sections};
 use std::alloc::{AllocError, Global};
 use text::{as_text, cut};
-
-/// The largest input, in bytes.
-const INPUT_LIMIT: usize = 16_777_216;
 
 /// The scenario that an input reads as, or the lowest line that breaks its reading: 0 for an input past the limit.
 pub fn read(alloc: Global, input: &[u8]) -> Result<Result<Scenario, u32>, AllocError>
@@ -25,7 +21,7 @@ pub fn read(alloc: Global, input: &[u8]) -> Result<Result<Scenario, u32>, AllocE
     ensures served { IfOk result (λ reading. IfOk reading IsServed) }
     ensures breaks { IfOk result (λ reading. IfErr reading (BreaksAt input.now)) }
 {
-    if input.len() > INPUT_LIMIT {
+    if input.len() > INPUT_BYTES_MAX {
         return Ok(Err(0));
     }
     match section_of(alloc, input)? {
@@ -41,7 +37,7 @@ pub fn read(alloc: Global, input: &[u8]) -> Result<Result<Scenario, u32>, AllocE
 
 // The section that an input's lines read as, or the lowest line that breaks the reading.
 fn section_of(alloc: Global, input: &[u8]) -> Result<Result<Section, u32>, AllocError>
-    requires { length input.now ≤ input_limit }
+    requires { length input.now ≤ INPUT_BYTES_MAX }
     ensures reads { IfOk result (λ reading. IfOk reading (ReadAsSection (lines_of input.now))) }
     ensures breaks { IfOk result (λ reading. IfErr reading (LinesBreakAt (lines_of input.now))) }
 {
@@ -70,9 +66,9 @@ fn section_of(alloc: Global, input: &[u8]) -> Result<Result<Section, u32>, Alloc
 
 // The script of the lines from line 2 on, or the lowest of them that is no command line.
 fn script_of(alloc: Global, text: &[u8]) -> Result<Result<ScriptLines, u32>, AllocError>
-    requires { length text.now ≤ input_limit }
+    requires { length text.now ≤ INPUT_BYTES_MAX }
     ensures reads { IfOk result (λ reading. IfOk reading (ReadAsLines 2 (lines_of text.now))) }
-    ensures few { IfOk result (λ reading. IfOk reading (λ lines. length lines ≤ input_limit)) }
+    ensures few { IfOk result (λ reading. IfOk reading (λ lines. length lines ≤ INPUT_BYTES_MAX)) }
     ensures breaks { IfOk result (λ reading. IfErr reading (BreaksFrom 2 (lines_of text.now))) }
 {
     let mut lines = ScriptLines::new(alloc);
@@ -121,7 +117,7 @@ fn script_line_of(alloc: Global, number: u32, line: &[u8]) -> Result<Option<Scri
 }
 
 fn note_lines_of(lines: &[ScriptLine]) -> u32
-    requires { length lines.now ≤ input_limit }
+    requires { length lines.now ≤ INPUT_BYTES_MAX }
     ensures { result ≡ count_by is_note_line lines.now }
 {
     lines.iter().filter(|line| is_note_line(line)).count() as u32

@@ -1,6 +1,6 @@
-ghost use Rattle.std.specs.Prelude.{◌≡◌, ◌≢◌, ◌⊎◌, ◌↔◌, ◌≤◌, ℕ, map, take, IfSome, OnSome, IsSomeAnd, IsTrue};
+ghost use Rattle.std.specs.Prelude.{◌≡◌, ◌≢◌, ◌⊎◌, ◌↔◌, ◌≤◌, ◌+◌, ℕ, map, take, IfSome, OnSome, IsSomeAnd, IsTrue};
 ghost use Rattle.std.specs.Io.KnownBytes.{Appends, Consumes, IsAtEnd};
-ghost use Rattle.pgn_base.specs.Outside.{AppendsFront, Rose};
+ghost use Rattle.pgn_base.specs.Outside.{AppendsPrefix, Rose};
 ghost use Rattle.pgn_model.specs.declared.scenario.Scenario.{Scenario};
 ghost use Rattle.pgn_model.specs.declared.scenario.ScenarioFault.{ScenarioFault};
 ghost use Rattle.pgn_run.specs.Reading.{ReadsAsPlainScenario, BreaksAt};
@@ -11,11 +11,11 @@ use crate::input::{Unread, read_input};
 use crate::reading::read;
 use crate::render::render;
 use crate::session::run_scenario;
-use pgn_base::{Sink, Source};
+use pgn_base::{INPUT_BYTES_MAX, Sink, Source};
 use std::alloc::{AllocError, Global};
 
 /// How many bytes of an input are read at most: one more than an input may have.
-const READ_LIMIT: usize = 16_777_217;
+const READ_LIMIT: usize = INPUT_BYTES_MAX + 1;
 
 /// Does all that the program does. `words` are those after the program's name; the one command is `run`: it reads a scenario
 /// from the source, runs it, and writes the journal and what each session was answered and received to the sink.
@@ -48,14 +48,14 @@ pub fn run_notify<S: Source, K: Sink>(
     ensures read_fault_writes_nothing { result ≡ Status.ReadFault → K.held sink.new ≡ K.held sink.old }
 
     ensures write_fault { result ≡ Status.WriteFault → Rose (K.faults sink.old) (K.faults sink.new) }
-    ensures write_fault_writes_a_front { result ≡ Status.WriteFault → IfSome (S.left source.old) (λ input.
-        Runs input (AppendsFront (K.held sink.old) (K.held sink.new))) }
+    ensures write_fault_writes_a_prefix { result ≡ Status.WriteFault → IfSome (S.left source.old) (λ input.
+        Runs input (AppendsPrefix (K.held sink.old) (K.held sink.new))) }
 
     ensures no_memory_writes_nothing { result ≡ Status.NoMemory → K.held sink.new ≡ K.held sink.old }
 
     // What was left is what was read and then what is left now; all of it was read, or its first 16,777,217 bytes.
     ensures what_was_read { HasRead result → IfSome (S.left source.old) (λ left.
-        Consumes (S.left source.old) (S.left source.new) (take 16777217 left)) }
+        Consumes (S.left source.old) (S.left source.new) (take (INPUT_BYTES_MAX + 1) left)) }
 
     ensures complete { (scenario : Scenario) → map (λ word. word.now) words.now ≡ run_words
         → IsSomeAnd (S.left source.old) (λ input. ReadsAsPlainScenario input scenario)

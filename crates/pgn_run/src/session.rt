@@ -1,13 +1,15 @@
 ghost use Rattle.std.specs.Prelude.{◌≡◌, ℕ, ◌+◌, ◌^◌, ◌<◌, ◌≤◌, [], ◌∷◌, ◌++◌, length, filter, map, drop, IfOk, OnOk, All};
-ghost use Rattle.pgn_model.specs.Due.{due, given, listens, delivery};
+ghost use Rattle.pgn_base.specs.declared.limits.TheConstants.{INPUT_BYTES_MAX};
+ghost use Rattle.pgn_model.specs.Journal.{next_xid};
+ghost use Rattle.pgn_model.specs.Due.{due, delivered_by, listens, delivery};
 ghost use Rattle.pgn_model.specs.Walk.{default_settings};
 ghost use Rattle.pgn_model.specs.Legal.{Legal};
 ghost use Rattle.pgn_run.specs.Reading.{IsServedAct, IsServed};
-ghost use Rattle.pgn_model.specs.Inputs.{input_limit};
 ghost use Rattle.pgn_run.specs.SoFar.{IsSoFar};
 
 use pgn_base::{
-    Action, Copied, DbOid, Deliveries, Delivery, ListenSet, Name, Note, Notes, Seq, Tag, Xid,
+    Action, Copied, DbOid, Deliveries, Delivery, FIRST_XID, ListenSet, Name, Note, Notes, PID_BASE,
+    Seq, Tag, Xid,
 };
 use pgn_model::{Act, Command, Fate, Item, Items, Scenario, ScriptLine, Section, Trace, Tx};
 use std::alloc::{AllocError, Global};
@@ -34,7 +36,7 @@ impl Session {
             items: Items::new(alloc),
             set: ListenSet::new(alloc),
             mark: None,
-            told: Xid::new(3),
+            told: Xid::new(FIRST_XID),
         }
     }
 
@@ -72,9 +74,9 @@ impl Session {
     // The number of the next transaction.
     fn next_xid(&self) -> Xid
         requires { length self.now.journal < 2 ^ 31 + 1 }
-        ensures { result ≡ 3 + length self.now.journal }
+        ensures { result ≡ next_xid self.now.journal }
     {
-        Xid::new(3 + self.journal.as_slice().len() as u32)
+        Xid::new(FIRST_XID + self.journal.as_slice().len() as u32)
     }
 
     fn listen(&mut self, alloc: Global, name: &Name) -> Result<(), AllocError>
@@ -104,7 +106,7 @@ impl Session {
         }
         let point = self.next_xid();
         self.items.push(Item::Enlist {
-            base: Xid::new(3),
+            base: Xid::new(FIRST_XID),
             point,
         })?;
         self.mark = Some(point);
@@ -175,14 +177,14 @@ fn scan(
     set: &ListenSet,
 ) -> Result<Deliveries, AllocError>
     requires ordered { from ≤ to }
-    requires within { to ≤ 3 + length journal.now }
+    requires within { to ≤ next_xid journal.now }
     ensures due { IfOk result (λ got. got ≡ due journal.now from to db set.now) }
 {
     let mut got = room_for(alloc, from, to)?;
-    for k in from.get() - 3..to.get() - 3 {
+    for k in from.get() - FIRST_XID..to.get() - FIRST_XID {
         give(
             alloc,
-            Xid::new(3 + k),
+            Xid::new(FIRST_XID + k),
             &journal[k as usize],
             db,
             set,
@@ -210,7 +212,7 @@ fn give(
     set: &ListenSet,
     got: &mut Deliveries,
 ) -> Result<(), AllocError>
-    ensures given { OnOk result (got.new ≡ got.old ++ given db set.now xid tx.now) }
+    ensures given { OnOk result (got.new ≡ got.old ++ delivered_by db set.now xid tx.now) }
 {
     if tx.fate != Fate::Committed || tx.db != db {
         return Ok(());
@@ -222,7 +224,7 @@ fn give(
         let note = note.copy(alloc)?;
         got.push(Delivery {
             xid,
-            pid: 1000 + tx.session.get(),
+            pid: PID_BASE + tx.session.get(),
             note,
         })?;
     }
@@ -260,7 +262,7 @@ pub fn run_scenario(alloc: Global, scenario: &Scenario) -> Result<Run, AllocErro
 
 fn run_section(alloc: Global, section: &Section) -> Result<Session, AllocError>
     requires served { All (λ line. IsServedAct line.act) section.now.lines }
-    requires few { length section.now.lines ≤ input_limit }
+    requires few { length section.now.lines ≤ INPUT_BYTES_MAX }
     ensures done { IfOk result (λ session. IsSoFar section.now [] session) }
 {
     let mut session = Session::new(alloc);

@@ -4,7 +4,7 @@ ghost use Rattle.pgn_run.specs.Reading.{ReadsAsCommand, IsCommandLine, IsWord, I
 ghost use Rattle.pgn_run.specs.Spelling.{lacks, IsQuoted};
 
 use crate::reading::text::{as_text, cut, name_of};
-use pgn_base::{Name, Note, Payload, PayloadFault};
+use pgn_base::{NAME_BYTES_MAX, Name, Note, PAYLOAD_BYTES_MAX, Payload, PayloadFault};
 use pgn_model::Command;
 use std::alloc::{AllocError, Global};
 
@@ -86,7 +86,7 @@ fn is_word(word: &[u8]) -> bool
     ensures { IsTrue result ↔ IsWord word.now }
 {
     match word {
-        [first, ..] => first.is_ascii_lowercase() && word.len() <= 63 && are_word_bytes(word),
+        [first, ..] => first.is_ascii_lowercase() && word.len() <= NAME_BYTES_MAX && are_word_bytes(word),
         [] => false,
     }
 }
@@ -100,7 +100,7 @@ fn are_word_bytes(word: &[u8]) -> bool
 fn is_plain(quoted: &[u8]) -> bool
     ensures { IsTrue result ↔ IsPlain quoted.now }
 {
-    quoted.len() <= 7999 && are_plain_bytes(quoted)
+    quoted.len() <= PAYLOAD_BYTES_MAX && are_plain_bytes(quoted)
 }
 
 fn are_plain_bytes(quoted: &[u8]) -> bool

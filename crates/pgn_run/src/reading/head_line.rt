@@ -4,7 +4,7 @@ ghost use Rattle.pgn_run.specs.Reading.{IsSessionLine, IsHeadLine, IsSectionName
 
 use crate::reading::command_line::is_word_byte;
 use crate::reading::text::{cut, name_of};
-use pgn_base::{DbOid, Name};
+use pgn_base::{DbOid, NAME_BYTES_MAX, Name};
 use std::alloc::{AllocError, Global};
 
 /// The section's name and database that a line `\session NAME DB` heads.
@@ -31,7 +31,7 @@ pub fn head_of(alloc: Global, line: &[u8]) -> Result<Option<(Name, DbOid)>, Allo
 fn is_section_name(word: &[u8]) -> bool
     ensures { IsTrue result ↔ IsSectionName word.now }
 {
-    !word.is_empty() && word.len() <= 63 && are_name_bytes(word)
+    !word.is_empty() && word.len() <= NAME_BYTES_MAX && are_name_bytes(word)
 }
 
 fn are_name_bytes(word: &[u8]) -> bool

@@ -1,6 +1,6 @@
 use Rattle.std.proofs.Common.{◌≤◌, ℕ, List, Option, length}
 use Rattle.std.specs.Io.KnownBytes.{Appends}
-use Rattle.pgn_base.specs.Outside.{AppendsFront}
+use Rattle.pgn_base.specs.Outside.{AppendsPrefix}
 use Rattle.pgn_base.proofs.sink.write_all.Given as goal
 
 -- to write the rest from here is to write the piece from the start
@@ -9,7 +9,7 @@ invariant-loop-rest g l =
     let held = g.K.Sink.held in
     record {
       whole : (new : Option (List ℕ)) → Appends (held l.sink) new l.rest → Appends (held l.fn.sink) new l.fn.piece;
-      front : (new : Option (List ℕ)) → AppendsFront (held l.sink) new l.rest → AppendsFront (held l.fn.sink) new l.fn.piece;
+      front : (new : Option (List ℕ)) → AppendsPrefix (held l.sink) new l.rest → AppendsPrefix (held l.fn.sink) new l.fn.piece;
       later : g.K.Sink.faults l.fn.sink ≤ g.K.Sink.faults l.sink;
     }
 

@@ -1,6 +1,5 @@
 use Rattle.std.proofs.Common.{◌≡◌, rules, sym, subst}
-use Rattle.pgn_model.specs.Bytes.{entry_length, IsNote}
-use Rattle.pgn_model.specs.BytesLaws.{IsEntryLength}
+use Rattle.pgn_model.specs.Bytes.{entry_length, IsNote, IsEntryLength}
 use Rattle.pgn_model.proofs.BytesLemmas.{entry_lengths}
 use Rattle.pgn_entry.proofs.length.entry_len.Goals as goal
 

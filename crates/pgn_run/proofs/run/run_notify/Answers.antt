@@ -13,8 +13,8 @@ returns-in-Ok-clause-not_built g c = not-built-breaks (g.S.Source.left c.args.so
 pub returns-in-Ok-clause-not_built_where_due : goal.returns-in-Ok-clause-not_built_where_due
 returns-in-Ok-clause-not_built_where_due g c = λ line words breaks rose. breaks-not-built (g.S.Source.left c.args.source.now) c.in-Ok.input.items (g.K.Sink.held c.args.sink.now) (g.K.Sink.held c.answer.new.sink) _ _ c.answer.result line c.in-Ok.ensures.bytes c.answer.ensures.answers breaks
 
-pub returns-in-Ok-clause-write_fault_writes_a_front : goal.returns-in-Ok-clause-write_fault_writes_a_front
-returns-in-Ok-clause-write_fault_writes_a_front g c = write-fault-runs (g.S.Source.left c.args.source.now) c.in-Ok.input.items (g.K.Sink.held c.args.sink.now) (g.K.Sink.held c.answer.new.sink) _ _ c.answer.result c.in-Ok.ensures.bytes c.answer.ensures.answers
+pub returns-in-Ok-clause-write_fault_writes_a_prefix : goal.returns-in-Ok-clause-write_fault_writes_a_prefix
+returns-in-Ok-clause-write_fault_writes_a_prefix g c = write-fault-runs (g.S.Source.left c.args.source.now) c.in-Ok.input.items (g.K.Sink.held c.args.sink.now) (g.K.Sink.held c.answer.new.sink) _ _ c.answer.result c.in-Ok.ensures.bytes c.answer.ensures.answers
 
 pub returns-in-Ok-clause-complete : goal.returns-in-Ok-clause-complete
 returns-in-Ok-clause-complete g c = λ scenario words reads source_rose sink_rose. reads-done (g.S.Source.left c.args.source.now) c.in-Ok.input.items (g.K.Sink.held c.args.sink.now) (g.K.Sink.held c.answer.new.sink) _ _ c.answer.result scenario c.in-Ok.ensures.bytes c.answer.ensures.answers reads sink_rose

@@ -1,5 +1,0 @@
-use Rattle.pgn_model.proofs.BytesLemmas as lemmas
-use Rattle.pgn_model.proofs.bytes_laws.no_spelling_is_filler.Goals as goal
-
-pub returns : goal.returns
-returns c = lemmas.none_is_filler

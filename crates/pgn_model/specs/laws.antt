@@ -1,0 +1,11 @@
+-- Laws over the definitions.
+pub mod Due
+pub mod Bytes
+pub mod Packing
+pub mod Savepoints
+pub mod Answers
+pub mod Walk
+pub mod Tokens
+pub mod Grammar
+pub mod Commands
+pub mod Inputs
