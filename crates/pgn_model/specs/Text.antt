@@ -1,5 +1,5 @@
--- The output text.
-use Rattle.std.specs.Prelude.{ℕ, ◌+◌, ◌==◌, cond, List, [], ◌∷◌, ◌++◌, length, Option, Some, None, codes, decimal, flat_map}
+-- The output: its lines, and the text that they are joined to.
+use Rattle.std.specs.Prelude.{ℕ, ◌+◌, ◌==◌, cond, List, [], ◌∷◌, ◌++◌, length, map, Option, Some, None, codes, decimal, flat_map}
 use Rattle.pgn_base.specs.declared.limits.TheConstants.{PID_BASE, FIRST_XID}
 use Rattle.pgn_base.specs.declared.note.Note.{Note}
 use Rattle.pgn_base.specs.declared.note.Delivery.{Delivery}
@@ -18,9 +18,9 @@ use Rattle.pgn_model.specs.declared.item.Item.TheVariants.{Line, Enlist, Publish
 use Rattle.pgn_model.specs.declared.trace.Trace.{Trace}
 use Rattle.pgn_model.specs.Refusals.{warning_code, warning_message, refusal_code, refusal_message}
 
--- a line of the output, ended by LF
-abbrev pub line : List ℕ → List ℕ
-line bytes = bytes ++ 10 ∷ []
+-- lines joined to a text, each ended by LF
+abbrev pub joined : List (List ℕ) → List ℕ
+joined lines = flat_map (λ line. line ++ 10 ∷ []) lines
 
 -- a byte, twice where it is the quote
 abbrev pub doubled_byte : ℕ → ℕ → List ℕ
@@ -39,22 +39,22 @@ abbrev pub fate_text : Fate → ℕ → ℕ → List ℕ
 fate_text Committed queued count = codes " commit " ++ decimal count
 fate_text Aborted queued count = codes " abort " ++ decimal queued ++ codes " of " ++ decimal count
 
--- a notification of the journal
+-- the line of a notification of the journal
 abbrev pub note_line : Note → List ℕ
-note_line note = line (codes "  " ++ note_text note)
+note_line note = codes "  " ++ note_text note
 
--- a transaction of the journal, numbered x
-abbrev pub entry_text : ℕ → Tx → List ℕ
-entry_text x tx = line (codes "xid " ++ decimal x ++ codes " session " ++ decimal tx.session ++ fate_text tx.fate tx.queued (length tx.notes)) ++ flat_map note_line tx.notes
+-- the lines of the transaction numbered x
+abbrev pub entry_lines : ℕ → Tx → List (List ℕ)
+entry_lines x tx = (codes "xid " ++ decimal x ++ codes " session " ++ decimal tx.session ++ fate_text tx.fate tx.queued (length tx.notes)) ∷ map note_line tx.notes
 
--- transactions, of which the first is numbered x
-abbrev pub entries_text : ℕ → List Tx → List ℕ
-entries_text x [] = []
-entries_text x (tx ∷ txs) = entry_text x tx ++ entries_text (x + 1) txs
+-- the lines of transactions, of which the first is numbered x
+abbrev pub entries_lines : ℕ → List Tx → List (List ℕ)
+entries_lines x [] = []
+entries_lines x (tx ∷ txs) = entry_lines x tx ++ entries_lines (x + 1) txs
 
--- the journal
-abbrev pub journal_text : List Tx → List ℕ
-journal_text journal = line (codes "journal " ++ decimal (length journal)) ++ entries_text FIRST_XID journal
+-- the lines of the journal
+abbrev pub journal_lines : List Tx → List (List ℕ)
+journal_lines journal = (codes "journal " ++ decimal (length journal)) ∷ entries_lines FIRST_XID journal
 
 -- the text of the first script line with this number
 abbrev pub line_text : ℕ → List ScriptLine → List ℕ
@@ -83,42 +83,46 @@ abbrev pub refusal_text : Refusal → List ℕ
 refusal_text refusal = refusal_code refusal ++ codes ": " ++ refusal_message refusal
 
 -- the line of a warning, where there is one
-abbrev pub warning_line : Option Warning → List ℕ
-warning_line None = []
-warning_line (Some warning) = line (codes "WARNING: " ++ warning_text warning)
+abbrev pub warning_lines : Option Warning → List (List ℕ)
+warning_lines None = []
+warning_lines (Some warning) = (codes "WARNING: " ++ warning_text warning) ∷ []
 
--- a notification that was received
+-- the line of a notification that was received
 abbrev pub delivery_line : Delivery → List ℕ
-delivery_line delivery = line (codes "  " ++ decimal delivery.xid ++ codes " " ++ decimal delivery.pid ++ codes " " ++ note_text delivery.note)
+delivery_line delivery = codes "  " ++ decimal delivery.xid ++ codes " " ++ decimal delivery.pid ++ codes " " ++ note_text delivery.note
 
--- the lines of an item; the kinds that no lawful trace has yet have none
-abbrev pub item_text : List ScriptLine → Item → List ℕ
-item_text lines (Line n) = line (codes "> " ++ line_text n lines)
-item_text lines (Enlist base point) = line (codes "+enlist " ++ decimal base ++ codes " " ++ decimal point)
-item_text lines (Publish xid notes) = line (codes "+publish " ++ decimal xid)
-item_text lines (Reply tag warning) = warning_line warning ++ line (tag_text tag)
-item_text lines (Read from to got) = line (codes "+read " ++ decimal from ++ codes " " ++ decimal to) ++ flat_map delivery_line got
-item_text lines item = []
+-- the lines of an item of a trace of these script lines; the kinds that no lawful trace has yet have none
+abbrev pub item_lines : List ScriptLine → Item → List (List ℕ)
+item_lines lines (Line n) = (codes "> " ++ line_text n lines) ∷ []
+item_lines lines (Enlist base point) = (codes "+enlist " ++ decimal base ++ codes " " ++ decimal point) ∷ []
+item_lines lines (Publish xid notes) = (codes "+publish " ++ decimal xid) ∷ []
+item_lines lines (Reply tag warning) = warning_lines warning ++ tag_text tag ∷ []
+item_lines lines (Read from to got) = (codes "+read " ++ decimal from ++ codes " " ++ decimal to) ∷ map delivery_line got
+item_lines lines item = []
 
--- the last line of a trace, with the mark of who is a listener
+-- the last line of a trace, with the mark of a session that still listens
 abbrev pub end_line : Option ℕ → List ℕ
-end_line None = line (codes "end")
-end_line (Some mark) = line (codes "end mark " ++ decimal mark)
+end_line None = codes "end"
+end_line (Some mark) = codes "end mark " ++ decimal mark
 
 -- a section's head: its number, its name, its database and its process number
 abbrev pub section_line : Section → List ℕ
-section_line section = line (codes "session " ++ decimal section.no ++ codes " " ++ section.name ++ codes " db " ++ decimal section.db ++ codes " pid " ++ decimal (PID_BASE + section.no))
+section_line section = codes "session " ++ decimal section.no ++ codes " " ++ section.name ++ codes " db " ++ decimal section.db ++ codes " pid " ++ decimal (PID_BASE + section.no)
 
--- a section with its trace
-abbrev pub trace_text : Section → Trace → List ℕ
-trace_text section trace = section_line section ++ flat_map (item_text section.lines) trace.items ++ end_line trace.last
+-- the lines of a section with its trace
+abbrev pub trace_lines : Section → Trace → List (List ℕ)
+trace_lines section trace = section_line section ∷ (flat_map (item_lines section.lines) trace.items ++ end_line trace.last ∷ [])
 
--- sections with their traces
-abbrev pub traces_text : List Section → List Trace → List ℕ
-traces_text [] traces = []
-traces_text (section ∷ sections) [] = []
-traces_text (section ∷ sections) (trace ∷ traces) = trace_text section trace ++ traces_text sections traces
+-- the lines of sections with their traces
+abbrev pub traces_lines : List Section → List Trace → List (List ℕ)
+traces_lines [] traces = []
+traces_lines (section ∷ sections) [] = []
+traces_lines (section ∷ sections) (trace ∷ traces) = trace_lines section trace ++ traces_lines sections traces
+
+-- the lines of the output of a run
+abbrev pub text_lines : Scenario → List Tx → List Trace → List (List ℕ)
+text_lines scenario journal traces = journal_lines journal ++ traces_lines scenario.sections traces
 
 -- the output of a run
 abbrev pub text : Scenario → List Tx → List Trace → List ℕ
-text scenario journal traces = journal_text journal ++ traces_text scenario.sections traces
+text scenario journal traces = joined (text_lines scenario journal traces)

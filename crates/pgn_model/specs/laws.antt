@@ -5,6 +5,7 @@ pub mod Packing
 pub mod Savepoints
 pub mod Answers
 pub mod Walk
+pub mod Text
 pub mod Tokens
 pub mod Grammar
 pub mod Commands

@@ -11,7 +11,7 @@ use Rattle.pgn_model.specs.declared.command.Command.{Command}
 use Rattle.pgn_model.specs.declared.command.Command.TheVariants.{Begin, Commit, Rollback, Savepoint, RollbackTo, Release, Notify, Bad}
 use Rattle.pgn_model.specs.Savepoints.{Change, changes_of, firsts, surviving_notes, live_names}
 use Rattle.pgn_model.specs.Answers.{Outcome, Commits, Replies, Refuses, answer, next_state}
-use Rattle.pgn_model.specs.Text.{line, tag_text, warning_line, refusal_text}
+use Rattle.pgn_model.specs.Text.{joined, tag_text, warning_lines, refusal_text}
 
 -- the name `s`
 abbrev pub s_name : List ℕ
@@ -77,11 +77,11 @@ abbrev pub outcomes_of : List Command → List Outcome
 outcomes_of commands = outcomes_from Idle [] commands
 
 -- the lines that show an outcome where its commit meets no full queue
-abbrev pub outcome_text : Outcome → List ℕ
-outcome_text (Commits tag) = line (tag_text tag)
-outcome_text (Replies tag warning next) = warning_line warning ++ line (tag_text tag)
-outcome_text (Refuses refusal next) = line (codes "ERROR: " ++ refusal_text refusal)
-outcome_text outcome = []
+abbrev pub outcome_lines : Outcome → List (List ℕ)
+outcome_lines (Commits tag) = tag_text tag ∷ []
+outcome_lines (Replies tag warning next) = warning_lines warning ++ tag_text tag ∷ []
+outcome_lines (Refuses refusal next) = (codes "ERROR: " ++ refusal_text refusal) ∷ []
+outcome_lines outcome = []
 
 -- BEGIN; ROLLBACK TO s; NOTIFY c; LISTEN 5; COMMIT; and a further COMMIT
 abbrev pub failed_block_commands : List Command

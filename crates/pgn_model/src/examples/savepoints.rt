@@ -1,7 +1,8 @@
 ghost use Rattle.std.specs.Prelude.{◌≡◌, [], ◌∷◌, codes, map};
 ghost use Rattle.std.specs.List.{flat_map};
+ghost use Rattle.pgn_model.specs.Text.{joined};
 ghost use Rattle.pgn_model.specs.Savepoints.{Saved, Noted, survivors, surviving_notes, live_names, live_changes};
-ghost use Rattle.pgn_model.specs.examples.Savepoints.{s_name, on_c, list_of, sent_by, repeats, rolled_back_repeat, savepoints_of_one_name, outer_released, back_twice, repeat_across, outcomes_of, outcome_text, failed_block_commands, failed_block_outcomes, failed_block_text, back_in_block_commands, back_in_block_outcomes, outside_commands, outside_text};
+ghost use Rattle.pgn_model.specs.examples.Savepoints.{s_name, on_c, list_of, sent_by, repeats, rolled_back_repeat, savepoints_of_one_name, outer_released, back_twice, repeat_across, outcomes_of, outcome_lines, failed_block_commands, failed_block_outcomes, failed_block_text, back_in_block_commands, back_in_block_outcomes, outside_commands, outside_text};
 
 /// A notification that is repeated in a block is sent once, in the place of its first.
 pub fn repeats_are_sent_once()
@@ -43,7 +44,7 @@ pub fn repeat_across_savepoints()
 /// A failed block answers with errors until COMMIT rolls it back.
 pub fn failed_block()
     ensures outcomes { outcomes_of failed_block_commands ≡ failed_block_outcomes }
-    ensures shown { flat_map outcome_text (outcomes_of failed_block_commands) ≡ failed_block_text }
+    ensures shown { joined (flat_map outcome_lines (outcomes_of failed_block_commands)) ≡ failed_block_text }
 {}
 
 /// ROLLBACK TO a live savepoint goes on in a failed block, until that savepoint is released.
@@ -53,5 +54,5 @@ pub fn back_in_a_failed_block()
 
 /// Outside a block there are no savepoints to speak of.
 pub fn savepoints_need_a_block()
-    ensures { flat_map outcome_text (outcomes_of outside_commands) ≡ outside_text }
+    ensures { joined (flat_map outcome_lines (outcomes_of outside_commands)) ≡ outside_text }
 {}
