@@ -28,7 +28,7 @@ pub use answers::{Needs, Refusal, Tag, Warning, Which};
 pub use copied::Copied;
 pub use format::Format;
 pub use limits::{
-    CELL_BYTES, FIRST_XID, FLAGS_MAX, INPUT_BYTES_MAX, LINE_BYTES_MAX, NAME_BYTES_MAX, NOTE_LINES_MAX,
+    CELL_BYTES, CLEANUP_DELAY_PAGES, FIRST_XID, FLAGS_MAX, INPUT_BYTES_MAX, LINE_BYTES_MAX, NAME_BYTES_MAX, NOTE_LINES_MAX,
     PAGES_DEFAULT, PAGE_BYTES, PATIENCE_DEFAULT, PAYLOAD_BYTES_MAX, PID_BASE, REPEATS_MAX, SECTIONS_MAX,
 };
 pub use listen_set::{Action, Actions, ListenSet};

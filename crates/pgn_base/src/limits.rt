@@ -37,5 +37,9 @@ pub const PATIENCE_DEFAULT: u64 = 10_000_000;
 /// The bytes of a page of the queue. The longest entry has as many.
 pub const PAGE_BYTES: usize = 8_192;
 
+/// A listener that is this many pages or more behind the head is woken whatever was sent, and the tail is advanced where the head
+/// enters a page whose number is a multiple of it. It is the cleanup delay of `async.c`.
+pub const CLEANUP_DELAY_PAGES: u64 = 4;
+
 /// The bytes of a cell, the unit in which places in the queue are counted.
 pub const CELL_BYTES: usize = 4;

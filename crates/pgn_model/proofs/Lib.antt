@@ -3,6 +3,7 @@ pub mod WalkLaws
 pub mod BytesLemmas
 pub mod PackingLemmas
 pub mod PackingSteps
+pub mod NearLaws
 pub mod TextBytes
 pub mod AnswerLemmas
 pub mod SavepointLemmas

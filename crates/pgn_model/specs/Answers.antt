@@ -1,6 +1,5 @@
 -- The table of answers: a row for each command and a column for each state of the block.
-use Rattle.std.specs.Prelude.{ℕ, Bool, cond, List, length, Option, Some, None, bytes_eq}
-use Rattle.std.specs.List.{list_any}
+use Rattle.std.specs.Prelude.{ℕ, cond, List, [], ◌++◌, length, Option, Some, None}
 use Rattle.pgn_base.specs.Names.{has_name}
 use Rattle.pgn_base.specs.declared.answers.Tag.{Tag}
 use Rattle.pgn_base.specs.declared.answers.Tag.TheVariants as tag
@@ -13,6 +12,7 @@ use Rattle.pgn_model.specs.declared.block_state.BlockState.{BlockState}
 use Rattle.pgn_model.specs.declared.block_state.BlockState.TheVariants.{Idle, InBlock, Failed}
 use Rattle.pgn_model.specs.declared.command.Command.{Command}
 use Rattle.pgn_model.specs.declared.command.Command.TheVariants.{Empty, Begin, Start, Commit, Rollback, Savepoint, RollbackTo, Release, Listen, Unlisten, UnlistenAll, Notify, PgNotify, ListeningChannels, QueueUsage, Invalid, Bad}
+use Rattle.pgn_model.specs.Savepoints.{Change, changes_of}
 
 -- what a command comes to
 pub data Outcome : Type 0 where
@@ -71,6 +71,14 @@ next_state state (Refuses refusal next) = next
 next_state state Silent = state
 next_state state (ShowsChannels names) = state
 next_state state ShowsUsage = state
+
+-- the list of the open transaction after a command that comes to this, from the list before it: what the command puts into it
+-- stands at its end, a transaction that ends has none, and any other command leaves it
+abbrev pub list_after : List Change → Command → Outcome → List Change
+list_after changes command (Commits tag) = []
+list_after changes command (Replies tag warning InBlock) = changes ++ changes_of command
+list_after changes command (Replies tag warning next) = []
+list_after changes command outcome = changes
 
 -- the tag that ends an answer, where one does; that of a commit comes where its transaction has committed
 abbrev pub ending_tag : Outcome → Option Tag

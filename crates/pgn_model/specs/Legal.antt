@@ -56,5 +56,5 @@ pub record Legal (scenario : Scenario) (settings : Settings) (journal : List Tx)
   pub named : All (λ tx. names_section scenario.sections tx.session ≡ true) journal
   -- no number is shown that is past 3 and the journal's length
   pub shown : All (λ trace. All (IsShownWithin (next_xid journal)) trace.items) traces
-  -- who is a listener at the end has read all of the journal
+  -- a session that still listens at the end has read the whole journal
   pub read_all : All (λ trace. IfSome trace.last (λ mark. mark ≡ next_xid journal)) traces

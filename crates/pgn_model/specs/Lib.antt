@@ -5,6 +5,7 @@ pub mod Due
 -- the queue: the bytes of entries, and where they lie
 pub mod Bytes
 pub mod Packing
+pub mod Near
 -- a transaction's list, and what its commands are answered
 pub mod Savepoints
 pub mod Answers

@@ -1,12 +1,12 @@
 -- Which traces are lawful, and which leave no read out.
-use Rattle.std.specs.Prelude.{◌≡◌, ℕ, false, List, [], Option, IfSome, fold}
-use Rattle.std.specs.List.{list_any}
+use Rattle.std.specs.Prelude.{◌≡◌, ℕ, List, [], Option, IfSome, fold}
 use Rattle.pgn_model.specs.declared.tx.Tx.{Tx}
 use Rattle.pgn_model.specs.declared.block_state.BlockState.TheVariants.{Idle}
 use Rattle.pgn_model.specs.declared.item.Item.{Item}
 use Rattle.pgn_model.specs.declared.item.Item.TheVariants.{Line}
 use Rattle.pgn_model.specs.declared.trace.Trace.{Trace}
-use Rattle.pgn_model.specs.Journal.{entries_between, is_committed_in}
+use Rattle.pgn_model.specs.Journal.{is_committed_in}
+use Rattle.pgn_model.specs.Near.{Near}
 use Rattle.pgn_model.specs.Along.{Along}
 use Rattle.pgn_model.specs.Walk.{Terms, State, Nothing, start, after_item, Allowed}
 
@@ -31,9 +31,9 @@ pub record TraceOk (terms : Terms) (trace : Trace) (journal : List Tx) : Type 0 
   pub lawful : IsLawful terms journal trace.items
   pub ended : IsEnd (state_after terms trace.items) trace.last
 
--- a listener has read every committed transaction of its database that it was told of
+-- a listener need not read up to what it was told of, as far as its database goes
 abbrev pub IsUpToDate : Terms → List Tx → State → Type 0
-IsUpToDate terms journal s = IfSome s.mark (λ mark. list_any (is_committed_in terms.section.db) (entries_between journal mark s.told) ≡ false)
+IsUpToDate terms journal s = IfSome s.mark (λ mark. Near (is_committed_in terms.section.db) journal mark s.told)
 
 -- where a line begins, the one before it left no read out, unless a block is open
 abbrev pub IsFreshAt : Terms → List Tx → State → Item → Type 0

@@ -14,7 +14,6 @@ use Rattle.pgn_model.specs.declared.tx.Fate.TheVariants.{Committed}
 use Rattle.pgn_model.specs.declared.block_state.BlockState.{BlockState}
 use Rattle.pgn_model.specs.declared.block_state.BlockState.TheVariants.{Idle}
 use Rattle.pgn_model.specs.declared.command.Command.{Command}
-use Rattle.pgn_model.specs.declared.command.Command.TheVariants as command
 use Rattle.pgn_model.specs.declared.scenario.Act.{Act}
 use Rattle.pgn_model.specs.declared.scenario.Act.TheVariants.{Run, Signal, Await, Quit}
 use Rattle.pgn_model.specs.declared.scenario.ScriptLine.{ScriptLine}
@@ -24,7 +23,7 @@ use Rattle.pgn_model.specs.declared.item.Item.TheVariants.{Line, Enlist, Publish
 use Rattle.pgn_model.specs.Journal.{entry, next_xid}
 use Rattle.pgn_model.specs.Due.{due}
 use Rattle.pgn_model.specs.Savepoints.{Change, live_names, surviving_actions, surviving_notes, firsts, is_listen, changes_of}
-use Rattle.pgn_model.specs.Answers.{Outcome, Commits, answer}
+use Rattle.pgn_model.specs.Answers.{Outcome, Commits, Replies, Refuses, Silent, answer, next_state, list_after}
 
 -- what the command line sets: the queue's limit in pages, and how many looks an await takes
 pub record Settings : Type 0 where
@@ -77,12 +76,28 @@ pub record State : Type 0 where
   pub told : ℕ
   -- every base, point and end of a read so far
   pub marks : List ℕ
-  -- each flag that was raised or found so far, with its number
-  pub flags : List (ℕ × ℕ)
+  -- each flag that was raised so far, with the number that it then showed
+  pub raised : List (ℕ × ℕ)
+  -- each flag that was found so far, with the number that it then showed
+  pub found : List (ℕ × ℕ)
+  -- the session and the floor mark of each full queue and each usage so far that names a holder
+  pub named : List (ℕ × ℕ)
 
 -- before the first item
 abbrev pub start : Section → State
-start section = record { rest = section.lines; owed = Nothing; block = Idle; changes = []; set = []; mark = None; told = FIRST_XID; marks = []; flags = [] }
+start section = record {
+  rest = section.lines;
+  owed = Nothing;
+  block = Idle;
+  changes = [];
+  set = [];
+  mark = None;
+  told = FIRST_XID;
+  marks = [];
+  raised = [];
+  found = [];
+  named = [];
+}
 
 -- no channel is listened to
 abbrev pub is_empty_set : List (List ℕ) → Bool
@@ -107,15 +122,22 @@ abbrev pub committing : State → List Change → Ending → State
 committing s changes ending =
     let actions = surviving_actions changes in
     let notes = firsts (surviving_notes changes) in
-    let idle : State = record s { block = Idle; changes = [] } in
-    if list_any is_listen actions && is_none s.mark then record idle { owed = Enlisting actions notes ending } else queueing_or_settled idle actions notes ending
+    if list_any is_listen actions && is_none s.mark then record s { owed = Enlisting actions notes ending } else queueing_or_settled s actions notes ending
 
--- a command begins, which comes to this
+-- what a command that comes to this still has to show, where a commit is one of these changes
+abbrev pub owing : State → List Change → Outcome → State
+owing s changes (Commits tag) = committing s changes (Replied tag None)
+owing s changes (Replies tag warning next) = record s { owed = Answering (Replied tag warning) }
+owing s changes (Refuses refusal next) = record s { owed = Answering (Refused refusal) }
+owing s changes Silent = s
+-- a query, whose answer no item shows yet
+owing s changes outcome = record s { owed = Barred }
+
+-- a command begins that comes to this: the block and its list are as the outcome says, and it has its answer still to show
 abbrev pub at_outcome : State → Command → Outcome → State
-at_outcome s (command.Listen name) (Commits tag) = committing s (s.changes ++ changes_of (command.Listen name)) (Replied tag None)
-at_outcome s (command.Notify note) (Commits tag) = committing s (s.changes ++ changes_of (command.Notify note)) (Replied tag None)
--- a command that no session serves yet, or a state that no served command leads to
-at_outcome s other outcome = record s { owed = Barred }
+at_outcome s command outcome =
+    let next : State = record s { block = next_state s.block outcome; changes = list_after s.changes command outcome } in
+    owing next (s.changes ++ changes_of command) outcome
 
 -- a line of the script begins
 abbrev pub at_act : State → Act → State
@@ -175,8 +197,8 @@ pub record BeginsLine (s : State) (line : ℕ) : Type 0 where
   pub answered : s.owed ≡ Nothing
   pub next : IsNext line s.rest
 
--- a session becomes a listener: it is delivered to from the point on, which is no earlier than what it was told or read before,
--- and within the journal, so that a longer journal changes nothing
+-- a session becomes a listener: it receives from the point on; the point is not below told, nor below any earlier mark (and it is
+-- within the journal, so that a longer journal changes nothing)
 pub record Enlists (journal : List Tx) (s : State) (base point : ℕ) : Type 0 where
   pub expected : IsEnlisting s.owed
   pub from_first : FIRST_XID ≤ base
@@ -192,7 +214,8 @@ pub record Publishes (terms : Terms) (journal : List Tx) (s : State) (xid : ℕ)
   pub after_mark : IfSome s.mark (λ mark. mark ≤ xid)
   pub in_journal : IsSomeAnd (entry journal xid) (IsCommittedBy terms.section notes)
 
--- the session may read here: between lines where no block is open; at the script's end an open block is dropped
+-- the session may read here: between lines where no block is open; at the script's end an open block is dropped. (Of a trace
+-- that may still go on, the items alone don't say whether the script's end has begun)
 abbrev pub MayRead : State → Owed → Type 0
 MayRead s Nothing = (s.block ≡ Idle) ⊎ (s.rest ≡ [])
 MayRead s owed = ⊥

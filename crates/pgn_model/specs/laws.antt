@@ -2,6 +2,7 @@
 pub mod Due
 pub mod Bytes
 pub mod Packing
+pub mod Near
 pub mod Savepoints
 pub mod Answers
 pub mod Walk

@@ -5,6 +5,7 @@ ghost use Rattle.pgn_model.specs.laws.Commands.{ReadingsAreValid};
 ghost use Rattle.pgn_model.specs.laws.Tokens.{QuotesTell, TokensStand, TokensCover, OneCover, CutIsLongest, CutIsName};
 ghost use Rattle.pgn_model.specs.laws.Inputs.{LinesAreCut, TextsAreTrimmed, PartsAreCut, BlankReadsEmpty, CommandsHaveOneLine, InputReadingComputes, OneInputReading, ReadingsAreSound};
 ghost use Rattle.pgn_model.specs.laws.Due.{DueSplits, DueGrows};
+ghost use Rattle.pgn_model.specs.laws.Near.{NearShrinks, NearItself, NearGrows};
 ghost use Rattle.pgn_model.specs.laws.Walk.{LawfulPushes, LawfulPrefix, LawfulGrows};
 ghost use Rattle.pgn_model.specs.laws.Savepoints.{RolledBackCuts, ReleasedKeeps, SurvivesRolledBack, SurvivesReleased, SurvivesSaved, SurvivesActed, SurvivesNoted, LiveIsSaved, LiveHasSavepoint, RolledBackKeepsSavepoint, RolledBackOfNone, ReleasedOfNone, FirstsInOrder, FirstsDiffer, FirstsHaveAll, FirstsPush, FirstsTwice, LiveAfterChange, LiveSaved, LiveActed, LiveNew, LiveRepeated, LiveRolledBack, LiveReleased, LiveTwice, LiveHasNames, LiveHasActions, LiveHasFirsts};
 ghost use Rattle.pgn_model.specs.laws.Answers.{TableIsTotal, NothingFailsOutside, BlocksBegin, BlocksEnd, BlocksFail, WaysOut, WaysOn, OnlyEmptyIsSilent, ChannelsAreCounted};
@@ -16,6 +17,16 @@ pub fn due()
     ensures splits { DueSplits }
     // A longer journal changes nothing of what is due before its new part.
     ensures grows { DueGrows }
+{}
+
+/// How far a reader is behind.
+pub fn near()
+    // Who need not read up to a number need not read up to a smaller one, nor from a greater mark.
+    ensures shrinks { NearShrinks }
+    // Nobody need read up to its own mark, or to a number below it.
+    ensures itself { NearItself }
+    // A longer journal changes nothing of it.
+    ensures grows { NearGrows }
 {}
 
 /// Lawful traces.

@@ -19,26 +19,22 @@ use Rattle.pgn_model.specs.declared.scenario.Section.{Section}
 use Rattle.pgn_model.specs.declared.scenario.Scenario.{Scenario}
 use Rattle.pgn_model.specs.Journal.{IsFinished, entries_between, is_committed_in, xids_from, entry}
 use Rattle.pgn_model.specs.Due.{due}
+use Rattle.pgn_model.specs.Near.{Near}
 use Rattle.pgn_model.specs.Along.{Along}
 use Rattle.pgn_model.specs.Walk.{Terms, State, Queueing, Answering, Ending, Replied, start, after_item, Allowed, is_empty_set, Leaving, leaving_or_answering, IsCommittedBy, default_settings}
 use Rattle.pgn_model.specs.declared.trace.Trace.{Trace}
 use Rattle.pgn_model.specs.Trace.{IsFreshAt, IsUpToDate, IsEnd, state_after}
 use Rattle.pgn_model.specs.Legal.{finished_xid, finished_xids, IsShownWithin, names_section, Legal}
+use Rattle.pgn_model.proofs.NearLaws.{near-itself, near-grows}
 use Rattle.pgn_model.proofs.WalkLaws.{Along-push_at, Along-weaker, Stands-push, Stands-grows}
 use Rattle.pgn_run.specs.declared.session.Session.{Session}
 use Rattle.pgn_run.specs.Reading.{IsServedAct, IsServed, one_section}
 use Rattle.pgn_run.specs.Session.{fresh_session, listened, notified, sent, ran, read_on}
 use Rattle.pgn_run.specs.SoFar.{terms_of, standing, IsFreshWithin, IsAt, IsAnswered, IsSoFar, trace_of}
 
--- nothing stands between a place and itself
-none-between : {A : Type 0} (n : ℕ) (xs : List A) → drop n (take n xs) ≡ []
-none-between zero xs = refl
-none-between (suc n) [] = refl
-none-between (suc n) (x ∷ xs) = none-between n xs
-
--- who has read all that it was told of has left nothing unread
-up-to-date : (db : ℕ) (journal : List Tx) (m n : ℕ) → m ≡ n → list_any (is_committed_in db) (entries_between journal m n) ≡ false
-up-to-date db journal m n e = subst (λ (k : ℕ). list_any (is_committed_in db) (entries_between journal k n) ≡ false) (sym e) (ap (list_any (is_committed_in db)) (none-between (n - 3) journal))
+-- who has read all that it was told of need not read
+up-to-date : (db : ℕ) (journal : List Tx) (m n : ℕ) → m ≡ n → Near (is_committed_in db) journal m n
+up-to-date db journal m n e = near-itself (is_committed_in db) journal m n (omega (arith, e))
 
 -- one more item, over the same journal
 pub IsAt-push : (section : Section) (state : State) (journal : List Tx) (items : List Item) (item : Item)
@@ -84,12 +80,10 @@ shown-weaker m n (Read from to got) h p = (omega (arith, p.0), omega (arith, p.1
 
 -- a line that began with no read left out still did as the journal grows
 up-to-date-grows : (terms : Terms) (journal more : List Tx) (mark : Option ℕ) (told : ℕ) → told ≤ 3 + length journal
-    → IfSome mark (λ m. list_any (is_committed_in terms.section.db) (entries_between journal m told) ≡ false)
-    → IfSome mark (λ m. list_any (is_committed_in terms.section.db) (entries_between (journal ++ more) m told) ≡ false)
+    → IfSome mark (λ m. Near (is_committed_in terms.section.db) journal m told)
+    → IfSome mark (λ m. Near (is_committed_in terms.section.db) (journal ++ more) m told)
 up-to-date-grows terms journal more None told h p = p
-up-to-date-grows terms journal more (Some m) told h p =
-    let fits : told - 3 ≤ length journal = omega arith in
-    ap (λ (xs : List Tx). list_any (is_committed_in terms.section.db) (drop (m - 3) xs)) (take-append-le (told - 3) journal more fits) ∙ p
+up-to-date-grows terms journal more (Some m) told h p = near-grows (is_committed_in terms.section.db) journal more m told h p
 
 fresh-at-grows : (terms : Terms) (journal more : List Tx) (s : State) (item : Item) → s.told ≤ 3 + length journal → IsFreshAt terms journal s item → IsFreshAt terms (journal ++ more) s item
 fresh-at-grows terms journal more s (Line line) h p = λ idle. up-to-date-grows terms journal more s.mark s.told h (p idle)
@@ -158,7 +152,7 @@ line-is-fresh : (section : Section) (journal : List Tx) (s : State) (line : ℕ)
     → IsFreshWithin (terms_of section) journal s (Line line)
 line-is-fresh section journal s line told caught = (λ idle. unread s.mark caught, omega arith)
   where
-    unread : (mark : Option ℕ) → IfSome mark (λ m. m ≡ 3 + length journal) → IfSome mark (λ m. list_any (is_committed_in section.db) (entries_between journal m s.told) ≡ false)
+    unread : (mark : Option ℕ) → IfSome mark (λ m. m ≡ 3 + length journal) → IfSome mark (λ m. Near (is_committed_in section.db) journal m s.told)
     unread None e = e
     unread (Some m) e = up-to-date section.db journal m s.told (e ∙ sym told)
 
@@ -370,7 +364,7 @@ run-is-legal section s h = record {
     between : Along after_item (IsFreshAt (terms_of section) s.journal) (start section) s.items
     between = Along-weaker after_item (IsFreshWithin (terms_of section) s.journal) (IsFreshAt (terms_of section) s.journal) (λ t i p. p.0) (start section) s.items h.at.fresh
 
-    unread : (mark : Option ℕ) → IfSome mark (λ m. m ≡ 3 + length s.journal) → IfSome mark (λ m. list_any (is_committed_in section.db) (entries_between s.journal m s.told) ≡ false)
+    unread : (mark : Option ℕ) → IfSome mark (λ m. m ≡ 3 + length s.journal) → IfSome mark (λ m. Near (is_committed_in section.db) s.journal m s.told)
     unread None e = e
     unread (Some m) e = up-to-date section.db s.journal m s.told (e ∙ sym h.told)
 

@@ -19,7 +19,7 @@ terms_of section = record { section = section; settings = default_settings }
 
 -- the state of the walk between two lines
 abbrev pub standing : List ScriptLine → List (List ℕ) → Option ℕ → ℕ → List ℕ → State
-standing rest set mark told marks = record { rest = rest; owed = Nothing; block = Idle; changes = []; set = set; mark = mark; told = told; marks = marks; flags = [] }
+standing rest set mark told marks = record { rest = rest; owed = Nothing; block = Idle; changes = []; set = set; mark = mark; told = told; marks = marks; raised = []; found = []; named = [] }
 
 -- a line begins with no read left out, and nothing is told that is past the journal
 abbrev pub IsFreshWithin : Terms → List Tx → State → Item → Type 0

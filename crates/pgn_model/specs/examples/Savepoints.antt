@@ -10,7 +10,7 @@ use Rattle.pgn_model.specs.declared.block_state.BlockState.TheVariants.{Idle, In
 use Rattle.pgn_model.specs.declared.command.Command.{Command}
 use Rattle.pgn_model.specs.declared.command.Command.TheVariants.{Begin, Commit, Rollback, Savepoint, RollbackTo, Release, Notify, Bad}
 use Rattle.pgn_model.specs.Savepoints.{Change, changes_of, firsts, surviving_notes, live_names}
-use Rattle.pgn_model.specs.Answers.{Outcome, Commits, Replies, Refuses, answer, next_state}
+use Rattle.pgn_model.specs.Answers.{Outcome, Commits, Replies, Refuses, answer, next_state, list_after}
 use Rattle.pgn_model.specs.Text.{joined, tag_text, warning_lines, refusal_text}
 
 -- the name `s`
@@ -57,13 +57,6 @@ back_twice = Savepoint s_name ∷ Notify (on_c (codes "1")) ∷ RollbackTo s_nam
 -- a repeat inside a savepoint that is rolled back: NOTIFY c, 'a'; SAVEPOINT s; NOTIFY c, 'a'; NOTIFY c, 'b'; ROLLBACK TO s; NOTIFY c, 'b'
 abbrev pub repeat_across : List Command
 repeat_across = Notify (on_c (codes "a")) ∷ Savepoint s_name ∷ Notify (on_c (codes "a")) ∷ Notify (on_c (codes "b")) ∷ RollbackTo s_name ∷ Notify (on_c (codes "b")) ∷ []
-
--- the list of the block after a command: what is kept stands at its end, a refused command leaves it, and a block that ends has none
-abbrev pub list_after : List Change → Command → Outcome → List Change
-list_after changes command (Replies tag warning InBlock) = changes ++ changes_of command
-list_after changes command (Replies tag warning next) = []
-list_after changes command (Commits tag) = []
-list_after changes command outcome = changes
 
 -- what commands come to one after another, from a state of the block and its list
 abbrev pub outcomes_from : BlockState → List Change → List Command → List Outcome

@@ -38,7 +38,7 @@ abbrev pub NoSpellingBegins : Type 0
 NoSpellingBegins = (a b : Note) (db db' xid xid' pid pid' : ℕ) (rest : List ℕ) → IsNote a → IsNote b → IsHead db xid pid → IsHead db' xid' pid'
     → spelled a db xid pid ++ rest ≡ spelled b db' xid' pid' → rest ≡ []
 
--- no bytes begin with an entry and with a filler
+-- no bytes begin both with an entry and with a filler
 abbrev pub NoSpellingIsFiller : Type 0
 NoSpellingIsFiller = (note : Note) (db xid pid len xid' pid' : ℕ) (rest rest' : List ℕ) → 0 < db → db < 2 ^ 32
     → spelled note db xid pid ++ rest ≡ filler len xid' pid' ++ rest' → ⊥
