@@ -1,3 +1,4 @@
+pub mod BeginsLaws
 pub mod DueLaws
 pub mod WalkLaws
 pub mod BytesLemmas

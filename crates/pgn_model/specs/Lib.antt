@@ -1,5 +1,6 @@
 pub use Rattle.pgn_base.specs.Channels
--- the journal, and what is due from it
+-- lists that begin others; the journal, and what is due from it
+pub mod Begins
 pub mod Journal
 pub mod Due
 -- the queue: the bytes of entries, and where they lie

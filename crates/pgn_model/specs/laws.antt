@@ -1,4 +1,5 @@
 -- Laws over the definitions.
+pub mod Begins
 pub mod Due
 pub mod Bytes
 pub mod Packing

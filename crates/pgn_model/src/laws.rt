@@ -1,3 +1,4 @@
+ghost use Rattle.pgn_model.specs.laws.Begins.{BeginsAll, BeginsOn, BeginsContinued, BeginsWithTaken, BeginsShorter, BeginsWhole, BeginsAlike, BeginsHolds, BeginsMore};
 ghost use Rattle.pgn_model.specs.laws.Bytes.{AreBytes, SpelledLength, FillerLength, EntryLengths, SpellingReadsBack, NoSpellingBegins, NoSpellingIsFiller, FillerReadsBack};
 ghost use Rattle.pgn_model.specs.laws.Packing.{CellsGiveBytes, FirstPlace, NextPlace, LastPlace, IsPacked, PlaceFolds, LeavesRoom, PutTakes, PagesHold, NoteMoves, PlaceRises, PlaceBound, NotesInTurn, PlaceGrows, AbortedEnds, PlacesAgree, ImagesAgree, CellsOfEach, CellsApart};
 ghost use Rattle.pgn_model.specs.laws.Grammar.{BeginsComputes, PrefixBegins, WrongFitsNowhere, FollowersTell, FollowersDone, ReadingComputes, OneReading};
@@ -9,6 +10,28 @@ ghost use Rattle.pgn_model.specs.laws.Near.{NearShrinks, NearItself, NearGrows};
 ghost use Rattle.pgn_model.specs.laws.Walk.{LawfulPushes, LawfulPrefix, LawfulGrows};
 ghost use Rattle.pgn_model.specs.laws.Savepoints.{RolledBackCuts, ReleasedKeeps, SurvivesRolledBack, SurvivesReleased, SurvivesSaved, SurvivesActed, SurvivesNoted, LiveIsSaved, LiveHasSavepoint, RolledBackKeepsSavepoint, RolledBackOfNone, ReleasedOfNone, FirstsInOrder, FirstsDiffer, FirstsHaveAll, FirstsPush, FirstsTwice, LiveAfterChange, LiveSaved, LiveActed, LiveNew, LiveRepeated, LiveRolledBack, LiveReleased, LiveTwice, LiveHasNames, LiveHasActions, LiveHasFirsts};
 ghost use Rattle.pgn_model.specs.laws.Answers.{TableIsTotal, NothingFailsOutside, BlocksBegin, BlocksEnd, BlocksFail, WaysOut, WaysOn, OnlyEmptyIsSilent, ChannelsAreCounted};
+
+/// Lists that begin other lists.
+pub fn begins<T>()
+    // The empty list and a list itself begin a list.
+    ensures all { BeginsAll T }
+    // A prefix of a prefix is a prefix.
+    ensures on { BeginsOn T }
+    // A list begins what continues it, and nothing else.
+    ensures continued { BeginsContinued T }
+    // A list begins with its first elements.
+    ensures taken { BeginsWithTaken T }
+    // A prefix is no longer.
+    ensures shorter { BeginsShorter T }
+    // A prefix that is as long is the whole.
+    ensures whole { BeginsWhole T }
+    // Of two prefixes of a list the shorter begins the longer.
+    ensures alike { BeginsAlike T }
+    // An element of a prefix stands at its place in the whole.
+    ensures holds { BeginsHolds T }
+    // A prefix and the next element are a prefix.
+    ensures more { BeginsMore T }
+{}
 
 /// What is due to a reader.
 #[tactic(auto, using(crate::proofs::DueLaws::due_laws))]
