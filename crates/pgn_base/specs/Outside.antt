@@ -15,12 +15,12 @@ pub record HasCause {T E : Type 0} (before now : ℕ) (result : Result T E) : Ty
   pub later : before ≤ now
   pub failed : OnErr result (Rose before now)
 
--- known bytes grow by a front of a text
+-- known bytes grow by a prefix of a text
 abbrev pub AppendsPrefix : Option (List ℕ) → Option (List ℕ) → List ℕ → Type 0
 AppendsPrefix None new text = Unit {0}
 AppendsPrefix (Some xs) None text = ⊥
-AppendsPrefix (Some xs) (Some ys) text = (front : List ℕ) × (rest : List ℕ) × (text ≡ front ++ rest) × (ys ≡ xs ++ front)
+AppendsPrefix (Some xs) (Some ys) text = (prefix : List ℕ) × (rest : List ℕ) × (text ≡ prefix ++ rest) × (ys ≡ xs ++ prefix)
 
--- known bytes grow by a text, or by a front of it where the call fails
+-- known bytes grow by a text, or by a prefix of it where the call fails
 abbrev pub Writes : {T E : Type 0} → Option (List ℕ) → Option (List ℕ) → Result T E → List ℕ → Type 0
 Writes old new result text = MatchResult result (λ _. Appends old new text) (λ _. AppendsPrefix old new text)

@@ -12,7 +12,7 @@ pub trait Sink {
     /// How often a write has failed. It never falls, and stands still at 2^64 - 1.
     ghost faults: { Self → ℕ };
 
-    /// Writes a front of `piece`, and says how many bytes. 0 for a piece that is not empty is a fault too, and is counted.
+    /// Writes a prefix of `piece`, and says how many bytes. 0 for a piece that is not empty is a fault too, and is counted.
     fn write(&mut self, piece: &[u8]) -> Result<usize, Failed>
         ensures within { IfOk result (λ n. n ≤ length piece.now) }
         ensures bytes { WriteAppends (held self.old) (held self.new) result piece.now }
@@ -20,7 +20,7 @@ pub trait Sink {
         ensures cause { HasCause (faults self.old) (faults self.new) result };
 }
 
-/// Writes a whole piece, in as many writes as the sink takes. Where it fails, a front of the piece is written.
+/// Writes a whole piece, in as many writes as the sink takes. Where it fails, a prefix of the piece is written.
 pub fn write_all<K: Sink>(sink: &mut K, piece: &[u8]) -> Result<(), Failed>
     ensures bytes { Writes (K.held sink.old) (K.held sink.new) result piece.now }
     ensures cause { HasCause (K.faults sink.old) (K.faults sink.new) result }

@@ -7,7 +7,7 @@ use pgn_base::{Failed, Sink, write_all};
 use pgn_model::ScenarioFault;
 use pgn_run::Status;
 
-/// Writes the one line on standard error of an outcome, and nothing where the run is done. Where it fails, a front of the line
+/// Writes the one line on standard error of an outcome, and nothing where the run is done. Where it fails, a prefix of the line
 /// is written.
 pub fn fault_line<K: Sink>(sink: &mut K, status: &Status) -> Result<(), Failed>
     ensures bytes { Writes (K.held sink.old) (K.held sink.new) result (fault_text status.now) }

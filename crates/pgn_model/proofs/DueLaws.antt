@@ -18,7 +18,7 @@ due-grows journal more m n db channels h =
     let fits : n - 3 ≤ length journal = omega arith in
     ap (λ xs. due_from db channels m (drop (m - 3) xs)) (take-append-le (n - 3) journal more fits)
 
--- a part of a list is a front of it and then the rest
+-- a part of a list is a prefix of it and then the rest
 parts : {A : Type 0} (xs : List A) (m k n : ℕ) → m ≤ k → k ≤ n → n ≤ length xs → drop m (take n xs) ≡ drop m (take k xs) ++ drop k (take n xs)
 parts xs m k n a b c =
     let fits : m ≤ length (take k (take n xs)) = simp length-take (omega arith) in

@@ -11,7 +11,7 @@ use Rattle.pgn_model.specs.Tokens.{Lexeme, Word, Quoted, Literal, Number, Sign, 
 use Rattle.pgn_model.specs.Grammar.{Slot, Key, Name, Quote, Count, Punct, fits_slot, all_fit, Form, table, IsOneOf, BeginsForm, lexemes_of, ReadsAs, Whole, Stops, Lacks, prefix_fits, begin_one, command_of, stop, reading_of, reading}
 use Rattle.pgn_model.specs.laws.Grammar.{after_first, followers, table_slots, is_done}
 
--- a front of tokens that fit
+-- a prefix of tokens that fit
 prefix_fits-all : (slots : List Slot) (lexemes more : List Lexeme) → all_fit slots (lexemes ++ more) ≡ true → prefix_fits slots lexemes ≡ true
 prefix_fits-all slots [] more h = refl
 prefix_fits-all [] (t ∷ ts) more h = absurd (false≢true h)
@@ -55,7 +55,7 @@ completion-fits_slot (p ∷ ps) (t ∷ ts) h =
     let parts : (fits_slot p t ≡ true) × (prefix_fits ps ts ≡ true) = and_parts _ _ h in
     and_from _ _ parts.0 (completion-fits_slot ps ts parts.1)
 
--- a front of one of the forms begins it
+-- a prefix of one of the forms begins it
 one-begins : (forms : List Form) (lexemes more : List Lexeme) (command : Command) → IsOneOf forms (lexemes ++ more) command → begin_one forms lexemes ≡ true
 one-begins [] lexemes more command h = absurd h
 one-begins (form ∷ forms) lexemes more command (inl h) = or_left _ _ (prefix_fits-all form.slots lexemes more h.0)
@@ -180,7 +180,7 @@ no_form-none ts h = none_from (command_of table ts) (λ command e. h command (on
 none-no_form : (ts : List Lexeme) → command_of table ts ≡ None → (command : Command) → IsOneOf table ts command → ⊥
 none-no_form ts e command h = let f : command_of table ts ≡ Some command = command_of-one table ts command table_clash h in cc
 
--- a form begins one, at each of its fronts
+-- a form begins one, at each of its prefixes
 form-begins : (front rest : List Lexeme) (command : Command) → IsOneOf table (front ++ rest) command → begin_one table front ≡ true
 form-begins front rest command h = one-begins table front rest command h
 

@@ -78,7 +78,7 @@ begins_character-at text k h = boundary_at (drop k text) (λ some b.
 
 taken : (k : ℕ) (text : List ℕ) → IsUtf8 text → begins_character (drop k text) ≡ true → IsLongestPrefix k text (take k text)
 taken k text h e = record {
-  front = sym (ap (λ (i : ℕ). take i text) (length-take k text) ∙ take_min k text);
+  prefix = sym (ap (λ (i : ℕ). take i text) (length-take k text) ∙ take_min k text);
   short = omega (arith, length-take k text);
   whole = elim (cases_lt (length text) k) [
     | inl l ↦ subst (λ (x : List ℕ). IsUtf8 x) (sym (take_all k text (omega arith))) h
@@ -89,11 +89,11 @@ taken k text h e = record {
 
 pub cut-longest : (n : ℕ) (text : List ℕ) → IsUtf8 text → IsLongestPrefix n text (cut n text)
 unfolding cut
-cut-longest zero text h = record { front = refl; short = omega arith; whole = IsUtf8-nil; longest = λ m a b c. a }
+cut-longest zero text h = record { prefix = refl; short = omega arith; whole = IsUtf8-nil; longest = λ m a b c. a }
 cut-longest (suc n) text h = elim (cases_Bool (begins_character (drop (suc n) text))) [
   | inl e ↦ rw (e, cut) (taken (suc n) text h e)
   | inr e ↦ rw (e, cut) (let ih : IsLongestPrefix n text (cut n text) = cut-longest n text h in record {
-    front = ih.front;
+    prefix = ih.prefix;
     short = omega (arith, ih.short);
     whole = ih.whole;
     longest = λ m a b c. elim (cases_lt n m) [
@@ -191,5 +191,5 @@ cut-name text h l no_nul =
       some = let longer : first.0 ≤ length (cut 63 text) = part.longest first.0 (omega (arith, first.2)) first.3 first.4 in omega (arith, first.1, longer);
       short = omega (arith, part.short);
       no_nul = λ nul. no_nul (subst (λ (x : List ℕ). Contains x 0) (take-append-drop (length (cut 63 text)) text)
-          (Contains-append_left (take (length (cut 63 text)) text) (drop (length (cut 63 text)) text) 0 (subst (λ (x : List ℕ). Contains x 0) part.front nul)));
+          (Contains-append_left (take (length (cut 63 text)) text) (drop (length (cut 63 text)) text) 0 (subst (λ (x : List ℕ). Contains x 0) part.prefix nul)));
     }

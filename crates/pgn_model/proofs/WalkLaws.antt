@@ -17,7 +17,7 @@ pub fold-push : {S I : Type 0} (next : S → I → S) (s : S) (items : List I) (
 fold-push next s [] item = refl
 fold-push next s (i ∷ items) item = fold-push next (next s i) items item
 
--- a front of the list
+-- a prefix of the list
 pub Along-front : {S I : Type 0} (next : S → I → S) (P : S → I → Type 0) (s : S) (front rest : List I) → Along next P s (front ++ rest) → Along next P s front
 Along-front next P s [] rest h = tt
 Along-front next P s (i ∷ front) rest h = (h.0, Along-front next P (next s i) front rest h.1)

@@ -45,7 +45,7 @@ abbrev pub begins_character : List ℕ → Bool
 begins_character [] = true
 begins_character (b ∷ bytes) = not (nat_le 128 b && nat_lt b 192)
 
--- the longest front of whole characters that has at most n bytes
+-- the longest prefix of whole characters that has at most n bytes
 unfoldable pub cut : ℕ → List ℕ → List ℕ
 cut zero bytes = []
 cut (suc n) bytes = elim (begins_character (drop (suc n) bytes)) [ true ↦ take (suc n) bytes | false ↦ cut n bytes ]
@@ -210,8 +210,8 @@ pub data ReadsAs (text : List ℕ) : Command → Type 0 where
   -- its tokens are a form of the table
   Whole : (command : Command) → IsForm (lexemes_of (tokens text)) command → ReadsAs text (limited command)
   -- it goes wrong at the first token such that the tokens up to and including it begin no form of the table
-  Stops : (front : List Token) → (token : Token) → (rest : List Token) → tokens text ≡ front ++ token ∷ rest → BeginsForm (lexemes_of front)
-      → (BeginsForm (lexemes_of (front ++ token ∷ [])) → ⊥) → ReadsAs text (command.Bad token.at)
+  Stops : (prefix : List Token) → (token : Token) → (rest : List Token) → tokens text ≡ prefix ++ token ∷ rest → BeginsForm (lexemes_of prefix)
+      → (BeginsForm (lexemes_of (prefix ++ token ∷ [])) → ⊥) → ReadsAs text (command.Bad token.at)
   -- it goes wrong at its end where all of its tokens begin a form of the table but are none
   Lacks : BeginsForm (lexemes_of (tokens text)) → ((command : Command) → IsForm (lexemes_of (tokens text)) command → ⊥) → ReadsAs text (command.Bad (length text))
 
@@ -234,8 +234,8 @@ command_of (form ∷ forms) lexemes = elim (all_fit form.slots lexemes) [ true �
 
 -- where the first token begins with which those before it begin none of these forms, or the end
 abbrev pub stop : List Form → ℕ → List Lexeme → List Token → ℕ
-stop forms end front [] = end
-stop forms end front (token ∷ tokens) = elim (begin_one forms (front ++ token.lexeme ∷ [])) [ true ↦ stop forms end (front ++ token.lexeme ∷ []) tokens | false ↦ token.at ]
+stop forms end prefix [] = end
+stop forms end prefix (token ∷ tokens) = elim (begin_one forms (prefix ++ token.lexeme ∷ [])) [ true ↦ stop forms end (prefix ++ token.lexeme ∷ []) tokens | false ↦ token.at ]
 
 -- the command that tokens are, or Bad with the byte where they stop
 abbrev pub reading_of : ℕ → List Token → Option Command → Command

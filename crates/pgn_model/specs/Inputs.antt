@@ -115,7 +115,7 @@ line_number before = length before + 1
 abbrev pub line_start : List (List ℕ) → ℕ
 line_start before = sum_by (λ line. length line + 1) before
 
--- the fault of a line after the lines before it; a line that is not UTF-8 is at fault at the byte after its longest front that
+-- the fault of a line after the lines before it; a line that is not UTF-8 is at fault at the byte after its longest prefix that
 -- is
 unfoldable pub fault_of : List (List ℕ) → List ℕ → Option ScenarioFault
 fault_of before line =

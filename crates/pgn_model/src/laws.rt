@@ -115,9 +115,9 @@ pub fn packing()
     ensures place_bound { PlaceBound }
     // An aborted transaction ends where a page begins.
     ensures aborted_ends { AbortedEnds }
-    // A longer journal changes no place of its front.
+    // A longer journal changes no place of its prefix.
     ensures places_agree { PlacesAgree }
-    // A longer journal changes no cell of its front.
+    // A longer journal changes no cell of its prefix.
     ensures images_agree { ImagesAgree }
     // The cells between two places are those of the transaction that begins at the first.
     ensures cells_of_each { CellsOfEach }
@@ -251,7 +251,7 @@ pub fn channels_are_counted()
 pub fn tokens()
     // A quoted text ends at the first quote that is not written twice, and is what stands before it with each quote once.
     ensures quotes_tell { QuotesTell }
-    // A cut name is the longest front of whole characters that is short enough.
+    // A cut name is the longest prefix of whole characters that is short enough.
     ensures cut_is_longest { CutIsLongest }
     // What a text is cut to is a name, if it has a character and no zero byte.
     ensures cut_is_name { CutIsName }
@@ -267,9 +267,9 @@ pub fn tokens()
 pub fn grammar()
     // Tokens begin a form of the table of commands exactly where they fit the first slots of one.
     ensures begins_computes { BeginsComputes }
-    // A front of what begins a form of the table begins one, so that a line goes wrong at one byte.
+    // A prefix of what begins a form of the table begins one, so that a line goes wrong at one byte.
     ensures prefix_begins { PrefixBegins }
-    // What is no token fits_slot nowhere, whatever follows it.
+    // What is no token fits nowhere, whatever follows it.
     ensures wrong_fits_nowhere { WrongFitsNowhere }
     // Tokens begin a form of the table exactly where something may follow them, be it nothing more.
     ensures followers_tell { FollowersTell }

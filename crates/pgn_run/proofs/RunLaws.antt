@@ -20,7 +20,7 @@ one-word (word ∷ []) d r some few e =
     (λ t. ap (λ (bytes : List ℕ). bytes ∷ []) (says.0 (sym e ∙ t)), λ same. let spelled : word.now ≡ codes "run" = cc in e ∙ says.1 spelled)
 one-word (word ∷ other ∷ words) d r some few e = absurd (omega arith)
 
--- a front that is no longer than a shorter limit is the whole
+-- a prefix that is no longer than a shorter limit is the whole
 whole : (n : ℕ) (xs : List ℕ) → length (take (n + 1) xs) ≤ n → take (n + 1) xs ≡ xs
 whole n xs h = take_all (n + 1) xs (omega (arith, length-take (n + 1) xs))
 

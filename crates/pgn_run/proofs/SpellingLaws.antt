@@ -27,7 +27,7 @@ pub IsAscii-from_test : (p : ℕ → Bool) → ((x : ℕ) → p x ≡ true → x
 IsAscii-from_test p f [] h = IsAscii-nil
 IsAscii-from_test p f (x ∷ xs) h = let parts = and_parts (p x) (list_all p xs) h in IsAscii-cons x xs (f x parts.0) (IsAscii-from_test p f xs parts.1)
 
--- a front or an end that the text has, or has not
+-- a prefix or an end that the text has, or has not
 pub front_yes : (s p t : List ℕ) → bytes_eq (take (length p) s) p ≡ true → t ≡ drop (length p) s → s ≡ p ++ t
 front_yes s p t h e =
     let front = (bytes_eq-Decides (take (length p) s) p).0 h in

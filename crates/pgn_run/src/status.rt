@@ -11,7 +11,7 @@ pub enum Status {
     BadScenario(ScenarioFault),
     /// The source failed.
     ReadFault,
-    /// The sink failed; a front of the output was written.
+    /// The sink failed; a prefix of the output was written.
     WriteFault,
     NoMemory,
     /// The input's lowest line, from 1, that is not built yet; 0 for an input that is too large.

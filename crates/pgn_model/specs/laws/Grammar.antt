@@ -6,13 +6,13 @@ use Rattle.pgn_model.specs.declared.command.Command.TheVariants as command
 use Rattle.pgn_model.specs.Tokens.{Lexeme, Wrong, Token, tokens}
 use Rattle.pgn_model.specs.Grammar.{Slot, fits_slot, all_fit, Form, table, IsForm, BeginsForm, lexemes_of, limited, ReadsAs, begin_one, reading}
 
--- what begins a form of the table has only fronts that begin one
+-- what begins a form of the table has only prefixes that begin one
 abbrev pub PrefixBegins : Type 0
-PrefixBegins = (front rest : List Lexeme) → BeginsForm (front ++ rest) → BeginsForm front
+PrefixBegins = (prefix rest : List Lexeme) → BeginsForm (prefix ++ rest) → BeginsForm prefix
 
--- what is no token fits_slot nowhere, whatever follows it
+-- what is no token fits nowhere, whatever follows it
 abbrev pub WrongFitsNowhere : Type 0
-WrongFitsNowhere = (front rest : List Lexeme) → BeginsForm (front ++ Wrong ∷ rest) → ⊥
+WrongFitsNowhere = (prefix rest : List Lexeme) → BeginsForm (prefix ++ Wrong ∷ rest) → ⊥
 
 -- the slots that are left of a list after a token at the first of them
 abbrev pub after_first : Lexeme → List Slot → Option (List Slot)

@@ -30,7 +30,7 @@ pub record IsTextOf (line text : List ℕ) : Type 0 where
   pub blank_before : list_all is_blank before ≡ true
   pub blank_after : list_all is_blank after ≡ true
   pub first : (byte : ℕ) (rest : List ℕ) → text ≡ byte ∷ rest → is_blank byte ≡ false
-  pub last : (byte : ℕ) (front : List ℕ) → text ≡ front ++ byte ∷ [] → is_blank byte ≡ false
+  pub last : (byte : ℕ) (prefix : List ℕ) → text ≡ prefix ++ byte ∷ [] → is_blank byte ≡ false
 
 -- a line has one text
 abbrev pub TextsAreTrimmed : Type 0

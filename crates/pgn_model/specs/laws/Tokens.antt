@@ -17,14 +17,14 @@ pub record IsClosed (quote : ℕ) (bytes : List ℕ) (inside : Inside) : Type 0 
 abbrev pub QuotesTell : Type 0
 QuotesTell = (quote : ℕ) (bytes : List ℕ) (inside : Inside) → (closed quote bytes ≡ Some inside) ↔ IsClosed quote bytes inside
 
--- a part of a text is its longest front of whole characters that has at most n bytes
+-- a part of a text is its longest prefix of whole characters that has at most n bytes
 pub record IsLongestPrefix (n : ℕ) (text part : List ℕ) : Type 0 where
-  pub front : part ≡ take (length part) text
+  pub prefix : part ≡ take (length part) text
   pub short : length part ≤ n
   pub whole : IsUtf8 part
   pub longest : (m : ℕ) → m ≤ n → m ≤ length text → IsUtf8 (take m text) → m ≤ length part
 
--- a cut text is its longest front of whole characters that is short enough
+-- a cut text is its longest prefix of whole characters that is short enough
 abbrev pub CutIsLongest : Type 0
 CutIsLongest = (n : ℕ) (text : List ℕ) → IsUtf8 text → IsLongestPrefix n text (cut n text)
 

@@ -10,9 +10,9 @@ abbrev pub LawfulPushes : Type 0
 LawfulPushes = (terms : Terms) (journal : List Tx) (items : List Item) (s : State) (item : Item)
     → Stands terms journal items s → Allowed terms journal s item → Stands terms journal (items ++ item ∷ []) (after_item s item)
 
--- a front of a lawful list of items is lawful
+-- a prefix of a lawful list of items is lawful
 abbrev pub LawfulPrefix : Type 0
-LawfulPrefix = (terms : Terms) (journal : List Tx) (front rest : List Item) → IsLawful terms journal (front ++ rest) → IsLawful terms journal front
+LawfulPrefix = (terms : Terms) (journal : List Tx) (prefix rest : List Item) → IsLawful terms journal (prefix ++ rest) → IsLawful terms journal prefix
 
 -- what is lawful over a journal is lawful over a longer one
 abbrev pub LawfulGrows : Type 0

@@ -64,7 +64,7 @@ pub fn savepoint_word()
     ensures abort_to { ReadsAs (codes "ABORT TO s") (command.Bad 6) }
 {}
 
-/// What is no token fits_slot nowhere, and begins where it begins.
+/// What is no token fits nowhere, and begins where it begins.
 pub fn wrong_tokens()
     ensures unclosed_name { ReadsAs (codes "LISTEN \"a;") (command.Bad 7) }
     ensures unclosed_doubled { ReadsAs (codes "LISTEN \"a\"\"") (command.Bad 7) }
