@@ -20,7 +20,7 @@ use Rattle.pgn_base.specs.declared.note.Note.{Note}
 use Rattle.pgn_model.specs.declared.command.Command.TheVariants as command
 use Rattle.pgn_model.specs.Tokens.{is_blank}
 use Rattle.pgn_model.specs.Grammar.{table}
-use Rattle.pgn_model.specs.Lines.{Says, Nothing, Runs, says, text_says, lines_of}
+use Rattle.pgn_model.specs.Lines.{Says, SaysNothing, Runs, says, text_says, lines_of}
 use Rattle.pgn_model.specs.Inputs.{all_say, section_names, flags_of, notifies, has_quit, opened_name, named_flag, with_name, is_bad_meta, lacks_session, repeats_name, line_number, line_start, are_too_many, fault_said, fault_of, has_section, unsignalled, HaveNoFault, ReadsAsScenario, Large, Faulty, Sectionless, Unsignalled, Faultless}
 use Rattle.pgn_model.specs.laws.Inputs.{lacks, first_fault, whole_reading, lines_reading, input_reading}
 
@@ -264,7 +264,7 @@ no_zeros : (n : ℕ) → list_any (λ byte. byte == 0) (replicate n 32) ≡ fals
 no_zeros zero = refl
 no_zeros (suc n) = no_zeros n
 
-spaces-say_nothing : (n : ℕ) → says (replicate n 32) ≡ Nothing
+spaces-say_nothing : (n : ℕ) → says (replicate n 32) ≡ SaysNothing
 unfolding says table
 spaces-say_nothing n = ap text_says (trimmed-blank (replicate n 32) (blanks n))
 

@@ -9,7 +9,7 @@ use Rattle.pgn_model.specs.declared.command.Command.{Command}
 use Rattle.pgn_model.specs.declared.command.Command.TheVariants as command
 use Rattle.pgn_model.specs.Tokens.{Wrong, Token, is_blank, tokens}
 use Rattle.pgn_model.specs.Grammar.{table, ReadsAs, lexemes_of, reading, reading_of, command_of}
-use Rattle.pgn_model.specs.Lines.{Says, Nothing, Opens, Signals, Awaits, Quits, NoMeta, says, text_says, command_says, meta_says, trimmed, trimmed_start, trimmed_end, is_gap, is_empty, is_label, is_database, parts_of, lines_of}
+use Rattle.pgn_model.specs.Lines.{Says, SaysNothing, Opens, Signals, Awaits, Quits, NoMeta, says, text_says, command_says, meta_says, trimmed, trimmed_start, trimmed_end, is_gap, is_empty, is_label, is_database, parts_of, lines_of}
 use Rattle.pgn_model.specs.laws.Inputs.{lacks, LinesAreCut, IsTextOf, PartsAreCut}
 use Rattle.pgn_model.proofs.GrammarLaws.{reading-computes}
 
@@ -178,16 +178,16 @@ parts-are_cut = record {
 -- Blank lines.
 
 -- a command says nothing where it is Empty
-command-nothing : (some : Command) → (command_says some ≡ Nothing) ↔ (some ≡ command.Empty)
+command-nothing : (some : Command) → (command_says some ≡ SaysNothing) ↔ (some ≡ command.Empty)
 command-nothing command.Empty = (λ h. refl, λ h. refl)
 command-nothing other = (λ h. absurd (cc), λ h. absurd (cc))
 
-cond_not : (b : Bool) (x y : Says) → (x ≡ Nothing → ⊥) → (y ≡ Nothing → ⊥) → cond b x y ≡ Nothing → ⊥
+cond_not : (b : Bool) (x y : Says) → (x ≡ SaysNothing → ⊥) → (y ≡ SaysNothing → ⊥) → cond b x y ≡ SaysNothing → ⊥
 cond_not true x y f g h = f h
 cond_not false x y f g h = g h
 
 -- a meta line says something
-meta-something : (parts : List (List ℕ)) → meta_says parts ≡ Nothing → ⊥
+meta-something : (parts : List (List ℕ)) → meta_says parts ≡ SaysNothing → ⊥
 meta-something [] h = absurd (cc)
 meta-something (word ∷ []) h = cond_not (bytes_eq word (codes "\\quit")) Quits NoMeta (λ e. absurd (cc)) (λ e. absurd (cc)) h
 meta-something (word ∷ flag ∷ []) h =
@@ -207,20 +207,20 @@ meta-bad : (bytes : List ℕ) → reading (92 ∷ bytes) ≡ command.Bad 0
 unfolding table
 meta-bad bytes = ap (λ (ts : List Token). reading_of (length (92 ∷ bytes)) ts (command_of table (lexemes_of ts))) (one-wrong bytes)
 
-text-nothing : (text : List ℕ) → (text_says text ≡ Nothing) ↔ (reading text ≡ command.Empty)
+text-nothing : (text : List ℕ) → (text_says text ≡ SaysNothing) ↔ (reading text ≡ command.Empty)
 text-nothing [] = command-nothing (reading [])
 text-nothing (byte ∷ bytes) = elim (cases_Bool (byte == 92)) [
   | inl e ↦ (
-    (λ h. absurd (meta-something (parts_of (byte ∷ bytes)) (subst (λ (b : Bool). cond b (meta_says (parts_of (byte ∷ bytes))) (command_says (reading (byte ∷ bytes))) ≡ Nothing) e h))),
+    (λ h. absurd (meta-something (parts_of (byte ∷ bytes)) (subst (λ (b : Bool). cond b (meta_says (parts_of (byte ∷ bytes))) (command_says (reading (byte ∷ bytes))) ≡ SaysNothing) e h))),
     (λ h. let bad : command.Bad 0 ≡ command.Empty = sym (meta-bad bytes) ∙ ap (λ (b : ℕ). reading (b ∷ bytes)) (sym (eqb-true byte 92 e)) ∙ h in absurd (cc)),
   )
   | inr e ↦ (
-    (λ h. (command-nothing (reading (byte ∷ bytes))).0 (subst (λ (b : Bool). cond b (meta_says (parts_of (byte ∷ bytes))) (command_says (reading (byte ∷ bytes))) ≡ Nothing) e h)),
+    (λ h. (command-nothing (reading (byte ∷ bytes))).0 (subst (λ (b : Bool). cond b (meta_says (parts_of (byte ∷ bytes))) (command_says (reading (byte ∷ bytes))) ≡ SaysNothing) e h)),
     (λ h. rw e ((command-nothing (reading (byte ∷ bytes))).1 h)),
   )
 ]
 
-pub blank-reads_empty : (line : List ℕ) → (says line ≡ Nothing) ↔ ReadsAs (trimmed line) command.Empty
+pub blank-reads_empty : (line : List ℕ) → (says line ≡ SaysNothing) ↔ ReadsAs (trimmed line) command.Empty
 unfolding says
 blank-reads_empty line = (
   (λ h. (reading-computes (trimmed line) command.Empty).1 ((text-nothing (trimmed line)).0 h)),

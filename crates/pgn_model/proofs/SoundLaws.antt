@@ -22,7 +22,7 @@ use Rattle.pgn_model.specs.declared.scenario.ScriptLine.{ScriptLine}
 use Rattle.pgn_model.specs.declared.scenario.Section.{Section}
 use Rattle.pgn_model.specs.declared.scenario.ScenarioFault.{ScenarioFault}
 use Rattle.pgn_model.specs.declared.scenario.ScenarioFault.TheVariants as fault
-use Rattle.pgn_model.specs.Lines.{Says, Nothing, Opens, Runs, Signals, Awaits, Quits, NoMeta, says, trimmed, is_label, is_label_byte, is_database, meta_says, command_says, text_says, begins_meta, parts_of, lines_of}
+use Rattle.pgn_model.specs.Lines.{Says, SaysNothing, Opens, Runs, Signals, Awaits, Quits, NoMeta, says, trimmed, is_label, is_label_byte, is_database, meta_says, command_says, text_says, begins_meta, parts_of, lines_of}
 use Rattle.std.specs.Str.Parse.{digits_value}
 use Rattle.pgn_model.specs.laws.Inputs.{IsTextOf}
 use Rattle.pgn_model.proofs.LineLaws.{is-trimmed}
@@ -98,7 +98,7 @@ few said h =
 
 -- sections are those that lines open, numbered
 count_at : (flags : List (List ℕ)) (number n : ℕ) (said : Says) (lines : List (List ℕ)) → length (section_at flags number n said lines) ≡ length (section_names (said ∷ []))
-count_at flags number n Nothing lines = refl
+count_at flags number n SaysNothing lines = refl
 count_at flags number n (Opens name db) lines = refl
 count_at flags number n (Runs run) lines = refl
 count_at flags number n (Signals flag) lines = refl
@@ -124,7 +124,7 @@ sections-counted flags number n (line ∷ lines) =
 numbered_at : (flags : List (List ℕ)) (number n : ℕ) (said : Says) (lines : List (List ℕ)) (rest : List Section)
     → AreNumbered (number + length (section_at flags number n said lines)) rest → AreNumbered number (section_at flags number n said lines ++ rest)
 numbered_at flags number n (Opens name db) lines rest h = (refl, h)
-numbered_at flags number n Nothing lines rest h = subst (λ (k : ℕ). AreNumbered k rest) (let same : number + 0 ≡ number = omega arith in same) h
+numbered_at flags number n SaysNothing lines rest h = subst (λ (k : ℕ). AreNumbered k rest) (let same : number + 0 ≡ number = omega arith in same) h
 numbered_at flags number n (Runs run) lines rest h = subst (λ (k : ℕ). AreNumbered k rest) (let same : number + 0 ≡ number = omega arith in same) h
 numbered_at flags number n (Signals flag) lines rest h = subst (λ (k : ℕ). AreNumbered k rest) (let same : number + 0 ≡ number = omega arith in same) h
 numbered_at flags number n (Awaits flag) lines rest h = subst (λ (k : ℕ). AreNumbered k rest) (let same : number + 0 ≡ number = omega arith in same) h
@@ -140,7 +140,7 @@ numbered flags number n (line ∷ lines) =
 -- where a section begins, there is a name
 one_named : (said : Says) → is_opening said ≡ true → 0 < length (section_names (said ∷ []))
 one_named (Opens name db) h = omega arith
-one_named Nothing h = absurd (cc)
+one_named SaysNothing h = absurd (cc)
 one_named (Runs run) h = absurd (cc)
 one_named (Signals flag) h = absurd (cc)
 one_named (Awaits flag) h = absurd (cc)
@@ -171,7 +171,7 @@ notes_at : (flags : List (List ℕ)) (number n : ℕ) (line : List ℕ) (said : 
     + notes_in (section_at flags number (n + 1) said lines) ≡ noting said + note_lines_of (script_from flags (n + 1) lines)
 notes_at flags number n line (Opens name db) lines =
     let sum : notes_in (section_at flags number (n + 1) (Opens name db) lines) ≡ 0 + note_lines_of (script_from flags (n + 1) lines) = refl in omega (arith, sum)
-notes_at flags number n line Nothing lines = omega arith
+notes_at flags number n line SaysNothing lines = omega arith
 notes_at flags number n line (Runs run) lines =
     let one : ScriptLine = script_line n (trimmed line) (Run run) in
     let rest : List ScriptLine = script_from flags (n + 1) lines in
@@ -221,7 +221,7 @@ AreNamed flags (Awaits flag ∷ said) = (has_name flags flag ≡ true) × AreNam
 AreNamed flags (one ∷ said) = AreNamed flags said
 
 named-rest : (flags : List (List ℕ)) (one : Says) (said : List Says) → AreNamed flags (one ∷ said) → AreNamed flags said
-named-rest flags Nothing said h = h
+named-rest flags SaysNothing said h = h
 named-rest flags (Opens name db) said h = h
 named-rest flags (Runs run) said h = h
 named-rest flags (Signals flag) said h = h.1
@@ -251,7 +251,7 @@ flags-named : (before : List (List ℕ)) (said : List Says) → AreNamed (fold w
 flags-named before [] = tt
 flags-named before (Signals flag ∷ said) = (kept-fold (with_name before flag) (filter_map named_flag said) flag (with-it before flag), flags-named (with_name before flag) said)
 flags-named before (Awaits flag ∷ said) = (kept-fold (with_name before flag) (filter_map named_flag said) flag (with-it before flag), flags-named (with_name before flag) said)
-flags-named before (Nothing ∷ said) = flags-named before said
+flags-named before (SaysNothing ∷ said) = flags-named before said
 flags-named before (Opens name db ∷ said) = flags-named before said
 flags-named before (Runs run ∷ said) = flags-named before said
 flags-named before (Quits ∷ said) = flags-named before said
@@ -261,7 +261,7 @@ flags-named before (NoMeta ∷ said) = flags-named before said
 
 script-cons : (P : ScriptLine → Type 0) (flags : List (List ℕ)) (n : ℕ) (line : List ℕ) (said : Says) (rest : List ScriptLine) → ((act : Act) → act_of flags said ≡ Some act → P (script_line n (trimmed line) act)) → All P rest
     → All P (option_to_list (option_map (script_line n (trimmed line)) (act_of flags said)) ++ rest)
-script-cons P flags n line Nothing rest h k = k
+script-cons P flags n line SaysNothing rest h k = k
 script-cons P flags n line (Opens name db) rest h k = k
 script-cons P flags n line NoMeta rest h k = k
 script-cons P flags n line (Runs run) rest h k = All-cons P (script_line n (trimmed line) (Run run)) rest (h (Run run) refl) k
@@ -274,7 +274,7 @@ below-act flags (Signals flag) said act h e = subst (λ (o : Option Act). IfSome
 below-act flags (Awaits flag) said act h e = subst (λ (o : Option Act). IfSome o (HasFlagBelow (length flags))) e (flag-below flags flag h.0)
 below-act flags (Runs run) said act h e = subst (λ (o : Option Act). IfSome o (HasFlagBelow (length flags))) e tt
 below-act flags Quits said act h e = subst (λ (o : Option Act). IfSome o (HasFlagBelow (length flags))) e tt
-below-act flags Nothing said act h e = absurd (cc)
+below-act flags SaysNothing said act h e = absurd (cc)
 below-act flags (Opens name db) said act h e = absurd (cc)
 below-act flags NoMeta said act h e = absurd (cc)
 
@@ -304,7 +304,7 @@ rise-after n [] h = tt
 rise-after n (line ∷ lines) h = (below-first line.line lines h.1, rise-after line.line lines h.1)
 
 rise-cons : (m n : ℕ) (flags : List (List ℕ)) (line : List ℕ) (said : Says) (rest : List ScriptLine) → m < n → RiseAfter n rest → RiseAfter m rest → RiseAfter m (option_to_list (option_map (script_line n (trimmed line)) (act_of flags said)) ++ rest)
-rise-cons m n flags line Nothing rest l h k = k
+rise-cons m n flags line SaysNothing rest l h k = k
 rise-cons m n flags line (Opens name db) rest l h k = k
 rise-cons m n flags line NoMeta rest l h k = k
 rise-cons m n flags line (Runs run) rest l h k = (l, h)
@@ -328,8 +328,8 @@ quit_at : (said : List Says) (one : Says) → has_quit (said ++ one ∷ []) ≡ 
 quit_at said one = fold_push (λ (quit : Bool) (line : Says). cond (is_opening line) false (quit || is_quit line)) false said one
 
 -- a line after a `\quit`, which is not at fault
-quiet : (before : List Says) (one : Says) → has_quit before ≡ true → is_bad_meta before one ≡ false → (is_opening one ≡ true) ⊎ (one ≡ Nothing)
-quiet before Nothing h e = inr refl
+quiet : (before : List Says) (one : Says) → has_quit before ≡ true → is_bad_meta before one ≡ false → (is_opening one ≡ true) ⊎ (one ≡ SaysNothing)
+quiet before SaysNothing h e = inr refl
 quiet before (Opens name db) h e = inl refl
 quiet before NoMeta h e = absurd (cc)
 quiet before (Runs run) h e = absurd (both_ways (has_quit before) e h)
@@ -345,13 +345,13 @@ nothing-after flags n before (line ∷ lines) sound h =
       | inl e ↦ rw e refl
       | inr e ↦
           let still : has_quit (all_say (before ++ line ∷ [])) ≡ true
-          = ap has_quit (said_more before line) ∙ ap (λ (s : Says). has_quit (all_say before ++ s ∷ [])) e ∙ quit_at (all_say before) Nothing ∙ or_left (has_quit (all_say before)) false h in
+          = ap has_quit (said_more before line) ∙ ap (λ (s : Says). has_quit (all_say before ++ s ∷ [])) e ∙ quit_at (all_say before) SaysNothing ∙ or_left (has_quit (all_say before)) false h in
           rw e (nothing-after flags (n + 1) (before ++ line ∷ []) lines (sound-rest before line lines sound) still)
     ]
 
 quits-cons : (flags : List (List ℕ)) (n : ℕ) (line : List ℕ) (said : Says) (rest : List ScriptLine) → (said ≡ Quits → rest ≡ []) → QuitsLast rest
     → QuitsLast (option_to_list (option_map (script_line n (trimmed line)) (act_of flags said)) ++ rest)
-quits-cons flags n line Nothing rest h k = k
+quits-cons flags n line SaysNothing rest h k = k
 quits-cons flags n line (Opens name db) rest h k = k
 quits-cons flags n line NoMeta rest h k = k
 quits-cons flags n line (Runs run) rest h k = (λ e. absurd (cc), k)
@@ -423,14 +423,14 @@ flag-lines : (said : Says) (names : List (List ℕ)) (more : List (List ℕ)) �
     → All IsOneLine (fold with_name names (option_to_list (named_flag said) ++ more))
 flag-lines (Signals flag) names more h k f = f (with_name names flag) (with-lines names flag k (label-line flag h))
 flag-lines (Awaits flag) names more h k f = f (with_name names flag) (with-lines names flag k (label-line flag h))
-flag-lines Nothing names more h k f = f names k
+flag-lines SaysNothing names more h k f = f names k
 flag-lines (Opens name db) names more h k f = f names k
 flag-lines (Runs run) names more h k f = f names k
 flag-lines Quits names more h k f = f names k
 flag-lines NoMeta names more h k f = f names k
 
 named-cons : (said : Says) (more : List Says) → filter_map named_flag (said ∷ more) ≡ option_to_list (named_flag said) ++ filter_map named_flag more
-named-cons Nothing more = refl
+named-cons SaysNothing more = refl
 named-cons (Opens name db) more = refl
 named-cons (Runs run) more = refl
 named-cons (Signals flag) more = refl
@@ -498,7 +498,7 @@ act-line flags line (Runs run) act h e a =
 act-line flags line (Signals flag) act h e a = subst (λ (o : Option Act). IfSome o IsOneLineAct) a tt
 act-line flags line (Awaits flag) act h e a = subst (λ (o : Option Act). IfSome o IsOneLineAct) a tt
 act-line flags line Quits act h e a = subst (λ (o : Option Act). IfSome o IsOneLineAct) a tt
-act-line flags line Nothing act h e a = absurd (cc)
+act-line flags line SaysNothing act h e a = absurd (cc)
 act-line flags line (Opens name db) act h e a = absurd (cc)
 act-line flags line NoMeta act h e a = absurd (cc)
 
@@ -545,7 +545,7 @@ section_at-sound : (flags before lines : List (List ℕ)) (number n : ℕ) (said
     → All (IsSoundSection (length flags)) rest → All (IsSoundSection (length flags)) (section_at flags number n said lines ++ rest)
 section_at-sound flags before lines number n (Opens name db) rest some label h k =
     All-cons (IsSoundSection (length flags)) (section number name db (script_from flags n lines)) rest (section-sound flags before lines number n name db some label h) k
-section_at-sound flags before lines number n Nothing rest some label h k = k
+section_at-sound flags before lines number n SaysNothing rest some label h k = k
 section_at-sound flags before lines number n (Runs run) rest some label h k = k
 section_at-sound flags before lines number n (Signals flag) rest some label h k = k
 section_at-sound flags before lines number n (Awaits flag) rest some label h k = k

@@ -15,7 +15,7 @@ use Rattle.pgn_model.specs.declared.scenario.Section.{Section}
 use Rattle.pgn_model.specs.declared.scenario.Scenario.{Scenario}
 use Rattle.pgn_model.specs.declared.scenario.ScenarioFault.{ScenarioFault}
 use Rattle.pgn_model.specs.declared.scenario.ScenarioFault.TheVariants as fault
-use Rattle.pgn_model.specs.Lines.{Says, Nothing, Opens, Runs, Signals, Awaits, Quits, NoMeta, says, trimmed, lines_of}
+use Rattle.pgn_model.specs.Lines.{Says, SaysNothing, Opens, Runs, Signals, Awaits, Quits, NoMeta, says, trimmed, lines_of}
 
 -- what lines say, one after another
 abbrev pub all_say : List (List ℕ) → List Says
@@ -79,13 +79,13 @@ has_quit said = fold (λ quit line. cond (is_opening line) false (quit || is_qui
 -- a line begins as a meta line and is none; or it stands after a `\quit` of its section, and is neither blank nor begins a section
 abbrev pub is_bad_meta : List Says → Says → Bool
 is_bad_meta before NoMeta = true
-is_bad_meta before Nothing = false
+is_bad_meta before SaysNothing = false
 is_bad_meta before (Opens name db) = false
 is_bad_meta before said = has_quit before
 
 -- no section has begun, and the line is neither blank nor begins one
 abbrev pub lacks_session : List Says → Says → Bool
-lacks_session before Nothing = false
+lacks_session before SaysNothing = false
 lacks_session before (Opens name db) = false
 lacks_session before said = not (list_any is_opening before)
 

@@ -55,7 +55,7 @@ is_database digits = nat_le 1 (length digits) && nat_le (length digits) 10 && li
 -- what a line says
 pub data Says : Type 0 where
   -- nothing: it is blank
-  Nothing : Says
+  SaysNothing : Says
   -- `\session NAME DB`: a section begins
   Opens : (name : List ℕ) → (db : ℕ) → Says
   -- a command, be it one that is Bad or Invalid
@@ -80,7 +80,7 @@ meta_says parts = NoMeta
 
 -- what a line that reads as this command says: nothing where it is Empty
 abbrev pub command_says : Command → Says
-command_says Empty = Nothing
+command_says Empty = SaysNothing
 command_says command = Runs command
 
 -- the text begins with `\`, as each meta line does

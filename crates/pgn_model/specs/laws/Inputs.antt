@@ -9,7 +9,7 @@ use Rattle.pgn_model.specs.declared.scenario.ScenarioFault.{ScenarioFault}
 use Rattle.pgn_model.specs.declared.scenario.ScenarioFault.TheVariants as fault
 use Rattle.pgn_model.specs.Tokens.{is_blank}
 use Rattle.pgn_model.specs.Grammar.{ReadsAs}
-use Rattle.pgn_model.specs.Lines.{Nothing, says, trimmed, is_gap, parts_of, lines_of}
+use Rattle.pgn_model.specs.Lines.{SaysNothing, says, trimmed, is_gap, parts_of, lines_of}
 use Rattle.pgn_model.specs.Inputs.{all_say, fault_of, has_section, unsignalled, scenario_of, IsOneLine, IsOneLineCommand, ReadsAsScenario, IsSound}
 
 -- the byte does not stand in the text
@@ -45,7 +45,7 @@ pub record PartsAreCut : Type 0 where
 
 -- a line is blank exactly where its text reads as the command Empty
 abbrev pub BlankReadsEmpty : Type 0
-BlankReadsEmpty = (line : List ℕ) → (says line ≡ Nothing) ↔ ReadsAs (trimmed line) Empty
+BlankReadsEmpty = (line : List ℕ) → (says line ≡ SaysNothing) ↔ ReadsAs (trimmed line) Empty
 
 -- the first fault of lines, after lines that have none
 abbrev pub first_fault : List (List ℕ) → List (List ℕ) → Option ScenarioFault
