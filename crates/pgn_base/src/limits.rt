@@ -28,6 +28,13 @@ pub const FIRST_XID: u32 = 3;
 /// A session's process number is its own number and this one.
 pub const PID_BASE: u32 = 1_000;
 
+/// The least and the greatest limit of the queue, in pages.
+pub const PAGES_MIN: u32 = 2;
+pub const PAGES_MAX: u32 = 1_024;
+
+/// The most flags of a queue: those that a scenario names, and one for the end of each session.
+pub const HUB_FLAGS_MAX: u32 = 512;
+
 /// How many pages the queue has at most, where the command line sets nothing.
 pub const PAGES_DEFAULT: u32 = 256;
 
