@@ -1,6 +1,5 @@
 -- The table of answers: a row for each command and a column for each state of the block.
-use Rattle.std.specs.Prelude.{ℕ, Bool, cond, List, length, Option, Some, None, bytes_eq}
-use Rattle.std.specs.List.{list_any}
+use Rattle.std.specs.Prelude.{ℕ, cond, List, length, Option, Some, None}
 use Rattle.pgn_base.specs.Names.{has_name}
 use Rattle.pgn_base.specs.declared.answers.Tag.{Tag}
 use Rattle.pgn_base.specs.declared.answers.Tag.TheVariants as tag
