@@ -14,7 +14,7 @@ use Rattle.pgn_model.specs.declared.command.Command.{Command}
 use Rattle.pgn_model.specs.declared.command.Command.TheVariants.{Empty, Begin, Start, Commit, Rollback, Savepoint, RollbackTo, Release, Listen, Unlisten, UnlistenAll, Notify, PgNotify, ListeningChannels, QueueUsage, Invalid, Bad}
 use Rattle.pgn_model.specs.Savepoints.{Change, Saved, Acted, Noted, changes_of, firsts, surviving_notes, live_names}
 use Rattle.pgn_model.specs.Answers.{Outcome, Commits, Replies, Refuses, answer, next_state, list_after}
-use Rattle.pgn_model.specs.Text.{joined, tag_text, warning_lines, refusal_text}
+use Rattle.pgn_model.specs.Text.{tag_text, warning_lines, refusal_text}
 
 -- the name `s`
 abbrev pub s_name : List ℕ
