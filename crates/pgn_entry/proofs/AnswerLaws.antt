@@ -1,6 +1,7 @@
 -- Bytes read as one thing, and what it is follows from what their parts read as.
 use Rattle.std.proofs.Common.{◌≡◌, ◌≢◌, ℕ, ◌-◌, List, drop, Result, Ok, Err, refl, sym, ap, subst, ◌∙◌, inl, inr, arith}
 use Rattle.std.specs.Prelude.{◌↔◌}
+use Rattle.pgn_base.specs.declared.format.Format.TheVariants.{One}
 use Rattle.pgn_base.specs.declared.note.Note.{Note}
 use Rattle.pgn_model.specs.Bytes.{entry_length, IsEntryLength}
 use Rattle.pgn_model.proofs.BytesLemmas.{entry_lengths, reads_back, none_is_filler, filler_reads_back}
@@ -40,9 +41,9 @@ entry_not_refused note db xid pid bytes fault h =
     let parts = parts_of_entry note db xid pid bytes h in
     let len = parts.states.stated_len in
     let some : number_at 4 bytes ≢ 0 = λ none. let of = h.of_database in let is = parts.states.stated_db in absurd (omega arith) in
-    let head : HasHead bytes = head_from bytes (subst IsEntryLength (sym len) (entry_lengths note h.valid)) (let room = parts.room in omega arith) in
+    let head : HasHead bytes = head_from bytes (subst (IsEntryLength One) (sym len) (entry_lengths One note h.valid)) (let room = parts.room in omega arith) in
     let whole : IsWhole (number_at 0 bytes) (body bytes) =
-    subst (λ (n : ℕ). IsWhole n (body bytes)) (sym len) (subst (IsWhole (entry_length note)) (sym parts.whole) (entry_is_whole note h.valid).0) in
+    subst (λ (n : ℕ). IsWhole n (body bytes)) (sym len) (subst (IsWhole (entry_length One note)) (sym parts.whole) (entry_is_whole note h.valid).0) in
     entry_refutes bytes fault head some whole
 
 -- no bytes whose parts are those of a filler are refused
@@ -58,7 +59,7 @@ filler_not_refused : (len xid pid : ℕ) (bytes : List ℕ) (fault : EntryFault)
 filler_not_refused len xid pid bytes fault h =
     let parts = parts_of_filler len xid pid bytes h in
     let same = parts.states.stated_len in
-    let head : HasHead bytes = head_from bytes (subst IsEntryLength (sym same) h.valid) (let room = parts.room in omega arith) in
+    let head : HasHead bytes = head_from bytes (subst (IsEntryLength One) (sym same) h.valid) (let room = parts.room in omega arith) in
     filler_refutes bytes fault head parts.states.stated_db (subst IsAllZero (sym parts.whole) (are_zeros (len - 16)))
 
 -- bytes that are refused are refused in one way
@@ -93,21 +94,21 @@ one_fault bytes BadPad BadPad p q = refl
 same_entry : (bytes : List ℕ) (len len' : ℕ) (a b : Note) (db db' xid xid' pid pid' : ℕ) → ReadsAs bytes (AnEntry len a db xid pid) → ReadsAs bytes (AnEntry len' b db' xid' pid')
     → AnEntry len a db xid pid ≡ AnEntry len' b db' xid' pid'
 same_entry bytes len len' a b db db' xid xid' pid pid' p q =
-    let same = reads_back a b db db' xid xid' pid pid' p.1.rest q.1.rest p.1.valid q.1.valid p.1.numbers q.1.numbers (sym p.1.spelling ∙ q.1.spelling) in
-    let lens : len ≡ len' = p.0 ∙ ap entry_length same.same_note ∙ sym q.0 in
+    let same = reads_back One a b db db' xid xid' pid pid' p.1.rest q.1.rest p.1.valid q.1.valid p.1.numbers q.1.numbers (sym p.1.spelling ∙ q.1.spelling) in
+    let lens : len ≡ len' = p.0 ∙ ap (entry_length One) same.same_note ∙ sym q.0 in
     cc
 
 -- those of two fillers
 same_filler : (bytes : List ℕ) (len len' xid xid' pid pid' : ℕ) → ReadsAs bytes (AFiller len xid pid) → ReadsAs bytes (AFiller len' xid' pid')
     → AFiller len xid pid ≡ AFiller len' xid' pid'
 same_filler bytes len len' xid xid' pid pid' p q =
-    let same = filler_reads_back len len' xid xid' pid pid' p.rest q.rest p.valid.fits q.valid.fits p.numbers q.numbers (sym p.spelling ∙ q.spelling) in
+    let same = filler_reads_back One len len' xid xid' pid pid' p.rest q.rest p.valid.fits q.valid.fits p.numbers q.numbers (sym p.spelling ∙ q.spelling) in
     cc
 
 -- no bytes begin with an entry and with a filler
 not_both : (bytes : List ℕ) (note : Note) (db xid pid len xid' pid' : ℕ) → BeginsEntry note db xid pid bytes → BeginsFiller len xid' pid' bytes → ⊥
 not_both bytes note db xid pid len xid' pid' p q =
-    none_is_filler note db xid pid len xid' pid' p.rest q.rest p.of_database p.numbers.db_fits (sym p.spelling ∙ q.spelling)
+    none_is_filler One note db xid pid len xid' pid' p.rest q.rest p.of_database p.numbers.db_fits (sym p.spelling ∙ q.spelling)
 
 -- bytes read as one thing at most
 pub reads_as_one : ReadsAsOne
@@ -200,7 +201,7 @@ refuses bytes answer r fault =
 
 -- all that is promised of an answer
 pub record IsExact (bytes : List ℕ) (answer : Result EntryView EntryFault) : Type 0 where
-  pub entry : (len : ℕ) (note : Note) (db xid pid : ℕ) → (told answer ≡ AnEntry len note db xid pid) ↔ ((len ≡ entry_length note) × BeginsEntry note db xid pid bytes)
+  pub entry : (len : ℕ) (note : Note) (db xid pid : ℕ) → (told answer ≡ AnEntry len note db xid pid) ↔ ((len ≡ entry_length One note) × BeginsEntry note db xid pid bytes)
   pub filler : (len xid pid : ℕ) → (told answer ≡ AFiller len xid pid) ↔ BeginsFiller len xid pid bytes
   pub refused : (fault : EntryFault) → (answer ≡ Err fault) ↔ IsRefused fault bytes
 

@@ -3,6 +3,7 @@ use Rattle.std.proofs.Common.{◌≡◌, ℕ, ◌+◌, ◌-◌, ◌%◌, ◌^◌
 use Rattle.std.specs.List.{before_first, after_first}
 use Rattle.std.proofs.lemmas.List.{length-replicate}
 use Rattle.std.proofs.lemmas.Bool.{cases_lt, cases_eq}
+use Rattle.pgn_base.specs.declared.format.Format.TheVariants.{One}
 use Rattle.pgn_base.specs.declared.note.Note.{Note}
 use Rattle.pgn_model.specs.Bytes.{header, entry_length, spelled, filler, IsNote, IsHead, IsEntryLength}
 use Rattle.pgn_model.proofs.BytesLemmas.{length-header, entry_lengths}
@@ -14,34 +15,34 @@ use Rattle.pgn_entry.proofs.HeadLaws.{AreBytes, header_back, parts_back, States,
 
 -- how many zero bytes fill an entry up
 abbrev pub fill : Note → ℕ
-fill note = entry_length note - (16 + (length note.channel + 1) + (length note.payload + 1))
+fill note = entry_length One note - (16 + (length note.channel + 1) + (length note.payload + 1))
 
 -- the body of an entry
 abbrev pub entry_body : Note → List ℕ
 entry_body note = note.channel ++ 0 ∷ (note.payload ++ 0 ∷ replicate (fill note) 0)
 
-length-entry_body : (note : Note) → 16 + length (entry_body note) ≡ entry_length note
+length-entry_body : (note : Note) → 16 + length (entry_body note) ≡ entry_length One note
 length-entry_body note =
     let room = entry_has_room note in
     simp (length-append, length-replicate) (omega arith)
 
 -- an entry, and bytes after it, from the left
-entry_split : (note : Note) (db xid pid : ℕ) (rest : List ℕ) → spelled note db xid pid ++ rest ≡ header (entry_length note) db xid pid ++ (entry_body note ++ rest)
+entry_split : (note : Note) (db xid pid : ℕ) (rest : List ℕ) → spelled One note db xid pid ++ rest ≡ header One (entry_length One note) db xid pid ++ (entry_body note ++ rest)
 unfolding spelled
 entry_split note db xid pid rest =
-    let head : List ℕ = header (entry_length note) db xid pid in
+    let head : List ℕ = header One (entry_length One note) db xid pid in
     let size : length (head ++ (note.channel ++ 0 ∷ []) ++ (note.payload ++ 0 ∷ [])) ≡ 16 + (length note.channel + 1) + (length note.payload + 1) =
-    simp length-append (omega (arith, length-header (entry_length note) db xid pid)) in
+    simp length-append (omega (arith, length-header One (entry_length One note) db xid pid)) in
     rw size (simp append_assoc)
 
 -- a filler, and bytes after it, from the left
-filler_split : (len xid pid : ℕ) (rest : List ℕ) → filler len xid pid ++ rest ≡ header len 0 xid pid ++ (replicate (len - 16) 0 ++ rest)
+filler_split : (len xid pid : ℕ) (rest : List ℕ) → filler One len xid pid ++ rest ≡ header One len 0 xid pid ++ (replicate (len - 16) 0 ++ rest)
 unfolding filler
-filler_split len xid pid rest = rw (length-header len 0 xid pid) (append_assoc (header len 0 xid pid) (replicate (len - 16) 0) rest)
+filler_split len xid pid rest = rw (length-header One len 0 xid pid) (append_assoc (header One len 0 xid pid) (replicate (len - 16) 0) rest)
 
 -- bytes that are an entry in their parts begin with it
 pub entry_from_parts : (bytes : List ℕ) → AreBytes bytes → 16 ≤ number_at 0 bytes → number_at 0 bytes ≤ length bytes → IsWhole (number_at 0 bytes) (body bytes)
-    → bytes ≡ spelled (note_of (body bytes)) (number_at 4 bytes) (number_at 8 bytes) (number_at 12 bytes) ++ drop (number_at 0 bytes) bytes
+    → bytes ≡ spelled One (note_of (body bytes)) (number_at 4 bytes) (number_at 8 bytes) (number_at 12 bytes) ++ drop (number_at 0 bytes) bytes
 entry_from_parts bytes are low high whole =
     let len : ℕ = number_at 0 bytes in
     let db : ℕ = number_at 4 bytes in
@@ -54,25 +55,25 @@ entry_from_parts bytes are low high whole =
     let count : length (padding_of (body bytes)) ≡ fill note = omega (arith, whole.size, length-body bytes high) in
     let zeros : padding_of (body bytes) ≡ replicate (fill note) 0 = zeros_are (padding_of (body bytes)) whole.padding ∙ ap (λ (n : ℕ). replicate n 0) count in
     let middle : body bytes ≡ entry_body note = parts ∙ ap (λ (l : List ℕ). note.channel ++ 0 ∷ (note.payload ++ 0 ∷ l)) zeros in
-    let head : take 16 bytes ≡ header (entry_length note) db xid pid = sym (header_back bytes are (omega arith)) ∙ ap (λ (n : ℕ). header n db xid pid) whole.size in
+    let head : take 16 bytes ≡ header One (entry_length One note) db xid pid = sym (header_back bytes are (omega arith)) ∙ ap (λ (n : ℕ). header One n db xid pid) whole.size in
     parts_back bytes low high
     ∙ ap (λ (l : List ℕ). l ++ (body bytes ++ rest)) head
-    ∙ ap (λ (l : List ℕ). header (entry_length note) db xid pid ++ (l ++ rest)) middle
+    ∙ ap (λ (l : List ℕ). header One (entry_length One note) db xid pid ++ (l ++ rest)) middle
     ∙ sym (entry_split note db xid pid rest)
 
 -- bytes that are a filler in their parts begin with it
 pub filler_from_parts : (bytes : List ℕ) → AreBytes bytes → 16 ≤ number_at 0 bytes → number_at 0 bytes ≤ length bytes → number_at 4 bytes ≡ 0 → IsAllZero (body bytes)
-    → bytes ≡ filler (number_at 0 bytes) (number_at 8 bytes) (number_at 12 bytes) ++ drop (number_at 0 bytes) bytes
+    → bytes ≡ filler One (number_at 0 bytes) (number_at 8 bytes) (number_at 12 bytes) ++ drop (number_at 0 bytes) bytes
 filler_from_parts bytes are low high none zero =
     let len : ℕ = number_at 0 bytes in
     let xid : ℕ = number_at 8 bytes in
     let pid : ℕ = number_at 12 bytes in
     let rest = drop len bytes in
     let middle : body bytes ≡ replicate (len - 16) 0 = zeros_are (body bytes) zero ∙ ap (λ (n : ℕ). replicate n 0) (length-body bytes high) in
-    let head : take 16 bytes ≡ header len 0 xid pid = sym (header_back bytes are (omega arith)) ∙ ap (λ (n : ℕ). header len n xid pid) none in
+    let head : take 16 bytes ≡ header One len 0 xid pid = sym (header_back bytes are (omega arith)) ∙ ap (λ (n : ℕ). header One len n xid pid) none in
     parts_back bytes low high
     ∙ ap (λ (l : List ℕ). l ++ (body bytes ++ rest)) head
-    ∙ ap (λ (l : List ℕ). header len 0 xid pid ++ (l ++ rest)) middle
+    ∙ ap (λ (l : List ℕ). header One len 0 xid pid ++ (l ++ rest)) middle
     ∙ sym (filler_split len xid pid rest)
 
 -- the parts of bytes that begin with an entry or a filler
@@ -82,22 +83,22 @@ pub record Parts (len db xid pid : ℕ) (middle bytes : List ℕ) : Type 0 where
   pub whole : body bytes ≡ middle
 
 -- the parts of a head, a body and what stands after it
-joined_parts : (len db xid pid : ℕ) (middle rest : List ℕ) → len < 2 ^ 32 → IsHead db xid pid → len ≡ 16 + length middle
-    → Parts len db xid pid middle (header len db xid pid ++ (middle ++ rest))
+joined_parts : (len db xid pid : ℕ) (middle rest : List ℕ) → len < 2 ^ 32 → IsHead One db xid pid → len ≡ 16 + length middle
+    → Parts len db xid pid middle (header One len db xid pid ++ (middle ++ rest))
 joined_parts len db xid pid middle rest low fits e =
-    let head = header len db xid pid in
+    let head = header One len db xid pid in
     let states = head_states len db xid pid (middle ++ rest) low fits in
     record {
       states = states;
-      room = simp length-append (omega (arith, length-header len db xid pid));
-      whole = body_after head middle rest len (length-header len db xid pid) e states.stated_len;
+      room = simp length-append (omega (arith, length-header One len db xid pid));
+      whole = body_after head middle rest len (length-header One len db xid pid) e states.stated_len;
     }
 
-pub parts_of_entry : (note : Note) (db xid pid : ℕ) (bytes : List ℕ) → BeginsEntry note db xid pid bytes → Parts (entry_length note) db xid pid (entry_body note) bytes
+pub parts_of_entry : (note : Note) (db xid pid : ℕ) (bytes : List ℕ) → BeginsEntry note db xid pid bytes → Parts (entry_length One note) db xid pid (entry_body note) bytes
 parts_of_entry note db xid pid bytes h =
-    let fits = (entry_lengths note h.valid).fits in
-    subst (Parts (entry_length note) db xid pid (entry_body note)) (sym (h.spelling ∙ entry_split note db xid pid h.rest))
-    (joined_parts (entry_length note) db xid pid (entry_body note) h.rest (omega arith) h.numbers (sym (length-entry_body note)))
+    let fits = (entry_lengths One note h.valid).fits in
+    subst (Parts (entry_length One note) db xid pid (entry_body note)) (sym (h.spelling ∙ entry_split note db xid pid h.rest))
+    (joined_parts (entry_length One note) db xid pid (entry_body note) h.rest (omega arith) h.numbers (sym (length-entry_body note)))
 
 pub parts_of_filler : (len xid pid : ℕ) (bytes : List ℕ) → BeginsFiller len xid pid bytes → Parts len 0 xid pid (replicate (len - 16) 0) bytes
 parts_of_filler len xid pid bytes h =
@@ -107,7 +108,7 @@ parts_of_filler len xid pid bytes h =
     (joined_parts len 0 xid pid (replicate (len - 16) 0) h.rest (omega arith) h.numbers (omega (arith, length-replicate {A = ℕ} (len - 16) 0)))
 
 -- the body of an entry is that of its note
-pub entry_is_whole : (note : Note) → IsNote note → IsWhole (entry_length note) (entry_body note) × (note_of (entry_body note) ≡ note)
+pub entry_is_whole : (note : Note) → IsNote note → IsWhole (entry_length One note) (entry_body note) × (note_of (entry_body note) ≡ note)
 entry_is_whole note valid =
     let tail : List ℕ = note.payload ++ 0 ∷ replicate (fill note) 0 in
     let channel : before_first is_zero (entry_body note) ≡ note.channel = before_zero note.channel tail valid.name.no_nul in
@@ -122,14 +123,14 @@ entry_is_whole note valid =
       record {
         zeros = omega (arith, one, two);
         valid = subst IsNote (sym same) valid;
-        size = ap entry_length (sym same);
+        size = ap (entry_length One) (sym same);
         padding = subst IsAllZero (sym padding) (are_zeros (fill note));
       },
       same,
     )
 
 -- bytes with enough of them and a length that fits
-pub head_from : (bytes : List ℕ) → IsEntryLength (number_at 0 bytes) → number_at 0 bytes ≤ length bytes → HasHead bytes
+pub head_from : (bytes : List ℕ) → IsEntryLength One (number_at 0 bytes) → number_at 0 bytes ≤ length bytes → HasHead bytes
 head_from bytes fits room =
     let whole = fits.whole in
     let low = fits.least in
@@ -140,7 +141,7 @@ head_from bytes fits room =
     }
 
 -- the same from what is not wrong with them
-pub head_tells : (bytes : List ℕ) → HasHead bytes → IsEntryLength (number_at 0 bytes) × (number_at 0 bytes ≤ length bytes)
+pub head_tells : (bytes : List ℕ) → HasHead bytes → IsEntryLength One (number_at 0 bytes) × (number_at 0 bytes ≤ length bytes)
 head_tells bytes h =
     let len : ℕ = number_at 0 bytes in (
       record {

@@ -5,6 +5,7 @@ use Rattle.std.proofs.Math.Seq.{take-add}
 use Rattle.std.proofs.lemmas.List.{take-append-drop, length-take-le, get_or-take, take_at, drop_at, drop-drop, get_or-drop, get_or_past, length-take}
 use Rattle.std.proofs.lemmas.Bool.{cases_lt}
 use Rattle.std.proofs.lemmas.Nat.{le_bytes_4, from_le_bytes-to_le_bytes_4}
+use Rattle.pgn_base.specs.declared.format.Format.TheVariants.{One}
 use Rattle.pgn_model.specs.Bytes.{four_bytes, header, IsHead}
 use Rattle.pgn_entry.specs.Reading.{number_at, body}
 
@@ -29,7 +30,7 @@ four_back place bytes are room =
     le_bytes_4 (take 4 rest) (from_le_bytes w32 rest) size (are_front 4 rest (λ i. rw (get_or-drop place bytes i 0) (are (place + i)))) same
 
 -- the head that the numbers of bytes make is the front of these bytes
-pub header_back : (bytes : List ℕ) → AreBytes bytes → 16 ≤ length bytes → header (number_at 0 bytes) (number_at 4 bytes) (number_at 8 bytes) (number_at 12 bytes) ≡ take 16 bytes
+pub header_back : (bytes : List ℕ) → AreBytes bytes → 16 ≤ length bytes → header One (number_at 0 bytes) (number_at 4 bytes) (number_at 8 bytes) (number_at 12 bytes) ≡ take 16 bytes
 unfolding header
 header_back bytes are room =
     let first : four_bytes (number_at 0 bytes) ≡ take 4 bytes = four_back 0 bytes are (omega arith) in
@@ -56,7 +57,7 @@ pub record States (len db xid pid : ℕ) (bytes : List ℕ) : Type 0 where
   pub stated_xid : number_at 8 bytes ≡ xid
   pub stated_pid : number_at 12 bytes ≡ pid
 
-pub head_states : (len db xid pid : ℕ) (rest : List ℕ) → len < 2 ^ 32 → IsHead db xid pid → States len db xid pid (header len db xid pid ++ rest)
+pub head_states : (len db xid pid : ℕ) (rest : List ℕ) → len < 2 ^ 32 → IsHead One db xid pid → States len db xid pid (header One len db xid pid ++ rest)
 unfolding number_at header
 head_states len db xid pid rest low fits = record {
   stated_len = from_le_bytes-to_le_bytes_4 len low;

@@ -2,6 +2,7 @@
 use Rattle.std.proofs.Common.{◌≡◌, ℕ, suc, ◌+◌, ◌-◌, ◌≤◌, List, [], ◌∷◌, ◌++◌, length, take, drop, replicate, refl, sym, ap, ◌∙◌, arith, append_assoc, length-append, length-drop}
 use Rattle.std.proofs.lemmas.List.{drop_all, take_at, drop_at, length-take-le, drop-replicate, append-nil}
 use borrow.Rule.Slice.PartMut.{put_mid}
+use Rattle.pgn_base.specs.declared.format.Format.TheVariants.{One}
 use Rattle.pgn_base.specs.declared.note.Note.{Note}
 use Rattle.pgn_model.specs.Bytes.{padded, header, entry_length, spelled, filler}
 use Rattle.pgn_model.proofs.BytesLemmas.{length-header}
@@ -31,7 +32,7 @@ texts_written channel payload len count room same =
     rw (first, same, take_at front (replicate left 0) (length channel + 1) size, drop_at front (replicate left 0) (length channel + 1) size, second, ← rest) (sym (append_assoc front (payload ++ 0 ∷ []) (replicate more 0)))
 
 -- an entry has room for its head and its texts, each with a zero byte
-pub entry_has_room : (note : Note) → 16 + (length note.channel + 1) + (length note.payload + 1) ≤ entry_length note
+pub entry_has_room : (note : Note) → 16 + (length note.channel + 1) + (length note.payload + 1) ≤ entry_length One note
 unfolding entry_length
 entry_has_room note = omega arith
 
@@ -60,20 +61,20 @@ padded_after head bytes count len e =
     rw (same, append_assoc) refl
 
 -- a head and its texts are an entry
-pub entry_written : (note : Note) (db xid pid count : ℕ) → 16 + count ≡ entry_length note
-    → header (entry_length note) db xid pid ++ padded count ((note.channel ++ 0 ∷ []) ++ (note.payload ++ 0 ∷ [])) ≡ spelled note db xid pid
+pub entry_written : (note : Note) (db xid pid count : ℕ) → 16 + count ≡ entry_length One note
+    → header One (entry_length One note) db xid pid ++ padded count ((note.channel ++ 0 ∷ []) ++ (note.payload ++ 0 ∷ [])) ≡ spelled One note db xid pid
 unfolding spelled
 entry_written note db xid pid count e =
-    let head : List ℕ = header (entry_length note) db xid pid in
-    let size = length-header (entry_length note) db xid pid in
-    padded_after head ((note.channel ++ 0 ∷ []) ++ (note.payload ++ 0 ∷ [])) count (entry_length note) (omega (arith, size))
-    ∙ ap (padded (entry_length note)) (sym (append_assoc head (note.channel ++ 0 ∷ []) (note.payload ++ 0 ∷ [])))
+    let head : List ℕ = header One (entry_length One note) db xid pid in
+    let size = length-header One (entry_length One note) db xid pid in
+    padded_after head ((note.channel ++ 0 ∷ []) ++ (note.payload ++ 0 ∷ [])) count (entry_length One note) (omega (arith, size))
+    ∙ ap (padded (entry_length One note)) (sym (append_assoc head (note.channel ++ 0 ∷ []) (note.payload ++ 0 ∷ [])))
 
 -- a head and zero bytes are a filler
-pub filler_written : (len xid pid count : ℕ) → 16 + count ≡ len → header len 0 xid pid ++ replicate count 0 ≡ filler len xid pid
+pub filler_written : (len xid pid count : ℕ) → 16 + count ≡ len → header One len 0 xid pid ++ replicate count 0 ≡ filler One len xid pid
 unfolding filler
 filler_written len xid pid count e =
-    let same : count ≡ len - length (header len 0 xid pid) = omega (arith, length-header len 0 xid pid) in
+    let same : count ≡ len - length (header One len 0 xid pid) = omega (arith, length-header One len 0 xid pid) in
     rw (← same) refl
 
 -- how many bytes are left after a head that is written over the front
@@ -81,23 +82,23 @@ abbrev pub left_after : List ℕ → List ℕ → ℕ
 left_after head old = length (take (length (head ++ drop 16 old) - 16) (drop 16 (head ++ drop 16 old)))
 
 -- a head and then the texts are written over all of some bytes
-pub entry_stands : (note : Note) (db xid pid : ℕ) (head old texts : List ℕ) → length old ≡ entry_length note → head ≡ header (entry_length note) db xid pid
+pub entry_stands : (note : Note) (db xid pid : ℕ) (head old texts : List ℕ) → length old ≡ entry_length One note → head ≡ header One (entry_length One note) db xid pid
     → texts ≡ padded (left_after head old) ((note.channel ++ 0 ∷ []) ++ (note.payload ++ 0 ∷ []))
-    → put_mid 16 (length (head ++ drop 16 old) - 16) (head ++ drop 16 old) texts ≡ spelled note db xid pid
+    → put_mid 16 (length (head ++ drop 16 old) - 16) (head ++ drop 16 old) texts ≡ spelled One note db xid pid
 entry_stands note db xid pid head old texts len e f =
-    let size : length head ≡ 16 = ap length e ∙ length-header (entry_length note) db xid pid in
+    let size : length head ≡ 16 = ap length e ∙ length-header One (entry_length One note) db xid pid in
     let whole = after_head_count head old size (omega (arith, entry_has_room note)) ∙ len in
     after_head head old texts size
-    ∙ ap (λ (l : List ℕ). l ++ texts) e ∙ ap (λ (l : List ℕ). header (entry_length note) db xid pid ++ l) f
+    ∙ ap (λ (l : List ℕ). l ++ texts) e ∙ ap (λ (l : List ℕ). header One (entry_length One note) db xid pid ++ l) f
     ∙ entry_written note db xid pid (left_after head old) whole
 
 -- a head and then zero bytes are written over all of some bytes
-pub filler_stands : (len xid pid : ℕ) (head old zeros : List ℕ) → length old ≡ len → 16 ≤ len → head ≡ header len 0 xid pid
+pub filler_stands : (len xid pid : ℕ) (head old zeros : List ℕ) → length old ≡ len → 16 ≤ len → head ≡ header One len 0 xid pid
     → zeros ≡ replicate (left_after head old) 0
-    → put_mid 16 (length (head ++ drop 16 old) - 16) (head ++ drop 16 old) zeros ≡ filler len xid pid
+    → put_mid 16 (length (head ++ drop 16 old) - 16) (head ++ drop 16 old) zeros ≡ filler One len xid pid
 filler_stands len xid pid head old zeros e room f g =
-    let size : length head ≡ 16 = ap length f ∙ length-header len 0 xid pid in
+    let size : length head ≡ 16 = ap length f ∙ length-header One len 0 xid pid in
     let whole = after_head_count head old size (omega arith) ∙ e in
     after_head head old zeros size
-    ∙ ap (λ (l : List ℕ). l ++ zeros) f ∙ ap (λ (l : List ℕ). header len 0 xid pid ++ l) g
+    ∙ ap (λ (l : List ℕ). l ++ zeros) f ∙ ap (λ (l : List ℕ). header One len 0 xid pid ++ l) g
     ∙ filler_written len xid pid (left_after head old) whole

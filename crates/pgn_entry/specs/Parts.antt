@@ -1,5 +1,6 @@
 -- What the parts of bytes read as: the head, the body of an entry, the body of a filler.
 use Rattle.std.specs.Prelude.{◌≡◌, ℕ, ◌≤◌, List, count_by}
+use Rattle.pgn_base.specs.declared.format.Format.TheVariants.{One}
 use Rattle.pgn_model.specs.Bytes.{entry_length, IsNote}
 use Rattle.pgn_entry.specs.declared.entry_fault.EntryFault.TheVariants.{Short, BadLength, NoNul, BadText, BadPad}
 use Rattle.pgn_entry.specs.declared.head.Head.{Head}
@@ -17,7 +18,7 @@ pub record IsHeadOf (bytes : List ℕ) (head : Head) : Type 0 where
 pub record IsWhole (len : ℕ) (bytes : List ℕ) : Type 0 where
   pub zeros : 2 ≤ count_by is_zero bytes
   pub valid : IsNote (note_of bytes)
-  pub size : len ≡ entry_length (note_of bytes)
+  pub size : len ≡ entry_length One (note_of bytes)
   pub padding : IsAllZero (padding_of bytes)
 
 -- what the body of an entry with this head reads as

@@ -2,6 +2,7 @@
 use Rattle.std.specs.Prelude.{◌≡◌, ◌≢◌, ℕ, ◌<◌, ◌%◌, ◌==◌, ◌⊎◌, Bool, List, ◌++◌, length, drop, slice_range, count_by, All, Result, Ok, Err}
 use Rattle.std.specs.List.{before_first, after_first}
 use Rattle.std.specs.Int.{w32, from_le_bytes}
+use Rattle.pgn_base.specs.declared.format.Format.TheVariants.{One}
 use Rattle.pgn_base.specs.declared.note.Note.{Note}
 use Rattle.pgn_base.specs.Texts.{IsName, IsPayload}
 use Rattle.pgn_model.specs.Bytes.{header_bytes, alignment, least_bytes, page_bytes, entry_length, spelled, filler, IsNote, IsHead, IsEntryLength}
@@ -32,7 +33,7 @@ stated_pid bytes = number_at 12 bytes
 
 -- what stands after the head, up to the length that is stated
 unfoldable pub body : List ℕ → List ℕ
-body bytes = slice_range bytes header_bytes (stated_length bytes)
+body bytes = slice_range bytes (header_bytes One) (stated_length bytes)
 
 -- whether a byte is zero
 abbrev pub is_zero : ℕ → Bool
@@ -52,11 +53,11 @@ padding_of bytes = after_first is_zero (after_first is_zero bytes)
 
 -- there are fewer bytes than the shortest entry has, or fewer than are stated
 abbrev pub IsShort : List ℕ → Type 0
-IsShort bytes = (length bytes < least_bytes) ⊎ (length bytes < stated_length bytes)
+IsShort bytes = (length bytes < least_bytes One) ⊎ (length bytes < stated_length bytes)
 
 -- the length that is stated is below the least, above a page's, or no multiple of the alignment
 abbrev pub HasBadLength : List ℕ → Type 0
-HasBadLength bytes = (stated_length bytes < least_bytes) ⊎ ((page_bytes < stated_length bytes) ⊎ (stated_length bytes % alignment ≢ 0))
+HasBadLength bytes = (stated_length bytes < least_bytes One) ⊎ ((page_bytes < stated_length bytes) ⊎ (stated_length bytes % alignment One ≢ 0))
 
 -- fewer than two zero bytes stand in a body
 abbrev pub LacksZeros : List ℕ → Type 0
@@ -68,7 +69,7 @@ HasBadTexts bytes = ¬ (IsName (note_of bytes).channel) ⊎ ¬ (IsPayload (note_
 
 -- the length is not that of the texts of a body, or a byte after them is not zero
 abbrev pub HasBadPadding : ℕ → List ℕ → Type 0
-HasBadPadding len bytes = (len ≢ entry_length (note_of bytes)) ⊎ ¬ (IsAllZero (padding_of bytes))
+HasBadPadding len bytes = (len ≢ entry_length One (note_of bytes)) ⊎ ¬ (IsAllZero (padding_of bytes))
 
 -- there are bytes enough, and the length that they state is one of an entry or a filler
 pub record HasHead (bytes : List ℕ) : Type 0 where
@@ -86,17 +87,17 @@ IsRefused BadPad bytes = HasHead bytes × (stated_db bytes ≢ 0) × ¬ (LacksZe
 -- bytes begin with the entry of a note
 pub record BeginsEntry (note : Note) (db xid pid : ℕ) (bytes : List ℕ) : Type 0 where
   pub valid : IsNote note
-  pub numbers : IsHead db xid pid
+  pub numbers : IsHead One db xid pid
   pub of_database : 0 < db
   pub rest : List ℕ
-  pub spelling : bytes ≡ spelled note db xid pid ++ rest
+  pub spelling : bytes ≡ spelled One note db xid pid ++ rest
 
 -- bytes begin with a filler of a length
 pub record BeginsFiller (len xid pid : ℕ) (bytes : List ℕ) : Type 0 where
-  pub valid : IsEntryLength len
-  pub numbers : IsHead 0 xid pid
+  pub valid : IsEntryLength One len
+  pub numbers : IsHead One 0 xid pid
   pub rest : List ℕ
-  pub spelling : bytes ≡ filler len xid pid ++ rest
+  pub spelling : bytes ≡ filler One len xid pid ++ rest
 
 -- what bytes may read as
 pub data Reading : Type 0 where
@@ -106,7 +107,7 @@ pub data Reading : Type 0 where
 
 -- what bytes do read as
 abbrev pub ReadsAs : List ℕ → Reading → Type 0
-ReadsAs bytes (AnEntry len note db xid pid) = (len ≡ entry_length note) × BeginsEntry note db xid pid bytes
+ReadsAs bytes (AnEntry len note db xid pid) = (len ≡ entry_length One note) × BeginsEntry note db xid pid bytes
 ReadsAs bytes (AFiller len xid pid) = BeginsFiller len xid pid bytes
 ReadsAs bytes (AFault fault) = IsRefused fault bytes
 

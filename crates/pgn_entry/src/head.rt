@@ -1,4 +1,5 @@
 ghost use Rattle.std.specs.Prelude.{◌≡◌, ◌≤◌, length};
+ghost use Rattle.pgn_base.specs.declared.format.Format.TheVariants.{One};
 ghost use Rattle.pgn_model.specs.Bytes.{header, header_bytes};
 ghost use Rattle.pgn_entry.specs.Reading.{stated_length, stated_db, stated_xid, stated_pid};
 
@@ -16,7 +17,7 @@ pub struct Head {
 impl Head {
     /// The numbers that these bytes begin with.
     pub fn read(bytes: &[u8]) -> Head
-        requires { header_bytes ≤ length bytes.now }
+        requires { header_bytes One ≤ length bytes.now }
         ensures len { result.len ≡ stated_length bytes.now }
         ensures db { result.db ≡ stated_db bytes.now }
         ensures xid { result.xid ≡ stated_xid bytes.now }
@@ -32,8 +33,8 @@ impl Head {
 
     /// Writes the numbers, over all of `out`.
     pub fn write(self, out: &mut [u8])
-        requires { length out.old ≡ header_bytes }
-        ensures { out.new ≡ header self.len self.db self.xid self.pid }
+        requires { length out.old ≡ header_bytes One }
+        ensures { out.new ≡ header One self.len self.db self.xid self.pid }
     {
         LittleEndian::write_u32_into(&[self.len, self.db, self.xid, self.pid], out);
     }

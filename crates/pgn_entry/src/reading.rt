@@ -1,4 +1,5 @@
 ghost use Rattle.std.specs.Prelude.{◌≡◌, ℕ, ◌↔◌, IfOk, IfErr, IsErrOf};
+ghost use Rattle.pgn_base.specs.declared.format.Format.TheVariants.{One};
 ghost use Rattle.pgn_base.specs.declared.note.Note.{Note};
 ghost use Rattle.pgn_model.specs.Bytes.{entry_length};
 ghost use Rattle.pgn_entry.specs.Parts.{IsHeadOf, BodyReadsAs, FillerReadsAs};
@@ -72,7 +73,7 @@ fn read_body<'a>(head: &Head, body: &'a [u8]) -> Result<EntryView<'a>, EntryFaul
 /// The entry or the filler that these bytes begin with, whatever follows it. The faults are tested in the order of `EntryFault`.
 pub fn read_entry(bytes: &[u8]) -> Result<EntryView<'_>, EntryFault>
     ensures reads { ReadsAs bytes.now (told result) }
-    ensures entry { (len : ℕ) (note : Note) (db xid pid : ℕ) → (told result ≡ AnEntry len note db xid pid) ↔ ((len ≡ entry_length note) × BeginsEntry note db xid pid bytes.now) }
+    ensures entry { (len : ℕ) (note : Note) (db xid pid : ℕ) → (told result ≡ AnEntry len note db xid pid) ↔ ((len ≡ entry_length One note) × BeginsEntry note db xid pid bytes.now) }
     ensures filler { (len xid pid : ℕ) → (told result ≡ AFiller len xid pid) ↔ BeginsFiller len xid pid bytes.now }
     ensures short { IsErrOf result EntryFault.Short ↔ IsRefused EntryFault.Short bytes.now }
     ensures bad_length { IsErrOf result EntryFault.BadLength ↔ IsRefused EntryFault.BadLength bytes.now }

@@ -1,4 +1,5 @@
 ghost use Rattle.std.specs.Prelude.{◌≡◌, ◌+◌, ◌≤◌, [], ◌∷◌, ◌++◌, length};
+ghost use Rattle.pgn_base.specs.declared.format.Format.TheVariants.{One};
 ghost use Rattle.pgn_model.specs.Bytes.{padded, entry_length, spelled, filler, IsEntryLength};
 
 use crate::format::HEADER_BYTES;
@@ -20,8 +21,8 @@ fn write_texts(channel: &[u8], payload: &[u8], out: &mut [u8])
 /// Writes the entry of a notification over all of `out`.
 #[tactic(auto, using(crate::proofs::WrittenLaws::entry_has_room))]
 pub fn write_entry(note: &Note, db: DbOid, xid: Xid, pid: u32, out: &mut [u8])
-    requires { length out.old ≡ entry_length note.now }
-    ensures { out.new ≡ spelled note.now db xid pid }
+    requires { length out.old ≡ entry_length One note.now }
+    ensures { out.new ≡ spelled One note.now db xid pid }
 {
     let head = Head {
         len: entry_len(note),
@@ -39,8 +40,8 @@ pub fn write_entry(note: &Note, db: DbOid, xid: Xid, pid: u32, out: &mut [u8])
 
 /// Writes a filler over all of `out`: bytes that say nothing, which stand where the next entry does not fit.
 pub fn write_filler(xid: Xid, pid: u32, out: &mut [u8])
-    requires { IsEntryLength (length out.old) }
-    ensures { out.new ≡ filler (length out.old) xid pid }
+    requires { IsEntryLength One (length out.old) }
+    ensures { out.new ≡ filler One (length out.old) xid pid }
 {
     let head = Head {
         len: out.len() as u32,

@@ -1,12 +1,12 @@
 -- The table of answers, case by case.
-use Rattle.std.proofs.Common.{◌≡◌, ℕ, false, not, ◌||◌, ◌⊎◌, inl, inr, List, length, Some, refl, arith}
+use Rattle.std.proofs.Common.{◌≡◌, ℕ, false, not, ◌&&◌, ◌||◌, ◌⊎◌, inl, inr, List, length, Some, refl, arith}
 use Rattle.pgn_base.specs.declared.answers.Tag.TheVariants as tag
 use Rattle.pgn_model.specs.declared.block_state.BlockState.{BlockState}
 use Rattle.pgn_model.specs.declared.block_state.BlockState.TheVariants.{Idle, InBlock, Failed}
 use Rattle.pgn_model.specs.declared.command.Command.{Command}
 use Rattle.pgn_model.specs.declared.command.Command.TheVariants.{RollbackTo, Release, ListeningChannels}
 use Rattle.pgn_model.specs.Answers.{ShowsChannels, answer, ending_tag}
-use Rattle.pgn_model.specs.laws.Answers.{is_idle, is_in_block, is_failed, block_after, begins_block, ends_block, goes_back, is_refused, is_silent, is_empty_line}
+use Rattle.pgn_model.specs.laws.Answers.{is_idle, is_in_block, is_failed, block_after, begins_block, ends_block, goes_back, is_refused, is_silent, is_empty_line, is_commit, is_transaction, ends_by_commit}
 
 -- a state is one of three
 three : (state : BlockState) → (state ≡ Idle) ⊎ (state ≡ InBlock) ⊎ (state ≡ Failed)
@@ -70,4 +70,16 @@ channels-counted live set Idle h = (refl, refl)
 channels-counted live set InBlock h = (refl, refl)
 channels-counted live set Failed h = absurd (cc)
 
-pub ruleset answer_laws = (table-is-total, nothing-fails_outside, blocks-begin, blocks-end, blocks-fail, ways-out, ends-failed, goes-on, silent-empty, channels-counted)
+pub what-commits : (state : BlockState) (live set : List (List ℕ)) (command : Command)
+    → is_commit (answer state live set command) ≡ (is_transaction command && is_idle state || ends_by_commit command && is_in_block state)
+what-commits Idle live set (RollbackTo name) = grind arith
+what-commits Idle live set (Release name) = grind arith
+what-commits Idle live set command = refl
+what-commits InBlock live set (RollbackTo name) = grind arith
+what-commits InBlock live set (Release name) = grind arith
+what-commits InBlock live set command = refl
+what-commits Failed live set (RollbackTo name) = grind arith
+what-commits Failed live set (Release name) = grind arith
+what-commits Failed live set command = refl
+
+pub ruleset answer_laws = (table-is-total, nothing-fails_outside, blocks-begin, blocks-end, blocks-fail, ways-out, ends-failed, goes-on, silent-empty, channels-counted, what-commits)

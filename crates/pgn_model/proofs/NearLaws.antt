@@ -42,25 +42,25 @@ none-within p xs a b c d from to h = elim (cases_lt c d) as (λ _. list_any p (d
 ]
 
 pub near-shrinks : NearShrinks
-near-shrinks matters journal m n x y down up h = record {
+near-shrinks format matters journal m n x y down up h = record {
   nothing_due = none-within matters journal (m - 3) (x - 3) (n - 3) (y - 3) (omega arith) (omega arith) h.nothing_due;
-  few_pages = omega (arith, h.few_pages, place_grows journal y x down, place_grows journal m n up);
+  few_pages = omega (arith, h.few_pages, place_grows format journal y x down, place_grows format journal m n up);
 }
 
 pub near-itself : NearItself
-near-itself matters journal m x below = record {
+near-itself format matters journal m x below = record {
   nothing_due = ap (list_any matters) (drop_all (m - 3) (take (x - 3) journal) (simp length-take (omega arith)));
-  few_pages = omega (arith, place_grows journal x m below);
+  few_pages = omega (arith, place_grows format journal x m below);
 }
 
 pub near-grows : NearGrows
-near-grows matters journal more m x within h = elim (cases_lt m x) as (λ _. Near matters (journal ++ more) m x) [
+near-grows format matters journal more m x within h = elim (cases_lt m x) as (λ _. Near format matters (journal ++ more) m x) [
   | inl lt ↦ record {
       nothing_due = ap (λ (xs : List Tx). list_any matters (drop (m - 3) xs)) (take-append-le (x - 3) journal more (omega arith)) ∙ h.nothing_due;
       few_pages =
-          let here : place (journal ++ more) m ≡ place journal m = places_agree journal more m (omega arith) in
-          let there : place (journal ++ more) x ≡ place journal x = places_agree journal more x within in
+          let here : place format (journal ++ more) m ≡ place format journal m = places_agree format journal more m (omega arith) in
+          let there : place format (journal ++ more) x ≡ place format journal x = places_agree format journal more x within in
           omega (arith, h.few_pages, here, there);
     }
-  | inr ge ↦ near-itself matters (journal ++ more) m x ge
+  | inr ge ↦ near-itself format matters (journal ++ more) m x ge
 ]

@@ -33,7 +33,7 @@ pub record TraceOk (terms : Terms) (trace : Trace) (journal : List Tx) : Type 0 
 
 -- a listener need not read up to what it was told of, as far as its database goes
 abbrev pub IsUpToDate : Terms → List Tx → State → Type 0
-IsUpToDate terms journal s = IfSome s.mark (λ mark. Near (is_committed_in terms.section.db) journal mark s.told)
+IsUpToDate terms journal s = IfSome s.mark (λ mark. Near terms.settings.format (is_committed_in terms.section.db) journal mark s.told)
 
 -- where a line begins, the one before it left no read out, unless a block is open
 abbrev pub IsFreshAt : Terms → List Tx → State → Item → Type 0

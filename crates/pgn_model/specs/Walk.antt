@@ -2,6 +2,8 @@
 use Rattle.std.specs.Prelude.{◌≡◌, ℕ, ◌+◌, ◌<◌, ◌≤◌, ◌⊎◌, max, Bool, true, false, ◌&&◌, List, [], ◌∷◌, ◌++◌, length, Option, Some, None, if◌then◌else◌, is_some, is_none, IfSome, IsSomeAnd, All}
 use Rattle.std.specs.List.{list_any}
 use Rattle.pgn_base.specs.declared.limits.TheConstants.{FIRST_XID, PAGES_DEFAULT, PATIENCE_DEFAULT}
+use Rattle.pgn_base.specs.declared.format.Format.{Format}
+use Rattle.pgn_base.specs.declared.format.Format.TheVariants.{One}
 use Rattle.pgn_base.specs.declared.note.Note.{Note}
 use Rattle.pgn_base.specs.declared.note.Delivery.{Delivery}
 use Rattle.pgn_base.specs.declared.answers.Tag.{Tag}
@@ -25,14 +27,15 @@ use Rattle.pgn_model.specs.Due.{due}
 use Rattle.pgn_model.specs.Savepoints.{Change, live_names, surviving_actions, surviving_notes, firsts, is_listen, changes_of}
 use Rattle.pgn_model.specs.Answers.{Outcome, Commits, Replies, Refuses, Silent, answer, next_state, list_after}
 
--- what the command line sets: the queue's limit in pages, and how many looks an await takes
+-- what the command line sets: the format of the queue's entries, the queue's limit in pages, and how many looks an await takes
 pub record Settings : Type 0 where
+  pub format : Format
   pub limit : ℕ
   pub patience : ℕ
 
 -- what holds where the command line sets nothing
 abbrev pub default_settings : Settings
-default_settings = record { limit = PAGES_DEFAULT; patience = PATIENCE_DEFAULT }
+default_settings = record { format = One; limit = PAGES_DEFAULT; patience = PATIENCE_DEFAULT }
 
 -- what a trace is judged by
 pub record Terms : Type 0 where

@@ -9,7 +9,7 @@ ghost use Rattle.pgn_model.specs.laws.Due.{DueSplits, DueGrows};
 ghost use Rattle.pgn_model.specs.laws.Near.{NearShrinks, NearItself, NearGrows};
 ghost use Rattle.pgn_model.specs.laws.Walk.{LawfulPushes, LawfulPrefix, LawfulGrows};
 ghost use Rattle.pgn_model.specs.laws.Savepoints.{RolledBackCuts, ReleasedKeeps, SurvivesRolledBack, SurvivesReleased, SurvivesSaved, SurvivesActed, SurvivesNoted, LiveIsSaved, LiveHasSavepoint, RolledBackKeepsSavepoint, RolledBackOfNone, ReleasedOfNone, FirstsInOrder, FirstsDiffer, FirstsHaveAll, FirstsPush, FirstsTwice, LiveAfterChange, LiveSaved, LiveActed, LiveNew, LiveRepeated, LiveRolledBack, LiveReleased, LiveTwice, LiveHasNames, LiveHasActions, LiveHasFirsts};
-ghost use Rattle.pgn_model.specs.laws.Answers.{TableIsTotal, NothingFailsOutside, BlocksBegin, BlocksEnd, BlocksFail, WaysOut, WaysOn, OnlyEmptyIsSilent, ChannelsAreCounted};
+ghost use Rattle.pgn_model.specs.laws.Answers.{TableIsTotal, NothingFailsOutside, BlocksBegin, BlocksEnd, BlocksFail, WaysOut, WaysOn, OnlyEmptyIsSilent, ChannelsAreCounted, WhatCommits};
 
 /// Lists that begin other lists.
 pub fn begins<T>()
@@ -239,6 +239,12 @@ pub fn in_a_failed_block()
 #[tactic(auto, using(crate::proofs::AnswerLemmas::answer_laws))]
 pub fn only_empty_is_silent()
     ensures { OnlyEmptyIsSilent }
+{}
+
+/// Outside a block each of LISTEN, UNLISTEN, NOTIFY and pg_notify is a transaction that commits; a block commits at COMMIT.
+#[tactic(auto, using(crate::proofs::AnswerLemmas::answer_laws))]
+pub fn what_commits()
+    ensures { WhatCommits }
 {}
 
 /// The channels that are shown are those listened to, and their number is in the answer.

@@ -4,6 +4,7 @@ use Rattle.std.proofs.lemmas.List.{take-append-le}
 use Rattle.std.proofs.lemmas.List.Elements.{All-push, All-nil, filter_map-append}
 use Rattle.std.specs.List.{list_any, cons_option}
 use Rattle.pgn_base.specs.Names.{has_name}
+use Rattle.pgn_base.specs.declared.format.Format.TheVariants.{One}
 use Rattle.pgn_base.specs.declared.note.Note.{Note}
 use Rattle.pgn_base.specs.declared.answers.Tag.TheVariants as tag
 use Rattle.pgn_base.specs.declared.listen_set.Action.TheVariants.{Listen}
@@ -33,8 +34,8 @@ use Rattle.pgn_run.specs.Session.{fresh_session, listened, notified, sent, ran, 
 use Rattle.pgn_run.specs.SoFar.{terms_of, standing, IsFreshWithin, IsAt, IsAnswered, IsSoFar, trace_of}
 
 -- who has read all that it was told of need not read
-up-to-date : (db : ℕ) (journal : List Tx) (m n : ℕ) → m ≡ n → Near (is_committed_in db) journal m n
-up-to-date db journal m n e = near-itself (is_committed_in db) journal m n (omega (arith, e))
+up-to-date : (db : ℕ) (journal : List Tx) (m n : ℕ) → m ≡ n → Near One (is_committed_in db) journal m n
+up-to-date db journal m n e = near-itself One (is_committed_in db) journal m n (omega (arith, e))
 
 -- one more item, over the same journal
 pub IsAt-push : (section : Section) (state : State) (journal : List Tx) (items : List Item) (item : Item)
@@ -80,10 +81,10 @@ shown-weaker m n (Read from to got) h p = (omega (arith, p.0), omega (arith, p.1
 
 -- a line that began with no read left out still did as the journal grows
 up-to-date-grows : (terms : Terms) (journal more : List Tx) (mark : Option ℕ) (told : ℕ) → told ≤ 3 + length journal
-    → IfSome mark (λ m. Near (is_committed_in terms.section.db) journal m told)
-    → IfSome mark (λ m. Near (is_committed_in terms.section.db) (journal ++ more) m told)
+    → IfSome mark (λ m. Near terms.settings.format (is_committed_in terms.section.db) journal m told)
+    → IfSome mark (λ m. Near terms.settings.format (is_committed_in terms.section.db) (journal ++ more) m told)
 up-to-date-grows terms journal more None told h p = p
-up-to-date-grows terms journal more (Some m) told h p = near-grows (is_committed_in terms.section.db) journal more m told h p
+up-to-date-grows terms journal more (Some m) told h p = near-grows terms.settings.format (is_committed_in terms.section.db) journal more m told h p
 
 fresh-at-grows : (terms : Terms) (journal more : List Tx) (s : State) (item : Item) → s.told ≤ 3 + length journal → IsFreshAt terms journal s item → IsFreshAt terms (journal ++ more) s item
 fresh-at-grows terms journal more s (Line line) h p = λ idle. up-to-date-grows terms journal more s.mark s.told h (p idle)
@@ -152,7 +153,7 @@ line-is-fresh : (section : Section) (journal : List Tx) (s : State) (line : ℕ)
     → IsFreshWithin (terms_of section) journal s (Line line)
 line-is-fresh section journal s line told caught = (λ idle. unread s.mark caught, omega arith)
   where
-    unread : (mark : Option ℕ) → IfSome mark (λ m. m ≡ 3 + length journal) → IfSome mark (λ m. Near (is_committed_in section.db) journal m s.told)
+    unread : (mark : Option ℕ) → IfSome mark (λ m. m ≡ 3 + length journal) → IfSome mark (λ m. Near One (is_committed_in section.db) journal m s.told)
     unread None e = e
     unread (Some m) e = up-to-date section.db journal m s.told (e ∙ sym told)
 
@@ -364,7 +365,7 @@ run-is-legal section s h = record {
     between : Along after_item (IsFreshAt (terms_of section) s.journal) (start section) s.items
     between = Along-weaker after_item (IsFreshWithin (terms_of section) s.journal) (IsFreshAt (terms_of section) s.journal) (λ t i p. p.0) (start section) s.items h.at.fresh
 
-    unread : (mark : Option ℕ) → IfSome mark (λ m. m ≡ 3 + length s.journal) → IfSome mark (λ m. Near (is_committed_in section.db) s.journal m s.told)
+    unread : (mark : Option ℕ) → IfSome mark (λ m. m ≡ 3 + length s.journal) → IfSome mark (λ m. Near One (is_committed_in section.db) s.journal m s.told)
     unread None e = e
     unread (Some m) e = up-to-date section.db s.journal m s.told (e ∙ sym h.told)
 

@@ -28,6 +28,11 @@ bare_note = record { channel = codes "c"; payload = [] }
 abbrev pub bare_bytes : List ℕ
 bare_bytes = (0x14 ∷ 0 ∷ 0 ∷ 0 ∷ []) ++ (7 ∷ 0 ∷ 0 ∷ 0 ∷ []) ++ (4 ∷ 0 ∷ 0 ∷ 0 ∷ []) ++ (0xeb ∷ 3 ∷ 0 ∷ 0 ∷ []) ++ (0x63 ∷ 0 ∷ 0 ∷ 0 ∷ [])
 
+-- the same in format Two: the shortest, 32 bytes
+abbrev pub bare_bytes_two : List ℕ
+bare_bytes_two = (0x20 ∷ 0 ∷ 0 ∷ 0 ∷ []) ++ (7 ∷ 0 ∷ 0 ∷ 0 ∷ []) ++ (4 ∷ 0 ∷ 0 ∷ 0 ∷ 0 ∷ 0 ∷ 0 ∷ 0 ∷ []) ++ (0xeb ∷ 3 ∷ 0 ∷ 0 ∷ []) ++ (0 ∷ 0 ∷ 0 ∷ 0 ∷ [])
+    ++ (0x63 ∷ 0 ∷ 0 ∷ 0 ∷ 0 ∷ 0 ∷ 0 ∷ 0 ∷ [])
+
 -- a filler of 20 bytes, of the transaction 5 by the process 1002
 abbrev pub filler_bytes : List ℕ
 filler_bytes = (0x14 ∷ 0 ∷ 0 ∷ 0 ∷ []) ++ (0 ∷ 0 ∷ 0 ∷ 0 ∷ []) ++ (5 ∷ 0 ∷ 0 ∷ 0 ∷ []) ++ (0xea ∷ 3 ∷ 0 ∷ 0 ∷ []) ++ (0 ∷ 0 ∷ 0 ∷ 0 ∷ [])
@@ -56,6 +61,15 @@ filler_journal = sent (letters (byte "x") 7999 ∷ letters (byte "x") 133 ∷ le
 abbrev pub filler_and_entry : List (Option ℕ)
 filler_and_entry = Some 20 ∷ Some 0 ∷ Some 3 ∷ Some 1002 ∷ Some 0
     ∷ Some 24 ∷ Some 1 ∷ Some 3 ∷ Some 1002 ∷ Some 0x78780063 ∷ Some 0x00787878 ∷ []
+
+-- a transaction of three notifications, of which the third doesn't fit on the rest of the page in format Two
+abbrev pub filler_journal_two : List Tx
+filler_journal_two = sent (longest_note ∷ letters (byte "x") 45 ∷ letters (byte "x") 13 ∷ []) 3 Committed ∷ []
+
+-- the cells in format Two from the end of its second notification on: a filler, and the third notification on the next page
+abbrev pub filler_and_entry_two : List (Option ℕ)
+filler_and_entry_two = Some 32 ∷ Some 0 ∷ Some 3 ∷ Some 0 ∷ Some 1002 ∷ Some 0 ∷ Some 0 ∷ Some 0
+    ∷ Some 40 ∷ Some 1 ∷ Some 3 ∷ Some 0 ∷ Some 1002 ∷ Some 0 ∷ Some 0x78780063 ∷ Some 0x78787878 ∷ Some 0x78787878 ∷ Some 0x00787878 ∷ []
 
 -- four transactions of one long notification, of which the third and the fourth met a full queue, and one of the payload `last`
 abbrev pub full_journal : List Tx

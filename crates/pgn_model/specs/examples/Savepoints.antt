@@ -2,16 +2,19 @@
 use Rattle.std.specs.Prelude.{ℕ, List, [], ◌∷◌, ◌++◌, Some, None, codes}
 use Rattle.std.specs.List.{flat_map}
 use Rattle.pgn_base.specs.declared.note.Note.{Note}
+use Rattle.pgn_base.specs.declared.listen_set.Action.{Action}
+use Rattle.pgn_base.specs.declared.listen_set.Action.TheVariants as action
 use Rattle.pgn_base.specs.declared.answers.Tag.TheVariants as tag
 use Rattle.pgn_base.specs.declared.answers.Warning.TheVariants.{NotInBlock}
+use Rattle.pgn_base.specs.declared.answers.Which.TheVariants.{PayloadTooLong}
 use Rattle.pgn_base.specs.declared.answers.Refusal.TheVariants.{Syntax, NoSavepoint, Aborted}
 use Rattle.pgn_model.specs.declared.block_state.BlockState.{BlockState}
 use Rattle.pgn_model.specs.declared.block_state.BlockState.TheVariants.{Idle, InBlock, Failed}
 use Rattle.pgn_model.specs.declared.command.Command.{Command}
-use Rattle.pgn_model.specs.declared.command.Command.TheVariants.{Begin, Commit, Rollback, Savepoint, RollbackTo, Release, Notify, Bad}
-use Rattle.pgn_model.specs.Savepoints.{Change, changes_of, firsts, surviving_notes, live_names}
+use Rattle.pgn_model.specs.declared.command.Command.TheVariants.{Empty, Begin, Start, Commit, Rollback, Savepoint, RollbackTo, Release, Listen, Unlisten, UnlistenAll, Notify, PgNotify, ListeningChannels, QueueUsage, Invalid, Bad}
+use Rattle.pgn_model.specs.Savepoints.{Change, Saved, Acted, Noted, changes_of, firsts, surviving_notes, live_names}
 use Rattle.pgn_model.specs.Answers.{Outcome, Commits, Replies, Refuses, answer, next_state, list_after}
-use Rattle.pgn_model.specs.Text.{joined, tag_text, warning_lines, refusal_text}
+use Rattle.pgn_model.specs.Text.{tag_text, warning_lines, refusal_text}
 
 -- the name `s`
 abbrev pub s_name : List ℕ
@@ -24,6 +27,14 @@ t_name = codes "t"
 -- a notification on the channel `c`
 abbrev pub on_c : List ℕ → Note
 on_c payload = record { channel = codes "c"; payload = payload }
+
+-- the channel `d`
+abbrev pub d_name : List ℕ
+d_name = codes "d"
+
+-- a notification on it
+abbrev pub on_d : List ℕ → Note
+on_d payload = record { channel = d_name; payload = payload }
 
 -- the list of a block with these commands
 abbrev pub list_of : List Command → List Change
@@ -57,6 +68,26 @@ back_twice = Savepoint s_name ∷ Notify (on_c (codes "1")) ∷ RollbackTo s_nam
 -- a repeat inside a savepoint that is rolled back: NOTIFY c, 'a'; SAVEPOINT s; NOTIFY c, 'a'; NOTIFY c, 'b'; ROLLBACK TO s; NOTIFY c, 'b'
 abbrev pub repeat_across : List Command
 repeat_across = Notify (on_c (codes "a")) ∷ Savepoint s_name ∷ Notify (on_c (codes "a")) ∷ Notify (on_c (codes "b")) ∷ RollbackTo s_name ∷ Notify (on_c (codes "b")) ∷ []
+
+-- BEGIN; LISTEN d; UNLISTEN *; SELECT pg_notify('c', 'a'); SAVEPOINT s; UNLISTEN d; SELECT pg_notify('c', 'b'); UNLISTEN *; ROLLBACK TO s; UNLISTEN c;
+-- NOTIFY d, 'a'; LISTEN c; NOTIFY c, 'a'; SELECT pg_listening_channels(); SELECT pg_notify('d', 'a'); UNLISTEN *; COMMIT
+abbrev pub commands_of_each_kind : List Command
+commands_of_each_kind = Begin ∷ Listen d_name ∷ UnlistenAll ∷ PgNotify (on_c (codes "a")) ∷ Savepoint s_name ∷ Unlisten d_name ∷ PgNotify (on_c (codes "b")) ∷ UnlistenAll
+    ∷ RollbackTo s_name ∷ Unlisten (codes "c") ∷ Notify (on_d (codes "a")) ∷ Listen (codes "c") ∷ Notify (on_c (codes "a")) ∷ ListeningChannels
+    ∷ PgNotify (on_d (codes "a")) ∷ UnlistenAll ∷ Commit ∷ []
+
+-- commands that put nothing into the list
+abbrev pub commands_without_change : List Command
+commands_without_change = Empty ∷ Begin ∷ Start ∷ Commit ∷ Rollback ∷ ListeningChannels ∷ QueueUsage ∷ Invalid PayloadTooLong ∷ Bad 7 ∷ []
+
+-- what survives of the list of commands of each kind
+abbrev pub survivors_of_each_kind : List Change
+survivors_of_each_kind = Acted (action.Listen d_name) ∷ Acted action.UnlistenAll ∷ Noted (on_c (codes "a")) ∷ Saved s_name ∷ Acted (action.Unlisten (codes "c"))
+    ∷ Noted (on_d (codes "a")) ∷ Acted (action.Listen (codes "c")) ∷ Noted (on_c (codes "a")) ∷ Noted (on_d (codes "a")) ∷ Acted action.UnlistenAll ∷ []
+
+-- the actions that its commit hands out
+abbrev pub actions_of_each_kind : List Action
+actions_of_each_kind = action.Listen d_name ∷ action.UnlistenAll ∷ action.Unlisten (codes "c") ∷ action.Listen (codes "c") ∷ action.UnlistenAll ∷ []
 
 -- what commands come to one after another, from a state of the block and its list
 abbrev pub outcomes_from : BlockState → List Change → List Command → List Outcome

@@ -1,12 +1,12 @@
 -- Laws of the table of answers.
-use Rattle.std.specs.Prelude.{◌≡◌, ℕ, Bool, true, false, not, ◌||◌, ◌⊎◌, List, length, Some}
+use Rattle.std.specs.Prelude.{◌≡◌, ℕ, Bool, true, false, not, ◌&&◌, ◌||◌, ◌⊎◌, List, length, Some}
 use Rattle.pgn_base.specs.Names.{has_name}
 use Rattle.pgn_base.specs.declared.answers.Tag.TheVariants as tag
 use Rattle.pgn_model.specs.declared.block_state.BlockState.{BlockState}
 use Rattle.pgn_model.specs.declared.block_state.BlockState.TheVariants.{Idle, InBlock, Failed}
 use Rattle.pgn_model.specs.declared.command.Command.{Command}
-use Rattle.pgn_model.specs.declared.command.Command.TheVariants.{Empty, Begin, Start, Commit, Rollback, RollbackTo, ListeningChannels}
-use Rattle.pgn_model.specs.Answers.{Outcome, Refuses, Silent, ShowsChannels, answer, next_state, ending_tag}
+use Rattle.pgn_model.specs.declared.command.Command.TheVariants.{Empty, Begin, Start, Commit, Rollback, RollbackTo, Listen, Unlisten, UnlistenAll, Notify, PgNotify, ListeningChannels}
+use Rattle.pgn_model.specs.Answers.{Outcome, Commits, Refuses, Silent, ShowsChannels, answer, next_state, ending_tag}
 
 -- no block is open
 abbrev pub is_idle : BlockState → Bool
@@ -59,6 +59,25 @@ abbrev pub is_empty_line : Command → Bool
 is_empty_line Empty = true
 is_empty_line command = false
 
+-- the outcome is a commit
+abbrev pub is_commit : Outcome → Bool
+is_commit (Commits tag) = true
+is_commit outcome = false
+
+-- LISTEN, UNLISTEN, UNLISTEN *, NOTIFY and a call of pg_notify
+abbrev pub is_transaction : Command → Bool
+is_transaction (Listen name) = true
+is_transaction (Unlisten name) = true
+is_transaction UnlistenAll = true
+is_transaction (Notify note) = true
+is_transaction (PgNotify note) = true
+is_transaction command = false
+
+-- COMMIT
+abbrev pub ends_by_commit : Command → Bool
+ends_by_commit Commit = true
+ends_by_commit command = false
+
 -- the table is total: each command leads from each state to one of the three
 abbrev pub TableIsTotal : Type 0
 TableIsTotal = (state : BlockState) (live set : List (List ℕ)) (command : Command)
@@ -97,3 +116,9 @@ OnlyEmptyIsSilent = (state : BlockState) (live set : List (List ℕ)) (command :
 abbrev pub ChannelsAreCounted : Type 0
 ChannelsAreCounted = (live set : List (List ℕ)) (state : BlockState) → is_failed state ≡ false
     → (answer state live set ListeningChannels ≡ ShowsChannels set) × (ending_tag (answer state live set ListeningChannels) ≡ Some (tag.Select (length set)))
+
+-- a command commits exactly where it is LISTEN, UNLISTEN, UNLISTEN *, NOTIFY or a call of pg_notify and no block is open, or where
+-- it is COMMIT in a block that has not failed
+abbrev pub WhatCommits : Type 0
+WhatCommits = (state : BlockState) (live set : List (List ℕ)) (command : Command)
+    → is_commit (answer state live set command) ≡ (is_transaction command && is_idle state || ends_by_commit command && is_in_block state)

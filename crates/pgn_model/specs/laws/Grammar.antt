@@ -1,10 +1,9 @@
 -- What a line reads as, computed, and the laws that tie this to the reading.
-use Rattle.std.specs.Prelude.{◌≡◌, ◌≢◌, ◌↔◌, ℕ, Bool, true, false, cond, ◌&&◌, List, [], ◌∷◌, ◌++◌, map, filter_map, length, Option, None, Some}
+use Rattle.std.specs.Prelude.{◌≡◌, ◌≢◌, ◌↔◌, ℕ, Bool, true, false, cond, List, [], ◌∷◌, ◌++◌, map, filter_map, Option, None, Some}
 use Rattle.std.specs.List.{list_any}
 use Rattle.pgn_model.specs.declared.command.Command.{Command}
-use Rattle.pgn_model.specs.declared.command.Command.TheVariants as command
-use Rattle.pgn_model.specs.Tokens.{Lexeme, Wrong, Token, tokens}
-use Rattle.pgn_model.specs.Grammar.{Slot, fits_slot, all_fit, Form, table, IsForm, BeginsForm, lexemes_of, limited, ReadsAs, begin_one, reading}
+use Rattle.pgn_model.specs.Tokens.{Lexeme, Wrong}
+use Rattle.pgn_model.specs.Grammar.{Slot, fits_slot, table, IsForm, BeginsForm, ReadsAs, begin_one, reading}
 
 -- what begins a form of the table has only prefixes that begin one
 abbrev pub PrefixBegins : Type 0

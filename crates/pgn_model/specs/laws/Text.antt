@@ -1,5 +1,5 @@
 -- Laws of the output.
-use Rattle.std.specs.Prelude.{◌≡◌, ℕ, List, All}
+use Rattle.std.specs.Prelude.{◌≡◌, List, All}
 use Rattle.pgn_base.specs.declared.note.Note.{Note}
 use Rattle.pgn_base.specs.declared.answers.Refusal.TheVariants.{NoSavepoint}
 use Rattle.pgn_model.specs.declared.tx.Tx.{Tx}

@@ -14,6 +14,7 @@ pub fn whole_inputs()
     ensures blank_lines { ReadsAsScenario (codes "\n -- sessions\n\\session a 1\r\n;\n") (Ok empty_scenario) }
     ensures meta_lines { ReadsAsScenario meta_input (Ok meta_scenario) }
     ensures sections { ReadsAsScenario two_sections (Ok two_scenario) }
+    ensures ten_digits { ReadsAsScenario (codes "\\session a 0000000001") (Ok empty_scenario) }
     ensures section_after_quit { ReadsAsScenario (codes "\\session a_b 1\n\\quit\n\n\\session b 1\nLISTEN c") (Ok quit_scenario) }
     ensures past_a_limit { ReadsAsScenario (codes "\\session aaaaaaaaaaaaaaaaaaaaaaaaaaaaaaaaaaaaaaaaaaaaaaaaaaaaaaaaaaaaaaa 1\nSELECT pg_notify('', '')") (Ok limit_scenario) }
 {}
@@ -38,6 +39,7 @@ pub fn faults_of_meta_lines()
     ensures database_past_limit { ReadsAsScenario (codes "\\session a 4294967296") (Err (fault.BadMeta 1)) }
     ensures long_database { ReadsAsScenario (codes "\\session a 00000000001") (Err (fault.BadMeta 1)) }
     ensures odd_name { ReadsAsScenario (codes "\\session a.b 1") (Err (fault.BadMeta 1)) }
+    ensures plus_in_name { ReadsAsScenario (codes "\\session a+b 1") (Err (fault.BadMeta 1)) }
     ensures long_name { ReadsAsScenario (codes "\\session aaaaaaaaaaaaaaaaaaaaaaaaaaaaaaaaaaaaaaaaaaaaaaaaaaaaaaaaaaaaaaaa 1") (Err (fault.BadMeta 1)) }
     ensures one_word_more { ReadsAsScenario (codes "\\session a 1 2") (Err (fault.BadMeta 1)) }
     ensures other_blank { ReadsAsScenario (codes "\\session a" ++ 11 ∷ codes "1") (Err (fault.BadMeta 1)) }
@@ -55,6 +57,7 @@ pub fn faults_of_meta_lines()
 pub fn faults_of_sections()
     ensures no_session { ReadsAsScenario (codes "NOTIFY c") (Err (fault.NoSession 1)) }
     ensures flag_before_session { ReadsAsScenario (codes "-- x\n\\signal f\n\\session a 1") (Err (fault.NoSession 2)) }
+    ensures quit_before_session { ReadsAsScenario (codes "\\quit\n\\session a 1") (Err (fault.NoSession 1)) }
     ensures same_name { ReadsAsScenario (codes "\\session a 1\n\\session b 1\n\\session a 2") (Err (fault.SameName 3)) }
     ensures other_case { ReadsAsScenario (codes "\\session a 1\n\\session A 1\n\\signal") (Err (fault.BadMeta 3)) }
     ensures nothing { ReadsAsScenario [] (Err fault.Empty) }

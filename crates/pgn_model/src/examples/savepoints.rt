@@ -1,8 +1,8 @@
 ghost use Rattle.std.specs.Prelude.{◌≡◌, [], ◌∷◌, codes, map};
 ghost use Rattle.std.specs.List.{flat_map};
 ghost use Rattle.pgn_model.specs.Text.{joined};
-ghost use Rattle.pgn_model.specs.Savepoints.{Saved, Noted, survivors, surviving_notes, live_names, live_changes};
-ghost use Rattle.pgn_model.specs.examples.Savepoints.{s_name, on_c, list_of, sent_by, repeats, rolled_back_repeat, savepoints_of_one_name, outer_released, back_twice, repeat_across, outcomes_of, outcome_lines, failed_block_commands, failed_block_outcomes, failed_block_text, back_in_block_commands, back_in_block_outcomes, outside_commands, outside_text};
+ghost use Rattle.pgn_model.specs.Savepoints.{Saved, Noted, survivors, surviving_actions, surviving_notes, live_names, live_changes};
+ghost use Rattle.pgn_model.specs.examples.Savepoints.{s_name, on_c, on_d, list_of, sent_by, repeats, rolled_back_repeat, savepoints_of_one_name, outer_released, back_twice, repeat_across, commands_of_each_kind, commands_without_change, survivors_of_each_kind, actions_of_each_kind, outcomes_of, outcome_lines, failed_block_commands, failed_block_outcomes, failed_block_text, back_in_block_commands, back_in_block_outcomes, outside_commands, outside_text};
 
 /// A notification that is repeated in a block is sent once, in the place of its first.
 pub fn repeats_are_sent_once()
@@ -39,6 +39,15 @@ pub fn back_to_one_savepoint_twice()
 pub fn repeat_across_savepoints()
     ensures live { live_changes (list_of repeat_across) ≡ Noted (on_c (codes "a")) ∷ Saved s_name ∷ Noted (on_c (codes "b")) ∷ [] }
     ensures sent { sent_by repeat_across ≡ on_c (codes "a") ∷ on_c (codes "b") ∷ [] }
+{}
+
+/// Each kind of command in one block: what survives of its list, and the actions and notifications that its commit hands out.
+pub fn commands_of_each_kind_survive()
+    ensures survive { survivors (list_of commands_of_each_kind) ≡ survivors_of_each_kind }
+    ensures actions { surviving_actions (list_of commands_of_each_kind) ≡ actions_of_each_kind }
+    ensures notes { surviving_notes (list_of commands_of_each_kind) ≡ on_c (codes "a") ∷ on_d (codes "a") ∷ on_c (codes "a") ∷ on_d (codes "a") ∷ [] }
+    ensures nothing { list_of commands_without_change ≡ [] }
+    ensures sent { sent_by commands_of_each_kind ≡ on_c (codes "a") ∷ on_d (codes "a") ∷ [] }
 {}
 
 /// A failed block answers with errors until COMMIT rolls it back.

@@ -1,4 +1,5 @@
 use Rattle.std.proofs.Common.{◌≡◌, rules, sym, subst}
+use Rattle.pgn_base.specs.declared.format.Format.TheVariants.{One}
 use Rattle.pgn_model.specs.Bytes.{entry_length, IsNote, IsEntryLength}
 use Rattle.pgn_model.proofs.BytesLemmas.{entry_lengths}
 use Rattle.pgn_entry.proofs.length.entry_len.Goals as goal
@@ -12,5 +13,5 @@ unfolding entry_length
 returns-clause-fits c =
     let note = c.args.note.now in
     let valid : IsNote note = record { name = c.as_bytes.ensures.valid; text = c.as_bytes-2.ensures.valid } in
-    let value : c.length_of.result ≡ entry_length note = search rules in
-    subst IsEntryLength (sym value) (entry_lengths note valid)
+    let value : c.length_of.result ≡ entry_length One note = search rules in
+    subst (IsEntryLength One) (sym value) (entry_lengths One note valid)

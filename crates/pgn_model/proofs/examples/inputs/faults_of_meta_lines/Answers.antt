@@ -79,3 +79,7 @@ returns-clause-odd_flag c = input-reads (codes "\\session a 1\n\\signal a.b")
 pub returns-clause-long_flag : goal.returns-clause-long_flag
 unfolding table cut says fault_of scenario_of is_utf8 chars encode utf8_valid_len
 returns-clause-long_flag c = input-reads (codes "\\session a 1\n\\await aaaaaaaaaaaaaaaaaaaaaaaaaaaaaaaaaaaaaaaaaaaaaaaaaaaaaaaaaaaaaaaa")
+
+pub returns-clause-plus_in_name : goal.returns-clause-plus_in_name
+unfolding table cut says fault_of scenario_of is_utf8 chars encode utf8_valid_len
+returns-clause-plus_in_name c = input-reads (codes "\\session a+b 1")

@@ -47,3 +47,7 @@ returns-clause-lowest_line c = input-reads (codes "\\session a 1\n\\await f\n\\s
 pub returns-clause-other_case_flag : goal.returns-clause-other_case_flag
 unfolding table cut says fault_of scenario_of is_utf8 chars encode utf8_valid_len
 returns-clause-other_case_flag c = input-reads (codes "\\session a 1\n\\await f\n\\signal F")
+
+pub returns-clause-quit_before_session : goal.returns-clause-quit_before_session
+unfolding table cut says fault_of scenario_of is_utf8 chars encode utf8_valid_len
+returns-clause-quit_before_session c = input-reads (codes "\\quit\n\\session a 1")

@@ -40,3 +40,7 @@ returns-clause-section_after_quit c = input-reads (codes "\\session a_b 1\n\\qui
 pub returns-clause-past_a_limit : goal.returns-clause-past_a_limit
 unfolding table cut says fault_of scenario_of is_utf8 chars encode utf8_valid_len
 returns-clause-past_a_limit c = input-reads (codes "\\session aaaaaaaaaaaaaaaaaaaaaaaaaaaaaaaaaaaaaaaaaaaaaaaaaaaaaaaaaaaaaaa 1\nSELECT pg_notify('', '')")
+
+pub returns-clause-ten_digits : goal.returns-clause-ten_digits
+unfolding table cut says fault_of scenario_of is_utf8 chars encode utf8_valid_len
+returns-clause-ten_digits c = input-reads (codes "\\session a 0000000001")

@@ -1,4 +1,5 @@
 use Rattle.std.proofs.Common.{refl}
+use Rattle.pgn_base.specs.declared.format.Format.TheVariants.{One}
 use Rattle.pgn_model.specs.Bytes.{header, entry_length, spelled, filler}
 use Rattle.pgn_model.specs.Packing.{filled_cells}
 use Rattle.pgn_model.proofs.PackingSteps.{length-longest}
@@ -21,4 +22,4 @@ unfolding filler header
 returns-clause-filler c = refl
 
 pub returns-clause-longest : goal.returns-clause-longest
-returns-clause-longest c = length-longest
+returns-clause-longest c = length-longest One

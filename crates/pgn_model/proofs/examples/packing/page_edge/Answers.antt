@@ -1,8 +1,9 @@
+use Rattle.pgn_base.specs.declared.format.Format.TheVariants.{One}
 use Rattle.pgn_model.proofs.PackingSteps.{length-letters, edge, short_of_edge, past_edge, no_room, rest_empty, filler_cells-edge}
 use Rattle.pgn_model.proofs.examples.packing.page_edge.Goals as goal
 
 pub returns-clause-lengths : goal.returns-clause-lengths
-returns-clause-lengths c = simp length-letters
+returns-clause-lengths c = simp (length-letters One)
 
 pub returns-clause-edge : goal.returns-clause-edge
 returns-clause-edge c = edge

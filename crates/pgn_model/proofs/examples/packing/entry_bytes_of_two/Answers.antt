@@ -1,0 +1,20 @@
+use Rattle.std.proofs.Common.{refl}
+use Rattle.pgn_base.specs.declared.format.Format.TheVariants.{Two}
+use Rattle.pgn_model.specs.Bytes.{header, entry_length, spelled}
+use Rattle.pgn_model.proofs.PackingSteps.{length-longest}
+use Rattle.pgn_model.proofs.examples.packing.entry_bytes_of_two.Goals as goal
+
+pub returns-clause-shortest : goal.returns-clause-shortest
+unfolding spelled entry_length header
+returns-clause-shortest c = refl
+
+pub returns-clause-least : goal.returns-clause-least
+unfolding entry_length
+returns-clause-least c = refl
+
+pub returns-clause-whole : goal.returns-clause-whole
+unfolding entry_length
+returns-clause-whole c = refl
+
+pub returns-clause-longest : goal.returns-clause-longest
+returns-clause-longest c = length-longest Two

@@ -1,0 +1,18 @@
+ghost use Rattle.std.specs.Prelude.{◌≡◌, List, [], ◌∷◌, map, Option, Some, None};
+ghost use Rattle.pgn_model.specs.Journal.{next_xid, entry, entries_between, xids_of};
+ghost use Rattle.pgn_model.specs.Due.{due};
+ghost use Rattle.pgn_model.specs.examples.Due.{Owed, mixed_journal, first_tx, second_tx, third_tx, sixth_tx, owed_table, due_by};
+
+/// A reader is owed what was sent on its channels in its database by committed transactions, in order.
+pub fn table_of_owed()
+    ensures { map due_by owed_table ≡ owed_table }
+{}
+
+/// The numbers of a journal's transactions.
+pub fn numbers_of_a_journal()
+    ensures next { next_xid mixed_journal ≡ 9 }
+    ensures next_of_none { next_xid [] ≡ 3 }
+    ensures entries { map (entry mixed_journal) (3 ∷ 4 ∷ 8 ∷ 9 ∷ []) ≡ Some first_tx ∷ Some second_tx ∷ Some sixth_tx ∷ None ∷ [] }
+    ensures between { entries_between mixed_journal 4 6 ≡ second_tx ∷ third_tx ∷ [] }
+    ensures of_sessions { map (λ session. xids_of session mixed_journal) (1 ∷ 2 ∷ 3 ∷ 4 ∷ 5 ∷ []) ≡ (3 ∷ 6 ∷ []) ∷ (4 ∷ 7 ∷ []) ∷ (5 ∷ []) ∷ (8 ∷ []) ∷ [] ∷ [] }
+{}
