@@ -5,6 +5,7 @@ pub mod BytesLemmas
 pub mod PackingLemmas
 pub mod PackingSteps
 pub mod NearLaws
+pub mod QueueUseLaws
 pub mod TextBytes
 pub mod AnswerLemmas
 pub mod SavepointLemmas

@@ -38,7 +38,7 @@ Stands-push terms journal items s item h p = record {
 }
 
 -- an entry stays where it is as the journal grows
-entry-append : (journal more : List Tx) (k : ℕ) (P : Tx → Type 0) → IsSomeAnd (slice_get journal k) P → IsSomeAnd (slice_get (journal ++ more) k) P
+pub entry-append : (journal more : List Tx) (k : ℕ) (P : Tx → Type 0) → IsSomeAnd (slice_get journal k) P → IsSomeAnd (slice_get (journal ++ more) k) P
 entry-append [] more k P h = absurd h
 entry-append (tx ∷ journal) more zero P h = h
 entry-append (tx ∷ journal) more (suc k) P h = entry-append journal more k P h

@@ -7,6 +7,7 @@ ghost use Rattle.pgn_model.specs.laws.Tokens.{QuotesTell, TokensStand, TokensCov
 ghost use Rattle.pgn_model.specs.laws.Inputs.{LinesAreCut, TextsAreTrimmed, PartsAreCut, BlankReadsEmpty, CommandsHaveOneLine, InputReadingComputes, OneInputReading, ReadingsAreSound};
 ghost use Rattle.pgn_model.specs.laws.Due.{DueSplits, DueGrows};
 ghost use Rattle.pgn_model.specs.laws.Near.{NearShrinks, NearItself, NearGrows};
+ghost use Rattle.pgn_model.specs.laws.QueueUse.{NoPageGrows, UsageGrows};
 ghost use Rattle.pgn_model.specs.laws.Walk.{LawfulPushes, LawfulPrefix, LawfulGrows};
 ghost use Rattle.pgn_model.specs.laws.Savepoints.{RolledBackCuts, ReleasedKeeps, SurvivesRolledBack, SurvivesReleased, SurvivesSaved, SurvivesActed, SurvivesNoted, LiveIsSaved, LiveHasSavepoint, RolledBackKeepsSavepoint, RolledBackOfNone, ReleasedOfNone, FirstsInOrder, FirstsDiffer, FirstsHaveAll, FirstsPush, FirstsTwice, LiveAfterChange, LiveSaved, LiveActed, LiveNew, LiveRepeated, LiveRolledBack, LiveReleased, LiveTwice, LiveHasNames, LiveHasActions, LiveHasFirsts};
 ghost use Rattle.pgn_model.specs.laws.Answers.{TableIsTotal, NothingFailsOutside, BlocksBegin, BlocksEnd, BlocksFail, WaysOut, WaysOn, OnlyEmptyIsSilent, ChannelsAreCounted, WhatCommits};
@@ -50,6 +51,14 @@ pub fn near()
     ensures itself { NearItself }
     // A longer journal changes nothing of it.
     ensures grows { NearGrows }
+{}
+
+/// A full queue, and its usage.
+pub fn queue_use()
+    // Why the queue was full stays so over a longer journal.
+    ensures no_page_grows { NoPageGrows }
+    // What a usage shows stays so over a longer journal.
+    ensures usage_grows { UsageGrows }
 {}
 
 /// Lawful traces.
