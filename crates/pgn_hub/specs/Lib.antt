@@ -1,0 +1,6 @@
+-- what a pass is as it is opened, and what always holds of it
+pub mod Passes
+-- what each call does to what is known of its pass
+pub mod Calls
+-- what is known when all passes are gathered
+pub mod Gathered

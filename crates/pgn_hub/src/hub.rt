@@ -1,0 +1,126 @@
+ghost use Rattle.std.specs.Prelude.{◌≡◌, ◌≢◌, ◌<◌, ◌≤◌, [], map, length, All, AllPairs, IfOk, OnErr, IfErr, IsSome};
+ghost use Rattle.std.specs.List.{range_with_len};
+ghost use Rattle.pgn_model.specs.Shape.{Shape, IsShape};
+ghost use Rattle.pgn_hub.specs.Passes.{IsSeated, IsWithin, opened_passes};
+ghost use Rattle.pgn_hub.specs.Calls.{Commits, Enlists, Hears, Learns, Leaves, LooksAt, MeetsFull, Raises, Scans, Uses, Wakes};
+ghost use Rattle.pgn_hub.specs.Gathered.{Gathered};
+
+use pgn_base::{Delivery, Enlisted, Full, ListenSet, Note, Usage, Xid};
+use pgn_model::{PassView, Roll, Setup};
+use std::alloc::{AllocError, Global};
+use std::sync::Wait;
+
+/// The notification service, as its sessions see it.
+pub trait Hub: Sized {
+    type Pass: PassView + Send + Drop;
+
+    /// What the hub was opened for. It never changes.
+    ghost shape: { Self → Shape };
+
+    /// The pass is one of this hub's.
+    ghost is_pass: { Self → Self.Pass → Type 0 };
+
+    /// An empty journal, and a pass for each seat, in order. The error is that memory did not suffice.
+    fn open(alloc: Global, setup: Setup) -> Result<(Self, Vec<Self::Pass>), AllocError>
+        ensures shape { IfOk result (λ opened. shape opened.0 ≡ setup) }
+        ensures passes { IfOk result (λ opened. map Self.Pass.known opened.1.items ≡ opened_passes 1 setup.seats) }
+        ensures own { IfOk result (λ opened. All (is_pass opened.0) opened.1.items) };
+
+    /// Commits a transaction with these notifications, which have no repeats: answers its number. Where the queue has no page left
+    /// for them the transaction is aborted, and the answer says why.
+    fn publish<R: Wait>(
+        &self,
+        rt: &R,
+        pass: &mut Self::Pass,
+        notes: &[Note],
+    ) -> Result<Xid, Full>
+        requires own { is_pass self.now pass.old }
+        requires some { notes.now ≢ [] }
+        requires different { AllPairs (λ a b. a ≢ b) notes.now }
+        requires few { length notes.now ≤ (Self.Pass.known pass.old).notes_left }
+        ensures own { is_pass self.now pass.new }
+        ensures committed { IfOk result (λ x. Commits (Self.Pass.known pass.old) (Self.Pass.known pass.new) notes.now x) }
+        ensures full { IfErr result (λ full. MeetsFull (shape self.now) (Self.Pass.known pass.old) (Self.Pass.known pass.new) notes.now full) };
+
+    /// Makes the session, which is no listener, one: it receives from the point on.
+    fn enlist(&self, pass: &mut Self::Pass) -> Enlisted
+        requires own { is_pass self.now pass.old }
+        requires out { (Self.Pass.known pass.old).mark ≡ None }
+        ensures own { is_pass self.now pass.new }
+        ensures enlisted { Enlists (Self.Pass.known pass.old) (Self.Pass.known pass.new) result };
+
+    /// Reads from the mark to the first unfinished transaction, which it answers as the new mark, and puts what is due on the
+    /// channels of the set behind `out`. The error is that memory did not suffice; then `out` and the mark stay, and a read that was
+    /// owed is still owed.
+    fn scan(
+        &self,
+        alloc: Global,
+        pass: &mut Self::Pass,
+        set: &ListenSet,
+        out: &mut Vec<Delivery>,
+    ) -> Result<Xid, AllocError>
+        requires own { is_pass self.now pass.old }
+        requires listens { IsSome (Self.Pass.known pass.old).mark }
+        ensures own { is_pass self.now pass.new }
+        ensures read { IfOk result (λ to. Scans (Self.Pass.known pass.old) (Self.Pass.known pass.new) set.now to out.old.items out.new.items) }
+        ensures refused { OnErr result (Learns (Self.Pass.known pass.old) (Self.Pass.known pass.new)) }
+        ensures refused_reads_nothing { OnErr result (out.new.items ≡ out.old.items) };
+
+    /// Makes a listener none.
+    fn leave(&self, pass: &mut Self::Pass)
+        requires own { is_pass self.now pass.old }
+        requires listens { IsSome (Self.Pass.known pass.old).mark }
+        ensures own { is_pass self.now pass.new }
+        ensures left { Leaves (Self.Pass.known pass.old) (Self.Pass.known pass.new) };
+
+    /// Whether a listener is to read: its wake was set, which is taken by this, or a read is owed.
+    fn woken(&self, pass: &mut Self::Pass) -> bool
+        requires own { is_pass self.now pass.old }
+        requires listens { IsSome (Self.Pass.known pass.old).mark }
+        ensures own { is_pass self.now pass.new }
+        ensures woken { Wakes (shape self.now).format (Self.Pass.known pass.old) (Self.Pass.known pass.new) result };
+
+    /// Raises a flag with the number that the pass was told, and answers it. The flag keeps the greatest number.
+    fn raise(&self, pass: &mut Self::Pass, flag: u32) -> Xid
+        requires own { is_pass self.now pass.old }
+        requires flag { flag < (shape self.now).flags }
+        ensures own { is_pass self.now pass.new }
+        ensures raised { Raises (Self.Pass.known pass.old) (Self.Pass.known pass.new) flag result };
+
+    /// Looks once at a flag: its number, if it was raised.
+    fn look(&self, pass: &mut Self::Pass, flag: u32) -> Option<Xid>
+        requires own { is_pass self.now pass.old }
+        requires flag { flag < (shape self.now).flags }
+        ensures own { is_pass self.now pass.new }
+        ensures looked { LooksAt (Self.Pass.known pass.old) (Self.Pass.known pass.new) flag result };
+
+    /// How many pages are in use, after the tail was advanced.
+    fn usage<R: Wait>(&self, rt: &R, pass: &mut Self::Pass) -> Usage
+        requires own { is_pass self.now pass.old }
+        ensures own { is_pass self.now pass.new }
+        ensures used { Uses (shape self.now) (Self.Pass.known pass.old) (Self.Pass.known pass.new) result };
+
+    /// Lets one pass hear what another one knows of the journal, and what it was told.
+    fn meet(&self, from: &mut Self::Pass, into: &mut Self::Pass)
+        requires from { is_pass self.now from.old }
+        requires into { is_pass self.now into.old }
+        ensures own_from { is_pass self.now from.new }
+        ensures own_into { is_pass self.now into.new }
+        ensures told { Learns (Self.Pass.known from.old) (Self.Pass.known from.new) }
+        ensures heard { Hears (Self.Pass.known from.old) (Self.Pass.known into.old) (Self.Pass.known into.new) };
+
+    /// Ends the hub with all of its passes, in order.
+    fn gather(self, passes: Vec<Self::Pass>) -> Roll
+        requires own { All (is_pass self) passes.items }
+        requires all { map (λ pass. (Self.Pass.known pass).session) passes.items ≡ range_with_len 1 (length (shape self).seats) }
+        ensures { Gathered (map Self.Pass.known passes.items) result.count };
+
+    /// What it was opened for is within its limits.
+    ghost shaped: { (hub : Self) → IsShape (shape hub) };
+
+    /// What holds of each pass between calls.
+    ghost within: { (hub : Self) (pass : Self.Pass) → is_pass hub pass → IsWithin (Self.Pass.known pass) };
+
+    /// Each pass is that of a seat.
+    ghost seated: { (hub : Self) (pass : Self.Pass) → is_pass hub pass → IsSeated (shape hub) (Self.Pass.known pass) };
+}
