@@ -43,18 +43,18 @@ least_within : (format : Format) → (header_bytes format ≤ least_bytes format
 least_within One = (omega arith, omega arith, omega arith)
 least_within Two = (omega arith, omega arith, omega arith)
 
--- what is counted by the alignment is counted by four bytes
+-- a multiple of the alignment is one of four
 whole_cells : (format : Format) (len : ℕ) → len % alignment format ≡ 0 → len % 4 ≡ 0
 whole_cells One len h = omega (arith, h)
 whole_cells Two len h = omega (arith, h)
 
--- an entry's length is counted by the alignment, and takes some cells
+-- an entry's length is a multiple of the alignment, and takes some cells
 entry_whole : (format : Format) (note : Note) → (entry_length format note % alignment format ≡ 0) × (4 ≤ entry_length format note)
 unfolding entry_length
 entry_whole One note = (omega arith, omega arith)
 entry_whole Two note = (omega arith, omega arith)
 
--- an offset stays a multiple of the alignment
+-- an offset that is a multiple of the alignment stays one
 whole_after : (format : Format) (at bytes : ℕ) → bytes_in at % alignment format ≡ 0 → bytes % alignment format ≡ 0 → bytes_in (at + cells_in bytes) % alignment format ≡ 0
 whole_after One at bytes h k = omega (arith, h, k)
 whole_after Two at bytes h k = omega (arith, h, k)
@@ -85,7 +85,8 @@ unfolding after_bytes after_rest
 room_after_bytes format at bytes room whole =
     room_past format (at + cells_in bytes) (has_room format (at + cells_in bytes)) refl (whole_after format at bytes room.whole whole)
 
-pub packed_bytes : (format : Format) (note : Note) (db xid pid at : ℕ) → at + length (entry_cells format at (spelled format note db xid pid)) ≡ after_bytes format at (entry_length format note)
+pub packed_bytes : (format : Format) (note : Note) (db xid pid at : ℕ)
+    → at + length (entry_cells format at (spelled format note db xid pid)) ≡ after_bytes format at (entry_length format note)
 unfolding entry_cells after_bytes
 packed_bytes format note db xid pid at =
     let bytes = spelled format note db xid pid in
@@ -160,7 +161,8 @@ unfolding after
 room_after format at tx room = room_ended format tx.fate (put_all format at (take tx.queued tx.notes)) (room_put_all format at (take tx.queued tx.notes) room)
 
 -- the cells of transactions one list after the other
-image_from-append : (format : Format) (x at : ℕ) (xs ys : List Tx) → image_from format x at (xs ++ ys) ≡ image_from format x at xs ++ image_from format (x + length xs) (at + length (image_from format x at xs)) ys
+image_from-append : (format : Format) (x at : ℕ) (xs ys : List Tx)
+    → image_from format x at (xs ++ ys) ≡ image_from format x at xs ++ image_from format (x + length xs) (at + length (image_from format x at xs)) ys
 unfolding image_from
 image_from-append format x at [] ys = ap (λ n. image_from format n at ys) (sym (add-zero x)) ∙ ap (λ n. image_from format (x + 0) n ys) (sym (add-zero at))
 image_from-append format x at (tx ∷ xs) ys =
