@@ -15,10 +15,10 @@ use Rattle.pgn_base.specs.declared.note.Note.{Note}
 use Rattle.pgn_model.specs.declared.tx.Tx.{Tx}
 use Rattle.pgn_model.specs.declared.tx.Fate.{Fate}
 use Rattle.pgn_model.specs.declared.tx.Fate.TheVariants.{Committed, Aborted}
-use Rattle.pgn_model.specs.Journal.{entry, IsQueued}
+use Rattle.pgn_model.specs.Journal.{entry, IsQueued, IsFinished}
 use Rattle.pgn_model.specs.Bytes.{header_bytes, alignment, least_bytes, four_bytes, entry_length, spelled, filler, IsNote}
 use Rattle.pgn_model.specs.Packing.{cells_in, bytes_in, fits, has_room, next_page, is_page_start, bytes_left, cells_left, filled_cells, page_rest, entry_cells, filler_cells, note_cells, notes_cells, end_cells, tx_cells, image_from, image, place, Sender, sender_of, after_rest, after_bytes, put_bytes, put, put_all, ended, after, HasRoom, bytes_of}
-use Rattle.pgn_model.specs.laws.Packing.{CellsGiveBytes, NoteMoves, PlaceRises, IsSent, PlaceBound, PlaceFolds, PutTakes, PagesHold, NotesInTurn, FirstPlace, NextPlace, LastPlace, IsPacked, LeavesRoom, PlaceGrows, AbortedEnds, PlacesAgree, ImagesAgree, CellsOfEach, CellsApart}
+use Rattle.pgn_model.specs.laws.Packing.{CellsGiveBytes, NoteMoves, PlaceRises, PlaceBound, PlaceFolds, PutTakes, PagesHold, NotesInTurn, FirstPlace, NextPlace, LastPlace, IsPacked, LeavesRoom, PlaceGrows, AbortedEnds, PlacesAgree, ImagesAgree, CellsOfEach, CellsApart}
 use Rattle.pgn_model.proofs.BytesLemmas.{length-spelled, length-filler, entry_lengths, are_bytes}
 
 -- one cell for each four bytes
@@ -397,18 +397,18 @@ unfolding ended
 ended_within Committed at queued count h = omega arith
 ended_within Aborted at queued count h = let end : cond (is_page_start at) at (next_page at) ≤ at + 2048 = ended_bound Aborted at in omega (arith, end, h)
 
-after_bound : (format : Format) (at : ℕ) (tx : Tx) → IsSent tx → after format at tx ≤ at + 4096 * length tx.notes
+after_bound : (format : Format) (at : ℕ) (tx : Tx) → IsFinished tx → after format at tx ≤ at + 4096 * length tx.notes
 unfolding after
 after_bound format at tx h =
-    let notes = put_all_bound format at (take tx.queued tx.notes) (All-take IsNote tx.queued tx.notes h.are_notes) in
+    let notes = put_all_bound format at (take tx.queued tx.notes) (All-take IsNote tx.queued tx.notes h.valid) in
     let end = ended_within tx.fate (put_all format at (take tx.queued tx.notes)) tx.queued (length tx.notes) h.queueing in
     omega (arith, notes, end, length-take tx.queued tx.notes)
 
-fold_bound : (format : Format) (at : ℕ) (txs : List Tx) → All IsSent txs → fold (after format) at txs ≤ at + 4096 * sum_by (λ tx. length tx.notes) txs
+fold_bound : (format : Format) (at : ℕ) (txs : List Tx) → All IsFinished txs → fold (after format) at txs ≤ at + 4096 * sum_by (λ tx. length tx.notes) txs
 fold_bound format at [] h = omega arith
 fold_bound format at (tx ∷ txs) h =
     let count : Tx → ℕ = λ t. length t.notes in
-    omega (arith, sum_by-cons count tx txs, after_bound format at tx (All-head IsSent tx txs h), fold_bound format (after format at tx) txs (All-tail IsSent tx txs h))
+    omega (arith, sum_by-cons count tx txs, after_bound format at tx (All-head IsFinished tx txs h), fold_bound format (after format at tx) txs (All-tail IsFinished tx txs h))
 
 pub place_bound : PlaceBound
 place_bound format journal x h =

@@ -6,7 +6,7 @@ use Rattle.pgn_base.specs.declared.note.Note.{Note}
 use Rattle.pgn_model.specs.declared.tx.Tx.{Tx}
 use Rattle.pgn_model.specs.declared.tx.Fate.{Fate}
 use Rattle.pgn_model.specs.declared.tx.Fate.TheVariants.{Aborted}
-use Rattle.pgn_model.specs.Journal.{entry, next_xid, IsQueued}
+use Rattle.pgn_model.specs.Journal.{entry, next_xid, IsFinished}
 use Rattle.pgn_model.specs.Bytes.{entry_length, spelled, filler, IsNote, IsEntryLength}
 use Rattle.pgn_model.specs.Packing.{Sender, cell_bytes, page_cells, is_page_start, next_page, bytes_left, fits, filled_cells, entry_cells, filler_cells, note_cells, notes_cells, end_cells, tx_cells, image_from, image, place, IsCellOf, after_bytes, put, put_all, ended, after, bytes_of, HasRoom}
 
@@ -79,14 +79,9 @@ abbrev pub PlaceRises : Type 0
 PlaceRises = (format : Format) (journal : List Tx) (x : ℕ) (tx : Tx) → FIRST_XID ≤ x → entry journal x ≡ Some tx → 0 < tx.queued → tx.notes ≢ []
     → place format journal x < place format journal (x + 1)
 
--- the notifications of a transaction can be sent, and as many of them were queued as its end says
-pub record IsSent (tx : Tx) : Type 0 where
-  pub are_notes : All IsNote tx.notes
-  pub queueing : IsQueued tx.fate tx.queued (length tx.notes)
-
 -- the queue has at most two pages for each notification
 abbrev pub PlaceBound : Type 0
-PlaceBound = (format : Format) (journal : List Tx) (x : ℕ) → All IsSent journal → place format journal x ≤ 2 * page_cells * sum_by (λ tx. length tx.notes) journal
+PlaceBound = (format : Format) (journal : List Tx) (x : ℕ) → All IsFinished journal → place format journal x ≤ 2 * page_cells * sum_by (λ tx. length tx.notes) journal
 
 -- an aborted transaction ends where a page begins
 abbrev pub AbortedEnds : Type 0
