@@ -32,8 +32,8 @@ abbrev pub IsQueued : Fate → ℕ → ℕ → Type 0
 IsQueued Committed queued count = queued ≡ count
 IsQueued Aborted queued count = queued < count
 
--- what holds of each finished transaction: it has notifications, which can be sent and are all different, and queued as many as
--- its end says
+-- what holds of each finished transaction: it has notifications, each can be sent, and all are different; all were queued where it
+-- committed, fewer where it was aborted
 pub record IsFinished (tx : Tx) : Type 0 where
   pub some : tx.notes ≢ []
   pub valid : All IsNote tx.notes
