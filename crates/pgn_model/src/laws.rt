@@ -106,7 +106,7 @@ pub fn packing()
     ensures is_packed { IsPacked }
     // Where a transaction begins is counted by the arithmetic alone.
     ensures place_folds { PlaceFolds }
-    // The shortest entry always fits on the page where the next one begins.
+    // The next entry may always begin where one ends: at a multiple of the alignment, and the shortest fits on the page.
     ensures leaves_room { LeavesRoom }
     // A notification takes some cells, and at most those of two pages.
     ensures put_takes { PutTakes }
