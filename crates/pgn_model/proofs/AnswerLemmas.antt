@@ -5,7 +5,7 @@ use Rattle.pgn_model.specs.declared.block_state.BlockState.{BlockState}
 use Rattle.pgn_model.specs.declared.block_state.BlockState.TheVariants.{Idle, InBlock, Failed}
 use Rattle.pgn_model.specs.declared.command.Command.{Command}
 use Rattle.pgn_model.specs.declared.command.Command.TheVariants.{RollbackTo, Release, ListeningChannels}
-use Rattle.pgn_model.specs.Answers.{ShowsChannels, answer, ending_tag}
+use Rattle.pgn_model.specs.Answers.{GivesChannels, answer, ending_tag}
 use Rattle.pgn_model.specs.laws.Answers.{is_idle, is_in_block, is_failed, block_after, begins_block, ends_block, goes_back, is_refused, is_silent, is_empty_line, is_commit, is_transaction, ends_by_commit}
 
 -- a state is one of three
@@ -65,7 +65,7 @@ silent-empty Failed live set (Release name) = grind arith
 silent-empty Failed live set command = refl
 
 pub channels-counted : (live set : List (List ℕ)) (state : BlockState) → is_failed state ≡ false
-    → (answer state live set ListeningChannels ≡ ShowsChannels set) × (ending_tag (answer state live set ListeningChannels) ≡ Some (tag.Select (length set)))
+    → (answer state live set ListeningChannels ≡ GivesChannels set) × (ending_tag (answer state live set ListeningChannels) ≡ Some (tag.Select (length set)))
 channels-counted live set Idle h = (refl, refl)
 channels-counted live set InBlock h = (refl, refl)
 channels-counted live set Failed h = absurd (cc)

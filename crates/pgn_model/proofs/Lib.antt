@@ -1,4 +1,5 @@
 pub mod BeginsLaws
+pub mod JournalLaws
 pub mod DueLaws
 pub mod WalkLaws
 pub mod BytesLemmas

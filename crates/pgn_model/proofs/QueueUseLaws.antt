@@ -7,20 +7,14 @@ use Rattle.pgn_model.specs.Packing.{page_of, place}
 use Rattle.pgn_model.specs.QueueUse.{NoPage, ShowsUsage, IsCutShort}
 use Rattle.pgn_model.specs.laws.QueueUse.{NoPageGrows, UsageGrows}
 use Rattle.pgn_model.proofs.PackingLemmas.{places_agree}
-use Rattle.pgn_model.proofs.WalkLaws.{entry-append}
-
--- what stands in a list is below its length
-within : (xs : List Tx) (k : ℕ) (P : Tx → Type 0) → IsSomeAnd (slice_get xs k) P → k < length xs
-within [] k P h = absurd h
-within (x ∷ xs) zero P h = omega arith
-within (x ∷ xs) (suc k) P h = omega (arith, within xs k P h)
+use Rattle.pgn_model.proofs.JournalLaws.{entry-append, entry-within}
 
 same-page : (format : Format) (journal more : List Tx) (x page : ℕ) → x ≤ next_xid journal → page ≡ page_of (place format journal x) → page ≡ page_of (place format (journal ++ more) x)
 same-page format journal more x page h e = e ∙ ap page_of (sym (places_agree format journal more x h))
 
 pub no_page-grows : NoPageGrows
 no_page-grows format limit journal more full h =
-    let there : full.xid - 3 < length journal = within journal (full.xid - 3) _ h.cut_short in
+    let there : full.xid - 3 < length journal = entry-within journal (full.xid - 3) _ h.cut_short in
     let at : place format journal full.xid ≡ place format (journal ++ more) full.xid = sym (places_agree format journal more full.xid (omega (arith, there))) in
     record {
       cut_short = subst (λ (n : ℕ). IsSomeAnd (entry (journal ++ more) full.xid) (IsCutShort format n full.queued)) at

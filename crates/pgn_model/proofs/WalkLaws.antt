@@ -4,9 +4,11 @@ use Rattle.pgn_model.specs.declared.tx.Tx.{Tx}
 use Rattle.pgn_model.specs.declared.item.Item.{Item}
 use Rattle.pgn_model.specs.declared.item.Item.TheVariants.{Line, Enlist, Publish, QueueFull, Leave, Reply, Refuse, Channels, Used, Raise, Found, TimedOut, Read}
 use Rattle.pgn_model.specs.Along.{Along}
-use Rattle.pgn_model.specs.Walk.{Terms, State, after_item, start, Allowed, IsCommittedBy}
+use Rattle.pgn_model.specs.Walk.{Terms, State, after_item, start, Allowed, IsCommittedBy, IsAbortedBy}
 use Rattle.pgn_model.specs.Trace.{IsLawful, Stands}
 use Rattle.pgn_model.proofs.DueLaws.{due-grows}
+use Rattle.pgn_model.proofs.JournalLaws.{entry-append}
+use Rattle.pgn_model.proofs.QueueUseLaws.{usage-grows}
 
 -- one more item at the end
 pub Along-push : {S I : Type 0} (next : S → I → S) (P : S → I → Type 0) (s : S) (items : List I) (item : I) → Along next P s items → P (fold next s items) item → Along next P s (items ++ item ∷ [])
@@ -37,12 +39,6 @@ Stands-push terms journal items s item h p = record {
   state = fold-push after_item (start terms.section) items item ∙ ap (λ (t : State). after_item t item) h.state;
 }
 
--- an entry stays where it is as the journal grows
-pub entry-append : (journal more : List Tx) (k : ℕ) (P : Tx → Type 0) → IsSomeAnd (slice_get journal k) P → IsSomeAnd (slice_get (journal ++ more) k) P
-entry-append [] more k P h = absurd h
-entry-append (tx ∷ journal) more zero P h = h
-entry-append (tx ∷ journal) more (suc k) P h = entry-append journal more k P h
-
 longer : (journal more : List Tx) (n : ℕ) → n ≤ 3 + length journal → n ≤ 3 + length (journal ++ more)
 longer journal more n h = omega (arith, length-append journal more)
 
@@ -63,15 +59,27 @@ Allowed-grows terms journal more s (Publish xid notes) h = record {
   after_mark = h.after_mark;
   in_journal = entry-append journal more (xid - 3) (IsCommittedBy terms.section notes) h.in_journal;
 }
-Allowed-grows terms journal more s (QueueFull full notes) h = absurd h
-Allowed-grows terms journal more s Leave h = absurd h
+Allowed-grows terms journal more s (QueueFull full notes) h = record {
+  expected = h.expected;
+  after_told = h.after_told;
+  after_mark = h.after_mark;
+  in_journal = entry-append journal more (full.xid - 3) (IsAbortedBy terms.section notes full.queued) h.in_journal;
+  floor = h.floor;
+}
+Allowed-grows terms journal more s Leave h = h
 Allowed-grows terms journal more s (Reply tag warning) h = h
-Allowed-grows terms journal more s (Refuse refusal) h = absurd h
-Allowed-grows terms journal more s (Channels names) h = absurd h
-Allowed-grows terms journal more s (Used usage) h = absurd h
-Allowed-grows terms journal more s (Raise value) h = absurd h
-Allowed-grows terms journal more s (Found value) h = absurd h
-Allowed-grows terms journal more s (TimedOut looks) h = absurd h
+Allowed-grows terms journal more s (Refuse refusal) h = h
+Allowed-grows terms journal more s (Channels names) h = h
+Allowed-grows terms journal more s (Used usage) h = record {
+  expected = h.expected;
+  after_told = h.after_told;
+  after_mark = h.after_mark;
+  shown = usage-grows terms.settings.format terms.settings.limit journal more usage h.shown;
+  floor = h.floor;
+}
+Allowed-grows terms journal more s (Raise value) h = h
+Allowed-grows terms journal more s (Found value) h = h
+Allowed-grows terms journal more s (TimedOut looks) h = h
 Allowed-grows terms journal more s (Read from to got) h = record {
   in_turn = h.in_turn;
   from_mark = h.from_mark;

@@ -25,9 +25,9 @@ pub data Outcome : Type 0 where
   -- nothing is answered; the state stays
   Silent : Outcome
   -- a row for each of these channels, and the tag SELECT with their number; the state stays
-  ShowsChannels : (names : List (List ℕ)) → Outcome
+  GivesChannels : (names : List (List ℕ)) → Outcome
   -- the row of the queue's usage, and the tag SELECT 1; the state stays
-  ShowsUsage : Outcome
+  GivesUsage : Outcome
 
 -- the columns of a row: in no block, in a block, in a failed block
 abbrev pub in_state : BlockState → Outcome → Outcome → Outcome → Outcome
@@ -57,8 +57,8 @@ answer state live set (Unlisten name) = in_state state (Commits tag.Unlisten) (R
 answer state live set UnlistenAll = in_state state (Commits tag.Unlisten) (Replies tag.Unlisten None InBlock) ignored
 answer state live set (Notify note) = in_state state (Commits tag.Notify) (Replies tag.Notify None InBlock) ignored
 answer state live set (PgNotify note) = in_state state (Commits (tag.Select 1)) (Replies (tag.Select 1) None InBlock) ignored
-answer state live set ListeningChannels = in_state state (ShowsChannels set) (ShowsChannels set) ignored
-answer state live set QueueUsage = in_state state ShowsUsage ShowsUsage ignored
+answer state live set ListeningChannels = in_state state (GivesChannels set) (GivesChannels set) ignored
+answer state live set QueueUsage = in_state state GivesUsage GivesUsage ignored
 answer state live set (Invalid which) = in_state state (Refuses (Bounds which) Idle) (Refuses (Bounds which) Failed) ignored
 answer state live set (Bad at) = in_state state (Refuses (Syntax at) Idle) (Refuses (Syntax at) Failed) (Refuses (Syntax at) Failed)
 answer state live set Empty = in_state state Silent Silent Silent
@@ -69,8 +69,8 @@ next_state state (Commits tag) = Idle
 next_state state (Replies tag warning next) = next
 next_state state (Refuses refusal next) = next
 next_state state Silent = state
-next_state state (ShowsChannels names) = state
-next_state state ShowsUsage = state
+next_state state (GivesChannels names) = state
+next_state state GivesUsage = state
 
 -- the list of the open transaction after a command that comes to this, from the list before it: what the command puts into it
 -- stands at its end, a transaction that ends has none, and any other command leaves it
@@ -86,5 +86,5 @@ ending_tag (Commits done) = Some done
 ending_tag (Replies done warning next) = Some done
 ending_tag (Refuses refusal next) = None
 ending_tag Silent = None
-ending_tag (ShowsChannels names) = Some (tag.Select (length names))
-ending_tag ShowsUsage = Some (tag.Select 1)
+ending_tag (GivesChannels names) = Some (tag.Select (length names))
+ending_tag GivesUsage = Some (tag.Select 1)

@@ -1,5 +1,5 @@
 -- The walk over a session's trace: what it carries, what each item does to it, and which item is allowed.
-use Rattle.std.specs.Prelude.{◌≡◌, ℕ, ◌+◌, ◌<◌, ◌≤◌, ◌⊎◌, max, Bool, true, false, ◌&&◌, List, [], ◌∷◌, ◌++◌, length, Option, Some, None, if◌then◌else◌, is_some, is_none, IfSome, IsSomeAnd, All}
+use Rattle.std.specs.Prelude.{◌≡◌, ◌≢◌, ℕ, ◌+◌, ◌<◌, ◌≤◌, ◌⊎◌, max, Bool, true, false, ◌&&◌, List, [], ◌∷◌, ◌++◌, length, Option, Some, None, if◌then◌else◌, is_some, is_none, IfSome, IsSomeAnd, All}
 use Rattle.std.specs.List.{list_any}
 use Rattle.pgn_base.specs.declared.limits.TheConstants.{FIRST_XID, PAGES_DEFAULT, PATIENCE_DEFAULT}
 use Rattle.pgn_base.specs.declared.format.Format.{Format}
@@ -7,12 +7,16 @@ use Rattle.pgn_base.specs.declared.format.Format.TheVariants.{One}
 use Rattle.pgn_base.specs.declared.note.Note.{Note}
 use Rattle.pgn_base.specs.declared.note.Delivery.{Delivery}
 use Rattle.pgn_base.specs.declared.answers.Tag.{Tag}
+use Rattle.pgn_base.specs.declared.answers.Tag.TheVariants as tag
 use Rattle.pgn_base.specs.declared.answers.Warning.{Warning}
 use Rattle.pgn_base.specs.declared.answers.Refusal.{Refusal}
+use Rattle.pgn_base.specs.declared.answers.Refusal.TheVariants as refused
+use Rattle.pgn_base.specs.declared.queue_answers.Full.{Full}
+use Rattle.pgn_base.specs.declared.queue_answers.Usage.{Usage}
 use Rattle.pgn_base.specs.declared.listen_set.Action.{Action}
 use Rattle.pgn_base.specs.Channels.{applied}
 use Rattle.pgn_model.specs.declared.tx.Tx.{Tx}
-use Rattle.pgn_model.specs.declared.tx.Fate.TheVariants.{Committed}
+use Rattle.pgn_model.specs.declared.tx.Fate.TheVariants.{Committed, Aborted}
 use Rattle.pgn_model.specs.declared.block_state.BlockState.{BlockState}
 use Rattle.pgn_model.specs.declared.block_state.BlockState.TheVariants.{Idle}
 use Rattle.pgn_model.specs.declared.command.Command.{Command}
@@ -21,11 +25,12 @@ use Rattle.pgn_model.specs.declared.scenario.Act.TheVariants.{Run, Signal, Await
 use Rattle.pgn_model.specs.declared.scenario.ScriptLine.{ScriptLine}
 use Rattle.pgn_model.specs.declared.scenario.Section.{Section}
 use Rattle.pgn_model.specs.declared.item.Item.{Item}
-use Rattle.pgn_model.specs.declared.item.Item.TheVariants.{Line, Enlist, Publish, Reply, Read}
+use Rattle.pgn_model.specs.declared.item.Item.TheVariants.{Line, Enlist, Publish, QueueFull, Leave, Reply, Refuse, Channels, Used, Raise, Found, TimedOut, Read}
 use Rattle.pgn_model.specs.Journal.{entry, next_xid}
 use Rattle.pgn_model.specs.Due.{due}
+use Rattle.pgn_model.specs.QueueUse.{ShowsUsage}
 use Rattle.pgn_model.specs.Savepoints.{Change, live_names, surviving_actions, surviving_notes, firsts, is_listen, changes_of}
-use Rattle.pgn_model.specs.Answers.{Outcome, Commits, Replies, Refuses, Silent, answer, next_state, list_after}
+use Rattle.pgn_model.specs.Answers.{Outcome, Commits, Replies, Refuses, Silent, GivesChannels, GivesUsage, answer, next_state, list_after}
 
 -- what the command line sets: the format of the queue's entries, the queue's limit in pages, and how many looks an await takes
 pub record Settings : Type 0 where
@@ -58,6 +63,16 @@ pub data Owed : Type 0 where
   Leaving : (ending : Ending) → Owed
   -- the answer
   Answering : (ending : Ending) → Owed
+  -- the rows of the channels, and then the answer
+  Listing : (names : List (List ℕ)) → (ending : Ending) → Owed
+  -- the row of the queue's usage, and then the answer
+  Measuring : (ending : Ending) → Owed
+  -- the flag is raised
+  Raising : (flag : ℕ) → Owed
+  -- the flag is found, or the patience is spent
+  Awaiting : (flag : ℕ) → Owed
+  -- a listener that quits stops being one
+  Quitting : Owed
   -- no lawful trace goes on from here
   Barred : Owed
 
@@ -133,8 +148,8 @@ owing s changes (Commits tag) = committing s changes (Replied tag None)
 owing s changes (Replies tag warning next) = record s { owed = Answering (Replied tag warning) }
 owing s changes (Refuses refusal next) = record s { owed = Answering (Refused refusal) }
 owing s changes Silent = s
--- a query, whose answer no item shows yet
-owing s changes outcome = record s { owed = Barred }
+owing s changes (GivesChannels names) = record s { owed = Listing names (Replied (tag.Select (length names)) None) }
+owing s changes GivesUsage = record s { owed = Measuring (Replied (tag.Select 1) None) }
 
 -- a command begins that comes to this: the block and its list are as the outcome says, and it has its answer still to show
 abbrev pub at_outcome : State → Command → Outcome → State
@@ -142,12 +157,18 @@ at_outcome s command outcome =
     let next : State = record s { block = next_state s.block outcome; changes = list_after s.changes command outcome } in
     owing next (s.changes ++ changes_of command) outcome
 
+-- the session quits: its block and its set end, and a listener leaves
+abbrev pub quitting : State → State
+quitting s =
+    let ended : State = record s { block = Idle; changes = []; set = [] } in
+    if is_some s.mark then record ended { owed = Quitting } else ended
+
 -- a line of the script begins
 abbrev pub at_act : State → Act → State
 at_act s (Run command) = at_outcome s command (answer s.block (live_names s.changes) s.set command)
-at_act s (Signal flag) = record s { owed = Barred }
-at_act s (Await flag) = record s { owed = Barred }
-at_act s Quit = record s { owed = Barred }
+at_act s (Signal flag) = record s { owed = Raising flag }
+at_act s (Await flag) = record s { owed = Awaiting flag }
+at_act s Quit = quitting s
 
 -- the next line of the script begins
 abbrev pub at_line : State → List ScriptLine → State
@@ -164,14 +185,52 @@ abbrev pub at_publish : State → Owed → State
 at_publish s (Queueing actions notes ending) = settled s actions ending
 at_publish s owed = s
 
+-- a transaction has met a full queue: it is rolled back, so that the set stays
+abbrev pub at_full : State → Owed → State
+at_full s (Queueing actions notes ending) = leaving_or_answering s (Refused refused.QueueFull)
+at_full s owed = s
+
+-- a session is no listener any more
+abbrev pub at_leave : State → Owed → State
+at_leave s (Leaving ending) = record s { owed = Answering ending }
+at_leave s owed = record s { owed = Nothing }
+
+-- the rows of an answer were shown
+abbrev pub at_rows : State → Owed → State
+at_rows s (Listing names ending) = record s { owed = Answering ending }
+at_rows s (Measuring ending) = record s { owed = Answering ending }
+at_rows s owed = s
+
+-- a flag was raised with this number
+abbrev pub at_raise : ℕ → State → Owed → State
+at_raise value s (Raising flag) = record s { raised = s.raised ++ (flag, value) ∷ []; owed = Nothing }
+at_raise value s owed = s
+
+-- a flag was found with this number
+abbrev pub at_found : ℕ → State → Owed → State
+at_found value s (Awaiting flag) = record s { told = max s.told value; found = s.found ++ (flag, value) ∷ []; owed = Nothing }
+at_found value s owed = s
+
+-- the holder that is named, with the floor mark
+abbrev pub holder_at : Option ℕ → ℕ → List (ℕ × ℕ)
+holder_at None mark = []
+holder_at (Some session) mark = (session, mark) ∷ []
+
 -- the state after an item
 abbrev pub after_item : State → Item → State
 after_item s (Line line) = at_line s s.rest
 after_item s (Enlist base point) = at_enlist (record s { mark = Some point; marks = s.marks ++ base ∷ [] ++ point ∷ [] }) s.owed
 after_item s (Publish xid notes) = at_publish (record s { told = max s.told (xid + 1) }) s.owed
+after_item s (QueueFull full notes) = at_full (record s { told = max s.told (full.xid + 1); named = s.named ++ holder_at full.holder full.floor_mark }) s.owed
+after_item s Leave = at_leave (record s { mark = None }) s.owed
 after_item s (Reply tag warning) = record s { owed = Nothing }
+after_item s (Refuse refusal) = record s { owed = Nothing }
+after_item s (Channels names) = at_rows s s.owed
+after_item s (Used usage) = at_rows (record s { named = s.named ++ holder_at usage.holder usage.floor_mark }) s.owed
+after_item s (Raise value) = at_raise value s s.owed
+after_item s (Found value) = at_found value s s.owed
+after_item s (TimedOut looks) = record s { owed = Nothing }
 after_item s (Read from to got) = record s { mark = Some to; marks = s.marks ++ to ∷ [] }
-after_item s item = s
 
 -- a line of this number comes next
 abbrev pub IsNext : ℕ → List ScriptLine → Type 0
@@ -188,12 +247,51 @@ abbrev pub IsQueueing : List Note → Owed → Type 0
 IsQueueing notes (Queueing actions others ending) = notes ≡ others
 IsQueueing notes owed = ⊥
 
+-- the session is to stop being a listener
+abbrev pub IsLeaving : Owed → Type 0
+IsLeaving (Leaving ending) = Unit {0}
+IsLeaving Quitting = Unit {0}
+IsLeaving owed = ⊥
+
+-- the rows of these channels come next
+abbrev pub IsListing : List (List ℕ) → Owed → Type 0
+IsListing names (Listing others ending) = names ≡ others
+IsListing names owed = ⊥
+
+-- the row of the queue's usage comes next
+abbrev pub IsMeasuring : Owed → Type 0
+IsMeasuring (Measuring ending) = Unit {0}
+IsMeasuring owed = ⊥
+
+-- a flag is to be raised
+abbrev pub IsRaising : Owed → Type 0
+IsRaising (Raising flag) = Unit {0}
+IsRaising owed = ⊥
+
+-- a flag is awaited, and P holds of it
+abbrev pub IsAwaiting : Owed → (ℕ → Type 0) → Type 0
+IsAwaiting (Awaiting flag) P = P flag
+IsAwaiting owed P = ⊥
+
 -- the entry is this session's, of its database, with these notifications, and committed
 pub record IsCommittedBy (section : Section) (notes : List Note) (tx : Tx) : Type 0 where
   pub by_session : tx.session ≡ section.no
   pub in_database : tx.db ≡ section.db
   pub with_notes : tx.notes ≡ notes
   pub committed : tx.fate ≡ Committed
+
+-- the entry is this session's, of its database, with these notifications, and aborted with so many of them queued
+pub record IsAbortedBy (section : Section) (notes : List Note) (count : ℕ) (tx : Tx) : Type 0 where
+  pub by_session : tx.session ≡ section.no
+  pub in_database : tx.db ≡ section.db
+  pub with_notes : tx.notes ≡ notes
+  pub aborted : tx.fate ≡ Aborted
+  pub some : tx.queued ≡ count
+
+-- a floor that is shown is not above the session's own mark, and the session holds it only where it is that mark
+pub record IsFloorFor (section : Section) (mark : Option ℕ) (floor : ℕ) (holder : Option ℕ) : Type 0 where
+  pub below : IfSome mark (λ own. floor ≤ own)
+  pub own : holder ≡ Some section.no → mark ≡ Some floor
 
 -- a script line begins: the one before it has its whole answer, and it is the next
 pub record BeginsLine (s : State) (line : ℕ) : Type 0 where
@@ -217,10 +315,49 @@ pub record Publishes (terms : Terms) (journal : List Tx) (s : State) (xid : ℕ)
   pub after_mark : IfSome s.mark (λ mark. mark ≤ xid)
   pub in_journal : IsSomeAnd (entry journal xid) (IsCommittedBy terms.section notes)
 
--- the session may read here: between lines where no block is open; at the script's end an open block is dropped. (Of a trace
--- that may still go on, the items alone don't say whether the script's end has begun)
+-- a transaction met a full queue: it stands in the journal, aborted, after what the session was told or has read
+pub record MeetsFullQueue (terms : Terms) (journal : List Tx) (s : State) (full : Full) (notes : List Note) : Type 0 where
+  pub expected : IsQueueing notes s.owed
+  pub after_told : s.told ≤ full.xid
+  pub after_mark : IfSome s.mark (λ mark. mark ≤ full.xid)
+  pub in_journal : IsSomeAnd (entry journal full.xid) (IsAbortedBy terms.section notes full.queued)
+  pub floor : IsFloorFor terms.section s.mark full.floor_mark full.holder
+
+-- the queue's usage is shown, at no earlier number than the session was told or has read
+pub record MeasuresQueue (terms : Terms) (journal : List Tx) (s : State) (usage : Usage) : Type 0 where
+  pub expected : IsMeasuring s.owed
+  pub after_told : s.told ≤ usage.at
+  pub after_mark : IfSome s.mark (λ mark. mark ≤ usage.at)
+  pub shown : ShowsUsage terms.settings.format terms.settings.limit journal usage
+  pub floor : IsFloorFor terms.section s.mark usage.floor_mark usage.holder
+
+-- a flag is raised: it shows what the session was told
+pub record RaisesFlag (s : State) (value : ℕ) : Type 0 where
+  pub expected : IsRaising s.owed
+  pub told : value ≡ s.told
+
+-- each number that these show for the flag is at most this one
+abbrev pub IsGreatest : List (ℕ × ℕ) → ℕ → ℕ → Type 0
+IsGreatest pairs flag value = All (λ pair. pair.0 ≡ flag → pair.1 ≤ value) pairs
+
+-- an awaited flag is found with a number no less than each that the session has raised it or found it with
+abbrev pub FindsFlag : State → ℕ → Type 0
+FindsFlag s value = IsAwaiting s.owed (λ flag. IsGreatest s.raised flag value × IsGreatest s.found flag value)
+
+-- these show nothing of the flag
+abbrev pub IsUnknown : List (ℕ × ℕ) → ℕ → Type 0
+IsUnknown pairs flag = All (λ pair. pair.0 ≢ flag) pairs
+
+-- an await times out after as many looks as the patience is, at a flag that the session has neither raised nor found
+pub record TimesOut (terms : Terms) (s : State) (looks : ℕ) : Type 0 where
+  pub awaited : IsAwaiting s.owed (λ flag. IsUnknown s.raised flag × IsUnknown s.found flag)
+  pub patient : looks ≡ terms.settings.patience
+
+-- the session may read here where no block is open: between lines, and while it awaits a flag; at the script's end an open block is
+-- dropped. (Of a trace that may still go on, the items alone don't say whether the script's end has begun)
 abbrev pub MayRead : State → Owed → Type 0
 MayRead s Nothing = (s.block ≡ Idle) ⊎ (s.rest ≡ [])
+MayRead s (Awaiting flag) = s.block ≡ Idle
 MayRead s owed = ⊥
 
 -- a read, from the mark on and to no earlier than what the session was told: it received what was due on the channels that it
@@ -233,11 +370,18 @@ pub record Reads (terms : Terms) (journal : List Tx) (s : State) (from to : ℕ)
   pub in_journal : to ≤ next_xid journal
   pub received : got ≡ due journal from to terms.section.db s.set
 
--- the item is allowed in a state; a kind that nothing makes yet is not
+-- the item is allowed in a state
 abbrev pub Allowed : Terms → List Tx → State → Item → Type 0
 Allowed terms journal s (Line line) = BeginsLine s line
 Allowed terms journal s (Enlist base point) = Enlists journal s base point
 Allowed terms journal s (Publish xid notes) = Publishes terms journal s xid notes
+Allowed terms journal s (QueueFull full notes) = MeetsFullQueue terms journal s full notes
+Allowed terms journal s Leave = IsLeaving s.owed
 Allowed terms journal s (Reply tag warning) = s.owed ≡ Answering (Replied tag warning)
+Allowed terms journal s (Refuse refusal) = s.owed ≡ Answering (Refused refusal)
+Allowed terms journal s (Channels names) = IsListing names s.owed
+Allowed terms journal s (Used usage) = MeasuresQueue terms journal s usage
+Allowed terms journal s (Raise value) = RaisesFlag s value
+Allowed terms journal s (Found value) = FindsFlag s value
+Allowed terms journal s (TimedOut looks) = TimesOut terms s looks
 Allowed terms journal s (Read from to got) = Reads terms journal s from to got
-Allowed terms journal s item = ⊥

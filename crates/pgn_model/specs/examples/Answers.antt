@@ -10,7 +10,7 @@ use Rattle.pgn_base.specs.declared.answers.Refusal.TheVariants.{Syntax, Bounds, 
 use Rattle.pgn_model.specs.declared.block_state.BlockState.TheVariants.{Idle, InBlock, Failed}
 use Rattle.pgn_model.specs.declared.command.Command.{Command}
 use Rattle.pgn_model.specs.declared.command.Command.TheVariants.{Empty, Begin, Start, Commit, Rollback, Savepoint, RollbackTo, Release, Listen, Unlisten, UnlistenAll, Notify, PgNotify, ListeningChannels, QueueUsage, Invalid, Bad}
-use Rattle.pgn_model.specs.Answers.{Outcome, Commits, Replies, Refuses, Silent, ShowsChannels, ShowsUsage, answer}
+use Rattle.pgn_model.specs.Answers.{Outcome, Commits, Replies, Refuses, Silent, GivesChannels, GivesUsage, answer}
 
 -- a row of the table: a command, and its answer in no block, in a block and in a failed block
 pub record Row : Type 0 where
@@ -56,8 +56,8 @@ answer_table =
     ∷ row UnlistenAll (Commits tag.Unlisten) (Replies tag.Unlisten None InBlock) (Refuses Aborted Failed)
     ∷ row (Notify table_note) (Commits tag.Notify) (Replies tag.Notify None InBlock) (Refuses Aborted Failed)
     ∷ row (PgNotify table_note) (Commits (tag.Select 1)) (Replies (tag.Select 1) None InBlock) (Refuses Aborted Failed)
-    ∷ row ListeningChannels (ShowsChannels two_channels) (ShowsChannels two_channels) (Refuses Aborted Failed)
-    ∷ row QueueUsage ShowsUsage ShowsUsage (Refuses Aborted Failed)
+    ∷ row ListeningChannels (GivesChannels two_channels) (GivesChannels two_channels) (Refuses Aborted Failed)
+    ∷ row QueueUsage GivesUsage GivesUsage (Refuses Aborted Failed)
     ∷ row (Invalid ChannelEmpty) (Refuses (Bounds ChannelEmpty) Idle) (Refuses (Bounds ChannelEmpty) Failed) (Refuses Aborted Failed)
     ∷ row (Bad 7) (Refuses (Syntax 7) Idle) (Refuses (Syntax 7) Failed) (Refuses (Syntax 7) Failed)
     ∷ row Empty Silent Silent Silent
@@ -70,7 +70,7 @@ answered command = row command (answer Idle (live_name ∷ []) two_channels comm
 
 -- an outcome of each kind
 abbrev pub each_outcome : List Outcome
-each_outcome = Commits tag.Notify ∷ Replies tag.Begin (Some AlreadyInBlock) InBlock ∷ Refuses Aborted Failed ∷ Silent ∷ ShowsChannels two_channels ∷ ShowsUsage ∷ []
+each_outcome = Commits tag.Notify ∷ Replies tag.Begin (Some AlreadyInBlock) InBlock ∷ Refuses Aborted Failed ∷ Silent ∷ GivesChannels two_channels ∷ GivesUsage ∷ []
 
 -- the tags that end them
 abbrev pub their_tags : List (Option Tag)

@@ -6,7 +6,7 @@ use Rattle.pgn_model.specs.declared.block_state.BlockState.{BlockState}
 use Rattle.pgn_model.specs.declared.block_state.BlockState.TheVariants.{Idle, InBlock, Failed}
 use Rattle.pgn_model.specs.declared.command.Command.{Command}
 use Rattle.pgn_model.specs.declared.command.Command.TheVariants.{Empty, Begin, Start, Commit, Rollback, RollbackTo, Listen, Unlisten, UnlistenAll, Notify, PgNotify, ListeningChannels}
-use Rattle.pgn_model.specs.Answers.{Outcome, Commits, Refuses, Silent, ShowsChannels, answer, next_state, ending_tag}
+use Rattle.pgn_model.specs.Answers.{Outcome, Commits, Refuses, Silent, GivesChannels, answer, next_state, ending_tag}
 
 -- no block is open
 abbrev pub is_idle : BlockState → Bool
@@ -115,7 +115,7 @@ OnlyEmptyIsSilent = (state : BlockState) (live set : List (List ℕ)) (command :
 -- outside a failed block the channels that are shown are those listened to, and their number stands in the tag
 abbrev pub ChannelsAreCounted : Type 0
 ChannelsAreCounted = (live set : List (List ℕ)) (state : BlockState) → is_failed state ≡ false
-    → (answer state live set ListeningChannels ≡ ShowsChannels set) × (ending_tag (answer state live set ListeningChannels) ≡ Some (tag.Select (length set)))
+    → (answer state live set ListeningChannels ≡ GivesChannels set) × (ending_tag (answer state live set ListeningChannels) ≡ Some (tag.Select (length set)))
 
 -- a command commits exactly where it is LISTEN, UNLISTEN, UNLISTEN *, NOTIFY or a call of pg_notify and no block is open, or where
 -- it is COMMIT in a block that has not failed
