@@ -1,5 +1,5 @@
 -- A journal and all traces together are a run of a scenario.
-use Rattle.std.specs.Prelude.{◌≡◌, ℕ, ◌+◌, ◌≤◌, ◌==◌, Bool, true, List, [], ◌∷◌, length, Option, Some, None, IfSome, All, filter_map}
+use Rattle.std.specs.Prelude.{◌≡◌, ℕ, ◌+◌, ◌≤◌, ◌==◌, Bool, true, List, [], ◌∷◌, length, Option, Some, None, IfSome, All, Any, Contains, filter_map, flat_map}
 use Rattle.std.specs.List.{list_any}
 use Rattle.pgn_model.specs.declared.tx.Tx.{Tx}
 use Rattle.pgn_model.specs.declared.scenario.Section.{Section}
@@ -8,8 +8,9 @@ use Rattle.pgn_model.specs.declared.item.Item.{Item}
 use Rattle.pgn_model.specs.declared.item.Item.TheVariants.{Enlist, Publish, QueueFull, Used, Raise, Found, Read}
 use Rattle.pgn_model.specs.declared.trace.Trace.{Trace}
 use Rattle.pgn_model.specs.Journal.{next_xid, IsFinished, xids_of}
-use Rattle.pgn_model.specs.Walk.{Settings, Terms}
-use Rattle.pgn_model.specs.Trace.{TraceOk, Fresh}
+use Rattle.pgn_model.specs.QueueUse.{NoPage}
+use Rattle.pgn_model.specs.Walk.{Settings, Terms, State}
+use Rattle.pgn_model.specs.Trace.{TraceOk, Fresh, state_after}
 
 -- there is one trace for each section, in order, and P holds of each
 abbrev pub EachTrace : Settings → (Terms → Trace → Type 0) → List Section → List Trace → Type 0
@@ -42,6 +43,30 @@ IsShownWithin n (Found value) = value ≤ n
 IsShownWithin n (Read from to got) = (from ≤ n) × (to ≤ n)
 IsShownWithin n item = Unit {0}
 
+-- where an item shows a full queue, the queue was full
+abbrev pub IsFullThere : Settings → List Tx → Item → Type 0
+IsFullThere settings journal (QueueFull full notes) = NoPage settings.format settings.limit journal full
+IsFullThere settings journal item = Unit {0}
+
+-- a session, and the state of the walk at the end of its trace
+pub record End : Type 0 where
+  pub session : ℕ
+  pub state : State
+
+-- the ends of all traces
+abbrev pub ends : Settings → List Section → List Trace → List End
+ends settings (section ∷ sections) (trace ∷ traces) =
+    (record { session = section.no; state = state_after (record { section = section; settings = settings }) trace.items }) ∷ ends settings sections traces
+ends settings sections traces = []
+
+-- some session raised the flag with this number
+abbrev pub WasRaised : List End → ℕ × ℕ → Type 0
+WasRaised all pair = Contains (flat_map (λ end. end.state.raised) all) pair
+
+-- the session stood at this mark
+abbrev pub StoodAt : List End → ℕ × ℕ → Type 0
+StoodAt all pair = Any (λ end. (end.session ≡ pair.0) × Contains end.state.marks pair.1) all
+
 -- the journal and the traces are a legal run of the scenario
 pub record Legal (scenario : Scenario) (settings : Settings) (journal : List Tx) (traces : List Trace) : Type 0 where
   -- each session's trace is lawful
@@ -54,6 +79,12 @@ pub record Legal (scenario : Scenario) (settings : Settings) (journal : List Tx)
   pub finished : All IsFinished journal
   -- each transaction of the journal is some session's
   pub named : All (λ tx. names_section scenario.sections tx.session ≡ true) journal
+  -- each full queue was full
+  pub full : All (λ trace. All (IsFullThere settings journal) trace.items) traces
+  -- each number with which a flag was found is one with which it was raised
+  pub found : All (WasRaised (ends settings scenario.sections traces)) (flat_map (λ end. end.state.found) (ends settings scenario.sections traces))
+  -- each session that is named as a holder stood at the floor mark
+  pub holders : All (StoodAt (ends settings scenario.sections traces)) (flat_map (λ end. end.state.named) (ends settings scenario.sections traces))
   -- no number is shown that is past 3 and the journal's length
   pub shown : All (λ trace. All (IsShownWithin (next_xid journal)) trace.items) traces
   -- a session that still listens at the end has read the whole journal
