@@ -26,7 +26,8 @@ use Rattle.pgn_model.specs.Along.{Along}
 use Rattle.pgn_model.specs.Walk.{Terms, State, Queueing, Answering, Ending, Replied, start, after_item, Allowed, is_empty_set, Leaving, leaving_or_answering, IsCommittedBy, default_settings}
 use Rattle.pgn_model.specs.declared.trace.Trace.{Trace}
 use Rattle.pgn_model.specs.Trace.{IsFreshAt, IsUpToDate, IsEnd, state_after}
-use Rattle.pgn_model.specs.Legal.{finished_xid, finished_xids, IsShownWithin, names_section, Legal}
+use Rattle.pgn_model.specs.Legal.{finished_xid, finished_xids, IsShownWithin, IsFullThere, End, WasRaised, StoodAt, names_section, Legal}
+use Rattle.pgn_model.proofs.QueueUseLaws.{no_page-grows}
 use Rattle.pgn_model.proofs.NearLaws.{near-itself, near-grows}
 use Rattle.pgn_model.proofs.WalkLaws.{Along-push_at, Along-weaker, Stands-push, Stands-grows}
 use Rattle.pgn_run.specs.declared.session.Session.{Session}
@@ -41,14 +42,15 @@ up-to-date db journal m n e = near-itself One (is_committed_in db) journal m n (
 -- one more item, over the same journal
 pub IsAt-push : (section : Section) (state : State) (journal : List Tx) (items : List Item) (item : Item)
     → IsAt section state journal items → Allowed (terms_of section) journal state item → IsFreshWithin (terms_of section) journal state item
-    → IsShownWithin (3 + length journal) item → finished_xid item ≡ None → IsAt section (after_item state item) journal (items ++ item ∷ [])
-IsAt-push section state journal items item h allowed fresh shown none = record {
+    → IsShownWithin (3 + length journal) item → finished_xid item ≡ None → IsFullThere default_settings journal item → IsAt section (after_item state item) journal (items ++ item ∷ [])
+IsAt-push section state journal items item h allowed fresh shown none full = record {
   stands = Stands-push (terms_of section) journal items state item h.stands allowed;
   fresh = Along-push_at after_item (IsFreshWithin (terms_of section) journal) (start section) state items item h.stands.state h.fresh fresh;
   own = filter_map-append finished_xid items (item ∷ []) ∙ ap (λ (o : Option ℕ). finished_xids items ++ cons_option o []) none ∙ append-nil (finished_xids items) ∙ h.own;
   finished = h.finished;
   alone = h.alone;
   shown = All-push (IsShownWithin (3 + length journal)) items item h.shown shown;
+  full = All-push (IsFullThere default_settings journal) items item h.full full;
 }
 
 -- the numbers of a session's transactions, with one more at the end
@@ -105,6 +107,22 @@ fresh-at-grows terms journal more s (Read from to got) h p = tt
 fresh-grows : (terms : Terms) (journal more : List Tx) (s : State) (item : Item) → IsFreshWithin terms journal s item → IsFreshWithin terms (journal ++ more) s item
 fresh-grows terms journal more s item h = (fresh-at-grows terms journal more s item h.1 h.0, omega (arith, length-append journal more, h.1))
 
+-- where the queue was full it still was as the journal grows
+full-grows : (journal more : List Tx) (item : Item) → IsFullThere default_settings journal item → IsFullThere default_settings (journal ++ more) item
+full-grows journal more (QueueFull full notes) h = no_page-grows One 256 journal more full h
+full-grows journal more (Line line) h = tt
+full-grows journal more (Enlist base point) h = tt
+full-grows journal more (Publish xid notes) h = tt
+full-grows journal more Leave h = tt
+full-grows journal more (Reply tag warning) h = tt
+full-grows journal more (Refuse refusal) h = tt
+full-grows journal more (Channels names) h = tt
+full-grows journal more (Used usage) h = tt
+full-grows journal more (Raise value) h = tt
+full-grows journal more (Found value) h = tt
+full-grows journal more (TimedOut looks) h = tt
+full-grows journal more (Read from to got) h = tt
+
 -- the transaction of one notification is finished
 sent-finished : (section : Section) (note : Note) → IsNote note → IsFinished (sent section note)
 sent-finished section note valid = record {
@@ -131,6 +149,7 @@ IsAt-publish section state journal items note valid h allowed told =
       own = filter_map-append finished_xid items (item ∷ []) ∙ ap (λ (xs : List ℕ). xs ++ (3 + length journal) ∷ []) h.own ∙ sym (xids_from-push section.no 3 journal (sent section note) same);
       finished = All-push IsFinished journal (sent section note) h.finished (sent-finished section note valid);
       alone = All-push (λ (tx : Tx). tx.session ≡ section.no) journal (sent section note) h.alone refl;
+      full = All-push (IsFullThere default_settings longer) items item (λ k d lt. full-grows journal (sent section note ∷ []) (slice_index_or items k d) (h.full k d lt)) tt;
       shown = All-push (IsShownWithin (3 + length longer)) items item (λ k d lt. shown-weaker (3 + length journal) (3 + length longer) (slice_index_or items k d) (omega (arith, len)) (h.shown k d lt)) (omega (arith, len));
     }
 
@@ -172,13 +191,13 @@ listen-first section n text channel rest journal items set told h =
     let before : State = standing (line ∷ rest) set None told h.marks in
     let joined : State = record (standing rest now (Some point) told marks) { owed = Answering ending } in
     let told_within : told ≤ point = omega (arith, h.told) in
-    let one = IsAt-push section before journal items (Line n) h.at (record { answered = refl; next = refl }) (line-is-fresh section journal before n h.told h.caught_up) tt refl in
+    let one = IsAt-push section before journal items (Line n) h.at (record { answered = refl; next = refl }) (line-is-fresh section journal before n h.told h.caught_up) tt refl tt in
     let two = IsAt-push section (after_item before (Line n)) journal (items ++ Line n ∷ []) (Enlist 3 point) one
     (record { expected = tt; from_first = omega arith; ordered = omega arith; after_told = told_within; after_marks = h.marks_within; in_journal = omega arith })
-    (tt, told_within) (omega arith, omega arith) refl in
+    (tt, told_within) (omega arith, omega arith) refl tt in
     let stays : after_item (after_item before (Line n)) (Enlist 3 point) ≡ joined = answering-stays (standing rest now (Some point) told marks) ending (listened-some set channel) in
     let at : IsAt section joined journal ((items ++ Line n ∷ []) ++ Enlist 3 point ∷ []) = subst (λ (t : State). IsAt section t journal ((items ++ Line n ∷ []) ++ Enlist 3 point ∷ [])) stays two in
-    let three = IsAt-push section joined journal ((items ++ Line n ∷ []) ++ Enlist 3 point ∷ []) (Reply tag.Listen None) at refl (tt, told_within) tt refl in
+    let three = IsAt-push section joined journal ((items ++ Line n ∷ []) ++ Enlist 3 point ∷ []) (Reply tag.Listen None) at refl (tt, told_within) tt refl tt in
     record {
       marks = marks;
       at = three;
@@ -199,10 +218,10 @@ listen-again section n text channel rest journal items set mark told h =
     let before : State = standing (line ∷ rest) set (Some mark) told h.marks in
     let joined : State = record (standing rest now (Some mark) told h.marks) { owed = Answering ending } in
     let told_within : told ≤ 3 + length journal = omega (arith, h.told) in
-    let one = IsAt-push section before journal items (Line n) h.at (record { answered = refl; next = refl }) (line-is-fresh section journal before n h.told h.caught_up) tt refl in
+    let one = IsAt-push section before journal items (Line n) h.at (record { answered = refl; next = refl }) (line-is-fresh section journal before n h.told h.caught_up) tt refl tt in
     let stays : after_item before (Line n) ≡ joined = answering-stays (standing rest now (Some mark) told h.marks) ending (listened-some set channel) in
     let at : IsAt section joined journal (items ++ Line n ∷ []) = subst (λ (t : State). IsAt section t journal (items ++ Line n ∷ [])) stays one in
-    let two = IsAt-push section joined journal (items ++ Line n ∷ []) (Reply tag.Listen None) at refl (tt, told_within) tt refl in
+    let two = IsAt-push section joined journal (items ++ Line n ∷ []) (Reply tag.Listen None) at refl (tt, told_within) tt refl tt in
     record {
       marks = h.marks;
       at = two;
@@ -234,7 +253,7 @@ notify-line section n text note rest journal items set mark told valid h =
     let told_within : told ≤ x = omega (arith, h.told) in
     let begun : List Item = items ++ Line n ∷ [] in
     let done : List Item = begun ++ Publish x (note ∷ []) ∷ [] in
-    let one : IsAt section queueing journal begun = IsAt-push section before journal items (Line n) h.at (record { answered = refl; next = refl }) (line-is-fresh section journal before n h.told h.caught_up) tt refl in
+    let one : IsAt section queueing journal begun = IsAt-push section before journal items (Line n) h.at (record { answered = refl; next = refl }) (line-is-fresh section journal before n h.told h.caught_up) tt refl tt in
     let by : IsCommittedBy section (note ∷ []) (sent section note) = record { by_session = refl; in_database = refl; with_notes = refl; committed = refl } in
     let place : x - 3 ≡ length journal = omega arith in
     let stands_there : IsSomeAnd (entry longer x) (IsCommittedBy section (note ∷ [])) = subst (λ (k : ℕ). IsSomeAnd (slice_get longer k) (IsCommittedBy section (note ∷ []))) (sym place) (entry-last journal (sent section note) (IsCommittedBy section (note ∷ [])) by) in
@@ -242,7 +261,7 @@ notify-line section n text note rest journal items set mark told valid h =
     let told_is : max told (x + 1) ≡ x + 1 = omega (arith, h.told) in
     let stays : after_item queueing (Publish x (note ∷ [])) ≡ answering = answering-stays published ending (listens_on mark h.listening) ∙ ap (λ (k : ℕ). let t : State = record (standing rest set mark k h.marks) { owed = Answering ending } in t) told_is in
     let at : IsAt section answering longer done = subst (λ (t : State). IsAt section t longer done) stays two in
-    let three = IsAt-push section answering longer done (Reply tag.Notify None) at refl (tt, omega (arith, len)) tt refl in
+    let three = IsAt-push section answering longer done (Reply tag.Notify None) at refl (tt, omega (arith, len)) tt refl tt in
     record {
       marks = h.marks;
       at = three;
@@ -280,7 +299,7 @@ read-on section rest journal items set mark told h true e =
       marks = h.marks ++ to ∷ [];
       at = IsAt-push section before journal items (Read mark to (due journal mark to section.db set)) h.at
           (record { in_turn = inl refl; from_mark = refl; forward = forward; after_told = told_within; in_journal = omega arith; received = refl })
-          (tt, told_within) (h.behind, omega arith) refl;
+          (tt, told_within) (h.behind, omega arith) refl tt;
       marks_within = All-push (λ (m : ℕ). m ≤ to) h.marks to h.marks_within (omega arith);
       told = h.told;
       caught_up = refl;
@@ -339,7 +358,7 @@ line-runs section line rest s served h = step section line.line line.text line.a
 pub started : (section : Section) → IsSoFar section section.lines fresh_session
 started section = record {
   marks = [];
-  at = record { stands = record { lawful = tt; state = refl }; fresh = tt; own = refl; finished = All-nil IsFinished; alone = All-nil (λ (tx : Tx). tx.session ≡ section.no); shown = All-nil (IsShownWithin 3) };
+  at = record { stands = record { lawful = tt; state = refl }; fresh = tt; own = refl; finished = All-nil IsFinished; alone = All-nil (λ (tx : Tx). tx.session ≡ section.no); shown = All-nil (IsShownWithin 3); full = All-nil (IsFullThere default_settings []) };
   marks_within = All-nil (λ (m : ℕ). m ≤ 3);
   told = refl;
   caught_up = tt;
@@ -354,12 +373,18 @@ run-is-legal section s h = record {
   own = (h.at.own, tt);
   finished = h.at.finished;
   named = λ k d lt. named (slice_index_or s.journal k d) (h.at.alone k d lt);
+  full = All-push (λ (trace : Trace). All (IsFullThere default_settings s.journal) trace.items) [] (trace_of section s) (All-nil (λ (trace : Trace). All (IsFullThere default_settings s.journal) trace.items)) h.at.full;
+  found = subst (λ (t : State). All (WasRaised (end_of t ∷ [])) (t.found ++ [])) (sym h.at.stands.state) (All-nil (WasRaised (end_of last ∷ [])));
+  holders = subst (λ (t : State). All (StoodAt (end_of t ∷ [])) (t.named ++ [])) (sym h.at.stands.state) (All-nil (StoodAt (end_of last ∷ [])));
   shown = All-push (λ (trace : Trace). All (IsShownWithin (3 + length s.journal)) trace.items) [] (trace_of section s) (All-nil (λ (trace : Trace). All (IsShownWithin (3 + length s.journal)) trace.items)) h.at.shown;
   read_all = All-push (λ (trace : Trace). IfSome trace.last (λ m. m ≡ 3 + length s.journal)) [] (trace_of section s) (All-nil (λ (trace : Trace). IfSome trace.last (λ m. m ≡ 3 + length s.journal))) h.caught_up;
 }
   where
     last : State
     last = standing [] s.set s.mark s.told h.marks
+
+    end_of : State → End
+    end_of t = record { session = section.no; state = t }
 
     ended : IsEnd (state_after (terms_of section) s.items) s.mark
     ended = subst (λ (t : State). IsEnd t s.mark) (sym h.at.stands.state) (record { answered = refl; done = refl; mark = refl })

@@ -10,7 +10,7 @@ use Rattle.pgn_model.specs.Journal.{next_xid, IsFinished, xids_of}
 use Rattle.pgn_model.specs.Along.{Along}
 use Rattle.pgn_model.specs.Walk.{Terms, State, Nothing, default_settings, start, after_item, is_empty_set}
 use Rattle.pgn_model.specs.Trace.{IsFreshAt, Stands}
-use Rattle.pgn_model.specs.Legal.{finished_xids, IsShownWithin}
+use Rattle.pgn_model.specs.Legal.{finished_xids, IsShownWithin, IsFullThere}
 use Rattle.pgn_run.specs.declared.session.Session.{Session}
 
 -- what the section's trace is judged by
@@ -33,6 +33,7 @@ pub record IsAt (section : Section) (state : State) (journal : List Tx) (items :
   pub finished : All IsFinished journal
   pub alone : All (λ tx. tx.session ≡ section.no) journal
   pub shown : All (IsShownWithin (next_xid journal)) items
+  pub full : All (IsFullThere default_settings journal) items
 
 -- the session has answered its line, and these lines are still to come; it may have to read
 pub record IsAnswered (section : Section) (rest : List ScriptLine) (s : Session) : Type 0 where

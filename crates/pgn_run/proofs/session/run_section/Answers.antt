@@ -1,8 +1,14 @@
 use Rattle.std.proofs.Common.{List, All, sym, subst, arith}
 use Rattle.pgn_model.specs.declared.scenario.ScriptLine.{ScriptLine}
 use Rattle.pgn_run.specs.Reading.{IsServedAct}
-use Rattle.pgn_run.proofs.SoFarLaws.{line-runs_at}
+use Rattle.pgn_run.proofs.SoFarLaws.{line-runs_at, started}
 use Rattle.pgn_run.proofs.session.run_section.Goals as goal
+
+pub loop-line-init : goal.loop-line-init
+loop-line-init c = record {
+  so_far = rw (c.new-session.ensures, c.as_slice-line-items.ensures) (started c.args.section.now);
+  few = rw c.new-session.ensures (omega arith);
+}
 
 pub loop-line-preserved : goal.loop-line-preserved
 loop-line-preserved c =
