@@ -20,7 +20,7 @@ use Rattle.pgn_model.specs.QueueUse.{NoPage, ShowsUsage}
 use Rattle.pgn_model.specs.Shape.{Shape}
 
 -- the pass learns of the journal, and nothing else
-pub record Learns (old new : Known) : Type 0 where
+pub record HasLearned (old new : Known) : Type 0 where
   pub more : List Tx
   pub known : new ≡ record old { seen = old.seen ++ more }
 
@@ -29,7 +29,7 @@ abbrev pub tx_of : Known → List Note → ℕ → Fate → Tx
 tx_of k notes queued fate = record { session = k.session; db = k.db; notes = notes; queued = queued; fate = fate }
 
 -- `publish` answers a number: this transaction is the journal's next, committed; the pass is told of it
-pub record Commits (old new : Known) (notes : List Note) (x : ℕ) : Type 0 where
+pub record HasPublished (old new : Known) (notes : List Note) (x : ℕ) : Type 0 where
   pub more : List Tx
   pub named : List (ℕ × ℕ)
   pub advance : Advance
@@ -75,7 +75,7 @@ pub record IsFloor (x : ℕ) (met : List (ℕ × ℕ)) (floor : ℕ) (holder : O
 
 -- `publish` answers that the queue is full: this transaction is the journal's next, aborted; the pass is told of it. It comes after
 -- an advance that began after the last change of the head, and the floor is what this advance met
-pub record MeetsFull (shape : Shape) (old new : Known) (notes : List Note) (full : Full) : Type 0 where
+pub record HasMetFull (shape : Shape) (old new : Known) (notes : List Note) (full : Full) : Type 0 where
   pub more : List Tx
   pub named : List (ℕ × ℕ)
   pub number : full.xid ≡ next_xid (old.seen ++ more)
@@ -93,7 +93,7 @@ pub record MeetsFull (shape : Shape) (old new : Known) (notes : List Note) (full
   pub holder : IfSome full.holder (λ session. Contains new.named (session, full.floor_mark))
 
 -- `enlist`: the session is a listener from the point on; its mark is the point, and no read is owed
-pub record Enlists (old new : Known) (got : Enlisted) : Type 0 where
+pub record HasEnlisted (old new : Known) (got : Enlisted) : Type 0 where
   pub more : List Tx
   pub known : new ≡ record old {
       seen = old.seen ++ more;
@@ -109,7 +109,7 @@ pub record Enlists (old new : Known) (got : Enlisted) : Type 0 where
   pub in_seen : got.point ≤ next_xid new.seen
 
 -- `scan` answers a number: what was due from the mark up to it is put behind what was there, it is the new mark, and no read is owed
-pub record Scans (old new : Known) (set : List (List ℕ)) (to : ℕ) (before after : List Delivery) : Type 0 where
+pub record HasRead (old new : Known) (set : List (List ℕ)) (to : ℕ) (before after : List Delivery) : Type 0 where
   pub more : List Tx
   pub from : ℕ
   pub from_mark : old.mark ≡ Some from
@@ -126,13 +126,13 @@ pub record Scans (old new : Known) (set : List (List ℕ)) (to : ℕ) (before af
   pub delivered : after ≡ before ++ due new.seen from to old.db set
 
 -- `leave`: the session is no listener any more
-pub record Leaves (old new : Known) : Type 0 where
+pub record HasLeft (old new : Known) : Type 0 where
   pub more : List Tx
   pub known : new ≡ record old { seen = old.seen ++ more; mark = None }
 
 -- `woken` answers whether its own look found the wake set, or a read was owed; a read is then owed. Where it answers that neither was
 -- so, the session need not read up to what it was told of
-pub record Wakes (format : Format) (old new : Known) (woken : Bool) : Type 0 where
+pub record HasWoken (format : Format) (old new : Known) (woken : Bool) : Type 0 where
   pub more : List Tx
   pub was_set : Bool
   pub known : new ≡ record old { seen = old.seen ++ more; owes = woken; wake_look = Some (was_set, old.owes) }
@@ -140,28 +140,28 @@ pub record Wakes (format : Format) (old new : Known) (woken : Bool) : Type 0 whe
   pub near : woken ≡ false → IfSome old.mark (λ mark. Near format (is_committed_in old.db) new.seen mark old.told)
 
 -- `raise` answers what the pass was told
-pub record Raises (old new : Known) (flag x : ℕ) : Type 0 where
+pub record HasRaised (old new : Known) (flag x : ℕ) : Type 0 where
   pub more : List Tx
   pub shown : x ≡ old.told
   pub known : new ≡ record old { seen = old.seen ++ more; raised = old.raised ++ (flag, x) ∷ [] }
 
 -- the flag is none of these
-abbrev pub IsNoFlagOf : List (ℕ × ℕ) → ℕ → Type 0
-IsNoFlagOf pairs flag = All (λ pair. pair.0 ≢ flag) pairs
+abbrev pub IsUnknownIn : List (ℕ × ℕ) → ℕ → Type 0
+IsUnknownIn pairs flag = All (λ pair. pair.0 ≢ flag) pairs
 
 -- the number is no less than each that these have for the flag
-abbrev pub IsGreatestOf : List (ℕ × ℕ) → ℕ → ℕ → Type 0
-IsGreatestOf pairs flag x = All (λ pair. pair.0 ≡ flag → pair.1 ≤ x) pairs
+abbrev pub IsGreatestIn : List (ℕ × ℕ) → ℕ → ℕ → Type 0
+IsGreatestIn pairs flag x = All (λ pair. pair.0 ≡ flag → pair.1 ≤ x) pairs
 
 -- `look` finds no number: the flag was not raised at its own look, so the pass has neither raised nor found it
-pub record FindsNone (old new : Known) (flag : ℕ) : Type 0 where
+pub record HasFoundNone (old new : Known) (flag : ℕ) : Type 0 where
   pub more : List Tx
   pub known : new ≡ record old { seen = old.seen ++ more; looks = old.looks + 1; flag_look = Some (flag, None) }
-  pub not_raised : IsNoFlagOf old.raised flag
-  pub not_found : IsNoFlagOf old.found flag
+  pub not_raised : IsUnknownIn old.raised flag
+  pub not_found : IsUnknownIn old.found flag
 
 -- `look` finds a number: the pass is told of it, and it is no less than each that the pass has raised or found for the flag
-pub record Finds (old new : Known) (flag x : ℕ) : Type 0 where
+pub record HasFound (old new : Known) (flag x : ℕ) : Type 0 where
   pub more : List Tx
   pub known : new ≡ record old {
       seen = old.seen ++ more;
@@ -170,16 +170,16 @@ pub record Finds (old new : Known) (flag x : ℕ) : Type 0 where
       looks = old.looks + 1;
       flag_look = Some (flag, Some x);
     }
-  pub after_raised : IsGreatestOf old.raised flag x
-  pub after_found : IsGreatestOf old.found flag x
+  pub after_raised : IsGreatestIn old.raised flag x
+  pub after_found : IsGreatestIn old.found flag x
 
 -- what `look` answers
-abbrev pub LooksAt : Known → Known → ℕ → Option ℕ → Type 0
-LooksAt old new flag None = FindsNone old new flag
-LooksAt old new flag (Some x) = Finds old new flag x
+abbrev pub HasLooked : Known → Known → ℕ → Option ℕ → Type 0
+HasLooked old new flag None = HasFoundNone old new flag
+HasLooked old new flag (Some x) = HasFound old new flag x
 
 -- `usage` answers what is in use as the next transaction would begin, after an advance whose floor it is
-pub record Uses (shape : Shape) (old new : Known) (usage : Usage) : Type 0 where
+pub record HasMeasured (shape : Shape) (old new : Known) (usage : Usage) : Type 0 where
   pub more : List Tx
   pub named : List (ℕ × ℕ)
   pub number : usage.at ≡ next_xid (old.seen ++ more)
@@ -194,6 +194,6 @@ abbrev pub longer : List Tx → List Tx → List Tx
 longer xs ys = xs ++ drop (length xs) ys
 
 -- `meet`: one pass hears what another one knows of the journal and was told
-pub record Hears (from old new : Known) : Type 0 where
+pub record HasHeard (from old new : Known) : Type 0 where
   pub more : List Tx
   pub known : new ≡ record old { seen = longer old.seen from.seen ++ more; told = max old.told from.told }

@@ -11,8 +11,8 @@ pub record IsBy (k : Known) (tx : Tx) : Type 0 where
   pub database : tx.db ≡ k.db
 
 -- the session stood at the mark: it is among the marks of its pass
-abbrev pub StoodAt : List Known → ℕ × ℕ → Type 0
-StoodAt passes pair = IsSomeAnd (slice_get passes (pair.0 - 1)) (λ k. (k.session ≡ pair.0) × Contains k.marks pair.1)
+abbrev pub IsAmongMarks : List Known → ℕ × ℕ → Type 0
+IsAmongMarks passes pair = IsSomeAnd (slice_get passes (pair.0 - 1)) (λ k. (k.session ≡ pair.0) × Contains k.marks pair.1)
 
 -- the journal that all passes together fix: they know prefixes of it, and it has each one's transactions
 pub record Gathered (passes : List Known) (count : ℕ) : Type 0 where
@@ -31,4 +31,4 @@ pub record Gathered (passes : List Known) (count : ℕ) : Type 0 where
   -- each number that a pass found was raised for the flag by some pass
   pub found : All (λ pair. Contains (flat_map (λ k. k.raised) passes) pair) (flat_map (λ k. k.found) passes)
   -- each session that a look met stood at its mark
-  pub named : All (StoodAt passes) (flat_map (λ k. k.named) passes)
+  pub named : All (IsAmongMarks passes) (flat_map (λ k. k.named) passes)

@@ -2,7 +2,7 @@ ghost use Rattle.std.specs.Prelude.{◌≡◌, ◌≢◌, ◌<◌, ◌≤◌, []
 ghost use Rattle.std.specs.List.{range_with_len};
 ghost use Rattle.pgn_model.specs.Shape.{Shape, IsShape};
 ghost use Rattle.pgn_hub.specs.Passes.{IsSeated, IsWithin, opened_passes};
-ghost use Rattle.pgn_hub.specs.Calls.{Commits, Enlists, Hears, Learns, Leaves, LooksAt, MeetsFull, Raises, Scans, Uses, Wakes};
+ghost use Rattle.pgn_hub.specs.Calls.{HasPublished, HasEnlisted, HasHeard, HasLearned, HasLeft, HasLooked, HasMetFull, HasRaised, HasRead, HasMeasured, HasWoken};
 ghost use Rattle.pgn_hub.specs.Gathered.{Gathered};
 
 use pgn_base::{Delivery, Enlisted, Full, ListenSet, Note, Usage, Xid};
@@ -26,7 +26,7 @@ pub trait Hub: Sized {
         ensures passes { IfOk result (λ opened. map Self.Pass.known opened.1.items ≡ opened_passes 1 setup.seats) }
         ensures own { IfOk result (λ opened. All (is_pass opened.0) opened.1.items) };
 
-    /// Commits a transaction with these notifications, which have no repeats: answers its number. Where the queue has no page left
+    /// HasPublished a transaction with these notifications, which have no repeats: answers its number. Where the queue has no page left
     /// for them the transaction is aborted, and the answer says why.
     fn publish<R: Wait>(
         &self,
@@ -39,15 +39,15 @@ pub trait Hub: Sized {
         requires different { AllPairs (λ a b. a ≢ b) notes.now }
         requires few { length notes.now ≤ (Self.Pass.known pass.old).notes_left }
         ensures own { is_pass self.now pass.new }
-        ensures committed { IfOk result (λ x. Commits (Self.Pass.known pass.old) (Self.Pass.known pass.new) notes.now x) }
-        ensures full { IfErr result (λ full. MeetsFull (shape self.now) (Self.Pass.known pass.old) (Self.Pass.known pass.new) notes.now full) };
+        ensures committed { IfOk result (λ x. HasPublished (Self.Pass.known pass.old) (Self.Pass.known pass.new) notes.now x) }
+        ensures full { IfErr result (λ full. HasMetFull (shape self.now) (Self.Pass.known pass.old) (Self.Pass.known pass.new) notes.now full) };
 
     /// Makes the session, which is no listener, one: it receives from the point on.
     fn enlist(&self, pass: &mut Self::Pass) -> Enlisted
         requires own { is_pass self.now pass.old }
         requires out { (Self.Pass.known pass.old).mark ≡ None }
         ensures own { is_pass self.now pass.new }
-        ensures enlisted { Enlists (Self.Pass.known pass.old) (Self.Pass.known pass.new) result };
+        ensures enlisted { HasEnlisted (Self.Pass.known pass.old) (Self.Pass.known pass.new) result };
 
     /// Reads from the mark to the first unfinished transaction, which it answers as the new mark, and puts what is due on the
     /// channels of the set behind `out`. The error is that memory did not suffice; then `out` and the mark stay, and a read that was
@@ -62,8 +62,8 @@ pub trait Hub: Sized {
         requires own { is_pass self.now pass.old }
         requires listens { IsSome (Self.Pass.known pass.old).mark }
         ensures own { is_pass self.now pass.new }
-        ensures read { IfOk result (λ to. Scans (Self.Pass.known pass.old) (Self.Pass.known pass.new) set.now to out.old.items out.new.items) }
-        ensures refused { OnErr result (Learns (Self.Pass.known pass.old) (Self.Pass.known pass.new)) }
+        ensures read { IfOk result (λ to. HasRead (Self.Pass.known pass.old) (Self.Pass.known pass.new) set.now to out.old.items out.new.items) }
+        ensures refused { OnErr result (HasLearned (Self.Pass.known pass.old) (Self.Pass.known pass.new)) }
         ensures refused_reads_nothing { OnErr result (out.new.items ≡ out.old.items) };
 
     /// Makes a listener none.
@@ -71,34 +71,34 @@ pub trait Hub: Sized {
         requires own { is_pass self.now pass.old }
         requires listens { IsSome (Self.Pass.known pass.old).mark }
         ensures own { is_pass self.now pass.new }
-        ensures left { Leaves (Self.Pass.known pass.old) (Self.Pass.known pass.new) };
+        ensures left { HasLeft (Self.Pass.known pass.old) (Self.Pass.known pass.new) };
 
     /// Whether a listener is to read: its wake was set, which is taken by this, or a read is owed.
     fn woken(&self, pass: &mut Self::Pass) -> bool
         requires own { is_pass self.now pass.old }
         requires listens { IsSome (Self.Pass.known pass.old).mark }
         ensures own { is_pass self.now pass.new }
-        ensures woken { Wakes (shape self.now).format (Self.Pass.known pass.old) (Self.Pass.known pass.new) result };
+        ensures woken { HasWoken (shape self.now).format (Self.Pass.known pass.old) (Self.Pass.known pass.new) result };
 
-    /// Raises a flag with the number that the pass was told, and answers it. The flag keeps the greatest number.
+    /// HasRaised a flag with the number that the pass was told, and answers it. The flag keeps the greatest number.
     fn raise(&self, pass: &mut Self::Pass, flag: u32) -> Xid
         requires own { is_pass self.now pass.old }
         requires flag { flag < (shape self.now).flags }
         ensures own { is_pass self.now pass.new }
-        ensures raised { Raises (Self.Pass.known pass.old) (Self.Pass.known pass.new) flag result };
+        ensures raised { HasRaised (Self.Pass.known pass.old) (Self.Pass.known pass.new) flag result };
 
     /// Looks once at a flag: its number, if it was raised.
     fn look(&self, pass: &mut Self::Pass, flag: u32) -> Option<Xid>
         requires own { is_pass self.now pass.old }
         requires flag { flag < (shape self.now).flags }
         ensures own { is_pass self.now pass.new }
-        ensures looked { LooksAt (Self.Pass.known pass.old) (Self.Pass.known pass.new) flag result };
+        ensures looked { HasLooked (Self.Pass.known pass.old) (Self.Pass.known pass.new) flag result };
 
     /// How many pages are in use, after the tail was advanced.
     fn usage<R: Wait>(&self, rt: &R, pass: &mut Self::Pass) -> Usage
         requires own { is_pass self.now pass.old }
         ensures own { is_pass self.now pass.new }
-        ensures used { Uses (shape self.now) (Self.Pass.known pass.old) (Self.Pass.known pass.new) result };
+        ensures used { HasMeasured (shape self.now) (Self.Pass.known pass.old) (Self.Pass.known pass.new) result };
 
     /// Lets one pass hear what another one knows of the journal, and what it was told.
     fn meet(&self, from: &mut Self::Pass, into: &mut Self::Pass)
@@ -106,8 +106,8 @@ pub trait Hub: Sized {
         requires into { is_pass self.now into.old }
         ensures own_from { is_pass self.now from.new }
         ensures own_into { is_pass self.now into.new }
-        ensures told { Learns (Self.Pass.known from.old) (Self.Pass.known from.new) }
-        ensures heard { Hears (Self.Pass.known from.old) (Self.Pass.known into.old) (Self.Pass.known into.new) };
+        ensures told { HasLearned (Self.Pass.known from.old) (Self.Pass.known from.new) }
+        ensures heard { HasHeard (Self.Pass.known from.old) (Self.Pass.known into.old) (Self.Pass.known into.new) };
 
     /// Ends the hub with all of its passes, in order.
     fn gather(self, passes: Vec<Self::Pass>) -> Roll
