@@ -35,7 +35,7 @@ pub use listen_set::{Action, Actions, ListenSet};
 pub use memory_sink::MemSink;
 pub use memory_source::MemSource;
 pub use name::{Name, NameFault, Names};
-pub use note::{Deliveries, Delivery, Note, Notes};
+pub use note::{Deliveries, Delivery, Note, Notes, are_notes};
 pub use numbers::{DbOid, SessionNo, Xid};
 pub use payload::{Payload, PayloadFault};
 pub use queue_answers::{Enlisted, Full, Usage};

@@ -1,7 +1,8 @@
-ghost use Rattle.std.specs.Prelude.{◌&&◌, ◌++◌, bytes_eq};
+ghost use Rattle.std.specs.Prelude.{◌&&◌, ◌++◌, All, bytes_eq};
 ghost use Rattle.std.proofs.Common.{rules};
 ghost use Rattle.std.specs.Hash as fed;
 ghost use Rattle.std.specs.Cmp.Rules.{comparing, hashing};
+ghost use Rattle.pgn_base.specs.Notes.{IsNote};
 
 use crate::{Copied, Name, Payload, Seq, Xid};
 use std::alloc::{AllocError, Global};
@@ -68,4 +69,21 @@ impl Copied for Delivery {
             note,
         })
     }
+}
+
+/// Each of these notifications can be sent. It is called for what it says: a slice by itself tells nothing of its items.
+pub fn are_notes(notes: &[Note])
+    ensures { All IsNote notes.now }
+{
+    for note in notes {
+        is_note(note);
+    }
+}
+
+// A notification can be sent.
+fn is_note(note: &Note)
+    ensures { IsNote note.now }
+{
+    let _channel = note.channel.as_bytes();
+    let _payload = note.payload.as_bytes();
 }

@@ -1,7 +1,7 @@
 -- The bytes of the queue's entries and fillers.
 use Rattle.std.specs.Prelude.{ℕ, ◌+◌, ◌-◌, ◌*◌, ◌/◌, ◌<◌, ◌^◌, List, [], ◌∷◌, ◌++◌, length, replicate, ◌%◌, ◌≡◌, ◌≤◌}
 use Rattle.std.specs.Int.{w32, w64, to_le_bytes}
-use Rattle.pgn_base.specs.Texts.{IsName, IsPayload}
+pub use Rattle.pgn_base.specs.Notes.{IsNote}
 use Rattle.pgn_base.specs.declared.limits.TheConstants.{PAGE_BYTES}
 use Rattle.pgn_base.specs.declared.format.Format.{Format}
 use Rattle.pgn_base.specs.declared.format.Format.TheVariants.{One, Two}
@@ -72,11 +72,6 @@ spelled format note db xid pid =
 -- the bytes of a filler of this length: a head with database 0, and zero bytes up to the length
 unfoldable pub filler : Format → ℕ → ℕ → ℕ → List ℕ
 filler format len xid pid = padded len (header format len 0 xid pid)
-
--- what holds of each notification: its channel is a name and its payload a payload
-pub record IsNote (note : Note) : Type 0 where
-  pub name : IsName note.channel
-  pub text : IsPayload note.payload
 
 -- an entry's database and process number each fit in four bytes, and its transaction in the bytes that it has
 pub record IsHead (format : Format) (db xid pid : ℕ) : Type 0 where
