@@ -1,7 +1,6 @@
-ghost use Rattle.std.specs.Prelude.{◌≡◌, List, [], ◌∷◌, codes, map, Option, Some, None};
+ghost use Rattle.std.specs.Prelude.{◌≡◌, [], ◌∷◌, codes, map, Some, None};
 ghost use Rattle.pgn_model.specs.Journal.{IsFinished, next_xid, entry, entries_between, xids_of};
-ghost use Rattle.pgn_model.specs.Due.{due};
-ghost use Rattle.pgn_model.specs.examples.Due.{Owed, d_name, on, mixed_journal, first_tx, second_tx, third_tx, fourth_tx, fifth_tx, sixth_tx, owed_table, due_by};
+ghost use Rattle.pgn_model.specs.examples.Due.{d_name, on, mixed_journal, first_tx, second_tx, third_tx, fourth_tx, fifth_tx, sixth_tx, owed_table, due_by};
 
 /// A reader is owed what was sent on its channels in its database by committed transactions, in order.
 pub fn table_of_owed()
