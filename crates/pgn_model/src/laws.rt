@@ -241,7 +241,7 @@ pub fn only_empty_is_silent()
     ensures { OnlyEmptyIsSilent }
 {}
 
-/// Outside a block each of LISTEN, UNLISTEN, NOTIFY and pg_notify is a transaction that commits; a block commits at COMMIT.
+/// LISTEN, UNLISTEN, NOTIFY and pg_notify outside a block commit, and COMMIT in a block that has not failed; nothing else does.
 #[tactic(auto, using(crate::proofs::AnswerLemmas::answer_laws))]
 pub fn what_commits()
     ensures { WhatCommits }
