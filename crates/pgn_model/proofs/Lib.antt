@@ -11,6 +11,7 @@ pub mod SavepointLemmas
 pub mod GrammarLaws
 pub mod TokenLaws
 pub mod LineLaws
+pub mod TextLines
 pub mod InputLaws
 pub mod SoundLaws
 pub mod SlotLaws
