@@ -12,17 +12,24 @@ use Rattle.pgn_base.specs.declared.answers.Tag.{Tag}
 use Rattle.pgn_base.specs.declared.answers.Tag.TheVariants as tag
 use Rattle.pgn_base.specs.declared.answers.Warning.{Warning}
 use Rattle.pgn_base.specs.declared.answers.Warning.TheVariants.{AlreadyInBlock, NotInBlock}
+use Rattle.pgn_base.specs.declared.answers.Which.TheVariants.{ChannelEmpty, ChannelTooLong, PayloadTooLong}
+use Rattle.pgn_base.specs.declared.answers.Needs.TheVariants as needs
+use Rattle.pgn_base.specs.declared.answers.Refusal.{Refusal}
+use Rattle.pgn_base.specs.declared.answers.Refusal.TheVariants.{Syntax, Bounds, NeedsBlock, NoSavepoint, Aborted}
+use Rattle.pgn_base.specs.declared.answers.Refusal.TheVariants as refused
+use Rattle.pgn_base.specs.declared.queue_answers.Full.{Full}
+use Rattle.pgn_base.specs.declared.queue_answers.Usage.{Usage}
 use Rattle.pgn_model.specs.declared.tx.Tx.{Tx}
 use Rattle.pgn_model.specs.declared.tx.Fate.{Fate}
-use Rattle.pgn_model.specs.declared.tx.Fate.TheVariants.{Committed, Aborted}
+use Rattle.pgn_model.specs.declared.tx.Fate.TheVariants as fate
 use Rattle.pgn_model.specs.declared.scenario.ScriptLine.{ScriptLine}
 use Rattle.pgn_model.specs.declared.scenario.Section.{Section}
 use Rattle.pgn_model.specs.declared.item.Item.{Item}
-use Rattle.pgn_model.specs.declared.item.Item.TheVariants.{Line, Enlist, Publish, Reply, Read}
+use Rattle.pgn_model.specs.declared.item.Item.TheVariants.{Line, Enlist, Publish, QueueFull, Leave, Reply, Refuse, Channels, Used, Raise, Found, TimedOut, Read}
 use Rattle.pgn_model.specs.declared.trace.Trace.{Trace}
 use Rattle.pgn_model.specs.Lines.{lines_of}
 use Rattle.pgn_model.specs.Inputs.{IsOneLine, IsSoundSection}
-use Rattle.pgn_model.specs.Text.{joined, doubled_byte, quoted, note_text, note_line, delivery_line, fate_text, entry_lines, entries_lines, journal_lines, line_text, tag_text, warning_text, warning_lines, item_lines, end_line, section_line, trace_lines, traces_lines, text_lines}
+use Rattle.pgn_model.specs.Text.{joined, doubled_byte, quoted, note_text, note_line, delivery_line, fate_text, entry_lines, entries_lines, journal_lines, line_text, holder_text, full_line, usage_lines, channel_line, refusal_text, tag_text, warning_text, warning_lines, item_lines, end_line, section_line, trace_lines, traces_lines, text_lines}
 use Rattle.pgn_model.specs.laws.Inputs.{lacks}
 use Rattle.pgn_model.specs.laws.Text.{IsOneLineNote, IsOneLineItem, TextHasLines}
 use Rattle.pgn_model.proofs.LineLaws.{lines-cut, lacks-parts}
@@ -97,8 +104,8 @@ note_clean note h =
     (between 39 note.payload refl (clean note.payload h.1))
 
 fate_clean : (fate : Fate) (queued count : ℕ) → Clean (fate_text fate queued count)
-fate_clean Committed queued count = numbered (codes " commit ") count refl
-fate_clean Aborted queued count = numbered (codes " abort " ++ decimal queued ++ codes " of ") count (both (codes " abort " ++ decimal queued) (codes " of ") (numbered (codes " abort ") queued refl) refl)
+fate_clean fate.Committed queued count = numbered (codes " commit ") count refl
+fate_clean fate.Aborted queued count = numbered (codes " abort " ++ decimal queued ++ codes " of ") count (both (codes " abort " ++ decimal queued) (codes " of ") (numbered (codes " abort ") queued refl) refl)
 
 -- the lines of the journal
 entry_clean : (x : ℕ) (tx : Tx) → All IsOneLineNote tx.notes → All Clean (entry_lines x tx)
@@ -153,6 +160,53 @@ delivery_clean delivery h =
     both (codes "  " ++ decimal delivery.xid ++ codes " " ++ decimal delivery.pid ++ codes " ") (note_text delivery.note)
     (both (codes "  " ++ decimal delivery.xid ++ codes " " ++ decimal delivery.pid) (codes " ") (two_numbers (codes "  ") delivery.xid delivery.pid refl) refl) (note_clean delivery.note h)
 
+-- a text, a start that has no LF and a number
+then_number : (text start : List ℕ) (n : ℕ) → Clean text → Clean start → Clean (text ++ start ++ decimal n)
+then_number text start n h k = numbered (text ++ start) n (both text start h k)
+
+holder_clean : (holder : Option ℕ) → Clean (holder_text holder)
+holder_clean None = refl
+holder_clean (Some session) = number session
+
+full_clean : (full : Full) → Clean (full_line full)
+full_clean full =
+    let xid = numbered (codes "+full ") full.xid refl in
+    let queued = then_number (codes "+full " ++ decimal full.xid) (codes " queued ") full.queued xid refl in
+    let head = then_number (codes "+full " ++ decimal full.xid ++ codes " queued " ++ decimal full.queued) (codes " head ") full.head_page queued refl in
+    let numbers : List ℕ = codes "+full " ++ decimal full.xid ++ codes " queued " ++ decimal full.queued ++ codes " head " ++ decimal full.head_page in
+    let floor = then_number numbers (codes " floor ") full.floor_mark head refl in
+    let page = then_number (numbers ++ codes " floor " ++ decimal full.floor_mark) (codes " page ") full.floor_page floor refl in
+    let all : List ℕ = numbers ++ codes " floor " ++ decimal full.floor_mark ++ codes " page " ++ decimal full.floor_page in
+    both (all ++ codes " holder ") (holder_text full.holder) (both all (codes " holder ") page refl) (holder_clean full.holder)
+
+usage_clean : (usage : Usage) → All Clean (usage_lines usage)
+usage_clean usage =
+    let at = numbered (codes "+usage ") usage.at refl in
+    let floor = then_number (codes "+usage " ++ decimal usage.at) (codes " floor ") usage.floor_mark at refl in
+    let place : List ℕ = codes "+usage " ++ decimal usage.at ++ codes " floor " ++ decimal usage.floor_mark in
+    let first = both (place ++ codes " holder ") (holder_text usage.holder) (both place (codes " holder ") floor refl) (holder_clean usage.holder) in
+    let second = then_number (codes "  " ++ decimal usage.occupied) (codes "/") usage.limit (numbered (codes "  ") usage.occupied refl) refl in
+    All-cons Clean (place ++ codes " holder " ++ holder_text usage.holder) ((codes "  " ++ decimal usage.occupied ++ codes "/" ++ decimal usage.limit) ∷ []) first
+    (All-cons Clean (codes "  " ++ decimal usage.occupied ++ codes "/" ++ decimal usage.limit) [] second (All-nil Clean))
+
+-- one line
+alone : (line : List ℕ) → Clean line → All Clean (line ∷ [])
+alone line h = All-cons Clean line [] h (All-nil Clean)
+
+refusal_clean : (lines : List ScriptLine) (refusal : Refusal) → IsOneLineItem (Refuse refusal) → All Clean (item_lines lines (Refuse refusal))
+refusal_clean lines (Syntax at) i = alone (codes "ERROR: " ++ refusal_text (Syntax at)) (numbered (codes "ERROR: 42601: syntax error at byte ") at refl)
+refusal_clean lines (Bounds ChannelEmpty) i = alone (codes "ERROR: " ++ refusal_text (Bounds ChannelEmpty)) refl
+refusal_clean lines (Bounds ChannelTooLong) i = alone (codes "ERROR: " ++ refusal_text (Bounds ChannelTooLong)) refl
+refusal_clean lines (Bounds PayloadTooLong) i = alone (codes "ERROR: " ++ refusal_text (Bounds PayloadTooLong)) refl
+refusal_clean lines (NeedsBlock needs.Savepoint) i = alone (codes "ERROR: " ++ refusal_text (NeedsBlock needs.Savepoint)) refl
+refusal_clean lines (NeedsBlock needs.RollbackTo) i = alone (codes "ERROR: " ++ refusal_text (NeedsBlock needs.RollbackTo)) refl
+refusal_clean lines (NeedsBlock needs.Release) i = alone (codes "ERROR: " ++ refusal_text (NeedsBlock needs.Release)) refl
+refusal_clean lines (NoSavepoint name) i =
+    alone (codes "ERROR: " ++ refusal_text (NoSavepoint name))
+    (both (codes "ERROR: 3B001: savepoint \"") (name ++ codes "\" does not exist") refl (both name (codes "\" does not exist") (clean name i) refl))
+refusal_clean lines Aborted i = alone (codes "ERROR: " ++ refusal_text Aborted) refl
+refusal_clean lines refused.QueueFull i = alone (codes "ERROR: " ++ refusal_text refused.QueueFull) refl
+
 item_clean : (lines : List ScriptLine) (item : Item) → All (λ line. Clean line.text) lines → IsOneLineItem item → All Clean (item_lines lines item)
 item_clean lines (Line n) h i = All-cons Clean (codes "> " ++ line_text n lines) [] (both (codes "> ") (line_text n lines) refl (line_clean n lines h)) (All-nil Clean)
 item_clean lines (Enlist base point) h i = All-cons Clean (codes "+enlist " ++ decimal base ++ codes " " ++ decimal point) [] (two_numbers (codes "+enlist ") base point refl) (All-nil Clean)
@@ -161,7 +215,15 @@ item_clean lines (Reply some warning) h i = All-append Clean (warning_lines warn
 item_clean lines (Read from to got) h i =
     All-cons Clean (codes "+read " ++ decimal from ++ codes " " ++ decimal to) (map delivery_line got) (two_numbers (codes "+read ") from to refl)
     (All-map Clean delivery_line got (All-weaker (λ delivery. IsOneLineNote delivery.note) (λ delivery. Clean (delivery_line delivery)) delivery_clean got i))
-item_clean lines item h i = All-nil Clean
+item_clean lines (QueueFull full notes) h i = alone (full_line full) (full_clean full)
+item_clean lines Leave h i = alone (codes "+leave") refl
+item_clean lines (Refuse refusal) h i = refusal_clean lines refusal i
+item_clean lines (Channels names) h i =
+    All-map Clean channel_line names (All-weaker IsOneLine (λ name. Clean (channel_line name)) (λ name one. both (codes "  ") (quoted 34 name) refl (between 34 name refl (clean name one))) names i)
+item_clean lines (Used usage) h i = usage_clean usage
+item_clean lines (Raise value) h i = alone (codes "+signal " ++ decimal value) (numbered (codes "+signal ") value refl)
+item_clean lines (Found value) h i = alone (codes "+await " ++ decimal value) (numbered (codes "+await ") value refl)
+item_clean lines (TimedOut looks) h i = alone (codes "+timeout " ++ decimal looks) (numbered (codes "+timeout ") looks refl)
 
 items_clean : (lines : List ScriptLine) (items : List Item) → All (λ line. Clean line.text) lines → All IsOneLineItem items → All Clean (flat_map (item_lines lines) items)
 items_clean lines [] h i = All-nil Clean

@@ -1,11 +1,11 @@
 #![tactic(auto, using(crate::proofs::PutsLaws::put_laws))]
 
 ghost use Rattle.std.specs.Prelude.{◌++◌, codes, decimal, flat_map, map};
-ghost use Rattle.pgn_model.specs.Text.{delivery_line, doubled_byte, joined, note_line, note_text};
+ghost use Rattle.pgn_model.specs.Text.{channel_line, delivery_line, doubled_byte, joined, note_line, note_text};
 ghost use Rattle.pgn_run.specs.Rendering.{Puts, ended};
 
 use crate::render::output::Out;
-use pgn_base::{Delivery, Note, Sink};
+use pgn_base::{Delivery, Name, Note, Sink};
 
 impl Out {
     /// A text with each quote twice, put in runs that end with a quote; the next run begins with it again.
@@ -93,6 +93,25 @@ impl Out {
     {
         for delivery in got {
             self.delivery_line(sink, delivery);
+        }
+    }
+
+    /// The row of a channel.
+    fn channel_line<K: Sink>(&mut self, sink: &mut K, name: &Name)
+        ensures { Puts K.held K.faults sink.old self.old sink.new self.new (ended (channel_line name.now)) }
+    {
+        self.text(sink, b"  \"");
+        self.doubled(sink, b'"', name.as_bytes());
+        self.text(sink, b"\"\n");
+    }
+
+    /// The rows of the channels that a session listens to.
+    #[tactic(auto, using(crate::proofs::PutsLaws::loop_laws))]
+    pub fn channel_lines<K: Sink>(&mut self, sink: &mut K, names: &[Name])
+        ensures { Puts K.held K.faults sink.old self.old sink.new self.new (joined (map channel_line names.now)) }
+    {
+        for name in names {
+            self.channel_line(sink, name);
         }
     }
 }
