@@ -5,6 +5,8 @@ pub mod BytesLemmas
 pub mod PackingLemmas
 pub mod PackingSteps
 pub mod NearLaws
+pub mod PieceLaws
+pub mod DraftLaws
 pub mod TextBytes
 pub mod AnswerLemmas
 pub mod SavepointLemmas

@@ -7,6 +7,7 @@ pub mod Due
 pub mod Bytes
 pub mod Packing
 pub mod Near
+pub mod Pieces
 -- a transaction's list, and what its commands are answered
 pub mod Savepoints
 pub mod Answers

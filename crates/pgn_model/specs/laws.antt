@@ -4,6 +4,7 @@ pub mod Due
 pub mod Bytes
 pub mod Packing
 pub mod Near
+pub mod Pieces
 pub mod Savepoints
 pub mod Answers
 pub mod Walk
