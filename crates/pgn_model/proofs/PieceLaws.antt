@@ -442,28 +442,43 @@ below format (AFiller len sender) sound = are_bytes.of_filler format len sender.
 pub piece_has_bytes : PieceHasBytes
 piece_has_bytes = record { stated = stated; whole = λ format piece sound. whole_cells format (length (piece_bytes format piece)) sound.long.whole; below = below }
 
--- what bytes that begin with these numbers have in their cells
-number_cells : (a b c d : ℕ) (bytes : List ℕ) → filled_cells (four_bytes a ++ four_bytes b ++ four_bytes c ++ four_bytes d ++ bytes)
-    ≡ Some (from_le_bytes w32 (four_bytes a)) ∷ Some (from_le_bytes w32 (four_bytes b)) ∷ Some (from_le_bytes w32 (four_bytes c)) ∷ Some (from_le_bytes w32 (four_bytes d)) ∷ filled_cells bytes
-unfolding filled_cells
-number_cells a b c d bytes = refl
-
 -- a cell whose bytes spell a number
 cell_of : (n : ℕ) → n < 2 ^ 32 → Some (Some (from_le_bytes w32 (four_bytes n))) ≡ Some (Some n)
 cell_of n small = ap (λ k. Some (Some k)) (from_le_bytes-to_le_bytes_4 n small)
 
+-- the length that a piece states fits in a cell
+small_length : (format : Format) (piece : Piece) → IsSound format piece → piece_length format piece < 2 ^ 32
+small_length format piece sound = omega (arith, stated format piece sound, sound.long.fits)
+
 first_cell : (format : Format) (piece : Piece) → IsSound format piece → slice_get (filled_cells (piece_bytes format piece)) 0 ≡ Some (Some (piece_length format piece))
 unfolding filled_cells spelled filler header
-first_cell One (AnEntry note sender) sound = ?
-first_cell Two (AnEntry note sender) sound = ?
-first_cell One (AFiller len sender) sound = ?
-first_cell Two (AFiller len sender) sound = ?
+first_cell One (AnEntry note sender) sound = cell_of (entry_length One note) (small_length One (AnEntry note sender) sound)
+first_cell Two (AnEntry note sender) sound = cell_of (entry_length Two note) (small_length Two (AnEntry note sender) sound)
+first_cell One (AFiller len sender) sound = cell_of len (small_length One (AFiller len sender) sound)
+first_cell Two (AFiller len sender) sound = cell_of len (small_length Two (AFiller len sender) sound)
+
+second_cell : (format : Format) (piece : Piece) → IsSound format piece → slice_get (filled_cells (piece_bytes format piece)) 1 ≡ Some (Some (db_of piece))
+unfolding filled_cells spelled filler header
+second_cell One (AnEntry note sender) sound = cell_of sender.db sound.head.db_fits
+second_cell Two (AnEntry note sender) sound = cell_of sender.db sound.head.db_fits
+second_cell One (AFiller len sender) sound = cell_of 0 sound.head.db_fits
+second_cell Two (AFiller len sender) sound = cell_of 0 sound.head.db_fits
 
 pub first_cells : FirstCells
-first_cells = record { first = λ format piece sound. first_cell format piece sound ∙ ap (λ n. Some (Some n)) (sym (stated format piece sound)); second = ? }
+first_cells = record { first = λ format piece sound. first_cell format piece sound ∙ ap (λ n. Some (Some n)) (sym (stated format piece sound)); second = second_cell }
+
+third_cell : (piece : Piece) → IsSound One piece → slice_get (filled_cells (piece_bytes One piece)) 2 ≡ Some (Some (number_of piece))
+unfolding filled_cells spelled filler header
+third_cell (AnEntry note sender) sound = cell_of sender.xid sound.head.xid_fits
+third_cell (AFiller len sender) sound = cell_of sender.xid sound.head.xid_fits
+
+fourth_cell : (piece : Piece) → IsSound One piece → slice_get (filled_cells (piece_bytes One piece)) 3 ≡ Some (Some (pid_of piece))
+unfolding filled_cells spelled filler header
+fourth_cell (AnEntry note sender) sound = cell_of sender.pid sound.head.pid_fits
+fourth_cell (AFiller len sender) sound = cell_of sender.pid sound.head.pid_fits
 
 pub next_cells : NextCells
-next_cells = ?
+next_cells = record { third = third_cell; fourth = fourth_cell }
 
 pub numbers_give_bytes : NumbersGiveBytes
 unfolding filled_cells
