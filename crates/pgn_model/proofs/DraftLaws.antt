@@ -1,19 +1,17 @@
 -- Proofs of the laws of a transaction that isn't finished, and of a journal that goes on.
-use Rattle.std.proofs.Common.{◌≡◌, ◌≢◌, ℕ, zero, suc, ◌+◌, ◌-◌, ◌<◌, ◌≤◌, Bool, true, false, cond, ◌==◌, List, [], ◌∷◌, ◌++◌, length, take, drop, Option, sym, ap, ◌∙◌, refl, subst, arith, append_assoc, add-zero, zero-add}
-use Rattle.std.specs.Prelude.{All}
-use Rattle.std.proofs.lemmas.List.{append-nil, length-append}
+use Rattle.std.proofs.Common.{◌≡◌, ℕ, ◌+◌, ◌-◌, true, false, cond, ◌==◌, List, [], ◌∷◌, ◌++◌, length, take, drop, Option, sym, ap, ◌∙◌, refl, subst, arith, append_assoc, add-zero}
+use Rattle.std.proofs.lemmas.List.{append-nil, length-append, take-append-le}
 use Rattle.std.proofs.lemmas.List.Elements.{All-take}
 use Rattle.pgn_base.specs.declared.format.Format.{Format}
-use Rattle.pgn_base.specs.declared.note.Note.{Note}
 use Rattle.pgn_model.specs.declared.tx.Tx.{Tx}
 use Rattle.pgn_model.specs.declared.tx.Fate.{Fate}
 use Rattle.pgn_model.specs.declared.tx.Fate.TheVariants.{Committed, Aborted}
 use Rattle.pgn_model.specs.Begins.{Begins}
-use Rattle.pgn_model.specs.Journal.{next_xid, IsFinished, IsQueued, xids_from, xids_of}
+use Rattle.pgn_model.specs.Journal.{next_xid, IsQueued, xids_from}
 use Rattle.pgn_model.specs.Due.{due}
 use Rattle.pgn_model.specs.Bytes.{IsNote}
-use Rattle.pgn_model.specs.Packing.{Sender, sender_of, is_page_start, filler_cells, notes_cells, end_cells, tx_cells, image_from, image, place, put_all, after}
-use Rattle.pgn_model.specs.Pieces.{IsWritten, draft}
+use Rattle.pgn_model.specs.Packing.{sender_of, is_page_start, filler_cells, notes_cells, end_cells, tx_cells, image_from, image, place, put_all}
+use Rattle.pgn_model.specs.Pieces.{draft}
 use Rattle.pgn_model.specs.laws.Pieces.{FinishedAreWritten, OneMoreImage, DraftAtPageStart, FinishedAreDrafts, DraftsFinish, DraftsAreWritten, LongerAgrees, XidsGoOn}
 use Rattle.pgn_model.proofs.BeginsLaws.{begins-rest, begins-continued}
 use Rattle.pgn_model.proofs.DueLaws.{due-grows}
@@ -101,6 +99,8 @@ longer_agrees = record {
       let rest = drop (length xs) ys in
       let more = image_from format (next_xid xs) (length (image format xs)) rest in
       subst (λ (cells : List (Option ℕ)). Begins (image format xs) cells) (sym (ap (image format) (begins-rest xs ys begins) ∙ images_agree format xs rest)) (begins-continued (image format xs) more);
+  entries = λ xs ys m n begins low.
+      ap (λ (txs : List Tx). drop (m - 3) (take (n - 3) txs)) (begins-rest xs ys begins) ∙ ap (drop (m - 3)) (take-append-le (n - 3) xs (drop (length xs) ys) (omega (arith, low)));
   dues = λ xs ys m n db channels begins low.
       ap (λ (txs : List Tx). due txs m n db channels) (begins-rest xs ys begins) ∙ due-grows xs (drop (length xs) ys) m n db channels low;
 }

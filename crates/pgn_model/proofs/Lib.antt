@@ -7,6 +7,7 @@ pub mod PackingSteps
 pub mod NearLaws
 pub mod PieceLaws
 pub mod DraftLaws
+pub mod PieceSteps
 pub mod TextBytes
 pub mod AnswerLemmas
 pub mod SavepointLemmas

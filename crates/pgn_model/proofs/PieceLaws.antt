@@ -1,13 +1,13 @@
 -- Proofs of the laws of the pieces of a journal.
-use Rattle.std.proofs.Common.{◌≡◌, ◌≢◌, ℕ, zero, suc, ◌+◌, ◌-◌, ◌*◌, ◌/◌, ◌%◌, ◌<◌, ◌≤◌, ◌^◌, Bool, true, false, cond, ◌&&◌, ◌==◌, List, [], ◌∷◌, ◌++◌, length, get_or, take, drop, replicate, map, Option, Some, None, slice_get, fold, sym, ap, ◌∙◌, refl, subst, arith, append_assoc, add-zero, zero-add, inl, inr}
-use Rattle.std.specs.Prelude.{All, filter, slice_index}
+use Rattle.std.proofs.Common.{◌≡◌, ℕ, zero, suc, ◌+◌, ◌-◌, ◌*◌, ◌/◌, ◌<◌, ◌≤◌, ◌^◌, Bool, true, false, cond, ◌&&◌, ◌==◌, List, [], ◌∷◌, ◌++◌, length, get_or, take, drop, replicate, map, Option, Some, None, slice_get, fold, sym, ap, ◌∙◌, refl, subst, arith, append_assoc, add-zero, zero-add, inl, inr}
+use Rattle.std.specs.Prelude.{All, filter}
 use Rattle.std.specs.List.{flat_map}
 use Rattle.std.specs.List.Sorted.{IsNonDecreasingBy}
 use Rattle.std.specs.Int.{w32, from_le_bytes}
 use Rattle.std.proofs.lemmas.Bool.{cases_lt}
 use Rattle.std.proofs.lemmas.Bool.Decides.{nat_tests}
-use Rattle.std.proofs.lemmas.Grind.{flat_map-append, common_steps}
-use Rattle.std.proofs.lemmas.List.{append-nil, length-append, length-take, length-replicate, take_all, take-append-drop, take_at, drop_at, drop_all, get_or_append_left, get_or-append_right}
+use Rattle.std.proofs.lemmas.Grind.{flat_map-append, fold-append}
+use Rattle.std.proofs.lemmas.List.{append-nil, length-append, length-take, length-replicate, take_all, take-append-drop, drop_at, drop_all, drop-append-le, take-take, length-drop, get_or_append_left, get_or-append_right}
 use Rattle.std.proofs.lemmas.List.Elements.{All-nil, All-cons, All-head, All-tail, All-append, All-weaker, All-take, All-drop}
 use Rattle.std.proofs.lemmas.Nat.{from_le_bytes-to_le_bytes_4, le_bytes_4}
 use Rattle.pgn_base.specs.declared.format.Format.{Format}
@@ -17,16 +17,16 @@ use Rattle.pgn_base.specs.declared.note.Delivery.{Delivery}
 use Rattle.pgn_model.specs.declared.tx.Tx.{Tx}
 use Rattle.pgn_model.specs.declared.tx.Fate.{Fate}
 use Rattle.pgn_model.specs.declared.tx.Fate.TheVariants.{Committed, Aborted}
-use Rattle.pgn_model.specs.Journal.{is_committed, entries_between, IsFinished, IsQueued}
-use Rattle.pgn_model.specs.Due.{listens, delivery, delivered_by, due, due_from}
-use Rattle.pgn_model.specs.Bytes.{header_bytes, least_bytes, xid_bits, four_bytes, header, entry_length, spelled, filler, IsNote, IsHead, IsEntryLength}
-use Rattle.pgn_model.specs.Packing.{Sender, sender_of, cells_left, bytes_left, next_page, fits, has_room, is_page_start, filled_cells, page_rest, entry_cells, filler_cells, note_cells, notes_cells, end_cells, tx_cells, image_from, image, place, put, put_all, after, after_bytes, after_rest, ended, HasRoom}
-use Rattle.pgn_model.specs.Pieces.{Piece, AnEntry, AFiller, piece_bytes, piece_length, db_of, number_of, pid_of, lay, note_pieces, notes_pieces, end_pieces, tx_pieces, pieces_from, gives, give_all, has_committed, committed_by, TellsFates, QueuesAll, IsNumbered, HasContent, IsSound, IsWritten}
-use Rattle.pgn_model.specs.laws.Pieces.{PiecesInTurn, ImageIsLaid, TransactionsArePacked, PiecesSplit, ImageDrops, PiecesGiveDue, PiecesGiveAllDue, FinishedQueueAll, JournalTellsFates, PiecesAreNumbered, NumbersRise, PiecesAreSound, PieceAdvances, PieceHasBytes, FirstCells, NextCells, NumbersGiveBytes, CellsHoldNumbers}
+use Rattle.pgn_model.specs.Journal.{is_committed, entries_between, IsQueued}
+use Rattle.pgn_model.specs.Due.{listens, delivery, delivered_by}
+use Rattle.pgn_model.specs.Bytes.{header_bytes, least_bytes, page_bytes, xid_bits, four_bytes, header, entry_length, spelled, filler, IsNote, IsHead, IsEntryLength}
+use Rattle.pgn_model.specs.Packing.{Sender, sender_of, cells_left, bytes_left, next_page, fits, has_room, is_page_start, filled_cells, page_rest, entry_cells, filler_cells, note_cells, notes_cells, end_cells, tx_cells, image_from, image, place, put, put_all, after, after_bytes, after_rest, HasRoom}
+use Rattle.pgn_model.specs.Pieces.{Piece, AnEntry, AFiller, piece_bytes, piece_length, db_of, number_of, pid_of, lay, note_pieces, notes_pieces, end_pieces, tx_pieces, pieces_from, gives, give_all, has_committed, committed_by, TellsFates, QueuesAll, IsNumbered, IsSound, IsWritten}
+use Rattle.pgn_model.specs.laws.Pieces.{PiecesInTurn, ImageIsLaid, TransactionsArePacked, PiecesSplit, ImageDrops, JournalIsCut, PiecesGiveDue, PiecesGiveAllDue, FinishedQueueAll, JournalTellsFates, PiecesAreNumbered, NumbersRise, PiecesAreSound, PieceAdvances, PieceHasBytes, PieceReadsBack, FirstCells, NextCells, NumbersGiveBytes, CellsHoldNumbers}
 use Rattle.pgn_model.proofs.BeginsLaws.{begins-holds, begins-itself, begins-taken}
 use Rattle.pgn_model.specs.Begins.{Begins}
-use Rattle.pgn_model.proofs.BytesLemmas.{length-header, length-spelled, length-filler, entry_lengths, are_bytes}
-use Rattle.pgn_model.proofs.PackingLemmas.{length-filled_cells, length-page_rest, least_within, whole_cells, room_next, room_put, room_put_all, room_after, room_after_bytes, length-filler_cells, packed_note, packed_notes, packed_tx, folds, images_agree, pages_hold, after_bytes_bounds, four_below}
+use Rattle.pgn_model.proofs.BytesLemmas.{length-header, length-spelled, length-filler, entry_lengths, are_bytes, reads_back, none_is_filler, filler_reads_back}
+use Rattle.pgn_model.proofs.PackingLemmas.{length-filled_cells, length-page_rest, least_within, whole_cells, room_next, room_put, room_put_all, room_after, room_after_bytes, length-filler_cells, packed_note, packed_notes, packed_tx, folds, place_folds, room_place, images_agree, pages_hold, four_below}
 
 pub pieces_in_turn : PiecesInTurn
 unfolding lay
@@ -69,7 +69,7 @@ unfolding note_pieces note_cells
 laid_note format sender at note room =
     let entry = spelled format note sender.db sender.xid sender.pid in
     elim (fits at (entry_length format note)) as (λ b. lay format at (cond b (AnEntry note sender ∷ []) (AFiller (bytes_left at) sender ∷ AnEntry note sender ∷ []))
-        ≡ cond b (entry_cells format at entry) (filler_cells format sender at ++ entry_cells format (next_page at) entry)) [
+    ≡ cond b (entry_cells format at entry) (filler_cells format sender at ++ entry_cells format (next_page at) entry)) [
       | true ↦ laid_one format at (AnEntry note sender)
       | false ↦ laid_both format at (next_page at) (AFiller (bytes_left at) sender ∷ []) (AnEntry note sender ∷ []) (filler_cells format sender at) (entry_cells format (next_page at) entry)
           (laid_one format at (AFiller (bytes_left at) sender) ∙ laid_filler format sender at room) (length-filler_cells format sender at room) (laid_one format (next_page at) (AnEntry note sender))
@@ -144,6 +144,38 @@ image_drops format journal m low =
       | inr within ↦ ap (λ n. image_from format n at rest) (omega (arith, within, length-take (m - 3) journal))
     ] in
     ap (drop at) whole ∙ drop_at (image format front) (image_from format (3 + length front) at rest) at refl ∙ same
+
+-- what is left of a list: a part of it, and what is left after that
+cut : (xs : List Tx) (a b : ℕ) → a ≤ b → b ≤ length xs → drop a xs ≡ drop a (take b xs) ++ drop b xs
+cut xs a b le within = ap (drop a) (sym (take-append-drop b xs)) ∙ drop-append-le a (take b xs) (drop b xs) (simp length-take (omega arith))
+
+-- the place where the transactions between two numbers end
+part_ends : (format : Format) (journal : List Tx) (m n : ℕ) → m ≤ n → fold (after format) (place format journal m) (entries_between journal m n) ≡ place format journal n
+part_ends format journal m n le =
+    let front = take (m - 3) journal in
+    let part = entries_between journal m n in
+    let both : front ++ part ≡ take (n - 3) journal
+    = ap (λ (txs : List Tx). txs ++ part) (sym (take-take (m - 3) (n - 3) journal (omega arith))) ∙ take-append-drop (m - 3) (take (n - 3) journal) in
+    ap (λ at. fold (after format) at part) (place_folds format journal m) ∙ sym (fold-append (after format) 0 front part) ∙ ap (fold (after format) 0) both ∙ sym (place_folds format journal n)
+
+pub journal_is_cut : JournalIsCut
+journal_is_cut = record {
+  cells = λ format journal m n low le high.
+      let here = place format journal m in
+      let there = place format journal n in
+      let part = entries_between journal m n in
+      let rest = drop (n - 3) journal in
+      let count : m + length part ≡ n = simp (length-drop, length-take) (omega arith) in
+      image_drops format journal m low ∙ image_is_laid format m here (drop (m - 3) journal) (room_place format journal m)
+      ∙ ap (λ txs. lay format here (pieces_from format m here txs)) (cut journal (m - 3) (n - 3) (omega arith) (omega arith))
+      ∙ ap (lay format here) (pieces_split format m here part rest ∙ ap (λ x. pieces_from format m here part ++ pieces_from format x (fold (after format) here part) rest) count
+      ∙ ap (λ at. pieces_from format m here part ++ pieces_from format n at rest) (part_ends format journal m n le));
+  ends = λ format journal m n low le high.
+      let here = place format journal m in
+      let part = entries_between journal m n in
+      let room = room_place format journal m in
+      ap (λ (cells : List (Option ℕ)). here + length cells) (sym (image_is_laid format m here part room)) ∙ folds format m here part room ∙ part_ends format journal m n le;
+}
 
 -- what a notification gives
 one_given : Sender → Note → Delivery
@@ -313,21 +345,21 @@ rise_append x pieces more same above rise = λ i j d le lt.
     let both : j < n + length more = omega (arith, lt, length-append pieces more) in
     elim (cases_lt j n) as (λ _. number_of (get_or (pieces ++ more) i d) ≤ number_of (get_or (pieces ++ more) j d)) [
       | inl here ↦
-        let a : number_of (get_or (pieces ++ more) i d) ≡ x = ap number_of (get_or_append_left pieces more d i (omega (arith, here))) ∙ same i d (omega (arith, here)) in
-        let b : number_of (get_or (pieces ++ more) j d) ≡ x = ap number_of (get_or_append_left pieces more d j here) ∙ same j d here in
-        omega (arith, a, b)
+          let a : number_of (get_or (pieces ++ more) i d) ≡ x = ap number_of (get_or_append_left pieces more d i (omega (arith, here))) ∙ same i d (omega (arith, here)) in
+          let b : number_of (get_or (pieces ++ more) j d) ≡ x = ap number_of (get_or_append_left pieces more d j here) ∙ same j d here in
+          omega (arith, a, b)
       | inr later ↦
-        let b : number_of (get_or (pieces ++ more) j d) ≡ number_of (get_or more (j - n) d) = ap number_of (get_or-append_right pieces more n j d refl later) in
-        elim (cases_lt i n) as (λ _. number_of (get_or (pieces ++ more) i d) ≤ number_of (get_or (pieces ++ more) j d)) [
-          | inl first ↦
-            let a : number_of (get_or (pieces ++ more) i d) ≡ x = ap number_of (get_or_append_left pieces more d i first) ∙ same i d first in
-            let up : x ≤ number_of (get_or more (j - n) d) = above (j - n) d (omega (arith, both, later)) in
-            omega (arith, a, b, up)
-          | inr past ↦
-            let a : number_of (get_or (pieces ++ more) i d) ≡ number_of (get_or more (i - n) d) = ap number_of (get_or-append_right pieces more n i d refl past) in
-            let up : number_of (get_or more (i - n) d) ≤ number_of (get_or more (j - n) d) = rise (i - n) (j - n) d (omega (arith, le)) (omega (arith, both, later)) in
-            omega (arith, a, b, up)
-        ]
+          let b : number_of (get_or (pieces ++ more) j d) ≡ number_of (get_or more (j - n) d) = ap number_of (get_or-append_right pieces more n j d refl later) in
+          elim (cases_lt i n) as (λ _. number_of (get_or (pieces ++ more) i d) ≤ number_of (get_or (pieces ++ more) j d)) [
+            | inl first ↦
+                let a : number_of (get_or (pieces ++ more) i d) ≡ x = ap number_of (get_or_append_left pieces more d i first) ∙ same i d first in
+                let up : x ≤ number_of (get_or more (j - n) d) = above (j - n) d (omega (arith, both, later)) in
+                omega (arith, a, b, up)
+            | inr past ↦
+                let a : number_of (get_or (pieces ++ more) i d) ≡ number_of (get_or more (i - n) d) = ap number_of (get_or-append_right pieces more n i d refl past) in
+                let up : number_of (get_or more (i - n) d) ≤ number_of (get_or more (j - n) d) = rise (i - n) (j - n) d (omega (arith, le)) (omega (arith, both, later)) in
+                omega (arith, a, b, up)
+          ]
     ]
 
 pub numbers_rise : NumbersRise
@@ -441,6 +473,27 @@ below format (AFiller len sender) sound = are_bytes.of_filler format len sender.
 
 pub piece_has_bytes : PieceHasBytes
 piece_has_bytes = record { stated = stated; whole = λ format piece sound. whole_cells format (length (piece_bytes format piece)) sound.long.whole; below = below }
+
+-- the same sender
+same_sender : (s t : Sender) → s.db ≡ t.db → s.xid ≡ t.xid → s.pid ≡ t.pid → s ≡ t
+same_sender s t db xid pid =
+    ap (λ (n : ℕ). let one : Sender = record { db = n; xid = s.xid; pid = s.pid } in one) db
+    ∙ ap (λ (n : ℕ). let one : Sender = record { db = t.db; xid = n; pid = s.pid } in one) xid
+    ∙ ap (λ (n : ℕ). let one : Sender = record { db = t.db; xid = t.xid; pid = n } in one) pid
+
+-- the length of a filler that is read back
+filler_fits : (format : Format) (len : ℕ) (sender : Sender) → IsSound format (AFiller len sender) → len ≤ page_bytes
+filler_fits format len sender sound = omega (arith, stated format (AFiller len sender) sound, sound.long.fits)
+
+pub piece_reads_back : PieceReadsBack
+piece_reads_back format (AnEntry a s) (AnEntry b t) rest rest' p q e =
+    let same = reads_back format a b s.db t.db s.xid t.xid s.pid t.pid rest rest' p.content.0 q.content.0 p.head q.head e in
+    ((same.same_note, same_sender s t same.same_db same.same_xid same.same_pid), same.same_rest)
+piece_reads_back format (AnEntry a s) (AFiller len t) rest rest' p q e = absurd (none_is_filler format a s.db s.xid s.pid len t.xid t.pid rest rest' p.content.1 p.head.db_fits e)
+piece_reads_back format (AFiller len s) (AnEntry b t) rest rest' p q e = absurd (none_is_filler format b t.db t.xid t.pid len s.xid s.pid rest' rest q.content.1 q.head.db_fits (sym e))
+piece_reads_back format (AFiller len s) (AFiller len' t) rest rest' p q e =
+    let same = filler_reads_back format len len' s.xid t.xid s.pid t.pid rest rest' (filler_fits format len s p) (filler_fits format len' t q) p.head q.head e in
+    ((same.same_len, same.same_xid, same.same_pid), same.same_rest)
 
 -- a cell whose bytes spell a number
 cell_of : (n : ℕ) → n < 2 ^ 32 → Some (Some (from_le_bytes w32 (four_bytes n))) ≡ Some (Some n)

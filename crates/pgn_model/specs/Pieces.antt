@@ -121,6 +121,13 @@ pub record IsSound (format : Format) (piece : Piece) : Type 0 where
   pub head : IsHead format (db_of piece) (number_of piece) (pid_of piece)
   pub content : HasContent piece
 
+-- the same piece, as far as its bytes tell: those of a filler do not state its sender's database
+abbrev pub IsSamePiece : Piece → Piece → Type 0
+IsSamePiece (AnEntry a sender) (AnEntry b other) = (a ≡ b) × (sender ≡ other)
+IsSamePiece (AnEntry a sender) (AFiller len other) = ⊥
+IsSamePiece (AFiller len sender) (AnEntry b other) = ⊥
+IsSamePiece (AFiller len sender) (AFiller len' other) = (len ≡ len') × (sender.xid ≡ other.xid) × (sender.pid ≡ other.pid)
+
 -- what is known of a transaction that has drawn a number, finished or not: its queued notifications can be sent, and its database
 -- and its session are in range
 pub record IsWritten (tx : Tx) : Type 0 where

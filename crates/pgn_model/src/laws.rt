@@ -7,7 +7,7 @@ ghost use Rattle.pgn_model.specs.laws.Tokens.{QuotesTell, TokensStand, TokensCov
 ghost use Rattle.pgn_model.specs.laws.Inputs.{LinesAreCut, TextsAreTrimmed, PartsAreCut, BlankReadsEmpty, CommandsHaveOneLine, InputReadingComputes, OneInputReading, ReadingsAreSound};
 ghost use Rattle.pgn_model.specs.laws.Due.{DueSplits, DueGrows};
 ghost use Rattle.pgn_model.specs.laws.Near.{NearShrinks, NearItself, NearGrows};
-ghost use Rattle.pgn_model.specs.laws.Pieces.{PiecesInTurn, ImageIsLaid, TransactionsArePacked, PiecesSplit, ImageDrops, PiecesGiveDue, PiecesGiveAllDue, FinishedQueueAll, JournalTellsFates, PiecesAreNumbered, NumbersRise, PiecesAreSound, PieceAdvances, PieceHasBytes, FirstCells, NextCells, NumbersGiveBytes, CellsHoldNumbers, FinishedAreWritten, OneMoreImage, DraftAtPageStart, FinishedAreDrafts, DraftsFinish, DraftsAreWritten, LongerAgrees, XidsGoOn};
+ghost use Rattle.pgn_model.specs.laws.Pieces.{PiecesInTurn, ImageIsLaid, TransactionsArePacked, PiecesSplit, ImageDrops, JournalIsCut, PiecesGiveDue, PiecesGiveAllDue, FinishedQueueAll, JournalTellsFates, PiecesAreNumbered, NumbersRise, PiecesAreSound, PieceAdvances, PieceHasBytes, PieceReadsBack, FirstCells, NextCells, NumbersGiveBytes, CellsHoldNumbers, FinishedAreWritten, OneMoreImage, DraftAtPageStart, FinishedAreDrafts, DraftsFinish, DraftsAreWritten, LongerAgrees, XidsGoOn};
 ghost use Rattle.pgn_model.specs.laws.Walk.{LawfulPushes, LawfulPrefix, LawfulGrows};
 ghost use Rattle.pgn_model.specs.laws.Savepoints.{RolledBackCuts, ReleasedKeeps, SurvivesRolledBack, SurvivesReleased, SurvivesSaved, SurvivesActed, SurvivesNoted, LiveIsSaved, LiveHasSavepoint, RolledBackKeepsSavepoint, RolledBackOfNone, ReleasedOfNone, FirstsInOrder, FirstsDiffer, FirstsHaveAll, FirstsPush, FirstsTwice, LiveAfterChange, LiveSaved, LiveActed, LiveNew, LiveRepeated, LiveRolledBack, LiveReleased, LiveTwice, LiveHasNames, LiveHasActions, LiveHasFirsts};
 ghost use Rattle.pgn_model.specs.laws.Answers.{TableIsTotal, NothingFailsOutside, BlocksBegin, BlocksEnd, BlocksFail, WaysOut, WaysOn, OnlyEmptyIsSilent, ChannelsAreCounted, WhatCommits};
@@ -138,6 +138,8 @@ pub fn pieces()
     ensures pieces_split { PiecesSplit }
     // The cells from the place of a transaction on are those of the rest of the journal.
     ensures image_drops { ImageDrops }
+    // From the place of a transaction on lie the pieces of those up to another, and then those of the rest.
+    ensures journal_is_cut { JournalIsCut }
     // What the pieces give to a reader is what the transactions give, where the fates are told.
     ensures pieces_give_due { PiecesGiveDue }
     // What the pieces of a part of the journal give to a reader is what is due from that part.
@@ -156,6 +158,8 @@ pub fn pieces()
     ensures piece_advances { PieceAdvances }
     // A piece that is read back has as many bytes as it states.
     ensures piece_has_bytes { PieceHasBytes }
+    // Bytes that begin with a piece begin with no other one.
+    ensures piece_reads_back { PieceReadsBack }
     // The first two cells of a piece hold its length and its database.
     ensures first_cells { FirstCells }
     // The next two hold its transaction's number and its process number in format One.
@@ -184,7 +188,7 @@ pub fn drafts()
 
 /// A journal that goes on.
 pub fn longer_journals()
-    // A longer journal changes no place, no cell and nothing of what is due before its new part.
+    // A longer journal changes no place, no cell, no transaction and nothing of what is due before its new part.
     ensures longer_agrees { LongerAgrees }
     // The numbers of a session are those that it had, and then those of the new part.
     ensures xids_go_on { XidsGoOn }

@@ -1,5 +1,5 @@
 -- Laws of the pieces of a journal, of a transaction that isn't finished, and of a journal that goes on.
-use Rattle.std.specs.Prelude.{◌≡◌, ◌≢◌, ℕ, ◌+◌, ◌-◌, ◌*◌, ◌/◌, ◌%◌, ◌<◌, ◌≤◌, ◌^◌, Bool, true, cond, ◌==◌, List, [], ◌∷◌, ◌++◌, length, take, drop, fold, Some, slice_get, slice_index, All, AllPairs}
+use Rattle.std.specs.Prelude.{◌≡◌, ◌≢◌, ℕ, ◌+◌, ◌-◌, ◌*◌, ◌%◌, ◌<◌, ◌≤◌, ◌^◌, Bool, true, cond, ◌==◌, List, [], ◌∷◌, ◌++◌, length, take, drop, fold, Some, slice_get, slice_index, All, AllPairs}
 use Rattle.std.specs.List.{flat_map}
 use Rattle.std.specs.List.Sorted.{IsNonDecreasingBy}
 use Rattle.std.specs.Int.{w32, from_le_bytes}
@@ -15,7 +15,7 @@ use Rattle.pgn_model.specs.Journal.{next_xid, entries_between, IsFinished, IsQue
 use Rattle.pgn_model.specs.Due.{due, due_from}
 use Rattle.pgn_model.specs.Bytes.{xid_bits, four_bytes, IsNote}
 use Rattle.pgn_model.specs.Packing.{cell_bytes, cells_in, sender_of, is_page_start, filled_cells, entry_cells, filler_cells, notes_cells, image_from, image, place, after_bytes, put_all, after, HasRoom}
-use Rattle.pgn_model.specs.Pieces.{Piece, piece_bytes, piece_length, db_of, number_of, pid_of, lay, pieces_from, give_all, committed_by, TellsFates, QueuesAll, IsNumbered, IsSound, IsWritten, draft}
+use Rattle.pgn_model.specs.Pieces.{Piece, piece_bytes, piece_length, db_of, number_of, pid_of, lay, pieces_from, give_all, committed_by, TellsFates, QueuesAll, IsNumbered, IsSound, IsSamePiece, IsWritten, draft}
 
 -- pieces lie one after another
 abbrev pub PiecesInTurn : Type 0
@@ -37,6 +37,16 @@ PiecesSplit = (format : Format) (x at : ℕ) (txs more : List Tx)
 -- the cells from the place of a transaction on are those of the rest of the journal
 abbrev pub ImageDrops : Type 0
 ImageDrops = (format : Format) (journal : List Tx) (m : ℕ) → FIRST_XID ≤ m → drop (place format journal m) (image format journal) ≡ image_from format m (place format journal m) (drop (m - FIRST_XID) journal)
+
+-- from the place of a transaction on lie the pieces of those up to another, and then those of the rest
+pub record JournalIsCut : Type 0 where
+  pub cells : (format : Format) (journal : List Tx) (m n : ℕ) → FIRST_XID ≤ m → m ≤ n → n ≤ next_xid journal
+      → let here = place format journal m in
+      let there = place format journal n in
+      drop here (image format journal) ≡ lay format here (pieces_from format m here (entries_between journal m n) ++ pieces_from format n there (drop (n - FIRST_XID) journal))
+  pub ends : (format : Format) (journal : List Tx) (m n : ℕ) → FIRST_XID ≤ m → m ≤ n → n ≤ next_xid journal
+      → let here = place format journal m in
+      here + length (lay format here (pieces_from format m here (entries_between journal m n))) ≡ place format journal n
 
 -- what the pieces of transactions give is what the transactions give
 abbrev pub PiecesGiveDue : Type 0
@@ -80,6 +90,11 @@ pub record PieceHasBytes : Type 0 where
   pub whole : (format : Format) (piece : Piece) → IsSound format piece → length (piece_bytes format piece) % cell_bytes ≡ 0
   pub below : (format : Format) (piece : Piece) → IsSound format piece → All (λ byte. byte < 256) (piece_bytes format piece)
 
+-- bytes that begin with a piece begin with no other one
+abbrev pub PieceReadsBack : Type 0
+PieceReadsBack = (format : Format) (piece other : Piece) (rest rest' : List ℕ) → IsSound format piece → IsSound format other → piece_bytes format piece ++ rest ≡ piece_bytes format other ++ rest'
+    → IsSamePiece piece other × (rest ≡ rest')
+
 -- the first two cells of a piece hold its length and its database
 pub record FirstCells : Type 0 where
   pub first : (format : Format) (piece : Piece) → IsSound format piece → slice_get (filled_cells (piece_bytes format piece)) 0 ≡ Some (Some (length (piece_bytes format piece)))
@@ -109,9 +124,9 @@ pub record OneMoreImage : Type 0 where
       → image format (seen ++ tx ∷ []) ≡ image format seen ++ notes_cells format (sender_of (next_xid seen) tx) (length (image format seen)) (take tx.queued tx.notes)
   pub aborted : (format : Format) (seen : List Tx) (tx : Tx) → tx.fate ≡ Aborted
       → let sender = sender_of (next_xid seen) tx in
-        let at = length (image format seen) in
-        let end = put_all format at (take tx.queued tx.notes) in
-        image format (seen ++ tx ∷ []) ≡ image format seen ++ notes_cells format sender at (take tx.queued tx.notes) ++ cond (is_page_start end) [] (filler_cells format sender end)
+      let at = length (image format seen) in
+      let end = put_all format at (take tx.queued tx.notes) in
+      image format (seen ++ tx ∷ []) ≡ image format seen ++ notes_cells format sender at (take tx.queued tx.notes) ++ cond (is_page_start end) [] (filler_cells format sender end)
   pub ends : (format : Format) (seen : List Tx) (tx : Tx) → length (image format (seen ++ tx ∷ [])) ≡ after format (length (image format seen)) tx
 
 -- a draft that stops where a page begins has the same cells with either fate
@@ -134,10 +149,11 @@ DraftsFinish = (session db : ℕ) (notes : List Note) (queued : ℕ) (fate : Fat
 abbrev pub DraftsAreWritten : Type 0
 DraftsAreWritten = (session db : ℕ) (notes : List Note) (queued : ℕ) (fate : Fate) → All IsNote notes → 0 < db → db < 2 ^ 32 → session ≤ SECTIONS_MAX → IsWritten (draft session db notes queued fate)
 
--- a longer journal changes no place, no cell and nothing of what is due before its new part
+-- a longer journal changes no place, no cell, no transaction and nothing of what is due before its new part
 pub record LongerAgrees : Type 0 where
   pub places : (format : Format) (xs ys : List Tx) (x : ℕ) → Begins xs ys → x ≤ next_xid xs → place format ys x ≡ place format xs x
   pub images : (format : Format) (xs ys : List Tx) → Begins xs ys → Begins (image format xs) (image format ys)
+  pub entries : (xs ys : List Tx) (m n : ℕ) → Begins xs ys → n ≤ next_xid xs → entries_between ys m n ≡ entries_between xs m n
   pub dues : (xs ys : List Tx) (m n db : ℕ) (channels : List (List ℕ)) → Begins xs ys → n ≤ next_xid xs → due ys m n db channels ≡ due xs m n db channels
 
 -- the numbers of a session in a journal that goes on: those that it had, and then those of the new part

@@ -1,4 +1,4 @@
-use Rattle.pgn_model.proofs.PieceLaws.{pieces_in_turn, image_is_laid, transactions_are_packed, pieces_split, image_drops, pieces_give_due, pieces_give_all_due, finished_queue_all, journal_tells_fates, pieces_are_numbered, numbers_rise, pieces_are_sound, piece_advances, piece_has_bytes, first_cells, next_cells, numbers_give_bytes, cells_hold_numbers}
+use Rattle.pgn_model.proofs.PieceLaws.{pieces_in_turn, image_is_laid, transactions_are_packed, pieces_split, image_drops, journal_is_cut, pieces_give_due, pieces_give_all_due, finished_queue_all, journal_tells_fates, pieces_are_numbered, numbers_rise, pieces_are_sound, piece_advances, piece_has_bytes, piece_reads_back, first_cells, next_cells, numbers_give_bytes, cells_hold_numbers}
 use Rattle.pgn_model.proofs.laws.pieces.Goals as goal
 
 pub returns-clause-pieces_in_turn : goal.returns-clause-pieces_in_turn
@@ -15,6 +15,9 @@ returns-clause-pieces_split c = pieces_split
 
 pub returns-clause-image_drops : goal.returns-clause-image_drops
 returns-clause-image_drops c = image_drops
+
+pub returns-clause-journal_is_cut : goal.returns-clause-journal_is_cut
+returns-clause-journal_is_cut c = journal_is_cut
 
 pub returns-clause-pieces_give_due : goal.returns-clause-pieces_give_due
 returns-clause-pieces_give_due c = pieces_give_due
@@ -42,6 +45,9 @@ returns-clause-piece_advances c = piece_advances
 
 pub returns-clause-piece_has_bytes : goal.returns-clause-piece_has_bytes
 returns-clause-piece_has_bytes c = piece_has_bytes
+
+pub returns-clause-piece_reads_back : goal.returns-clause-piece_reads_back
+returns-clause-piece_reads_back c = piece_reads_back
 
 pub returns-clause-first_cells : goal.returns-clause-first_cells
 returns-clause-first_cells c = first_cells
