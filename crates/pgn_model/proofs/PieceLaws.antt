@@ -158,25 +158,6 @@ part_ends format journal m n le =
     = ap (λ (txs : List Tx). txs ++ part) (sym (take-take (m - 3) (n - 3) journal (omega arith))) ∙ take-append-drop (m - 3) (take (n - 3) journal) in
     ap (λ at. fold (after format) at part) (place_folds format journal m) ∙ sym (fold-append (after format) 0 front part) ∙ ap (fold (after format) 0) both ∙ sym (place_folds format journal n)
 
-pub journal_is_cut : JournalIsCut
-journal_is_cut = record {
-  cells = λ format journal m n low le high.
-      let here = place format journal m in
-      let there = place format journal n in
-      let part = entries_between journal m n in
-      let rest = drop (n - 3) journal in
-      let count : m + length part ≡ n = simp (length-drop, length-take) (omega arith) in
-      image_drops format journal m low ∙ image_is_laid format m here (drop (m - 3) journal) (room_place format journal m)
-      ∙ ap (λ txs. lay format here (pieces_from format m here txs)) (cut journal (m - 3) (n - 3) (omega arith) (omega arith))
-      ∙ ap (lay format here) (pieces_split format m here part rest ∙ ap (λ x. pieces_from format m here part ++ pieces_from format x (fold (after format) here part) rest) count
-      ∙ ap (λ at. pieces_from format m here part ++ pieces_from format n at rest) (part_ends format journal m n le));
-  ends = λ format journal m n low le high.
-      let here = place format journal m in
-      let part = entries_between journal m n in
-      let room = room_place format journal m in
-      ap (λ (cells : List (Option ℕ)). here + length cells) (sym (image_is_laid format m here part room)) ∙ folds format m here part room ∙ part_ends format journal m n le;
-}
-
 -- what a notification gives
 one_given : Sender → Note → Delivery
 one_given sender note = record { xid = sender.xid; pid = sender.pid; note = note }
@@ -336,6 +317,33 @@ pieces_are_numbered format x at (tx ∷ txs) =
     All-append (IsNumbered x (x + length (tx ∷ txs))) here later
     (All-weaker (OfNumber x) (IsNumbered x (x + length (tx ∷ txs))) (λ piece e. record { low = omega (arith, e); high = omega (arith, e) }) here (numbers_tx format x at tx))
     (All-weaker (IsNumbered (x + 1) ((x + 1) + length txs)) (IsNumbered x (x + length (tx ∷ txs))) (λ piece h. record { low = omega (arith, h.low); high = omega (arith, h.high) }) later (pieces_are_numbered format (x + 1) (after format at tx) txs))
+
+-- how many transactions are between two numbers
+part_counts : (journal : List Tx) (m n : ℕ) → 3 ≤ m → m ≤ n → n ≤ 3 + length journal → m + length (entries_between journal m n) ≡ n
+part_counts journal m n low le high = simp (length-drop, length-take) (omega arith)
+
+pub journal_is_cut : JournalIsCut
+journal_is_cut = record {
+  cells = λ format journal m n low le high.
+      let here = place format journal m in
+      let there = place format journal n in
+      let part = entries_between journal m n in
+      let rest = drop (n - 3) journal in
+      let count : m + length part ≡ n = part_counts journal m n low le high in
+      image_drops format journal m low ∙ image_is_laid format m here (drop (m - 3) journal) (room_place format journal m)
+      ∙ ap (λ txs. lay format here (pieces_from format m here txs)) (cut journal (m - 3) (n - 3) (omega arith) (omega arith))
+      ∙ ap (lay format here) (pieces_split format m here part rest ∙ ap (λ x. pieces_from format m here part ++ pieces_from format x (fold (after format) here part) rest) count
+      ∙ ap (λ at. pieces_from format m here part ++ pieces_from format n at rest) (part_ends format journal m n le));
+  ends = λ format journal m n low le high.
+      let here = place format journal m in
+      let part = entries_between journal m n in
+      let room = room_place format journal m in
+      ap (λ (cells : List (Option ℕ)). here + length cells) (sym (image_is_laid format m here part room)) ∙ folds format m here part room ∙ part_ends format journal m n le;
+  numbers = λ format journal m n at low le high.
+      let part = entries_between journal m n in
+      let P : ℕ → Type 0 = λ end. All (IsNumbered m end) (pieces_from format m at part) in
+      subst P (part_counts journal m n low le high) (pieces_are_numbered format m at part);
+}
 
 -- numbers that are the same, and then others that rise and are no smaller
 rise_append : (x : ℕ) (pieces more : List Piece) → All (OfNumber x) pieces → All (λ piece. x ≤ number_of piece) more → IsNonDecreasingBy number_of more → IsNonDecreasingBy number_of (pieces ++ more)

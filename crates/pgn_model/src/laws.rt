@@ -138,7 +138,7 @@ pub fn pieces()
     ensures pieces_split { PiecesSplit }
     // The cells from the place of a transaction on are those of the rest of the journal.
     ensures image_drops { ImageDrops }
-    // From the place of a transaction on lie the pieces of those up to another, and then those of the rest.
+    // From the place of a transaction on lie the pieces of those up to another, with their numbers, and then those of the rest.
     ensures journal_is_cut { JournalIsCut }
     // What the pieces give to a reader is what the transactions give, where the fates are told.
     ensures pieces_give_due { PiecesGiveDue }

@@ -38,7 +38,7 @@ PiecesSplit = (format : Format) (x at : ℕ) (txs more : List Tx)
 abbrev pub ImageDrops : Type 0
 ImageDrops = (format : Format) (journal : List Tx) (m : ℕ) → FIRST_XID ≤ m → drop (place format journal m) (image format journal) ≡ image_from format m (place format journal m) (drop (m - FIRST_XID) journal)
 
--- from the place of a transaction on lie the pieces of those up to another, and then those of the rest
+-- from the place of a transaction on lie the pieces of those up to another, with their numbers, and then those of the rest
 pub record JournalIsCut : Type 0 where
   pub cells : (format : Format) (journal : List Tx) (m n : ℕ) → FIRST_XID ≤ m → m ≤ n → n ≤ next_xid journal
       → let here = place format journal m in
@@ -47,6 +47,7 @@ pub record JournalIsCut : Type 0 where
   pub ends : (format : Format) (journal : List Tx) (m n : ℕ) → FIRST_XID ≤ m → m ≤ n → n ≤ next_xid journal
       → let here = place format journal m in
       here + length (lay format here (pieces_from format m here (entries_between journal m n))) ≡ place format journal n
+  pub numbers : (format : Format) (journal : List Tx) (m n at : ℕ) → FIRST_XID ≤ m → m ≤ n → n ≤ next_xid journal → All (IsNumbered m n) (pieces_from format m at (entries_between journal m n))
 
 -- what the pieces of transactions give is what the transactions give
 abbrev pub PiecesGiveDue : Type 0
