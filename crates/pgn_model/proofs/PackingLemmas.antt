@@ -49,7 +49,7 @@ whole_cells One len h = omega (arith, h)
 whole_cells Two len h = omega (arith, h)
 
 -- an entry's length is counted by the alignment, and takes some cells
-pub entry_whole : (format : Format) (note : Note) → (entry_length format note % alignment format ≡ 0) × (4 ≤ entry_length format note)
+entry_whole : (format : Format) (note : Note) → (entry_length format note % alignment format ≡ 0) × (4 ≤ entry_length format note)
 unfolding entry_length
 entry_whole One note = (omega arith, omega arith)
 entry_whole Two note = (omega arith, omega arith)
@@ -181,7 +181,7 @@ pub images_agree : ImagesAgree
 unfolding image
 images_agree format journal more = image_from-append format 3 0 journal more ∙ ap (λ n. image format journal ++ image_from format (3 + length journal) n more) (zero-add (length (image format journal)))
 
-pub room_image : (format : Format) (x at : ℕ) (txs : List Tx) → HasRoom format at → HasRoom format (at + length (image_from format x at txs))
+room_image : (format : Format) (x at : ℕ) (txs : List Tx) → HasRoom format at → HasRoom format (at + length (image_from format x at txs))
 unfolding image_from
 room_image format x at [] room = let P : ℕ → Type 0 = λ n. HasRoom format n in subst P (sym (add-zero at)) room
 room_image format x at (tx ∷ txs) room =
@@ -311,7 +311,7 @@ pub place_folds : PlaceFolds
 unfolding place image
 place_folds format journal x = sym (zero-add (length (image format (take (x - 3) journal)))) ∙ folds format 3 0 (take (x - 3) journal) (room_start format)
 
-pub after_bytes_bounds : (format : Format) (at bytes : ℕ) → 20 ≤ bytes → bytes ≤ bytes_left at → (at < after_bytes format at bytes) × (after_bytes format at bytes ≤ next_page at)
+after_bytes_bounds : (format : Format) (at bytes : ℕ) → 20 ≤ bytes → bytes ≤ bytes_left at → (at < after_bytes format at bytes) × (after_bytes format at bytes ≤ next_page at)
 unfolding after_bytes after_rest
 after_bytes_bounds format at bytes some fits = let least = least_within format in grind (arith, common_steps)
 
@@ -427,7 +427,7 @@ four_below a b c d p q r s (suc (suc zero)) = r
 four_below a b c d p q r s (suc (suc (suc zero))) = s
 four_below a b c d p q r s (suc (suc (suc (suc i)))) = omega arith
 
-pub filled_cells-give : (bytes : List ℕ) → length bytes % 4 ≡ 0 → All (λ byte. byte < 256) bytes → bytes_of (filled_cells bytes) ≡ bytes
+filled_cells-give : (bytes : List ℕ) → length bytes % 4 ≡ 0 → All (λ byte. byte < 256) bytes → bytes_of (filled_cells bytes) ≡ bytes
 unfolding filled_cells
 filled_cells-give [] whole below = refl
 filled_cells-give (a ∷ []) whole below = absurd (omega (arith, whole))
