@@ -34,7 +34,8 @@ drafts_are_written session db notes queued fate sent some small within = record 
 }
 
 -- the image of one transaction more
-one_more : (format : Format) (seen : List Tx) (tx : Tx) → image format (seen ++ tx ∷ []) ≡ image format seen ++ tx_cells format (next_xid seen) (length (image format seen)) tx
+one_more : (format : Format) (seen : List Tx) (tx : Tx)
+    → image format (seen ++ tx ∷ []) ≡ image format seen ++ tx_cells format (next_xid seen) (length (image format seen)) tx
 unfolding image_from
 one_more format seen tx = images_agree format seen (tx ∷ []) ∙ ap (λ cells. image format seen ++ cells) (append-nil (tx_cells format (next_xid seen) (length (image format seen)) tx))
 

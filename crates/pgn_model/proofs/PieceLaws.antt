@@ -21,7 +21,7 @@ use Rattle.pgn_model.specs.Journal.{is_committed, entries_between, IsQueued}
 use Rattle.pgn_model.specs.Due.{listens, delivery, delivered_by}
 use Rattle.pgn_model.specs.Bytes.{header_bytes, least_bytes, page_bytes, xid_bits, four_bytes, header, entry_length, spelled, filler, IsNote, IsHead, IsEntryLength}
 use Rattle.pgn_model.specs.Packing.{Sender, sender_of, cells_left, bytes_left, next_page, fits, has_room, is_page_start, filled_cells, page_rest, entry_cells, filler_cells, note_cells, notes_cells, end_cells, tx_cells, image_from, image, place, put, put_all, after, after_bytes, after_rest, HasRoom}
-use Rattle.pgn_model.specs.Pieces.{Piece, AnEntry, AFiller, piece_bytes, piece_length, db_of, number_of, pid_of, lay, note_pieces, notes_pieces, end_pieces, tx_pieces, pieces_from, gives, give_all, has_committed, committed_by, TellsFates, QueuesAll, IsNumbered, IsSound, IsWritten}
+use Rattle.pgn_model.specs.Pieces.{Piece, AnEntry, AFiller, piece_bytes, piece_length, db_of, number_of, pid_of, lay, note_pieces, notes_pieces, end_pieces, tx_pieces, pieces_from, delivery_of, gives, give_all, has_committed, committed_by, TellsFates, QueuesAll, IsNumbered, IsSound, IsWritten}
 use Rattle.pgn_model.specs.laws.Pieces.{PiecesInTurn, ImageIsLaid, TransactionsArePacked, PiecesSplit, ImageDrops, JournalIsCut, PiecesGiveDue, PiecesGiveAllDue, FinishedQueueAll, JournalTellsFates, PiecesAreNumbered, NumbersRise, PiecesAreSound, PieceAdvances, PieceHasBytes, PieceReadsBack, FirstCells, NextCells, NumbersGiveBytes, CellsHoldNumbers}
 use Rattle.pgn_model.proofs.BeginsLaws.{begins-holds, begins-itself, begins-taken}
 use Rattle.pgn_model.specs.Begins.{Begins}
@@ -46,7 +46,8 @@ no_rest format at room =
     ap (λ b. cond b [] (replicate (cells_left at) (let n : Option ℕ = None in n))) roomy
 
 -- a filler that takes the rest of the page is laid as its cells alone
-laid_filler : (format : Format) (sender : Sender) (at : ℕ) → HasRoom format at → entry_cells format at (filler format (bytes_left at) sender.xid sender.pid) ≡ filler_cells format sender at
+laid_filler : (format : Format) (sender : Sender) (at : ℕ) → HasRoom format at
+    → entry_cells format at (filler format (bytes_left at) sender.xid sender.pid) ≡ filler_cells format sender at
 unfolding entry_cells filler_cells
 laid_filler format sender at room =
     let cells = filled_cells (filler format (bytes_left at) sender.xid sender.pid) in
@@ -54,7 +55,8 @@ laid_filler format sender at room =
     ap (λ n. cells ++ page_rest format n) end ∙ ap (λ rest. cells ++ rest) (no_rest format (next_page at) (room_next format at)) ∙ append-nil cells
 
 -- two lists of pieces, of which each lies as its cells
-laid_both : (format : Format) (at next : ℕ) (pieces more : List Piece) (cells rest : List (Option ℕ)) → lay format at pieces ≡ cells → at + length cells ≡ next → lay format next more ≡ rest
+laid_both : (format : Format) (at next : ℕ) (pieces more : List Piece) (cells rest : List (Option ℕ)) → lay format at pieces ≡ cells
+    → at + length cells ≡ next → lay format next more ≡ rest
     → lay format at (pieces ++ more) ≡ cells ++ rest
 laid_both format at next pieces more cells rest here end there =
     pieces_in_turn format at pieces more ∙ ap (λ (ds : List (Option ℕ)). ds ++ lay format (at + length ds) more) here
@@ -64,7 +66,8 @@ laid_one : (format : Format) (at : ℕ) (piece : Piece) → lay format at (piece
 unfolding lay
 laid_one format at piece = append-nil (entry_cells format at (piece_bytes format piece))
 
-laid_note : (format : Format) (sender : Sender) (at : ℕ) (note : Note) → HasRoom format at → lay format at (note_pieces format sender at note) ≡ note_cells format sender at note
+laid_note : (format : Format) (sender : Sender) (at : ℕ) (note : Note) → HasRoom format at
+    → lay format at (note_pieces format sender at note) ≡ note_cells format sender at note
 unfolding note_pieces note_cells
 laid_note format sender at note room =
     let entry = spelled format note sender.db sender.xid sender.pid in
@@ -75,7 +78,8 @@ laid_note format sender at note room =
           (laid_one format at (AFiller (bytes_left at) sender) ∙ laid_filler format sender at room) (length-filler_cells format sender at room) (laid_one format (next_page at) (AnEntry note sender))
     ]
 
-laid_notes : (format : Format) (sender : Sender) (at : ℕ) (notes : List Note) → HasRoom format at → lay format at (notes_pieces format sender at notes) ≡ notes_cells format sender at notes
+laid_notes : (format : Format) (sender : Sender) (at : ℕ) (notes : List Note) → HasRoom format at
+    → lay format at (notes_pieces format sender at notes) ≡ notes_cells format sender at notes
 unfolding lay notes_pieces notes_cells
 laid_notes format sender at [] room = refl
 laid_notes format sender at (note ∷ notes) room =
@@ -84,7 +88,8 @@ laid_notes format sender at (note ∷ notes) room =
     (laid_note format sender at note room) end
     (laid_notes format sender (put format at note) notes (room_put format at note room) ∙ ap (λ n. notes_cells format sender n notes) (sym end))
 
-laid_end : (format : Format) (sender : Sender) (fate : Fate) (at : ℕ) → HasRoom format at → lay format at (end_pieces sender fate at) ≡ end_cells format sender fate at
+laid_end : (format : Format) (sender : Sender) (fate : Fate) (at : ℕ) → HasRoom format at
+    → lay format at (end_pieces sender fate at) ≡ end_cells format sender fate at
 unfolding lay end_pieces end_cells
 laid_end format sender Committed at room = refl
 laid_end format sender Aborted at room = elim (is_page_start at) as (λ b. lay format at (cond b [] (AFiller (bytes_left at) sender ∷ [])) ≡ cond b [] (filler_cells format sender at)) [
@@ -150,17 +155,14 @@ cut : (xs : List Tx) (a b : ℕ) → a ≤ b → b ≤ length xs → drop a xs �
 cut xs a b le within = ap (drop a) (sym (take-append-drop b xs)) ∙ drop-append-le a (take b xs) (drop b xs) (simp length-take (omega arith))
 
 -- the place where the transactions between two numbers end
-part_ends : (format : Format) (journal : List Tx) (m n : ℕ) → m ≤ n → fold (after format) (place format journal m) (entries_between journal m n) ≡ place format journal n
+part_ends : (format : Format) (journal : List Tx) (m n : ℕ) → m ≤ n
+    → fold (after format) (place format journal m) (entries_between journal m n) ≡ place format journal n
 part_ends format journal m n le =
     let front = take (m - 3) journal in
     let part = entries_between journal m n in
     let both : front ++ part ≡ take (n - 3) journal
     = ap (λ (txs : List Tx). txs ++ part) (sym (take-take (m - 3) (n - 3) journal (omega arith))) ∙ take-append-drop (m - 3) (take (n - 3) journal) in
     ap (λ at. fold (after format) at part) (place_folds format journal m) ∙ sym (fold-append (after format) 0 front part) ∙ ap (fold (after format) 0) both ∙ sym (place_folds format journal n)
-
--- what a notification gives
-one_given : Sender → Note → Delivery
-one_given sender note = record { xid = sender.xid; pid = sender.pid; note = note }
 
 given_note : (format : Format) (db : ℕ) (channels : List (List ℕ)) (committed : ℕ → Bool) (sender : Sender) (at : ℕ) (note : Note)
     → give_all db channels committed (note_pieces format sender at note) ≡ gives db channels committed (AnEntry note sender)
@@ -183,35 +185,38 @@ map_filtered f true x xs = refl
 map_filtered f false x xs = refl
 
 given_notes : (format : Format) (db : ℕ) (channels : List (List ℕ)) (committed : ℕ → Bool) (sender : Sender) (at : ℕ) (notes : List Note)
-    → give_all db channels committed (notes_pieces format sender at notes) ≡ cond (committed sender.xid && sender.db == db) (map (one_given sender) (filter (listens channels) notes)) []
-unfolding notes_pieces one_given
+    → give_all db channels committed (notes_pieces format sender at notes) ≡ cond (committed sender.xid && sender.db == db) (map (delivery_of sender) (filter (listens channels) notes)) []
+unfolding notes_pieces
 given_notes format db channels committed sender at [] = elim (committed sender.xid && sender.db == db) as (λ b. (let none : List Delivery = [] in none) ≡ cond b [] []) [ true ↦ refl | false ↦ refl ]
 given_notes format db channels committed sender at (note ∷ notes) =
     let g = gives db channels committed in
     let test = committed sender.xid && sender.db == db in
-    let rest : List Delivery = map (one_given sender) (filter (listens channels) notes) in
+    let rest : List Delivery = map (delivery_of sender) (filter (listens channels) notes) in
     flat_map-append g (note_pieces format sender at note) (notes_pieces format sender (put format at note) notes)
     ∙ ap (λ (ds : List Delivery). ds ++ give_all db channels committed (notes_pieces format sender (put format at note) notes)) (given_note format db channels committed sender at note)
     ∙ ap (λ (ds : List Delivery). g (AnEntry note sender) ++ ds) (given_notes format db channels committed sender (put format at note) notes)
-    ∙ given_more test (listens channels note) (one_given sender note) rest
-    ∙ ap (λ (ds : List Delivery). cond test ds []) (map_filtered (one_given sender) (listens channels note) note (filter (listens channels) notes))
+    ∙ given_more test (listens channels note) (delivery_of sender note) rest
+    ∙ ap (λ (ds : List Delivery). cond test ds []) (map_filtered (delivery_of sender) (listens channels note) note (filter (listens channels) notes))
 
-given_end : (db : ℕ) (channels : List (List ℕ)) (committed : ℕ → Bool) (sender : Sender) (fate : Fate) (at : ℕ) → give_all db channels committed (end_pieces sender fate at) ≡ []
+given_end : (db : ℕ) (channels : List (List ℕ)) (committed : ℕ → Bool) (sender : Sender) (fate : Fate) (at : ℕ)
+    → give_all db channels committed (end_pieces sender fate at) ≡ []
 unfolding end_pieces
 given_end db channels committed sender Committed at = refl
 given_end db channels committed sender Aborted at = elim (is_page_start at) as (λ b. give_all db channels committed (cond b [] (AFiller (bytes_left at) sender ∷ [])) ≡ []) [ true ↦ refl | false ↦ refl ]
 
 -- where it is told whether a transaction committed, its queued notifications are as good as all
-given_by_fate : (fate : Fate) (told here : Bool) (queued : ℕ) (notes : List Note) (F : List Note → List Delivery) → told ≡ is_committed fate → (fate ≡ Committed → queued ≡ length notes)
+given_by_fate : (fate : Fate) (told here : Bool) (queued : ℕ) (notes : List Note) (F : List Note → List Delivery) → told ≡ is_committed fate
+    → (fate ≡ Committed → queued ≡ length notes)
     → cond (told && here) (F (take queued notes)) [] ≡ cond (is_committed fate && here) (F notes) []
 given_by_fate Committed told here queued notes F e all =
     let whole : take queued notes ≡ notes = take_all queued notes (omega (arith, all refl)) in
     ap (λ b. cond (b && here) (F (take queued notes)) []) e ∙ ap (λ ns. cond (true && here) (F ns) []) whole
 given_by_fate Aborted told here queued notes F e all = ap (λ b. cond (b && here) (F (take queued notes)) []) e
 
-given_tx : (format : Format) (x at : ℕ) (tx : Tx) (db : ℕ) (channels : List (List ℕ)) (committed : ℕ → Bool) → QueuesAll tx → committed x ≡ is_committed tx.fate
+given_tx : (format : Format) (x at : ℕ) (tx : Tx) (db : ℕ) (channels : List (List ℕ)) (committed : ℕ → Bool) → QueuesAll tx
+    → committed x ≡ is_committed tx.fate
     → give_all db channels committed (tx_pieces format x at tx) ≡ delivered_by db channels x tx
-unfolding tx_pieces one_given
+unfolding tx_pieces
 given_tx format x at tx db channels committed queues told =
     let sender = sender_of x tx in
     let queued = take tx.queued tx.notes in
@@ -346,7 +351,8 @@ journal_is_cut = record {
 }
 
 -- numbers that are the same, and then others that rise and are no smaller
-rise_append : (x : ℕ) (pieces more : List Piece) → All (OfNumber x) pieces → All (λ piece. x ≤ number_of piece) more → IsNonDecreasingBy number_of more → IsNonDecreasingBy number_of (pieces ++ more)
+rise_append : (x : ℕ) (pieces more : List Piece) → All (OfNumber x) pieces → All (λ piece. x ≤ number_of piece) more
+    → IsNonDecreasingBy number_of more → IsNonDecreasingBy number_of (pieces ++ more)
 unfolding OfNumber
 rise_append x pieces more same above rise = λ i j d le lt.
     let n = length pieces in
@@ -397,14 +403,16 @@ sound_entry format sender note s h = record {
   content = (h, s.some_db);
 }
 
-sound_filler : (format : Format) (sender : Sender) (at : ℕ) → HasRoom format at → IsSender format sender → IsSound format (AFiller (bytes_left at) sender)
+sound_filler : (format : Format) (sender : Sender) (at : ℕ) → HasRoom format at → IsSender format sender
+    → IsSound format (AFiller (bytes_left at) sender)
 sound_filler format sender at room s = record {
   long = subst (IsEntryLength format) (sym (length-filler format (bytes_left at) sender.xid sender.pid (omega (arith, least_within format, room.least)))) (pages_hold.rest format at room);
   head = record { db_fits = omega arith; xid_fits = s.head.xid_fits; pid_fits = s.head.pid_fits };
   content = tt;
 }
 
-sound_note : (format : Format) (sender : Sender) (at : ℕ) (note : Note) → HasRoom format at → IsSender format sender → IsNote note → All (IsSound format) (note_pieces format sender at note)
+sound_note : (format : Format) (sender : Sender) (at : ℕ) (note : Note) → HasRoom format at → IsSender format sender → IsNote note
+    → All (IsSound format) (note_pieces format sender at note)
 unfolding note_pieces
 sound_note format sender at note room s h =
     let P = IsSound format in
@@ -416,13 +424,15 @@ sound_note format sender at note room s h =
       | false ↦ All-cons P filler (entry ∷ []) (sound_filler format sender at room s) alone
     ]
 
-sound_notes : (format : Format) (sender : Sender) (at : ℕ) (notes : List Note) → HasRoom format at → IsSender format sender → All IsNote notes → All (IsSound format) (notes_pieces format sender at notes)
+sound_notes : (format : Format) (sender : Sender) (at : ℕ) (notes : List Note) → HasRoom format at → IsSender format sender
+    → All IsNote notes → All (IsSound format) (notes_pieces format sender at notes)
 unfolding notes_pieces
 sound_notes format sender at [] room s h = All-nil (IsSound format)
 sound_notes format sender at (note ∷ notes) room s h = All-append (IsSound format) (note_pieces format sender at note) (notes_pieces format sender (put format at note) notes)
     (sound_note format sender at note room s (All-head IsNote note notes h)) (sound_notes format sender (put format at note) notes (room_put format at note room) s (All-tail IsNote note notes h))
 
-sound_end : (format : Format) (sender : Sender) (fate : Fate) (at : ℕ) → HasRoom format at → IsSender format sender → All (IsSound format) (end_pieces sender fate at)
+sound_end : (format : Format) (sender : Sender) (fate : Fate) (at : ℕ) → HasRoom format at → IsSender format sender
+    → All (IsSound format) (end_pieces sender fate at)
 unfolding end_pieces
 sound_end format sender Committed at room s = All-nil (IsSound format)
 sound_end format sender Aborted at room s =
@@ -430,7 +440,8 @@ sound_end format sender Aborted at room s =
     let filler = AFiller (bytes_left at) sender in
     elim (is_page_start at) as (λ b. All P (cond b [] (filler ∷ []))) [ true ↦ All-nil P | false ↦ All-cons P filler [] (sound_filler format sender at room s) (All-nil P) ]
 
-sound_tx : (format : Format) (x at : ℕ) (tx : Tx) → HasRoom format at → IsWritten tx → x < 2 ^ xid_bits format → All (IsSound format) (tx_pieces format x at tx)
+sound_tx : (format : Format) (x at : ℕ) (tx : Tx) → HasRoom format at → IsWritten tx → x < 2 ^ xid_bits format
+    → All (IsSound format) (tx_pieces format x at tx)
 unfolding tx_pieces
 sound_tx format x at tx room written small =
     let sender = sender_of x tx in
@@ -511,14 +522,16 @@ cell_of n small = ap (λ k. Some (Some k)) (from_le_bytes-to_le_bytes_4 n small)
 small_length : (format : Format) (piece : Piece) → IsSound format piece → piece_length format piece < 2 ^ 32
 small_length format piece sound = omega (arith, stated format piece sound, sound.long.fits)
 
-first_cell : (format : Format) (piece : Piece) → IsSound format piece → slice_get (filled_cells (piece_bytes format piece)) 0 ≡ Some (Some (piece_length format piece))
+first_cell : (format : Format) (piece : Piece) → IsSound format piece
+    → slice_get (filled_cells (piece_bytes format piece)) 0 ≡ Some (Some (piece_length format piece))
 unfolding filled_cells spelled filler header
 first_cell One (AnEntry note sender) sound = cell_of (entry_length One note) (small_length One (AnEntry note sender) sound)
 first_cell Two (AnEntry note sender) sound = cell_of (entry_length Two note) (small_length Two (AnEntry note sender) sound)
 first_cell One (AFiller len sender) sound = cell_of len (small_length One (AFiller len sender) sound)
 first_cell Two (AFiller len sender) sound = cell_of len (small_length Two (AFiller len sender) sound)
 
-second_cell : (format : Format) (piece : Piece) → IsSound format piece → slice_get (filled_cells (piece_bytes format piece)) 1 ≡ Some (Some (db_of piece))
+second_cell : (format : Format) (piece : Piece) → IsSound format piece
+    → slice_get (filled_cells (piece_bytes format piece)) 1 ≡ Some (Some (db_of piece))
 unfolding filled_cells spelled filler header
 second_cell One (AnEntry note sender) sound = cell_of sender.db sound.head.db_fits
 second_cell Two (AnEntry note sender) sound = cell_of sender.db sound.head.db_fits

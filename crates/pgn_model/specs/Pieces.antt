@@ -49,12 +49,16 @@ pid_of (AFiller len sender) = sender.pid
 -- the cells from a place on of pieces, one after another. A filler is laid as an entry is
 unfoldable pub lay : Format → ℕ → List Piece → List (Option ℕ)
 lay format at [] = []
-lay format at (piece ∷ pieces) = entry_cells format at (piece_bytes format piece) ++ lay format (at + length (entry_cells format at (piece_bytes format piece))) pieces
+lay format at (piece ∷ pieces) =
+    let cells = entry_cells format at (piece_bytes format piece) in
+    cells ++ lay format (at + length cells) pieces
 
 -- the pieces from a place on of a notification: its entry, where that fits on the rest of the page; otherwise a filler, and then
 -- its entry
 unfoldable pub note_pieces : Format → Sender → ℕ → Note → List Piece
-note_pieces format sender at note = cond (fits at (entry_length format note)) (AnEntry note sender ∷ []) (AFiller (bytes_left at) sender ∷ AnEntry note sender ∷ [])
+note_pieces format sender at note =
+    let entry = AnEntry note sender in
+    cond (fits at (entry_length format note)) (entry ∷ []) (AFiller (bytes_left at) sender ∷ entry ∷ [])
 
 -- the pieces from a place on of notifications, one after another
 unfoldable pub notes_pieces : Format → Sender → ℕ → List Note → List Piece
@@ -78,11 +82,15 @@ unfoldable pub pieces_from : Format → ℕ → ℕ → List Tx → List Piece
 pieces_from format x at [] = []
 pieces_from format x at (tx ∷ txs) = tx_pieces format x at tx ++ pieces_from format (x + 1) (after format at tx) txs
 
+-- a notification of a sender as it is received
+abbrev pub delivery_of : Sender → Note → Delivery
+delivery_of sender note = record { xid = sender.xid; pid = sender.pid; note = note }
+
 -- what a piece gives to a reader in this database that listens on these channels, where it is told which numbers committed: its
 -- notification, if it is an entry of a committed transaction of that database on one of those channels
 abbrev pub gives : ℕ → List (List ℕ) → (ℕ → Bool) → Piece → List Delivery
 gives db channels committed (AFiller len sender) = []
-gives db channels committed (AnEntry note sender) = cond (committed sender.xid && sender.db == db) (cond (listens channels note) (record { xid = sender.xid; pid = sender.pid; note = note } ∷ []) []) []
+gives db channels committed (AnEntry note sender) = cond (committed sender.xid && sender.db == db) (cond (listens channels note) (delivery_of sender note ∷ []) []) []
 
 -- what pieces give, one after another
 abbrev pub give_all : ℕ → List (List ℕ) → (ℕ → Bool) → List Piece → List Delivery

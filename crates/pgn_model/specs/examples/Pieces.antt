@@ -20,7 +20,11 @@ self_notify_pieces = AnEntry hello (by 1 3 1001) ∷ []
 
 -- the pieces of three notifications, of which the third doesn't fit on the rest of the page
 abbrev pub filler_pieces : List Piece
-filler_pieces = AnEntry (letters (byte "x") 7999) (by 1 3 1002) ∷ AnEntry (letters (byte "x") 133) (by 1 3 1002) ∷ AFiller 20 (by 1 3 1002) ∷ AnEntry (letters (byte "x") 5) (by 1 3 1002) ∷ []
+filler_pieces = AnEntry (letters (byte "x") 7999) (by 1 3 1002)
+    ∷ AnEntry (letters (byte "x") 133) (by 1 3 1002)
+    ∷ AFiller 20 (by 1 3 1002)
+    ∷ AnEntry (letters (byte "x") 5) (by 1 3 1002)
+    ∷ []
 
 -- the pieces of a transaction at the beginning of a page, which was aborted after one of its notifications was queued
 abbrev pub aborted_pieces : List Piece

@@ -19,15 +19,18 @@ use Rattle.pgn_model.specs.Pieces.{Piece, piece_bytes, piece_length, db_of, numb
 
 -- pieces lie one after another
 abbrev pub PiecesInTurn : Type 0
-PiecesInTurn = (format : Format) (at : ℕ) (pieces more : List Piece) → lay format at (pieces ++ more) ≡ lay format at pieces ++ lay format (at + length (lay format at pieces)) more
+PiecesInTurn = (format : Format) (at : ℕ) (pieces more : List Piece)
+    → lay format at (pieces ++ more) ≡ lay format at pieces ++ lay format (at + length (lay format at pieces)) more
 
 -- the cells of transactions are their pieces, laid one after another
 abbrev pub ImageIsLaid : Type 0
-ImageIsLaid = (format : Format) (x at : ℕ) (txs : List Tx) → HasRoom format at → image_from format x at txs ≡ lay format at (pieces_from format x at txs)
+ImageIsLaid = (format : Format) (x at : ℕ) (txs : List Tx) → HasRoom format at
+    → image_from format x at txs ≡ lay format at (pieces_from format x at txs)
 
 -- the place after the cells of transactions, by arithmetic alone
 abbrev pub TransactionsArePacked : Type 0
-TransactionsArePacked = (format : Format) (x at : ℕ) (txs : List Tx) → HasRoom format at → at + length (image_from format x at txs) ≡ fold (after format) at txs
+TransactionsArePacked = (format : Format) (x at : ℕ) (txs : List Tx) → HasRoom format at
+    → at + length (image_from format x at txs) ≡ fold (after format) at txs
 
 -- the pieces of two lists of transactions are those of the one and then those of the other
 abbrev pub PiecesSplit : Type 0
@@ -36,22 +39,26 @@ PiecesSplit = (format : Format) (x at : ℕ) (txs more : List Tx)
 
 -- the cells from the place of a transaction on are those of the rest of the journal
 abbrev pub ImageDrops : Type 0
-ImageDrops = (format : Format) (journal : List Tx) (m : ℕ) → FIRST_XID ≤ m → drop (place format journal m) (image format journal) ≡ image_from format m (place format journal m) (drop (m - FIRST_XID) journal)
+ImageDrops = (format : Format) (journal : List Tx) (m : ℕ) → FIRST_XID ≤ m
+    → drop (place format journal m) (image format journal) ≡ image_from format m (place format journal m) (drop (m - FIRST_XID) journal)
 
 -- from the place of a transaction on lie the pieces of those up to another, with their numbers, and then those of the rest
 pub record JournalIsCut : Type 0 where
   pub cells : (format : Format) (journal : List Tx) (m n : ℕ) → FIRST_XID ≤ m → m ≤ n → n ≤ next_xid journal
       → let here = place format journal m in
       let there = place format journal n in
-      drop here (image format journal) ≡ lay format here (pieces_from format m here (entries_between journal m n) ++ pieces_from format n there (drop (n - FIRST_XID) journal))
+      drop here (image format journal)
+      ≡ lay format here (pieces_from format m here (entries_between journal m n) ++ pieces_from format n there (drop (n - FIRST_XID) journal))
   pub ends : (format : Format) (journal : List Tx) (m n : ℕ) → FIRST_XID ≤ m → m ≤ n → n ≤ next_xid journal
       → let here = place format journal m in
       here + length (lay format here (pieces_from format m here (entries_between journal m n))) ≡ place format journal n
-  pub numbers : (format : Format) (journal : List Tx) (m n at : ℕ) → FIRST_XID ≤ m → m ≤ n → n ≤ next_xid journal → All (IsNumbered m n) (pieces_from format m at (entries_between journal m n))
+  pub numbers : (format : Format) (journal : List Tx) (m n at : ℕ) → FIRST_XID ≤ m → m ≤ n → n ≤ next_xid journal
+      → All (IsNumbered m n) (pieces_from format m at (entries_between journal m n))
 
 -- what the pieces of transactions give is what the transactions give
 abbrev pub PiecesGiveDue : Type 0
-PiecesGiveDue = (format : Format) (x at : ℕ) (txs : List Tx) (db : ℕ) (channels : List (List ℕ)) (committed : ℕ → Bool) → All QueuesAll txs → TellsFates committed x txs
+PiecesGiveDue = (format : Format) (x at : ℕ) (txs : List Tx) (db : ℕ) (channels : List (List ℕ)) (committed : ℕ → Bool) → All QueuesAll txs
+    → TellsFates committed x txs
     → give_all db channels committed (pieces_from format x at txs) ≡ due_from db channels x txs
 
 -- what the pieces of a journal's transactions from the mark m up to n give is what is due from m up to n
@@ -77,13 +84,16 @@ NumbersRise = (format : Format) (x at : ℕ) (txs : List Tx) → IsNonDecreasing
 
 -- the pieces of written transactions are read back
 abbrev pub PiecesAreSound : Type 0
-PiecesAreSound = (format : Format) (x at : ℕ) (txs : List Tx) → HasRoom format at → All IsWritten txs → x + length txs ≤ 2 ^ xid_bits format → All (IsSound format) (pieces_from format x at txs)
+PiecesAreSound = (format : Format) (x at : ℕ) (txs : List Tx) → HasRoom format at → All IsWritten txs → x + length txs ≤ 2 ^ xid_bits format
+    → All (IsSound format) (pieces_from format x at txs)
 
 -- the arithmetic gives the place after a piece; after one that is read back it is a later one, where the next can begin
 pub record PieceAdvances : Type 0 where
-  pub place : (format : Format) (at : ℕ) (piece : Piece) → at + length (entry_cells format at (piece_bytes format piece)) ≡ after_bytes format at (length (piece_bytes format piece))
+  pub place : (format : Format) (at : ℕ) (piece : Piece)
+      → at + length (entry_cells format at (piece_bytes format piece)) ≡ after_bytes format at (length (piece_bytes format piece))
   pub further : (format : Format) (at : ℕ) (piece : Piece) → IsSound format piece → at < after_bytes format at (length (piece_bytes format piece))
-  pub room : (format : Format) (at : ℕ) (piece : Piece) → HasRoom format at → IsSound format piece → HasRoom format (after_bytes format at (length (piece_bytes format piece)))
+  pub room : (format : Format) (at : ℕ) (piece : Piece) → HasRoom format at → IsSound format piece
+      → HasRoom format (after_bytes format at (length (piece_bytes format piece)))
 
 -- a piece that is read back has as many bytes as it states, and all of them are bytes
 pub record PieceHasBytes : Type 0 where
@@ -93,13 +103,16 @@ pub record PieceHasBytes : Type 0 where
 
 -- bytes that begin with a piece begin with no other one
 abbrev pub PieceReadsBack : Type 0
-PieceReadsBack = (format : Format) (piece other : Piece) (rest rest' : List ℕ) → IsSound format piece → IsSound format other → piece_bytes format piece ++ rest ≡ piece_bytes format other ++ rest'
+PieceReadsBack = (format : Format) (piece other : Piece) (rest rest' : List ℕ) → IsSound format piece → IsSound format other
+    → piece_bytes format piece ++ rest ≡ piece_bytes format other ++ rest'
     → IsSamePiece piece other × (rest ≡ rest')
 
 -- the first two cells of a piece hold its length and its database
 pub record FirstCells : Type 0 where
-  pub first : (format : Format) (piece : Piece) → IsSound format piece → slice_get (filled_cells (piece_bytes format piece)) 0 ≡ Some (Some (length (piece_bytes format piece)))
-  pub second : (format : Format) (piece : Piece) → IsSound format piece → slice_get (filled_cells (piece_bytes format piece)) 1 ≡ Some (Some (db_of piece))
+  pub first : (format : Format) (piece : Piece) → IsSound format piece
+      → slice_get (filled_cells (piece_bytes format piece)) 0 ≡ Some (Some (length (piece_bytes format piece)))
+  pub second : (format : Format) (piece : Piece) → IsSound format piece
+      → slice_get (filled_cells (piece_bytes format piece)) 1 ≡ Some (Some (db_of piece))
 
 -- the next two hold its transaction's number and its process number in format One
 pub record NextCells : Type 0 where
@@ -108,12 +121,14 @@ pub record NextCells : Type 0 where
 
 -- numbers that stand in the cells of bytes give the bytes back
 abbrev pub NumbersGiveBytes : Type 0
-NumbersGiveBytes = (bytes numbers : List ℕ) → length bytes % cell_bytes ≡ 0 → All (λ byte. byte < 256) bytes → length numbers ≡ cells_in (length bytes)
+NumbersGiveBytes = (bytes numbers : List ℕ) → length bytes % cell_bytes ≡ 0 → All (λ byte. byte < 256) bytes
+    → length numbers ≡ cells_in (length bytes)
     → ((k n : ℕ) → slice_get (filled_cells bytes) k ≡ Some (Some n) → slice_index numbers k ≡ n) → flat_map four_bytes numbers ≡ bytes
 
 -- a cell of bytes holds the number that its four bytes spell
 abbrev pub CellsHoldNumbers : Type 0
-CellsHoldNumbers = (bytes : List ℕ) (k : ℕ) → k < cells_in (length bytes) → slice_get (filled_cells bytes) k ≡ Some (Some (from_le_bytes w32 (drop (cell_bytes * k) bytes)))
+CellsHoldNumbers = (bytes : List ℕ) (k : ℕ) → k < cells_in (length bytes)
+    → slice_get (filled_cells bytes) k ≡ Some (Some (from_le_bytes w32 (drop (cell_bytes * k) bytes)))
 
 -- a finished transaction of a session and a database in range is written
 abbrev pub FinishedAreWritten : Type 0
@@ -143,21 +158,25 @@ pub record FinishedAreDrafts : Type 0 where
 
 -- and a draft that has queued as many notifications as its end says is a finished transaction
 abbrev pub DraftsFinish : Type 0
-DraftsFinish = (session db : ℕ) (notes : List Note) (queued : ℕ) (fate : Fate) → notes ≢ [] → AllPairs (λ a b. a ≢ b) notes → All IsNote notes → IsQueued fate queued (length notes)
+DraftsFinish = (session db : ℕ) (notes : List Note) (queued : ℕ) (fate : Fate) → notes ≢ [] → AllPairs (λ a b. a ≢ b) notes
+    → All IsNote notes → IsQueued fate queued (length notes)
     → IsFinished (draft session db notes queued fate)
 
 -- a draft of notifications that can be sent is written
 abbrev pub DraftsAreWritten : Type 0
-DraftsAreWritten = (session db : ℕ) (notes : List Note) (queued : ℕ) (fate : Fate) → All IsNote notes → 0 < db → db < 2 ^ 32 → session ≤ SECTIONS_MAX → IsWritten (draft session db notes queued fate)
+DraftsAreWritten = (session db : ℕ) (notes : List Note) (queued : ℕ) (fate : Fate) → All IsNote notes → 0 < db → db < 2 ^ 32
+    → session ≤ SECTIONS_MAX → IsWritten (draft session db notes queued fate)
 
 -- a longer journal changes no place, no cell, no transaction and nothing of what is due before its new part
 pub record LongerAgrees : Type 0 where
   pub places : (format : Format) (xs ys : List Tx) (x : ℕ) → Begins xs ys → x ≤ next_xid xs → place format ys x ≡ place format xs x
   pub images : (format : Format) (xs ys : List Tx) → Begins xs ys → Begins (image format xs) (image format ys)
   pub entries : (xs ys : List Tx) (m n : ℕ) → Begins xs ys → n ≤ next_xid xs → entries_between ys m n ≡ entries_between xs m n
-  pub dues : (xs ys : List Tx) (m n db : ℕ) (channels : List (List ℕ)) → Begins xs ys → n ≤ next_xid xs → due ys m n db channels ≡ due xs m n db channels
+  pub dues : (xs ys : List Tx) (m n db : ℕ) (channels : List (List ℕ)) → Begins xs ys → n ≤ next_xid xs
+      → due ys m n db channels ≡ due xs m n db channels
 
 -- the numbers of a session in a journal that goes on: those that it had, and then those of the new part
 pub record XidsGoOn : Type 0 where
   pub more : (session : ℕ) (xs ys : List Tx) → xids_of session (xs ++ ys) ≡ xids_of session xs ++ xids_from session (next_xid xs) ys
-  pub one : (session : ℕ) (journal : List Tx) (tx : Tx) → xids_of session (journal ++ tx ∷ []) ≡ xids_of session journal ++ cond (tx.session == session) (next_xid journal ∷ []) []
+  pub one : (session : ℕ) (journal : List Tx) (tx : Tx)
+      → xids_of session (journal ++ tx ∷ []) ≡ xids_of session journal ++ cond (tx.session == session) (next_xid journal ∷ []) []
