@@ -39,7 +39,8 @@ pub record Heads (format : Format) (len len' db db' xid xid' pid pid' : ℕ) : T
   pub pids : four_bytes pid ≡ four_bytes pid'
 
 -- the numbers of equal heads have the same bytes
-headers : (format : Format) (len len' db db' xid xid' pid pid' : ℕ) → header format len db xid pid ≡ header format len' db' xid' pid' → Heads format len len' db db' xid xid' pid pid'
+headers : (format : Format) (len len' db db' xid xid' pid pid' : ℕ) → header format len db xid pid ≡ header format len' db' xid' pid'
+    → Heads format len len' db db' xid xid' pid pid'
 unfolding header
 headers One len len' db db' xid xid' pid pid' h =
     let a = same_fronts (four_bytes len ++ four_bytes db ++ four_bytes xid) (four_bytes len' ++ four_bytes db' ++ four_bytes xid') (four_bytes pid) (four_bytes pid') refl h in
@@ -139,7 +140,8 @@ none_begins format a b db db' xid xid' pid pid' rest ha hb fits fits' h =
     (reads_back format a b db db' xid xid' pid pid' rest [] ha hb fits fits' (h ∙ sym (append-nil (spelled format b db' xid' pid')))).same_rest
 
 -- a filler, and bytes after it, from the left
-split_filler : (format : Format) (len xid pid : ℕ) (rest : List ℕ) → filler format len xid pid ++ rest ≡ header format len 0 xid pid ++ (replicate (len - header_bytes format) 0 ++ rest)
+split_filler : (format : Format) (len xid pid : ℕ) (rest : List ℕ)
+    → filler format len xid pid ++ rest ≡ header format len 0 xid pid ++ (replicate (len - header_bytes format) 0 ++ rest)
 unfolding filler
 split_filler format len xid pid rest = rw (length-header format len 0 xid pid) (append_assoc (header format len 0 xid pid) (replicate (len - header_bytes format) 0) rest)
 

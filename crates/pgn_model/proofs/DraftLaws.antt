@@ -18,8 +18,8 @@ use Rattle.pgn_model.proofs.DueLaws.{due-grows}
 use Rattle.pgn_model.proofs.PackingLemmas.{packed_notes, packed_tx, images_agree, places_agree, room_of_image}
 
 pub finished_are_written : FinishedAreWritten
-finished_are_written tx finished notes some small session = record {
-  queued_notes = All-take IsNote tx.queued tx.notes notes;
+finished_are_written tx finished some small session = record {
+  queued_notes = All-take IsNote tx.queued tx.notes finished.valid;
   some_db = some;
   db_fits = small;
   session_fits = session;
@@ -90,7 +90,7 @@ finished_are_drafts = record {
 }
 
 pub drafts_finish : DraftsFinish
-drafts_finish session db notes queued fate some different sent queueing = record { some = some; different = different; queueing = queueing }
+drafts_finish session db notes queued fate some different sent queueing = record { some = some; valid = sent; different = different; queueing = queueing }
 
 pub longer_agrees : LongerAgrees
 longer_agrees = record {

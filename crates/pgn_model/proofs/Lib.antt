@@ -4,6 +4,7 @@ pub mod WalkLaws
 pub mod BytesLemmas
 pub mod PackingLemmas
 pub mod PackingSteps
+pub mod PlainNotes
 pub mod NearLaws
 pub mod PieceLaws
 pub mod DraftLaws
@@ -14,6 +15,7 @@ pub mod SavepointLemmas
 pub mod GrammarLaws
 pub mod TokenLaws
 pub mod LineLaws
+pub mod TextLines
 pub mod InputLaws
 pub mod SoundLaws
 pub mod SlotLaws

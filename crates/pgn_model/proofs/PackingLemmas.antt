@@ -15,10 +15,10 @@ use Rattle.pgn_base.specs.declared.note.Note.{Note}
 use Rattle.pgn_model.specs.declared.tx.Tx.{Tx}
 use Rattle.pgn_model.specs.declared.tx.Fate.{Fate}
 use Rattle.pgn_model.specs.declared.tx.Fate.TheVariants.{Committed, Aborted}
-use Rattle.pgn_model.specs.Journal.{entry, IsQueued}
+use Rattle.pgn_model.specs.Journal.{entry, IsQueued, IsFinished}
 use Rattle.pgn_model.specs.Bytes.{header_bytes, alignment, least_bytes, four_bytes, entry_length, spelled, filler, IsNote}
 use Rattle.pgn_model.specs.Packing.{cells_in, bytes_in, fits, has_room, next_page, is_page_start, bytes_left, cells_left, filled_cells, page_rest, entry_cells, filler_cells, note_cells, notes_cells, end_cells, tx_cells, image_from, image, place, Sender, sender_of, after_rest, after_bytes, put_bytes, put, put_all, ended, after, HasRoom, bytes_of}
-use Rattle.pgn_model.specs.laws.Packing.{CellsGiveBytes, NoteMoves, PlaceRises, IsSent, PlaceBound, PlaceFolds, PutTakes, PagesHold, NotesInTurn, FirstPlace, NextPlace, LastPlace, IsPacked, LeavesRoom, PlaceGrows, AbortedEnds, PlacesAgree, ImagesAgree, CellsOfEach, CellsApart}
+use Rattle.pgn_model.specs.laws.Packing.{CellsGiveBytes, NoteMoves, PlaceRises, PlaceBound, PlaceFolds, PutTakes, PagesHold, NotesInTurn, FirstPlace, NextPlace, LastPlace, IsPacked, LeavesRoom, PlaceGrows, AbortedEnds, PlacesAgree, ImagesAgree, CellsOfEach, CellsApart}
 use Rattle.pgn_model.proofs.BytesLemmas.{length-spelled, length-filler, entry_lengths, are_bytes}
 
 -- one cell for each four bytes
@@ -43,18 +43,18 @@ pub least_within : (format : Format) → (header_bytes format ≤ least_bytes fo
 least_within One = (omega arith, omega arith, omega arith)
 least_within Two = (omega arith, omega arith, omega arith)
 
--- what is counted by the alignment is counted by four bytes
+-- a multiple of the alignment is one of four
 pub whole_cells : (format : Format) (len : ℕ) → len % alignment format ≡ 0 → len % 4 ≡ 0
 whole_cells One len h = omega (arith, h)
 whole_cells Two len h = omega (arith, h)
 
--- an entry's length is counted by the alignment, and takes some cells
+-- an entry's length is a multiple of the alignment, and takes some cells
 entry_whole : (format : Format) (note : Note) → (entry_length format note % alignment format ≡ 0) × (4 ≤ entry_length format note)
 unfolding entry_length
 entry_whole One note = (omega arith, omega arith)
 entry_whole Two note = (omega arith, omega arith)
 
--- an offset stays a multiple of the alignment
+-- an offset that is a multiple of the alignment stays one
 whole_after : (format : Format) (at bytes : ℕ) → bytes_in at % alignment format ≡ 0 → bytes % alignment format ≡ 0 → bytes_in (at + cells_in bytes) % alignment format ≡ 0
 whole_after One at bytes h k = omega (arith, h, k)
 whole_after Two at bytes h k = omega (arith, h, k)
@@ -89,7 +89,8 @@ pub room_after_bytes : (format : Format) (at bytes : ℕ) → HasRoom format at 
 unfolding after_bytes
 room_after_bytes format at bytes room whole = room_after_rest format (at + cells_in bytes) (whole_after format at bytes room.whole whole)
 
-pub packed_bytes : (format : Format) (note : Note) (db xid pid at : ℕ) → at + length (entry_cells format at (spelled format note db xid pid)) ≡ after_bytes format at (entry_length format note)
+pub packed_bytes : (format : Format) (note : Note) (db xid pid at : ℕ)
+    → at + length (entry_cells format at (spelled format note db xid pid)) ≡ after_bytes format at (entry_length format note)
 unfolding entry_cells after_bytes
 packed_bytes format note db xid pid at =
     let bytes = spelled format note db xid pid in
@@ -164,7 +165,8 @@ unfolding after
 room_after format at tx room = room_ended format tx.fate (put_all format at (take tx.queued tx.notes)) (room_put_all format at (take tx.queued tx.notes) room)
 
 -- the cells of transactions one list after the other
-pub image_from-append : (format : Format) (x at : ℕ) (xs ys : List Tx) → image_from format x at (xs ++ ys) ≡ image_from format x at xs ++ image_from format (x + length xs) (at + length (image_from format x at xs)) ys
+pub image_from-append : (format : Format) (x at : ℕ) (xs ys : List Tx)
+    → image_from format x at (xs ++ ys) ≡ image_from format x at xs ++ image_from format (x + length xs) (at + length (image_from format x at xs)) ys
 unfolding image_from
 image_from-append format x at [] ys = ap (λ n. image_from format n at ys) (sym (add-zero x)) ∙ ap (λ n. image_from format (x + 0) n ys) (sym (add-zero at))
 image_from-append format x at (tx ∷ xs) ys =
@@ -399,18 +401,18 @@ unfolding ended
 ended_within Committed at queued count h = omega arith
 ended_within Aborted at queued count h = let end : cond (is_page_start at) at (next_page at) ≤ at + 2048 = ended_bound Aborted at in omega (arith, end, h)
 
-after_bound : (format : Format) (at : ℕ) (tx : Tx) → IsSent tx → after format at tx ≤ at + 4096 * length tx.notes
+after_bound : (format : Format) (at : ℕ) (tx : Tx) → IsFinished tx → after format at tx ≤ at + 4096 * length tx.notes
 unfolding after
 after_bound format at tx h =
-    let notes = put_all_bound format at (take tx.queued tx.notes) (All-take IsNote tx.queued tx.notes h.are_notes) in
+    let notes = put_all_bound format at (take tx.queued tx.notes) (All-take IsNote tx.queued tx.notes h.valid) in
     let end = ended_within tx.fate (put_all format at (take tx.queued tx.notes)) tx.queued (length tx.notes) h.queueing in
     omega (arith, notes, end, length-take tx.queued tx.notes)
 
-fold_bound : (format : Format) (at : ℕ) (txs : List Tx) → All IsSent txs → fold (after format) at txs ≤ at + 4096 * sum_by (λ tx. length tx.notes) txs
+fold_bound : (format : Format) (at : ℕ) (txs : List Tx) → All IsFinished txs → fold (after format) at txs ≤ at + 4096 * sum_by (λ tx. length tx.notes) txs
 fold_bound format at [] h = omega arith
 fold_bound format at (tx ∷ txs) h =
     let count : Tx → ℕ = λ t. length t.notes in
-    omega (arith, sum_by-cons count tx txs, after_bound format at tx (All-head IsSent tx txs h), fold_bound format (after format at tx) txs (All-tail IsSent tx txs h))
+    omega (arith, sum_by-cons count tx txs, after_bound format at tx (All-head IsFinished tx txs h), fold_bound format (after format at tx) txs (All-tail IsFinished tx txs h))
 
 pub place_bound : PlaceBound
 place_bound format journal x h =

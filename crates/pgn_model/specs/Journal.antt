@@ -1,9 +1,10 @@
 -- The journal: the list of finished transactions. It grows at its end, and entry k, from 0, has the number 3 + k.
-use Rattle.std.specs.Prelude.{◌≡◌, ◌≢◌, ℕ, ◌+◌, ◌-◌, ◌<◌, ◌&&◌, ◌==◌, Bool, true, false, cond, List, [], ◌∷◌, length, take, drop, Option, slice_get, AllPairs}
+use Rattle.std.specs.Prelude.{◌≡◌, ◌≢◌, ℕ, ◌+◌, ◌-◌, ◌<◌, ◌&&◌, ◌==◌, Bool, true, false, cond, List, [], ◌∷◌, length, take, drop, Option, slice_get, All, AllPairs}
 use Rattle.pgn_base.specs.declared.limits.TheConstants.{FIRST_XID}
 use Rattle.pgn_model.specs.declared.tx.Tx.{Tx}
 use Rattle.pgn_model.specs.declared.tx.Fate.{Fate}
 use Rattle.pgn_model.specs.declared.tx.Fate.TheVariants.{Committed, Aborted}
+use Rattle.pgn_model.specs.Bytes.{IsNote}
 
 -- the number that the next transaction draws: one past the last of the journal
 abbrev pub next_xid : List Tx → ℕ
@@ -31,9 +32,11 @@ abbrev pub IsQueued : Fate → ℕ → ℕ → Type 0
 IsQueued Committed queued count = queued ≡ count
 IsQueued Aborted queued count = queued < count
 
--- what holds of each finished transaction: it has notifications, all different, and queued as many as its end says
+-- what holds of each finished transaction: it has notifications, each can be sent, and all are different; all were queued where it
+-- committed, fewer where it was aborted
 pub record IsFinished (tx : Tx) : Type 0 where
   pub some : tx.notes ≢ []
+  pub valid : All IsNote tx.notes
   pub different : AllPairs (λ a b. a ≢ b) tx.notes
   pub queueing : IsQueued tx.fate tx.queued (length tx.notes)
 

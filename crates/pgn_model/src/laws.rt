@@ -5,6 +5,7 @@ ghost use Rattle.pgn_model.specs.laws.Grammar.{BeginsComputes, PrefixBegins, Wro
 ghost use Rattle.pgn_model.specs.laws.Commands.{ReadingsAreValid};
 ghost use Rattle.pgn_model.specs.laws.Tokens.{QuotesTell, TokensStand, TokensCover, OneCover, CutIsLongest, CutIsName};
 ghost use Rattle.pgn_model.specs.laws.Inputs.{LinesAreCut, TextsAreTrimmed, PartsAreCut, BlankReadsEmpty, CommandsHaveOneLine, InputReadingComputes, OneInputReading, ReadingsAreSound};
+ghost use Rattle.pgn_model.specs.laws.Text.{TextHasLines};
 ghost use Rattle.pgn_model.specs.laws.Due.{DueSplits, DueGrows};
 ghost use Rattle.pgn_model.specs.laws.Near.{NearShrinks, NearItself, NearGrows};
 ghost use Rattle.pgn_model.specs.laws.Pieces.{PiecesInTurn, ImageIsLaid, TransactionsArePacked, PiecesSplit, ImageDrops, JournalIsCut, PiecesGiveDue, PiecesGiveAllDue, FinishedQueueAll, JournalTellsFates, PiecesAreNumbered, NumbersRise, PiecesAreSound, PieceAdvances, PieceHasBytes, PieceReadsBack, FirstCells, NextCells, NumbersGiveBytes, CellsHoldNumbers, FinishedAreWritten, OneMoreImage, DraftAtPageStart, FinishedAreDrafts, DraftsFinish, DraftsAreWritten, LongerAgrees, XidsGoOn};
@@ -98,7 +99,7 @@ pub fn packing()
     ensures is_packed { IsPacked }
     // Where a transaction begins is counted by the arithmetic alone.
     ensures place_folds { PlaceFolds }
-    // The shortest entry always fits on the page where the next one begins.
+    // The next entry may always begin where one ends: at a multiple of the alignment, and the shortest fits on the page.
     ensures leaves_room { LeavesRoom }
     // A notification takes some cells, and at most those of two pages.
     ensures put_takes { PutTakes }
@@ -310,7 +311,7 @@ pub fn only_empty_is_silent()
     ensures { OnlyEmptyIsSilent }
 {}
 
-/// Outside a block each of LISTEN, UNLISTEN, NOTIFY and pg_notify is a transaction that commits; a block commits at COMMIT.
+/// LISTEN, UNLISTEN, NOTIFY and pg_notify outside a block commit, and COMMIT in a block that has not failed; nothing else does.
 #[tactic(auto, using(crate::proofs::AnswerLemmas::answer_laws))]
 pub fn what_commits()
     ensures { WhatCommits }
@@ -380,4 +381,10 @@ pub fn inputs()
     ensures commands_have_one_line { CommandsHaveOneLine }
     // Only sound scenarios are read.
     ensures readings_are_sound { ReadingsAreSound }
+{}
+
+/// The output as lines.
+pub fn text()
+    // Cut at each LF, the output of a sound scenario gives its lines, where no LF stands in a name or notification that it shows.
+    ensures has_lines { TextHasLines }
 {}

@@ -1,12 +1,15 @@
 -- A line reads as a command where its words do.
-use Rattle.std.proofs.Common.{◌≡◌, ℕ, ◌<◌, ◌⊎◌, true, List, ◌++◌, get_or, codes, IsAscii, sym, ap, ◌∙◌, refl, subst, inl, inr, arith}
+use Rattle.std.proofs.Common.{◌≡◌, ℕ, zero, suc, ◌<◌, ◌⊎◌, Bool, true, false, List, [], ◌∷◌, ◌++◌, get_or, codes, IsAscii, sym, ap, ◌∙◌, refl, subst, inl, inr, arith}
 use Rattle.std.specs.List.{list_all}
+use Rattle.std.specs.Prelude.{Contains}
+use Rattle.std.proofs.lemmas.Bool.{and_parts, false≢true}
 use Rattle.std.proofs.lemmas.Bool.Decides.{nat_tests}
 use Rattle.std.proofs.lemmas.List.{append_cancel_left}
-use Rattle.std.proofs.lemmas.Str.{IsAscii-append}
+use Rattle.std.proofs.lemmas.Str.{IsAscii-append, IsUtf8-from_ascii}
 use Rattle.pgn_base.specs.declared.note.Note.{Note}
 use Rattle.pgn_model.specs.declared.command.Command.{Command}
 use Rattle.pgn_model.specs.declared.command.Command.TheVariants.{Empty, Begin, Start, Commit, Rollback, Savepoint, RollbackTo, Release, Listen, Unlisten, UnlistenAll, Notify, PgNotify, ListeningChannels, QueueUsage, Invalid, Bad}
+use Rattle.pgn_model.specs.Bytes.{IsNote}
 use Rattle.pgn_run.specs.Reading.{IsWord, IsPlain, IsSectionName, IsListenLine, IsNotifyLine, ReadsAsCommand, IsCommandLine, is_word_byte, is_plain_byte, is_name_byte, is_between}
 use Rattle.pgn_run.specs.Spelling.{IsQuoted}
 use Rattle.pgn_run.proofs.SpellingLaws.{quoted_once, list_all-weaker, lacks-from_test, IsAscii-from_test}
@@ -33,6 +36,24 @@ word_ascii word h = IsAscii-from_test is_word_byte word_byte_ascii word h.word
 
 plain_ascii : (payload : List ℕ) → IsPlain payload → IsAscii payload
 plain_ascii payload h = IsAscii-from_test is_plain_byte plain_byte_ascii payload h.plain
+
+-- bytes that all pass a test that zero doesn't
+no_zero : (p : ℕ → Bool) (xs : List ℕ) → p 0 ≡ false → list_all p xs ≡ true → Contains xs 0 → ⊥
+no_zero p [] out h (k, within, is) = absurd (omega (arith, within))
+no_zero p (x ∷ xs) out h (zero, within, is) = let parts = and_parts (p x) (list_all p xs) h in false≢true (sym out ∙ ap p (sym is) ∙ parts.0)
+no_zero p (x ∷ xs) out h (suc k, within, is) = let parts = and_parts (p x) (list_all p xs) h in no_zero p xs out parts.1 (k, omega (arith, within), is)
+
+-- the notification of a line can be sent
+pub notify_valid : (line : List ℕ) (note : Note) → IsNotifyLine line note → IsNote note
+notify_valid line note h = record {
+  name = record {
+    text = IsUtf8-from_ascii note.channel (word_ascii note.channel h.word);
+    some = h.word.some;
+    short = h.word.short;
+    no_nul = no_zero is_word_byte note.channel refl h.word.word;
+  };
+  text = record { text = IsUtf8-from_ascii note.payload (plain_ascii note.payload h.plain); short = h.plain.short; no_nul = no_zero is_plain_byte note.payload refl h.plain.plain };
+}
 
 small : (x : ℕ) → is_between 0 127 x ≡ true → x < 128
 small x h = grind (arith, nat_tests)

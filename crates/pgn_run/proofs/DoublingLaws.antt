@@ -1,12 +1,16 @@
 -- Laws of a text whose quotes stand twice, written by runs that end with a quote.
-use Rattle.std.proofs.Common.{◌≡◌, ℕ, ◌+◌, ◌-◌, ◌<◌, ◌≤◌, Bool, true, false, ◌||◌, cond, eqb, List, [], ◌∷◌, ◌++◌, length, take, drop, get_or, sym, ap, ◌∙◌, refl, inl, inr, arith, append_assoc, append-nil, drop-cons}
+use Rattle.std.proofs.Common.{◌≡◌, ℕ, ◌+◌, ◌-◌, ◌<◌, ◌≤◌, Bool, true, false, ◌||◌, cond, eqb, List, [], ◌∷◌, ◌++◌, length, take, drop, get_or, sym, ap, ◌∙◌, refl, inl, inr, arith, append_assoc, append-nil, add-one, drop-cons}
 use Rattle.std.specs.Prelude.{flat_map}
 use Rattle.std.specs.List.{list_any}
 use Rattle.std.proofs.lemmas.List.{drop_all, take_rest}
 use Rattle.std.proofs.lemmas.List.Edits.{between_more}
 use Rattle.std.proofs.lemmas.Bool.Decides.{eqb_tells}
 use Rattle.pgn_model.specs.Text.{doubled_byte}
-use Rattle.pgn_run.proofs.GoesOnLaws.{flat_map-drop_at, GoesOn-same}
+use Rattle.pgn_run.proofs.PutsLaws.{Puts-same}
+
+-- the next item of a list
+flat_map-drop_at : {A : Type 0} (f : A → List ℕ) (xs : List A) (i : ℕ) (d : A) → i < length xs → flat_map f (drop i xs) ≡ f (get_or xs i d) ++ flat_map f (drop (i + 1) xs)
+flat_map-drop_at f xs i d h = ap (flat_map f) (drop-cons xs i d h) ∙ ap (λ j. f (get_or xs i d) ++ flat_map f (drop j xs)) (sym (add-one i))
 
 pub doubled_byte-other : (quote byte : ℕ) → (byte ≡ quote → ⊥) → doubled_byte quote byte ≡ byte ∷ []
 doubled_byte-other quote byte other = elim (eqb_tells byte quote) [ inl h ↦ absurd (other h.1) | inr h ↦ ap (λ (t : Bool). cond t (quote ∷ quote ∷ []) (byte ∷ [])) h.0 ]
@@ -53,4 +57,4 @@ pub doubled-none : (quote : ℕ) (text : List ℕ) → list_any (λ b. eqb b quo
 doubled-none quote [] h = refl
 doubled-none quote (byte ∷ bytes) h = doubled-first quote byte bytes (eqb byte quote) h (doubled-none quote bytes)
 
-pub ruleset doubling_goings = (GoesOn-same, doubled-none)
+pub ruleset doubling_laws = (Puts-same, doubled-none)

@@ -6,7 +6,6 @@ pub mod SpellingLaws
 pub mod RunLaws
 pub mod SoFarLaws
 pub mod ScanLaws
-pub mod GoesOnLaws
+pub mod PutsLaws
 pub mod LineLaws
-pub mod ListLaws
 pub mod DoublingLaws

@@ -10,6 +10,7 @@ use Rattle.pgn_model.specs.declared.scenario.Section.{Section}
 use Rattle.pgn_model.specs.declared.scenario.Scenario.{Scenario}
 use Rattle.pgn_run.specs.Reading.{RunsLine, ReadAsLines, ReadAsSection, ReadsAsPlainScenario, IsCommandLine, BreaksFrom, LinesBreakAt, BreaksAt, IsServedAct, IsServed}
 use Rattle.pgn_model.specs.Lines.{lines_of}
+use Rattle.pgn_run.proofs.CommandLaws.{notify_valid}
 use Rattle.pgn_run.proofs.LinesLaws.{lines_few}
 
 runs_command : (line : List ℕ) (act : Act) → RunsLine line act → IsCommandLine line
@@ -70,7 +71,7 @@ breaks-once input a b p q =
 
 served_act : (line : List ℕ) (act : Act) → RunsLine line act → IsServedAct act
 served_act line (Run (Listen channel)) h = tt
-served_act line (Run (Notify note)) h = tt
+served_act line (Run (Notify note)) h = notify_valid line note h
 served_act line (Run Empty) h = absurd h
 served_act line (Run Begin) h = absurd h
 served_act line (Run Start) h = absurd h

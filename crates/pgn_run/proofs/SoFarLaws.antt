@@ -18,6 +18,7 @@ use Rattle.pgn_model.specs.declared.scenario.Act.TheVariants.{Run, Signal, Await
 use Rattle.pgn_model.specs.declared.scenario.ScriptLine.{ScriptLine}
 use Rattle.pgn_model.specs.declared.scenario.Section.{Section}
 use Rattle.pgn_model.specs.declared.scenario.Scenario.{Scenario}
+use Rattle.pgn_model.specs.Bytes.{IsNote}
 use Rattle.pgn_model.specs.Journal.{IsFinished, entries_between, is_committed_in, xids_from, entry}
 use Rattle.pgn_model.specs.Due.{due}
 use Rattle.pgn_model.specs.Near.{Near}
@@ -105,19 +106,20 @@ fresh-grows : (terms : Terms) (journal more : List Tx) (s : State) (item : Item)
 fresh-grows terms journal more s item h = (fresh-at-grows terms journal more s item h.1 h.0, omega (arith, length-append journal more, h.1))
 
 -- the transaction of one notification is finished
-sent-finished : (section : Section) (note : Note) → IsFinished (sent section note)
-sent-finished section note = record {
+sent-finished : (section : Section) (note : Note) → IsNote note → IsFinished (sent section note)
+sent-finished section note valid = record {
   some = λ e. cc;
+  valid = All-push IsNote [] note (All-nil IsNote) valid;
   different = λ i j d lt within. absurd (omega arith);
   queueing = refl;
 }
 
 -- a transaction committed: it stands at the journal's end, and the item shows it
 pub IsAt-publish : (section : Section) (state : State) (journal : List Tx) (items : List Item) (note : Note)
-    → IsAt section state journal items → Allowed (terms_of section) (journal ++ sent section note ∷ []) state (Publish (3 + length journal) (note ∷ []))
+    → IsNote note → IsAt section state journal items → Allowed (terms_of section) (journal ++ sent section note ∷ []) state (Publish (3 + length journal) (note ∷ []))
     → state.told ≤ 3 + length journal
     → IsAt section (after_item state (Publish (3 + length journal) (note ∷ []))) (journal ++ sent section note ∷ []) (items ++ Publish (3 + length journal) (note ∷ []) ∷ [])
-IsAt-publish section state journal items note h allowed told =
+IsAt-publish section state journal items note valid h allowed told =
     let item : Item = Publish (3 + length journal) (note ∷ []) in
     let longer : List Tx = journal ++ sent section note ∷ [] in
     let len : length longer ≡ length journal + 1 = length-append journal (sent section note ∷ []) in
@@ -127,7 +129,7 @@ IsAt-publish section state journal items note h allowed told =
       stands = Stands-push (terms_of section) longer items state item (Stands-grows (terms_of section) journal (sent section note ∷ []) items state h.stands) allowed;
       fresh = Along-push_at after_item (IsFreshWithin (terms_of section) longer) (start section) state items item h.stands.state grown (tt, omega (arith, len));
       own = filter_map-append finished_xid items (item ∷ []) ∙ ap (λ (xs : List ℕ). xs ++ (3 + length journal) ∷ []) h.own ∙ sym (xids_from-push section.no 3 journal (sent section note) same);
-      finished = All-push IsFinished journal (sent section note) h.finished (sent-finished section note);
+      finished = All-push IsFinished journal (sent section note) h.finished (sent-finished section note valid);
       alone = All-push (λ (tx : Tx). tx.session ≡ section.no) journal (sent section note) h.alone refl;
       shown = All-push (IsShownWithin (3 + length longer)) items item (λ k d lt. shown-weaker (3 + length journal) (3 + length longer) (slice_index_or items k d) (omega (arith, len)) (h.shown k d lt)) (omega (arith, len));
     }
@@ -217,9 +219,9 @@ entry-last (first ∷ journal) tx P p = entry-last journal tx P p
 
 -- a session answers NOTIFY
 notify-line : (section : Section) (n : ℕ) (text : List ℕ) (note : Note) (rest : List ScriptLine) (journal : List Tx) (items : List Item) (set : List (List ℕ)) (mark : Option ℕ) (told : ℕ)
-    → IsSoFar section (record { line = n; text = text; act = Run (command.Notify note) } ∷ rest) (record { journal = journal; items = items; set = set; mark = mark; told = told })
+    → IsNote note → IsSoFar section (record { line = n; text = text; act = Run (command.Notify note) } ∷ rest) (record { journal = journal; items = items; set = set; mark = mark; told = told })
     → IsAnswered section rest (notified section note (record { journal = journal; items = items ++ Line n ∷ []; set = set; mark = mark; told = told }))
-notify-line section n text note rest journal items set mark told h =
+notify-line section n text note rest journal items set mark told valid h =
     let line : ScriptLine = record { line = n; text = text; act = Run (command.Notify note) } in
     let x : ℕ = 3 + length journal in
     let ending : Ending = Replied tag.Notify None in
@@ -236,7 +238,7 @@ notify-line section n text note rest journal items set mark told h =
     let by : IsCommittedBy section (note ∷ []) (sent section note) = record { by_session = refl; in_database = refl; with_notes = refl; committed = refl } in
     let place : x - 3 ≡ length journal = omega arith in
     let stands_there : IsSomeAnd (entry longer x) (IsCommittedBy section (note ∷ [])) = subst (λ (k : ℕ). IsSomeAnd (slice_get longer k) (IsCommittedBy section (note ∷ []))) (sym place) (entry-last journal (sent section note) (IsCommittedBy section (note ∷ [])) by) in
-    let two = IsAt-publish section queueing journal begun note one (record { expected = refl; after_told = told_within; after_mark = unread mark h.caught_up; in_journal = stands_there }) told_within in
+    let two = IsAt-publish section queueing journal begun note valid one (record { expected = refl; after_told = told_within; after_mark = unread mark h.caught_up; in_journal = stands_there }) told_within in
     let told_is : max told (x + 1) ≡ x + 1 = omega (arith, h.told) in
     let stays : after_item queueing (Publish x (note ∷ [])) ≡ answering = answering-stays published ending (listens_on mark h.listening) ∙ ap (λ (k : ℕ). let t : State = record (standing rest set mark k h.marks) { owed = Answering ending } in t) told_is in
     let at : IsAt section answering longer done = subst (λ (t : State). IsAt section t longer done) stays two in
@@ -309,7 +311,7 @@ step section n text (Run (command.Listen channel)) rest journal items set (Some 
     read-line section rest after.journal after.items after.set after.mark after.told (listen-again section n text channel rest journal items set mark told h)
 step section n text (Run (command.Notify note)) rest journal items set mark told served h =
     let after : Session = notified section note (record { journal = journal; items = items ++ Line n ∷ []; set = set; mark = mark; told = told }) in
-    read-line section rest after.journal after.items after.set after.mark after.told (notify-line section n text note rest journal items set mark told h)
+    read-line section rest after.journal after.items after.set after.mark after.told (notify-line section n text note rest journal items set mark told served h)
 step section n text (Run command.Empty) rest journal items set mark told served h = absurd served
 step section n text (Run command.Begin) rest journal items set mark told served h = absurd served
 step section n text (Run command.Start) rest journal items set mark told served h = absurd served

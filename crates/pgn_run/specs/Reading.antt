@@ -10,6 +10,7 @@ use Rattle.pgn_model.specs.declared.scenario.Act.TheVariants.{Run}
 use Rattle.pgn_model.specs.declared.scenario.ScriptLine.{ScriptLine}
 use Rattle.pgn_model.specs.declared.scenario.Section.{Section}
 use Rattle.pgn_model.specs.declared.scenario.Scenario.{Scenario}
+use Rattle.pgn_model.specs.Bytes.{IsNote}
 use Rattle.pgn_model.specs.Lines.{lines_of}
 use Rattle.pgn_model.specs.Inputs.{is_note_act}
 
@@ -152,10 +153,10 @@ LinesBreakAt (head ∷ lines) at = ((at ≡ 1) × (IsHeadLine head → ⊥)) ⊎
 abbrev pub BreaksAt : List ℕ → ℕ → Type 0
 BreaksAt input at = ((INPUT_BYTES_MAX < length input) × (at ≡ 0)) ⊎ ((length input ≤ INPUT_BYTES_MAX) × LinesBreakAt (lines_of input) at)
 
--- an act that a session serves
+-- an act that a session serves, with a notification that can be sent
 abbrev pub IsServedAct : Act → Type 0
 IsServedAct (Run (Listen channel)) = Unit {0}
-IsServedAct (Run (Notify note)) = Unit {0}
+IsServedAct (Run (Notify note)) = IsNote note
 IsServedAct act = ⊥
 
 -- the scenario is one section whose lines are all served, and they are no more than the bytes of an input

@@ -1,5 +1,5 @@
 -- What holds of a session between two lines of its script.
-use Rattle.std.specs.Prelude.{◌≡◌, ℕ, ◌+◌, ◌≤◌, false, List, [], Option, length, IfSome, All}
+use Rattle.std.specs.Prelude.{◌≡◌, ℕ, ◌≤◌, false, List, [], Option, IfSome, All}
 use Rattle.pgn_model.specs.declared.block_state.BlockState.TheVariants.{Idle}
 use Rattle.pgn_model.specs.declared.scenario.ScriptLine.{ScriptLine}
 use Rattle.pgn_model.specs.declared.scenario.Section.{Section}

@@ -8,14 +8,10 @@
 //! answered `NotBuilt` with its line. The session runs over a list of transactions that stands in for the queue.
 #![tactic(auto)]
 
-mod buffer;
 mod input;
 mod line_cursor;
 mod reading;
 mod render;
-mod render_item;
-mod render_journal;
-mod render_note;
 mod run;
 mod session;
 mod status;

@@ -1,137 +1,17 @@
-#![tactic(auto, using(crate::proofs::GoesOnLaws::goings))]
+#![tactic(auto, using(crate::proofs::PutsLaws::put_laws))]
 
-ghost use Rattle.std.specs.Prelude.{◌+◌, ◌++◌, codes, decimal};
 ghost use Rattle.pgn_base.specs.Outside.{HasCause, Writes};
-ghost use Rattle.pgn_model.specs.Text.{end_line, section_line, text, trace_text, traces_text};
-ghost use Rattle.pgn_run.specs.Rendering.{CauseGoesOn, GoesOn};
+ghost use Rattle.pgn_model.specs.Text.{text};
 
-use crate::buffer::{Buffer, flush, put, put_number};
-use crate::render_item::put_items;
-use crate::render_journal::put_journal;
-use pgn_base::{Failed, SessionNo, Sink, Xid};
-use pgn_model::{Scenario, Section, Trace, Tx};
+mod item;
+mod journal;
+mod note;
+mod output;
+mod section;
 
-/// A section's number and name.
-fn put_section_name<K: Sink>(
-    sink: &mut K,
-    buffer: &mut Buffer,
-    so_far: Result<(), Failed>,
-    section: &Section,
-) -> Result<(), Failed>
-    ensures bytes { GoesOn (K.held sink.old) buffer.old so_far (K.held sink.new) buffer.new result (codes "session " ++ decimal section.now.no ++ codes " " ++ section.now.name) }
-    ensures cause { CauseGoesOn (K.faults sink.old) so_far (K.faults sink.new) result }
-{
-    let so_far = put(sink, buffer, so_far, b"session ");
-    let so_far = put_number(sink, buffer, so_far, u64::from(section.no.get()));
-    let so_far = put(sink, buffer, so_far, b" ");
-    put(sink, buffer, so_far, section.name.as_bytes())
-}
-
-/// A section's number, name and database.
-fn put_section_place<K: Sink>(
-    sink: &mut K,
-    buffer: &mut Buffer,
-    so_far: Result<(), Failed>,
-    section: &Section,
-) -> Result<(), Failed>
-    ensures bytes { GoesOn (K.held sink.old) buffer.old so_far (K.held sink.new) buffer.new result (codes "session " ++ decimal section.now.no ++ codes " " ++ section.now.name ++ codes " db " ++ decimal section.now.db) }
-    ensures cause { CauseGoesOn (K.faults sink.old) so_far (K.faults sink.new) result }
-{
-    let so_far = put_section_name(sink, buffer, so_far, section);
-    let so_far = put(sink, buffer, so_far, b" db ");
-    put_number(sink, buffer, so_far, u64::from(section.db.get()))
-}
-
-/// The process number of a session.
-fn put_pid<K: Sink>(
-    sink: &mut K,
-    buffer: &mut Buffer,
-    so_far: Result<(), Failed>,
-    session: &SessionNo,
-) -> Result<(), Failed>
-    ensures bytes { GoesOn (K.held sink.old) buffer.old so_far (K.held sink.new) buffer.new result (decimal (1000 + session.now)) }
-    ensures cause { CauseGoesOn (K.faults sink.old) so_far (K.faults sink.new) result }
-{
-    put_number(sink, buffer, so_far, 1000 + u64::from(session.get()))
-}
-
-/// A section's head.
-fn put_section_line<K: Sink>(
-    sink: &mut K,
-    buffer: &mut Buffer,
-    so_far: Result<(), Failed>,
-    section: &Section,
-) -> Result<(), Failed>
-    ensures bytes { GoesOn (K.held sink.old) buffer.old so_far (K.held sink.new) buffer.new result (section_line section.now) }
-    ensures cause { CauseGoesOn (K.faults sink.old) so_far (K.faults sink.new) result }
-{
-    let so_far = put_section_place(sink, buffer, so_far, section);
-    let so_far = put(sink, buffer, so_far, b" pid ");
-    let so_far = put_pid(sink, buffer, so_far, &section.no);
-    put(sink, buffer, so_far, b"\n")
-}
-
-/// The last line of a trace.
-fn put_end<K: Sink>(
-    sink: &mut K,
-    buffer: &mut Buffer,
-    so_far: Result<(), Failed>,
-    last: &Option<Xid>,
-) -> Result<(), Failed>
-    ensures bytes { GoesOn (K.held sink.old) buffer.old so_far (K.held sink.new) buffer.new result (end_line last.now) }
-    ensures cause { CauseGoesOn (K.faults sink.old) so_far (K.faults sink.new) result }
-{
-    match last {
-        None => put(sink, buffer, so_far, b"end\n"),
-        Some(mark) => {
-            let so_far = put(sink, buffer, so_far, b"end mark ");
-            let so_far = put_number(sink, buffer, so_far, u64::from(mark.get()));
-            put(sink, buffer, so_far, b"\n")
-        }
-    }
-}
-
-/// A section with its trace.
-fn put_trace<K: Sink>(
-    sink: &mut K,
-    buffer: &mut Buffer,
-    so_far: Result<(), Failed>,
-    section: &Section,
-    trace: &Trace,
-) -> Result<(), Failed>
-    ensures bytes { GoesOn (K.held sink.old) buffer.old so_far (K.held sink.new) buffer.new result (trace_text section.now trace.now) }
-    ensures cause { CauseGoesOn (K.faults sink.old) so_far (K.faults sink.new) result }
-{
-    let so_far = put_section_line(sink, buffer, so_far, section);
-    let so_far = put_items(
-        sink,
-        buffer,
-        so_far,
-        section.lines.as_slice(),
-        trace.items.as_slice(),
-    );
-    put_end(sink, buffer, so_far, &trace.last)
-}
-
-/// The sections with their traces.
-#[tactic(auto, using(crate::proofs::GoesOnLaws::loop_goings))]
-fn put_traces<K: Sink>(
-    sink: &mut K,
-    buffer: &mut Buffer,
-    so_far: Result<(), Failed>,
-    sections: &[Section],
-    traces: &[Trace],
-) -> Result<(), Failed>
-    ensures bytes { GoesOn (K.held sink.old) buffer.old so_far (K.held sink.new) buffer.new result (traces_text sections.now traces.now) }
-    ensures cause { CauseGoesOn (K.faults sink.old) so_far (K.faults sink.new) result }
-{
-    let mut so_far = so_far;
-    let count = sections.len().min(traces.len());
-    for i in 0..count {
-        so_far = put_trace(sink, buffer, so_far, &sections[i], &traces[i]);
-    }
-    so_far
-}
+use crate::render::output::Out;
+use pgn_base::{Failed, Sink};
+use pgn_model::{Scenario, Trace, Tx};
 
 /// Writes the output of a run. It takes no memory, and nothing is left to be written once it answers.
 pub fn render<K: Sink>(
@@ -143,23 +23,23 @@ pub fn render<K: Sink>(
     ensures bytes { Writes (K.held sink.old) (K.held sink.new) result (text scenario.now journal.now traces.now) }
     ensures cause { HasCause (K.faults sink.old) (K.faults sink.new) result }
 {
-    let mut buffer = Buffer::new();
-    let so_far = put_journal(sink, &mut buffer, Ok(()), journal);
-    let so_far = put_traces(
-        sink,
-        &mut buffer,
-        so_far,
-        scenario.sections.as_slice(),
-        traces,
-    );
-    flush(sink, &mut buffer, so_far)
+    let mut out = Out::new();
+    out.journal(sink, journal);
+    out.sections(sink, scenario.sections.as_slice(), traces);
+    out.send(sink);
+    out.so_far
 }
 
 #[cfg(test)]
 mod tests {
     use super::*;
-    use pgn_base::{DbOid, Deliveries, Delivery, MemSink, Name, Names, Note, Notes, Payload, Tag};
-    use pgn_model::{Act, Command, Fate, Item, Items, LineText, ScriptLine, ScriptLines, Sections};
+    use pgn_base::{
+        DbOid, Deliveries, Delivery, MemSink, Name, Names, Note, Notes, Payload, SessionNo, Tag,
+        Xid,
+    };
+    use pgn_model::{
+        Act, Command, Fate, Item, Items, LineText, ScriptLine, ScriptLines, Section, Sections,
+    };
     use std::alloc::Global;
     use std::test::Fail;
 
@@ -302,17 +182,17 @@ mod tests {
     fn a_text_larger_than_the_buffer(rt: HostRuntime) -> Result<(), Fail> {
         let alloc = rt.alloc();
         let mut sink = MemSink::new(alloc, 100000, Vec::new(alloc), 3000)?;
-        let mut buffer = Buffer::new();
+        let mut out = Out::new();
         let mut want = Vec::new(alloc);
-        let mut so_far = Ok(());
         let mut byte: u8 = 0;
         for size in [1, 8000, 191, 8192, 8193, 20000, 5] {
             let piece = vec![in alloc; byte; size]?;
-            so_far = put(&mut sink, &mut buffer, so_far, piece.as_slice());
+            out.text(&mut sink, piece.as_slice());
             want.extend_from_slice(piece.as_slice())?;
             byte = byte.wrapping_add(1);
         }
-        flush(&mut sink, &mut buffer, so_far)?;
+        out.send(&mut sink);
+        out.so_far?;
         assert_eq!(rt; sink.held(), want.as_slice());
         Ok(())
     }

@@ -31,7 +31,8 @@ pub record AreSame (a b : Note) (db db' xid xid' pid pid' : ℕ) (rest rest' : L
 
 -- bytes that begin with an entry begin with no other one
 abbrev pub SpellingReadsBack : Type 0
-SpellingReadsBack = (format : Format) (a b : Note) (db db' xid xid' pid pid' : ℕ) (rest rest' : List ℕ) → IsNote a → IsNote b → IsHead format db xid pid → IsHead format db' xid' pid'
+SpellingReadsBack = (format : Format) (a b : Note) (db db' xid xid' pid pid' : ℕ) (rest rest' : List ℕ) → IsNote a → IsNote b
+    → IsHead format db xid pid → IsHead format db' xid' pid'
     → spelled format a db xid pid ++ rest ≡ spelled format b db' xid' pid' ++ rest' → AreSame a b db db' xid xid' pid pid' rest rest'
 
 -- an entry that begins another is the whole of it
@@ -53,5 +54,6 @@ pub record AreSameFillers (len len' xid xid' pid pid' : ℕ) (rest rest' : List 
 
 -- bytes that begin with a filler begin with no other one
 abbrev pub FillerReadsBack : Type 0
-FillerReadsBack = (format : Format) (len len' xid xid' pid pid' : ℕ) (rest rest' : List ℕ) → len ≤ page_bytes → len' ≤ page_bytes → IsHead format 0 xid pid → IsHead format 0 xid' pid'
+FillerReadsBack = (format : Format) (len len' xid xid' pid pid' : ℕ) (rest rest' : List ℕ) → len ≤ page_bytes → len' ≤ page_bytes
+    → IsHead format 0 xid pid → IsHead format 0 xid' pid'
     → filler format len xid pid ++ rest ≡ filler format len' xid' pid' ++ rest' → AreSameFillers len len' xid xid' pid pid' rest rest'

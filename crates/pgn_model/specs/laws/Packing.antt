@@ -6,7 +6,7 @@ use Rattle.pgn_base.specs.declared.note.Note.{Note}
 use Rattle.pgn_model.specs.declared.tx.Tx.{Tx}
 use Rattle.pgn_model.specs.declared.tx.Fate.{Fate}
 use Rattle.pgn_model.specs.declared.tx.Fate.TheVariants.{Aborted}
-use Rattle.pgn_model.specs.Journal.{entry, next_xid, IsQueued}
+use Rattle.pgn_model.specs.Journal.{entry, next_xid, IsFinished}
 use Rattle.pgn_model.specs.Bytes.{entry_length, spelled, filler, IsNote, IsEntryLength}
 use Rattle.pgn_model.specs.Packing.{Sender, cell_bytes, page_cells, is_page_start, next_page, bytes_left, fits, filled_cells, entry_cells, filler_cells, note_cells, notes_cells, end_cells, tx_cells, image_from, image, place, IsCellOf, after_bytes, put, put_all, ended, after, bytes_of, HasRoom}
 
@@ -25,7 +25,7 @@ pub record IsPacked : Type 0 where
   pub of_end : (format : Format) (sender : Sender) (fate : Fate) (at : ℕ) → HasRoom format at → at + length (end_cells format sender fate at) ≡ ended fate at
   pub of_tx : (format : Format) (x : ℕ) (at : ℕ) (tx : Tx) → HasRoom format at → at + length (tx_cells format x at tx) ≡ after format at tx
 
--- the shortest entry fits on the page after each transaction, and after each notification that is put
+-- an entry may begin after each transaction, and after each notification that is put
 pub record LeavesRoom : Type 0 where
   pub at_start : (format : Format) (journal : List Tx) (x : ℕ) → HasRoom format (place format journal x)
   pub after_notes : (format : Format) (at : ℕ) (notes : List Note) → HasRoom format at → HasRoom format (put_all format at notes)
@@ -34,7 +34,7 @@ pub record LeavesRoom : Type 0 where
 abbrev pub PutTakes : Type 0
 PutTakes = (format : Format) (at : ℕ) (note : Note) → IsNote note → (at < put format at note) × (put format at note ≤ at + 2 * page_cells)
 
--- what is left of a page where the shortest entry fits is the length of a filler, and a page's whole length holds each entry
+-- what is left of a page where an entry may begin is the length of a filler, and a page's whole length holds each entry
 pub record PagesHold : Type 0 where
   pub rest : (format : Format) (at : ℕ) → HasRoom format at → IsEntryLength format (bytes_left at)
   pub next : (format : Format) (at : ℕ) (note : Note) → IsNote note → entry_length format note ≤ bytes_left (next_page at)
@@ -59,7 +59,8 @@ FirstPlace = (format : Format) (journal : List Tx) → place format journal FIRS
 
 -- the next transaction begins where the arithmetic says that one ends
 abbrev pub NextPlace : Type 0
-NextPlace = (format : Format) (journal : List Tx) (x : ℕ) (tx : Tx) → FIRST_XID ≤ x → entry journal x ≡ Some tx → place format journal (x + 1) ≡ after format (place format journal x) tx
+NextPlace = (format : Format) (journal : List Tx) (x : ℕ) (tx : Tx) → FIRST_XID ≤ x → entry journal x ≡ Some tx
+    → place format journal (x + 1) ≡ after format (place format journal x) tx
 
 -- past the journal's end it stays the end
 abbrev pub LastPlace : Type 0
@@ -75,20 +76,17 @@ PlaceGrows = (format : Format) (journal : List Tx) (x y : ℕ) → x ≤ y → p
 
 -- a transaction with a queued notification takes some cells
 abbrev pub PlaceRises : Type 0
-PlaceRises = (format : Format) (journal : List Tx) (x : ℕ) (tx : Tx) → FIRST_XID ≤ x → entry journal x ≡ Some tx → 0 < tx.queued → tx.notes ≢ [] → place format journal x < place format journal (x + 1)
-
--- the notifications of a transaction can be sent, and as many of them were queued as its end says
-pub record IsSent (tx : Tx) : Type 0 where
-  pub are_notes : All IsNote tx.notes
-  pub queueing : IsQueued tx.fate tx.queued (length tx.notes)
+PlaceRises = (format : Format) (journal : List Tx) (x : ℕ) (tx : Tx) → FIRST_XID ≤ x → entry journal x ≡ Some tx → 0 < tx.queued → tx.notes ≢ []
+    → place format journal x < place format journal (x + 1)
 
 -- the queue has at most two pages for each notification
 abbrev pub PlaceBound : Type 0
-PlaceBound = (format : Format) (journal : List Tx) (x : ℕ) → All IsSent journal → place format journal x ≤ 2 * page_cells * sum_by (λ tx. length tx.notes) journal
+PlaceBound = (format : Format) (journal : List Tx) (x : ℕ) → All IsFinished journal → place format journal x ≤ 2 * page_cells * sum_by (λ tx. length tx.notes) journal
 
 -- an aborted transaction ends where a page begins
 abbrev pub AbortedEnds : Type 0
-AbortedEnds = (format : Format) (journal : List Tx) (x : ℕ) (tx : Tx) → FIRST_XID ≤ x → entry journal x ≡ Some tx → tx.fate ≡ Aborted → is_page_start (place format journal (x + 1)) ≡ true
+AbortedEnds = (format : Format) (journal : List Tx) (x : ℕ) (tx : Tx) → FIRST_XID ≤ x → entry journal x ≡ Some tx → tx.fate ≡ Aborted
+    → is_page_start (place format journal (x + 1)) ≡ true
 
 -- a longer journal changes no place of its front
 abbrev pub PlacesAgree : Type 0
@@ -96,7 +94,8 @@ PlacesAgree = (format : Format) (journal more : List Tx) (x : ℕ) → x ≤ nex
 
 -- a longer journal changes no cell of its front
 abbrev pub ImagesAgree : Type 0
-ImagesAgree = (format : Format) (journal more : List Tx) → image format (journal ++ more) ≡ image format journal ++ image_from format (next_xid journal) (length (image format journal)) more
+ImagesAgree = (format : Format) (journal more : List Tx)
+    → image format (journal ++ more) ≡ image format journal ++ image_from format (next_xid journal) (length (image format journal)) more
 
 -- the cells from the place of a transaction up to the next one's are those of that transaction
 abbrev pub CellsOfEach : Type 0

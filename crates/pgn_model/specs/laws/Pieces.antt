@@ -132,7 +132,7 @@ CellsHoldNumbers = (bytes : List ℕ) (k : ℕ) → k < cells_in (length bytes)
 
 -- a finished transaction of a session and a database in range is written
 abbrev pub FinishedAreWritten : Type 0
-FinishedAreWritten = (tx : Tx) → IsFinished tx → All IsNote tx.notes → 0 < tx.db → tx.db < 2 ^ 32 → tx.session ≤ SECTIONS_MAX → IsWritten tx
+FinishedAreWritten = (tx : Tx) → IsFinished tx → 0 < tx.db → tx.db < 2 ^ 32 → tx.session ≤ SECTIONS_MAX → IsWritten tx
 
 -- the cells of one transaction more: those of its queued notifications, and a filler where it was aborted in the middle of a page
 pub record OneMoreImage : Type 0 where

@@ -1,7 +1,7 @@
-ghost use Rattle.std.specs.Prelude.{◌≡◌, List, [], ◌∷◌, map};
+ghost use Rattle.std.specs.Prelude.{◌≡◌, [], ◌∷◌, map};
 ghost use Rattle.pgn_model.specs.declared.block_state.BlockState.TheVariants.{Idle, InBlock, Failed};
 ghost use Rattle.pgn_model.specs.Answers.{next_state, ending_tag};
-ghost use Rattle.pgn_model.specs.examples.Answers.{Row, answer_table, answered, each_outcome, their_tags};
+ghost use Rattle.pgn_model.specs.examples.Answers.{answer_table, answered, each_outcome, their_tags};
 
 /// Each command has in each state the answer that the table gives.
 pub fn table_of_answers()

@@ -1,7 +1,6 @@
-ghost use Rattle.std.specs.Prelude.{◌≡◌, List, [], ◌∷◌, map, Option, Some, None};
-ghost use Rattle.pgn_model.specs.Journal.{next_xid, entry, entries_between, xids_of};
-ghost use Rattle.pgn_model.specs.Due.{due};
-ghost use Rattle.pgn_model.specs.examples.Due.{Owed, mixed_journal, first_tx, second_tx, third_tx, sixth_tx, owed_table, due_by};
+ghost use Rattle.std.specs.Prelude.{◌≡◌, [], ◌∷◌, codes, map, Some, None};
+ghost use Rattle.pgn_model.specs.Journal.{IsFinished, next_xid, entry, entries_between, xids_of};
+ghost use Rattle.pgn_model.specs.examples.Due.{d_name, on, mixed_journal, first_tx, second_tx, third_tx, fourth_tx, fifth_tx, sixth_tx, owed_table, due_by};
 
 /// A reader is owed what was sent on its channels in its database by committed transactions, in order.
 pub fn table_of_owed()
@@ -15,4 +14,15 @@ pub fn numbers_of_a_journal()
     ensures entries { map (entry mixed_journal) (3 ∷ 4 ∷ 8 ∷ 9 ∷ []) ≡ Some first_tx ∷ Some second_tx ∷ Some sixth_tx ∷ None ∷ [] }
     ensures between { entries_between mixed_journal 4 6 ≡ second_tx ∷ third_tx ∷ [] }
     ensures of_sessions { map (λ session. xids_of session mixed_journal) (1 ∷ 2 ∷ 3 ∷ 4 ∷ 5 ∷ []) ≡ (3 ∷ 6 ∷ []) ∷ (4 ∷ 7 ∷ []) ∷ (5 ∷ []) ∷ (8 ∷ []) ∷ [] ∷ [] }
+{}
+
+/// A finished transaction has notifications, all different: all of them were queued where it committed, and fewer where it was
+/// aborted.
+pub fn finished_transactions()
+    ensures committed { IsFinished fourth_tx }
+    ensures aborted { IsFinished third_tx }
+    ensures without_notes { IsFinished (record fourth_tx { notes = []; queued = 0 }) → ⊥ }
+    ensures repeated_note { IsFinished (record fifth_tx { notes = on d_name (codes "z") ∷ on d_name (codes "z") ∷ []; queued = 2 }) → ⊥ }
+    ensures committed_too_early { IsFinished (record fourth_tx { queued = 2 }) → ⊥ }
+    ensures aborted_too_late { IsFinished (record third_tx { queued = 2 }) → ⊥ }
 {}

@@ -1,7 +1,7 @@
-ghost use Rattle.std.specs.Prelude.{◌≡◌, [], ◌∷◌, codes, map};
+ghost use Rattle.std.specs.Prelude.{◌≡◌, true, false, [], ◌∷◌, codes, map};
 ghost use Rattle.std.specs.List.{flat_map};
 ghost use Rattle.pgn_model.specs.Text.{joined};
-ghost use Rattle.pgn_model.specs.Savepoints.{Saved, Noted, survivors, surviving_actions, surviving_notes, live_names, live_changes};
+ghost use Rattle.pgn_model.specs.Savepoints.{is_listen, Saved, Noted, survivors, surviving_actions, surviving_notes, live_names, live_changes};
 ghost use Rattle.pgn_model.specs.examples.Savepoints.{s_name, on_c, on_d, list_of, sent_by, repeats, rolled_back_repeat, savepoints_of_one_name, outer_released, back_twice, repeat_across, commands_of_each_kind, commands_without_change, survivors_of_each_kind, actions_of_each_kind, outcomes_of, outcome_lines, failed_block_commands, failed_block_outcomes, failed_block_text, back_in_block_commands, back_in_block_outcomes, outside_commands, outside_text};
 
 /// A notification that is repeated in a block is sent once, in the place of its first.
@@ -45,6 +45,7 @@ pub fn repeat_across_savepoints()
 pub fn commands_of_each_kind_survive()
     ensures survive { survivors (list_of commands_of_each_kind) ≡ survivors_of_each_kind }
     ensures actions { surviving_actions (list_of commands_of_each_kind) ≡ actions_of_each_kind }
+    ensures listening { map is_listen actions_of_each_kind ≡ true ∷ false ∷ false ∷ true ∷ false ∷ [] }
     ensures notes { surviving_notes (list_of commands_of_each_kind) ≡ on_c (codes "a") ∷ on_d (codes "a") ∷ on_c (codes "a") ∷ on_d (codes "a") ∷ [] }
     ensures nothing { list_of commands_without_change ≡ [] }
     ensures sent { sent_by commands_of_each_kind ≡ on_c (codes "a") ∷ on_d (codes "a") ∷ [] }

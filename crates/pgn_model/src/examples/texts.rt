@@ -1,4 +1,4 @@
-ghost use Rattle.std.specs.Prelude.{◌≡◌, List, [], ◌∷◌, ◌++◌, codes, map};
+ghost use Rattle.std.specs.Prelude.{◌≡◌, [], ◌∷◌, ◌++◌, codes, map};
 ghost use Rattle.std.specs.List.{flat_map};
 ghost use Rattle.pgn_model.specs.Text.{joined, tag_text, warning_lines, refusal_text, entry_lines, journal_lines, trace_lines, text};
 ghost use Rattle.pgn_model.specs.examples.Texts.{each_tag, tag_lines, each_warning, lines_of_warnings, each_refusal, lines_of_refusals, quoted_tx, unqueued_tx, shown_journal, shown_journal_text, first_section, first_trace, first_text, second_section, second_trace, second_text, shown_scenario};

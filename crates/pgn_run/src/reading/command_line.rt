@@ -86,7 +86,9 @@ fn is_word(word: &[u8]) -> bool
     ensures { IsTrue result ↔ IsWord word.now }
 {
     match word {
-        [first, ..] => first.is_ascii_lowercase() && word.len() <= NAME_BYTES_MAX && are_word_bytes(word),
+        [first, ..] => first.is_ascii_lowercase()
+            && word.len() <= NAME_BYTES_MAX
+            && are_word_bytes(word),
         [] => false,
     }
 }
