@@ -8,6 +8,9 @@ pub mod PackingSteps
 pub mod PlainNotes
 pub mod NearLaws
 pub mod QueueUseLaws
+pub mod PieceLaws
+pub mod DraftLaws
+pub mod PieceSteps
 pub mod TextBytes
 pub mod AnswerLemmas
 pub mod SavepointLemmas

@@ -31,7 +31,7 @@ length-filled_cells (a ∷ b ∷ c ∷ []) = refl
 length-filled_cells (a ∷ b ∷ c ∷ d ∷ bytes) = omega (arith, length-filled_cells bytes)
 
 -- the place after the page rest
-length-page_rest : (format : Format) (at : ℕ) → at + length (page_rest format at) ≡ after_rest format at
+pub length-page_rest : (format : Format) (at : ℕ) → at + length (page_rest format at) ≡ after_rest format at
 unfolding page_rest after_rest
 length-page_rest format at = elim (has_room format at) as (λ b. at + length (cond b [] (replicate (cells_left at) (let n : Option ℕ = None in n))) ≡ cond b at (next_page at)) [
   | true ↦ omega arith
@@ -39,12 +39,12 @@ length-page_rest format at = elim (has_room format at) as (λ b. at + length (co
 ]
 
 -- the shortest entry holds a head and more, and a page holds it
-least_within : (format : Format) → (header_bytes format ≤ least_bytes format) × (20 ≤ least_bytes format) × (least_bytes format ≤ 8192)
+pub least_within : (format : Format) → (header_bytes format ≤ least_bytes format) × (20 ≤ least_bytes format) × (least_bytes format ≤ 8192)
 least_within One = (omega arith, omega arith, omega arith)
 least_within Two = (omega arith, omega arith, omega arith)
 
 -- a multiple of the alignment is one of four
-whole_cells : (format : Format) (len : ℕ) → len % alignment format ≡ 0 → len % 4 ≡ 0
+pub whole_cells : (format : Format) (len : ℕ) → len % alignment format ≡ 0 → len % 4 ≡ 0
 whole_cells One len h = omega (arith, h)
 whole_cells Two len h = omega (arith, h)
 
@@ -72,7 +72,7 @@ pub room_start : (format : Format) → HasRoom format 0
 room_start One = record { whole = refl; least = omega arith }
 room_start Two = record { whole = refl; least = omega arith }
 
-room_next : (format : Format) (at : ℕ) → HasRoom format (next_page at)
+pub room_next : (format : Format) (at : ℕ) → HasRoom format (next_page at)
 room_next format at = record { whole = whole_next format at; least = omega (arith, least_within format) }
 
 -- what is past the page rest has room
@@ -80,10 +80,14 @@ room_past : (format : Format) (at : ℕ) (b : Bool) → has_room format at ≡ b
 room_past format at true e h = record { whole = h; least = grind (arith, nat_tests) }
 room_past format at false e h = room_next format at
 
-room_after_bytes : (format : Format) (at bytes : ℕ) → HasRoom format at → bytes % alignment format ≡ 0 → HasRoom format (after_bytes format at bytes)
-unfolding after_bytes after_rest
-room_after_bytes format at bytes room whole =
-    room_past format (at + cells_in bytes) (has_room format (at + cells_in bytes)) refl (whole_after format at bytes room.whole whole)
+-- what is past the page rest after a place where entries may begin has room
+pub room_after_rest : (format : Format) (at : ℕ) → bytes_in at % alignment format ≡ 0 → HasRoom format (after_rest format at)
+unfolding after_rest
+room_after_rest format at whole = room_past format at (has_room format at) refl whole
+
+pub room_after_bytes : (format : Format) (at bytes : ℕ) → HasRoom format at → bytes % alignment format ≡ 0 → HasRoom format (after_bytes format at bytes)
+unfolding after_bytes
+room_after_bytes format at bytes room whole = room_after_rest format (at + cells_in bytes) (whole_after format at bytes room.whole whole)
 
 pub packed_bytes : (format : Format) (note : Note) (db xid pid at : ℕ)
     → at + length (entry_cells format at (spelled format note db xid pid)) ≡ after_bytes format at (entry_length format note)
@@ -96,7 +100,7 @@ packed_bytes format note db xid pid at =
     sum ∙ ap (λ n. after_rest format (at + n)) cells
 
 -- a filler takes the rest of the page
-length-filler_cells : (format : Format) (s : Sender) (at : ℕ) → HasRoom format at → at + length (filler_cells format s at) ≡ next_page at
+pub length-filler_cells : (format : Format) (s : Sender) (at : ℕ) → HasRoom format at → at + length (filler_cells format s at) ≡ next_page at
 unfolding filler_cells
 length-filler_cells format s at room =
     let cells : length (filled_cells (filler format (bytes_left at) s.xid s.pid)) ≡ bytes_left at / 4 = length-filled_cells (filler format (bytes_left at) s.xid s.pid) ∙ ap (λ n. n / 4) (length-filler format (bytes_left at) s.xid s.pid (omega (arith, least_within format, room.least))) in
@@ -111,7 +115,7 @@ packed_note format s at note room =
       | false ↦ simp length-append (omega (arith, length-filler_cells format s at room, packed_bytes format note s.db s.xid s.pid (next_page at)))
     ]
 
-room_put : (format : Format) (at : ℕ) (note : Note) → HasRoom format at → HasRoom format (put format at note)
+pub room_put : (format : Format) (at : ℕ) (note : Note) → HasRoom format at → HasRoom format (put format at note)
 unfolding put put_bytes
 room_put format at note room = elim (fits at (entry_length format note)) as (λ b. HasRoom format (cond b (after_bytes format at (entry_length format note)) (after_bytes format (next_page at) (entry_length format note)))) [
   | true ↦ room_after_bytes format at (entry_length format note) room (entry_whole format note).0
@@ -132,7 +136,7 @@ packed_notes format s at (note ∷ notes) room =
     let sum : at + length (note_cells format s at note ++ notes_cells format s (at + length (note_cells format s at note)) notes) ≡ put_all format (at + length (note_cells format s at note)) notes = simp length-append (omega (arith, rest)) in
     sum ∙ ap (λ n. put_all format n notes) here
 
-packed_end : (format : Format) (s : Sender) (fate : Fate) (at : ℕ) → HasRoom format at → at + length (end_cells format s fate at) ≡ ended fate at
+pub packed_end : (format : Format) (s : Sender) (fate : Fate) (at : ℕ) → HasRoom format at → at + length (end_cells format s fate at) ≡ ended fate at
 unfolding end_cells ended
 packed_end format s Committed at room = omega arith
 packed_end format s Aborted at room = elim (is_page_start at) as (λ b. at + length (cond b [] (filler_cells format s at)) ≡ cond b at (next_page at)) [
@@ -161,7 +165,7 @@ unfolding after
 room_after format at tx room = room_ended format tx.fate (put_all format at (take tx.queued tx.notes)) (room_put_all format at (take tx.queued tx.notes) room)
 
 -- the cells of transactions one list after the other
-image_from-append : (format : Format) (x at : ℕ) (xs ys : List Tx)
+pub image_from-append : (format : Format) (x at : ℕ) (xs ys : List Tx)
     → image_from format x at (xs ++ ys) ≡ image_from format x at xs ++ image_from format (x + length xs) (at + length (image_from format x at xs)) ys
 unfolding image_from
 image_from-append format x at [] ys = ap (λ n. image_from format n at ys) (sym (add-zero x)) ∙ ap (λ n. image_from format (x + 0) n ys) (sym (add-zero at))
@@ -189,7 +193,7 @@ room_image format x at (tx ∷ txs) room =
     let sum : (at + length cells) + length (image_from format (x + 1) (at + length cells) txs) ≡ at + length (cells ++ image_from format (x + 1) (at + length cells) txs) = simp length-append (omega arith) in
     subst P sum (room_image format (x + 1) (at + length cells) txs next)
 
-room_of_image : (format : Format) (journal : List Tx) → HasRoom format (length (image format journal))
+pub room_of_image : (format : Format) (journal : List Tx) → HasRoom format (length (image format journal))
 unfolding image
 room_of_image format journal = let P : ℕ → Type 0 = λ n. HasRoom format n in subst P (zero-add (length (image format journal))) (room_image format 3 0 journal (room_start format))
 
@@ -294,7 +298,7 @@ aborted_ends format journal x tx h e aborted =
     let at = put_all format (place format journal x) (take tx.queued tx.notes) in
     ap is_page_start (next_place format journal x tx h e ∙ ap (λ (fate : Fate). ended fate at) aborted) ∙ ended_starts at
 
-folds : (format : Format) (x at : ℕ) (txs : List Tx) → HasRoom format at → at + length (image_from format x at txs) ≡ fold (after format) at txs
+pub folds : (format : Format) (x at : ℕ) (txs : List Tx) → HasRoom format at → at + length (image_from format x at txs) ≡ fold (after format) at txs
 unfolding image_from
 folds format x at [] room = add-zero at
 folds format x at (tx ∷ txs) room =
@@ -347,7 +351,7 @@ notes_in_turn format sender at (note ∷ notes) more =
     ∙ sym (append_assoc cells rest (notes_cells format sender (at + length (cells ++ rest)) more))
 
 -- what fits on a page that begins
-fits_next : (format : Format) (at : ℕ) (note : Note) → IsNote note → fits (next_page at) (entry_length format note) ≡ true
+pub fits_next : (format : Format) (at : ℕ) (note : Note) → IsNote note → fits (next_page at) (entry_length format note) ≡ true
 fits_next format at note h = let small : entry_length format note ≤ bytes_left (next_page at) = pages_hold.next format at note h in grind (arith, nat_tests)
 
 pub note_moves : NoteMoves
@@ -356,7 +360,7 @@ note_moves format sender at note h past =
     let here = fits_next format at note h in
     record { cells = rw (past, here); ends = rw (past, here) }
 
-put_rises : (format : Format) (at : ℕ) (note : Note) → at < put format at note
+pub put_rises : (format : Format) (at : ℕ) (note : Note) → at < put format at note
 unfolding put put_bytes after_bytes after_rest
 put_rises format at note = let some = (entry_whole format note).1 in grind (arith, common_steps)
 
@@ -418,7 +422,7 @@ place_bound format journal x h =
     omega (arith, last, all, fold_bound format 0 journal h)
 
 -- four bytes, and whatever is read past them, are below 256
-four_below : (a b c d : ℕ) → a < 256 → b < 256 → c < 256 → d < 256 → (i : ℕ) → get_or (a ∷ b ∷ c ∷ d ∷ []) i 0 < 256
+pub four_below : (a b c d : ℕ) → a < 256 → b < 256 → c < 256 → d < 256 → (i : ℕ) → get_or (a ∷ b ∷ c ∷ d ∷ []) i 0 < 256
 four_below a b c d p q r s zero = p
 four_below a b c d p q r s (suc zero) = q
 four_below a b c d p q r s (suc (suc zero)) = r

@@ -121,7 +121,7 @@ rest-last : drop 39 (notes_cells One sender 2005 (letters (byte "x") 137 ∷ [])
 unfolding sender notes_cells note_cells entry_cells page_rest filled_cells spelled entry_length header letters
 rest-last = refl
 
-first_put : put One 0 (letters (byte "x") 7999) ≡ 2005
+pub first_put : put One 0 (letters (byte "x") 7999) ≡ 2005
 unfolding put_bytes after_bytes after_rest
 first_put = put_letters One 0 (byte "x") 7999
 

@@ -9,6 +9,7 @@ pub mod Packing
 pub mod Near
 pub mod QueueUse
 pub mod Shape
+pub mod Pieces
 -- a transaction's list, and what its commands are answered
 pub mod Savepoints
 pub mod Answers

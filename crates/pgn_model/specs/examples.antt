@@ -1,6 +1,7 @@
 -- Worked examples, written out.
 pub mod Runs
 pub mod Packing
+pub mod Pieces
 pub mod Savepoints
 pub mod Answers
 pub mod Due

@@ -5,6 +5,7 @@ pub mod Bytes
 pub mod Packing
 pub mod Near
 pub mod QueueUse
+pub mod Pieces
 pub mod Savepoints
 pub mod Answers
 pub mod Walk

@@ -5,6 +5,7 @@ pub mod due;
 pub mod grammar;
 pub mod inputs;
 pub mod packing;
+pub mod pieces;
 pub mod runs;
 pub mod savepoints;
 pub mod texts;

@@ -9,6 +9,8 @@ ghost use Rattle.pgn_model.specs.laws.Text.{TextHasLines};
 ghost use Rattle.pgn_model.specs.laws.Due.{DueSplits, DueGrows};
 ghost use Rattle.pgn_model.specs.laws.Near.{NearShrinks, NearItself, NearGrows};
 ghost use Rattle.pgn_model.specs.laws.QueueUse.{NoPageGrows, UsageGrows};
+
+ghost use Rattle.pgn_model.specs.laws.Pieces.{PiecesInTurn, ImageIsLaid, TransactionsArePacked, PiecesSplit, ImageDrops, JournalIsCut, PiecesGiveDue, PiecesGiveAllDue, FinishedQueueAll, JournalTellsFates, PiecesAreNumbered, NumbersRise, PiecesAreSound, PieceAdvances, PieceHasBytes, PieceReadsBack, FirstCells, NextCells, NumbersGiveBytes, CellsHoldNumbers, FinishedAreWritten, OneMoreImage, DraftAtPageStart, FinishedAreDrafts, DraftsFinish, DraftsAreWritten, LongerAgrees, XidsGoOn};
 ghost use Rattle.pgn_model.specs.laws.Walk.{LawfulPushes, LawfulPrefix, LawfulGrows};
 ghost use Rattle.pgn_model.specs.laws.Savepoints.{RolledBackCuts, ReleasedKeeps, SurvivesRolledBack, SurvivesReleased, SurvivesSaved, SurvivesActed, SurvivesNoted, LiveIsSaved, LiveHasSavepoint, RolledBackKeepsSavepoint, RolledBackOfNone, ReleasedOfNone, FirstsInOrder, FirstsDiffer, FirstsHaveAll, FirstsPush, FirstsTwice, LiveAfterChange, LiveSaved, LiveActed, LiveNew, LiveRepeated, LiveRolledBack, LiveReleased, LiveTwice, LiveHasNames, LiveHasActions, LiveHasFirsts};
 ghost use Rattle.pgn_model.specs.laws.Answers.{TableIsTotal, NothingFailsOutside, BlocksBegin, BlocksEnd, BlocksFail, WaysOut, WaysOn, OnlyEmptyIsSilent, ChannelsAreCounted, WhatCommits};
@@ -133,6 +135,74 @@ pub fn packing()
     ensures cells_of_each { CellsOfEach }
     // No two transactions share a cell.
     ensures cells_apart { CellsApart }
+{}
+
+/// The pieces of a journal: its entries and fillers, between its cells and what is due from it.
+pub fn pieces()
+    // Pieces lie one after another.
+    ensures pieces_in_turn { PiecesInTurn }
+    // The cells of a journal are its pieces, laid one after another.
+    ensures image_is_laid { ImageIsLaid }
+    // The arithmetic of places counts the cells of transactions.
+    ensures transactions_are_packed { TransactionsArePacked }
+    // The pieces of two lists of transactions are those of the one and then those of the other.
+    ensures pieces_split { PiecesSplit }
+    // The cells from the place of a transaction on are those of the rest of the journal.
+    ensures image_drops { ImageDrops }
+    // From the place of a transaction on lie the pieces of those up to another, with their numbers, and then those of the rest.
+    ensures journal_is_cut { JournalIsCut }
+    // What the pieces give to a reader is what the transactions give, where the fates are told.
+    ensures pieces_give_due { PiecesGiveDue }
+    // What the pieces of a part of the journal give to a reader is what is due from that part.
+    ensures pieces_give_all_due { PiecesGiveAllDue }
+    // Finished transactions have queued all of their notifications, where they committed.
+    ensures finished_queue_all { FinishedQueueAll }
+    // A journal tells the fates of its own transactions.
+    ensures journal_tells_fates { JournalTellsFates }
+    // The pieces have the numbers of the transactions.
+    ensures pieces_are_numbered { PiecesAreNumbered }
+    // A later piece's number is no smaller.
+    ensures numbers_rise { NumbersRise }
+    // The pieces of written transactions are read back from their bytes.
+    ensures pieces_are_sound { PiecesAreSound }
+    // The place after a piece is told by how many bytes it has.
+    ensures piece_advances { PieceAdvances }
+    // A piece that is read back has as many bytes as it states.
+    ensures piece_has_bytes { PieceHasBytes }
+    // Bytes that begin with a piece begin with no other one.
+    ensures piece_reads_back { PieceReadsBack }
+    // The first two cells of a piece hold its length and its database.
+    ensures first_cells { FirstCells }
+    // The next two hold its transaction's number and its process number in format One.
+    ensures next_cells { NextCells }
+    // The numbers in the cells of bytes give the bytes back.
+    ensures numbers_give_bytes { NumbersGiveBytes }
+    // A cell of bytes holds the number that its four bytes spell.
+    ensures cells_hold_numbers { CellsHoldNumbers }
+{}
+
+/// A transaction that has drawn a number and isn't finished: what is known of it, and its cells at the end of the queue.
+pub fn drafts()
+    // A finished transaction whose session and database are in range is written.
+    ensures finished_are_written { FinishedAreWritten }
+    // One transaction more adds the cells of its queued notifications, and where it is aborted a filler up to the next page.
+    ensures one_more_image { OneMoreImage }
+    // Where a page begins, the cells are the same whether the transaction goes on or is aborted.
+    ensures draft_at_page_start { DraftAtPageStart }
+    // A finished transaction is a draft with its end.
+    ensures finished_are_drafts { FinishedAreDrafts }
+    // A draft that has queued as many notifications as its end says is finished.
+    ensures drafts_finish { DraftsFinish }
+    // A draft whose notifications can be sent, and whose session and database are in range, is written.
+    ensures drafts_are_written { DraftsAreWritten }
+{}
+
+/// A journal that goes on.
+pub fn longer_journals()
+    // A longer journal changes no place, no cell, no transaction and nothing of what is due before its new part.
+    ensures longer_agrees { LongerAgrees }
+    // The numbers of a session are those that it had, and then those of the new part.
+    ensures xids_go_on { XidsGoOn }
 {}
 
 /// What a ROLLBACK TO cuts and what a RELEASE keeps, said by the last mark of the name.

@@ -4,17 +4,14 @@ use Rattle.pgn_run.specs.Rendering.{ended}
 use Rattle.pgn_run.proofs.PutsLaws.{Puts-same, Puts-trans}
 use Rattle.pgn_run.proofs.render.output.Out.full.Goals as goal
 
--- a text of three parts and a fourth
-parts : (a b c d : List ℕ) → (a ++ b ++ c) ++ d ≡ a ++ b ++ c ++ d
-parts a b c d = append_assoc a (b ++ c) d ∙ ap (λ t. a ++ t) (append_assoc b c d)
+-- a text, and one of six parts
+six : (s a b c d e f : List ℕ) → s ++ (a ++ b ++ c ++ d ++ e ++ f) ≡ s ++ a ++ b ++ c ++ d ++ e ++ f
+six s a b c d e f = simp append_assoc
 
 pub returns : goal.returns
 returns g c =
     let full = c.args.full.now in
-    let head : List ℕ = codes " head " ++ decimal full.head_page in
-    let queued : List ℕ = codes " queued " ++ decimal full.queued ++ head in
-    let start : List ℕ = codes "+full " ++ decimal full.xid ++ queued in
+    let start : List ℕ = codes "+full " ++ decimal full.xid ++ codes " queued " ++ decimal full.queued ++ codes " head " ++ decimal full.head_page in
     let floor : List ℕ = codes " floor " ++ decimal full.floor_mark ++ codes " page " ++ decimal full.floor_page ++ codes " holder " ++ holder_text full.holder in
-    let later : queued ++ floor ≡ codes " queued " ++ decimal full.queued ++ codes " head " ++ decimal full.head_page ++ floor = parts (codes " queued ") (decimal full.queued) head floor ∙ ap (λ t. codes " queued " ++ decimal full.queued ++ t) (append_assoc (codes " head ") (decimal full.head_page) floor) in
-    let whole : start ++ floor ≡ full_line full = parts (codes "+full ") (decimal full.xid) queued floor ∙ ap (λ t. codes "+full " ++ decimal full.xid ++ t) later in
+    let whole : start ++ floor ≡ full_line full = six start (codes " floor ") (decimal full.floor_mark) (codes " page ") (decimal full.floor_page) (codes " holder ") (holder_text full.holder) in
     Puts-same (sym (append_assoc start floor (10 ∷ [])) ∙ ap ended whole) (Puts-trans c.full_head.ensures c.full_floor.ensures)
