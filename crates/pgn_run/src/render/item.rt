@@ -86,33 +86,26 @@ impl Out {
         self.text(sink, b"\n");
     }
 
-    /// A command's tag.
+    /// The line of a command's tag.
     fn tag<K: Sink>(&mut self, sink: &mut K, tag: &Tag)
-        ensures { Puts K.held K.faults sink.old self.old sink.new self.new (tag_text tag.now) }
+        ensures { Puts K.held K.faults sink.old self.old sink.new self.new (ended (tag_text tag.now)) }
     {
         match tag {
-            Tag::Begin => self.text(sink, b"BEGIN"),
-            Tag::Start => self.text(sink, b"START TRANSACTION"),
-            Tag::Commit => self.text(sink, b"COMMIT"),
-            Tag::Rollback => self.text(sink, b"ROLLBACK"),
-            Tag::Savepoint => self.text(sink, b"SAVEPOINT"),
-            Tag::Release => self.text(sink, b"RELEASE"),
-            Tag::Listen => self.text(sink, b"LISTEN"),
-            Tag::Unlisten => self.text(sink, b"UNLISTEN"),
-            Tag::Notify => self.text(sink, b"NOTIFY"),
+            Tag::Begin => self.text(sink, b"BEGIN\n"),
+            Tag::Start => self.text(sink, b"START TRANSACTION\n"),
+            Tag::Commit => self.text(sink, b"COMMIT\n"),
+            Tag::Rollback => self.text(sink, b"ROLLBACK\n"),
+            Tag::Savepoint => self.text(sink, b"SAVEPOINT\n"),
+            Tag::Release => self.text(sink, b"RELEASE\n"),
+            Tag::Listen => self.text(sink, b"LISTEN\n"),
+            Tag::Unlisten => self.text(sink, b"UNLISTEN\n"),
+            Tag::Notify => self.text(sink, b"NOTIFY\n"),
             Tag::Select(rows) => {
                 self.text(sink, b"SELECT ");
                 self.number(sink, u64::from(*rows));
+                self.text(sink, b"\n");
             }
         }
-    }
-
-    /// The line of a command's tag.
-    fn tag_line<K: Sink>(&mut self, sink: &mut K, tag: &Tag)
-        ensures { Puts K.held K.faults sink.old self.old sink.new self.new (ended (tag_text tag.now)) }
-    {
-        self.tag(sink, tag);
-        self.text(sink, b"\n");
     }
 
     /// A reply, after its warning.
@@ -120,10 +113,10 @@ impl Out {
         ensures { Puts K.held K.faults sink.old self.old sink.new self.new (joined (warning_lines warning.now ++ tag_text tag.now ∷ [])) }
     {
         match warning {
-            None => self.tag_line(sink, tag),
+            None => self.tag(sink, tag),
             Some(warning) => {
                 self.text_line(sink, b"WARNING: ", text_of_warning(*warning));
-                self.tag_line(sink, tag);
+                self.tag(sink, tag);
             }
         }
     }

@@ -36,15 +36,15 @@ impl Out {
         self.text(sink, text);
     }
 
-    /// A notification.
+    /// A notification, at the end of a line.
     fn note<K: Sink>(&mut self, sink: &mut K, note: &Note)
-        ensures { Puts K.held K.faults sink.old self.old sink.new self.new (note_text note.now) }
+        ensures { Puts K.held K.faults sink.old self.old sink.new self.new (ended (note_text note.now)) }
     {
         self.text(sink, b"\"");
         self.doubled(sink, b'"', note.channel.as_bytes());
         self.text(sink, b"\", '");
         self.doubled(sink, b'\'', note.payload.as_bytes());
-        self.text(sink, b"'");
+        self.text(sink, b"'\n");
     }
 
     /// The line of a notification of the journal.
@@ -53,7 +53,6 @@ impl Out {
     {
         self.text(sink, b"  ");
         self.note(sink, note);
-        self.text(sink, b"\n");
     }
 
     /// The lines of the notifications of a transaction.
@@ -83,7 +82,6 @@ impl Out {
     {
         self.sender(sink, delivery);
         self.note(sink, &delivery.note);
-        self.text(sink, b"\n");
     }
 
     /// The lines of the notifications that a read received.

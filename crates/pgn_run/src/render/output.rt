@@ -114,6 +114,7 @@ impl Out {
     }
 
     /// Gives a piece out that there is no room for.
+    #[cold]
     fn overflow<K: Sink>(&mut self, sink: &mut K, piece: &[u8])
         requires fine { self.old.so_far ≡ Ok tt }
         requires large { SIZE ≤ length self.old.kept + length piece.now }
@@ -126,6 +127,7 @@ impl Out {
     }
 
     /// Gives bytes out.
+    #[inline]
     #[tactic(auto, using(crate::proofs::PutsLaws::out_laws))]
     pub fn text<K: Sink>(&mut self, sink: &mut K, piece: &[u8])
         ensures { Puts K.held K.faults sink.old self.old sink.new self.new piece.now }
