@@ -7,6 +7,7 @@ pub mod PackingLemmas
 pub mod PackingSteps
 pub mod NearLaws
 pub mod QueueUseLaws
+pub mod GrowingLaws
 pub mod TextBytes
 pub mod AnswerLemmas
 pub mod SavepointLemmas

@@ -8,6 +8,7 @@ pub mod QueueUse
 pub mod Savepoints
 pub mod Answers
 pub mod Walk
+pub mod Growing
 pub mod Text
 pub mod Tokens
 pub mod Grammar

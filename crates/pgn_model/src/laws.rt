@@ -9,6 +9,7 @@ ghost use Rattle.pgn_model.specs.laws.Due.{DueSplits, DueGrows};
 ghost use Rattle.pgn_model.specs.laws.Near.{NearShrinks, NearItself, NearGrows};
 ghost use Rattle.pgn_model.specs.laws.QueueUse.{NoPageGrows, UsageGrows};
 ghost use Rattle.pgn_model.specs.laws.Walk.{LawfulPushes, LawfulPrefix, LawfulGrows};
+ghost use Rattle.pgn_model.specs.laws.Growing.{ShownGrows, ShownOver, FullGrows, ToldWithin, MarksWithin, MarkWithin, StateWithin, UpToDateGrows, FreshSoFarGrows, TraceOkGrows, FreshGrows};
 ghost use Rattle.pgn_model.specs.laws.Savepoints.{RolledBackCuts, ReleasedKeeps, SurvivesRolledBack, SurvivesReleased, SurvivesSaved, SurvivesActed, SurvivesNoted, LiveIsSaved, LiveHasSavepoint, RolledBackKeepsSavepoint, RolledBackOfNone, ReleasedOfNone, FirstsInOrder, FirstsDiffer, FirstsHaveAll, FirstsPush, FirstsTwice, LiveAfterChange, LiveSaved, LiveActed, LiveNew, LiveRepeated, LiveRolledBack, LiveReleased, LiveTwice, LiveHasNames, LiveHasActions, LiveHasFirsts};
 ghost use Rattle.pgn_model.specs.laws.Answers.{TableIsTotal, NothingFailsOutside, BlocksBegin, BlocksEnd, BlocksFail, WaysOut, WaysOn, OnlyEmptyIsSilent, ChannelsAreCounted, WhatCommits};
 
@@ -70,6 +71,32 @@ pub fn walk()
     ensures prefix { LawfulPrefix }
     // What is lawful over a journal is lawful over a longer one.
     ensures grows { LawfulGrows }
+{}
+
+/// A trace as the journal grows: what holds of it over a journal holds over a longer one.
+pub fn growing()
+    // Numbers that are shown within a bound are within each greater one.
+    ensures shown_grows { ShownGrows }
+    // Where the journal grows, so does the bound.
+    ensures shown_over { ShownOver }
+    // A queue that was full stays so over a longer journal.
+    ensures full_grows { FullGrows }
+    // A lawful trace whose numbers are within the journal tells the session nothing past it.
+    ensures told_within { ToldWithin }
+    // No mark of a lawful trace is past the journal.
+    ensures marks_within { MarksWithin }
+    // Nor is the mark at its end.
+    ensures mark_within { MarkWithin }
+    // All of it of a state that items lead to.
+    ensures state_within { StateWithin }
+    // What is up to date, over a journal that has all that was told, is so over a longer one.
+    ensures up_to_date_grows { UpToDateGrows }
+    // Items that left no read out so far left none out over a longer journal.
+    ensures fresh_so_far_grows { FreshSoFarGrows }
+    // A lawful trace is lawful over a longer journal.
+    ensures trace_ok_grows { TraceOkGrows }
+    // A lawful trace that left no read out left none out over a longer journal.
+    ensures fresh_grows { FreshGrows }
 {}
 
 /// The bytes of entries and fillers.

@@ -1,0 +1,287 @@
+-- Proofs of the laws of a trace as the journal grows.
+use Rattle.std.proofs.Common.{◌≡◌, ℕ, ◌+◌, ◌-◌, ◌<◌, ◌≤◌, max, Bool, true, false, List, [], ◌∷◌, ◌++◌, length, Option, Some, None, IfSome, All, fold, if◌then◌else◌, is_some, is_none, ◌&&◌, sym, refl, subst, arith, length-append}
+use Rattle.std.proofs.lemmas.List.Elements.{All-nil, All-head, All-tail, All-push, All-weaker}
+use Rattle.std.specs.List.{list_any}
+use Rattle.pgn_base.specs.declared.note.Note.{Note}
+use Rattle.pgn_base.specs.declared.listen_set.Action.{Action}
+use Rattle.pgn_model.specs.declared.tx.Tx.{Tx}
+use Rattle.pgn_model.specs.declared.item.Item.{Item}
+use Rattle.pgn_model.specs.declared.item.Item.TheVariants.{Line, Enlist, Publish, QueueFull, Leave, Reply, Refuse, Channels, Used, Raise, Found, TimedOut, Read}
+use Rattle.pgn_model.specs.declared.scenario.Act.{Act}
+use Rattle.pgn_model.specs.declared.scenario.Act.TheVariants.{Run, Signal, Await, Quit}
+use Rattle.pgn_model.specs.declared.scenario.ScriptLine.{ScriptLine}
+use Rattle.pgn_model.specs.Journal.{next_xid, is_committed_in}
+use Rattle.pgn_model.specs.Near.{Near}
+use Rattle.pgn_model.specs.Savepoints.{Change, surviving_actions, surviving_notes, firsts, is_listen, live_names, changes_of}
+use Rattle.pgn_model.specs.Answers.{Outcome, Commits, Replies, Refuses, Silent, GivesChannels, GivesUsage, answer, next_state, list_after}
+use Rattle.pgn_model.specs.Along.{Along}
+use Rattle.pgn_model.specs.Walk.{Settings, Terms, State, Owed, Enlisting, Queueing, Leaving, Answering, Listing, Measuring, Raising, Awaiting, Quitting, Ending, start, after_item, Allowed, IsCommittedBy, IsAbortedBy, is_empty_set, leaving_or_answering, queueing_or_settled, committing, owing, at_act, at_line, at_enlist, at_publish, at_full, at_leave, at_rows, at_raise, at_found}
+use Rattle.pgn_model.specs.Trace.{IsLawful, IsFreshAt, state_after}
+use Rattle.pgn_model.specs.Legal.{IsShownWithin, IsFullThere}
+use Rattle.pgn_model.specs.laws.Growing.{IsStateWithin, ShownGrows, ShownOver, FullGrows, ToldWithin, MarksWithin, MarkWithin, StateWithin, UpToDateGrows, FreshSoFarGrows, TraceOkGrows, FreshGrows}
+use Rattle.pgn_model.proofs.JournalLaws.{entry-within}
+use Rattle.pgn_model.proofs.NearLaws.{near-grows}
+use Rattle.pgn_model.proofs.QueueUseLaws.{no_page-grows}
+use Rattle.pgn_model.proofs.WalkLaws.{Along-weaker, Stands-grows}
+
+-- a fact of the state that each item keeps holds where the walk ends
+pub Along-keeps : {S I : Type 0} (next : S → I → S) (P : S → I → Type 0) (Q : S → Type 0) → ((s : S) (item : I) → P s item → Q s → Q (next s item)) → (s : S) (items : List I) → Along next P s items → Q s → Q (fold next s items)
+Along-keeps next P Q f s [] h q = q
+Along-keeps next P Q f s (i ∷ items) h q = Along-keeps next P Q f (next s i) items h.1 (f s i h.0 q)
+
+-- and before each item
+pub Along-before : {S I : Type 0} (next : S → I → S) (P : S → I → Type 0) (Q : S → Type 0) → ((s : S) (item : I) → P s item → Q s → Q (next s item)) → (s : S) (items : List I) → Along next P s items → Q s → Along next (λ t i. Q t) s items
+Along-before next P Q f s [] h q = tt
+Along-before next P Q f s (i ∷ items) h q = (q, Along-before next P Q f (next s i) items h.1 (f s i h.0 q))
+
+-- two facts of each item
+pub Along-both : {S I : Type 0} (next : S → I → S) (P Q : S → I → Type 0) (s : S) (items : List I) → Along next P s items → Along next Q s items → Along next (λ t i. P t i × Q t i) s items
+Along-both next P Q s [] h k = tt
+Along-both next P Q s (i ∷ items) h k = ((h.0, k.0), Along-both next P Q (next s i) items h.1 k.1)
+
+-- a fact of each item alone
+pub Along-all : {S I : Type 0} (next : S → I → S) (P : I → Type 0) (s : S) (items : List I) → All P items → Along next (λ t i. P i) s items
+Along-all next P s [] h = tt
+Along-all next P s (i ∷ items) h = (All-head P i items h, Along-all next P (next s i) items (All-tail P i items h))
+
+-- what the beginning of a line leaves as it is
+pub record Carried : Type 0 where
+  pub told : ℕ
+  pub mark : Option ℕ
+  pub marks : List ℕ
+
+abbrev carried : State → Carried
+carried s = record { told = s.told; mark = s.mark; marks = s.marks }
+
+carried-either : (x y : State) (c : Carried) (b : Bool) → carried x ≡ c → carried y ≡ c → carried (if b then x else y) ≡ c
+carried-either x y c true h k = h
+carried-either x y c false h k = k
+
+carried-answering : (s : State) (ending : Ending) → carried (leaving_or_answering s ending) ≡ carried s
+carried-answering s ending = carried-either (record s { owed = Leaving ending }) (record s { owed = Answering ending }) (carried s) (is_some s.mark && is_empty_set s.set) refl refl
+
+carried-queueing : (s : State) (actions : List Action) (notes : List Note) (ending : Ending) → carried (queueing_or_settled s actions notes ending) ≡ carried s
+carried-queueing s actions [] ending = carried-answering (record s { set = _ }) ending
+carried-queueing s actions (note ∷ notes) ending = refl
+
+carried-committing : (s : State) (changes : List Change) (ending : Ending) → carried (committing s changes ending) ≡ carried s
+carried-committing s changes ending =
+    let actions : List Action = surviving_actions changes in
+    let notes : List Note = firsts (surviving_notes changes) in
+    carried-either (record s { owed = Enlisting actions notes ending }) (queueing_or_settled s actions notes ending) (carried s) (list_any is_listen actions && is_none s.mark) refl (carried-queueing s actions notes ending)
+
+carried-owing : (s : State) (changes : List Change) (outcome : Outcome) → carried (owing s changes outcome) ≡ carried s
+carried-owing s changes (Commits tag) = carried-committing s changes _
+carried-owing s changes (Replies tag warning next) = refl
+carried-owing s changes (Refuses refusal next) = refl
+carried-owing s changes Silent = refl
+carried-owing s changes (GivesChannels names) = refl
+carried-owing s changes GivesUsage = refl
+
+carried-act : (s : State) (act : Act) → carried (at_act s act) ≡ carried s
+carried-act s (Run command) =
+    let outcome : Outcome = answer s.block (live_names s.changes) s.set command in
+    carried-owing (record s { block = next_state s.block outcome; changes = list_after s.changes command outcome }) (s.changes ++ changes_of command) outcome
+carried-act s (Signal flag) = refl
+carried-act s (Await flag) = refl
+carried-act s Quit =
+    let ended : State = record s { block = _; changes = []; set = [] } in
+    carried-either (record ended { owed = Quitting }) ended (carried s) (is_some s.mark) refl refl
+
+carried-line : (s : State) (lines : List ScriptLine) → carried (at_line s lines) ≡ carried s
+carried-line s [] = refl
+carried-line s (line ∷ lines) = carried-act (record s { rest = lines }) line.act
+
+carried-enlist : (s : State) (owed : Owed) → carried (at_enlist s owed) ≡ carried s
+carried-enlist s (Enlisting actions notes ending) = carried-queueing s actions notes ending
+carried-enlist s owed = refl
+
+carried-publish : (s : State) (owed : Owed) → carried (at_publish s owed) ≡ carried s
+carried-publish s (Queueing actions notes ending) = carried-answering (record s { set = _ }) ending
+carried-publish s owed = refl
+
+carried-full : (s : State) (owed : Owed) → carried (at_full s owed) ≡ carried s
+carried-full s (Queueing actions notes ending) = carried-answering s _
+carried-full s owed = refl
+
+carried-leave : (s : State) (owed : Owed) → carried (at_leave s owed) ≡ carried s
+carried-leave s (Leaving ending) = refl
+carried-leave s owed = refl
+
+carried-rows : (s : State) (owed : Owed) → carried (at_rows s owed) ≡ carried s
+carried-rows s (Listing names ending) = refl
+carried-rows s (Measuring ending) = refl
+carried-rows s owed = refl
+
+carried-raise : (value : ℕ) (s : State) (owed : Owed) → carried (at_raise value s owed) ≡ carried s
+carried-raise value s (Raising flag) = refl
+carried-raise value s owed = refl
+
+marks-found : (value : ℕ) (s : State) (owed : Owed) → carried (at_found value s owed) ≡ record { told = (at_found value s owed).told; mark = s.mark; marks = s.marks }
+marks-found value s (Awaiting flag) = refl
+marks-found value s owed = refl
+
+told-found : (value : ℕ) (s : State) (owed : Owed) (n : ℕ) → value ≤ n → s.told ≤ n → (at_found value s owed).told ≤ n
+told-found value s (Awaiting flag) n h k = omega arith
+told-found value s owed n h k = k
+
+-- the bound holds of what a state carries where it holds of what is the same
+told-same : (s t : State) (n : ℕ) → carried t ≡ carried s → s.told ≤ n → t.told ≤ n
+told-same s t n e h = subst (λ (c : Carried). c.told ≤ n) (sym e) h
+
+-- the marks are within n
+record AreMarksWithin (n : ℕ) (mark : Option ℕ) (marks : List ℕ) : Type 0 where
+  own : IfSome mark (λ m. m ≤ n)
+  all : All (λ m. m ≤ n) marks
+
+marks-same : (s t : State) (n : ℕ) → carried t ≡ carried s → AreMarksWithin n s.mark s.marks → AreMarksWithin n t.mark t.marks
+marks-same s t n e h = subst (λ (c : Carried). AreMarksWithin n c.mark c.marks) (sym e) h
+
+-- one item of a lawful trace tells nothing past the journal
+told-step : (terms : Terms) (journal : List Tx) (s : State) (item : Item) → Allowed terms journal s item → IsShownWithin (next_xid journal) item → s.told ≤ next_xid journal → (after_item s item).told ≤ next_xid journal
+told-step terms journal s (Line line) h shown k = told-same s (at_line s s.rest) (next_xid journal) (carried-line s s.rest) k
+told-step terms journal s (Enlist base point) h shown k =
+    let before : State = record s { mark = Some point; marks = s.marks ++ base ∷ [] ++ point ∷ [] } in
+    told-same before (at_enlist before s.owed) (next_xid journal) (carried-enlist before s.owed) k
+told-step terms journal s (Publish xid notes) h shown k =
+    let before : State = record s { told = max s.told (xid + 1) } in
+    let there : xid - 3 < length journal = entry-within journal (xid - 3) (IsCommittedBy terms.section notes) h.in_journal in
+    told-same before (at_publish before s.owed) (next_xid journal) (carried-publish before s.owed) (omega (arith, there))
+told-step terms journal s (QueueFull full notes) h shown k =
+    let before : State = record s { told = max s.told (full.xid + 1); named = _ } in
+    let there : full.xid - 3 < length journal = entry-within journal (full.xid - 3) (IsAbortedBy terms.section notes full.queued) h.in_journal in
+    told-same before (at_full before s.owed) (next_xid journal) (carried-full before s.owed) (omega (arith, there))
+told-step terms journal s Leave h shown k =
+    let before : State = record s { mark = None } in
+    told-same before (at_leave before s.owed) (next_xid journal) (carried-leave before s.owed) k
+told-step terms journal s (Reply tag warning) h shown k = k
+told-step terms journal s (Refuse refusal) h shown k = k
+told-step terms journal s (Channels names) h shown k = told-same s (at_rows s s.owed) (next_xid journal) (carried-rows s s.owed) k
+told-step terms journal s (Used usage) h shown k =
+    let before : State = record s { named = _ } in
+    told-same before (at_rows before s.owed) (next_xid journal) (carried-rows before s.owed) k
+told-step terms journal s (Raise value) h shown k = told-same s (at_raise value s s.owed) (next_xid journal) (carried-raise value s s.owed) k
+told-step terms journal s (Found value) h shown k = told-found value s s.owed (next_xid journal) shown k
+told-step terms journal s (TimedOut looks) h shown k = k
+told-step terms journal s (Read from to got) h shown k = k
+
+-- nor does it make a mark past it
+marks-step : (terms : Terms) (journal : List Tx) (s : State) (item : Item) → Allowed terms journal s item → AreMarksWithin (next_xid journal) s.mark s.marks → AreMarksWithin (next_xid journal) (after_item s item).mark (after_item s item).marks
+marks-step terms journal s (Line line) h k = marks-same s (at_line s s.rest) (next_xid journal) (carried-line s s.rest) k
+marks-step terms journal s (Enlist base point) h k =
+    let n : ℕ = next_xid journal in
+    let before : State = record s { mark = Some point; marks = s.marks ++ base ∷ [] ++ point ∷ [] } in
+    marks-same before (at_enlist before s.owed) n (carried-enlist before s.owed)
+    (record { own = h.in_journal; all = two n base point s.marks k.all (omega (arith, h.ordered, h.in_journal)) h.in_journal })
+  where
+    two : (n base point : ℕ) (marks : List ℕ) → All (λ m. m ≤ n) marks → base ≤ n → point ≤ n → All (λ m. m ≤ n) (marks ++ base ∷ [] ++ point ∷ [])
+    two n base point marks all b p = All-push (λ m. m ≤ n) (marks ++ base ∷ []) point (All-push (λ m. m ≤ n) marks base all b) p
+marks-step terms journal s (Publish xid notes) h k =
+    let before : State = record s { told = max s.told (xid + 1) } in
+    marks-same before (at_publish before s.owed) (next_xid journal) (carried-publish before s.owed) k
+marks-step terms journal s (QueueFull full notes) h k =
+    let before : State = record s { told = max s.told (full.xid + 1); named = _ } in
+    marks-same before (at_full before s.owed) (next_xid journal) (carried-full before s.owed) k
+marks-step terms journal s Leave h k =
+    let before : State = record s { mark = None } in
+    marks-same before (at_leave before s.owed) (next_xid journal) (carried-leave before s.owed) (record { own = tt; all = k.all })
+marks-step terms journal s (Reply tag warning) h k = k
+marks-step terms journal s (Refuse refusal) h k = k
+marks-step terms journal s (Channels names) h k = marks-same s (at_rows s s.owed) (next_xid journal) (carried-rows s s.owed) k
+marks-step terms journal s (Used usage) h k =
+    let before : State = record s { named = _ } in
+    marks-same before (at_rows before s.owed) (next_xid journal) (carried-rows before s.owed) k
+marks-step terms journal s (Raise value) h k = marks-same s (at_raise value s s.owed) (next_xid journal) (carried-raise value s s.owed) k
+marks-step terms journal s (Found value) h k = subst (λ (c : Carried). AreMarksWithin (next_xid journal) c.mark c.marks) (sym (marks-found value s s.owed)) k
+marks-step terms journal s (TimedOut looks) h k = k
+marks-step terms journal s (Read from to got) h k = record { own = h.in_journal; all = All-push (λ m. m ≤ next_xid journal) s.marks to k.all h.in_journal }
+
+-- an item of a lawful trace, with its numbers within the journal
+abbrev IsKnown : Terms → List Tx → State → Item → Type 0
+IsKnown terms journal s item = Allowed terms journal s item × IsShownWithin (next_xid journal) item
+
+known-items : (terms : Terms) (journal : List Tx) (items : List Item) → IsLawful terms journal items → All (IsShownWithin (next_xid journal)) items → Along after_item (IsKnown terms journal) (start terms.section) items
+known-items terms journal items h shown = Along-both after_item (Allowed terms journal) (λ t i. IsShownWithin (next_xid journal) i) (start terms.section) items h (Along-all after_item (IsShownWithin (next_xid journal)) (start terms.section) items shown)
+
+first-told : (journal : List Tx) → 3 ≤ next_xid journal
+first-told journal = omega arith
+
+pub told-within : ToldWithin
+told-within terms journal items h shown = Along-keeps after_item (IsKnown terms journal) (λ (s : State). s.told ≤ next_xid journal) (λ s item p k. told-step terms journal s item p.0 p.1 k) (start terms.section) items (known-items terms journal items h shown) (first-told journal)
+
+all_marks-within : (terms : Terms) (journal : List Tx) (items : List Item) → IsLawful terms journal items → AreMarksWithin (next_xid journal) (state_after terms items).mark (state_after terms items).marks
+all_marks-within terms journal items h = Along-keeps after_item (Allowed terms journal) (λ (s : State). AreMarksWithin (next_xid journal) s.mark s.marks) (marks-step terms journal) (start terms.section) items h (record { own = tt; all = All-nil (λ m. m ≤ next_xid journal) })
+
+pub marks-within : MarksWithin
+marks-within terms journal items h = (all_marks-within terms journal items h).all
+
+pub mark-within : MarkWithin
+mark-within terms journal items h = (all_marks-within terms journal items h).own
+
+pub state-within : StateWithin
+state-within terms journal items s h shown = subst (IsStateWithin (next_xid journal)) h.state (record {
+  told = told-within terms journal items h.lawful shown;
+  mark = mark-within terms journal items h.lawful;
+  marks = marks-within terms journal items h.lawful;
+})
+
+-- a bound on what is shown may be greater
+pub shown-weaker : (m n : ℕ) (item : Item) → m ≤ n → IsShownWithin m item → IsShownWithin n item
+shown-weaker m n (Line line) h p = tt
+shown-weaker m n (Enlist base point) h p = (omega (arith, p.0), omega (arith, p.1))
+shown-weaker m n (Publish xid notes) h p = omega (arith, p)
+shown-weaker m n (QueueFull full notes) h p = (omega (arith, p.0), omega (arith, p.1))
+shown-weaker m n Leave h p = tt
+shown-weaker m n (Reply tag warning) h p = tt
+shown-weaker m n (Refuse refusal) h p = tt
+shown-weaker m n (Channels names) h p = tt
+shown-weaker m n (Used usage) h p = (omega (arith, p.0), omega (arith, p.1))
+shown-weaker m n (Raise value) h p = omega (arith, p)
+shown-weaker m n (Found value) h p = omega (arith, p)
+shown-weaker m n (TimedOut looks) h p = tt
+shown-weaker m n (Read from to got) h p = (omega (arith, p.0), omega (arith, p.1))
+
+pub shown-grows : ShownGrows
+shown-grows m n items h shown = All-weaker (IsShownWithin m) (IsShownWithin n) (λ item p. shown-weaker m n item h p) items shown
+
+pub shown-over : ShownOver
+shown-over journal more items shown = shown-grows (next_xid journal) (next_xid (journal ++ more)) items (omega (arith, length-append journal more)) shown
+
+full-there : (settings : Settings) (journal more : List Tx) (item : Item) → IsFullThere settings journal item → IsFullThere settings (journal ++ more) item
+full-there settings journal more (QueueFull full notes) h = no_page-grows settings.format settings.limit journal more full h
+full-there settings journal more item h = tt
+
+pub full-grows : FullGrows
+full-grows settings journal more items full = All-weaker (IsFullThere settings journal) (IsFullThere settings (journal ++ more)) (full-there settings journal more) items full
+
+pub up_to_date-grows : UpToDateGrows
+up_to_date-grows terms journal more s within h = grown s.mark h
+  where
+    grown : (mark : Option ℕ) → IfSome mark (λ m. Near terms.settings.format (is_committed_in terms.section.db) journal m s.told)
+        → IfSome mark (λ m. Near terms.settings.format (is_committed_in terms.section.db) (journal ++ more) m s.told)
+    grown None h = h
+    grown (Some m) h = near-grows terms.settings.format (is_committed_in terms.section.db) journal more m s.told within h
+
+fresh_at-grows : (terms : Terms) (journal more : List Tx) (s : State) (item : Item) → s.told ≤ next_xid journal → IsFreshAt terms journal s item → IsFreshAt terms (journal ++ more) s item
+fresh_at-grows terms journal more s (Line line) within h = λ idle. up_to_date-grows terms journal more s within (h idle)
+fresh_at-grows terms journal more s item within h = tt
+
+pub fresh_so_far-grows : FreshSoFarGrows
+fresh_so_far-grows terms journal more items lawful shown fresh =
+    let told = Along-before after_item (IsKnown terms journal) (λ (s : State). s.told ≤ next_xid journal) (λ s item p k. told-step terms journal s item p.0 p.1 k) (start terms.section) items (known-items terms journal items lawful shown) (first-told journal) in
+    Along-weaker after_item (λ (s : State) (item : Item). (s.told ≤ next_xid journal) × IsFreshAt terms journal s item) (IsFreshAt terms (journal ++ more)) (λ s item p. fresh_at-grows terms journal more s item p.0 p.1) (start terms.section) items
+    (Along-both after_item (λ (s : State) (item : Item). s.told ≤ next_xid journal) (IsFreshAt terms journal) (start terms.section) items told fresh)
+
+pub trace_ok-grows : TraceOkGrows
+trace_ok-grows terms trace journal more h = record {
+  session = h.session;
+  database = h.database;
+  lawful = (Stands-grows terms journal more trace.items (state_after terms trace.items) (record { lawful = h.lawful; state = refl })).lawful;
+  ended = h.ended;
+}
+
+pub fresh-grows : FreshGrows
+fresh-grows terms trace journal more ok shown h = record {
+  between_lines = fresh_so_far-grows terms journal more trace.items ok.lawful shown h.between_lines;
+  at_end = up_to_date-grows terms journal more (state_after terms trace.items) (told-within terms journal trace.items ok.lawful shown) h.at_end;
+}
