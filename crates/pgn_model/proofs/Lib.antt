@@ -8,6 +8,7 @@ pub mod PackingSteps
 pub mod NearLaws
 pub mod QueueUseLaws
 pub mod GrowingLaws
+pub mod NextLineLaws
 pub mod TextBytes
 pub mod AnswerLemmas
 pub mod SavepointLemmas

@@ -10,6 +10,7 @@ ghost use Rattle.pgn_model.specs.laws.Near.{NearShrinks, NearItself, NearGrows};
 ghost use Rattle.pgn_model.specs.laws.QueueUse.{NoPageGrows, UsageGrows};
 ghost use Rattle.pgn_model.specs.laws.Walk.{LawfulPushes, LawfulPrefix, LawfulGrows};
 ghost use Rattle.pgn_model.specs.laws.Growing.{ShownGrows, ShownOver, FullGrows, ToldWithin, MarksWithin, MarkWithin, StateWithin, UpToDateGrows, FreshSoFarGrows, TraceOkGrows, FreshGrows};
+ghost use Rattle.pgn_model.specs.laws.NextLine.{NothingStands, StandsFreshGrows, ComesNextGrows, LineReplies, LineRefuses, LineIsSilent, LineIsKept, LineCommits, LineMeetsFull, LineGivesChannels, LineGivesUsage, LineSignals, LineAwaits, AwaitFinds, AwaitTimesOut, LineQuits, IdleReads, AwaitReads, EndReads, NoListenerIsUpToDate, ReaderIsUpToDate, EndIsLawful, EndIsFresh};
 ghost use Rattle.pgn_model.specs.laws.Savepoints.{RolledBackCuts, ReleasedKeeps, SurvivesRolledBack, SurvivesReleased, SurvivesSaved, SurvivesActed, SurvivesNoted, LiveIsSaved, LiveHasSavepoint, RolledBackKeepsSavepoint, RolledBackOfNone, ReleasedOfNone, FirstsInOrder, FirstsDiffer, FirstsHaveAll, FirstsPush, FirstsTwice, LiveAfterChange, LiveSaved, LiveActed, LiveNew, LiveRepeated, LiveRolledBack, LiveReleased, LiveTwice, LiveHasNames, LiveHasActions, LiveHasFirsts};
 ghost use Rattle.pgn_model.specs.laws.Answers.{TableIsTotal, NothingFailsOutside, BlocksBegin, BlocksEnd, BlocksFail, WaysOut, WaysOn, OnlyEmptyIsSilent, ChannelsAreCounted, WhatCommits};
 
@@ -97,6 +98,56 @@ pub fn growing()
     ensures trace_ok_grows { TraceOkGrows }
     // A lawful trace that left no read out left none out over a longer journal.
     ensures fresh_grows { FreshGrows }
+{}
+
+/// What a session's next line adds to its trace, and what a read and the script's end add.
+pub fn next_line()
+    // Before the first item all is well.
+    ensures nothing_stands { NothingStands }
+    // The journal may grow under a trace so far.
+    ensures stands_fresh_grows { StandsFreshGrows }
+    // It may grow before the next line begins.
+    ensures comes_next_grows { ComesNextGrows }
+    // A command that is answered by its tag alone.
+    ensures replies { LineReplies }
+    // A command that is refused.
+    ensures refuses { LineRefuses }
+    // A line that is not answered.
+    ensures is_silent { LineIsSilent }
+    // A command in a block that is kept for its commit.
+    ensures is_kept { LineIsKept }
+    // A commit: of one command outside a block, and of a block.
+    ensures commits { LineCommits }
+    // A commit that meets a full queue.
+    ensures meets_full { LineMeetsFull }
+    // The channels that the session listens to.
+    ensures gives_channels { LineGivesChannels }
+    // The queue's usage.
+    ensures gives_usage { LineGivesUsage }
+    // A flag is raised.
+    ensures signals { LineSignals }
+    // A flag is to be awaited.
+    ensures awaits { LineAwaits }
+    // The awaited flag is found.
+    ensures finds { AwaitFinds }
+    // The patience is spent.
+    ensures times_out { AwaitTimesOut }
+    // The session quits.
+    ensures quits { LineQuits }
+    // A read between lines.
+    ensures idle_reads { IdleReads }
+    // A read while a flag is awaited.
+    ensures await_reads { AwaitReads }
+    // A read at the script's end.
+    ensures end_reads { EndReads }
+    // Who is no listener has nothing to read.
+    ensures no_listener { NoListenerIsUpToDate }
+    // Who has read all that it was told of has no more to read.
+    ensures reader { ReaderIsUpToDate }
+    // At the script's end the trace is lawful.
+    ensures end_is_lawful { EndIsLawful }
+    // And it left no read out.
+    ensures end_is_fresh { EndIsFresh }
 {}
 
 /// The bytes of entries and fillers.

@@ -1,0 +1,287 @@
+-- Proofs of the laws of what a session's next line adds to its trace.
+use Rattle.std.proofs.Common.{◌≡◌, ◌≢◌, ℕ, ◌+◌, max, Bool, true, false, cond, List, [], ◌∷◌, ◌++◌, length, Option, Some, None, if◌then◌else◌, IfSome, sym, ap, ◌∙◌, refl, subst, inl, inr, append-nil}
+use Rattle.pgn_base.specs.declared.note.Note.{Note}
+use Rattle.pgn_base.specs.declared.answers.Tag.{Tag}
+use Rattle.pgn_base.specs.declared.answers.Tag.TheVariants as tag
+use Rattle.pgn_base.specs.declared.answers.Refusal.TheVariants as refused
+use Rattle.pgn_base.specs.declared.queue_answers.Full.{Full}
+use Rattle.pgn_base.specs.declared.listen_set.Action.{Action}
+use Rattle.pgn_base.specs.Channels.{applied}
+use Rattle.pgn_model.specs.declared.tx.Tx.{Tx}
+use Rattle.pgn_model.specs.declared.block_state.BlockState.{BlockState}
+use Rattle.pgn_model.specs.declared.block_state.BlockState.TheVariants.{Idle, InBlock}
+use Rattle.pgn_model.specs.declared.command.Command.{Command}
+use Rattle.pgn_model.specs.declared.command.Command.TheVariants as command
+use Rattle.pgn_model.specs.declared.scenario.Act.{Act}
+use Rattle.pgn_model.specs.declared.scenario.Act.TheVariants.{Run, Signal, Await, Quit}
+use Rattle.pgn_model.specs.declared.scenario.ScriptLine.{ScriptLine}
+use Rattle.pgn_model.specs.declared.item.Item.{Item}
+use Rattle.pgn_model.specs.declared.item.Item.TheVariants.{Line, Enlist, Publish, QueueFull, Leave, Reply, Refuse, Channels, Used, Raise, Found, TimedOut, Read}
+use Rattle.pgn_model.specs.Journal.{is_committed_in}
+use Rattle.pgn_model.specs.Due.{due}
+use Rattle.pgn_model.specs.Near.{Near}
+use Rattle.pgn_model.specs.Savepoints.{surviving_notes, firsts, changes_of, live_names}
+use Rattle.pgn_model.specs.Answers.{Outcome, Commits, Replies, Refuses, Silent, GivesChannels, GivesUsage, answer}
+use Rattle.pgn_model.specs.Walk.{Terms, State, Owed, Nothing, Enlisting, Queueing, Leaving, Answering, Listing, Measuring, Raising, Awaiting, Quitting, Ending, Replied, Refused, start, after_item, Allowed, MayRead, leaving_or_answering, queueing_or_settled, settled, at_outcome, at_act, at_line, quitting, IsNext, holder_at}
+use Rattle.pgn_model.specs.Trace.{IsEnd, IsUpToDate, IsFreshAt}
+use Rattle.pgn_model.specs.laws.NextLine.{StandsFresh, ComesNext, CommitsNext, MayEnlist, MayPublish, MayMeetFull, MayReadTo, outcome_in, kept_tag, is_enlisting, is_leaving, enlist_items, publish_items, leave_items, quit_items, enlisted_mark, enlisted_marks, left_mark, published_told, NothingStands, StandsFreshGrows, ComesNextGrows, LineReplies, LineRefuses, LineIsSilent, LineIsKept, LineCommits, LineMeetsFull, LineGivesChannels, LineGivesUsage, LineSignals, LineAwaits, AwaitFinds, AwaitTimesOut, LineQuits, IdleReads, AwaitReads, EndReads, NoListenerIsUpToDate, ReaderIsUpToDate, EndIsLawful, EndIsFresh}
+use Rattle.pgn_model.proofs.NearLaws.{near-itself}
+use Rattle.pgn_model.proofs.WalkLaws.{Along-push_at, Stands-push, Stands-grows}
+use Rattle.pgn_model.proofs.GrowingLaws.{up_to_date-grows, fresh_so_far-grows}
+
+pub nothing-stands : NothingStands
+nothing-stands terms journal = record { stands = record { lawful = tt; state = refl }; fresh = tt }
+
+pub stands_fresh-grows : StandsFreshGrows
+stands_fresh-grows terms journal more items s h shown = record {
+  stands = Stands-grows terms journal more items s h.stands;
+  fresh = fresh_so_far-grows terms journal more items h.stands.lawful shown h.fresh;
+}
+
+pub comes_next-grows : ComesNextGrows
+comes_next-grows terms journal more s line act lines told h = record {
+  answered = h.answered;
+  next = h.next;
+  does = h.does;
+  up_to_date = λ idle. up_to_date-grows terms journal more s told (h.up_to_date idle);
+}
+
+-- one more item at the end
+pub StandsFresh-push : (terms : Terms) (journal : List Tx) (items : List Item) (s : State) (item : Item)
+    → StandsFresh terms journal items s → Allowed terms journal s item → IsFreshAt terms journal s item → StandsFresh terms journal (items ++ item ∷ []) (after_item s item)
+StandsFresh-push terms journal items s item h allowed fresh = record {
+  stands = Stands-push terms journal items s item h.stands allowed;
+  fresh = Along-push_at after_item (IsFreshAt terms journal) (start terms.section) s items item h.stands.state h.fresh fresh;
+}
+
+-- no item at the end
+without : (terms : Terms) (journal : List Tx) (items : List Item) (s : State) → StandsFresh terms journal items s → StandsFresh terms journal (items ++ []) s
+without terms journal items s h = subst (λ (is : List Item). StandsFresh terms journal is s) (sym (append-nil items)) h
+
+-- what the line still has to show may be given by an equation
+at-owed : (terms : Terms) (journal : List Tx) (items : List Item) (s : State) (owed : Owed) → s.owed ≡ owed → StandsFresh terms journal items s → StandsFresh terms journal items (record s { owed = owed })
+at-owed terms journal items s owed e h = subst (λ (o : Owed). StandsFresh terms journal items (record s { owed = o })) e h
+
+-- the next line begins
+begins : (terms : Terms) (journal : List Tx) (items : List Item) (s : State) (line : ScriptLine) (act : Act) (lines : List ScriptLine)
+    → StandsFresh terms journal items s → ComesNext terms journal s line act lines
+    → StandsFresh terms journal (items ++ Line line.line ∷ []) (at_act (record s { rest = lines; owed = Nothing }) act)
+begins terms journal items s line act lines h next =
+    let begun : List Item = items ++ Line line.line ∷ [] in
+    let is_next : IsNext line.line s.rest = subst (λ (ls : List ScriptLine). IsNext line.line ls) (sym next.next) refl in
+    let one : StandsFresh terms journal begun (at_line s s.rest) = StandsFresh-push terms journal items s (Line line.line) h (record { answered = next.answered; next = is_next }) next.up_to_date in
+    let two : StandsFresh terms journal begun (at_line s (line ∷ lines)) = subst (λ (ls : List ScriptLine). StandsFresh terms journal begun (at_line s ls)) next.next one in
+    let three : StandsFresh terms journal begun (at_act (record s { rest = lines; owed = Nothing }) line.act) =
+    subst (λ (o : Owed). StandsFresh terms journal begun (at_act (record s { rest = lines; owed = o }) line.act)) next.answered two in
+    subst (λ (a : Act). StandsFresh terms journal begun (at_act (record s { rest = lines; owed = Nothing }) a)) next.does three
+
+-- a command begins
+begins-command : (terms : Terms) (journal : List Tx) (items : List Item) (s : State) (line : ScriptLine) (command : Command) (lines : List ScriptLine) (outcome : Outcome)
+    → StandsFresh terms journal items s → ComesNext terms journal s line (Run command) lines → outcome_in s command ≡ outcome
+    → StandsFresh terms journal (items ++ Line line.line ∷ []) (at_outcome (record s { rest = lines; owed = Nothing }) command outcome)
+begins-command terms journal items s line command lines outcome h next e =
+    subst (λ (o : Outcome). StandsFresh terms journal (items ++ Line line.line ∷ []) (at_outcome (record s { rest = lines; owed = Nothing }) command o)) e
+    (begins terms journal items s line (Run command) lines h next)
+
+pub line-replies : LineReplies
+line-replies terms journal items s line lines command done warning next h comes e =
+    let begun : State = at_outcome (record s { rest = lines; owed = Nothing }) command (Replies done warning next) in
+    StandsFresh-push terms journal (items ++ Line line.line ∷ []) begun (Reply done warning) (begins-command terms journal items s line command lines (Replies done warning next) h comes e) refl tt
+
+pub line-refuses : LineRefuses
+line-refuses terms journal items s line lines command refusal next h comes e =
+    let begun : State = at_outcome (record s { rest = lines; owed = Nothing }) command (Refuses refusal next) in
+    StandsFresh-push terms journal (items ++ Line line.line ∷ []) begun (Refuse refusal) (begins-command terms journal items s line command lines (Refuses refusal next) h comes e) refl tt
+
+pub line-is_silent : LineIsSilent
+line-is_silent terms journal items s line lines command h comes e = begins-command terms journal items s line command lines Silent h comes e
+
+-- a command that is kept is answered by its tag
+kept-replies : (live set : List (List ℕ)) (c : Command) (done : Tag) → kept_tag c ≡ Some done → answer InBlock live set c ≡ Replies done None InBlock
+kept-replies live set (command.Listen name) done e = cc
+kept-replies live set (command.Unlisten name) done e = cc
+kept-replies live set command.UnlistenAll done e = cc
+kept-replies live set (command.Notify note) done e = cc
+kept-replies live set (command.PgNotify note) done e = cc
+kept-replies live set other done e = absurd (let no : ⊥ = cc in no)
+
+pub line-is_kept : LineIsKept
+line-is_kept terms journal items s line lines command done h comes in_block kept =
+    line-replies terms journal items s line lines command done None InBlock h comes
+    (ap (λ (b : BlockState). answer b (live_names s.changes) s.set command) in_block ∙ kept-replies (live_names s.changes) s.set command done kept)
+
+-- the item that ends an answer
+abbrev answer_item : Ending → Item
+answer_item (Replied done warning) = Reply done warning
+answer_item (Refused refusal) = Refuse refusal
+
+-- the answer comes
+answers : (terms : Terms) (journal : List Tx) (items : List Item) (s : State) (ending : Ending)
+    → StandsFresh terms journal items (record s { owed = Answering ending }) → StandsFresh terms journal (items ++ answer_item ending ∷ []) (record s { owed = Nothing })
+answers terms journal items s (Replied done warning) h = StandsFresh-push terms journal items (record s { owed = Answering (Replied done warning) }) (Reply done warning) h refl tt
+answers terms journal items s (Refused refusal) h = StandsFresh-push terms journal items (record s { owed = Answering (Refused refusal) }) (Refuse refusal) h refl tt
+
+-- a listener whose set is empty leaves, and the answer comes
+leaves : (terms : Terms) (journal : List Tx) (items : List Item) (s : State) (ending : Ending) (b : Bool)
+    → (let leaving : State = record s { owed = Leaving ending } in let answering : State = record s { owed = Answering ending } in StandsFresh terms journal items (if b then leaving else answering))
+    → StandsFresh terms journal (items ++ cond b (Leave ∷ []) [] ++ answer_item ending ∷ []) (record s { owed = Nothing; mark = cond b None s.mark })
+leaves terms journal items s ending true h =
+    answers terms journal (items ++ Leave ∷ []) (record s { mark = None }) ending (StandsFresh-push terms journal items (record s { owed = Leaving ending }) Leave h tt tt)
+leaves terms journal items s ending false h = answers terms journal (items ++ []) s ending (without terms journal items (record s { owed = Answering ending }) h)
+
+-- the end of a commit
+ends : (terms : Terms) (journal : List Tx) (items : List Item) (s : State) (ending : Ending) → StandsFresh terms journal items (leaving_or_answering s ending)
+    → StandsFresh terms journal (items ++ leave_items s.mark s.set ++ answer_item ending ∷ []) (record s { owed = Nothing; mark = left_mark s.mark s.set })
+ends terms journal items s ending h = leaves terms journal items s ending (is_leaving s.mark s.set) h
+
+-- the notifications of a commit, if there are any
+publishes : (terms : Terms) (journal : List Tx) (items : List Item) (s : State) (actions : List Action) (notes : List Note) (ending : Ending) (xid : ℕ)
+    → StandsFresh terms journal items (queueing_or_settled s actions notes ending) → (notes ≢ [] → MayPublish terms journal s.told s.mark xid notes)
+    → StandsFresh terms journal (items ++ publish_items notes xid) (settled (record s { told = published_told notes s.told xid }) actions ending)
+publishes terms journal items s actions [] ending xid h may = without terms journal items (settled s actions ending) h
+publishes terms journal items s actions (note ∷ notes) ending xid h may =
+    let now : MayPublish terms journal s.told s.mark xid (note ∷ notes) = may (λ e. cc) in
+    StandsFresh-push terms journal items (record s { owed = Queueing actions (note ∷ notes) ending }) (Publish xid (note ∷ notes)) h
+    (record { expected = refl; after_told = now.after_told; after_mark = now.after_mark; in_journal = now.in_journal }) tt
+
+-- the notifications of a commit meet a full queue
+meets : (terms : Terms) (journal : List Tx) (items : List Item) (s : State) (actions : List Action) (notes : List Note) (ending : Ending) (full : Full)
+    → StandsFresh terms journal items (queueing_or_settled s actions notes ending) → notes ≢ [] → MayMeetFull terms journal s.told s.mark full notes
+    → StandsFresh terms journal (items ++ QueueFull full notes ∷ [])
+    (leaving_or_answering (record s { told = max s.told (full.xid + 1); named = s.named ++ holder_at full.holder full.floor_mark }) (Refused refused.QueueFull))
+meets terms journal items s actions [] ending full h some may = absurd (some refl)
+meets terms journal items s actions (note ∷ notes) ending full h some may =
+    StandsFresh-push terms journal items (record s { owed = Queueing actions (note ∷ notes) ending }) (QueueFull full (note ∷ notes)) h
+    (record { expected = refl; after_told = may.after_told; after_mark = may.after_mark; in_journal = may.in_journal; floor = may.floor }) tt
+
+-- what was owed before the notifications is lost
+owed-lost : (s : State) (owed : Owed) (actions : List Action) (notes : List Note) (ending : Ending) → queueing_or_settled (record s { owed = owed }) actions notes ending ≡ queueing_or_settled s actions notes ending
+owed-lost s owed actions [] ending = refl
+owed-lost s owed actions (note ∷ notes) ending = refl
+
+-- the session becomes a listener, if it is to
+enlists : (terms : Terms) (journal : List Tx) (items : List Item) (s : State) (actions : List Action) (notes : List Note) (ending : Ending) (base point : ℕ) (b : Bool)
+    → (let enlisting : State = record s { owed = Enlisting actions notes ending } in StandsFresh terms journal items (if b then enlisting else queueing_or_settled s actions notes ending))
+    → (b ≡ true → MayEnlist journal s.told s.marks base point)
+    → StandsFresh terms journal (items ++ cond b (Enlist base point ∷ []) [])
+    (queueing_or_settled (record s { mark = cond b (Some point) s.mark; marks = cond b (s.marks ++ base ∷ [] ++ point ∷ []) s.marks }) actions notes ending)
+enlists terms journal items s actions notes ending base point true h may =
+    let now : MayEnlist journal s.told s.marks base point = may refl in
+    let after : State = record s { mark = Some point; marks = s.marks ++ base ∷ [] ++ point ∷ [] } in
+    subst (λ (t : State). StandsFresh terms journal (items ++ Enlist base point ∷ []) t) (owed-lost after (Enlisting actions notes ending) actions notes ending)
+    (StandsFresh-push terms journal items (record s { owed = Enlisting actions notes ending }) (Enlist base point) h
+    (record { expected = tt; from_first = now.from_first; ordered = now.ordered; after_told = now.after_told; after_marks = now.after_marks; in_journal = now.in_journal }) tt)
+enlists terms journal items s actions notes ending base point false h may = without terms journal items (queueing_or_settled s actions notes ending) h
+
+-- a commit begins, and makes the session a listener, if it is to
+commits : (terms : Terms) (journal : List Tx) (items : List Item) (s : State) (line : ScriptLine) (lines : List ScriptLine) (command : Command) (done : Tag) (actions : List Action) (notes : List Note) (base point : ℕ)
+    → StandsFresh terms journal items s → CommitsNext terms journal s line lines command done actions notes
+    → (is_enlisting actions s.mark ≡ true → MayEnlist journal s.told s.marks base point)
+    → StandsFresh terms journal (items ++ Line line.line ∷ [] ++ enlist_items actions s.mark base point)
+    (queueing_or_settled (record s { rest = lines; owed = Nothing; block = Idle; changes = []; mark = enlisted_mark actions s.mark point; marks = enlisted_marks actions s.mark s.marks base point }) actions notes (Replied done None))
+commits terms journal items s line lines command done actions notes base point h next may =
+    let ending : Ending = Replied done None in
+    let begun : List Item = items ++ Line line.line ∷ [] in
+    let idle : State = record s { rest = lines; owed = Nothing; block = Idle; changes = [] } in
+    let one = begins-command terms journal items s line command lines (Commits done) h next.comes next.commits in
+    let two = subst (λ (acts : List Action). let enlisting : State = record idle { owed = Enlisting acts (firsts (surviving_notes (s.changes ++ changes_of command))) ending } in
+    StandsFresh terms journal begun (if is_enlisting acts s.mark then enlisting else queueing_or_settled idle acts (firsts (surviving_notes (s.changes ++ changes_of command))) ending)) (sym next.actions_are) one in
+    let three = subst (λ (ns : List Note). let enlisting : State = record idle { owed = Enlisting actions ns ending } in
+    StandsFresh terms journal begun (if is_enlisting actions s.mark then enlisting else queueing_or_settled idle actions ns ending)) (sym next.notes_are) two in
+    enlists terms journal begun idle actions notes ending base point (is_enlisting actions s.mark) three may
+
+pub line-commits : LineCommits
+line-commits terms journal items s line lines command done actions notes base point xid h next enlist publish =
+    let begun : List Item = items ++ Line line.line ∷ [] ++ enlist_items actions s.mark base point in
+    let joined : State = record s { rest = lines; owed = Nothing; block = Idle; changes = []; mark = enlisted_mark actions s.mark point; marks = enlisted_marks actions s.mark s.marks base point } in
+    let one = commits terms journal items s line lines command done actions notes base point h next enlist in
+    let two = publishes terms journal begun joined actions notes (Replied done None) xid one publish in
+    ends terms journal (begun ++ publish_items notes xid) (record joined { told = published_told notes s.told xid; set = applied s.set actions }) (Replied done None) two
+
+pub line-meets_full : LineMeetsFull
+line-meets_full terms journal items s line lines command done actions notes base point full h next enlist some meet =
+    let begun : List Item = items ++ Line line.line ∷ [] ++ enlist_items actions s.mark base point in
+    let joined : State = record s { rest = lines; owed = Nothing; block = Idle; changes = []; mark = enlisted_mark actions s.mark point; marks = enlisted_marks actions s.mark s.marks base point } in
+    let one = commits terms journal items s line lines command done actions notes base point h next enlist in
+    let two = meets terms journal begun joined actions notes (Replied done None) full one some meet in
+    ends terms journal (begun ++ QueueFull full notes ∷ []) (record joined { told = max s.told (full.xid + 1); named = s.named ++ holder_at full.holder full.floor_mark }) (Refused refused.QueueFull) two
+
+pub line-gives_channels : LineGivesChannels
+line-gives_channels terms journal items s line lines command names h comes e =
+    let ending : Ending = Replied (tag.Select (length names)) None in
+    let begun : List Item = items ++ Line line.line ∷ [] in
+    let next : State = record s { rest = lines } in
+    let one = begins-command terms journal items s line command lines (GivesChannels names) h comes e in
+    let two = StandsFresh-push terms journal begun (record next { owed = Listing names ending }) (Channels names) one refl tt in
+    answers terms journal (begun ++ Channels names ∷ []) next ending two
+
+pub line-gives_usage : LineGivesUsage
+line-gives_usage terms journal items s line lines command usage h comes e may =
+    let ending : Ending = Replied (tag.Select 1) None in
+    let begun : List Item = items ++ Line line.line ∷ [] in
+    let next : State = record s { rest = lines } in
+    let one = begins-command terms journal items s line command lines GivesUsage h comes e in
+    let two = StandsFresh-push terms journal begun (record next { owed = Measuring ending }) (Used usage) one
+    (record { expected = tt; after_told = may.after_told; after_mark = may.after_mark; shown = may.shown; floor = may.floor }) tt in
+    answers terms journal (begun ++ Used usage ∷ []) (record next { named = s.named ++ holder_at usage.holder usage.floor_mark }) ending two
+
+pub line-signals : LineSignals
+line-signals terms journal items s line lines flag h comes =
+    StandsFresh-push terms journal (items ++ Line line.line ∷ []) (record s { rest = lines; owed = Raising flag }) (Raise s.told) (begins terms journal items s line (Signal flag) lines h comes) (record { expected = tt; told = refl }) tt
+
+pub line-awaits : LineAwaits
+line-awaits terms journal items s line lines flag h comes = begins terms journal items s line (Await flag) lines h comes
+
+pub await-finds : AwaitFinds
+await-finds terms journal items s flag value h awaited raised found =
+    StandsFresh-push terms journal items (record s { owed = Awaiting flag }) (Found value) (at-owed terms journal items s (Awaiting flag) awaited h) (raised, found) tt
+
+pub await-times_out : AwaitTimesOut
+await-times_out terms journal items s flag h awaited raised found =
+    StandsFresh-push terms journal items (record s { owed = Awaiting flag }) (TimedOut terms.settings.patience) (at-owed terms journal items s (Awaiting flag) awaited h) (record { awaited = (raised, found); patient = refl }) tt
+
+-- a listener that quits leaves
+quits : (terms : Terms) (journal : List Tx) (items : List Item) (s : State) (mark : Option ℕ) → StandsFresh terms journal items (quitting (record s { owed = Nothing; mark = mark }))
+    → StandsFresh terms journal (items ++ quit_items mark) (record s { owed = Nothing; block = Idle; changes = []; set = []; mark = None })
+quits terms journal items s None h = without terms journal items (record s { owed = Nothing; block = Idle; changes = []; set = []; mark = None }) h
+quits terms journal items s (Some mark) h = StandsFresh-push terms journal items (record s { owed = Quitting; block = Idle; changes = []; set = []; mark = Some mark }) Leave h tt tt
+
+pub line-quits : LineQuits
+line-quits terms journal items s line lines h comes = quits terms journal (items ++ Line line.line ∷ []) (record s { rest = lines }) s.mark (begins terms journal items s line Quit lines h comes)
+
+-- a read where the session may read
+reads : (terms : Terms) (journal : List Tx) (items : List Item) (s : State) (from to : ℕ) → StandsFresh terms journal items s → MayRead s s.owed → MayReadTo journal s from to
+    → StandsFresh terms journal (items ++ Read from to (due journal from to terms.section.db s.set) ∷ []) (record s { mark = Some to; marks = s.marks ++ to ∷ [] })
+reads terms journal items s from to h in_turn may =
+    StandsFresh-push terms journal items s (Read from to (due journal from to terms.section.db s.set)) h
+    (record { in_turn = in_turn; from_mark = may.from_mark; forward = may.forward; after_told = may.after_told; in_journal = may.in_journal; received = refl }) tt
+
+pub idle-reads : IdleReads
+idle-reads terms journal items s from to h answered idle may = reads terms journal items s from to h (subst (MayRead s) (sym answered) (inl idle)) may
+
+pub await-reads : AwaitReads
+await-reads terms journal items s flag from to h awaited idle may = reads terms journal items s from to h (subst (MayRead s) (sym awaited) idle) may
+
+pub end-reads : EndReads
+end-reads terms journal items s from to h answered done may = reads terms journal items s from to h (subst (MayRead s) (sym answered) (inr done)) may
+
+pub no_listener-is_up_to_date : NoListenerIsUpToDate
+no_listener-is_up_to_date terms journal s e = subst (λ (mark : Option ℕ). IfSome mark (λ m. Near terms.settings.format (is_committed_in terms.section.db) journal m s.told)) (sym e) tt
+
+pub reader-is_up_to_date : ReaderIsUpToDate
+reader-is_up_to_date terms journal s mark e told = subst (λ (mark : Option ℕ). IfSome mark (λ m. Near terms.settings.format (is_committed_in terms.section.db) journal m s.told)) (sym e)
+    (near-itself terms.settings.format (is_committed_in terms.section.db) journal mark s.told told)
+
+pub end-is_lawful : EndIsLawful
+end-is_lawful terms journal trace s h closes = record {
+  session = closes.session;
+  database = closes.database;
+  lawful = h.lawful;
+  ended = subst (λ (t : State). IsEnd t trace.last) (sym h.state) (record { answered = closes.answered; done = closes.done; mark = closes.mark });
+}
+
+pub end-is_fresh : EndIsFresh
+end-is_fresh terms journal trace s h up_to_date = record {
+  between_lines = h.fresh;
+  at_end = subst (λ (t : State). IsUpToDate terms journal t) (sym h.stands.state) up_to_date;
+}

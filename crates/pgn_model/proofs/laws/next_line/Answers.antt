@@ -1,0 +1,71 @@
+use Rattle.pgn_model.proofs.NextLineLaws.{nothing-stands, stands_fresh-grows, comes_next-grows, line-replies, line-refuses, line-is_silent, line-is_kept, line-commits, line-meets_full, line-gives_channels, line-gives_usage, line-signals, line-awaits, await-finds, await-times_out, line-quits, idle-reads, await-reads, end-reads, no_listener-is_up_to_date, reader-is_up_to_date, end-is_lawful, end-is_fresh}
+use Rattle.pgn_model.proofs.laws.next_line.Goals as goal
+
+pub returns-clause-nothing_stands : goal.returns-clause-nothing_stands
+returns-clause-nothing_stands c = nothing-stands
+
+pub returns-clause-stands_fresh_grows : goal.returns-clause-stands_fresh_grows
+returns-clause-stands_fresh_grows c = stands_fresh-grows
+
+pub returns-clause-comes_next_grows : goal.returns-clause-comes_next_grows
+returns-clause-comes_next_grows c = comes_next-grows
+
+pub returns-clause-replies : goal.returns-clause-replies
+returns-clause-replies c = line-replies
+
+pub returns-clause-refuses : goal.returns-clause-refuses
+returns-clause-refuses c = line-refuses
+
+pub returns-clause-is_silent : goal.returns-clause-is_silent
+returns-clause-is_silent c = line-is_silent
+
+pub returns-clause-is_kept : goal.returns-clause-is_kept
+returns-clause-is_kept c = line-is_kept
+
+pub returns-clause-commits : goal.returns-clause-commits
+returns-clause-commits c = line-commits
+
+pub returns-clause-meets_full : goal.returns-clause-meets_full
+returns-clause-meets_full c = line-meets_full
+
+pub returns-clause-gives_channels : goal.returns-clause-gives_channels
+returns-clause-gives_channels c = line-gives_channels
+
+pub returns-clause-gives_usage : goal.returns-clause-gives_usage
+returns-clause-gives_usage c = line-gives_usage
+
+pub returns-clause-signals : goal.returns-clause-signals
+returns-clause-signals c = line-signals
+
+pub returns-clause-awaits : goal.returns-clause-awaits
+returns-clause-awaits c = line-awaits
+
+pub returns-clause-finds : goal.returns-clause-finds
+returns-clause-finds c = await-finds
+
+pub returns-clause-times_out : goal.returns-clause-times_out
+returns-clause-times_out c = await-times_out
+
+pub returns-clause-quits : goal.returns-clause-quits
+returns-clause-quits c = line-quits
+
+pub returns-clause-idle_reads : goal.returns-clause-idle_reads
+returns-clause-idle_reads c = idle-reads
+
+pub returns-clause-await_reads : goal.returns-clause-await_reads
+returns-clause-await_reads c = await-reads
+
+pub returns-clause-end_reads : goal.returns-clause-end_reads
+returns-clause-end_reads c = end-reads
+
+pub returns-clause-no_listener : goal.returns-clause-no_listener
+returns-clause-no_listener c = no_listener-is_up_to_date
+
+pub returns-clause-reader : goal.returns-clause-reader
+returns-clause-reader c = reader-is_up_to_date
+
+pub returns-clause-end_is_lawful : goal.returns-clause-end_is_lawful
+returns-clause-end_is_lawful c = end-is_lawful
+
+pub returns-clause-end_is_fresh : goal.returns-clause-end_is_fresh
+returns-clause-end_is_fresh c = end-is_fresh
