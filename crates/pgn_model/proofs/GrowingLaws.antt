@@ -1,6 +1,6 @@
 -- Proofs of the laws of a trace as the journal grows.
 use Rattle.std.proofs.Common.{◌≡◌, ℕ, ◌+◌, ◌-◌, ◌<◌, ◌≤◌, max, Bool, true, false, List, [], ◌∷◌, ◌++◌, length, Option, Some, None, IfSome, All, fold, if◌then◌else◌, is_some, is_none, ◌&&◌, sym, refl, subst, arith, length-append}
-use Rattle.std.proofs.lemmas.List.Elements.{All-nil, All-head, All-tail, All-push, All-weaker}
+use Rattle.std.proofs.lemmas.List.Elements.{All-nil, All-head, All-tail, All-push, All-weaker, All-cons, All-pop}
 use Rattle.std.specs.List.{list_any}
 use Rattle.pgn_base.specs.declared.note.Note.{Note}
 use Rattle.pgn_base.specs.declared.listen_set.Action.{Action}
@@ -15,10 +15,10 @@ use Rattle.pgn_model.specs.Near.{Near}
 use Rattle.pgn_model.specs.Savepoints.{Change, surviving_actions, surviving_notes, firsts, is_listen, live_names, changes_of}
 use Rattle.pgn_model.specs.Answers.{Outcome, Commits, Replies, Refuses, Silent, GivesChannels, GivesUsage, answer, next_state, list_after}
 use Rattle.pgn_model.specs.Along.{Along}
-use Rattle.pgn_model.specs.Walk.{Settings, Terms, State, Owed, Enlisting, Queueing, Leaving, Answering, Listing, Measuring, Raising, Awaiting, Quitting, Ending, start, after_item, Allowed, IsCommittedBy, IsAbortedBy, is_empty_set, leaving_or_answering, queueing_or_settled, committing, owing, at_act, at_line, at_enlist, at_publish, at_full, at_leave, at_rows, at_raise, at_found}
+use Rattle.pgn_model.specs.Walk.{Settings, Terms, State, Owed, Enlisting, Queueing, Leaving, Answering, Listing, Measuring, Raising, Awaiting, Quitting, Ending, start, after_item, Allowed, IsCommittedBy, IsAbortedBy, is_empty_set, leaving_or_answering, queueing_or_settled, committing, owing, at_act, at_line, at_enlist, at_publish, at_full, at_leave, at_rows, at_raise, at_found, IsAwaiting, holder_at, IsGreatest}
 use Rattle.pgn_model.specs.Trace.{IsLawful, IsFreshAt, state_after}
 use Rattle.pgn_model.specs.Legal.{IsShownWithin, IsFullThere}
-use Rattle.pgn_model.specs.laws.Growing.{IsStateWithin, ShownGrows, ShownOver, FullGrows, ToldWithin, MarksWithin, MarkWithin, StateWithin, UpToDateGrows, FreshSoFarGrows, TraceOkGrows, FreshGrows}
+use Rattle.pgn_model.specs.laws.Growing.{IsStateWithin, ShownGrows, ShownOver, FullGrows, ToldWithin, MarksWithin, MarkWithin, StateWithin, UpToDateGrows, FreshSoFarGrows, TraceOkGrows, FreshGrows, LawfulShows}
 use Rattle.pgn_model.proofs.JournalLaws.{entry-within}
 use Rattle.pgn_model.proofs.NearLaws.{near-grows}
 use Rattle.pgn_model.proofs.QueueUseLaws.{no_page-grows}
@@ -49,9 +49,10 @@ pub record Carried : Type 0 where
   pub told : ℕ
   pub mark : Option ℕ
   pub marks : List ℕ
+  pub found : List (ℕ × ℕ)
 
 abbrev carried : State → Carried
-carried s = record { told = s.told; mark = s.mark; marks = s.marks }
+carried s = record { told = s.told; mark = s.mark; marks = s.marks; found = s.found }
 
 carried-either : (x y : State) (c : Carried) (b : Bool) → carried x ≡ c → carried y ≡ c → carried (if b then x else y) ≡ c
 carried-either x y c true h k = h
@@ -117,7 +118,7 @@ carried-raise : (value : ℕ) (s : State) (owed : Owed) → carried (at_raise va
 carried-raise value s (Raising flag) = refl
 carried-raise value s owed = refl
 
-marks-found : (value : ℕ) (s : State) (owed : Owed) → carried (at_found value s owed) ≡ record { told = (at_found value s owed).told; mark = s.mark; marks = s.marks }
+marks-found : (value : ℕ) (s : State) (owed : Owed) → carried (at_found value s owed) ≡ record { told = (at_found value s owed).told; mark = s.mark; marks = s.marks; found = (at_found value s owed).found }
 marks-found value s (Awaiting flag) = refl
 marks-found value s owed = refl
 
@@ -253,6 +254,103 @@ full-there settings journal more item h = tt
 
 pub full-grows : FullGrows
 full-grows settings journal more items full = All-weaker (IsFullThere settings journal) (IsFullThere settings (journal ++ more)) (full-there settings journal more) items full
+
+-- where an item shows that a flag was found, it does so with a number within n
+abbrev IsFoundWithin : ℕ → Item → Type 0
+IsFoundWithin n (Found value) = value ≤ n
+IsFoundWithin n item = Unit {0}
+
+-- each flag was found with a number within n
+abbrev AreFoundWithin : ℕ → List (ℕ × ℕ) → Type 0
+AreFoundWithin n found = All (λ pair. pair.1 ≤ n) found
+
+found-same : (s t : State) (n : ℕ) → carried t ≡ carried s → AreFoundWithin n t.found → AreFoundWithin n s.found
+found-same s t n e h = subst (λ (c : Carried). AreFoundWithin n c.found) e h
+
+found-here : (value : ℕ) (s : State) (owed : Owed) (n : ℕ) (P : ℕ → Type 0) → IsAwaiting owed P → AreFoundWithin n (at_found value s owed).found → (value ≤ n) × AreFoundWithin n s.found
+found-here value s (Awaiting flag) n P h k =
+    let both = All-pop (λ (pair : ℕ × ℕ). pair.1 ≤ n) (s.found ++ (flag, value) ∷ []) s.found (Some (flag, value)) refl k in
+    (both.1, both.0)
+found-here value s owed n P h k = absurd h
+
+-- what was found after an item was found before it or is what it shows
+found-before : (terms : Terms) (journal : List Tx) (s : State) (item : Item) (n : ℕ) → Allowed terms journal s item → AreFoundWithin n (after_item s item).found → IsFoundWithin n item × AreFoundWithin n s.found
+found-before terms journal s (Line line) n h k = (tt, found-same s (at_line s s.rest) n (carried-line s s.rest) k)
+found-before terms journal s (Enlist base point) n h k =
+    let before : State = record s { mark = Some point; marks = s.marks ++ base ∷ [] ++ point ∷ [] } in
+    (tt, found-same before (at_enlist before s.owed) n (carried-enlist before s.owed) k)
+found-before terms journal s (Publish xid notes) n h k =
+    let before : State = record s { told = max s.told (xid + 1) } in
+    (tt, found-same before (at_publish before s.owed) n (carried-publish before s.owed) k)
+found-before terms journal s (QueueFull full notes) n h k =
+    let before : State = record s { told = max s.told (full.xid + 1); named = s.named ++ holder_at full.holder full.floor_mark } in
+    (tt, found-same before (at_full before s.owed) n (carried-full before s.owed) k)
+found-before terms journal s Leave n h k =
+    let before : State = record s { mark = None } in
+    (tt, found-same before (at_leave before s.owed) n (carried-leave before s.owed) k)
+found-before terms journal s (Reply tag warning) n h k = (tt, k)
+found-before terms journal s (Refuse refusal) n h k = (tt, k)
+found-before terms journal s (Channels names) n h k = (tt, found-same s (at_rows s s.owed) n (carried-rows s s.owed) k)
+found-before terms journal s (Used usage) n h k =
+    let before : State = record s { named = s.named ++ holder_at usage.holder usage.floor_mark } in
+    (tt, found-same before (at_rows before s.owed) n (carried-rows before s.owed) k)
+found-before terms journal s (Raise value) n h k = (tt, found-same s (at_raise value s s.owed) n (carried-raise value s s.owed) k)
+found-before terms journal s (Found value) n h k = found-here value s s.owed n (λ (flag : ℕ). IsGreatest s.raised flag value × IsGreatest s.found flag value) h k
+found-before terms journal s (TimedOut looks) n h k = (tt, k)
+found-before terms journal s (Read from to got) n h k = (tt, k)
+
+-- each item that shows a found flag shows a number that the walk has kept
+found-items : (terms : Terms) (journal : List Tx) (n : ℕ) (s : State) (items : List Item) → Along after_item (Allowed terms journal) s items → AreFoundWithin n (fold after_item s items).found
+    → Along after_item (λ t item. IsFoundWithin n item) s items × AreFoundWithin n s.found
+found-items terms journal n s [] h k = (tt, k)
+found-items terms journal n s (item ∷ items) h k =
+    let rest = found-items terms journal n (after_item s item) items h.1 k in
+    let here = found-before terms journal s item n h.0 rest.1 in
+    ((here.0, rest.0), here.1)
+
+-- a fact of each item alone
+All-along : {S I : Type 0} (next : S → I → S) (P : I → Type 0) (s : S) (items : List I) → Along next (λ t i. P i) s items → All P items
+All-along next P s [] h = All-nil P
+All-along next P s (i ∷ items) h = All-cons P i items h.0 (All-along next P (next s i) items h.1)
+
+-- what an item shows is within the journal where what the walk carries is
+shows-within : (terms : Terms) (journal : List Tx) (s : State) (item : Item) → Allowed terms journal s item → IsFullThere terms.settings journal item → IsFoundWithin (next_xid journal) item
+    → s.told ≤ next_xid journal → IfSome s.mark (λ m. m ≤ next_xid journal) → IsShownWithin (next_xid journal) item
+shows-within terms journal s (Line line) h full found told mark = tt
+shows-within terms journal s (Enlist base point) h full found told mark = (omega (arith, h.ordered, h.in_journal), h.in_journal)
+shows-within terms journal s (Publish xid notes) h full found told mark =
+    let there : xid - 3 < length journal = entry-within journal (xid - 3) (IsCommittedBy terms.section notes) h.in_journal in
+    omega (arith, there)
+shows-within terms journal s (QueueFull full notes) h there found told mark =
+    let within : full.xid - 3 < length journal = entry-within journal (full.xid - 3) (IsAbortedBy terms.section notes full.queued) h.in_journal in
+    (omega (arith, within), omega (arith, within, there.floor_below))
+shows-within terms journal s Leave h full found told mark = tt
+shows-within terms journal s (Reply tag warning) h full found told mark = tt
+shows-within terms journal s (Refuse refusal) h full found told mark = tt
+shows-within terms journal s (Channels names) h full found told mark = tt
+shows-within terms journal s (Used usage) h full found told mark = (h.shown.in_journal, omega (arith, h.shown.floor_below, h.shown.in_journal))
+shows-within terms journal s (Raise value) h full found told mark = omega (arith, h.told)
+shows-within terms journal s (Found value) h full found told mark = found
+shows-within terms journal s (TimedOut looks) h full found told mark = tt
+shows-within terms journal s (Read from to got) h full found told mark =
+    (subst (λ (m : Option ℕ). IfSome m (λ n. n ≤ next_xid journal)) h.from_mark mark, h.in_journal)
+
+-- along a lawful walk
+shows-along : (terms : Terms) (journal : List Tx) (s : State) (items : List Item) → Along after_item (Allowed terms journal) s items → Along after_item (λ t item. IsFullThere terms.settings journal item) s items
+    → Along after_item (λ t item. IsFoundWithin (next_xid journal) item) s items → s.told ≤ next_xid journal → AreMarksWithin (next_xid journal) s.mark s.marks
+    → Along after_item (λ t item. IsShownWithin (next_xid journal) item) s items
+shows-along terms journal s [] h full found told marks = tt
+shows-along terms journal s (item ∷ items) h full found told marks =
+    let here : IsShownWithin (next_xid journal) item = shows-within terms journal s item h.0 full.0 found.0 told marks.own in
+    (here, shows-along terms journal (after_item s item) items h.1 full.1 found.1 (told-step terms journal s item h.0 here told) (marks-step terms journal s item h.0 marks))
+
+pub lawful-shows : LawfulShows
+lawful-shows terms journal items s h full found =
+    let first : State = start terms.section in
+    let last : AreFoundWithin (next_xid journal) (fold after_item first items).found = subst (λ (t : State). AreFoundWithin (next_xid journal) t.found) (sym h.state) found in
+    All-along after_item (IsShownWithin (next_xid journal)) first items
+    (shows-along terms journal first items h.lawful (Along-all after_item (IsFullThere terms.settings journal) first items full) (found-items terms journal (next_xid journal) first items h.lawful last).0
+    (first-told journal) (record { own = tt; all = All-nil (λ m. m ≤ next_xid journal) }))
 
 pub up_to_date-grows : UpToDateGrows
 up_to_date-grows terms journal more s within h = grown s.mark h

@@ -9,7 +9,7 @@ ghost use Rattle.pgn_model.specs.laws.Due.{DueSplits, DueGrows};
 ghost use Rattle.pgn_model.specs.laws.Near.{NearShrinks, NearItself, NearGrows};
 ghost use Rattle.pgn_model.specs.laws.QueueUse.{NoPageGrows, UsageGrows};
 ghost use Rattle.pgn_model.specs.laws.Walk.{LawfulPushes, LawfulPrefix, LawfulGrows};
-ghost use Rattle.pgn_model.specs.laws.Growing.{ShownGrows, ShownOver, FullGrows, ToldWithin, MarksWithin, MarkWithin, StateWithin, UpToDateGrows, FreshSoFarGrows, TraceOkGrows, FreshGrows};
+ghost use Rattle.pgn_model.specs.laws.Growing.{ShownGrows, ShownOver, FullGrows, ToldWithin, MarksWithin, MarkWithin, StateWithin, LawfulShows, UpToDateGrows, FreshSoFarGrows, TraceOkGrows, FreshGrows};
 ghost use Rattle.pgn_model.specs.laws.NextLine.{NothingStands, StandsFreshGrows, ComesNextGrows, LineReplies, LineRefuses, LineIsSilent, LineIsKept, LineCommits, LineMeetsFull, LineGivesChannels, LineGivesUsage, LineSignals, LineAwaits, AwaitFinds, AwaitTimesOut, LineQuits, IdleReads, AwaitReads, EndReads, NoListenerIsUpToDate, ReaderIsUpToDate, EndIsLawful, EndIsFresh};
 ghost use Rattle.pgn_model.specs.laws.Savepoints.{RolledBackCuts, ReleasedKeeps, SurvivesRolledBack, SurvivesReleased, SurvivesSaved, SurvivesActed, SurvivesNoted, LiveIsSaved, LiveHasSavepoint, RolledBackKeepsSavepoint, RolledBackOfNone, ReleasedOfNone, FirstsInOrder, FirstsDiffer, FirstsHaveAll, FirstsPush, FirstsTwice, LiveAfterChange, LiveSaved, LiveActed, LiveNew, LiveRepeated, LiveRolledBack, LiveReleased, LiveTwice, LiveHasNames, LiveHasActions, LiveHasFirsts};
 ghost use Rattle.pgn_model.specs.laws.Answers.{TableIsTotal, NothingFailsOutside, BlocksBegin, BlocksEnd, BlocksFail, WaysOut, WaysOn, OnlyEmptyIsSilent, ChannelsAreCounted, WhatCommits};
@@ -90,6 +90,8 @@ pub fn growing()
     ensures mark_within { MarkWithin }
     // All of it of a state that items lead to.
     ensures state_within { StateWithin }
+    // A lawful trace shows numbers within the journal alone, if each full queue that it shows was full and each flag was found with a number within it.
+    ensures lawful_shows { LawfulShows }
     // What is up to date, over a journal that has all that was told, is so over a longer one.
     ensures up_to_date_grows { UpToDateGrows }
     // Items that left no read out so far left none out over a longer journal.

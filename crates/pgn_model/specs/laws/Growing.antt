@@ -45,6 +45,13 @@ abbrev pub StateWithin : Type 0
 StateWithin = (terms : Terms) (journal : List Tx) (items : List Item) (s : State)
     → Stands terms journal items s → All (IsShownWithin (next_xid journal)) items → IsStateWithin (next_xid journal) s
 
+-- a lawful trace shows numbers within the journal alone, if each full queue that it shows was full and each flag was found with a
+-- number within the journal
+abbrev pub LawfulShows : Type 0
+LawfulShows = (terms : Terms) (journal : List Tx) (items : List Item) (s : State)
+    → Stands terms journal items s → All (IsFullThere terms.settings journal) items → All (λ pair. pair.1 ≤ next_xid journal) s.found
+    → All (IsShownWithin (next_xid journal)) items
+
 -- a state that is up to date over a journal that has all that it was told of is so over a longer one
 abbrev pub UpToDateGrows : Type 0
 UpToDateGrows = (terms : Terms) (journal more : List Tx) (s : State) → s.told ≤ next_xid journal → IsUpToDate terms journal s → IsUpToDate terms (journal ++ more) s

@@ -1,4 +1,4 @@
-use Rattle.pgn_model.proofs.GrowingLaws.{shown-grows, shown-over, full-grows, told-within, marks-within, mark-within, state-within, up_to_date-grows, fresh_so_far-grows, trace_ok-grows, fresh-grows}
+use Rattle.pgn_model.proofs.GrowingLaws.{shown-grows, shown-over, full-grows, told-within, marks-within, mark-within, state-within, lawful-shows, up_to_date-grows, fresh_so_far-grows, trace_ok-grows, fresh-grows}
 use Rattle.pgn_model.proofs.laws.growing.Goals as goal
 
 pub returns-clause-shown_grows : goal.returns-clause-shown_grows
@@ -33,3 +33,6 @@ returns-clause-trace_ok_grows c = trace_ok-grows
 
 pub returns-clause-fresh_grows : goal.returns-clause-fresh_grows
 returns-clause-fresh_grows c = fresh-grows
+
+pub returns-clause-lawful_shows : goal.returns-clause-lawful_shows
+returns-clause-lawful_shows c = lawful-shows
