@@ -1,5 +1,5 @@
 -- Proofs of the laws of what a session's next line adds to its trace.
-use Rattle.std.proofs.Common.{◌≡◌, ◌≢◌, ℕ, ◌+◌, max, Bool, true, false, cond, List, [], ◌∷◌, ◌++◌, length, Option, Some, None, if◌then◌else◌, IfSome, sym, ap, ◌∙◌, refl, subst, inl, inr, append-nil}
+use Rattle.std.proofs.Common.{◌≡◌, ◌≢◌, ℕ, ◌+◌, max, Bool, true, false, cond, List, [], ◌∷◌, ◌++◌, length, Option, Some, None, if◌then◌else◌, IfSome, sym, ap, ◌∙◌, refl, subst, inl, inr, append-nil, IsSomeAnd, All, slice_get, arith, ◌-◌, ◌≤◌}
 use Rattle.pgn_base.specs.declared.note.Note.{Note}
 use Rattle.pgn_base.specs.declared.answers.Tag.{Tag}
 use Rattle.pgn_base.specs.declared.answers.Tag.TheVariants as tag
@@ -17,17 +17,19 @@ use Rattle.pgn_model.specs.declared.scenario.Act.TheVariants.{Run, Signal, Await
 use Rattle.pgn_model.specs.declared.scenario.ScriptLine.{ScriptLine}
 use Rattle.pgn_model.specs.declared.item.Item.{Item}
 use Rattle.pgn_model.specs.declared.item.Item.TheVariants.{Line, Enlist, Publish, QueueFull, Leave, Reply, Refuse, Channels, Used, Raise, Found, TimedOut, Read}
-use Rattle.pgn_model.specs.Journal.{is_committed_in}
+use Rattle.pgn_model.specs.Journal.{is_committed_in, next_xid, entry}
 use Rattle.pgn_model.specs.Due.{due}
 use Rattle.pgn_model.specs.Near.{Near}
 use Rattle.pgn_model.specs.Savepoints.{surviving_notes, firsts, changes_of, live_names}
 use Rattle.pgn_model.specs.Answers.{Outcome, Commits, Replies, Refuses, Silent, GivesChannels, GivesUsage, answer}
-use Rattle.pgn_model.specs.Walk.{Terms, State, Owed, Nothing, Enlisting, Queueing, Leaving, Answering, Listing, Measuring, Raising, Awaiting, Quitting, Ending, Replied, Refused, start, after_item, Allowed, MayRead, leaving_or_answering, queueing_or_settled, settled, at_outcome, at_act, at_line, quitting, IsNext, holder_at}
+use Rattle.pgn_model.specs.Walk.{Terms, State, Owed, Nothing, Enlisting, Queueing, Leaving, Answering, Listing, Measuring, Raising, Awaiting, Quitting, Ending, Replied, Refused, start, after_item, Allowed, MayRead, leaving_or_answering, queueing_or_settled, settled, at_outcome, at_act, at_line, quitting, IsNext, holder_at, IsCommittedBy, IsAbortedBy}
 use Rattle.pgn_model.specs.Trace.{IsEnd, IsUpToDate, IsFreshAt}
-use Rattle.pgn_model.specs.laws.NextLine.{StandsFresh, ComesNext, CommitsNext, MayEnlist, MayPublish, MayMeetFull, MayReadTo, outcome_in, kept_tag, is_enlisting, is_leaving, enlist_items, publish_items, leave_items, quit_items, enlisted_mark, enlisted_marks, left_mark, published_told, NothingStands, StandsFreshGrows, ComesNextGrows, LineReplies, LineRefuses, LineIsSilent, LineIsKept, LineCommits, LineMeetsFull, LineGivesChannels, LineGivesUsage, LineSignals, LineAwaits, AwaitFinds, AwaitTimesOut, LineQuits, IdleReads, AwaitReads, EndReads, NoListenerIsUpToDate, ReaderIsUpToDate, EndIsLawful, EndIsFresh}
-use Rattle.pgn_model.proofs.NearLaws.{near-itself}
+use Rattle.pgn_model.specs.laws.NextLine.{StandsFresh, ComesNext, CommitsNext, MayEnlist, MayPublish, MayMeetFull, MayReadTo, outcome_in, kept_tag, is_enlisting, is_leaving, enlist_items, publish_items, leave_items, quit_items, enlisted_mark, enlisted_marks, left_mark, published_told, NothingStands, StandsFreshGrows, ComesNextGrows, LineReplies, LineRefuses, LineIsSilent, LineIsKept, LineCommits, LineMeetsFull, LineGivesChannels, LineGivesUsage, LineSignals, LineAwaits, AwaitFinds, AwaitTimesOut, LineQuits, IdleReads, AwaitReads, EndReads, NoListenerIsUpToDate, ReaderIsUpToDate, EndIsLawful, EndIsFresh, LastIsPublished, LastMetFull, CommitFinishes, FullFinishes, CommitKeepsFull, FullKeepsFull, QuietIsUpToDate, published_xids}
+use Rattle.pgn_model.proofs.NearLaws.{near-itself, near-shrinks}
 use Rattle.pgn_model.proofs.WalkLaws.{Along-push_at, Stands-push, Stands-grows}
 use Rattle.pgn_model.proofs.GrowingLaws.{up_to_date-grows, fresh_so_far-grows}
+use Rattle.std.proofs.lemmas.List.Elements.{All-nil, All-push, All-append, filter_map-append}
+use Rattle.pgn_model.specs.Legal.{finished_xid, finished_xids, IsFullThere}
 
 pub nothing-stands : NothingStands
 nothing-stands terms journal = record { stands = record { lawful = tt; state = refl }; fresh = tt }
@@ -206,6 +208,115 @@ line-meets_full terms journal items s line lines command done actions notes base
     let two = meets terms journal begun joined actions notes (Replied done None) full one some meet in
     ends terms journal (begun ++ QueueFull full notes ∷ []) (record joined { told = max s.told (full.xid + 1); named = s.named ++ holder_at full.holder full.floor_mark }) (Refused refused.QueueFull) two
 
+-- the last of a journal
+entry-last : (journal : List Tx) (tx : Tx) (P : Tx → Type 0) → P tx → IsSomeAnd (slice_get (journal ++ tx ∷ []) (length journal)) P
+entry-last [] tx P p = p
+entry-last (first ∷ journal) tx P p = entry-last journal tx P p
+
+pub entry-next : (journal : List Tx) (tx : Tx) (x : ℕ) (P : Tx → Type 0) → x ≡ next_xid journal → P tx → IsSomeAnd (entry (journal ++ tx ∷ []) x) P
+entry-next journal tx x P e p =
+    let place : x - 3 ≡ length journal = omega arith in
+    subst (λ (k : ℕ). IsSomeAnd (slice_get (journal ++ tx ∷ []) k) P) (sym place) (entry-last journal tx P p)
+
+pub last-is_published : LastIsPublished
+last-is_published terms journal tx told mark notes after_told after_mark by =
+    record { after_told = after_told; after_mark = after_mark; in_journal = entry-next journal tx (next_xid journal) (IsCommittedBy terms.section notes) refl by }
+
+pub last-met_full : LastMetFull
+last-met_full terms journal tx told mark full notes e after_told after_mark by floor = record {
+  after_told = omega arith;
+  after_mark = subst (λ (n : ℕ). IfSome mark (λ own. own ≤ n)) (sym e) after_mark;
+  in_journal = entry-next journal tx full.xid (IsAbortedBy terms.section notes full.queued) e by;
+  floor = floor;
+}
+
+-- a fact of each item of a commit, where it has one
+enlist-all : (P : Item → Type 0) (base point : ℕ) (b : Bool) → (b ≡ true → P (Enlist base point)) → All P (cond b (Enlist base point ∷ []) [])
+enlist-all P base point true h = All-push P [] (Enlist base point) (All-nil P) (h refl)
+enlist-all P base point false h = All-nil P
+
+publish-all : (P : Item → Type 0) (notes : List Note) (xid : ℕ) → (notes ≢ [] → P (Publish xid notes)) → All P (publish_items notes xid)
+publish-all P [] xid h = All-nil P
+publish-all P (note ∷ notes) xid h = All-push P [] (Publish xid (note ∷ notes)) (All-nil P) (h (λ e. cc))
+
+leave-all : (P : Item → Type 0) (b : Bool) → P Leave → All P (cond b (Leave ∷ []) [])
+leave-all P true h = All-push P [] Leave (All-nil P) h
+leave-all P false h = All-nil P
+
+-- a fact of each item after a commit
+pub commit-all : (P : Item → Type 0) (items : List Item) (line : ℕ) (actions : List Action) (notes : List Note) (mark after : Option ℕ) (set : List (List ℕ)) (done : Tag) (base point xid : ℕ)
+    → All P items → P (Line line) → (is_enlisting actions mark ≡ true → P (Enlist base point)) → (notes ≢ [] → P (Publish xid notes)) → P Leave → P (Reply done None)
+    → All P (items ++ Line line ∷ [] ++ enlist_items actions mark base point ++ publish_items notes xid ++ leave_items after set ++ Reply done None ∷ [])
+commit-all P items line actions notes mark after set done base point xid h begun enlist publish leave reply =
+    let begin : List Item = items ++ Line line ∷ [] in
+    let joined : List Item = begin ++ enlist_items actions mark base point in
+    let sent : List Item = joined ++ publish_items notes xid in
+    let one = All-push P items (Line line) h begun in
+    let two = All-append P begin (enlist_items actions mark base point) one (enlist-all P base point (is_enlisting actions mark) enlist) in
+    let three = All-append P joined (publish_items notes xid) two (publish-all P notes xid publish) in
+    let four = All-append P sent (leave_items after set) three (leave-all P (is_leaving after set) leave) in
+    All-push P (sent ++ leave_items after set) (Reply done None) four reply
+
+-- a fact of each item after a commit that met a full queue
+pub full-all : (P : Item → Type 0) (items : List Item) (line : ℕ) (actions : List Action) (notes : List Note) (mark after : Option ℕ) (set : List (List ℕ)) (base point : ℕ) (full : Full)
+    → All P items → P (Line line) → (is_enlisting actions mark ≡ true → P (Enlist base point)) → P (QueueFull full notes) → P Leave → P (Refuse refused.QueueFull)
+    → All P (items ++ Line line ∷ [] ++ enlist_items actions mark base point ++ QueueFull full notes ∷ [] ++ leave_items after set ++ Refuse refused.QueueFull ∷ [])
+full-all P items line actions notes mark after set base point full h begun enlist met leave refuse =
+    let begin : List Item = items ++ Line line ∷ [] in
+    let joined : List Item = begin ++ enlist_items actions mark base point in
+    let sent : List Item = joined ++ QueueFull full notes ∷ [] in
+    let one = All-push P items (Line line) h begun in
+    let two = All-append P begin (enlist_items actions mark base point) one (enlist-all P base point (is_enlisting actions mark) enlist) in
+    let three = All-push P joined (QueueFull full notes) two met in
+    let four = All-append P sent (leave_items after set) three (leave-all P (is_leaving after set) leave) in
+    All-push P (sent ++ leave_items after set) (Refuse refused.QueueFull) four refuse
+
+-- what the optional items show as finished
+enlist-finishes : (base point : ℕ) (b : Bool) → finished_xids (cond b (Enlist base point ∷ []) []) ≡ []
+enlist-finishes base point true = refl
+enlist-finishes base point false = refl
+
+publish-finishes : (notes : List Note) (xid : ℕ) → finished_xids (publish_items notes xid) ≡ published_xids notes xid
+publish-finishes [] xid = refl
+publish-finishes (note ∷ notes) xid = refl
+
+leave-finishes : (b : Bool) → finished_xids (cond b (Leave ∷ []) []) ≡ []
+leave-finishes true = refl
+leave-finishes false = refl
+
+-- items that show nothing as finished
+finished-more : (items more : List Item) → finished_xids more ≡ [] → finished_xids (items ++ more) ≡ finished_xids items
+finished-more items more e = filter_map-append finished_xid items more ∙ ap (λ (xs : List ℕ). finished_xids items ++ xs) e ∙ append-nil (finished_xids items)
+
+pub commit-finishes : CommitFinishes
+commit-finishes items line actions notes mark after set done base point xid =
+    let begin : List Item = items ++ Line line ∷ [] in
+    let joined : List Item = begin ++ enlist_items actions mark base point in
+    let sent : List Item = joined ++ publish_items notes xid in
+    finished-more (sent ++ leave_items after set) (Reply done None ∷ []) refl
+    ∙ finished-more sent (leave_items after set) (leave-finishes (is_leaving after set))
+    ∙ filter_map-append finished_xid joined (publish_items notes xid)
+    ∙ ap (λ (xs : List ℕ). finished_xids joined ++ xs) (publish-finishes notes xid)
+    ∙ ap (λ (xs : List ℕ). xs ++ published_xids notes xid) (finished-more begin (enlist_items actions mark base point) (enlist-finishes base point (is_enlisting actions mark)) ∙ finished-more items (Line line ∷ []) refl)
+
+pub full-finishes : FullFinishes
+full-finishes items line actions notes mark after set base point full =
+    let begin : List Item = items ++ Line line ∷ [] in
+    let joined : List Item = begin ++ enlist_items actions mark base point in
+    let sent : List Item = joined ++ QueueFull full notes ∷ [] in
+    finished-more (sent ++ leave_items after set) (Refuse refused.QueueFull ∷ []) refl
+    ∙ finished-more sent (leave_items after set) (leave-finishes (is_leaving after set))
+    ∙ filter_map-append finished_xid joined (QueueFull full notes ∷ [])
+    ∙ ap (λ (xs : List ℕ). xs ++ full.xid ∷ []) (finished-more begin (enlist_items actions mark base point) (enlist-finishes base point (is_enlisting actions mark)) ∙ finished-more items (Line line ∷ []) refl)
+
+pub commit-keeps_full : CommitKeepsFull
+commit-keeps_full settings journal items line actions notes mark after set done base point xid h =
+    commit-all (IsFullThere settings journal) items line actions notes mark after set done base point xid h tt (λ e. tt) (λ e. tt) tt tt
+
+pub full-keeps_full : FullKeepsFull
+full-keeps_full settings journal items line actions notes mark after set base point full h no_page =
+    full-all (IsFullThere settings journal) items line actions notes mark after set base point full h tt (λ e. tt) no_page tt tt
+
 pub line-gives_channels : LineGivesChannels
 line-gives_channels terms journal items s line lines command names h comes e =
     let ending : Ending = Replied (tag.Select (length names)) None in
@@ -271,6 +382,14 @@ no_listener-is_up_to_date terms journal s e = subst (λ (mark : Option ℕ). IfS
 pub reader-is_up_to_date : ReaderIsUpToDate
 reader-is_up_to_date terms journal s mark e told = subst (λ (mark : Option ℕ). IfSome mark (λ m. Near terms.settings.format (is_committed_in terms.section.db) journal m s.told)) (sym e)
     (near-itself terms.settings.format (is_committed_in terms.section.db) journal mark s.told told)
+
+pub quiet-is_up_to_date : QuietIsUpToDate
+quiet-is_up_to_date terms journal s told below near = lower s.mark near
+  where
+    lower : (mark : Option ℕ) → IfSome mark (λ m. Near terms.settings.format (is_committed_in terms.section.db) journal m told)
+        → IfSome mark (λ m. Near terms.settings.format (is_committed_in terms.section.db) journal m s.told)
+    lower None h = h
+    lower (Some m) h = near-shrinks terms.settings.format (is_committed_in terms.section.db) journal m m told s.told below (omega arith) h
 
 pub end-is_lawful : EndIsLawful
 end-is_lawful terms journal trace s h closes = record {

@@ -10,7 +10,7 @@ ghost use Rattle.pgn_model.specs.laws.Near.{NearShrinks, NearItself, NearGrows};
 ghost use Rattle.pgn_model.specs.laws.QueueUse.{NoPageGrows, UsageGrows};
 ghost use Rattle.pgn_model.specs.laws.Walk.{LawfulPushes, LawfulPrefix, LawfulGrows};
 ghost use Rattle.pgn_model.specs.laws.Growing.{ShownGrows, ShownOver, FullGrows, ToldWithin, MarksWithin, MarkWithin, StateWithin, LawfulShows, UpToDateGrows, FreshSoFarGrows, TraceOkGrows, FreshGrows};
-ghost use Rattle.pgn_model.specs.laws.NextLine.{NothingStands, StandsFreshGrows, ComesNextGrows, LineReplies, LineRefuses, LineIsSilent, LineIsKept, LineCommits, LineMeetsFull, LineGivesChannels, LineGivesUsage, LineSignals, LineAwaits, AwaitFinds, AwaitTimesOut, LineQuits, IdleReads, AwaitReads, EndReads, NoListenerIsUpToDate, ReaderIsUpToDate, EndIsLawful, EndIsFresh};
+ghost use Rattle.pgn_model.specs.laws.NextLine.{NothingStands, StandsFreshGrows, ComesNextGrows, LineReplies, LineRefuses, LineIsSilent, LineIsKept, LineCommits, LineMeetsFull, LastIsPublished, LastMetFull, CommitFinishes, FullFinishes, CommitKeepsFull, FullKeepsFull, LineGivesChannels, LineGivesUsage, LineSignals, LineAwaits, AwaitFinds, AwaitTimesOut, LineQuits, IdleReads, AwaitReads, EndReads, NoListenerIsUpToDate, ReaderIsUpToDate, QuietIsUpToDate, EndIsLawful, EndIsFresh};
 ghost use Rattle.pgn_model.specs.laws.Savepoints.{RolledBackCuts, ReleasedKeeps, SurvivesRolledBack, SurvivesReleased, SurvivesSaved, SurvivesActed, SurvivesNoted, LiveIsSaved, LiveHasSavepoint, RolledBackKeepsSavepoint, RolledBackOfNone, ReleasedOfNone, FirstsInOrder, FirstsDiffer, FirstsHaveAll, FirstsPush, FirstsTwice, LiveAfterChange, LiveSaved, LiveActed, LiveNew, LiveRepeated, LiveRolledBack, LiveReleased, LiveTwice, LiveHasNames, LiveHasActions, LiveHasFirsts};
 ghost use Rattle.pgn_model.specs.laws.Answers.{TableIsTotal, NothingFailsOutside, BlocksBegin, BlocksEnd, BlocksFail, WaysOut, WaysOn, OnlyEmptyIsSilent, ChannelsAreCounted, WhatCommits};
 
@@ -122,6 +122,18 @@ pub fn next_line()
     ensures commits { LineCommits }
     // A commit that meets a full queue.
     ensures meets_full { LineMeetsFull }
+    // The session's transaction is the journal's last, committed.
+    ensures last_is_published { LastIsPublished }
+    // It is the journal's last, aborted.
+    ensures last_met_full { LastMetFull }
+    // What a trace shows as finished after a commit.
+    ensures commit_finishes { CommitFinishes }
+    // What it shows as finished after a commit that met a full queue.
+    ensures full_finishes { FullFinishes }
+    // The full queues that a trace shows after a commit.
+    ensures commit_keeps_full { CommitKeepsFull }
+    // The full queues that it shows after a commit that met one.
+    ensures full_keeps_full { FullKeepsFull }
     // The channels that the session listens to.
     ensures gives_channels { LineGivesChannels }
     // The queue's usage.
@@ -146,6 +158,8 @@ pub fn next_line()
     ensures no_listener { NoListenerIsUpToDate }
     // Who has read all that it was told of has no more to read.
     ensures reader { ReaderIsUpToDate }
+    // Nor has who need not read up to what it was told of.
+    ensures quiet { QuietIsUpToDate }
     // At the script's end the trace is lawful.
     ensures end_is_lawful { EndIsLawful }
     // And it left no read out.

@@ -26,15 +26,16 @@ use Rattle.pgn_model.specs.declared.scenario.ScriptLine.{ScriptLine}
 use Rattle.pgn_model.specs.declared.item.Item.{Item}
 use Rattle.pgn_model.specs.declared.item.Item.TheVariants.{Line, Enlist, Publish, QueueFull, Leave, Reply, Refuse, Channels, Used, Raise, Found, TimedOut, Read}
 use Rattle.pgn_model.specs.declared.trace.Trace.{Trace}
-use Rattle.pgn_model.specs.Journal.{entry, next_xid}
+use Rattle.pgn_model.specs.Journal.{entry, next_xid, is_committed_in}
 use Rattle.pgn_model.specs.Due.{due}
-use Rattle.pgn_model.specs.QueueUse.{ShowsUsage}
+use Rattle.pgn_model.specs.QueueUse.{ShowsUsage, NoPage}
 use Rattle.pgn_model.specs.Savepoints.{live_names, surviving_actions, surviving_notes, firsts, is_listen, changes_of}
 use Rattle.pgn_model.specs.Answers.{Outcome, Commits, Replies, Refuses, Silent, GivesChannels, GivesUsage, answer, list_after}
 use Rattle.pgn_model.specs.Along.{Along}
-use Rattle.pgn_model.specs.Walk.{Terms, State, Nothing, Awaiting, start, after_item, is_empty_set, holder_at, IsCommittedBy, IsAbortedBy, IsFloorFor, IsGreatest, IsUnknown}
+use Rattle.pgn_model.specs.Walk.{Terms, State, Nothing, Awaiting, start, after_item, is_empty_set, holder_at, IsCommittedBy, IsAbortedBy, IsFloorFor, IsGreatest, IsUnknown, Settings}
 use Rattle.pgn_model.specs.Trace.{TraceOk, Fresh, IsUpToDate, IsFreshAt, Stands}
-use Rattle.pgn_model.specs.Legal.{IsShownWithin}
+use Rattle.pgn_model.specs.Legal.{IsShownWithin, finished_xids, IsFullThere}
+use Rattle.pgn_model.specs.Near.{Near}
 
 -- items that are lawful so far and left no read out where a line began, and the state that they lead to
 pub record StandsFresh (terms : Terms) (journal : List Tx) (items : List Item) (s : State) : Type 0 where
@@ -94,6 +95,11 @@ leave_items mark set = cond (is_leaving mark set) (Leave ∷ []) []
 abbrev pub quit_items : Option ℕ → List Item
 quit_items None = []
 quit_items (Some mark) = Leave ∷ []
+
+-- the number of the transaction of a commit, where there is one
+abbrev pub published_xids : List Note → ℕ → List ℕ
+published_xids [] xid = []
+published_xids (note ∷ notes) xid = xid ∷ []
 
 -- the mark after the Enlist of a commit, if there is one
 abbrev pub enlisted_mark : List Action → Option ℕ → ℕ → Option ℕ
@@ -241,6 +247,42 @@ LineMeetsFull = (terms : Terms) (journal : List Tx) (items : List Item) (s : Sta
     (items ++ Line line.line ∷ [] ++ enlist_items actions s.mark base point ++ QueueFull full notes ∷ [] ++ leave_items (enlisted_mark actions s.mark point) s.set ++ Refuse refused.QueueFull ∷ [])
     (met_full s lines actions base point full)
 
+-- the session's transaction is the journal's last: in step, where a commit was published
+abbrev pub LastIsPublished : Type 0
+LastIsPublished = (terms : Terms) (journal : List Tx) (tx : Tx) (told : ℕ) (mark : Option ℕ) (notes : List Note)
+    → told ≤ next_xid journal → IfSome mark (λ own. own ≤ next_xid journal) → IsCommittedBy terms.section notes tx
+    → MayPublish terms (journal ++ tx ∷ []) told mark (next_xid journal) notes
+
+-- it is the journal's last, and aborted: in step, where a commit met a full queue
+abbrev pub LastMetFull : Type 0
+LastMetFull = (terms : Terms) (journal : List Tx) (tx : Tx) (told : ℕ) (mark : Option ℕ) (full : Full) (notes : List Note)
+    → full.xid ≡ next_xid journal → told ≤ next_xid journal → IfSome mark (λ own. own ≤ next_xid journal) → IsAbortedBy terms.section notes full.queued tx
+    → IsFloorFor terms.section mark full.floor_mark full.holder → MayMeetFull terms (journal ++ tx ∷ []) told mark full notes
+
+-- the transactions that a trace shows as finished, after a commit: in step
+abbrev pub CommitFinishes : Type 0
+CommitFinishes = (items : List Item) (line : ℕ) (actions : List Action) (notes : List Note) (mark after : Option ℕ) (set : List (List ℕ)) (done : Tag) (base point xid : ℕ)
+    → finished_xids (items ++ Line line ∷ [] ++ enlist_items actions mark base point ++ publish_items notes xid ++ leave_items after set ++ Reply done None ∷ [])
+    ≡ finished_xids items ++ published_xids notes xid
+
+-- and after one that met a full queue: in step
+abbrev pub FullFinishes : Type 0
+FullFinishes = (items : List Item) (line : ℕ) (actions : List Action) (notes : List Note) (mark after : Option ℕ) (set : List (List ℕ)) (base point : ℕ) (full : Full)
+    → finished_xids (items ++ Line line ∷ [] ++ enlist_items actions mark base point ++ QueueFull full notes ∷ [] ++ leave_items after set ++ Refuse refused.QueueFull ∷ [])
+    ≡ finished_xids items ++ full.xid ∷ []
+
+-- the full queues that a trace shows, after a commit: in step
+abbrev pub CommitKeepsFull : Type 0
+CommitKeepsFull = (settings : Settings) (journal : List Tx) (items : List Item) (line : ℕ) (actions : List Action) (notes : List Note) (mark after : Option ℕ) (set : List (List ℕ)) (done : Tag) (base point xid : ℕ)
+    → All (IsFullThere settings journal) items
+    → All (IsFullThere settings journal) (items ++ Line line ∷ [] ++ enlist_items actions mark base point ++ publish_items notes xid ++ leave_items after set ++ Reply done None ∷ [])
+
+-- and after one that met a full queue: in step
+abbrev pub FullKeepsFull : Type 0
+FullKeepsFull = (settings : Settings) (journal : List Tx) (items : List Item) (line : ℕ) (actions : List Action) (notes : List Note) (mark after : Option ℕ) (set : List (List ℕ)) (base point : ℕ) (full : Full)
+    → All (IsFullThere settings journal) items → NoPage settings.format settings.limit journal full
+    → All (IsFullThere settings journal) (items ++ Line line ∷ [] ++ enlist_items actions mark base point ++ QueueFull full notes ∷ [] ++ leave_items after set ++ Refuse refused.QueueFull ∷ [])
+
 -- the channels that the session listens to: in step
 abbrev pub LineGivesChannels : Type 0
 LineGivesChannels = (terms : Terms) (journal : List Tx) (items : List Item) (s : State) (line : ScriptLine) (lines : List ScriptLine) (command : Command) (names : List (List ℕ))
@@ -310,6 +352,11 @@ NoListenerIsUpToDate = (terms : Terms) (journal : List Tx) (s : State) → s.mar
 -- who has read all that it was told of has no more to read: in idle and in finish_read, after a read
 abbrev pub ReaderIsUpToDate : Type 0
 ReaderIsUpToDate = (terms : Terms) (journal : List Tx) (s : State) (mark : ℕ) → s.mark ≡ Some mark → s.told ≤ mark → IsUpToDate terms journal s
+
+-- nor has who need not read up to a number that is no less than what it was told of: in idle, where it answers that nothing woke it
+abbrev pub QuietIsUpToDate : Type 0
+QuietIsUpToDate = (terms : Terms) (journal : List Tx) (s : State) (told : ℕ) → s.told ≤ told
+    → IfSome s.mark (λ mark. Near terms.settings.format (is_committed_in terms.section.db) journal mark told) → IsUpToDate terms journal s
 
 -- the script's end: the trace is lawful: after the last step, and after finish_read
 abbrev pub EndIsLawful : Type 0

@@ -1,4 +1,4 @@
-use Rattle.pgn_model.proofs.NextLineLaws.{nothing-stands, stands_fresh-grows, comes_next-grows, line-replies, line-refuses, line-is_silent, line-is_kept, line-commits, line-meets_full, line-gives_channels, line-gives_usage, line-signals, line-awaits, await-finds, await-times_out, line-quits, idle-reads, await-reads, end-reads, no_listener-is_up_to_date, reader-is_up_to_date, end-is_lawful, end-is_fresh}
+use Rattle.pgn_model.proofs.NextLineLaws.{nothing-stands, stands_fresh-grows, comes_next-grows, line-replies, line-refuses, line-is_silent, line-is_kept, line-commits, line-meets_full, last-is_published, last-met_full, commit-finishes, full-finishes, commit-keeps_full, full-keeps_full, line-gives_channels, line-gives_usage, line-signals, line-awaits, await-finds, await-times_out, line-quits, idle-reads, await-reads, end-reads, no_listener-is_up_to_date, reader-is_up_to_date, quiet-is_up_to_date, end-is_lawful, end-is_fresh}
 use Rattle.pgn_model.proofs.laws.next_line.Goals as goal
 
 pub returns-clause-nothing_stands : goal.returns-clause-nothing_stands
@@ -69,3 +69,24 @@ returns-clause-end_is_lawful c = end-is_lawful
 
 pub returns-clause-end_is_fresh : goal.returns-clause-end_is_fresh
 returns-clause-end_is_fresh c = end-is_fresh
+
+pub returns-clause-last_is_published : goal.returns-clause-last_is_published
+returns-clause-last_is_published c = last-is_published
+
+pub returns-clause-last_met_full : goal.returns-clause-last_met_full
+returns-clause-last_met_full c = last-met_full
+
+pub returns-clause-commit_finishes : goal.returns-clause-commit_finishes
+returns-clause-commit_finishes c = commit-finishes
+
+pub returns-clause-full_finishes : goal.returns-clause-full_finishes
+returns-clause-full_finishes c = full-finishes
+
+pub returns-clause-commit_keeps_full : goal.returns-clause-commit_keeps_full
+returns-clause-commit_keeps_full c = commit-keeps_full
+
+pub returns-clause-full_keeps_full : goal.returns-clause-full_keeps_full
+returns-clause-full_keeps_full c = full-keeps_full
+
+pub returns-clause-quiet : goal.returns-clause-quiet
+returns-clause-quiet c = quiet-is_up_to_date
