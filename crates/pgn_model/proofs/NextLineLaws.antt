@@ -20,11 +20,11 @@ use Rattle.pgn_model.specs.declared.item.Item.TheVariants.{Line, Enlist, Publish
 use Rattle.pgn_model.specs.Journal.{is_committed_in, next_xid, entry}
 use Rattle.pgn_model.specs.Due.{due}
 use Rattle.pgn_model.specs.Near.{Near}
-use Rattle.pgn_model.specs.Savepoints.{surviving_notes, firsts, changes_of, live_names}
+use Rattle.pgn_model.specs.Savepoints.{surviving_notes, firsts, changes_of, live_names, Change, surviving_actions}
 use Rattle.pgn_model.specs.Answers.{Outcome, Commits, Replies, Refuses, Silent, GivesChannels, GivesUsage, answer}
 use Rattle.pgn_model.specs.Walk.{Terms, State, Owed, Nothing, Enlisting, Queueing, Leaving, Answering, Listing, Measuring, Raising, Awaiting, Quitting, Ending, Replied, Refused, start, after_item, Allowed, MayRead, leaving_or_answering, queueing_or_settled, settled, at_outcome, at_act, at_line, quitting, IsNext, holder_at, IsCommittedBy, IsAbortedBy}
 use Rattle.pgn_model.specs.Trace.{IsEnd, IsUpToDate, IsFreshAt}
-use Rattle.pgn_model.specs.laws.NextLine.{StandsFresh, ComesNext, CommitsNext, MayEnlist, MayPublish, MayMeetFull, MayReadTo, outcome_in, kept_tag, is_enlisting, is_leaving, enlist_items, publish_items, leave_items, quit_items, enlisted_mark, enlisted_marks, left_mark, published_told, NothingStands, StandsFreshGrows, ComesNextGrows, LineReplies, LineRefuses, LineIsSilent, LineIsKept, LineCommits, LineMeetsFull, LineGivesChannels, LineGivesUsage, LineSignals, LineAwaits, AwaitFinds, AwaitTimesOut, LineQuits, IdleReads, AwaitReads, EndReads, NoListenerIsUpToDate, ReaderIsUpToDate, EndIsLawful, EndIsFresh, LastIsPublished, LastMetFull, CommitFinishes, FullFinishes, CommitKeepsFull, FullKeepsFull, QuietIsUpToDate, published_xids}
+use Rattle.pgn_model.specs.laws.NextLine.{StandsFresh, ComesNext, CommitsNext, MayEnlist, MayPublish, MayMeetFull, MayReadTo, outcome_in, kept_tag, is_enlisting, is_leaving, enlist_items, publish_items, leave_items, quit_items, enlisted_mark, enlisted_marks, left_mark, published_told, NothingStands, StandsFreshGrows, ComesNextGrows, LineReplies, LineRefuses, LineIsSilent, LineIsKept, LineCommits, LineMeetsFull, LineGivesChannels, LineGivesUsage, LineSignals, LineAwaits, AwaitFinds, AwaitTimesOut, LineQuits, IdleReads, AwaitReads, EndReads, NoListenerIsUpToDate, ReaderIsUpToDate, EndIsLawful, EndIsFresh, LastIsPublished, LastMetFull, CommitFinishes, FullFinishes, CommitKeepsFull, FullKeepsFull, QuietIsUpToDate, published_xids, BlockCommits, OneCommits}
 use Rattle.pgn_model.proofs.NearLaws.{near-itself, near-shrinks}
 use Rattle.pgn_model.proofs.WalkLaws.{Along-push_at, Stands-push, Stands-grows}
 use Rattle.pgn_model.proofs.GrowingLaws.{up_to_date-grows, fresh_so_far-grows}
@@ -111,6 +111,40 @@ pub line-is_kept : LineIsKept
 line-is_kept terms journal items s line lines command done h comes in_block kept =
     line-replies terms journal items s line lines command done None InBlock h comes
     (ap (λ (b : BlockState). answer b (live_names s.changes) s.set command) in_block ∙ kept-replies (live_names s.changes) s.set command done kept)
+
+-- outside a block it commits
+kept-commits : (live set : List (List ℕ)) (c : Command) (done : Tag) → kept_tag c ≡ Some done → answer Idle live set c ≡ Commits done
+kept-commits live set (command.Listen name) done e = cc
+kept-commits live set (command.Unlisten name) done e = cc
+kept-commits live set command.UnlistenAll done e = cc
+kept-commits live set (command.Notify note) done e = cc
+kept-commits live set (command.PgNotify note) done e = cc
+kept-commits live set other done e = absurd (let no : ⊥ = cc in no)
+
+-- it puts one change into the list, so that its notifications have no repeats
+kept-firsts : (c : Command) (done : Tag) → kept_tag c ≡ Some done → firsts (surviving_notes (changes_of c)) ≡ surviving_notes (changes_of c)
+kept-firsts (command.Listen name) done e = refl
+kept-firsts (command.Unlisten name) done e = refl
+kept-firsts command.UnlistenAll done e = refl
+kept-firsts (command.Notify note) done e = refl
+kept-firsts (command.PgNotify note) done e = refl
+kept-firsts other done e = absurd (let no : ⊥ = cc in no)
+
+pub block-commits : BlockCommits
+block-commits terms journal s line lines actions notes comes in_block actions_are notes_are = record {
+  comes = comes;
+  commits = ap (λ (b : BlockState). answer b (live_names s.changes) s.set command.Commit) in_block;
+  actions_are = actions_are ∙ ap surviving_actions (sym (append-nil s.changes));
+  notes_are = notes_are ∙ ap (λ (cs : List Change). firsts (surviving_notes cs)) (sym (append-nil s.changes));
+}
+
+pub one-commits : OneCommits
+one-commits terms journal s line lines c done actions notes comes idle none kept actions_are notes_are = record {
+  comes = comes;
+  commits = ap (λ (b : BlockState). answer b (live_names s.changes) s.set c) idle ∙ kept-commits (live_names s.changes) s.set c done kept;
+  actions_are = actions_are ∙ ap (λ (cs : List Change). surviving_actions (cs ++ changes_of c)) (sym none);
+  notes_are = notes_are ∙ sym (kept-firsts c done kept) ∙ ap (λ (cs : List Change). firsts (surviving_notes (cs ++ changes_of c))) (sym none);
+}
 
 -- the item that ends an answer
 abbrev answer_item : Ending → Item

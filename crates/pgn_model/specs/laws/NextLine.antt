@@ -19,7 +19,7 @@ use Rattle.pgn_model.specs.declared.tx.Tx.{Tx}
 use Rattle.pgn_model.specs.declared.block_state.BlockState.{BlockState}
 use Rattle.pgn_model.specs.declared.block_state.BlockState.TheVariants.{Idle, InBlock}
 use Rattle.pgn_model.specs.declared.command.Command.{Command}
-use Rattle.pgn_model.specs.declared.command.Command.TheVariants.{Listen, Unlisten, UnlistenAll, Notify, PgNotify}
+use Rattle.pgn_model.specs.declared.command.Command.TheVariants.{Commit, Listen, Unlisten, UnlistenAll, Notify, PgNotify}
 use Rattle.pgn_model.specs.declared.scenario.Act.{Act}
 use Rattle.pgn_model.specs.declared.scenario.Act.TheVariants.{Run, Signal, Await, Quit}
 use Rattle.pgn_model.specs.declared.scenario.ScriptLine.{ScriptLine}
@@ -54,7 +54,7 @@ pub record ComesNext (terms : Terms) (journal : List Tx) (s : State) (line : Scr
 abbrev pub outcome_in : State → Command → Outcome
 outcome_in s command = answer s.block (live_names s.changes) s.set command
 
--- the tag of a command that in a block is kept for its commit
+-- the tag of a command that in a block is kept for its commit, and that outside a block is a transaction of its own
 abbrev pub kept_tag : Command → Option Tag
 kept_tag (Listen name) = Some tag.Listen
 kept_tag (Unlisten name) = Some tag.Unlisten
@@ -225,6 +225,19 @@ abbrev pub LineIsKept : Type 0
 LineIsKept = (terms : Terms) (journal : List Tx) (items : List Item) (s : State) (line : ScriptLine) (lines : List ScriptLine) (command : Command) (done : Tag)
     → StandsFresh terms journal items s → ComesNext terms journal s line (Run command) lines → s.block ≡ InBlock → kept_tag command ≡ Some done
     → StandsFresh terms journal (items ++ Line line.line ∷ [] ++ Reply done None ∷ []) (record s { rest = lines; owed = Nothing; block = InBlock; changes = s.changes ++ changes_of command })
+
+-- COMMIT in a block that has not failed commits what its list has left: in step
+abbrev pub BlockCommits : Type 0
+BlockCommits = (terms : Terms) (journal : List Tx) (s : State) (line : ScriptLine) (lines : List ScriptLine) (actions : List Action) (notes : List Note)
+    → ComesNext terms journal s line (Run Commit) lines → s.block ≡ InBlock → actions ≡ surviving_actions s.changes → notes ≡ firsts (surviving_notes s.changes)
+    → CommitsNext terms journal s line lines Commit tag.Commit actions notes
+
+-- LISTEN, UNLISTEN, UNLISTEN *, NOTIFY and a call of pg_notify outside a block commit what they put into the list: in step
+abbrev pub OneCommits : Type 0
+OneCommits = (terms : Terms) (journal : List Tx) (s : State) (line : ScriptLine) (lines : List ScriptLine) (command : Command) (done : Tag) (actions : List Action) (notes : List Note)
+    → ComesNext terms journal s line (Run command) lines → s.block ≡ Idle → s.changes ≡ [] → kept_tag command ≡ Some done
+    → actions ≡ surviving_actions (changes_of command) → notes ≡ surviving_notes (changes_of command)
+    → CommitsNext terms journal s line lines command done actions notes
 
 -- a commit, be it of one command outside a block or of a block: base and point matter only where the session becomes a listener, and
 -- xid only where notifications are published: in step
