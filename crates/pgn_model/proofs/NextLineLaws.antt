@@ -1,5 +1,5 @@
 -- Proofs of the laws of what a session's next line adds to its trace.
-use Rattle.std.proofs.Common.{◌≡◌, ◌≢◌, ℕ, ◌+◌, max, Bool, true, false, cond, List, [], ◌∷◌, ◌++◌, length, Option, Some, None, if◌then◌else◌, IfSome, sym, ap, ◌∙◌, refl, subst, inl, inr, append-nil, IsSomeAnd, All, slice_get, arith, ◌-◌, ◌≤◌}
+use Rattle.std.proofs.Common.{◌≡◌, ◌≢◌, ℕ, ◌+◌, max, Bool, true, false, cond, List, [], ◌∷◌, ◌++◌, length, Option, Some, None, if◌then◌else◌, IfSome, sym, ap, ◌∙◌, refl, subst, inl, inr, append-nil, IsSomeAnd, All, slice_get, arith, ◌-◌, ◌≤◌, length-append}
 use Rattle.pgn_base.specs.declared.note.Note.{Note}
 use Rattle.pgn_base.specs.declared.answers.Tag.{Tag}
 use Rattle.pgn_base.specs.declared.answers.Tag.TheVariants as tag
@@ -24,11 +24,11 @@ use Rattle.pgn_model.specs.Savepoints.{surviving_notes, firsts, changes_of, live
 use Rattle.pgn_model.specs.Answers.{Outcome, Commits, Replies, Refuses, Silent, GivesChannels, GivesUsage, answer}
 use Rattle.pgn_model.specs.Walk.{Terms, State, Owed, Nothing, Enlisting, Queueing, Leaving, Answering, Listing, Measuring, Raising, Awaiting, Quitting, Ending, Replied, Refused, start, after_item, Allowed, MayRead, leaving_or_answering, queueing_or_settled, settled, at_outcome, at_act, at_line, quitting, IsNext, holder_at, IsCommittedBy, IsAbortedBy}
 use Rattle.pgn_model.specs.Trace.{IsEnd, IsUpToDate, IsFreshAt}
-use Rattle.pgn_model.specs.laws.NextLine.{StandsFresh, ComesNext, CommitsNext, MayEnlist, MayPublish, MayMeetFull, MayReadTo, outcome_in, kept_tag, is_enlisting, is_leaving, enlist_items, publish_items, leave_items, quit_items, enlisted_mark, enlisted_marks, left_mark, published_told, NothingStands, StandsFreshGrows, ComesNextGrows, LineReplies, LineRefuses, LineIsSilent, LineIsKept, LineCommits, LineMeetsFull, LineGivesChannels, LineGivesUsage, LineSignals, LineAwaits, AwaitFinds, AwaitTimesOut, LineQuits, IdleReads, AwaitReads, EndReads, NoListenerIsUpToDate, ReaderIsUpToDate, EndIsLawful, EndIsFresh, LastIsPublished, LastMetFull, CommitFinishes, FullFinishes, CommitKeepsFull, FullKeepsFull, QuietIsUpToDate, published_xids, BlockCommits, OneCommits}
+use Rattle.pgn_model.specs.laws.NextLine.{StandsFresh, ComesNext, CommitsNext, MayEnlist, MayPublish, MayMeetFull, MayReadTo, outcome_in, kept_tag, is_enlisting, is_leaving, enlist_items, publish_items, leave_items, quit_items, enlisted_mark, enlisted_marks, left_mark, published_told, NothingStands, StandsFreshGrows, ComesNextGrows, LineReplies, LineRefuses, LineIsSilent, LineIsKept, LineCommits, LineMeetsFull, LineGivesChannels, LineGivesUsage, LineSignals, LineAwaits, AwaitFinds, AwaitTimesOut, LineQuits, IdleReads, AwaitReads, EndReads, NoListenerIsUpToDate, ReaderIsUpToDate, EndIsLawful, EndIsFresh, LastIsPublished, LastMetFull, CommitFinishes, FullFinishes, CommitKeepsFull, FullKeepsFull, QuietIsUpToDate, published_xids, BlockCommits, OneCommits, HoldsGrows, HoldsShows, HoldsWithin}
 use Rattle.pgn_model.proofs.NearLaws.{near-itself, near-shrinks}
 use Rattle.pgn_model.proofs.WalkLaws.{Along-push_at, Stands-push, Stands-grows}
-use Rattle.pgn_model.proofs.GrowingLaws.{up_to_date-grows, fresh_so_far-grows}
-use Rattle.std.proofs.lemmas.List.Elements.{All-nil, All-push, All-append, filter_map-append}
+use Rattle.pgn_model.proofs.GrowingLaws.{up_to_date-grows, fresh_so_far-grows, lawful-shows, state-within, full-grows}
+use Rattle.std.proofs.lemmas.List.Elements.{All-nil, All-push, All-append, filter_map-append, All-weaker}
 use Rattle.pgn_model.specs.Legal.{finished_xid, finished_xids, IsFullThere}
 
 pub nothing-stands : NothingStands
@@ -38,6 +38,19 @@ pub stands_fresh-grows : StandsFreshGrows
 stands_fresh-grows terms journal more items s h shown = record {
   stands = Stands-grows terms journal more items s h.stands;
   fresh = fresh_so_far-grows terms journal more items h.stands.lawful shown h.fresh;
+}
+
+pub holds-shows : HoldsShows
+holds-shows terms journal items s h = lawful-shows terms journal items s h.stands_fresh.stands h.full h.found
+
+pub holds-within : HoldsWithin
+holds-within terms journal items s h = state-within terms journal items s h.stands_fresh.stands (holds-shows terms journal items s h)
+
+pub holds-grows : HoldsGrows
+holds-grows terms journal more items s h = record {
+  stands_fresh = stands_fresh-grows terms journal more items s h.stands_fresh (holds-shows terms journal items s h);
+  full = full-grows terms.settings journal more items h.full;
+  found = All-weaker (λ (pair : ℕ × ℕ). pair.1 ≤ next_xid journal) (λ (pair : ℕ × ℕ). pair.1 ≤ next_xid (journal ++ more)) (λ pair e. omega (arith, e, length-append journal more)) s.found h.found;
 }
 
 pub comes_next-grows : ComesNextGrows
@@ -253,8 +266,11 @@ entry-next journal tx x P e p =
     subst (λ (k : ℕ). IsSomeAnd (slice_get (journal ++ tx ∷ []) k) P) (sym place) (entry-last journal tx P p)
 
 pub last-is_published : LastIsPublished
-last-is_published terms journal tx told mark notes after_told after_mark by =
-    record { after_told = after_told; after_mark = after_mark; in_journal = entry-next journal tx (next_xid journal) (IsCommittedBy terms.section notes) refl by }
+last-is_published terms journal tx told mark xid notes e after_told after_mark by = record {
+  after_told = omega arith;
+  after_mark = subst (λ (n : ℕ). IfSome mark (λ own. own ≤ n)) (sym e) after_mark;
+  in_journal = entry-next journal tx xid (IsCommittedBy terms.section notes) e by;
+}
 
 pub last-met_full : LastMetFull
 last-met_full terms journal tx told mark full notes e after_told after_mark by floor = record {

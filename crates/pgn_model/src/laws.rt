@@ -10,7 +10,7 @@ ghost use Rattle.pgn_model.specs.laws.Near.{NearShrinks, NearItself, NearGrows};
 ghost use Rattle.pgn_model.specs.laws.QueueUse.{NoPageGrows, UsageGrows};
 ghost use Rattle.pgn_model.specs.laws.Walk.{LawfulPushes, LawfulPrefix, LawfulGrows};
 ghost use Rattle.pgn_model.specs.laws.Growing.{ShownGrows, ShownOver, FullGrows, ToldWithin, MarksWithin, MarkWithin, StateWithin, LawfulShows, UpToDateGrows, FreshSoFarGrows, TraceOkGrows, FreshGrows};
-ghost use Rattle.pgn_model.specs.laws.NextLine.{NothingStands, StandsFreshGrows, ComesNextGrows, LineReplies, LineRefuses, LineIsSilent, LineIsKept, BlockCommits, OneCommits, LineCommits, LineMeetsFull, LastIsPublished, LastMetFull, CommitFinishes, FullFinishes, CommitKeepsFull, FullKeepsFull, LineGivesChannels, LineGivesUsage, LineSignals, LineAwaits, AwaitFinds, AwaitTimesOut, LineQuits, IdleReads, AwaitReads, EndReads, NoListenerIsUpToDate, ReaderIsUpToDate, QuietIsUpToDate, EndIsLawful, EndIsFresh};
+ghost use Rattle.pgn_model.specs.laws.NextLine.{NothingStands, StandsFreshGrows, HoldsGrows, HoldsShows, HoldsWithin, ComesNextGrows, LineReplies, LineRefuses, LineIsSilent, LineIsKept, BlockCommits, OneCommits, LineCommits, LineMeetsFull, LastIsPublished, LastMetFull, CommitFinishes, FullFinishes, CommitKeepsFull, FullKeepsFull, LineGivesChannels, LineGivesUsage, LineSignals, LineAwaits, AwaitFinds, AwaitTimesOut, LineQuits, IdleReads, AwaitReads, EndReads, NoListenerIsUpToDate, ReaderIsUpToDate, QuietIsUpToDate, EndIsLawful, EndIsFresh};
 ghost use Rattle.pgn_model.specs.laws.Savepoints.{RolledBackCuts, ReleasedKeeps, SurvivesRolledBack, SurvivesReleased, SurvivesSaved, SurvivesActed, SurvivesNoted, LiveIsSaved, LiveHasSavepoint, RolledBackKeepsSavepoint, RolledBackOfNone, ReleasedOfNone, FirstsInOrder, FirstsDiffer, FirstsHaveAll, FirstsPush, FirstsTwice, LiveAfterChange, LiveSaved, LiveActed, LiveNew, LiveRepeated, LiveRolledBack, LiveReleased, LiveTwice, LiveHasNames, LiveHasActions, LiveHasFirsts};
 ghost use Rattle.pgn_model.specs.laws.Answers.{TableIsTotal, NothingFailsOutside, BlocksBegin, BlocksEnd, BlocksFail, WaysOut, WaysOn, OnlyEmptyIsSilent, ChannelsAreCounted, WhatCommits};
 
@@ -108,7 +108,13 @@ pub fn next_line()
     ensures nothing_stands { NothingStands }
     // The journal may grow under a trace so far.
     ensures stands_fresh_grows { StandsFreshGrows }
-    // It may grow before the next line begins.
+    // It may grow under all that a session keeps of its trace.
+    ensures holds_grows { HoldsGrows }
+    // No number is shown that is past the journal.
+    ensures holds_shows { HoldsShows }
+    // Nor is one carried.
+    ensures holds_within { HoldsWithin }
+    // The journal may grow before the next line begins.
     ensures comes_next_grows { ComesNextGrows }
     // A command that is answered by its tag alone.
     ensures replies { LineReplies }

@@ -36,11 +36,19 @@ use Rattle.pgn_model.specs.Walk.{Terms, State, Nothing, Awaiting, start, after_i
 use Rattle.pgn_model.specs.Trace.{TraceOk, Fresh, IsUpToDate, IsFreshAt, Stands}
 use Rattle.pgn_model.specs.Legal.{IsShownWithin, finished_xids, IsFullThere}
 use Rattle.pgn_model.specs.Near.{Near}
+use Rattle.pgn_model.specs.laws.Growing.{IsStateWithin}
 
 -- items that are lawful so far and left no read out where a line began, and the state that they lead to
 pub record StandsFresh (terms : Terms) (journal : List Tx) (items : List Item) (s : State) : Type 0 where
   pub stands : Stands terms journal items s
   pub fresh : Along after_item (IsFreshAt terms journal) (start terms.section) items
+
+-- all that a session keeps of its trace so far: besides this, each full queue that it shows was full, and each flag was found with a
+-- number within the journal
+pub record HoldsSoFar (terms : Terms) (journal : List Tx) (items : List Item) (s : State) : Type 0 where
+  pub stands_fresh : StandsFresh terms journal items s
+  pub full : All (IsFullThere terms.settings journal) items
+  pub found : All (λ pair. pair.1 ≤ next_xid journal) s.found
 
 -- this line of the script, with this act, comes next, and after it these: the line before has its whole answer, and it left no read
 -- out, unless a block is open
@@ -196,7 +204,19 @@ abbrev pub StandsFreshGrows : Type 0
 StandsFreshGrows = (terms : Terms) (journal more : List Tx) (items : List Item) (s : State)
     → StandsFresh terms journal items s → All (IsShownWithin (next_xid journal)) items → StandsFresh terms (journal ++ more) items s
 
--- so does what lets the next line begin: in step
+-- it may grow under all that a session keeps of its trace: in step, idle and finish_read
+abbrev pub HoldsGrows : Type 0
+HoldsGrows = (terms : Terms) (journal more : List Tx) (items : List Item) (s : State) → HoldsSoFar terms journal items s → HoldsSoFar terms (journal ++ more) items s
+
+-- no number is shown that is past the journal: in step, idle and finish_read
+abbrev pub HoldsShows : Type 0
+HoldsShows = (terms : Terms) (journal : List Tx) (items : List Item) (s : State) → HoldsSoFar terms journal items s → All (IsShownWithin (next_xid journal)) items
+
+-- nor is one carried: in step, idle and finish_read
+abbrev pub HoldsWithin : Type 0
+HoldsWithin = (terms : Terms) (journal : List Tx) (items : List Item) (s : State) → HoldsSoFar terms journal items s → IsStateWithin (next_xid journal) s
+
+-- the journal may grow before the next line begins: in step
 abbrev pub ComesNextGrows : Type 0
 ComesNextGrows = (terms : Terms) (journal more : List Tx) (s : State) (line : ScriptLine) (act : Act) (lines : List ScriptLine)
     → s.told ≤ next_xid journal → ComesNext terms journal s line act lines → ComesNext terms (journal ++ more) s line act lines
@@ -262,9 +282,9 @@ LineMeetsFull = (terms : Terms) (journal : List Tx) (items : List Item) (s : Sta
 
 -- the session's transaction is the journal's last: in step, where a commit was published
 abbrev pub LastIsPublished : Type 0
-LastIsPublished = (terms : Terms) (journal : List Tx) (tx : Tx) (told : ℕ) (mark : Option ℕ) (notes : List Note)
-    → told ≤ next_xid journal → IfSome mark (λ own. own ≤ next_xid journal) → IsCommittedBy terms.section notes tx
-    → MayPublish terms (journal ++ tx ∷ []) told mark (next_xid journal) notes
+LastIsPublished = (terms : Terms) (journal : List Tx) (tx : Tx) (told : ℕ) (mark : Option ℕ) (xid : ℕ) (notes : List Note)
+    → xid ≡ next_xid journal → told ≤ next_xid journal → IfSome mark (λ own. own ≤ next_xid journal) → IsCommittedBy terms.section notes tx
+    → MayPublish terms (journal ++ tx ∷ []) told mark xid notes
 
 -- it is the journal's last, and aborted: in step, where a commit met a full queue
 abbrev pub LastMetFull : Type 0

@@ -1,4 +1,4 @@
-use Rattle.pgn_model.proofs.NextLineLaws.{nothing-stands, stands_fresh-grows, comes_next-grows, line-replies, line-refuses, line-is_silent, line-is_kept, block-commits, one-commits, line-commits, line-meets_full, last-is_published, last-met_full, commit-finishes, full-finishes, commit-keeps_full, full-keeps_full, line-gives_channels, line-gives_usage, line-signals, line-awaits, await-finds, await-times_out, line-quits, idle-reads, await-reads, end-reads, no_listener-is_up_to_date, reader-is_up_to_date, quiet-is_up_to_date, end-is_lawful, end-is_fresh}
+use Rattle.pgn_model.proofs.NextLineLaws.{nothing-stands, stands_fresh-grows, holds-grows, holds-shows, holds-within, comes_next-grows, line-replies, line-refuses, line-is_silent, line-is_kept, block-commits, one-commits, line-commits, line-meets_full, last-is_published, last-met_full, commit-finishes, full-finishes, commit-keeps_full, full-keeps_full, line-gives_channels, line-gives_usage, line-signals, line-awaits, await-finds, await-times_out, line-quits, idle-reads, await-reads, end-reads, no_listener-is_up_to_date, reader-is_up_to_date, quiet-is_up_to_date, end-is_lawful, end-is_fresh}
 use Rattle.pgn_model.proofs.laws.next_line.Goals as goal
 
 pub returns-clause-nothing_stands : goal.returns-clause-nothing_stands
@@ -96,3 +96,12 @@ returns-clause-block_commits c = block-commits
 
 pub returns-clause-one_commits : goal.returns-clause-one_commits
 returns-clause-one_commits c = one-commits
+
+pub returns-clause-holds_grows : goal.returns-clause-holds_grows
+returns-clause-holds_grows c = holds-grows
+
+pub returns-clause-holds_shows : goal.returns-clause-holds_shows
+returns-clause-holds_shows c = holds-shows
+
+pub returns-clause-holds_within : goal.returns-clause-holds_within
+returns-clause-holds_within c = holds-within
