@@ -1,5 +1,5 @@
 -- Proofs of the laws of a trace as the journal grows.
-use Rattle.std.proofs.Common.{◌≡◌, ℕ, ◌+◌, ◌-◌, ◌<◌, ◌≤◌, max, Bool, true, false, List, [], ◌∷◌, ◌++◌, length, Option, Some, None, IfSome, All, fold, if◌then◌else◌, is_some, is_none, ◌&&◌, sym, refl, subst, arith, length-append}
+use Rattle.std.proofs.Common.{◌≡◌, ℕ, ◌+◌, ◌-◌, ◌<◌, ◌≤◌, max, Bool, true, false, List, [], ◌∷◌, ◌++◌, length, Option, Some, None, IfSome, All, fold, if◌then◌else◌, is_some, is_none, ◌&&◌, sym, refl, subst, arith, length-append, cond, ap}
 use Rattle.std.proofs.lemmas.List.Elements.{All-nil, All-head, All-tail, All-push, All-weaker, All-cons, All-pop}
 use Rattle.std.specs.List.{list_any}
 use Rattle.pgn_base.specs.declared.note.Note.{Note}
@@ -23,6 +23,15 @@ use Rattle.pgn_model.proofs.JournalLaws.{entry-within}
 use Rattle.pgn_model.proofs.NearLaws.{near-grows}
 use Rattle.pgn_model.proofs.QueueUseLaws.{no_page-grows}
 use Rattle.pgn_model.proofs.WalkLaws.{Along-weaker, Stands-grows}
+use Rattle.pgn_model.specs.laws.NextLine.{NoListOutside}
+use Rattle.pgn_model.specs.declared.block_state.BlockState.{BlockState}
+use Rattle.pgn_model.specs.declared.block_state.BlockState.TheVariants.{Idle, InBlock, Failed}
+use Rattle.pgn_model.specs.declared.command.Command.{Command}
+use Rattle.pgn_base.specs.declared.answers.Refusal.{Refusal}
+use Rattle.pgn_base.specs.declared.answers.Refusal.TheVariants.{NoSavepoint, Aborted}
+use Rattle.pgn_base.specs.Names.{has_name}
+use Rattle.pgn_model.specs.declared.command.Command.TheVariants as command
+use Rattle.pgn_base.specs.declared.answers.Tag.TheVariants as tag
 
 -- a fact of the state that each item keeps holds where the walk ends
 pub Along-keeps : {S I : Type 0} (next : S → I → S) (P : S → I → Type 0) (Q : S → Type 0) → ((s : S) (item : I) → P s item → Q s → Q (next s item)) → (s : S) (items : List I) → Along next P s items → Q s → Q (fold next s items)
@@ -44,15 +53,17 @@ pub Along-all : {S I : Type 0} (next : S → I → S) (P : I → Type 0) (s : S)
 Along-all next P s [] h = tt
 Along-all next P s (i ∷ items) h = (All-head P i items h, Along-all next P (next s i) items (All-tail P i items h))
 
--- what the beginning of a line leaves as it is
+-- what the answer to a line leaves as it is
 pub record Carried : Type 0 where
   pub told : ℕ
   pub mark : Option ℕ
   pub marks : List ℕ
   pub found : List (ℕ × ℕ)
+  pub block : BlockState
+  pub changes : List Change
 
 abbrev carried : State → Carried
-carried s = record { told = s.told; mark = s.mark; marks = s.marks; found = s.found }
+carried s = record { told = s.told; mark = s.mark; marks = s.marks; found = s.found; block = s.block; changes = s.changes }
 
 carried-either : (x y : State) (c : Carried) (b : Bool) → carried x ≡ c → carried y ≡ c → carried (if b then x else y) ≡ c
 carried-either x y c true h k = h
@@ -79,17 +90,40 @@ carried-owing s changes Silent = refl
 carried-owing s changes (GivesChannels names) = refl
 carried-owing s changes GivesUsage = refl
 
-carried-act : (s : State) (act : Act) → carried (at_act s act) ≡ carried s
+-- the state of the block, and its list, after the beginning of a line
+abbrev block_after_act : State → Act → BlockState
+block_after_act s (Run command) = next_state s.block (answer s.block (live_names s.changes) s.set command)
+block_after_act s Quit = Idle
+block_after_act s act = s.block
+
+abbrev list_after_act : State → Act → List Change
+list_after_act s (Run command) = list_after s.changes command (answer s.block (live_names s.changes) s.set command)
+list_after_act s Quit = []
+list_after_act s act = s.changes
+
+abbrev block_after_line : State → List ScriptLine → BlockState
+block_after_line s [] = s.block
+block_after_line s (line ∷ lines) = block_after_act s line.act
+
+abbrev list_after_line : State → List ScriptLine → List Change
+list_after_line s [] = s.changes
+list_after_line s (line ∷ lines) = list_after_act s line.act
+
+-- the beginning of a line changes the block and its list alone
+abbrev begun : State → State
+begun s = record s { block = block_after_line s s.rest; changes = list_after_line s s.rest }
+
+carried-act : (s : State) (act : Act) → carried (at_act s act) ≡ carried (record s { block = block_after_act s act; changes = list_after_act s act })
 carried-act s (Run command) =
     let outcome : Outcome = answer s.block (live_names s.changes) s.set command in
     carried-owing (record s { block = next_state s.block outcome; changes = list_after s.changes command outcome }) (s.changes ++ changes_of command) outcome
 carried-act s (Signal flag) = refl
 carried-act s (Await flag) = refl
 carried-act s Quit =
-    let ended : State = record s { block = _; changes = []; set = [] } in
-    carried-either (record ended { owed = Quitting }) ended (carried s) (is_some s.mark) refl refl
+    let ended : State = record s { block = Idle; changes = []; set = [] } in
+    carried-either (record ended { owed = Quitting }) ended (carried ended) (is_some s.mark) refl refl
 
-carried-line : (s : State) (lines : List ScriptLine) → carried (at_line s lines) ≡ carried s
+carried-line : (s : State) (lines : List ScriptLine) → carried (at_line s lines) ≡ carried (record s { block = block_after_line s lines; changes = list_after_line s lines })
 carried-line s [] = refl
 carried-line s (line ∷ lines) = carried-act (record s { rest = lines }) line.act
 
@@ -118,7 +152,7 @@ carried-raise : (value : ℕ) (s : State) (owed : Owed) → carried (at_raise va
 carried-raise value s (Raising flag) = refl
 carried-raise value s owed = refl
 
-marks-found : (value : ℕ) (s : State) (owed : Owed) → carried (at_found value s owed) ≡ record { told = (at_found value s owed).told; mark = s.mark; marks = s.marks; found = (at_found value s owed).found }
+marks-found : (value : ℕ) (s : State) (owed : Owed) → carried (at_found value s owed) ≡ record { told = (at_found value s owed).told; mark = s.mark; marks = s.marks; found = (at_found value s owed).found; block = s.block; changes = s.changes }
 marks-found value s (Awaiting flag) = refl
 marks-found value s owed = refl
 
@@ -140,7 +174,7 @@ marks-same s t n e h = subst (λ (c : Carried). AreMarksWithin n c.mark c.marks)
 
 -- one item of a lawful trace tells nothing past the journal
 told-step : (terms : Terms) (journal : List Tx) (s : State) (item : Item) → Allowed terms journal s item → IsShownWithin (next_xid journal) item → s.told ≤ next_xid journal → (after_item s item).told ≤ next_xid journal
-told-step terms journal s (Line line) h shown k = told-same s (at_line s s.rest) (next_xid journal) (carried-line s s.rest) k
+told-step terms journal s (Line line) h shown k = told-same (begun s) (at_line s s.rest) (next_xid journal) (carried-line s s.rest) k
 told-step terms journal s (Enlist base point) h shown k =
     let before : State = record s { mark = Some point; marks = s.marks ++ base ∷ [] ++ point ∷ [] } in
     told-same before (at_enlist before s.owed) (next_xid journal) (carried-enlist before s.owed) k
@@ -168,7 +202,7 @@ told-step terms journal s (Read from to got) h shown k = k
 
 -- nor does it make a mark past it
 marks-step : (terms : Terms) (journal : List Tx) (s : State) (item : Item) → Allowed terms journal s item → AreMarksWithin (next_xid journal) s.mark s.marks → AreMarksWithin (next_xid journal) (after_item s item).mark (after_item s item).marks
-marks-step terms journal s (Line line) h k = marks-same s (at_line s s.rest) (next_xid journal) (carried-line s s.rest) k
+marks-step terms journal s (Line line) h k = marks-same (begun s) (at_line s s.rest) (next_xid journal) (carried-line s s.rest) k
 marks-step terms journal s (Enlist base point) h k =
     let n : ℕ = next_xid journal in
     let before : State = record s { mark = Some point; marks = s.marks ++ base ∷ [] ++ point ∷ [] } in
@@ -275,7 +309,7 @@ found-here value s owed n P h k = absurd h
 
 -- what was found after an item was found before it or is what it shows
 found-before : (terms : Terms) (journal : List Tx) (s : State) (item : Item) (n : ℕ) → Allowed terms journal s item → AreFoundWithin n (after_item s item).found → IsFoundWithin n item × AreFoundWithin n s.found
-found-before terms journal s (Line line) n h k = (tt, found-same s (at_line s s.rest) n (carried-line s s.rest) k)
+found-before terms journal s (Line line) n h k = (tt, found-same (begun s) (at_line s s.rest) n (carried-line s s.rest) k)
 found-before terms journal s (Enlist base point) n h k =
     let before : State = record s { mark = Some point; marks = s.marks ++ base ∷ [] ++ point ∷ [] } in
     (tt, found-same before (at_enlist before s.owed) n (carried-enlist before s.owed) k)
@@ -351,6 +385,91 @@ lawful-shows terms journal items s h full found =
     All-along after_item (IsShownWithin (next_xid journal)) first items
     (shows-along terms journal first items h.lawful (Along-all after_item (IsFullThere terms.settings journal) first items full) (found-items terms journal (next_xid journal) first items h.lawful last).0
     (first-told journal) (record { own = tt; all = All-nil (λ m. m ≤ next_xid journal) }))
+
+-- no block is open, so there is no list
+abbrev IsClear : BlockState → List Change → Type 0
+IsClear block changes = block ≡ Idle → changes ≡ []
+
+clear-same : (s t : State) → carried t ≡ carried s → IsClear s.block s.changes → IsClear t.block t.changes
+clear-same s t e h = subst (λ (c : Carried). IsClear c.block c.changes) (sym e) h
+
+-- in a block no refusal leads out of it
+refused-idle : (block : BlockState) (live set : List (List ℕ)) (c : Command) (refusal : Refusal) → answer block live set c ≡ Refuses refusal Idle → block ≡ Idle
+refused-idle Idle live set c refusal e = refl
+refused-idle InBlock live set (command.RollbackTo name) refusal e = absurd (either (has_name live name) e)
+  where
+    either : (b : Bool) → cond b (Replies tag.Rollback None InBlock) (Refuses (NoSavepoint name) Failed) ≡ Refuses refusal Idle → ⊥
+    either true e = cc
+    either false e = cc
+refused-idle InBlock live set (command.Release name) refusal e = absurd (either (has_name live name) e)
+  where
+    either : (b : Bool) → cond b (Replies tag.Release None InBlock) (Refuses (NoSavepoint name) Failed) ≡ Refuses refusal Idle → ⊥
+    either true e = cc
+    either false e = cc
+refused-idle InBlock live set c refusal e = absurd (let no : ⊥ = cc in no)
+refused-idle Failed live set (command.RollbackTo name) refusal e = absurd (either (has_name live name) e)
+  where
+    either : (b : Bool) → cond b (Replies tag.Rollback None InBlock) (Refuses (NoSavepoint name) Failed) ≡ Refuses refusal Idle → ⊥
+    either true e = cc
+    either false e = cc
+refused-idle Failed live set (command.Release name) refusal e = absurd (either (has_name live name) e)
+  where
+    either : (b : Bool) → cond b (Refuses Aborted Failed) (Refuses Aborted Failed) ≡ Refuses refusal Idle → ⊥
+    either true e = cc
+    either false e = cc
+refused-idle Failed live set c refusal e = absurd (let no : ⊥ = cc in no)
+
+clear-outcome : (block : BlockState) (changes : List Change) (c : Command) (outcome : Outcome) → IsClear block changes → ((refusal : Refusal) → outcome ≡ Refuses refusal Idle → block ≡ Idle)
+    → IsClear (next_state block outcome) (list_after changes c outcome)
+clear-outcome block changes c (Commits done) h out e = refl
+clear-outcome block changes c (Replies done warning Idle) h out e = refl
+clear-outcome block changes c (Replies done warning InBlock) h out e = absurd (let no : ⊥ = cc in no)
+clear-outcome block changes c (Replies done warning Failed) h out e = refl
+clear-outcome block changes c (Refuses refusal next) h out e = h (out refusal (ap (λ (b : BlockState). Refuses refusal b) e))
+clear-outcome block changes c Silent h out e = h e
+clear-outcome block changes c (GivesChannels names) h out e = h e
+clear-outcome block changes c GivesUsage h out e = h e
+
+clear-act : (s : State) (act : Act) → IsClear s.block s.changes → IsClear (block_after_act s act) (list_after_act s act)
+clear-act s (Run command) h = clear-outcome s.block s.changes command (answer s.block (live_names s.changes) s.set command) h (refused-idle s.block (live_names s.changes) s.set command)
+clear-act s (Signal flag) h = h
+clear-act s (Await flag) h = h
+clear-act s Quit h = λ e. refl
+
+clear-line : (s : State) (lines : List ScriptLine) → IsClear s.block s.changes → IsClear (block_after_line s lines) (list_after_line s lines)
+clear-line s [] h = h
+clear-line s (line ∷ lines) h = clear-act s line.act h
+
+clear-step : (s : State) (item : Item) → IsClear s.block s.changes → IsClear (after_item s item).block (after_item s item).changes
+clear-step s (Line line) h = clear-same (begun s) (at_line s s.rest) (carried-line s s.rest) (clear-line s s.rest h)
+clear-step s (Enlist base point) h =
+    let before : State = record s { mark = Some point; marks = s.marks ++ base ∷ [] ++ point ∷ [] } in
+    clear-same before (at_enlist before s.owed) (carried-enlist before s.owed) h
+clear-step s (Publish xid notes) h =
+    let before : State = record s { told = max s.told (xid + 1) } in
+    clear-same before (at_publish before s.owed) (carried-publish before s.owed) h
+clear-step s (QueueFull full notes) h =
+    let before : State = record s { told = max s.told (full.xid + 1); named = s.named ++ holder_at full.holder full.floor_mark } in
+    clear-same before (at_full before s.owed) (carried-full before s.owed) h
+clear-step s Leave h =
+    let before : State = record s { mark = None } in
+    clear-same before (at_leave before s.owed) (carried-leave before s.owed) h
+clear-step s (Reply done warning) h = h
+clear-step s (Refuse refusal) h = h
+clear-step s (Channels names) h = clear-same s (at_rows s s.owed) (carried-rows s s.owed) h
+clear-step s (Used usage) h =
+    let before : State = record s { named = s.named ++ holder_at usage.holder usage.floor_mark } in
+    clear-same before (at_rows before s.owed) (carried-rows before s.owed) h
+clear-step s (Raise value) h = clear-same s (at_raise value s s.owed) (carried-raise value s s.owed) h
+clear-step s (Found value) h = subst (λ (c : Carried). IsClear c.block c.changes) (sym (marks-found value s s.owed)) h
+clear-step s (TimedOut looks) h = h
+clear-step s (Read from to got) h = h
+
+pub no_list-outside : NoListOutside
+no_list-outside terms journal items s h idle =
+    let last : State = state_after terms items in
+    let clear : IsClear last.block last.changes = Along-keeps after_item (Allowed terms journal) (λ (t : State). IsClear t.block t.changes) (λ t item p k. clear-step t item k) (start terms.section) items h.lawful (λ e. refl) in
+    subst (λ (t : State). IsClear t.block t.changes) h.state clear idle
 
 pub up_to_date-grows : UpToDateGrows
 up_to_date-grows terms journal more s within h = grown s.mark h

@@ -24,7 +24,7 @@ use Rattle.pgn_model.specs.Savepoints.{surviving_notes, firsts, changes_of, live
 use Rattle.pgn_model.specs.Answers.{Outcome, Commits, Replies, Refuses, Silent, GivesChannels, GivesUsage, answer}
 use Rattle.pgn_model.specs.Walk.{Terms, State, Owed, Nothing, Enlisting, Queueing, Leaving, Answering, Listing, Measuring, Raising, Awaiting, Quitting, Ending, Replied, Refused, start, after_item, Allowed, MayRead, leaving_or_answering, queueing_or_settled, settled, at_outcome, at_act, at_line, quitting, IsNext, holder_at, IsCommittedBy, IsAbortedBy}
 use Rattle.pgn_model.specs.Trace.{IsEnd, IsUpToDate, IsFreshAt}
-use Rattle.pgn_model.specs.laws.NextLine.{StandsFresh, ComesNext, CommitsNext, MayEnlist, MayPublish, MayMeetFull, MayReadTo, outcome_in, kept_tag, is_enlisting, is_leaving, enlist_items, publish_items, leave_items, quit_items, enlisted_mark, enlisted_marks, left_mark, published_told, NothingStands, StandsFreshGrows, ComesNextGrows, LineReplies, LineRefuses, LineIsSilent, LineIsKept, LineCommits, LineMeetsFull, LineGivesChannels, LineGivesUsage, LineSignals, LineAwaits, AwaitFinds, AwaitTimesOut, LineQuits, IdleReads, AwaitReads, EndReads, NoListenerIsUpToDate, ReaderIsUpToDate, EndIsLawful, EndIsFresh, LastIsPublished, LastMetFull, CommitFinishes, FullFinishes, CommitKeepsFull, FullKeepsFull, QuietIsUpToDate, published_xids, BlockCommits, OneCommits, HoldsGrows, HoldsShows, HoldsWithin}
+use Rattle.pgn_model.specs.laws.NextLine.{StandsFresh, ComesNext, CommitsNext, MayEnlist, MayPublish, MayMeetFull, MayReadTo, outcome_in, kept_tag, is_enlisting, is_leaving, enlist_items, publish_items, leave_items, quit_items, enlisted_mark, enlisted_marks, left_mark, published_told, NothingStands, StandsFreshGrows, ComesNextGrows, LineReplies, LineRefuses, LineIsSilent, LineIsKept, LineCommits, LineMeetsFull, LineGivesChannels, LineGivesUsage, LineSignals, LineAwaits, AwaitFinds, AwaitTimesOut, LineQuits, IdleReads, AwaitReads, EndReads, NoListenerIsUpToDate, ReaderIsUpToDate, EndIsLawful, EndIsFresh, LastIsPublished, LastMetFull, CommitFinishes, FullFinishes, CommitKeepsFull, FullKeepsFull, QuietIsUpToDate, published_xids, BlockCommits, OneCommits, HoldsGrows, HoldsShows, HoldsWithin, CommitsNextGrows}
 use Rattle.pgn_model.proofs.NearLaws.{near-itself, near-shrinks}
 use Rattle.pgn_model.proofs.WalkLaws.{Along-push_at, Stands-push, Stands-grows}
 use Rattle.pgn_model.proofs.GrowingLaws.{up_to_date-grows, fresh_so_far-grows, lawful-shows, state-within, full-grows}
@@ -157,6 +157,14 @@ one-commits terms journal s line lines c done actions notes comes idle none kept
   commits = ap (λ (b : BlockState). answer b (live_names s.changes) s.set c) idle ∙ kept-commits (live_names s.changes) s.set c done kept;
   actions_are = actions_are ∙ ap (λ (cs : List Change). surviving_actions (cs ++ changes_of c)) (sym none);
   notes_are = notes_are ∙ sym (kept-firsts c done kept) ∙ ap (λ (cs : List Change). firsts (surviving_notes (cs ++ changes_of c))) (sym none);
+}
+
+pub commits_next-grows : CommitsNextGrows
+commits_next-grows terms journal more s line lines command done actions notes told h = record {
+  comes = comes_next-grows terms journal more s line (Run command) lines told h.comes;
+  commits = h.commits;
+  actions_are = h.actions_are;
+  notes_are = h.notes_are;
 }
 
 -- the item that ends an answer

@@ -10,7 +10,7 @@ ghost use Rattle.pgn_model.specs.laws.Near.{NearShrinks, NearItself, NearGrows};
 ghost use Rattle.pgn_model.specs.laws.QueueUse.{NoPageGrows, UsageGrows};
 ghost use Rattle.pgn_model.specs.laws.Walk.{LawfulPushes, LawfulPrefix, LawfulGrows};
 ghost use Rattle.pgn_model.specs.laws.Growing.{ShownGrows, ShownOver, FullGrows, ToldWithin, MarksWithin, MarkWithin, StateWithin, LawfulShows, UpToDateGrows, FreshSoFarGrows, TraceOkGrows, FreshGrows};
-ghost use Rattle.pgn_model.specs.laws.NextLine.{NothingStands, StandsFreshGrows, HoldsGrows, HoldsShows, HoldsWithin, ComesNextGrows, LineReplies, LineRefuses, LineIsSilent, LineIsKept, BlockCommits, OneCommits, LineCommits, LineMeetsFull, LastIsPublished, LastMetFull, CommitFinishes, FullFinishes, CommitKeepsFull, FullKeepsFull, LineGivesChannels, LineGivesUsage, LineSignals, LineAwaits, AwaitFinds, AwaitTimesOut, LineQuits, IdleReads, AwaitReads, EndReads, NoListenerIsUpToDate, ReaderIsUpToDate, QuietIsUpToDate, EndIsLawful, EndIsFresh};
+ghost use Rattle.pgn_model.specs.laws.NextLine.{NothingStands, StandsFreshGrows, HoldsGrows, HoldsShows, HoldsWithin, ComesNextGrows, LineReplies, LineRefuses, LineIsSilent, LineIsKept, NoListOutside, BlockCommits, OneCommits, CommitsNextGrows, LineCommits, LineMeetsFull, LastIsPublished, LastMetFull, CommitFinishes, FullFinishes, CommitKeepsFull, FullKeepsFull, LineGivesChannels, LineGivesUsage, LineSignals, LineAwaits, AwaitFinds, AwaitTimesOut, LineQuits, IdleReads, AwaitReads, EndReads, NoListenerIsUpToDate, ReaderIsUpToDate, QuietIsUpToDate, EndIsLawful, EndIsFresh};
 ghost use Rattle.pgn_model.specs.laws.Savepoints.{RolledBackCuts, ReleasedKeeps, SurvivesRolledBack, SurvivesReleased, SurvivesSaved, SurvivesActed, SurvivesNoted, LiveIsSaved, LiveHasSavepoint, RolledBackKeepsSavepoint, RolledBackOfNone, ReleasedOfNone, FirstsInOrder, FirstsDiffer, FirstsHaveAll, FirstsPush, FirstsTwice, LiveAfterChange, LiveSaved, LiveActed, LiveNew, LiveRepeated, LiveRolledBack, LiveReleased, LiveTwice, LiveHasNames, LiveHasActions, LiveHasFirsts};
 ghost use Rattle.pgn_model.specs.laws.Answers.{TableIsTotal, NothingFailsOutside, BlocksBegin, BlocksEnd, BlocksFail, WaysOut, WaysOn, OnlyEmptyIsSilent, ChannelsAreCounted, WhatCommits};
 
@@ -124,10 +124,14 @@ pub fn next_line()
     ensures is_silent { LineIsSilent }
     // A command in a block that is kept for its commit.
     ensures is_kept { LineIsKept }
+    // Where no block is open, nothing is in its list.
+    ensures no_list_outside { NoListOutside }
     // COMMIT in a block commits what its list has left.
     ensures block_commits { BlockCommits }
     // One command outside a block commits what it puts into the list.
     ensures one_commits { OneCommits }
+    // The journal may grow before a commit.
+    ensures commits_next_grows { CommitsNextGrows }
     // A commit: of one command outside a block, and of a block.
     ensures commits { LineCommits }
     // A commit that meets a full queue.

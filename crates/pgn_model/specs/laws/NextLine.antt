@@ -246,6 +246,10 @@ LineIsKept = (terms : Terms) (journal : List Tx) (items : List Item) (s : State)
     → StandsFresh terms journal items s → ComesNext terms journal s line (Run command) lines → s.block ≡ InBlock → kept_tag command ≡ Some done
     → StandsFresh terms journal (items ++ Line line.line ∷ [] ++ Reply done None ∷ []) (record s { rest = lines; owed = Nothing; block = InBlock; changes = s.changes ++ changes_of command })
 
+-- where no block is open, nothing is in its list: in step
+abbrev pub NoListOutside : Type 0
+NoListOutside = (terms : Terms) (journal : List Tx) (items : List Item) (s : State) → Stands terms journal items s → s.block ≡ Idle → s.changes ≡ []
+
 -- COMMIT in a block that has not failed commits what its list has left: in step
 abbrev pub BlockCommits : Type 0
 BlockCommits = (terms : Terms) (journal : List Tx) (s : State) (line : ScriptLine) (lines : List ScriptLine) (actions : List Action) (notes : List Note)
@@ -258,6 +262,11 @@ OneCommits = (terms : Terms) (journal : List Tx) (s : State) (line : ScriptLine)
     → ComesNext terms journal s line (Run command) lines → s.block ≡ Idle → s.changes ≡ [] → kept_tag command ≡ Some done
     → actions ≡ surviving_actions (changes_of command) → notes ≡ surviving_notes (changes_of command)
     → CommitsNext terms journal s line lines command done actions notes
+
+-- the journal may grow before a commit: in step
+abbrev pub CommitsNextGrows : Type 0
+CommitsNextGrows = (terms : Terms) (journal more : List Tx) (s : State) (line : ScriptLine) (lines : List ScriptLine) (command : Command) (done : Tag) (actions : List Action) (notes : List Note)
+    → s.told ≤ next_xid journal → CommitsNext terms journal s line lines command done actions notes → CommitsNext terms (journal ++ more) s line lines command done actions notes
 
 -- a commit, be it of one command outside a block or of a block: base and point matter only where the session becomes a listener, and
 -- xid only where notifications are published: in step

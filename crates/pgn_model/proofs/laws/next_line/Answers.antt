@@ -1,4 +1,5 @@
-use Rattle.pgn_model.proofs.NextLineLaws.{nothing-stands, stands_fresh-grows, holds-grows, holds-shows, holds-within, comes_next-grows, line-replies, line-refuses, line-is_silent, line-is_kept, block-commits, one-commits, line-commits, line-meets_full, last-is_published, last-met_full, commit-finishes, full-finishes, commit-keeps_full, full-keeps_full, line-gives_channels, line-gives_usage, line-signals, line-awaits, await-finds, await-times_out, line-quits, idle-reads, await-reads, end-reads, no_listener-is_up_to_date, reader-is_up_to_date, quiet-is_up_to_date, end-is_lawful, end-is_fresh}
+use Rattle.pgn_model.proofs.NextLineLaws.{nothing-stands, stands_fresh-grows, holds-grows, holds-shows, holds-within, comes_next-grows, line-replies, line-refuses, line-is_silent, line-is_kept, block-commits, one-commits, commits_next-grows, line-commits, line-meets_full, last-is_published, last-met_full, commit-finishes, full-finishes, commit-keeps_full, full-keeps_full, line-gives_channels, line-gives_usage, line-signals, line-awaits, await-finds, await-times_out, line-quits, idle-reads, await-reads, end-reads, no_listener-is_up_to_date, reader-is_up_to_date, quiet-is_up_to_date, end-is_lawful, end-is_fresh}
+use Rattle.pgn_model.proofs.GrowingLaws.{no_list-outside}
 use Rattle.pgn_model.proofs.laws.next_line.Goals as goal
 
 pub returns-clause-nothing_stands : goal.returns-clause-nothing_stands
@@ -105,3 +106,9 @@ returns-clause-holds_shows c = holds-shows
 
 pub returns-clause-holds_within : goal.returns-clause-holds_within
 returns-clause-holds_within c = holds-within
+
+pub returns-clause-no_list_outside : goal.returns-clause-no_list_outside
+returns-clause-no_list_outside c = no_list-outside
+
+pub returns-clause-commits_next_grows : goal.returns-clause-commits_next_grows
+returns-clause-commits_next_grows c = commits_next-grows
