@@ -1,21 +1,13 @@
 -- Proofs of the laws of a trace as the journal grows.
-use Rattle.std.proofs.Common.{◌≡◌, ℕ, ◌+◌, ◌-◌, ◌<◌, ◌≤◌, max, Bool, true, false, List, [], ◌∷◌, ◌++◌, length, Option, Some, None, IfSome, All, fold, if◌then◌else◌, is_some, is_none, ◌&&◌, sym, refl, subst, arith, length-append, cond, ap}
+use Rattle.std.proofs.Common.{◌≡◌, ℕ, ◌+◌, ◌-◌, ◌<◌, ◌≤◌, max, List, [], ◌∷◌, ◌++◌, length, Option, Some, None, IfSome, All, fold, sym, refl, subst, arith, length-append}
 use Rattle.std.proofs.lemmas.List.Elements.{All-nil, All-head, All-tail, All-push, All-weaker, All-cons, All-pop}
-use Rattle.std.specs.List.{list_any}
-use Rattle.pgn_base.specs.declared.note.Note.{Note}
-use Rattle.pgn_base.specs.declared.listen_set.Action.{Action}
 use Rattle.pgn_model.specs.declared.tx.Tx.{Tx}
 use Rattle.pgn_model.specs.declared.item.Item.{Item}
 use Rattle.pgn_model.specs.declared.item.Item.TheVariants.{Line, Enlist, Publish, QueueFull, Leave, Reply, Refuse, Channels, Used, Raise, Found, TimedOut, Read}
-use Rattle.pgn_model.specs.declared.scenario.Act.{Act}
-use Rattle.pgn_model.specs.declared.scenario.Act.TheVariants.{Run, Signal, Await, Quit}
-use Rattle.pgn_model.specs.declared.scenario.ScriptLine.{ScriptLine}
 use Rattle.pgn_model.specs.Journal.{next_xid, is_committed_in}
 use Rattle.pgn_model.specs.Near.{Near}
-use Rattle.pgn_model.specs.Savepoints.{Change, surviving_actions, surviving_notes, firsts, is_listen, live_names, changes_of}
-use Rattle.pgn_model.specs.Answers.{Outcome, Commits, Replies, Refuses, Silent, GivesChannels, GivesUsage, answer, next_state, list_after}
 use Rattle.pgn_model.specs.Along.{Along}
-use Rattle.pgn_model.specs.Walk.{Settings, Terms, State, Owed, Enlisting, Queueing, Leaving, Answering, Listing, Measuring, Raising, Awaiting, Quitting, Ending, start, after_item, Allowed, IsCommittedBy, IsAbortedBy, is_empty_set, leaving_or_answering, queueing_or_settled, committing, owing, at_act, at_line, at_enlist, at_publish, at_full, at_leave, at_rows, at_raise, at_found, IsAwaiting, holder_at, IsGreatest}
+use Rattle.pgn_model.specs.Walk.{Settings, Terms, State, Owed, Awaiting, start, after_item, Allowed, IsCommittedBy, IsAbortedBy, at_line, at_enlist, at_publish, at_full, at_leave, at_rows, at_raise, at_found, IsAwaiting, holder_at, IsGreatest}
 use Rattle.pgn_model.specs.Trace.{IsLawful, IsFreshAt, state_after}
 use Rattle.pgn_model.specs.Legal.{IsShownWithin, IsFullThere}
 use Rattle.pgn_model.specs.laws.Growing.{IsStateWithin, ShownGrows, ShownOver, FullGrows, ToldWithin, MarksWithin, MarkWithin, StateWithin, UpToDateGrows, FreshSoFarGrows, TraceOkGrows, FreshGrows, LawfulShows}
@@ -23,15 +15,7 @@ use Rattle.pgn_model.proofs.JournalLaws.{entry-within}
 use Rattle.pgn_model.proofs.NearLaws.{near-grows}
 use Rattle.pgn_model.proofs.QueueUseLaws.{no_page-grows}
 use Rattle.pgn_model.proofs.WalkLaws.{Along-weaker, Stands-grows}
-use Rattle.pgn_model.specs.laws.NextLine.{NoListOutside}
-use Rattle.pgn_model.specs.declared.block_state.BlockState.{BlockState}
-use Rattle.pgn_model.specs.declared.block_state.BlockState.TheVariants.{Idle, InBlock, Failed}
-use Rattle.pgn_model.specs.declared.command.Command.{Command}
-use Rattle.pgn_base.specs.declared.answers.Refusal.{Refusal}
-use Rattle.pgn_base.specs.declared.answers.Refusal.TheVariants.{NoSavepoint, Aborted}
-use Rattle.pgn_base.specs.Names.{has_name}
-use Rattle.pgn_model.specs.declared.command.Command.TheVariants as command
-use Rattle.pgn_base.specs.declared.answers.Tag.TheVariants as tag
+use Rattle.pgn_model.proofs.CarriedLaws.{Carried, carried, begun, carried-line, carried-enlist, carried-publish, carried-full, carried-leave, carried-rows, carried-raise, marks-found, told-found}
 
 -- a fact of the state that each item keeps holds where the walk ends
 pub Along-keeps : {S I : Type 0} (next : S → I → S) (P : S → I → Type 0) (Q : S → Type 0) → ((s : S) (item : I) → P s item → Q s → Q (next s item)) → (s : S) (items : List I) → Along next P s items → Q s → Q (fold next s items)
@@ -52,113 +36,6 @@ Along-both next P Q s (i ∷ items) h k = ((h.0, k.0), Along-both next P Q (next
 pub Along-all : {S I : Type 0} (next : S → I → S) (P : I → Type 0) (s : S) (items : List I) → All P items → Along next (λ t i. P i) s items
 Along-all next P s [] h = tt
 Along-all next P s (i ∷ items) h = (All-head P i items h, Along-all next P (next s i) items (All-tail P i items h))
-
--- what the answer to a line leaves as it is
-pub record Carried : Type 0 where
-  pub told : ℕ
-  pub mark : Option ℕ
-  pub marks : List ℕ
-  pub found : List (ℕ × ℕ)
-  pub block : BlockState
-  pub changes : List Change
-
-abbrev carried : State → Carried
-carried s = record { told = s.told; mark = s.mark; marks = s.marks; found = s.found; block = s.block; changes = s.changes }
-
-carried-either : (x y : State) (c : Carried) (b : Bool) → carried x ≡ c → carried y ≡ c → carried (if b then x else y) ≡ c
-carried-either x y c true h k = h
-carried-either x y c false h k = k
-
-carried-answering : (s : State) (ending : Ending) → carried (leaving_or_answering s ending) ≡ carried s
-carried-answering s ending = carried-either (record s { owed = Leaving ending }) (record s { owed = Answering ending }) (carried s) (is_some s.mark && is_empty_set s.set) refl refl
-
-carried-queueing : (s : State) (actions : List Action) (notes : List Note) (ending : Ending) → carried (queueing_or_settled s actions notes ending) ≡ carried s
-carried-queueing s actions [] ending = carried-answering (record s { set = _ }) ending
-carried-queueing s actions (note ∷ notes) ending = refl
-
-carried-committing : (s : State) (changes : List Change) (ending : Ending) → carried (committing s changes ending) ≡ carried s
-carried-committing s changes ending =
-    let actions : List Action = surviving_actions changes in
-    let notes : List Note = firsts (surviving_notes changes) in
-    carried-either (record s { owed = Enlisting actions notes ending }) (queueing_or_settled s actions notes ending) (carried s) (list_any is_listen actions && is_none s.mark) refl (carried-queueing s actions notes ending)
-
-carried-owing : (s : State) (changes : List Change) (outcome : Outcome) → carried (owing s changes outcome) ≡ carried s
-carried-owing s changes (Commits tag) = carried-committing s changes _
-carried-owing s changes (Replies tag warning next) = refl
-carried-owing s changes (Refuses refusal next) = refl
-carried-owing s changes Silent = refl
-carried-owing s changes (GivesChannels names) = refl
-carried-owing s changes GivesUsage = refl
-
--- the state of the block, and its list, after the beginning of a line
-abbrev block_after_act : State → Act → BlockState
-block_after_act s (Run command) = next_state s.block (answer s.block (live_names s.changes) s.set command)
-block_after_act s Quit = Idle
-block_after_act s act = s.block
-
-abbrev list_after_act : State → Act → List Change
-list_after_act s (Run command) = list_after s.changes command (answer s.block (live_names s.changes) s.set command)
-list_after_act s Quit = []
-list_after_act s act = s.changes
-
-abbrev block_after_line : State → List ScriptLine → BlockState
-block_after_line s [] = s.block
-block_after_line s (line ∷ lines) = block_after_act s line.act
-
-abbrev list_after_line : State → List ScriptLine → List Change
-list_after_line s [] = s.changes
-list_after_line s (line ∷ lines) = list_after_act s line.act
-
--- the beginning of a line changes the block and its list alone
-abbrev begun : State → State
-begun s = record s { block = block_after_line s s.rest; changes = list_after_line s s.rest }
-
-carried-act : (s : State) (act : Act) → carried (at_act s act) ≡ carried (record s { block = block_after_act s act; changes = list_after_act s act })
-carried-act s (Run command) =
-    let outcome : Outcome = answer s.block (live_names s.changes) s.set command in
-    carried-owing (record s { block = next_state s.block outcome; changes = list_after s.changes command outcome }) (s.changes ++ changes_of command) outcome
-carried-act s (Signal flag) = refl
-carried-act s (Await flag) = refl
-carried-act s Quit =
-    let ended : State = record s { block = Idle; changes = []; set = [] } in
-    carried-either (record ended { owed = Quitting }) ended (carried ended) (is_some s.mark) refl refl
-
-carried-line : (s : State) (lines : List ScriptLine) → carried (at_line s lines) ≡ carried (record s { block = block_after_line s lines; changes = list_after_line s lines })
-carried-line s [] = refl
-carried-line s (line ∷ lines) = carried-act (record s { rest = lines }) line.act
-
-carried-enlist : (s : State) (owed : Owed) → carried (at_enlist s owed) ≡ carried s
-carried-enlist s (Enlisting actions notes ending) = carried-queueing s actions notes ending
-carried-enlist s owed = refl
-
-carried-publish : (s : State) (owed : Owed) → carried (at_publish s owed) ≡ carried s
-carried-publish s (Queueing actions notes ending) = carried-answering (record s { set = _ }) ending
-carried-publish s owed = refl
-
-carried-full : (s : State) (owed : Owed) → carried (at_full s owed) ≡ carried s
-carried-full s (Queueing actions notes ending) = carried-answering s _
-carried-full s owed = refl
-
-carried-leave : (s : State) (owed : Owed) → carried (at_leave s owed) ≡ carried s
-carried-leave s (Leaving ending) = refl
-carried-leave s owed = refl
-
-carried-rows : (s : State) (owed : Owed) → carried (at_rows s owed) ≡ carried s
-carried-rows s (Listing names ending) = refl
-carried-rows s (Measuring ending) = refl
-carried-rows s owed = refl
-
-carried-raise : (value : ℕ) (s : State) (owed : Owed) → carried (at_raise value s owed) ≡ carried s
-carried-raise value s (Raising flag) = refl
-carried-raise value s owed = refl
-
-marks-found : (value : ℕ) (s : State) (owed : Owed) → carried (at_found value s owed) ≡ record { told = (at_found value s owed).told; mark = s.mark; marks = s.marks; found = (at_found value s owed).found; block = s.block; changes = s.changes }
-marks-found value s (Awaiting flag) = refl
-marks-found value s owed = refl
-
-told-found : (value : ℕ) (s : State) (owed : Owed) (n : ℕ) → value ≤ n → s.told ≤ n → (at_found value s owed).told ≤ n
-told-found value s (Awaiting flag) n h k = omega arith
-told-found value s owed n h k = k
 
 -- the bound holds of what a state carries where it holds of what is the same
 told-same : (s t : State) (n : ℕ) → carried t ≡ carried s → s.told ≤ n → t.told ≤ n
@@ -385,91 +262,6 @@ lawful-shows terms journal items s h full found =
     All-along after_item (IsShownWithin (next_xid journal)) first items
     (shows-along terms journal first items h.lawful (Along-all after_item (IsFullThere terms.settings journal) first items full) (found-items terms journal (next_xid journal) first items h.lawful last).0
     (first-told journal) (record { own = tt; all = All-nil (λ m. m ≤ next_xid journal) }))
-
--- no block is open, so there is no list
-abbrev IsClear : BlockState → List Change → Type 0
-IsClear block changes = block ≡ Idle → changes ≡ []
-
-clear-same : (s t : State) → carried t ≡ carried s → IsClear s.block s.changes → IsClear t.block t.changes
-clear-same s t e h = subst (λ (c : Carried). IsClear c.block c.changes) (sym e) h
-
--- in a block no refusal leads out of it
-refused-idle : (block : BlockState) (live set : List (List ℕ)) (c : Command) (refusal : Refusal) → answer block live set c ≡ Refuses refusal Idle → block ≡ Idle
-refused-idle Idle live set c refusal e = refl
-refused-idle InBlock live set (command.RollbackTo name) refusal e = absurd (either (has_name live name) e)
-  where
-    either : (b : Bool) → cond b (Replies tag.Rollback None InBlock) (Refuses (NoSavepoint name) Failed) ≡ Refuses refusal Idle → ⊥
-    either true e = cc
-    either false e = cc
-refused-idle InBlock live set (command.Release name) refusal e = absurd (either (has_name live name) e)
-  where
-    either : (b : Bool) → cond b (Replies tag.Release None InBlock) (Refuses (NoSavepoint name) Failed) ≡ Refuses refusal Idle → ⊥
-    either true e = cc
-    either false e = cc
-refused-idle InBlock live set c refusal e = absurd (let no : ⊥ = cc in no)
-refused-idle Failed live set (command.RollbackTo name) refusal e = absurd (either (has_name live name) e)
-  where
-    either : (b : Bool) → cond b (Replies tag.Rollback None InBlock) (Refuses (NoSavepoint name) Failed) ≡ Refuses refusal Idle → ⊥
-    either true e = cc
-    either false e = cc
-refused-idle Failed live set (command.Release name) refusal e = absurd (either (has_name live name) e)
-  where
-    either : (b : Bool) → cond b (Refuses Aborted Failed) (Refuses Aborted Failed) ≡ Refuses refusal Idle → ⊥
-    either true e = cc
-    either false e = cc
-refused-idle Failed live set c refusal e = absurd (let no : ⊥ = cc in no)
-
-clear-outcome : (block : BlockState) (changes : List Change) (c : Command) (outcome : Outcome) → IsClear block changes → ((refusal : Refusal) → outcome ≡ Refuses refusal Idle → block ≡ Idle)
-    → IsClear (next_state block outcome) (list_after changes c outcome)
-clear-outcome block changes c (Commits done) h out e = refl
-clear-outcome block changes c (Replies done warning Idle) h out e = refl
-clear-outcome block changes c (Replies done warning InBlock) h out e = absurd (let no : ⊥ = cc in no)
-clear-outcome block changes c (Replies done warning Failed) h out e = refl
-clear-outcome block changes c (Refuses refusal next) h out e = h (out refusal (ap (λ (b : BlockState). Refuses refusal b) e))
-clear-outcome block changes c Silent h out e = h e
-clear-outcome block changes c (GivesChannels names) h out e = h e
-clear-outcome block changes c GivesUsage h out e = h e
-
-clear-act : (s : State) (act : Act) → IsClear s.block s.changes → IsClear (block_after_act s act) (list_after_act s act)
-clear-act s (Run command) h = clear-outcome s.block s.changes command (answer s.block (live_names s.changes) s.set command) h (refused-idle s.block (live_names s.changes) s.set command)
-clear-act s (Signal flag) h = h
-clear-act s (Await flag) h = h
-clear-act s Quit h = λ e. refl
-
-clear-line : (s : State) (lines : List ScriptLine) → IsClear s.block s.changes → IsClear (block_after_line s lines) (list_after_line s lines)
-clear-line s [] h = h
-clear-line s (line ∷ lines) h = clear-act s line.act h
-
-clear-step : (s : State) (item : Item) → IsClear s.block s.changes → IsClear (after_item s item).block (after_item s item).changes
-clear-step s (Line line) h = clear-same (begun s) (at_line s s.rest) (carried-line s s.rest) (clear-line s s.rest h)
-clear-step s (Enlist base point) h =
-    let before : State = record s { mark = Some point; marks = s.marks ++ base ∷ [] ++ point ∷ [] } in
-    clear-same before (at_enlist before s.owed) (carried-enlist before s.owed) h
-clear-step s (Publish xid notes) h =
-    let before : State = record s { told = max s.told (xid + 1) } in
-    clear-same before (at_publish before s.owed) (carried-publish before s.owed) h
-clear-step s (QueueFull full notes) h =
-    let before : State = record s { told = max s.told (full.xid + 1); named = s.named ++ holder_at full.holder full.floor_mark } in
-    clear-same before (at_full before s.owed) (carried-full before s.owed) h
-clear-step s Leave h =
-    let before : State = record s { mark = None } in
-    clear-same before (at_leave before s.owed) (carried-leave before s.owed) h
-clear-step s (Reply done warning) h = h
-clear-step s (Refuse refusal) h = h
-clear-step s (Channels names) h = clear-same s (at_rows s s.owed) (carried-rows s s.owed) h
-clear-step s (Used usage) h =
-    let before : State = record s { named = s.named ++ holder_at usage.holder usage.floor_mark } in
-    clear-same before (at_rows before s.owed) (carried-rows before s.owed) h
-clear-step s (Raise value) h = clear-same s (at_raise value s s.owed) (carried-raise value s s.owed) h
-clear-step s (Found value) h = subst (λ (c : Carried). IsClear c.block c.changes) (sym (marks-found value s s.owed)) h
-clear-step s (TimedOut looks) h = h
-clear-step s (Read from to got) h = h
-
-pub no_list-outside : NoListOutside
-no_list-outside terms journal items s h idle =
-    let last : State = state_after terms items in
-    let clear : IsClear last.block last.changes = Along-keeps after_item (Allowed terms journal) (λ (t : State). IsClear t.block t.changes) (λ t item p k. clear-step t item k) (start terms.section) items h.lawful (λ e. refl) in
-    subst (λ (t : State). IsClear t.block t.changes) h.state clear idle
 
 pub up_to_date-grows : UpToDateGrows
 up_to_date-grows terms journal more s within h = grown s.mark h

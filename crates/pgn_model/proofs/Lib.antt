@@ -7,6 +7,7 @@ pub mod PackingLemmas
 pub mod PackingSteps
 pub mod NearLaws
 pub mod QueueUseLaws
+pub mod CarriedLaws
 pub mod GrowingLaws
 pub mod NextLineLaws
 pub mod TextBytes
