@@ -104,15 +104,15 @@ pub fn growing()
 
 /// What a session's next line adds to its trace, and what a read and the script's end add.
 pub fn next_line()
-    // Before the first item all is well.
+    // Before the first item a trace is lawful so far, over any journal.
     ensures nothing_stands { NothingStands }
-    // The journal may grow under a trace so far.
+    // The journal may grow under a trace that is lawful so far and left no read out.
     ensures stands_fresh_grows { StandsFreshGrows }
-    // It may grow under all that a session keeps of its trace.
+    // It may grow under all that a session keeps of its trace so far.
     ensures holds_grows { HoldsGrows }
     // No number is shown that is past the journal.
     ensures holds_shows { HoldsShows }
-    // Nor is one carried.
+    // Nor was the session told of one, nor stood it at one.
     ensures holds_within { HoldsWithin }
     // The journal may grow before the next line begins.
     ensures comes_next_grows { ComesNextGrows }
@@ -172,7 +172,7 @@ pub fn next_line()
     ensures no_listener { NoListenerIsUpToDate }
     // Who has read all that it was told of has no more to read.
     ensures reader { ReaderIsUpToDate }
-    // Nor has who need not read up to what it was told of.
+    // Nor has who need not read up to a number that is no less than what it was told of.
     ensures quiet { QuietIsUpToDate }
     // At the script's end the trace is lawful.
     ensures end_is_lawful { EndIsLawful }

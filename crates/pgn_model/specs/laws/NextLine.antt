@@ -212,7 +212,7 @@ HoldsGrows = (terms : Terms) (journal more : List Tx) (items : List Item) (s : S
 abbrev pub HoldsShows : Type 0
 HoldsShows = (terms : Terms) (journal : List Tx) (items : List Item) (s : State) → HoldsSoFar terms journal items s → All (IsShownWithin (next_xid journal)) items
 
--- nor is one carried: in step, idle and finish_read
+-- nor was the session told of one, nor stood it at one: in step, idle and finish_read
 abbrev pub HoldsWithin : Type 0
 HoldsWithin = (terms : Terms) (journal : List Tx) (items : List Item) (s : State) → HoldsSoFar terms journal items s → IsStateWithin (next_xid journal) s
 
