@@ -11,6 +11,9 @@ pub mod QueueUseLaws
 pub mod PieceLaws
 pub mod DraftLaws
 pub mod PieceSteps
+pub mod CarriedLaws
+pub mod GrowingLaws
+pub mod NextLineLaws
 pub mod TextBytes
 pub mod AnswerLemmas
 pub mod SavepointLemmas

@@ -9,6 +9,8 @@ pub mod Pieces
 pub mod Savepoints
 pub mod Answers
 pub mod Walk
+pub mod Growing
+pub mod NextLine
 pub mod Text
 pub mod Tokens
 pub mod Grammar

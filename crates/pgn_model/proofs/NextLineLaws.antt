@@ -1,0 +1,553 @@
+-- Proofs of the laws of what a session's next line adds to its trace.
+use Rattle.std.proofs.Common.{◌≡◌, ◌≢◌, ℕ, ◌+◌, max, Bool, true, false, cond, List, [], ◌∷◌, ◌++◌, length, Option, Some, None, if◌then◌else◌, IfSome, sym, ap, ◌∙◌, refl, subst, inl, inr, append-nil, IsSomeAnd, All, slice_get, arith, ◌-◌, ◌≤◌, length-append}
+use Rattle.pgn_base.specs.declared.note.Note.{Note}
+use Rattle.pgn_base.specs.declared.answers.Tag.{Tag}
+use Rattle.pgn_base.specs.declared.queue_answers.Full.{Full}
+use Rattle.pgn_base.specs.declared.listen_set.Action.{Action}
+use Rattle.pgn_base.specs.Channels.{applied}
+use Rattle.pgn_model.specs.declared.tx.Tx.{Tx}
+use Rattle.pgn_model.specs.declared.block_state.BlockState.{BlockState}
+use Rattle.pgn_model.specs.declared.block_state.BlockState.TheVariants.{Idle, InBlock, Failed}
+use Rattle.pgn_model.specs.declared.command.Command.{Command}
+use Rattle.pgn_model.specs.declared.scenario.Act.{Act}
+use Rattle.pgn_model.specs.declared.scenario.Act.TheVariants.{Run, Signal, Await, Quit}
+use Rattle.pgn_model.specs.declared.scenario.ScriptLine.{ScriptLine}
+use Rattle.pgn_model.specs.declared.item.Item.{Item}
+use Rattle.pgn_model.specs.declared.item.Item.TheVariants.{Line, Enlist, Publish, QueueFull, Leave, Reply, Refuse, Channels, Used, Raise, Found, TimedOut, Read}
+use Rattle.pgn_model.specs.Journal.{is_committed_in, next_xid, entry}
+use Rattle.pgn_model.specs.Due.{due}
+use Rattle.pgn_model.specs.Near.{Near}
+use Rattle.pgn_model.specs.Savepoints.{surviving_notes, firsts, changes_of, live_names, Change, surviving_actions}
+use Rattle.pgn_model.specs.Answers.{Outcome, Commits, Replies, Refuses, Silent, GivesChannels, GivesUsage, answer, next_state, list_after}
+use Rattle.pgn_model.specs.Walk.{Terms, State, Owed, Nothing, Enlisting, Queueing, Leaving, Answering, Listing, Measuring, Raising, Awaiting, Quitting, Ending, Replied, Refused, start, after_item, Allowed, MayRead, leaving_or_answering, queueing_or_settled, settled, at_outcome, at_act, at_line, quitting, IsNext, holder_at, IsCommittedBy, IsAbortedBy, at_enlist, at_publish, at_full, at_leave, at_rows, at_raise}
+use Rattle.pgn_model.specs.Trace.{IsEnd, IsUpToDate, IsFreshAt, state_after}
+use Rattle.pgn_model.specs.laws.NextLine.{StandsFresh, ComesNext, CommitsNext, MayEnlist, MayPublish, MayMeetFull, MayReadTo, outcome_in, kept_tag, is_enlisting, is_leaving, enlist_items, publish_items, leave_items, quit_items, enlisted_mark, enlisted_marks, left_mark, published_told, NothingStands, StandsFreshGrows, ComesNextGrows, LineReplies, LineRefuses, LineIsSilent, LineIsKept, LineCommits, LineMeetsFull, LineGivesChannels, LineGivesUsage, LineSignals, LineAwaits, AwaitFinds, AwaitTimesOut, LineQuits, IdleReads, AwaitReads, EndReads, NoListenerIsUpToDate, ReaderIsUpToDate, EndIsLawful, EndIsFresh, LastIsPublished, LastMetFull, CommitFinishes, FullFinishes, CommitKeepsFull, FullKeepsFull, QuietIsUpToDate, published_xids, BlockCommits, OneCommits, HoldsGrows, HoldsShows, HoldsWithin, CommitsNextGrows, NoListOutside}
+use Rattle.pgn_model.proofs.NearLaws.{near-itself, near-shrinks}
+use Rattle.pgn_model.proofs.WalkLaws.{Along-push_at, Stands-push, Stands-grows}
+use Rattle.pgn_model.proofs.GrowingLaws.{up_to_date-grows, fresh_so_far-grows, lawful-shows, state-within, full-grows, Along-keeps}
+use Rattle.std.proofs.lemmas.List.Elements.{All-nil, All-push, All-append, filter_map-append, All-weaker}
+use Rattle.pgn_model.specs.Legal.{finished_xid, finished_xids, IsFullThere}
+use Rattle.pgn_base.specs.declared.answers.Refusal.{Refusal}
+use Rattle.pgn_base.specs.declared.answers.Refusal.TheVariants.{NoSavepoint, Aborted}
+use Rattle.pgn_base.specs.Names.{has_name}
+use Rattle.pgn_model.proofs.CarriedLaws.{Carried, carried, begun, block_after_act, list_after_act, block_after_line, list_after_line, carried-line, carried-enlist, carried-publish, carried-full, carried-leave, carried-rows, carried-raise, marks-found}
+use Rattle.pgn_base.specs.declared.answers.Tag.TheVariants as tag
+use Rattle.pgn_base.specs.declared.answers.Refusal.TheVariants as refused
+use Rattle.pgn_model.specs.declared.command.Command.TheVariants as command
+
+pub nothing-stands : NothingStands
+nothing-stands terms journal = record { stands = record { lawful = tt; state = refl }; fresh = tt }
+
+pub stands_fresh-grows : StandsFreshGrows
+stands_fresh-grows terms journal more items s h shown = record {
+  stands = Stands-grows terms journal more items s h.stands;
+  fresh = fresh_so_far-grows terms journal more items h.stands.lawful shown h.fresh;
+}
+
+pub holds-shows : HoldsShows
+holds-shows terms journal items s h = lawful-shows terms journal items s h.stands_fresh.stands h.full h.found
+
+pub holds-within : HoldsWithin
+holds-within terms journal items s h = state-within terms journal items s h.stands_fresh.stands (holds-shows terms journal items s h)
+
+pub holds-grows : HoldsGrows
+holds-grows terms journal more items s h = record {
+  stands_fresh = stands_fresh-grows terms journal more items s h.stands_fresh (holds-shows terms journal items s h);
+  full = full-grows terms.settings journal more items h.full;
+  found = All-weaker (λ (pair : ℕ × ℕ). pair.1 ≤ next_xid journal) (λ (pair : ℕ × ℕ). pair.1 ≤ next_xid (journal ++ more)) (λ pair e. omega (arith, e, length-append journal more)) s.found h.found;
+}
+
+pub comes_next-grows : ComesNextGrows
+comes_next-grows terms journal more s line act lines told h = record {
+  answered = h.answered;
+  next = h.next;
+  does = h.does;
+  up_to_date = λ idle. up_to_date-grows terms journal more s told (h.up_to_date idle);
+}
+
+-- one more item at the end
+pub StandsFresh-push : (terms : Terms) (journal : List Tx) (items : List Item) (s : State) (item : Item)
+    → StandsFresh terms journal items s → Allowed terms journal s item → IsFreshAt terms journal s item → StandsFresh terms journal (items ++ item ∷ []) (after_item s item)
+StandsFresh-push terms journal items s item h allowed fresh = record {
+  stands = Stands-push terms journal items s item h.stands allowed;
+  fresh = Along-push_at after_item (IsFreshAt terms journal) (start terms.section) s items item h.stands.state h.fresh fresh;
+}
+
+-- no item at the end
+without : (terms : Terms) (journal : List Tx) (items : List Item) (s : State) → StandsFresh terms journal items s → StandsFresh terms journal (items ++ []) s
+without terms journal items s h = subst (λ (is : List Item). StandsFresh terms journal is s) (sym (append-nil items)) h
+
+-- what the line still has to show may be given by an equation
+at-owed : (terms : Terms) (journal : List Tx) (items : List Item) (s : State) (owed : Owed) → s.owed ≡ owed → StandsFresh terms journal items s → StandsFresh terms journal items (record s { owed = owed })
+at-owed terms journal items s owed e h = subst (λ (o : Owed). StandsFresh terms journal items (record s { owed = o })) e h
+
+-- the next line begins
+begins : (terms : Terms) (journal : List Tx) (items : List Item) (s : State) (line : ScriptLine) (act : Act) (lines : List ScriptLine)
+    → StandsFresh terms journal items s → ComesNext terms journal s line act lines
+    → StandsFresh terms journal (items ++ Line line.line ∷ []) (at_act (record s { rest = lines; owed = Nothing }) act)
+begins terms journal items s line act lines h next =
+    let begun : List Item = items ++ Line line.line ∷ [] in
+    let is_next : IsNext line.line s.rest = subst (λ (ls : List ScriptLine). IsNext line.line ls) (sym next.next) refl in
+    let one : StandsFresh terms journal begun (at_line s s.rest) = StandsFresh-push terms journal items s (Line line.line) h (record { answered = next.answered; next = is_next }) next.up_to_date in
+    let two : StandsFresh terms journal begun (at_line s (line ∷ lines)) = subst (λ (ls : List ScriptLine). StandsFresh terms journal begun (at_line s ls)) next.next one in
+    let three : StandsFresh terms journal begun (at_act (record s { rest = lines; owed = Nothing }) line.act) =
+    subst (λ (o : Owed). StandsFresh terms journal begun (at_act (record s { rest = lines; owed = o }) line.act)) next.answered two in
+    subst (λ (a : Act). StandsFresh terms journal begun (at_act (record s { rest = lines; owed = Nothing }) a)) next.does three
+
+-- a command begins
+begins-command : (terms : Terms) (journal : List Tx) (items : List Item) (s : State) (line : ScriptLine) (command : Command) (lines : List ScriptLine) (outcome : Outcome)
+    → StandsFresh terms journal items s → ComesNext terms journal s line (Run command) lines → outcome_in s command ≡ outcome
+    → StandsFresh terms journal (items ++ Line line.line ∷ []) (at_outcome (record s { rest = lines; owed = Nothing }) command outcome)
+begins-command terms journal items s line command lines outcome h next e =
+    subst (λ (o : Outcome). StandsFresh terms journal (items ++ Line line.line ∷ []) (at_outcome (record s { rest = lines; owed = Nothing }) command o)) e
+    (begins terms journal items s line (Run command) lines h next)
+
+pub line-replies : LineReplies
+line-replies terms journal items s line lines command done warning next h comes e =
+    let begun : State = at_outcome (record s { rest = lines; owed = Nothing }) command (Replies done warning next) in
+    StandsFresh-push terms journal (items ++ Line line.line ∷ []) begun (Reply done warning) (begins-command terms journal items s line command lines (Replies done warning next) h comes e) refl tt
+
+pub line-refuses : LineRefuses
+line-refuses terms journal items s line lines command refusal next h comes e =
+    let begun : State = at_outcome (record s { rest = lines; owed = Nothing }) command (Refuses refusal next) in
+    StandsFresh-push terms journal (items ++ Line line.line ∷ []) begun (Refuse refusal) (begins-command terms journal items s line command lines (Refuses refusal next) h comes e) refl tt
+
+pub line-is_silent : LineIsSilent
+line-is_silent terms journal items s line lines command h comes e = begins-command terms journal items s line command lines Silent h comes e
+
+-- a command that is kept is answered by its tag
+kept-replies : (live set : List (List ℕ)) (c : Command) (done : Tag) → kept_tag c ≡ Some done → answer InBlock live set c ≡ Replies done None InBlock
+kept-replies live set (command.Listen name) done e = cc
+kept-replies live set (command.Unlisten name) done e = cc
+kept-replies live set command.UnlistenAll done e = cc
+kept-replies live set (command.Notify note) done e = cc
+kept-replies live set (command.PgNotify note) done e = cc
+kept-replies live set other done e = absurd (let no : ⊥ = cc in no)
+
+pub line-is_kept : LineIsKept
+line-is_kept terms journal items s line lines command done h comes in_block kept =
+    line-replies terms journal items s line lines command done None InBlock h comes
+    (ap (λ (b : BlockState). answer b (live_names s.changes) s.set command) in_block ∙ kept-replies (live_names s.changes) s.set command done kept)
+
+-- outside a block it commits
+kept-commits : (live set : List (List ℕ)) (c : Command) (done : Tag) → kept_tag c ≡ Some done → answer Idle live set c ≡ Commits done
+kept-commits live set (command.Listen name) done e = cc
+kept-commits live set (command.Unlisten name) done e = cc
+kept-commits live set command.UnlistenAll done e = cc
+kept-commits live set (command.Notify note) done e = cc
+kept-commits live set (command.PgNotify note) done e = cc
+kept-commits live set other done e = absurd (let no : ⊥ = cc in no)
+
+-- it puts one change into the list, so that its notifications have no repeats
+kept-firsts : (c : Command) (done : Tag) → kept_tag c ≡ Some done → firsts (surviving_notes (changes_of c)) ≡ surviving_notes (changes_of c)
+kept-firsts (command.Listen name) done e = refl
+kept-firsts (command.Unlisten name) done e = refl
+kept-firsts command.UnlistenAll done e = refl
+kept-firsts (command.Notify note) done e = refl
+kept-firsts (command.PgNotify note) done e = refl
+kept-firsts other done e = absurd (let no : ⊥ = cc in no)
+
+-- no block is open, so there is no list
+abbrev IsClear : BlockState → List Change → Type 0
+IsClear block changes = block ≡ Idle → changes ≡ []
+
+clear-same : (s t : State) → carried t ≡ carried s → IsClear s.block s.changes → IsClear t.block t.changes
+clear-same s t e h = subst (λ (c : Carried). IsClear c.block c.changes) (sym e) h
+
+-- in a block no refusal leads out of it
+refused-idle : (block : BlockState) (live set : List (List ℕ)) (c : Command) (refusal : Refusal) → answer block live set c ≡ Refuses refusal Idle → block ≡ Idle
+refused-idle Idle live set c refusal e = refl
+refused-idle InBlock live set (command.RollbackTo name) refusal e = absurd (either (has_name live name) e)
+  where
+    either : (b : Bool) → cond b (Replies tag.Rollback None InBlock) (Refuses (NoSavepoint name) Failed) ≡ Refuses refusal Idle → ⊥
+    either true e = cc
+    either false e = cc
+refused-idle InBlock live set (command.Release name) refusal e = absurd (either (has_name live name) e)
+  where
+    either : (b : Bool) → cond b (Replies tag.Release None InBlock) (Refuses (NoSavepoint name) Failed) ≡ Refuses refusal Idle → ⊥
+    either true e = cc
+    either false e = cc
+refused-idle InBlock live set c refusal e = absurd (let no : ⊥ = cc in no)
+refused-idle Failed live set (command.RollbackTo name) refusal e = absurd (either (has_name live name) e)
+  where
+    either : (b : Bool) → cond b (Replies tag.Rollback None InBlock) (Refuses (NoSavepoint name) Failed) ≡ Refuses refusal Idle → ⊥
+    either true e = cc
+    either false e = cc
+refused-idle Failed live set (command.Release name) refusal e = absurd (either (has_name live name) e)
+  where
+    either : (b : Bool) → cond b (Refuses Aborted Failed) (Refuses Aborted Failed) ≡ Refuses refusal Idle → ⊥
+    either true e = cc
+    either false e = cc
+refused-idle Failed live set c refusal e = absurd (let no : ⊥ = cc in no)
+
+clear-outcome : (block : BlockState) (changes : List Change) (c : Command) (outcome : Outcome) → IsClear block changes → ((refusal : Refusal) → outcome ≡ Refuses refusal Idle → block ≡ Idle)
+    → IsClear (next_state block outcome) (list_after changes c outcome)
+clear-outcome block changes c (Commits done) h out e = refl
+clear-outcome block changes c (Replies done warning Idle) h out e = refl
+clear-outcome block changes c (Replies done warning InBlock) h out e = absurd (let no : ⊥ = cc in no)
+clear-outcome block changes c (Replies done warning Failed) h out e = refl
+clear-outcome block changes c (Refuses refusal next) h out e = h (out refusal (ap (λ (b : BlockState). Refuses refusal b) e))
+clear-outcome block changes c Silent h out e = h e
+clear-outcome block changes c (GivesChannels names) h out e = h e
+clear-outcome block changes c GivesUsage h out e = h e
+
+clear-act : (s : State) (act : Act) → IsClear s.block s.changes → IsClear (block_after_act s act) (list_after_act s act)
+clear-act s (Run command) h = clear-outcome s.block s.changes command (answer s.block (live_names s.changes) s.set command) h (refused-idle s.block (live_names s.changes) s.set command)
+clear-act s (Signal flag) h = h
+clear-act s (Await flag) h = h
+clear-act s Quit h = λ e. refl
+
+clear-line : (s : State) (lines : List ScriptLine) → IsClear s.block s.changes → IsClear (block_after_line s lines) (list_after_line s lines)
+clear-line s [] h = h
+clear-line s (line ∷ lines) h = clear-act s line.act h
+
+clear-step : (s : State) (item : Item) → IsClear s.block s.changes → IsClear (after_item s item).block (after_item s item).changes
+clear-step s (Line line) h = clear-same (begun s) (at_line s s.rest) (carried-line s s.rest) (clear-line s s.rest h)
+clear-step s (Enlist base point) h =
+    let before : State = record s { mark = Some point; marks = s.marks ++ base ∷ [] ++ point ∷ [] } in
+    clear-same before (at_enlist before s.owed) (carried-enlist before s.owed) h
+clear-step s (Publish xid notes) h =
+    let before : State = record s { told = max s.told (xid + 1) } in
+    clear-same before (at_publish before s.owed) (carried-publish before s.owed) h
+clear-step s (QueueFull full notes) h =
+    let before : State = record s { told = max s.told (full.xid + 1); named = s.named ++ holder_at full.holder full.floor_mark } in
+    clear-same before (at_full before s.owed) (carried-full before s.owed) h
+clear-step s Leave h =
+    let before : State = record s { mark = None } in
+    clear-same before (at_leave before s.owed) (carried-leave before s.owed) h
+clear-step s (Reply done warning) h = h
+clear-step s (Refuse refusal) h = h
+clear-step s (Channels names) h = clear-same s (at_rows s s.owed) (carried-rows s s.owed) h
+clear-step s (Used usage) h =
+    let before : State = record s { named = s.named ++ holder_at usage.holder usage.floor_mark } in
+    clear-same before (at_rows before s.owed) (carried-rows before s.owed) h
+clear-step s (Raise value) h = clear-same s (at_raise value s s.owed) (carried-raise value s s.owed) h
+clear-step s (Found value) h = subst (λ (c : Carried). IsClear c.block c.changes) (sym (marks-found value s s.owed)) h
+clear-step s (TimedOut looks) h = h
+clear-step s (Read from to got) h = h
+
+pub no_list-outside : NoListOutside
+no_list-outside terms journal items s h idle =
+    let last : State = state_after terms items in
+    let clear : IsClear last.block last.changes = Along-keeps after_item (Allowed terms journal) (λ (t : State). IsClear t.block t.changes) (λ t item p k. clear-step t item k) (start terms.section) items h.lawful (λ e. refl) in
+    subst (λ (t : State). IsClear t.block t.changes) h.state clear idle
+
+pub block-commits : BlockCommits
+block-commits terms journal s line lines actions notes comes in_block actions_are notes_are = record {
+  comes = comes;
+  commits = ap (λ (b : BlockState). answer b (live_names s.changes) s.set command.Commit) in_block;
+  actions_are = actions_are ∙ ap surviving_actions (sym (append-nil s.changes));
+  notes_are = notes_are ∙ ap (λ (cs : List Change). firsts (surviving_notes cs)) (sym (append-nil s.changes));
+}
+
+pub one-commits : OneCommits
+one-commits terms journal s line lines c done actions notes comes idle none kept actions_are notes_are = record {
+  comes = comes;
+  commits = ap (λ (b : BlockState). answer b (live_names s.changes) s.set c) idle ∙ kept-commits (live_names s.changes) s.set c done kept;
+  actions_are = actions_are ∙ ap (λ (cs : List Change). surviving_actions (cs ++ changes_of c)) (sym none);
+  notes_are = notes_are ∙ sym (kept-firsts c done kept) ∙ ap (λ (cs : List Change). firsts (surviving_notes (cs ++ changes_of c))) (sym none);
+}
+
+pub commits_next-grows : CommitsNextGrows
+commits_next-grows terms journal more s line lines command done actions notes told h = record {
+  comes = comes_next-grows terms journal more s line (Run command) lines told h.comes;
+  commits = h.commits;
+  actions_are = h.actions_are;
+  notes_are = h.notes_are;
+}
+
+-- the item that ends an answer
+abbrev answer_item : Ending → Item
+answer_item (Replied done warning) = Reply done warning
+answer_item (Refused refusal) = Refuse refusal
+
+-- the answer comes
+answers : (terms : Terms) (journal : List Tx) (items : List Item) (s : State) (ending : Ending)
+    → StandsFresh terms journal items (record s { owed = Answering ending }) → StandsFresh terms journal (items ++ answer_item ending ∷ []) (record s { owed = Nothing })
+answers terms journal items s (Replied done warning) h = StandsFresh-push terms journal items (record s { owed = Answering (Replied done warning) }) (Reply done warning) h refl tt
+answers terms journal items s (Refused refusal) h = StandsFresh-push terms journal items (record s { owed = Answering (Refused refusal) }) (Refuse refusal) h refl tt
+
+-- a listener whose set is empty leaves, and the answer comes
+leaves : (terms : Terms) (journal : List Tx) (items : List Item) (s : State) (ending : Ending) (b : Bool)
+    → (let leaving : State = record s { owed = Leaving ending } in let answering : State = record s { owed = Answering ending } in StandsFresh terms journal items (if b then leaving else answering))
+    → StandsFresh terms journal (items ++ cond b (Leave ∷ []) [] ++ answer_item ending ∷ []) (record s { owed = Nothing; mark = cond b None s.mark })
+leaves terms journal items s ending true h =
+    answers terms journal (items ++ Leave ∷ []) (record s { mark = None }) ending (StandsFresh-push terms journal items (record s { owed = Leaving ending }) Leave h tt tt)
+leaves terms journal items s ending false h = answers terms journal (items ++ []) s ending (without terms journal items (record s { owed = Answering ending }) h)
+
+-- the end of a commit
+ends : (terms : Terms) (journal : List Tx) (items : List Item) (s : State) (ending : Ending) → StandsFresh terms journal items (leaving_or_answering s ending)
+    → StandsFresh terms journal (items ++ leave_items s.mark s.set ++ answer_item ending ∷ []) (record s { owed = Nothing; mark = left_mark s.mark s.set })
+ends terms journal items s ending h = leaves terms journal items s ending (is_leaving s.mark s.set) h
+
+-- the notifications of a commit, if there are any
+publishes : (terms : Terms) (journal : List Tx) (items : List Item) (s : State) (actions : List Action) (notes : List Note) (ending : Ending) (xid : ℕ)
+    → StandsFresh terms journal items (queueing_or_settled s actions notes ending) → (notes ≢ [] → MayPublish terms journal s.told s.mark xid notes)
+    → StandsFresh terms journal (items ++ publish_items notes xid) (settled (record s { told = published_told notes s.told xid }) actions ending)
+publishes terms journal items s actions [] ending xid h may = without terms journal items (settled s actions ending) h
+publishes terms journal items s actions (note ∷ notes) ending xid h may =
+    let now : MayPublish terms journal s.told s.mark xid (note ∷ notes) = may (λ e. cc) in
+    StandsFresh-push terms journal items (record s { owed = Queueing actions (note ∷ notes) ending }) (Publish xid (note ∷ notes)) h
+    (record { expected = refl; after_told = now.after_told; after_mark = now.after_mark; in_journal = now.in_journal }) tt
+
+-- the notifications of a commit meet a full queue
+meets : (terms : Terms) (journal : List Tx) (items : List Item) (s : State) (actions : List Action) (notes : List Note) (ending : Ending) (full : Full)
+    → StandsFresh terms journal items (queueing_or_settled s actions notes ending) → notes ≢ [] → MayMeetFull terms journal s.told s.mark full notes
+    → StandsFresh terms journal (items ++ QueueFull full notes ∷ [])
+    (leaving_or_answering (record s { told = max s.told (full.xid + 1); named = s.named ++ holder_at full.holder full.floor_mark }) (Refused refused.QueueFull))
+meets terms journal items s actions [] ending full h some may = absurd (some refl)
+meets terms journal items s actions (note ∷ notes) ending full h some may =
+    StandsFresh-push terms journal items (record s { owed = Queueing actions (note ∷ notes) ending }) (QueueFull full (note ∷ notes)) h
+    (record { expected = refl; after_told = may.after_told; after_mark = may.after_mark; in_journal = may.in_journal; floor = may.floor }) tt
+
+-- what was owed before the notifications is lost
+owed-lost : (s : State) (owed : Owed) (actions : List Action) (notes : List Note) (ending : Ending) → queueing_or_settled (record s { owed = owed }) actions notes ending ≡ queueing_or_settled s actions notes ending
+owed-lost s owed actions [] ending = refl
+owed-lost s owed actions (note ∷ notes) ending = refl
+
+-- the session becomes a listener, if it is to
+enlists : (terms : Terms) (journal : List Tx) (items : List Item) (s : State) (actions : List Action) (notes : List Note) (ending : Ending) (base point : ℕ) (b : Bool)
+    → (let enlisting : State = record s { owed = Enlisting actions notes ending } in StandsFresh terms journal items (if b then enlisting else queueing_or_settled s actions notes ending))
+    → (b ≡ true → MayEnlist journal s.told s.marks base point)
+    → StandsFresh terms journal (items ++ cond b (Enlist base point ∷ []) [])
+    (queueing_or_settled (record s { mark = cond b (Some point) s.mark; marks = cond b (s.marks ++ base ∷ [] ++ point ∷ []) s.marks }) actions notes ending)
+enlists terms journal items s actions notes ending base point true h may =
+    let now : MayEnlist journal s.told s.marks base point = may refl in
+    let after : State = record s { mark = Some point; marks = s.marks ++ base ∷ [] ++ point ∷ [] } in
+    subst (λ (t : State). StandsFresh terms journal (items ++ Enlist base point ∷ []) t) (owed-lost after (Enlisting actions notes ending) actions notes ending)
+    (StandsFresh-push terms journal items (record s { owed = Enlisting actions notes ending }) (Enlist base point) h
+    (record { expected = tt; from_first = now.from_first; ordered = now.ordered; after_told = now.after_told; after_marks = now.after_marks; in_journal = now.in_journal }) tt)
+enlists terms journal items s actions notes ending base point false h may = without terms journal items (queueing_or_settled s actions notes ending) h
+
+-- a commit begins, and makes the session a listener, if it is to
+commits : (terms : Terms) (journal : List Tx) (items : List Item) (s : State) (line : ScriptLine) (lines : List ScriptLine) (command : Command) (done : Tag) (actions : List Action) (notes : List Note) (base point : ℕ)
+    → StandsFresh terms journal items s → CommitsNext terms journal s line lines command done actions notes
+    → (is_enlisting actions s.mark ≡ true → MayEnlist journal s.told s.marks base point)
+    → StandsFresh terms journal (items ++ Line line.line ∷ [] ++ enlist_items actions s.mark base point)
+    (queueing_or_settled (record s { rest = lines; owed = Nothing; block = Idle; changes = []; mark = enlisted_mark actions s.mark point; marks = enlisted_marks actions s.mark s.marks base point }) actions notes (Replied done None))
+commits terms journal items s line lines command done actions notes base point h next may =
+    let ending : Ending = Replied done None in
+    let begun : List Item = items ++ Line line.line ∷ [] in
+    let idle : State = record s { rest = lines; owed = Nothing; block = Idle; changes = [] } in
+    let one = begins-command terms journal items s line command lines (Commits done) h next.comes next.commits in
+    let two = subst (λ (acts : List Action). let enlisting : State = record idle { owed = Enlisting acts (firsts (surviving_notes (s.changes ++ changes_of command))) ending } in
+    StandsFresh terms journal begun (if is_enlisting acts s.mark then enlisting else queueing_or_settled idle acts (firsts (surviving_notes (s.changes ++ changes_of command))) ending)) (sym next.actions_are) one in
+    let three = subst (λ (ns : List Note). let enlisting : State = record idle { owed = Enlisting actions ns ending } in
+    StandsFresh terms journal begun (if is_enlisting actions s.mark then enlisting else queueing_or_settled idle actions ns ending)) (sym next.notes_are) two in
+    enlists terms journal begun idle actions notes ending base point (is_enlisting actions s.mark) three may
+
+pub line-commits : LineCommits
+line-commits terms journal items s line lines command done actions notes base point xid h next enlist publish =
+    let begun : List Item = items ++ Line line.line ∷ [] ++ enlist_items actions s.mark base point in
+    let joined : State = record s { rest = lines; owed = Nothing; block = Idle; changes = []; mark = enlisted_mark actions s.mark point; marks = enlisted_marks actions s.mark s.marks base point } in
+    let one = commits terms journal items s line lines command done actions notes base point h next enlist in
+    let two = publishes terms journal begun joined actions notes (Replied done None) xid one publish in
+    ends terms journal (begun ++ publish_items notes xid) (record joined { told = published_told notes s.told xid; set = applied s.set actions }) (Replied done None) two
+
+pub line-meets_full : LineMeetsFull
+line-meets_full terms journal items s line lines command done actions notes base point full h next enlist some meet =
+    let begun : List Item = items ++ Line line.line ∷ [] ++ enlist_items actions s.mark base point in
+    let joined : State = record s { rest = lines; owed = Nothing; block = Idle; changes = []; mark = enlisted_mark actions s.mark point; marks = enlisted_marks actions s.mark s.marks base point } in
+    let one = commits terms journal items s line lines command done actions notes base point h next enlist in
+    let two = meets terms journal begun joined actions notes (Replied done None) full one some meet in
+    ends terms journal (begun ++ QueueFull full notes ∷ []) (record joined { told = max s.told (full.xid + 1); named = s.named ++ holder_at full.holder full.floor_mark }) (Refused refused.QueueFull) two
+
+-- the last of a journal
+entry-last : (journal : List Tx) (tx : Tx) (P : Tx → Type 0) → P tx → IsSomeAnd (slice_get (journal ++ tx ∷ []) (length journal)) P
+entry-last [] tx P p = p
+entry-last (first ∷ journal) tx P p = entry-last journal tx P p
+
+pub entry-next : (journal : List Tx) (tx : Tx) (x : ℕ) (P : Tx → Type 0) → x ≡ next_xid journal → P tx → IsSomeAnd (entry (journal ++ tx ∷ []) x) P
+entry-next journal tx x P e p =
+    let place : x - 3 ≡ length journal = omega arith in
+    subst (λ (k : ℕ). IsSomeAnd (slice_get (journal ++ tx ∷ []) k) P) (sym place) (entry-last journal tx P p)
+
+pub last-is_published : LastIsPublished
+last-is_published terms journal tx told mark xid notes e after_told after_mark by = record {
+  after_told = omega arith;
+  after_mark = subst (λ (n : ℕ). IfSome mark (λ own. own ≤ n)) (sym e) after_mark;
+  in_journal = entry-next journal tx xid (IsCommittedBy terms.section notes) e by;
+}
+
+pub last-met_full : LastMetFull
+last-met_full terms journal tx told mark full notes e after_told after_mark by floor = record {
+  after_told = omega arith;
+  after_mark = subst (λ (n : ℕ). IfSome mark (λ own. own ≤ n)) (sym e) after_mark;
+  in_journal = entry-next journal tx full.xid (IsAbortedBy terms.section notes full.queued) e by;
+  floor = floor;
+}
+
+-- a fact of each item of a commit, where it has one
+enlist-all : (P : Item → Type 0) (base point : ℕ) (b : Bool) → (b ≡ true → P (Enlist base point)) → All P (cond b (Enlist base point ∷ []) [])
+enlist-all P base point true h = All-push P [] (Enlist base point) (All-nil P) (h refl)
+enlist-all P base point false h = All-nil P
+
+publish-all : (P : Item → Type 0) (notes : List Note) (xid : ℕ) → (notes ≢ [] → P (Publish xid notes)) → All P (publish_items notes xid)
+publish-all P [] xid h = All-nil P
+publish-all P (note ∷ notes) xid h = All-push P [] (Publish xid (note ∷ notes)) (All-nil P) (h (λ e. cc))
+
+leave-all : (P : Item → Type 0) (b : Bool) → P Leave → All P (cond b (Leave ∷ []) [])
+leave-all P true h = All-push P [] Leave (All-nil P) h
+leave-all P false h = All-nil P
+
+-- a fact of each item after a commit
+pub commit-all : (P : Item → Type 0) (items : List Item) (line : ℕ) (actions : List Action) (notes : List Note) (mark after : Option ℕ) (set : List (List ℕ)) (done : Tag) (base point xid : ℕ)
+    → All P items → P (Line line) → (is_enlisting actions mark ≡ true → P (Enlist base point)) → (notes ≢ [] → P (Publish xid notes)) → P Leave → P (Reply done None)
+    → All P (items ++ Line line ∷ [] ++ enlist_items actions mark base point ++ publish_items notes xid ++ leave_items after set ++ Reply done None ∷ [])
+commit-all P items line actions notes mark after set done base point xid h begun enlist publish leave reply =
+    let begin : List Item = items ++ Line line ∷ [] in
+    let joined : List Item = begin ++ enlist_items actions mark base point in
+    let sent : List Item = joined ++ publish_items notes xid in
+    let one = All-push P items (Line line) h begun in
+    let two = All-append P begin (enlist_items actions mark base point) one (enlist-all P base point (is_enlisting actions mark) enlist) in
+    let three = All-append P joined (publish_items notes xid) two (publish-all P notes xid publish) in
+    let four = All-append P sent (leave_items after set) three (leave-all P (is_leaving after set) leave) in
+    All-push P (sent ++ leave_items after set) (Reply done None) four reply
+
+-- a fact of each item after a commit that met a full queue
+pub full-all : (P : Item → Type 0) (items : List Item) (line : ℕ) (actions : List Action) (notes : List Note) (mark after : Option ℕ) (set : List (List ℕ)) (base point : ℕ) (full : Full)
+    → All P items → P (Line line) → (is_enlisting actions mark ≡ true → P (Enlist base point)) → P (QueueFull full notes) → P Leave → P (Refuse refused.QueueFull)
+    → All P (items ++ Line line ∷ [] ++ enlist_items actions mark base point ++ QueueFull full notes ∷ [] ++ leave_items after set ++ Refuse refused.QueueFull ∷ [])
+full-all P items line actions notes mark after set base point full h begun enlist met leave refuse =
+    let begin : List Item = items ++ Line line ∷ [] in
+    let joined : List Item = begin ++ enlist_items actions mark base point in
+    let sent : List Item = joined ++ QueueFull full notes ∷ [] in
+    let one = All-push P items (Line line) h begun in
+    let two = All-append P begin (enlist_items actions mark base point) one (enlist-all P base point (is_enlisting actions mark) enlist) in
+    let three = All-push P joined (QueueFull full notes) two met in
+    let four = All-append P sent (leave_items after set) three (leave-all P (is_leaving after set) leave) in
+    All-push P (sent ++ leave_items after set) (Refuse refused.QueueFull) four refuse
+
+-- what the optional items show as finished
+enlist-finishes : (base point : ℕ) (b : Bool) → finished_xids (cond b (Enlist base point ∷ []) []) ≡ []
+enlist-finishes base point true = refl
+enlist-finishes base point false = refl
+
+publish-finishes : (notes : List Note) (xid : ℕ) → finished_xids (publish_items notes xid) ≡ published_xids notes xid
+publish-finishes [] xid = refl
+publish-finishes (note ∷ notes) xid = refl
+
+leave-finishes : (b : Bool) → finished_xids (cond b (Leave ∷ []) []) ≡ []
+leave-finishes true = refl
+leave-finishes false = refl
+
+-- items that show nothing as finished
+finished-more : (items more : List Item) → finished_xids more ≡ [] → finished_xids (items ++ more) ≡ finished_xids items
+finished-more items more e = filter_map-append finished_xid items more ∙ ap (λ (xs : List ℕ). finished_xids items ++ xs) e ∙ append-nil (finished_xids items)
+
+pub commit-finishes : CommitFinishes
+commit-finishes items line actions notes mark after set done base point xid =
+    let begin : List Item = items ++ Line line ∷ [] in
+    let joined : List Item = begin ++ enlist_items actions mark base point in
+    let sent : List Item = joined ++ publish_items notes xid in
+    finished-more (sent ++ leave_items after set) (Reply done None ∷ []) refl
+    ∙ finished-more sent (leave_items after set) (leave-finishes (is_leaving after set))
+    ∙ filter_map-append finished_xid joined (publish_items notes xid)
+    ∙ ap (λ (xs : List ℕ). finished_xids joined ++ xs) (publish-finishes notes xid)
+    ∙ ap (λ (xs : List ℕ). xs ++ published_xids notes xid) (finished-more begin (enlist_items actions mark base point) (enlist-finishes base point (is_enlisting actions mark)) ∙ finished-more items (Line line ∷ []) refl)
+
+pub full-finishes : FullFinishes
+full-finishes items line actions notes mark after set base point full =
+    let begin : List Item = items ++ Line line ∷ [] in
+    let joined : List Item = begin ++ enlist_items actions mark base point in
+    let sent : List Item = joined ++ QueueFull full notes ∷ [] in
+    finished-more (sent ++ leave_items after set) (Refuse refused.QueueFull ∷ []) refl
+    ∙ finished-more sent (leave_items after set) (leave-finishes (is_leaving after set))
+    ∙ filter_map-append finished_xid joined (QueueFull full notes ∷ [])
+    ∙ ap (λ (xs : List ℕ). xs ++ full.xid ∷ []) (finished-more begin (enlist_items actions mark base point) (enlist-finishes base point (is_enlisting actions mark)) ∙ finished-more items (Line line ∷ []) refl)
+
+pub commit-keeps_full : CommitKeepsFull
+commit-keeps_full settings journal items line actions notes mark after set done base point xid h =
+    commit-all (IsFullThere settings journal) items line actions notes mark after set done base point xid h tt (λ e. tt) (λ e. tt) tt tt
+
+pub full-keeps_full : FullKeepsFull
+full-keeps_full settings journal items line actions notes mark after set base point full h no_page =
+    full-all (IsFullThere settings journal) items line actions notes mark after set base point full h tt (λ e. tt) no_page tt tt
+
+pub line-gives_channels : LineGivesChannels
+line-gives_channels terms journal items s line lines command names h comes e =
+    let ending : Ending = Replied (tag.Select (length names)) None in
+    let begun : List Item = items ++ Line line.line ∷ [] in
+    let next : State = record s { rest = lines } in
+    let one = begins-command terms journal items s line command lines (GivesChannels names) h comes e in
+    let two = StandsFresh-push terms journal begun (record next { owed = Listing names ending }) (Channels names) one refl tt in
+    answers terms journal (begun ++ Channels names ∷ []) next ending two
+
+pub line-gives_usage : LineGivesUsage
+line-gives_usage terms journal items s line lines command usage h comes e may =
+    let ending : Ending = Replied (tag.Select 1) None in
+    let begun : List Item = items ++ Line line.line ∷ [] in
+    let next : State = record s { rest = lines } in
+    let one = begins-command terms journal items s line command lines GivesUsage h comes e in
+    let two = StandsFresh-push terms journal begun (record next { owed = Measuring ending }) (Used usage) one
+    (record { expected = tt; after_told = may.after_told; after_mark = may.after_mark; shown = may.shown; floor = may.floor }) tt in
+    answers terms journal (begun ++ Used usage ∷ []) (record next { named = s.named ++ holder_at usage.holder usage.floor_mark }) ending two
+
+pub line-signals : LineSignals
+line-signals terms journal items s line lines flag h comes =
+    StandsFresh-push terms journal (items ++ Line line.line ∷ []) (record s { rest = lines; owed = Raising flag }) (Raise s.told) (begins terms journal items s line (Signal flag) lines h comes) (record { expected = tt; told = refl }) tt
+
+pub line-awaits : LineAwaits
+line-awaits terms journal items s line lines flag h comes = begins terms journal items s line (Await flag) lines h comes
+
+pub await-finds : AwaitFinds
+await-finds terms journal items s flag value h awaited raised found =
+    StandsFresh-push terms journal items (record s { owed = Awaiting flag }) (Found value) (at-owed terms journal items s (Awaiting flag) awaited h) (raised, found) tt
+
+pub await-times_out : AwaitTimesOut
+await-times_out terms journal items s flag h awaited raised found =
+    StandsFresh-push terms journal items (record s { owed = Awaiting flag }) (TimedOut terms.settings.patience) (at-owed terms journal items s (Awaiting flag) awaited h) (record { awaited = (raised, found); patient = refl }) tt
+
+-- a listener that quits leaves
+quits : (terms : Terms) (journal : List Tx) (items : List Item) (s : State) (mark : Option ℕ) → StandsFresh terms journal items (quitting (record s { owed = Nothing; mark = mark }))
+    → StandsFresh terms journal (items ++ quit_items mark) (record s { owed = Nothing; block = Idle; changes = []; set = []; mark = None })
+quits terms journal items s None h = without terms journal items (record s { owed = Nothing; block = Idle; changes = []; set = []; mark = None }) h
+quits terms journal items s (Some mark) h = StandsFresh-push terms journal items (record s { owed = Quitting; block = Idle; changes = []; set = []; mark = Some mark }) Leave h tt tt
+
+pub line-quits : LineQuits
+line-quits terms journal items s line lines h comes = quits terms journal (items ++ Line line.line ∷ []) (record s { rest = lines }) s.mark (begins terms journal items s line Quit lines h comes)
+
+-- a read where the session may read
+reads : (terms : Terms) (journal : List Tx) (items : List Item) (s : State) (from to : ℕ) → StandsFresh terms journal items s → MayRead s s.owed → MayReadTo journal s from to
+    → StandsFresh terms journal (items ++ Read from to (due journal from to terms.section.db s.set) ∷ []) (record s { mark = Some to; marks = s.marks ++ to ∷ [] })
+reads terms journal items s from to h in_turn may =
+    StandsFresh-push terms journal items s (Read from to (due journal from to terms.section.db s.set)) h
+    (record { in_turn = in_turn; from_mark = may.from_mark; forward = may.forward; after_told = may.after_told; in_journal = may.in_journal; received = refl }) tt
+
+pub idle-reads : IdleReads
+idle-reads terms journal items s from to h answered idle may = reads terms journal items s from to h (subst (MayRead s) (sym answered) (inl idle)) may
+
+pub await-reads : AwaitReads
+await-reads terms journal items s flag from to h awaited idle may = reads terms journal items s from to h (subst (MayRead s) (sym awaited) idle) may
+
+pub end-reads : EndReads
+end-reads terms journal items s from to h answered done may = reads terms journal items s from to h (subst (MayRead s) (sym answered) (inr done)) may
+
+pub no_listener-is_up_to_date : NoListenerIsUpToDate
+no_listener-is_up_to_date terms journal s e = subst (λ (mark : Option ℕ). IfSome mark (λ m. Near terms.settings.format (is_committed_in terms.section.db) journal m s.told)) (sym e) tt
+
+pub reader-is_up_to_date : ReaderIsUpToDate
+reader-is_up_to_date terms journal s mark e told = subst (λ (mark : Option ℕ). IfSome mark (λ m. Near terms.settings.format (is_committed_in terms.section.db) journal m s.told)) (sym e)
+    (near-itself terms.settings.format (is_committed_in terms.section.db) journal mark s.told told)
+
+pub quiet-is_up_to_date : QuietIsUpToDate
+quiet-is_up_to_date terms journal s told below near = lower s.mark near
+  where
+    lower : (mark : Option ℕ) → IfSome mark (λ m. Near terms.settings.format (is_committed_in terms.section.db) journal m told)
+        → IfSome mark (λ m. Near terms.settings.format (is_committed_in terms.section.db) journal m s.told)
+    lower None h = h
+    lower (Some m) h = near-shrinks terms.settings.format (is_committed_in terms.section.db) journal m m told s.told below (omega arith) h
+
+pub end-is_lawful : EndIsLawful
+end-is_lawful terms journal trace s h closes = record {
+  session = closes.session;
+  database = closes.database;
+  lawful = h.lawful;
+  ended = subst (λ (t : State). IsEnd t trace.last) (sym h.state) (record { answered = closes.answered; done = closes.done; mark = closes.mark });
+}
+
+pub end-is_fresh : EndIsFresh
+end-is_fresh terms journal trace s h up_to_date = record {
+  between_lines = h.fresh;
+  at_end = subst (λ (t : State). IsUpToDate terms journal t) (sym h.stands.state) up_to_date;
+}
