@@ -74,7 +74,8 @@ pub record IsFloor (x : ℕ) (met : List (ℕ × ℕ)) (floor : ℕ) (holder : O
   pub held : IsHolder x met floor holder
 
 -- `publish` answers that the queue is full: this transaction is the journal's next, aborted; the pass is told of it. It comes after
--- an advance that began after the last change of the head, and the floor is what this advance met
+-- an advance of this very call, which began after the last change of the head: what its looks met is named by this call, and the
+-- floor is the least of it
 pub record HasMetFull (shape : Shape) (old new : Known) (notes : List Note) (full : Full) : Type 0 where
   pub more : List Tx
   pub named : List (ℕ × ℕ)
@@ -90,7 +91,7 @@ pub record HasMetFull (shape : Shape) (old new : Known) (notes : List Note) (ful
   pub no_page : NoPage shape.format shape.pages new.seen full
   pub looked : LooksTwice shape old.session old.mark new.advance
   pub floor : IsFloor full.xid (met_by new.advance) full.floor_mark full.holder
-  pub holder : IfSome full.holder (λ session. Contains new.named (session, full.floor_mark))
+  pub met : All (Contains named) (met_by new.advance)
 
 -- `enlist`: the session is a listener from the point on; its mark is the point, and no read is owed
 pub record HasEnlisted (old new : Known) (got : Enlisted) : Type 0 where
@@ -178,7 +179,8 @@ abbrev pub HasLooked : Known → Known → ℕ → Option ℕ → Type 0
 HasLooked old new flag None = HasFoundNone old new flag
 HasLooked old new flag (Some x) = HasFound old new flag x
 
--- `usage` answers what is in use as the next transaction would begin, after an advance whose floor it is
+-- `usage` answers what is in use as the next transaction would begin, after an advance of this very call: what its looks met is named
+-- by this call, and the floor is the least of it
 pub record HasMeasured (shape : Shape) (old new : Known) (usage : Usage) : Type 0 where
   pub more : List Tx
   pub named : List (ℕ × ℕ)
@@ -187,7 +189,7 @@ pub record HasMeasured (shape : Shape) (old new : Known) (usage : Usage) : Type 
   pub shows : ShowsUsage shape.format shape.pages new.seen usage
   pub looked : LooksTwice shape old.session old.mark new.advance
   pub floor : IsFloor usage.at (met_by new.advance) usage.floor_mark usage.holder
-  pub holder : IfSome usage.holder (λ session. Contains new.named (session, usage.floor_mark))
+  pub met : All (Contains named) (met_by new.advance)
 
 -- the first list, and then what the second has beyond its length
 abbrev pub longer : List Tx → List Tx → List Tx
