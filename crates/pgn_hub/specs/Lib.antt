@@ -4,3 +4,5 @@ pub mod Passes
 pub mod Calls
 -- what is known when all passes are gathered
 pub mod Gathered
+-- laws of what the calls say
+pub mod Laws

@@ -8,5 +8,6 @@
 #![tactic(auto)]
 
 mod hub;
+pub mod laws;
 
 pub use hub::Hub;
