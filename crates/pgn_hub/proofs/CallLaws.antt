@@ -1,12 +1,10 @@
 -- Proofs of the laws of what the calls say.
-use Rattle.std.proofs.Common.{◌≡◌, ℕ, ◌+◌, ◌≤◌, Bool, false, List, ◌++◌, length, Option, Some, None, IfSome, All, Contains, sym, ap, ◌∙◌, subst, arith, length-append}
+use Rattle.std.proofs.Common.{◌≡◌, ℕ, ◌≤◌, List, ◌++◌, length, Option, Some, None, IfSome, All, Contains, sym, ap, ◌∙◌, subst, arith, length-append}
 use Rattle.std.proofs.lemmas.Option.{IfSome_then}
 use Rattle.std.proofs.lemmas.List.Elements.{All-contains, Contains-append_right}
-use Rattle.pgn_model.specs.declared.tx.Tx.{Tx}
 use Rattle.pgn_model.specs.declared.known.Known.{Known}
 use Rattle.pgn_model.specs.Journal.{next_xid, is_committed_in}
 use Rattle.pgn_model.specs.Due.{due}
-use Rattle.pgn_model.specs.Near.{Near}
 use Rattle.pgn_model.proofs.DueLaws.{due-grows}
 use Rattle.pgn_model.proofs.NearLaws.{near-grows}
 use Rattle.pgn_model.proofs.QueueUseLaws.{no_page-grows, usage-grows}
@@ -16,7 +14,7 @@ use Rattle.pgn_hub.specs.Laws.{ReadGrows, WokenGrows, FullGrows, MeasuredGrows, 
 pub read-grows : ReadGrows
 read-grows old new set to before after more h =
     let given : after ≡ before ++ due (new.seen ++ more) h.from to old.db set =
-        h.delivered ∙ ap (λ ds. before ++ ds) (sym (due-grows new.seen more h.from to old.db set h.in_seen)) in
+    h.delivered ∙ ap (λ ds. before ++ ds) (sym (due-grows new.seen more h.from to old.db set h.in_seen)) in
     subst (λ (mark : Option ℕ). IfSome mark (λ from. after ≡ before ++ due (new.seen ++ more) from to old.db set)) (sym h.from_mark) given
 
 pub woken-grows : WokenGrows
@@ -41,14 +39,14 @@ holder_is_named : (x : ℕ) (met old named : List (ℕ × ℕ)) (floor : ℕ) (h
     → IfSome holder (λ session. Contains (old ++ named) (session, floor))
 holder_is_named x met old named floor holder h all =
     IfSome_then holder (holder_is_met x met floor holder h)
-      (λ session there. Contains-append_right old named (session, floor) (All-contains (Contains named) met (session, floor) all there))
+    (λ session there. Contains-append_right old named (session, floor) (All-contains (Contains named) met (session, floor) all there))
 
 pub holders-are_named : HoldersAreNamed
 holders-are_named = record {
   of_full = λ shape old new notes full h.
       subst (λ (k : Known). IfSome full.holder (λ session. Contains k.named (session, full.floor_mark))) (sym h.known)
-        (holder_is_named full.xid (met_by new.advance) old.named h.named full.floor_mark full.holder h.floor.held h.met);
+      (holder_is_named full.xid (met_by new.advance) old.named h.named full.floor_mark full.holder h.floor.held h.met);
   of_usage = λ shape old new usage h.
       subst (λ (k : Known). IfSome usage.holder (λ session. Contains k.named (session, usage.floor_mark))) (sym h.known)
-        (holder_is_named usage.at (met_by new.advance) old.named h.named usage.floor_mark usage.holder h.floor.held h.met);
+      (holder_is_named usage.at (met_by new.advance) old.named h.named usage.floor_mark usage.holder h.floor.held h.met);
 }

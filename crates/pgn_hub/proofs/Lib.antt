@@ -1,1 +1,2 @@
 mod CallLaws
+mod ExampleLemmas

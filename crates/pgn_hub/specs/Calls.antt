@@ -1,6 +1,6 @@
 -- What each call does to what is known of its pass. Of what is known, a call changes what the equation of its record names, and
 -- nothing else; what the pass learns of the journal besides is `more`.
-use Rattle.std.specs.Prelude.{◌≡◌, ◌≢◌, ℕ, ◌+◌, ◌-◌, ◌<◌, ◌≤◌, max, Bool, true, false, ◌||◌, List, [], ◌∷◌, ◌++◌, length, drop, Option, Some, None, All, Contains, IfSome}
+use Rattle.std.specs.Prelude.{◌≡◌, ◌≢◌, ℕ, ◌+◌, ◌-◌, ◌<◌, ◌≤◌, max, Bool, false, ◌||◌, List, [], ◌∷◌, ◌++◌, length, drop, Option, Some, None, All, Contains, IfSome}
 use Rattle.pgn_base.specs.declared.limits.TheConstants.{FIRST_XID}
 use Rattle.pgn_base.specs.declared.format.Format.{Format}
 use Rattle.pgn_base.specs.declared.note.Note.{Note}
@@ -35,13 +35,13 @@ pub record HasPublished (old new : Known) (notes : List Note) (x : ℕ) : Type 0
   pub advance : Advance
   pub number : x ≡ next_xid (old.seen ++ more)
   pub known : new ≡ record old {
-      seen = old.seen ++ more ++ tx_of old notes (length notes) Committed ∷ [];
-      own = old.own ++ x ∷ [];
-      told = x + 1;
-      notes_left = old.notes_left - length notes;
-      named = old.named ++ named;
-      advance = advance;
-    }
+    seen = old.seen ++ more ++ tx_of old notes (length notes) Committed ∷ [];
+    own = old.own ++ x ∷ [];
+    told = x + 1;
+    notes_left = old.notes_left - length notes;
+    named = old.named ++ named;
+    advance = advance;
+  }
 
 -- the sessions with their marks that one look at seats met, of which the first is that of session n
 abbrev pub met_from : ℕ → List (Option ℕ) → List (ℕ × ℕ)
@@ -81,13 +81,13 @@ pub record HasMetFull (shape : Shape) (old new : Known) (notes : List Note) (ful
   pub named : List (ℕ × ℕ)
   pub number : full.xid ≡ next_xid (old.seen ++ more)
   pub known : new ≡ record old {
-      seen = old.seen ++ more ++ tx_of old notes full.queued Aborted ∷ [];
-      own = old.own ++ full.xid ∷ [];
-      told = full.xid + 1;
-      notes_left = old.notes_left - length notes;
-      named = old.named ++ named;
-      advance = new.advance;
-    }
+    seen = old.seen ++ more ++ tx_of old notes full.queued Aborted ∷ [];
+    own = old.own ++ full.xid ∷ [];
+    told = full.xid + 1;
+    notes_left = old.notes_left - length notes;
+    named = old.named ++ named;
+    advance = new.advance;
+  }
   pub no_page : NoPage shape.format shape.pages new.seen full
   pub looked : LooksTwice shape old.session old.mark new.advance
   pub floor : IsFloor full.xid (met_by new.advance) full.floor_mark full.holder
@@ -97,11 +97,11 @@ pub record HasMetFull (shape : Shape) (old new : Known) (notes : List Note) (ful
 pub record HasEnlisted (old new : Known) (got : Enlisted) : Type 0 where
   pub more : List Tx
   pub known : new ≡ record old {
-      seen = old.seen ++ more;
-      mark = Some got.point;
-      marks = old.marks ++ got.base ∷ [] ++ got.point ∷ [];
-      owes = false;
-    }
+    seen = old.seen ++ more;
+    mark = Some got.point;
+    marks = old.marks ++ got.base ∷ [] ++ got.point ∷ [];
+    owes = false;
+  }
   pub first : FIRST_XID ≤ got.base
   pub ordered : got.base ≤ got.point
   pub after_told : old.told ≤ got.point
@@ -115,11 +115,11 @@ pub record HasRead (old new : Known) (set : List (List ℕ)) (to : ℕ) (before 
   pub from : ℕ
   pub from_mark : old.mark ≡ Some from
   pub known : new ≡ record old {
-      seen = old.seen ++ more;
-      mark = Some to;
-      marks = old.marks ++ to ∷ [];
-      owes = false;
-    }
+    seen = old.seen ++ more;
+    mark = Some to;
+    marks = old.marks ++ to ∷ [];
+    owes = false;
+  }
   pub forward : from ≤ to
   pub after_told : old.told ≤ to
   pub after_seen : next_xid old.seen ≤ to
@@ -165,12 +165,12 @@ pub record HasFoundNone (old new : Known) (flag : ℕ) : Type 0 where
 pub record HasFound (old new : Known) (flag x : ℕ) : Type 0 where
   pub more : List Tx
   pub known : new ≡ record old {
-      seen = old.seen ++ more;
-      told = max old.told x;
-      found = old.found ++ (flag, x) ∷ [];
-      looks = old.looks + 1;
-      flag_look = Some (flag, Some x);
-    }
+    seen = old.seen ++ more;
+    told = max old.told x;
+    found = old.found ++ (flag, x) ∷ [];
+    looks = old.looks + 1;
+    flag_look = Some (flag, Some x);
+  }
   pub after_raised : IsGreatestIn old.raised flag x
   pub after_found : IsGreatestIn old.found flag x
 

@@ -13,7 +13,7 @@ use Rattle.pgn_model.specs.Near.{Near}
 use Rattle.pgn_model.specs.QueueUse.{NoPage, ShowsUsage}
 use Rattle.pgn_model.specs.Shape.{Shape}
 use Rattle.pgn_hub.specs.Passes.{IsWithin}
-use Rattle.pgn_hub.specs.Calls.{HasPublished, HasEnlisted, HasHeard, HasLearned, HasLeft, HasLooked, HasMetFull, HasRaised, HasRead, HasMeasured, HasWoken}
+use Rattle.pgn_hub.specs.Calls.{HasPublished, HasLearned, HasLeft, HasMetFull, HasRaised, HasRead, HasMeasured, HasWoken}
 
 -- what a read has delivered is due over a longer journal too
 abbrev pub ReadGrows : Type 0

@@ -6,3 +6,5 @@ pub mod Calls
 pub mod Gathered
 -- laws of what the calls say
 pub mod Laws
+-- a worked example, call by call
+pub mod Examples

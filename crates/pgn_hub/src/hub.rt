@@ -28,12 +28,7 @@ pub trait Hub: Sized {
 
     /// Publishes a transaction with these notifications, which have no repeats: answers its number. Where the queue has no page left
     /// for them the transaction is aborted, and the answer says why.
-    fn publish<R: Wait>(
-        &self,
-        rt: &R,
-        pass: &mut Self::Pass,
-        notes: &[Note],
-    ) -> Result<Xid, Full>
+    fn publish<R: Wait>(&self, rt: &R, pass: &mut Self::Pass, notes: &[Note]) -> Result<Xid, Full>
         requires own { is_pass self.now pass.old }
         requires some { notes.now ≢ [] }
         requires different { AllPairs (λ a b. a ≢ b) notes.now }

@@ -7,6 +7,7 @@
 //! Readers, joiners and leavers wait for nobody; `publish` and `usage` may wait for the lock. Only `open` and `scan` take memory.
 #![tactic(auto)]
 
+pub mod examples;
 mod hub;
 pub mod laws;
 
