@@ -1,2 +1,6 @@
 mod CallLaws
+mod FloorLaws
+mod SeatLaws
+mod WithinLaws
+mod GatheredLaws
 mod ExampleLemmas
