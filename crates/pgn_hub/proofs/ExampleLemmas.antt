@@ -13,11 +13,11 @@ use Rattle.pgn_model.specs.declared.tx.Fate.TheVariants.{Committed, Aborted}
 use Rattle.pgn_model.specs.Begins.{Begins}
 use Rattle.pgn_model.specs.Bytes.{IsNote}
 use Rattle.pgn_model.specs.Journal.{xids_of, IsFinished}
-use Rattle.pgn_model.specs.Packing.{page_of, place, place_at, fits}
+use Rattle.pgn_model.specs.Packing.{put_all, page_of, place, place_at, fits}
 use Rattle.pgn_model.specs.QueueUse.{NoPage}
-use Rattle.pgn_model.specs.examples.Packing.{sent}
+use Rattle.pgn_model.specs.examples.Packing.{bare_note, sent, letters}
 use Rattle.pgn_model.proofs.PackingLemmas.{first_place, places_agree}
-use Rattle.pgn_model.proofs.PackingSteps.{length-letters, full_5, full_6}
+use Rattle.pgn_model.proofs.PackingSteps.{length-letters, full_5, full_6, larger_end, larger_4}
 use Rattle.pgn_hub.specs.Gathered.{IsBy}
 use Rattle.pgn_hub.specs.Examples as example
 
@@ -48,6 +48,32 @@ no_page = record {
   floor_below = omega arith;
   floor = sym (ap page_of (first_place One journal_5));
   head = sym (ap page_of place_6);
+  no_page = omega arith;
+  holder = search rules;
+}
+
+larger_journal : List Tx
+larger_journal = sent example.three_notes 2 Aborted ∷ []
+
+larger_place : place One larger_journal 4 ≡ place_at 2 0
+unfolding larger_journal
+larger_place = sym (places_agree One larger_journal (sent (bare_note ∷ []) 1 Committed ∷ []) 4 (omega arith)) ∙ larger_4
+
+larger_rest : put_all One (place One larger_journal 3) (letters (byte "x") 7999 ∷ letters (byte "y") 7999 ∷ []) ≡ place_at 1 8020
+larger_rest = ap (λ at. put_all One at (letters (byte "x") 7999 ∷ letters (byte "y") 7999 ∷ [])) (first_place One larger_journal) ∙ larger_end
+
+pub larger_no_page : NoPage One 2 (sent example.three_notes 2 Aborted ∷ []) example.full_3
+unfolding larger_journal
+larger_no_page = record {
+  cut_short = record {
+    aborted = refl;
+    some = refl;
+    not_all = omega arith;
+    stopped = inr (ap₂ fits larger_rest (length-letters One (byte "z") 7999));
+  };
+  floor_below = omega arith;
+  floor = sym (ap page_of (first_place One larger_journal));
+  head = sym (ap page_of larger_place);
   no_page = omega arith;
   holder = search rules;
 }

@@ -61,6 +61,15 @@ quiet = record listening { wake_look = Some (false, false) }
 abbrev pub published : Known
 published = record opened_2 { seen = tx_3 ∷ []; own = 3 ∷ []; told = 4; notes_left = 6 }
 
+-- session 1, which listens, publishes after it
+abbrev pub also_published : Known
+also_published = record listening {
+  seen = tx_3 ∷ (record { session = 1; db = 1; notes = note_a ∷ []; queued = 1; fate = Committed }) ∷ [];
+  own = 4 ∷ [];
+  told = 5;
+  notes_left = 7;
+}
+
 -- session 1 is woken
 abbrev pub woken_1 : Known
 woken_1 = record listening { seen = tx_3 ∷ []; owes = true; wake_look = Some (true, false) }
@@ -93,6 +102,10 @@ found_none = record listening { looks = 1; flag_look = Some (1, None) }
 -- both looks of an advance meet session 1 at the mark 3, and at the other seat nobody
 abbrev pub met_one : Advance
 met_one = record { first = Some 3 ∷ None ∷ []; second = Some 3 ∷ None ∷ []; tail = Some 3 }
+
+-- they meet nobody
+abbrev pub met_nobody : Advance
+met_nobody = record { first = None ∷ None ∷ []; second = None ∷ None ∷ []; tail = Some 3 }
 
 -- they meet both sessions at the mark 3
 abbrev pub met_both : Advance
@@ -147,6 +160,16 @@ both_after_full = record after_full {
   named = (1, 3) ∷ (2, 3) ∷ (1, 3) ∷ (2, 3) ∷ [];
   advance = met_both;
 }
+
+-- A third run: session 2 alone sends three long notifications, of which two fill both pages.
+abbrev pub three_notes : List Note
+three_notes = letters (byte "x") 7999 ∷ letters (byte "y") 7999 ∷ letters (byte "z") 7999 ∷ []
+
+abbrev pub full_3 : Full
+full_3 = record { xid = 3; queued = 2; head_page = 2; floor_mark = 3; floor_page = 0; holder = None }
+
+abbrev pub larger_full : Known
+larger_full = record opened_2 { seen = sent three_notes 2 Aborted ∷ []; own = 3 ∷ []; told = 4; notes_left = 5; advance = met_nobody }
 
 -- The end of the first run: session 1 has read and found the flag 0, session 2 has raised it and met session 1 in an advance.
 abbrev pub last_1 : Known

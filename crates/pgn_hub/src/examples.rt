@@ -1,6 +1,6 @@
 //! A worked example, call by call: what is known of a pass before and after, and beside it what no call may leave. In each clause
 //! that is refused one thing is other than in the one that is met.
-ghost use Rattle.std.specs.Prelude.{◌≡◌, ◌≤◌, true, false, [], ◌∷◌, map, length, Some, None, All, codes};
+ghost use Rattle.std.specs.Prelude.{◌≡◌, ◌≢◌, ◌<◌, ◌≤◌, true, false, [], ◌∷◌, map, length, Some, None, All, AllPairs, IsSome, codes};
 ghost use Rattle.std.specs.List.{range_with_len};
 ghost use Rattle.pgn_base.specs.declared.format.Format.TheVariants.{One};
 ghost use Rattle.pgn_model.specs.declared.tx.Fate.TheVariants.{Committed, Aborted};
@@ -8,7 +8,7 @@ ghost use Rattle.pgn_model.specs.Shape.{IsShape};
 ghost use Rattle.pgn_hub.specs.Passes.{IsSeated, IsWithin, opened_passes};
 ghost use Rattle.pgn_hub.specs.Calls.{HasPublished, HasEnlisted, HasHeard, HasLearned, HasLeft, HasLooked, HasMetFull, HasRaised, HasRead, HasMeasured, HasWoken};
 ghost use Rattle.pgn_hub.specs.Gathered.{Gathered};
-ghost use Rattle.pgn_hub.specs.Examples.{two_seats, opened_1, opened_2, note_a, both_notes, tx_3, first_point, listening, quiet, published, woken_1, got_a, got_b, has_read, has_left, raised_0, found_0, found_none, met_one, usage_4, measured, heard, long_note, long_3, before_full, full_5, after_full, both_before_full, both_after_full, last_1, last_2};
+ghost use Rattle.pgn_hub.specs.Examples.{two_seats, opened_1, opened_2, note_a, both_notes, tx_3, first_point, listening, quiet, published, woken_1, got_a, got_b, has_read, has_left, raised_0, found_0, found_none, met_one, met_nobody, usage_4, measured, heard, long_note, long_3, long_5, before_full, full_5, after_full, both_before_full, both_after_full, three_notes, full_3, larger_full, also_published, last_1, last_2};
 
 /// Two passes are opened.
 pub fn open()
@@ -19,9 +19,26 @@ pub fn open()
     ensures seated { All (IsSeated two_seats) (opened_1 ∷ opened_2 ∷ []) }
 {}
 
+/// What holds of each pass between calls, and the conditions of the calls, where each comes after the one before it.
+pub fn between_calls()
+    ensures within { All IsWithin (listening ∷ quiet ∷ published ∷ woken_1 ∷ has_read ∷ has_left ∷ raised_0 ∷ found_0 ∷ found_none ∷ measured ∷ heard ∷ last_1 ∷ last_2 ∷ []) }
+    ensures within_at_full_queue { All IsWithin (before_full ∷ after_full ∷ both_before_full ∷ both_after_full ∷ []) }
+    ensures may_enlist { All (λ k. k.mark ≡ None) (opened_1 ∷ opened_2 ∷ has_left ∷ []) }
+    ensures may_read { All (λ k. IsSome k.mark) (listening ∷ quiet ∷ woken_1 ∷ has_read ∷ found_0 ∷ found_none ∷ heard ∷ []) }
+    ensures some_notes { both_notes ≢ [] }
+    ensures different_notes { AllPairs (λ a b. a ≢ b) both_notes }
+    ensures few_notes { All (λ k. length both_notes ≤ k.notes_left) (opened_2 ∷ published ∷ []) }
+    ensures one_long_note { length long_note ≤ before_full.notes_left }
+    ensures flags { All (λ flag. flag < two_seats.flags) (0 ∷ 1 ∷ []) }
+    ensures all_passes { map (λ k. k.session) (last_1 ∷ last_2 ∷ []) ≡ range_with_len 1 (length two_seats.seats) }
+{}
+
 /// Session 2 publishes the first transaction.
 pub fn publish()
     ensures met { HasPublished opened_2 published both_notes 3 }
+    // Session 1 publishes the next one, and hears of the first in this call.
+    ensures after_another { HasPublished listening also_published (note_a ∷ []) 4 }
+    ensures as_if_alone { HasPublished listening (record also_published { own = 3 ∷ []; told = 4 }) (note_a ∷ []) 3 → ⊥ }
     ensures another_number { HasPublished opened_2 published both_notes 4 → ⊥ }
     ensures not_told { HasPublished opened_2 (record published { told = 3 }) both_notes 3 → ⊥ }
     ensures not_its_own { HasPublished opened_2 (record published { own = [] }) both_notes 3 → ⊥ }
@@ -43,12 +60,13 @@ pub fn enlist()
     ensures base_too_early { HasEnlisted opened_1 (record listening { marks = 2 ∷ 3 ∷ [] }) (record first_point { base = 2 }) → ⊥ }
     ensures base_after_point { HasEnlisted opened_1 (record listening { marks = 4 ∷ 3 ∷ [] }) (record first_point { base = 4 }) → ⊥ }
     ensures past_the_journal { HasEnlisted opened_1 (record listening { mark = Some 4; marks = 3 ∷ 4 ∷ [] }) (record first_point { point = 4 }) → ⊥ }
-    // The session was told of the first transaction, but had seen nothing of it.
-    ensures below_told { HasEnlisted (record opened_1 { told = 4 }) (record listening { seen = tx_3 ∷ []; told = 4 }) first_point → ⊥ }
-    // It had seen the first transaction, but wasn't told of it.
+    // The session was told of the first transaction.
+    ensures below_told { HasEnlisted (record opened_1 { seen = tx_3 ∷ []; told = 4 }) (record listening { seen = tx_3 ∷ []; told = 4 }) first_point → ⊥ }
+    // It had seen the first transaction, and wasn't told of it.
     ensures below_seen { HasEnlisted (record opened_1 { seen = tx_3 ∷ [] }) (record listening { seen = tx_3 ∷ [] }) first_point → ⊥ }
     // It had read the first transaction, and left.
-    ensures below_a_mark { HasEnlisted (record opened_1 { marks = 4 ∷ [] }) (record listening { marks = 4 ∷ 3 ∷ 3 ∷ [] }) first_point → ⊥ }
+    ensures again { HasEnlisted has_left (record has_left { mark = Some 4; marks = 3 ∷ 3 ∷ 4 ∷ 3 ∷ 4 ∷ [] }) (record first_point { point = 4 }) }
+    ensures below_a_mark { HasEnlisted has_left (record has_left { mark = Some 3; marks = 3 ∷ 3 ∷ 4 ∷ 3 ∷ 3 ∷ [] }) first_point → ⊥ }
 {}
 
 /// Session 1 reads the first transaction.
@@ -66,7 +84,7 @@ pub fn scan()
     // It had seen the first transaction.
     ensures below_seen { HasRead woken_1 (record has_read { mark = Some 3; marks = 3 ∷ 3 ∷ 3 ∷ [] }) (codes "c" ∷ []) 3 [] [] → ⊥ }
     // It was told of the first transaction.
-    ensures below_told { HasRead (record listening { told = 4 }) (record heard { marks = 3 ∷ 3 ∷ 3 ∷ [] }) (codes "c" ∷ []) 3 [] [] → ⊥ }
+    ensures below_told { HasRead heard (record heard { marks = 3 ∷ 3 ∷ 3 ∷ [] }) (codes "c" ∷ []) 3 [] [] → ⊥ }
     ensures past_the_journal { HasRead woken_1 (record has_read { mark = Some 5; marks = 3 ∷ 3 ∷ 5 ∷ [] }) (codes "c" ∷ []) 5 [] (got_a ∷ got_b ∷ []) → ⊥ }
     ensures no_listener { HasRead (record woken_1 { mark = None }) has_read (codes "c" ∷ []) 4 [] (got_a ∷ got_b ∷ []) → ⊥ }
     ensures refused { HasLearned woken_1 woken_1 }
@@ -122,6 +140,7 @@ pub fn look()
 /// Session 2 asks how much of the queue is in use.
 pub fn usage()
     ensures met { HasMeasured two_seats published measured usage_4 }
+    ensures nobody_listens { HasMeasured two_seats published (record published { advance = met_nobody }) (record usage_4 { floor_mark = 4; holder = None }) }
     ensures another_number { HasMeasured two_seats published measured (record usage_4 { at = 5 }) → ⊥ }
     ensures another_limit { HasMeasured two_seats published measured (record usage_4 { limit = 3 }) → ⊥ }
     ensures a_page_more { HasMeasured two_seats published measured (record usage_4 { occupied = 1 }) → ⊥ }
@@ -137,12 +156,16 @@ pub fn usage()
 pub fn full()
     ensures met { HasMetFull two_seats before_full after_full long_note full_5 }
     ensures both_listen { HasMetFull two_seats both_before_full both_after_full long_note full_5 }
+    // Three long notifications need three pages, whoever listens.
+    ensures nobody_listens { HasMetFull two_seats opened_2 larger_full three_notes full_3 }
+    ensures somebody_listens { HasMetFull two_seats opened_2 larger_full three_notes (record full_3 { holder = Some 1 }) → ⊥ }
+    ensures two_notes_fit { HasMetFull two_seats opened_2 larger_full three_notes (record full_3 { queued = 1 }) → ⊥ }
     ensures higher_number { HasMetFull two_seats both_before_full both_after_full long_note (record full_5 { holder = Some 2 }) → ⊥ }
     ensures no_holder { HasMetFull two_seats before_full after_full long_note (record full_5 { holder = None }) → ⊥ }
     ensures holder_not_met { HasMetFull two_seats before_full after_full long_note (record full_5 { holder = Some 2 }) → ⊥ }
     ensures floor_above_a_mark { HasMetFull two_seats before_full after_full long_note (record full_5 { floor_mark = 4 }) → ⊥ }
     ensures a_page_is_left { HasMetFull two_seats before_full after_full long_note (record full_5 { head_page = 1 }) → ⊥ }
-    ensures all_queued { HasMetFull two_seats before_full (record after_full { seen = long_3 ∷ long_3 ∷ long_3 ∷ [] }) long_note (record full_5 { queued = 1 }) → ⊥ }
+    ensures all_queued { HasMetFull two_seats before_full (record after_full { seen = long_3 ∷ long_3 ∷ (record long_5 { queued = 1 }) ∷ [] }) long_note (record full_5 { queued = 1 }) → ⊥ }
     ensures committed { HasMetFull two_seats before_full (record after_full { seen = long_3 ∷ long_3 ∷ long_3 ∷ [] }) long_note full_5 → ⊥ }
     ensures another_number { HasMetFull two_seats before_full after_full long_note (record full_5 { xid = 6 }) → ⊥ }
     ensures not_told { HasMetFull two_seats before_full (record after_full { told = 5 }) long_note full_5 → ⊥ }
