@@ -1,5 +1,5 @@
-//! A worked example, call by call: what is known of a pass before and after, and beside it what no call may leave. In each clause
-//! that is refused one thing is other than in the one that is met.
+//! A worked example, call by call: what is known of a pass before a call and after it, and beside it what no call leaves. What is
+//! refused differs from what is met in what the clause is named after.
 ghost use Rattle.std.specs.Prelude.{◌≡◌, ◌≢◌, ◌<◌, ◌≤◌, true, false, [], ◌∷◌, map, length, Some, None, All, AllPairs, IsSome, codes};
 ghost use Rattle.std.specs.List.{range_with_len};
 ghost use Rattle.pgn_base.specs.declared.format.Format.TheVariants.{One};
@@ -199,6 +199,8 @@ pub fn gather()
     ensures met { Gathered (last_1 ∷ last_2 ∷ []) 1 }
     ensures one_too_few { Gathered (last_1 ∷ last_2 ∷ []) 0 → ⊥ }
     ensures one_too_many { Gathered (last_1 ∷ last_2 ∷ []) 2 → ⊥ }
+    // The second is the session's own too, and its pass knows nothing of the first.
+    ensures published_twice { Gathered (last_1 ∷ (record last_2 { seen = tx_3 ∷ tx_3 ∷ []; own = 4 ∷ []; told = 5 }) ∷ []) 2 → ⊥ }
     ensures not_its_own { Gathered (last_1 ∷ (record last_2 { own = [] }) ∷ []) 1 → ⊥ }
     ensures of_another { Gathered ((record last_1 { own = 3 ∷ [] }) ∷ last_2 ∷ []) 1 → ⊥ }
     ensures own_not_seen { Gathered (last_1 ∷ (record last_2 { seen = [] }) ∷ []) 1 → ⊥ }

@@ -1,6 +1,7 @@
 use Rattle.std.proofs.Common.{◌≡◌, ℕ, ◌≤◌, [], ◌∷◌, length, take, sym, ap, ◌∙◌, refl, arith, rules, length-take}
 use Rattle.std.proofs.lemmas.List.Elements.{All-nil, All-cons, All-contains}
 use Rattle.pgn_model.specs.Journal.{IsFinished, xids_of}
+use Rattle.pgn_model.proofs.BeginsLaws.{begins-whole}
 use Rattle.pgn_hub.specs.Examples.{tx_3, last_1}
 use Rattle.pgn_hub.proofs.ExampleLemmas.{only, only_tx, no_second, finished}
 use Rattle.pgn_hub.proofs.examples.gather.Goals as goal
@@ -27,6 +28,12 @@ returns-clause-one_too_few c h =
 pub returns-clause-one_too_many : goal.returns-clause-one_too_many
 returns-clause-one_too_many c h =
     no_second h.journal h.counted (h.seen 0 last_1 (omega arith)) (h.own 0 last_1 (omega arith)) (h.own 1 last_1 (omega arith)) h.by_pass
+
+pub returns-clause-published_twice : goal.returns-clause-published_twice
+returns-clause-published_twice c h =
+    let is = begins-whole (tx_3 ∷ tx_3 ∷ []) h.journal (h.seen 1 last_1 (omega arith)) (omega (arith, h.counted)) in
+    let lengths : 1 ≡ 2 = ap length (h.own 1 last_1 (omega arith)) ∙ ap (λ txs. length (xids_of 2 txs)) (sym is) in
+    omega (arith, lengths)
 
 pub returns-clause-not_its_own : goal.returns-clause-not_its_own
 returns-clause-not_its_own c h =
