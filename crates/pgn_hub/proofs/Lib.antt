@@ -3,4 +3,5 @@ mod FloorLaws
 mod SeatLaws
 mod WithinLaws
 mod GatheredLaws
+mod CallerLemmas
 mod ExampleLemmas

@@ -10,6 +10,7 @@
 //! after them.
 #![tactic(auto)]
 
+pub mod callers;
 pub mod examples;
 mod hub;
 pub mod laws;
