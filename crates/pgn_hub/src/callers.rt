@@ -3,7 +3,7 @@ ghost use Rattle.std.specs.Prelude.{◌≡◌, ◌≢◌, ◌<◌, ◌≤◌, []
 ghost use Rattle.pgn_hub.specs.Laws.{KeepsSeat};
 
 use crate::Hub;
-use pgn_base::{Delivery, Full, ListenSet, Note, Xid};
+use pgn_base::{Delivery, ListenSet, Note, Xid};
 use pgn_model::{PassView, Roll, Setup};
 use std::alloc::{AllocError, Global};
 use std::sync::Wait;

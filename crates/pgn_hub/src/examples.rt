@@ -212,3 +212,12 @@ pub fn gather()
     ensures named_another { Gathered (last_1 ∷ (record last_2 { named = (2, 3) ∷ [] }) ∷ []) 1 → ⊥ }
     ensures named_nobody { Gathered (last_1 ∷ (record last_2 { named = (3, 3) ∷ [] }) ∷ []) 1 → ⊥ }
 {}
+
+/// What the clauses of one call allow, since a pass can't tell what others did: a read that learns of nothing new, a wake that was
+/// set for nothing, and an earlier transaction of the session itself that its pass knows nothing of. The last is found as the passes
+/// are gathered.
+pub fn one_pass_alone()
+    ensures reads_nothing { HasRead quiet (record quiet { marks = 3 ∷ 3 ∷ 3 ∷ [] }) (codes "c" ∷ []) 3 [] [] }
+    ensures woken_for_nothing { HasWoken One quiet (record quiet { owes = true; wake_look = Some (true, false) }) true }
+    ensures published_twice { HasPublished opened_2 (record published { seen = tx_3 ∷ tx_3 ∷ []; own = 4 ∷ []; told = 5 }) both_notes 4 }
+{}
