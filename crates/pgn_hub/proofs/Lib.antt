@@ -1,0 +1,7 @@
+mod CallLaws
+mod FloorLaws
+mod SeatLaws
+mod WithinLaws
+mod GatheredLaws
+mod CallerLemmas
+mod ExampleLemmas

@@ -1,6 +1,6 @@
 -- What each call does to what is known of its pass. Of what is known, a call changes what the equation of its record names, and
 -- nothing else; what the pass learns of the journal besides is `more`.
-use Rattle.std.specs.Prelude.{◌≡◌, ◌≢◌, ℕ, ◌+◌, ◌-◌, ◌<◌, ◌≤◌, max, Bool, true, false, ◌||◌, List, [], ◌∷◌, ◌++◌, length, drop, Option, Some, None, All, Contains, IfSome}
+use Rattle.std.specs.Prelude.{◌≡◌, ◌≢◌, ℕ, ◌+◌, ◌-◌, ◌<◌, ◌≤◌, max, Bool, false, ◌||◌, List, [], ◌∷◌, ◌++◌, length, drop, Option, Some, None, All, Contains, IfSome}
 use Rattle.pgn_base.specs.declared.limits.TheConstants.{FIRST_XID}
 use Rattle.pgn_base.specs.declared.format.Format.{Format}
 use Rattle.pgn_base.specs.declared.note.Note.{Note}
@@ -35,13 +35,13 @@ pub record HasPublished (old new : Known) (notes : List Note) (x : ℕ) : Type 0
   pub advance : Advance
   pub number : x ≡ next_xid (old.seen ++ more)
   pub known : new ≡ record old {
-      seen = old.seen ++ more ++ tx_of old notes (length notes) Committed ∷ [];
-      own = old.own ++ x ∷ [];
-      told = x + 1;
-      notes_left = old.notes_left - length notes;
-      named = old.named ++ named;
-      advance = advance;
-    }
+    seen = old.seen ++ more ++ tx_of old notes (length notes) Committed ∷ [];
+    own = old.own ++ x ∷ [];
+    told = x + 1;
+    notes_left = old.notes_left - length notes;
+    named = old.named ++ named;
+    advance = advance;
+  }
 
 -- the sessions with their marks that one look at seats met, of which the first is that of session n
 abbrev pub met_from : ℕ → List (Option ℕ) → List (ℕ × ℕ)
@@ -74,33 +74,34 @@ pub record IsFloor (x : ℕ) (met : List (ℕ × ℕ)) (floor : ℕ) (holder : O
   pub held : IsHolder x met floor holder
 
 -- `publish` answers that the queue is full: this transaction is the journal's next, aborted; the pass is told of it. It comes after
--- an advance that began after the last change of the head, and the floor is what this advance met
+-- an advance of this very call: what its looks met is named by this call, and the floor is the least of it. (Where the call made
+-- several advances, no field says that this is the last: what is known of a pass doesn't show when the head moved)
 pub record HasMetFull (shape : Shape) (old new : Known) (notes : List Note) (full : Full) : Type 0 where
   pub more : List Tx
   pub named : List (ℕ × ℕ)
   pub number : full.xid ≡ next_xid (old.seen ++ more)
   pub known : new ≡ record old {
-      seen = old.seen ++ more ++ tx_of old notes full.queued Aborted ∷ [];
-      own = old.own ++ full.xid ∷ [];
-      told = full.xid + 1;
-      notes_left = old.notes_left - length notes;
-      named = old.named ++ named;
-      advance = new.advance;
-    }
+    seen = old.seen ++ more ++ tx_of old notes full.queued Aborted ∷ [];
+    own = old.own ++ full.xid ∷ [];
+    told = full.xid + 1;
+    notes_left = old.notes_left - length notes;
+    named = old.named ++ named;
+    advance = new.advance;
+  }
   pub no_page : NoPage shape.format shape.pages new.seen full
   pub looked : LooksTwice shape old.session old.mark new.advance
   pub floor : IsFloor full.xid (met_by new.advance) full.floor_mark full.holder
-  pub holder : IfSome full.holder (λ session. Contains new.named (session, full.floor_mark))
+  pub met : All (Contains named) (met_by new.advance)
 
 -- `enlist`: the session is a listener from the point on; its mark is the point, and no read is owed
 pub record HasEnlisted (old new : Known) (got : Enlisted) : Type 0 where
   pub more : List Tx
   pub known : new ≡ record old {
-      seen = old.seen ++ more;
-      mark = Some got.point;
-      marks = old.marks ++ got.base ∷ [] ++ got.point ∷ [];
-      owes = false;
-    }
+    seen = old.seen ++ more;
+    mark = Some got.point;
+    marks = old.marks ++ got.base ∷ [] ++ got.point ∷ [];
+    owes = false;
+  }
   pub first : FIRST_XID ≤ got.base
   pub ordered : got.base ≤ got.point
   pub after_told : old.told ≤ got.point
@@ -114,11 +115,11 @@ pub record HasRead (old new : Known) (set : List (List ℕ)) (to : ℕ) (before 
   pub from : ℕ
   pub from_mark : old.mark ≡ Some from
   pub known : new ≡ record old {
-      seen = old.seen ++ more;
-      mark = Some to;
-      marks = old.marks ++ to ∷ [];
-      owes = false;
-    }
+    seen = old.seen ++ more;
+    mark = Some to;
+    marks = old.marks ++ to ∷ [];
+    owes = false;
+  }
   pub forward : from ≤ to
   pub after_told : old.told ≤ to
   pub after_seen : next_xid old.seen ≤ to
@@ -164,12 +165,12 @@ pub record HasFoundNone (old new : Known) (flag : ℕ) : Type 0 where
 pub record HasFound (old new : Known) (flag x : ℕ) : Type 0 where
   pub more : List Tx
   pub known : new ≡ record old {
-      seen = old.seen ++ more;
-      told = max old.told x;
-      found = old.found ++ (flag, x) ∷ [];
-      looks = old.looks + 1;
-      flag_look = Some (flag, Some x);
-    }
+    seen = old.seen ++ more;
+    told = max old.told x;
+    found = old.found ++ (flag, x) ∷ [];
+    looks = old.looks + 1;
+    flag_look = Some (flag, Some x);
+  }
   pub after_raised : IsGreatestIn old.raised flag x
   pub after_found : IsGreatestIn old.found flag x
 
@@ -178,7 +179,8 @@ abbrev pub HasLooked : Known → Known → ℕ → Option ℕ → Type 0
 HasLooked old new flag None = HasFoundNone old new flag
 HasLooked old new flag (Some x) = HasFound old new flag x
 
--- `usage` answers what is in use as the next transaction would begin, after an advance whose floor it is
+-- `usage` answers what is in use as the next transaction would begin, after an advance of this very call: what its looks met is named
+-- by this call, and the floor is the least of it
 pub record HasMeasured (shape : Shape) (old new : Known) (usage : Usage) : Type 0 where
   pub more : List Tx
   pub named : List (ℕ × ℕ)
@@ -187,7 +189,7 @@ pub record HasMeasured (shape : Shape) (old new : Known) (usage : Usage) : Type 
   pub shows : ShowsUsage shape.format shape.pages new.seen usage
   pub looked : LooksTwice shape old.session old.mark new.advance
   pub floor : IsFloor usage.at (met_by new.advance) usage.floor_mark usage.holder
-  pub holder : IfSome usage.holder (λ session. Contains new.named (session, usage.floor_mark))
+  pub met : All (Contains named) (met_by new.advance)
 
 -- the first list, and then what the second has beyond its length
 abbrev pub longer : List Tx → List Tx → List Tx

@@ -4,3 +4,7 @@ pub mod Passes
 pub mod Calls
 -- what is known when all passes are gathered
 pub mod Gathered
+-- laws of what the calls say
+pub mod Laws
+-- a worked example, call by call
+pub mod Examples

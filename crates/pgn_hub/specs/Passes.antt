@@ -1,5 +1,5 @@
 -- What is known of a pass as it is opened, and what holds of each pass between calls.
-use Rattle.std.specs.Prelude.{◌≡◌, ℕ, ◌+◌, ◌-◌, ◌<◌, ◌≤◌, false, List, [], ◌∷◌, ◌++◌, length, Option, Some, None, slice_get, All, IfSome, IsSomeAnd}
+use Rattle.std.specs.Prelude.{◌≡◌, ℕ, ◌+◌, ◌-◌, ◌<◌, ◌≤◌, false, List, [], ◌∷◌, None, slice_get, All, IfSome, IsSomeAnd}
 use Rattle.pgn_base.specs.declared.limits.TheConstants.{FIRST_XID}
 use Rattle.pgn_model.specs.declared.setup.SeatSetup.{SeatSetup}
 use Rattle.pgn_model.specs.declared.known.Known.{Known}

@@ -26,14 +26,9 @@ pub trait Hub: Sized {
         ensures passes { IfOk result (λ opened. map Self.Pass.known opened.1.items ≡ opened_passes 1 setup.seats) }
         ensures own { IfOk result (λ opened. All (is_pass opened.0) opened.1.items) };
 
-    /// HasPublished a transaction with these notifications, which have no repeats: answers its number. Where the queue has no page left
+    /// Publishes a transaction with these notifications, which have no repeats: answers its number. Where the queue has no page left
     /// for them the transaction is aborted, and the answer says why.
-    fn publish<R: Wait>(
-        &self,
-        rt: &R,
-        pass: &mut Self::Pass,
-        notes: &[Note],
-    ) -> Result<Xid, Full>
+    fn publish<R: Wait>(&self, rt: &R, pass: &mut Self::Pass, notes: &[Note]) -> Result<Xid, Full>
         requires own { is_pass self.now pass.old }
         requires some { notes.now ≢ [] }
         requires different { AllPairs (λ a b. a ≢ b) notes.now }
@@ -80,7 +75,7 @@ pub trait Hub: Sized {
         ensures own { is_pass self.now pass.new }
         ensures woken { HasWoken (shape self.now).format (Self.Pass.known pass.old) (Self.Pass.known pass.new) result };
 
-    /// HasRaised a flag with the number that the pass was told, and answers it. The flag keeps the greatest number.
+    /// Raises a flag with the number that the pass was told, and answers it. The flag keeps the greatest number.
     fn raise(&self, pass: &mut Self::Pass, flag: u32) -> Xid
         requires own { is_pass self.now pass.old }
         requires flag { flag < (shape self.now).flags }

@@ -5,8 +5,14 @@
 //! proved over any hub, and a hub by its calls alone.
 //!
 //! Readers, joiners and leavers wait for nobody; `publish` and `usage` may wait for the lock. Only `open` and `scan` take memory.
+//!
+//! Laws of what the calls say, and a worked example, stand on public functions with an empty body, in the modules that are named
+//! after them.
 #![tactic(auto)]
 
+pub mod callers;
+pub mod examples;
 mod hub;
+pub mod laws;
 
 pub use hub::Hub;

@@ -1,0 +1,52 @@
+-- Proofs of the laws of what the calls say.
+use Rattle.std.proofs.Common.{◌≡◌, ℕ, ◌≤◌, List, ◌++◌, length, Option, Some, None, IfSome, All, Contains, sym, ap, ◌∙◌, subst, arith, length-append}
+use Rattle.std.proofs.lemmas.Option.{IfSome_then}
+use Rattle.std.proofs.lemmas.List.Elements.{All-contains, Contains-append_right}
+use Rattle.pgn_model.specs.declared.known.Known.{Known}
+use Rattle.pgn_model.specs.Journal.{next_xid, is_committed_in}
+use Rattle.pgn_model.specs.Due.{due}
+use Rattle.pgn_model.proofs.DueLaws.{due-grows}
+use Rattle.pgn_model.proofs.NearLaws.{near-grows}
+use Rattle.pgn_model.proofs.QueueUseLaws.{no_page-grows, usage-grows}
+use Rattle.pgn_hub.specs.Calls.{IsHolder, met_by}
+use Rattle.pgn_hub.specs.Laws.{ReadGrows, WokenGrows, FullGrows, MeasuredGrows, HoldersAreNamed}
+
+pub read-grows : ReadGrows
+read-grows old new set to before after more h =
+    let given : after ≡ before ++ due (new.seen ++ more) h.from to old.db set =
+    h.delivered ∙ ap (λ ds. before ++ ds) (sym (due-grows new.seen more h.from to old.db set h.in_seen)) in
+    subst (λ (mark : Option ℕ). IfSome mark (λ from. after ≡ before ++ due (new.seen ++ more) from to old.db set)) (sym h.from_mark) given
+
+pub woken-grows : WokenGrows
+woken-grows format old new woken more within h unset =
+    let seen : length new.seen ≡ length (old.seen ++ h.more) = ap (λ (k : Known). length k.seen) h.known in
+    let told : old.told ≤ next_xid new.seen = omega (arith, within.told, seen, length-append old.seen h.more) in
+    IfSome_then old.mark (h.near unset) (λ mark near. near-grows format (is_committed_in old.db) new.seen more mark old.told told near)
+
+pub full-grows : FullGrows
+full-grows shape old new notes full more h = no_page-grows shape.format shape.pages new.seen more full h.no_page
+
+pub measured-grows : MeasuredGrows
+measured-grows shape old new usage more h = usage-grows shape.format shape.pages new.seen more usage h.shows
+
+-- who holds the floor was met with the floor mark
+holder_is_met : (x : ℕ) (met : List (ℕ × ℕ)) (floor : ℕ) (holder : Option ℕ) → IsHolder x met floor holder → IfSome holder (λ session. Contains met (session, floor))
+holder_is_met x met floor None h = tt
+holder_is_met x met floor (Some session) h = h.1
+
+-- who holds the floor is named, where all that were met are
+holder_is_named : (x : ℕ) (met old named : List (ℕ × ℕ)) (floor : ℕ) (holder : Option ℕ) → IsHolder x met floor holder → All (Contains named) met
+    → IfSome holder (λ session. Contains (old ++ named) (session, floor))
+holder_is_named x met old named floor holder h all =
+    IfSome_then holder (holder_is_met x met floor holder h)
+    (λ session there. Contains-append_right old named (session, floor) (All-contains (Contains named) met (session, floor) all there))
+
+pub holders-are_named : HoldersAreNamed
+holders-are_named = record {
+  of_full = λ shape old new notes full h.
+      subst (λ (k : Known). IfSome full.holder (λ session. Contains k.named (session, full.floor_mark))) (sym h.known)
+      (holder_is_named full.xid (met_by new.advance) old.named h.named full.floor_mark full.holder h.floor.held h.met);
+  of_usage = λ shape old new usage h.
+      subst (λ (k : Known). IfSome usage.holder (λ session. Contains k.named (session, usage.floor_mark))) (sym h.known)
+      (holder_is_named usage.at (met_by new.advance) old.named h.named usage.floor_mark usage.holder h.floor.held h.met);
+}

@@ -1,0 +1,32 @@
+-- Proofs of the laws of passes as they are opened.
+use Rattle.std.proofs.Common.{◌≡◌, ℕ, ◌+◌, ◌<◌, ◌≤◌, List, [], ◌∷◌, length, map, None, All, ap, refl, arith, ◌<◌}
+use Rattle.std.specs.List.{range_with_len}
+use Rattle.std.proofs.lemmas.List.Elements.{All-nil, All-cons}
+use Rattle.pgn_base.specs.declared.limits.TheConstants.{FIRST_XID}
+use Rattle.pgn_model.specs.declared.setup.SeatSetup.{SeatSetup}
+use Rattle.pgn_model.specs.declared.known.Known.{Known}
+use Rattle.pgn_model.specs.Journal.{next_xid}
+use Rattle.pgn_hub.specs.Passes.{IsWithin, IsPairWithin, opened_pass, opened_passes}
+
+pub opened-seats : (n : ℕ) (seats : List SeatSetup) → map (λ k. k.session) (opened_passes n seats) ≡ range_with_len n (length seats)
+opened-seats n [] = refl
+opened-seats n (seat ∷ seats) = ap (λ xs. n ∷ xs) (opened-seats (n + 1) seats)
+
+pub opened-marks : (n : ℕ) (seats : List SeatSetup) → All (λ k. k.mark ≡ None) (opened_passes n seats)
+opened-marks n [] = All-nil (λ (k : Known). k.mark ≡ None)
+opened-marks n (seat ∷ seats) = All-cons (λ (k : Known). k.mark ≡ None) (opened_pass n seat) (opened_passes (n + 1) seats) refl (opened-marks (n + 1) seats)
+
+one-within : (n : ℕ) (seat : SeatSetup) → IsWithin (opened_pass n seat)
+one-within n seat = record {
+  mark = tt;
+  marks = All-nil (λ (mark : ℕ). mark ≤ next_xid []);
+  first_told = omega arith;
+  told = omega arith;
+  own = All-nil (λ (x : ℕ). x < FIRST_XID);
+  raised = All-nil (IsPairWithin FIRST_XID);
+  found = All-nil (IsPairWithin FIRST_XID);
+}
+
+pub opened-within : (n : ℕ) (seats : List SeatSetup) → All IsWithin (opened_passes n seats)
+opened-within n [] = All-nil IsWithin
+opened-within n (seat ∷ seats) = All-cons IsWithin (opened_pass n seat) (opened_passes (n + 1) seats) (one-within n seat) (opened-within (n + 1) seats)

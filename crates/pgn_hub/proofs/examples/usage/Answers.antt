@@ -1,0 +1,24 @@
+use Rattle.std.proofs.Common.{◌≡◌, [], ◌∷◌, refl, arith, rules}
+use Rattle.pgn_model.specs.Bytes.{header, entry_length, spelled}
+use Rattle.pgn_model.specs.Packing.{filled_cells, page_rest, entry_cells, note_cells, notes_cells, end_cells, tx_cells, image_from, image, place}
+use Rattle.pgn_hub.proofs.examples.usage.Goals as goal
+
+pub returns-clause-met : goal.returns-clause-met
+unfolding place image image_from tx_cells end_cells notes_cells note_cells entry_cells page_rest filled_cells spelled entry_length header
+returns-clause-met c = record {
+  more = [];
+  named = (1, 3) ∷ (1, 3) ∷ [];
+  number = refl;
+  known = refl;
+  shows = record { limited = refl; in_journal = omega arith; floor_below = omega arith; in_use = refl; holder = search rules };
+  looked = search rules;
+  floor = search rules;
+  met = search rules;
+}
+
+pub returns-clause-a_page_more : goal.returns-clause-a_page_more
+unfolding place image image_from tx_cells end_cells notes_cells note_cells entry_cells page_rest filled_cells spelled entry_length header
+returns-clause-a_page_more c h = let more : 1 ≡ 0 = h.shows.in_use in omega (arith, more)
+
+pub returns-clause-floor_above_a_mark : goal.returns-clause-floor_above_a_mark
+returns-clause-floor_above_a_mark c h = omega (arith, h.floor.least 0 (1, 3) (omega arith))
