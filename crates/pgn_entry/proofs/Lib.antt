@@ -5,3 +5,4 @@ pub mod BodyLaws
 pub mod HeadLaws
 pub mod BeginsLaws
 pub mod AnswerLaws
+pub mod PieceReads

@@ -1,3 +1,4 @@
 pub mod Reading
 pub mod Parts
 pub mod Laws
+pub mod Pieces

@@ -2,7 +2,8 @@
 //!
 //! Everything that a listener receives has been these bytes on a page. `write_entry` and `write_filler` write the one spelling of
 //! an entry and of a filler, for the whole slice that they are given. `read_entry` accepts these spellings and nothing else: it
-//! gives the fields back where the bytes begin with a spelling, and else the first fault that they have.
+//! gives the fields back where the bytes begin with a spelling, and else the first fault that they have. `read_piece` reads bytes
+//! of which the caller knows that they are an entry or a filler, and answers with its fields.
 //!
 //! An entry is its length, its database, its transaction and the process number of its sender, four bytes each with the lowest
 //! first, then the channel and the payload, each with a zero byte after it, and zero bytes up to its length. A filler is such a
@@ -18,6 +19,7 @@ mod format;
 mod head;
 mod laws;
 mod length;
+mod piece;
 mod reading;
 mod texts;
 mod writing;
@@ -26,6 +28,7 @@ pub use entry_fault::EntryFault;
 pub use entry_view::EntryView;
 pub use laws::{one_answer, reads_back};
 pub use length::entry_len;
+pub use piece::read_piece;
 pub use reading::read_entry;
 pub use writing::{write_entry, write_filler};
 

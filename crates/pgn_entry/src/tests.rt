@@ -125,6 +125,18 @@ fn entry_bytes(rt: HostRuntime) -> Result<(), Fail> {
 }
 
 #[test]
+fn pieces(rt: HostRuntime) {
+    assert_eq!(rt; read_piece(&LONG), LONG_VIEW);
+    assert_eq!(rt; read_piece(&SHORT), SHORT_VIEW);
+    let filler = EntryView::Filler {
+        len: 20,
+        xid: 5,
+        pid: 1002,
+    };
+    assert_eq!(rt; read_piece(&FILLER), filler);
+}
+
+#[test]
 fn entry_bytes_refused(rt: HostRuntime) {
     assert_eq!(rt; read_entry(&SHORT[..19]), Err(EntryFault::Short));
     let longer = *b"\x15\0\0\0\x07\0\0\0\x04\0\0\0\xeb\x03\0\0c\0\0\0\0";
