@@ -22,3 +22,4 @@ pub mod KeptForms
 pub mod OneLineCommands
 pub mod ValidForms
 pub mod LongLiterals
+pub mod RunSteps

@@ -6,3 +6,5 @@ pub mod Answers
 pub mod Due
 pub mod Texts
 pub mod Inputs
+pub mod Scripts
+pub mod Blocks

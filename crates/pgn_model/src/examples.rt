@@ -1,6 +1,7 @@
 //! Worked examples, computed from the definitions.
 
 pub mod answers;
+pub mod blocks;
 pub mod due;
 pub mod grammar;
 pub mod inputs;
