@@ -8,3 +8,4 @@ pub mod Texts
 pub mod Inputs
 pub mod Scripts
 pub mod Blocks
+pub mod Flags

@@ -3,6 +3,7 @@
 pub mod answers;
 pub mod blocks;
 pub mod due;
+pub mod flags;
 pub mod grammar;
 pub mod inputs;
 pub mod packing;
