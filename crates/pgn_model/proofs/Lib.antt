@@ -23,3 +23,4 @@ pub mod OneLineCommands
 pub mod ValidForms
 pub mod LongLiterals
 pub mod RunSteps
+pub mod FullSteps

@@ -147,7 +147,8 @@ all_shown n traces h =
     tested (λ (trace : Trace). All (IsShownWithin n) trace.items) (λ (trace : Trace). list_all (shown_within n) trace.items)
         (λ (trace : Trace) p. tested (IsShownWithin n) (shown_within n) (is_within n) trace.items p) traces h
 
-Along-append : {S I : Type 0} (next : S → I → S) (P : S → I → Type 0) (s : S) (front back : List I) → Along next P s front → Along next P (fold next s front) back → Along next P s (front ++ back)
+-- along the first items, and then along the others
+pub Along-append : {S I : Type 0} (next : S → I → S) (P : S → I → Type 0) (s : S) (front back : List I) → Along next P s front → Along next P (fold next s front) back → Along next P s (front ++ back)
 Along-append next P s [] back h k = k
 Along-append next P s (i ∷ front) back h k = (h.0, Along-append next P (next s i) front back h.1 k)
 

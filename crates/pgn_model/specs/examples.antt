@@ -9,3 +9,4 @@ pub mod Inputs
 pub mod Scripts
 pub mod Blocks
 pub mod Flags
+pub mod FullQueue

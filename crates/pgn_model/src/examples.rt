@@ -4,6 +4,7 @@ pub mod answers;
 pub mod blocks;
 pub mod due;
 pub mod flags;
+pub mod full_queue;
 pub mod grammar;
 pub mod inputs;
 pub mod packing;
