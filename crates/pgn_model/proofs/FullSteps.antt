@@ -1,6 +1,6 @@
 -- The places of the runs with a full queue, step by step.
-use Rattle.std.proofs.Common.{◌≡◌, ◌≢◌, ℕ, zero, suc, ◌+◌, ◌<◌, List, [], ◌∷◌, ◌++◌, length, get_or, true, false, Some, None, inl, inr, sym, ap, ◌∙◌, refl, subst, arith, append_assoc}
-use Rattle.std.specs.Prelude.{All, replicate, flat_map, codes}
+use Rattle.std.proofs.Common.{◌≡◌, ◌≢◌, ℕ, ◌+◌, [], ◌∷◌, length, get_or, false, Some, None, inl, inr, sym, ap, ◌∙◌, refl, arith}
+use Rattle.std.specs.Prelude.{codes}
 use Rattle.std.specs.Str.{byte}
 use Rattle.std.proofs.lemmas.List.{length-replicate}
 use Rattle.std.proofs.lemmas.List.Elements.{All-replicate}
@@ -13,7 +13,7 @@ use Rattle.pgn_model.specs.Savepoints.{firsts}
 use Rattle.pgn_model.specs.Journal.{is_committed_in}
 use Rattle.pgn_model.specs.Near.{Near}
 use Rattle.pgn_model.specs.QueueUse.{NoPage}
-use Rattle.pgn_model.specs.examples.FullQueue.{many, long_note, last_one, bare_one, full_run_journal, larger_run_journal}
+use Rattle.pgn_model.specs.examples.FullQueue.{many, long_note, last_one, full_run_journal, larger_run_journal}
 use Rattle.pgn_model.proofs.PackingLemmas.{first_place, place_folds}
 use Rattle.pgn_model.proofs.RunSteps.{IsPlain, plain_bytes, plain_note}
 

@@ -1,5 +1,5 @@
 -- What the worked examples of whole runs need: notifications of plain letters can be sent.
-use Rattle.std.proofs.Common.{◌≡◌, ℕ, zero, suc, ◌+◌, ◌<◌, ◌≤◌, Bool, true, false, ◌&&◌, nat_lt, nat_le, nat_eq, eqb-true, eq-eqb, leb-true, not, ◌||◌, sym, subst, List, [], ◌∷◌, ◌++◌, fold, length, IsAscii, refl, arith}
+use Rattle.std.proofs.Common.{◌≡◌, ℕ, ◌<◌, ◌≤◌, Bool, true, ◌&&◌, nat_lt, nat_le, nat_eq, eqb-true, eq-eqb, leb-true, not, ◌||◌, sym, subst, List, [], ◌∷◌, ◌++◌, fold, length, refl, arith}
 use Rattle.std.specs.Prelude.{All, Contains, IsUtf8, flat_map}
 use Rattle.std.specs.List.{list_all, list_any}
 use Rattle.std.proofs.lemmas.List.Folds.{Any-from_list_any}
@@ -8,7 +8,6 @@ use Rattle.std.proofs.lemmas.Bool.Decides.{nat_tests}
 use Rattle.std.proofs.lemmas.Str.{IsUtf8-from_ascii}
 use Rattle.std.proofs.lemmas.Str.Ascii.{IsAscii-from_all}
 use Rattle.std.proofs.lemmas.List.Elements.{All-nil, All-cons, All-contains, All-weaker}
-use Rattle.pgn_base.specs.Texts.{IsName, IsPayload}
 use Rattle.pgn_base.specs.declared.note.Note.{Note}
 use Rattle.pgn_model.specs.declared.tx.Fate.TheVariants.{Committed, Aborted}
 use Rattle.pgn_model.specs.Bytes.{IsNote}

@@ -1,5 +1,4 @@
 use Rattle.std.proofs.Common.{take, drop, [], ◌∷◌, refl, rules, arith}
-use Rattle.std.specs.Prelude.{All, codes}
 use Rattle.std.specs.Fmt.{digits}
 use Rattle.std.proofs.lemmas.List.Elements.{All-from_recursion}
 use Rattle.pgn_model.specs.Bytes.{IsNote}

@@ -1,5 +1,5 @@
 use Rattle.std.proofs.Common.{◌≡◌, ◌≢◌, ℕ, ◌<◌, List, take, drop, [], ◌∷◌, None, fold, sym, ap, refl, subst, rules, arith}
-use Rattle.std.specs.Prelude.{All, AllPairs, flat_map}
+use Rattle.std.specs.Prelude.{All, flat_map}
 use Rattle.std.specs.Str.{byte}
 use Rattle.std.specs.Fmt.{digits}
 use Rattle.std.proofs.lemmas.List.Elements.{All-from_recursion}
@@ -17,7 +17,7 @@ use Rattle.pgn_model.specs.Walk.{Terms, State, Queueing, Replied, start, after_i
 use Rattle.pgn_model.specs.Trace.{state_after, IsLawful, IsEnd, IsFreshAt, IsUpToDate}
 use Rattle.pgn_model.specs.Legal.{IsFullThere, End, WasRaised, StoodAt}
 use Rattle.pgn_model.specs.examples.Scripts.{finished}
-use Rattle.pgn_model.specs.examples.FullQueue.{many, long_note, bare_one, two_pages, larger_section, larger_scenario, larger_run_journal, larger_trace}
+use Rattle.pgn_model.specs.examples.FullQueue.{many, long_note, bare_one, two_pages, larger_section, larger_run_journal, larger_trace}
 use Rattle.pgn_model.proofs.RunSteps.{plain_bytes, plain_note, Along-append, lawful_in_parts, one_committed, all_found, all_stood, all_shown}
 use Rattle.pgn_model.proofs.FullSteps.{long_valid, letters_differ, three_firsts, larger_at_3}
 use Rattle.pgn_model.proofs.examples.full_queue.larger_than_queue.Goals as goal
