@@ -24,3 +24,4 @@ pub mod ValidForms
 pub mod LongLiterals
 pub mod RunSteps
 pub mod FullSteps
+pub mod RefusedSteps

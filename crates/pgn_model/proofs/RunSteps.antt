@@ -78,7 +78,7 @@ tested P p f (x ∷ xs) h = let parts = and_parts (p x) (list_all p xs) h in All
 pub all_found : (all : List End) → list_all (λ pair. list_any (same_pair pair) (flat_map (λ end. end.state.raised) all)) (flat_map (λ end. end.state.found) all) ≡ true → All (WasRaised all) (flat_map (λ end. end.state.found) all)
 all_found all h =
     tested (WasRaised all) (λ pair. list_any (same_pair pair) (flat_map (λ (end : End). end.state.raised) all))
-        (λ pair. contained same_pair same_pair-true (flat_map (λ (end : End). end.state.raised) all) pair) (flat_map (λ (end : End). end.state.found) all) h
+    (λ pair. contained same_pair same_pair-true (flat_map (λ (end : End). end.state.raised) all) pair) (flat_map (λ (end : End). end.state.found) all) h
 
 -- the session stood at the mark, by a test that computes
 abbrev pub stood_at : List End → ℕ × ℕ → Bool
@@ -144,7 +144,7 @@ is_within n (Read from to got) h = two_within from to n h
 pub all_shown : (n : ℕ) (traces : List Trace) → list_all (λ trace. list_all (shown_within n) trace.items) traces ≡ true → All (λ trace. All (IsShownWithin n) trace.items) traces
 all_shown n traces h =
     tested (λ (trace : Trace). All (IsShownWithin n) trace.items) (λ (trace : Trace). list_all (shown_within n) trace.items)
-        (λ (trace : Trace) p. tested (IsShownWithin n) (shown_within n) (is_within n) trace.items p) traces h
+    (λ (trace : Trace) p. tested (IsShownWithin n) (shown_within n) (is_within n) trace.items p) traces h
 
 -- along the first items, and then along the others
 pub Along-append : {S I : Type 0} (next : S → I → S) (P : S → I → Type 0) (s : S) (front back : List I) → Along next P s front → Along next P (fold next s front) back → Along next P s (front ++ back)

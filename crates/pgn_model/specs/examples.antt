@@ -10,3 +10,4 @@ pub mod Scripts
 pub mod Blocks
 pub mod Flags
 pub mod FullQueue
+pub mod RefusedRuns

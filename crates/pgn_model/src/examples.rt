@@ -8,6 +8,7 @@ pub mod full_queue;
 pub mod grammar;
 pub mod inputs;
 pub mod packing;
+pub mod refused_runs;
 pub mod runs;
 pub mod savepoints;
 pub mod texts;

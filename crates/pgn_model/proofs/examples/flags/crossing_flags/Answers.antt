@@ -12,6 +12,7 @@ use Rattle.pgn_model.proofs.examples.flags.crossing_flags.Goals as goal
 
 from_a_valid : IsNote from_a
 from_a_valid = plain_note from_a (plain_bytes from_a.channel refl) (omega arith) (omega arith) (plain_bytes from_a.payload refl) (omega arith)
+
 from_b_valid : IsNote from_b
 from_b_valid = plain_note from_b (plain_bytes from_b.channel refl) (omega arith) (omega arith) (plain_bytes from_b.payload refl) (omega arith)
 
@@ -25,9 +26,9 @@ a_lawful : IsLawful crossing_a_terms crossing_journal crossing_a_trace.items
 a_lawful =
     let first : IsLawful crossing_a_terms crossing_journal (take 8 crossing_a_trace.items) = search rules in
     let second : IsLawful crossing_a_terms crossing_journal (take 18 crossing_a_trace.items) =
-        lawful_in_parts crossing_a_terms crossing_journal (take 8 crossing_a_trace.items) (take 10 (drop 8 crossing_a_trace.items)) first (search rules) in
+    lawful_in_parts crossing_a_terms crossing_journal (take 8 crossing_a_trace.items) (take 10 (drop 8 crossing_a_trace.items)) first (search rules) in
     lawful_in_parts crossing_a_terms crossing_journal (take 18 crossing_a_trace.items) (drop 18 crossing_a_trace.items) second
-        ((greatest ((1, 4) ∷ []) 2 5 refl, greatest ((0, 3) ∷ []) 2 5 refl), search rules)
+    ((greatest ((1, 4) ∷ []) 2 5 refl, greatest ((0, 3) ∷ []) 2 5 refl), search rules)
 
 b_lawful : IsLawful crossing_b_terms crossing_journal crossing_b_trace.items
 b_lawful =

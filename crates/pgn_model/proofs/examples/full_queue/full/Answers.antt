@@ -34,9 +34,9 @@ sender_lawful : IsLawful sender_terms full_run_journal full_sender_trace.items
 sender_lawful =
     let first : IsLawful sender_terms full_run_journal (take 8 full_sender_trace.items) = search rules in
     let second : IsLawful sender_terms full_run_journal (take 17 full_sender_trace.items) =
-        lawful_in_parts sender_terms full_run_journal (take 8 full_sender_trace.items) (take 9 (drop 8 full_sender_trace.items)) first (search rules) in
+    lawful_in_parts sender_terms full_run_journal (take 8 full_sender_trace.items) (take 9 (drop 8 full_sender_trace.items)) first (search rules) in
     lawful_in_parts sender_terms full_run_journal (take 17 full_sender_trace.items) (drop 17 full_sender_trace.items) second
-        ((greatest ((1, 7) ∷ []) 2 7 refl, greatest ((0, 3) ∷ []) 2 7 refl), search rules)
+    ((greatest ((1, 7) ∷ []) 2 7 refl, greatest ((0, 3) ∷ []) 2 7 refl), search rules)
 
 -- the sender never listens
 sender_fresh : Along after_item (IsFreshAt sender_terms full_run_journal) (start full_sender) full_sender_trace.items
@@ -50,9 +50,14 @@ returns-clause-legal c = record {
   finished = All-from_recursion IsFinished full_run_journal
       (one_committed 2 1 (long_note (byte "x")) x_valid, (one_committed 2 1 (long_note (byte "x")) x_valid, (one_aborted 2 1 (long_note (byte "x")) x_valid, (one_aborted 2 1 (long_note (byte "x")) x_valid, (one_committed 2 1 last_one last_valid, tt)))));
   named = search rules;
-  full = All-from_recursion (λ (trace : Trace). All (IsFullThere two_pages full_run_journal) trace.items) (full_listener_trace ∷ full_sender_trace ∷ [])
-      (search rules, (All-from_recursion (IsFullThere two_pages full_run_journal) full_sender_trace.items
-          (tt, (tt, (tt, (tt, (tt, (tt, (tt, (tt, (tt, (full_at_5, (tt, (tt, (full_at_6, (tt, (tt, (tt, (tt, (tt, (tt, (tt, (tt, tt))))))))))))))))))))), tt));
+  full = All-from_recursion (λ (trace : Trace). All (IsFullThere two_pages full_run_journal) trace.items) (full_listener_trace ∷ full_sender_trace ∷ []) (
+    search rules,
+    (
+      All-from_recursion (IsFullThere two_pages full_run_journal) full_sender_trace.items
+          (tt, (tt, (tt, (tt, (tt, (tt, (tt, (tt, (tt, (full_at_5, (tt, (tt, (full_at_6, (tt, (tt, (tt, (tt, (tt, (tt, (tt, (tt, tt))))))))))))))))))))),
+      tt,
+    ),
+  );
   found = all_found (ends two_pages full_scenario.sections (full_listener_trace ∷ full_sender_trace ∷ [])) refl;
   holders = all_stood (ends two_pages full_scenario.sections (full_listener_trace ∷ full_sender_trace ∷ [])) refl;
   shown = all_shown 8 (full_listener_trace ∷ full_sender_trace ∷ []) refl;

@@ -51,12 +51,12 @@ last-state = ap (λ (s : State). fold after_item s (drop 9 items)) commit-state
 trace_lawful : IsLawful terms larger_run_journal items
 trace_lawful =
     lawful_in_parts terms larger_run_journal (take 9 items) (drop 9 items) (search rules)
-        (subst (λ (s : State). Along after_item (Allowed terms larger_run_journal) s (drop 9 items)) (sym commit-state) (search rules))
+    (subst (λ (s : State). Along after_item (Allowed terms larger_run_journal) s (drop 9 items)) (sym commit-state) (search rules))
 
 trace_fresh : Along after_item (IsFreshAt terms larger_run_journal) (start larger_section) items
 trace_fresh =
     Along-append after_item (IsFreshAt terms larger_run_journal) (start larger_section) (take 9 items) (drop 9 items) (search rules)
-        (subst (λ (s : State). Along after_item (IsFreshAt terms larger_run_journal) s (drop 9 items)) (sym commit-state) (search rules))
+    (subst (λ (s : State). Along after_item (IsFreshAt terms larger_run_journal) s (drop 9 items)) (sym commit-state) (search rules))
 
 -- the end of a trace in this state
 abbrev end_at : State → List End
@@ -74,11 +74,11 @@ three_finished = record {
   valid = All-from_recursion IsNote three (long_sent (byte "x") (omega arith) (omega arith), (long_sent (byte "y") (omega arith) (omega arith), (long_sent (byte "z") (omega arith) (omega arith), tt)));
   different =
       AllPairs-cons (λ (a b : Note). a ≢ b) (long_note (byte "x")) (long_note (byte "y") ∷ long_note (byte "z") ∷ [])
-          (All-from_recursion (λ (b : Note). long_note (byte "x") ≢ b) (long_note (byte "y") ∷ long_note (byte "z") ∷ [])
-              (letters_differ (byte "x") (byte "y") (λ e. absurd (omega (arith, e))), (letters_differ (byte "x") (byte "z") (λ e. absurd (omega (arith, e))), tt)))
-          (AllPairs-cons (λ (a b : Note). a ≢ b) (long_note (byte "y")) (long_note (byte "z") ∷ [])
-              (All-from_recursion (λ (b : Note). long_note (byte "y") ≢ b) (long_note (byte "z") ∷ []) (letters_differ (byte "y") (byte "z") (λ e. absurd (omega (arith, e))), tt))
-              (λ i j d before within. absurd (omega (arith, before, within))));
+      (All-from_recursion (λ (b : Note). long_note (byte "x") ≢ b) (long_note (byte "y") ∷ long_note (byte "z") ∷ [])
+      (letters_differ (byte "x") (byte "y") (λ e. absurd (omega (arith, e))), (letters_differ (byte "x") (byte "z") (λ e. absurd (omega (arith, e))), tt)))
+      (AllPairs-cons (λ (a b : Note). a ≢ b) (long_note (byte "y")) (long_note (byte "z") ∷ [])
+      (All-from_recursion (λ (b : Note). long_note (byte "y") ≢ b) (long_note (byte "z") ∷ []) (letters_differ (byte "y") (byte "z") (λ e. absurd (omega (arith, e))), tt))
+      (λ i j d before within. absurd (omega (arith, before, within))));
   queueing = omega arith;
 }
 
