@@ -1,9 +1,10 @@
 -- The places of the runs with a full queue, step by step.
-use Rattle.std.proofs.Common.{◌≡◌, ◌≢◌, ℕ, ◌+◌, [], ◌∷◌, length, get_or, false, Some, None, inl, inr, sym, ap, ◌∙◌, refl, arith}
-use Rattle.std.specs.Prelude.{codes}
+use Rattle.std.proofs.Common.{◌≡◌, ◌≢◌, ℕ, zero, suc, ◌+◌, [], ◌∷◌, length, get_or, true, false, Some, None, inl, inr, sym, ap, ◌∙◌, refl, arith}
+use Rattle.std.specs.Prelude.{replicate}
+use Rattle.std.specs.List.{list_all}
 use Rattle.std.specs.Str.{byte}
 use Rattle.std.proofs.lemmas.List.{length-replicate}
-use Rattle.std.proofs.lemmas.List.Elements.{All-replicate}
+use Rattle.std.proofs.lemmas.Bool.{and_from}
 use Rattle.pgn_base.specs.declared.format.Format.TheVariants.{One}
 use Rattle.pgn_base.specs.declared.note.Note.{Note}
 use Rattle.pgn_model.specs.declared.tx.Fate.TheVariants.{Aborted}
@@ -15,17 +16,20 @@ use Rattle.pgn_model.specs.Near.{Near}
 use Rattle.pgn_model.specs.QueueUse.{NoPage}
 use Rattle.pgn_model.specs.examples.FullQueue.{many, long_note, last_one, full_run_journal, larger_run_journal}
 use Rattle.pgn_model.proofs.PackingLemmas.{first_place, place_folds}
-use Rattle.pgn_model.proofs.RunSteps.{IsPlain, plain_bytes, plain_note}
+use Rattle.pgn_model.proofs.PlainNotes.{is_plain, plain-note}
 
 length-many : (letter : ℕ) → length (many letter) ≡ 7999
 unfolding many
 length-many letter = length-replicate 7999 letter
 
+plain_letters : (n letter : ℕ) → is_plain letter ≡ true → list_all is_plain (replicate n letter) ≡ true
+plain_letters zero letter h = refl
+plain_letters (suc n) letter h = and_from (is_plain letter) (list_all is_plain (replicate n letter)) h (plain_letters n letter h)
+
 -- each of the long notifications can be sent
-pub long_valid : (letter : ℕ) → IsPlain letter → IsNote (long_note letter)
+pub long_valid : (letter : ℕ) → is_plain letter ≡ true → IsNote (long_note letter)
 unfolding many
-long_valid letter h =
-    plain_note (long_note letter) (plain_bytes (codes "c") refl) (omega arith) (omega arith) (All-replicate IsPlain 7999 letter h) (omega (arith, length-replicate 7999 letter))
+long_valid letter h = plain-note (long_note letter) refl (plain_letters 7999 letter h) (omega arith) (omega arith) (omega (arith, length-replicate 7999 letter))
 
 pub length-long : (letter : ℕ) → entry_length One (long_note letter) ≡ 8020
 unfolding entry_length

@@ -5,6 +5,7 @@ pub mod WalkLaws
 pub mod BytesLemmas
 pub mod PackingLemmas
 pub mod PackingSteps
+pub mod PlainNotes
 pub mod NearLaws
 pub mod QueueUseLaws
 pub mod TextBytes

@@ -1,14 +1,14 @@
 use Rattle.std.proofs.Common.{[], ◌∷◌, refl, rules, arith}
-use Rattle.std.specs.Prelude.{All, codes}
+use Rattle.std.specs.Prelude.{All}
 use Rattle.std.specs.Fmt.{digits}
 use Rattle.std.proofs.lemmas.List.Elements.{All-nil, All-cons}
 use Rattle.pgn_model.specs.Bytes.{IsNote}
 use Rattle.pgn_model.specs.examples.Blocks.{empty_note}
-use Rattle.pgn_model.proofs.RunSteps.{plain_bytes, plain_note}
+use Rattle.pgn_model.proofs.PlainNotes.{plain-note}
 use Rattle.pgn_model.proofs.examples.blocks.registered_then_left.Goals as goal
 
 empty_valid : IsNote empty_note
-empty_valid = plain_note empty_note (plain_bytes (codes "c") refl) (omega arith) (omega arith) (plain_bytes [] refl) (omega arith)
+empty_valid = plain-note empty_note refl refl (omega arith) (omega arith) (omega arith)
 
 pub returns-clause-legal : goal.returns-clause-legal
 returns-clause-legal c =

@@ -7,14 +7,15 @@ use Rattle.pgn_model.specs.Walk.{Terms, default_settings}
 use Rattle.pgn_model.specs.Trace.{IsLawful}
 use Rattle.pgn_model.specs.Legal.{ends}
 use Rattle.pgn_model.specs.examples.Flags.{from_a, from_b, crossing_a, crossing_b, crossing_journal, crossing_scenario, crossing_a_trace, crossing_b_trace}
-use Rattle.pgn_model.proofs.RunSteps.{plain_bytes, plain_note, all_found, all_stood, all_shown, one_committed, lawful_in_parts, greatest}
+use Rattle.pgn_model.proofs.PlainNotes.{plain-note}
+use Rattle.pgn_model.proofs.RunSteps.{all_found, all_stood, all_shown, one_committed, lawful_in_parts, greatest}
 use Rattle.pgn_model.proofs.examples.flags.crossing_flags.Goals as goal
 
 from_a_valid : IsNote from_a
-from_a_valid = plain_note from_a (plain_bytes from_a.channel refl) (omega arith) (omega arith) (plain_bytes from_a.payload refl) (omega arith)
+from_a_valid = plain-note from_a refl refl (omega arith) (omega arith) (omega arith)
 
 from_b_valid : IsNote from_b
-from_b_valid = plain_note from_b (plain_bytes from_b.channel refl) (omega arith) (omega arith) (plain_bytes from_b.payload refl) (omega arith)
+from_b_valid = plain-note from_b refl refl (omega arith) (omega arith) (omega arith)
 
 abbrev crossing_a_terms : Terms
 crossing_a_terms = record { section = crossing_a; settings = default_settings }

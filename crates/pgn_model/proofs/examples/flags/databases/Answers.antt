@@ -6,11 +6,12 @@ use Rattle.pgn_model.specs.Bytes.{IsNote}
 use Rattle.pgn_model.specs.Walk.{default_settings}
 use Rattle.pgn_model.specs.Legal.{ends}
 use Rattle.pgn_model.specs.examples.Flags.{notified_x, databases_scenario, databases_listener_trace, databases_sender_trace}
-use Rattle.pgn_model.proofs.RunSteps.{plain_bytes, plain_note, all_found}
+use Rattle.pgn_model.proofs.PlainNotes.{plain-note}
+use Rattle.pgn_model.proofs.RunSteps.{all_found}
 use Rattle.pgn_model.proofs.examples.flags.databases.Goals as goal
 
 notified_x_valid : IsNote notified_x
-notified_x_valid = plain_note notified_x (plain_bytes notified_x.channel refl) (omega arith) (omega arith) (plain_bytes notified_x.payload refl) (omega arith)
+notified_x_valid = plain-note notified_x refl refl (omega arith) (omega arith) (omega arith)
 
 pub returns-clause-legal : goal.returns-clause-legal
 returns-clause-legal c =

@@ -6,11 +6,12 @@ use Rattle.pgn_model.specs.Bytes.{IsNote}
 use Rattle.pgn_model.specs.Walk.{default_settings}
 use Rattle.pgn_model.specs.Legal.{ends}
 use Rattle.pgn_model.specs.examples.Flags.{old, filter_scenario, filter_listener_trace, filter_sender_trace}
-use Rattle.pgn_model.proofs.RunSteps.{plain_bytes, plain_note, all_found}
+use Rattle.pgn_model.proofs.PlainNotes.{plain-note}
+use Rattle.pgn_model.proofs.RunSteps.{all_found}
 use Rattle.pgn_model.proofs.examples.flags.filter_at_read.Goals as goal
 
 old_valid : IsNote old
-old_valid = plain_note old (plain_bytes old.channel refl) (omega arith) (omega arith) (plain_bytes old.payload refl) (omega arith)
+old_valid = plain-note old refl refl (omega arith) (omega arith) (omega arith)
 
 pub returns-clause-legal : goal.returns-clause-legal
 returns-clause-legal c =

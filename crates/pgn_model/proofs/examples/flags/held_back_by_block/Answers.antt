@@ -6,11 +6,12 @@ use Rattle.pgn_model.specs.Bytes.{IsNote}
 use Rattle.pgn_model.specs.Walk.{default_settings}
 use Rattle.pgn_model.specs.Legal.{ends}
 use Rattle.pgn_model.specs.examples.Flags.{hi, held_scenario, held_listener_trace, held_sender_trace}
-use Rattle.pgn_model.proofs.RunSteps.{plain_bytes, plain_note, all_found}
+use Rattle.pgn_model.proofs.PlainNotes.{plain-note}
+use Rattle.pgn_model.proofs.RunSteps.{all_found}
 use Rattle.pgn_model.proofs.examples.flags.held_back_by_block.Goals as goal
 
 hi_valid : IsNote hi
-hi_valid = plain_note hi (plain_bytes hi.channel refl) (omega arith) (omega arith) (plain_bytes hi.payload refl) (omega arith)
+hi_valid = plain-note hi refl refl (omega arith) (omega arith) (omega arith)
 
 pub returns-clause-legal : goal.returns-clause-legal
 returns-clause-legal c =

@@ -11,7 +11,8 @@ use Rattle.pgn_model.specs.Walk.{Terms, start, after_item}
 use Rattle.pgn_model.specs.Trace.{IsLawful, IsFreshAt}
 use Rattle.pgn_model.specs.Legal.{IsFullThere, ends}
 use Rattle.pgn_model.specs.examples.FullQueue.{many, long_note, last_one, two_pages, full_listener, full_sender, full_scenario, full_run_journal, full_listener_trace, full_sender_trace}
-use Rattle.pgn_model.proofs.RunSteps.{plain_bytes, plain_note, lawful_in_parts, greatest, one_committed, one_aborted, all_found, all_stood, all_shown}
+use Rattle.pgn_model.proofs.PlainNotes.{plain-note}
+use Rattle.pgn_model.proofs.RunSteps.{lawful_in_parts, greatest, one_committed, one_aborted, all_found, all_stood, all_shown}
 use Rattle.pgn_model.proofs.FullSteps.{long_valid, full_at_5, full_at_6, near_end}
 use Rattle.pgn_model.proofs.examples.full_queue.full.Goals as goal
 
@@ -22,10 +23,10 @@ abbrev sender_terms : Terms
 sender_terms = record { section = full_sender; settings = two_pages }
 
 x_valid : IsNote (long_note (byte "x"))
-x_valid = long_valid (byte "x") (record { some = omega arith; small = omega arith })
+x_valid = long_valid (byte "x") refl
 
 last_valid : IsNote last_one
-last_valid = plain_note last_one (plain_bytes last_one.channel refl) (omega arith) (omega arith) (plain_bytes last_one.payload refl) (omega arith)
+last_valid = plain-note last_one refl refl (omega arith) (omega arith) (omega arith)
 
 listener_lawful : IsLawful listener_terms full_run_journal full_listener_trace.items
 listener_lawful = lawful_in_parts listener_terms full_run_journal (take 8 full_listener_trace.items) (drop 8 full_listener_trace.items) (search rules) (search rules)

@@ -1,4 +1,4 @@
-use Rattle.std.proofs.Common.{◌≡◌, ◌≢◌, ℕ, ◌<◌, List, take, drop, [], ◌∷◌, None, fold, sym, ap, refl, subst, rules, arith}
+use Rattle.std.proofs.Common.{◌≡◌, ◌≢◌, List, take, drop, [], ◌∷◌, None, fold, sym, ap, refl, subst, rules, arith}
 use Rattle.std.specs.Prelude.{All, flat_map}
 use Rattle.std.specs.Str.{byte}
 use Rattle.std.specs.Fmt.{digits}
@@ -18,7 +18,8 @@ use Rattle.pgn_model.specs.Trace.{state_after, IsLawful, IsEnd, IsFreshAt, IsUpT
 use Rattle.pgn_model.specs.Legal.{IsFullThere, End, WasRaised, StoodAt}
 use Rattle.pgn_model.specs.examples.Scripts.{finished}
 use Rattle.pgn_model.specs.examples.FullQueue.{many, long_note, bare_one, two_pages, larger_section, larger_run_journal, larger_trace}
-use Rattle.pgn_model.proofs.RunSteps.{plain_bytes, plain_note, Along-append, lawful_in_parts, one_committed, all_found, all_stood, all_shown}
+use Rattle.pgn_model.proofs.PlainNotes.{plain-note}
+use Rattle.pgn_model.proofs.RunSteps.{Along-append, lawful_in_parts, one_committed, all_found, all_stood, all_shown}
 use Rattle.pgn_model.proofs.FullSteps.{long_valid, letters_differ, three_firsts, larger_at_3}
 use Rattle.pgn_model.proofs.examples.full_queue.larger_than_queue.Goals as goal
 
@@ -63,15 +64,12 @@ abbrev end_at : State → List End
 end_at s = (record { session = 1; state = s }) ∷ []
 
 bare_valid : IsNote bare_one
-bare_valid = plain_note bare_one (plain_bytes bare_one.channel refl) (omega arith) (omega arith) (plain_bytes bare_one.payload refl) (omega arith)
-
-long_sent : (letter : ℕ) → 0 < letter → letter < 128 → IsNote (long_note letter)
-long_sent letter some small = long_valid letter (record { some = some; small = small })
+bare_valid = plain-note bare_one refl refl (omega arith) (omega arith) (omega arith)
 
 three_finished : IsFinished (finished 1 1 three 2 Aborted)
 three_finished = record {
   some = λ e. cc;
-  valid = All-from_recursion IsNote three (long_sent (byte "x") (omega arith) (omega arith), (long_sent (byte "y") (omega arith) (omega arith), (long_sent (byte "z") (omega arith) (omega arith), tt)));
+  valid = All-from_recursion IsNote three (long_valid (byte "x") refl, (long_valid (byte "y") refl, (long_valid (byte "z") refl, tt)));
   different =
       AllPairs-cons (λ (a b : Note). a ≢ b) (long_note (byte "x")) (long_note (byte "y") ∷ long_note (byte "z") ∷ [])
       (All-from_recursion (λ (b : Note). long_note (byte "x") ≢ b) (long_note (byte "y") ∷ long_note (byte "z") ∷ [])
