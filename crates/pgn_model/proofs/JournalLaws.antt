@@ -13,4 +13,3 @@ pub entry-within : (xs : List Tx) (k : ℕ) (P : Tx → Type 0) → IsSomeAnd (s
 entry-within [] k P h = absurd h
 entry-within (x ∷ xs) zero P h = omega arith
 entry-within (x ∷ xs) (suc k) P h = omega (arith, entry-within xs k P h)
-
