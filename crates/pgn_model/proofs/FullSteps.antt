@@ -48,6 +48,10 @@ last_put : put One (place_at 2 0) last_one ≡ place_at 2 24
 unfolding put put_bytes after_bytes after_rest entry_length
 last_put = refl
 
+full_4 : place One full_run_journal 4 ≡ place_at 0 8020
+unfolding put_bytes after_bytes after_rest after ended
+full_4 = place_folds One full_run_journal 4 ∙ put_long 0 (byte "x")
+
 pub full_5 : place One full_run_journal 5 ≡ place_at 1 8020
 unfolding after ended
 full_5 = place_folds One full_run_journal 5 ∙ two_long (byte "x") (byte "x")
@@ -95,6 +99,17 @@ full_at_5 = record {
   floor_below = omega arith;
   floor = sym first_page;
   head = sym (ap page_of full_6);
+  no_page = omega arith;
+  holder = (λ e. absurd (cc), λ e. absurd (omega (arith, e)));
+}
+
+-- and so with a floor at the second transaction, which begins on the first page too
+pub full_at_5_from_4 : NoPage One 2 full_run_journal (record { xid = 5; queued = 0; head_page = 2; floor_mark = 4; floor_page = 0; holder = Some 1 })
+full_at_5_from_4 = record {
+  cut_short = full_at_5.cut_short;
+  floor_below = omega arith;
+  floor = sym (ap page_of full_4);
+  head = full_at_5.head;
   no_page = omega arith;
   holder = (λ e. absurd (cc), λ e. absurd (omega (arith, e)));
 }

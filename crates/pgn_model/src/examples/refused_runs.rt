@@ -4,12 +4,12 @@ ghost use Rattle.pgn_base.specs.declared.answers.Refusal.TheVariants.{Aborted};
 ghost use Rattle.pgn_model.specs.declared.tx.Fate.TheVariants.{Committed};
 ghost use Rattle.pgn_model.specs.declared.item.Item.TheVariants.{Line, Leave, Reply, Refuse, Channels, Used, Raise, Found, TimedOut};
 ghost use Rattle.pgn_model.specs.Walk.{default_settings};
-ghost use Rattle.pgn_model.specs.Trace.{TraceOk};
-ghost use Rattle.pgn_model.specs.Legal.{Legal};
+ghost use Rattle.pgn_model.specs.Trace.{TraceOk, Fresh};
+ghost use Rattle.pgn_model.specs.Legal.{IsFullThere, Legal};
 ghost use Rattle.pgn_model.specs.examples.Scripts.{finished};
 ghost use Rattle.pgn_model.specs.examples.Runs.{self_notify_section};
 ghost use Rattle.pgn_model.specs.examples.Blocks.{empty_note, failed_block_section, failed_block_scenario, failed_block_trace, left_section, left_scenario, left_journal, left_trace, quit_section, quit_trace};
-ghost use Rattle.pgn_model.specs.examples.Flags.{databases_scenario, databases_journal, databases_listener_trace, databases_sender_trace, held_listener, held_scenario, held_journal, held_listener_trace, held_sender_trace, ten_looks, timeout_section, timeout_trace};
+ghost use Rattle.pgn_model.specs.examples.Flags.{databases_listener, databases_scenario, databases_journal, databases_listener_trace, databases_sender_trace, held_listener, held_scenario, held_journal, held_listener_trace, held_sender_trace, ten_looks, timeout_section, timeout_trace};
 ghost use Rattle.pgn_model.specs.examples.FullQueue.{two_pages, full_sender, full_scenario, full_run_journal, full_listener_trace, full_sender_trace};
 ghost use Rattle.pgn_model.specs.examples.RefusedRuns.{judged, with_item, with_more, without_item, stays_at, known_flag_section, known_flag_trace, held_read, full_item, three_pages, own_full_item, own_full_journal, own_full_trace, full_listen_section, full_listen_journal, full_listen_trace, usage_section, usage_at, usage_trace, channels_section, channels_trace};
 
@@ -23,8 +23,9 @@ pub fn refused_flags()
     ensures other_looks { TraceOk (judged timeout_section ten_looks) (with_item timeout_trace 1 (TimedOut 9)) [] → ⊥ }
 {}
 
-/// A flag is found only with a number with which some session has raised it.
+/// A flag is found only with a number with which some session has raised it. The session's own trace does not tell.
 pub fn refused_found()
+    ensures lawful { TraceOk (judged held_listener default_settings) (with_item held_listener_trace 8 (Found 3)) held_journal }
     ensures found_not_raised { Legal held_scenario default_settings held_journal (with_item held_listener_trace 8 (Found 3) ∷ held_sender_trace ∷ []) → ⊥ }
 {}
 
@@ -41,8 +42,10 @@ pub fn refused_floors()
     ensures own_holder { TraceOk (judged full_sender two_pages) (with_item full_sender_trace 9 (full_item 3 (Some 2))) full_run_journal → ⊥ }
 {}
 
-/// A holder has stood at the floor's mark. In the changed trace the floor is at 4, on the same page, where the listener never stood.
+/// A holder has stood at the floor's mark. In the changed trace the floor is at 4, on the same page, so that the queue is as full as
+/// before, but the listener never stood there.
 pub fn refused_holder()
+    ensures as_full { IsFullThere two_pages full_run_journal (full_item 4 (Some 1)) }
     ensures never_stood_there { Legal full_scenario two_pages full_run_journal (full_listener_trace ∷ with_item full_sender_trace 9 (full_item 4 (Some 1)) ∷ []) → ⊥ }
 {}
 
@@ -97,7 +100,9 @@ pub fn refused_journals()
     ensures not_all_queued { Legal left_scenario default_settings (finished 1 1 (empty_note ∷ []) 0 Committed ∷ []) (left_trace ∷ []) → ⊥ }
 {}
 
-/// A session that still listens at the end has read the whole journal, though nothing of it was due.
+/// A session that still listens at the end has read the whole journal, though nothing of it was due, so that no read was left out.
 pub fn refused_end()
+    ensures lawful { TraceOk (judged databases_listener default_settings) (stays_at 3 (without_item databases_listener_trace 11)) databases_journal }
+    ensures fresh { Fresh (judged databases_listener default_settings) (stays_at 3 (without_item databases_listener_trace 11)) databases_journal }
     ensures not_read { Legal databases_scenario default_settings databases_journal (stays_at 3 (without_item databases_listener_trace 11) ∷ databases_sender_trace ∷ []) → ⊥ }
 {}

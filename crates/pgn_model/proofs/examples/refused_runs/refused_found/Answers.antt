@@ -7,10 +7,8 @@ use Rattle.pgn_model.specs.examples.RefusedRuns.{with_item}
 use Rattle.pgn_model.proofs.RefusedSteps.{raised-test}
 use Rattle.pgn_model.proofs.examples.refused_runs.refused_found.Goals as goal
 
-pub returns : goal.returns
-returns c = record {
-  found_not_raised = λ h.
-      let raised : false ≡ true =
-      raised-test (ends default_settings held_scenario.sections (with_item held_listener_trace 8 (Found 3) ∷ held_sender_trace ∷ [])) (1, 3) (h.found 0 (0, 0) (omega arith)) in
-      absurd (cc);
-}
+pub returns-clause-found_not_raised : goal.returns-clause-found_not_raised
+returns-clause-found_not_raised c = λ h.
+    let raised : false ≡ true =
+    raised-test (ends default_settings held_scenario.sections (with_item held_listener_trace 8 (Found 3) ∷ held_sender_trace ∷ [])) (1, 3) (h.found 0 (0, 0) (omega arith)) in
+    absurd (cc)
