@@ -65,7 +65,7 @@ pub fn refused_leaves()
 /// Where a transaction meets a full queue its LISTEN has no effect. The channels are shown in order of listening.
 pub fn refused_channels()
     ensures lawful { TraceOk (judged full_listen_section default_settings) full_listen_trace full_listen_journal }
-    ensures set_changed { TraceOk (judged full_listen_section default_settings) (with_item full_listen_trace 11 (Channels (codes "c" ∷ []))) full_listen_journal → ⊥ }
+    ensures set_changed { TraceOk (judged full_listen_section default_settings) (with_item full_listen_trace 12 (Channels (codes "c" ∷ []))) full_listen_journal → ⊥ }
     ensures in_order { TraceOk (judged channels_section default_settings) channels_trace [] }
     ensures other_order { TraceOk (judged channels_section default_settings) (with_item channels_trace 6 (Channels (codes "b" ∷ codes "c" ∷ []))) [] → ⊥ }
 {}
