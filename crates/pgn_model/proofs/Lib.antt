@@ -30,3 +30,6 @@ pub mod KeptForms
 pub mod OneLineCommands
 pub mod ValidForms
 pub mod LongLiterals
+pub mod RunSteps
+pub mod FullSteps
+pub mod RefusedSteps

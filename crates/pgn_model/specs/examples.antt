@@ -7,3 +7,8 @@ pub mod Answers
 pub mod Due
 pub mod Texts
 pub mod Inputs
+pub mod Scripts
+pub mod Blocks
+pub mod Flags
+pub mod FullQueue
+pub mod RefusedRuns

@@ -1,0 +1,25 @@
+-- Lines of scripts, notifications and transactions for the worked examples of whole runs.
+use Rattle.std.specs.Prelude.{ℕ, List}
+use Rattle.pgn_base.specs.declared.note.Note.{Note}
+use Rattle.pgn_model.specs.declared.tx.Tx.{Tx}
+use Rattle.pgn_model.specs.declared.tx.Fate.{Fate}
+use Rattle.pgn_model.specs.declared.command.Command.{Command}
+use Rattle.pgn_model.specs.declared.scenario.Act.{Act}
+use Rattle.pgn_model.specs.declared.scenario.Act.TheVariants.{Run}
+use Rattle.pgn_model.specs.declared.scenario.ScriptLine.{ScriptLine}
+
+-- a line of a script, with its number in the input
+abbrev pub script_line : ℕ → List ℕ → Act → ScriptLine
+script_line line text act = record { line = line; text = text; act = act }
+
+-- a line with a command
+abbrev pub command_line : ℕ → List ℕ → Command → ScriptLine
+command_line line text command = script_line line text (Run command)
+
+-- a notification on this channel
+abbrev pub note_on : List ℕ → List ℕ → Note
+note_on channel payload = record { channel = channel; payload = payload }
+
+-- a transaction of a session in a database
+abbrev pub finished : ℕ → ℕ → List Note → ℕ → Fate → Tx
+finished session db notes queued fate = record { session = session; db = db; notes = notes; queued = queued; fate = fate }
