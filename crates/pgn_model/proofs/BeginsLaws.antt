@@ -1,6 +1,6 @@
 -- Proofs of the laws of lists that begin other lists.
-use Rattle.std.proofs.Common.{◌≡◌, ◌↔◌, ℕ, zero, suc, ◌≤◌, List, [], ◌∷◌, ◌++◌, length, take, drop, Option, Some, slice_get, sym, ap, ◌∙◌, refl, subst, arith, length-append}
-use Rattle.std.proofs.lemmas.List.{take_at, take_all, take-take, take-append-drop, length-take}
+use Rattle.std.proofs.Common.{◌≡◌, ◌↔◌, ℕ, zero, suc, ◌≤◌, List, [], ◌∷◌, ◌++◌, length, take, drop, Some, slice_get, sym, ap, ◌∙◌, refl, subst, arith, length-append}
+use Rattle.std.proofs.lemmas.List.{take_at, take_all, take-take, take-append-drop}
 use Rattle.pgn_model.specs.Begins.{Begins}
 
 pub begins-none : {A : Type 0} (xs : List A) → Begins [] xs

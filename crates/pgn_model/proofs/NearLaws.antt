@@ -1,10 +1,10 @@
 -- Proofs of the laws of how far a reader is behind.
-use Rattle.std.proofs.Common.{◌≡◌, ℕ, zero, suc, ◌+◌, ◌-◌, ◌≤◌, Bool, true, false, ◌||◌, List, [], ◌∷◌, ◌++◌, length, take, drop, sym, ap, ◌∙◌, refl, subst, arith, inl, inr}
+use Rattle.std.proofs.Common.{◌≡◌, ℕ, zero, suc, ◌+◌, ◌-◌, ◌≤◌, Bool, true, false, ◌||◌, List, [], ◌∷◌, ◌++◌, take, drop, sym, ap, ◌∙◌, refl, subst, arith, inl, inr}
 use Rattle.std.specs.List.{list_any}
 use Rattle.std.proofs.lemmas.Bool.{cases_lt}
 use Rattle.std.proofs.lemmas.List.{take-take, take-append-le, drop-take, drop-drop, drop_all, length-take}
 use Rattle.pgn_model.specs.declared.tx.Tx.{Tx}
-use Rattle.pgn_model.specs.Packing.{page_of, place}
+use Rattle.pgn_model.specs.Packing.{place}
 use Rattle.pgn_model.specs.Near.{Near}
 use Rattle.pgn_model.specs.laws.Near.{NearShrinks, NearItself, NearGrows}
 use Rattle.pgn_model.proofs.PackingLemmas.{place_grows, places_agree}
@@ -33,11 +33,11 @@ none-take p (suc k) (x ∷ xs) h = ap (λ b. b || list_any p (take k xs)) (first
 none-within : (p : Tx → Bool) (xs : List Tx) (a b c d : ℕ) → a ≤ c → d ≤ b → list_any p (drop a (take b xs)) ≡ false → list_any p (drop c (take d xs)) ≡ false
 none-within p xs a b c d from to h = elim (cases_lt c d) as (λ _. list_any p (drop c (take d xs)) ≡ false) [
   | inl lt ↦
-    let ys = take b xs in
-    let back : drop (c - a) (drop a ys) ≡ drop c ys = drop-drop (c - a) a ys ∙ ap (λ (n : ℕ). drop n ys) (let sum : a + (c - a) ≡ c = omega arith in sum) in
-    let part : drop c (take d ys) ≡ take (d - c) (drop c ys) = ap (λ (n : ℕ). drop c (take n ys)) (let sum : d ≡ c + (d - c) = omega arith in sum) ∙ drop-take c (d - c) ys in
-    let none : list_any p (take (d - c) (drop c ys)) ≡ false = none-take p (d - c) (drop c ys) (subst (λ (zs : List Tx). list_any p zs ≡ false) back (none-drop p (c - a) (drop a ys) h)) in
-    ap (λ (zs : List Tx). list_any p (drop c zs)) (sym (take-take d b xs to)) ∙ ap (list_any p) part ∙ none
+      let ys = take b xs in
+      let back : drop (c - a) (drop a ys) ≡ drop c ys = drop-drop (c - a) a ys ∙ ap (λ (n : ℕ). drop n ys) (let sum : a + (c - a) ≡ c = omega arith in sum) in
+      let part : drop c (take d ys) ≡ take (d - c) (drop c ys) = ap (λ (n : ℕ). drop c (take n ys)) (let sum : d ≡ c + (d - c) = omega arith in sum) ∙ drop-take c (d - c) ys in
+      let none : list_any p (take (d - c) (drop c ys)) ≡ false = none-take p (d - c) (drop c ys) (subst (λ (zs : List Tx). list_any p zs ≡ false) back (none-drop p (c - a) (drop a ys) h)) in
+      ap (λ (zs : List Tx). list_any p (drop c zs)) (sym (take-take d b xs to)) ∙ ap (list_any p) part ∙ none
   | inr ge ↦ ap (list_any p) (drop_all c (take d xs) (simp length-take (omega arith)))
 ]
 
@@ -56,11 +56,11 @@ near-itself format matters journal m x below = record {
 pub near-grows : NearGrows
 near-grows format matters journal more m x within h = elim (cases_lt m x) as (λ _. Near format matters (journal ++ more) m x) [
   | inl lt ↦ record {
-      nothing_due = ap (λ (xs : List Tx). list_any matters (drop (m - 3) xs)) (take-append-le (x - 3) journal more (omega arith)) ∙ h.nothing_due;
-      few_pages =
-          let here : place format (journal ++ more) m ≡ place format journal m = places_agree format journal more m (omega arith) in
-          let there : place format (journal ++ more) x ≡ place format journal x = places_agree format journal more x within in
-          omega (arith, h.few_pages, here, there);
-    }
+    nothing_due = ap (λ (xs : List Tx). list_any matters (drop (m - 3) xs)) (take-append-le (x - 3) journal more (omega arith)) ∙ h.nothing_due;
+    few_pages =
+        let here : place format (journal ++ more) m ≡ place format journal m = places_agree format journal more m (omega arith) in
+        let there : place format (journal ++ more) x ≡ place format journal x = places_agree format journal more x within in
+        omega (arith, h.few_pages, here, there);
+  }
   | inr ge ↦ near-itself format matters (journal ++ more) m x ge
 ]

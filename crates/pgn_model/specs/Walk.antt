@@ -1,5 +1,5 @@
 -- The walk over a session's trace: what it carries, what each item does to it, and which item is allowed.
-use Rattle.std.specs.Prelude.{◌≡◌, ℕ, ◌+◌, ◌<◌, ◌≤◌, ◌⊎◌, max, Bool, true, false, ◌&&◌, List, [], ◌∷◌, ◌++◌, length, Option, Some, None, if◌then◌else◌, is_some, is_none, IfSome, IsSomeAnd, All}
+use Rattle.std.specs.Prelude.{◌≡◌, ℕ, ◌+◌, ◌<◌, ◌≤◌, ◌⊎◌, max, Bool, true, false, ◌&&◌, List, [], ◌∷◌, ◌++◌, Option, Some, None, if◌then◌else◌, is_some, is_none, IfSome, IsSomeAnd, All}
 use Rattle.std.specs.List.{list_any}
 use Rattle.pgn_base.specs.declared.limits.TheConstants.{FIRST_XID, PAGES_DEFAULT, PATIENCE_DEFAULT}
 use Rattle.pgn_base.specs.declared.format.Format.{Format}

@@ -6,3 +6,4 @@ pub mod Answers
 pub mod Due
 pub mod Texts
 pub mod Inputs
+pub mod Walks

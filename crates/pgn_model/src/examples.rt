@@ -8,3 +8,4 @@ pub mod packing;
 pub mod runs;
 pub mod savepoints;
 pub mod texts;
+pub mod walks;

@@ -1,0 +1,143 @@
+ghost use Rattle.std.specs.Prelude.{◌≡◌, [], ◌∷◌, ◌++◌, Some, None, codes};
+ghost use Rattle.pgn_base.specs.declared.answers.Tag.TheVariants as tag;
+ghost use Rattle.pgn_base.specs.declared.answers.Warning.TheVariants.{AlreadyInBlock};
+ghost use Rattle.pgn_base.specs.declared.answers.Refusal.TheVariants.{Aborted};
+ghost use Rattle.pgn_model.specs.declared.command.Command.TheVariants as command;
+ghost use Rattle.pgn_model.specs.declared.scenario.Act.TheVariants.{Run, Signal, Await, Quit};
+ghost use Rattle.pgn_model.specs.declared.item.Item.TheVariants.{Line, Enlist, Publish, Leave, Reply, Refuse, Channels, Raise, Found, TimedOut, Read};
+ghost use Rattle.pgn_model.specs.Walk.{start, Enlists};
+ghost use Rattle.pgn_model.specs.Trace.{TraceOk, state_after, IsFreshAt};
+ghost use Rattle.pgn_model.specs.examples.Walks.{on_c, x_note, c_name, walker, its_terms, its_trace, IsTraceOf, IsRefused, IsFresh, sent_by, delivered, answered, enlisted, published, listen_notify, notify_alone, notify_listen, listen_alone, listen_again, listen_again_items, never_listens, never_listens_items, block_lines, block_front, block_items, block_journal, joining_lines, joining_front, joining_items, joining_journal, left_open, held_back, other_journal, own_journal, mixed_journal, mixed_due, mixed_front, aborted_journal, own_front, own_read, listen_then, listen_then_nothing, listener_again, behind_in_block, begin_twice, empty_line, listen_unlisten, listen_twice, notify_twice, listen_notify_begin, roll_back, y_note, y_journal, two_own_journal, repeats, repeats_journal, repeats_due};
+
+/// Lawful traces.
+pub fn lawful_walks()
+    ensures again { IsTraceOf listen_again [] listen_again_items (Some 3) }
+    ensures never { IsTraceOf never_listens own_journal never_listens_items None }
+    ensures block { IsTraceOf block_lines block_journal block_items (Some 4) }
+    ensures joining { IsTraceOf joining_lines joining_journal joining_items (Some 5) }
+    ensures left_open { IsTraceOf left_open other_journal (enlisted 2 3 3 ++ answered 3 tag.Begin ++ Read 3 4 (delivered 3 1006 x_note ∷ []) ∷ []) (Some 4) }
+    ensures mixed { IsTraceOf listen_notify mixed_journal (mixed_front ++ Read 3 6 mixed_due ∷ []) (Some 6) }
+{}
+
+/// A trace is of its session and of its database.
+pub fn traces_of_another()
+    ensures session { TraceOk (its_terms listen_alone) (record (its_trace (enlisted 2 3 3) (Some 3)) { session = 6 }) [] → ⊥ }
+    ensures database { TraceOk (its_terms listen_alone) (record (its_trace (enlisted 2 3 3) (Some 3)) { db = 8 }) [] → ⊥ }
+{}
+
+/// Lines come in order, each once, and each after the whole answer to the one before.
+pub fn refused_lines()
+    ensures out_of_order { IsRefused listen_notify own_journal (enlisted 3 3 3 ++ published 2 3 ++ own_read) (Some 4) }
+    ensures another_number { IsRefused listen_alone [] (enlisted 9 3 3) (Some 3) }
+    ensures left_out { IsRefused listen_notify [] (enlisted 2 3 3) (Some 3) }
+    ensures one_more { IsRefused listen_alone [] (enlisted 2 3 3 ++ answered 3 tag.Begin) (Some 3) }
+    ensures twice { IsRefused listen_alone [] (enlisted 2 3 3 ++ answered 2 tag.Listen) (Some 3) }
+    ensures before_the_answer { IsRefused left_open [] (Line 2 ∷ Enlist 3 3 ∷ Line 3 ∷ Reply tag.Begin None ∷ []) (Some 3) }
+{}
+
+/// Each line has its own answer, once.
+pub fn refused_answers()
+    ensures left_out { IsRefused listen_alone [] (Line 2 ∷ Enlist 3 3 ∷ []) (Some 3) }
+    ensures another_tag { IsRefused listen_alone [] (Line 2 ∷ Enlist 3 3 ∷ Reply tag.Unlisten None ∷ []) (Some 3) }
+    ensures a_warning { IsRefused listen_alone [] (Line 2 ∷ Enlist 3 3 ∷ Reply tag.Listen (Some AlreadyInBlock) ∷ []) (Some 3) }
+    ensures no_warning { IsRefused begin_twice [] (answered 2 tag.Begin ++ answered 3 tag.Begin) None }
+    ensures twice { IsRefused listen_alone [] (enlisted 2 3 3 ++ Reply tag.Listen None ∷ []) (Some 3) }
+    ensures of_nothing { IsRefused empty_line [] (answered 2 tag.Begin) None }
+    ensures no_enlist { IsRefused listen_alone [] (answered 2 tag.Listen) None }
+    ensures no_publish { IsRefused notify_alone own_journal (answered 2 tag.Notify) None }
+    ensures no_leave { IsRefused listen_unlisten [] (enlisted 2 3 3 ++ answered 3 tag.Unlisten) (Some 3) }
+{}
+
+/// A line of LISTEN has no item of another kind.
+pub fn refused_extra_items()
+    ensures leaves { IsRefused listen_alone [] (enlisted 2 3 3 ++ Leave ∷ []) (Some 3) }
+    ensures raises { IsRefused listen_alone [] (enlisted 2 3 3 ++ Raise 3 ∷ []) (Some 3) }
+    ensures finds { IsRefused listen_alone [] (enlisted 2 3 3 ++ Found 3 ∷ []) (Some 3) }
+    ensures times_out { IsRefused listen_alone [] (enlisted 2 3 3 ++ TimedOut 1 ∷ []) (Some 3) }
+    ensures refuses { IsRefused listen_alone [] (enlisted 2 3 3 ++ Refuse Aborted ∷ []) (Some 3) }
+    ensures shows_channels { IsRefused listen_alone [] (enlisted 2 3 3 ++ Channels (c_name ∷ []) ∷ []) (Some 3) }
+{}
+
+/// A session becomes a listener once, where it is to, and no earlier than what it knows.
+pub fn refused_enlists()
+    ensures twice { IsRefused listen_alone [] (Line 2 ∷ Enlist 3 3 ∷ Enlist 3 3 ∷ Reply tag.Listen None ∷ []) (Some 3) }
+    ensures again { IsRefused listen_twice [] (enlisted 2 3 3 ++ enlisted 3 3 3) (Some 3) }
+    ensures unasked { IsRefused notify_alone own_journal (Line 2 ∷ Enlist 3 3 ∷ Publish 3 (x_note ∷ []) ∷ Reply tag.Notify None ∷ []) (Some 3) }
+    ensures base_too_low { IsRefused listen_alone [] (enlisted 2 2 3) (Some 3) }
+    ensures base_past_point { IsRefused listen_alone other_journal (enlisted 2 4 3) (Some 3) }
+    ensures below_told { IsRefused notify_listen own_journal (published 2 3 ++ enlisted 3 3 3) (Some 3) }
+    ensures past_journal { IsRefused listen_alone [] (enlisted 2 3 4) (Some 4) }
+    ensures below_a_mark { Enlists mixed_journal listener_again 3 4 → ⊥ }
+{}
+
+/// What is published stands in the journal as this session sent it, after all that it knows.
+pub fn refused_publishes()
+    ensures other_notes { IsRefused notify_alone y_journal (Line 2 ∷ Publish 3 (y_note ∷ []) ∷ Reply tag.Notify None ∷ []) None }
+    ensures repeats { IsRefused block_lines repeats_journal (block_front ++ Line 10 ∷ Publish 3 repeats ∷ Reply tag.Commit None ∷ Read 3 4 repeats_due ∷ []) (Some 4) }
+    ensures of_other_notes { IsRefused notify_alone y_journal (published 2 3) None }
+    ensures of_another_session { IsRefused notify_alone other_journal (published 2 3) None }
+    ensures of_another_database { IsRefused notify_alone (sent_by 5 8 (x_note ∷ []) ∷ []) (published 2 3) None }
+    ensures of_an_aborted { IsRefused notify_alone aborted_journal (published 2 3) None }
+    ensures past_journal { IsRefused notify_alone own_journal (published 2 4) None }
+    ensures below_the_first { IsRefused notify_alone own_journal (published 2 2) None }
+    ensures out_of_order { IsRefused notify_twice two_own_journal (published 2 4 ++ published 3 3) None }
+    ensures one_for_two { IsRefused notify_twice own_journal (published 2 3 ++ published 3 3) None }
+    ensures below_the_mark { IsRefused listen_notify own_journal (enlisted 2 3 4 ++ published 3 3) (Some 4) }
+    ensures twice { IsRefused notify_alone two_own_journal (Line 2 ∷ Publish 3 (x_note ∷ []) ∷ Publish 4 (x_note ∷ []) ∷ Reply tag.Notify None ∷ []) None }
+    ensures unasked { IsRefused listen_alone own_journal (Line 2 ∷ Enlist 3 3 ∷ Publish 3 (x_note ∷ []) ∷ Reply tag.Listen None ∷ []) (Some 3) }
+    ensures before_enlist { IsRefused joining_lines own_journal (joining_front ++ Line 6 ∷ Publish 3 (x_note ∷ []) ∷ Enlist 3 4 ∷ Reply tag.Commit None ∷ []) (Some 4) }
+    ensures rolled_back { IsRefused roll_back own_journal (answered 2 tag.Begin ++ answered 3 tag.Notify ++ Line 4 ∷ Publish 3 (x_note ∷ []) ∷ Reply tag.Rollback None ∷ []) None }
+{}
+
+/// A read goes from the mark to no less than what the session was told, within the journal, where no block is open.
+pub fn refused_reads()
+    ensures before_the_mark { IsRefused listen_alone mixed_journal (enlisted 2 3 4 ++ Read 3 6 mixed_due ∷ []) (Some 6) }
+    ensures past_the_mark { IsRefused listen_alone mixed_journal (enlisted 2 3 3 ++ Read 5 6 (delivered 5 1005 x_note ∷ []) ∷ []) (Some 6) }
+    ensures no_listener { IsRefused notify_alone own_journal (published 2 3 ++ Read 3 4 [] ∷ []) (Some 4) }
+    ensures twice { IsRefused listen_notify own_journal (own_front ++ own_read ++ own_read) (Some 4) }
+    ensures of_none { IsRefused listen_alone [] (enlisted 2 3 3 ++ Read 3 3 [] ∷ []) (Some 3) }
+    ensures below_told { IsRefused listen_notify mixed_journal (mixed_front ++ Read 3 5 (delivered 4 1006 (on_c (codes "1")) ∷ delivered 4 1006 (on_c (codes "2")) ∷ []) ∷ []) (Some 5) }
+    ensures past_journal { IsRefused listen_notify own_journal (own_front ++ Read 3 5 (delivered 3 1005 x_note ∷ []) ∷ []) (Some 5) }
+    ensures in_an_open_block { IsRefused held_back other_journal (enlisted 2 3 3 ++ answered 3 tag.Begin ++ (Read 3 4 (delivered 3 1006 x_note ∷ []) ∷ []) ++ answered 4 tag.Commit) (Some 4) }
+    ensures before_the_answer { IsRefused listen_alone other_journal (Line 2 ∷ Enlist 3 3 ∷ Read 3 4 (delivered 3 1006 x_note ∷ []) ∷ Reply tag.Listen None ∷ []) (Some 4) }
+{}
+
+/// A read delivers all that is due, and nothing else.
+pub fn refused_deliveries()
+    ensures nothing { IsRefused listen_notify mixed_journal (mixed_front ++ Read 3 6 ([]) ∷ []) (Some 6) }
+    ensures one_left_out { IsRefused listen_notify mixed_journal (mixed_front ++ Read 3 6 (delivered 4 1006 (on_c (codes "1")) ∷ delivered 5 1005 x_note ∷ []) ∷ []) (Some 6) }
+    ensures one_too_many { IsRefused listen_notify mixed_journal (mixed_front ++ Read 3 6 (delivered 4 1006 (on_c (codes "1")) ∷ delivered 4 1006 (on_c (codes "2")) ∷ delivered 5 1005 x_note ∷ delivered 5 1005 x_note ∷ []) ∷ []) (Some 6) }
+    ensures of_another_database { IsRefused listen_notify mixed_journal (mixed_front ++ Read 3 6 (delivered 3 1008 x_note ∷ delivered 4 1006 (on_c (codes "1")) ∷ delivered 4 1006 (on_c (codes "2")) ∷ delivered 5 1005 x_note ∷ []) ∷ []) (Some 6) }
+    ensures in_another_order { IsRefused listen_notify mixed_journal (mixed_front ++ Read 3 6 (delivered 4 1006 (on_c (codes "2")) ∷ delivered 4 1006 (on_c (codes "1")) ∷ delivered 5 1005 x_note ∷ []) ∷ []) (Some 6) }
+    ensures with_another_number { IsRefused listen_notify mixed_journal (mixed_front ++ Read 3 6 (delivered 4 1006 (on_c (codes "1")) ∷ delivered 4 1006 (on_c (codes "2")) ∷ delivered 4 1005 x_note ∷ []) ∷ []) (Some 6) }
+    ensures of_another_process { IsRefused listen_notify mixed_journal (mixed_front ++ Read 3 6 (delivered 4 1006 (on_c (codes "1")) ∷ delivered 4 1006 (on_c (codes "2")) ∷ delivered 5 1006 x_note ∷ []) ∷ []) (Some 6) }
+{}
+
+/// A trace ends after the last answer, with the mark of a session that listens then.
+pub fn refused_ends()
+    ensures no_mark { IsRefused listen_alone [] (enlisted 2 3 3) None }
+    ensures another_mark { IsRefused listen_notify own_journal (own_front ++ own_read) (Some 3) }
+    ensures a_mark { IsRefused notify_alone own_journal (published 2 3) (Some 4) }
+    ensures in_an_await { IsRefused (listen_then (Await 0)) [] listen_then_nothing (Some 3) }
+    ensures in_a_signal { IsRefused (listen_then (Signal 0)) [] listen_then_nothing (Some 3) }
+    ensures in_a_quit { IsRefused (listen_then Quit) [] listen_then_nothing (Some 3) }
+    ensures in_a_query { IsRefused (listen_then (Run command.ListeningChannels)) [] listen_then_nothing (Some 3) }
+    ensures in_a_query_of_usage { IsRefused (listen_then (Run command.QueueUsage)) [] listen_then_nothing (Some 3) }
+    ensures in_a_refusal { IsRefused (listen_then (Run (command.Bad 0))) [] listen_then_nothing (Some 3) }
+{}
+
+/// No read is left out at the end of a line, unless a block is open.
+pub fn missing_reads()
+    ensures block_is_fresh { IsFresh block_lines block_journal block_items (Some 4) }
+    ensures at_the_end { IsFresh listen_notify own_journal own_front (Some 3) → ⊥ }
+    ensures between_lines { IsFresh listen_notify_begin own_journal (own_front ++ answered 4 tag.Begin) (Some 3) → ⊥ }
+    ensures in_a_block { IsFreshAt (its_terms []) own_journal behind_in_block (Line 4) }
+{}
+
+/// What the walk keeps of its items.
+pub fn what_the_walk_keeps()
+    ensures marks { (state_after (its_terms listen_alone) (enlisted 2 3 4 ++ Read 4 6 [] ∷ [])).marks ≡ 3 ∷ 4 ∷ 6 ∷ [] }
+    ensures first_told { (start (walker [])).told ≡ 3 }
+    ensures told { (state_after (its_terms notify_alone) (published 2 8)).told ≡ 9 }
+    ensures mark { (state_after (its_terms listen_alone) (enlisted 2 3 4)).mark ≡ Some 4 }
+{}
