@@ -11,13 +11,19 @@ use Rattle.pgn_model.specs.declared.block_state.BlockState.TheVariants.{InBlock}
 use Rattle.pgn_model.specs.declared.command.Command.{Command}
 use Rattle.pgn_model.specs.declared.command.Command.TheVariants as command
 use Rattle.pgn_model.specs.declared.scenario.Act.{Act}
-use Rattle.pgn_model.specs.declared.scenario.Act.TheVariants.{Run}
+use Rattle.pgn_model.specs.declared.scenario.Act.TheVariants.{Run, Signal, Await, Quit}
 use Rattle.pgn_model.specs.declared.scenario.ScriptLine.{ScriptLine}
 use Rattle.pgn_model.specs.declared.scenario.Section.{Section}
+use Rattle.pgn_model.specs.declared.scenario.Scenario.{Scenario}
 use Rattle.pgn_model.specs.declared.item.Item.{Item}
 use Rattle.pgn_model.specs.declared.item.Item.TheVariants.{Line, Enlist, Publish, Reply, Read}
 use Rattle.pgn_model.specs.declared.trace.Trace.{Trace}
-use Rattle.pgn_model.specs.Walk.{Terms, State, Enlisting, Replied, default_settings, start}
+use Rattle.pgn_base.specs.declared.format.Format.TheVariants.{Two}
+use Rattle.pgn_base.specs.declared.queue_answers.Full.{Full}
+use Rattle.pgn_base.specs.declared.queue_answers.Usage.{Usage}
+use Rattle.pgn_model.specs.declared.tx.Fate.{Fate}
+use Rattle.pgn_model.specs.Legal.{Legal}
+use Rattle.pgn_model.specs.Walk.{Terms, State, Settings, Enlisting, Replied, default_settings, start}
 use Rattle.pgn_model.specs.Trace.{TraceOk, Fresh}
 
 -- a notification on the channel `c`
@@ -281,3 +287,61 @@ repeats_journal = own_tx repeats ∷ []
 -- what is due of it on the channel `c`
 abbrev pub repeats_due : List Delivery
 repeats_due = delivered 3 1005 (on_c (codes "a")) ∷ delivered 3 1005 (on_c (codes "a")) ∷ []
+
+-- LISTEN c; NOTIFY c, 'x'; LISTEN d
+abbrev pub listen_notify_listen : List ScriptLine
+listen_notify_listen = listen_notify ++ runs 4 (command.Listen (codes "d")) ∷ []
+
+-- the session 6 in the same database, with one line: NOTIFY c, 'x'
+abbrev pub sender : Section
+sender = record { no = 6; name = codes "v"; db = 7; lines = runs 3 (command.Notify x_note) ∷ []; note_lines = 1 }
+
+-- the scenario of a listener and this sender
+abbrev pub pair : Scenario
+pair = record { sections = walker listen_alone ∷ sender ∷ []; flags = [] }
+
+-- the listener's trace: it has read up to a number, and received these
+abbrev pub listener_trace : ℕ → List Delivery → Trace
+listener_trace to deliveries = its_trace (enlisted 2 3 3 ++ Read 3 to deliveries ∷ []) (Some to)
+
+-- the one delivery of the sender's transaction
+abbrev pub one_delivery : List Delivery
+one_delivery = delivered 3 1006 x_note ∷ []
+
+-- the sender's trace
+abbrev pub sender_trace : Trace
+sender_trace = record { session = 6; db = 7; items = published 3 3; last = None }
+
+-- a trace of the sender that shows nothing
+abbrev pub silent_trace : Trace
+silent_trace = record { session = 6; db = 7; items = []; last = None }
+
+-- over a journal these are a run of the two
+abbrev pub IsRun : List Tx → List Trace → Type 0
+IsRun journal traces = Legal pair default_settings journal traces
+
+-- the scenario of one section with these lines
+abbrev pub alone : List ScriptLine → Scenario
+alone lines = record { sections = walker lines ∷ []; flags = [] }
+
+-- a transaction of two notifications, of which this many were queued, and which ended so
+abbrev pub two_sent : List Note → ℕ → Fate → Tx
+two_sent notes queued fate = record { session = 6; db = 7; notes = notes; queued = queued; fate = fate }
+
+-- four aborted transactions, each of which fills a page
+abbrev pub pages_journal : List Tx
+pages_journal =
+    let filling = two_sent (x_note ∷ y_note ∷ []) 1 Aborted in
+    filling ∷ filling ∷ filling ∷ filling ∷ []
+
+-- the settings with entries of format Two
+abbrev pub settings_of_two : Settings
+settings_of_two = record default_settings { format = Two }
+
+-- a full queue
+abbrev pub full_at : ℕ → ℕ → Full
+full_at xid floor_mark = record { xid = xid; queued = 0; head_page = 0; floor_mark = floor_mark; floor_page = 0; holder = None }
+
+-- a usage of the queue
+abbrev pub usage_at : ℕ → ℕ → Usage
+usage_at at floor_mark = record { at = at; occupied = 0; limit = 2; floor_mark = floor_mark; holder = None }

@@ -1,13 +1,24 @@
 ghost use Rattle.std.specs.Prelude.{◌≡◌, [], ◌∷◌, ◌++◌, Some, None, codes};
 ghost use Rattle.pgn_base.specs.declared.answers.Tag.TheVariants as tag;
 ghost use Rattle.pgn_base.specs.declared.answers.Warning.TheVariants.{AlreadyInBlock};
-ghost use Rattle.pgn_base.specs.declared.answers.Refusal.TheVariants.{Aborted};
+ghost use Rattle.pgn_base.specs.declared.answers.Refusal.TheVariants as refusal;
 ghost use Rattle.pgn_model.specs.declared.command.Command.TheVariants as command;
 ghost use Rattle.pgn_model.specs.declared.scenario.Act.TheVariants.{Run, Signal, Await, Quit};
-ghost use Rattle.pgn_model.specs.declared.item.Item.TheVariants.{Line, Enlist, Publish, Leave, Reply, Refuse, Channels, Raise, Found, TimedOut, Read};
+ghost use Rattle.pgn_model.specs.declared.item.Item.TheVariants.{Line, Enlist, Publish, QueueFull, Used, Leave, Reply, Refuse, Channels, Raise, Found, TimedOut, Read};
 ghost use Rattle.pgn_model.specs.Walk.{start, Enlists};
-ghost use Rattle.pgn_model.specs.Trace.{TraceOk, state_after, IsFreshAt};
-ghost use Rattle.pgn_model.specs.examples.Walks.{on_c, x_note, c_name, walker, its_terms, its_trace, IsTraceOf, IsRefused, IsFresh, sent_by, delivered, answered, enlisted, published, listen_notify, notify_alone, notify_listen, listen_alone, listen_again, listen_again_items, never_listens, never_listens_items, block_lines, block_front, block_items, block_journal, joining_lines, joining_front, joining_items, joining_journal, left_open, held_back, other_journal, own_journal, mixed_journal, mixed_due, mixed_front, aborted_journal, own_front, own_read, listen_then, listen_then_nothing, listener_again, behind_in_block, begin_twice, empty_line, listen_unlisten, listen_twice, notify_twice, listen_notify_begin, roll_back, y_note, y_journal, two_own_journal, repeats, repeats_journal, repeats_due};
+ghost use Rattle.pgn_model.specs.Trace.{TraceOk, state_after, IsFreshAt, IsUpToDate};
+ghost use Rattle.std.specs.Prelude.{List, ◌+◌, All, false, length};
+ghost use Rattle.std.specs.List.{list_any};
+ghost use Rattle.pgn_base.specs.declared.format.Format.TheVariants.{One, Two};
+ghost use Rattle.pgn_model.specs.declared.tx.Tx.{Tx};
+ghost use Rattle.pgn_model.specs.declared.tx.Fate.TheVariants.{Committed, Aborted};
+ghost use Rattle.pgn_model.specs.declared.scenario.Scenario.{Scenario};
+ghost use Rattle.pgn_model.specs.declared.trace.Trace.{Trace};
+ghost use Rattle.pgn_model.specs.Walk.{Settings, default_settings};
+ghost use Rattle.pgn_model.specs.Journal.{IsFinished, is_committed_in};
+ghost use Rattle.pgn_model.specs.Near.{Near};
+ghost use Rattle.pgn_model.specs.Legal.{Legal, IsShownWithin, finished_xids};
+ghost use Rattle.pgn_model.specs.examples.Walks.{on_c, x_note, c_name, walker, its_terms, its_trace, IsTraceOf, IsRefused, IsFresh, sent_by, own_tx, other_tx, delivered, answered, enlisted, published, listen_notify, notify_alone, notify_listen, listen_alone, listen_again, listen_again_items, never_listens, never_listens_items, block_lines, block_front, block_items, block_journal, joining_lines, joining_front, joining_items, joining_journal, left_open, held_back, other_journal, own_journal, mixed_journal, mixed_due, mixed_front, aborted_journal, own_front, own_read, listen_then, listen_then_nothing, listener_again, behind_in_block, begin_twice, empty_line, listen_unlisten, listen_twice, notify_twice, listen_notify_begin, roll_back, y_note, y_journal, two_own_journal, repeats, repeats_journal, repeats_due, listen_notify_listen, sender, listener_trace, one_delivery, sender_trace, silent_trace, IsRun, alone, two_sent, pages_journal, settings_of_two, full_at, usage_at};
 
 /// Lawful traces.
 pub fn lawful_walks()
@@ -54,7 +65,7 @@ pub fn refused_extra_items()
     ensures raises { IsRefused listen_alone [] (enlisted 2 3 3 ++ Raise 3 ∷ []) (Some 3) }
     ensures finds { IsRefused listen_alone [] (enlisted 2 3 3 ++ Found 3 ∷ []) (Some 3) }
     ensures times_out { IsRefused listen_alone [] (enlisted 2 3 3 ++ TimedOut 1 ∷ []) (Some 3) }
-    ensures refuses { IsRefused listen_alone [] (enlisted 2 3 3 ++ Refuse Aborted ∷ []) (Some 3) }
+    ensures refuses { IsRefused listen_alone [] (enlisted 2 3 3 ++ Refuse refusal.Aborted ∷ []) (Some 3) }
     ensures shows_channels { IsRefused listen_alone [] (enlisted 2 3 3 ++ Channels (c_name ∷ []) ∷ []) (Some 3) }
 {}
 
@@ -140,4 +151,57 @@ pub fn what_the_walk_keeps()
     ensures first_told { (start (walker [])).told ≡ 3 }
     ensures told { (state_after (its_terms notify_alone) (published 2 8)).told ≡ 9 }
     ensures mark { (state_after (its_terms listen_alone) (enlisted 2 3 4)).mark ≡ Some 4 }
+{}
+
+/// A listener and a sender: each transaction is shown by its own session, and the listener has read the whole journal.
+pub fn runs_of_two()
+    ensures lawful { IsRun other_journal (listener_trace 4 one_delivery ∷ sender_trace ∷ []) }
+    ensures a_trace_is_missing { IsRun other_journal (listener_trace 4 one_delivery ∷ []) → ⊥ }
+    ensures a_trace_too_many { IsRun other_journal (listener_trace 4 one_delivery ∷ sender_trace ∷ sender_trace ∷ []) → ⊥ }
+    ensures in_another_order { IsRun other_journal (sender_trace ∷ listener_trace 4 one_delivery ∷ []) → ⊥ }
+    ensures the_second_is_not_lawful { IsRun [] (its_trace (enlisted 2 3 3) (Some 3) ∷ silent_trace ∷ []) → ⊥ }
+    ensures not_all_is_read { IsRun other_journal (its_trace (enlisted 2 3 3) (Some 3) ∷ sender_trace ∷ []) → ⊥ }
+    ensures an_entry_is_not_shown { IsRun (other_tx (x_note ∷ []) ∷ other_tx (x_note ∷ []) ∷ []) (listener_trace 5 (delivered 3 1006 x_note ∷ delivered 4 1006 x_note ∷ []) ∷ sender_trace ∷ []) → ⊥ }
+    ensures an_entry_is_of_no_section { IsRun (other_tx (x_note ∷ []) ∷ sent_by 8 7 (x_note ∷ []) ∷ []) (listener_trace 5 (delivered 3 1006 x_note ∷ delivered 4 1008 x_note ∷ []) ∷ sender_trace ∷ []) → ⊥ }
+    ensures an_entry_is_not_finished { IsRun (two_sent (x_note ∷ []) 0 Committed ∷ []) (listener_trace 4 one_delivery ∷ sender_trace ∷ []) → ⊥ }
+    ensures a_read_is_left_out { Legal (alone listen_notify_listen) default_settings own_journal (its_trace (own_front ++ answered 4 tag.Listen ++ own_read) (Some 4) ∷ []) → ⊥ }
+{}
+
+/// What a legal run shows is within its journal.
+pub fn what_is_shown()
+    ensures of_a_run { (scenario : Scenario) (settings : Settings) (journal : List Tx) (traces : List Trace) → Legal scenario settings journal traces → All (λ trace. All (IsShownWithin (3 + length journal)) trace.items) traces }
+    ensures base { IsShownWithin 4 (Enlist 5 4) → ⊥ }
+    ensures point { IsShownWithin 4 (Enlist 4 5) → ⊥ }
+    ensures published { IsShownWithin 4 (Publish 5 []) → ⊥ }
+    ensures full { IsShownWithin 4 (QueueFull (full_at 5 4) []) → ⊥ }
+    ensures floor_of_full { IsShownWithin 4 (QueueFull (full_at 4 5) []) → ⊥ }
+    ensures used { IsShownWithin 4 (Used (usage_at 5 4)) → ⊥ }
+    ensures floor_of_used { IsShownWithin 4 (Used (usage_at 4 5)) → ⊥ }
+    ensures raised { IsShownWithin 4 (Raise 5) → ⊥ }
+    ensures found { IsShownWithin 4 (Found 5) → ⊥ }
+    ensures read_from { IsShownWithin 4 (Read 5 4 []) → ⊥ }
+    ensures read_to { IsShownWithin 4 (Read 4 5 []) → ⊥ }
+    ensures finished { finished_xids (Line 2 ∷ QueueFull (full_at 3 3) (x_note ∷ []) ∷ Line 3 ∷ Publish 4 (x_note ∷ []) ∷ Read 3 5 [] ∷ []) ≡ 3 ∷ 4 ∷ [] }
+{}
+
+/// What is no finished transaction.
+pub fn unfinished_transactions()
+    ensures no_notifications { IsFinished (two_sent [] 0 Committed) → ⊥ }
+    ensures repeated { IsFinished (two_sent (x_note ∷ x_note ∷ []) 2 Committed) → ⊥ }
+    ensures fewer_queued { IsFinished (two_sent (x_note ∷ y_note ∷ []) 1 Committed) → ⊥ }
+    ensures more_queued { IsFinished (two_sent (x_note ∷ y_note ∷ []) 3 Committed) → ⊥ }
+    ensures all_queued { IsFinished (two_sent (x_note ∷ y_note ∷ []) 2 Aborted) → ⊥ }
+    ensures no_channel { IsFinished (two_sent (record { channel = []; payload = [] } ∷ []) 1 Committed) → ⊥ }
+{}
+
+/// A reader need not read on while nothing is due to it and it is less than four pages behind.
+pub fn how_near()
+    ensures three_pages { Near One (is_committed_in 7) pages_journal 3 6 }
+    ensures four_pages { Near One (is_committed_in 7) pages_journal 3 7 → ⊥ }
+    ensures from_the_second { Near One (is_committed_in 7) pages_journal 4 7 }
+    ensures something_is_due { Near One (is_committed_in 7) own_journal 3 4 → ⊥ }
+    ensures of_the_last { Near One (is_committed_in 7) (own_tx (x_note ∷ []) ∷ own_tx (x_note ∷ []) ∷ []) 4 5 → ⊥ }
+    ensures at_the_end_of_what_is_due { Near One (is_committed_in 7) own_journal 4 4 }
+    ensures of_another_database { list_any (is_committed_in 7) (sent_by 8 5 (x_note ∷ []) ∷ aborted_journal) ≡ false }
+    ensures by_its_format { (journal : List Tx) → IsUpToDate (record (its_terms []) { settings = settings_of_two }) journal behind_in_block → Near Two (is_committed_in 7) journal 3 4 }
 {}
