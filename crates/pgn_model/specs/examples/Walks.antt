@@ -345,3 +345,19 @@ full_at xid floor_mark = record { xid = xid; queued = 0; head_page = 0; floor_ma
 -- a usage of the queue
 abbrev pub usage_at : ℕ → ℕ → Usage
 usage_at at floor_mark = record { at = at; occupied = 0; limit = 2; floor_mark = floor_mark; holder = None }
+
+-- BEGIN; NOTIFY c, 'x'; COMMIT; BEGIN; NOTIFY c, 'y'; ROLLBACK; NOTIFY c, 'x'
+abbrev pub two_blocks : List ScriptLine
+two_blocks = runs 2 command.Begin
+    ∷ runs 3 (command.Notify x_note)
+    ∷ runs 4 command.Commit
+    ∷ runs 5 command.Begin
+    ∷ runs 6 (command.Notify y_note)
+    ∷ runs 7 command.Rollback
+    ∷ runs 8 (command.Notify x_note)
+    ∷ []
+
+-- its items: no line has what an ended block had
+abbrev pub two_blocks_items : List Item
+two_blocks_items = answered 2 tag.Begin ++ answered 3 tag.Notify ++ (Line 4 ∷ Publish 3 (x_note ∷ []) ∷ Reply tag.Commit None ∷ [])
+    ++ answered 5 tag.Begin ++ answered 6 tag.Notify ++ answered 7 tag.Rollback ++ published 8 4
