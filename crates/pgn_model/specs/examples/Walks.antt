@@ -361,3 +361,27 @@ two_blocks = runs 2 command.Begin
 abbrev pub two_blocks_items : List Item
 two_blocks_items = answered 2 tag.Begin ++ answered 3 tag.Notify ++ (Line 4 ∷ Publish 3 (x_note ∷ []) ∷ Reply tag.Commit None ∷ [])
     ++ answered 5 tag.Begin ++ answered 6 tag.Notify ++ answered 7 tag.Rollback ++ published 8 4
+
+-- LISTEN c; BEGIN; LISTEN d; COMMIT
+abbrev pub listen_in_block : List ScriptLine
+listen_in_block = runs 2 (command.Listen c_name) ∷ runs 3 command.Begin ∷ runs 4 (command.Listen (codes "d")) ∷ runs 5 command.Commit ∷ []
+
+-- its items, up to the read
+abbrev pub listen_in_block_front : List Item
+listen_in_block_front = enlisted 2 3 3 ++ answered 3 tag.Begin ++ answered 4 tag.Listen ++ answered 5 tag.Commit
+
+-- LISTEN c; LISTEN d; UNLISTEN c
+abbrev pub unlisten_one : List ScriptLine
+unlisten_one = runs 2 (command.Listen c_name) ∷ runs 3 (command.Listen (codes "d")) ∷ runs 4 (command.Unlisten c_name) ∷ []
+
+-- its items, up to the read
+abbrev pub unlisten_one_front : List Item
+unlisten_one_front = enlisted 2 3 3 ++ answered 3 tag.Listen ++ answered 4 tag.Unlisten
+
+-- a journal of another session's transaction on two channels
+abbrev pub both_journal : List Tx
+both_journal = other_tx (on_c (codes "1") ∷ on_d (codes "2") ∷ []) ∷ []
+
+-- SELECT pg_notify('c', 'x')
+abbrev pub pg_notify_alone : List ScriptLine
+pg_notify_alone = runs 2 (command.PgNotify x_note) ∷ []

@@ -18,7 +18,7 @@ ghost use Rattle.pgn_model.specs.Walk.{Settings, default_settings};
 ghost use Rattle.pgn_model.specs.Journal.{IsFinished, is_committed_in};
 ghost use Rattle.pgn_model.specs.Near.{Near};
 ghost use Rattle.pgn_model.specs.Legal.{Legal, IsShownWithin, finished_xids};
-ghost use Rattle.pgn_model.specs.examples.Walks.{on_c, x_note, c_name, walker, its_terms, its_trace, IsTraceOf, IsRefused, IsFresh, sent_by, own_tx, other_tx, delivered, answered, enlisted, published, listen_notify, notify_alone, notify_listen, listen_alone, listen_again, listen_again_items, never_listens, never_listens_items, block_lines, block_front, block_items, block_journal, joining_lines, joining_front, joining_items, joining_journal, left_open, held_back, other_journal, own_journal, mixed_journal, mixed_due, mixed_front, aborted_journal, own_front, own_read, listen_then, listen_then_nothing, listener_again, behind_in_block, begin_twice, empty_line, listen_unlisten, listen_twice, notify_twice, listen_notify_begin, roll_back, y_note, y_journal, two_own_journal, repeats, repeats_journal, repeats_due, listen_notify_listen, sender, listener_trace, one_delivery, sender_trace, silent_trace, IsRun, alone, two_sent, pages_journal, settings_of_two, full_at, usage_at, two_blocks, two_blocks_items};
+ghost use Rattle.pgn_model.specs.examples.Walks.{on_c, on_d, x_note, c_name, walker, its_terms, its_trace, IsTraceOf, IsRefused, IsFresh, sent_by, own_tx, other_tx, delivered, answered, enlisted, published, listen_notify, notify_alone, notify_listen, listen_alone, listen_again, listen_again_items, never_listens, never_listens_items, block_lines, block_front, block_items, block_journal, joining_lines, joining_front, joining_items, joining_journal, left_open, held_back, other_journal, own_journal, mixed_journal, mixed_due, mixed_front, aborted_journal, own_front, own_read, listen_then, listen_then_nothing, listener_again, behind_in_block, begin_twice, empty_line, listen_unlisten, listen_twice, notify_twice, listen_notify_begin, roll_back, y_note, y_journal, two_own_journal, repeats, repeats_journal, repeats_due, listen_notify_listen, sender, listener_trace, one_delivery, sender_trace, silent_trace, IsRun, alone, two_sent, pages_journal, settings_of_two, full_at, usage_at, two_blocks, two_blocks_items, listen_in_block, listen_in_block_front, unlisten_one, unlisten_one_front, both_journal, pg_notify_alone};
 
 /// Lawful traces.
 pub fn lawful_walks()
@@ -27,6 +27,10 @@ pub fn lawful_walks()
     ensures block { IsTraceOf block_lines block_journal block_items (Some 4) }
     ensures joining { IsTraceOf joining_lines joining_journal joining_items (Some 5) }
     ensures left_open { IsTraceOf left_open other_journal (enlisted 2 3 3 ++ answered 3 tag.Begin ++ Read 3 4 (delivered 3 1006 x_note ∷ []) ∷ []) (Some 4) }
+    ensures between_lines { IsTraceOf listen_notify_begin own_journal (own_front ++ own_read ++ answered 4 tag.Begin) (Some 4) }
+    ensures set_at_the_read { IsTraceOf listen_in_block both_journal (listen_in_block_front ++ Read 3 4 (delivered 3 1006 (on_c (codes "1")) ∷ delivered 3 1006 (on_d (codes "2")) ∷ []) ∷ []) (Some 4) }
+    ensures channel_dropped { IsTraceOf unlisten_one both_journal (unlisten_one_front ++ Read 3 4 (delivered 3 1006 (on_d (codes "2")) ∷ []) ∷ []) (Some 4) }
+    ensures pg_notify { IsTraceOf pg_notify_alone own_journal (Line 2 ∷ Publish 3 (x_note ∷ []) ∷ Reply (tag.Select 1) None ∷ []) None }
     ensures two_blocks { IsTraceOf two_blocks two_own_journal two_blocks_items None }
     ensures mixed { IsTraceOf listen_notify mixed_journal (mixed_front ++ Read 3 6 mixed_due ∷ []) (Some 6) }
 {}
@@ -141,9 +145,15 @@ pub fn refused_ends()
 /// No read is left out at the end of a line, unless a block is open.
 pub fn missing_reads()
     ensures block_is_fresh { IsFresh block_lines block_journal block_items (Some 4) }
+    ensures fresh_between_lines { IsFresh listen_notify_begin own_journal (own_front ++ own_read ++ answered 4 tag.Begin) (Some 4) }
     ensures at_the_end { IsFresh listen_notify own_journal own_front (Some 3) → ⊥ }
     ensures between_lines { IsFresh listen_notify_begin own_journal (own_front ++ answered 4 tag.Begin) (Some 3) → ⊥ }
     ensures in_a_block { IsFreshAt (its_terms []) own_journal behind_in_block (Line 4) }
+{}
+
+/// What holds where the command line sets nothing.
+pub fn settings_by_default()
+    ensures settings { default_settings ≡ record { format = One; limit = 256; patience = 10000000 } }
 {}
 
 /// What the walk keeps of its items.
