@@ -11,7 +11,7 @@ use Rattle.pgn_model.specs.declared.block_state.BlockState.TheVariants.{InBlock}
 use Rattle.pgn_model.specs.declared.command.Command.{Command}
 use Rattle.pgn_model.specs.declared.command.Command.TheVariants as command
 use Rattle.pgn_model.specs.declared.scenario.Act.{Act}
-use Rattle.pgn_model.specs.declared.scenario.Act.TheVariants.{Run, Signal, Await, Quit}
+use Rattle.pgn_model.specs.declared.scenario.Act.TheVariants.{Run}
 use Rattle.pgn_model.specs.declared.scenario.ScriptLine.{ScriptLine}
 use Rattle.pgn_model.specs.declared.scenario.Section.{Section}
 use Rattle.pgn_model.specs.declared.scenario.Scenario.{Scenario}
@@ -346,21 +346,25 @@ full_at xid floor_mark = record { xid = xid; queued = 0; head_page = 0; floor_ma
 abbrev pub usage_at : ℕ → ℕ → Usage
 usage_at at floor_mark = record { at = at; occupied = 0; limit = 2; floor_mark = floor_mark; holder = None }
 
--- BEGIN; NOTIFY c, 'x'; COMMIT; BEGIN; NOTIFY c, 'y'; ROLLBACK; NOTIFY c, 'x'
+-- BEGIN; NOTIFY d, 'b'; ROLLBACK; BEGIN; NOTIFY c, 'y'; COMMIT; NOTIFY c, 'x'
 abbrev pub two_blocks : List ScriptLine
 two_blocks = runs 2 command.Begin
-    ∷ runs 3 (command.Notify x_note)
-    ∷ runs 4 command.Commit
+    ∷ runs 3 (command.Notify (on_d (codes "b")))
+    ∷ runs 4 command.Rollback
     ∷ runs 5 command.Begin
     ∷ runs 6 (command.Notify y_note)
-    ∷ runs 7 command.Rollback
+    ∷ runs 7 command.Commit
     ∷ runs 8 (command.Notify x_note)
     ∷ []
 
 -- its items: no line has what an ended block had
 abbrev pub two_blocks_items : List Item
-two_blocks_items = answered 2 tag.Begin ++ answered 3 tag.Notify ++ (Line 4 ∷ Publish 3 (x_note ∷ []) ∷ Reply tag.Commit None ∷ [])
-    ++ answered 5 tag.Begin ++ answered 6 tag.Notify ++ answered 7 tag.Rollback ++ published 8 4
+two_blocks_items = answered 2 tag.Begin ++ answered 3 tag.Notify ++ answered 4 tag.Rollback ++ answered 5 tag.Begin ++ answered 6 tag.Notify
+    ++ (Line 7 ∷ Publish 3 (y_note ∷ []) ∷ Reply tag.Commit None ∷ []) ++ published 8 4
+
+-- its journal
+abbrev pub two_blocks_journal : List Tx
+two_blocks_journal = own_tx (y_note ∷ []) ∷ own_tx (x_note ∷ []) ∷ []
 
 -- LISTEN c; BEGIN; LISTEN d; COMMIT
 abbrev pub listen_in_block : List ScriptLine

@@ -18,21 +18,25 @@ ghost use Rattle.pgn_model.specs.Walk.{Settings, default_settings};
 ghost use Rattle.pgn_model.specs.Journal.{IsFinished, is_committed_in};
 ghost use Rattle.pgn_model.specs.Near.{Near};
 ghost use Rattle.pgn_model.specs.Legal.{Legal, IsShownWithin, finished_xids};
-ghost use Rattle.pgn_model.specs.examples.Walks.{on_c, on_d, x_note, c_name, walker, its_terms, its_trace, IsTraceOf, IsRefused, IsFresh, sent_by, own_tx, other_tx, delivered, answered, enlisted, published, listen_notify, notify_alone, notify_listen, listen_alone, listen_again, listen_again_items, never_listens, never_listens_items, block_lines, block_front, block_items, block_journal, joining_lines, joining_front, joining_items, joining_journal, left_open, held_back, other_journal, own_journal, mixed_journal, mixed_due, mixed_front, aborted_journal, own_front, own_read, listen_then, listen_then_nothing, listener_again, behind_in_block, begin_twice, empty_line, listen_unlisten, listen_twice, notify_twice, listen_notify_begin, roll_back, y_note, y_journal, two_own_journal, repeats, repeats_journal, repeats_due, listen_notify_listen, sender, listener_trace, one_delivery, sender_trace, silent_trace, IsRun, alone, two_sent, pages_journal, settings_of_two, full_at, usage_at, two_blocks, two_blocks_items, listen_in_block, listen_in_block_front, unlisten_one, unlisten_one_front, both_journal, pg_notify_alone};
+ghost use Rattle.pgn_model.specs.examples.Walks.{on_c, on_d, x_note, c_name, walker, its_terms, its_trace, IsTraceOf, IsRefused, IsFresh, sent_by, own_tx, other_tx, delivered, answered, enlisted, published, listen_notify, notify_alone, notify_listen, listen_alone, listen_again, listen_again_items, never_listens, never_listens_items, block_lines, block_front, block_items, block_journal, joining_lines, joining_front, joining_items, joining_journal, left_open, held_back, other_journal, own_journal, mixed_journal, mixed_due, mixed_front, aborted_journal, own_front, own_read, listen_then, listen_then_nothing, listener_again, behind_in_block, begin_twice, empty_line, listen_unlisten, listen_twice, notify_twice, listen_notify_begin, roll_back, y_note, y_journal, two_own_journal, repeats, repeats_journal, repeats_due, listen_notify_listen, sender, listener_trace, one_delivery, sender_trace, silent_trace, IsRun, alone, two_sent, pages_journal, settings_of_two, full_at, usage_at, two_blocks, two_blocks_items, two_blocks_journal, listen_in_block, listen_in_block_front, unlisten_one, unlisten_one_front, both_journal, pg_notify_alone};
 
-/// Lawful traces.
+/// Traces of lines outside blocks: who listens already does not enlist again, and a read comes between lines or at the end.
 pub fn lawful_walks()
     ensures again { IsTraceOf listen_again [] listen_again_items (Some 3) }
     ensures never { IsTraceOf never_listens own_journal never_listens_items None }
+    ensures between_lines { IsTraceOf listen_notify_begin own_journal (own_front ++ own_read ++ answered 4 tag.Begin) (Some 4) }
+    ensures channel_dropped { IsTraceOf unlisten_one both_journal (unlisten_one_front ++ Read 3 4 (delivered 3 1006 (on_d (codes "2")) ∷ []) ∷ []) (Some 4) }
+    ensures pg_notify { IsTraceOf pg_notify_alone own_journal (Line 2 ∷ Publish 3 (x_note ∷ []) ∷ Reply (tag.Select 1) None ∷ []) None }
+    ensures mixed { IsTraceOf listen_notify mixed_journal (mixed_front ++ Read 3 6 mixed_due ∷ []) (Some 6) }
+{}
+
+/// Traces of blocks: a COMMIT sends what survives, each once, and what an ended block had is gone. At the end of the script an open block is dropped.
+pub fn lawful_blocks()
     ensures block { IsTraceOf block_lines block_journal block_items (Some 4) }
     ensures joining { IsTraceOf joining_lines joining_journal joining_items (Some 5) }
     ensures left_open { IsTraceOf left_open other_journal (enlisted 2 3 3 ++ answered 3 tag.Begin ++ Read 3 4 (delivered 3 1006 x_note ∷ []) ∷ []) (Some 4) }
-    ensures between_lines { IsTraceOf listen_notify_begin own_journal (own_front ++ own_read ++ answered 4 tag.Begin) (Some 4) }
     ensures set_at_the_read { IsTraceOf listen_in_block both_journal (listen_in_block_front ++ Read 3 4 (delivered 3 1006 (on_c (codes "1")) ∷ delivered 3 1006 (on_d (codes "2")) ∷ []) ∷ []) (Some 4) }
-    ensures channel_dropped { IsTraceOf unlisten_one both_journal (unlisten_one_front ++ Read 3 4 (delivered 3 1006 (on_d (codes "2")) ∷ []) ∷ []) (Some 4) }
-    ensures pg_notify { IsTraceOf pg_notify_alone own_journal (Line 2 ∷ Publish 3 (x_note ∷ []) ∷ Reply (tag.Select 1) None ∷ []) None }
-    ensures two_blocks { IsTraceOf two_blocks two_own_journal two_blocks_items None }
-    ensures mixed { IsTraceOf listen_notify mixed_journal (mixed_front ++ Read 3 6 mixed_due ∷ []) (Some 6) }
+    ensures two_blocks { IsTraceOf two_blocks two_blocks_journal two_blocks_items None }
 {}
 
 /// A trace is of its session and of its database.
