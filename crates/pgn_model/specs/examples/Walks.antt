@@ -346,21 +346,22 @@ full_at xid floor_mark = record { xid = xid; queued = 0; head_page = 0; floor_ma
 abbrev pub usage_at : ℕ → ℕ → Usage
 usage_at at floor_mark = record { at = at; occupied = 0; limit = 2; floor_mark = floor_mark; holder = None }
 
--- BEGIN; NOTIFY d, 'b'; ROLLBACK; BEGIN; NOTIFY c, 'y'; COMMIT; NOTIFY c, 'x'
+-- BEGIN; NOTIFY d, 'b'; ROLLBACK; BEGIN; NOTIFY c, 'y'; an empty line; COMMIT; NOTIFY c, 'x'
 abbrev pub two_blocks : List ScriptLine
 two_blocks = runs 2 command.Begin
     ∷ runs 3 (command.Notify (on_d (codes "b")))
     ∷ runs 4 command.Rollback
     ∷ runs 5 command.Begin
     ∷ runs 6 (command.Notify y_note)
-    ∷ runs 7 command.Commit
-    ∷ runs 8 (command.Notify x_note)
+    ∷ runs 7 command.Empty
+    ∷ runs 8 command.Commit
+    ∷ runs 9 (command.Notify x_note)
     ∷ []
 
 -- its items: no line has what an ended block had
 abbrev pub two_blocks_items : List Item
 two_blocks_items = answered 2 tag.Begin ++ answered 3 tag.Notify ++ answered 4 tag.Rollback ++ answered 5 tag.Begin ++ answered 6 tag.Notify
-    ++ (Line 7 ∷ Publish 3 (y_note ∷ []) ∷ Reply tag.Commit None ∷ []) ++ published 8 4
+    ++ (Line 7 ∷ Line 8 ∷ Publish 3 (y_note ∷ []) ∷ Reply tag.Commit None ∷ []) ++ published 9 4
 
 -- its journal
 abbrev pub two_blocks_journal : List Tx
