@@ -88,6 +88,7 @@ pub fn refused_enlists()
     ensures below_told { IsRefused notify_listen own_journal (published 2 3 ++ enlisted 3 3 3) (Some 3) }
     ensures past_journal { IsRefused listen_alone [] (enlisted 2 3 4) (Some 4) }
     ensures below_a_mark { Enlists mixed_journal listener_again 3 4 → ⊥ }
+    ensures at_a_mark { Enlists mixed_journal listener_again 3 5 }
 {}
 
 /// What is published stands in the journal as this session sent it, after all that it knows.

@@ -1,5 +1,6 @@
-use Rattle.std.proofs.Common.{◌≤◌, [], ◌∷◌, arith}
-use Rattle.std.proofs.lemmas.List.Elements.{All-head, All-tail}
+use Rattle.std.proofs.Common.{◌≤◌, [], ◌∷◌, arith, rules}
+use Rattle.std.proofs.lemmas.List.Elements.{All-nil, All-cons, All-head, All-tail}
+use Rattle.std.specs.Prelude.{All}
 use Rattle.pgn_model.proofs.examples.walks.refused_enlists.Goals as goal
 
 pub returns-clause-twice : goal.returns-clause-twice
@@ -25,3 +26,8 @@ returns-clause-past_journal c = λ h. let e = h.lawful.1.0.in_journal in absurd 
 
 pub returns-clause-below_a_mark : goal.returns-clause-below_a_mark
 returns-clause-below_a_mark c = λ h. let e = All-head (λ mark. mark ≤ 4) 5 [] (All-tail (λ mark. mark ≤ 4) 3 (5 ∷ []) h.after_marks) in absurd (omega (arith, e))
+
+pub returns-clause-at_a_mark : goal.returns-clause-at_a_mark
+returns-clause-at_a_mark c =
+    let marks : All (λ mark. mark ≤ 5) (3 ∷ 5 ∷ []) = All-cons (λ mark. mark ≤ 5) 3 (5 ∷ []) (omega arith) (All-cons (λ mark. mark ≤ 5) 5 [] (omega arith) (All-nil (λ mark. mark ≤ 5))) in
+    search rules
