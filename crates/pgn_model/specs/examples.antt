@@ -12,3 +12,4 @@ pub mod Blocks
 pub mod Flags
 pub mod FullQueue
 pub mod RefusedRuns
+pub mod Walks

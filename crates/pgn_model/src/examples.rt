@@ -13,3 +13,4 @@ pub mod refused_runs;
 pub mod runs;
 pub mod savepoints;
 pub mod texts;
+pub mod walks;

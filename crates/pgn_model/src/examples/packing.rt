@@ -1,10 +1,10 @@
-ghost use Rattle.std.specs.Prelude.{◌≡◌, true, false, [], ◌∷◌, map, drop, Some, None};
+ghost use Rattle.std.specs.Prelude.{◌≡◌, ◌-◌, ◌^◌, true, false, [], ◌∷◌, map, drop, Some, None};
 ghost use Rattle.std.specs.Str.{byte};
 ghost use Rattle.pgn_base.specs.declared.format.Format.TheVariants.{One, Two};
-ghost use Rattle.pgn_model.specs.Bytes.{entry_length, spelled, filler};
-ghost use Rattle.pgn_model.specs.Packing.{page_of, place_at, bytes_left, fits, filled_cells, image, place, put, put_all};
+ghost use Rattle.pgn_model.specs.Bytes.{entry_length, spelled, filler, IsHead, IsEntryLength};
+ghost use Rattle.pgn_model.specs.Packing.{page_of, place_at, bytes_left, fits, filled_cells, image, place, put, put_all, HasRoom};
 ghost use Rattle.pgn_model.specs.examples.Runs.{self_notify_journal};
-ghost use Rattle.pgn_model.specs.examples.Packing.{virtual_note, virtual_bytes, virtual_cells, bare_note, bare_bytes, bare_bytes_two, filler_bytes, letters, longest_note, rest_journal, filler_journal, filler_and_entry, filler_journal_two, filler_and_entry_two, full_journal, larger_journal};
+ghost use Rattle.pgn_model.specs.examples.Packing.{virtual_note, virtual_bytes, virtual_cells, bare_note, bare_bytes, bare_bytes_two, large_number_bytes, filler_bytes, filler_bytes_two, letters, longest_note, rest_journal, filler_journal, filler_and_entry, filler_journal_two, filler_and_entry_two, full_journal, larger_journal};
 
 /// The bytes of two entries and of a filler.
 pub fn entry_bytes()
@@ -21,6 +21,8 @@ pub fn entry_bytes_of_two()
     ensures least { entry_length Two bare_note ≡ 32 }
     ensures whole { entry_length Two virtual_note ≡ 56 }
     ensures longest { entry_length Two longest_note ≡ 8088 }
+    ensures large_number { spelled Two bare_note 7 0x0102030405060708 1003 ≡ large_number_bytes }
+    ensures filler { filler Two 32 0x0102030405060708 1002 ≡ filler_bytes_two }
 {}
 
 /// The five cells of the transaction of a session that notifies itself, and the places from the journal's end on.
@@ -68,4 +70,37 @@ pub fn larger_places()
     ensures queued { put_all One (place_at 0 0) (letters (byte "x") 7999 ∷ letters (byte "y") 7999 ∷ []) ≡ place_at 1 8020 }
     ensures places { map (place One larger_journal) (4 ∷ 5 ∷ []) ≡ place_at 2 0 ∷ place_at 2 20 ∷ [] }
     ensures page { page_of (place One larger_journal 4) ≡ 2 }
+{}
+
+/// The numbers that fit at the head of an entry.
+pub fn heads()
+    ensures largest { IsHead One (2 ^ 32 - 1) (2 ^ 32 - 1) (2 ^ 32 - 1) }
+    ensures largest_of_two { IsHead Two (2 ^ 32 - 1) (2 ^ 64 - 1) (2 ^ 32 - 1) }
+    ensures database { IsHead Two (2 ^ 32) 3 1001 → ⊥ }
+    ensures number { IsHead One 1 (2 ^ 32) 1001 → ⊥ }
+    ensures number_of_two { IsHead Two 1 (2 ^ 64) 1001 → ⊥ }
+    ensures process { IsHead Two 1 3 (2 ^ 32) → ⊥ }
+{}
+
+/// The lengths that an entry may have.
+pub fn entry_lengths()
+    ensures least { IsEntryLength One 20 }
+    ensures least_of_two { IsEntryLength Two 32 }
+    ensures whole_page { IsEntryLength One 8192 × IsEntryLength Two 8192 }
+    ensures too_short { IsEntryLength One 16 → ⊥ }
+    ensures too_short_of_two { IsEntryLength Two 24 → ⊥ }
+    ensures not_aligned { IsEntryLength One 22 → ⊥ }
+    ensures not_aligned_of_two { IsEntryLength Two 36 → ⊥ }
+    ensures too_long { IsEntryLength One 8196 → ⊥ }
+    ensures too_long_of_two { IsEntryLength Two 8200 → ⊥ }
+{}
+
+/// The places where an entry may begin.
+pub fn rooms()
+    ensures last { HasRoom One (place_at 0 8172) }
+    ensures last_of_two { HasRoom Two (place_at 0 8160) }
+    ensures odd_cell { HasRoom One (place_at 0 4) }
+    ensures odd_cell_of_two { HasRoom Two (place_at 0 4) → ⊥ }
+    ensures too_late { HasRoom One (place_at 0 8176) → ⊥ }
+    ensures too_late_of_two { HasRoom Two (place_at 0 8168) → ⊥ }
 {}

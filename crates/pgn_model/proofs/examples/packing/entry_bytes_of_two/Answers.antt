@@ -1,6 +1,6 @@
 use Rattle.std.proofs.Common.{refl}
 use Rattle.pgn_base.specs.declared.format.Format.TheVariants.{Two}
-use Rattle.pgn_model.specs.Bytes.{header, entry_length, spelled}
+use Rattle.pgn_model.specs.Bytes.{header, entry_length, spelled, filler}
 use Rattle.pgn_model.proofs.PackingSteps.{length-longest}
 use Rattle.pgn_model.proofs.examples.packing.entry_bytes_of_two.Goals as goal
 
@@ -18,3 +18,11 @@ returns-clause-whole c = refl
 
 pub returns-clause-longest : goal.returns-clause-longest
 returns-clause-longest c = length-longest Two
+
+pub returns-clause-large_number : goal.returns-clause-large_number
+unfolding spelled entry_length header
+returns-clause-large_number c = refl
+
+pub returns-clause-filler : goal.returns-clause-filler
+unfolding filler header
+returns-clause-filler c = refl
