@@ -1,5 +1,5 @@
 -- The bytes of a piece read as its fields.
-use Rattle.std.proofs.Common.{◌≡◌, List, ℕ, [], ◌++◌, Err, refl, sym, ◌∙◌, subst, append-nil}
+use Rattle.std.proofs.Common.{◌≡◌, List, ℕ, [], refl, sym, ◌∙◌, subst, append-nil}
 use Rattle.pgn_base.specs.declared.format.Format.TheVariants.{One}
 use Rattle.pgn_model.specs.Bytes.{entry_length, spelled, filler, IsEntryLength}
 use Rattle.pgn_model.specs.Pieces as pieces

@@ -126,7 +126,6 @@ fn entry_bytes(rt: HostRuntime) -> Result<(), Fail> {
 
 #[test]
 fn pieces(rt: HostRuntime) {
-    assert_eq!(rt; read_piece(&LONG), LONG_VIEW);
     assert_eq!(rt; read_piece(&SHORT), SHORT_VIEW);
     let filler = EntryView::Filler {
         len: 20,

@@ -1,4 +1,4 @@
-use Rattle.pgn_entry.specs.Reading.{ReadsAs, AFault, told}
+use Rattle.pgn_entry.specs.Reading.{ReadsAs, told}
 use Rattle.std.proofs.Common.{Ok, subst}
 use Rattle.pgn_entry.proofs.PieceReads.{never-refused, piece-read}
 use Rattle.pgn_entry.proofs.piece.read_piece.Goals as goal
