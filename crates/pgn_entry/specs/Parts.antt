@@ -1,7 +1,8 @@
 -- What the parts of bytes read as: the head, the body of an entry, the body of a filler.
 use Rattle.std.specs.Prelude.{◌≡◌, ℕ, ◌≤◌, List, count_by}
 use Rattle.pgn_base.specs.declared.format.Format.TheVariants.{One}
-use Rattle.pgn_model.specs.Bytes.{entry_length, IsNote}
+use Rattle.pgn_base.specs.Notes.{IsNote}
+use Rattle.pgn_model.specs.Bytes.{entry_length}
 use Rattle.pgn_entry.specs.declared.entry_fault.EntryFault.TheVariants.{Short, BadLength, NoNul, BadText, BadPad}
 use Rattle.pgn_entry.specs.declared.head.Head.{Head}
 use Rattle.pgn_entry.specs.Reading.{stated_length, stated_db, stated_xid, stated_pid, is_zero, note_of, padding_of, IsAllZero, HasHead, LacksZeros, HasBadTexts, HasBadPadding, Reading, AnEntry, AFiller, AFault}

@@ -11,7 +11,7 @@ use Rattle.pgn_base.specs.declared.format.Format.TheVariants.{One}
 use Rattle.pgn_model.specs.declared.tx.Tx.{Tx}
 use Rattle.pgn_model.specs.declared.tx.Fate.TheVariants.{Committed, Aborted}
 use Rattle.pgn_model.specs.Begins.{Begins}
-use Rattle.pgn_model.specs.Bytes.{IsNote}
+use Rattle.pgn_base.specs.Notes.{IsNote}
 use Rattle.pgn_model.specs.Journal.{xids_of, IsFinished}
 use Rattle.pgn_model.specs.Packing.{put_all, page_of, place, place_at, fits}
 use Rattle.pgn_model.specs.QueueUse.{NoPage}

@@ -9,7 +9,7 @@ use Rattle.pgn_model.specs.declared.tx.Fate.TheVariants.{Committed, Aborted}
 use Rattle.pgn_model.specs.Begins.{Begins}
 use Rattle.pgn_model.specs.Journal.{next_xid, IsQueued, xids_from}
 use Rattle.pgn_model.specs.Due.{due}
-use Rattle.pgn_model.specs.Bytes.{IsNote}
+use Rattle.pgn_base.specs.Notes.{IsNote}
 use Rattle.pgn_model.specs.Packing.{sender_of, is_page_start, filler_cells, notes_cells, end_cells, tx_cells, image_from, image, place, put_all}
 use Rattle.pgn_model.specs.Pieces.{draft}
 use Rattle.pgn_model.specs.laws.Pieces.{FinishedAreWritten, OneMoreImage, DraftAtPageStart, FinishedAreDrafts, DraftsFinish, DraftsAreWritten, LongerAgrees, XidsGoOn}

@@ -8,7 +8,8 @@ use Rattle.std.proofs.lemmas.Bool.{and_from}
 use Rattle.pgn_base.specs.declared.format.Format.TheVariants.{One}
 use Rattle.pgn_base.specs.declared.note.Note.{Note}
 use Rattle.pgn_model.specs.declared.tx.Fate.TheVariants.{Aborted}
-use Rattle.pgn_model.specs.Bytes.{IsNote, header_bytes, aligned, entry_length}
+use Rattle.pgn_base.specs.Notes.{IsNote}
+use Rattle.pgn_model.specs.Bytes.{header_bytes, aligned, entry_length}
 use Rattle.pgn_model.specs.Packing.{page_of, is_page_start, fits, place, place_at, put_bytes, after_bytes, after_rest, put, put_all, ended, after}
 use Rattle.pgn_model.specs.Savepoints.{firsts}
 use Rattle.pgn_model.specs.Journal.{is_committed_in}

@@ -16,7 +16,8 @@ use Rattle.pgn_model.specs.declared.tx.Tx.{Tx}
 use Rattle.pgn_model.specs.declared.tx.Fate.{Fate}
 use Rattle.pgn_model.specs.declared.tx.Fate.TheVariants.{Committed, Aborted}
 use Rattle.pgn_model.specs.Journal.{entry, IsQueued, IsFinished}
-use Rattle.pgn_model.specs.Bytes.{header_bytes, alignment, least_bytes, four_bytes, entry_length, spelled, filler, IsNote}
+use Rattle.pgn_base.specs.Notes.{IsNote}
+use Rattle.pgn_model.specs.Bytes.{header_bytes, alignment, least_bytes, four_bytes, entry_length, spelled, filler}
 use Rattle.pgn_model.specs.Packing.{cells_in, bytes_in, fits, has_room, next_page, is_page_start, bytes_left, cells_left, filled_cells, page_rest, entry_cells, filler_cells, note_cells, notes_cells, end_cells, tx_cells, image_from, image, place, Sender, sender_of, after_rest, after_bytes, put_bytes, put, put_all, ended, after, HasRoom, bytes_of}
 use Rattle.pgn_model.specs.laws.Packing.{CellsGiveBytes, NoteMoves, PlaceRises, PlaceBound, PlaceFolds, PutTakes, PagesHold, NotesInTurn, FirstPlace, NextPlace, LastPlace, IsPacked, LeavesRoom, PlaceGrows, AbortedEnds, PlacesAgree, ImagesAgree, CellsOfEach, CellsApart}
 use Rattle.pgn_model.proofs.BytesLemmas.{length-spelled, length-filler, entry_lengths, are_bytes}

@@ -7,7 +7,7 @@ use Rattle.std.proofs.lemmas.Bool.{and_parts}
 use Rattle.std.proofs.lemmas.List.Elements.{All-nil, All-cons}
 use Rattle.pgn_base.specs.declared.note.Note.{Note}
 use Rattle.pgn_model.specs.declared.tx.Fate.TheVariants.{Committed, Aborted}
-use Rattle.pgn_model.specs.Bytes.{IsNote}
+use Rattle.pgn_base.specs.Notes.{IsNote}
 use Rattle.pgn_model.specs.Journal.{IsFinished}
 use Rattle.pgn_model.specs.examples.Scripts.{finished}
 use Rattle.pgn_model.specs.declared.trace.Trace.{Trace}

@@ -8,7 +8,7 @@ use Rattle.pgn_base.specs.declared.answers.Which.{Which}
 use Rattle.pgn_base.specs.declared.answers.Which.TheVariants.{ChannelEmpty, ChannelTooLong, PayloadTooLong}
 use Rattle.pgn_model.specs.declared.command.Command.{Command}
 use Rattle.pgn_model.specs.declared.command.Command.TheVariants as command
-use Rattle.pgn_model.specs.Bytes.{IsNote}
+use Rattle.pgn_base.specs.Notes.{IsNote}
 use Rattle.pgn_model.specs.Tokens.{Lexeme, Word, Quoted, Literal, Number, Sign, Wrong, tokens}
 use Rattle.pgn_model.specs.Grammar.{Name, fits_slot, cut, name_of, text_of, sign, lexemes_of, is_long, past_limit, limited, ReadsAs}
 use Rattle.pgn_model.specs.laws.Commands.{IsValid}

@@ -1,7 +1,6 @@
 -- The bytes of the queue's entries and fillers.
 use Rattle.std.specs.Prelude.{ℕ, ◌+◌, ◌-◌, ◌*◌, ◌/◌, ◌<◌, ◌^◌, List, [], ◌∷◌, ◌++◌, length, replicate, ◌%◌, ◌≡◌, ◌≤◌}
 use Rattle.std.specs.Int.{w32, w64, to_le_bytes}
-pub use Rattle.pgn_base.specs.Notes.{IsNote}
 use Rattle.pgn_base.specs.declared.limits.TheConstants.{PAGE_BYTES}
 use Rattle.pgn_base.specs.declared.format.Format.{Format}
 use Rattle.pgn_base.specs.declared.format.Format.TheVariants.{One, Two}

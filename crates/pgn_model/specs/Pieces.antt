@@ -11,7 +11,8 @@ use Rattle.pgn_model.specs.declared.tx.Fate.{Fate}
 use Rattle.pgn_model.specs.declared.tx.Fate.TheVariants.{Committed, Aborted}
 use Rattle.pgn_model.specs.Journal.{entry, is_committed}
 use Rattle.pgn_model.specs.Due.{listens}
-use Rattle.pgn_model.specs.Bytes.{entry_length, spelled, filler, IsNote, IsHead, IsEntryLength}
+use Rattle.pgn_base.specs.Notes.{IsNote}
+use Rattle.pgn_model.specs.Bytes.{entry_length, spelled, filler, IsHead, IsEntryLength}
 use Rattle.pgn_model.specs.Packing.{Sender, sender_of, is_page_start, bytes_left, fits, entry_cells, put, put_all, after}
 
 -- what lies in the queue: an entry or a filler, with its sender

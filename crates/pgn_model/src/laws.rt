@@ -450,7 +450,7 @@ pub fn tokens()
     ensures cut_is_name { CutIsName }
     // Each token of a text stands in it where it is said to begin.
     ensures tokens_stand { TokensStand }
-    // The tokens of a text cover it: nothing but blanks stands before them and between them, and nothing but blanks and a comment after them. Words, numbers and quoted texts are as long as they can be. After what is no token anything may stand. No other tokens cover it, so that no other order of reading gives others.
+    // The tokens of a text cover it: nothing but blanks stands before them and between them, and nothing but blanks and a comment after them. Words, numbers and quoted texts are as long as they can be. After what is no token anything may stand.
     ensures tokens_cover { TokensCover }
     // No other tokens cover it, so that no other order of reading gives others.
     ensures one_cover { OneCover }

@@ -9,7 +9,7 @@ use Rattle.std.proofs.lemmas.Str.{IsAscii-append, IsUtf8-from_ascii}
 use Rattle.pgn_base.specs.declared.note.Note.{Note}
 use Rattle.pgn_model.specs.declared.command.Command.{Command}
 use Rattle.pgn_model.specs.declared.command.Command.TheVariants.{Empty, Begin, Start, Commit, Rollback, Savepoint, RollbackTo, Release, Listen, Unlisten, UnlistenAll, Notify, PgNotify, ListeningChannels, QueueUsage, Invalid, Bad}
-use Rattle.pgn_model.specs.Bytes.{IsNote}
+use Rattle.pgn_base.specs.Notes.{IsNote}
 use Rattle.pgn_run.specs.Reading.{IsWord, IsPlain, IsSectionName, IsListenLine, IsNotifyLine, ReadsAsCommand, IsCommandLine, is_word_byte, is_plain_byte, is_name_byte, is_between}
 use Rattle.pgn_run.specs.Spelling.{IsQuoted}
 use Rattle.pgn_run.proofs.SpellingLaws.{quoted_once, list_all-weaker, lacks-from_test, IsAscii-from_test}

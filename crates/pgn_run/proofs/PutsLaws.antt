@@ -14,7 +14,7 @@ use Rattle.pgn_model.specs.Text.{entries_lines, entry_lines, joined, trace_lines
 use Rattle.pgn_run.specs.declared.render.output.Out.{Out}
 use Rattle.pgn_run.specs.Rendering.{GrewBut, IsOut, Puts}
 
--- a front of a text is a front of a longer one
+-- a prefix of a text is a prefix of a longer one
 AppendsPrefix-more : (start held : Option (List ℕ)) (before text : List ℕ) → AppendsPrefix start held before → AppendsPrefix start held (before ++ text)
 AppendsPrefix-more None held before text h = tt
 AppendsPrefix-more (Some xs) None before text h = absurd h
@@ -34,7 +34,7 @@ GrewBut-written (Some xs) (Some ys) (Some zs) kept before text all e a h =
     let parts : before ++ text ≡ h.0 ++ all = ap (λ t. t ++ text) h.1 ∙ append_assoc h.0 kept text ∙ ap (λ t. h.0 ++ t) e in
     (before ++ text, sym (append-nil (before ++ text)), a ∙ ap (λ t. t ++ all) h.2 ∙ append_assoc xs h.0 all ∙ ap (λ t. xs ++ t) (sym parts))
 
--- of what is kept back and a text after it a front is written
+-- of what is kept back and a text after it a prefix is written
 AppendsPrefix-written : (start held now : Option (List ℕ)) (kept before text all : List ℕ) → kept ++ text ≡ all → AppendsPrefix held now all → GrewBut start held kept before → AppendsPrefix start now (before ++ text)
 AppendsPrefix-written None held now kept before text all e a h = tt
 AppendsPrefix-written (Some xs) None now kept before text all e a h = absurd h
@@ -95,7 +95,7 @@ Puts-kept held faults sink kept now (Ok x) text fine e = record {
   cause = λ start h. h;
 }
 
--- what is kept back and a text after it are written, or a front of them
+-- what is kept back and a text after it are written, or a prefix of them
 written : (start held now : Option (List ℕ)) (kept before text all : List ℕ) (result : Result Unit Failed) → kept ++ text ≡ all → Writes held now result all → GrewBut start held kept before
     → IsOut start now (record { kept = []; so_far = result }) (before ++ text)
 written start held now kept before text all (Ok x) e w h = GrewBut-written start held now kept before text all e w h

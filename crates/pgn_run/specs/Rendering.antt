@@ -10,13 +10,13 @@ use Rattle.pgn_run.specs.declared.render.output.Out.{Out}
 abbrev pub ended : List ℕ → List ℕ
 ended line = line ++ 10 ∷ []
 
--- known bytes grew by a front of the text, and the rest is kept back
+-- known bytes grew by a prefix of the text, and the rest is kept back
 abbrev pub GrewBut : Option (List ℕ) → Option (List ℕ) → List ℕ → List ℕ → Type 0
 GrewBut None held kept text = Unit {0}
 GrewBut (Some start) None kept text = ⊥
 GrewBut (Some start) (Some held) kept text = (sent : List ℕ) × (text ≡ sent ++ kept) × (held ≡ start ++ sent)
 
--- a text is given out: the sink has a front of it, and while nothing has failed the rest is kept back
+-- a text is given out: the sink has a prefix of it, and while nothing has failed the rest is kept back
 abbrev pub IsOut : Option (List ℕ) → Option (List ℕ) → Out → List ℕ → Type 0
 IsOut start held out text = MatchResult out.so_far (λ _. GrewBut start held out.kept text) (λ _. AppendsPrefix start held text)
 

@@ -2,7 +2,8 @@
 use Rattle.std.specs.Prelude.{◌≡◌, ℕ, ◌<◌, ◌≤◌, ◌^◌, List, [], ◌++◌, length, All}
 use Rattle.pgn_base.specs.declared.format.Format.{Format}
 use Rattle.pgn_base.specs.declared.note.Note.{Note}
-use Rattle.pgn_model.specs.Bytes.{header_bytes, page_bytes, entry_length, spelled, filler, IsNote, IsHead, IsEntryLength}
+use Rattle.pgn_base.specs.Notes.{IsNote}
+use Rattle.pgn_model.specs.Bytes.{header_bytes, page_bytes, entry_length, spelled, filler, IsHead, IsEntryLength}
 
 -- an entry's bytes are as many as its length says
 abbrev pub SpelledLength : Type 0

@@ -3,7 +3,7 @@ use Rattle.std.specs.Prelude.{ℕ, List, Contains, IsUtf8}
 use Rattle.pgn_base.specs.Texts.{IsName}
 use Rattle.pgn_model.specs.declared.command.Command.{Command}
 use Rattle.pgn_model.specs.declared.command.Command.TheVariants as command
-use Rattle.pgn_model.specs.Bytes.{IsNote}
+use Rattle.pgn_base.specs.Notes.{IsNote}
 use Rattle.pgn_model.specs.Grammar.{ReadsAs}
 
 -- each name in the command is a name, and the notification in it can be sent

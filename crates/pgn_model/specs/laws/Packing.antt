@@ -7,7 +7,8 @@ use Rattle.pgn_model.specs.declared.tx.Tx.{Tx}
 use Rattle.pgn_model.specs.declared.tx.Fate.{Fate}
 use Rattle.pgn_model.specs.declared.tx.Fate.TheVariants.{Aborted}
 use Rattle.pgn_model.specs.Journal.{entry, next_xid, IsFinished}
-use Rattle.pgn_model.specs.Bytes.{entry_length, spelled, filler, IsNote, IsEntryLength}
+use Rattle.pgn_base.specs.Notes.{IsNote}
+use Rattle.pgn_model.specs.Bytes.{entry_length, spelled, filler, IsEntryLength}
 use Rattle.pgn_model.specs.Packing.{Sender, cell_bytes, page_cells, is_page_start, next_page, bytes_left, fits, filled_cells, entry_cells, filler_cells, note_cells, notes_cells, end_cells, tx_cells, image_from, image, place, IsCellOf, after_bytes, put, put_all, ended, after, bytes_of, HasRoom}
 
 -- cells give back the bytes that fill them

@@ -13,7 +13,8 @@ use Rattle.pgn_model.specs.declared.tx.Fate.TheVariants.{Committed, Aborted}
 use Rattle.pgn_model.specs.Begins.{Begins}
 use Rattle.pgn_model.specs.Journal.{next_xid, entries_between, IsFinished, IsQueued, xids_from, xids_of}
 use Rattle.pgn_model.specs.Due.{due, due_from}
-use Rattle.pgn_model.specs.Bytes.{xid_bits, four_bytes, IsNote}
+use Rattle.pgn_base.specs.Notes.{IsNote}
+use Rattle.pgn_model.specs.Bytes.{xid_bits, four_bytes}
 use Rattle.pgn_model.specs.Packing.{cell_bytes, cells_in, sender_of, is_page_start, filled_cells, entry_cells, filler_cells, notes_cells, image_from, image, place, after_bytes, put_all, after, HasRoom}
 use Rattle.pgn_model.specs.Pieces.{Piece, piece_bytes, piece_length, db_of, number_of, pid_of, lay, pieces_from, give_all, committed_by, TellsFates, QueuesAll, IsNumbered, IsSound, IsSamePiece, IsWritten, draft}
 

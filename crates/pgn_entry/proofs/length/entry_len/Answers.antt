@@ -1,6 +1,7 @@
 use Rattle.std.proofs.Common.{◌≡◌, rules, sym, subst}
 use Rattle.pgn_base.specs.declared.format.Format.TheVariants.{One}
-use Rattle.pgn_model.specs.Bytes.{entry_length, IsNote, IsEntryLength}
+use Rattle.pgn_base.specs.Notes.{IsNote}
+use Rattle.pgn_model.specs.Bytes.{entry_length, IsEntryLength}
 use Rattle.pgn_model.proofs.BytesLemmas.{entry_lengths}
 use Rattle.pgn_entry.proofs.length.entry_len.Goals as goal
 

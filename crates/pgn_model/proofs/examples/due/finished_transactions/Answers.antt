@@ -1,7 +1,7 @@
 use Rattle.std.proofs.Common.{[], ◌∷◌, refl, arith, codes}
 use Rattle.std.specs.Prelude.{All}
 use Rattle.std.proofs.lemmas.List.Elements.{All-nil, All-cons}
-use Rattle.pgn_model.specs.Bytes.{IsNote}
+use Rattle.pgn_base.specs.Notes.{IsNote}
 use Rattle.pgn_model.proofs.PlainNotes.{plain-note}
 use Rattle.pgn_model.specs.examples.Due.{c_name, d_name, e_name, on, third_tx, fourth_tx}
 use Rattle.pgn_model.proofs.SavepointLemmas.{firsts-differ}

@@ -1,7 +1,7 @@
 use Rattle.std.proofs.Common.{take, drop, [], ◌∷◌, refl, rules, arith}
 use Rattle.std.specs.Fmt.{digits}
 use Rattle.std.proofs.lemmas.List.Elements.{All-from_recursion}
-use Rattle.pgn_model.specs.Bytes.{IsNote}
+use Rattle.pgn_base.specs.Notes.{IsNote}
 use Rattle.pgn_model.specs.Journal.{IsFinished}
 use Rattle.pgn_model.specs.Walk.{Terms, default_settings}
 use Rattle.pgn_model.specs.Trace.{IsLawful}

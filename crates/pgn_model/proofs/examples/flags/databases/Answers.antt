@@ -2,7 +2,7 @@ use Rattle.std.proofs.Common.{[], ◌∷◌, refl, rules, arith}
 use Rattle.std.specs.Prelude.{All}
 use Rattle.std.specs.Fmt.{digits}
 use Rattle.std.proofs.lemmas.List.Elements.{All-nil, All-cons}
-use Rattle.pgn_model.specs.Bytes.{IsNote}
+use Rattle.pgn_base.specs.Notes.{IsNote}
 use Rattle.pgn_model.specs.Walk.{default_settings}
 use Rattle.pgn_model.specs.Legal.{ends}
 use Rattle.pgn_model.specs.examples.Flags.{notified_x, databases_scenario, databases_listener_trace, databases_sender_trace}

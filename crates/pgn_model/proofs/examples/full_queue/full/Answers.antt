@@ -4,7 +4,7 @@ use Rattle.std.specs.Str.{byte}
 use Rattle.std.specs.Fmt.{digits}
 use Rattle.std.proofs.lemmas.List.Elements.{All-from_recursion}
 use Rattle.pgn_model.specs.declared.trace.Trace.{Trace}
-use Rattle.pgn_model.specs.Bytes.{IsNote}
+use Rattle.pgn_base.specs.Notes.{IsNote}
 use Rattle.pgn_model.specs.Journal.{IsFinished}
 use Rattle.pgn_model.specs.Along.{Along}
 use Rattle.pgn_model.specs.Walk.{Terms, start, after_item}

@@ -11,7 +11,7 @@ use Rattle.pgn_model.specs.declared.item.Item.{Item}
 use Rattle.pgn_model.specs.declared.tx.Fate.TheVariants.{Aborted}
 use Rattle.pgn_model.specs.declared.trace.Trace.{Trace}
 use Rattle.pgn_model.specs.Along.{Along}
-use Rattle.pgn_model.specs.Bytes.{IsNote}
+use Rattle.pgn_base.specs.Notes.{IsNote}
 use Rattle.pgn_model.specs.Journal.{IsFinished}
 use Rattle.pgn_model.specs.Walk.{Terms, State, Queueing, Replied, start, after_item, queueing_or_settled, Allowed}
 use Rattle.pgn_model.specs.Trace.{state_after, IsLawful, IsEnd, IsFreshAt, IsUpToDate}

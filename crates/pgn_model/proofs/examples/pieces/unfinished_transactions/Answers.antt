@@ -1,6 +1,7 @@
 use Rattle.std.proofs.Common.{refl, arith}
 use Rattle.std.proofs.lemmas.List.Elements.{All-nil}
-use Rattle.pgn_model.specs.Bytes.{header, entry_length, spelled, IsNote}
+use Rattle.pgn_base.specs.Notes.{IsNote}
+use Rattle.pgn_model.specs.Bytes.{header, entry_length, spelled}
 use Rattle.pgn_model.specs.Packing.{filled_cells, page_rest, entry_cells, note_cells, notes_cells, end_cells, tx_cells, image_from, image, after_rest, after_bytes, put_bytes, put}
 use Rattle.pgn_model.specs.Pieces.{note_pieces, notes_pieces, end_pieces, tx_pieces, pieces_from}
 use Rattle.pgn_model.specs.examples.Pieces.{nameless}

@@ -4,7 +4,7 @@ use Rattle.std.specs.Fmt.{digits}
 use Rattle.std.proofs.lemmas.List.Elements.{All-nil, All-cons}
 use Rattle.std.proofs.lemmas.Str.{IsUtf8-from_ascii}
 use Rattle.std.proofs.lemmas.Str.Ascii.{IsAscii-nil, IsAscii-cons}
-use Rattle.pgn_model.specs.Bytes.{IsNote}
+use Rattle.pgn_base.specs.Notes.{IsNote}
 use Rattle.pgn_model.specs.examples.Runs.{hello}
 use Rattle.pgn_model.proofs.examples.runs.self_notify.Goals as goal
 
