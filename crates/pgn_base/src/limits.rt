@@ -30,6 +30,7 @@ pub const PID_BASE: u32 = 1_000;
 
 /// The least and the greatest limit of the queue, in pages.
 pub const PAGES_MIN: u32 = 2;
+
 pub const PAGES_MAX: u32 = 1_024;
 
 /// The most flags of a queue: those that a scenario names, and one for the end of each session.

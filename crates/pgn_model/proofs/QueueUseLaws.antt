@@ -1,10 +1,10 @@
 -- Proofs of the laws of a full queue and of its usage.
-use Rattle.std.proofs.Common.{◌≡◌, ℕ, ◌+◌, ◌-◌, ◌<◌, ◌≤◌, suc, zero, List, [], ◌∷◌, ◌++◌, length, Option, IsSomeAnd, slice_get, sym, ap, ◌∙◌, refl, subst, arith, length-append}
+use Rattle.std.proofs.Common.{◌≡◌, ℕ, ◌+◌, ◌-◌, ◌<◌, ◌≤◌, List, ◌++◌, length, IsSomeAnd, sym, ap, ◌∙◌, subst, arith, length-append}
 use Rattle.pgn_base.specs.declared.format.Format.{Format}
 use Rattle.pgn_model.specs.declared.tx.Tx.{Tx}
 use Rattle.pgn_model.specs.Journal.{next_xid, entry}
 use Rattle.pgn_model.specs.Packing.{page_of, place}
-use Rattle.pgn_model.specs.QueueUse.{NoPage, ShowsUsage, IsCutShort}
+use Rattle.pgn_model.specs.QueueUse.{IsCutShort}
 use Rattle.pgn_model.specs.laws.QueueUse.{NoPageGrows, UsageGrows}
 use Rattle.pgn_model.proofs.PackingLemmas.{places_agree}
 use Rattle.pgn_model.proofs.JournalLaws.{entry-append, entry-within}

@@ -1,5 +1,5 @@
 -- A journal and all traces together are a run of a scenario.
-use Rattle.std.specs.Prelude.{◌≡◌, ℕ, ◌+◌, ◌≤◌, ◌==◌, Bool, true, List, [], ◌∷◌, length, Option, Some, None, IfSome, All, Any, Contains, filter_map, flat_map}
+use Rattle.std.specs.Prelude.{◌≡◌, ℕ, ◌≤◌, ◌==◌, Bool, true, List, [], ◌∷◌, Option, Some, None, IfSome, All, Any, Contains, filter_map, flat_map}
 use Rattle.std.specs.List.{list_any}
 use Rattle.pgn_model.specs.declared.tx.Tx.{Tx}
 use Rattle.pgn_model.specs.declared.scenario.Section.{Section}

@@ -14,8 +14,8 @@
 #![tactic(auto)]
 
 mod call;
-mod savepoint;
 mod pending;
+mod savepoint;
 
 pub use call::{Call, finish_after};
 pub use pending::{NoSuch, Pending, each_has_a_history};

@@ -20,5 +20,7 @@ pub(crate) fn newest(savepoints: &[Savepoint], name: &Name) -> Option<usize>
     ensures named { IfSome result (λ at. (other : Savepoint) → is_named name.now (slice_index_or savepoints.now at other) ≡ true) }
     ensures newest { IfSome result (λ at. (k : ℕ) (other : Savepoint) → at < k → k < length savepoints.now → is_named name.now (slice_index_or savepoints.now k other) ≡ false) }
 {
-    savepoints.iter().rposition(|savepoint| *name == savepoint.name)
+    savepoints
+        .iter()
+        .rposition(|savepoint| *name == savepoint.name)
 }

@@ -1,8 +1,7 @@
 -- A line of the script leads from one state between lines to the next, and the end of the script to a legal run.
-use Rattle.std.proofs.Common.{◌≡◌, ℕ, zero, suc, ◌+◌, ◌-◌, ◌<◌, ◌≤◌, max, Bool, true, false, cond, ◌&&◌, ◌||◌, List, [], ◌∷◌, ◌++◌, length, take, drop, Option, Some, None, IsSomeAnd, IfSome, All, slice_get, nat_lt, ◌==◌, eq-eqb, ltb-true, ltb-false, is_some, if◌then◌else◌, slice_index_or, get_or, drop-cons, add-one, add-zero, sym, ap, ◌∙◌, refl, subst, inl, arith, length-append, append-nil}
-use Rattle.std.proofs.lemmas.List.{take-append-le}
+use Rattle.std.proofs.Common.{◌≡◌, ℕ, suc, ◌+◌, ◌-◌, ◌<◌, ◌≤◌, max, Bool, true, false, cond, ◌&&◌, ◌||◌, List, [], ◌∷◌, ◌++◌, length, drop, Option, Some, None, IsSomeAnd, IfSome, All, slice_get, nat_lt, ◌==◌, eq-eqb, ltb-true, ltb-false, is_some, if◌then◌else◌, slice_index_or, get_or, drop-cons, add-one, add-zero, sym, ap, ◌∙◌, refl, subst, inl, arith, length-append, append-nil}
 use Rattle.std.proofs.lemmas.List.Elements.{All-push, All-nil, filter_map-append}
-use Rattle.std.specs.List.{list_any, cons_option}
+use Rattle.std.specs.List.{cons_option}
 use Rattle.pgn_base.specs.Names.{has_name}
 use Rattle.pgn_base.specs.declared.format.Format.TheVariants.{One}
 use Rattle.pgn_base.specs.declared.note.Note.{Note}
@@ -19,7 +18,7 @@ use Rattle.pgn_model.specs.declared.scenario.ScriptLine.{ScriptLine}
 use Rattle.pgn_model.specs.declared.scenario.Section.{Section}
 use Rattle.pgn_model.specs.declared.scenario.Scenario.{Scenario}
 use Rattle.pgn_base.specs.Notes.{IsNote}
-use Rattle.pgn_model.specs.Journal.{IsFinished, entries_between, is_committed_in, xids_from, entry}
+use Rattle.pgn_model.specs.Journal.{IsFinished, is_committed_in, xids_from, entry}
 use Rattle.pgn_model.specs.Due.{due}
 use Rattle.pgn_model.specs.Near.{Near}
 use Rattle.pgn_model.specs.Along.{Along}
