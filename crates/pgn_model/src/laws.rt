@@ -312,7 +312,7 @@ pub fn longer_journals()
     ensures xids_go_on { XidsGoOn }
 {}
 
-/// What a ROLLBACK TO cuts and what a RELEASE keeps, said by the last mark of the name.
+/// What a ROLLBACK TO cuts and what a RELEASE keeps, said by the last savepoint of the name.
 #[tactic(auto, using(crate::proofs::SavepointLemmas::savepoint_laws))]
 pub fn rolled_back_and_released()
     ensures cuts { RolledBackCuts }
@@ -329,7 +329,7 @@ pub fn survives_one_more()
     ensures noted { SurvivesNoted }
 {}
 
-/// A savepoint is live where its mark survives, and stays live after a ROLLBACK TO it.
+/// A savepoint is live where it survives, and stays live after a ROLLBACK TO it.
 #[tactic(auto, using(crate::proofs::SavepointLemmas::savepoint_laws))]
 pub fn live_savepoints()
     ensures saved { LiveIsSaved }
@@ -365,13 +365,13 @@ pub fn live_after_change()
     ensures { LiveAfterChange }
 {}
 
-/// What is live leads to itself: nothing in it is left to cut, to free or to drop.
+/// What is live leads to itself: nothing in it is left to cut, to release or to drop.
 #[tactic(auto, using(crate::proofs::SavepointLemmas::live_laws))]
 pub fn live_twice()
     ensures { LiveTwice }
 {}
 
-/// What is live after a mark, an action, a new and a repeated notification.
+/// What is live after a savepoint, an action, a new and a repeated notification.
 #[tactic(auto, using(crate::proofs::SavepointLemmas::live_laws))]
 pub fn live_one_more()
     ensures saved { LiveSaved }
