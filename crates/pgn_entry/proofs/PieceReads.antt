@@ -3,7 +3,7 @@ use Rattle.std.proofs.Common.{◌≡◌, List, ℕ, [], refl, sym, ◌∙◌, su
 use Rattle.pgn_base.specs.declared.format.Format.TheVariants.{One}
 use Rattle.pgn_model.specs.Bytes.{entry_length, spelled, filler, IsEntryLength}
 use Rattle.pgn_model.specs.Pieces as pieces
-use Rattle.pgn_model.specs.Pieces.{Piece, piece_bytes, IsSound}
+use Rattle.pgn_model.specs.Pieces.{Piece, piece_bytes, IsReadable}
 use Rattle.pgn_model.proofs.PieceLaws.{piece_has_bytes}
 use Rattle.pgn_entry.specs.declared.entry_fault.EntryFault.{EntryFault}
 use Rattle.pgn_entry.specs.Pieces.{ArePiece, IsReadAs}
@@ -19,7 +19,7 @@ reading_is : (piece : Piece) → IsReadAs piece (reading_of piece)
 reading_is (pieces.AnEntry note sender) = record { stated = refl; same = refl; from_db = refl; from_xid = refl; from_pid = refl }
 reading_is (pieces.AFiller len sender) = record { stated = refl; from_xid = refl; from_pid = refl }
 
-reads : (piece : Piece) (bytes : List ℕ) → IsSound One piece → bytes ≡ piece_bytes One piece → ReadsAs bytes (reading_of piece)
+reads : (piece : Piece) (bytes : List ℕ) → IsReadable One piece → bytes ≡ piece_bytes One piece → ReadsAs bytes (reading_of piece)
 reads (pieces.AnEntry note sender) bytes sound e =
     (refl, record { valid = sound.content.0; numbers = sound.head; of_database = sound.content.1; rest = []; spelling = e ∙ sym (append-nil (spelled One note sender.db sender.xid sender.pid)) })
 reads (pieces.AFiller len sender) bytes sound e = record {
@@ -30,7 +30,7 @@ reads (pieces.AFiller len sender) bytes sound e = record {
 }
 
 -- whatever a piece's bytes read as is the piece
-pub piece-read : (piece : Piece) (bytes : List ℕ) (answer : Reading) → IsSound One piece → bytes ≡ piece_bytes One piece → ReadsAs bytes answer → IsReadAs piece answer
+pub piece-read : (piece : Piece) (bytes : List ℕ) (answer : Reading) → IsReadable One piece → bytes ≡ piece_bytes One piece → ReadsAs bytes answer → IsReadAs piece answer
 piece-read piece bytes answer sound e r =
     subst (λ t. IsReadAs piece t) (reads_as_one bytes (reading_of piece) answer (reads piece bytes sound e) r) (reading_is piece)
 

@@ -5,13 +5,13 @@ use Rattle.pgn_base.specs.declared.note.Note.{Note}
 use Rattle.pgn_model.specs.Bytes.{entry_length}
 use Rattle.pgn_model.specs.Packing.{Sender}
 use Rattle.pgn_model.specs.Pieces as pieces
-use Rattle.pgn_model.specs.Pieces.{Piece, piece_bytes, IsSound}
+use Rattle.pgn_model.specs.Pieces.{Piece, piece_bytes, IsReadable}
 use Rattle.pgn_entry.specs.Reading.{Reading, AnEntry, AFiller, AFault}
 
 -- bytes are those of a piece
 pub record ArePiece (bytes : List ℕ) : Type 0 where
   pub piece : Piece
-  pub sound : IsSound One piece
+  pub sound : IsReadable One piece
   pub spelling : bytes ≡ piece_bytes One piece
 
 -- the fields of an entry are its length, its notification and its sender

@@ -21,7 +21,7 @@ use Rattle.pgn_model.specs.Savepoints.{surviving_notes, firsts, changes_of, live
 use Rattle.pgn_model.specs.Answers.{Outcome, Commits, Replies, Refuses, Silent, GivesChannels, GivesUsage, answer, next_state, list_after}
 use Rattle.pgn_model.specs.Walk.{Terms, State, Owed, Nothing, Enlisting, Queueing, Leaving, Answering, Listing, Measuring, Raising, Awaiting, Quitting, Ending, Replied, Refused, start, after_item, Allowed, MayRead, leaving_or_answering, queueing_or_settled, settled, at_outcome, at_act, at_line, quitting, IsNext, holder_at, IsCommittedBy, IsAbortedBy, at_enlist, at_publish, at_full, at_leave, at_rows, at_raise}
 use Rattle.pgn_model.specs.Trace.{IsEnd, IsUpToDate, IsFreshAt, state_after}
-use Rattle.pgn_model.specs.laws.NextLine.{StandsFresh, ComesNext, CommitsNext, MayEnlist, MayPublish, MayMeetFull, MayReadTo, outcome_in, kept_tag, is_enlisting, is_leaving, enlist_items, publish_items, leave_items, quit_items, enlisted_mark, enlisted_marks, left_mark, published_told, NothingStands, StandsFreshGrows, ComesNextGrows, LineReplies, LineRefuses, LineIsSilent, LineIsKept, LineCommits, LineMeetsFull, LineGivesChannels, LineGivesUsage, LineSignals, LineAwaits, AwaitFinds, AwaitTimesOut, LineQuits, IdleReads, AwaitReads, EndReads, NoListenerIsUpToDate, ReaderIsUpToDate, EndIsLawful, EndIsFresh, LastIsPublished, LastMetFull, CommitFinishes, FullFinishes, CommitKeepsFull, FullKeepsFull, QuietIsUpToDate, published_xids, BlockCommits, OneCommits, HoldsGrows, HoldsShows, HoldsWithin, CommitsNextGrows, NoListOutside}
+use Rattle.pgn_model.specs.laws.NextLine.{StandsFresh, ComesNext, CommitsNext, MayEnlist, MayPublish, MayMeetFull, MayReadTo, outcome_in, kept_tag, is_enlisting, is_leaving, enlist_items, publish_items, leave_items, quit_items, enlisted_mark, enlisted_marks, left_mark, published_told, EmptyStands, StandsFreshGrows, ComesNextGrows, LineReplies, LineRefuses, LineIsSilent, LineIsKept, LineCommits, LineMeetsFull, LineGivesChannels, LineGivesUsage, LineSignals, LineAwaits, AwaitFinds, AwaitTimesOut, LineQuits, IdleReads, AwaitReads, EndReads, NoListenerIsUpToDate, ReaderIsUpToDate, EndIsLawful, EndIsFresh, LastIsPublished, LastMetFull, CommitFinishes, FullFinishes, CommitKeepsFull, FullKeepsFull, QuietIsUpToDate, published_xids, BlockCommits, OneCommits, HoldsGrows, HoldsShows, HoldsWithin, CommitsNextGrows, NoListOutside}
 use Rattle.pgn_model.proofs.NearLaws.{near-itself, near-shrinks}
 use Rattle.pgn_model.proofs.WalkLaws.{Along-push_at, Stands-push, Stands-grows}
 use Rattle.pgn_model.proofs.GrowingLaws.{up_to_date-grows, fresh_so_far-grows, lawful-shows, state-within, full-grows, Along-keeps}
@@ -35,8 +35,8 @@ use Rattle.pgn_base.specs.declared.answers.Tag.TheVariants as tag
 use Rattle.pgn_base.specs.declared.answers.Refusal.TheVariants as refused
 use Rattle.pgn_model.specs.declared.command.Command.TheVariants as command
 
-pub nothing-stands : NothingStands
-nothing-stands terms journal = record { stands = record { lawful = tt; state = refl }; fresh = tt }
+pub empty-stands : EmptyStands
+empty-stands terms journal = record { stands = record { lawful = tt; state = refl }; fresh = tt }
 
 pub stands_fresh-grows : StandsFreshGrows
 stands_fresh-grows terms journal more items s h shown = record {

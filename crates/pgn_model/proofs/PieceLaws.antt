@@ -22,8 +22,8 @@ use Rattle.pgn_model.specs.Due.{listens, delivery, delivered_by}
 use Rattle.pgn_base.specs.Notes.{IsNote}
 use Rattle.pgn_model.specs.Bytes.{header_bytes, least_bytes, page_bytes, xid_bits, four_bytes, header, entry_length, spelled, filler, IsHead, IsEntryLength}
 use Rattle.pgn_model.specs.Packing.{Sender, sender_of, cells_left, bytes_left, next_page, fits, has_room, is_page_start, filled_cells, page_rest, entry_cells, filler_cells, note_cells, notes_cells, end_cells, tx_cells, image_from, image, place, put, put_all, after, after_bytes, after_rest, HasRoom}
-use Rattle.pgn_model.specs.Pieces.{Piece, AnEntry, AFiller, piece_bytes, piece_length, db_of, number_of, pid_of, lay, note_pieces, notes_pieces, end_pieces, tx_pieces, pieces_from, delivery_of, gives, give_all, has_committed, committed_by, TellsFates, QueuesAll, IsNumbered, IsSound, IsWritten}
-use Rattle.pgn_model.specs.laws.Pieces.{PiecesInTurn, ImageIsLaid, TransactionsArePacked, PiecesSplit, ImageDrops, JournalIsCut, PiecesGiveDue, PiecesGiveAllDue, FinishedQueueAll, JournalTellsFates, PiecesAreNumbered, NumbersRise, PiecesAreSound, PieceAdvances, PieceHasBytes, PieceReadsBack, FirstCells, NextCells, NumbersGiveBytes, CellsHoldNumbers}
+use Rattle.pgn_model.specs.Pieces.{Piece, AnEntry, AFiller, piece_bytes, piece_length, db_of, number_of, pid_of, lay, note_pieces, notes_pieces, end_pieces, tx_pieces, pieces_from, delivery_of, gives, give_all, has_committed, committed_by, TellsFates, QueuesAll, IsNumbered, IsReadable, IsWritten}
+use Rattle.pgn_model.specs.laws.Pieces.{PiecesInTurn, ImageIsLaid, TransactionsArePacked, PiecesSplit, ImageDrops, JournalIsCut, PiecesGiveDue, PiecesGiveAllDue, FinishedQueueAll, JournalTellsFates, PiecesAreNumbered, NumbersRise, PiecesAreReadable, PieceAdvances, PieceHasBytes, PieceReadsBack, FirstCells, NextCells, NumbersGiveBytes, CellsHoldNumbers}
 use Rattle.pgn_model.proofs.BeginsLaws.{begins-holds, begins-itself, begins-taken}
 use Rattle.pgn_model.specs.Begins.{Begins}
 use Rattle.pgn_model.proofs.BytesLemmas.{length-header, length-spelled, length-filler, entry_lengths, are_bytes, reads_back, none_is_filler, filler_reads_back}
@@ -397,7 +397,7 @@ record IsSender (format : Format) (sender : Sender) : Type 0 where
   some_db : 0 < sender.db
   head : IsHead format sender.db sender.xid sender.pid
 
-sound_entry : (format : Format) (sender : Sender) (note : Note) → IsSender format sender → IsNote note → IsSound format (AnEntry note sender)
+sound_entry : (format : Format) (sender : Sender) (note : Note) → IsSender format sender → IsNote note → IsReadable format (AnEntry note sender)
 sound_entry format sender note s h = record {
   long = subst (IsEntryLength format) (sym (length-spelled format note sender.db sender.xid sender.pid)) (entry_lengths format note h);
   head = s.head;
@@ -405,7 +405,7 @@ sound_entry format sender note s h = record {
 }
 
 sound_filler : (format : Format) (sender : Sender) (at : ℕ) → HasRoom format at → IsSender format sender
-    → IsSound format (AFiller (bytes_left at) sender)
+    → IsReadable format (AFiller (bytes_left at) sender)
 sound_filler format sender at room s = record {
   long = subst (IsEntryLength format) (sym (length-filler format (bytes_left at) sender.xid sender.pid (omega (arith, least_within format, room.least)))) (pages_hold.rest format at room);
   head = record { db_fits = omega arith; xid_fits = s.head.xid_fits; pid_fits = s.head.pid_fits };
@@ -413,10 +413,10 @@ sound_filler format sender at room s = record {
 }
 
 sound_note : (format : Format) (sender : Sender) (at : ℕ) (note : Note) → HasRoom format at → IsSender format sender → IsNote note
-    → All (IsSound format) (note_pieces format sender at note)
+    → All (IsReadable format) (note_pieces format sender at note)
 unfolding note_pieces
 sound_note format sender at note room s h =
-    let P = IsSound format in
+    let P = IsReadable format in
     let entry = AnEntry note sender in
     let filler = AFiller (bytes_left at) sender in
     let alone : All P (entry ∷ []) = All-cons P entry [] (sound_entry format sender note s h) (All-nil P) in
@@ -426,37 +426,37 @@ sound_note format sender at note room s h =
     ]
 
 sound_notes : (format : Format) (sender : Sender) (at : ℕ) (notes : List Note) → HasRoom format at → IsSender format sender
-    → All IsNote notes → All (IsSound format) (notes_pieces format sender at notes)
+    → All IsNote notes → All (IsReadable format) (notes_pieces format sender at notes)
 unfolding notes_pieces
-sound_notes format sender at [] room s h = All-nil (IsSound format)
-sound_notes format sender at (note ∷ notes) room s h = All-append (IsSound format) (note_pieces format sender at note) (notes_pieces format sender (put format at note) notes)
+sound_notes format sender at [] room s h = All-nil (IsReadable format)
+sound_notes format sender at (note ∷ notes) room s h = All-append (IsReadable format) (note_pieces format sender at note) (notes_pieces format sender (put format at note) notes)
     (sound_note format sender at note room s (All-head IsNote note notes h)) (sound_notes format sender (put format at note) notes (room_put format at note room) s (All-tail IsNote note notes h))
 
 sound_end : (format : Format) (sender : Sender) (fate : Fate) (at : ℕ) → HasRoom format at → IsSender format sender
-    → All (IsSound format) (end_pieces sender fate at)
+    → All (IsReadable format) (end_pieces sender fate at)
 unfolding end_pieces
-sound_end format sender Committed at room s = All-nil (IsSound format)
+sound_end format sender Committed at room s = All-nil (IsReadable format)
 sound_end format sender Aborted at room s =
-    let P = IsSound format in
+    let P = IsReadable format in
     let filler = AFiller (bytes_left at) sender in
     elim (is_page_start at) as (λ b. All P (cond b [] (filler ∷ []))) [ true ↦ All-nil P | false ↦ All-cons P filler [] (sound_filler format sender at room s) (All-nil P) ]
 
 sound_tx : (format : Format) (x at : ℕ) (tx : Tx) → HasRoom format at → IsWritten tx → x < 2 ^ xid_bits format
-    → All (IsSound format) (tx_pieces format x at tx)
+    → All (IsReadable format) (tx_pieces format x at tx)
 unfolding tx_pieces
 sound_tx format x at tx room written small =
     let sender = sender_of x tx in
     let queued = take tx.queued tx.notes in
     let session : tx.session ≤ 256 = written.session_fits in
     let s : IsSender format sender = record { some_db = written.some_db; head = record { db_fits = written.db_fits; xid_fits = small; pid_fits = omega (arith, session) } } in
-    All-append (IsSound format) (notes_pieces format sender at queued) (end_pieces sender tx.fate (put_all format at queued)) (sound_notes format sender at queued room s written.queued_notes) (sound_end format sender tx.fate (put_all format at queued) (room_put_all format at queued room) s)
+    All-append (IsReadable format) (notes_pieces format sender at queued) (end_pieces sender tx.fate (put_all format at queued)) (sound_notes format sender at queued room s written.queued_notes) (sound_end format sender tx.fate (put_all format at queued) (room_put_all format at queued room) s)
 
-pub pieces_are_sound : PiecesAreSound
+pub pieces_are_readable : PiecesAreReadable
 unfolding pieces_from
-pieces_are_sound format x at [] room written small = All-nil (IsSound format)
-pieces_are_sound format x at (tx ∷ txs) room written small = All-append (IsSound format) (tx_pieces format x at tx) (pieces_from format (x + 1) (after format at tx) txs)
+pieces_are_readable format x at [] room written small = All-nil (IsReadable format)
+pieces_are_readable format x at (tx ∷ txs) room written small = All-append (IsReadable format) (tx_pieces format x at tx) (pieces_from format (x + 1) (after format at tx) txs)
     (sound_tx format x at tx room (All-head IsWritten tx txs written) (omega (arith, small)))
-    (pieces_are_sound format (x + 1) (after format at tx) txs (room_after format at tx room) (All-tail IsWritten tx txs written) (omega (arith, small)))
+    (pieces_are_readable format (x + 1) (after format at tx) txs (room_after format at tx room) (All-tail IsWritten tx txs written) (omega (arith, small)))
 
 pub piece_advances : PieceAdvances
 unfolding entry_cells after_bytes after_rest
@@ -483,11 +483,11 @@ filler_long format len xid pid long =
     let whole : length (head ++ replicate (len - length head) 0) ≡ length head + (len - length head) = simp (length-append, length-replicate) in
     omega (arith, head_short format, long, front, whole)
 
-stated : (format : Format) (piece : Piece) → IsSound format piece → length (piece_bytes format piece) ≡ piece_length format piece
+stated : (format : Format) (piece : Piece) → IsReadable format piece → length (piece_bytes format piece) ≡ piece_length format piece
 stated format (AnEntry note sender) sound = length-spelled format note sender.db sender.xid sender.pid
 stated format (AFiller len sender) sound = length-filler format len sender.xid sender.pid (filler_long format len sender.xid sender.pid sound.long.least)
 
-below : (format : Format) (piece : Piece) → IsSound format piece → All (λ byte. byte < 256) (piece_bytes format piece)
+below : (format : Format) (piece : Piece) → IsReadable format piece → All (λ byte. byte < 256) (piece_bytes format piece)
 below format (AnEntry note sender) sound = are_bytes.of_entry format note sender.db sender.xid sender.pid sound.content.0
 below format (AFiller len sender) sound = are_bytes.of_filler format len sender.xid sender.pid
 
@@ -502,7 +502,7 @@ same_sender s t db xid pid =
     ∙ ap (λ (n : ℕ). let one : Sender = record { db = t.db; xid = t.xid; pid = n } in one) pid
 
 -- the length of a filler that is read back
-filler_fits : (format : Format) (len : ℕ) (sender : Sender) → IsSound format (AFiller len sender) → len ≤ page_bytes
+filler_fits : (format : Format) (len : ℕ) (sender : Sender) → IsReadable format (AFiller len sender) → len ≤ page_bytes
 filler_fits format len sender sound = omega (arith, stated format (AFiller len sender) sound, sound.long.fits)
 
 pub piece_reads_back : PieceReadsBack
@@ -520,10 +520,10 @@ cell_of : (n : ℕ) → n < 2 ^ 32 → Some (Some (from_le_bytes w32 (four_bytes
 cell_of n small = ap (λ k. Some (Some k)) (from_le_bytes-to_le_bytes_4 n small)
 
 -- the length that a piece states fits in a cell
-small_length : (format : Format) (piece : Piece) → IsSound format piece → piece_length format piece < 2 ^ 32
+small_length : (format : Format) (piece : Piece) → IsReadable format piece → piece_length format piece < 2 ^ 32
 small_length format piece sound = omega (arith, stated format piece sound, sound.long.fits)
 
-first_cell : (format : Format) (piece : Piece) → IsSound format piece
+first_cell : (format : Format) (piece : Piece) → IsReadable format piece
     → slice_get (filled_cells (piece_bytes format piece)) 0 ≡ Some (Some (piece_length format piece))
 unfolding filled_cells spelled filler header
 first_cell One (AnEntry note sender) sound = cell_of (entry_length One note) (small_length One (AnEntry note sender) sound)
@@ -531,7 +531,7 @@ first_cell Two (AnEntry note sender) sound = cell_of (entry_length Two note) (sm
 first_cell One (AFiller len sender) sound = cell_of len (small_length One (AFiller len sender) sound)
 first_cell Two (AFiller len sender) sound = cell_of len (small_length Two (AFiller len sender) sound)
 
-second_cell : (format : Format) (piece : Piece) → IsSound format piece
+second_cell : (format : Format) (piece : Piece) → IsReadable format piece
     → slice_get (filled_cells (piece_bytes format piece)) 1 ≡ Some (Some (db_of piece))
 unfolding filled_cells spelled filler header
 second_cell One (AnEntry note sender) sound = cell_of sender.db sound.head.db_fits
@@ -542,12 +542,12 @@ second_cell Two (AFiller len sender) sound = cell_of 0 sound.head.db_fits
 pub first_cells : FirstCells
 first_cells = record { first = λ format piece sound. first_cell format piece sound ∙ ap (λ n. Some (Some n)) (sym (stated format piece sound)); second = second_cell }
 
-third_cell : (piece : Piece) → IsSound One piece → slice_get (filled_cells (piece_bytes One piece)) 2 ≡ Some (Some (number_of piece))
+third_cell : (piece : Piece) → IsReadable One piece → slice_get (filled_cells (piece_bytes One piece)) 2 ≡ Some (Some (number_of piece))
 unfolding filled_cells spelled filler header
 third_cell (AnEntry note sender) sound = cell_of sender.xid sound.head.xid_fits
 third_cell (AFiller len sender) sound = cell_of sender.xid sound.head.xid_fits
 
-fourth_cell : (piece : Piece) → IsSound One piece → slice_get (filled_cells (piece_bytes One piece)) 3 ≡ Some (Some (pid_of piece))
+fourth_cell : (piece : Piece) → IsReadable One piece → slice_get (filled_cells (piece_bytes One piece)) 3 ≡ Some (Some (pid_of piece))
 unfolding filled_cells spelled filler header
 fourth_cell (AnEntry note sender) sound = cell_of sender.pid sound.head.pid_fits
 fourth_cell (AFiller len sender) sound = cell_of sender.pid sound.head.pid_fits

@@ -124,8 +124,8 @@ abbrev pub HasContent : Piece → Type 0
 HasContent (AnEntry note sender) = IsNote note × (0 < sender.db)
 HasContent (AFiller len sender) = Unit {0}
 
--- the piece is read back from its bytes: they are as many as an entry may have, its numbers fit, and its content is sound
-pub record IsSound (format : Format) (piece : Piece) : Type 0 where
+-- the piece is read back from its bytes: they are as many as an entry may have, its numbers fit, and its content can be sent
+pub record IsReadable (format : Format) (piece : Piece) : Type 0 where
   pub long : IsEntryLength format (length (piece_bytes format piece))
   pub head : IsHead format (db_of piece) (number_of piece) (pid_of piece)
   pub content : HasContent piece

@@ -9,10 +9,10 @@ ghost use Rattle.pgn_model.specs.laws.Text.{TextHasLines};
 ghost use Rattle.pgn_model.specs.laws.Due.{DueSplits, DueGrows};
 ghost use Rattle.pgn_model.specs.laws.Near.{NearShrinks, NearItself, NearGrows};
 ghost use Rattle.pgn_model.specs.laws.QueueUse.{NoPageGrows, UsageGrows};
-ghost use Rattle.pgn_model.specs.laws.Pieces.{PiecesInTurn, ImageIsLaid, TransactionsArePacked, PiecesSplit, ImageDrops, JournalIsCut, PiecesGiveDue, PiecesGiveAllDue, FinishedQueueAll, JournalTellsFates, PiecesAreNumbered, NumbersRise, PiecesAreSound, PieceAdvances, PieceHasBytes, PieceReadsBack, FirstCells, NextCells, NumbersGiveBytes, CellsHoldNumbers, FinishedAreWritten, OneMoreImage, DraftAtPageStart, FinishedAreDrafts, DraftsFinish, DraftsAreWritten, LongerAgrees, XidsGoOn};
+ghost use Rattle.pgn_model.specs.laws.Pieces.{PiecesInTurn, ImageIsLaid, TransactionsArePacked, PiecesSplit, ImageDrops, JournalIsCut, PiecesGiveDue, PiecesGiveAllDue, FinishedQueueAll, JournalTellsFates, PiecesAreNumbered, NumbersRise, PiecesAreReadable, PieceAdvances, PieceHasBytes, PieceReadsBack, FirstCells, NextCells, NumbersGiveBytes, CellsHoldNumbers, FinishedAreWritten, OneMoreImage, DraftAtPageStart, FinishedAreDrafts, DraftsFinish, DraftsAreWritten, LongerAgrees, XidsGoOn};
 ghost use Rattle.pgn_model.specs.laws.Walk.{LawfulPushes, LawfulPrefix, LawfulGrows};
 ghost use Rattle.pgn_model.specs.laws.Growing.{ShownGrows, ShownOver, FullGrows, ToldWithin, MarksWithin, MarkWithin, StateWithin, LawfulShows, UpToDateGrows, FreshSoFarGrows, TraceOkGrows, FreshGrows};
-ghost use Rattle.pgn_model.specs.laws.NextLine.{NothingStands, StandsFreshGrows, HoldsGrows, HoldsShows, HoldsWithin, ComesNextGrows, LineReplies, LineRefuses, LineIsSilent, LineIsKept, NoListOutside, BlockCommits, OneCommits, CommitsNextGrows, LineCommits, LineMeetsFull, LastIsPublished, LastMetFull, CommitFinishes, FullFinishes, CommitKeepsFull, FullKeepsFull, LineGivesChannels, LineGivesUsage, LineSignals, LineAwaits, AwaitFinds, AwaitTimesOut, LineQuits, IdleReads, AwaitReads, EndReads, NoListenerIsUpToDate, ReaderIsUpToDate, QuietIsUpToDate, EndIsLawful, EndIsFresh};
+ghost use Rattle.pgn_model.specs.laws.NextLine.{EmptyStands, StandsFreshGrows, HoldsGrows, HoldsShows, HoldsWithin, ComesNextGrows, LineReplies, LineRefuses, LineIsSilent, LineIsKept, NoListOutside, BlockCommits, OneCommits, CommitsNextGrows, LineCommits, LineMeetsFull, LastIsPublished, LastMetFull, CommitFinishes, FullFinishes, CommitKeepsFull, FullKeepsFull, LineGivesChannels, LineGivesUsage, LineSignals, LineAwaits, AwaitFinds, AwaitTimesOut, LineQuits, IdleReads, AwaitReads, EndReads, NoListenerIsUpToDate, ReaderIsUpToDate, QuietIsUpToDate, EndIsLawful, EndIsFresh};
 ghost use Rattle.pgn_model.specs.laws.Savepoints.{RolledBackCuts, ReleasedKeeps, SurvivesRolledBack, SurvivesReleased, SurvivesSaved, SurvivesActed, SurvivesNoted, LiveIsSaved, LiveHasSavepoint, RolledBackKeepsSavepoint, RolledBackOfNone, ReleasedOfNone, FirstsInOrder, FirstsDiffer, FirstsHaveAll, FirstsPush, FirstsTwice, LiveAfterChange, LiveSaved, LiveActed, LiveNew, LiveRepeated, LiveRolledBack, LiveReleased, LiveTwice, LiveHasNames, LiveHasActions, LiveHasFirsts};
 ghost use Rattle.pgn_model.specs.laws.Answers.{TableIsTotal, NothingFailsOutside, BlocksBegin, BlocksEnd, BlocksFail, WaysOut, WaysOn, OnlyEmptyIsSilent, ChannelsAreCounted, WhatCommits};
 
@@ -107,7 +107,7 @@ pub fn growing()
 /// What a session's next line adds to its trace, and what a read and the script's end add.
 pub fn next_line()
     // Before the first item a trace is lawful so far, over any journal.
-    ensures nothing_stands { NothingStands }
+    ensures empty_stands { EmptyStands }
     // The journal may grow under a trace that is lawful so far and left no read out.
     ensures stands_fresh_grows { StandsFreshGrows }
     // It may grow under all that a session keeps of its trace so far.
@@ -271,7 +271,7 @@ pub fn pieces()
     // A later piece's number is no smaller.
     ensures numbers_rise { NumbersRise }
     // The pieces of written transactions are read back from their bytes.
-    ensures pieces_are_sound { PiecesAreSound }
+    ensures pieces_are_readable { PiecesAreReadable }
     // The place after a piece is told by how many bytes it has.
     ensures piece_advances { PieceAdvances }
     // A piece that is read back has as many bytes as it states.

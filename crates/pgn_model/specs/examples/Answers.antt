@@ -20,8 +20,8 @@ pub record Row : Type 0 where
   pub failed : Outcome
 
 -- a row with these columns
-abbrev pub row : Command → Outcome → Outcome → Outcome → Row
-row command idle in_block failed = record { command = command; idle = idle; in_block = in_block; failed = failed }
+abbrev pub answers_of : Command → Outcome → Outcome → Outcome → Row
+answers_of command idle in_block failed = record { command = command; idle = idle; in_block = in_block; failed = failed }
 
 -- the name of the one live savepoint
 abbrev pub live_name : List ℕ
@@ -42,30 +42,30 @@ table_note = record { channel = codes "c"; payload = codes "x" }
 -- the table: 25001 is AlreadyInBlock, 25P01 NotInBlock and NeedsBlock, 3B001 NoSavepoint, 22023 Bounds, 42601 Syntax, 25P02 Aborted
 abbrev pub answer_table : List Row
 answer_table =
-    row Begin (Replies tag.Begin None InBlock) (Replies tag.Begin (Some AlreadyInBlock) InBlock) (Refuses Aborted Failed)
-    ∷ row Start (Replies tag.Start None InBlock) (Replies tag.Start (Some AlreadyInBlock) InBlock) (Refuses Aborted Failed)
-    ∷ row Commit (Replies tag.Commit (Some NotInBlock) Idle) (Commits tag.Commit) (Replies tag.Rollback None Idle)
-    ∷ row Rollback (Replies tag.Rollback (Some NotInBlock) Idle) (Replies tag.Rollback None Idle) (Replies tag.Rollback None Idle)
-    ∷ row (Savepoint other_name) (Refuses (NeedsBlock needs.Savepoint) Idle) (Replies tag.Savepoint None InBlock) (Refuses Aborted Failed)
-    ∷ row (RollbackTo live_name) (Refuses (NeedsBlock needs.RollbackTo) Idle) (Replies tag.Rollback None InBlock) (Replies tag.Rollback None InBlock)
-    ∷ row (RollbackTo other_name) (Refuses (NeedsBlock needs.RollbackTo) Idle) (Refuses (NoSavepoint other_name) Failed) (Refuses (NoSavepoint other_name) Failed)
-    ∷ row (Release live_name) (Refuses (NeedsBlock needs.Release) Idle) (Replies tag.Release None InBlock) (Refuses Aborted Failed)
-    ∷ row (Release other_name) (Refuses (NeedsBlock needs.Release) Idle) (Refuses (NoSavepoint other_name) Failed) (Refuses Aborted Failed)
-    ∷ row (Listen (codes "c")) (Commits tag.Listen) (Replies tag.Listen None InBlock) (Refuses Aborted Failed)
-    ∷ row (Unlisten (codes "c")) (Commits tag.Unlisten) (Replies tag.Unlisten None InBlock) (Refuses Aborted Failed)
-    ∷ row UnlistenAll (Commits tag.Unlisten) (Replies tag.Unlisten None InBlock) (Refuses Aborted Failed)
-    ∷ row (Notify table_note) (Commits tag.Notify) (Replies tag.Notify None InBlock) (Refuses Aborted Failed)
-    ∷ row (PgNotify table_note) (Commits (tag.Select 1)) (Replies (tag.Select 1) None InBlock) (Refuses Aborted Failed)
-    ∷ row ListeningChannels (GivesChannels two_channels) (GivesChannels two_channels) (Refuses Aborted Failed)
-    ∷ row QueueUsage GivesUsage GivesUsage (Refuses Aborted Failed)
-    ∷ row (Invalid ChannelEmpty) (Refuses (Bounds ChannelEmpty) Idle) (Refuses (Bounds ChannelEmpty) Failed) (Refuses Aborted Failed)
-    ∷ row (Bad 7) (Refuses (Syntax 7) Idle) (Refuses (Syntax 7) Failed) (Refuses (Syntax 7) Failed)
-    ∷ row Empty Silent Silent Silent
+    answers_of Begin (Replies tag.Begin None InBlock) (Replies tag.Begin (Some AlreadyInBlock) InBlock) (Refuses Aborted Failed)
+    ∷ answers_of Start (Replies tag.Start None InBlock) (Replies tag.Start (Some AlreadyInBlock) InBlock) (Refuses Aborted Failed)
+    ∷ answers_of Commit (Replies tag.Commit (Some NotInBlock) Idle) (Commits tag.Commit) (Replies tag.Rollback None Idle)
+    ∷ answers_of Rollback (Replies tag.Rollback (Some NotInBlock) Idle) (Replies tag.Rollback None Idle) (Replies tag.Rollback None Idle)
+    ∷ answers_of (Savepoint other_name) (Refuses (NeedsBlock needs.Savepoint) Idle) (Replies tag.Savepoint None InBlock) (Refuses Aborted Failed)
+    ∷ answers_of (RollbackTo live_name) (Refuses (NeedsBlock needs.RollbackTo) Idle) (Replies tag.Rollback None InBlock) (Replies tag.Rollback None InBlock)
+    ∷ answers_of (RollbackTo other_name) (Refuses (NeedsBlock needs.RollbackTo) Idle) (Refuses (NoSavepoint other_name) Failed) (Refuses (NoSavepoint other_name) Failed)
+    ∷ answers_of (Release live_name) (Refuses (NeedsBlock needs.Release) Idle) (Replies tag.Release None InBlock) (Refuses Aborted Failed)
+    ∷ answers_of (Release other_name) (Refuses (NeedsBlock needs.Release) Idle) (Refuses (NoSavepoint other_name) Failed) (Refuses Aborted Failed)
+    ∷ answers_of (Listen (codes "c")) (Commits tag.Listen) (Replies tag.Listen None InBlock) (Refuses Aborted Failed)
+    ∷ answers_of (Unlisten (codes "c")) (Commits tag.Unlisten) (Replies tag.Unlisten None InBlock) (Refuses Aborted Failed)
+    ∷ answers_of UnlistenAll (Commits tag.Unlisten) (Replies tag.Unlisten None InBlock) (Refuses Aborted Failed)
+    ∷ answers_of (Notify table_note) (Commits tag.Notify) (Replies tag.Notify None InBlock) (Refuses Aborted Failed)
+    ∷ answers_of (PgNotify table_note) (Commits (tag.Select 1)) (Replies (tag.Select 1) None InBlock) (Refuses Aborted Failed)
+    ∷ answers_of ListeningChannels (GivesChannels two_channels) (GivesChannels two_channels) (Refuses Aborted Failed)
+    ∷ answers_of QueueUsage GivesUsage GivesUsage (Refuses Aborted Failed)
+    ∷ answers_of (Invalid ChannelEmpty) (Refuses (Bounds ChannelEmpty) Idle) (Refuses (Bounds ChannelEmpty) Failed) (Refuses Aborted Failed)
+    ∷ answers_of (Bad 7) (Refuses (Syntax 7) Idle) (Refuses (Syntax 7) Failed) (Refuses (Syntax 7) Failed)
+    ∷ answers_of Empty Silent Silent Silent
     ∷ []
 
 -- the row of a command by its answers, with the one live savepoint and the two channels
 abbrev pub answered : Command → Row
-answered command = row command (answer Idle (live_name ∷ []) two_channels command) (answer InBlock (live_name ∷ []) two_channels command)
+answered command = answers_of command (answer Idle (live_name ∷ []) two_channels command) (answer InBlock (live_name ∷ []) two_channels command)
     (answer Failed (live_name ∷ []) two_channels command)
 
 -- an outcome of each kind

@@ -13,7 +13,8 @@ use Rattle.pgn_model.specs.declared.scenario.Section.{Section}
 use Rattle.pgn_model.specs.declared.scenario.Scenario.{Scenario}
 use Rattle.pgn_model.specs.declared.item.Item.TheVariants.{Line, Enlist, Publish, Leave, Reply, Refuse, Used}
 use Rattle.pgn_model.specs.declared.trace.Trace.{Trace}
-use Rattle.pgn_model.specs.examples.Scripts.{script_line, command_line, note_on, finished}
+use Rattle.pgn_model.specs.Inputs.{script_line}
+use Rattle.pgn_model.specs.examples.Scripts.{command_line, note_on, finished}
 
 -- the notification `NOTIFY c`
 abbrev pub empty_note : Note

@@ -51,7 +51,7 @@ abbrev pub mixed_journal : List Tx
 mixed_journal = first_tx ∷ second_tx ∷ third_tx ∷ fourth_tx ∷ fifth_tx ∷ sixth_tx ∷ []
 
 -- what a reader in a database that listens on channels is owed from a number up to another
-pub record Owed : Type 0 where
+pub record DueRow : Type 0 where
   pub from : ℕ
   pub to : ℕ
   pub db : ℕ
@@ -63,7 +63,7 @@ abbrev pub delivered : ℕ → ℕ → Note → Delivery
 delivered xid pid note = record { xid = xid; pid = pid; note = note }
 
 -- what readers are owed
-abbrev pub owed_table : List Owed
+abbrev pub owed_table : List DueRow
 owed_table =
     -- all of the journal, on one channel
     record {
@@ -119,5 +119,5 @@ owed_table =
     ∷ []
 
 -- what is due by such a row, over the journal of the six
-abbrev pub due_by : Owed → Owed
+abbrev pub due_by : DueRow → DueRow
 due_by owed = record owed { deliveries = due mixed_journal owed.from owed.to owed.db owed.channels }

@@ -12,7 +12,8 @@ use Rattle.pgn_model.specs.declared.scenario.Scenario.{Scenario}
 use Rattle.pgn_model.specs.declared.item.Item.TheVariants.{Line, Enlist, Publish, Reply, Raise, Found, TimedOut, Read}
 use Rattle.pgn_model.specs.declared.trace.Trace.{Trace}
 use Rattle.pgn_model.specs.Walk.{Settings}
-use Rattle.pgn_model.specs.examples.Scripts.{script_line, command_line, note_on, finished}
+use Rattle.pgn_model.specs.Inputs.{script_line}
+use Rattle.pgn_model.specs.examples.Scripts.{command_line, note_on, finished}
 
 -- the notification `NOTIFY c, 'x'`
 abbrev pub notified_x : Note

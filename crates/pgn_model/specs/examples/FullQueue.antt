@@ -15,7 +15,8 @@ use Rattle.pgn_model.specs.declared.scenario.Scenario.{Scenario}
 use Rattle.pgn_model.specs.declared.item.Item.TheVariants.{Line, Enlist, Publish, QueueFull, Reply, Refuse, Raise, Found, Read}
 use Rattle.pgn_model.specs.declared.trace.Trace.{Trace}
 use Rattle.pgn_model.specs.Walk.{Settings}
-use Rattle.pgn_model.specs.examples.Scripts.{script_line, command_line, note_on, finished}
+use Rattle.pgn_model.specs.Inputs.{script_line}
+use Rattle.pgn_model.specs.examples.Scripts.{command_line, note_on, finished}
 
 -- this letter 7,999 times: the longest payload
 unfoldable pub many : ℕ → List ℕ

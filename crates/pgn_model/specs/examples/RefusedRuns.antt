@@ -14,7 +14,8 @@ use Rattle.pgn_model.specs.declared.item.Item.{Item}
 use Rattle.pgn_model.specs.declared.item.Item.TheVariants.{Line, Enlist, Publish, QueueFull, Leave, Reply, Refuse, Channels, Used, Raise, Found, Read}
 use Rattle.pgn_model.specs.declared.trace.Trace.{Trace}
 use Rattle.pgn_model.specs.Walk.{Settings, Terms}
-use Rattle.pgn_model.specs.examples.Scripts.{script_line, command_line, finished}
+use Rattle.pgn_model.specs.Inputs.{script_line}
+use Rattle.pgn_model.specs.examples.Scripts.{command_line, finished}
 use Rattle.pgn_model.specs.examples.Runs.{hello}
 use Rattle.pgn_model.specs.examples.Blocks.{empty_note}
 use Rattle.pgn_model.specs.examples.Flags.{hi}

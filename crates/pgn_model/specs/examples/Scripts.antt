@@ -7,10 +7,7 @@ use Rattle.pgn_model.specs.declared.command.Command.{Command}
 use Rattle.pgn_model.specs.declared.scenario.Act.{Act}
 use Rattle.pgn_model.specs.declared.scenario.Act.TheVariants.{Run}
 use Rattle.pgn_model.specs.declared.scenario.ScriptLine.{ScriptLine}
-
--- a line of a script, with its number in the input
-abbrev pub script_line : ℕ → List ℕ → Act → ScriptLine
-script_line line text act = record { line = line; text = text; act = act }
+use Rattle.pgn_model.specs.Inputs.{script_line}
 
 -- a line with a command
 abbrev pub command_line : ℕ → List ℕ → Command → ScriptLine

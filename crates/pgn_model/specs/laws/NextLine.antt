@@ -196,8 +196,8 @@ pub record Closes (terms : Terms) (trace : Trace) (s : State) : Type 0 where
   pub mark : s.mark ≡ trace.last
 
 -- before the first item: where a session begins
-abbrev pub NothingStands : Type 0
-NothingStands = (terms : Terms) (journal : List Tx) → StandsFresh terms journal [] (start terms.section)
+abbrev pub EmptyStands : Type 0
+EmptyStands = (terms : Terms) (journal : List Tx) → StandsFresh terms journal [] (start terms.section)
 
 -- the journal may grow: in step, idle and finish_read, as the session comes to know of more transactions
 abbrev pub StandsFreshGrows : Type 0

@@ -16,7 +16,7 @@ use Rattle.pgn_model.specs.Due.{due, due_from}
 use Rattle.pgn_base.specs.Notes.{IsNote}
 use Rattle.pgn_model.specs.Bytes.{xid_bits, four_bytes}
 use Rattle.pgn_model.specs.Packing.{cell_bytes, cells_in, sender_of, is_page_start, filled_cells, entry_cells, filler_cells, notes_cells, image_from, image, place, after_bytes, put_all, after, HasRoom}
-use Rattle.pgn_model.specs.Pieces.{Piece, piece_bytes, piece_length, db_of, number_of, pid_of, lay, pieces_from, give_all, committed_by, TellsFates, QueuesAll, IsNumbered, IsSound, IsSamePiece, IsWritten, draft}
+use Rattle.pgn_model.specs.Pieces.{Piece, piece_bytes, piece_length, db_of, number_of, pid_of, lay, pieces_from, give_all, committed_by, TellsFates, QueuesAll, IsNumbered, IsReadable, IsSamePiece, IsWritten, draft}
 
 -- pieces lie one after another
 abbrev pub PiecesInTurn : Type 0
@@ -84,41 +84,41 @@ abbrev pub NumbersRise : Type 0
 NumbersRise = (format : Format) (x at : ℕ) (txs : List Tx) → IsNonDecreasingBy number_of (pieces_from format x at txs)
 
 -- the pieces of written transactions are read back
-abbrev pub PiecesAreSound : Type 0
-PiecesAreSound = (format : Format) (x at : ℕ) (txs : List Tx) → HasRoom format at → All IsWritten txs → x + length txs ≤ 2 ^ xid_bits format
-    → All (IsSound format) (pieces_from format x at txs)
+abbrev pub PiecesAreReadable : Type 0
+PiecesAreReadable = (format : Format) (x at : ℕ) (txs : List Tx) → HasRoom format at → All IsWritten txs → x + length txs ≤ 2 ^ xid_bits format
+    → All (IsReadable format) (pieces_from format x at txs)
 
 -- the arithmetic gives the place after a piece; after one that is read back it is a later one, where the next can begin
 pub record PieceAdvances : Type 0 where
   pub place : (format : Format) (at : ℕ) (piece : Piece)
       → at + length (entry_cells format at (piece_bytes format piece)) ≡ after_bytes format at (length (piece_bytes format piece))
-  pub further : (format : Format) (at : ℕ) (piece : Piece) → IsSound format piece → at < after_bytes format at (length (piece_bytes format piece))
-  pub room : (format : Format) (at : ℕ) (piece : Piece) → HasRoom format at → IsSound format piece
+  pub further : (format : Format) (at : ℕ) (piece : Piece) → IsReadable format piece → at < after_bytes format at (length (piece_bytes format piece))
+  pub room : (format : Format) (at : ℕ) (piece : Piece) → HasRoom format at → IsReadable format piece
       → HasRoom format (after_bytes format at (length (piece_bytes format piece)))
 
 -- a piece that is read back has as many bytes as it states, and all of them are bytes
 pub record PieceHasBytes : Type 0 where
-  pub stated : (format : Format) (piece : Piece) → IsSound format piece → length (piece_bytes format piece) ≡ piece_length format piece
-  pub whole : (format : Format) (piece : Piece) → IsSound format piece → length (piece_bytes format piece) % cell_bytes ≡ 0
-  pub below : (format : Format) (piece : Piece) → IsSound format piece → All (λ byte. byte < 256) (piece_bytes format piece)
+  pub stated : (format : Format) (piece : Piece) → IsReadable format piece → length (piece_bytes format piece) ≡ piece_length format piece
+  pub whole : (format : Format) (piece : Piece) → IsReadable format piece → length (piece_bytes format piece) % cell_bytes ≡ 0
+  pub below : (format : Format) (piece : Piece) → IsReadable format piece → All (λ byte. byte < 256) (piece_bytes format piece)
 
 -- bytes that begin with a piece begin with no other one
 abbrev pub PieceReadsBack : Type 0
-PieceReadsBack = (format : Format) (piece other : Piece) (rest rest' : List ℕ) → IsSound format piece → IsSound format other
+PieceReadsBack = (format : Format) (piece other : Piece) (rest rest' : List ℕ) → IsReadable format piece → IsReadable format other
     → piece_bytes format piece ++ rest ≡ piece_bytes format other ++ rest'
     → IsSamePiece piece other × (rest ≡ rest')
 
 -- the first two cells of a piece hold its length and its database
 pub record FirstCells : Type 0 where
-  pub first : (format : Format) (piece : Piece) → IsSound format piece
+  pub first : (format : Format) (piece : Piece) → IsReadable format piece
       → slice_get (filled_cells (piece_bytes format piece)) 0 ≡ Some (Some (length (piece_bytes format piece)))
-  pub second : (format : Format) (piece : Piece) → IsSound format piece
+  pub second : (format : Format) (piece : Piece) → IsReadable format piece
       → slice_get (filled_cells (piece_bytes format piece)) 1 ≡ Some (Some (db_of piece))
 
 -- the next two hold its transaction's number and its process number in format One
 pub record NextCells : Type 0 where
-  pub third : (piece : Piece) → IsSound One piece → slice_get (filled_cells (piece_bytes One piece)) 2 ≡ Some (Some (number_of piece))
-  pub fourth : (piece : Piece) → IsSound One piece → slice_get (filled_cells (piece_bytes One piece)) 3 ≡ Some (Some (pid_of piece))
+  pub third : (piece : Piece) → IsReadable One piece → slice_get (filled_cells (piece_bytes One piece)) 2 ≡ Some (Some (number_of piece))
+  pub fourth : (piece : Piece) → IsReadable One piece → slice_get (filled_cells (piece_bytes One piece)) 3 ≡ Some (Some (pid_of piece))
 
 -- numbers that stand in the cells of bytes give the bytes back
 abbrev pub NumbersGiveBytes : Type 0

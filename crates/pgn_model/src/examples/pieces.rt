@@ -3,7 +3,7 @@ ghost use Rattle.pgn_base.specs.declared.format.Format.TheVariants.{One};
 ghost use Rattle.pgn_model.specs.declared.tx.Fate.TheVariants.{Committed, Aborted};
 ghost use Rattle.pgn_model.specs.Due.{due};
 ghost use Rattle.pgn_model.specs.Packing.{image, place_at};
-ghost use Rattle.pgn_model.specs.Pieces.{AnEntry, AFiller, number_of, lay, pieces_from, gives, give_all, committed_by, QueuesAll, IsSound, IsWritten, draft};
+ghost use Rattle.pgn_model.specs.Pieces.{AnEntry, AFiller, number_of, lay, pieces_from, gives, give_all, committed_by, QueuesAll, IsReadable, IsWritten, draft};
 ghost use Rattle.pgn_model.specs.examples.Runs.{hello, self_notify_journal};
 ghost use Rattle.pgn_model.specs.examples.Packing.{filler_journal};
 ghost use Rattle.pgn_model.specs.examples.Due.{c_name, d_name, on, delivered, mixed_journal, third_tx};
@@ -46,13 +46,13 @@ pub fn fates()
 
 /// Pieces that are not read back: a filler that is too short, too long or no multiple of the alignment, a number that does not
 /// fit, an entry without a database, and a notification without a name.
-pub fn unsound_pieces()
-    ensures short { IsSound One (AFiller 16 (by 1 3 1001)) → ⊥ }
-    ensures long { IsSound One (AFiller 8196 (by 1 3 1001)) → ⊥ }
-    ensures not_whole { IsSound One (AFiller 22 (by 1 3 1001)) → ⊥ }
-    ensures xid { IsSound One (AFiller 20 (by 1 (2 ^ 32) 1001)) → ⊥ }
-    ensures no_db { IsSound One (AnEntry hello (by 0 3 1001)) → ⊥ }
-    ensures no_name { IsSound One (AnEntry nameless (by 1 3 1001)) → ⊥ }
+pub fn unreadable_pieces()
+    ensures short { IsReadable One (AFiller 16 (by 1 3 1001)) → ⊥ }
+    ensures long { IsReadable One (AFiller 8196 (by 1 3 1001)) → ⊥ }
+    ensures not_whole { IsReadable One (AFiller 22 (by 1 3 1001)) → ⊥ }
+    ensures xid { IsReadable One (AFiller 20 (by 1 (2 ^ 32) 1001)) → ⊥ }
+    ensures no_db { IsReadable One (AnEntry hello (by 0 3 1001)) → ⊥ }
+    ensures no_name { IsReadable One (AnEntry nameless (by 1 3 1001)) → ⊥ }
 {}
 
 /// A transaction that has placed the first of two notifications. Nothing is asked of those that are not queued.

@@ -1,8 +1,8 @@
-use Rattle.pgn_model.proofs.NextLineLaws.{nothing-stands, stands_fresh-grows, holds-grows, holds-shows, holds-within, comes_next-grows, line-replies, line-refuses, line-is_silent, line-is_kept, no_list-outside, block-commits, one-commits, commits_next-grows, line-commits, line-meets_full, last-is_published, last-met_full, commit-finishes, full-finishes, commit-keeps_full, full-keeps_full, line-gives_channels, line-gives_usage, line-signals, line-awaits, await-finds, await-times_out, line-quits, idle-reads, await-reads, end-reads, no_listener-is_up_to_date, reader-is_up_to_date, quiet-is_up_to_date, end-is_lawful, end-is_fresh}
+use Rattle.pgn_model.proofs.NextLineLaws.{empty-stands, stands_fresh-grows, holds-grows, holds-shows, holds-within, comes_next-grows, line-replies, line-refuses, line-is_silent, line-is_kept, no_list-outside, block-commits, one-commits, commits_next-grows, line-commits, line-meets_full, last-is_published, last-met_full, commit-finishes, full-finishes, commit-keeps_full, full-keeps_full, line-gives_channels, line-gives_usage, line-signals, line-awaits, await-finds, await-times_out, line-quits, idle-reads, await-reads, end-reads, no_listener-is_up_to_date, reader-is_up_to_date, quiet-is_up_to_date, end-is_lawful, end-is_fresh}
 use Rattle.pgn_model.proofs.laws.next_line.Goals as goal
 
-pub returns-clause-nothing_stands : goal.returns-clause-nothing_stands
-returns-clause-nothing_stands c = nothing-stands
+pub returns-clause-empty_stands : goal.returns-clause-empty_stands
+returns-clause-empty_stands c = empty-stands
 
 pub returns-clause-stands_fresh_grows : goal.returns-clause-stands_fresh_grows
 returns-clause-stands_fresh_grows c = stands_fresh-grows

@@ -1,4 +1,4 @@
-use Rattle.pgn_model.proofs.PieceLaws.{pieces_in_turn, image_is_laid, transactions_are_packed, pieces_split, image_drops, journal_is_cut, pieces_give_due, pieces_give_all_due, finished_queue_all, journal_tells_fates, pieces_are_numbered, numbers_rise, pieces_are_sound, piece_advances, piece_has_bytes, piece_reads_back, first_cells, next_cells, numbers_give_bytes, cells_hold_numbers}
+use Rattle.pgn_model.proofs.PieceLaws.{pieces_in_turn, image_is_laid, transactions_are_packed, pieces_split, image_drops, journal_is_cut, pieces_give_due, pieces_give_all_due, finished_queue_all, journal_tells_fates, pieces_are_numbered, numbers_rise, pieces_are_readable, piece_advances, piece_has_bytes, piece_reads_back, first_cells, next_cells, numbers_give_bytes, cells_hold_numbers}
 use Rattle.pgn_model.proofs.laws.pieces.Goals as goal
 
 pub returns-clause-pieces_in_turn : goal.returns-clause-pieces_in_turn
@@ -37,8 +37,8 @@ returns-clause-pieces_are_numbered c = pieces_are_numbered
 pub returns-clause-numbers_rise : goal.returns-clause-numbers_rise
 returns-clause-numbers_rise c = numbers_rise
 
-pub returns-clause-pieces_are_sound : goal.returns-clause-pieces_are_sound
-returns-clause-pieces_are_sound c = pieces_are_sound
+pub returns-clause-pieces_are_readable : goal.returns-clause-pieces_are_readable
+returns-clause-pieces_are_readable c = pieces_are_readable
 
 pub returns-clause-piece_advances : goal.returns-clause-piece_advances
 returns-clause-piece_advances c = piece_advances

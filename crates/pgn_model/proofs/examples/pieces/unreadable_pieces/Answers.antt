@@ -1,7 +1,7 @@
 use Rattle.std.proofs.Common.{arith}
 use Rattle.pgn_base.specs.declared.format.Format.TheVariants.{One}
 use Rattle.pgn_model.proofs.BytesLemmas.{length-filler}
-use Rattle.pgn_model.proofs.examples.pieces.unsound_pieces.Goals as goal
+use Rattle.pgn_model.proofs.examples.pieces.unreadable_pieces.Goals as goal
 
 pub returns-clause-short : goal.returns-clause-short
 returns-clause-short c = λ sound. absurd (omega (arith, length-filler One 16 3 1001 (omega arith), sound.long.least))
