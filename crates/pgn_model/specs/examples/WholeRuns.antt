@@ -14,7 +14,7 @@ use Rattle.pgn_model.specs.declared.scenario.Act.TheVariants.{Signal, Await, Qui
 use Rattle.pgn_model.specs.declared.scenario.ScriptLine.{ScriptLine}
 use Rattle.pgn_model.specs.declared.scenario.Scenario.{Scenario}
 use Rattle.pgn_model.specs.declared.item.Item.{Item}
-use Rattle.pgn_model.specs.declared.item.Item.TheVariants.{Line, Publish, QueueFull, Reply, Refuse, Used, Read}
+use Rattle.pgn_model.specs.declared.item.Item.TheVariants.{Line, Publish, QueueFull, Leave, Reply, Refuse, Used, Read}
 use Rattle.pgn_model.specs.declared.trace.Trace.{Trace}
 use Rattle.pgn_model.specs.examples.Runs.{hello}
 use Rattle.pgn_model.specs.examples.Walks.{on_c, x_note, c_name, line_of, runs, sent_by, delivered, answered, enlisted}
@@ -37,6 +37,10 @@ other_flag_greater = runs 2 (command.Notify x_note) ∷ line_of 3 (Signal 1) ∷
 -- \signal g; \await h; \await f
 abbrev pub other_flags_known : List ScriptLine
 other_flags_known = line_of 2 (Signal 1) ∷ line_of 3 (Await 2) ∷ line_of 4 (Await 0) ∷ []
+
+-- BEGIN; LISTEN 5; \signal f; \await g; \await f; COMMIT
+abbrev pub flags_in_failed : List ScriptLine
+flags_in_failed = runs 2 command.Begin ∷ runs 3 (command.Bad 7) ∷ line_of 4 (Signal 0) ∷ line_of 5 (Await 1) ∷ line_of 6 (Await 0) ∷ runs 7 command.Commit ∷ []
 
 -- Full queues.
 
@@ -91,6 +95,18 @@ channels_in_block = runs 2 (command.Listen c_name) ∷ runs 3 command.Begin ∷ 
 -- its items, up to the rows
 abbrev pub channels_in_block_front : List Item
 channels_in_block_front = enlisted 2 3 3 ++ answered 3 tag.Begin ++ answered 4 tag.Listen
+
+-- BEGIN; SAVEPOINT s; LISTEN c; ROLLBACK TO s; COMMIT
+abbrev pub listen_rolled_back : List ScriptLine
+listen_rolled_back = runs 2 command.Begin ∷ runs 3 (command.Savepoint (codes "s")) ∷ runs 4 (command.Listen c_name) ∷ runs 5 (command.RollbackTo (codes "s")) ∷ runs 6 command.Commit ∷ []
+
+-- LISTEN c; BEGIN; UNLISTEN c; COMMIT; LISTEN c
+abbrev pub listens_twice : List ScriptLine
+listens_twice = runs 2 (command.Listen c_name) ∷ runs 3 command.Begin ∷ runs 4 (command.Unlisten c_name) ∷ runs 5 command.Commit ∷ runs 6 (command.Listen c_name) ∷ []
+
+-- its items, with the point 4 at first and this point at last
+abbrev pub listens_twice_items : ℕ → List Item
+listens_twice_items point = enlisted 2 3 4 ++ answered 3 tag.Begin ++ answered 4 tag.Unlisten ++ (Line 5 ∷ Leave ∷ Reply tag.Commit None ∷ []) ++ enlisted 6 3 point
 
 -- \quit
 abbrev pub quit_alone : List ScriptLine
@@ -167,6 +183,14 @@ other_read = Read 3 4 (delivered 3 1006 x_note ∷ [])
 -- LISTEN c; BEGIN; \await f
 abbrev pub await_in_block : List ScriptLine
 await_in_block = runs 2 (command.Listen c_name) ∷ runs 3 command.Begin ∷ line_of 4 (Await 0) ∷ []
+
+-- BEGIN; LISTEN c; NOTIFY c, 'x'; COMMIT
+abbrev pub listen_notify_block : List ScriptLine
+listen_notify_block = runs 2 command.Begin ∷ runs 3 (command.Listen c_name) ∷ runs 4 (command.Notify x_note) ∷ runs 5 command.Commit ∷ []
+
+-- another session's transaction, and an own one
+abbrev pub other_and_own : List Tx
+other_and_own = sent_by 6 7 (x_note ∷ []) ∷ sent_by 5 7 (x_note ∷ []) ∷ []
 
 -- Summaries.
 

@@ -1,17 +1,21 @@
-ghost use Rattle.std.specs.Prelude.{◌≡◌, [], ◌∷◌, ◌++◌, Some, None, codes};
-ghost use Rattle.pgn_base.specs.declared.format.Format.TheVariants.{One};
+ghost use Rattle.std.specs.Prelude.{◌≡◌, List, [], ◌∷◌, ◌++◌, Some, None, codes};
+ghost use Rattle.pgn_base.specs.declared.format.Format.TheVariants.{One, Two};
 ghost use Rattle.pgn_base.specs.declared.answers.Tag.TheVariants as tag;
 ghost use Rattle.pgn_base.specs.declared.answers.Needs.TheVariants as needs;
 ghost use Rattle.pgn_base.specs.declared.answers.Which.TheVariants.{ChannelEmpty};
 ghost use Rattle.pgn_base.specs.declared.answers.Refusal.TheVariants as refused;
 ghost use Rattle.pgn_model.specs.declared.block_state.BlockState.TheVariants.{Idle};
-ghost use Rattle.pgn_model.specs.declared.scenario.Act.TheVariants.{Signal, Await, Quit};
+ghost use Rattle.pgn_model.specs.declared.scenario.Act.TheVariants.{Run, Signal, Await, Quit};
 ghost use Rattle.pgn_model.specs.declared.tx.Fate.TheVariants.{Committed, Aborted};
-ghost use Rattle.pgn_model.specs.declared.item.Item.TheVariants.{Line, Enlist, QueueFull, Leave, Reply, Refuse, Channels, Used, Raise, Found, TimedOut};
-ghost use Rattle.pgn_model.specs.Walk.{default_settings};
+ghost use Rattle.pgn_model.specs.declared.item.Item.TheVariants.{Line, Enlist, Publish, QueueFull, Leave, Reply, Refuse, Channels, Used, Raise, Found, TimedOut, Read};
+ghost use Rattle.pgn_base.specs.declared.queue_answers.Full.{Full};
+ghost use Rattle.pgn_base.specs.declared.queue_answers.Usage.{Usage};
+ghost use Rattle.pgn_model.specs.declared.command.Command.TheVariants as command;
+ghost use Rattle.pgn_model.specs.declared.tx.Tx.{Tx};
+ghost use Rattle.pgn_model.specs.Walk.{State, default_settings, MeasuresQueue};
 ghost use Rattle.pgn_model.specs.Trace.{state_after};
 ghost use Rattle.pgn_model.specs.Legal.{IsFullThere, StoodAt, ends, Legal};
-ghost use Rattle.pgn_model.specs.QueueUse.{IsCutShort, ShowsUsage};
+ghost use Rattle.pgn_model.specs.QueueUse.{IsCutShort, NoPage, ShowsUsage};
 ghost use Rattle.pgn_model.specs.Packing.{place_at};
 ghost use Rattle.pgn_model.specs.Text.{item_lines, brief};
 ghost use Rattle.pgn_model.specs.examples.Scripts.{finished};
@@ -19,8 +23,8 @@ ghost use Rattle.pgn_model.specs.examples.Runs.{hello};
 ghost use Rattle.pgn_model.specs.examples.Blocks.{left_journal};
 ghost use Rattle.pgn_model.specs.examples.FullQueue.{two_pages, full_scenario, full_run_journal, full_listener_trace, full_sender_trace, larger_run_journal};
 ghost use Rattle.pgn_model.specs.examples.RefusedRuns.{with_item, three_pages, usage_trace};
-ghost use Rattle.pgn_model.specs.examples.Walks.{its_terms, IsTraceOf, IsRefused, x_note, y_note, c_name, answered, enlisted, published, own_journal, other_journal, aborted_journal, notify_alone, listen_alone, listen_notify, listen_then};
-ghost use Rattle.pgn_model.specs.examples.WholeRuns.{notify_signal, await_twice, other_flag_greater, other_flags_known, full_of, met_full, aborted_by, await_notify, second_aborted, listen_usage, none_in_use, used, full_run_usage, usage_scenario, channels_in_block, channels_in_block_front, quit_alone, quit_in_block, each_refused, refused_with, bad_alone, begin_release, back_from_failed, back_from_failed_items, back_from_failed_journal, other_read, await_in_block, counted_journal, counted_traces, counted_text};
+ghost use Rattle.pgn_model.specs.examples.Walks.{walker, its_terms, its_trace, settings_of_two, IsTraceOf, IsRefused, x_note, y_note, c_name, answered, enlisted, published, own_journal, other_journal, aborted_journal, notify_alone, listen_alone, listen_notify, listen_then};
+ghost use Rattle.pgn_model.specs.examples.WholeRuns.{notify_signal, await_twice, other_flag_greater, other_flags_known, flags_in_failed, full_of, met_full, aborted_by, await_notify, second_aborted, listen_usage, none_in_use, used, full_run_usage, usage_scenario, channels_in_block, channels_in_block_front, listen_rolled_back, listens_twice, listens_twice_items, quit_alone, quit_in_block, each_refused, refused_with, bad_alone, begin_release, back_from_failed, back_from_failed_items, back_from_failed_journal, other_read, await_in_block, listen_notify_block, other_and_own, counted_journal, counted_traces, counted_text};
 
 /// A flag is raised with what the session was told, and not with less.
 pub fn raised_flags()
@@ -42,6 +46,11 @@ pub fn other_flags()
     ensures told_stays { IsRefused other_flag_greater own_journal (published 2 3 ++ Line 3 ∷ Raise 4 ∷ Line 4 ∷ Found 3 ∷ Line 5 ∷ Raise 3 ∷ []) None }
     ensures times_out { IsTraceOf other_flags_known [] (Line 2 ∷ Raise 3 ∷ Line 3 ∷ Found 3 ∷ Line 4 ∷ TimedOut 10000000 ∷ []) None }
     ensures one_look_more { IsRefused other_flags_known [] (Line 2 ∷ Raise 3 ∷ Line 3 ∷ Found 3 ∷ Line 4 ∷ TimedOut 10000001 ∷ []) None }
+{}
+
+/// In a failed block too a flag is raised and found, and an await times out.
+pub fn flags_in_a_failed_block()
+    ensures { IsTraceOf flags_in_failed [] (answered 2 tag.Begin ++ (Line 3 ∷ Refuse (refused.Syntax 7) ∷ Line 4 ∷ Raise 3 ∷ Line 5 ∷ TimedOut 10000000 ∷ Line 6 ∷ Found 3 ∷ []) ++ answered 7 tag.Rollback) None }
 {}
 
 /// A transaction that meets a full queue stands in the journal as its session sent it, aborted, with as many notifications queued, after
@@ -68,6 +77,12 @@ pub fn full_queues_shown()
     ensures floor_page { IsFullThere two_pages full_run_journal (QueueFull (full_of 5 0 5 None) []) → ⊥ }
     ensures head_page { IsFullThere three_pages full_run_journal (QueueFull (record (full_of 5 0 3 (Some 1)) { head_page = 3 }) []) → ⊥ }
     ensures another_count { IsFullThere two_pages larger_run_journal (QueueFull (full_of 3 1 3 None) []) → ⊥ }
+{}
+
+/// Full queues and usages go by the format of the entries and by the limit that are set.
+pub fn settings_of_the_queue()
+    ensures full { (journal : List Tx) (full : Full) → IsFullThere settings_of_two journal (QueueFull full []) → NoPage Two 256 journal full }
+    ensures usage { (s : State) (usage : Usage) → MeasuresQueue (record (its_terms []) { settings = settings_of_two }) own_journal s usage → ShowsUsage Two 256 own_journal usage }
 {}
 
 /// A transaction is cut short where a page ends or where its next notification does not fit, and not elsewhere.
@@ -106,6 +121,8 @@ pub fn where_sessions_stood()
     ensures point { StoodAt (ends two_pages full_scenario.sections (full_listener_trace ∷ full_sender_trace ∷ [])) (1, 3) }
     ensures read_end { StoodAt (ends two_pages full_scenario.sections (full_listener_trace ∷ full_sender_trace ∷ [])) (1, 8) }
     ensures sender { StoodAt (ends two_pages full_scenario.sections (full_listener_trace ∷ full_sender_trace ∷ [])) (2, 3) → ⊥ }
+    ensures base_by_number { StoodAt (ends default_settings (walker listen_alone ∷ []) (its_trace (enlisted 2 3 4) (Some 4) ∷ [])) (5, 3) }
+    ensures not_by_database { StoodAt (ends default_settings (walker listen_alone ∷ []) (its_trace (enlisted 2 3 4) (Some 4) ∷ [])) (7, 3) → ⊥ }
     ensures between { StoodAt (ends two_pages full_scenario.sections (full_listener_trace ∷ full_sender_trace ∷ [])) (1, 5) → ⊥ }
 {}
 
@@ -113,6 +130,14 @@ pub fn where_sessions_stood()
 pub fn channels_as_before()
     ensures lawful { IsTraceOf channels_in_block [] (channels_in_block_front ++ Line 5 ∷ Channels (c_name ∷ []) ∷ Reply (tag.Select 1) None ∷ []) (Some 3) }
     ensures of_the_block { IsRefused channels_in_block [] (channels_in_block_front ++ Line 5 ∷ Channels (c_name ∷ codes "d" ∷ []) ∷ Reply (tag.Select 2) None ∷ []) (Some 3) }
+{}
+
+/// A LISTEN that was rolled back makes no listener. One that stops listening in a block leaves at its end, and one that listens again
+/// does so at no point below where it stood before.
+pub fn listening_again()
+    ensures rolled_back { IsTraceOf listen_rolled_back [] (answered 2 tag.Begin ++ answered 3 tag.Savepoint ++ answered 4 tag.Listen ++ answered 5 tag.Rollback ++ answered 6 tag.Commit) None }
+    ensures again { IsTraceOf listens_twice other_journal (listens_twice_items 4) (Some 4) }
+    ensures below_a_mark { IsRefused listens_twice other_journal (listens_twice_items 3) (Some 3) }
 {}
 
 /// A session that quits leaves where it is a listener, and its block and its set end.
@@ -141,6 +166,9 @@ pub fn reads_in_lines()
     ensures in_await { IsTraceOf (listen_then (Await 0)) other_journal (enlisted 2 3 3 ++ Line 3 ∷ other_read ∷ Found 4 ∷ []) (Some 4) }
     ensures in_block { IsRefused await_in_block other_journal (enlisted 2 3 3 ++ answered 3 tag.Begin ++ Line 4 ∷ other_read ∷ Found 4 ∷ []) (Some 4) }
     ensures before_raise { IsRefused (listen_then (Signal 0)) other_journal (enlisted 2 3 3 ++ Line 3 ∷ other_read ∷ Raise 3 ∷ []) (Some 4) }
+    ensures before_publish { IsRefused listen_notify_block other_and_own (answered 2 tag.Begin ++ answered 3 tag.Listen ++ answered 4 tag.Notify ++ Line 5 ∷ Enlist 3 3 ∷ Read 3 4 [] ∷ Publish 4 (x_note ∷ []) ∷ Reply tag.Commit None ∷ []) (Some 4) }
+    ensures before_rows { IsRefused (listen_then (Run command.ListeningChannels)) other_journal (enlisted 2 3 3 ++ Line 3 ∷ other_read ∷ Channels (c_name ∷ []) ∷ Reply (tag.Select 1) None ∷ []) (Some 4) }
+    ensures before_usage { IsRefused listen_usage other_journal (enlisted 2 3 3 ++ Line 3 ∷ other_read ∷ Used (none_in_use 4 4 None) ∷ Reply (tag.Select 1) None ∷ []) (Some 4) }
     ensures before_leave { IsRefused (listen_then Quit) other_journal (enlisted 2 3 3 ++ Line 3 ∷ other_read ∷ Leave ∷ []) None }
 {}
 
