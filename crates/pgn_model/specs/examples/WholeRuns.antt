@@ -42,6 +42,10 @@ other_flags_known = line_of 2 (Signal 1) ∷ line_of 3 (Await 2) ∷ line_of 4 (
 abbrev pub flags_in_failed : List ScriptLine
 flags_in_failed = runs 2 command.Begin ∷ runs 3 (command.Bad 7) ∷ line_of 4 (Signal 0) ∷ line_of 5 (Await 1) ∷ line_of 6 (Await 0) ∷ runs 7 command.Commit ∷ []
 
+-- SELECT pg_notification_queue_usage(); \signal f
+abbrev pub usage_signal : List ScriptLine
+usage_signal = runs 2 command.QueueUsage ∷ line_of 3 (Signal 0) ∷ []
+
 -- Full queues.
 
 -- a full queue, with this number, as many notifications queued, this floor mark and this holder
@@ -149,6 +153,10 @@ bad_alone = runs 2 (command.Bad 7) ∷ []
 -- BEGIN; RELEASE s
 abbrev pub begin_release : List ScriptLine
 begin_release = runs 2 command.Begin ∷ runs 3 (command.Release (codes "s")) ∷ []
+
+-- BEGIN; SAVEPOINT s; RELEASE s; ROLLBACK TO s
+abbrev pub back_to_released : List ScriptLine
+back_to_released = runs 2 command.Begin ∷ runs 3 (command.Savepoint (codes "s")) ∷ runs 4 (command.Release (codes "s")) ∷ runs 5 (command.RollbackTo (codes "s")) ∷ []
 
 -- BEGIN; NOTIFY c, 'a'; SAVEPOINT s; NOTIFY c, 'z'; LISTEN 5; SAVEPOINT t; RELEASE s; ROLLBACK TO t; ROLLBACK TO s; COMMIT
 abbrev pub back_from_failed : List ScriptLine

@@ -24,7 +24,7 @@ ghost use Rattle.pgn_model.specs.examples.Blocks.{left_journal};
 ghost use Rattle.pgn_model.specs.examples.FullQueue.{two_pages, full_scenario, full_run_journal, full_listener_trace, full_sender_trace, larger_run_journal};
 ghost use Rattle.pgn_model.specs.examples.RefusedRuns.{with_item, three_pages, usage_trace};
 ghost use Rattle.pgn_model.specs.examples.Walks.{walker, its_terms, its_trace, settings_of_two, IsTraceOf, IsRefused, x_note, y_note, c_name, answered, enlisted, published, own_journal, other_journal, aborted_journal, notify_alone, listen_alone, listen_notify, listen_then};
-ghost use Rattle.pgn_model.specs.examples.WholeRuns.{notify_signal, await_twice, other_flag_greater, other_flags_known, flags_in_failed, full_of, met_full, aborted_by, await_notify, second_aborted, listen_usage, none_in_use, used, full_run_usage, usage_scenario, channels_in_block, channels_in_block_front, listen_rolled_back, listens_twice, listens_twice_items, quit_alone, quit_in_block, each_refused, refused_with, bad_alone, begin_release, back_from_failed, back_from_failed_items, back_from_failed_journal, other_read, await_in_block, listen_notify_block, other_and_own, counted_journal, counted_traces, counted_text};
+ghost use Rattle.pgn_model.specs.examples.WholeRuns.{notify_signal, await_twice, other_flag_greater, other_flags_known, flags_in_failed, usage_signal, full_of, met_full, aborted_by, await_notify, second_aborted, listen_usage, none_in_use, used, full_run_usage, usage_scenario, channels_in_block, channels_in_block_front, listen_rolled_back, listens_twice, listens_twice_items, quit_alone, quit_in_block, each_refused, refused_with, bad_alone, begin_release, back_to_released, back_from_failed, back_from_failed_items, back_from_failed_journal, other_read, await_in_block, listen_notify_block, other_and_own, counted_journal, counted_traces, counted_text};
 
 /// A flag is raised with what the session was told, and not with less.
 pub fn raised_flags()
@@ -46,6 +46,13 @@ pub fn other_flags()
     ensures told_stays { IsRefused other_flag_greater own_journal (published 2 3 ++ Line 3 ∷ Raise 4 ∷ Line 4 ∷ Found 3 ∷ Line 5 ∷ Raise 3 ∷ []) None }
     ensures times_out { IsTraceOf other_flags_known [] (Line 2 ∷ Raise 3 ∷ Line 3 ∷ Found 3 ∷ Line 4 ∷ TimedOut 10000000 ∷ []) None }
     ensures one_look_more { IsRefused other_flags_known [] (Line 2 ∷ Raise 3 ∷ Line 3 ∷ Found 3 ∷ Line 4 ∷ TimedOut 10000001 ∷ []) None }
+{}
+
+/// Neither its point, nor a read, nor a usage tells a session of more: the flag is raised as before.
+pub fn what_tells_nothing()
+    ensures point { IsTraceOf (listen_then (Signal 0)) other_journal (enlisted 2 3 4 ++ Line 3 ∷ Raise 3 ∷ []) (Some 4) }
+    ensures read { IsTraceOf (listen_then (Signal 0)) other_journal (enlisted 2 3 3 ++ other_read ∷ Line 3 ∷ Raise 3 ∷ []) (Some 4) }
+    ensures usage { IsTraceOf usage_signal other_journal (used 2 (none_in_use 4 4 None) ++ Line 3 ∷ Raise 3 ∷ []) None }
 {}
 
 /// In a failed block too a flag is raised and found, and an await times out.
@@ -154,6 +161,12 @@ pub fn refusals_of_each_kind()
     ensures another_byte { IsRefused bad_alone [] (Line 2 ∷ Refuse (refused.Syntax 8) ∷ []) None }
     ensures another_kind { IsRefused bad_alone [] (Line 2 ∷ Refuse refused.Aborted ∷ []) None }
     ensures another_name { IsRefused begin_release [] (answered 2 tag.Begin ++ Line 3 ∷ Refuse (refused.NoSavepoint (codes "t")) ∷ []) None }
+{}
+
+/// A savepoint that was released is none any more.
+pub fn released_savepoint()
+    ensures refused { IsTraceOf back_to_released [] (answered 2 tag.Begin ++ answered 3 tag.Savepoint ++ answered 4 tag.Release ++ Line 5 ∷ Refuse (refused.NoSavepoint (codes "s")) ∷ []) None }
+    ensures not_there { IsRefused back_to_released [] (answered 2 tag.Begin ++ answered 3 tag.Savepoint ++ answered 4 tag.Release ++ answered 5 tag.Rollback) None }
 {}
 
 /// A failed block keeps its list and puts nothing into it: ROLLBACK TO goes back into it, and its COMMIT sends what survives.
