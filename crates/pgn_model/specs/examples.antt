@@ -13,3 +13,4 @@ pub mod Flags
 pub mod FullQueue
 pub mod RefusedRuns
 pub mod Walks
+pub mod WholeRuns

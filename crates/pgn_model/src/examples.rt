@@ -14,3 +14,4 @@ pub mod runs;
 pub mod savepoints;
 pub mod texts;
 pub mod walks;
+pub mod whole_runs;
