@@ -4,7 +4,6 @@ use Rattle.pgn_base.specs.declared.note.Note.{Note}
 use Rattle.pgn_model.specs.declared.tx.Tx.{Tx}
 use Rattle.pgn_model.specs.declared.tx.Fate.{Fate}
 use Rattle.pgn_model.specs.declared.command.Command.{Command}
-use Rattle.pgn_model.specs.declared.scenario.Act.{Act}
 use Rattle.pgn_model.specs.declared.scenario.Act.TheVariants.{Run}
 use Rattle.pgn_model.specs.declared.scenario.ScriptLine.{ScriptLine}
 use Rattle.pgn_model.specs.Inputs.{script_line}
