@@ -120,6 +120,10 @@ quit_alone = line_of 2 Quit ∷ []
 abbrev pub quit_in_block : List ScriptLine
 quit_in_block = runs 2 (command.Listen c_name) ∷ runs 3 command.Begin ∷ line_of 4 Quit ∷ []
 
+-- LISTEN c; BEGIN; SAVEPOINT s; \quit
+abbrev pub quit_with_savepoint : List ScriptLine
+quit_with_savepoint = runs 2 (command.Listen c_name) ∷ runs 3 command.Begin ∷ runs 4 (command.Savepoint (codes "s")) ∷ line_of 5 Quit ∷ []
+
 -- Refusals and failed blocks.
 
 -- SAVEPOINT s; ROLLBACK TO s; RELEASE s; LISTEN 5; NOTIFY with an empty channel; BEGIN; RELEASE s; NOTIFY c, 'x'

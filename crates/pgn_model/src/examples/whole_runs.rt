@@ -24,7 +24,7 @@ ghost use Rattle.pgn_model.specs.examples.Blocks.{left_journal};
 ghost use Rattle.pgn_model.specs.examples.FullQueue.{two_pages, full_scenario, full_run_journal, full_listener_trace, full_sender_trace, larger_run_journal};
 ghost use Rattle.pgn_model.specs.examples.RefusedRuns.{with_item, three_pages, usage_trace};
 ghost use Rattle.pgn_model.specs.examples.Walks.{walker, its_terms, its_trace, settings_of_two, IsTraceOf, IsRefused, x_note, y_note, c_name, answered, enlisted, published, own_journal, other_journal, aborted_journal, notify_alone, listen_alone, listen_notify, listen_then};
-ghost use Rattle.pgn_model.specs.examples.WholeRuns.{notify_signal, await_twice, other_flag_greater, other_flags_known, flags_in_failed, usage_signal, full_of, met_full, aborted_by, await_notify, second_aborted, listen_usage, none_in_use, used, full_run_usage, usage_scenario, channels_in_block, channels_in_block_front, listen_rolled_back, listens_twice, listens_twice_items, quit_alone, quit_in_block, each_refused, refused_with, bad_alone, begin_release, back_to_released, back_from_failed, back_from_failed_items, back_from_failed_journal, other_read, await_in_block, listen_notify_block, other_and_own, counted_journal, counted_traces, counted_text};
+ghost use Rattle.pgn_model.specs.examples.WholeRuns.{notify_signal, await_twice, other_flag_greater, other_flags_known, flags_in_failed, usage_signal, full_of, met_full, aborted_by, await_notify, second_aborted, listen_usage, none_in_use, used, full_run_usage, usage_scenario, channels_in_block, channels_in_block_front, listen_rolled_back, listens_twice, listens_twice_items, quit_alone, quit_in_block, quit_with_savepoint, each_refused, refused_with, bad_alone, begin_release, back_to_released, back_from_failed, back_from_failed_items, back_from_failed_journal, other_read, await_in_block, listen_notify_block, other_and_own, counted_journal, counted_traces, counted_text};
 
 /// A flag is raised with what the session was told, and not with less.
 pub fn raised_flags()
@@ -151,6 +151,8 @@ pub fn listening_again()
 pub fn quits()
     ensures no_listener { IsTraceOf quit_alone [] (Line 2 ∷ []) None }
     ensures leaves_nothing { IsRefused quit_alone [] (Line 2 ∷ Leave ∷ []) None }
+    ensures with_savepoint { IsTraceOf quit_with_savepoint [] (enlisted 2 3 3 ++ answered 3 tag.Begin ++ answered 4 tag.Savepoint ++ Line 5 ∷ Leave ∷ []) None }
+    ensures stays_with_savepoint { IsRefused quit_with_savepoint [] (enlisted 2 3 3 ++ answered 3 tag.Begin ++ answered 4 tag.Savepoint ++ Line 5 ∷ []) (Some 3) }
     ensures block { (state_after (its_terms quit_in_block) (enlisted 2 3 3 ++ answered 3 tag.Begin ++ Line 4 ∷ Leave ∷ [])).block ≡ Idle }
     ensures set { (state_after (its_terms quit_in_block) (enlisted 2 3 3 ++ answered 3 tag.Begin ++ Line 4 ∷ Leave ∷ [])).set ≡ [] }
 {}
@@ -182,7 +184,7 @@ pub fn reads_in_lines()
     ensures before_publish { IsRefused listen_notify_block other_and_own (answered 2 tag.Begin ++ answered 3 tag.Listen ++ answered 4 tag.Notify ++ Line 5 ∷ Enlist 3 3 ∷ Read 3 4 [] ∷ Publish 4 (x_note ∷ []) ∷ Reply tag.Commit None ∷ []) (Some 4) }
     ensures before_rows { IsRefused (listen_then (Run command.ListeningChannels)) other_journal (enlisted 2 3 3 ++ Line 3 ∷ other_read ∷ Channels (c_name ∷ []) ∷ Reply (tag.Select 1) None ∷ []) (Some 4) }
     ensures before_usage { IsRefused listen_usage other_journal (enlisted 2 3 3 ++ Line 3 ∷ other_read ∷ Used (none_in_use 4 4 None) ∷ Reply (tag.Select 1) None ∷ []) (Some 4) }
-    ensures before_leave { IsRefused (listen_then Quit) other_journal (enlisted 2 3 3 ++ Line 3 ∷ other_read ∷ Leave ∷ []) None }
+    ensures before_leave { IsRefused (listen_then Quit) other_journal (enlisted 2 3 3 ++ Line 3 ∷ Read 3 4 [] ∷ Leave ∷ []) None }
 {}
 
 /// The lines of the items that tell of the queue and of channels.
