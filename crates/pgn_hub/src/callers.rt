@@ -1,5 +1,5 @@
 //! Callers of any hub, which show that the conditions of each call can be met from what the calls before it said.
-ghost use Rattle.std.specs.Prelude.{◌≡◌, ◌≢◌, ◌<◌, ◌≤◌, [], ◌∷◌, length, Some, None, IsSome, IfOk, AllPairs};
+ghost use Rattle.std.specs.Prelude.{◌≡◌, ◌≢◌, ℕ, ◌<◌, ◌≤◌, [], ◌∷◌, ◌++◌, length, Some, None, IsSome, IfOk, AllPairs};
 ghost use Rattle.pgn_hub.specs.Laws.{KeepsSeat};
 
 use crate::Hub;
@@ -29,7 +29,7 @@ pub fn hear_and_read<H: Hub>(
     hub.scan(alloc, into, set, out)
 }
 
-/// A session that is no listener listens, sends, reads, and leaves: its own notifications are read.
+/// A session that is no listener listens, sends, reads, and leaves: it has read past its own transaction.
 pub fn listen_send_leave<H: Hub, R: Wait>(
     hub: &H,
     rt: &R,
@@ -46,10 +46,11 @@ pub fn listen_send_leave<H: Hub, R: Wait>(
     requires few { length notes.now ≤ (H.Pass.known pass.old).notes_left }
     ensures own { H.is_pass hub.now pass.new }
     ensures left { (H.Pass.known pass.new).mark ≡ None }
+    ensures sent { (x : ℕ) × ((H.Pass.known pass.new).own ≡ (H.Pass.known pass.old).own ++ x ∷ []) × IfOk result (λ to. x < to) }
     ensures seat { KeepsSeat (H.Pass.known pass.old) (H.Pass.known pass.new) }
 {
-    let enlisted = hub.enlist(pass);
-    let sent = hub.publish(rt, pass, notes);
+    let _point = hub.enlist(pass);
+    let _sent = hub.publish(rt, pass, notes);
     let read = hub.scan(alloc, pass, set, out);
     hub.leave(pass);
     read
