@@ -1,1 +1,2 @@
+pub mod ListeningLaws
 pub mod OutsideLaws

@@ -1,6 +1,8 @@
+pub mod Places
 pub mod Texts
 pub mod Names
 pub mod Notes
 pub mod Channels
+pub mod Listening
 pub mod Outside
 pub mod Memory

@@ -1,5 +1,5 @@
 -- What a read or a write did to known bytes, and why it failed.
-use Rattle.std.specs.Prelude.{◌≡◌, ℕ, ◌<◌, ◌≤◌, ◌⊎◌, List, ◌++◌, Option, None, Some, Result, OnErr, MatchResult}
+use Rattle.std.specs.Prelude.{◌≡◌, ℕ, ◌<◌, ◌≤◌, ◌⊎◌, List, ◌++◌, Option, None, Some, Result, OnErr, OnOk, MatchResult}
 use Rattle.std.specs.Io.KnownBytes.{Appends}
 
 -- where a count of faults stands still
@@ -10,10 +10,11 @@ last_count = 18446744073709551615
 abbrev pub Rose : ℕ → ℕ → Type 0
 Rose before now = (before < now) ⊎ (last_count ≤ now)
 
--- the count doesn't fall, and a call fails only where a fault was counted
+-- a call fails only where a fault was counted, and where it does not fail none was; the count doesn't fall
 pub record HasCause {T E : Type 0} (before now : ℕ) (result : Result T E) : Type 0 where
   pub later : before ≤ now
   pub failed : OnErr result (Rose before now)
+  pub passed : OnOk result (now ≡ before)
 
 -- known bytes grow by a prefix of a text
 abbrev pub AppendsPrefix : Option (List ℕ) → Option (List ℕ) → List ℕ → Type 0

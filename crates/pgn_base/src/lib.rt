@@ -11,6 +11,7 @@
 mod answers;
 mod copied;
 mod format;
+mod in_place;
 mod limits;
 mod listen_set;
 mod memory_sink;
@@ -23,6 +24,7 @@ mod queue_answers;
 mod seq;
 mod sink;
 mod source;
+mod text;
 
 pub use answers::{Needs, Refusal, Tag, Warning, Which};
 pub use copied::Copied;
@@ -43,6 +45,7 @@ pub use queue_answers::{Enlisted, Full, Usage};
 pub use seq::Seq;
 pub use sink::{Sink, write_all};
 pub use source::{Failed, Source};
+pub use text::{TEXT_BYTES_IN_PLACE, Text};
 
 #[cfg(test)]
 mod tests;

@@ -1,7 +1,7 @@
 ghost use Rattle.std.specs.Prelude.{◌≡◌, ◌↔◌, ◌+◌, ◌<◌, ◌≤◌, ◌⊎◌, [], Contains, IfOk, IsErr, OnErr, Some, length, min};
 ghost use Rattle.std.specs.Io.KnownBytes.{WriteAppends};
 ghost use Rattle.pgn_base.specs.Memory.{next_count};
-ghost use Rattle.pgn_base.specs.Outside.{HasCause, Rose};
+ghost use Rattle.pgn_base.specs.Outside.{Rose};
 
 use crate::{Failed, Sink};
 use std::alloc::{AllocError, Global};
@@ -82,8 +82,10 @@ impl Sink for MemSink {
     fn write(&mut self, piece: &[u8]) -> Result<usize, Failed>
         ensures within { IfOk result (λ n. n ≤ length piece.now) }
         ensures bytes { WriteAppends (Some self.old.held) (Some self.new.held) result piece.now }
+        ensures later { self.old.faults ≤ self.new.faults }
+        ensures failed { OnErr result (Rose self.old.faults self.new.faults) }
         ensures zero { IfOk result (λ n. n ≡ 0 → 0 < length piece.now → Rose self.old.faults self.new.faults) }
-        ensures cause { HasCause self.old.faults self.new.faults result }
+        ensures took { IfOk result (λ n. (0 < n) ⊎ (length piece.now ≡ 0) → self.new.faults ≡ self.old.faults) }
 
         // It fails where its number is one of those, and nowhere else.
         ensures fails { IsErr result ↔ Contains self.old.fails self.new.calls }
@@ -94,7 +96,6 @@ impl Sink for MemSink {
         // A fault is counted where it fails, and where there is no room for any of a piece.
         ensures err { OnErr result (self.new.faults ≡ next_count self.old.faults) }
         ensures used_up { IfOk result (λ n. n ≡ 0 → 0 < length piece.now → self.new.faults ≡ next_count self.old.faults) }
-        ensures ok { IfOk result (λ n. (0 < n) ⊎ (length piece.now ≡ 0) → self.new.faults ≡ self.old.faults) }
 
         ensures same_fails { self.new.fails ≡ self.old.fails }
         ensures same_most { self.new.most ≡ self.old.most }

@@ -1,6 +1,5 @@
-ghost use Rattle.std.specs.Prelude.{◌&&◌, ◌++◌, All, bytes_eq};
+ghost use Rattle.std.specs.Prelude.{◌&&◌, [], ◌∷◌, All, bytes_eq};
 ghost use Rattle.std.proofs.Common.{rules};
-ghost use Rattle.std.specs.Hash as fed;
 ghost use Rattle.std.specs.Cmp.Rules.{comparing, hashing};
 ghost use Rattle.pgn_base.specs.Notes.{IsNote};
 
@@ -40,7 +39,7 @@ impl Eq for Note {
 }
 
 impl Hash for Note {
-    ghost hash_input = { λ note. fed.slice fed.u8 note.channel ++ fed.slice fed.u8 note.payload };
+    ghost hash_input = { λ note. note.channel ∷ note.payload ∷ [] };
 
     ghost respects_eq = { Prim.search (hashing, rules) };
 

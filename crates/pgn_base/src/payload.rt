@@ -1,12 +1,12 @@
-ghost use Rattle.std.specs.Prelude.{◌≡◌, ◌<◌, ◌≤◌, ◌↔◌, length, Contains, IfOk, IsErrOf, bytes_eq};
+ghost use Rattle.std.specs.Prelude.{◌≡◌, ◌<◌, ◌≤◌, ◌↔◌, [], ◌∷◌, length, Contains, IfOk, IsErrOf, bytes_eq};
 ghost use Rattle.std.proofs.Common.{rules};
-ghost use Rattle.std.specs.Hash as fed;
 ghost use Rattle.std.specs.Cmp.{partial_equiv_from_equiv};
 ghost use Rattle.std.specs.Cmp.Lexicographic.{nat_list_eq_equiv};
 ghost use Rattle.std.specs.Cmp.Rules.{hashing};
 ghost use Rattle.pgn_base.specs.Texts.{IsPayload};
+ghost use Rattle.pgn_base.specs.declared.text.TheConstants.{TEXT_BYTES_IN_PLACE};
 
-use crate::{Copied, PAYLOAD_BYTES_MAX};
+use crate::{Copied, PAYLOAD_BYTES_MAX, Text};
 use std::alloc::{AllocError, Global};
 use std::hash::{Hash, Hasher};
 use std::marker::Model;
@@ -14,10 +14,10 @@ use std::marker::Model;
 /// What a notification says: 0 to 7,999 bytes of UTF-8 without a zero byte. Contracts see its bytes.
 #[derive(Debug, Drop)]
 pub struct Payload {
-    text: String,
+    text: Text,
 }
 
-/// Why a text is no payload.
+/// Why a text is no payload, or why it was not kept as one.
 #[derive(Clone, Copy, Debug, PartialEq, Eq)]
 pub enum PayloadFault {
     TooLong,
@@ -26,22 +26,23 @@ pub enum PayloadFault {
 }
 
 impl Model for Payload {
-    ghost use Rattle.std.specs.Prelude.{List, ℕ, string_bytes};
+    ghost use Rattle.std.specs.Prelude.{List, ℕ};
     ghost use Rattle.pgn_base.specs.Texts.{IsPayload};
 
     ghost Value = { List ℕ };
 
-    ghost view = { λ payload. string_bytes payload.text };
+    ghost view = { λ payload. payload.text };
 
-    ghost invariant = { λ payload. IsPayload (string_bytes payload.text) };
+    ghost invariant = { λ payload. IsPayload payload.text };
 }
 
 impl Payload {
-    /// The payload of this text. The faults are tested in the order of `PayloadFault`.
+    /// The payload of this text. The faults are tested in the order of `PayloadFault`. A text of at most 22 bytes takes no memory.
     pub fn new(alloc: Global, text: &str) -> Result<Payload, PayloadFault>
         ensures ok { IfOk result (λ payload. payload ≡ text.now) }
         ensures too_long { IsErrOf result PayloadFault.TooLong ↔ (PAYLOAD_BYTES_MAX < length text.now) }
         ensures nul { IsErrOf result PayloadFault.Nul ↔ ((length text.now ≤ PAYLOAD_BYTES_MAX) × Contains text.now 0) }
+        ensures memory { IsErrOf result PayloadFault.Memory → TEXT_BYTES_IN_PLACE < length text.now }
     {
         if text.len() > PAYLOAD_BYTES_MAX {
             return Err(PayloadFault::TooLong);
@@ -49,7 +50,7 @@ impl Payload {
         if text.as_bytes().contains(&0) {
             return Err(PayloadFault::Nul);
         }
-        match String::from_str(alloc, text) {
+        match Text::new(alloc, text) {
             Ok(text) => Ok(Payload { text }),
             Err(AllocError) => Err(PayloadFault::Memory),
         }
@@ -65,7 +66,7 @@ impl Payload {
 
 impl Copied for Payload {
     fn copy(&self, alloc: Global) -> Result<Self, AllocError> {
-        let text = String::from_str(alloc, self.text.as_str())?;
+        let text = self.text.copy(alloc)?;
         Ok(Payload { text })
     }
 }
@@ -85,11 +86,11 @@ impl Eq for Payload {
 }
 
 impl Hash for Payload {
-    ghost hash_input = { fed.slice fed.u8 };
+    ghost hash_input = { λ payload. payload ∷ [] };
 
     ghost respects_eq = { Prim.search (hashing, rules) };
 
     fn hash<H: Hasher>(&self, state: &mut H) {
-        self.as_bytes().hash(state);
+        state.write(self.as_bytes());
     }
 }

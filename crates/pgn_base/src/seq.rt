@@ -28,7 +28,8 @@ impl<T> Seq<T> {
         }
     }
 
-    /// The empty list, with room for `n` items.
+    /// The empty list. Memory for `n` items is taken at once, so that a list of known length is not moved while it grows; no
+    /// clause says that a push needs no more.
     pub fn with_capacity(alloc: Global, n: usize) -> Result<Self, AllocError>
         ensures { IfOk result (λ list. list ≡ []) }
     {
@@ -41,6 +42,14 @@ impl<T> Seq<T> {
         ensures { result ≡ items.items }
     {
         Seq { items }
+    }
+
+    /// The items. It takes no memory.
+    pub fn into_items(self) -> Vec<T>
+        ensures { result.items ≡ self }
+    {
+        let Seq { items } = self;
+        items
     }
 
     pub fn as_slice(&self) -> &[T]

@@ -48,6 +48,8 @@ fn names_by_their_length_and_zero_bytes(rt: HostRuntime) -> Result<(), Fail> {
         ("a", 0, "", Some(NameFault::Empty)),
         ("a", 1, "", None),
         ("a", 63, "", None),
+        ("a", 22, "", None),
+        ("a", 23, "", None),
         ("ä", 31, "b", None),
         ("a", 64, "", Some(NameFault::TooLong)),
         ("ä", 32, "", Some(NameFault::TooLong)),
@@ -73,6 +75,8 @@ fn payloads_by_their_length_and_zero_bytes(rt: HostRuntime) -> Result<(), Fail> 
     for (times, end, want) in [
         (0, "", None),
         (1, "", None),
+        (22, "", None),
+        (23, "", None),
         (7999, "", None),
         (8000, "", Some(PayloadFault::TooLong)),
         (0, "\0", Some(PayloadFault::Nul)),
@@ -156,34 +160,117 @@ fn lists_keep_their_order(rt: HostRuntime) -> Result<(), Fail> {
     Ok(())
 }
 
+// Texts in place and texts that are shared, and a copy that outlives the text that it was made of.
+#[test]
+fn copies_of_texts_stay(rt: HostRuntime) -> Result<(), Fail> {
+    let alloc = rt.alloc();
+    for length in [0, 1, 21, 22, 23, 24, 7999] {
+        let want = repeated(alloc, "p", length, "")?;
+        let text = Text::new(alloc, &want)?;
+        let copy = text.copy(alloc)?;
+        drop(text);
+        let second = copy.copy(alloc)?;
+        assert_eq!(rt; copy.as_bytes(), want.as_bytes());
+        assert_eq!(rt; second.as_bytes(), want.as_bytes());
+    }
+    Ok(())
+}
+
+fn is_shared_by_threads<T: Send + Sync>(_value: &T) {}
+
+#[test]
+fn notes_and_sets_go_to_threads(rt: HostRuntime) -> Result<(), Fail> {
+    let alloc = rt.alloc();
+    is_shared_by_threads(&note(alloc, "c", "")?);
+    is_shared_by_threads(&ListenSet::new(alloc));
+    Ok(())
+}
+
+// A channel's name of this length that ends with this letter.
+fn channel(alloc: Global, length: u32, letter: &str) -> Result<Name, Fail> {
+    let text = repeated(alloc, "c", length.saturating_sub(1), letter)?;
+    Ok(Name::new(alloc, &text)?)
+}
+
+fn listen(alloc: Global, names: &[(u32, &str)]) -> Result<Actions, Fail> {
+    let mut actions = Actions::new(alloc);
+    for (length, letter) in names {
+        actions.push(Action::Listen(channel(alloc, *length, *letter)?))?;
+    }
+    Ok(actions)
+}
+
+fn has(alloc: Global, set: &ListenSet, length: u32, letter: &str) -> Result<bool, AllocError> {
+    let text = repeated(alloc, "c", length.saturating_sub(1), letter)?;
+    Ok(set.contains(text.as_bytes()))
+}
+
+const CHANNELS: [(u32, &str); 7] = [
+    (1, "e"),
+    (1, "c"),
+    (1, "d"),
+    (1, "c"),
+    (22, "a"),
+    (23, "a"),
+    (63, "b"),
+];
+
 #[test]
 fn channels_in_order_of_listening(rt: HostRuntime) -> Result<(), Fail> {
     let alloc = rt.alloc();
-    let mut actions = Actions::new(alloc);
-    for channel in ["e", "c", "d", "c"] {
-        actions.push(Action::Listen(Name::new(alloc, channel)?))?;
-    }
-    for channel in ["d", "absent"] {
-        actions.push(Action::Unlisten(Name::new(alloc, channel)?))?;
-    }
     let empty = ListenSet::new(alloc);
-    let set = empty.with(&actions)?;
+    let set = empty.with(&listen(alloc, &CHANNELS)?)?;
     assert!(rt; empty.names().is_empty());
-    let [first, second] = set.names() else {
-        return Err("two channels are left")?;
-    };
-    assert_eq!(rt; first.as_bytes(), b"e".as_slice());
-    assert_eq!(rt; second.as_bytes(), b"c".as_slice());
-    assert!(rt; set.contains(b"c"));
-    assert!(rt; !set.contains(b"d"));
+    assert_eq!(rt; set.names().len(), 6);
+    for (length, letter, want) in [
+        (1, "e", true),
+        (1, "c", true),
+        (1, "d", true),
+        (22, "a", true),
+        (23, "a", true),
+        (63, "b", true),
+        (1, "a", false),
+        (21, "a", false),
+        (22, "b", false),
+        (63, "a", false),
+        (64, "b", false),
+    ] {
+        assert_eq!(rt;
+            has(alloc, &set, length, letter)?,
+            want,
+            "at {length} {letter}"
+        );
+    }
+    Ok(())
+}
 
+#[test]
+fn channels_that_are_left(rt: HostRuntime) -> Result<(), Fail> {
+    let alloc = rt.alloc();
+    let mut set = ListenSet::new(alloc).with(&listen(alloc, &CHANNELS)?)?;
     let mut actions = Actions::new(alloc);
+    for (length, letter) in [(1, "d"), (23, "a"), (9, "x")] {
+        actions.push(Action::Unlisten(channel(alloc, length, letter)?))?;
+    }
+    set.reserve(3)?;
+    set.apply(actions);
+    let [e, c, a, b] = set.names() else {
+        return Err("four channels are left")?;
+    };
+    assert_eq!(rt;
+        (e.as_bytes(), c.as_bytes()),
+        (b"e".as_slice(), b"c".as_slice())
+    );
+    assert_eq!(rt; (a.as_bytes().len(), b.as_bytes().len()), (22, 63));
+    assert!(rt; !has(alloc, &set, 1, "d")?);
+
+    let mut actions = listen(alloc, &CHANNELS)?;
     actions.push(Action::UnlistenAll)?;
-    actions.push(Action::Listen(Name::new(alloc, "c")?))?;
+    actions.push(Action::Listen(channel(alloc, 1, "c")?))?;
     let set = set.with(&actions.copy(alloc)?)?.copy(alloc)?;
     assert_eq!(rt; set.names().len(), 1);
     assert!(rt; set.contains(b"c"));
-    assert!(rt; !set.contains(b"d"));
+    assert!(rt; !set.contains(b"e"));
     Ok(())
 }
 

@@ -1,4 +1,4 @@
-use Rattle.std.proofs.Common.{◌≤◌, ℕ, List, Option, length}
+use Rattle.std.proofs.Common.{◌≡◌, ℕ, List, Option, length}
 use Rattle.std.specs.Io.KnownBytes.{Appends}
 use Rattle.pgn_base.specs.Outside.{AppendsPrefix}
 use Rattle.pgn_base.proofs.sink.write_all.Given as goal
@@ -10,7 +10,7 @@ invariant-loop-rest g l =
     record {
       whole : (new : Option (List ℕ)) → Appends (held l.sink) new l.rest → Appends (held l.fn.sink) new l.fn.piece;
       front : (new : Option (List ℕ)) → AppendsPrefix (held l.sink) new l.rest → AppendsPrefix (held l.fn.sink) new l.fn.piece;
-      later : g.K.Sink.faults l.fn.sink ≤ g.K.Sink.faults l.sink;
+      same : g.K.Sink.faults l.sink ≡ g.K.Sink.faults l.fn.sink;
     }
 
 abbrev pub decreases-loop-rest : goal.decreases-loop-rest
