@@ -6,6 +6,20 @@
 //!
 //! `Source` and `Sink` are where bytes come from and go to. Each tells its bytes where it can, and counts its faults, so that
 //! an answer "read failed" or "write failed" has a cause that a contract can name.
+//!
+//! A caller, in a test:
+//!
+//! ```
+//! let alloc = rt.alloc();
+//! let mut actions = Actions::new(alloc);
+//! actions.push(Action::Listen(Name::new(alloc, "c")?))?;
+//! let set = ListenSet::new(alloc).with(&actions)?;
+//! assert!(rt; set.contains(b"c"));
+//!
+//! let mut sink = MemSink::new(alloc, 100, Vec::new(alloc), 7)?;
+//! assert_eq!(rt; write_all(&mut sink, b"LISTEN\n"), Ok(()));
+//! assert_eq!(rt; sink.held(), b"LISTEN\n".as_slice());
+//! ```
 #![tactic(auto)]
 
 mod answers;

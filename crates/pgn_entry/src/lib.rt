@@ -10,6 +10,27 @@
 //! head with database 0, and zero bytes. Both definitions are `spelled` and `filler` of `pgn_model`.
 //!
 //! None of these calls takes memory. What is read is shown as parts of the bytes that were given.
+//!
+//! A caller, in a test:
+//!
+//! ```
+//! let alloc = rt.alloc();
+//! let note = Note {
+//!     channel: Name::new(alloc, "c")?,
+//!     payload: Payload::new(alloc, "")?,
+//! };
+//! let mut bytes = vec![in alloc; 0; entry_len(&note) as usize]?;
+//! write_entry(&note, DbOid::new(7), Xid::new(4), 1003, &mut bytes);
+//! let entry = EntryView::Entry {
+//!     len: 20,
+//!     db: 7,
+//!     xid: 4,
+//!     pid: 1003,
+//!     channel: b"c",
+//!     payload: b"",
+//! };
+//! assert_eq!(rt; read_entry(&bytes), Ok(entry));
+//! ```
 #![tactic(auto)]
 
 mod entry_fault;

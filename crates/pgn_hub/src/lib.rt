@@ -4,10 +4,32 @@
 //! to what is known of that pass, as an equation over `Known`: what the equation doesn't name stays as it was. So a session can be
 //! proved over any hub, and a hub by its calls alone.
 //!
-//! Readers, joiners and leavers wait for nobody; `publish` and `usage` may wait for the lock. Only `open` and `scan` take memory.
+//! `publish` and `usage` may wait for the lock, and the others wait for nobody. Only `open` and `scan` take memory.
 //!
-//! Laws of what the calls say, and a worked example, stand on public functions with an empty body, in the modules that are named
-//! after them.
+//! Laws of what the calls say, and worked examples, stand on public functions with an empty body, in the modules that are named
+//! after them. `callers` has functions over any hub.
+//!
+//! A caller: a session that is no listener becomes one, and reads.
+//!
+//! ```
+//! ghost use Rattle.std.specs.Prelude.{◌≡◌, None, Some, IfOk};
+//!
+//! fn listen_and_read<H: Hub>(
+//!     hub: &H,
+//!     alloc: Global,
+//!     pass: &mut H::Pass,
+//!     set: &ListenSet,
+//!     out: &mut Vec<Delivery>,
+//! ) -> Result<Xid, AllocError>
+//!     requires own { H.is_pass hub.now pass.old }
+//!     requires out { (H.Pass.known pass.old).mark ≡ None }
+//!     ensures own { H.is_pass hub.now pass.new }
+//!     ensures mark { IfOk result (λ to. (H.Pass.known pass.new).mark ≡ Some to) }
+//! {
+//!     let _enlisted = hub.enlist(pass);
+//!     hub.scan(alloc, pass, set, out)
+//! }
+//! ```
 #![tactic(auto)]
 
 pub mod callers;

@@ -8,6 +8,27 @@
 //!
 //! Laws over the definitions, and worked examples computed from them, stand on public functions with an empty body, in the
 //! modules that are named after them.
+//!
+//! A caller makes values of these types, and says by a definition what it made:
+//!
+//! ```
+//! ghost use Rattle.std.specs.Prelude.{◌≡◌, true, IfOk};
+//! ghost use Rattle.pgn_model.specs.Journal.{is_committed_in};
+//!
+//! fn committed(alloc: Global, section: &Section, note: &Note) -> Result<Tx, AllocError>
+//!     ensures { IfOk result (λ tx. is_committed_in section.now.db tx ≡ true) }
+//! {
+//!     let mut notes = Notes::new(alloc);
+//!     notes.push(note.copy(alloc)?)?;
+//!     Ok(Tx {
+//!         session: section.no,
+//!         db: section.db,
+//!         notes,
+//!         queued: 1,
+//!         fate: Fate::Committed,
+//!     })
+//! }
+//! ```
 #![tactic(auto)]
 
 mod block_state;

@@ -11,6 +11,24 @@
 //!
 //! The room for what `finish` hands out is made by `note` and `action`, so that to roll back, to release and to finish cannot be
 //! refused for want of memory. A notification is hashed once and its text kept once, whatever the savepoints.
+//!
+//! A caller, in a test: LISTEN, SAVEPOINT, NOTIFY, ROLLBACK TO, COMMIT.
+//!
+//! ```
+//! let alloc = rt.alloc();
+//! let name = Name::new(alloc, "s")?;
+//! let mut pending = Pending::new(alloc);
+//! pending.action(Action::Listen(Name::new(alloc, "c")?))?;
+//! pending.mark(Name::new(alloc, "s")?)?;
+//! pending.note(Note {
+//!     channel: Name::new(alloc, "c")?,
+//!     payload: Payload::new(alloc, "x")?,
+//! })?;
+//! assert_eq!(rt; pending.back_to(&name), Ok(()));
+//! let (actions, notes) = pending.finish();
+//! assert_eq!(rt; actions.as_slice().len(), 1);
+//! assert_eq!(rt; notes.as_slice().len(), 0);
+//! ```
 #![tactic(auto)]
 
 mod call;

@@ -6,6 +6,19 @@
 //!
 //! As far as it is built, a scenario is one section whose lines are LISTEN and NOTIFY in one exact spelling; everything else is
 //! answered `NotBuilt` with its line. The session runs over a list of transactions that stands in for the queue.
+//!
+//! A caller, in a test:
+//!
+//! ```
+//! let alloc = rt.alloc();
+//! let input = Vec::from_slice(alloc, b"\\session a 1\nLISTEN c\n")?;
+//! let mut source = MemSource::new(input, Vec::new(alloc), 100);
+//! let mut sink = MemSink::new(alloc, 1000, Vec::new(alloc), 100)?;
+//! let status = run_notify(alloc, &["run"], &mut source, &mut sink);
+//! assert_eq!(rt; status, Status::Done);
+//! let want = b"journal 0\nsession 1 a db 1 pid 1001\n> LISTEN c\n+enlist 3 3\nLISTEN\nend mark 3\n";
+//! assert_eq!(rt; sink.held(), want.as_slice());
+//! ```
 #![tactic(auto)]
 
 mod input;
