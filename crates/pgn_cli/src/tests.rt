@@ -1,8 +1,11 @@
 use crate::adapters::{Input, Output};
 use crate::fault_line::fault_line;
-use pgn_base::{Failed, MemSink, Sink, Source, write_all};
+use crate::program::program;
+use crate::words::NoWords;
+use pgn_base::{Failed, MemSink, MemSource, Sink, Source, write_all};
 use pgn_model::ScenarioFault;
 use pgn_run::Status;
+use std::alloc::{AllocError, Global};
 use std::io;
 use std::io::{ErrorKind, Read, Write};
 use std::test::Fail;
@@ -97,6 +100,146 @@ fn a_line_is_cut_where_its_sink_fails(rt: HostRuntime) -> Result<(), Fail> {
     Ok(())
 }
 
+const SCRIPT: &str = "\\session a 1\n";
+
+const OUTPUT: &str = "journal 0\nsession 1 a db 1 pid 1001\nend\n";
+
+const USAGE: &str =
+    "usage: pgnotify run [--pages N] [--patience N] or pgnotify drill SEED SESSIONS NOTES\n";
+
+// What the program is run on: its words, its input, the read and the write that fail, and how many bytes the errors take.
+#[derive(Clone, Copy)]
+struct Run<'a> {
+    words: Result<&'a [&'a str], NoWords>,
+    input: &'a str,
+    failing_read: u64,
+    failing_write: u64,
+    errors: usize,
+}
+
+const PLAIN: Run<'static> = Run {
+    words: Ok(&["run"]),
+    input: SCRIPT,
+    failing_read: 0,
+    failing_write: 0,
+    errors: 100,
+};
+
+fn owned(
+    alloc: Global,
+    words: Result<&[&str], NoWords>,
+) -> Result<Result<Vec<String>, NoWords>, AllocError> {
+    let mut texts = Vec::new(alloc);
+    match words {
+        Ok(words) => {
+            for word in words {
+                texts.push(String::from_str(alloc, *word)?)?;
+            }
+            Ok(Ok(texts))
+        }
+        Err(why) => Ok(Err(why)),
+    }
+}
+
+// The exit status, the output and the line on the errors' stream.
+fn ended(alloc: Global, run: &Run<'_>) -> Result<(u8, MemSink, MemSink), AllocError> {
+    let input = run.input.as_bytes().to_vec(alloc)?;
+    let mut source = MemSource::new(input, [run.failing_read].to_vec(alloc)?, 7);
+    let mut sink = MemSink::new(alloc, 100, [run.failing_write].to_vec(alloc)?, 20)?;
+    let mut errors = MemSink::new(alloc, run.errors, Vec::new(alloc), 9)?;
+    let words = owned(alloc, run.words)?;
+    let code = program(alloc, words, &mut source, &mut sink, &mut errors);
+    Ok((code, sink, errors))
+}
+
+#[test]
+fn each_way_to_end(rt: HostRuntime) -> Result<(), Fail> {
+    let table: [(Run<'_>, u8, &str, &str); 9] = [
+        (PLAIN, 0, OUTPUT, ""),
+        (
+            Run {
+                words: Ok(&[]),
+                ..PLAIN
+            },
+            2,
+            "",
+            USAGE,
+        ),
+        (
+            Run {
+                words: Ok(&["run", "run"]),
+                ..PLAIN
+            },
+            2,
+            "",
+            USAGE,
+        ),
+        (
+            Run {
+                words: Err(NoWords::NotText),
+                ..PLAIN
+            },
+            2,
+            "",
+            USAGE,
+        ),
+        (
+            Run {
+                words: Err(NoWords::Memory),
+                ..PLAIN
+            },
+            6,
+            "",
+            "pgnotify: out of memory\n",
+        ),
+        (
+            Run {
+                failing_read: 2,
+                ..PLAIN
+            },
+            4,
+            "",
+            "pgnotify: read failed\n",
+        ),
+        (
+            Run {
+                failing_write: 2,
+                ..PLAIN
+            },
+            5,
+            "journal 0\nsession 1 ",
+            "pgnotify: write failed\n",
+        ),
+        (
+            Run {
+                input: "NOTIFY c\n",
+                ..PLAIN
+            },
+            7,
+            "",
+            "pgnotify: line 1: not built yet\n",
+        ),
+        (
+            Run {
+                input: "NOTIFY c\n",
+                errors: 16,
+                ..PLAIN
+            },
+            7,
+            "",
+            "pgnotify: line 1",
+        ),
+    ];
+    let alloc = rt.alloc();
+    for (run, code, output, line) in table {
+        let (ended, sink, errors) = ended(alloc, &run)?;
+        assert_eq!(rt; ended, code);
+        assert_eq!(rt; sink.held(), output.as_bytes());
+        assert_eq!(rt; errors.held(), line.as_bytes());
+    }
+    Ok(())
+}
+
 // A stream that fails, or that takes nothing.
 #[derive(Drop)]
 struct Broken {
@@ -120,6 +263,64 @@ impl Write for Broken {
     fn flush(&mut self) -> io::Result<()> {
         Ok(())
     }
+}
+
+// A stream of which each second call is interrupted by a signal.
+#[derive(Drop)]
+struct Interrupted<T> {
+    stream: T,
+    calls: u32,
+}
+
+impl<T> Interrupted<T> {
+    fn is_due(&mut self) -> bool {
+        self.calls = self.calls.wrapping_add(1);
+        self.calls % 2 == 1
+    }
+}
+
+impl<T: Read> Read for Interrupted<T> {
+    fn read(&mut self, buf: &mut [u8]) -> io::Result<usize> {
+        if self.is_due() {
+            return Err(io::Error::from(ErrorKind::Interrupted));
+        }
+        self.stream.read(buf)
+    }
+}
+
+impl<T: Write> Write for Interrupted<T> {
+    fn write(&mut self, buf: &[u8]) -> io::Result<usize> {
+        if self.is_due() {
+            return Err(io::Error::from(ErrorKind::Interrupted));
+        }
+        self.stream.write(buf)
+    }
+
+    fn flush(&mut self) -> io::Result<()> {
+        self.stream.flush()
+    }
+}
+
+#[test]
+fn what_is_interrupted_is_tried_again(rt: HostRuntime) -> Result<(), Fail> {
+    let alloc = rt.alloc();
+    let mut buffer = [0; 8];
+    let mut source = Input::new(Interrupted {
+        stream: b"abc".as_slice(),
+        calls: 0,
+    });
+    assert_eq!(rt; source.read(&mut buffer), Ok(3));
+    assert_eq!(rt; &buffer[..3], b"abc".as_slice());
+    assert_eq!(rt; source.read(&mut buffer), Ok(0));
+
+    let mut sink = Output::new(Interrupted {
+        stream: Vec::new(alloc),
+        calls: 0,
+    });
+    assert_eq!(rt; write_all(&mut sink, b"abc"), Ok(()));
+    assert_eq!(rt; write_all(&mut sink, b"de"), Ok(()));
+    assert_eq!(rt; sink.writer().stream.as_slice(), b"abcde".as_slice());
+    Ok(())
 }
 
 #[test]

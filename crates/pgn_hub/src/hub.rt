@@ -57,7 +57,7 @@ pub trait Hub: Sized {
         requires own { is_pass self.now pass.old }
         requires listens { IsSome (Self.Pass.known pass.old).mark }
         ensures own { is_pass self.now pass.new }
-        ensures read { IfOk result (λ to. HasRead (Self.Pass.known pass.old) (Self.Pass.known pass.new) set.now to out.old.items out.new.items) }
+        ensures read { IfOk result (λ to. HasRead (Self.Pass.known pass.old) (Self.Pass.known pass.new) set.now.channels to out.old.items out.new.items) }
         ensures refused { OnErr result (HasLearned (Self.Pass.known pass.old) (Self.Pass.known pass.new)) }
         ensures refused_reads_nothing { OnErr result (out.new.items ≡ out.old.items) };
 

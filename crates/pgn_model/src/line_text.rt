@@ -1,28 +1,31 @@
-ghost use Rattle.std.specs.Prelude.{◌≡◌, IfOk};
+ghost use Rattle.std.specs.Prelude.{◌≡◌, ◌<◌, length, IfOk, OnErr};
+ghost use Rattle.pgn_base.specs.declared.text.TheConstants.{TEXT_BYTES_IN_PLACE};
 
-use pgn_base::Copied;
+use pgn_base::{Copied, Text};
 use std::alloc::{AllocError, Global};
 use std::marker::Model;
 
 /// The text of a script line, without the blanks at its ends. Contracts see its bytes.
 #[derive(Debug, Drop)]
 pub struct LineText {
-    text: String,
+    text: Text,
 }
 
 impl Model for LineText {
-    ghost use Rattle.std.specs.Prelude.{List, ℕ, string_bytes};
+    ghost use Rattle.std.specs.Prelude.{List, ℕ};
 
     ghost Value = { List ℕ };
 
-    ghost view = { λ line. string_bytes line.text };
+    ghost view = { λ line. line.text };
 }
 
 impl LineText {
+    /// The text of these characters. It takes memory only for a text of more than 22 bytes.
     pub fn new(alloc: Global, text: &str) -> Result<LineText, AllocError>
-        ensures { IfOk result (λ line. line ≡ text.now) }
+        ensures ok { IfOk result (λ line. line ≡ text.now) }
+        ensures memory { OnErr result (TEXT_BYTES_IN_PLACE < length text.now) }
     {
-        let text = String::from_str(alloc, text)?;
+        let text = Text::new(alloc, text)?;
         Ok(LineText { text })
     }
 
@@ -35,7 +38,7 @@ impl LineText {
 
 impl Copied for LineText {
     fn copy(&self, alloc: Global) -> Result<Self, AllocError> {
-        let text = String::from_str(alloc, self.text.as_str())?;
+        let text = self.text.copy(alloc)?;
         Ok(LineText { text })
     }
 }

@@ -1,9 +1,9 @@
 -- What a transaction keeps of what it has sent and done, and the histories that it stands for.
-use Rattle.std.specs.Prelude.{◌≡◌, ℕ, ◌+◌, Bool, List, [], ◌∷◌, bytes_eq, filter_map}
+use Rattle.std.specs.Prelude.{◌≡◌, ℕ, ◌+◌, Bool, cond, List, [], ◌∷◌, ◌++◌, bytes_eq, filter_map}
 use Rattle.std.specs.List.{list_any}
 use Rattle.pgn_base.specs.declared.note.Note.{Note}
 use Rattle.pgn_base.specs.declared.listen_set.Action.{Action}
-use Rattle.pgn_model.specs.Savepoints.{Change, Saved, Acted, Noted, RolledBack, Released, acted_action, noted_note, live_changes}
+use Rattle.pgn_model.specs.Savepoints.{Change, Saved, Acted, Noted, RolledBack, Released, acted_action, noted_note, same_note, live_changes}
 use Rattle.pgn_pending.specs.declared.savepoint.Savepoint.{Savepoint}
 
 -- the actions, the notifications without their repeats, and the savepoints that stand, each in order
@@ -36,6 +36,10 @@ StandsFor changes value = kept_of (live_changes changes) ≡ value
 -- some history is kept so
 abbrev pub HasHistory : Kept → Type 0
 HasHistory value = (changes : List Change) × StandsFor changes value
+
+-- notifications and one more, unless an equal one is there
+abbrev pub with_note : List Note → Note → List Note
+with_note notes note = cond (list_any (same_note note) notes) notes (notes ++ note ∷ [])
 
 -- the savepoint has this name
 abbrev pub is_named : List ℕ → Savepoint → Bool

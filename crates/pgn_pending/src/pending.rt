@@ -1,7 +1,7 @@
-ghost use Rattle.std.specs.Prelude.{◌≡◌, ◌≤◌, ◌↔◌, [], ◌∷◌, ◌++◌, List, length, vec_capacity, false, IsErr, OnOk, OnErr};
+ghost use Rattle.std.specs.Prelude.{◌≡◌, ◌+◌, ◌≤◌, ◌↔◌, [], ◌∷◌, ◌++◌, List, length, vec_capacity, false, IsErr, OnOk, OnErr};
 ghost use Rattle.pgn_base.specs.Names.{has_name};
 ghost use Rattle.pgn_model.specs.Savepoints.{Change, Saved, Acted, Noted, RolledBack, Released, live_names, surviving_actions, surviving_notes, firsts};
-ghost use Rattle.pgn_pending.specs.Kept.{HasHistory, StandsFor, is_saved};
+ghost use Rattle.pgn_pending.specs.Kept.{HasHistory, StandsFor, with_note};
 
 use crate::savepoint::{Savepoint, newest};
 use indexmap::IndexSet;
@@ -54,7 +54,7 @@ impl Pending {
         ensures err { OnErr result (self.new ≡ self.old) }
     {
         self.room.reserve(self.notes.len() + 1)?;
-        self.notes.insert(note)?;
+        keep(&mut self.notes, note)?;
         Ok(())
     }
 
@@ -84,7 +84,6 @@ impl Pending {
     /// ROLLBACK TO: drops what came after the newest savepoint of this name, later savepoints too, and keeps this one. It takes no
     /// memory. `NoSuch` where no savepoint that stands has the name; nothing changes then.
     pub fn back_to(&mut self, name: &Name) -> Result<(), NoSuch>
-        ensures no_such { IsErr result ↔ (is_saved name.now self.old.savepoints ≡ false) }
         ensures not_live { (changes : List Change) → StandsFor changes self.old → (IsErr result ↔ (has_name (live_names changes) name.now ≡ false)) }
         ensures unchanged { OnErr result (self.new ≡ self.old) }
         ensures after { (changes : List Change) → StandsFor changes self.old → StandsFor (changes ++ RolledBack name.now ∷ []) self.new }
@@ -102,7 +101,6 @@ impl Pending {
     /// RELEASE: drops the newest savepoint of this name and later ones, and keeps what came after. It takes no memory. `NoSuch`
     /// where no savepoint that stands has the name; nothing changes then.
     pub fn release(&mut self, name: &Name) -> Result<(), NoSuch>
-        ensures no_such { IsErr result ↔ (is_saved name.now self.old.savepoints ≡ false) }
         ensures not_live { (changes : List Change) → StandsFor changes self.old → (IsErr result ↔ (has_name (live_names changes) name.now ≡ false)) }
         ensures unchanged { OnErr result (self.new ≡ self.old) }
         ensures after { (changes : List Change) → StandsFor changes self.old → StandsFor (changes ++ Released name.now ∷ []) self.new }
@@ -127,6 +125,16 @@ impl Pending {
         } = self;
         (Actions::from_items(actions), in_list(notes, room))
     }
+}
+
+// Puts a notification at the end of a set, unless an equal one is there. A refusal changes nothing.
+fn keep(notes: &mut IndexSet<Note>, note: Note) -> Result<(), AllocError>
+    ensures keys { OnOk result (notes.new.keys ≡ with_note notes.old.keys note) }
+    ensures most { length notes.new.keys ≤ length notes.old.keys + 1 }
+    ensures err { OnErr result (notes.new.keys ≡ notes.old.keys) }
+{
+    notes.insert(note)?;
+    Ok(())
 }
 
 // The notes of a set, put into a list that has room for them.

@@ -43,15 +43,6 @@ AppendsPrefix-written (Some xs) (Some ys) (Some zs) kept before text all e a h =
     let parts : before ++ text ≡ h.0 ++ all = ap (λ t. t ++ text) h.1 ∙ append_assoc h.0 kept text ∙ ap (λ t. h.0 ++ t) e in
     (h.0 ++ a.0, a.1, parts ∙ ap (λ t. h.0 ++ t) a.2 ∙ sym (append_assoc h.0 a.0 a.1), a.3 ∙ ap (λ t. t ++ a.0) h.2 ∙ append_assoc xs h.0 a.0)
 
--- a cause since a count is one since any earlier count
-Rose-earlier : (start before now : ℕ) → start ≤ before → Rose before now → Rose start now
-Rose-earlier start before now h (inl rose) = inl (omega arith)
-Rose-earlier start before now h (inr last) = inr last
-
-HasCause-later : {T E : Type 0} (start before now : ℕ) (result : Result T E) → start ≤ before → HasCause before now result → HasCause start now result
-HasCause-later start before now (Ok x) h c = record { later = omega arith; failed = tt }
-HasCause-later start before now (Err e) h c = record { later = omega arith; failed = Rose-earlier start before now h c.failed }
-
 -- nothing is given out
 pub Puts-none : {S : Type 0} (held : S → Option (List ℕ)) (faults : S → ℕ) (sink : S) (out : Out) → Puts held faults sink out sink out []
 Puts-none held faults sink out = record {
@@ -107,7 +98,7 @@ pub Puts-written : {S : Type 0} (held : S → Option (List ℕ)) (faults : S →
 Puts-written held faults sink sink_now kept now (Err d) result text all fine none e w c = absurd (cc)
 Puts-written held faults sink sink_now kept now (Ok x) result text all fine none e w c = record {
   bytes = λ start before h. subst (λ k. IsOut start (held sink_now) (record { kept = k; so_far = result }) (before ++ text)) (sym none) (written start (held sink) (held sink_now) kept before text all result e w h);
-  cause = λ start h. HasCause-later start (faults sink) (faults sink_now) result h.later c;
+  cause = λ start h. subst (λ (before : ℕ). HasCause before (faults sink_now) result) h.passed c;
 }
 
 -- what is kept back is sent

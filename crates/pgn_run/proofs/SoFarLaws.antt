@@ -8,6 +8,7 @@ use Rattle.pgn_base.specs.declared.note.Note.{Note}
 use Rattle.pgn_base.specs.declared.answers.Tag.TheVariants as tag
 use Rattle.pgn_base.specs.declared.listen_set.Action.TheVariants.{Listen}
 use Rattle.pgn_base.specs.Channels.{after_action}
+use Rattle.pgn_base.specs.Listening.{Listening}
 use Rattle.pgn_model.specs.declared.tx.Tx.{Tx}
 use Rattle.pgn_model.specs.declared.item.Item.{Item}
 use Rattle.pgn_model.specs.declared.item.Item.TheVariants.{Line, Enlist, Publish, QueueFull, Leave, Reply, Refuse, Channels, Used, Raise, Found, TimedOut, Read}
@@ -178,7 +179,7 @@ line-is-fresh section journal s line told caught = (λ idle. unread s.mark caugh
     unread (Some m) e = up-to-date section.db journal m s.told (e ∙ sym told)
 
 -- a session that is no listener answers LISTEN
-listen-first : (section : Section) (n : ℕ) (text channel : List ℕ) (rest : List ScriptLine) (journal : List Tx) (items : List Item) (set : List (List ℕ)) (told : ℕ)
+listen-first : (section : Section) (n : ℕ) (text channel : List ℕ) (rest : List ScriptLine) (journal : List Tx) (items : List Item) (set : Listening) (told : ℕ)
     → IsSoFar section (record { line = n; text = text; act = Run (command.Listen channel) } ∷ rest) (record { journal = journal; items = items; set = set; mark = None; told = told })
     → IsAnswered section rest (listened channel (record { journal = journal; items = items ++ Line n ∷ []; set = set; mark = None; told = told }))
 listen-first section n text channel rest journal items set told h =
@@ -186,15 +187,15 @@ listen-first section n text channel rest journal items set told h =
     let point : ℕ = 3 + length journal in
     let ending : Ending = Replied tag.Listen None in
     let marks : List ℕ = h.marks ++ 3 ∷ [] ++ point ∷ [] in
-    let now : List (List ℕ) = after_action set (Listen channel) in
-    let before : State = standing (line ∷ rest) set None told h.marks in
+    let now : List (List ℕ) = after_action set.channels (Listen channel) in
+    let before : State = standing (line ∷ rest) set.channels None told h.marks in
     let joined : State = record (standing rest now (Some point) told marks) { owed = Answering ending } in
     let told_within : told ≤ point = omega (arith, h.told) in
     let one = IsAt-push section before journal items (Line n) h.at (record { answered = refl; next = refl }) (line-is-fresh section journal before n h.told h.caught_up) tt refl tt in
     let two = IsAt-push section (after_item before (Line n)) journal (items ++ Line n ∷ []) (Enlist 3 point) one
     (record { expected = tt; from_first = omega arith; ordered = omega arith; after_told = told_within; after_marks = h.marks_within; in_journal = omega arith })
     (tt, told_within) (omega arith, omega arith) refl tt in
-    let stays : after_item (after_item before (Line n)) (Enlist 3 point) ≡ joined = answering-stays (standing rest now (Some point) told marks) ending (listened-some set channel) in
+    let stays : after_item (after_item before (Line n)) (Enlist 3 point) ≡ joined = answering-stays (standing rest now (Some point) told marks) ending (listened-some set.channels channel) in
     let at : IsAt section joined journal ((items ++ Line n ∷ []) ++ Enlist 3 point ∷ []) = subst (λ (t : State). IsAt section t journal ((items ++ Line n ∷ []) ++ Enlist 3 point ∷ [])) stays two in
     let three = IsAt-push section joined journal ((items ++ Line n ∷ []) ++ Enlist 3 point ∷ []) (Reply tag.Listen None) at refl (tt, told_within) tt refl tt in
     record {
@@ -203,22 +204,22 @@ listen-first section n text channel rest journal items set told h =
       marks_within = All-push (λ (m : ℕ). m ≤ point) (h.marks ++ 3 ∷ []) point (All-push (λ (m : ℕ). m ≤ point) h.marks 3 h.marks_within (omega arith)) (omega arith);
       told = h.told;
       behind = omega arith;
-      listening = listened-some set channel;
+      listening = listened-some set.channels channel;
     }
 
 -- a listener answers LISTEN
-listen-again : (section : Section) (n : ℕ) (text channel : List ℕ) (rest : List ScriptLine) (journal : List Tx) (items : List Item) (set : List (List ℕ)) (mark told : ℕ)
+listen-again : (section : Section) (n : ℕ) (text channel : List ℕ) (rest : List ScriptLine) (journal : List Tx) (items : List Item) (set : Listening) (mark told : ℕ)
     → IsSoFar section (record { line = n; text = text; act = Run (command.Listen channel) } ∷ rest) (record { journal = journal; items = items; set = set; mark = Some mark; told = told })
     → IsAnswered section rest (listened channel (record { journal = journal; items = items ++ Line n ∷ []; set = set; mark = Some mark; told = told }))
 listen-again section n text channel rest journal items set mark told h =
     let line : ScriptLine = record { line = n; text = text; act = Run (command.Listen channel) } in
     let ending : Ending = Replied tag.Listen None in
-    let now : List (List ℕ) = after_action set (Listen channel) in
-    let before : State = standing (line ∷ rest) set (Some mark) told h.marks in
+    let now : List (List ℕ) = after_action set.channels (Listen channel) in
+    let before : State = standing (line ∷ rest) set.channels (Some mark) told h.marks in
     let joined : State = record (standing rest now (Some mark) told h.marks) { owed = Answering ending } in
     let told_within : told ≤ 3 + length journal = omega (arith, h.told) in
     let one = IsAt-push section before journal items (Line n) h.at (record { answered = refl; next = refl }) (line-is-fresh section journal before n h.told h.caught_up) tt refl tt in
-    let stays : after_item before (Line n) ≡ joined = answering-stays (standing rest now (Some mark) told h.marks) ending (listened-some set channel) in
+    let stays : after_item before (Line n) ≡ joined = answering-stays (standing rest now (Some mark) told h.marks) ending (listened-some set.channels channel) in
     let at : IsAt section joined journal (items ++ Line n ∷ []) = subst (λ (t : State). IsAt section t journal (items ++ Line n ∷ [])) stays one in
     let two = IsAt-push section joined journal (items ++ Line n ∷ []) (Reply tag.Listen None) at refl (tt, told_within) tt refl tt in
     record {
@@ -227,7 +228,7 @@ listen-again section n text channel rest journal items set mark told h =
       marks_within = h.marks_within;
       told = h.told;
       behind = omega (arith, h.caught_up);
-      listening = listened-some set channel;
+      listening = listened-some set.channels channel;
     }
 
 -- the entry at the journal's end
@@ -236,7 +237,7 @@ entry-last [] tx P p = p
 entry-last (first ∷ journal) tx P p = entry-last journal tx P p
 
 -- a session answers NOTIFY
-notify-line : (section : Section) (n : ℕ) (text : List ℕ) (note : Note) (rest : List ScriptLine) (journal : List Tx) (items : List Item) (set : List (List ℕ)) (mark : Option ℕ) (told : ℕ)
+notify-line : (section : Section) (n : ℕ) (text : List ℕ) (note : Note) (rest : List ScriptLine) (journal : List Tx) (items : List Item) (set : Listening) (mark : Option ℕ) (told : ℕ)
     → IsNote note → IsSoFar section (record { line = n; text = text; act = Run (command.Notify note) } ∷ rest) (record { journal = journal; items = items; set = set; mark = mark; told = told })
     → IsAnswered section rest (notified section note (record { journal = journal; items = items ++ Line n ∷ []; set = set; mark = mark; told = told }))
 notify-line section n text note rest journal items set mark told valid h =
@@ -245,10 +246,10 @@ notify-line section n text note rest journal items set mark told valid h =
     let ending : Ending = Replied tag.Notify None in
     let longer : List Tx = journal ++ sent section note ∷ [] in
     let len : length longer ≡ length journal + 1 = length-append journal (sent section note ∷ []) in
-    let before : State = standing (line ∷ rest) set mark told h.marks in
-    let queueing : State = record (standing rest set mark told h.marks) { owed = Queueing [] (note ∷ []) ending } in
-    let published : State = standing rest set mark (max told (x + 1)) h.marks in
-    let answering : State = record (standing rest set mark (x + 1) h.marks) { owed = Answering ending } in
+    let before : State = standing (line ∷ rest) set.channels mark told h.marks in
+    let queueing : State = record (standing rest set.channels mark told h.marks) { owed = Queueing [] (note ∷ []) ending } in
+    let published : State = standing rest set.channels mark (max told (x + 1)) h.marks in
+    let answering : State = record (standing rest set.channels mark (x + 1) h.marks) { owed = Answering ending } in
     let told_within : told ≤ x = omega (arith, h.told) in
     let begun : List Item = items ++ Line n ∷ [] in
     let done : List Item = begun ++ Publish x (note ∷ []) ∷ [] in
@@ -258,7 +259,7 @@ notify-line section n text note rest journal items set mark told valid h =
     let stands_there : IsSomeAnd (entry longer x) (IsCommittedBy section (note ∷ [])) = subst (λ (k : ℕ). IsSomeAnd (slice_get longer k) (IsCommittedBy section (note ∷ []))) (sym place) (entry-last journal (sent section note) (IsCommittedBy section (note ∷ [])) by) in
     let two = IsAt-publish section queueing journal begun note valid one (record { expected = refl; after_told = told_within; after_mark = unread mark h.caught_up; in_journal = stands_there }) told_within in
     let told_is : max told (x + 1) ≡ x + 1 = omega (arith, h.told) in
-    let stays : after_item queueing (Publish x (note ∷ [])) ≡ answering = answering-stays published ending (listens_on mark h.listening) ∙ ap (λ (k : ℕ). let t : State = record (standing rest set mark k h.marks) { owed = Answering ending } in t) told_is in
+    let stays : after_item queueing (Publish x (note ∷ [])) ≡ answering = answering-stays published ending (listens_on mark h.listening) ∙ ap (λ (k : ℕ). let t : State = record (standing rest set.channels mark k h.marks) { owed = Answering ending } in t) told_is in
     let at : IsAt section answering longer done = subst (λ (t : State). IsAt section t longer done) stays two in
     let three = IsAt-push section answering longer done (Reply tag.Notify None) at refl (tt, omega (arith, len)) tt refl tt in
     record {
@@ -278,25 +279,25 @@ notify-line section n text note rest journal items set mark told valid h =
     earlier None e = e
     earlier (Some m) e = omega (arith, e, length-append journal (sent section note ∷ []))
 
-    listens_on : (mark : Option ℕ) → IfSome mark (λ m. is_empty_set set ≡ false) → (is_some mark && is_empty_set set) ≡ false
+    listens_on : (mark : Option ℕ) → IfSome mark (λ m. is_empty_set set.channels ≡ false) → (is_some mark && is_empty_set set.channels) ≡ false
     listens_on None e = refl
     listens_on (Some m) e = e
 
 -- a listener that has answered reads what is unread
-read-on : (section : Section) (rest : List ScriptLine) (journal : List Tx) (items : List Item) (set : List (List ℕ)) (mark told : ℕ)
+read-on : (section : Section) (rest : List ScriptLine) (journal : List Tx) (items : List Item) (set : Listening) (mark told : ℕ)
     → IsAnswered section rest (record { journal = journal; items = items; set = set; mark = Some mark; told = told })
     → (b : Bool) → nat_lt mark (3 + length journal) ≡ b
     → let to : ℕ = 3 + length journal in
-    IsSoFar section rest (cond b (record { journal = journal; items = items ++ Read mark to (due journal mark to section.db set) ∷ []; set = set; mark = Some to; told = told })
+    IsSoFar section rest (cond b (record { journal = journal; items = items ++ Read mark to (due journal mark to section.db set.channels) ∷ []; set = set; mark = Some to; told = told })
     (record { journal = journal; items = items; set = set; mark = Some mark; told = told }))
 read-on section rest journal items set mark told h true e =
     let to : ℕ = 3 + length journal in
-    let before : State = standing rest set (Some mark) told h.marks in
+    let before : State = standing rest set.channels (Some mark) told h.marks in
     let told_within : told ≤ to = omega (arith, h.told) in
     let forward : mark < to = ltb-true mark to e in
     record {
       marks = h.marks ++ to ∷ [];
-      at = IsAt-push section before journal items (Read mark to (due journal mark to section.db set)) h.at
+      at = IsAt-push section before journal items (Read mark to (due journal mark to section.db set.channels)) h.at
           (record { in_turn = inl refl; from_mark = refl; forward = forward; after_told = told_within; in_journal = omega arith; received = refl })
           (tt, told_within) (h.behind, omega arith) refl tt;
       marks_within = All-push (λ (m : ℕ). m ≤ to) h.marks to h.marks_within (omega arith);
@@ -310,14 +311,14 @@ read-on section rest journal items set mark told h false e =
     record { marks = h.marks; at = h.at; marks_within = h.marks_within; told = h.told; caught_up = omega arith; listening = h.listening }
 
 -- a session that has answered reads what is unread
-read-line : (section : Section) (rest : List ScriptLine) (journal : List Tx) (items : List Item) (set : List (List ℕ)) (mark : Option ℕ) (told : ℕ)
+read-line : (section : Section) (rest : List ScriptLine) (journal : List Tx) (items : List Item) (set : Listening) (mark : Option ℕ) (told : ℕ)
     → IsAnswered section rest (record { journal = journal; items = items; set = set; mark = mark; told = told })
     → IsSoFar section rest (read_on section.db (record { journal = journal; items = items; set = set; mark = mark; told = told }))
 read-line section rest journal items set None told h = record { marks = h.marks; at = h.at; marks_within = h.marks_within; told = h.told; caught_up = h.behind; listening = h.listening }
 read-line section rest journal items set (Some mark) told h = read-on section rest journal items set mark told h (nat_lt mark (3 + length journal)) refl
 
 -- a served line leads from one state between lines to the next
-step : (section : Section) (n : ℕ) (text : List ℕ) (act : Act) (rest : List ScriptLine) (journal : List Tx) (items : List Item) (set : List (List ℕ)) (mark : Option ℕ) (told : ℕ)
+step : (section : Section) (n : ℕ) (text : List ℕ) (act : Act) (rest : List ScriptLine) (journal : List Tx) (items : List Item) (set : Listening) (mark : Option ℕ) (told : ℕ)
     → IsServedAct act
     → IsSoFar section (record { line = n; text = text; act = act } ∷ rest) (record { journal = journal; items = items; set = set; mark = mark; told = told })
     → IsSoFar section rest (ran section (record { line = n; text = text; act = act }) (record { journal = journal; items = items; set = set; mark = mark; told = told }))
@@ -380,7 +381,7 @@ run-is-legal section s h = record {
 }
   where
     last : State
-    last = standing [] s.set s.mark s.told h.marks
+    last = standing [] s.set.channels s.mark s.told h.marks
 
     end_of : State → End
     end_of t = record { session = section.no; state = t }

@@ -20,7 +20,7 @@ use Rattle.pgn_run.specs.declared.session.Session.{Session}
 
 -- before the first line
 abbrev pub fresh_session : Session
-fresh_session = record { journal = []; items = []; set = []; mark = None; told = FIRST_XID }
+fresh_session = record { journal = []; items = []; set = record { channels = []; room = 0 }; mark = None; told = FIRST_XID }
 
 -- one more item is shown
 abbrev pub shown : Item → Session → Session
@@ -40,7 +40,7 @@ enlisted s = enlisted_at s.mark s
 
 -- LISTEN
 abbrev pub listened : List ℕ → Session → Session
-listened channel s = shown (Reply tag.Listen None) (record (enlisted s) { set = after_action s.set (Listen channel) })
+listened channel s = shown (Reply tag.Listen None) (record (enlisted s) { set = record { channels = after_action s.set.channels (Listen channel); room = 0 } })
 
 -- the transaction of one notification
 abbrev pub sent : Section → Note → Tx
@@ -64,7 +64,7 @@ abbrev pub read_from : ℕ → Option ℕ → Session → Session
 read_from db None s = s
 read_from db (Some mark) s =
     let to : ℕ = next_xid s.journal in
-    cond (nat_lt mark to) (record (shown (Read mark to (due s.journal mark to db s.set)) s) { mark = Some to }) s
+    cond (nat_lt mark to) (record (shown (Read mark to (due s.journal mark to db s.set.channels)) s) { mark = Some to }) s
 
 abbrev pub read_on : ℕ → Session → Session
 read_on db s = read_from db s.mark s

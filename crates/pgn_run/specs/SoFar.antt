@@ -38,20 +38,20 @@ pub record IsAt (section : Section) (state : State) (journal : List Tx) (items :
 -- the session has answered its line, and these lines are still to come; it may have to read
 pub record IsAnswered (section : Section) (rest : List ScriptLine) (s : Session) : Type 0 where
   pub marks : List ℕ
-  pub at : IsAt section (standing rest s.set s.mark s.told marks) s.journal s.items
+  pub at : IsAt section (standing rest s.set.channels s.mark s.told marks) s.journal s.items
   pub marks_within : All (λ mark. mark ≤ next_xid s.journal) marks
   pub told : s.told ≡ next_xid s.journal
   pub behind : IfSome s.mark (λ mark. mark ≤ next_xid s.journal)
-  pub listening : IfSome s.mark (λ mark. is_empty_set s.set ≡ false)
+  pub listening : IfSome s.mark (λ mark. is_empty_set s.set.channels ≡ false)
 
 -- the session has run up to these lines and has read all of the journal
 pub record IsSoFar (section : Section) (rest : List ScriptLine) (s : Session) : Type 0 where
   pub marks : List ℕ
-  pub at : IsAt section (standing rest s.set s.mark s.told marks) s.journal s.items
+  pub at : IsAt section (standing rest s.set.channels s.mark s.told marks) s.journal s.items
   pub marks_within : All (λ mark. mark ≤ next_xid s.journal) marks
   pub told : s.told ≡ next_xid s.journal
   pub caught_up : IfSome s.mark (λ mark. mark ≡ next_xid s.journal)
-  pub listening : IfSome s.mark (λ mark. is_empty_set s.set ≡ false)
+  pub listening : IfSome s.mark (λ mark. is_empty_set s.set.channels ≡ false)
 
 -- the session's trace
 abbrev pub trace_of : Section → Session → Trace

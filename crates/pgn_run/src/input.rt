@@ -1,4 +1,4 @@
-ghost use Rattle.std.specs.Prelude.{◌≡◌, ◌≤◌, ℕ, take, IfOk, IfSome, OnErr};
+ghost use Rattle.std.specs.Prelude.{◌≡◌, ◌<◌, ◌≤◌, ℕ, take, IfOk, IfSome, OnErr};
 ghost use Rattle.std.specs.Io.KnownBytes.{Consumes};
 ghost use Rattle.pgn_base.specs.Outside.{Rose};
 
@@ -20,6 +20,7 @@ pub fn read_input<S: Source>(alloc: Global, source: &mut S, limit: usize) -> Res
     ensures consumed { IfOk result (λ input. Consumes (S.left source.old) (S.left source.new) input.items) }
     ensures later { S.faults source.old ≤ S.faults source.new }
     ensures failed { result ≡ Err Unread.Failed → Rose (S.faults source.old) (S.faults source.new) }
+    ensures rose { S.faults source.old < S.faults source.new → result ≡ Err Unread.Failed }
 {
     let mut input = Vec::new(alloc);
     let mut chunk = [0u8; CHUNK];

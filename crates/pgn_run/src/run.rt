@@ -1,4 +1,4 @@
-ghost use Rattle.std.specs.Prelude.{◌≡◌, ◌≢◌, ◌⊎◌, ◌↔◌, ◌≤◌, ◌+◌, ℕ, map, take, IfSome, OnSome, IsSomeAnd, IsTrue};
+ghost use Rattle.std.specs.Prelude.{◌≡◌, ◌≢◌, ◌⊎◌, ◌↔◌, ◌<◌, ◌≤◌, ◌+◌, ℕ, map, take, IfSome, OnSome, IsSomeAnd, IsTrue};
 ghost use Rattle.std.specs.Io.KnownBytes.{Appends, Consumes, IsAtEnd};
 ghost use Rattle.pgn_base.specs.Outside.{AppendsPrefix, Rose};
 ghost use Rattle.pgn_model.specs.declared.scenario.Scenario.{Scenario};
@@ -45,9 +45,11 @@ pub fn run_notify<S: Source, K: Sink>(
     ensures no_bad_scenario { (fault : ScenarioFault) → result ≢ Status.BadScenario fault }
 
     ensures read_fault { result ≡ Status.ReadFault → Rose (S.faults source.old) (S.faults source.new) }
+    ensures read_fault_where_due { S.faults source.old < S.faults source.new → result ≡ Status.ReadFault }
     ensures read_fault_writes_nothing { result ≡ Status.ReadFault → K.held sink.new ≡ K.held sink.old }
 
     ensures write_fault { result ≡ Status.WriteFault → Rose (K.faults sink.old) (K.faults sink.new) }
+    ensures write_fault_where_due { K.faults sink.old < K.faults sink.new → result ≡ Status.WriteFault }
     ensures write_fault_writes_a_prefix { result ≡ Status.WriteFault → IfSome (S.left source.old) (λ input.
         Runs input (AppendsPrefix (K.held sink.old) (K.held sink.new))) }
 
@@ -87,6 +89,7 @@ fn is_run(words: &[&str]) -> bool
 fn answer<K: Sink>(alloc: Global, input: Vec<u8>, sink: &mut K) -> Status
     ensures answers { Answers input.items (K.held sink.old) (K.held sink.new) (K.faults sink.old) (K.faults sink.new) result }
     ensures later { K.faults sink.old ≤ K.faults sink.new }
+    ensures rose { K.faults sink.old < K.faults sink.new → result ≡ Status.WriteFault }
 {
     let reading = read(alloc, input.as_slice());
     drop(input);

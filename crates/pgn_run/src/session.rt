@@ -15,7 +15,7 @@ use pgn_model::{Act, Command, Fate, Item, Items, Scenario, ScriptLine, Section, 
 use std::alloc::{AllocError, Global};
 
 /// One session over the list of finished transactions.
-#[derive(Debug, Drop)]
+#[derive(Drop)]
 pub struct Session {
     pub journal: Seq<Tx>,
     pub items: Items,
@@ -178,7 +178,7 @@ fn scan(
 ) -> Result<Deliveries, AllocError>
     requires ordered { from ≤ to }
     requires within { to ≤ next_xid journal.now }
-    ensures due { IfOk result (λ got. got ≡ due journal.now from to db set.now) }
+    ensures due { IfOk result (λ got. got ≡ due journal.now from to db set.now.channels) }
 {
     let mut got = room_for(alloc, from, to)?;
     for k in from.get() - FIRST_XID..to.get() - FIRST_XID {
@@ -212,7 +212,7 @@ fn give(
     set: &ListenSet,
     got: &mut Deliveries,
 ) -> Result<(), AllocError>
-    ensures given { OnOk result (got.new ≡ got.old ++ delivered_by db set.now xid tx.now) }
+    ensures given { OnOk result (got.new ≡ got.old ++ delivered_by db set.now.channels xid tx.now) }
 {
     if tx.fate != Fate::Committed || tx.db != db {
         return Ok(());
@@ -232,7 +232,7 @@ fn give(
 }
 
 /// A run of a scenario: the journal, and the trace of each session.
-#[derive(Debug, Drop)]
+#[derive(Drop)]
 pub struct Run {
     pub journal: Seq<Tx>,
     pub traces: Seq<Trace>,

@@ -8,7 +8,7 @@ invariant-loop-chunk g l = record {
   consumed : Consumes (g.S.Source.left l.fn.source) (g.S.Source.left l.source) l.input.items;
   within : vec_len l.input ≤ l.limit;
   chunk : length l.chunk ≡ 8192;
-  later : g.S.Source.faults l.fn.source ≤ g.S.Source.faults l.source;
+  same : g.S.Source.faults l.source ≡ g.S.Source.faults l.fn.source;
 }
 
 abbrev pub decreases-loop-chunk : goal.decreases-loop-chunk

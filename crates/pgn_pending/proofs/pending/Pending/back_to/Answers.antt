@@ -4,11 +4,6 @@ use Rattle.pgn_pending.specs.Kept.{Kept, is_saved}
 use Rattle.pgn_pending.proofs.KeptLemmas.{IsNewest, none-saved, newest-saved, refused, granted, live-is_saved, after-rolled_back_none, after-rolled_back}
 use Rattle.pgn_pending.proofs.pending.Pending.back_to.Goals as goal
 
-pub returns-in_default-clause-no_such : goal.returns-in_default-clause-no_such
-returns-in_default-clause-no_such c =
-    let none : is_saved c.args.name.now c.self.inside.savepoints.items ≡ false = none-saved c.args.name.now _ (rw (← c.deref.ensures.value) c.in_default.ensures.none) in
-    refused _ (ap (λ (k : Kept). is_saved c.args.name.now k.savepoints) (sym c.self.view_is) ∙ none)
-
 pub returns-in_default-clause-not_live : goal.returns-in_default-clause-not_live
 returns-in_default-clause-not_live c =
     let none : is_saved c.args.name.now c.self.inside.savepoints.items ≡ false = none-saved c.args.name.now _ (rw (← c.deref.ensures.value) c.in_default.ensures.none) in
@@ -33,12 +28,6 @@ invariant_of-self c =
         rw (c.truncate.ensures.keys, c.truncate-2.ensures.items, c.truncate-3.ensures.items) (after-rolled_back history.0 _ c.args.name.now c.in-Some.at c.index-savepoint.result.now found c.index-savepoint.ensures history.1),
       ),
     )
-
-pub returns-clause-no_such : goal.returns-clause-no_such
-returns-clause-no_such c =
-    let found : IsNewest c.args.name.now c.self.inside.savepoints.items c.in-Some.at =
-    rw (← c.deref.ensures.value) (record { within = c.in-Some.ensures.within; named = c.in-Some.ensures.named; newest = c.in-Some.ensures.newest }) in
-    granted _ (ap (λ (k : Kept). is_saved c.args.name.now k.savepoints) (sym c.self.view_is) ∙ newest-saved c.args.name.now _ c.in-Some.at found)
 
 pub returns-clause-not_live : goal.returns-clause-not_live
 returns-clause-not_live c =

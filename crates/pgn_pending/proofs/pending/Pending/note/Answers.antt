@@ -6,8 +6,8 @@ use Rattle.pgn_pending.proofs.pending.Pending.note.Goals as goal
 pub invariant_of-self-2 : goal.invariant_of-self-2
 invariant_of-self-2 c =
     let history = c.self.invariant.2 in
-    let fits : length c.insert.new.self.keys ≤ vec_capacity c.reserve.new.self = grind (arith, c.in_ok-reserve.ensures.ok, c.in_ok-insert.ensures.len) in
-    (c.reserve.ensures.items ∙ c.self.invariant.0, fits, (history.0 ++ Noted c.args.note ∷ [], rw c.in_ok-insert.ensures.keys (after-noted history.0 _ c.args.note history.1)))
+    let fits : length c.keep.new.notes.keys ≤ vec_capacity c.reserve.new.self = grind (arith, c.in_ok-reserve.ensures.ok, c.keep.ensures.most) in
+    (c.reserve.ensures.items ∙ c.self.invariant.0, fits, (history.0 ++ Noted c.args.note ∷ [], rw c.in_ok-keep.ensures.keys (after-noted history.0 _ c.args.note history.1)))
 
 pub returns-clause-ok : goal.returns-clause-ok
-returns-clause-ok c = λ changes h. rw c.in_ok-insert.ensures.keys (after-noted changes _ c.args.note (h ∙ sym c.self.view_is))
+returns-clause-ok c = λ changes h. rw c.in_ok-keep.ensures.keys (after-noted changes _ c.args.note (h ∙ sym c.self.view_is))

@@ -4,11 +4,6 @@ use Rattle.pgn_pending.specs.Kept.{Kept, is_saved}
 use Rattle.pgn_pending.proofs.KeptLemmas.{IsNewest, none-saved, newest-saved, refused, granted, live-is_saved, after-released_none, after-released}
 use Rattle.pgn_pending.proofs.pending.Pending.release.Goals as goal
 
-pub returns-in_default-clause-no_such : goal.returns-in_default-clause-no_such
-returns-in_default-clause-no_such c =
-    let none : is_saved c.args.name.now c.self.inside.savepoints.items ≡ false = none-saved c.args.name.now _ (rw (← c.deref.ensures.value) c.in_default.ensures.none) in
-    refused _ (ap (λ (k : Kept). is_saved c.args.name.now k.savepoints) (sym c.self.view_is) ∙ none)
-
 pub returns-in_default-clause-not_live : goal.returns-in_default-clause-not_live
 returns-in_default-clause-not_live c =
     let none : is_saved c.args.name.now c.self.inside.savepoints.items ≡ false = none-saved c.args.name.now _ (rw (← c.deref.ensures.value) c.in_default.ensures.none) in
@@ -25,12 +20,6 @@ invariant_of-self c =
     rw (← c.deref.ensures.value) (record { within = c.in-Some.ensures.within; named = c.in-Some.ensures.named; newest = c.in-Some.ensures.newest }) in
     let history = c.self.invariant.2 in
     (c.self.invariant.0, c.self.invariant.1, (history.0 ++ Released c.args.name.now ∷ [], rw c.truncate.ensures.items (after-released history.0 _ c.args.name.now c.in-Some.from found history.1)))
-
-pub returns-clause-no_such : goal.returns-clause-no_such
-returns-clause-no_such c =
-    let found : IsNewest c.args.name.now c.self.inside.savepoints.items c.in-Some.from =
-    rw (← c.deref.ensures.value) (record { within = c.in-Some.ensures.within; named = c.in-Some.ensures.named; newest = c.in-Some.ensures.newest }) in
-    granted _ (ap (λ (k : Kept). is_saved c.args.name.now k.savepoints) (sym c.self.view_is) ∙ newest-saved c.args.name.now _ c.in-Some.from found)
 
 pub returns-clause-not_live : goal.returns-clause-not_live
 returns-clause-not_live c =

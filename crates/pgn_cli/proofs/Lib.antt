@@ -1,0 +1,2 @@
+pub mod AdapterLaws
+pub mod EndLaws

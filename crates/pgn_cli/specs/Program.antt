@@ -1,0 +1,23 @@
+-- How the program ends.
+use Rattle.std.specs.Prelude.{◌≡◌, ℕ, List, Option}
+use Rattle.std.specs.Io.KnownBytes.{Appends}
+use Rattle.std.specs.declared.io.ErrorKind.{ErrorKind}
+use Rattle.std.specs.declared.io.ErrorKind.TheVariants.{OutOfMemory}
+use Rattle.pgn_base.specs.Outside.{AppendsPrefix, Rose}
+use Rattle.pgn_run.specs.declared.status.Status.{Status}
+use Rattle.pgn_run.specs.Run.{code_of}
+use Rattle.pgn_cli.specs.FaultLine.{fault_text}
+use Rattle.pgn_cli.specs.declared.words.NoWords.{NoWords}
+use Rattle.pgn_cli.specs.declared.words.NoWords.TheVariants.{Memory, NotText}
+
+-- why words are not there that were refused by this kind of error
+abbrev pub refused_for : ErrorKind → NoWords
+refused_for OutOfMemory = Memory
+refused_for kind = NotText
+
+-- the exit status is that of an outcome, and the outcome's line was written to the errors, whole where no fault was counted
+pub record Ends (code : ℕ) (old new : Option (List ℕ)) (before now : ℕ) : Type 0 where
+  pub status : Status
+  pub is_code : code ≡ code_of status
+  pub line : AppendsPrefix old new (fault_text status)
+  pub whole : ¬ Rose before now → Appends old new (fault_text status)

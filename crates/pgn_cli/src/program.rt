@@ -1,0 +1,65 @@
+ghost use Rattle.std.specs.Prelude.{◌≡◌, ◌≢◌, map, string_bytes, IfOk, IfSome};
+ghost use Rattle.std.specs.Io.KnownBytes.{Appends};
+ghost use Rattle.pgn_run.specs.Run.{Runs, run_words};
+ghost use Rattle.pgn_cli.specs.Program.{Ends};
+
+use crate::fault_line::fault_line;
+use crate::words::NoWords;
+use pgn_base::{Sink, Source};
+use pgn_run::{Status, run_notify};
+use std::alloc::{AllocError, Global};
+
+/// All that the program does: it makes the one call of the product over these words, and writes one line to `errors` where the
+/// run is not done. The result is the exit status.
+pub fn program<S: Source, K: Sink, E: Sink>(
+    alloc: Global,
+    words: Result<Vec<String>, NoWords>,
+    source: &mut S,
+    sink: &mut K,
+    errors: &mut E,
+) -> u8
+    ensures ends { Ends result (E.held errors.old) (E.held errors.new) (E.faults errors.old) (E.faults errors.new) }
+    ensures done { result ≡ 0 → IfSome (S.left source.old) (λ input. Runs input (Appends (K.held sink.old) (K.held sink.new))) }
+    ensures no_memory { words ≡ Err NoWords.Memory → result ≡ 6 }
+    ensures not_text { words ≡ Err NoWords.NotText → result ≡ 2 }
+    ensures right_words { IfOk words (λ words. result ≡ 2 → map string_bytes words.items ≢ run_words) }
+    ensures other_words { IfOk words (λ words. map string_bytes words.items ≢ run_words → result ≢ 6 → result ≡ 2) }
+{
+    let status = status_of(alloc, words, source, sink);
+    let _ = fault_line(errors, &status);
+    status.code()
+}
+
+// How a run of these words ends.
+fn status_of<S: Source, K: Sink>(
+    alloc: Global,
+    words: Result<Vec<String>, NoWords>,
+    source: &mut S,
+    sink: &mut K,
+) -> Status
+    ensures done { result ≡ Status.Done → IfSome (S.left source.old) (λ input. Runs input (Appends (K.held sink.old) (K.held sink.new))) }
+    ensures no_memory { words ≡ Err NoWords.Memory → result ≡ Status.NoMemory }
+    ensures not_text { words ≡ Err NoWords.NotText → result ≡ Status.BadWords }
+    ensures right_words { IfOk words (λ words. result ≡ Status.BadWords → map string_bytes words.items ≢ run_words) }
+    ensures other_words { IfOk words (λ words. map string_bytes words.items ≢ run_words → result ≢ Status.NoMemory → result ≡ Status.BadWords) }
+{
+    let words = match words {
+        Ok(words) => words,
+        Err(NoWords::Memory) => return Status::NoMemory,
+        Err(NoWords::NotText) => return Status::BadWords,
+    };
+    match borrowed(alloc, words.as_slice()) {
+        Ok(words) => run_notify(alloc, words.as_slice(), source, sink),
+        Err(AllocError) => Status::NoMemory,
+    }
+}
+
+fn borrowed(alloc: Global, words: &[String]) -> Result<Vec<&str>, AllocError>
+    ensures { IfOk result (λ texts. map (λ text. text.now) texts.items ≡ map string_bytes words.now) }
+{
+    let mut texts = Vec::new(alloc);
+    for word in words {
+        texts.push(word.as_str())?;
+    }
+    Ok(texts)
+}
