@@ -2,12 +2,18 @@
 # Measures the program on long scenarios: bench/run.sh [PROGRAM]
 #
 # PROGRAM is run with the word `run`; without it the program is the one that ./pgnotify starts, built first where need be.
-# Each input is `\session a 1`, `LISTEN c` and then 800, 8,000 or 64,000 lines `NOTIFY c, 'p'`; the last one has 60,000
-# lines with payloads of 200 bytes. A line in the tables is such a NOTIFY line.
-# Seconds are the least of three runs and depend on the machine's load. Instructions do not: those of a line are the
-# difference of two sizes divided by the difference of their lines, and so is the memory of a line. The memory in the table
-# is the whole peak divided by the lines.
-# Needs GNU time, GNU date, awk, and valgrind for the instructions (without it that part is left out).
+# Each input is `\session a 1`, then as many lines `LISTEN cN`, and then lines `NOTIFY c0, 'p'` with a payload of so many
+# bytes. A line in the tables is such a NOTIFY line.
+#
+#   listener    one LISTEN, 800, 8,000 and 64,000 lines, payloads of 1 byte
+#   alone       no LISTEN, 8,000 and 64,000 lines, payloads of 1 byte
+#   200-byte    one LISTEN, 6,000 and 60,000 lines, payloads of 200 bytes
+#   7999-byte   one LISTEN, 200 and 2,000 lines, payloads of 7,999 bytes
+#   4096-set    4,096 LISTENs, 1,000 and 10,000 lines, payloads of 1 byte
+#
+# Seconds are those of the processor, the least of three runs, and depend on the machine's load. Instructions do not: those
+# of a line are the difference of two sizes divided by the difference of their lines, and so is the memory of a line.
+# Needs GNU time, awk, and valgrind for the instructions (without it those are left out).
 set -eu
 
 room=$(mktemp -d)
@@ -22,13 +28,13 @@ else
     printf '\\session a 1\n' | "$root/pgnotify" run >"$room/output"
 fi
 
-# input FILE LINES BYTES: LINES lines NOTIFY with payloads of BYTES bytes
+# input FILE LISTENS LINES BYTES
 input() {
-    awk -v lines="$2" -v bytes="$3" 'BEGIN {
+    awk -v listens="$2" -v lines="$3" -v bytes="$4" 'BEGIN {
         for (i = 0; i < bytes; i++) payload = payload "p"
         print "\\session a 1"
-        print "LISTEN c"
-        for (i = 0; i < lines; i++) print "NOTIFY c, \047" payload "\047"
+        for (i = 0; i < listens; i++) print "LISTEN c" i
+        for (i = 0; i < lines; i++) print "NOTIFY c0, \047" payload "\047"
     }' >"$room/$1"
 }
 
@@ -39,52 +45,52 @@ refused() {
     exit 1
 }
 
-# row FILE LINES: runs the program three times, and prints a row of the first table
-row() {
-    best=
+# timed FILE: the least processor seconds of three runs, and the peak memory in KB
+timed() {
     for _ in 1 2 3; do
-        start=$(date +%s%N)
-        env time -q -o "$room/peak-$1" -f %M "$program" run <"$room/$1" >"$room/output" 2>"$room/errors" || refused "$1" $?
-        end=$(date +%s%N)
-        if [ -z "$best" ] || [ $((end - start)) -lt "$best" ]; then best=$((end - start)); fi
+        env time -q -a -o "$room/times" -f '%U %S %M' "$program" run <"$room/$1" >"$room/output" 2>"$room/errors" || refused "$1" $?
     done
-    awk -v name="$1" -v lines="$2" -v nano="$best" -v peak="$(cat "$room/peak-$1")" -v size="$(wc -c <"$room/output")" 'BEGIN {
-        printf "%-8s %7d lines %12d bytes out %8.3f s %10.0f lines/s %8d KB peak %7.0f bytes a line\n",
-            name, lines, size, nano / 1e9, lines / (nano / 1e9), peak, peak * 1024 / lines
-    }'
+    awk 'NR == 1 || $1 + $2 < best { best = $1 + $2 } { peak = $3 } END { printf "%.2f %d", best, peak }' "$room/times"
+    rm -f -- "$room/times"
 }
 
-# instructions FILE: how many instructions a run takes
-instructions() {
+# counted FILE: how many instructions a run takes, or 0 without valgrind
+counted() {
+    if ! command -v valgrind >/dev/null; then
+        echo 0
+        return
+    fi
     valgrind --tool=callgrind --callgrind-out-file=/dev/null --log-file="$room/log" \
         "$program" run <"$room/$1" >"$room/output" 2>"$room/errors" || refused "$1" $?
     awk '$2 == "Collected" { print $4 }' "$room/log"
 }
 
-input 800 800 1
-input 8000 8000 1
-input 64000 64000 1
-input 200-byte 60000 200
+# load NAME LISTENS BYTES LINES LINES ..: a row for each number of lines, and the difference to the row before
+load() {
+    name=$1 listens=$2 bytes=$3
+    shift 3
+    before=
+    for lines in "$@"; do
+        input load "$listens" "$lines" "$bytes"
+        times=$(timed load)
+        count=$(counted load)
+        printf '%s %s %s %s %s\n' "$name" "$lines" "$times" "$count" "$before" | awk '{
+            printf "%-10s %7d lines %6.2f s %8.1f MB peak", $1, $2, $3, $4 / 1024
+            if ($5 > 0) printf " %14.0f instructions", $5
+            if (NF > 5) {
+                more = $2 - $6
+                if ($5 > 0) printf " %9.0f a line", ($5 - $8) / more
+                printf " %8.0f bytes a line", ($4 - $7) * 1024 / more
+            }
+            printf "\n"
+        }'
+        before="$lines ${times#* } $count"
+    done
+}
 
 printf '%s, %s processors, %s\n' "$(date -u +%Y-%m-%d)" "$(nproc)" "$program"
-row 800 800
-row 8000 8000
-row 64000 64000
-row 200-byte 60000
-awk -v middle="$(cat "$room/peak-8000")" -v large="$(cat "$room/peak-64000")" 'BEGIN {
-    printf "memory a line: %.0f bytes from 8,000 to 64,000 lines\n", (large - middle) * 1024 / 56000
-}'
-
-if command -v valgrind >/dev/null; then
-    small=$(instructions 800)
-    middle=$(instructions 8000)
-    large=$(instructions 64000)
-    awk -v small="$small" -v middle="$middle" -v large="$large" 'BEGIN {
-        first = (middle - small) / 7200
-        second = (large - middle) / 56000
-        printf "instructions a line: %.0f from 800 to 8,000 lines, %.0f from 8,000 to 64,000 lines; the second is %.3f of the first\n",
-            first, second, first ? second / first : 0
-    }'
-else
-    printf 'bench: no valgrind here, so no instructions are counted\n' >&2
-fi
+load listener 1 1 800 8000 64000
+load alone 0 1 8000 64000
+load 200-byte 1 200 6000 60000
+load 7999-byte 1 7999 200 2000
+load 4096-set 4096 1 1000 10000

@@ -6,6 +6,7 @@ ghost use Rattle.std.specs.Cmp.Rules.{hashing};
 ghost use Rattle.pgn_base.specs.Texts.{IsName};
 ghost use Rattle.pgn_base.specs.declared.text.TheConstants.{TEXT_BYTES_IN_PLACE};
 
+use crate::text::has_nul;
 use crate::{Copied, NAME_BYTES_MAX, Seq, Text};
 use std::alloc::{AllocError, Global};
 use std::hash::{Hash, Hasher};
@@ -55,7 +56,7 @@ impl Name {
         if text.len() > NAME_BYTES_MAX {
             return Err(NameFault::TooLong);
         }
-        if text.as_bytes().contains(&0) {
+        if has_nul(text.as_bytes()) {
             return Err(NameFault::Nul);
         }
         match Text::new(alloc, text) {

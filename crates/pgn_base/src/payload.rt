@@ -6,6 +6,7 @@ ghost use Rattle.std.specs.Cmp.Rules.{hashing};
 ghost use Rattle.pgn_base.specs.Texts.{IsPayload};
 ghost use Rattle.pgn_base.specs.declared.text.TheConstants.{TEXT_BYTES_IN_PLACE};
 
+use crate::text::has_nul;
 use crate::{Copied, PAYLOAD_BYTES_MAX, Text};
 use std::alloc::{AllocError, Global};
 use std::hash::{Hash, Hasher};
@@ -47,7 +48,7 @@ impl Payload {
         if text.len() > PAYLOAD_BYTES_MAX {
             return Err(PayloadFault::TooLong);
         }
-        if text.as_bytes().contains(&0) {
+        if has_nul(text.as_bytes()) {
             return Err(PayloadFault::Nul);
         }
         match Text::new(alloc, text) {

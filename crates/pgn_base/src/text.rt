@@ -1,8 +1,9 @@
-ghost use Rattle.std.specs.Prelude.{◌≡◌, ◌<◌, ◌≤◌, length, IfOk, OnErr};
+ghost use Rattle.std.specs.Prelude.{◌≡◌, ◌<◌, ◌↔◌, length, Contains, IfOk, IsTrue, OnErr};
 ghost use Rattle.pgn_base.specs.declared.text.TheConstants.{TEXT_BYTES_IN_PLACE};
 
 use crate::Copied;
 use crate::in_place::InPlace;
+use memchr::memchr;
 use std::alloc::{AllocError, Global};
 use std::fmt::{Debug, Formatter, Write};
 use std::marker::Model;
@@ -67,6 +68,13 @@ impl Copied for Text {
         };
         Ok(Text { place })
     }
+}
+
+/// Whether a text has a zero byte.
+pub fn has_nul(text: &[u8]) -> bool
+    ensures { IsTrue result ↔ Contains text.now 0 }
+{
+    memchr(0, text).is_some()
 }
 
 impl Debug for Text {

@@ -1,12 +1,11 @@
 -- Laws of a text whose quotes stand twice, written by runs that end with a quote.
-use Rattle.std.proofs.Common.{◌≡◌, ℕ, ◌+◌, ◌-◌, ◌<◌, ◌≤◌, Bool, true, false, ◌||◌, cond, eqb, List, [], ◌∷◌, ◌++◌, length, take, drop, get_or, sym, ap, ◌∙◌, refl, inl, inr, arith, append_assoc, append-nil, add-one, drop-cons}
+use Rattle.std.proofs.Common.{◌≡◌, ℕ, ◌+◌, ◌-◌, ◌<◌, ◌≤◌, Bool, true, false, not, ◌&&◌, cond, eqb, List, [], ◌∷◌, ◌++◌, length, take, drop, get_or, sym, ap, ◌∙◌, refl, inl, inr, arith, append_assoc, append-nil, add-one, drop-cons}
 use Rattle.std.specs.Prelude.{flat_map}
-use Rattle.std.specs.List.{list_any}
 use Rattle.std.proofs.lemmas.List.{drop_all, take_rest}
 use Rattle.std.proofs.lemmas.List.Edits.{between_more}
 use Rattle.std.proofs.lemmas.Bool.Decides.{eqb_tells}
 use Rattle.pgn_model.specs.Text.{doubled_byte}
-use Rattle.pgn_run.proofs.PutsLaws.{Puts-same}
+use Rattle.pgn_run.specs.Spelling.{lacks}
 
 -- the next item of a list
 flat_map-drop_at : {A : Type 0} (f : A → List ℕ) (xs : List A) (i : ℕ) (d : A) → i < length xs → flat_map f (drop i xs) ≡ f (get_or xs i d) ++ flat_map f (drop (i + 1) xs)
@@ -48,13 +47,12 @@ pending-all quote text start =
     ∙ append-nil (take (length text - start) (drop start text)) ∙ take_rest text start
 
 -- a byte of a text with no quote, and then the rest
-doubled-first : (quote byte : ℕ) (bytes : List ℕ) (same : Bool) → (same || list_any (λ b. eqb b quote) bytes) ≡ false → (list_any (λ b. eqb b quote) bytes ≡ false → flat_map (doubled_byte quote) bytes ≡ bytes)
+doubled-first : (quote byte : ℕ) (bytes : List ℕ) (same : Bool) → (not same && lacks quote bytes) ≡ true → (lacks quote bytes ≡ true → flat_map (doubled_byte quote) bytes ≡ bytes)
     → cond same (quote ∷ quote ∷ []) (byte ∷ []) ++ flat_map (doubled_byte quote) bytes ≡ byte ∷ bytes
 doubled-first quote byte bytes true h rest = cc
 doubled-first quote byte bytes false h rest = ap (λ t. byte ∷ t) (rest h)
 
-pub doubled-none : (quote : ℕ) (text : List ℕ) → list_any (λ b. eqb b quote) text ≡ false → flat_map (doubled_byte quote) text ≡ text
+-- a text with no quote stays as it is
+pub doubled-none : (quote : ℕ) (text : List ℕ) → lacks quote text ≡ true → flat_map (doubled_byte quote) text ≡ text
 doubled-none quote [] h = refl
 doubled-none quote (byte ∷ bytes) h = doubled-first quote byte bytes (eqb byte quote) h (doubled-none quote bytes)
-
-pub ruleset doubling_laws = (Puts-same, doubled-none)

@@ -69,19 +69,17 @@ joined-append (line ∷ lines) second = ap (λ t. line ++ 10 ∷ [] ++ t) (joine
 pub Puts-lines : {S : Type 0} {held : S → Option (List ℕ)} {faults : S → ℕ} {s₀ s₁ s₂ : S} {o₀ o₁ o₂ : Out} (first second : List (List ℕ)) → Puts held faults s₀ o₀ s₁ o₁ (joined first) → Puts held faults s₁ o₁ s₂ o₂ (joined second) → Puts held faults s₀ o₀ s₂ o₂ (joined (first ++ second))
 Puts-lines first second a b = Puts-same (sym (joined-append first second)) (Puts-trans a b)
 
--- after a failure any text is as good as given out
-pub Puts-failed : {S : Type 0} (held : S → Option (List ℕ)) (faults : S → ℕ) (sink : S) (out : Out) (text : List ℕ) → is_err out.so_far ≡ true → Puts held faults sink out sink out text
-Puts-failed held faults sink out text failed = record { bytes = λ start before h. more start before out.so_far failed h; cause = λ start h. h }
-  where
-    more : (start : Option (List ℕ)) (before : List ℕ) (so_far : Result Unit Failed) → is_err so_far ≡ true → IsOut start (held sink) (record { kept = out.kept; so_far = so_far }) before → IsOut start (held sink) (record { kept = out.kept; so_far = so_far }) (before ++ text)
-    more start before (Ok x) e h = absurd (cc)
-    more start before (Err d) e h = AppendsPrefix-more start (held sink) before text h
+-- after a failure any text is as good as given out, whatever is kept back
+pub Puts-failed : {S : Type 0} (held : S → Option (List ℕ)) (faults : S → ℕ) (sink : S) (kept now : List ℕ) (so_far : Result Unit Failed) (text : List ℕ) → is_err so_far ≡ true
+    → Puts held faults sink (record { kept = kept; so_far = so_far }) sink (record { kept = now; so_far = so_far }) text
+Puts-failed held faults sink kept now (Ok x) text failed = absurd (cc)
+Puts-failed held faults sink kept now (Err d) text failed = record { bytes = λ start before h. AppendsPrefix-more start (held sink) before text h; cause = λ start h. h }
 
 -- a text is kept back
-pub Puts-kept : {S : Type 0} (held : S → Option (List ℕ)) (faults : S → ℕ) (sink : S) (kept now : List ℕ) (so_far : Result Unit Failed) (text : List ℕ) → is_err so_far ≡ false → now ≡ kept ++ text
+pub Puts-kept : {S : Type 0} (held : S → Option (List ℕ)) (faults : S → ℕ) (sink : S) (kept now : List ℕ) (so_far : Result Unit Failed) (text : List ℕ) → now ≡ kept ++ text
     → Puts held faults sink (record { kept = kept; so_far = so_far }) sink (record { kept = now; so_far = so_far }) text
-Puts-kept held faults sink kept now (Err d) text fine e = absurd (cc)
-Puts-kept held faults sink kept now (Ok x) text fine e = record {
+Puts-kept held faults sink kept now (Err d) text e = Puts-failed held faults sink kept now (Err d) text refl
+Puts-kept held faults sink kept now (Ok x) text e = record {
   bytes = λ start before h. subst (λ k. GrewBut start (held sink) k (before ++ text)) (sym e) (GrewBut-more start (held sink) kept before text h);
   cause = λ start h. h;
 }
@@ -111,7 +109,7 @@ Puts-sent held faults sink sink_now kept now so_far result all fine none e w c =
 pub Puts-parts : {S : Type 0} {held : S → Option (List ℕ)} {faults : S → ℕ} {s₀ s₁ s₂ : S} {o₁ o₂ : Out} {kept now : List ℕ} {so_far : Result Unit Failed} {second text : List ℕ} (first : List ℕ) → so_far ≡ Ok tt → now ≡ kept ++ first
     → Puts held faults s₀ (record { kept = now; so_far = so_far }) s₁ o₁ [] → Puts held faults s₁ o₁ s₂ o₂ second → first ++ second ≡ text → Puts held faults s₀ (record { kept = kept; so_far = so_far }) s₂ o₂ text
 Puts-parts {held = held} {faults = faults} {s₀ = s₀} {kept = kept} {now = now} {so_far = so_far} {second = second} first fine e sent rest parts =
-    let one : Puts held faults s₀ (record { kept = kept; so_far = so_far }) s₀ (record { kept = now; so_far = so_far }) first = Puts-kept held faults s₀ kept now so_far first (ap is_err fine) e in
+    let one : Puts held faults s₀ (record { kept = kept; so_far = so_far }) s₀ (record { kept = now; so_far = so_far }) first = Puts-kept held faults s₀ kept now so_far first e in
     Puts-same (ap (λ t. t ++ second) (append-nil first) ∙ parts) (Puts-trans (Puts-trans one sent) rest)
 
 -- with the rest, the whole is given out

@@ -1,14 +1,19 @@
 -- What is given out to a sink through a buffer.
-use Rattle.std.specs.Prelude.{◌≡◌, ℕ, ◌<◌, ◌≤◌, List, [], ◌∷◌, ◌++◌, length, drop, Option, None, Some, MatchResult}
+use Rattle.std.specs.Prelude.{◌≡◌, ℕ, ◌<◌, ◌≤◌, List, [], ◌∷◌, ◌++◌, codes, flat_map, length, drop, Option, None, Some, MatchResult}
 use Rattle.pgn_base.specs.Outside.{AppendsPrefix, HasCause}
 use Rattle.pgn_model.specs.declared.scenario.ScriptLine.{ScriptLine}
-use Rattle.pgn_model.specs.Text.{line_text}
+use Rattle.pgn_base.specs.declared.note.Note.{Note}
+use Rattle.pgn_model.specs.Text.{line_text, doubled_byte, quoted}
 use Rattle.pgn_run.specs.declared.line_cursor.LineCursor.{LineCursor}
 use Rattle.pgn_run.specs.declared.render.output.Out.{Out}
 
 -- a line with its LF
 abbrev pub ended : List ℕ → List ℕ
 ended line = line ++ 10 ∷ []
+
+-- a notification behind its first quote
+abbrev pub note_behind : Note → List ℕ
+note_behind note = flat_map (doubled_byte 34) note.channel ++ 34 ∷ [] ++ codes ", " ++ quoted 39 note.payload
 
 -- known bytes grew by a prefix of the text, and the rest is kept back
 abbrev pub GrewBut : Option (List ℕ) → Option (List ℕ) → List ℕ → List ℕ → Type 0

@@ -58,6 +58,7 @@ fn text_of_needs(what: Needs) -> &'static [u8]
 
 impl Out {
     /// The line of a start and a text.
+    #[inline]
     fn text_line<K: Sink>(&mut self, sink: &mut K, start: &[u8], text: &[u8])
         ensures { Puts K.held K.faults sink.old self.old sink.new self.new (ended (start.now ++ text.now)) }
     {
@@ -67,6 +68,7 @@ impl Out {
     }
 
     /// The line of a start and a transaction number.
+    #[inline]
     fn xid_line<K: Sink>(&mut self, sink: &mut K, start: &[u8], xid: &Xid)
         ensures { Puts K.held K.faults sink.old self.old sink.new self.new (ended (start.now ++ decimal xid.now)) }
     {
@@ -76,6 +78,7 @@ impl Out {
     }
 
     /// The line of a start and two transaction numbers.
+    #[inline]
     fn xids_line<K: Sink>(&mut self, sink: &mut K, start: &[u8], first: &Xid, second: &Xid)
         ensures { Puts K.held K.faults sink.old self.old sink.new self.new (ended (start.now ++ decimal first.now ++ codes " " ++ decimal second.now)) }
     {

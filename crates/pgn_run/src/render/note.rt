@@ -1,10 +1,11 @@
 #![tactic(auto, using(crate::proofs::PutsLaws::put_laws))]
 
 ghost use Rattle.std.specs.Prelude.{◌++◌, codes, decimal, flat_map, map};
-ghost use Rattle.pgn_model.specs.Text.{channel_line, delivery_line, doubled_byte, joined, note_line, note_text};
-ghost use Rattle.pgn_run.specs.Rendering.{Puts, ended};
+ghost use Rattle.pgn_model.specs.Text.{channel_line, delivery_line, doubled_byte, joined, note_line};
+ghost use Rattle.pgn_run.specs.Rendering.{Puts, ended, note_behind};
 
 use crate::render::output::Out;
+use memchr::memchr;
 use pgn_base::{Delivery, Name, Note, Sink};
 
 impl Out {
@@ -25,22 +26,19 @@ impl Out {
     }
 
     /// A text with each quote twice, if it has any.
-    #[tactic(auto, using(crate::proofs::DoublingLaws::doubling_laws))]
     fn doubled<K: Sink>(&mut self, sink: &mut K, quote: u8, text: &[u8])
         ensures { Puts K.held K.faults sink.old self.old sink.new self.new (flat_map (doubled_byte quote) text.now) }
     {
-        if text.contains(&quote) {
-            self.runs(sink, quote, text);
-            return;
+        match memchr(quote, text) {
+            Some(_) => self.runs(sink, quote, text),
+            None => self.text(sink, text),
         }
-        self.text(sink, text);
     }
 
-    /// A notification, at the end of a line.
+    /// A notification behind its first quote, at the end of a line.
     fn note<K: Sink>(&mut self, sink: &mut K, note: &Note)
-        ensures { Puts K.held K.faults sink.old self.old sink.new self.new (ended (note_text note.now)) }
+        ensures { Puts K.held K.faults sink.old self.old sink.new self.new (ended (note_behind note.now)) }
     {
-        self.text(sink, b"\"");
         self.doubled(sink, b'"', note.channel.as_bytes());
         self.text(sink, b"\", '");
         self.doubled(sink, b'\'', note.payload.as_bytes());
@@ -51,7 +49,7 @@ impl Out {
     fn note_line<K: Sink>(&mut self, sink: &mut K, note: &Note)
         ensures { Puts K.held K.faults sink.old self.old sink.new self.new (ended (note_line note.now)) }
     {
-        self.text(sink, b"  ");
+        self.text(sink, b"  \"");
         self.note(sink, note);
     }
 
@@ -65,15 +63,15 @@ impl Out {
         }
     }
 
-    /// Where a notification that was received comes from.
+    /// Where a notification that was received comes from, and its first quote.
     fn sender<K: Sink>(&mut self, sink: &mut K, delivery: &Delivery)
-        ensures { Puts K.held K.faults sink.old self.old sink.new self.new (codes "  " ++ decimal delivery.now.xid ++ codes " " ++ decimal delivery.now.pid ++ codes " ") }
+        ensures { Puts K.held K.faults sink.old self.old sink.new self.new (codes "  " ++ decimal delivery.now.xid ++ codes " " ++ decimal delivery.now.pid ++ codes " \"") }
     {
         self.text(sink, b"  ");
         self.number(sink, u64::from(delivery.xid.get()));
         self.text(sink, b" ");
         self.number(sink, u64::from(delivery.pid));
-        self.text(sink, b" ");
+        self.text(sink, b" \"");
     }
 
     /// The line of a notification that was received.

@@ -66,7 +66,7 @@ impl Buffer {
     }
 }
 
-/// What is on its way to a sink. After a failed write nothing more is given out.
+/// What is on its way to a sink. After a failed write nothing more is given out; what is kept back then goes nowhere.
 #[derive(Drop)]
 pub struct Out {
     kept: Buffer,
@@ -116,6 +116,17 @@ impl Out {
     /// Gives a piece out that there is no room for.
     #[cold]
     fn overflow<K: Sink>(&mut self, sink: &mut K, piece: &[u8])
+        requires large { SIZE ≤ length self.old.kept + length piece.now }
+        ensures { Puts K.held K.faults sink.old self.old sink.new self.new piece.now }
+    {
+        match self.so_far {
+            Ok(()) => self.refill(sink, piece),
+            Err(Failed) => self.kept.clear(),
+        }
+    }
+
+    // Fills the buffer with the piece's front, sends it, and keeps the rest.
+    fn refill<K: Sink>(&mut self, sink: &mut K, piece: &[u8])
         requires fine { self.old.so_far ≡ Ok tt }
         requires large { SIZE ≤ length self.old.kept + length piece.now }
         ensures { Puts K.held K.faults sink.old self.old sink.new self.new piece.now }
@@ -132,9 +143,6 @@ impl Out {
     pub fn text<K: Sink>(&mut self, sink: &mut K, piece: &[u8])
         ensures { Puts K.held K.faults sink.old self.old sink.new self.new piece.now }
     {
-        if self.so_far.is_err() {
-            return;
-        }
         if piece.len() > self.kept.room() {
             self.overflow(sink, piece);
             return;
@@ -146,6 +154,10 @@ impl Out {
     pub fn number<K: Sink>(&mut self, sink: &mut K, number: u64)
         ensures { Puts K.held K.faults sink.old self.old sink.new self.new (decimal number) }
     {
+        if number < 10 {
+            self.text(sink, &[b'0' + number as u8]);
+            return;
+        }
         let mut digits = itoa::Buffer::new();
         self.text(sink, digits.format(number).as_bytes());
     }
