@@ -1,9 +1,9 @@
 -- Who is woken, lane by lane and bit by bit.
-use Rattle.std.proofs.Common.{◌≡◌, ◌↔◌, ℕ, zero, suc, ◌+◌, ◌-◌, ◌*◌, ◌/◌, ◌%◌, ◌^◌, ◌<◌, ◌≤◌, min, Bool, true, false, not, cond, ltb, leb, eqb, List, [], ◌∷◌, ◌++◌, length, take, drop, get_or, map, set, replicate, refl, sym, ap, ◌∙◌, ⊎_elim, arith}
+use Rattle.std.proofs.Common.{◌≡◌, ◌↔◌, ℕ, zero, suc, ◌+◌, ◌-◌, ◌*◌, ◌/◌, ◌%◌, ◌^◌, ◌<◌, ◌≤◌, min, Bool, true, false, not, cond, ltb, leb, eqb, List, [], ◌∷◌, ◌++◌, length, take, drop, get_or, set, replicate, refl, sym, ap, ◌∙◌, ⊎_elim, arith}
 use Rattle.std.specs.Prelude.{All, bit_or}
 use Rattle.std.specs.Int.{bit_at, from_bool}
 use Rattle.std.specs.Simd.Lanes.{mask_l, zip2, sel_l, chunk}
-use Rattle.std.proofs.lemmas.Simd.{bit_mask_l, mask_l-lt, mask_l-mod, length-chunk}
+use Rattle.std.proofs.lemmas.Simd.{bit_mask_l, mask_l-lt, mask_l-mod}
 use Rattle.std.proofs.lemmas.Nat.{or_disjoint, and_comm}
 use Rattle.std.proofs.Math.Nat.{two-pow-succ}
 use Rattle.std.proofs.Math.Seq.{take-add}
@@ -11,7 +11,7 @@ use Rattle.std.proofs.lemmas.Nat.Bits.{bit_at-zero}
 use Rattle.std.proofs.lemmas.List.{length-take, get_or-take, get_or-drop, get_or_past, get_or-set_other, get_or-set_same}
 use Rattle.std.proofs.Common.{pow_mono, subst, drop-cons, ◌≢◌}
 use Rattle.std.specs.Int.Bits.{and_shifted}
-use Rattle.std.proofs.lemmas.Bool.{cases_lt, leb-true, leb-false, ltb-true, ltb-false}
+use Rattle.std.proofs.lemmas.Bool.{cases_lt, leb-true, ltb-true, ltb-false}
 use Rattle.std.proofs.lemmas.Bool.Decides.{nat_tests}
 use Rattle.pgn_lanes.specs.Behind.{page_of, pages_behind, is_woken, plain_behind, mask_bit, Marks}
 
@@ -25,9 +25,9 @@ below_far : (head far p : ℕ) → (p < far) ↔ (page_of p + pages_behind ≤ p
 below_far head far p h = elim (ltb p far) as (λ b. ltb p far ≡ b → b ≡ leb (page_of p + pages_behind) (page_of head)) [
   | true ↦ λ e. let l : page_of p + pages_behind ≤ page_of head = h.0 (ltb-true p far e) in grind (arith, nat_tests)
   | false ↦ λ e. elim (leb (page_of p + pages_behind) (page_of head)) as (λ b. leb (page_of p + pages_behind) (page_of head) ≡ b → false ≡ b) [
-      | true ↦ λ f. let l : p < far = h.1 (leb-true (page_of p + pages_behind) (page_of head) f) in absurd (omega (arith, ltb-false p far e))
-      | false ↦ λ f. refl
-    ] refl
+    | true ↦ λ f. let l : p < far = h.1 (leb-true (page_of p + pages_behind) (page_of head) f) in absurd (omega (arith, ltb-false p far e))
+    | false ↦ λ f. refl
+  ] refl
 ] refl
 
 below_head : (head p : ℕ) → p ≤ head → ltb p head ≡ not (eqb p head)
@@ -89,10 +89,10 @@ marks_step head db ps ds at n m next same room small is is_next =
     let long : length (take at ps) ≡ length (take at ds) = omega (arith, length-take at ps, length-take at ds) in
     let front_long : length front ≡ at = length-plain_behind head db (take at ps) (take at ds) long ∙ (let e : length (take at ps) ≡ at = omega (arith, length-take at ps) in e) in
     let joined : whole ≡ front ++ more =
-      (λ i. plain_behind head db (take-add at n ps i) (take-add at n ds i)) ∙ plain_behind-append head db (take at ps) (chunk at n ps) (take at ds) (chunk at n ds) long
+    (λ i. plain_behind head db (take-add at n ps i) (take-add at n ds i)) ∙ plain_behind-append head db (take at ps) (chunk at n ps) (take at ds) (chunk at n ds) long
     in
     let value : mask_l whole ≡ mask_l front + 2 ^ at * mask_l more =
-      ap mask_l joined ∙ mask_l-append front more ∙ ap (λ (k : ℕ). mask_l front + 2 ^ k * mask_l more) front_long
+    ap mask_l joined ∙ mask_l-append front more ∙ ap (λ (k : ℕ). mask_l front + 2 ^ k * mask_l more) front_long
     in
     let whole_long : length whole ≤ 64 = omega (arith, length-plain_behind head db (take (at + n) ps) (take (at + n) ds), length-take (at + n) ps, length-take (at + n) ds) in
     let fits : mask_l whole < 2 ^ 64 = omega (arith, mask_l-lt whole, pow_mono {i = length whole} {j = 64} whole_long) in
@@ -112,7 +112,7 @@ pub marks_one : (head db : ℕ) (ps ds : List ℕ) (at : ℕ) (woken : Bool) →
     → from_bool woken ≡ mask_l (plain_behind head db (chunk at 1 ps) (chunk at 1 ds))
 marks_one head db ps ds at woken l k is =
     let one : plain_behind head db (chunk at 1 ps) (chunk at 1 ds) ≡ woken ∷ [] =
-      (λ i. plain_behind head db (chunk-one at ps 0 l i) (chunk-one at ds 0 k i)) ∙ ap (λ (b : Bool). b ∷ []) (sym is)
+    (λ i. plain_behind head db (chunk-one at ps 0 l i) (chunk-one at ds 0 k i)) ∙ ap (λ (b : Bool). b ∷ []) (sym is)
     in
     mask_of_one woken ∙ sym (ap mask_l one)
 
@@ -149,9 +149,9 @@ word_bit head db ps ds from to v same ends is j l =
     let cut : marks ≡ take n (drop from answers) = plain_behind-take head db n (drop from ps) (drop from ds) ∙ ap (take n) (plain_behind-drop head db from ps ds) in
     let bit : bit_at v j ≡ cond (get_or marks j false) 1 0 = ap (λ (x : ℕ). bit_at x j) is ∙ bit_mask_l marks j in
     let there : get_or (take n (drop from answers)) j false ≡ get_or answers (from + j) false =
-      ⊎_elim (λ h. get_or-take n (drop from answers) j false h ∙ get_or-drop from answers j false)
-      (λ ge. get_or_past (take n (drop from answers)) j false (omega (arith, length-take n (drop from answers))) ∙ sym (get_or_past answers (from + j) false (omega (arith, long))))
-      (cases_lt j n)
+    ⊎_elim (λ h. get_or-take n (drop from answers) j false h ∙ get_or-drop from answers j false)
+    (λ ge. get_or_past (take n (drop from answers)) j false (omega (arith, length-take n (drop from answers))) ∙ sym (get_or_past answers (from + j) false (omega (arith, long))))
+    (cases_lt j n)
     in
     ap (λ (x : ℕ). eqb x 1) bit ∙ bit_tells (get_or marks j false) ∙ ap (λ (l : List Bool). get_or l j false) cut ∙ there
 
@@ -183,3 +183,20 @@ marked-all answers mask words all marked i =
     ⊎_elim (λ l. marked.bits i l) (λ ge.
     ap (λ (x : ℕ). eqb (bit_at x (i % 64)) 1) (marked.clear (i / 64) (omega arith)) ∙ ap (λ (x : ℕ). eqb x 1) (bit_at-zero (i % 64))
     ∙ sym (get_or_past answers i false (omega arith))) (cases_lt i (words * 64))
+
+-- ---- each listener by itself
+pub answer_of_each : (head db : ℕ) (ps ds : List ℕ) (i : ℕ) → length ps ≡ length ds → i < length ps → get_or (plain_behind head db ps ds) i false ≡ is_woken head db (get_or ps i 0) (get_or ds i 0)
+answer_of_each head db [] ds i same h = absurd (omega arith)
+answer_of_each head db (p ∷ ps) [] i same h = absurd (omega arith)
+answer_of_each head db (p ∷ ps) (d ∷ ds) zero same h = refl
+answer_of_each head db (p ∷ ps) (d ∷ ds) (suc i) same h = answer_of_each head db ps ds i (omega arith) (omega arith)
+
+-- ---- the mask of at most 64 answers is one word
+pub mask_of_answers : (answers : List Bool) → length answers ≤ 64 → Marks (mask_l answers ∷ []) answers
+mask_of_answers answers short = marked-all answers (mask_l answers ∷ []) 1 (omega arith) (record {
+  bits = λ i h.
+      let word : i / 64 ≡ 0 = omega arith in
+      let place : i % 64 ≡ i = omega arith in
+      (λ k. eqb (bit_at (get_or (mask_l answers ∷ []) (word k) 0) (place k)) 1) ∙ ap (λ (x : ℕ). eqb x 1) (bit_mask_l answers i) ∙ bit_tells (get_or answers i false);
+  clear = λ k le. get_or_past (mask_l answers ∷ []) k 0 (omega arith);
+})

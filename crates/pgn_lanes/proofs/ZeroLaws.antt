@@ -1,5 +1,8 @@
 -- The first zero byte by its place.
-use Rattle.std.proofs.Common.{◌≡◌, ℕ, zero, suc, ◌+◌, ◌-◌, ◌^◌, ◌<◌, ◌≤◌, map, ⊎_elim, w64, Bool, true, false, cond, Option, Some, None, List, [], ◌∷◌, length, get_or, refl, sym, ap, ◌∙◌, arith}
+use Rattle.std.proofs.Common.{◌≡◌, ℕ, zero, suc, ◌+◌, ◌-◌, ◌^◌, ◌<◌, ◌≤◌, map, ⊎_elim, w64, Bool, true, false, cond, Some, None, List, [], ◌∷◌, length, get_or, refl, sym, ap, ◌∙◌, arith}
+use Rattle.std.specs.List.{position, position_or_len}
+use Rattle.std.proofs.Common.{ltb}
+use Rattle.std.proofs.lemmas.Bool.Decides.{nat_tests}
 use Rattle.std.specs.Int.{bit_at}
 use Rattle.std.specs.Simd.Lanes.{mask_l, chunk}
 use Rattle.std.proofs.lemmas.Simd.{length-chunk, get_or-chunk, bit_mask_l}
@@ -55,10 +58,33 @@ zero_in_mask bytes at n m room is some small before =
     let within : r < n = ⊎_elim (λ l. l) (λ ge. absurd (cc (here, get_or_past marks r false (omega (arith, length-map lanes is_zero))))) (cases_lt r n) in
     let at_lane = λ (i : ℕ) (l : i < n). at_map is_zero lanes i (omega arith) ∙ ap is_zero (get_or-chunk at n bytes i 0 l) in
     let no_earlier : HasNoZeroBefore (at + r) bytes = λ k h.
-      ⊎_elim (λ l. before k l) (λ ge.
-      let i = k - at in
-      let e : at + i ≡ k = omega arith in
-      let first : i < r = omega arith in
-      ap (λ (j : ℕ). is_zero (get_or bytes j 0)) (sym e) ∙ sym (at_lane i (omega arith)) ∙ is_clear (get_or marks i false) (sym (bits i) ∙ lowest.2 i first)) (cases_lt k at)
+    ⊎_elim (λ l. before k l) (λ ge.
+    let i = k - at in
+    let e : at + i ≡ k = omega arith in
+    let first : i < r = omega arith in
+    ap (λ (j : ℕ). is_zero (get_or bytes j 0)) (sym e) ∙ sym (at_lane i (omega arith)) ∙ is_clear (get_or marks i false) (sym (bits i) ∙ lowest.2 i first)) (cases_lt k at)
     in
     zero_at bytes (at + r) (omega arith) no_earlier (sym (at_lane r within) ∙ here)
+
+-- ---- the same place as std's word for it
+position_here : (x : ℕ) (xs : List ℕ) → is_zero x ≡ true → position is_zero (x ∷ xs) ≡ Some 0
+position_here x xs e =
+    let n : position_or_len is_zero (x ∷ xs) ≡ 0 = rw e refl in
+    let within : ltb (position_or_len is_zero (x ∷ xs)) (length (x ∷ xs)) ≡ true = grind (arith, nat_tests) in
+    rw within (ap Some n)
+
+position_later : (x : ℕ) (xs : List ℕ) → is_zero x ≡ false → position is_zero (x ∷ xs) ≡ option_map (λ place. place + 1) (position is_zero xs)
+position_later x xs e =
+    let n : position_or_len is_zero (x ∷ xs) ≡ position_or_len is_zero xs + 1 = rw e (omega arith) in
+    let within : ltb (position_or_len is_zero (x ∷ xs)) (length (x ∷ xs)) ≡ ltb (position_or_len is_zero xs) (length xs) = rw n (grind (arith, nat_tests)) in
+    rw within (elim (ltb (position_or_len is_zero xs) (length xs)) as (λ b. cond b (Some (position_or_len is_zero (x ∷ xs))) None ≡ option_map (λ place. place + 1) (cond b (Some (position_or_len is_zero xs)) None)) [
+      | true ↦ ap Some n
+      | false ↦ refl
+    ])
+
+pub zero_is_first : (bytes : List ℕ) → plain_zero bytes ≡ position is_zero bytes
+zero_is_first [] = refl
+zero_is_first (x ∷ xs) = elim (is_zero x) as (λ b. is_zero x ≡ b → cond b (Some 0) (option_map (λ place. place + 1) (plain_zero xs)) ≡ position is_zero (x ∷ xs)) [
+  | true ↦ λ e. sym (position_here x xs e)
+  | false ↦ λ e. ap (option_map (λ place. place + 1)) (zero_is_first xs) ∙ sym (position_later x xs e)
+] refl

@@ -1,5 +1,5 @@
 -- Which listeners a commit wakes, and the mask that names them.
-use Rattle.std.specs.Prelude.{◌≡◌, ℕ, ◌+◌, ◌/◌, ◌%◌, ◌==◌, nat_le, Bool, true, false, not, List, [], ◌∷◌, slice_index, slice_index_or, if◌then◌else◌}
+use Rattle.std.specs.Prelude.{◌≡◌, ℕ, ◌+◌, ◌/◌, ◌%◌, ◌==◌, nat_le, Bool, false, not, List, [], ◌∷◌, slice_index, slice_index_or, if◌then◌else◌}
 use Rattle.std.specs.Int.{bit_at}
 
 -- how many cells a page has

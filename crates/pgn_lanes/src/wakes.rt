@@ -7,20 +7,23 @@ use std::simd::prelude::*;
 // How many listeners are looked at together.
 const LANES: usize = 8;
 
+// How many listeners a word of the mask has a bit for.
 const WORD_BITS: usize = 64;
 
+// How many cells a page has.
 const PAGE_CELLS: u64 = 2048;
 
+// A listener of another database is woken where it is as many pages behind.
 const PAGES_BEHIND: u64 = 4;
 
-// The first cell at which a listener of another database need not be woken.
+// The first cell at which a listener of another database is not woken.
 fn far_below(head: u64) -> u64
     ensures { (position : ℕ) → (position < result) ↔ (page_of position + pages_behind ≤ page_of head) }
 {
     (head / PAGE_CELLS).saturating_sub(PAGES_BEHIND - 1) * PAGE_CELLS
 }
 
-// Whether one listener is to be woken.
+// Whether one listener is woken.
 fn needs_wake(position: u64, own: u32, head: u64, db: u32) -> bool
     ensures { result ≡ is_woken head db position own }
 {
@@ -31,7 +34,7 @@ fn needs_wake(position: u64, own: u32, head: u64, db: u32) -> bool
     }
 }
 
-// A bit for each listener of the lanes. None is past the head, so one that isn't at the head is below it.
+// A bit for each listener of the lanes. No position is past the head, so one that is not the head is below it.
 fn lane_marks(pos: u64x8, owns: u32x8, head: u64, db: u32) -> u64
     requires { All (λ position. position ≤ head) pos }
     ensures { result ≡ mask_l (plain_behind head db pos owns) }
@@ -78,7 +81,11 @@ fn word_marks(pos: &[u64], dbs: &[u32], head: u64, db: u32) -> u64
     marks
 }
 
-/// Sets the bit of each listener that a writer of `db` wakes.
+/// Sets bit i of the mask exactly where a writer of database `db`, after moving the head to `head`, wakes listener i: one of that
+/// database where its position is not the head, and any other where the head's page is at least four pages beyond its own.
+///
+/// Positions are cell numbers, 2,048 to a page, and none may be past the head. `dbs` has the database of each listener. The mask has
+/// a bit for each, 64 to a word from the lowest on, and is zero.
 pub fn behind(pos: &[u64], dbs: &[u32], head: u64, db: u32, mask: &mut [u64])
     requires same_length { length pos.now ≡ length dbs.now }
     requires not_past { All (λ position. position ≤ head) pos.now }

@@ -17,7 +17,7 @@ fn least_of(start: u64, words: &[u64]) -> u64
     least
 }
 
-// A word and the words, which are a multiple of the lanes: in each lane the least of its own.
+// Lanes that have the least that a word and all of the words have. The words are a multiple of the lanes.
 fn least_lanes(start: u64, words: &[u64]) -> u64x8
     requires { length words.now % LANES ≡ 0 }
     ensures { least_with start result ≡ least_with start words.now }

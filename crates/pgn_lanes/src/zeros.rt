@@ -17,7 +17,7 @@ fn lane_zeros(bytes: &[u8], at: usize) -> u64
         .to_bitmask()
 }
 
-// The first zero byte, which is at that place or after it.
+// The first zero byte, byte by byte from a place on that it is not before.
 fn zero_from(bytes: &[u8], from: usize) -> Option<usize>
     requires within { from ≤ length bytes.now }
     requires passed { HasNoZeroBefore from bytes.now }

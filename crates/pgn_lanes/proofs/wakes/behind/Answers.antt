@@ -1,4 +1,4 @@
-use Rattle.std.proofs.Common.{◌≡◌, ◌+◌, ◌*◌, ◌≤◌, arith}
+use Rattle.std.proofs.Common.{◌*◌, arith}
 use Rattle.pgn_lanes.specs.Behind.{plain_behind}
 use Rattle.pgn_lanes.proofs.WakeLaws.{length-plain_behind, marked-none, marked-word, marked-all, word_bit}
 use Rattle.pgn_lanes.proofs.wakes.behind.Goals as goal

@@ -1,4 +1,4 @@
-use Rattle.std.proofs.Common.{◌≡◌, ℕ, ◌-◌, ◌%◌, ◌^◌, List, Bool, map, ltb, eqb, replicate, cond, sym, ap, ◌∙◌, arith, w64}
+use Rattle.std.proofs.Common.{ℕ, ◌-◌, ◌%◌, ◌^◌, List, Bool, map, ltb, eqb, replicate, cond, ap, ◌∙◌, arith, w64}
 use Rattle.std.specs.Simd.Lanes.{mask_l, zip2, sel_l, top}
 use Rattle.std.proofs.lemmas.Simd.{tops_compared}
 use Rattle.std.proofs.lemmas.List.{map-id}

@@ -19,5 +19,5 @@ loop-block-preserved c =
     (sym (tops_compared w64 ltb more lanes)) (
       length-sel_l (zip2 ltb more lanes) more lanes (long ∙ sym loaded) (long ∙ sym c.loop-block.invariant.0) ∙ long,
       least_with-block c.args.start 8 at lanes words c.loop-block.invariant.0 room loaded c.loop-block.invariant.1
-      ∙ ap (λ (n : ℕ). least_with c.args.start (take n words)) next,
+          ∙ ap (λ (n : ℕ). least_with c.args.start (take n words)) next,
     )
