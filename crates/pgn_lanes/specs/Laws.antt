@@ -1,9 +1,7 @@
 -- Laws of the plain definitions.
 use Rattle.std.specs.Prelude.{◌≡◌, ℕ, ◌<◌, ◌≤◌, ◌↔◌, false, List, [], length, Some, None, All, Contains, slice_index, slice_index_or}
-use Rattle.std.specs.List.{position}
 use Rattle.pgn_lanes.specs.Least.{plain_least}
 use Rattle.pgn_lanes.specs.Behind.{is_woken, plain_behind}
-use Rattle.pgn_lanes.specs.Zero.{is_zero, plain_zero}
 
 -- the least of a list is a word of it that no word is below
 abbrev pub LeastIsLeast : Type 0
@@ -21,7 +19,3 @@ OneAnswerEach = (head db : ℕ) (positions owns : List ℕ) → length positions
 abbrev pub EachByItself : Type 0
 EachByItself = (head db : ℕ) (positions owns : List ℕ) (i : ℕ) → length positions ≡ length owns → i < length positions
     → slice_index_or (plain_behind head db positions owns) i false ≡ is_woken head db (slice_index positions i) (slice_index owns i)
-
--- the first zero byte stands where the first byte that is zero stands
-abbrev pub ZeroIsFirst : Type 0
-ZeroIsFirst = (bytes : List ℕ) → plain_zero bytes ≡ position is_zero bytes

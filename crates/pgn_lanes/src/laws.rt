@@ -1,4 +1,4 @@
-ghost use Rattle.pgn_lanes.specs.Laws.{LeastIsLeast, OnlyEmptyHasNone, OneAnswerEach, EachByItself, ZeroIsFirst};
+ghost use Rattle.pgn_lanes.specs.Laws.{LeastIsLeast, OnlyEmptyHasNone, OneAnswerEach, EachByItself};
 
 /// What the least of a list is, by its words.
 pub fn least_laws()
@@ -10,9 +10,4 @@ pub fn least_laws()
 pub fn behind_laws()
     ensures length { OneAnswerEach }
     ensures each { EachByItself }
-{}
-
-/// The place of the first zero byte, in the words of the library.
-pub fn zero_laws()
-    ensures { ZeroIsFirst }
 {}

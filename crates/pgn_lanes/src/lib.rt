@@ -5,7 +5,8 @@
 //! what either costs. Each takes eight words or sixteen bytes together, and what is left one by one.
 //!
 //! A caller may rely on this: each answers as its plain definition does, for every length. These are `plain_least`, `plain_behind`
-//! and `plain_zero`, by recursion on the list. What they mean is told once more by laws over them. That a loop takes several
+//! and `plain_zero`, by recursion on the list. Laws over the first two tell once more what they mean, and
+//! the third is also the place that the library finds. That a loop takes several
 //! elements together is not promised, only its answer is. None of the calls takes memory, and the crate stands on no other.
 //!
 //! A reader of the queue's entries ends the channel of an entry by `first_zero(bytes)`: what stands before that place is the name.
@@ -18,7 +19,7 @@ mod words;
 mod zeros;
 
 pub use examples::{behind_examples, least_examples, zero_examples};
-pub use laws::{behind_laws, least_laws, zero_laws};
+pub use laws::{behind_laws, least_laws};
 pub use wakes::behind;
 pub use words::least;
 pub use zeros::first_zero;

@@ -1,4 +1,5 @@
 ghost use Rattle.std.specs.Prelude.{◌≡◌, ◌+◌, ◌≤◌, length, map};
+ghost use Rattle.std.specs.List.{position};
 ghost use Rattle.std.specs.Simd.Lanes.{mask_l, chunk};
 ghost use Rattle.pgn_lanes.specs.Zero.{is_zero, plain_zero, HasNoZeroBefore};
 
@@ -33,7 +34,8 @@ fn zero_from(bytes: &[u8], from: usize) -> Option<usize>
 
 /// The least place of a zero byte, and none exactly where there is none.
 pub fn first_zero(bytes: &[u8]) -> Option<usize>
-    ensures { result ≡ plain_zero bytes.now }
+    ensures plain { result ≡ plain_zero bytes.now }
+    ensures first { result ≡ position is_zero bytes.now }
 {
     let blocks = bytes.len() / LANES;
     for block in 0..blocks {
