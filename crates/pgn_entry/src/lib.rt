@@ -14,7 +14,6 @@
 
 mod entry_fault;
 mod entry_view;
-mod first_zero;
 mod format;
 mod head;
 mod laws;
