@@ -2,23 +2,11 @@
 use Rattle.std.proofs.Common.{◌≡◌, ℕ, suc, ◌+◌, ◌<◌, ◌≤◌, Bool, true, false, cond, Some, None, List, [], ◌∷◌, length, take, drop, get_or, subst, refl, sym, ap, ◌∙◌, arith}
 use Rattle.std.specs.Prelude.{Contains, count_by}
 use Rattle.std.specs.List.{position, position_or_len, before_first, after_first, between}
-use Rattle.std.proofs.lemmas.List.Sums.{sum_by-cons, position_or_len_is, fails_before_first}
+use Rattle.std.proofs.lemmas.List.Sums.{sum_by-cons, fails_before_first}
 use Rattle.std.proofs.lemmas.List.{length-take, get_or-take}
 use Rattle.std.proofs.lemmas.Slice.{between_to_end}
 use Rattle.std.proofs.lemmas.Bool.Decides.{nat_tests}
 use Rattle.pgn_entry.specs.Reading.{is_zero}
-
--- a place that passes with none before it is the first
-pub found_at : (bytes : List ℕ) (at : ℕ) → at < length bytes → ((k : ℕ) → k < at → is_zero (get_or bytes k 0) ≡ false) → is_zero (get_or bytes at 0) ≡ true → Some at ≡ position is_zero bytes
-found_at bytes at within below here =
-    let place : position_or_len is_zero bytes ≡ at = position_or_len_is is_zero bytes at 0 (omega arith) below (λ _. here) in
-    rw place (grind (arith, nat_tests))
-
--- no place passes
-pub found_none : (bytes : List ℕ) → ((k : ℕ) → k < length bytes → is_zero (get_or bytes k 0) ≡ false) → None ≡ position is_zero bytes
-found_none bytes below =
-    let place : position_or_len is_zero bytes ≡ length bytes = position_or_len_is is_zero bytes (length bytes) 0 (omega arith) below (λ h. absurd (omega (arith, h))) in
-    rw place (grind (arith, nat_tests))
 
 -- a front element is counted where it passes
 count_by-cons : (p : ℕ → Bool) (x : ℕ) (xs : List ℕ) → count_by p (x ∷ xs) ≡ cond (p x) 1 0 + count_by p xs

@@ -35,7 +35,6 @@
 
 mod entry_fault;
 mod entry_view;
-mod first_zero;
 mod format;
 mod head;
 mod laws;

@@ -3,8 +3,8 @@ ghost use Rattle.std.specs.List.{before_first, after_first};
 ghost use Rattle.pgn_base.specs.Texts.{IsName, IsPayload};
 ghost use Rattle.pgn_entry.specs.Reading.{is_zero, IsAllZero};
 
-use crate::first_zero::first_zero;
 use pgn_base::{NAME_BYTES_MAX, PAYLOAD_BYTES_MAX};
+use pgn_lanes::first_zero;
 use std::str;
 
 /// What stands before the first zero byte, and what stands after it.

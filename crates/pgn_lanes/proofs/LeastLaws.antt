@@ -1,0 +1,100 @@
+-- The least of a list, by its parts and lane by lane.
+use Rattle.std.proofs.Common.{◌≡◌, ℕ, suc, ◌+◌, ◌≤◌, min, cond, ltb, Some, None, List, [], ◌∷◌, ◌++◌, length, take, drop, replicate, refl, sym, ap, ◌∙◌, arith}
+use Rattle.std.specs.Simd.Lanes.{zip2, sel_l, chunk}
+use Rattle.std.proofs.Math.Seq.{take-add}
+use Rattle.std.proofs.lemmas.List.{take-append-drop, take_all}
+use Rattle.std.proofs.Common.{length-drop, ◌-◌}
+use Rattle.std.specs.Prelude.{slice_get, All, Contains, ◌↔◌, zero}
+use Rattle.std.proofs.Common.{subst, ⊎_elim}
+use Rattle.std.proofs.lemmas.Bool.{cases_lt}
+use Rattle.std.proofs.lemmas.Bool.Decides.{nat_tests}
+use Rattle.pgn_lanes.specs.Least.{lesser, plain_least, least_with}
+
+-- what the least is taken with may come first or last
+pub least_with-min : (a b : ℕ) (xs : List ℕ) → least_with (min a b) xs ≡ min a (least_with b xs)
+least_with-min a b [] = refl
+least_with-min a b (x ∷ xs) =
+    let e : min (min a b) x ≡ min a (min b x) = omega arith in
+    ap (λ m. least_with m xs) e ∙ least_with-min a (min b x) xs
+
+pub least_with-append : (m : ℕ) (xs ys : List ℕ) → least_with m (xs ++ ys) ≡ least_with (least_with m xs) ys
+least_with-append m [] ys = refl
+least_with-append m (x ∷ xs) ys = least_with-append (min m x) xs ys
+
+-- the lesser of each two, and both lists one after the other, have one least
+pub least_with-merged : (m : ℕ) (more lanes : List ℕ) → length more ≡ length lanes → least_with m (sel_l (zip2 ltb more lanes) more lanes) ≡ least_with (least_with m lanes) more
+least_with-merged m [] [] h = refl
+least_with-merged m [] (y ∷ ys) h = absurd (omega arith)
+least_with-merged m (x ∷ xs) [] h = absurd (omega arith)
+least_with-merged m (x ∷ xs) (y ∷ ys) h =
+    let one : cond (ltb x y) x y ≡ min x y = grind (arith, nat_tests) in
+    let two : min m (min x y) ≡ min x (min m y) = omega arith in
+    let three : min x (least_with (min m y) ys) ≡ min (least_with (min m y) ys) x = omega arith in
+    ap (λ k. least_with (min m k) (sel_l (zip2 ltb xs ys) xs ys)) one ∙ ap (λ k. least_with k (sel_l (zip2 ltb xs ys) xs ys)) two
+    ∙ least_with-merged (min x (min m y)) xs ys (omega arith)
+    ∙ ap (λ k. least_with k xs) (least_with-min x (min m y) ys ∙ three)
+
+-- lanes that are all the start
+pub least_with-splat : (m n : ℕ) → least_with m (replicate n m) ≡ m
+least_with-splat m zero = refl
+least_with-splat m (suc n) = let e : min m m ≡ m = omega arith in ap (λ k. least_with k (replicate n m)) e ∙ least_with-splat m n
+
+-- one more block of words
+pub least_with-block : (m n at : ℕ) (lanes words : List ℕ) → length lanes ≡ n → at + n ≤ length words → length (chunk at n words) ≡ n → least_with m lanes ≡ least_with m (take at words)
+    → least_with m (sel_l (zip2 ltb (chunk at n words) lanes) (chunk at n words) lanes) ≡ least_with m (take (at + n) words)
+least_with-block m n at lanes words long room loaded same =
+    least_with-merged m (chunk at n words) lanes (loaded ∙ sym long)
+    ∙ ap (λ k. least_with k (chunk at n words)) same
+    ∙ sym (ap (least_with m) (take-add at n words) ∙ least_with-append m (take at words) (chunk at n words))
+
+lesser_is : (x : ℕ) (xs : List ℕ) → lesser x (plain_least xs) ≡ least_with x xs
+lesser_is x [] = refl
+lesser_is x (y ∷ ys) = ap (min x) (lesser_is y ys) ∙ sym (least_with-min x y ys)
+
+-- the least, taken with the first word as the start
+pub plain_least-start : (x : ℕ) (xs : List ℕ) → plain_least (x ∷ xs) ≡ Some (least_with x (x ∷ xs))
+plain_least-start x xs = let e : min x x ≡ x = omega arith in ap Some (lesser_is x xs ∙ ap (λ k. least_with k xs) (sym e))
+
+-- the least of lanes that stand for a front of the words, and of the rest
+pub plain_least-parts : (first : ℕ) (words lanes : List ℕ) (whole front result : ℕ) → Some first ≡ slice_get words 0 → least_with first lanes ≡ least_with first (take whole words)
+    → front ≡ least_with first lanes → result ≡ least_with front (take (length words - whole) (drop whole words)) → Some result ≡ plain_least words
+plain_least-parts first [] lanes whole front result h same f r = absurd (cc)
+plain_least-parts first (x ∷ xs) lanes whole front result h same f r =
+    let words = x ∷ xs in
+    let is : first ≡ x = cc in
+    let rest : take (length words - whole) (drop whole words) ≡ drop whole words = take_all (length words - whole) (drop whole words) (omega (arith, length-drop whole words)) in
+    let whole_is : result ≡ least_with first words =
+    r ∙ ap (least_with front) rest ∙ ap (λ k. least_with k (drop whole words)) (f ∙ same)
+    ∙ sym (least_with-append first (take whole words) (drop whole words)) ∙ ap (least_with first) (take-append-drop whole words)
+    in
+    ap Some (whole_is ∙ ap (λ k. least_with k words) is) ∙ sym (plain_least-start x xs)
+
+-- ---- the least by its words
+has_least : (x : ℕ) (xs : List ℕ) → Contains (x ∷ xs) (lesser x (plain_least xs))
+has_least x [] = (0, omega arith, refl)
+has_least x (y ∷ ys) =
+    let r = has_least y ys in
+    ⊎_elim (λ l. let e : x ≡ min x (lesser y (plain_least ys)) = omega arith in (0, omega arith, e))
+    (λ ge.
+    let e : lesser y (plain_least ys) ≡ min x (lesser y (plain_least ys)) = omega arith in
+    let later = subst (λ (m : ℕ). Contains (y ∷ ys) m) e r in (suc later.0, omega (arith, later.1), later.2)) (cases_lt x (lesser y (plain_least ys)))
+
+none_below : (x : ℕ) (xs : List ℕ) → All (λ word. lesser x (plain_least xs) ≤ word) (x ∷ xs)
+none_below x [] zero d h = omega arith
+none_below x [] (suc k) d h = absurd (omega arith)
+none_below x (y ∷ ys) zero d h = omega arith
+none_below x (y ∷ ys) (suc k) d h = let r = none_below y ys k d (omega arith) in omega arith
+
+pub least_is_least : (words : List ℕ) (least : ℕ) → (plain_least words ≡ Some least) ↔ (Contains words least × All (λ word. least ≤ word) words)
+least_is_least [] least = (λ e. absurd (cc), λ h. absurd (omega (arith, h.0.1)))
+least_is_least (x ∷ xs) least =
+    let own = lesser x (plain_least xs) in
+    let has = has_least x xs in
+    let low = none_below x xs in (
+      λ e. let same : own ≡ least = cc in (subst (λ (m : ℕ). Contains (x ∷ xs) m) same has, subst (λ (m : ℕ). All (λ word. m ≤ word) (x ∷ xs)) same low),
+      λ h. let same : own ≡ least = omega (arith, low h.0.0 0 h.0.1, h.0.2, h.1 has.0 0 has.1, has.2) in ap Some same,
+    )
+
+pub only_empty_has_none : (words : List ℕ) → (plain_least words ≡ None) ↔ (words ≡ [])
+only_empty_has_none [] = (λ e. refl, λ e. refl)
+only_empty_has_none (x ∷ xs) = (λ e. absurd (cc), λ e. absurd (cc))

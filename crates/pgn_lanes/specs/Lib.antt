@@ -1,0 +1,4 @@
+pub mod Least
+pub mod Behind
+pub mod Zero
+pub mod Laws
