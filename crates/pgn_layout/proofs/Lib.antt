@@ -1,0 +1,8 @@
+pub mod RunLaws
+pub mod PlanLaws
+pub mod BatchLaws
+pub mod FillerLaws
+pub mod PlacingLaws
+pub mod OneBatchLaws
+pub mod ExampleSteps
+pub mod StatusLaws
