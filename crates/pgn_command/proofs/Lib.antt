@@ -1,0 +1,9 @@
+pub mod GapLaws
+pub mod QuoteLaws
+pub mod TokenSteps
+pub mod FormSteps
+pub mod CloseSteps
+pub mod NameSteps
+pub mod ArgumentSteps
+pub mod CommandSteps
+pub mod CutLaws

@@ -1,0 +1,259 @@
+ghost use Rattle.std.specs.Prelude.{◌≡◌, codes, MatchResult};
+ghost use Rattle.pgn_model.specs.Grammar.{Key, Quote, Count, Punct, fits_slot, text_of, value_of};
+ghost use Rattle.pgn_command.specs.Texts.{single};
+ghost use Rattle.pgn_command.specs.Reading as told;
+ghost use Rattle.pgn_command.specs.Statements.{Gives, GivesText, IsNamed, IsUnnamed, meant, ident_lexeme};
+ghost use Rattle.pgn_command.specs.declared.verb.Verb.TheVariants as verb;
+
+use crate::inside::Inside;
+use crate::parser::Parser;
+use crate::statement::{Ident, Statement, Stop, Text};
+use crate::verb::{Verb, is_word};
+
+impl<'a> Parser<'a> {
+    /// The statement that the tokens ahead are, to the end of the line, or where they go wrong.
+    pub fn statement(&mut self) -> Result<Statement<'a>, Stop>
+        ensures { Gives result (told.stated self.old.end self.old.tokens) }
+    {
+        let Some(verb) = self.verb() else {
+            return self.close(Statement::Empty);
+        };
+        self.advance();
+        match verb {
+            Verb::Begin => self.close_work(Statement::Begin),
+            Verb::Start => self.start(),
+            Verb::Commit => self.close_work(Statement::Commit),
+            Verb::Rollback => self.rollback(),
+            Verb::Abort => self.close_work(Statement::Rollback),
+            Verb::Savepoint => self.savepoint(),
+            Verb::Release => self.release(),
+            Verb::Listen => self.listen(),
+            Verb::Unlisten => self.unlisten(),
+            Verb::Notify => self.notify(),
+            Verb::Select => self.select(),
+        }
+    }
+
+    // The end of a statement: one `;` may stand there, and nothing else.
+    fn close(&mut self, statement: Statement<'a>) -> Result<Statement<'a>, Stop>
+        ensures { Gives result (told.closing self.old.end (meant statement.entry) self.old.tokens) }
+    {
+        self.takes_sign(b';');
+        if self.is_end() {
+            Ok(statement)
+        } else {
+            Err(self.stop())
+        }
+    }
+
+    // The same after WORK or TRANSACTION, or neither.
+    fn close_work(&mut self, statement: Statement<'a>) -> Result<Statement<'a>, Stop>
+        ensures { Gives result (told.closing self.old.end (meant statement.entry) (told.past_work self.old.tokens)) }
+    {
+        self.skip_work();
+        self.close(statement)
+    }
+
+    fn skip_work(&mut self)
+        ensures tokens { self.new.tokens ≡ told.past_work self.old.tokens }
+        ensures same_end { self.new.end ≡ self.old.end }
+    {
+        if !self.takes_word("work") {
+            self.takes_word("transaction");
+        }
+    }
+
+    fn start(&mut self) -> Result<Statement<'a>, Stop>
+        ensures { Gives result (told.beginning self.old.end verb.Start self.old.tokens) }
+    {
+        if !self.takes_word("transaction") {
+            return Err(self.stop());
+        }
+        self.close(Statement::Start)
+    }
+
+    fn rollback(&mut self) -> Result<Statement<'a>, Stop>
+        ensures { Gives result (told.beginning self.old.end verb.Rollback self.old.tokens) }
+    {
+        self.skip_work();
+        if !self.takes_word("to") {
+            return self.close(Statement::Rollback);
+        }
+        let name = self.savepoint_name()?;
+        self.close(Statement::RollbackTo(name))
+    }
+
+    fn savepoint(&mut self) -> Result<Statement<'a>, Stop>
+        ensures { Gives result (told.beginning self.old.end verb.Savepoint self.old.tokens) }
+    {
+        let name = self.name()?;
+        self.close(Statement::Savepoint(name))
+    }
+
+    fn release(&mut self) -> Result<Statement<'a>, Stop>
+        ensures { Gives result (told.beginning self.old.end verb.Release self.old.tokens) }
+    {
+        let name = self.savepoint_name()?;
+        self.close(Statement::Release(name))
+    }
+
+    fn listen(&mut self) -> Result<Statement<'a>, Stop>
+        ensures { Gives result (told.beginning self.old.end verb.Listen self.old.tokens) }
+    {
+        let name = self.name()?;
+        self.close(Statement::Listen(name))
+    }
+
+    fn unlisten(&mut self) -> Result<Statement<'a>, Stop>
+        ensures { Gives result (told.beginning self.old.end verb.Unlisten self.old.tokens) }
+    {
+        if self.takes_sign(b'*') {
+            return self.close(Statement::UnlistenAll);
+        }
+        let name = self.name()?;
+        self.close(Statement::Unlisten(name))
+    }
+
+    fn notify(&mut self) -> Result<Statement<'a>, Stop>
+        ensures { Gives result (told.beginning self.old.end verb.Notify self.old.tokens) }
+    {
+        let channel = self.name()?;
+        let payload = self.payload()?;
+        self.close(Statement::Notify(channel, payload))
+    }
+
+    // A comma and a literal, or nothing.
+    fn payload(&mut self) -> Result<Text<'a>, Stop>
+        ensures { GivesText result self.old.end self.new (told.paying self.old.end self.old.tokens) }
+    {
+        if !self.takes_sign(b',') {
+            return Ok(Text::Null);
+        }
+        let inside = self.literal()?;
+        Ok(Text::Literal(inside))
+    }
+
+    fn select(&mut self) -> Result<Statement<'a>, Stop>
+        ensures { Gives result (told.beginning self.old.end verb.Select self.old.tokens) }
+    {
+        if self.takes_word("pg_notify") {
+            return self.pg_notify();
+        }
+        if self.takes_word("pg_listening_channels") {
+            return self.call(Statement::ListeningChannels);
+        }
+        if self.takes_word("pg_notification_queue_usage") {
+            return self.call(Statement::QueueUsage);
+        }
+        Err(self.stop())
+    }
+
+    // A call without arguments.
+    fn call(&mut self, statement: Statement<'a>) -> Result<Statement<'a>, Stop>
+        ensures { Gives result (told.asking self.old.end (meant statement.entry) self.old.tokens) }
+    {
+        self.sign(b'(')?;
+        self.sign(b')')?;
+        self.close(statement)
+    }
+
+    fn pg_notify(&mut self) -> Result<Statement<'a>, Stop>
+        ensures { Gives result (told.calling self.old.end self.old.tokens) }
+    {
+        self.sign(b'(')?;
+        let channel = self.argument()?;
+        self.sign(b',')?;
+        let payload = self.argument()?;
+        self.sign(b')')?;
+        self.close(Statement::PgNotify(channel, payload))
+    }
+
+    // A literal, NULL, or a call of `repeat`.
+    fn argument(&mut self) -> Result<Text<'a>, Stop>
+        ensures { GivesText result self.old.end self.new (told.arguing self.old.end self.old.tokens) }
+    {
+        if let Some(inside) = self.takes_literal() {
+            return Ok(Text::Literal(inside));
+        }
+        if self.takes_word("null") {
+            return Ok(Text::Null);
+        }
+        if self.takes_word("repeat") {
+            return self.repeat();
+        }
+        Err(self.stop())
+    }
+
+    // What follows the word `repeat`.
+    fn repeat(&mut self) -> Result<Text<'a>, Stop>
+        ensures { GivesText result self.old.end self.new (told.repeating self.old.end self.old.tokens) }
+    {
+        self.sign(b'(')?;
+        let inside = self.literal()?;
+        self.sign(b',')?;
+        let count = self.count()?;
+        self.sign(b')')?;
+        Ok(Text::Repeat(inside, count))
+    }
+
+    // The name of a savepoint. The word SAVEPOINT may stand before it, and is itself the name where none follows.
+    fn savepoint_name(&mut self) -> Result<Ident<'a>, Stop>
+        ensures { MatchResult result (λ ident. IsNamed (told.past_savepoint self.old.tokens) self.old.end self.new ident) (λ stop. IsUnnamed (told.past_savepoint self.old.tokens) self.old.end stop) }
+    {
+        let first = self.name()?;
+        if !is_savepoint(first) {
+            return Ok(first);
+        }
+        match self.takes_name() {
+            Some(name) => Ok(name),
+            None => Ok(first),
+        }
+    }
+
+    fn name(&mut self) -> Result<Ident<'a>, Stop>
+        ensures { MatchResult result (λ ident. IsNamed self.old.tokens self.old.end self.new ident) (λ stop. IsUnnamed self.old.tokens self.old.end stop) }
+    {
+        match self.takes_name() {
+            Some(name) => Ok(name),
+            None => Err(self.stop()),
+        }
+    }
+
+    fn literal(&mut self) -> Result<Inside<'a>, Stop>
+        ensures { MatchResult result (λ inside. told.IsTaken Quote self.old self.new × (text_of (told.front_lexeme self.old.tokens) ≡ single inside.quote inside.raw.now)) (λ stop. told.IsRefused Quote self.old stop.at) }
+    {
+        match self.takes_literal() {
+            Some(inside) => Ok(inside),
+            None => Err(self.stop()),
+        }
+    }
+
+    fn count(&mut self) -> Result<u32, Stop>
+        ensures { MatchResult result (λ count. told.IsTaken Count self.old self.new × (value_of (told.front_lexeme self.old.tokens) ≡ count)) (λ stop. told.IsRefused Count self.old stop.at) }
+    {
+        match self.takes_count() {
+            Some(count) => Ok(count),
+            None => Err(self.stop()),
+        }
+    }
+
+    fn sign(&mut self, sign: u8) -> Result<(), Stop>
+        ensures { MatchResult result (λ _. told.IsTaken (Punct sign) self.old self.new) (λ stop. told.IsRefused (Punct sign) self.old stop.at) }
+    {
+        if self.takes_sign(sign) {
+            Ok(())
+        } else {
+            Err(self.stop())
+        }
+    }
+}
+
+// A name is the word SAVEPOINT.
+fn is_savepoint(name: Ident<'_>) -> bool
+    ensures { result ≡ fits_slot (Key (codes "savepoint")) (ident_lexeme name.entry) }
+{
+    match name {
+        Ident::Word(word) => is_word(word, "savepoint"),
+        Ident::Quoted(_) => false,
+    }
+}

@@ -1,0 +1,31 @@
+//! What a line of SQL reads as: the lexer and the grammar of the commands.
+//!
+//! `parse_line` gives exactly the reading of a line that `pgn_model` defines (`ReadsAs`), which is always there and only one. The
+//! layer above may rely on it both ways: a command is what the table of commands makes of the line's tokens, `Bad` tells the
+//! first byte at which no form of the table goes on, and `Invalid` the first limit that a notification goes past. Only want of
+//! memory is refused.
+//!
+//! The text is gone through once, by three layers: `Lexer` gives tokens as parts of the line, `Parser` has the next of them
+//! ahead and reads a `Statement`, whose names and texts are still parts of the line, and `command_of` builds these. A text
+//! between quotes and a text that is repeated are measured before they are built.
+//!
+//! A session asks `parse_line(alloc, "NOTIFY c, 'it''s'")` for `Notify` with the channel `c` and the payload `it's`.
+#![tactic(auto)]
+
+mod bytes;
+mod commands;
+mod grammar;
+mod inside;
+mod lexer;
+mod parser;
+mod quotes;
+mod reading;
+mod statement;
+mod texts;
+mod token;
+mod verb;
+
+pub use reading::parse_line;
+
+#[cfg(test)]
+mod tests;

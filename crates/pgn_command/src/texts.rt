@@ -1,0 +1,122 @@
+ghost use Rattle.std.specs.Prelude.{◌≡◌, ◌<◌, length, IfOk, IfSome, string_bytes};
+ghost use Rattle.pgn_base.specs.Texts.{IsName, IsPayload};
+ghost use Rattle.pgn_model.specs.Grammar as grammar;
+ghost use Rattle.pgn_command.specs.Statements.{ident_name, text_bytes};
+
+use crate::quotes::unquoted;
+use crate::statement::{Ident, Text};
+use pgn_base::{NAME_BYTES_MAX, Name, NameFault, Payload, PayloadFault};
+use std::alloc::{AllocError, Global};
+
+/// The name that a word or a quoted identifier is: a word is folded to lower case, and both are cut.
+pub fn name_of(alloc: Global, ident: Ident<'_>) -> Result<Name, AllocError>
+    requires { IsName (ident_name ident) }
+    ensures { IfOk result (λ name. name ≡ ident_name ident.entry) }
+{
+    match ident {
+        Ident::Word(word) => {
+            let folded = cut(word).to_ascii_lowercase(alloc)?;
+            make_name(alloc, folded.as_str())
+        }
+        Ident::Quoted(inside) => match inside.plain() {
+            Some(text) => make_name(alloc, cut(text)),
+            None => {
+                let text = unquoted(alloc, inside)?;
+                make_name(alloc, cut(text.as_str()))
+            }
+        },
+    }
+}
+
+/// The name that the text of an argument is.
+pub fn channel_of(alloc: Global, text: Text<'_>) -> Result<Name, AllocError>
+    requires { IsName (text_bytes text) }
+    ensures { IfOk result (λ name. name ≡ text_bytes text.entry) }
+{
+    match plain(text) {
+        Some(text) => make_name(alloc, text),
+        None => {
+            let text = built(alloc, text)?;
+            make_name(alloc, text.as_str())
+        }
+    }
+}
+
+/// The payload that the text of an argument is.
+pub fn payload_of(alloc: Global, text: Text<'_>) -> Result<Payload, AllocError>
+    requires { IsPayload (text_bytes text) }
+    ensures { IfOk result (λ payload. payload ≡ text_bytes text.entry) }
+{
+    match plain(text) {
+        Some(text) => make_payload(alloc, text),
+        None => {
+            let text = built(alloc, text)?;
+            make_payload(alloc, text.as_str())
+        }
+    }
+}
+
+/// How many bytes a text has, before it is built.
+pub fn text_len(text: Text<'_>) -> usize
+    ensures { result ≡ length (text_bytes text.entry) }
+{
+    match text {
+        Text::Literal(inside) => inside.len(),
+        Text::Null => 0,
+        Text::Repeat(inside, count) => count as usize * inside.len(),
+    }
+}
+
+// The part of the line that a text is, if it is one.
+fn plain(text: Text<'_>) -> Option<&str>
+    ensures { IfSome result (λ plain. plain.now ≡ text_bytes text.entry) }
+{
+    match text {
+        Text::Literal(inside) => inside.plain(),
+        Text::Null => Some(""),
+        Text::Repeat(..) => None,
+    }
+}
+
+fn built(alloc: Global, text: Text<'_>) -> Result<String, AllocError>
+    ensures { IfOk result (λ built. string_bytes built ≡ text_bytes text.entry) }
+{
+    match text {
+        Text::Literal(inside) => unquoted(alloc, inside),
+        Text::Null => Ok(String::new(alloc)),
+        Text::Repeat(inside, count) => {
+            let once = unquoted(alloc, inside)?;
+            once.as_str().repeat(alloc, count as usize)
+        }
+    }
+}
+
+// The longest prefix of whole characters that is short enough for a name.
+fn cut(text: &str) -> &str
+    ensures { result.now ≡ grammar.cut NAME_BYTES_MAX text.now }
+{
+    let end = text.floor_char_boundary(NAME_BYTES_MAX);
+    &text[..end]
+}
+
+fn make_name(alloc: Global, text: &str) -> Result<Name, AllocError>
+    requires { IsName text.now }
+    ensures { IfOk result (λ name. name ≡ text.now) }
+{
+    match Name::new(alloc, text) {
+        Ok(name) => Ok(name),
+        Err(NameFault::Memory) => Err(AllocError),
+        Err(_) => unreachable!(),
+    }
+}
+
+fn make_payload(alloc: Global, text: &str) -> Result<Payload, AllocError>
+    requires { IsPayload text.now }
+    ensures { IfOk result (λ payload. payload ≡ text.now) }
+{
+    match Payload::new(alloc, text) {
+        Ok(payload) => Ok(payload),
+        Err(PayloadFault::Memory) => Err(AllocError),
+        Err(_) => unreachable!(),
+    }
+}
