@@ -1,0 +1,311 @@
+ghost use Rattle.std.specs.Prelude.{◌≡◌, ℕ, not, List, [], ◌∷◌, IsTrue, IsErr, IfOk, OnErr};
+ghost use Rattle.pgn_model.specs.Savepoints.{Change, Acted, Noted};
+ghost use Rattle.pgn_model.specs.Answers.{Commits};
+ghost use Rattle.pgn_model.specs.laws.Answers.{is_in_block, is_failed};
+ghost use Rattle.pgn_pending.specs.Kept.{StandsFor};
+ghost use Rattle.pgn_block.specs.Views.{view_of, idle_view};
+ghost use Rattle.pgn_block.specs.Effects.{effect_of, takes_memory};
+ghost use Rattle.pgn_block.specs.Steps.{Steps, IsStep, failed_view, opens, sends, asks};
+
+use crate::{Effect, Kind};
+use pgn_base::{Action, Name, Needs, Note, Refusal, Tag, Warning, Which};
+use pgn_model::{BlockState, Command};
+use pgn_pending::{NoSuch, Pending};
+use std::alloc::{AllocError, Global};
+use std::mem;
+
+/// The three states of a block, two of them with what is pending in it. In a failed block that is kept, since ROLLBACK TO goes
+/// back to what was before a savepoint. Each has the allocator, from which a new block is made.
+#[derive(Debug, Drop)]
+pub(crate) enum Stage {
+    Idle { alloc: Global },
+    InBlock { alloc: Global, pending: Pending },
+    Failed { alloc: Global, pending: Pending },
+}
+
+// The commands, a method for each row of the table of answers.
+impl Stage {
+    // The command's row. Where memory does not suffice, nothing has changed.
+    pub(crate) fn step(&mut self, command: Command) -> Result<Effect, AllocError>
+        ensures ok { IfOk result (λ effect. IsStep self.old command effect self.new) }
+        ensures memory { IsErr result → IsTrue (takes_memory (view_of self.old).state command) }
+        ensures unchanged { OnErr result (self.new ≡ self.old) }
+    {
+        match command {
+            Command::Empty => Ok(Effect::Nothing),
+            Command::Begin => Ok(self.begin(Tag::Begin)),
+            Command::Start => Ok(self.begin(Tag::Start)),
+            Command::Commit => Ok(self.commit()),
+            Command::Rollback => Ok(self.rollback()),
+            Command::Savepoint(name) => self.savepoint(name),
+            Command::RollbackTo(name) => Ok(self.rollback_to(name)),
+            Command::Release(name) => Ok(self.release(name)),
+            Command::Listen(name) => self.act(Action::Listen(name), Tag::Listen),
+            Command::Unlisten(name) => self.act(Action::Unlisten(name), Tag::Unlisten),
+            Command::UnlistenAll => self.act(Action::UnlistenAll, Tag::Unlisten),
+            Command::Notify(note) => self.notify(note, Tag::Notify),
+            Command::PgNotify(note) => self.notify(note, Tag::Select(1)),
+            Command::ListeningChannels => Ok(self.query(Kind::ListeningChannels)),
+            Command::QueueUsage => Ok(self.query(Kind::QueueUsage)),
+            Command::Invalid { which } => Ok(self.invalid(which)),
+            Command::Bad { at } => Ok(self.bad(at)),
+        }
+    }
+
+    // BEGIN and START TRANSACTION, which have their tags.
+    fn begin(&mut self, tag: Tag) -> Effect
+        ensures { Steps self.old [] (λ _. opens tag (view_of self.old).state) result self.new }
+    {
+        match self {
+            Stage::Idle { alloc } => {
+                let alloc = *alloc;
+                *self = Stage::InBlock {
+                    alloc,
+                    pending: Pending::new(alloc),
+                };
+                Effect::Reply { tag, warning: None }
+            }
+            Stage::InBlock { .. } => Effect::Reply {
+                tag,
+                warning: Some(Warning::AlreadyInBlock),
+            },
+            Stage::Failed { .. } => aborted(),
+        }
+    }
+
+    // COMMIT, which rolls a failed block back.
+    fn commit(&mut self) -> Effect
+        ensures { IsStep self.old Command.Commit result self.new }
+    {
+        match self.take() {
+            Stage::Idle { .. } => Effect::Reply {
+                tag: Tag::Commit,
+                warning: Some(Warning::NotInBlock),
+            },
+            Stage::InBlock { pending, .. } => commit_of(pending, Tag::Commit),
+            Stage::Failed { .. } => done(Tag::Rollback),
+        }
+    }
+
+    // ROLLBACK.
+    fn rollback(&mut self) -> Effect
+        ensures { IsStep self.old Command.Rollback result self.new }
+    {
+        match self.take() {
+            Stage::Idle { .. } => Effect::Reply {
+                tag: Tag::Rollback,
+                warning: Some(Warning::NotInBlock),
+            },
+            Stage::Failed { .. } | Stage::InBlock { .. } => done(Tag::Rollback),
+        }
+    }
+
+    // SAVEPOINT.
+    fn savepoint(&mut self, name: Name) -> Result<Effect, AllocError>
+        ensures ok { IfOk result (λ effect. IsStep self.old (Command.Savepoint name) effect self.new) }
+        ensures memory { IsErr result → IsTrue (is_in_block (view_of self.old).state) }
+        ensures err { OnErr result (self.new ≡ self.old) }
+    {
+        match self {
+            Stage::Idle { .. } => Ok(needs_block(Needs::Savepoint)),
+            Stage::InBlock { pending, .. } => {
+                pending.mark(name)?;
+                Ok(done(Tag::Savepoint))
+            }
+            Stage::Failed { .. } => Ok(aborted()),
+        }
+    }
+
+    // ROLLBACK TO, by which a failed block goes on from a live savepoint.
+    fn rollback_to(&mut self, name: Name) -> Effect
+        ensures { IsStep self.old (Command.RollbackTo name) result self.new }
+    {
+        match self.take() {
+            Stage::Idle { .. } => needs_block(Needs::RollbackTo),
+            Stage::InBlock { alloc, mut pending } | Stage::Failed { alloc, mut pending } => {
+                match pending.back_to(&name) {
+                    Ok(()) => {
+                        *self = Stage::InBlock { alloc, pending };
+                        done(Tag::Rollback)
+                    }
+                    Err(NoSuch) => {
+                        *self = Stage::Failed { alloc, pending };
+                        no_savepoint(name)
+                    }
+                }
+            }
+        }
+    }
+
+    // RELEASE.
+    fn release(&mut self, name: Name) -> Effect
+        ensures { IsStep self.old (Command.Release name) result self.new }
+    {
+        match self {
+            Stage::Idle { .. } => needs_block(Needs::Release),
+            Stage::InBlock { pending, .. } => match pending.release(&name) {
+                Ok(()) => done(Tag::Release),
+                Err(NoSuch) => self.refuse(Refusal::NoSavepoint { name }),
+            },
+            Stage::Failed { .. } => aborted(),
+        }
+    }
+
+    // LISTEN and UNLISTEN, which commit outside a block.
+    fn act(&mut self, action: Action, tag: Tag) -> Result<Effect, AllocError>
+        ensures ok { IfOk result (λ effect. Steps self.old (Acted action ∷ []) (λ _. sends tag (view_of self.old).state) effect self.new) }
+        ensures memory { IsErr result → IsTrue (not (is_failed (view_of self.old).state)) }
+        ensures err { OnErr result (self.new ≡ self.old) }
+    {
+        match self {
+            Stage::Idle { alloc } => {
+                let mut pending = Pending::new(*alloc);
+                pending.action(action)?;
+                Ok(commit_of(pending, tag))
+            }
+            Stage::InBlock { pending, .. } => {
+                pending.action(action)?;
+                Ok(done(tag))
+            }
+            Stage::Failed { .. } => Ok(aborted()),
+        }
+    }
+
+    // NOTIFY and pg_notify, which commit outside a block.
+    fn notify(&mut self, note: Note, tag: Tag) -> Result<Effect, AllocError>
+        ensures ok { IfOk result (λ effect. Steps self.old (Noted note ∷ []) (λ _. sends tag (view_of self.old).state) effect self.new) }
+        ensures memory { IsErr result → IsTrue (not (is_failed (view_of self.old).state)) }
+        ensures err { OnErr result (self.new ≡ self.old) }
+    {
+        match self {
+            Stage::Idle { alloc } => {
+                let mut pending = Pending::new(*alloc);
+                pending.note(note)?;
+                Ok(commit_of(pending, tag))
+            }
+            Stage::InBlock { pending, .. } => {
+                pending.note(note)?;
+                Ok(done(tag))
+            }
+            Stage::Failed { .. } => Ok(aborted()),
+        }
+    }
+
+    // The channels and the usage, which are the session's to show.
+    fn query(&self, kind: Kind) -> Effect
+        ensures { (set : List (List ℕ)) → Steps self.now [] (λ _. asks kind set (view_of self.now).state) result self.now }
+    {
+        match self {
+            Stage::Idle { .. } | Stage::InBlock { .. } => Effect::Query { kind },
+            Stage::Failed { .. } => aborted(),
+        }
+    }
+
+    // A line past a limit of pg_notify or NOTIFY.
+    fn invalid(&mut self, which: Which) -> Effect
+        ensures { IsStep self.old (Command.Invalid which) result self.new }
+    {
+        if let Stage::Failed { .. } = self {
+            return aborted();
+        }
+        self.refuse(Refusal::Bounds { which })
+    }
+
+    // A line that is no command is told so in a failed block too.
+    fn bad(&mut self, at: u32) -> Effect
+        ensures { IsStep self.old (Command.Bad at) result self.new }
+    {
+        self.refuse(Refusal::Syntax { at })
+    }
+}
+
+// What the commands are made of.
+impl Stage {
+    // The state that this is.
+    pub(crate) fn state(&self) -> BlockState
+        ensures { result ≡ (view_of self.now).state }
+    {
+        match self {
+            Stage::Idle { .. } => BlockState::Idle,
+            Stage::InBlock { .. } => BlockState::InBlock,
+            Stage::Failed { .. } => BlockState::Failed,
+        }
+    }
+
+    // Takes the stage out, and leaves no block.
+    pub(crate) fn take(&mut self) -> Stage
+        ensures taken { result ≡ self.old }
+        ensures left { view_of self.new ≡ idle_view }
+    {
+        let alloc = self.alloc();
+        mem::replace(self, Stage::Idle { alloc })
+    }
+
+    // The refusal. An open block fails.
+    fn refuse(&mut self, refusal: Refusal) -> Effect
+        ensures effect { result ≡ Effect.Refuse refusal }
+        ensures failed { view_of self.new ≡ failed_view (view_of self.old) }
+    {
+        match self.take() {
+            Stage::Idle { .. } => {}
+            Stage::InBlock { alloc, pending } | Stage::Failed { alloc, pending } => {
+                *self = Stage::Failed { alloc, pending };
+            }
+        }
+        Effect::Refuse { refusal }
+    }
+
+    // What the next block's memory is taken from.
+    fn alloc(&self) -> Global {
+        match self {
+            Stage::Idle { alloc } => *alloc,
+            Stage::InBlock { alloc, .. } | Stage::Failed { alloc, .. } => *alloc,
+        }
+    }
+}
+
+// The tag, without a warning.
+fn done(tag: Tag) -> Effect
+    ensures { result ≡ Effect.Reply tag None }
+{
+    Effect::Reply { tag, warning: None }
+}
+
+// What a failed block answers to most commands.
+fn aborted() -> Effect
+    ensures { result ≡ Effect.Refuse Refusal.Aborted }
+{
+    Effect::Refuse {
+        refusal: Refusal::Aborted,
+    }
+}
+
+// The command can only be used in a block.
+fn needs_block(what: Needs) -> Effect
+    ensures { result ≡ Effect.Refuse (Refusal.NeedsBlock what) }
+{
+    Effect::Refuse {
+        refusal: Refusal::NeedsBlock { what },
+    }
+}
+
+// No live savepoint has the name.
+fn no_savepoint(name: Name) -> Effect
+    ensures { result ≡ Effect.Refuse (Refusal.NoSavepoint name) }
+{
+    Effect::Refuse {
+        refusal: Refusal::NoSavepoint { name },
+    }
+}
+
+// A commit, which hands out what is left of these.
+fn commit_of(pending: Pending, tag: Tag) -> Effect
+    ensures { (changes : List Change) → StandsFor changes pending → result ≡ effect_of changes (Commits tag) }
+{
+    let (actions, notes) = pending.finish();
+    Effect::Commit {
+        actions,
+        notes,
+        tag,
+    }
+}
