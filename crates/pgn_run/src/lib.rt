@@ -1,8 +1,9 @@
 //! All that the program does, in one call: it reads the input, runs the session and writes the text.
 //!
 //! `run_notify` carries the headline. Where it answers `Done`, what was left in the source reads as a scenario, and what was
-//! written is the output text of a journal and of traces that are a legal run of it: a committed notification reaches each
-//! listener once, in commit order. Every other answer has its cause in the contract, and says what was read and written.
+//! written is the output text of a journal and of traces that are a legal run of it: what is due to the listener, of its
+//! database, on a channel of its set and from its mark on, reaches it once and in commit order. Every other answer has its cause
+//! in the contract, and says what was read and written.
 //!
 //! As far as it is built, a scenario is one section whose lines are LISTEN and NOTIFY in one exact spelling; everything else is
 //! answered `NotBuilt` with its line. The session runs over a list of transactions that stands in for the queue.

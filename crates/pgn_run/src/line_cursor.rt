@@ -12,7 +12,7 @@ pub struct LineCursor {
     largest: u32,
 }
 
-/// The text of the first line of this number.
+// The text of the first line of this number.
 #[tactic(auto, using(crate::proofs::LineLaws::line_laws))]
 fn line_of(lines: &[ScriptLine], n: u32) -> &[u8]
     ensures { result.now ≡ line_text n lines.now }

@@ -14,7 +14,7 @@ use crate::session::run_scenario;
 use pgn_base::{INPUT_BYTES_MAX, Sink, Source};
 use std::alloc::{AllocError, Global};
 
-/// How many bytes of an input are read at most: one more than an input may have.
+// How many bytes of an input are read at most: one more than an input may have.
 const READ_LIMIT: usize = INPUT_BYTES_MAX + 1;
 
 /// Does all that the program does. `words` are those after the program's name; the one command is `run`: it reads a scenario

@@ -10,7 +10,7 @@ use crate::render::output::Out;
 use pgn_base::{Delivery, Full, Needs, Refusal, SessionNo, Sink, Tag, Usage, Warning, Which, Xid};
 use pgn_model::{Item, ScriptLine};
 
-/// A warning's code and text.
+// A warning's code and text.
 fn text_of_warning(warning: Warning) -> &'static [u8]
     ensures { result.now ≡ warning_text warning }
 {
@@ -20,7 +20,7 @@ fn text_of_warning(warning: Warning) -> &'static [u8]
     }
 }
 
-/// The code of a refusal.
+// The code of a refusal.
 fn code_of_refusal(refusal: &Refusal) -> &'static [u8]
     ensures { result.now ≡ refusal_code refusal.now }
 {
@@ -34,7 +34,7 @@ fn code_of_refusal(refusal: &Refusal) -> &'static [u8]
     }
 }
 
-/// What is said of each limit.
+// What is said of each limit.
 fn text_of_bounds(which: Which) -> &'static [u8]
     ensures { result.now ≡ refusal_message (Refusal.Bounds which) }
 {
@@ -45,7 +45,7 @@ fn text_of_bounds(which: Which) -> &'static [u8]
     }
 }
 
-/// What is said where a command can only be used in a block.
+// What is said where a command can only be used in a block.
 fn text_of_needs(what: Needs) -> &'static [u8]
     ensures { result.now ≡ refusal_message (Refusal.NeedsBlock what) }
 {
@@ -57,7 +57,7 @@ fn text_of_needs(what: Needs) -> &'static [u8]
 }
 
 impl Out {
-    /// The line of a start and a text.
+    // The line of a start and a text.
     #[inline]
     fn text_line<K: Sink>(&mut self, sink: &mut K, start: &[u8], text: &[u8])
         ensures { Puts K.held K.faults sink.old self.old sink.new self.new (ended (start.now ++ text.now)) }
@@ -67,7 +67,7 @@ impl Out {
         self.text(sink, b"\n");
     }
 
-    /// The line of a start and a transaction number.
+    // The line of a start and a transaction number.
     #[inline]
     fn xid_line<K: Sink>(&mut self, sink: &mut K, start: &[u8], xid: &Xid)
         ensures { Puts K.held K.faults sink.old self.old sink.new self.new (ended (start.now ++ decimal xid.now)) }
@@ -77,7 +77,7 @@ impl Out {
         self.text(sink, b"\n");
     }
 
-    /// The line of a start and two transaction numbers.
+    // The line of a start and two transaction numbers.
     #[inline]
     fn xids_line<K: Sink>(&mut self, sink: &mut K, start: &[u8], first: &Xid, second: &Xid)
         ensures { Puts K.held K.faults sink.old self.old sink.new self.new (ended (start.now ++ decimal first.now ++ codes " " ++ decimal second.now)) }
@@ -89,7 +89,7 @@ impl Out {
         self.text(sink, b"\n");
     }
 
-    /// The line of a command's tag.
+    // The line of a command's tag.
     fn tag<K: Sink>(&mut self, sink: &mut K, tag: &Tag)
         ensures { Puts K.held K.faults sink.old self.old sink.new self.new (ended (tag_text tag.now)) }
     {
@@ -111,7 +111,7 @@ impl Out {
         }
     }
 
-    /// A reply, after its warning.
+    // A reply, after its warning.
     fn reply<K: Sink>(&mut self, sink: &mut K, tag: &Tag, warning: &Option<Warning>)
         ensures { Puts K.held K.faults sink.old self.old sink.new self.new (joined (warning_lines warning.now ++ tag_text tag.now ∷ [])) }
     {
@@ -124,7 +124,7 @@ impl Out {
         }
     }
 
-    /// From where to where a read moved the mark, and what it received.
+    // From where to where a read moved the mark, and what it received.
     fn read<K: Sink>(&mut self, sink: &mut K, from: &Xid, to: &Xid, got: &[Delivery])
         ensures { Puts K.held K.faults sink.old self.old sink.new self.new (joined ((codes "+read " ++ decimal from.now ++ codes " " ++ decimal to.now) ∷ map delivery_line got.now)) }
     {
@@ -132,7 +132,7 @@ impl Out {
         self.delivery_lines(sink, got);
     }
 
-    /// A start and a number.
+    // A start and a number.
     fn labelled<K: Sink>(&mut self, sink: &mut K, start: &[u8], number: u64)
         ensures { Puts K.held K.faults sink.old self.old sink.new self.new (start.now ++ decimal number) }
     {
@@ -140,7 +140,7 @@ impl Out {
         self.number(sink, number);
     }
 
-    /// The line of a start and a number.
+    // The line of a start and a number.
     fn number_line<K: Sink>(&mut self, sink: &mut K, start: &[u8], number: u64)
         ensures { Puts K.held K.faults sink.old self.old sink.new self.new (ended (start.now ++ decimal number)) }
     {
@@ -148,7 +148,7 @@ impl Out {
         self.text(sink, b"\n");
     }
 
-    /// The session that holds the floor, and the end of the line.
+    // The session that holds the floor, and the end of the line.
     fn holder_end<K: Sink>(&mut self, sink: &mut K, holder: &Option<SessionNo>)
         ensures { Puts K.held K.faults sink.old self.old sink.new self.new (ended (codes " holder " ++ holder_text holder.now)) }
     {
@@ -158,7 +158,7 @@ impl Out {
         }
     }
 
-    /// Which transaction met a full queue, how many of its notifications were queued, and the head's page.
+    // Which transaction met a full queue, how many of its notifications were queued, and the head's page.
     fn full_head<K: Sink>(&mut self, sink: &mut K, full: &Full)
         ensures { Puts K.held K.faults sink.old self.old sink.new self.new (codes "+full " ++ decimal full.now.xid ++ codes " queued " ++ decimal full.now.queued ++ codes " head " ++ decimal full.now.head_page) }
     {
@@ -167,7 +167,7 @@ impl Out {
         self.labelled(sink, b" head ", full.head_page);
     }
 
-    /// The floor of a full queue, its page and who holds it, and the end of the line.
+    // The floor of a full queue, its page and who holds it, and the end of the line.
     fn full_floor<K: Sink>(&mut self, sink: &mut K, full: &Full)
         ensures { Puts K.held K.faults sink.old self.old sink.new self.new (ended (codes " floor " ++ decimal full.now.floor_mark ++ codes " page " ++ decimal full.now.floor_page ++ codes " holder " ++ holder_text full.now.holder)) }
     {
@@ -176,7 +176,7 @@ impl Out {
         self.holder_end(sink, &full.holder);
     }
 
-    /// Why a transaction met a full queue.
+    // Why a transaction met a full queue.
     fn full<K: Sink>(&mut self, sink: &mut K, full: &Full)
         ensures { Puts K.held K.faults sink.old self.old sink.new self.new (ended (full_line full.now)) }
     {
@@ -184,7 +184,7 @@ impl Out {
         self.full_floor(sink, full);
     }
 
-    /// Where the queue's usage was measured.
+    // Where the queue's usage was measured.
     fn usage_place<K: Sink>(&mut self, sink: &mut K, usage: &Usage)
         ensures { Puts K.held K.faults sink.old self.old sink.new self.new (ended (codes "+usage " ++ decimal usage.now.at ++ codes " floor " ++ decimal usage.now.floor_mark ++ codes " holder " ++ holder_text usage.now.holder)) }
     {
@@ -193,7 +193,7 @@ impl Out {
         self.holder_end(sink, &usage.holder);
     }
 
-    /// The queue's usage.
+    // The queue's usage.
     fn usage<K: Sink>(&mut self, sink: &mut K, usage: &Usage)
         ensures { Puts K.held K.faults sink.old self.old sink.new self.new (joined (usage_lines usage.now)) }
     {
@@ -202,7 +202,7 @@ impl Out {
         self.number_line(sink, b"/", u64::from(usage.limit));
     }
 
-    /// What a refusal says after its code.
+    // What a refusal says after its code.
     fn message<K: Sink>(&mut self, sink: &mut K, refusal: &Refusal)
         ensures { Puts K.held K.faults sink.old self.old sink.new self.new (refusal_message refusal.now) }
     {
@@ -223,7 +223,7 @@ impl Out {
         }
     }
 
-    /// A refusal's code and message.
+    // A refusal's code and message.
     fn refusal<K: Sink>(&mut self, sink: &mut K, refusal: &Refusal)
         ensures { Puts K.held K.faults sink.old self.old sink.new self.new (refusal_text refusal.now) }
     {
@@ -232,7 +232,7 @@ impl Out {
         self.message(sink, refusal);
     }
 
-    /// The line of a refusal.
+    // The line of a refusal.
     fn refusal_line<K: Sink>(&mut self, sink: &mut K, refusal: &Refusal)
         ensures { Puts K.held K.faults sink.old self.old sink.new self.new (ended (codes "ERROR: " ++ refusal_text refusal.now)) }
     {
@@ -241,7 +241,7 @@ impl Out {
         self.text(sink, b"\n");
     }
 
-    /// The lines of an item of a trace of these script lines.
+    // The lines of an item of a trace of these script lines.
     fn item<K: Sink>(
         &mut self,
         sink: &mut K,

@@ -10,7 +10,7 @@ use pgn_base::{FIRST_XID, Sink};
 use pgn_model::{Fate, Tx};
 
 impl Out {
-    /// How a transaction ended.
+    // How a transaction ended.
     fn fate<K: Sink>(&mut self, sink: &mut K, tx: &Tx)
         ensures { Puts K.held K.faults sink.old self.old sink.new self.new (fate_text tx.now.fate tx.now.queued (length tx.now.notes)) }
     {
@@ -29,7 +29,7 @@ impl Out {
         }
     }
 
-    /// The number of a transaction and that of its session.
+    // The number of a transaction and that of its session.
     fn numbers<K: Sink>(&mut self, sink: &mut K, x: u64, session: u64)
         ensures { Puts K.held K.faults sink.old self.old sink.new self.new (codes "xid " ++ decimal x ++ codes " session " ++ decimal session) }
     {
@@ -39,7 +39,7 @@ impl Out {
         self.number(sink, session);
     }
 
-    /// The lines of the transaction numbered x.
+    // The lines of the transaction numbered x.
     fn entry<K: Sink>(&mut self, sink: &mut K, x: u64, tx: &Tx)
         ensures { Puts K.held K.faults sink.old self.old sink.new self.new (joined (entry_lines x tx.now)) }
     {
@@ -49,7 +49,7 @@ impl Out {
         self.note_lines(sink, tx.notes.as_slice());
     }
 
-    /// The lines of the transactions.
+    // The lines of the transactions.
     #[tactic(auto, using(crate::proofs::PutsLaws::loop_laws))]
     fn entries<K: Sink>(&mut self, sink: &mut K, journal: &[Tx])
         ensures { Puts K.held K.faults sink.old self.old sink.new self.new (joined (entries_lines FIRST_XID journal.now)) }

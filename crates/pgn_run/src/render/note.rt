@@ -9,7 +9,7 @@ use memchr::memchr;
 use pgn_base::{Delivery, Name, Note, Sink};
 
 impl Out {
-    /// A text with each quote twice, put in runs that end with a quote; the next run begins with it again.
+    // A text with each quote twice, put in runs that end with a quote; the next run begins with it again.
     #[tactic(auto, using(crate::proofs::PutsLaws::loop_laws))]
     fn runs<K: Sink>(&mut self, sink: &mut K, quote: u8, text: &[u8])
         ensures { Puts K.held K.faults sink.old self.old sink.new self.new (flat_map (doubled_byte quote) text.now) }
@@ -25,7 +25,7 @@ impl Out {
         self.text(sink, &text[start..]);
     }
 
-    /// A text with each quote twice, if it has any.
+    // A text with each quote twice, if it has any.
     fn doubled<K: Sink>(&mut self, sink: &mut K, quote: u8, text: &[u8])
         ensures { Puts K.held K.faults sink.old self.old sink.new self.new (flat_map (doubled_byte quote) text.now) }
     {
@@ -35,7 +35,7 @@ impl Out {
         }
     }
 
-    /// A notification behind its first quote, at the end of a line.
+    // A notification behind its first quote, at the end of a line.
     fn note<K: Sink>(&mut self, sink: &mut K, note: &Note)
         ensures { Puts K.held K.faults sink.old self.old sink.new self.new (ended (note_behind note.now)) }
     {
@@ -45,7 +45,7 @@ impl Out {
         self.text(sink, b"'\n");
     }
 
-    /// The line of a notification of the journal.
+    // The line of a notification of the journal.
     fn note_line<K: Sink>(&mut self, sink: &mut K, note: &Note)
         ensures { Puts K.held K.faults sink.old self.old sink.new self.new (ended (note_line note.now)) }
     {
@@ -63,7 +63,7 @@ impl Out {
         }
     }
 
-    /// Where a notification that was received comes from, and its first quote.
+    // Where a notification that was received comes from, and its first quote.
     fn sender<K: Sink>(&mut self, sink: &mut K, delivery: &Delivery)
         ensures { Puts K.held K.faults sink.old self.old sink.new self.new (codes "  " ++ decimal delivery.now.xid ++ codes " " ++ decimal delivery.now.pid ++ codes " \"") }
     {
@@ -74,7 +74,7 @@ impl Out {
         self.text(sink, b" \"");
     }
 
-    /// The line of a notification that was received.
+    // The line of a notification that was received.
     fn delivery_line<K: Sink>(&mut self, sink: &mut K, delivery: &Delivery)
         ensures { Puts K.held K.faults sink.old self.old sink.new self.new (ended (delivery_line delivery.now)) }
     {
@@ -92,7 +92,7 @@ impl Out {
         }
     }
 
-    /// The row of a channel.
+    // The row of a channel.
     fn channel_line<K: Sink>(&mut self, sink: &mut K, name: &Name)
         ensures { Puts K.held K.faults sink.old self.old sink.new self.new (ended (channel_line name.now)) }
     {

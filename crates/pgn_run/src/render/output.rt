@@ -6,10 +6,10 @@ ghost use Rattle.pgn_run.specs.Rendering.{Puts};
 use pgn_base::{Failed, Sink, write_all};
 use std::marker::Model;
 
-/// How many bytes a buffer keeps back at most.
+// How many bytes a buffer keeps back at most.
 const SIZE: usize = 8192;
 
-/// Bytes that are kept back until there are enough of them for a write. Contracts see those bytes.
+// Bytes that are kept back until there are enough of them for a write. Contracts see those bytes.
 #[derive(Drop)]
 struct Buffer {
     bytes: [u8; SIZE],
@@ -97,7 +97,7 @@ impl Out {
         self.kept.clear();
     }
 
-    /// Keeps a piece back, or writes it where it would fill the buffer.
+    // Keeps a piece back, or writes it where it would fill the buffer.
     #[tactic(auto, using(crate::proofs::PutsLaws::out_laws))]
     fn keep<K: Sink>(&mut self, sink: &mut K, piece: &[u8])
         requires { OnOk self.old.so_far (self.old.kept ≡ []) }
@@ -113,7 +113,7 @@ impl Out {
         self.kept.push(piece);
     }
 
-    /// Gives a piece out that there is no room for.
+    // Gives a piece out that there is no room for.
     #[cold]
     fn overflow<K: Sink>(&mut self, sink: &mut K, piece: &[u8])
         requires large { SIZE ≤ length self.old.kept + length piece.now }

@@ -10,7 +10,7 @@ use pgn_base::{PID_BASE, SessionNo, Sink, Xid};
 use pgn_model::{Section, Trace};
 
 impl Out {
-    /// A section's number, name and database.
+    // A section's number, name and database.
     fn place<K: Sink>(&mut self, sink: &mut K, section: &Section)
         ensures { Puts K.held K.faults sink.old self.old sink.new self.new (decimal section.now.no ++ codes " " ++ section.now.name ++ codes " db " ++ decimal section.now.db) }
     {
@@ -21,14 +21,14 @@ impl Out {
         self.number(sink, u64::from(section.db.get()));
     }
 
-    /// The process number of a session.
+    // The process number of a session.
     fn pid<K: Sink>(&mut self, sink: &mut K, session: &SessionNo)
         ensures { Puts K.held K.faults sink.old self.old sink.new self.new (decimal (PID_BASE + session.now)) }
     {
         self.number(sink, u64::from(PID_BASE + session.get()));
     }
 
-    /// A section's head.
+    // A section's head.
     fn section_line<K: Sink>(&mut self, sink: &mut K, section: &Section)
         ensures { Puts K.held K.faults sink.old self.old sink.new self.new (ended (section_line section.now)) }
     {
@@ -39,7 +39,7 @@ impl Out {
         self.text(sink, b"\n");
     }
 
-    /// The last line of a trace.
+    // The last line of a trace.
     fn end<K: Sink>(&mut self, sink: &mut K, last: &Option<Xid>)
         ensures { Puts K.held K.faults sink.old self.old sink.new self.new (ended (end_line last.now)) }
     {
@@ -53,7 +53,7 @@ impl Out {
         }
     }
 
-    /// The lines of a section with its trace.
+    // The lines of a section with its trace.
     fn section<K: Sink>(&mut self, sink: &mut K, section: &Section, trace: &Trace)
         ensures { Puts K.held K.faults sink.old self.old sink.new self.new (joined (trace_lines section.now trace.now)) }
     {
