@@ -252,7 +252,7 @@ fn channels_that_are_left(rt: HostRuntime) -> Result<(), Fail> {
     for (length, letter) in [(1, "d"), (23, "a"), (9, "x")] {
         actions.push(Action::Unlisten(channel(alloc, length, letter)?))?;
     }
-    set.reserve(3)?;
+    set.reserve(actions.as_slice().len())?;
     set.apply(actions);
     let [e, c, a, b] = set.names() else {
         return Err("four channels are left")?;
