@@ -1,0 +1,210 @@
+-- The steps on cells and the store of the head keep the rule.
+use Rattle.std.proofs.Common.{◌≡◌, ◌≢◌, ℕ, ◌+◌, ◌%◌, ◌^◌, ◌<◌, ◌≤◌, true, List, [], ◌∷◌, ◌++◌, length, get_or, set, Option, Some, sym, refl, ap, ◌∙◌, subst, arith, append_assoc, mod-lt, length-set}
+use Rattle.std.proofs.lemmas.List.{append-nil, length-append}
+use mathlib.Core.Option.{some, none}
+use lib.ListN.{get_elem?}
+use Rattle.atomic_table.specs.Table.{Me, Allows, step}
+use Rattle.atomic_table.proofs.Lists.{set_again}
+use Rattle.pgn_model.specs.declared.tx.Tx.{Tx}
+use Rattle.pgn_model.specs.Begins.{Begins}
+use Rattle.pgn_model.proofs.BeginsLaws.{begins-continued}
+use Rattle.pgn_model.specs.Packing.{page_of, page_start, image}
+use Rattle.pgn_model.specs.Pieces.{draft}
+use Rattle.pgn_model.specs.Shape.{Shape}
+use Rattle.pgn_layout.specs.Batches.{padded_to}
+use Rattle.pgn_words.specs.declared.view.View.{View}
+use Rattle.pgn_words.specs.declared.view.Pen.{Pen}
+use Rattle.pgn_words.specs.declared.view.Phase.{Phase}
+use Rattle.pgn_words.specs.declared.view.Phase.TheVariants.{Free, Held, Headed, Ready, Open, Finished, Signalling}
+use Rattle.pgn_words.specs.Words.{Content, row, room_of, cells_at}
+use Rattle.pgn_words.specs.Views.{holds_lock, knows_stop, knows_cells, stored_by}
+use Rattle.pgn_words.specs.Rule.{World, KnowsStop, HoldsIn, Holds, IsWriting, Law, Lawful, Keeps}
+use Rattle.pgn_words.specs.Told.{TellsCellStore, TellsCell, TellsHeadStore, MayShow, cell_stored, head_stored}
+use Rattle.pgn_words.proofs.EachLaws.{each_turn, each_keep}
+use Rattle.pgn_words.proofs.Frames.{seats_keep, locking_keep, history_keep, numbers_keep, budget_keep}
+use Rattle.pgn_words.proofs.LockKept.{alone, others_hold}
+use Rattle.pgn_words.proofs.HeadKept.{phase_holds}
+use Rattle.pgn_words.proofs.RowLaws.{set_cell, get_cell}
+use Rattle.pgn_words.proofs.RingLaws.{keeps_below, keeps_more, keeps_padded, length-padded, small_set}
+use Rattle.pgn_words.proofs.Meets.{allowed}
+
+-- a place less than the limit of pages from the oldest kept page is less than a turn from that page's beginning
+near_enough : (z : Shape) (stop at : ℕ) → page_of at < stop + z.pages → at < page_start stop + room_of z
+near_enough z stop at page = omega (arith, page)
+
+some_room : (z : Shape) → 0 < room_of z
+some_room z = omega arith
+
+stores : (z : Shape) (c : Content) (g : World) (views : List View) (id : ℕ) (v : View) (at x : ℕ) → Law z c g views → get_elem? views id ≡ some v → v.phase ≡ Open
+    → at ≡ length (stored_by v) → page_of at < v.stop + z.pages → x < 2 ^ 32
+    → Law z (record c { cells = set c.cells (at % room_of z) x }) g (set views id (cell_stored x v))
+stores z c g views id v at x h here opened next page low =
+    let w : View = cell_stored x v in
+    let held : holds_lock v.phase ≡ true = ap holds_lock opened in
+    let was : IsWriting z.format (λ log. Keeps (room_of z) (page_start c.stop) log c.cells) g.past g.shown v.known.seen v.pen = phase_holds Open z c.stop g.past g.shown c.cells id v opened (h.holding.holds id v here) in
+    let stop : v.stop ≡ c.stop = h.holding.stops id v here (ap knows_stop opened) in
+    let near : at < page_start c.stop + room_of z = near_enough z c.stop at (omega (arith, page, stop)) in
+    let long = h.laid.cells_long in
+    let within : at % room_of z < length c.cells = let m : at % room_of z < room_of z = mod-lt at (some_room z) in omega (arith, m, long) in
+    let shown : length (image z.format g.shown) ≡ length v.pen.cells = ap length (sym was.cells_are) in
+    let past : length (image z.format g.shown) ≤ at = omega (arith, shown, next, length-append v.pen.cells v.pen.batch) in
+    let gone : (j : ℕ) (u : View) → j ≢ id → get_elem? views j ≡ some u → holds_lock u.phase ≡ true → ⊥ = alone c.lock g.holder views id v h.locking here held in record {
+      laid = record {
+        pos_long = h.laid.pos_long;
+        wakes_long = h.laid.wakes_long;
+        flags_long = h.laid.flags_long;
+        statuses_long = h.laid.statuses_long;
+        cells_long = length-set c.cells (at % room_of z) x ∙ h.laid.cells_long;
+      };
+      seats = seats_keep views id v w here z g.made g.seat h.seats refl refl refl refl;
+      locking = locking_keep views id v w here c.lock g.holder h.locking refl refl;
+      stored = record {
+        headed = h.stored.headed;
+        kept = keeps_below (room_of z) (page_start c.stop) at x (image z.format g.shown) c.cells past near h.stored.kept;
+        ahead = h.stored.ahead;
+        small = small_set c.cells (at % room_of z) x within low h.stored.small;
+      };
+      history = history_keep views id v w here c.lock c.fin g.made g.past g.shown h.history refl refl refl;
+      numbers = numbers_keep views id v w here c.lock c.fin c.xid h.numbers refl refl;
+      holding = record {
+        holds = each_turn (Holds z c.stop g.past g.shown c.cells) (Holds z c.stop g.past g.shown (set c.cells (at % room_of z) x)) views id w h.holding.holds
+            (in_open z c.stop g.past g.shown (set c.cells (at % room_of z) x) id w opened (record {
+              seen_is = was.seen_is;
+              cells_are = was.cells_are;
+              kept = subst (λ (log : List (Option ℕ)). Keeps (room_of z) (page_start c.stop) log (set c.cells (at % room_of z) x)) (append_assoc v.pen.cells v.pen.batch (Some x ∷ []))
+                  (keeps_more (room_of z) (page_start c.stop) at x (v.pen.cells ++ v.pen.batch) c.cells next near long (some_room z) was.kept);
+              some_notes = was.some_notes;
+              valid = was.valid;
+              different = was.different;
+              taken_is = was.taken_is;
+            }))
+            (λ j u other there p. others_hold z c.stop g.past g.shown (set c.cells (at % room_of z) x) j u (gone j u other there));
+        stops = each_keep (KnowsStop c.stop) views id v w here h.holding.stops (λ p. p);
+      };
+      budget = budget_keep views id v w here z g.made g.past h.budget (omega arith);
+    }
+  where
+    in_open : (z : Shape) (stop : ℕ) (past shown : List Tx) (cells : List ℕ) (j : ℕ) (w : View) → w.phase ≡ Open
+        → IsWriting z.format (λ log. Keeps (room_of z) (page_start stop) log cells) past shown w.known.seen w.pen → Holds z stop past shown cells j w
+    in_open z stop past shown cells j w e h = subst (λ (q : Phase). HoldsIn q z.format (λ log. Keeps (room_of z) (page_start stop) log cells) past shown w.known.seen w.known.session w.pen) (sym e) h
+
+pub store_cell_allowed : (z : Shape) (slots id word at x : ℕ) (me : Me ℕ View) → word ≡ cells_at z + at % room_of z → me.0.phase ≡ Open → at ≡ length (stored_by me.0) → page_of at < me.0.stop + z.pages → x < 2 ^ 32
+    → Allows (Lawful z) slots id me word (λ _. x) (λ _. TellsCellStore (step slots word x 0 none) me x)
+store_cell_allowed z slots id word at x me there opened next page low =
+    allowed z slots id word me (λ _. x) (λ _. TellsCellStore (step slots word x 0 none) me x) (λ shape c g views h here. record {
+      w = cell_stored x me.0;
+      content = record c { cells = set c.cells (at % room_of z) x };
+      world = g;
+      moves = ap (λ n. set (row c) n x) there ∙ set_cell z c (at % room_of z) x h.laid;
+      law = stores z c g views id me.0 at x h here opened next page low;
+      told = record { slots = refl; view = refl };
+    })
+
+-- the holder that knows the cells
+knows : (p : Phase) (z : Shape) (stop : ℕ) (past shown seen : List Tx) (cells : List ℕ) (session : ℕ) (pen : Pen) → knows_cells p ≡ true
+    → HoldsIn p z.format (λ log. Keeps (room_of z) (page_start stop) log cells) past shown seen session pen → Keeps (room_of z) (page_start stop) (image z.format shown) cells
+    → Keeps (room_of z) (page_start stop) (pen.cells ++ pen.batch) cells
+knows Free z stop past shown seen cells session pen e h kept = absurd (cc)
+knows Held z stop past shown seen cells session pen e h kept = absurd (cc)
+knows Headed z stop past shown seen cells session pen e h kept = absurd (cc)
+knows Ready z stop past shown seen cells session pen e h kept =
+    let stored : pen.cells ++ pen.batch ≡ image z.format shown = ap (λ b. pen.cells ++ b) h.batch_is ∙ append-nil pen.cells ∙ h.cells_are ∙ ap (image z.format) (sym h.idle.shown_is) in
+    subst (λ (log : List (Option ℕ)). Keeps (room_of z) (page_start stop) log cells) (sym stored) kept
+knows Open z stop past shown seen cells session pen e h kept = h.kept
+knows Finished z stop past shown seen cells session pen e h kept = absurd (cc)
+knows Signalling z stop past shown seen cells session pen e h kept = absurd (cc)
+
+stop_too : (p : Phase) → knows_cells p ≡ true → knows_stop p ≡ true
+stop_too Free e = absurd (cc)
+stop_too Held e = absurd (cc)
+stop_too Headed e = absurd (cc)
+stop_too Ready e = refl
+stop_too Open e = refl
+stop_too Finished e = absurd (cc)
+stop_too Signalling e = absurd (cc)
+
+pub load_cell_allowed : (z : Shape) (slots id word at : ℕ) (me : Me ℕ View) → word ≡ cells_at z + at % room_of z → knows_cells me.0.phase ≡ true
+    → Allows (Lawful z) slots id me word (λ n. n) (TellsCell (step slots word 0 0 none) me)
+load_cell_allowed z slots id word at me there cells =
+    allowed z slots id word me (λ n. n) (TellsCell (step slots word 0 0 none) me) (λ shape c g views h here.
+    let found : get_or (row c) word 0 ≡ get_or c.cells (at % room_of z) 0 = ap (λ n. get_or (row c) n 0) there ∙ get_cell z c (at % room_of z) h.laid in
+    let setup : me.0.setup ≡ z = h.seats.same id me.0 here in
+    let stop : me.0.stop ≡ c.stop = h.holding.stops id me.0 here (stop_too me.0.phase cells) in
+    let kept = knows me.0.phase z c.stop g.past g.shown me.0.known.seen c.cells me.0.known.session me.0.pen cells (h.holding.holds id me.0 here) h.stored.kept in record {
+      w = me.0;
+      content = c;
+      world = g;
+      moves = set_get (row c) word;
+      law = subst (λ (us : List View). Law z c g us) (sym (set_again views id me.0 here)) h;
+      told = record {
+        slots = refl;
+        view = refl;
+        low = let was = h.stored.small (at % room_of z) in omega (arith, found, was);
+        value = λ place x word_is from that.
+            ap (λ n. get_or (row c) n 0) (word_is ∙ ap (λ (y : Shape). cells_at y + place % room_of y) setup) ∙ get_cell z c (place % room_of z) h.laid ∙ kept place x (omega (arith, from, stop)) that;
+      };
+    })
+  where
+    set_get : (l : List ℕ) (i : ℕ) → set l i (get_or l i 0) ≡ l
+    set_get l i = Rattle.std.proofs.lemmas.List.set-get_or l i 0
+
+shows : (z : Shape) (c : Content) (g : World) (views : List View) (id : ℕ) (v : View) (to : ℕ) → Law z c g views → get_elem? views id ≡ some v → v.phase ≡ Open → (may : MayShow v to)
+    → Law z (record c { head = to }) (record g { shown = g.past ++ draft v.known.session v.known.db v.pen.notes may.queued may.fate ∷ [] }) (set views id (head_stored to v))
+shows z c g views id v to h here opened may =
+    let w : View = head_stored to v in
+    let held : holds_lock v.phase ≡ true = ap holds_lock opened in
+    let was : IsWriting z.format (λ log. Keeps (room_of z) (page_start c.stop) log c.cells) g.past g.shown v.known.seen v.pen = phase_holds Open z c.stop g.past g.shown c.cells id v opened (h.holding.holds id v here) in
+    let stop : v.stop ≡ c.stop = h.holding.stops id v here (ap knows_stop opened) in
+    let setup : v.setup ≡ z = h.seats.same id v here in
+    let now : List Tx = g.past ++ draft v.known.session v.known.db v.pen.notes may.queued may.fate ∷ [] in
+    let locked = h.locking.locks id v here held in
+    let image_is : image z.format now ≡ padded_to to (stored_by v) = ap (λ txs. image z.format (txs ++ draft v.known.session v.known.db v.pen.notes may.queued may.fate ∷ [])) (sym was.seen_is)
+    ∙ ap (λ (y : Shape). image y.format (v.known.seen ++ draft v.known.session v.known.db v.pen.notes may.queued may.fate ∷ [])) (sym setup) ∙ may.image_is in
+    let kept : Keeps (room_of z) (page_start c.stop) (padded_to to (stored_by v)) c.cells = keeps_padded (room_of z) (page_start c.stop) to (stored_by v) c.cells was.kept in
+    let gone : (j : ℕ) (u : View) → j ≢ id → get_elem? views j ≡ some u → holds_lock u.phase ≡ true → ⊥ = alone c.lock g.holder views id v h.locking here held in record {
+      laid = h.laid;
+      seats = seats_keep views id v w here z g.made g.seat h.seats refl refl refl refl;
+      locking = locking_keep views id v w here c.lock g.holder h.locking refl refl;
+      stored = record {
+        headed = sym (ap length image_is ∙ length-padded to (stored_by v) may.up);
+        kept = subst (λ (log : List (Option ℕ)). Keeps (room_of z) (page_start c.stop) log c.cells) (sym image_is) kept;
+        ahead = subst (λ (n : ℕ). to ≤ page_start (n + z.pages)) stop (subst (λ (y : Shape). to ≤ page_start (v.stop + y.pages)) setup may.within);
+        small = h.stored.small;
+      };
+      history = record {
+        counted = h.history.counted;
+        finished = h.history.finished;
+        sessions = h.history.sessions;
+        begins = begins-continued g.past (draft v.known.session v.known.db v.pen.notes may.queued may.fate ∷ []);
+        free = λ nobody. let is = locked.1 in let positive = locked.2 in absurd (omega (arith, nobody, is, positive));
+        sees = each_keep (λ _ u. Begins u.known.seen g.past) views id v w here h.history.sees (λ p. p);
+        owns = each_keep (λ _ u. u.known.own ≡ Rattle.pgn_model.specs.Journal.xids_of u.known.session g.past) views id v w here h.history.owns (λ p. p);
+      };
+      numbers = numbers_keep views id v w here c.lock c.fin c.xid h.numbers refl refl;
+      holding = record {
+        holds = each_turn (Holds z c.stop g.past g.shown c.cells) (Holds z c.stop g.past now c.cells) views id w h.holding.holds
+            (subst (λ (q : Phase). HoldsIn q z.format (λ log. Keeps (room_of z) (page_start c.stop) log c.cells) g.past now v.known.seen v.known.session w.pen) (sym opened) (record {
+              seen_is = was.seen_is;
+              cells_are = sym image_is;
+              kept = subst (λ (log : List (Option ℕ)). Keeps (room_of z) (page_start c.stop) log c.cells) (sym (append-nil (padded_to to (stored_by v)))) kept;
+              some_notes = was.some_notes;
+              valid = was.valid;
+              different = was.different;
+              taken_is = was.taken_is;
+            }))
+            (λ j u other there p. others_hold z c.stop g.past now c.cells j u (gone j u other there));
+        stops = each_keep (KnowsStop c.stop) views id v w here h.holding.stops (λ p. p);
+      };
+      budget = budget_keep views id v w here z g.made g.past h.budget (omega arith);
+    }
+
+pub store_head_allowed : (z : Shape) (slots id to : ℕ) (me : Me ℕ View) → me.0.phase ≡ Open → MayShow me.0 to → Allows (Lawful z) slots id me 1 (λ _. to) (λ _. TellsHeadStore (step slots 1 to 0 none) me to)
+store_head_allowed z slots id to me opened may =
+    allowed z slots id 1 me (λ _. to) (λ _. TellsHeadStore (step slots 1 to 0 none) me to) (λ shape c g views h here. record {
+      w = head_stored to me.0;
+      content = record c { head = to };
+      world = record g { shown = g.past ++ draft me.0.known.session me.0.known.db me.0.pen.notes may.queued may.fate ∷ [] };
+      moves = refl;
+      law = shows z c g views id me.0 to h here opened may;
+      told = record { slots = refl; view = refl };
+    })

@@ -1,0 +1,63 @@
+-- Groups of the rule that a step leaves as they are: the pass that makes it does not change in what the group reads.
+use Rattle.std.proofs.Common.{◌≡◌, ℕ, ◌+◌, ◌<◌, ◌≤◌, true, List, set, sym, ap, ◌∙◌, subst, arith}
+use mathlib.Core.Option.{some, some-injective}
+use lib.ListN.{get_elem?}
+use native.Mathlib.Decide.{ℕ_discrete}
+use Rattle.atomic_table.proofs.Lists.{set_else}
+use Rattle.pgn_model.specs.declared.tx.Tx.{Tx}
+use Rattle.pgn_model.specs.Begins.{Begins}
+use Rattle.pgn_model.specs.Journal.{xids_of}
+use Rattle.pgn_model.specs.Shape.{Shape}
+use Rattle.pgn_words.specs.declared.view.View.{View}
+use Rattle.pgn_words.specs.Views.{holds_lock, knows_stop, drawn_by, spent_by}
+use Rattle.pgn_words.specs.Rule.{Seated, Makes, Seats, Locks, Locking, History, Draws, Numbers, Budget}
+use Rattle.pgn_words.proofs.EachLaws.{each_keep, changed_at, sum_set}
+
+module _ (views : List View) (id : ℕ) (v w : View) (here : get_elem? views id ≡ some v) where
+  pub seats_keep : (z : Shape) (made : ℕ) (seat : ℕ → ℕ) → Seats z made seat views → w.known.session ≡ v.known.session → w.known.db ≡ v.known.db → w.setup ≡ v.setup → w.made ≡ v.made
+      → Seats z made seat (set views id w)
+  seats_keep z made seat h session db setup makes = record {
+    few = h.few;
+    same = each_keep (λ _ u. u.setup ≡ z) views id v w here h.same (λ p. setup ∙ p);
+    seated = each_keep (Seated z made seat) views id v w here h.seated (λ p some. let s = p (subst (λ (n : ℕ). 0 < n) session some) in record {
+      sits = ap seat session ∙ s.sits;
+      was_made = subst (λ (n : ℕ). n ≤ made) (sym session) s.was_made;
+      db_is = db ∙ s.db_is ∙ ap (λ n. (Rattle.pgn_words.specs.Views.seat_of z n).db) (sym session);
+    });
+    makes = each_keep (Makes made) views id v w here h.makes (λ p some. let s = p (subst (λ (n : ℕ). 0 < n) makes some) in (session ∙ s.0, makes ∙ s.1));
+  }
+
+  -- the holder, seen at its seat
+  there_after : (j : ℕ) (u : View) → get_elem? views j ≡ some u → w.known.session ≡ v.known.session → holds_lock w.phase ≡ holds_lock v.phase → (lock : ℕ) → u.known.session ≡ lock → holds_lock u.phase ≡ true
+      → Dec (j ≡ id) → (x : View) × (get_elem? (set views id w) j ≡ some x) × (x.known.session ≡ lock) × (holds_lock x.phase ≡ true)
+  there_after j u there session holds lock number held (yes e) =
+      let same : v ≡ u = some-injective v u (sym here ∙ ap (get_elem? views) (sym e) ∙ there) in
+      (w, subst (λ (n : ℕ). get_elem? (set views id w) n ≡ some w) (sym e) (changed_at views id v w here), session ∙ ap (λ x. x.known.session) same ∙ number, holds ∙ ap (λ x. holds_lock x.phase) same ∙ held)
+  there_after j u there session holds lock number held (no ne) = (u, set_else views id j w ne ∙ there, number, held)
+
+  pub locking_keep : (lock holder : ℕ) → Locking lock holder views → w.known.session ≡ v.known.session → holds_lock w.phase ≡ holds_lock v.phase → Locking lock holder (set views id w)
+  locking_keep lock holder h session holds = record {
+    locks = each_keep (Locks lock holder) views id v w here h.locks (λ p held. let s = p (sym holds ∙ held) in (s.0, s.1 ∙ sym session, subst (λ (n : ℕ). 0 < n) (sym session) s.2));
+    owned = λ some. let o = h.owned some in there_after holder o.0 o.1 session holds lock o.2 o.3 (ℕ_discrete holder id);
+  }
+
+  pub history_keep : (lock fin made : ℕ) (past shown : List Tx) → History lock fin made past shown views → w.known.session ≡ v.known.session → w.known.seen ≡ v.known.seen → w.known.own ≡ v.known.own
+      → History lock fin made past shown (set views id w)
+  history_keep lock fin made past shown h session seen own = record {
+    counted = h.counted;
+    finished = h.finished;
+    sessions = h.sessions;
+    begins = h.begins;
+    free = h.free;
+    sees = each_keep (λ _ u. Begins u.known.seen past) views id v w here h.sees (λ p. subst (λ (xs : List Tx). Begins xs past) (sym seen) p);
+    owns = each_keep (λ _ u. u.known.own ≡ xids_of u.known.session past) views id v w here h.owns (λ p. own ∙ p ∙ ap (λ n. xids_of n past) (sym session));
+  }
+
+  pub numbers_keep : (lock fin xid : ℕ) → Numbers lock fin xid views → holds_lock w.phase ≡ holds_lock v.phase → drawn_by w.phase ≡ drawn_by v.phase → Numbers lock fin xid (set views id w)
+  numbers_keep lock fin xid h holds drawn = record {
+    free = h.free;
+    draws = each_keep (Draws fin xid) views id v w here h.draws (λ p held. p (sym holds ∙ held) ∙ ap (λ n. fin + n) (sym drawn));
+  }
+
+  pub budget_keep : (z : Shape) (made : ℕ) (past : List Tx) → Budget z made past views → spent_by w ≤ spent_by v → Budget z made past (set views id w)
+  budget_keep z made past h less = let all = sum_set spent_by views id v w here in omega (arith, h, all, less)

@@ -1,0 +1,93 @@
+-- The loads of the head and of the oldest kept page, and the store of the head, keep the rule.
+use Rattle.std.proofs.Common.{◌≡◌, ℕ, ◌+◌, ◌≤◌, true, List, length, set, sym, refl, ap, ◌∙◌, subst, arith}
+use mathlib.Core.Option.{some, none}
+use lib.ListN.{get_elem?}
+use Rattle.atomic_table.specs.Table.{Me, Allows, step}
+use Rattle.pgn_model.specs.declared.tx.Tx.{Tx}
+use Rattle.pgn_model.specs.Packing.{page_start, image}
+use Rattle.pgn_model.specs.Shape.{Shape}
+use Rattle.pgn_words.specs.declared.view.View.{View}
+use Rattle.pgn_words.specs.declared.view.Phase.{Phase}
+use Rattle.pgn_words.specs.declared.view.Phase.TheVariants.{Held, Headed}
+use Rattle.pgn_words.specs.Words.{Content, room_of}
+use Rattle.pgn_words.specs.Views.{holds_lock, stored_by}
+use Rattle.pgn_words.specs.Rule.{World, KnowsStop, HoldsIn, Holds, IsHeaded, IsIdle, Law, Lawful, Keeps}
+use Rattle.pgn_words.specs.Told.{TellsHead, TellsStop, head_known, stop_known}
+use Rattle.pgn_words.proofs.EachLaws.{each_turn}
+use Rattle.pgn_words.proofs.Frames.{seats_keep, locking_keep, history_keep, numbers_keep, budget_keep}
+use Rattle.pgn_words.proofs.Meets.{allowed}
+
+-- what holds of a pass in a phase, where it is in it
+pub phase_holds : (p : Phase) (z : Shape) (stop : ℕ) (past shown : List Tx) (cells : List ℕ) (j : ℕ) (v : View) → v.phase ≡ p → Holds z stop past shown cells j v
+    → HoldsIn p z.format (λ log. Keeps (room_of z) (page_start stop) log cells) past shown v.known.seen v.known.session v.pen
+phase_holds p z stop past shown cells j v e h = subst (λ (q : Phase). HoldsIn q z.format (λ log. Keeps (room_of z) (page_start stop) log cells) past shown v.known.seen v.known.session v.pen) e h
+
+heads : (z : Shape) (c : Content) (g : World) (views : List View) (id : ℕ) (v : View) → Law z c g views → get_elem? views id ≡ some v → v.phase ≡ Held → Law z c g (set views id (head_known v))
+heads z c g views id v h here held =
+    let w : View = head_known v in
+    let holds : true ≡ holds_lock v.phase = sym (ap holds_lock held) in
+    let idle : IsIdle g.past g.shown v.known.seen = phase_holds Held z c.stop g.past g.shown c.cells id v held (h.holding.holds id v here) in record {
+      laid = h.laid;
+      seats = seats_keep views id v w here z g.made g.seat h.seats refl refl refl refl;
+      locking = locking_keep views id v w here c.lock g.holder h.locking refl holds;
+      stored = h.stored;
+      history = history_keep views id v w here c.lock c.fin g.made g.past g.shown h.history refl refl refl;
+      numbers = numbers_keep views id v w here c.lock c.fin c.xid h.numbers holds (sym (ap Rattle.pgn_words.specs.Views.drawn_by held));
+      holding = record {
+        holds = each_turn (Holds z c.stop g.past g.shown c.cells) (Holds z c.stop g.past g.shown c.cells) views id w h.holding.holds
+            (record { idle = idle; cells_are = ap (λ (x : Shape). image x.format v.known.seen) (h.seats.same id v here) ∙ ap (image z.format) idle.seen_is; batch_is = refl }) (λ j u other there p. p);
+        stops = each_turn (KnowsStop c.stop) (KnowsStop c.stop) views id w h.holding.stops (λ knows. absurd (cc)) (λ j u other there p. p);
+      };
+      budget = budget_keep views id v w here z g.made g.past h.budget (omega arith);
+    }
+
+pub load_head_allowed : (z : Shape) (slots id : ℕ) (me : Me ℕ View) → me.0.phase ≡ Held → Allows (Lawful z) slots id me 1 (λ n. n) (TellsHead (step slots 1 0 0 none) me)
+load_head_allowed z slots id me held =
+    allowed z slots id 1 me (λ n. n) (TellsHead (step slots 1 0 0 none) me) (λ shape c g views h here.
+    let idle : IsIdle g.past g.shown me.0.known.seen = phase_holds Held z c.stop g.past g.shown c.cells id me.0 held (h.holding.holds id me.0 here) in record {
+      w = head_known me.0;
+      content = c;
+      world = g;
+      moves = refl;
+      law = heads z c g views id me.0 h here held;
+      told = record {
+        slots = refl;
+        view = refl;
+        head = h.stored.headed ∙ ap (λ txs. length (image z.format txs)) (idle.shown_is ∙ sym idle.seen_is) ∙ ap (λ (x : Shape). length (image x.format me.0.known.seen)) (sym (h.seats.same id me.0 here));
+      };
+    })
+
+readies : (z : Shape) (c : Content) (g : World) (views : List View) (id : ℕ) (v : View) → Law z c g views → get_elem? views id ≡ some v → v.phase ≡ Headed → Law z c g (set views id (stop_known c.stop v))
+readies z c g views id v h here headed =
+    let w : View = stop_known c.stop v in
+    let holds : true ≡ holds_lock v.phase = sym (ap holds_lock headed) in
+    let was : IsHeaded z.format g.past g.shown v.known.seen v.pen = phase_holds Headed z c.stop g.past g.shown c.cells id v headed (h.holding.holds id v here) in record {
+      laid = h.laid;
+      seats = seats_keep views id v w here z g.made g.seat h.seats refl refl refl refl;
+      locking = locking_keep views id v w here c.lock g.holder h.locking refl holds;
+      stored = h.stored;
+      history = history_keep views id v w here c.lock c.fin g.made g.past g.shown h.history refl refl refl;
+      numbers = numbers_keep views id v w here c.lock c.fin c.xid h.numbers holds (sym (ap Rattle.pgn_words.specs.Views.drawn_by headed));
+      holding = record {
+        holds = each_turn (Holds z c.stop g.past g.shown c.cells) (Holds z c.stop g.past g.shown c.cells) views id w h.holding.holds was (λ j u other there p. p);
+        stops = each_turn (KnowsStop c.stop) (KnowsStop c.stop) views id w h.holding.stops (λ knows. refl) (λ j u other there p. p);
+      };
+      budget = budget_keep views id v w here z g.made g.past h.budget (omega arith);
+    }
+
+pub load_stop_allowed : (z : Shape) (slots id : ℕ) (me : Me ℕ View) → me.0.phase ≡ Headed → Allows (Lawful z) slots id me 4 (λ n. n) (TellsStop (step slots 4 0 0 none) me)
+load_stop_allowed z slots id me headed =
+    allowed z slots id 4 me (λ n. n) (TellsStop (step slots 4 0 0 none) me) (λ shape c g views h here.
+    let was : IsHeaded z.format g.past g.shown me.0.known.seen me.0.pen = phase_holds Headed z c.stop g.past g.shown c.cells id me.0 headed (h.holding.holds id me.0 here) in
+    let there : c.head ≡ length (image z.format me.0.known.seen) = h.stored.headed ∙ ap (λ txs. length (image z.format txs)) (was.idle.shown_is ∙ sym was.idle.seen_is) in record {
+      w = stop_known c.stop me.0;
+      content = c;
+      world = g;
+      moves = refl;
+      law = readies z c g views id me.0 h here headed;
+      told = record {
+        slots = refl;
+        view = refl;
+        ahead = subst (λ (x : Shape). length (image x.format me.0.known.seen) ≤ page_start (c.stop + x.pages)) (sym (h.seats.same id me.0 here)) (let ahead = h.stored.ahead in subst (λ (n : ℕ). n ≤ page_start (c.stop + z.pages)) there ahead);
+      };
+    })

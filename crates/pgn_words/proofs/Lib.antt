@@ -1,0 +1,12 @@
+pub mod EachLaws
+pub mod RowLaws
+pub mod Frames
+pub mod Meets
+pub mod LockKept
+pub mod HeadKept
+pub mod NumberKept
+pub mod RingLaws
+pub mod CellKept
+pub mod PassKept
+pub mod OpeningLaws
+pub mod OpenedLaws

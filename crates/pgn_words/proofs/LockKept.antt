@@ -1,0 +1,246 @@
+-- The steps on the lock keep the rule.
+use Rattle.std.proofs.Common.{◌≡◌, ◌≢◌, ℕ, zero, suc, ◌+◌, ◌<◌, ◌≤◌, ◌==◌, true, false, List, [], ◌∷◌, ◌++◌, length, drop, set, sum_by, All, sym, refl, ap, ◌∙◌, subst, arith}
+use Rattle.std.proofs.lemmas.List.Elements.{All-head, All-tail}
+use Rattle.std.proofs.lemmas.List.Sums.{sum_by-cons}
+use mathlib.Core.Option.{some, none, some-injective, some-ne-none}
+use lib.ListN.{get_elem?}
+use Rattle.atomic_table.specs.Table.{Me, Allows, step}
+use Rattle.atomic_table.proofs.Lists.{exchanged, set_again}
+use prog.Atomic.{either}
+use Rattle.pgn_base.specs.declared.note.Note.{Note}
+use Rattle.pgn_model.specs.declared.tx.Tx.{Tx}
+use Rattle.pgn_model.specs.Begins.{Begins}
+use Rattle.pgn_model.proofs.BeginsLaws.{begins-rest, begins-itself}
+use Rattle.pgn_model.specs.Journal.{xids_of, IsFinished}
+use Rattle.pgn_model.specs.Shape.{Shape, notes_of_seats}
+use Rattle.pgn_words.specs.declared.view.View.{View}
+use Rattle.pgn_words.specs.declared.view.Phase.{Phase}
+use Rattle.pgn_words.specs.declared.view.Phase.TheVariants.{Free, Held, Headed, Ready, Open, Finished, Signalling}
+use Rattle.pgn_words.specs.Words.{Content, room_of, seats_of}
+use Rattle.pgn_words.specs.Views.{holds_lock, is_idle, knows_stop, drawn_by, spent_by}
+use Rattle.pgn_words.specs.Rule.{World, Locks, Locking, Draws, KnowsStop, HoldsIn, Holds, Law, Lawful, Keeps, Budget, notes_of}
+use Rattle.pgn_words.specs.Told.{HasLocked, IsLocked, TellsLock, TellsDrop, freed}
+use Rattle.pgn_words.proofs.EachLaws.{each_turn, each_keep, changed_at}
+use Rattle.pgn_words.proofs.Frames.{seats_keep, budget_keep}
+use Rattle.pgn_words.proofs.Meets.{Goes, allowed}
+
+-- nobody holds the lock while its word is 0
+pub nobody : (lock holder : ℕ) (views : List View) → Locking lock holder views → lock ≡ 0 → (j : ℕ) (u : View) → get_elem? views j ≡ some u → holds_lock u.phase ≡ true → ⊥
+nobody lock holder views h nothing j u there held = let l = h.locks j u there held in let positive = l.2 in let is = l.1 in omega (arith, positive, is, nothing)
+
+-- nobody but the holder holds it
+pub alone : (lock holder : ℕ) (views : List View) (id : ℕ) (v : View) → Locking lock holder views → get_elem? views id ≡ some v → holds_lock v.phase ≡ true
+    → (j : ℕ) (u : View) → j ≢ id → get_elem? views j ≡ some u → holds_lock u.phase ≡ true → ⊥
+alone lock holder views id v h here held j u other there also = other ((h.locks j u there also).0 ∙ sym (h.locks id v here held).0)
+
+-- a pass that does not hold the lock keeps whatever the holder knows
+pub free_holds : (phase : Phase) → (holds_lock phase ≡ true → ⊥) → phase ≡ Free
+free_holds Free nothing = refl
+free_holds Held nothing = absurd (nothing refl)
+free_holds Headed nothing = absurd (nothing refl)
+free_holds Ready nothing = absurd (nothing refl)
+free_holds Open nothing = absurd (nothing refl)
+free_holds Finished nothing = absurd (nothing refl)
+free_holds Signalling nothing = absurd (nothing refl)
+
+pub others_hold : (z : Shape) (stop : ℕ) (past shown : List Tx) (cells : List ℕ) (j : ℕ) (u : View) → (holds_lock u.phase ≡ true → ⊥) → Holds z stop past shown cells j u
+others_hold z stop past shown cells j u nothing =
+    subst (λ (p : Phase). HoldsIn p z.format (λ log. Keeps (room_of z) (Rattle.pgn_model.specs.Packing.page_start stop) log cells) past shown u.known.seen u.known.session u.pen) (sym (free_holds u.phase nothing)) tt
+
+pub others_stop : (stop j : ℕ) (u : View) → (holds_lock u.phase ≡ true → ⊥) → KnowsStop stop j u
+others_stop stop j u nothing knows = absurd (nothing (knowing u.phase knows))
+  where
+    knowing : (phase : Phase) → knows_stop phase ≡ true → holds_lock phase ≡ true
+    knowing Free e = absurd (cc)
+    knowing Held e = refl
+    knowing Headed e = refl
+    knowing Ready e = refl
+    knowing Open e = refl
+    knowing Finished e = refl
+    knowing Signalling e = refl
+
+pub some_of : (notes : List Note) → notes ≢ [] → 1 ≤ length notes
+some_of [] filled = absurd (filled refl)
+some_of (x ∷ xs) filled = omega arith
+
+-- a transaction has a notification
+some_notes : (tx : Tx) → IsFinished tx → 1 ≤ length tx.notes
+some_notes tx finished = some_of tx.notes finished.some
+
+-- there are no more transactions than notifications
+pub few_txs : (past : List Tx) → All IsFinished past → length past ≤ notes_of past
+few_txs [] all = omega arith
+few_txs (tx ∷ past) all =
+    let one = some_notes tx (All-head IsFinished tx past all) in
+    let more = few_txs past (All-tail IsFinished tx past all) in
+    omega (arith, one, more, sum_by-cons (λ (t : Tx). length t.notes) tx past)
+
+-- a pass has no more left than all seats may send
+pub has_left : (views : List View) (id : ℕ) (v : View) → get_elem? views id ≡ some v → spent_by v ≤ sum_by spent_by views
+has_left [] id v e = absurd (some-ne-none v (sym e))
+has_left (x ∷ xs) zero v e = let same : spent_by x ≡ spent_by v = ap spent_by (some-injective x v e) in omega (arith, same, sum_by-cons spent_by x xs)
+has_left (x ∷ xs) (suc id) v e = let more = has_left xs id v e in omega (arith, more, sum_by-cons spent_by x xs)
+
+pub few_left : (z : Shape) (made : ℕ) (past : List Tx) (views : List View) (id : ℕ) (v : View) → Budget z made past views → get_elem? views id ≡ some v → All IsFinished past → v.setup ≡ z
+    → length past + v.known.notes_left ≤ notes_of_seats v.setup.seats
+few_left z made past views id v budget here finished setup =
+    let few = few_txs past finished in
+    let left = has_left views id v here in
+    subst (λ (x : Shape). length past + v.known.notes_left ≤ notes_of_seats x.seats) (sym setup) (omega (arith, budget, few, left))
+
+-- The lock was free: the pass takes it.
+takes : (z : Shape) (c : Content) (g : World) (views : List View) (id : ℕ) (v : View) → Law z c g views → get_elem? views id ≡ some v → v.phase ≡ Free → 0 < v.known.session → c.lock ≡ 0
+    → Law z (record c { lock = v.known.session }) (record g { holder = id }) (set views id (record v { phase = Held; known = record v.known { seen = g.past } }))
+takes z c g views id v h here free positive nothing =
+    let w : View = record v { phase = Held; known = record v.known { seen = g.past } } in
+    let all_free : (j : ℕ) (u : View) → get_elem? views j ≡ some u → holds_lock u.phase ≡ true → ⊥ = nobody c.lock g.holder views h.locking nothing in record {
+      laid = h.laid;
+      seats = seats_keep views id v w here z g.made g.seat h.seats refl refl refl refl;
+      locking = record {
+        locks = each_turn (Locks c.lock g.holder) (Locks v.known.session id) views id w h.locking.locks (λ held. (refl, refl, positive)) (λ j u other there p held. absurd (all_free j u there held));
+        owned = λ _. (w, changed_at views id v w here, refl, refl);
+      };
+      stored = h.stored;
+      history = record {
+        counted = h.history.counted;
+        finished = h.history.finished;
+        sessions = h.history.sessions;
+        begins = h.history.begins;
+        free = λ _. h.history.free nothing;
+        sees = each_keep (λ _ u. Begins u.known.seen g.past) views id v w here h.history.sees (λ p. begins-itself g.past);
+        owns = each_keep (λ _ u. u.known.own ≡ xids_of u.known.session g.past) views id v w here h.history.owns (λ p. p);
+      };
+      numbers = record {
+        free = λ nothing. absurd (omega (arith, nothing, positive));
+        draws = each_turn (Draws c.fin c.xid) (Draws c.fin c.xid) views id w h.numbers.draws (λ held. let e = h.numbers.free nothing in omega (arith, e)) (λ j u other there p. p);
+      };
+      holding = record {
+        holds = each_turn (Holds z c.stop g.past g.shown c.cells) (Holds z c.stop g.past g.shown c.cells) views id w h.holding.holds (record { seen_is = refl; shown_is = h.history.free nothing }) (λ j u other there p. p);
+        stops = each_turn (KnowsStop c.stop) (KnowsStop c.stop) views id w h.holding.stops (λ knows. absurd (cc)) (λ j u other there p. p);
+      };
+      budget = budget_keep views id v w here z g.made g.past h.budget (omega arith);
+    }
+
+-- The holder gives it up.
+drops : (z : Shape) (c : Content) (g : World) (views : List View) (id : ℕ) (v : View) → Law z c g views → get_elem? views id ≡ some v → holds_lock v.phase ≡ true → drawn_by v.phase ≡ 0 → g.shown ≡ g.past
+    → Law z (record c { lock = 0 }) g (set views id (freed v))
+drops z c g views id v h here held nothing even =
+    let w : View = freed v in
+    let gone : (j : ℕ) (u : View) → j ≢ id → get_elem? views j ≡ some u → holds_lock u.phase ≡ true → ⊥ = alone c.lock g.holder views id v h.locking here held in record {
+      laid = h.laid;
+      seats = seats_keep views id v w here z g.made g.seat h.seats refl refl refl refl;
+      locking = record {
+        locks = each_turn (Locks c.lock g.holder) (Locks 0 g.holder) views id w h.locking.locks (λ held. absurd (cc)) (λ j u other there p also. absurd (gone j u other there also));
+        owned = λ positive. absurd (positive refl);
+      };
+      stored = h.stored;
+      history = record {
+        counted = h.history.counted;
+        finished = h.history.finished;
+        sessions = h.history.sessions;
+        begins = h.history.begins;
+        free = λ _. even;
+        sees = each_keep (λ _ u. Begins u.known.seen g.past) views id v w here h.history.sees (λ p. p);
+        owns = each_keep (λ _ u. u.known.own ≡ xids_of u.known.session g.past) views id v w here h.history.owns (λ p. p);
+      };
+      numbers = record {
+        free = λ _. let e = h.numbers.draws id v here held in omega (arith, e, nothing);
+        draws = each_turn (Draws c.fin c.xid) (Draws c.fin c.xid) views id w h.numbers.draws (λ held. absurd (cc)) (λ j u other there p. p);
+      };
+      holding = record {
+        holds = each_turn (Holds z c.stop g.past g.shown c.cells) (Holds z c.stop g.past g.shown c.cells) views id w h.holding.holds tt (λ j u other there p. p);
+        stops = each_turn (KnowsStop c.stop) (KnowsStop c.stop) views id w h.holding.stops (λ knows. absurd (cc)) (λ j u other there p. p);
+      };
+      budget = budget_keep views id v w here z g.made g.past h.budget (omega arith);
+    }
+
+-- while the holder has drawn no number, the head shows the journal
+pub idle_shows : (phase : Phase) (z : Shape) (stop : ℕ) (past shown seen : List Tx) (cells : List ℕ) (session : ℕ) (pen : Rattle.pgn_words.specs.declared.view.Pen.Pen) → is_idle phase ≡ true
+    → HoldsIn phase z.format (λ log. Keeps (room_of z) (Rattle.pgn_model.specs.Packing.page_start stop) log cells) past shown seen session pen → shown ≡ past
+idle_shows Free z stop past shown seen cells session pen e h = absurd (cc)
+idle_shows Held z stop past shown seen cells session pen e h = h.shown_is
+idle_shows Headed z stop past shown seen cells session pen e h = h.idle.shown_is
+idle_shows Ready z stop past shown seen cells session pen e h = h.idle.shown_is
+idle_shows Open z stop past shown seen cells session pen e h = absurd (cc)
+idle_shows Finished z stop past shown seen cells session pen e h = absurd (cc)
+idle_shows Signalling z stop past shown seen cells session pen e h = absurd (cc)
+
+idle_holds : (phase : Phase) → is_idle phase ≡ true → (holds_lock phase ≡ true) × (drawn_by phase ≡ 0)
+idle_holds Free e = absurd (cc)
+idle_holds Held e = (refl, refl)
+idle_holds Headed e = (refl, refl)
+idle_holds Ready e = (refl, refl)
+idle_holds Open e = absurd (cc)
+idle_holds Finished e = absurd (cc)
+idle_holds Signalling e = absurd (cc)
+
+pub drop_lock_allowed : (z : Shape) (slots id : ℕ) (me : Me ℕ View) → is_idle me.0.phase ≡ true → Allows (Lawful z) slots id me 0 (λ _. 0) (λ _. TellsDrop (step slots 0 0 0 none) me 0)
+drop_lock_allowed z slots id me idle =
+    allowed z slots id 0 me (λ _. 0) (λ _. TellsDrop (step slots 0 0 0 none) me 0) (λ shape c g views h here.
+    let phase = idle_holds me.0.phase idle in
+    let even = idle_shows me.0.phase z c.stop g.past g.shown me.0.known.seen c.cells me.0.known.session me.0.pen idle (h.holding.holds id me.0 here) in record {
+      w = freed me.0;
+      content = record c { lock = 0 };
+      world = g;
+      moves = refl;
+      law = drops z c g views id me.0 h here phase.0 phase.1 even;
+      told = record { slots = refl; view = refl };
+    })
+
+-- what the pass learns of the journal
+learns : (past seen : List Tx) → Begins seen past → past ≡ seen ++ drop (length seen) past
+learns past seen b = begins-rest seen past b
+
+taken_told : (z : Shape) (c : Content) (g : World) (views : List View) (id : ℕ) (v : View) → Law z c g views → get_elem? views id ≡ some v
+    → HasLocked v (record v { phase = Held; known = record v.known { seen = g.past } })
+taken_told z c g views id v h here =
+    let rest : g.past ≡ v.known.seen ++ drop (length v.known.seen) g.past = begins-rest v.known.seen g.past (h.history.sees id v here) in record {
+      more = drop (length v.known.seen) g.past;
+      view = ap (λ (xs : List Tx). let x : View = record v { phase = Held; known = record v.known { seen = xs } } in x) rest;
+      finished = h.history.finished;
+      few = few_left z g.made g.past views id v h.budget here h.history.finished (h.seats.same id v here);
+    }
+
+held_told : (z : Shape) (c : Content) (g : World) (views : List View) (id : ℕ) (v : View) → Law z c g views → get_elem? views id ≡ some v → v.phase ≡ Free → 0 < v.known.session → c.lock ≢ 0 → IsLocked v c.lock
+held_told z c g views id v h here free positive lock =
+    let o = h.locking.owned lock in
+    let theirs : 0 < o.0.known.session = let e = o.2 in omega (arith, e, lock) in
+    let seated = h.seats.seated g.holder o.0 o.1 theirs in record {
+      some = omega (arith, lock);
+      seated = let e = o.2 in let made = seated.was_made in let few = h.seats.few in subst (λ (x : Shape). c.lock ≤ seats_of x) (sym (h.seats.same id v here)) (omega (arith, e, made, few));
+      other = λ same.
+          let mine = h.seats.seated id v here positive in
+          let there : g.holder ≡ id = sym seated.sits ∙ ap g.seat (o.2 ∙ same) ∙ mine.sits in
+          let one : v ≡ o.0 = some-injective v o.0 (sym here ∙ ap (get_elem? views) (sym there) ∙ o.1) in
+          let held : holds_lock v.phase ≡ true = ap (λ x. holds_lock x.phase) one ∙ o.3 in
+          let is : holds_lock v.phase ≡ false = ap holds_lock free in absurd (cc);
+    }
+
+-- the same, whatever is found
+tries : (z : Shape) (id : ℕ) (me : Me ℕ View) (slots : ℕ) (c : Content) (g : World) (views : List View) → me.0.phase ≡ Free → 0 < me.0.known.session → Law z c g views → get_elem? views id ≡ some me.0
+    → Goes z id 0 me (either (c.lock == 0) me.0.known.session c.lock) (TellsLock (step slots 0 0 me.0.known.session none) me) c views
+tries z id me slots c g views free positive h here =
+    exchanged c.lock 0 me.0.known.session (λ (y : ℕ). Goes z id 0 me y (TellsLock (step slots 0 0 me.0.known.session none) me) c views)
+    (λ nothing. record {
+      w = record me.0 { phase = Held; known = record me.0.known { seen = g.past } };
+      content = record c { lock = me.0.known.session };
+      world = record g { holder = id };
+      moves = refl;
+      law = takes z c g views id me.0 h here free positive nothing;
+      told = record { slots = refl; same = refl; free = λ _. taken_told z c g views id me.0 h here; locked = λ lock. absurd (lock nothing) };
+    })
+    (λ lock. record {
+      w = me.0;
+      content = c;
+      world = g;
+      moves = refl;
+      law = subst (λ (us : List View). Law z c g us) (sym (set_again views id me.0 here)) h;
+      told = record { slots = refl; same = refl; free = λ nothing. absurd (lock nothing); locked = λ _. (refl, held_told z c g views id me.0 h here free positive lock) };
+    })
+
+pub try_lock_allowed : (z : Shape) (slots id number : ℕ) (me : Me ℕ View) → me.0.phase ≡ Free → 0 < number → number ≡ me.0.known.session
+    → Allows (Lawful z) slots id me 0 (λ n. either (n == 0) number n) (TellsLock (step slots 0 0 number none) me)
+try_lock_allowed z slots id number me free positive is =
+    subst (λ (n : ℕ). Allows (Lawful z) slots id me 0 (λ k. either (k == 0) n k) (TellsLock (step slots 0 0 n none) me)) (sym is)
+    (allowed z slots id 0 me (λ n. either (n == 0) me.0.known.session n) (TellsLock (step slots 0 0 me.0.known.session none) me)
+    (λ shape c g views h here. tries z id me slots c g views free (subst (λ (n : ℕ). 0 < n) is positive) h here))

@@ -1,0 +1,98 @@
+-- The words of an empty queue, with one pass, meet the rule.
+use Rattle.std.proofs.Common.{◌≡◌, ◌≢◌, ℕ, zero, suc, ◌+◌, ◌*◌, ◌%◌, ◌^◌, ◌<◌, ◌≤◌, List, [], ◌∷◌, ◌++◌, length, get_or, set, drop, replicate, sum_by, sym, refl, ap, ◌∙◌, subst, arith}
+use Rattle.std.proofs.lemmas.List.{length-replicate, replicate-append-replicate}
+use Rattle.std.proofs.lemmas.List.Elements.{All-nil}
+use Rattle.std.proofs.lemmas.List.Sums.{sum_by-cons}
+use Rattle.std.proofs.lemmas.Option.{none-some}
+use Rattle.std.proofs.Common.{Some}
+use Rattle.atomic_table.specs.Table.{opening}
+use Rattle.pgn_model.specs.Begins.{Begins}
+use Rattle.pgn_model.proofs.BeginsLaws.{begins-none}
+use Rattle.pgn_model.specs.Journal.{xids_of, IsFinished}
+use Rattle.pgn_model.specs.Packing.{image, image_from}
+use Rattle.pgn_model.specs.Shape.{Shape, IsShape}
+use Rattle.pgn_words.specs.Words.{row, seats_of, status_words, room_of, word_count, first_content}
+use Rattle.pgn_words.specs.Views.{first_view, spent_by}
+use Rattle.pgn_words.specs.Rule.{Seated, Makes, Locks, WasMade, Draws, KnowsStop, Holds, Law, Lawful}
+use Rattle.pgn_words.proofs.EachLaws.{each_one}
+use Rattle.pgn_words.proofs.PassKept.{seat_taken}
+
+zeros : (n m : ℕ) → replicate {A = ℕ} (n + m) 0 ≡ replicate n 0 ++ replicate m 0
+zeros n m = sym (replicate-append-replicate n m 0)
+
+zero_there : (n k : ℕ) → get_or (replicate {A = ℕ} n 0) k 0 < 2 ^ 32
+zero_there zero k = omega arith
+zero_there (suc n) zero = omega arith
+zero_there (suc n) (suc k) = zero_there n k
+
+-- the words as they are written: zeros, and then three of them
+pub first_row : (z : Shape) (count : ℕ) → count ≡ word_count z → set (set (set (replicate {A = ℕ} count 0) 2 3) 3 (3 * 2 ^ 32)) 5 3 ≡ row (first_content z)
+first_row z count e =
+    let n = seats_of z in
+    let f = z.flags in
+    let s = status_words z in
+    let r = room_of z in
+    let long : count ≡ suc (suc (suc (suc (suc (suc (n + (n + (f + (s + r))))))))) = omega (arith, e) in
+    let regions : replicate {A = ℕ} (n + (n + (f + (s + r)))) 0 ≡ replicate n 0 ++ (replicate n 0 ++ (replicate f 0 ++ (replicate s 0 ++ replicate r 0)))
+    = zeros n (n + (f + (s + r))) ∙ ap (λ l. replicate n 0 ++ l) (zeros n (f + (s + r)) ∙ ap (λ l. replicate n 0 ++ l) (zeros f (s + r) ∙ ap (λ l. replicate f 0 ++ l) (zeros s r))) in
+    ap (λ m. set (set (set (replicate {A = ℕ} m 0) 2 3) 3 (3 * 2 ^ 32)) 5 3) long
+    ∙ ap (λ l. 0 ∷ 0 ∷ 3 ∷ (3 * 2 ^ 32) ∷ 0 ∷ 3 ∷ l) regions
+
+empty_image : (z : Shape) → 0 ≡ length (image z.format [])
+unfolding image image_from
+empty_image z = refl
+
+nothing_shown : (z : Shape) → image z.format [] ≡ []
+unfolding image image_from
+nothing_shown z = refl
+
+opens_law : (z : Shape) → IsShape z → Law z (first_content z) (record { past = []; shown = []; holder = 0; made = 1; seat = λ n. 0 }) (first_view z ∷ [])
+opens_law z shape = record {
+  laid = record {
+    pos_long = length-replicate {A = ℕ} (seats_of z) 0;
+    wakes_long = length-replicate {A = ℕ} (seats_of z) 0;
+    flags_long = length-replicate {A = ℕ} z.flags 0;
+    statuses_long = length-replicate {A = ℕ} (status_words z) 0;
+    cells_long = length-replicate {A = ℕ} (room_of z) 0;
+  };
+  seats = record {
+    few = shape.some_seats;
+    same = each_one (λ _ u. u.setup ≡ z) (first_view z) refl;
+    seated = each_one (Seated z 1 (λ n. 0)) (first_view z) (λ _. record { sits = refl; was_made = omega arith; db_is = refl });
+    makes = each_one (Makes 1) (first_view z) (λ _. (refl, refl));
+  };
+  locking = record { locks = each_one (Locks 0 0) (first_view z) (λ held. absurd (cc)); owned = λ lock. absurd (lock refl) };
+  stored = record {
+    headed = empty_image z;
+    kept = λ i x low there. absurd (none-some (Some x) (subst (λ (log : List (Rattle.std.proofs.Common.Option ℕ)). Rattle.std.proofs.Common.slice_get log i ≡ Some (Some x)) (nothing_shown z) there));
+    ahead = omega arith;
+    small = zero_there (room_of z);
+  };
+  history = record {
+    counted = refl;
+    finished = All-nil IsFinished;
+    sessions = All-nil (WasMade 1);
+    begins = begins-none [];
+    free = λ _. refl;
+    sees = each_one (λ _ u. Begins u.known.seen []) (first_view z) (begins-none []);
+    owns = each_one (λ _ u. u.known.own ≡ xids_of u.known.session []) (first_view z) refl;
+  };
+  numbers = record { free = λ _. refl; draws = each_one (Draws 3 3) (first_view z) (λ held. absurd (cc)) };
+  holding = record { holds = each_one (Holds z 0 [] [] (replicate (room_of z) 0)) (first_view z) tt; stops = each_one (KnowsStop 0) (first_view z) (λ held. absurd (cc)) };
+  budget =
+      let taken = seat_taken z.seats 0 (let seats = shape.some_seats in omega (arith, seats)) in
+      let mine = sum_by-cons spent_by (first_view z) [] in omega (arith, taken, mine);
+}
+
+pub opens : (z : Shape) (words : List ℕ) → IsShape z → words ≡ row (first_content z) → Lawful z (opening words [] (first_view z))
+opens z words shape stands = record { shape = shape; content = first_content z; world = record { past = []; shown = []; holder = 0; made = 1; seat = λ n. 0 }; stands = stands; law = opens_law z shape }
+
+-- the same, as the code writes them
+pub written : (z : Shape) (count a b d : ℕ) (items : List ℕ) → items ≡ replicate count 0 → a ≡ 3 → b ≡ 3 → d ≡ 3 → count ≡ word_count z
+    → set (set (set items 2 a) 3 (b * 4294967296 % 18446744073709551616)) 5 d ≡ row (first_content z)
+written z count a b d items made a_is b_is d_is long =
+    ap (λ l. set (set (set l 2 a) 3 (b * 4294967296 % 18446744073709551616)) 5 d) made
+    ∙ ap (λ n. set (set (set (replicate count 0) 2 n) 3 (b * 4294967296 % 18446744073709551616)) 5 d) a_is
+    ∙ ap (λ n. set (set (set (replicate count 0) 2 3) 3 (n * 4294967296 % 18446744073709551616)) 5 d) b_is
+    ∙ ap (λ n. set (set (set (replicate count 0) 2 3) 3 12884901888) 5 n) d_is
+    ∙ first_row z count long

@@ -1,0 +1,125 @@
+-- The making of a pass keeps the rule.
+use Rattle.std.proofs.Common.{◌≡◌, ℕ, zero, suc, ◌+◌, ◌-◌, ◌<◌, ◌≤◌, ◌==◌, true, false, cond, List, [], ◌∷◌, ◌++◌, length, get_or, drop, set, All, sym, refl, ap, ◌∙◌, subst, arith, length-set}
+use Rattle.std.proofs.lemmas.List.Elements.{All-weaker, All-head, All-tail}
+use Rattle.std.proofs.lemmas.List.Sums.{sum_by-cons}
+use Rattle.std.proofs.lemmas.Bool.Decides.{nat_tests}
+use mathlib.Core.Option.{some}
+use lib.ListN.{get_elem?}
+use Rattle.atomic_table.specs.Table.{Splits}
+use Rattle.atomic_table.proofs.Lists.{at_longer}
+use Rattle.pgn_model.specs.declared.tx.Tx.{Tx}
+use Rattle.pgn_model.specs.declared.setup.SeatSetup.{SeatSetup}
+use Rattle.pgn_model.specs.Begins.{Begins}
+use Rattle.pgn_model.proofs.BeginsLaws.{begins-none}
+use Rattle.pgn_model.specs.Journal.{xids_from, xids_of}
+use Rattle.pgn_model.specs.Shape.{Shape, notes_of_seats}
+use Rattle.pgn_words.specs.declared.view.View.{View}
+use Rattle.pgn_words.specs.Words.{Content, seats_of}
+use Rattle.pgn_words.specs.Views.{seat_of, no_seat, opened_view, spent_by}
+use Rattle.pgn_words.specs.Rule.{World, IsSeated, Seated, Makes, Locks, Locking, WasMade, Draws, KnowsStop, Holds, Law, Lawful}
+use Rattle.pgn_words.specs.Told.{after_making, made_by}
+use Rattle.pgn_words.proofs.EachLaws.{each_turn, each_keep, each_made, sum_set, sum_made}
+use Rattle.pgn_words.proofs.Frames.{locking_keep}
+
+-- the seats, with one more
+abbrev pub seat_more : ℕ → ℕ → (ℕ → ℕ) → ℕ → ℕ
+seat_more made at seat n = cond (n == made + 1) at (seat n)
+
+seat_before : (made at n : ℕ) (seat : ℕ → ℕ) → n ≤ made → seat_more made at seat n ≡ seat n
+seat_before made at n seat low = let other : n == made + 1 ≡ false = grind (arith, nat_tests) in ap (λ b. cond b at (seat n)) other
+
+seat_last : (made at : ℕ) (seat : ℕ → ℕ) → seat_more made at seat (made + 1) ≡ at
+seat_last made at seat = let same : made + 1 == made + 1 ≡ true = grind (arith, nat_tests) in ap (λ b. cond b at (seat (made + 1))) same
+
+-- nothing in the journal is of a session whose pass is not made
+none_of : (n x made : ℕ) (past : List Tx) → made < n → All (WasMade made) past → xids_from n x past ≡ []
+none_of n x made [] later all = refl
+none_of n x made (tx ∷ past) later all =
+    let first = All-head (WasMade made) tx past all in
+    let other : tx.session == n ≡ false = let low = first.1 in grind (arith, nat_tests) in
+    let more = none_of n (x + 1) made past later (All-tail (WasMade made) tx past all) in
+    ap (λ b. cond b (x ∷ xids_from n (x + 1) past) (xids_from n (x + 1) past)) other ∙ more
+
+-- the notifications of the seats from one on
+pub seat_taken : (seats : List SeatSetup) (k : ℕ) → k < length seats → notes_of_seats (drop k seats) ≡ (get_or seats k no_seat).notes + notes_of_seats (drop (k + 1) seats)
+seat_taken [] k within = absurd (omega (arith, within))
+seat_taken (s ∷ seats) zero within = sum_by-cons (λ (x : SeatSetup). x.notes) s seats
+seat_taken (s ∷ seats) (suc k) within =
+    let next : k + 1 ≡ suc k = omega arith in
+    let after : suc k + 1 ≡ suc (k + 1) = omega arith in
+    seat_taken seats k (omega (arith, within)) ∙ ap (λ n. (get_or seats k no_seat).notes + notes_of_seats (drop n (s ∷ seats))) (sym after)
+
+makes : (z : Shape) (c : Content) (g : World) (views : List View) (id : ℕ) (v : View) → Law z c g views → get_elem? views id ≡ some v → 0 < v.made → v.made < seats_of z
+    → Law z c (record g { made = g.made + 1; seat = seat_more g.made (length views) g.seat }) (set views id (after_making v) ++ opened_view z (g.made + 1) ∷ [])
+makes z c g views id v h here mine room =
+    let left : View = after_making v in
+    let right : View = opened_view z (g.made + 1) in
+    let me = h.seats.makes id v here mine in
+    let made : v.made ≡ g.made = me.1 in
+    let long : length (set views id left) ≡ length views = length-set views id left in
+    let keep : (n : ℕ) → n ≤ g.made → seat_more g.made (length views) g.seat n ≡ g.seat n = λ n low. seat_before g.made (length views) n g.seat low in
+    let locking : Locking c.lock g.holder (set views id left) = locking_keep views id v left here c.lock g.holder h.locking refl refl in record {
+      laid = h.laid;
+      seats = record {
+        few = omega (arith, made, room);
+        same = each_made (λ _ u. u.setup ≡ z) (set views id left) right (each_keep (λ _ u. u.setup ≡ z) views id v left here h.seats.same (λ p. p)) refl;
+        seated = each_made (Seated z (g.made + 1) (seat_more g.made (length views) g.seat)) (set views id left) right
+            (each_turn (Seated z g.made g.seat) (Seated z (g.made + 1) (seat_more g.made (length views) g.seat)) views id left h.seats.seated
+            (λ positive. let s = more z g.made (length views) g.seat id v keep (h.seats.seated id v here positive) in record { sits = s.sits; was_made = s.was_made; db_is = s.db_is })
+            (λ j u other there p positive. more z g.made (length views) g.seat j u keep (p positive)))
+            (λ positive. record { sits = seat_last g.made (length views) g.seat ∙ sym long; was_made = omega arith; db_is = refl });
+        makes = each_made (Makes (g.made + 1)) (set views id left) right
+            (each_turn (Makes g.made) (Makes (g.made + 1)) views id left h.seats.makes (λ _. (me.0, ap (λ n. n + 1) made))
+            (λ j u other there p positive. let theirs = p positive in let one : j ≡ id = sym (seat_is z g.made g.seat j u (h.seats.seated j u there) theirs.0) ∙ seat_is z g.made g.seat id v (h.seats.seated id v here) me.0 in absurd (other one)))
+            (λ positive. absurd (omega (arith, positive)));
+      };
+      locking = record {
+        locks = each_made (Locks c.lock g.holder) (set views id left) right locking.locks (λ held. absurd (cc));
+        owned = λ lock. let o = locking.owned lock in (o.0, at_longer (set views id left) (right ∷ []) g.holder o.0 o.1, o.2, o.3);
+      };
+      stored = h.stored;
+      history = record {
+        counted = h.history.counted;
+        finished = h.history.finished;
+        sessions = All-weaker (WasMade g.made) (WasMade (g.made + 1)) (λ tx p. let low = p.1 in (p.0, omega (arith, low))) g.past h.history.sessions;
+        begins = h.history.begins;
+        free = h.history.free;
+        sees = each_made (λ _ u. Begins u.known.seen g.past) (set views id left) right (each_keep (λ _ u. Begins u.known.seen g.past) views id v left here h.history.sees (λ p. p)) (begins-none g.past);
+        owns = each_made (λ _ u. u.known.own ≡ xids_of u.known.session g.past) (set views id left) right (each_keep (λ _ u. u.known.own ≡ xids_of u.known.session g.past) views id v left here h.history.owns (λ p. p))
+            (sym (none_of (g.made + 1) 3 g.made g.past (omega arith) h.history.sessions));
+      };
+      numbers = record {
+        free = h.numbers.free;
+        draws = each_made (Draws c.fin c.xid) (set views id left) right (each_keep (Draws c.fin c.xid) views id v left here h.numbers.draws (λ p. p)) (λ held. absurd (cc));
+      };
+      holding = record {
+        holds = each_made (Holds z c.stop g.past g.shown c.cells) (set views id left) right (each_keep (Holds z c.stop g.past g.shown c.cells) views id v left here h.holding.holds (λ p. p)) tt;
+        stops = each_made (KnowsStop c.stop) (set views id left) right (each_keep (KnowsStop c.stop) views id v left here h.holding.stops (λ p. p)) (λ held. absurd (cc));
+      };
+      budget =
+          let before = h.budget in
+          let kept = sum_set spent_by views id v left here in
+          let more = sum_made spent_by (set views id left) right in
+          let index : g.made + 1 - 1 ≡ g.made = omega arith in
+          let notes : (seat_of z (g.made + 1)).notes ≡ (get_or z.seats g.made no_seat).notes = ap (λ n. (get_or z.seats n no_seat).notes) index in
+          let taken = seat_taken z.seats g.made (omega (arith, made, room)) in
+          omega (arith, before, kept, more, notes, taken);
+    }
+  where
+    more : (z : Shape) (made at : ℕ) (seat : ℕ → ℕ) (j : ℕ) (u : View) → ((n : ℕ) → n ≤ made → seat_more made at seat n ≡ seat n) → IsSeated z made seat j u → IsSeated z (made + 1) (seat_more made at seat) j u
+    more z made at seat j u keep s = record { sits = keep u.known.session s.was_made ∙ s.sits; was_made = let low = s.was_made in omega (arith, low); db_is = s.db_is }
+
+    seat_is : (z : Shape) (made : ℕ) (seat : ℕ → ℕ) (j : ℕ) (u : View) → Seated z made seat j u → u.known.session ≡ 1 → seat 1 ≡ j
+    seat_is z made seat j u s one = ap seat (sym one) ∙ (s (omega (arith, one))).sits
+
+pub make_allowed : (z : Shape) (id : ℕ) (v : View) → v.setup ≡ z → 0 < v.made → v.made < seats_of z → Splits (Lawful z) id v (after_making v) (made_by v)
+make_allowed z id v setup mine room s holds here =
+    let me = holds.law.seats.makes id v here mine in
+    let same : opened_view z (holds.world.made + 1) ≡ made_by v = ap (λ n. opened_view z (n + 1)) (sym me.1) ∙ ap (λ (y : Shape). opened_view y (v.made + 1)) (sym setup) in record {
+      shape = holds.shape;
+      content = holds.content;
+      world = record holds.world { made = holds.world.made + 1; seat = seat_more holds.world.made (length s.views) holds.world.seat };
+      stands = holds.stands;
+      law = subst (λ (u : View). Law z holds.content (record holds.world { made = holds.world.made + 1; seat = seat_more holds.world.made (length s.views) holds.world.seat }) (set s.views id (after_making v) ++ u ∷ [])) same
+          (makes z holds.content holds.world s.views id v holds.law here mine room);
+    }

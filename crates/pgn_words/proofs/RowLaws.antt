@@ -1,0 +1,48 @@
+-- The words of a kind of which there are many, read and written among all words.
+use Rattle.std.proofs.Common.{◌≡◌, ℕ, suc, ◌+◌, ◌-◌, ◌∷◌, List, ◌++◌, length, get_or, set, refl, ap, ◌∙◌, arith, length-append}
+use Rattle.std.proofs.lemmas.List.{set-append_right, get_or-append-add}
+use Rattle.pgn_model.specs.Shape.{Shape}
+use Rattle.pgn_words.specs.Words.{Content, row, cells_at}
+use Rattle.pgn_words.specs.Rule.{Laid}
+
+-- the words before the cells, but for the first six
+abbrev middle : Content → List ℕ
+middle c = c.pos ++ (c.wakes ++ (c.flags ++ c.statuses))
+
+length-middle : (z : Shape) (c : Content) → Laid z c.pos c.wakes c.flags c.statuses c.cells → 6 + length (middle c) ≡ cells_at z
+length-middle z c laid =
+    omega (arith, length-append c.pos (c.wakes ++ (c.flags ++ c.statuses)), length-append c.wakes (c.flags ++ c.statuses), length-append c.flags c.statuses, laid.pos_long, laid.wakes_long, laid.flags_long, laid.statuses_long)
+
+set_right : (xs ys : List ℕ) (k x : ℕ) → set (xs ++ ys) (length xs + k) x ≡ xs ++ set ys k x
+set_right xs ys k x = let there : length xs + k - length xs ≡ k = omega arith in
+    set-append_right xs ys (length xs) (length xs + k) x refl (omega arith) ∙ ap (λ n. xs ++ set ys n x) there
+
+-- a list in four parts, with a write in the last one
+set_last : (a b c d e : List ℕ) (k x : ℕ) → set (a ++ (b ++ (c ++ (d ++ e)))) (length a + (length b + (length c + (length d + k)))) x ≡ a ++ (b ++ (c ++ (d ++ set e k x)))
+set_last a b c d e k x =
+    set_right a (b ++ (c ++ (d ++ e))) (length b + (length c + (length d + k))) x
+    ∙ ap (λ l. a ++ l) (set_right b (c ++ (d ++ e)) (length c + (length d + k)) x
+    ∙ ap (λ l. b ++ l) (set_right c (d ++ e) (length d + k) x
+    ∙ ap (λ l. c ++ l) (set_right d e k x)))
+
+get_last : (a b c d e : List ℕ) (k : ℕ) → get_or (a ++ (b ++ (c ++ (d ++ e)))) (length a + (length b + (length c + (length d + k)))) 0 ≡ get_or e k 0
+get_last a b c d e k =
+    get_or-append-add a (b ++ (c ++ (d ++ e))) (length b + (length c + (length d + k))) 0
+    ∙ get_or-append-add b (c ++ (d ++ e)) (length c + (length d + k)) 0
+    ∙ get_or-append-add c (d ++ e) (length d + k) 0
+    ∙ get_or-append-add d e k 0
+
+-- the index of a cell among the words after the first six
+abbrev cell_index : Content → ℕ → ℕ
+cell_index c k = length c.pos + (length c.wakes + (length c.flags + (length c.statuses + k)))
+
+index_is : (z : Shape) (c : Content) (k : ℕ) → Laid z c.pos c.wakes c.flags c.statuses c.cells → cells_at z + k ≡ suc (suc (suc (suc (suc (suc (cell_index c k))))))
+index_is z c k laid = omega (arith, laid.pos_long, laid.wakes_long, laid.flags_long, laid.statuses_long)
+
+pub set_cell : (z : Shape) (c : Content) (k x : ℕ) → Laid z c.pos c.wakes c.flags c.statuses c.cells → set (row c) (cells_at z + k) x ≡ row (record c { cells = set c.cells k x })
+set_cell z c k x laid =
+    ap (λ n. set (row c) n x) (index_is z c k laid)
+    ∙ ap (λ l. c.lock ∷ c.head ∷ c.fin ∷ c.tail ∷ c.stop ∷ c.xid ∷ l) (set_last c.pos c.wakes c.flags c.statuses c.cells k x)
+
+pub get_cell : (z : Shape) (c : Content) (k : ℕ) → Laid z c.pos c.wakes c.flags c.statuses c.cells → get_or (row c) (cells_at z + k) 0 ≡ get_or c.cells k 0
+get_cell z c k laid = ap (λ n. get_or (row c) n 0) (index_is z c k laid) ∙ get_last c.pos c.wakes c.flags c.statuses c.cells k

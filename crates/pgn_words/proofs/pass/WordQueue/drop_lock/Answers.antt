@@ -1,0 +1,6 @@
+use Rattle.std.proofs.Common.{arith}
+use Rattle.pgn_words.proofs.LockKept.{drop_lock_allowed}
+use Rattle.pgn_words.proofs.pass.WordQueue.drop_lock.Goals as goal
+
+pub store-requires : goal.store-requires
+store-requires c = (c.requires.own.table, (let counted = c.args.self.now.counted in omega (arith, counted)), drop_lock_allowed _ _ _ _ c.requires.phase)

@@ -1,0 +1,32 @@
+-- A queue and its passes, as callers see them.
+use Rattle.std.specs.Prelude.{◌≡◌, ℕ, ◌+◌, List, [], ◌∷◌}
+use Rattle.pgn_model.specs.declared.known.Known.{Known}
+use Rattle.pgn_model.specs.declared.setup.SeatSetup.{SeatSetup}
+use Rattle.pgn_model.specs.Shape.{Shape}
+use Rattle.pgn_words.specs.declared.view.View.{View}
+use Rattle.pgn_words.specs.declared.pass.WordQueue.{WordQueue}
+use Rattle.pgn_words.specs.declared.pass.WordPass.{WordPass}
+use Rattle.pgn_words.specs.Views.{opened}
+
+-- what the queue was opened for
+abbrev pub shape_of : WordQueue → Shape
+shape_of queue = queue.table.shared.key
+
+-- what the rule sees of the pass
+abbrev pub view_of : WordPass → View
+view_of pass = pass.seat.me.0
+
+-- what is known of the pass
+abbrev pub known_of : WordPass → Known
+known_of pass = (view_of pass).known
+
+-- the pass is one of the queue's
+pub record IsPassOf (queue : WordQueue) (pass : WordPass) : Type 0 where
+  pub table : pass.seat.table_id ≡ queue.table.shared.table_id
+  pub bare : pass.seat.me.1 ≡ []
+  pub setup : pass.seat.me.0.setup ≡ queue.table.shared.key
+
+-- what is known of the passes of seats as they are opened, of which the first is that of session n
+abbrev pub opened_from : ℕ → List SeatSetup → List Known
+opened_from n [] = []
+opened_from n (seat ∷ seats) = opened n seat ∷ opened_from (n + 1) seats

@@ -1,0 +1,178 @@
+-- The rule of the words, which holds before and after each step of each pass. It speaks of what the words hold, of what no word and
+-- no pass by itself has, and of the passes. Each group of clauses takes what it reads.
+use Rattle.std.specs.Prelude.{◌≡◌, ◌≢◌, ℕ, ◌+◌, ◌%◌, ◌^◌, ◌<◌, ◌≤◌, true, List, [], ◌∷◌, ◌++◌, length, get_or, drop, slice_get, Option, Some, All, AllPairs, sum_by}
+use mathlib.Core.Option.{some}
+use lib.ListN.{get_elem?}
+use Rattle.atomic_table.specs.Table.{State}
+use Rattle.pgn_base.specs.declared.format.Format.{Format}
+use Rattle.pgn_base.specs.Notes.{IsNote}
+use Rattle.pgn_model.specs.declared.tx.Tx.{Tx}
+use Rattle.pgn_model.specs.Begins.{Begins}
+use Rattle.pgn_model.specs.Journal.{next_xid, xids_of, IsFinished}
+use Rattle.pgn_model.specs.Packing.{page_start, image}
+use Rattle.pgn_model.specs.Shape.{Shape, IsShape, notes_of_seats}
+use Rattle.pgn_words.specs.declared.view.View.{View}
+use Rattle.pgn_words.specs.declared.view.Pen.{Pen}
+use Rattle.pgn_words.specs.declared.view.Phase.{Phase}
+use Rattle.pgn_words.specs.declared.view.Phase.TheVariants.{Free, Held, Headed, Ready, Open, Finished, Signalling}
+use Rattle.pgn_words.specs.Words.{Content, row, seats_of, status_words, room_of}
+use Rattle.pgn_words.specs.Views.{holds_lock, knows_stop, drawn_by, seat_of, spent_by}
+
+-- What no word and no pass by itself has: the finished transactions; these and what the head shows of the open one; the seat among the
+-- table's seats that holds the lock; how many passes were made; and where the pass of each session sits.
+pub record World : Type 0 where
+  pub past : List Tx
+  pub shown : List Tx
+  pub holder : ℕ
+  pub made : ℕ
+  pub seat : ℕ → ℕ
+
+-- each pass has it
+abbrev pub Each : (ℕ → View → Type 0) → List View → Type 0
+Each P views = (j : ℕ) (v : View) → get_elem? views j ≡ some v → P j v
+
+-- there are as many words of each kind as the queue was opened for
+pub record Laid (z : Shape) (pos wakes flags statuses cells : List ℕ) : Type 0 where
+  pub pos_long : length pos ≡ seats_of z
+  pub wakes_long : length wakes ≡ seats_of z
+  pub flags_long : length flags ≡ z.flags
+  pub statuses_long : length statuses ≡ status_words z
+  pub cells_long : length cells ≡ room_of z
+
+-- a session's pass sits at its seat, was made, and has its seat's database
+pub record IsSeated (z : Shape) (made : ℕ) (seat : ℕ → ℕ) (j : ℕ) (v : View) : Type 0 where
+  pub sits : seat v.known.session ≡ j
+  pub was_made : v.known.session ≤ made
+  pub db_is : v.known.db ≡ (seat_of z v.known.session).db
+
+-- a note, and a pass that was joined, have the number 0 and are no session's
+abbrev pub Seated : Shape → ℕ → (ℕ → ℕ) → ℕ → View → Type 0
+Seated z made seat j v = 0 < v.known.session → IsSeated z made seat j v
+
+abbrev pub Makes : ℕ → ℕ → View → Type 0
+Makes made j v = 0 < v.made → (v.known.session ≡ 1) × (v.made ≡ made)
+
+-- who sits where
+pub record Seats (z : Shape) (made : ℕ) (seat : ℕ → ℕ) (views : List View) : Type 0 where
+  pub few : made ≤ seats_of z
+  pub same : Each (λ _ v. v.setup ≡ z) views
+  pub seated : Each (Seated z made seat) views
+  pub makes : Each (Makes made) views
+
+abbrev pub Locks : ℕ → ℕ → ℕ → View → Type 0
+Locks lock holder j v = holds_lock v.phase ≡ true → (j ≡ holder) × (lock ≡ v.known.session) × (0 < v.known.session)
+
+-- who holds the lock
+pub record Locking (lock holder : ℕ) (views : List View) : Type 0 where
+  pub locks : Each (Locks lock holder) views
+  pub owned : lock ≢ 0 → (v : View) × (get_elem? views holder ≡ some v) × (v.known.session ≡ lock) × (holds_lock v.phase ≡ true)
+
+-- the cells hold what stands in a list of cells, from a place on. Where the pages end, the cells are used again
+abbrev pub Keeps : ℕ → ℕ → List (Option ℕ) → List ℕ → Type 0
+Keeps room from log cells = (i x : ℕ) → from ≤ i → slice_get log i ≡ Some (Some x) → get_or cells (i % room) 0 ≡ x
+
+-- what the cells hold up to the head
+pub record Stored (z : Shape) (head stop : ℕ) (shown : List Tx) (cells : List ℕ) : Type 0 where
+  pub headed : head ≡ length (image z.format shown)
+  pub kept : Keeps (room_of z) (page_start stop) (image z.format shown) cells
+  pub ahead : head ≤ page_start (stop + z.pages)
+  pub small : (k : ℕ) → get_or cells k 0 < 2 ^ 32
+
+abbrev pub WasMade : ℕ → Tx → Type 0
+WasMade made tx = (1 ≤ tx.session) × (tx.session ≤ made)
+
+-- the journal, and what each pass knows of it
+pub record History (lock fin made : ℕ) (past shown : List Tx) (views : List View) : Type 0 where
+  pub counted : fin ≡ next_xid past
+  pub finished : All IsFinished past
+  pub sessions : All (WasMade made) past
+  pub begins : Begins past shown
+  pub free : lock ≡ 0 → shown ≡ past
+  pub sees : Each (λ _ v. Begins v.known.seen past) views
+  pub owns : Each (λ _ v. v.known.own ≡ xids_of v.known.session past) views
+
+abbrev pub Draws : ℕ → ℕ → ℕ → View → Type 0
+Draws fin xid j v = holds_lock v.phase ≡ true → xid ≡ fin + drawn_by v.phase
+
+-- the numbers: the next one is the first unfinished one, but for one that the holder has drawn
+pub record Numbers (lock fin xid : ℕ) (views : List View) : Type 0 where
+  pub free : lock ≡ 0 → xid ≡ fin
+  pub draws : Each (Draws fin xid) views
+
+abbrev pub KnowsStop : ℕ → ℕ → View → Type 0
+KnowsStop stop j v = knows_stop v.phase ≡ true → v.stop ≡ stop
+
+-- What the holder knows, phase by phase. `keeps` says that the cells hold what stands in a list of cells.
+
+-- it has drawn no number
+pub record IsIdle (past shown seen : List Tx) : Type 0 where
+  pub seen_is : seen ≡ past
+  pub shown_is : shown ≡ past
+
+-- it has loaded the head
+pub record IsHeaded (format : Format) (past shown seen : List Tx) (pen : Pen) : Type 0 where
+  pub idle : IsIdle past shown seen
+  pub cells_are : pen.cells ≡ image format past
+  pub batch_is : pen.batch ≡ []
+
+-- it has drawn a number, and writes
+pub record IsWriting (format : Format) (keeps : List (Option ℕ) → Type 0) (past shown seen : List Tx) (pen : Pen) : Type 0 where
+  pub seen_is : seen ≡ past
+  pub cells_are : pen.cells ≡ image format shown
+  pub kept : keeps (pen.cells ++ pen.batch)
+  pub some_notes : pen.notes ≢ []
+  pub valid : All IsNote pen.notes
+  pub different : AllPairs (λ a b. a ≢ b) pen.notes
+  pub taken_is : pen.taken ≡ length pen.notes
+
+-- it has set the status, and the head shows the journal with its transaction
+pub record IsEnding (format : Format) (past shown seen : List Tx) (session : ℕ) (pen : Pen) : Type 0 where
+  pub seen_is : seen ≡ past
+  pub shows : image format (past ++ pen.ending ∷ []) ≡ image format shown
+  pub finished : IsFinished pen.ending
+  pub session_is : pen.ending.session ≡ session
+  pub taken_is : pen.taken ≡ length pen.ending.notes
+
+abbrev pub HoldsIn : Phase → Format → (List (Option ℕ) → Type 0) → List Tx → List Tx → List Tx → ℕ → Pen → Type 0
+HoldsIn Free format keeps past shown seen session pen = Unit {0}
+HoldsIn Held format keeps past shown seen session pen = IsIdle past shown seen
+HoldsIn Headed format keeps past shown seen session pen = IsHeaded format past shown seen pen
+HoldsIn Ready format keeps past shown seen session pen = IsHeaded format past shown seen pen
+HoldsIn Open format keeps past shown seen session pen = IsWriting format keeps past shown seen pen
+HoldsIn Finished format keeps past shown seen session pen = IsEnding format past shown seen session pen
+HoldsIn Signalling format keeps past shown seen session pen = IsIdle past shown seen
+
+abbrev pub Holds : Shape → ℕ → List Tx → List Tx → List ℕ → ℕ → View → Type 0
+Holds z stop past shown cells j v = HoldsIn v.phase z.format (λ log. Keeps (room_of z) (page_start stop) log cells) past shown v.known.seen v.known.session v.pen
+
+-- the open transaction
+pub record Holding (z : Shape) (stop : ℕ) (past shown : List Tx) (cells : List ℕ) (views : List View) : Type 0 where
+  pub holds : Each (Holds z stop past shown cells) views
+  pub stops : Each (KnowsStop stop) views
+
+-- the notifications of transactions
+abbrev pub notes_of : List Tx → ℕ
+notes_of txs = sum_by (λ tx. length tx.notes) txs
+
+-- no more notifications are sent than all seats may send: those of the journal, those that passes have left or have taken for an open
+-- transaction, and those of the seats whose pass is not made yet
+abbrev pub Budget : Shape → ℕ → List Tx → List View → Type 0
+Budget z made past views = notes_of past + sum_by spent_by views + notes_of_seats (drop made z.seats) ≤ notes_of_seats z.seats
+
+pub record Law (z : Shape) (c : Content) (g : World) (views : List View) : Type 0 where
+  pub laid : Laid z c.pos c.wakes c.flags c.statuses c.cells
+  pub seats : Seats z g.made g.seat views
+  pub locking : Locking c.lock g.holder views
+  pub stored : Stored z c.head c.stop g.shown c.cells
+  pub history : History c.lock c.fin g.made g.past g.shown views
+  pub numbers : Numbers c.lock c.fin c.xid views
+  pub holding : Holding z c.stop g.past g.shown c.cells views
+  pub budget : Budget z g.made g.past views
+
+-- the rule
+pub record Lawful (z : Shape) (s : State ℕ View) : Type 0 where
+  pub shape : IsShape z
+  pub content : Content
+  pub world : World
+  pub stands : s.words ≡ row content
+  pub law : Law z content world s.views

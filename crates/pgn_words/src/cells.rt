@@ -1,0 +1,104 @@
+ghost use Rattle.std.specs.Prelude.{◌≡◌, ℕ, ◌+◌, ◌%◌, ◌<◌, ◌≤◌, true, length, slice_get, Some};
+ghost use Rattle.pgn_model.specs.Packing.{page_of, page_start, image};
+ghost use Rattle.pgn_words.specs.Words.{cells_at, room_of, word_count};
+ghost use Rattle.pgn_words.specs.Passes.{IsPassOf, view_of, known_of, shape_of};
+ghost use Rattle.pgn_words.specs.Views.{knows_cells, stored_by};
+ghost use Rattle.pgn_words.specs.Told.{head_known, stop_known, cell_stored, head_stored, MayShow};
+ghost use Rattle.pgn_words.specs.declared.view.Phase.TheVariants as phases;
+
+use crate::pass::{WordPass, WordQueue};
+use crate::plays::{LoadCell, LoadHead, LoadStop, StoreCell, StoreHead};
+use pgn_base::{CELL_BYTES, PAGE_BYTES};
+use pgn_layout::Pos;
+
+/// The word that holds the place after the last written cell.
+const HEAD: usize = 1;
+
+/// The word that holds the oldest kept page.
+const STOP: usize = 4;
+
+/// The cells of a page.
+const PAGE_CELLS: u64 = PAGE_BYTES as u64 / CELL_BYTES as u64;
+
+impl WordQueue {
+    // The word of a cell. There is one page of them more than the limit, and they are used again and again.
+    fn word_of_cell(&self, at: Pos) -> usize
+        ensures value { result ≡ cells_at (shape_of self.now) + at % room_of (shape_of self.now) }
+        ensures within { result < word_count (shape_of self.now) }
+    {
+        self.cells_at + (at.get() % ((self.pages + 1) * PAGE_CELLS)) as usize
+    }
+
+    /// The place after the last written cell, behind the whole journal. The holder knows it from then on.
+    ///
+    /// A writer calls it first of all under the lock.
+    pub fn load_head(&self, pass: &mut WordPass) -> Pos
+        requires own { IsPassOf self.now pass.old }
+        requires phase { (view_of pass.old).phase ≡ phases.Held }
+        ensures own { IsPassOf self.now pass.new }
+        ensures view { view_of pass.new ≡ head_known (view_of pass.old) }
+        ensures head { result ≡ length (image (shape_of self.now).format (known_of pass.old).seen) }
+    {
+        Pos::new(self.table.shared.load::<LoadHead>(&mut pass.seat, HEAD))
+    }
+
+    /// The oldest kept page. The holder knows it from then on.
+    ///
+    /// A writer calls it next after `load_head`.
+    pub fn load_stop(&self, pass: &mut WordPass) -> u64
+        requires own { IsPassOf self.now pass.old }
+        requires phase { (view_of pass.old).phase ≡ phases.Headed }
+        ensures own { IsPassOf self.now pass.new }
+        ensures view { view_of pass.new ≡ stop_known result (view_of pass.old) }
+        ensures ahead { length (image (shape_of self.now).format (known_of pass.old).seen) ≤ page_start (result + (shape_of self.now).pages) }
+    {
+        self.table.shared.load::<LoadStop>(&mut pass.seat, STOP)
+    }
+
+    /// Stores the next cell past the head. It is seen by nobody until the head moves past it.
+    ///
+    /// A writer goes from the head that it knows cell by cell, and begins a batch only where the head's page is less than the limit
+    /// past the oldest kept one; a batch stays on its page.
+    pub fn store_cell(&self, pass: &mut WordPass, at: Pos, value: u32)
+        requires own { IsPassOf self.now pass.old }
+        requires phase { (view_of pass.old).phase ≡ phases.Open }
+        requires next { at ≡ length (stored_by (view_of pass.old)) }
+        requires page { page_of at < (view_of pass.old).stop + (shape_of self.now).pages }
+        ensures own { IsPassOf self.now pass.new }
+        ensures view { view_of pass.new ≡ cell_stored value (view_of pass.old) }
+    {
+        let word = self.word_of_cell(at);
+        self.table
+            .shared
+            .store::<StoreCell>(&mut pass.seat, word, u64::from(value));
+    }
+
+    /// A cell that the holder has stored, or that the head showed when the holder loaded it.
+    ///
+    /// The holder has loaded the oldest kept page, and has not set its transaction's status.
+    pub fn load_cell(&self, pass: &mut WordPass, at: Pos) -> u32
+        requires own { IsPassOf self.now pass.old }
+        requires phase { knows_cells (view_of pass.old).phase ≡ true }
+        ensures own { IsPassOf self.now pass.new }
+        ensures view { view_of pass.new ≡ view_of pass.old }
+        ensures value { (x : ℕ) → page_start (view_of pass.old).stop ≤ at → slice_get (stored_by (view_of pass.old)) at ≡ Some (Some x) → result ≡ x }
+    {
+        let word = self.word_of_cell(at);
+        self.table.shared.load::<LoadCell>(&mut pass.seat, word) as u32
+    }
+
+    /// Moves the head up to a place, so that all cells before it are seen.
+    ///
+    /// A writer that has stored a planned batch shows by it that the cells are the image of the journal and its draft.
+    pub fn store_head(&self, pass: &mut WordPass, to: Pos)
+        requires own { IsPassOf self.now pass.old }
+        requires phase { (view_of pass.old).phase ≡ phases.Open }
+        requires shows { MayShow (view_of pass.old) to }
+        ensures own { IsPassOf self.now pass.new }
+        ensures view { view_of pass.new ≡ head_stored to (view_of pass.old) }
+    {
+        self.table
+            .shared
+            .store::<StoreHead>(&mut pass.seat, HEAD, to.get());
+    }
+}

@@ -1,0 +1,33 @@
+//! The words that all sessions share, and the steps on them.
+//!
+//! `WordQueue` is one table of words that change in single atomic steps: who holds the lock, where the head is, which transaction
+//! number is the first unfinished one, the cells. It has one call for each kind of step. A `WordPass` is a session's right to make
+//! steps. What the rule sees of it is a `View`; each call says what it needs of the view, what the view is after it, as an equation,
+//! and what the caller learns.
+//!
+//! `Lawful` in `specs/Rule.antt` is the rule. It holds of the words that `open` makes, and each step keeps it, whatever the other
+//! passes do in between. A writer, once it has the lock:
+//!
+//!     let head = queue.load_head(pass);
+//!     let stop = queue.load_stop(pass);
+//!     let xid = queue.draw_xid(pass, notes);
+//!     queue.store_cell(pass, head, cell);
+//!
+//! Nobody waits in a step, and only `open` takes memory.
+#![tactic(auto)]
+
+mod cells;
+mod lock;
+mod numbers;
+mod opening;
+mod pass;
+mod pass_view;
+mod plays;
+mod view;
+
+pub use lock::Held;
+pub use pass::{WordPass, WordQueue};
+pub use view::{Pen, Phase, View};
+
+#[cfg(test)]
+mod tests;

@@ -1,0 +1,57 @@
+ghost use Rattle.std.specs.Prelude.{◌≡◌, ◌≢◌, ◌≤◌, ◌<◌, true, IfOk, IfErr, OnOk, OnErr};
+ghost use Rattle.pgn_words.specs.Passes.{IsPassOf, view_of};
+ghost use Rattle.pgn_words.specs.Views.{is_idle};
+ghost use Rattle.pgn_words.specs.Told.{HasLocked, IsLocked, freed};
+ghost use Rattle.pgn_words.specs.declared.view.Phase.TheVariants as phases;
+
+use crate::pass::{WordPass, WordQueue};
+use crate::plays::{DropLock, TryLock};
+use pgn_base::SessionNo;
+
+/// The word that holds 0, or the number of the session that has the lock.
+const LOCK: usize = 0;
+
+/// Another session holds the lock.
+#[derive(Clone, Copy, Debug, PartialEq, Eq)]
+pub struct Held {
+    pub by: SessionNo,
+}
+
+impl WordQueue {
+    /// Takes the lock, if nobody holds it. The holder knows the whole journal.
+    ///
+    /// A hub's pass is free between the hub's calls, and a call that takes the lock gives it up.
+    pub fn try_lock(&self, pass: &mut WordPass) -> Result<(), Held>
+        requires own { IsPassOf self.now pass.old }
+        requires phase { (view_of pass.old).phase ≡ phases.Free }
+        ensures own { IsPassOf self.now pass.new }
+        ensures locked { OnOk result (HasLocked (view_of pass.old) (view_of pass.new)) }
+        ensures held { IfErr result (λ held. IsLocked (view_of pass.old) held.by) }
+        ensures stays { OnErr result (view_of pass.new ≡ view_of pass.old) }
+    {
+        let number = u64::from(pass.session.get());
+        let by = self
+            .table
+            .shared
+            .compare_exchange::<TryLock>(&mut pass.seat, LOCK, 0, number);
+        if by == 0 {
+            Ok(())
+        } else {
+            Err(Held {
+                by: SessionNo::new(by as u32),
+            })
+        }
+    }
+
+    /// Gives the lock up, with no number drawn.
+    ///
+    /// A hub calls it at the end of what it does under the lock; no call between `try_lock` and `draw_xid` leads elsewhere.
+    pub fn drop_lock(&self, pass: &mut WordPass)
+        requires own { IsPassOf self.now pass.old }
+        requires phase { is_idle (view_of pass.old).phase ≡ true }
+        ensures own { IsPassOf self.now pass.new }
+        ensures view { view_of pass.new ≡ freed (view_of pass.old) }
+    {
+        self.table.shared.store::<DropLock>(&mut pass.seat, LOCK, 0);
+    }
+}

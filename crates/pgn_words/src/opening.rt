@@ -1,0 +1,137 @@
+ghost use Rattle.std.specs.Prelude.{◌≡◌, ℕ, ◌+◌, ◌<◌, ◌≤◌, map, length, All, IfOk, vec_len};
+ghost use Rattle.pgn_base.specs.declared.limits.TheConstants.{NOTE_LINES_MAX};
+ghost use Rattle.pgn_model.specs.Shape.{notes_of_seats};
+ghost use Rattle.pgn_words.specs.Words.{cells_at, row, first_content};
+ghost use Rattle.pgn_words.specs.Views.{seat_of, first_view};
+ghost use Rattle.pgn_words.specs.Passes.{IsPassOf, shape_of, view_of, known_of, opened_from};
+ghost use Rattle.pgn_words.specs.Told.{after_making, made_by};
+ghost use Rattle.pgn_words.specs.declared.view.Phase.TheVariants as phases;
+
+use crate::pass::{WordPass, WordQueue};
+use crate::plays::MakePass;
+use atomic_table::Table;
+use pgn_base::{CELL_BYTES, FIRST_XID, PAGE_BYTES, SessionNo, Xid};
+use pgn_model::{SeatSetup, Setup};
+use std::alloc::{AllocError, Global};
+
+/// The words of which there is one each: the lock, the head, the first unfinished number, the tail, the oldest kept page and the next
+/// number.
+const SINGLE_WORDS: usize = 6;
+
+/// The word that holds the first unfinished transaction number.
+const FIN: usize = 2;
+
+/// The word that holds the announced tail: a mark, and below it the place in 32 bits.
+const TAIL: usize = 3;
+
+/// The word that holds the next transaction number.
+const XID: usize = 5;
+
+/// The statuses of so many transactions stand in one word.
+const STATUSES_A_WORD: usize = 32;
+
+// How many notifications all sessions may send.
+fn notes_of_all(seats: &[SeatSetup]) -> usize
+    requires { notes_of_seats seats.now ≤ NOTE_LINES_MAX }
+    ensures { result ≡ notes_of_seats seats.now }
+{
+    let mut all = 0;
+    for seat in seats {
+        all += seat.notes as usize;
+    }
+    all
+}
+
+// Where the cells begin among the words.
+fn first_cell_word(setup: &Setup) -> usize
+    ensures { result ≡ cells_at setup.now }
+{
+    let flags = setup.flags() as usize;
+    let seats = setup.seats();
+    let statuses = (notes_of_all(seats) + (STATUSES_A_WORD - 1)) / STATUSES_A_WORD;
+    SINGLE_WORDS + seats.len() + seats.len() + flags + statuses.max(1)
+}
+
+// The words of an empty queue.
+fn first_words(alloc: Global, setup: &Setup, first_cell: usize) -> Result<Vec<u64>, AllocError>
+    requires { first_cell ≡ cells_at setup.now }
+    ensures { IfOk result (λ words. words.items ≡ row (first_content setup.now)) }
+{
+    let cells = (setup.pages() as usize + 1) * (PAGE_BYTES / CELL_BYTES);
+    let mut words = Vec::from_elem(alloc, 0u64, first_cell + cells)?;
+    words[FIN] = u64::from(FIRST_XID);
+    words[TAIL] = u64::from(FIRST_XID) << 32;
+    words[XID] = u64::from(FIRST_XID);
+    Ok(words)
+}
+
+impl WordQueue {
+    // The queue with its first pass.
+    fn with_first(alloc: Global, setup: &Setup) -> Result<(WordQueue, WordPass), AllocError>
+        ensures shape { IfOk result (λ made. shape_of made.0 ≡ setup.now) }
+        ensures own { IfOk result (λ made. IsPassOf made.0 made.1) }
+        ensures view { IfOk result (λ made. view_of made.1 ≡ first_view setup.now) }
+    {
+        let pages = u64::from(setup.pages());
+        let cells_at = first_cell_word(setup);
+        let words = first_words(alloc, setup, cells_at)?;
+        let (table, seat) = Table::of_words(alloc, words.as_slice(), setup)?;
+        let seats = setup.seats();
+        let first = seats[0];
+        let queue = WordQueue {
+            table,
+            pages,
+            cells_at,
+        };
+        let pass = WordPass {
+            seat,
+            session: SessionNo::new(1),
+            db: first.db,
+            mark: None,
+            told: Xid::new(FIRST_XID),
+            notes_left: first.notes,
+        };
+        Ok((queue, pass))
+    }
+
+    // Makes the next pass, which is that of this session.
+    fn make_pass(&self, first: &mut WordPass, session: SessionNo, seat: SeatSetup) -> WordPass
+        requires own { IsPassOf self.now first.old }
+        requires makes { 0 < (view_of first.old).made }
+        requires next { session ≡ (view_of first.old).made + 1 }
+        requires seated { session ≤ length (shape_of self.now).seats }
+        requires seat { seat ≡ seat_of (shape_of self.now) session }
+        ensures own { IsPassOf self.now first.new }
+        ensures view { view_of first.new ≡ after_making (view_of first.old) }
+        ensures made_own { IsPassOf self.now result }
+        ensures made_view { view_of result ≡ made_by (view_of first.old) }
+    {
+        let made = self.table.shared.split_seat::<MakePass>(&mut first.seat);
+        WordPass {
+            seat: made,
+            session,
+            db: seat.db,
+            mark: None,
+            told: Xid::new(FIRST_XID),
+            notes_left: seat.notes,
+        }
+    }
+
+    /// The words of an empty queue, and a pass for each seat, in order. The error is that memory did not suffice.
+    pub fn open(alloc: Global, setup: &Setup) -> Result<(WordQueue, Vec<WordPass>), AllocError>
+        ensures shape { IfOk result (λ opened. shape_of opened.0 ≡ setup.now) }
+        ensures passes { IfOk result (λ opened. map known_of opened.1.items ≡ opened_from 1 setup.now.seats) }
+        ensures own { IfOk result (λ opened. All (IsPassOf opened.0) opened.1.items) }
+        ensures free { IfOk result (λ opened. All (λ pass. (view_of pass).phase ≡ phases.Free) opened.1.items) }
+    {
+        let (queue, mut first) = WordQueue::with_first(alloc, setup)?;
+        let seats = setup.seats();
+        let mut passes = Vec::with_capacity(alloc, seats.len())?;
+        for k in 1..seats.len() {
+            let session = SessionNo::new(k as u32 + 1);
+            passes.push(queue.make_pass(&mut first, session, seats[k]))?;
+        }
+        passes.insert(0, first)?;
+        Ok((queue, passes))
+    }
+}

@@ -1,0 +1,49 @@
+ghost use Rattle.std.specs.Prelude.{◌≡◌};
+ghost use Rattle.pgn_model.specs.Shape.{IsShape};
+ghost use Rattle.pgn_words.specs.Words.{word_count, cells_at as first_cell};
+
+use crate::view::View;
+use atomic_table::{Seat, Table, TableRule};
+use pgn_base::{DbOid, SessionNo, Xid};
+use pgn_model::Setup;
+use std::alloc::Global;
+
+/// The rule that every step keeps.
+pub struct Rule;
+
+impl TableRule<u8, View, Setup> for Rule {
+    ghost use Rattle.pgn_words.specs.Rule.{Lawful};
+    ghost use Rattle.pgn_words.specs.Views.{first_view};
+
+    ghost holds = { Lawful };
+
+    ghost first = { first_view };
+}
+
+/// The words, and where those begin of which there are many.
+#[derive(Drop)]
+pub struct WordQueue {
+    pub(crate) table: Table<u8, View, Setup, Rule, Global>,
+    pub(crate) pages: u64,
+    pub(crate) cells_at: usize,
+    ghost shaped: { IsShape table.shared.key },
+    ghost counted: { table.shared.table_id.words ≡ word_count table.shared.key },
+    ghost limited: { pages ≡ table.shared.key.pages },
+    ghost begins: { cells_at ≡ first_cell table.shared.key },
+}
+
+/// A session's right to step on the words, and what it knows of itself.
+#[derive(Drop)]
+pub struct WordPass {
+    pub(crate) seat: Seat<u8, View>,
+    pub(crate) session: SessionNo,
+    pub(crate) db: DbOid,
+    pub(crate) mark: Option<Xid>,
+    pub(crate) told: Xid,
+    pub(crate) notes_left: u32,
+    ghost session_is: { session ≡ seat.me.0.known.session },
+    ghost db_is: { db ≡ seat.me.0.known.db },
+    ghost mark_is: { mark ≡ seat.me.0.known.mark },
+    ghost told_is: { told ≡ seat.me.0.known.told },
+    ghost left_is: { notes_left ≡ seat.me.0.known.notes_left },
+}
