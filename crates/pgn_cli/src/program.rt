@@ -1,5 +1,6 @@
-ghost use Rattle.std.specs.Prelude.{◌≡◌, ◌≢◌, map, string_bytes, IfOk, IfSome};
+ghost use Rattle.std.specs.Prelude.{◌≡◌, ◌≢◌, ◌<◌, map, string_bytes, IfOk, IfSome};
 ghost use Rattle.std.specs.Io.KnownBytes.{Appends};
+ghost use Rattle.pgn_base.specs.Outside.{Rose};
 ghost use Rattle.pgn_run.specs.Run.{Runs, run_words};
 ghost use Rattle.pgn_cli.specs.Program.{Ends};
 
@@ -20,6 +21,10 @@ pub fn program<S: Source, K: Sink, E: Sink>(
 ) -> u8
     ensures ends { Ends result (E.held errors.old) (E.held errors.new) (E.faults errors.old) (E.faults errors.new) }
     ensures done { result ≡ 0 → IfSome (S.left source.old) (λ input. Runs input (Appends (K.held sink.old) (K.held sink.new))) }
+    ensures read_fault { result ≡ 4 → Rose (S.faults source.old) (S.faults source.new) }
+    ensures read_fault_where_due { S.faults source.old < S.faults source.new → result ≡ 4 }
+    ensures write_fault { result ≡ 5 → Rose (K.faults sink.old) (K.faults sink.new) }
+    ensures write_fault_where_due { K.faults sink.old < K.faults sink.new → result ≡ 5 }
     ensures no_memory { words ≡ Err NoWords.Memory → result ≡ 6 }
     ensures not_text { words ≡ Err NoWords.NotText → result ≡ 2 }
     ensures right_words { IfOk words (λ words. result ≡ 2 → map string_bytes words.items ≢ run_words) }
@@ -38,6 +43,10 @@ fn status_of<S: Source, K: Sink>(
     sink: &mut K,
 ) -> Status
     ensures done { result ≡ Status.Done → IfSome (S.left source.old) (λ input. Runs input (Appends (K.held sink.old) (K.held sink.new))) }
+    ensures read_fault { result ≡ Status.ReadFault → Rose (S.faults source.old) (S.faults source.new) }
+    ensures read_fault_where_due { S.faults source.old < S.faults source.new → result ≡ Status.ReadFault }
+    ensures write_fault { result ≡ Status.WriteFault → Rose (K.faults sink.old) (K.faults sink.new) }
+    ensures write_fault_where_due { K.faults sink.old < K.faults sink.new → result ≡ Status.WriteFault }
     ensures no_memory { words ≡ Err NoWords.Memory → result ≡ Status.NoMemory }
     ensures not_text { words ≡ Err NoWords.NotText → result ≡ Status.BadWords }
     ensures right_words { IfOk words (λ words. result ≡ Status.BadWords → map string_bytes words.items ≢ run_words) }
