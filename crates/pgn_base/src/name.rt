@@ -1,4 +1,4 @@
-ghost use Rattle.std.specs.Prelude.{◌≡◌, ◌<◌, ◌≤◌, ◌↔◌, [], ◌∷◌, length, Contains, IfOk, IsErrOf, bytes_eq};
+ghost use Rattle.std.specs.Prelude.{◌≡◌, ◌<◌, ◌≤◌, ◌↔◌, [], ◌∷◌, length, Contains, IfOk, OnOk, IsErrOf, bytes_eq, string_bytes};
 ghost use Rattle.std.proofs.Common.{rules};
 ghost use Rattle.std.specs.Cmp.{partial_equiv_from_equiv};
 ghost use Rattle.std.specs.Cmp.Lexicographic.{nat_list_eq_equiv};
@@ -50,16 +50,24 @@ impl Name {
         ensures nul { IsErrOf result NameFault.Nul ↔ ((length text.now ≤ NAME_BYTES_MAX) × Contains text.now 0) }
         ensures memory { IsErrOf result NameFault.Memory → TEXT_BYTES_IN_PLACE < length text.now }
     {
-        if text.is_empty() {
-            return Err(NameFault::Empty);
-        }
-        if text.len() > NAME_BYTES_MAX {
-            return Err(NameFault::TooLong);
-        }
-        if has_nul(text.as_bytes()) {
-            return Err(NameFault::Nul);
-        }
+        test(text)?;
         match Text::new(alloc, text) {
+            Ok(text) => Ok(Name { text }),
+            Err(AllocError) => Err(NameFault::Memory),
+        }
+    }
+
+    /// The name of this string, with the faults of `new`. A text of more than 22 bytes keeps the string's memory and is not
+    /// copied.
+    pub fn from_string(text: String) -> Result<Name, NameFault>
+        ensures ok { IfOk result (λ name. name ≡ string_bytes text) }
+        ensures empty { IsErrOf result NameFault.Empty ↔ (string_bytes text ≡ []) }
+        ensures too_long { IsErrOf result NameFault.TooLong ↔ (NAME_BYTES_MAX < length (string_bytes text)) }
+        ensures nul { IsErrOf result NameFault.Nul ↔ ((length (string_bytes text) ≤ NAME_BYTES_MAX) × Contains (string_bytes text) 0) }
+        ensures memory { IsErrOf result NameFault.Memory → TEXT_BYTES_IN_PLACE < length (string_bytes text) }
+    {
+        test(text.as_str())?;
+        match Text::from_string(text) {
             Ok(text) => Ok(Name { text }),
             Err(AllocError) => Err(NameFault::Memory),
         }
@@ -71,6 +79,26 @@ impl Name {
     {
         self.text.as_bytes()
     }
+}
+
+// The first fault of a text as a name, but for want of memory.
+fn test(text: &str) -> Result<(), NameFault>
+    ensures ok { OnOk result (IsName text.now) }
+    ensures empty { IsErrOf result NameFault.Empty ↔ (text.now ≡ []) }
+    ensures too_long { IsErrOf result NameFault.TooLong ↔ (NAME_BYTES_MAX < length text.now) }
+    ensures nul { IsErrOf result NameFault.Nul ↔ ((length text.now ≤ NAME_BYTES_MAX) × Contains text.now 0) }
+    ensures memory { ¬ IsErrOf result NameFault.Memory }
+{
+    if text.is_empty() {
+        return Err(NameFault::Empty);
+    }
+    if text.len() > NAME_BYTES_MAX {
+        return Err(NameFault::TooLong);
+    }
+    if has_nul(text.as_bytes()) {
+        return Err(NameFault::Nul);
+    }
+    Ok(())
 }
 
 impl Copied for Name {

@@ -1,4 +1,4 @@
-ghost use Rattle.std.specs.Prelude.{◌≡◌, ◌<◌, ◌≤◌, ◌↔◌, [], ◌∷◌, length, Contains, IfOk, IsErrOf, bytes_eq};
+ghost use Rattle.std.specs.Prelude.{◌≡◌, ◌<◌, ◌≤◌, ◌↔◌, [], ◌∷◌, length, Contains, IfOk, OnOk, IsErrOf, bytes_eq, string_bytes};
 ghost use Rattle.std.proofs.Common.{rules};
 ghost use Rattle.std.specs.Cmp.{partial_equiv_from_equiv};
 ghost use Rattle.std.specs.Cmp.Lexicographic.{nat_list_eq_equiv};
@@ -45,13 +45,23 @@ impl Payload {
         ensures nul { IsErrOf result PayloadFault.Nul ↔ ((length text.now ≤ PAYLOAD_BYTES_MAX) × Contains text.now 0) }
         ensures memory { IsErrOf result PayloadFault.Memory → TEXT_BYTES_IN_PLACE < length text.now }
     {
-        if text.len() > PAYLOAD_BYTES_MAX {
-            return Err(PayloadFault::TooLong);
-        }
-        if has_nul(text.as_bytes()) {
-            return Err(PayloadFault::Nul);
-        }
+        test(text)?;
         match Text::new(alloc, text) {
+            Ok(text) => Ok(Payload { text }),
+            Err(AllocError) => Err(PayloadFault::Memory),
+        }
+    }
+
+    /// The payload of this string, with the faults of `new`. A text of more than 22 bytes keeps the string's memory and is not
+    /// copied.
+    pub fn from_string(text: String) -> Result<Payload, PayloadFault>
+        ensures ok { IfOk result (λ payload. payload ≡ string_bytes text) }
+        ensures too_long { IsErrOf result PayloadFault.TooLong ↔ (PAYLOAD_BYTES_MAX < length (string_bytes text)) }
+        ensures nul { IsErrOf result PayloadFault.Nul ↔ ((length (string_bytes text) ≤ PAYLOAD_BYTES_MAX) × Contains (string_bytes text) 0) }
+        ensures memory { IsErrOf result PayloadFault.Memory → TEXT_BYTES_IN_PLACE < length (string_bytes text) }
+    {
+        test(text.as_str())?;
+        match Text::from_string(text) {
             Ok(text) => Ok(Payload { text }),
             Err(AllocError) => Err(PayloadFault::Memory),
         }
@@ -63,6 +73,22 @@ impl Payload {
     {
         self.text.as_bytes()
     }
+}
+
+// The first fault of a text as a payload, but for want of memory.
+fn test(text: &str) -> Result<(), PayloadFault>
+    ensures ok { OnOk result (IsPayload text.now) }
+    ensures too_long { IsErrOf result PayloadFault.TooLong ↔ (PAYLOAD_BYTES_MAX < length text.now) }
+    ensures nul { IsErrOf result PayloadFault.Nul ↔ ((length text.now ≤ PAYLOAD_BYTES_MAX) × Contains text.now 0) }
+    ensures memory { ¬ IsErrOf result PayloadFault.Memory }
+{
+    if text.len() > PAYLOAD_BYTES_MAX {
+        return Err(PayloadFault::TooLong);
+    }
+    if has_nul(text.as_bytes()) {
+        return Err(PayloadFault::Nul);
+    }
+    Ok(())
 }
 
 impl Copied for Payload {

@@ -96,6 +96,49 @@ fn payloads_by_their_length_and_zero_bytes(rt: HostRuntime) -> Result<(), Fail> 
 }
 
 #[test]
+fn names_of_strings(rt: HostRuntime) -> Result<(), Fail> {
+    let alloc = rt.alloc();
+    for (times, want) in [
+        (0, Some(NameFault::Empty)),
+        (22, None),
+        (23, None),
+        (63, None),
+        (64, Some(NameFault::TooLong)),
+    ] {
+        let text = repeated(alloc, "a", times, "")?;
+        match Name::from_string(repeated(alloc, "a", times, "")?) {
+            Ok(name) => {
+                assert_eq!(rt; want, None, "at {times}");
+                assert_eq!(rt; name.as_bytes(), text.as_bytes());
+            }
+            Err(fault) => assert_eq!(rt; Some(fault), want, "at {times}"),
+        }
+    }
+    Ok(())
+}
+
+#[test]
+fn payloads_of_strings(rt: HostRuntime) -> Result<(), Fail> {
+    let alloc = rt.alloc();
+    for (times, end, want) in [
+        (22, "", None),
+        (7999, "", None),
+        (8000, "", Some(PayloadFault::TooLong)),
+        (7998, "\0", Some(PayloadFault::Nul)),
+    ] {
+        let text = repeated(alloc, "a", times, end)?;
+        match Payload::from_string(repeated(alloc, "a", times, end)?) {
+            Ok(payload) => {
+                assert_eq!(rt; want, None, "at {times}");
+                assert_eq!(rt; payload.as_bytes(), text.as_bytes());
+            }
+            Err(fault) => assert_eq!(rt; Some(fault), want, "at {times}"),
+        }
+    }
+    Ok(())
+}
+
+#[test]
 fn numbers_in_order(rt: HostRuntime) {
     assert_eq!(rt; SessionNo::new(256).get(), 256);
     assert_eq!(rt; DbOid::new(u32::MAX).get(), u32::MAX);

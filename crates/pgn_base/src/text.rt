@@ -1,4 +1,4 @@
-ghost use Rattle.std.specs.Prelude.{◌≡◌, ◌<◌, ◌↔◌, length, Contains, IfOk, IsTrue, OnErr};
+ghost use Rattle.std.specs.Prelude.{◌≡◌, ◌<◌, ◌↔◌, length, Contains, IfOk, IsTrue, OnErr, string_bytes};
 ghost use Rattle.pgn_base.specs.declared.text.TheConstants.{TEXT_BYTES_IN_PLACE};
 
 use crate::Copied;
@@ -47,6 +47,19 @@ impl Text {
             return Ok(Text { place });
         }
         let place = Place::Shared(ArcStr::from_str(alloc, text)?);
+        Ok(Text { place })
+    }
+
+    /// The text of this string. A text that does not stand in the value itself keeps the string's memory and is not copied.
+    pub fn from_string(text: String) -> Result<Text, AllocError>
+        ensures ok { IfOk result (λ kept. kept ≡ string_bytes text) }
+        ensures memory { OnErr result (TEXT_BYTES_IN_PLACE < length (string_bytes text)) }
+    {
+        if text.len() > TEXT_BYTES_IN_PLACE {
+            let place = Place::Shared(ArcStr::from_string(text)?);
+            return Ok(Text { place });
+        }
+        let place = Place::Here(InPlace::new(text.as_str().as_bytes()));
         Ok(Text { place })
     }
 

@@ -16,16 +16,25 @@ pub fn name_of(alloc: Global, ident: Ident<'_>) -> Result<Name, AllocError>
     match ident {
         Ident::Word(word) => {
             let folded = cut(word).to_ascii_lowercase(alloc)?;
-            make_name(alloc, folded.as_str())
+            keep_name(folded)
         }
         Ident::Quoted(inside) => match inside.plain() {
             Some(text) => make_name(alloc, cut(text)),
-            None => {
-                let text = unquoted(alloc, inside)?;
-                make_name(alloc, cut(text.as_str()))
-            }
+            None => cut_name(alloc, unquoted(alloc, inside)?),
         },
     }
+}
+
+// The name that a text is, which is cut if it is long.
+fn cut_name(alloc: Global, text: String) -> Result<Name, AllocError>
+    requires { IsName (grammar.cut NAME_BYTES_MAX (string_bytes text)) }
+    ensures { IfOk result (λ name. name ≡ grammar.cut NAME_BYTES_MAX (string_bytes text.entry)) }
+{
+    if text.len() <= NAME_BYTES_MAX {
+        return keep_name(text);
+    }
+    // A copy, so that the name does not keep the memory of the whole text.
+    make_name(alloc, cut(text.as_str()))
 }
 
 /// The name that the text of an argument is.
@@ -37,7 +46,7 @@ pub fn channel_of(alloc: Global, text: Text<'_>) -> Result<Name, AllocError>
         Some(text) => make_name(alloc, text),
         None => {
             let text = built(alloc, text)?;
-            make_name(alloc, text.as_str())
+            keep_name(text)
         }
     }
 }
@@ -51,7 +60,7 @@ pub fn payload_of(alloc: Global, text: Text<'_>) -> Result<Payload, AllocError>
         Some(text) => make_payload(alloc, text),
         None => {
             let text = built(alloc, text)?;
-            make_payload(alloc, text.as_str())
+            keep_payload(text)
         }
     }
 }
@@ -106,6 +115,30 @@ fn make_name(alloc: Global, text: &str) -> Result<Name, AllocError>
     match Name::new(alloc, text) {
         Ok(name) => Ok(name),
         Err(NameFault::Memory) => Err(AllocError),
+        Err(_) => unreachable!(),
+    }
+}
+
+// The name of a string that was built for it.
+fn keep_name(text: String) -> Result<Name, AllocError>
+    requires { IsName (string_bytes text) }
+    ensures { IfOk result (λ name. name ≡ string_bytes text.entry) }
+{
+    match Name::from_string(text) {
+        Ok(name) => Ok(name),
+        Err(NameFault::Memory) => Err(AllocError),
+        Err(_) => unreachable!(),
+    }
+}
+
+// The payload of a string that was built for it.
+fn keep_payload(text: String) -> Result<Payload, AllocError>
+    requires { IsPayload (string_bytes text) }
+    ensures { IfOk result (λ payload. payload ≡ string_bytes text.entry) }
+{
+    match Payload::from_string(text) {
+        Ok(payload) => Ok(payload),
+        Err(PayloadFault::Memory) => Err(AllocError),
         Err(_) => unreachable!(),
     }
 }

@@ -1,5 +1,5 @@
-mod CallLaws
-mod FloorLaws
+pub mod CallLaws
+pub mod FloorLaws
 mod SeatLaws
 mod WithinLaws
 mod GatheredLaws

@@ -432,7 +432,7 @@ leave-finishes true = refl
 leave-finishes false = refl
 
 -- items that show nothing as finished
-finished-more : (items more : List Item) → finished_xids more ≡ [] → finished_xids (items ++ more) ≡ finished_xids items
+pub finished-more : (items more : List Item) → finished_xids more ≡ [] → finished_xids (items ++ more) ≡ finished_xids items
 finished-more items more e = filter_map-append finished_xid items more ∙ ap (λ (xs : List ℕ). finished_xids items ++ xs) e ∙ append-nil (finished_xids items)
 
 pub commit-finishes : CommitFinishes
