@@ -1,5 +1,5 @@
 -- What contracts see of a listening set, and what holds of its parts.
-use Rattle.std.specs.Prelude.{◌≡◌, ℕ, ◌+◌, ◌≤◌, Bool, List, bytes_eq, length}
+use Rattle.std.specs.Prelude.{◌≡◌, ℕ, ◌+◌, ◌≤◌, List, bytes_eq, length}
 use Rattle.std.specs.List.{list_any}
 use Rattle.pgn_base.specs.Names.{has_name}
 

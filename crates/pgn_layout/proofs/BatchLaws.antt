@@ -6,11 +6,11 @@ use Rattle.pgn_base.specs.declared.format.Format.{Format}
 use Rattle.pgn_base.specs.declared.note.Note.{Note}
 use Rattle.pgn_model.specs.Bytes.{filler, IsEntryLength}
 use Rattle.pgn_model.specs.Packing.{Sender, next_page, bytes_left, filled_cells, filler_cells, notes_cells, put_all, HasRoom}
-use Rattle.pgn_model.proofs.PackingLemmas.{least_within, room_next, room_put_all, length-filler_cells, pages_hold}
+use Rattle.pgn_model.proofs.PackingLemmas.{least_within, room_next, room_put_all, length-filler_cells, pages_hold, put_all_rises}
 use Rattle.pgn_layout.specs.declared.batch.Batch.{Batch}
 use Rattle.pgn_layout.specs.Batches.{IsWhole, IsFilled, IsPlanned, Whole, Filled, empty_cells, padded_to, entries_of, batch_cells}
 use Rattle.pgn_layout.specs.Laws.{RunsAreCells, BatchesStay, FillersTakeRests}
-use Rattle.pgn_layout.proofs.RunLaws.{runs_cells, runs_within, runs_tight, run_ends, runs-take, put_all_rises}
+use Rattle.pgn_layout.proofs.RunLaws.{runs_cells, runs_within, runs_tight, run_ends, runs-take}
 
 pub runs_are_cells : RunsAreCells
 runs_are_cells = record { cells = runs_cells; within = runs_within; tight = runs_tight; ends = run_ends; firsts = runs-take }

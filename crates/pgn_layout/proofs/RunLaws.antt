@@ -8,7 +8,7 @@ use Rattle.pgn_base.specs.Notes.{IsNote}
 use Rattle.pgn_model.specs.Bytes.{entry_length, spelled}
 use Rattle.pgn_model.specs.Packing.{Sender, cells_in, fits, has_room, next_page, cells_left, page_rest, entry_cells, filler_cells, note_cells, notes_cells, after_rest, after_bytes, put_bytes, put, put_all, HasRoom}
 use Rattle.pgn_model.proofs.BytesLemmas.{length-spelled}
-use Rattle.pgn_model.proofs.PackingLemmas.{length-filled_cells, least_within, room_next, room_put, packed_note, packed_notes, note_moves, put_rises}
+use Rattle.pgn_model.proofs.PackingLemmas.{length-filled_cells, least_within, room_next, room_put, packed_note, packed_notes, note_moves, put_rises, put_all_rises}
 use Rattle.pgn_layout.specs.Batches.{FitsBefore, Runs, empty_cells, entry_of, entries_of}
 
 -- how many cells an entry has
@@ -82,11 +82,6 @@ unfolding notes_cells
 runs_cells format sender at [] room runs = let none : at - (at + 0) ≡ 0 = omega arith in ap empty_cells (sym none)
 runs_cells format sender at (note ∷ notes) room runs =
     run_cons format sender at note notes room runs.0 (runs_cells format sender (put format at note) notes (room_put format at note room) runs.1)
-
--- notifications end no earlier than they begin
-pub put_all_rises : (format : Format) (at : ℕ) (notes : List Note) → at ≤ put_all format at notes
-put_all_rises format at [] = omega arith
-put_all_rises format at (note ∷ notes) = omega (arith, put_rises format at note, put_all_rises format (put format at note) notes)
 
 run_within_cons : (format : Format) (at : ℕ) (note : Note) (notes : List Note) → FitsBefore format at note notes
     → put_all format (put format at note) notes ≤ next_page (put format at note) → put_all format (put format at note) notes ≤ next_page at

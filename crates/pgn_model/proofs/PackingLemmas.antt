@@ -50,7 +50,7 @@ whole_cells One len h = omega (arith, h)
 whole_cells Two len h = omega (arith, h)
 
 -- an entry's length is a multiple of the alignment, and takes some cells
-entry_whole : (format : Format) (note : Note) → (entry_length format note % alignment format ≡ 0) × (4 ≤ entry_length format note)
+pub entry_whole : (format : Format) (note : Note) → (entry_length format note % alignment format ≡ 0) × (4 ≤ entry_length format note)
 unfolding entry_length
 entry_whole One note = (omega arith, omega arith)
 entry_whole Two note = (omega arith, omega arith)
@@ -314,7 +314,7 @@ pub place_folds : PlaceFolds
 unfolding place image
 place_folds format journal x = sym (zero-add (length (image format (take (x - 3) journal)))) ∙ folds format 3 0 (take (x - 3) journal) (room_start format)
 
-after_bytes_bounds : (format : Format) (at bytes : ℕ) → 20 ≤ bytes → bytes ≤ bytes_left at → (at < after_bytes format at bytes) × (after_bytes format at bytes ≤ next_page at)
+pub after_bytes_bounds : (format : Format) (at bytes : ℕ) → 20 ≤ bytes → bytes ≤ bytes_left at → (at < after_bytes format at bytes) × (after_bytes format at bytes ≤ next_page at)
 unfolding after_bytes after_rest
 after_bytes_bounds format at bytes some fits = let least = least_within format in grind (arith, common_steps)
 
@@ -365,7 +365,7 @@ pub put_rises : (format : Format) (at : ℕ) (note : Note) → at < put format a
 unfolding put put_bytes after_bytes after_rest
 put_rises format at note = let some = (entry_whole format note).1 in grind (arith, common_steps)
 
-put_all_rises : (format : Format) (at : ℕ) (notes : List Note) → at ≤ put_all format at notes
+pub put_all_rises : (format : Format) (at : ℕ) (notes : List Note) → at ≤ put_all format at notes
 put_all_rises format at [] = omega arith
 put_all_rises format at (note ∷ notes) = omega (arith, put_rises format at note, put_all_rises format (put format at note) notes)
 

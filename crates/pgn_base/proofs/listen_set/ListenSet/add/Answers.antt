@@ -1,5 +1,4 @@
-use Rattle.std.proofs.Common.{◌≡◌, ◌+◌, ◌≤◌, ◌∙◌, ap, sym, cond, true, Bool, List, ℕ, [], ◌∷◌, ◌++◌, bytes_eq, arith, length, length-append, rules}
-use Rattle.std.specs.HashSet.{spare, Updates}
+use Rattle.std.proofs.Common.{◌≡◌, ◌+◌, ◌∙◌, ap, sym, cond, true, Bool, List, ℕ, [], ◌∷◌, ◌++◌, bytes_eq, arith, length, length-append}
 use Rattle.pgn_base.specs.Names.{has_name}
 use Rattle.pgn_base.proofs.ListeningLaws.{has-one-more}
 use Rattle.pgn_base.proofs.listen_set.ListenSet.add.Goals as goal

@@ -1,5 +1,5 @@
-use Rattle.std.proofs.Common.{◌∙◌, ◌++◌, ◌∷◌, [], length, ap, sym, arith, length-append, List, ℕ}
-use Rattle.pgn_base.specs.Channels.{applied, after_action}
+use Rattle.std.proofs.Common.{◌∙◌, ◌∷◌, [], ap, sym, arith, length-append, List, ℕ}
+use Rattle.pgn_base.specs.Channels.{after_action}
 use Rattle.pgn_base.proofs.ListeningLaws.{applied-push}
 use Rattle.pgn_base.proofs.listen_set.ListenSet.apply.Goals as goal
 

@@ -1,5 +1,5 @@
-use Rattle.std.proofs.Common.{◌≡◌, ◌+◌, ◌≤◌, [], ◌++◌, length}
-use Rattle.pgn_base.specs.Channels.{applied, after_action}
+use Rattle.std.proofs.Common.{◌≡◌, ◌+◌, ◌≤◌, length}
+use Rattle.pgn_base.specs.Channels.{applied}
 use Rattle.pgn_base.proofs.listen_set.ListenSet.apply.Given as goal
 
 abbrev pub invariant-loop-action : goal.invariant-loop-action
