@@ -1,11 +1,12 @@
 -- Cut names.
-use Rattle.std.proofs.Common.{◌≡◌, ℕ, zero, suc, ◌+◌, ◌*◌, ◌<◌, ◌≤◌, inl, inr, List, [], ◌∷◌, map, length, take, drop, ap, ◌∙◌, refl, subst, arith, IsUtf8, IsCharBoundary, length-take, length-append}
+use Rattle.std.proofs.Common.{◌≡◌, ℕ, zero, suc, ◌+◌, ◌*◌, ◌<◌, ◌≤◌, inl, inr, List, [], ◌∷◌, map, length, take, drop, sym, ap, ◌∙◌, refl, subst, arith, IsUtf8, IsCharBoundary, length-take, length-append}
 use Rattle.std.specs.Char.{to_ascii_lowercase}
 use Rattle.std.specs.List.{repeat}
 use Rattle.std.specs.Str.{str_to_ascii_lowercase}
 use Rattle.std.proofs.lemmas.Bool.{cases_lt, cases_Bool}
 use Rattle.std.proofs.lemmas.Bool.Decides.{nat_tests}
 use Rattle.std.proofs.lemmas.Str.{IsUtf8-take, IsCharBoundary-from_take}
+use Rattle.std.proofs.Math.Seq.{take-length}
 use Rattle.std.proofs.lemmas.List.{take-map}
 use Rattle.pgn_model.specs.Grammar.{begins_character, cut}
 use Rattle.pgn_model.specs.laws.Tokens.{IsLongestPrefix}
@@ -24,6 +25,16 @@ cut-at n k text u l b last =
       | inr m ↦ omega arith
     ] in
     longest.prefix ∙ ap (λ (i : ℕ). take i text) same
+
+-- a short text is not cut
+pub cut-short : (n : ℕ) (text : List ℕ) → IsUtf8 text → length text ≤ n → cut n text ≡ text
+cut-short n text u short =
+    let longest : IsLongestPrefix n text (cut n text) = cut-longest n text u in
+    let whole : IsUtf8 (take (length text) text) = subst (λ (x : List ℕ). IsUtf8 x) (sym (take-length text)) u in
+    let low : length text ≤ length (cut n text) = longest.longest (length text) short (omega arith) whole in
+    let within : length (cut n text) ≤ length text = omega (arith, ap length longest.prefix, length-take (length (cut n text)) text) in
+    let same : length (cut n text) ≡ length text = omega arith in
+    longest.prefix ∙ ap (λ (i : ℕ). take i text) same ∙ take-length text
 
 lower_begins : (b : ℕ) (bytes : List ℕ) → begins_character (to_ascii_lowercase b ∷ bytes) ≡ begins_character (b ∷ bytes)
 lower_begins b bytes = grind (arith, nat_tests)

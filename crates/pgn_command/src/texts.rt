@@ -28,7 +28,7 @@ pub fn name_of(alloc: Global, ident: Ident<'_>) -> Result<Name, AllocError>
 // The name that a text is, which is cut if it is long.
 fn cut_name(alloc: Global, text: String) -> Result<Name, AllocError>
     requires { IsName (grammar.cut NAME_BYTES_MAX (string_bytes text)) }
-    ensures { IfOk result (λ name. name ≡ grammar.cut NAME_BYTES_MAX (string_bytes text.entry)) }
+    ensures { IfOk result (λ name. name ≡ grammar.cut NAME_BYTES_MAX (string_bytes text)) }
 {
     if text.len() <= NAME_BYTES_MAX {
         return keep_name(text);
@@ -122,7 +122,7 @@ fn make_name(alloc: Global, text: &str) -> Result<Name, AllocError>
 // The name of a string that was built for it.
 fn keep_name(text: String) -> Result<Name, AllocError>
     requires { IsName (string_bytes text) }
-    ensures { IfOk result (λ name. name ≡ string_bytes text.entry) }
+    ensures { IfOk result (λ name. name ≡ string_bytes text) }
 {
     match Name::from_string(text) {
         Ok(name) => Ok(name),
@@ -134,7 +134,7 @@ fn keep_name(text: String) -> Result<Name, AllocError>
 // The payload of a string that was built for it.
 fn keep_payload(text: String) -> Result<Payload, AllocError>
     requires { IsPayload (string_bytes text) }
-    ensures { IfOk result (λ payload. payload ≡ string_bytes text.entry) }
+    ensures { IfOk result (λ payload. payload ≡ string_bytes text) }
 {
     match Payload::from_string(text) {
         Ok(payload) => Ok(payload),

@@ -1,0 +1,15 @@
+use Rattle.std.proofs.Common.{◌≡◌, ℕ, ◌≤◌, List, sym, subst, length, arith, IfOk, string_bytes}
+use Rattle.std.proofs.lemmas.Str.{IsUtf8-string_bytes}
+use Rattle.pgn_base.specs.Texts.{IsName}
+use Rattle.pgn_command.proofs.CutLaws.{cut-short}
+use Rattle.pgn_command.proofs.texts.cut_name.Goals as goal
+
+pub keep_name-requires : goal.keep_name-requires
+keep_name-requires c =
+    let short : length (string_bytes c.args.text) ≤ 63 = omega (arith, c.len.ensures, c.if-len-le-NAME_BYTES_MAX.true) in
+    subst (λ (l : List ℕ). IsName l) (cut-short 63 (string_bytes c.args.text) (IsUtf8-string_bytes c.args.text) short) c.requires
+
+pub returns-then-len-le-NAME_BYTES_MAX : goal.returns-then-len-le-NAME_BYTES_MAX
+returns-then-len-le-NAME_BYTES_MAX c =
+    let short : length (string_bytes c.args.text) ≤ 63 = omega (arith, c.len.ensures, c.if-len-le-NAME_BYTES_MAX.true) in
+    subst (λ (l : List ℕ). IfOk c.keep_name.result (λ name. name ≡ l)) (sym (cut-short 63 (string_bytes c.args.text) (IsUtf8-string_bytes c.args.text) short)) c.keep_name.ensures
