@@ -21,8 +21,8 @@ use Rattle.pgn_words.specs.Views.{holds_lock, knows_stop, knows_cells, stored_by
 use Rattle.pgn_words.specs.Rule.{World, KnowsStop, HoldsIn, Holds, IsWriting, Law, Lawful, Keeps}
 use Rattle.pgn_words.specs.Told.{TellsCellStore, TellsCell, TellsHeadStore, MayShow, cell_stored, head_stored}
 use Rattle.pgn_words.proofs.EachLaws.{each_turn, each_keep}
-use Rattle.pgn_words.proofs.Frames.{seats_keep, locking_keep, history_keep, numbers_keep, budget_keep}
-use Rattle.pgn_words.proofs.LockKept.{alone, others_hold}
+use Rattle.pgn_words.proofs.Frames.{seats_keep, locking_keep, history_keep, numbers_keep, budget_keep, statuses_keep}
+use Rattle.pgn_words.proofs.LockKept.{held_setup, alone, others_hold}
 use Rattle.pgn_words.proofs.HeadKept.{phase_holds}
 use Rattle.pgn_words.proofs.RowLaws.{set_cell, get_cell}
 use Rattle.pgn_words.proofs.RingLaws.{keeps_below, keeps_more, keeps_padded, length-padded, small_set}
@@ -81,6 +81,7 @@ stores z c g views id v at x h here opened next page low =
             (λ j u other there p. others_hold z c.stop g.past g.shown (set c.cells (at % room_of z) x) j u (gone j u other there));
         stops = each_keep (KnowsStop c.stop) views id v w here h.holding.stops (λ p. p);
       };
+      statuses = statuses_keep views id v w here c.lock g.past c.statuses h.statuses refl refl;
       budget = budget_keep views id v w here z g.made g.past h.budget (omega arith);
     }
   where
@@ -123,12 +124,21 @@ stop_too Open e = refl
 stop_too Finished e = absurd (cc)
 stop_too Signalling e = absurd (cc)
 
+lock_too : (p : Phase) → knows_cells p ≡ true → holds_lock p ≡ true
+lock_too Free e = absurd (cc)
+lock_too Held e = refl
+lock_too Headed e = refl
+lock_too Ready e = refl
+lock_too Open e = refl
+lock_too Finished e = refl
+lock_too Signalling e = refl
+
 pub load_cell_allowed : (z : Shape) (slots id word at : ℕ) (me : Me ℕ View) → word ≡ cells_at z + at % room_of z → knows_cells me.0.phase ≡ true
     → Allows (Lawful z) slots id me word (λ n. n) (TellsCell (step slots word 0 0 none) me)
 load_cell_allowed z slots id word at me there cells =
     allowed z slots id word me (λ n. n) (TellsCell (step slots word 0 0 none) me) (λ shape c g views h here.
     let found : get_or (row c) word 0 ≡ get_or c.cells (at % room_of z) 0 = ap (λ n. get_or (row c) n 0) there ∙ get_cell z c (at % room_of z) h.laid in
-    let setup : me.0.setup ≡ z = h.seats.same id me.0 here in
+    let setup : me.0.setup ≡ z = held_setup z c g views id me.0 h here (lock_too me.0.phase cells) in
     let stop : me.0.stop ≡ c.stop = h.holding.stops id me.0 here (stop_too me.0.phase cells) in
     let kept = knows me.0.phase z c.stop g.past g.shown me.0.known.seen c.cells me.0.known.session me.0.pen cells (h.holding.holds id me.0 here) h.stored.kept in record {
       w = me.0;
@@ -155,7 +165,7 @@ shows z c g views id v to h here opened may =
     let held : holds_lock v.phase ≡ true = ap holds_lock opened in
     let was : IsWriting z.format (λ log. Keeps (room_of z) (page_start c.stop) log c.cells) g.past g.shown v.known.seen v.pen = phase_holds Open z c.stop g.past g.shown c.cells id v opened (h.holding.holds id v here) in
     let stop : v.stop ≡ c.stop = h.holding.stops id v here (ap knows_stop opened) in
-    let setup : v.setup ≡ z = h.seats.same id v here in
+    let setup : v.setup ≡ z = held_setup z c g views id v h here held in
     let now : List Tx = g.past ++ draft v.known.session v.known.db v.pen.notes may.queued may.fate ∷ [] in
     let locked = h.locking.locks id v here held in
     let image_is : image z.format now ≡ padded_to to (stored_by v) = ap (λ txs. image z.format (txs ++ draft v.known.session v.known.db v.pen.notes may.queued may.fate ∷ [])) (sym was.seen_is)
@@ -195,6 +205,7 @@ shows z c g views id v to h here opened may =
             (λ j u other there p. others_hold z c.stop g.past now c.cells j u (gone j u other there));
         stops = each_keep (KnowsStop c.stop) views id v w here h.holding.stops (λ p. p);
       };
+      statuses = statuses_keep views id v w here c.lock g.past c.statuses h.statuses refl refl;
       budget = budget_keep views id v w here z g.made g.past h.budget (omega arith);
     }
 

@@ -9,8 +9,8 @@ use Rattle.pgn_model.specs.Begins.{Begins}
 use Rattle.pgn_model.specs.Journal.{xids_of}
 use Rattle.pgn_model.specs.Shape.{Shape}
 use Rattle.pgn_words.specs.declared.view.View.{View}
-use Rattle.pgn_words.specs.Views.{holds_lock, knows_stop, drawn_by, spent_by}
-use Rattle.pgn_words.specs.Rule.{Seated, Makes, Seats, Locks, Locking, History, Draws, Numbers, Budget}
+use Rattle.pgn_words.specs.Views.{holds_lock, knows_stop, drawn_by, spent_by, fated}
+use Rattle.pgn_words.specs.Rule.{Seated, Makes, Seats, Locks, Locking, History, Draws, Numbers, Budget, Fates, Statuses}
 use Rattle.pgn_words.proofs.EachLaws.{each_keep, changed_at, sum_set}
 
 module _ (views : List View) (id : ℕ) (v w : View) (here : get_elem? views id ≡ some v) where
@@ -18,11 +18,11 @@ module _ (views : List View) (id : ℕ) (v w : View) (here : get_elem? views id 
       → Seats z made seat (set views id w)
   seats_keep z made seat h session db setup makes = record {
     few = h.few;
-    same = each_keep (λ _ u. u.setup ≡ z) views id v w here h.same (λ p. setup ∙ p);
     seated = each_keep (Seated z made seat) views id v w here h.seated (λ p some. let s = p (subst (λ (n : ℕ). 0 < n) session some) in record {
       sits = ap seat session ∙ s.sits;
       was_made = subst (λ (n : ℕ). n ≤ made) (sym session) s.was_made;
       db_is = db ∙ s.db_is ∙ ap (λ n. (Rattle.pgn_words.specs.Views.seat_of z n).db) (sym session);
+      setup_is = setup ∙ s.setup_is;
     });
     makes = each_keep (Makes made) views id v w here h.makes (λ p some. let s = p (subst (λ (n : ℕ). 0 < n) makes some) in (session ∙ s.0, makes ∙ s.1));
   }
@@ -61,3 +61,12 @@ module _ (views : List View) (id : ℕ) (v w : View) (here : get_elem? views id 
 
   pub budget_keep : (z : Shape) (made : ℕ) (past : List Tx) → Budget z made past views → spent_by w ≤ spent_by v → Budget z made past (set views id w)
   budget_keep z made past h less = let all = sum_set spent_by views id v w here in omega (arith, h, all, less)
+
+  pub statuses_keep : (lock : ℕ) (past : List Tx) (ss : List ℕ) → Statuses lock past ss views → holds_lock w.phase ≡ holds_lock v.phase → fated w.phase w.pen.ending.fate ≡ fated v.phase v.pen.ending.fate
+      → Statuses lock past ss (set views id w)
+  statuses_keep lock past ss h holds fates = record {
+    below = h.below;
+    above = h.above;
+    free = h.free;
+    fates = each_keep (Fates past ss) views id v w here h.fates (λ p held. p (sym holds ∙ held) ∙ sym fates);
+  }

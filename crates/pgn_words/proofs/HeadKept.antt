@@ -10,11 +10,12 @@ use Rattle.pgn_words.specs.declared.view.View.{View}
 use Rattle.pgn_words.specs.declared.view.Phase.{Phase}
 use Rattle.pgn_words.specs.declared.view.Phase.TheVariants.{Held, Headed}
 use Rattle.pgn_words.specs.Words.{Content, room_of}
-use Rattle.pgn_words.specs.Views.{holds_lock, stored_by}
+use Rattle.pgn_words.specs.Views.{holds_lock, stored_by, fated}
 use Rattle.pgn_words.specs.Rule.{World, KnowsStop, HoldsIn, Holds, IsHeaded, IsIdle, Law, Lawful, Keeps}
 use Rattle.pgn_words.specs.Told.{TellsHead, TellsStop, head_known, stop_known}
 use Rattle.pgn_words.proofs.EachLaws.{each_turn}
-use Rattle.pgn_words.proofs.Frames.{seats_keep, locking_keep, history_keep, numbers_keep, budget_keep}
+use Rattle.pgn_words.proofs.Frames.{seats_keep, locking_keep, history_keep, numbers_keep, budget_keep, statuses_keep}
+use Rattle.pgn_words.proofs.LockKept.{held_setup}
 use Rattle.pgn_words.proofs.Meets.{allowed}
 
 -- what holds of a pass in a phase, where it is in it
@@ -35,9 +36,10 @@ heads z c g views id v h here held =
       numbers = numbers_keep views id v w here c.lock c.fin c.xid h.numbers holds (sym (ap Rattle.pgn_words.specs.Views.drawn_by held));
       holding = record {
         holds = each_turn (Holds z c.stop g.past g.shown c.cells) (Holds z c.stop g.past g.shown c.cells) views id w h.holding.holds
-            (record { idle = idle; cells_are = ap (λ (x : Shape). image x.format v.known.seen) (h.seats.same id v here) ∙ ap (image z.format) idle.seen_is; batch_is = refl }) (λ j u other there p. p);
+            (record { idle = idle; cells_are = ap (λ (x : Shape). image x.format v.known.seen) (held_setup z c g views id v h here (ap holds_lock held)) ∙ ap (image z.format) idle.seen_is; batch_is = refl }) (λ j u other there p. p);
         stops = each_turn (KnowsStop c.stop) (KnowsStop c.stop) views id w h.holding.stops (λ knows. absurd (cc)) (λ j u other there p. p);
       };
+      statuses = statuses_keep views id v w here c.lock g.past c.statuses h.statuses holds (sym (ap (λ p. fated p v.pen.ending.fate) held));
       budget = budget_keep views id v w here z g.made g.past h.budget (omega arith);
     }
 
@@ -53,7 +55,7 @@ load_head_allowed z slots id me held =
       told = record {
         slots = refl;
         view = refl;
-        head = h.stored.headed ∙ ap (λ txs. length (image z.format txs)) (idle.shown_is ∙ sym idle.seen_is) ∙ ap (λ (x : Shape). length (image x.format me.0.known.seen)) (sym (h.seats.same id me.0 here));
+        head = h.stored.headed ∙ ap (λ txs. length (image z.format txs)) (idle.shown_is ∙ sym idle.seen_is) ∙ ap (λ (x : Shape). length (image x.format me.0.known.seen)) (sym (held_setup z c g views id me.0 h here (ap holds_lock held)));
       };
     })
 
@@ -72,6 +74,7 @@ readies z c g views id v h here headed =
         holds = each_turn (Holds z c.stop g.past g.shown c.cells) (Holds z c.stop g.past g.shown c.cells) views id w h.holding.holds was (λ j u other there p. p);
         stops = each_turn (KnowsStop c.stop) (KnowsStop c.stop) views id w h.holding.stops (λ knows. refl) (λ j u other there p. p);
       };
+      statuses = statuses_keep views id v w here c.lock g.past c.statuses h.statuses holds (sym (ap (λ p. fated p v.pen.ending.fate) headed));
       budget = budget_keep views id v w here z g.made g.past h.budget (omega arith);
     }
 
@@ -88,6 +91,6 @@ load_stop_allowed z slots id me headed =
       told = record {
         slots = refl;
         view = refl;
-        ahead = subst (λ (x : Shape). length (image x.format me.0.known.seen) ≤ page_start (c.stop + x.pages)) (sym (h.seats.same id me.0 here)) (let ahead = h.stored.ahead in subst (λ (n : ℕ). n ≤ page_start (c.stop + z.pages)) there ahead);
+        ahead = subst (λ (x : Shape). length (image x.format me.0.known.seen) ≤ page_start (c.stop + x.pages)) (sym (held_setup z c g views id me.0 h here (ap holds_lock headed))) (let ahead = h.stored.ahead in subst (λ (n : ℕ). n ≤ page_start (c.stop + z.pages)) there ahead);
       };
     })

@@ -10,3 +10,6 @@ pub mod CellKept
 pub mod PassKept
 pub mod OpeningLaws
 pub mod OpenedLaws
+pub mod StatusKept
+pub mod NoteKept
+pub mod EndingLaws

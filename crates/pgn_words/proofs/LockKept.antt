@@ -9,6 +9,7 @@ use Rattle.atomic_table.proofs.Lists.{exchanged, set_again}
 use prog.Atomic.{either}
 use Rattle.pgn_base.specs.declared.note.Note.{Note}
 use Rattle.pgn_model.specs.declared.tx.Tx.{Tx}
+use Rattle.pgn_model.specs.declared.tx.Fate.{Fate}
 use Rattle.pgn_model.specs.Begins.{Begins}
 use Rattle.pgn_model.proofs.BeginsLaws.{begins-rest, begins-itself}
 use Rattle.pgn_model.specs.Journal.{xids_of, IsFinished}
@@ -17,8 +18,8 @@ use Rattle.pgn_words.specs.declared.view.View.{View}
 use Rattle.pgn_words.specs.declared.view.Phase.{Phase}
 use Rattle.pgn_words.specs.declared.view.Phase.TheVariants.{Free, Held, Headed, Ready, Open, Finished, Signalling}
 use Rattle.pgn_words.specs.Words.{Content, room_of, seats_of}
-use Rattle.pgn_words.specs.Views.{holds_lock, is_idle, knows_stop, drawn_by, spent_by}
-use Rattle.pgn_words.specs.Rule.{World, Locks, Locking, Draws, KnowsStop, HoldsIn, Holds, Law, Lawful, Keeps, Budget, notes_of}
+use Rattle.pgn_words.specs.Views.{holds_lock, knows_stop, drawn_by, spent_by, fated, may_drop}
+use Rattle.pgn_words.specs.Rule.{World, Locks, Locking, Draws, KnowsStop, HoldsIn, Holds, Law, Lawful, Keeps, Budget, notes_of, Fates}
 use Rattle.pgn_words.specs.Told.{HasLocked, IsLocked, TellsLock, TellsDrop, freed}
 use Rattle.pgn_words.proofs.EachLaws.{each_turn, each_keep, changed_at}
 use Rattle.pgn_words.proofs.Frames.{seats_keep, budget_keep}
@@ -62,6 +63,23 @@ others_stop stop j u nothing knows = absurd (nothing (knowing u.phase knows))
 pub some_of : (notes : List Note) → notes ≢ [] → 1 ≤ length notes
 some_of [] filled = absurd (filled refl)
 some_of (x ∷ xs) filled = omega arith
+
+-- a pass that has drawn no number has set no status
+not_ended : (p : Phase) (fate : Fate) → drawn_by p ≡ 0 → fated p fate ≡ 0
+not_ended Free fate e = refl
+not_ended Held fate e = refl
+not_ended Headed fate e = refl
+not_ended Ready fate e = refl
+not_ended Open fate e = absurd (omega (arith, e))
+not_ended Finished fate e = absurd (omega (arith, e))
+not_ended Signalling fate e = refl
+
+-- what the pass of a session has the queue opened for
+pub setup_of : (z : Shape) (c : Content) (g : World) (views : List View) (id : ℕ) (v : View) → Law z c g views → get_elem? views id ≡ some v → 0 < v.known.session → v.setup ≡ z
+setup_of z c g views id v h here positive = (h.seats.seated id v here positive).setup_is
+
+pub held_setup : (z : Shape) (c : Content) (g : World) (views : List View) (id : ℕ) (v : View) → Law z c g views → get_elem? views id ≡ some v → holds_lock v.phase ≡ true → v.setup ≡ z
+held_setup z c g views id v h here held = setup_of z c g views id v h here (h.locking.locks id v here held).2
 
 -- a transaction has a notification
 some_notes : (tx : Tx) → IsFinished tx → 1 ≤ length tx.notes
@@ -118,6 +136,12 @@ takes z c g views id v h here free positive nothing =
         holds = each_turn (Holds z c.stop g.past g.shown c.cells) (Holds z c.stop g.past g.shown c.cells) views id w h.holding.holds (record { seen_is = refl; shown_is = h.history.free nothing }) (λ j u other there p. p);
         stops = each_turn (KnowsStop c.stop) (KnowsStop c.stop) views id w h.holding.stops (λ knows. absurd (cc)) (λ j u other there p. p);
       };
+      statuses = record {
+        below = h.statuses.below;
+        above = h.statuses.above;
+        free = λ nobody. absurd (omega (arith, nobody, positive));
+        fates = each_turn (Fates g.past c.statuses) (Fates g.past c.statuses) views id w h.statuses.fates (λ held. h.statuses.free nothing) (λ j u other there p. p);
+      };
       budget = budget_keep views id v w here z g.made g.past h.budget (omega arith);
     }
 
@@ -151,11 +175,17 @@ drops z c g views id v h here held nothing even =
         holds = each_turn (Holds z c.stop g.past g.shown c.cells) (Holds z c.stop g.past g.shown c.cells) views id w h.holding.holds tt (λ j u other there p. p);
         stops = each_turn (KnowsStop c.stop) (KnowsStop c.stop) views id w h.holding.stops (λ knows. absurd (cc)) (λ j u other there p. p);
       };
+      statuses = record {
+        below = h.statuses.below;
+        above = h.statuses.above;
+        free = λ _. h.statuses.fates id v here held ∙ not_ended v.phase v.pen.ending.fate nothing;
+        fates = each_turn (Fates g.past c.statuses) (Fates g.past c.statuses) views id w h.statuses.fates (λ held. absurd (cc)) (λ j u other there p. p);
+      };
       budget = budget_keep views id v w here z g.made g.past h.budget (omega arith);
     }
 
 -- while the holder has drawn no number, the head shows the journal
-pub idle_shows : (phase : Phase) (z : Shape) (stop : ℕ) (past shown seen : List Tx) (cells : List ℕ) (session : ℕ) (pen : Rattle.pgn_words.specs.declared.view.Pen.Pen) → is_idle phase ≡ true
+pub idle_shows : (phase : Phase) (z : Shape) (stop : ℕ) (past shown seen : List Tx) (cells : List ℕ) (session : ℕ) (pen : Rattle.pgn_words.specs.declared.view.Pen.Pen) → may_drop phase ≡ true
     → HoldsIn phase z.format (λ log. Keeps (room_of z) (Rattle.pgn_model.specs.Packing.page_start stop) log cells) past shown seen session pen → shown ≡ past
 idle_shows Free z stop past shown seen cells session pen e h = absurd (cc)
 idle_shows Held z stop past shown seen cells session pen e h = h.shown_is
@@ -163,18 +193,18 @@ idle_shows Headed z stop past shown seen cells session pen e h = h.idle.shown_is
 idle_shows Ready z stop past shown seen cells session pen e h = h.idle.shown_is
 idle_shows Open z stop past shown seen cells session pen e h = absurd (cc)
 idle_shows Finished z stop past shown seen cells session pen e h = absurd (cc)
-idle_shows Signalling z stop past shown seen cells session pen e h = absurd (cc)
+idle_shows Signalling z stop past shown seen cells session pen e h = h.shown_is
 
-idle_holds : (phase : Phase) → is_idle phase ≡ true → (holds_lock phase ≡ true) × (drawn_by phase ≡ 0)
+idle_holds : (phase : Phase) → may_drop phase ≡ true → (holds_lock phase ≡ true) × (drawn_by phase ≡ 0)
 idle_holds Free e = absurd (cc)
 idle_holds Held e = (refl, refl)
 idle_holds Headed e = (refl, refl)
 idle_holds Ready e = (refl, refl)
 idle_holds Open e = absurd (cc)
 idle_holds Finished e = absurd (cc)
-idle_holds Signalling e = absurd (cc)
+idle_holds Signalling e = (refl, refl)
 
-pub drop_lock_allowed : (z : Shape) (slots id : ℕ) (me : Me ℕ View) → is_idle me.0.phase ≡ true → Allows (Lawful z) slots id me 0 (λ _. 0) (λ _. TellsDrop (step slots 0 0 0 none) me 0)
+pub drop_lock_allowed : (z : Shape) (slots id : ℕ) (me : Me ℕ View) → may_drop me.0.phase ≡ true → Allows (Lawful z) slots id me 0 (λ _. 0) (λ _. TellsDrop (step slots 0 0 0 none) me 0)
 drop_lock_allowed z slots id me idle =
     allowed z slots id 0 me (λ _. 0) (λ _. TellsDrop (step slots 0 0 0 none) me 0) (λ shape c g views h here.
     let phase = idle_holds me.0.phase idle in
@@ -191,14 +221,14 @@ drop_lock_allowed z slots id me idle =
 learns : (past seen : List Tx) → Begins seen past → past ≡ seen ++ drop (length seen) past
 learns past seen b = begins-rest seen past b
 
-taken_told : (z : Shape) (c : Content) (g : World) (views : List View) (id : ℕ) (v : View) → Law z c g views → get_elem? views id ≡ some v
+taken_told : (z : Shape) (c : Content) (g : World) (views : List View) (id : ℕ) (v : View) → Law z c g views → get_elem? views id ≡ some v → 0 < v.known.session
     → HasLocked v (record v { phase = Held; known = record v.known { seen = g.past } })
-taken_told z c g views id v h here =
+taken_told z c g views id v h here positive =
     let rest : g.past ≡ v.known.seen ++ drop (length v.known.seen) g.past = begins-rest v.known.seen g.past (h.history.sees id v here) in record {
       more = drop (length v.known.seen) g.past;
       view = ap (λ (xs : List Tx). let x : View = record v { phase = Held; known = record v.known { seen = xs } } in x) rest;
       finished = h.history.finished;
-      few = few_left z g.made g.past views id v h.budget here h.history.finished (h.seats.same id v here);
+      few = few_left z g.made g.past views id v h.budget here h.history.finished (setup_of z c g views id v h here positive);
     }
 
 held_told : (z : Shape) (c : Content) (g : World) (views : List View) (id : ℕ) (v : View) → Law z c g views → get_elem? views id ≡ some v → v.phase ≡ Free → 0 < v.known.session → c.lock ≢ 0 → IsLocked v c.lock
@@ -207,7 +237,7 @@ held_told z c g views id v h here free positive lock =
     let theirs : 0 < o.0.known.session = let e = o.2 in omega (arith, e, lock) in
     let seated = h.seats.seated g.holder o.0 o.1 theirs in record {
       some = omega (arith, lock);
-      seated = let e = o.2 in let made = seated.was_made in let few = h.seats.few in subst (λ (x : Shape). c.lock ≤ seats_of x) (sym (h.seats.same id v here)) (omega (arith, e, made, few));
+      seated = let e = o.2 in let made = seated.was_made in let few = h.seats.few in subst (λ (x : Shape). c.lock ≤ seats_of x) (sym (setup_of z c g views id v h here positive)) (omega (arith, e, made, few));
       other = λ same.
           let mine = h.seats.seated id v here positive in
           let there : g.holder ≡ id = sym seated.sits ∙ ap g.seat (o.2 ∙ same) ∙ mine.sits in
@@ -227,7 +257,7 @@ tries z id me slots c g views free positive h here =
       world = record g { holder = id };
       moves = refl;
       law = takes z c g views id me.0 h here free positive nothing;
-      told = record { slots = refl; same = refl; free = λ _. taken_told z c g views id me.0 h here; locked = λ lock. absurd (lock nothing) };
+      told = record { slots = refl; same = refl; free = λ _. taken_told z c g views id me.0 h here positive; locked = λ lock. absurd (lock nothing) };
     })
     (λ lock. record {
       w = me.0;

@@ -12,12 +12,12 @@ use Rattle.pgn_model.specs.Shape.{Shape, notes_of_seats}
 use Rattle.pgn_words.specs.declared.view.View.{View}
 use Rattle.pgn_words.specs.declared.view.Phase.TheVariants.{Ready}
 use Rattle.pgn_words.specs.Words.{Content, row, room_of}
-use Rattle.pgn_words.specs.Views.{holds_lock, knows_stop, drawn_by}
+use Rattle.pgn_words.specs.Views.{holds_lock, knows_stop, drawn_by, fated}
 use Rattle.pgn_words.specs.Rule.{World, Draws, KnowsStop, Holds, IsHeaded, Law, Lawful, Keeps}
 use Rattle.pgn_words.specs.Told.{TellsDraw, drawn}
 use Rattle.pgn_words.proofs.EachLaws.{each_turn}
-use Rattle.pgn_words.proofs.Frames.{seats_keep, locking_keep, history_keep, budget_keep}
-use Rattle.pgn_words.proofs.LockKept.{alone, few_left, some_of}
+use Rattle.pgn_words.proofs.Frames.{seats_keep, locking_keep, history_keep, budget_keep, statuses_keep}
+use Rattle.pgn_words.proofs.LockKept.{held_setup, alone, few_left, some_of}
 use Rattle.pgn_words.proofs.HeadKept.{phase_holds}
 use Rattle.pgn_words.proofs.Meets.{allowed}
 
@@ -54,6 +54,7 @@ draws z c g views id v notes h here ready filled valid different few =
             (λ j u other there p. p);
         stops = each_turn (KnowsStop c.stop) (KnowsStop c.stop) views id w h.holding.stops (λ knows. h.holding.stops id v here (ap knows_stop ready)) (λ j u other there p. p);
       };
+      statuses = statuses_keep views id v w here c.lock g.past c.statuses h.statuses (sym held) (sym (ap (λ p. fated p v.pen.ending.fate) ready));
       budget = budget_keep views id v w here z g.made g.past h.budget (omega (arith, few));
     }
 
@@ -64,9 +65,9 @@ draw_allowed z slots id me notes ready filled valid different few =
     let was : IsHeaded z.format g.past g.shown me.0.known.seen me.0.pen = phase_holds Ready z c.stop g.past g.shown c.cells id me.0 ready (h.holding.holds id me.0 here) in
     let mine : c.xid ≡ c.fin + 0 = h.numbers.draws id me.0 here (ap holds_lock ready) ∙ ap (λ p. c.fin + drawn_by p) ready in
     let one : 1 ≤ length notes = some_of notes filled in
-    let left : length g.past + me.0.known.notes_left ≤ notes_of_seats me.0.setup.seats = few_left z g.made g.past views id me.0 h.budget here h.history.finished (h.seats.same id me.0 here) in
+    let left : length g.past + me.0.known.notes_left ≤ notes_of_seats me.0.setup.seats = few_left z g.made g.past views id me.0 h.budget here h.history.finished (held_setup z c g views id me.0 h here (ap holds_lock ready)) in
     let size : length me.0.known.seen ≡ length g.past = ap length was.idle.seen_is in
-    let all : notes_of_seats me.0.setup.seats ≤ 65536 = let most = shape.few_notes in subst (λ (x : Shape). notes_of_seats x.seats ≤ 65536) (sym (h.seats.same id me.0 here)) most in
+    let all : notes_of_seats me.0.setup.seats ≤ 65536 = let most = shape.few_notes in subst (λ (x : Shape). notes_of_seats x.seats ≤ 65536) (sym (held_setup z c g views id me.0 h here (ap holds_lock ready))) most in
     let counted = h.history.counted in
     let number : c.xid ≡ next_xid me.0.known.seen = omega (arith, mine, counted, size) in record {
       w = drawn notes me.0;

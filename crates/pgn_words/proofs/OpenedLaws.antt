@@ -1,5 +1,5 @@
 -- The passes as they are made, one after another.
-use Rattle.std.proofs.Common.{◌≡◌, ℕ, zero, suc, ◌+◌, ◌-◌, ◌<◌, List, [], ◌∷◌, ◌++◌, length, get_or, take, map, All, sym, refl, ap, ◌∙◌, arith}
+use Rattle.std.proofs.Common.{◌≡◌, ℕ, zero, suc, ◌+◌, ◌-◌, ◌<◌, List, [], ◌∷◌, ◌++◌, length, get_or, take, map, All, sym, refl, ap, ◌∙◌, arith, None}
 use Rattle.std.proofs.lemmas.List.{length-take}
 use Rattle.std.proofs.lemmas.List.Elements.{All-push}
 use Rattle.pgn_model.specs.declared.setup.SeatSetup.{SeatSetup}
@@ -24,8 +24,10 @@ pub record AreMade (queue : WordQueue) (first : WordPass) (passes : List WordPas
   pub first_own : IsPassOf queue first
   pub made : (view_of first).made ≡ k
   pub first_free : (view_of first).phase ≡ Free
+  pub first_told : (view_of first).ended ≡ None
   pub own : All (IsPassOf queue) passes
   pub free : All (λ pass. (view_of pass).phase ≡ Free) passes
+  pub told : All (λ pass. (view_of pass).ended ≡ None) passes
   pub known : known_of first ∷ map known_of passes ≡ opened_from 1 (take k (shape_of queue).seats)
 
 -- the first one has made one more
@@ -48,7 +50,9 @@ next_made queue first now pass passes k made within now_own now_is own is =
       first_own = now_own;
       made = ap (λ (v : View). v.made) now_is ∙ ap (λ n. n + 1) made.made;
       first_free = ap (λ (v : View). v.phase) now_is ∙ made.first_free;
+      first_told = ap (λ (v : View). v.ended) now_is ∙ made.first_told;
       own = All-push (IsPassOf queue) passes pass made.own own;
+      told = All-push (λ (p : WordPass). (view_of p).ended ≡ None) passes pass made.told (ap (λ (v : View). v.ended) is);
       free = All-push (λ (p : WordPass). (view_of p).phase ≡ Free) passes pass made.free (ap (λ (v : View). v.phase) is);
       known =
           ap (λ x. x ∷ map known_of (passes ++ pass ∷ [])) (ap (λ (v : View). v.known) now_is)

@@ -13,7 +13,9 @@ use Rattle.pgn_model.specs.Packing.{image, image_from}
 use Rattle.pgn_model.specs.Shape.{Shape, IsShape}
 use Rattle.pgn_words.specs.Words.{row, seats_of, status_words, room_of, word_count, first_content}
 use Rattle.pgn_words.specs.Views.{first_view, spent_by}
-use Rattle.pgn_words.specs.Rule.{Seated, Makes, Locks, WasMade, Draws, KnowsStop, Holds, Law, Lawful}
+use Rattle.pgn_words.specs.Rule.{Seated, Makes, Locks, WasMade, Draws, KnowsStop, Holds, Law, Lawful, Fates, status_at}
+use Rattle.pgn_layout.specs.Status.{status_word, status_in}
+use Rattle.pgn_layout.proofs.StatusLaws.{none_is_set}
 use Rattle.pgn_words.proofs.EachLaws.{each_one}
 use Rattle.pgn_words.proofs.PassKept.{seat_taken}
 
@@ -24,6 +26,14 @@ zero_there : (n k : ℕ) → get_or (replicate {A = ℕ} n 0) k 0 < 2 ^ 32
 zero_there zero k = omega arith
 zero_there (suc n) zero = omega arith
 zero_there (suc n) (suc k) = zero_there n k
+
+zero_is : (n k : ℕ) → get_or (replicate {A = ℕ} n 0) k 0 ≡ 0
+zero_is zero k = refl
+zero_is (suc n) zero = refl
+zero_is (suc n) (suc k) = zero_is n k
+
+no_status : (n x : ℕ) → status_at (replicate {A = ℕ} n 0) x ≡ 0
+no_status n x = ap (λ w. status_in w x) (zero_is n (status_word x)) ∙ none_is_set x
 
 -- the words as they are written: zeros, and then three of them
 pub first_row : (z : Shape) (count : ℕ) → count ≡ word_count z → set (set (set (replicate {A = ℕ} count 0) 2 3) 3 (3 * 2 ^ 32)) 5 3 ≡ row (first_content z)
@@ -57,8 +67,7 @@ opens_law z shape = record {
   };
   seats = record {
     few = shape.some_seats;
-    same = each_one (λ _ u. u.setup ≡ z) (first_view z) refl;
-    seated = each_one (Seated z 1 (λ n. 0)) (first_view z) (λ _. record { sits = refl; was_made = omega arith; db_is = refl });
+    seated = each_one (Seated z 1 (λ n. 0)) (first_view z) (λ _. record { sits = refl; was_made = omega arith; db_is = refl; setup_is = refl });
     makes = each_one (Makes 1) (first_view z) (λ _. (refl, refl));
   };
   locking = record { locks = each_one (Locks 0 0) (first_view z) (λ held. absurd (cc)); owned = λ lock. absurd (lock refl) };
@@ -79,6 +88,12 @@ opens_law z shape = record {
   };
   numbers = record { free = λ _. refl; draws = each_one (Draws 3 3) (first_view z) (λ held. absurd (cc)) };
   holding = record { holds = each_one (Holds z 0 [] [] (replicate (room_of z) 0)) (first_view z) tt; stops = each_one (KnowsStop 0) (first_view z) (λ held. absurd (cc)) };
+  statuses = record {
+    below = λ x tx low there. absurd (none-some tx there);
+    above = λ x later. no_status (status_words z) x;
+    free = λ _. no_status (status_words z) 3;
+    fates = each_one (Fates [] (replicate (status_words z) 0)) (first_view z) (λ held. absurd (cc));
+  };
   budget =
       let taken = seat_taken z.seats 0 (let seats = shape.some_seats in omega (arith, seats)) in
       let mine = sum_by-cons spent_by (first_view z) [] in omega (arith, taken, mine);

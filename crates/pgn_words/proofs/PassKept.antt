@@ -16,7 +16,7 @@ use Rattle.pgn_model.specs.Shape.{Shape, notes_of_seats}
 use Rattle.pgn_words.specs.declared.view.View.{View}
 use Rattle.pgn_words.specs.Words.{Content, seats_of}
 use Rattle.pgn_words.specs.Views.{seat_of, no_seat, opened_view, spent_by}
-use Rattle.pgn_words.specs.Rule.{World, IsSeated, Seated, Makes, Locks, Locking, WasMade, Draws, KnowsStop, Holds, Law, Lawful}
+use Rattle.pgn_words.specs.Rule.{World, IsSeated, Seated, Makes, Locks, Locking, WasMade, Draws, KnowsStop, Holds, Law, Lawful, Fates}
 use Rattle.pgn_words.specs.Told.{after_making, made_by}
 use Rattle.pgn_words.proofs.EachLaws.{each_turn, each_keep, each_made, sum_set, sum_made}
 use Rattle.pgn_words.proofs.Frames.{locking_keep}
@@ -62,12 +62,11 @@ makes z c g views id v h here mine room =
       laid = h.laid;
       seats = record {
         few = omega (arith, made, room);
-        same = each_made (λ _ u. u.setup ≡ z) (set views id left) right (each_keep (λ _ u. u.setup ≡ z) views id v left here h.seats.same (λ p. p)) refl;
         seated = each_made (Seated z (g.made + 1) (seat_more g.made (length views) g.seat)) (set views id left) right
             (each_turn (Seated z g.made g.seat) (Seated z (g.made + 1) (seat_more g.made (length views) g.seat)) views id left h.seats.seated
-            (λ positive. let s = more z g.made (length views) g.seat id v keep (h.seats.seated id v here positive) in record { sits = s.sits; was_made = s.was_made; db_is = s.db_is })
+            (λ positive. let s = more z g.made (length views) g.seat id v keep (h.seats.seated id v here positive) in record { sits = s.sits; was_made = s.was_made; db_is = s.db_is; setup_is = s.setup_is })
             (λ j u other there p positive. more z g.made (length views) g.seat j u keep (p positive)))
-            (λ positive. record { sits = seat_last g.made (length views) g.seat ∙ sym long; was_made = omega arith; db_is = refl });
+            (λ positive. record { sits = seat_last g.made (length views) g.seat ∙ sym long; was_made = omega arith; db_is = refl; setup_is = refl });
         makes = each_made (Makes (g.made + 1)) (set views id left) right
             (each_turn (Makes g.made) (Makes (g.made + 1)) views id left h.seats.makes (λ _. (me.0, ap (λ n. n + 1) made))
             (λ j u other there p positive. let theirs = p positive in let one : j ≡ id = sym (seat_is z g.made g.seat j u (h.seats.seated j u there) theirs.0) ∙ seat_is z g.made g.seat id v (h.seats.seated id v here) me.0 in absurd (other one)))
@@ -96,6 +95,12 @@ makes z c g views id v h here mine room =
         holds = each_made (Holds z c.stop g.past g.shown c.cells) (set views id left) right (each_keep (Holds z c.stop g.past g.shown c.cells) views id v left here h.holding.holds (λ p. p)) tt;
         stops = each_made (KnowsStop c.stop) (set views id left) right (each_keep (KnowsStop c.stop) views id v left here h.holding.stops (λ p. p)) (λ held. absurd (cc));
       };
+      statuses = record {
+        below = h.statuses.below;
+        above = h.statuses.above;
+        free = h.statuses.free;
+        fates = each_made (Fates g.past c.statuses) (set views id left) right (each_keep (Fates g.past c.statuses) views id v left here h.statuses.fates (λ p. p)) (λ held. absurd (cc));
+      };
       budget =
           let before = h.budget in
           let kept = sum_set spent_by views id v left here in
@@ -107,7 +112,7 @@ makes z c g views id v h here mine room =
     }
   where
     more : (z : Shape) (made at : ℕ) (seat : ℕ → ℕ) (j : ℕ) (u : View) → ((n : ℕ) → n ≤ made → seat_more made at seat n ≡ seat n) → IsSeated z made seat j u → IsSeated z (made + 1) (seat_more made at seat) j u
-    more z made at seat j u keep s = record { sits = keep u.known.session s.was_made ∙ s.sits; was_made = let low = s.was_made in omega (arith, low); db_is = s.db_is }
+    more z made at seat j u keep s = record { sits = keep u.known.session s.was_made ∙ s.sits; was_made = let low = s.was_made in omega (arith, low); db_is = s.db_is; setup_is = s.setup_is }
 
     seat_is : (z : Shape) (made : ℕ) (seat : ℕ → ℕ) (j : ℕ) (u : View) → Seated z made seat j u → u.known.session ≡ 1 → seat 1 ≡ j
     seat_is z made seat j u s one = ap seat (sym one) ∙ (s (omega (arith, one))).sits

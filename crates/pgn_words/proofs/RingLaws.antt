@@ -8,7 +8,7 @@ use Rattle.pgn_layout.specs.Batches.{padded_to}
 use Rattle.pgn_words.specs.Rule.{Keeps}
 
 -- an item of a list that is one item longer
-at_end : {A : Type 0} (l : List A) (a b : A) (i : ℕ) → slice_get (l ++ a ∷ []) i ≡ Some b → (slice_get l i ≡ Some b) ⊎ ((i ≡ length l) × (a ≡ b))
+pub at_end : {A : Type 0} (l : List A) (a b : A) (i : ℕ) → slice_get (l ++ a ∷ []) i ≡ Some b → (slice_get l i ≡ Some b) ⊎ ((i ≡ length l) × (a ≡ b))
 at_end [] a b zero e = inr (refl, same_Some a b e)
 at_end [] a b (suc i) e = absurd (none-some b e)
 at_end (x ∷ xs) a b zero e = inl e

@@ -1,8 +1,8 @@
 -- The words of a kind of which there are many, read and written among all words.
-use Rattle.std.proofs.Common.{◌≡◌, ℕ, suc, ◌+◌, ◌-◌, ◌∷◌, List, ◌++◌, length, get_or, set, refl, ap, ◌∙◌, arith, length-append}
-use Rattle.std.proofs.lemmas.List.{set-append_right, get_or-append-add}
+use Rattle.std.proofs.Common.{◌≡◌, ℕ, suc, ◌+◌, ◌-◌, ◌∷◌, List, ◌++◌, length, get_or, set, refl, ap, ◌∙◌, arith, length-append, ◌<◌}
+use Rattle.std.proofs.lemmas.List.{set-append_left, get_or_append_left, set-append_right, get_or-append-add}
 use Rattle.pgn_model.specs.Shape.{Shape}
-use Rattle.pgn_words.specs.Words.{Content, row, cells_at}
+use Rattle.pgn_words.specs.Words.{Content, row, cells_at, statuses_at}
 use Rattle.pgn_words.specs.Rule.{Laid}
 
 -- the words before the cells, but for the first six
@@ -46,3 +46,26 @@ set_cell z c k x laid =
 
 pub get_cell : (z : Shape) (c : Content) (k : ℕ) → Laid z c.pos c.wakes c.flags c.statuses c.cells → get_or (row c) (cells_at z + k) 0 ≡ get_or c.cells k 0
 get_cell z c k laid = ap (λ n. get_or (row c) n 0) (index_is z c k laid) ∙ get_last c.pos c.wakes c.flags c.statuses c.cells k
+
+set_within : (xs ys : List ℕ) (k x : ℕ) → k < length xs → set (xs ++ ys) k x ≡ set xs k x ++ ys
+set_within xs ys k x within = set-append_left xs ys k x within
+
+status_index : (z : Shape) (c : Content) (k : ℕ) → Laid z c.pos c.wakes c.flags c.statuses c.cells → statuses_at z + k ≡ suc (suc (suc (suc (suc (suc (length c.pos + (length c.wakes + (length c.flags + k))))))))
+status_index z c k laid = omega (arith, laid.pos_long, laid.wakes_long, laid.flags_long)
+
+pub set_status_word : (z : Shape) (c : Content) (k x : ℕ) → Laid z c.pos c.wakes c.flags c.statuses c.cells → k < length c.statuses → set (row c) (statuses_at z + k) x ≡ row (record c { statuses = set c.statuses k x })
+set_status_word z c k x laid within =
+    ap (λ n. set (row c) n x) (status_index z c k laid)
+    ∙ ap (λ l. c.lock ∷ c.head ∷ c.fin ∷ c.tail ∷ c.stop ∷ c.xid ∷ l)
+    (set_right c.pos (c.wakes ++ (c.flags ++ (c.statuses ++ c.cells))) (length c.wakes + (length c.flags + k)) x
+    ∙ ap (λ l. c.pos ++ l) (set_right c.wakes (c.flags ++ (c.statuses ++ c.cells)) (length c.flags + k) x
+    ∙ ap (λ l. c.wakes ++ l) (set_right c.flags (c.statuses ++ c.cells) k x
+    ∙ ap (λ l. c.flags ++ l) (set_within c.statuses c.cells k x within))))
+
+pub get_status_word : (z : Shape) (c : Content) (k : ℕ) → Laid z c.pos c.wakes c.flags c.statuses c.cells → k < length c.statuses → get_or (row c) (statuses_at z + k) 0 ≡ get_or c.statuses k 0
+get_status_word z c k laid within =
+    ap (λ n. get_or (row c) n 0) (status_index z c k laid)
+    ∙ get_or-append-add c.pos (c.wakes ++ (c.flags ++ (c.statuses ++ c.cells))) (length c.wakes + (length c.flags + k)) 0
+    ∙ get_or-append-add c.wakes (c.flags ++ (c.statuses ++ c.cells)) (length c.flags + k) 0
+    ∙ get_or-append-add c.flags (c.statuses ++ c.cells) k 0
+    ∙ get_or_append_left c.statuses c.cells 0 k within

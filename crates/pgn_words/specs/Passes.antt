@@ -1,11 +1,12 @@
 -- A queue and its passes, as callers see them.
-use Rattle.std.specs.Prelude.{◌≡◌, ℕ, ◌+◌, List, [], ◌∷◌}
+use Rattle.std.specs.Prelude.{◌≡◌, ℕ, ◌+◌, List, [], ◌∷◌, ◌<◌}
 use Rattle.pgn_model.specs.declared.known.Known.{Known}
 use Rattle.pgn_model.specs.declared.setup.SeatSetup.{SeatSetup}
 use Rattle.pgn_model.specs.Shape.{Shape}
 use Rattle.pgn_words.specs.declared.view.View.{View}
 use Rattle.pgn_words.specs.declared.pass.WordQueue.{WordQueue}
 use Rattle.pgn_words.specs.declared.pass.WordPass.{WordPass}
+use Rattle.pgn_words.specs.declared.pass.WordNote.{WordNote}
 use Rattle.pgn_words.specs.Views.{opened}
 
 -- what the queue was opened for
@@ -25,8 +26,19 @@ pub record IsPassOf (queue : WordQueue) (pass : WordPass) : Type 0 where
   pub table : pass.seat.table_id ≡ queue.table.shared.table_id
   pub bare : pass.seat.me.1 ≡ []
   pub setup : pass.seat.me.0.setup ≡ queue.table.shared.key
+  pub number : 0 < pass.seat.me.0.known.session
 
 -- what is known of the passes of seats as they are opened, of which the first is that of session n
 abbrev pub opened_from : ℕ → List SeatSetup → List Known
 opened_from n [] = []
 opened_from n (seat ∷ seats) = opened n seat ∷ opened_from (n + 1) seats
+
+-- what the rule sees of a note
+abbrev pub noted_view : WordNote → View
+noted_view note = note.seat.me.0
+
+-- the note is of one of the queue's passes
+pub record IsNoteOf (queue : WordQueue) (note : WordNote) : Type 0 where
+  pub table : note.seat.table_id ≡ queue.table.shared.table_id
+  pub bare : note.seat.me.1 ≡ []
+  pub number : note.seat.me.0.known.session ≡ 0

@@ -5,10 +5,12 @@ use mathlib.Core.Option.{some}
 use lib.ListN.{get_elem?}
 use Rattle.atomic_table.specs.Table.{State}
 use Rattle.pgn_base.specs.declared.format.Format.{Format}
+use Rattle.pgn_base.specs.declared.limits.TheConstants.{FIRST_XID}
 use Rattle.pgn_base.specs.Notes.{IsNote}
 use Rattle.pgn_model.specs.declared.tx.Tx.{Tx}
 use Rattle.pgn_model.specs.Begins.{Begins}
-use Rattle.pgn_model.specs.Journal.{next_xid, xids_of, IsFinished}
+use Rattle.pgn_layout.specs.Status.{status_word, status_in, status_code}
+use Rattle.pgn_model.specs.Journal.{next_xid, entry, xids_of, IsFinished}
 use Rattle.pgn_model.specs.Packing.{page_start, image}
 use Rattle.pgn_model.specs.Shape.{Shape, IsShape, notes_of_seats}
 use Rattle.pgn_words.specs.declared.view.View.{View}
@@ -16,7 +18,7 @@ use Rattle.pgn_words.specs.declared.view.Pen.{Pen}
 use Rattle.pgn_words.specs.declared.view.Phase.{Phase}
 use Rattle.pgn_words.specs.declared.view.Phase.TheVariants.{Free, Held, Headed, Ready, Open, Finished, Signalling}
 use Rattle.pgn_words.specs.Words.{Content, row, seats_of, status_words, room_of}
-use Rattle.pgn_words.specs.Views.{holds_lock, knows_stop, drawn_by, seat_of, spent_by}
+use Rattle.pgn_words.specs.Views.{holds_lock, fated, knows_stop, drawn_by, seat_of, spent_by}
 
 -- What no word and no pass by itself has: the finished transactions; these and what the head shows of the open one; the seat among the
 -- table's seats that holds the lock; how many passes were made; and where the pass of each session sits.
@@ -44,6 +46,7 @@ pub record IsSeated (z : Shape) (made : ℕ) (seat : ℕ → ℕ) (j : ℕ) (v :
   pub sits : seat v.known.session ≡ j
   pub was_made : v.known.session ≤ made
   pub db_is : v.known.db ≡ (seat_of z v.known.session).db
+  pub setup_is : v.setup ≡ z
 
 -- a note, and a pass that was joined, have the number 0 and are no session's
 abbrev pub Seated : Shape → ℕ → (ℕ → ℕ) → ℕ → View → Type 0
@@ -55,7 +58,6 @@ Makes made j v = 0 < v.made → (v.known.session ≡ 1) × (v.made ≡ made)
 -- who sits where
 pub record Seats (z : Shape) (made : ℕ) (seat : ℕ → ℕ) (views : List View) : Type 0 where
   pub few : made ≤ seats_of z
-  pub same : Each (λ _ v. v.setup ≡ z) views
   pub seated : Each (Seated z made seat) views
   pub makes : Each (Makes made) views
 
@@ -150,6 +152,21 @@ pub record Holding (z : Shape) (stop : ℕ) (past shown : List Tx) (cells : List
   pub holds : Each (Holds z stop past shown cells) views
   pub stops : Each (KnowsStop stop) views
 
+-- the status of a transaction among the status words
+abbrev pub status_at : List ℕ → ℕ → ℕ
+status_at ss x = status_in (get_or ss (status_word x) 0) x
+
+abbrev pub Fates : List Tx → List ℕ → ℕ → View → Type 0
+Fates past ss j v = holds_lock v.phase ≡ true → status_at ss (next_xid past) ≡ fated v.phase v.pen.ending.fate
+
+-- Each finished transaction's status is its fate. The first unfinished one has the fate that its holder has set, and those after it have
+-- none.
+pub record Statuses (lock : ℕ) (past : List Tx) (ss : List ℕ) (views : List View) : Type 0 where
+  pub below : (x : ℕ) (tx : Tx) → FIRST_XID ≤ x → entry past x ≡ Some tx → status_at ss x ≡ status_code tx.fate
+  pub above : (x : ℕ) → next_xid past < x → status_at ss x ≡ 0
+  pub free : lock ≡ 0 → status_at ss (next_xid past) ≡ 0
+  pub fates : Each (Fates past ss) views
+
 -- the notifications of transactions
 abbrev pub notes_of : List Tx → ℕ
 notes_of txs = sum_by (λ tx. length tx.notes) txs
@@ -167,6 +184,7 @@ pub record Law (z : Shape) (c : Content) (g : World) (views : List View) : Type 
   pub history : History c.lock c.fin g.made g.past g.shown views
   pub numbers : Numbers c.lock c.fin c.xid views
   pub holding : Holding z c.stop g.past g.shown c.cells views
+  pub statuses : Statuses c.lock g.past c.statuses views
   pub budget : Budget z g.made g.past views
 
 -- the rule

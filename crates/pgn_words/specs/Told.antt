@@ -1,18 +1,20 @@
 -- What each step needs beyond its phase, what the pass is after it, and what it tells.
-use Rattle.std.specs.Prelude.{◌≡◌, ◌≢◌, ℕ, ◌+◌, ◌-◌, ◌%◌, ◌^◌, ◌<◌, ◌≤◌, List, [], ◌∷◌, ◌++◌, length, slice_get, Some, All}
+use Rattle.std.specs.Prelude.{◌≡◌, ◌≢◌, ℕ, ◌+◌, ◌-◌, ◌%◌, ◌^◌, ◌<◌, ◌≤◌, List, [], ◌∷◌, ◌++◌, length, slice_get, Some, All, None, true, unwrap_or, drop, cond, max}
 use Rattle.atomic_table.specs.Table.{Step, Me}
 use Rattle.pgn_base.specs.declared.note.Note.{Note}
 use Rattle.pgn_model.specs.declared.tx.Tx.{Tx}
 use Rattle.pgn_model.specs.declared.tx.Fate.{Fate}
-use Rattle.pgn_model.specs.Journal.{next_xid, IsFinished}
+use Rattle.pgn_layout.specs.Status.{status_word, status_in, status_code}
+use Rattle.pgn_base.specs.declared.limits.TheConstants.{FIRST_XID}
+use Rattle.pgn_model.specs.Journal.{next_xid, entry, IsFinished}
 use Rattle.pgn_model.specs.Packing.{page_start, image}
 use Rattle.pgn_model.specs.Pieces.{draft}
 use Rattle.pgn_model.specs.Shape.{notes_of_seats}
 use Rattle.pgn_layout.specs.Batches.{padded_to}
 use Rattle.pgn_words.specs.declared.view.View.{View}
-use Rattle.pgn_words.specs.declared.view.Phase.TheVariants.{Free, Held, Headed, Ready, Open}
-use Rattle.pgn_words.specs.Words.{seats_of, room_of, cells_at}
-use Rattle.pgn_words.specs.Views.{stored_by, opened_view}
+use Rattle.pgn_words.specs.declared.view.Phase.TheVariants.{Free, Held, Headed, Ready, Open, Finished, Signalling}
+use Rattle.pgn_words.specs.Words.{seats_of, room_of, cells_at, statuses_at}
+use Rattle.pgn_words.specs.Views.{stored_by, opened_view, holds_lock, opened, no_seat, no_pen, no_setup}
 
 -- A seat at the table of words: what the rule sees of it, and the slots that it holds, of which there are none.
 abbrev pub Mine : Type 0
@@ -38,9 +40,9 @@ pub record TellsLock (s : Step ℕ) (v : Mine) (n : ℕ) (w : Mine) : Type 0 whe
   pub free : n ≡ 0 → HasLocked v.0 w.0
   pub locked : n ≢ 0 → (w.0 ≡ v.0) × IsLocked v.0 n
 
--- the pass gives the lock up
+-- the pass gives the lock up; where it has finished a transaction, it is told of it
 abbrev pub freed : View → View
-freed v = record v { phase = Free }
+freed v = record v { phase = Free; ended = None; known = record v.known { told = unwrap_or v.ended v.known.told } }
 
 pub record TellsDrop (s : Step ℕ) (v : Mine) (n : ℕ) (w : Mine) : Type 0 where
   pub slots : w.1 ≡ v.1
@@ -113,6 +115,81 @@ head_stored to v = record v { pen = record v.pen { cells = padded_to to (stored_
 pub record TellsHeadStore (s : Step ℕ) (v : Mine) (n : ℕ) (w : Mine) : Type 0 where
   pub slots : w.1 ≡ v.1
   pub view : w.0 ≡ head_stored s.first v.0
+
+-- The transaction may end so: nothing is stored past the head, and the head shows the journal and the transaction.
+pub record MayEnd (v : View) (tx : Tx) : Type 0 where
+  pub none_stored : v.pen.batch ≡ []
+  pub all_shown : v.pen.cells ≡ image v.setup.format (v.known.seen ++ tx ∷ [])
+  pub finished : IsFinished tx
+
+-- the transaction's status is set
+abbrev pub ended_by : Tx → View → View
+ended_by tx v = record v { phase = Finished; pen = record v.pen { ending = tx } }
+
+pub record TellsStatusSet (tx : Tx) (s : Step ℕ) (v : Mine) (n : ℕ) (w : Mine) : Type 0 where
+  pub slots : w.1 ≡ v.1
+  pub view : w.0 ≡ ended_by tx v.0
+
+-- the transaction is one of the journal, and of the pass's own
+abbrev pub fin_stored : View → View
+fin_stored v = record v {
+  phase = Signalling;
+  ended = Some (next_xid v.known.seen + 1);
+  known = record v.known { seen = v.known.seen ++ v.pen.ending ∷ []; own = v.known.own ++ next_xid v.known.seen ∷ [] };
+  pen = record v.pen { taken = 0 };
+}
+
+pub record TellsFinStore (s : Step ℕ) (v : Mine) (n : ℕ) (w : Mine) : Type 0 where
+  pub slots : w.1 ≡ v.1
+  pub view : w.0 ≡ fin_stored v.0
+  pub low : next_xid v.0.known.seen + 1 < 2 ^ 32
+
+-- the pass has heard of all of the journal: the number is the first unfinished one
+pub record HasHeard (v : View) (n : ℕ) (w : View) : Type 0 where
+  pub more : List Tx
+  pub view : w ≡ record v { known = record v.known { seen = v.known.seen ++ more } }
+  pub number : n ≡ next_xid w.known.seen
+  pub finished : All IsFinished w.known.seen
+  -- each further notification still has a number and a status
+  pub few : length w.known.seen + w.known.notes_left ≤ notes_of_seats w.setup.seats
+  -- the holder knew it all
+  pub holder : holds_lock v.phase ≡ true → w ≡ v
+
+pub record TellsFin (s : Step ℕ) (v : Mine) (n : ℕ) (w : Mine) : Type 0 where
+  pub slots : w.1 ≡ v.1
+  pub heard : HasHeard v.0 n w.0
+  pub low : n < 2 ^ 32
+  pub kept : (w.0.setup ≡ v.0.setup) × (w.0.ended ≡ v.0.ended)
+
+-- a status word has the fate of each finished transaction that the pass knows
+pub record TellsStatus (s : Step ℕ) (v : Mine) (n : ℕ) (w : Mine) : Type 0 where
+  pub slots : w.1 ≡ v.1
+  pub view : w.0 ≡ v.0
+  pub value : (x : ℕ) (tx : Tx) → s.word ≡ statuses_at v.0.setup + status_word x → FIRST_XID ≤ x → entry v.0.known.seen x ≡ Some tx → status_in n x ≡ status_code tx.fate
+
+-- of a note nothing is known but what is in it
+abbrev pub noted : View → View
+noted v = record {
+  known = record (opened 0 no_seat) { seen = v.known.seen; told = v.known.told };
+  setup = no_setup;
+  made = 0;
+  phase = Free;
+  ended = None;
+  stop = 0;
+  pen = no_pen;
+}
+
+-- of a note that was joined nothing is known
+abbrev pub spent_view : View
+spent_view = record { known = opened 0 no_seat; setup = no_setup; made = 0; phase = Free; ended = None; stop = 0; pen = no_pen }
+
+-- the first list, and then what the second has beyond its length
+abbrev pub longer : List Tx → List Tx → List Tx
+longer xs ys = xs ++ drop (length xs) ys
+
+-- the pass has learned what is in a note. The holder's journal stays
+abbrev pub joined : View → View → View
+joined v w = record v { known = record v.known { seen = cond (holds_lock v.phase) v.known.seen (longer v.known.seen w.known.seen); told = max v.known.told w.known.told } }
 
 -- one more pass is made
 abbrev pub after_making : View → View

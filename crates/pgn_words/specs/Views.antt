@@ -1,12 +1,15 @@
 -- What the rule sees of a pass: as it is opened, and what its phase says.
 use Rattle.std.specs.Prelude.{ℕ, ◌+◌, ◌-◌, Bool, true, false, List, [], ◌++◌, slice_index_or, Option, None}
+use Rattle.pgn_base.specs.declared.format.Format.TheVariants.{One}
 use Rattle.pgn_base.specs.declared.limits.TheConstants.{FIRST_XID}
 use Rattle.pgn_model.specs.declared.tx.Tx.{Tx}
+use Rattle.pgn_model.specs.declared.tx.Fate.{Fate}
 use Rattle.pgn_model.specs.declared.tx.Fate.TheVariants.{Committed}
 use Rattle.pgn_model.specs.declared.setup.SeatSetup.{SeatSetup}
 use Rattle.pgn_model.specs.declared.known.Known.{Known}
 use Rattle.pgn_model.specs.declared.known.Advance.{Advance}
 use Rattle.pgn_model.specs.Shape.{Shape}
+use Rattle.pgn_layout.specs.Status.{status_code}
 use Rattle.pgn_words.specs.declared.view.View.{View}
 use Rattle.pgn_words.specs.declared.view.Pen.{Pen}
 use Rattle.pgn_words.specs.declared.view.Phase.{Phase}
@@ -22,15 +25,15 @@ holds_lock Open = true
 holds_lock Finished = true
 holds_lock Signalling = true
 
--- the pass holds the lock and has drawn no number
-abbrev pub is_idle : Phase → Bool
-is_idle Free = false
-is_idle Held = true
-is_idle Headed = true
-is_idle Ready = true
-is_idle Open = false
-is_idle Finished = false
-is_idle Signalling = false
+-- the pass holds the lock and has no transaction open
+abbrev pub may_drop : Phase → Bool
+may_drop Free = false
+may_drop Held = true
+may_drop Headed = true
+may_drop Ready = true
+may_drop Open = false
+may_drop Finished = false
+may_drop Signalling = true
 
 -- the pass knows the oldest kept page
 abbrev pub knows_stop : Phase → Bool
@@ -62,6 +65,16 @@ drawn_by Open = 1
 drawn_by Finished = 1
 drawn_by Signalling = 0
 
+-- the status of the first unfinished transaction, by the holder's phase and by how its transaction ended
+abbrev pub fated : Phase → Fate → ℕ
+fated Free fate = 0
+fated Held fate = 0
+fated Headed fate = 0
+fated Ready fate = 0
+fated Open fate = 0
+fated Finished fate = status_code fate
+fated Signalling fate = 0
+
 -- no seat
 abbrev pub no_seat : SeatSetup
 no_seat = record { db = 0; notes = 0 }
@@ -69,6 +82,10 @@ no_seat = record { db = 0; notes = 0 }
 -- what the seat of a session is for
 abbrev pub seat_of : Shape → ℕ → SeatSetup
 seat_of z session = slice_index_or z.seats (session - 1) no_seat
+
+-- nothing is opened
+abbrev pub no_setup : Shape
+no_setup = record { pages = 0; flags = 0; seats = []; format = One }
 
 -- no transaction
 abbrev pub no_tx : Tx
@@ -105,11 +122,11 @@ opened session seat = record {
 
 -- the pass of a session as it is opened
 abbrev pub opened_view : Shape → ℕ → View
-opened_view z session = record { known = opened session (seat_of z session); setup = z; made = 0; phase = Free; stop = 0; pen = no_pen }
+opened_view z session = record { known = opened session (seat_of z session); setup = z; made = 0; phase = Free; ended = None; stop = 0; pen = no_pen }
 
 -- the first pass, which makes the others
 abbrev pub first_view : Shape → View
-first_view z = record { known = opened 1 (seat_of z 1); setup = z; made = 1; phase = Free; stop = 0; pen = no_pen }
+first_view z = record { known = opened 1 (seat_of z 1); setup = z; made = 1; phase = Free; ended = None; stop = 0; pen = no_pen }
 
 -- what the pass has stored: up to the head, and past it
 abbrev pub stored_by : View → List (Option ℕ)

@@ -18,15 +18,17 @@
 
 mod cells;
 mod lock;
+mod notes;
 mod numbers;
 mod opening;
 mod pass;
 mod pass_view;
 mod plays;
+mod statuses;
 mod view;
 
 pub use lock::Held;
-pub use pass::{WordPass, WordQueue};
+pub use pass::{WordNote, WordPass, WordQueue};
 pub use view::{Pen, Phase, View};
 
 #[cfg(test)]

@@ -1,6 +1,6 @@
 ghost use Rattle.std.specs.Prelude.{◌≡◌, ◌≢◌, ◌≤◌, ◌<◌, true, IfOk, IfErr, OnOk, OnErr};
 ghost use Rattle.pgn_words.specs.Passes.{IsPassOf, view_of};
-ghost use Rattle.pgn_words.specs.Views.{is_idle};
+ghost use Rattle.pgn_words.specs.Views.{may_drop};
 ghost use Rattle.pgn_words.specs.Told.{HasLocked, IsLocked, freed};
 ghost use Rattle.pgn_words.specs.declared.view.Phase.TheVariants as phases;
 
@@ -43,15 +43,17 @@ impl WordQueue {
         }
     }
 
-    /// Gives the lock up, with no number drawn.
+    /// Gives the lock up, with no transaction open. Where it has finished one, it is told of it.
     ///
-    /// A hub calls it at the end of what it does under the lock; no call between `try_lock` and `draw_xid` leads elsewhere.
+    /// A hub calls it at the end of what it does under the lock: before it draws a number, or after `store_fin`.
     pub fn drop_lock(&self, pass: &mut WordPass)
         requires own { IsPassOf self.now pass.old }
-        requires phase { is_idle (view_of pass.old).phase ≡ true }
+        requires phase { may_drop (view_of pass.old).phase ≡ true }
         ensures own { IsPassOf self.now pass.new }
         ensures view { view_of pass.new ≡ freed (view_of pass.old) }
     {
         self.table.shared.store::<DropLock>(&mut pass.seat, LOCK, 0);
+        pass.told = pass.ended.unwrap_or(pass.told);
+        pass.ended = None;
     }
 }

@@ -1,7 +1,7 @@
-ghost use Rattle.std.specs.Prelude.{◌≡◌, ℕ, ◌+◌, ◌<◌, ◌≤◌, map, length, All, IfOk, vec_len};
+ghost use Rattle.std.specs.Prelude.{◌≡◌, ℕ, None, ◌+◌, ◌<◌, ◌≤◌, map, length, All, IfOk, vec_len};
 ghost use Rattle.pgn_base.specs.declared.limits.TheConstants.{NOTE_LINES_MAX};
 ghost use Rattle.pgn_model.specs.Shape.{notes_of_seats};
-ghost use Rattle.pgn_words.specs.Words.{cells_at, row, first_content};
+ghost use Rattle.pgn_words.specs.Words.{cells_at, statuses_at, status_words, row, first_content};
 ghost use Rattle.pgn_words.specs.Views.{seat_of, first_view};
 ghost use Rattle.pgn_words.specs.Passes.{IsPassOf, shape_of, view_of, known_of, opened_from};
 ghost use Rattle.pgn_words.specs.Told.{after_making, made_by};
@@ -42,14 +42,22 @@ fn notes_of_all(seats: &[SeatSetup]) -> usize
     all
 }
 
-// Where the cells begin among the words.
-fn first_cell_word(setup: &Setup) -> usize
-    ensures { result ≡ cells_at setup.now }
+// Where the statuses begin among the words.
+fn first_status_word(setup: &Setup) -> usize
+    ensures { result ≡ statuses_at setup.now }
 {
     let flags = setup.flags() as usize;
     let seats = setup.seats();
-    let statuses = (notes_of_all(seats) + (STATUSES_A_WORD - 1)) / STATUSES_A_WORD;
-    SINGLE_WORDS + seats.len() + seats.len() + flags + statuses.max(1)
+    SINGLE_WORDS + seats.len() + seats.len() + flags
+}
+
+// How many status words there are.
+fn status_word_count(setup: &Setup) -> usize
+    ensures { result ≡ status_words setup.now }
+{
+    let all = notes_of_all(setup.seats());
+    let needed = (all + (STATUSES_A_WORD - 1)) / STATUSES_A_WORD;
+    needed.max(1)
 }
 
 // The words of an empty queue.
@@ -73,7 +81,8 @@ impl WordQueue {
         ensures view { IfOk result (λ made. view_of made.1 ≡ first_view setup.now) }
     {
         let pages = u64::from(setup.pages());
-        let cells_at = first_cell_word(setup);
+        let statuses_at = first_status_word(setup);
+        let cells_at = statuses_at + status_word_count(setup);
         let words = first_words(alloc, setup, cells_at)?;
         let (table, seat) = Table::of_words(alloc, words.as_slice(), setup)?;
         let seats = setup.seats();
@@ -81,6 +90,7 @@ impl WordQueue {
         let queue = WordQueue {
             table,
             pages,
+            statuses_at,
             cells_at,
         };
         let pass = WordPass {
@@ -90,6 +100,7 @@ impl WordQueue {
             mark: None,
             told: Xid::new(FIRST_XID),
             notes_left: first.notes,
+            ended: None,
         };
         Ok((queue, pass))
     }
@@ -114,6 +125,7 @@ impl WordQueue {
             mark: None,
             told: Xid::new(FIRST_XID),
             notes_left: seat.notes,
+            ended: None,
         }
     }
 
@@ -123,6 +135,7 @@ impl WordQueue {
         ensures passes { IfOk result (λ opened. map known_of opened.1.items ≡ opened_from 1 setup.now.seats) }
         ensures own { IfOk result (λ opened. All (IsPassOf opened.0) opened.1.items) }
         ensures free { IfOk result (λ opened. All (λ pass. (view_of pass).phase ≡ phases.Free) opened.1.items) }
+        ensures told { IfOk result (λ opened. All (λ pass. (view_of pass).ended ≡ None) opened.1.items) }
     {
         let (queue, mut first) = WordQueue::with_first(alloc, setup)?;
         let seats = setup.seats();

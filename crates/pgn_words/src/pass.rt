@@ -1,6 +1,6 @@
 ghost use Rattle.std.specs.Prelude.{◌≡◌};
 ghost use Rattle.pgn_model.specs.Shape.{IsShape};
-ghost use Rattle.pgn_words.specs.Words.{word_count, cells_at as first_cell};
+ghost use Rattle.pgn_words.specs.Words.{word_count, cells_at as first_cell, statuses_at as first_status};
 
 use crate::view::View;
 use atomic_table::{Seat, Table, TableRule};
@@ -25,10 +25,12 @@ impl TableRule<u8, View, Setup> for Rule {
 pub struct WordQueue {
     pub(crate) table: Table<u8, View, Setup, Rule, Global>,
     pub(crate) pages: u64,
+    pub(crate) statuses_at: usize,
     pub(crate) cells_at: usize,
     ghost shaped: { IsShape table.shared.key },
     ghost counted: { table.shared.table_id.words ≡ word_count table.shared.key },
     ghost limited: { pages ≡ table.shared.key.pages },
+    ghost statuses_begin: { statuses_at ≡ first_status table.shared.key },
     ghost begins: { cells_at ≡ first_cell table.shared.key },
 }
 
@@ -41,9 +43,20 @@ pub struct WordPass {
     pub(crate) mark: Option<Xid>,
     pub(crate) told: Xid,
     pub(crate) notes_left: u32,
+    // While it signals, the number after that of its transaction.
+    pub(crate) ended: Option<Xid>,
     ghost session_is: { session ≡ seat.me.0.known.session },
     ghost db_is: { db ≡ seat.me.0.known.db },
     ghost mark_is: { mark ≡ seat.me.0.known.mark },
     ghost told_is: { told ≡ seat.me.0.known.told },
+    ghost ended_is: { ended ≡ seat.me.0.ended },
     ghost left_is: { notes_left ≡ seat.me.0.known.notes_left },
+}
+
+/// What a pass knew of the journal and was told, on its way to another pass.
+#[derive(Drop)]
+pub struct WordNote {
+    pub(crate) seat: Seat<u8, View>,
+    pub(crate) told: Xid,
+    ghost told_is: { told ≡ seat.me.0.known.told },
 }

@@ -1,8 +1,8 @@
 //! What each step on the words tells.
-ghost use Rattle.pgn_words.specs.Told.{TellsLock, TellsDrop, TellsHead, TellsStop, TellsDraw, TellsCellStore, TellsCell, TellsHeadStore, after_making, made_by};
+ghost use Rattle.pgn_words.specs.Told.{TellsLock, TellsDrop, TellsHead, TellsStop, TellsDraw, TellsCellStore, TellsCell, TellsHeadStore, TellsStatusSet, TellsFinStore, TellsFin, TellsStatus, after_making, made_by, noted, joined, spent_view};
 
 use crate::view::View;
-use atomic_table::{Play, Split};
+use atomic_table::{Join, Play, Split};
 use std::marker::{Brand, PhantomData};
 
 pub(crate) struct TryLock;
@@ -75,4 +75,59 @@ impl Split<View> for MakePass {
     ghost left = { after_making };
 
     ghost right = { made_by };
+}
+
+// The transaction as it ends. It is no operand of the step, so the caller gives it to the proof.
+pub(crate) trait Ending {
+    ghost use Rattle.pgn_model.specs.declared.tx.Tx.{Tx};
+
+    ghost tx: { Tx };
+}
+
+impl Ending for Brand {
+    ghost use Rattle.pgn_words.specs.Views.{no_tx};
+
+    ghost tx = { no_tx };
+}
+
+pub(crate) struct SetStatus<G> {
+    ending: PhantomData<G>,
+}
+
+impl<G: Ending> Play<u8, View> for SetStatus<G> {
+    ghost then = { TellsStatusSet G.tx };
+}
+
+pub(crate) struct StoreFin;
+
+impl Play<u8, View> for StoreFin {
+    ghost then = { TellsFinStore };
+}
+
+pub(crate) struct LoadFin;
+
+impl Play<u8, View> for LoadFin {
+    ghost then = { TellsFin };
+}
+
+pub(crate) struct LoadStatus;
+
+impl Play<u8, View> for LoadStatus {
+    ghost then = { TellsStatus };
+}
+
+pub(crate) struct MakeNote;
+
+impl Split<View> for MakeNote {
+    ghost left = { λ v. v };
+
+    ghost right = { noted };
+}
+
+pub(crate) struct JoinNote;
+
+impl Join<View> for JoinNote {
+    ghost both = { joined };
+
+    ghost spent = { spent_view };
 }

@@ -1,12 +1,17 @@
-ghost use Rattle.std.specs.Prelude.{◌≡◌, ◌^◌, ◌+◌, ◌<◌, ◌≤◌, true, length, IfOk, IfSome};
+ghost use Rattle.std.specs.Prelude.{◌≡◌, ◌^◌, ◌+◌, ◌<◌, ◌≤◌, ◌≢◌, true, length, All, AllPairs, IfOk, IfSome};
+ghost use Rattle.pgn_base.specs.Notes.{IsNote};
 ghost use Rattle.pgn_words.specs.Passes.{IsPassOf, view_of, known_of, shape_of};
-ghost use Rattle.pgn_words.specs.Views.{stored_by};
+ghost use Rattle.std.specs.Prelude.{[]};
+ghost use Rattle.pgn_model.specs.Journal.{next_xid};
+ghost use Rattle.pgn_model.specs.Packing.{image};
+ghost use Rattle.pgn_model.specs.Shape.{notes_of_seats};
+ghost use Rattle.pgn_words.specs.Told.{drawn};
 ghost use Rattle.pgn_words.specs.declared.view.Phase.TheVariants as phases;
 
 use super::*;
-use pgn_base::{DbOid, Name, Note, Payload, SessionNo, Xid};
+use pgn_base::{DbOid, Name, Note, Payload, SessionNo, Xid, are_notes};
 use pgn_layout::Pos;
-use pgn_model::{PassView, SeatSetup, Setup};
+use pgn_model::{Fate, PassView, SeatSetup, Setup};
 use std::alloc::Global;
 use std::test::Fail;
 
@@ -77,7 +82,9 @@ fn make_ready(queue: &WordQueue, pass: &mut WordPass) -> Option<(Pos, u64)>
     requires free { (view_of pass.old).phase ≡ phases.Free }
     ensures own { IsPassOf queue.now pass.new }
     ensures ready { IfSome result (λ found. (view_of pass.new).phase ≡ phases.Ready) }
-    ensures head { IfSome result (λ found. found.0 ≡ length (stored_by (view_of pass.new))) }
+    ensures cells { IfSome result (λ found. (view_of pass.new).pen.cells ≡ image (view_of pass.new).setup.format (known_of pass.new).seen) }
+    ensures batch { IfSome result (λ found. (view_of pass.new).pen.batch ≡ []) }
+    ensures head { IfSome result (λ found. found.0 ≡ length (view_of pass.new).pen.cells) }
     ensures stop { IfSome result (λ found. found.1 ≡ (view_of pass.new).stop) }
 {
     if queue.try_lock(pass).is_err() {
@@ -88,23 +95,31 @@ fn make_ready(queue: &WordQueue, pass: &mut WordPass) -> Option<(Pos, u64)>
     Some((head, stop))
 }
 
+// A notification on the channel `c`.
+fn note(alloc: Global) -> Result<Note, Fail> {
+    Ok(Note {
+        channel: Name::new(alloc, "c")?,
+        payload: Payload::new(alloc, "x")?,
+    })
+}
+
 // It draws a number for one notification.
-fn draw(alloc: Global, queue: &WordQueue, pass: &mut WordPass) -> Result<Xid, Fail>
+fn draw(queue: &WordQueue, pass: &mut WordPass, notes: &[Note; 1]) -> Option<Xid>
     requires own { IsPassOf queue.now pass.old }
     requires ready { (view_of pass.old).phase ≡ phases.Ready }
     ensures own { IsPassOf queue.now pass.new }
-    ensures opened { IfOk result (λ _. (view_of pass.new).phase ≡ phases.Open) }
-    ensures stored { IfOk result (λ _. stored_by (view_of pass.new) ≡ stored_by (view_of pass.old)) }
-    ensures stop { IfOk result (λ _. (view_of pass.new).stop ≡ (view_of pass.old).stop) }
+    ensures view { IfSome result (λ _. view_of pass.new ≡ drawn notes.now (view_of pass.old)) }
+    ensures valid { IfSome result (λ _. All IsNote notes.now) }
+    ensures some { IfSome result (λ _. notes.now ≢ []) }
+    ensures different { IfSome result (λ _. AllPairs (λ a b. a ≢ b) notes.now) }
+    ensures number { IfSome result (λ xid. xid ≡ next_xid (known_of pass.old).seen) }
+    ensures reach { IfSome result (λ _. length (known_of pass.old).seen < notes_of_seats (shape_of queue.now).seats) }
 {
     if pass.notes_left() < 1 {
-        return Err(Fail::from("no notification left"));
+        return None;
     }
-    let note = Note {
-        channel: Name::new(alloc, "c")?,
-        payload: Payload::new(alloc, "x")?,
-    };
-    Ok(queue.draw_xid(pass, &[note]))
+    are_notes(notes);
+    Some(queue.draw_xid(pass, notes))
 }
 
 #[test]
@@ -114,13 +129,54 @@ fn a_writer_reads_what_it_stored(rt: HostRuntime) -> Result<(), Fail> {
         return Err(Fail::from("no lock"));
     };
     assert_eq!(rt; (head.get(), stop), (0, 0));
-    assert_eq!(rt; draw(rt.alloc(), &queue, &mut first)?.get(), 3);
-    assert_eq!(rt; first.notes_left(), 1);
+    let Some(xid) = draw(&queue, &mut first, &[note(rt.alloc())?]) else {
+        return Err(Fail::from("no number"));
+    };
+    assert_eq!(rt; (xid.get(), first.notes_left()), (3, 1));
     if head.page() >= stop + 2 {
         return Err(Fail::from("no page"));
     }
     queue.store_cell(&mut first, head, 0x0102_0304);
     assert_eq!(rt; queue.load_cell(&mut first, head), 0x0102_0304);
     assert!(rt; queue.try_lock(&mut second).is_err());
+    Ok(())
+}
+
+// It gives up a transaction of which nothing is written, where the head stands at the beginning of a page.
+fn give_up(queue: &WordQueue, pass: &mut WordPass, head: Pos, xid: Xid) -> Result<(), Fail>
+    requires own { IsPassOf queue.now pass.old }
+    requires opened { (view_of pass.old).phase ≡ phases.Open }
+    requires number { xid ≡ next_xid (known_of pass.old).seen }
+    requires reach { length (known_of pass.old).seen < notes_of_seats (shape_of queue.now).seats }
+    requires none_stored { (view_of pass.old).pen.batch ≡ [] }
+    requires cells { (view_of pass.old).pen.cells ≡ image (view_of pass.old).setup.format (known_of pass.old).seen }
+    requires head { head ≡ length (view_of pass.old).pen.cells }
+    requires some { (view_of pass.old).pen.notes ≢ [] }
+    requires valid { All IsNote (view_of pass.old).pen.notes }
+    requires different { AllPairs (λ a b. a ≢ b) (view_of pass.old).pen.notes }
+    ensures own { IsPassOf queue.now pass.new }
+    ensures free { IfOk result (λ _. (view_of pass.new).phase ≡ phases.Free) }
+{
+    if head.get() % 2048 != 0 {
+        return Err(Fail::from("inside a page"));
+    }
+    queue.set_status(pass, xid, Fate::Aborted, 0);
+    queue.store_fin(pass, xid);
+    queue.drop_lock(pass);
+    Ok(())
+}
+
+#[test]
+fn an_aborted_transaction_is_heard_of(rt: HostRuntime) -> Result<(), Fail> {
+    let (queue, mut first, mut second) = open_two(rt.alloc())?;
+    let Some((head, _)) = make_ready(&queue, &mut first) else {
+        return Err(Fail::from("no lock"));
+    };
+    let Some(xid) = draw(&queue, &mut first, &[note(rt.alloc())?]) else {
+        return Err(Fail::from("no number"));
+    };
+    give_up(&queue, &mut first, head, xid)?;
+    assert_eq!(rt; first.told().get(), 4);
+    assert_eq!(rt; queue.load_fin(&mut second).get(), 4);
     Ok(())
 }

@@ -40,6 +40,8 @@ pub struct View {
     /// How many passes were made, in the pass that makes them; 0 in the others.
     pub made: u64,
     pub phase: Phase,
+    /// While it signals, the number after that of its transaction: what it is told once it gives the lock up.
+    pub ended: Option<u64>,
     /// The oldest kept page.
     pub stop: u64,
     pub pen: Pen,

@@ -1,0 +1,49 @@
+ghost use Rattle.std.specs.Prelude.{◌≡◌, max};
+ghost use Rattle.pgn_words.specs.Passes.{IsPassOf, IsNoteOf, view_of, noted_view};
+ghost use Rattle.pgn_words.specs.Told.{noted, joined};
+
+use crate::pass::{WordNote, WordPass, WordQueue};
+use crate::plays::{JoinNote, MakeNote};
+use pgn_base::Xid;
+
+// The later one of two numbers.
+fn later_of(a: Xid, b: Xid) -> Xid
+    ensures { result ≡ max a b }
+{
+    if a.get() < b.get() { b } else { a }
+}
+
+impl WordQueue {
+    /// What the pass knows of the journal and was told, for another pass.
+    ///
+    /// Two passes meet so: one writes a note, and the other joins it.
+    pub fn split(&self, pass: &mut WordPass) -> WordNote
+        requires own { IsPassOf self.now pass.old }
+        ensures own { IsPassOf self.now pass.new }
+        ensures view { view_of pass.new ≡ view_of pass.old }
+        ensures note { IsNoteOf self.now result }
+        ensures noted { noted_view result ≡ noted (view_of pass.old) }
+    {
+        let seat = self.table.shared.split_seat::<MakeNote>(&mut pass.seat);
+        WordNote {
+            seat,
+            told: pass.told,
+        }
+    }
+
+    /// The pass learns what is in the note. A holder of the lock knows the journal already.
+    ///
+    /// The note is of this queue: its hub has it of one of its own passes.
+    pub fn join(&self, pass: &mut WordPass, note: WordNote)
+        requires own { IsPassOf self.now pass.old }
+        requires note { IsNoteOf self.now note }
+        ensures own { IsPassOf self.now pass.new }
+        ensures view { view_of pass.new ≡ joined (view_of pass.old) (noted_view note) }
+    {
+        let WordNote { seat, told } = note;
+        self.table
+            .shared
+            .join_seat::<JoinNote>(&mut pass.seat, seat);
+        pass.told = later_of(pass.told, told);
+    }
+}
