@@ -96,45 +96,32 @@ fn payloads_by_their_length_and_zero_bytes(rt: HostRuntime) -> Result<(), Fail> 
 }
 
 #[test]
-fn names_of_strings(rt: HostRuntime) -> Result<(), Fail> {
+fn a_name_of_a_string(rt: HostRuntime) -> Result<(), Fail> {
     let alloc = rt.alloc();
-    for (times, want) in [
-        (0, Some(NameFault::Empty)),
-        (22, None),
-        (23, None),
-        (63, None),
-        (64, Some(NameFault::TooLong)),
-    ] {
-        let text = repeated(alloc, "a", times, "")?;
-        match Name::from_string(repeated(alloc, "a", times, "")?) {
-            Ok(name) => {
-                assert_eq!(rt; want, None, "at {times}");
-                assert_eq!(rt; name.as_bytes(), text.as_bytes());
-            }
-            Err(fault) => assert_eq!(rt; Some(fault), want, "at {times}"),
-        }
-    }
+    let name = Name::from_string(repeated(alloc, "a", 23, "")?)?;
+    assert_eq!(rt; name.as_bytes(), b"aaaaaaaaaaaaaaaaaaaaaaa".as_slice());
     Ok(())
 }
 
 #[test]
-fn payloads_of_strings(rt: HostRuntime) -> Result<(), Fail> {
+fn a_string_too_long_for_a_name(rt: HostRuntime) -> Result<(), Fail> {
+    let text = repeated(rt.alloc(), "a", 64, "")?;
+    assert_eq!(rt; Name::from_string(text).err(), Some(NameFault::TooLong));
+    Ok(())
+}
+
+#[test]
+fn a_payload_of_a_string(rt: HostRuntime) -> Result<(), Fail> {
     let alloc = rt.alloc();
-    for (times, end, want) in [
-        (22, "", None),
-        (7999, "", None),
-        (8000, "", Some(PayloadFault::TooLong)),
-        (7998, "\0", Some(PayloadFault::Nul)),
-    ] {
-        let text = repeated(alloc, "a", times, end)?;
-        match Payload::from_string(repeated(alloc, "a", times, end)?) {
-            Ok(payload) => {
-                assert_eq!(rt; want, None, "at {times}");
-                assert_eq!(rt; payload.as_bytes(), text.as_bytes());
-            }
-            Err(fault) => assert_eq!(rt; Some(fault), want, "at {times}"),
-        }
-    }
+    let payload = Payload::from_string(repeated(alloc, "ab", 12, "")?)?;
+    assert_eq!(rt; payload.as_bytes(), b"abababababababababababab".as_slice());
+    Ok(())
+}
+
+#[test]
+fn a_string_with_a_zero_byte(rt: HostRuntime) -> Result<(), Fail> {
+    let text = repeated(rt.alloc(), "a", 22, "\0")?;
+    assert_eq!(rt; Payload::from_string(text).err(), Some(PayloadFault::Nul));
     Ok(())
 }
 
