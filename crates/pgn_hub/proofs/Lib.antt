@@ -1,7 +1,7 @@
 pub mod CallLaws
 pub mod FloorLaws
-mod SeatLaws
-mod WithinLaws
-mod GatheredLaws
+pub mod SeatLaws
+pub mod WithinLaws
+pub mod GatheredLaws
 mod CallerLemmas
 mod ExampleLemmas

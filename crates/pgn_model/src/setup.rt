@@ -64,6 +64,7 @@ impl Setup {
     /// The limit of the queue, in pages.
     pub fn pages(&self) -> u32
         ensures value { result ≡ self.now.pages }
+        ensures format { self.now.format ≡ One }
         ensures is_shape { IsShape self.now }
     {
         self.pages
