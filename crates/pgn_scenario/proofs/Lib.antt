@@ -1,0 +1,10 @@
+pub mod ByteLaws
+pub mod PartLaws
+pub mod FaultLaws
+pub mod SectionLaws
+pub mod AwaitLaws
+pub mod ReadingLaws
+pub mod SaidLaws
+pub mod LabelLaws
+pub mod TakeLaws
+pub mod FlagLaws

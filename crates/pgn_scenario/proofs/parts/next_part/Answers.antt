@@ -1,0 +1,32 @@
+use Rattle.std.proofs.Common.{◌≡◌, ℕ, List, ◌∷◌, take, drop, sym, ap, ◌∙◌, subst, IsCharBoundary}
+use Rattle.std.specs.List.{prefix_len}
+use Rattle.pgn_model.specs.Lines.{is_gap, parts_of}
+use Rattle.pgn_model.specs.laws.Tokens.{NoneFollows}
+use Rattle.pgn_command.proofs.QuoteLaws.{from_start}
+use Rattle.pgn_scenario.proofs.PartLaws.{is_part, part-boundary, parts-past, past-ends, parts-none, parts-next}
+use Rattle.pgn_scenario.proofs.parts.next_part.Goals as goal
+
+pub returns-then-end-eq0 : goal.returns-then-end-eq0
+returns-then-end-eq0 c =
+    let text : List ℕ = c.past_gap-text.result.now in
+    let ends : NoneFollows is_gap text = subst (NoneFollows is_gap) (sym c.past_gap-text.ensures) (past-ends c.args.text.now) in
+    let none : prefix_len is_part text ≡ 0 = ap (prefix_len is_part) (sym c.as_bytes.ensures.value) ∙ sym c.part_bytes-end.ensures.value ∙ c.if-end-eq0.true in
+    parts-past c.args.text.now ∙ ap parts_of (sym c.past_gap-text.ensures) ∙ parts-none text ends none
+
+pub range-requires-clause-end_boundary : goal.range-requires-clause-end_boundary
+range-requires-clause-end_boundary c =
+    rw c.part_bytes-end.ensures.value (subst (λ (l : List ℕ). IsCharBoundary l (prefix_len is_part c.as_bytes.result.now)) c.as_bytes.ensures.value (part-boundary c.as_bytes.result.now))
+
+pub range_from-requires : goal.range_from-requires
+range_from-requires c = λ _.
+    rw c.part_bytes-end.ensures.value (subst (λ (l : List ℕ). IsCharBoundary l (prefix_len is_part c.as_bytes.result.now)) c.as_bytes.ensures.value (part-boundary c.as_bytes.result.now))
+
+pub returns : goal.returns
+returns c =
+    let text : List ℕ = c.past_gap-text.result.now in
+    let end : c.part_bytes-end.result ≡ prefix_len is_part text = c.part_bytes-end.ensures.value ∙ ap (prefix_len is_part) c.as_bytes.ensures.value in
+    let next = parts-next text (λ e. c.if-end-eq0.false (end ∙ e)) in
+    parts-past c.args.text.now ∙ ap parts_of (sym c.past_gap-text.ensures) ∙ next
+    ∙ ap (λ (n : ℕ). take n text ∷ parts_of (drop n text)) (sym end)
+    ∙ ap (λ (l : List ℕ). l ∷ parts_of (drop c.part_bytes-end.result text)) (sym (c.range.ensures.value ∙ from_start c.part_bytes-end.result text))
+    ∙ ap (λ (l : List ℕ). c.range.result.now ∷ parts_of l) (sym c.range_from.ensures.value)

@@ -1,0 +1,5 @@
+pub mod Cutting
+pub mod Parting
+pub mod Saying
+pub mod Flags
+pub mod Steps

@@ -1,0 +1,69 @@
+ghost use Rattle.std.specs.Prelude.{◌≡◌, ◌+◌, ◌<◌, ◌≤◌, not, true, length, reverse, slice_index};
+ghost use Rattle.std.specs.List.{prefix_len};
+ghost use Rattle.pgn_model.specs.Tokens.{is_blank};
+ghost use Rattle.pgn_model.specs.Lines.{is_gap};
+
+/// How many bytes at the front are blanks.
+pub fn blanks_before(bytes: &[u8]) -> usize
+    ensures value { result ≡ prefix_len is_blank bytes.now }
+    ensures within { result ≤ length bytes.now }
+{
+    for (at, byte) in bytes.iter().enumerate() {
+        if !is_blank(*byte) {
+            return at;
+        }
+    }
+    bytes.len()
+}
+
+/// Where the blanks at the end begin.
+pub fn blanks_after(bytes: &[u8]) -> usize
+    ensures value { result + prefix_len is_blank (reverse bytes.now) ≡ length bytes.now }
+    ensures blank { result < length bytes.now → is_blank (slice_index bytes.now result) ≡ true }
+{
+    let mut end = bytes.len();
+    while end > 0 && is_blank(bytes[end - 1]) {
+        end -= 1;
+    }
+    end
+}
+
+/// How many bytes at the front are spaces or tabs.
+pub fn gap_bytes(bytes: &[u8]) -> usize
+    ensures value { result ≡ prefix_len is_gap bytes.now }
+    ensures within { result ≤ length bytes.now }
+{
+    for (at, byte) in bytes.iter().enumerate() {
+        if !is_gap(*byte) {
+            return at;
+        }
+    }
+    bytes.len()
+}
+
+/// How many bytes at the front are neither spaces nor tabs.
+pub fn part_bytes(bytes: &[u8]) -> usize
+    ensures value { result ≡ prefix_len (λ byte. not (is_gap byte)) bytes.now }
+    ensures within { result ≤ length bytes.now }
+{
+    for (at, byte) in bytes.iter().enumerate() {
+        if is_gap(*byte) {
+            return at;
+        }
+    }
+    bytes.len()
+}
+
+// Space, tab, CR, form feed and vertical tab.
+fn is_blank(byte: u8) -> bool
+    ensures { result ≡ is_blank byte }
+{
+    byte == b' ' || byte == b'\t' || byte == b'\r' || byte == 12 || byte == 11
+}
+
+// A space or a tab.
+fn is_gap(byte: u8) -> bool
+    ensures { result ≡ is_gap byte }
+{
+    byte == b' ' || byte == b'\t'
+}
