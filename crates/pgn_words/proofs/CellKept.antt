@@ -1,5 +1,5 @@
 -- The steps on cells and the store of the head keep the rule.
-use Rattle.std.proofs.Common.{◌≡◌, ◌≢◌, ℕ, ◌+◌, ◌%◌, ◌^◌, ◌<◌, ◌≤◌, true, List, [], ◌∷◌, ◌++◌, length, get_or, set, Option, Some, sym, refl, ap, ◌∙◌, subst, arith, append_assoc, mod-lt, length-set}
+use Rattle.std.proofs.Common.{◌≡◌, ◌≢◌, ℕ, ◌+◌, ◌%◌, ◌^◌, ◌<◌, ◌≤◌, true, List, [], ◌∷◌, ◌++◌, length, get_or, set, Option, Some, All, sym, refl, ap, ◌∙◌, subst, arith, append_assoc, mod-lt, length-set}
 use Rattle.std.proofs.lemmas.List.{append-nil, length-append}
 use mathlib.Core.Option.{some, none}
 use lib.ListN.{get_elem?}
@@ -7,22 +7,31 @@ use Rattle.atomic_table.specs.Table.{Me, Allows, step}
 use Rattle.atomic_table.proofs.Lists.{set_again}
 use Rattle.pgn_model.specs.declared.tx.Tx.{Tx}
 use Rattle.pgn_model.specs.Begins.{Begins}
+use Rattle.pgn_model.specs.Journal.{next_xid}
 use Rattle.pgn_model.proofs.BeginsLaws.{begins-continued}
 use Rattle.pgn_model.specs.Packing.{page_of, page_start, image}
 use Rattle.pgn_model.specs.Pieces.{draft}
-use Rattle.pgn_model.specs.Shape.{Shape}
+use Rattle.pgn_model.specs.Pieces.{IsWritten}
+use Rattle.pgn_model.specs.Shape.{Shape, IsShape}
+use Rattle.pgn_model.proofs.DraftLaws.{drafts_are_written}
+use Rattle.std.proofs.lemmas.List.Elements.{All-push}
 use Rattle.pgn_layout.specs.Batches.{padded_to}
 use Rattle.pgn_words.specs.declared.view.View.{View}
 use Rattle.pgn_words.specs.declared.view.Pen.{Pen}
 use Rattle.pgn_words.specs.declared.view.Phase.{Phase}
 use Rattle.pgn_words.specs.declared.view.Phase.TheVariants.{Free, Held, Headed, Ready, Open, Finished, Signalling}
 use Rattle.pgn_words.specs.Words.{Content, row, room_of, cells_at}
-use Rattle.pgn_words.specs.Views.{holds_lock, knows_stop, knows_cells, stored_by}
+use Rattle.pgn_words.specs.Views.{holds_lock, knows_stop, knows_cells, stored_by, is_walking}
+use Rattle.pgn_words.specs.Positions.{is_placed}
+use Rattle.pgn_words.specs.declared.view.Stage.TheVariants.{Shown}
+use Rattle.pgn_words.specs.ListenRule.{LooksBy, Spared, Walking, Bounds}
 use Rattle.pgn_words.specs.Rule.{World, KnowsStop, HoldsIn, Holds, IsWriting, Law, Lawful, Keeps}
 use Rattle.pgn_words.specs.Told.{TellsCellStore, TellsCell, TellsHeadStore, MayShow, cell_stored, head_stored}
 use Rattle.pgn_words.proofs.EachLaws.{each_turn, each_keep}
 use Rattle.pgn_words.proofs.Frames.{seats_keep, locking_keep, history_keep, numbers_keep, budget_keep, statuses_keep}
-use Rattle.pgn_words.proofs.LockKept.{held_setup, alone, others_hold}
+use Rattle.pgn_words.proofs.MoreFrames.{posts_keep, walks_keep, looks_keep, heeds_keep, wakes_keep, flags_keep, named_keep, taken_keep}
+use Rattle.pgn_words.proofs.LockKept.{held_setup, alone, others_hold, has_left}
+use Rattle.pgn_words.proofs.ImageLaws.{shown_low, written_part}
 use Rattle.pgn_words.proofs.HeadKept.{phase_holds}
 use Rattle.pgn_words.proofs.RowLaws.{set_cell, get_cell}
 use Rattle.pgn_words.proofs.RingLaws.{keeps_below, keeps_more, keeps_padded, length-padded, small_set}
@@ -34,6 +43,16 @@ near_enough z stop at page = omega (arith, page)
 
 some_room : (z : Shape) → 0 < room_of z
 some_room z = omega arith
+
+-- what a listener reads keeps its cells where one is stored at or past the head, less than a turn from the oldest kept page
+readable : (z : Shape) (c : Content) (g : World) (views : List View) (j : ℕ) (u : View) (at x : ℕ) → Law z c g views → get_elem? views j ≡ some u → u.walk.stage ≡ Shown
+    → c.head ≤ at → at < page_start c.stop + room_of z → Keeps (room_of z) u.post.at (image z.format u.walk.shown) c.cells → length (image z.format u.walk.shown) ≤ c.head
+    → Keeps (room_of z) u.post.at (image z.format u.walk.shown) (set c.cells (at % room_of z) x)
+readable z c g views j u at x h there bounded head near kept within =
+    let walks = h.walks.walking j u there (ap is_walking bounded) in
+    let place = (h.posts.placed j u there (ap is_placed walks.0)).1 in
+    let from = place.kept in
+    keeps_below (room_of z) u.post.at at x (image z.format u.walk.shown) c.cells (omega (arith, head, within)) (omega (arith, near, from)) kept
 
 stores : (z : Shape) (c : Content) (g : World) (views : List View) (id : ℕ) (v : View) (at x : ℕ) → Law z c g views → get_elem? views id ≡ some v → v.phase ≡ Open
     → at ≡ length (stored_by v) → page_of at < v.stop + z.pages → x < 2 ^ 32
@@ -48,6 +67,9 @@ stores z c g views id v at x h here opened next page low =
     let within : at % room_of z < length c.cells = let m : at % room_of z < room_of z = mod-lt at (some_room z) in omega (arith, m, long) in
     let shown : length (image z.format g.shown) ≡ length v.pen.cells = ap length (sym was.cells_are) in
     let past : length (image z.format g.shown) ≤ at = omega (arith, shown, next, length-append v.pen.cells v.pen.batch) in
+    let head : c.head ≤ at = let headed = h.stored.headed in omega (arith, headed, past) in
+    let bounds_stay : (j : ℕ) (u : View) → get_elem? views j ≡ some u → Bounds z.format (room_of z) c.head c.cells j u → Bounds z.format (room_of z) c.head (set c.cells (at % room_of z) x) j u =
+    λ j u there p bounded. let s = p bounded in (readable z c g views j u at x h there bounded head near s.0 s.1, s.1) in
     let gone : (j : ℕ) (u : View) → j ≢ id → get_elem? views j ≡ some u → holds_lock u.phase ≡ true → ⊥ = alone c.lock g.holder views id v h.locking here held in record {
       laid = record {
         pos_long = h.laid.pos_long;
@@ -63,8 +85,9 @@ stores z c g views id v at x h here opened next page low =
         kept = keeps_below (room_of z) (page_start c.stop) at x (image z.format g.shown) c.cells past near h.stored.kept;
         ahead = h.stored.ahead;
         small = small_set c.cells (at % room_of z) x within low h.stored.small;
+        low = h.stored.low;
       };
-      history = history_keep views id v w here c.lock c.fin g.made g.past g.shown h.history refl refl refl;
+      history = history_keep views id v w here z c.lock c.fin g.made g.past g.shown h.history refl refl refl;
       numbers = numbers_keep views id v w here c.lock c.fin c.xid h.numbers refl refl;
       holding = record {
         holds = each_turn (Holds z c.stop g.past g.shown c.cells) (Holds z c.stop g.past g.shown (set c.cells (at % room_of z) x)) views id w h.holding.holds
@@ -83,11 +106,22 @@ stores z c g views id v at x h here opened next page low =
       };
       statuses = statuses_keep views id v w here c.lock g.past c.statuses h.statuses refl refl;
       budget = budget_keep views id v w here z g.made g.past h.budget (omega arith);
+      posts = posts_keep views id v w here z.format g.past c.fin c.stop g.made c.tail c.pos h.posts refl refl refl;
+      walks = record {
+        walking = each_keep Walking views id v w here h.walks.walking (λ p. p);
+        bounds = each_turn (Bounds z.format (room_of z) c.head c.cells) (Bounds z.format (room_of z) c.head (set c.cells (at % room_of z) x)) views id w h.walks.bounds
+            (bounds_stay id v here (h.walks.bounds id v here)) (λ j u other there p. bounds_stay j u there p);
+      };
+      looks = looks_keep views id v w here z.format g.past c.fin c.stop g.looked g.target c.tail h.looks refl refl refl refl;
+      wakes = wakes_keep views id v w here z.format c.lock c.fin g.past g.undecided c.wakes h.wakes refl refl refl refl refl refl refl (λ i. refl) refl refl;
+      flags = flags_keep views id v w here c.fin g.undecided c.flags h.flags refl (h.flags.told id v here) refl refl;
+      named = named_keep views id v w here h.named refl refl refl refl refl;
+      taken = taken_keep views id v w here z g.made c.fin g.seat g.past h.taken refl refl;
     }
   where
     in_open : (z : Shape) (stop : ℕ) (past shown : List Tx) (cells : List ℕ) (j : ℕ) (w : View) → w.phase ≡ Open
         → IsWriting z.format (λ log. Keeps (room_of z) (page_start stop) log cells) past shown w.known.seen w.pen → Holds z stop past shown cells j w
-    in_open z stop past shown cells j w e h = subst (λ (q : Phase). HoldsIn q z.format (λ log. Keeps (room_of z) (page_start stop) log cells) past shown w.known.seen w.known.session w.pen) (sym e) h
+    in_open z stop past shown cells j w e h = subst (λ (q : Phase). HoldsIn q z.format (λ log. Keeps (room_of z) (page_start stop) log cells) past shown w.known.seen w.known.session w.known.db w.pen) (sym e) h
 
 pub store_cell_allowed : (z : Shape) (slots id word at x : ℕ) (me : Me ℕ View) → word ≡ cells_at z + at % room_of z → me.0.phase ≡ Open → at ≡ length (stored_by me.0) → page_of at < me.0.stop + z.pages → x < 2 ^ 32
     → Allows (Lawful z) slots id me word (λ _. x) (λ _. TellsCellStore (step slots word x 0 none) me x)
@@ -102,18 +136,18 @@ store_cell_allowed z slots id word at x me there opened next page low =
     })
 
 -- the holder that knows the cells
-knows : (p : Phase) (z : Shape) (stop : ℕ) (past shown seen : List Tx) (cells : List ℕ) (session : ℕ) (pen : Pen) → knows_cells p ≡ true
-    → HoldsIn p z.format (λ log. Keeps (room_of z) (page_start stop) log cells) past shown seen session pen → Keeps (room_of z) (page_start stop) (image z.format shown) cells
+knows : (p : Phase) (z : Shape) (stop : ℕ) (past shown seen : List Tx) (cells : List ℕ) (session db : ℕ) (pen : Pen) → knows_cells p ≡ true
+    → HoldsIn p z.format (λ log. Keeps (room_of z) (page_start stop) log cells) past shown seen session db pen → Keeps (room_of z) (page_start stop) (image z.format shown) cells
     → Keeps (room_of z) (page_start stop) (pen.cells ++ pen.batch) cells
-knows Free z stop past shown seen cells session pen e h kept = absurd (cc)
-knows Held z stop past shown seen cells session pen e h kept = absurd (cc)
-knows Headed z stop past shown seen cells session pen e h kept = absurd (cc)
-knows Ready z stop past shown seen cells session pen e h kept =
+knows Free z stop past shown seen cells session db pen e h kept = absurd (cc)
+knows Held z stop past shown seen cells session db pen e h kept = absurd (cc)
+knows Headed z stop past shown seen cells session db pen e h kept = absurd (cc)
+knows Ready z stop past shown seen cells session db pen e h kept =
     let stored : pen.cells ++ pen.batch ≡ image z.format shown = ap (λ b. pen.cells ++ b) h.batch_is ∙ append-nil pen.cells ∙ h.cells_are ∙ ap (image z.format) (sym h.idle.shown_is) in
     subst (λ (log : List (Option ℕ)). Keeps (room_of z) (page_start stop) log cells) (sym stored) kept
-knows Open z stop past shown seen cells session pen e h kept = h.kept
-knows Finished z stop past shown seen cells session pen e h kept = absurd (cc)
-knows Signalling z stop past shown seen cells session pen e h kept = absurd (cc)
+knows Open z stop past shown seen cells session db pen e h kept = h.kept
+knows Finished z stop past shown seen cells session db pen e h kept = absurd (cc)
+knows Signalling z stop past shown seen cells session db pen e h kept = absurd (cc)
 
 stop_too : (p : Phase) → knows_cells p ≡ true → knows_stop p ≡ true
 stop_too Free e = absurd (cc)
@@ -140,7 +174,7 @@ load_cell_allowed z slots id word at me there cells =
     let found : get_or (row c) word 0 ≡ get_or c.cells (at % room_of z) 0 = ap (λ n. get_or (row c) n 0) there ∙ get_cell z c (at % room_of z) h.laid in
     let setup : me.0.setup ≡ z = held_setup z c g views id me.0 h here (lock_too me.0.phase cells) in
     let stop : me.0.stop ≡ c.stop = h.holding.stops id me.0 here (stop_too me.0.phase cells) in
-    let kept = knows me.0.phase z c.stop g.past g.shown me.0.known.seen c.cells me.0.known.session me.0.pen cells (h.holding.holds id me.0 here) h.stored.kept in record {
+    let kept = knows me.0.phase z c.stop g.past g.shown me.0.known.seen c.cells me.0.known.session me.0.known.db me.0.pen cells (h.holding.holds id me.0 here) h.stored.kept in record {
       w = me.0;
       content = c;
       world = g;
@@ -158,9 +192,9 @@ load_cell_allowed z slots id word at me there cells =
     set_get : (l : List ℕ) (i : ℕ) → set l i (get_or l i 0) ≡ l
     set_get l i = Rattle.std.proofs.lemmas.List.set-get_or l i 0
 
-shows : (z : Shape) (c : Content) (g : World) (views : List View) (id : ℕ) (v : View) (to : ℕ) → Law z c g views → get_elem? views id ≡ some v → v.phase ≡ Open → (may : MayShow v to)
+shows : (z : Shape) (c : Content) (g : World) (views : List View) (id : ℕ) (v : View) (to : ℕ) → IsShape z → Law z c g views → get_elem? views id ≡ some v → v.phase ≡ Open → (may : MayShow v to)
     → Law z (record c { head = to }) (record g { shown = g.past ++ draft v.known.session v.known.db v.pen.notes may.queued may.fate ∷ [] }) (set views id (head_stored to v))
-shows z c g views id v to h here opened may =
+shows z c g views id v to shape h here opened may =
     let w : View = head_stored to v in
     let held : holds_lock v.phase ≡ true = ap holds_lock opened in
     let was : IsWriting z.format (λ log. Keeps (room_of z) (page_start c.stop) log c.cells) g.past g.shown v.known.seen v.pen = phase_holds Open z c.stop g.past g.shown c.cells id v opened (h.holding.holds id v here) in
@@ -170,6 +204,11 @@ shows z c g views id v to h here opened may =
     let locked = h.locking.locks id v here held in
     let image_is : image z.format now ≡ padded_to to (stored_by v) = ap (λ txs. image z.format (txs ++ draft v.known.session v.known.db v.pen.notes may.queued may.fate ∷ [])) (sym was.seen_is)
     ∙ ap (λ (y : Shape). image y.format (v.known.seen ++ draft v.known.session v.known.db v.pen.notes may.queued may.fate ∷ [])) (sym setup) ∙ may.image_is in
+    let further : c.head ≤ to =
+    let headed = h.stored.headed in
+    let cells : length v.pen.cells ≡ length (image z.format g.shown) = ap length was.cells_are in
+    let long = length-append v.pen.cells v.pen.batch in
+    let up = may.up in omega (arith, headed, cells, long, up) in
     let kept : Keeps (room_of z) (page_start c.stop) (padded_to to (stored_by v)) c.cells = keeps_padded (room_of z) (page_start c.stop) to (stored_by v) c.cells was.kept in
     let gone : (j : ℕ) (u : View) → j ≢ id → get_elem? views j ≡ some u → holds_lock u.phase ≡ true → ⊥ = alone c.lock g.holder views id v h.locking here held in record {
       laid = h.laid;
@@ -180,20 +219,27 @@ shows z c g views id v to h here opened may =
         kept = subst (λ (log : List (Option ℕ)). Keeps (room_of z) (page_start c.stop) log c.cells) (sym image_is) kept;
         ahead = subst (λ (n : ℕ). to ≤ page_start (n + z.pages)) stop (subst (λ (y : Shape). to ≤ page_start (v.stop + y.pages)) setup may.within);
         small = h.stored.small;
+        low = subst (λ (n : ℕ). n < 2 ^ 32) (ap length image_is ∙ length-padded to (stored_by v) may.up)
+            (shown_low z g.past v.known.session v.known.db v.pen.notes may.queued may.fate h.history.finished was.valid (let all = shape.few_notes in let taken = was.taken_is in let left = has_left views id v here in let budget = h.budget in omega (arith, all, taken, left, budget)));
       };
       history = record {
         counted = h.history.counted;
         finished = h.history.finished;
         sessions = h.history.sessions;
+        written = All-push IsWritten g.past (draft v.known.session v.known.db v.pen.notes may.queued may.fate) (written_part g.past g.shown h.history.begins h.history.written)
+            (let seat = h.seats.seated id v here locked.2 in drafts_are_written v.known.session v.known.db v.pen.notes may.queued may.fate was.valid seat.some_db seat.db_fits
+            (let made = seat.was_made in let few = h.seats.few in let most = shape.few_seats in omega (arith, made, few, most)));
+        one_more = let more = length-append g.past (draft v.known.session v.known.db v.pen.notes may.queued may.fate ∷ []) in omega (arith, more);
         begins = begins-continued g.past (draft v.known.session v.known.db v.pen.notes may.queued may.fate ∷ []);
         free = λ nobody. let is = locked.1 in let positive = locked.2 in absurd (omega (arith, nobody, is, positive));
         sees = each_keep (λ _ u. Begins u.known.seen g.past) views id v w here h.history.sees (λ p. p);
+        own_seen = each_keep (λ _ u. All (λ x. x < next_xid u.known.seen) u.known.own) views id v w here h.history.own_seen (λ p. p);
         owns = each_keep (λ _ u. u.known.own ≡ Rattle.pgn_model.specs.Journal.xids_of u.known.session g.past) views id v w here h.history.owns (λ p. p);
       };
       numbers = numbers_keep views id v w here c.lock c.fin c.xid h.numbers refl refl;
       holding = record {
         holds = each_turn (Holds z c.stop g.past g.shown c.cells) (Holds z c.stop g.past now c.cells) views id w h.holding.holds
-            (subst (λ (q : Phase). HoldsIn q z.format (λ log. Keeps (room_of z) (page_start c.stop) log c.cells) g.past now v.known.seen v.known.session w.pen) (sym opened) (record {
+            (subst (λ (q : Phase). HoldsIn q z.format (λ log. Keeps (room_of z) (page_start c.stop) log c.cells) g.past now v.known.seen v.known.session v.known.db w.pen) (sym opened) (record {
               seen_is = was.seen_is;
               cells_are = sym image_is;
               kept = subst (λ (log : List (Option ℕ)). Keeps (room_of z) (page_start c.stop) log c.cells) (sym (append-nil (padded_to to (stored_by v)))) kept;
@@ -207,15 +253,33 @@ shows z c g views id v to h here opened may =
       };
       statuses = statuses_keep views id v w here c.lock g.past c.statuses h.statuses refl refl;
       budget = budget_keep views id v w here z g.made g.past h.budget (omega arith);
+      posts = posts_keep views id v w here z.format g.past c.fin c.stop g.made c.tail c.pos h.posts refl refl refl;
+      walks = record {
+        walking = each_keep Walking views id v w here h.walks.walking (λ p. p);
+        bounds = each_turn (Bounds z.format (room_of z) c.head c.cells) (Bounds z.format (room_of z) to c.cells) views id w h.walks.bounds
+            (λ bounded. let s = h.walks.bounds id v here bounded in (s.0, let far = s.1 in omega (arith, far, further)))
+            (λ j u other there p bounded. let s = p bounded in (s.0, let far = s.1 in omega (arith, far, further)));
+      };
+      looks = record {
+        looking = each_turn (LooksBy z.format g.past c.fin g.looked g.target c.tail) (LooksBy z.format g.past c.fin g.looked g.target c.tail) views id w h.looks.looking (λ held. tt) (λ j u other there p. p);
+        spared = each_keep (Spared g.looked g.target) views id v w here h.looks.spared (λ p. p);
+        aims = h.looks.aims;
+        above = h.looks.above;
+      };
+      wakes = wakes_keep views id v w here z.format c.lock c.fin g.past g.undecided c.wakes h.wakes refl refl refl refl refl refl refl (λ i. refl) refl refl;
+      flags = flags_keep views id v w here c.fin g.undecided c.flags h.flags refl (h.flags.told id v here) refl refl;
+      named = named_keep views id v w here h.named refl refl refl refl refl;
+      taken = taken_keep views id v w here z g.made c.fin g.seat g.past h.taken refl refl;
     }
 
 pub store_head_allowed : (z : Shape) (slots id to : ℕ) (me : Me ℕ View) → me.0.phase ≡ Open → MayShow me.0 to → Allows (Lawful z) slots id me 1 (λ _. to) (λ _. TellsHeadStore (step slots 1 to 0 none) me to)
 store_head_allowed z slots id to me opened may =
-    allowed z slots id 1 me (λ _. to) (λ _. TellsHeadStore (step slots 1 to 0 none) me to) (λ shape c g views h here. record {
+    allowed z slots id 1 me (λ _. to) (λ _. TellsHeadStore (step slots 1 to 0 none) me to) (λ shape c g views h here.
+    let law = shows z c g views id me.0 to shape h here opened may in record {
       w = head_stored to me.0;
       content = record c { head = to };
       world = record g { shown = g.past ++ draft me.0.known.session me.0.known.db me.0.pen.notes may.queued may.fate ∷ [] };
       moves = refl;
-      law = shows z c g views id me.0 to h here opened may;
-      told = record { slots = refl; view = refl };
+      law = law;
+      told = record { slots = refl; view = refl; low = law.stored.low };
     })

@@ -1,6 +1,7 @@
 -- What holds of each pass, after one pass has changed or has been made.
-use Rattle.std.proofs.Common.{◌≡◌, ◌≢◌, ℕ, zero, suc, ◌+◌, List, [], ◌∷◌, ◌++◌, length, set, sum_by, sym, refl, ap, subst, ◌⊎◌, ⊎_elim, inl, inr, arith}
+use Rattle.std.proofs.Common.{◌≡◌, ◌≢◌, ℕ, zero, suc, ◌+◌, ◌<◌, ◌≤◌, All, List, [], ◌∷◌, ◌++◌, length, set, sum_by, sym, refl, ap, subst, ◌⊎◌, ⊎_elim, inl, inr, arith}
 use Rattle.std.proofs.lemmas.List.Sums.{sum_by-append, sum_by-cons}
+use Rattle.std.proofs.lemmas.List.Elements.{All-weaker}
 use mathlib.Core.Option.{some, some-injective, some-ne-none}
 use lib.ListN.{get_elem?}
 use Rattle.atomic_table.proofs.Lists.{at_set}
@@ -61,3 +62,7 @@ changed_at (x ∷ xs) (suc id) v w e = changed_at xs id v w e
 pub each_one : (P : ℕ → View → Type 0) (v : View) → P 0 v → Each P (v ∷ [])
 each_one P v mine zero u there = subst (λ (x : View). P 0 x) (some-injective v u there) mine
 each_one P v mine (suc j) u there = absurd (some-ne-none u (sym there))
+
+-- numbers of transactions that were seen are so where more was seen
+pub own_further : (own : List ℕ) (m n : ℕ) → m ≤ n → All (λ x. x < 3 + m) own → All (λ x. x < 3 + n) own
+own_further own m n low all = All-weaker (λ (x : ℕ). x < 3 + m) (λ (x : ℕ). x < 3 + n) (λ x less. omega (arith, less, low)) own all

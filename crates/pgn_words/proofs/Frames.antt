@@ -1,12 +1,12 @@
 -- Groups of the rule that a step leaves as they are: the pass that makes it does not change in what the group reads.
-use Rattle.std.proofs.Common.{◌≡◌, ℕ, ◌+◌, ◌<◌, ◌≤◌, true, List, set, sym, ap, ◌∙◌, subst, arith}
+use Rattle.std.proofs.Common.{◌≡◌, ℕ, ◌+◌, ◌^◌, ◌<◌, ◌≤◌, true, All, List, set, sym, ap, ◌∙◌, subst, arith}
 use mathlib.Core.Option.{some, some-injective}
 use lib.ListN.{get_elem?}
 use native.Mathlib.Decide.{ℕ_discrete}
 use Rattle.atomic_table.proofs.Lists.{set_else}
 use Rattle.pgn_model.specs.declared.tx.Tx.{Tx}
 use Rattle.pgn_model.specs.Begins.{Begins}
-use Rattle.pgn_model.specs.Journal.{xids_of}
+use Rattle.pgn_model.specs.Journal.{next_xid, xids_of}
 use Rattle.pgn_model.specs.Shape.{Shape}
 use Rattle.pgn_words.specs.declared.view.View.{View}
 use Rattle.pgn_words.specs.Views.{holds_lock, knows_stop, drawn_by, spent_by, fated}
@@ -22,6 +22,8 @@ module _ (views : List View) (id : ℕ) (v w : View) (here : get_elem? views id 
       sits = ap seat session ∙ s.sits;
       was_made = subst (λ (n : ℕ). n ≤ made) (sym session) s.was_made;
       db_is = db ∙ s.db_is ∙ ap (λ n. (Rattle.pgn_words.specs.Views.seat_of z n).db) (sym session);
+      some_db = subst (λ (n : ℕ). 0 < n) (sym db) s.some_db;
+      db_fits = subst (λ (n : ℕ). n < 2 ^ 32) (sym db) s.db_fits;
       setup_is = setup ∙ s.setup_is;
     });
     makes = each_keep (Makes made) views id v w here h.makes (λ p some. let s = p (subst (λ (n : ℕ). 0 < n) makes some) in (session ∙ s.0, makes ∙ s.1));
@@ -41,15 +43,19 @@ module _ (views : List View) (id : ℕ) (v w : View) (here : get_elem? views id 
     owned = λ some. let o = h.owned some in there_after holder o.0 o.1 session holds lock o.2 o.3 (ℕ_discrete holder id);
   }
 
-  pub history_keep : (lock fin made : ℕ) (past shown : List Tx) → History lock fin made past shown views → w.known.session ≡ v.known.session → w.known.seen ≡ v.known.seen → w.known.own ≡ v.known.own
-      → History lock fin made past shown (set views id w)
-  history_keep lock fin made past shown h session seen own = record {
+  pub history_keep : (z : Shape) (lock fin made : ℕ) (past shown : List Tx) → History z lock fin made past shown views → w.known.session ≡ v.known.session → w.known.seen ≡ v.known.seen → w.known.own ≡ v.known.own
+      → History z lock fin made past shown (set views id w)
+  history_keep z lock fin made past shown h session seen own = record {
     counted = h.counted;
     finished = h.finished;
     sessions = h.sessions;
+    written = h.written;
+    one_more = h.one_more;
     begins = h.begins;
     free = h.free;
     sees = each_keep (λ _ u. Begins u.known.seen past) views id v w here h.sees (λ p. subst (λ (xs : List Tx). Begins xs past) (sym seen) p);
+    own_seen = each_keep (λ _ u. All (λ x. x < next_xid u.known.seen) u.known.own) views id v w here h.own_seen (λ p.
+        subst (λ (xs : List Tx). All (λ x. x < next_xid xs) w.known.own) (sym seen) (subst (λ (ns : List ℕ). All (λ x. x < next_xid v.known.seen) ns) (sym own) p));
     owns = each_keep (λ _ u. u.known.own ≡ xids_of u.known.session past) views id v w here h.owns (λ p. own ∙ p ∙ ap (λ n. xids_of n past) (sym session));
   }
 

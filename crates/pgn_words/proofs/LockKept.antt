@@ -1,5 +1,5 @@
 -- The steps on the lock keep the rule.
-use Rattle.std.proofs.Common.{◌≡◌, ◌≢◌, ℕ, zero, suc, ◌+◌, ◌<◌, ◌≤◌, ◌==◌, true, false, List, [], ◌∷◌, ◌++◌, length, drop, set, sum_by, All, sym, refl, ap, ◌∙◌, subst, arith}
+use Rattle.std.proofs.Common.{◌≡◌, ◌≢◌, ℕ, zero, suc, ◌+◌, ◌<◌, ◌≤◌, ◌==◌, true, false, Bool, Option, None, Some, true≢false, unwrap_or, List, [], ◌∷◌, ◌++◌, length, drop, set, sum_by, All, sym, refl, ap, ◌∙◌, subst, arith}
 use Rattle.std.proofs.lemmas.List.Elements.{All-head, All-tail}
 use Rattle.std.proofs.lemmas.List.Sums.{sum_by-cons}
 use mathlib.Core.Option.{some, none, some-injective, some-ne-none}
@@ -7,22 +7,26 @@ use lib.ListN.{get_elem?}
 use Rattle.atomic_table.specs.Table.{Me, Allows, step}
 use Rattle.atomic_table.proofs.Lists.{exchanged, set_again}
 use prog.Atomic.{either}
+use Rattle.pgn_base.specs.declared.limits.TheConstants.{FIRST_XID}
 use Rattle.pgn_base.specs.declared.note.Note.{Note}
 use Rattle.pgn_model.specs.declared.tx.Tx.{Tx}
 use Rattle.pgn_model.specs.declared.tx.Fate.{Fate}
 use Rattle.pgn_model.specs.Begins.{Begins}
-use Rattle.pgn_model.proofs.BeginsLaws.{begins-rest, begins-itself}
-use Rattle.pgn_model.specs.Journal.{xids_of, IsFinished}
+use Rattle.pgn_model.proofs.BeginsLaws.{begins-rest, begins-itself, begins-shorter}
+use Rattle.pgn_model.specs.Journal.{next_xid, xids_of, IsFinished}
 use Rattle.pgn_model.specs.Shape.{Shape, notes_of_seats}
 use Rattle.pgn_words.specs.declared.view.View.{View}
 use Rattle.pgn_words.specs.declared.view.Phase.{Phase}
 use Rattle.pgn_words.specs.declared.view.Phase.TheVariants.{Free, Held, Headed, Ready, Open, Finished, Signalling}
 use Rattle.pgn_words.specs.Words.{Content, room_of, seats_of}
 use Rattle.pgn_words.specs.Views.{holds_lock, knows_stop, drawn_by, spent_by, fated, may_drop}
+use Rattle.pgn_words.specs.ListenRule.{LooksBy, Spared}
+use Rattle.pgn_words.specs.WakeRule.{IsHeard, Signals, ended_in, pending, waits_in}
 use Rattle.pgn_words.specs.Rule.{World, Locks, Locking, Draws, KnowsStop, HoldsIn, Holds, Law, Lawful, Keeps, Budget, notes_of, Fates}
-use Rattle.pgn_words.specs.Told.{HasLocked, IsLocked, TellsLock, TellsDrop, freed}
-use Rattle.pgn_words.proofs.EachLaws.{each_turn, each_keep, changed_at}
+use Rattle.pgn_words.specs.Told.{HasLocked, IsLocked, TellsLock, TellsDrop, locked, freed}
+use Rattle.pgn_words.proofs.EachLaws.{each_turn, each_keep, changed_at, own_further}
 use Rattle.pgn_words.proofs.Frames.{seats_keep, budget_keep}
+use Rattle.pgn_words.proofs.MoreFrames.{posts_keep, walks_keep, looks_keep, heeds_keep, wakes_keep, flags_keep, named_keep, taken_keep}
 use Rattle.pgn_words.proofs.Meets.{Goes, allowed}
 
 -- nobody holds the lock while its word is 0
@@ -46,7 +50,7 @@ free_holds Signalling nothing = absurd (nothing refl)
 
 pub others_hold : (z : Shape) (stop : ℕ) (past shown : List Tx) (cells : List ℕ) (j : ℕ) (u : View) → (holds_lock u.phase ≡ true → ⊥) → Holds z stop past shown cells j u
 others_hold z stop past shown cells j u nothing =
-    subst (λ (p : Phase). HoldsIn p z.format (λ log. Keeps (room_of z) (Rattle.pgn_model.specs.Packing.page_start stop) log cells) past shown u.known.seen u.known.session u.pen) (sym (free_holds u.phase nothing)) tt
+    subst (λ (p : Phase). HoldsIn p z.format (λ log. Keeps (room_of z) (Rattle.pgn_model.specs.Packing.page_start stop) log cells) past shown u.known.seen u.known.session u.known.db u.pen) (sym (free_holds u.phase nothing)) tt
 
 pub others_stop : (stop j : ℕ) (u : View) → (holds_lock u.phase ≡ true → ⊥) → KnowsStop stop j u
 others_stop stop j u nothing knows = absurd (nothing (knowing u.phase knows))
@@ -108,9 +112,9 @@ few_left z made past views id v budget here finished setup =
 
 -- The lock was free: the pass takes it.
 takes : (z : Shape) (c : Content) (g : World) (views : List View) (id : ℕ) (v : View) → Law z c g views → get_elem? views id ≡ some v → v.phase ≡ Free → 0 < v.known.session → c.lock ≡ 0
-    → Law z (record c { lock = v.known.session }) (record g { holder = id }) (set views id (record v { phase = Held; known = record v.known { seen = g.past } }))
+    → Law z (record c { lock = v.known.session }) (record g { holder = id }) (set views id (locked g.past v))
 takes z c g views id v h here free positive nothing =
-    let w : View = record v { phase = Held; known = record v.known { seen = g.past } } in
+    let w : View = locked g.past v in
     let all_free : (j : ℕ) (u : View) → get_elem? views j ≡ some u → holds_lock u.phase ≡ true → ⊥ = nobody c.lock g.holder views h.locking nothing in record {
       laid = h.laid;
       seats = seats_keep views id v w here z g.made g.seat h.seats refl refl refl refl;
@@ -123,9 +127,12 @@ takes z c g views id v h here free positive nothing =
         counted = h.history.counted;
         finished = h.history.finished;
         sessions = h.history.sessions;
+        written = h.history.written;
+        one_more = h.history.one_more;
         begins = h.history.begins;
         free = λ _. h.history.free nothing;
         sees = each_keep (λ _ u. Begins u.known.seen g.past) views id v w here h.history.sees (λ p. begins-itself g.past);
+        own_seen = each_keep (λ _ u. All (λ x. x < next_xid u.known.seen) u.known.own) views id v w here h.history.own_seen (λ p. own_further v.known.own (length v.known.seen) (length g.past) (begins-shorter v.known.seen g.past (h.history.sees id v here)) p);
         owns = each_keep (λ _ u. u.known.own ≡ xids_of u.known.session g.past) views id v w here h.history.owns (λ p. p);
       };
       numbers = record {
@@ -143,12 +150,60 @@ takes z c g views id v h here free positive nothing =
         fates = each_turn (Fates g.past c.statuses) (Fates g.past c.statuses) views id w h.statuses.fates (λ held. h.statuses.free nothing) (λ j u other there p. p);
       };
       budget = budget_keep views id v w here z g.made g.past h.budget (omega arith);
+      posts = posts_keep views id v w here z.format g.past c.fin c.stop g.made c.tail c.pos h.posts refl refl refl;
+      walks = walks_keep views id v w here z.format (room_of z) c.head c.cells h.walks refl refl (begins-shorter v.known.seen g.past (h.history.sees id v here));
+      looks = record {
+        looking = each_turn (LooksBy z.format g.past c.fin g.looked g.target c.tail) (LooksBy z.format g.past c.fin g.looked g.target c.tail) views id w h.looks.looking (λ held. tt) (λ j u other there p. p);
+        spared = each_keep (Spared g.looked g.target) views id v w here h.looks.spared (λ p. p);
+        aims = h.looks.aims;
+        above = h.looks.above;
+      };
+      wakes = record {
+        small = h.wakes.small;
+        heeds = heeds_keep views id v w here z.format g.past c.fin g.undecided c.wakes h.wakes.heeds refl refl refl refl refl;
+        signals = each_turn (Signals g.undecided) (Signals g.undecided) views id w h.wakes.signals (λ held i. h.wakes.calm nothing i) (λ j u other there p. p);
+        calm = λ nobody. absurd (omega (arith, nobody, positive));
+        heard = each_keep (λ _ u. IsHeard c.fin g.undecided u.known.told) views id v w here h.wakes.heard (λ p. p);
+        ended = each_keep (λ _ u. u.ended ≡ ended_in u.phase c.fin) views id v w here h.wakes.ended (λ p. p ∙ ap (λ q. ended_in q c.fin) free);
+      };
+      flags = flags_keep views id v w here c.fin g.undecided c.flags h.flags refl (h.flags.told id v here) refl refl;
+      named = named_keep views id v w here h.named refl refl refl refl refl;
+      taken = taken_keep views id v w here z g.made c.fin g.seat g.past h.taken refl refl;
     }
 
 -- The holder gives it up.
-drops : (z : Shape) (c : Content) (g : World) (views : List View) (id : ℕ) (v : View) → Law z c g views → get_elem? views id ≡ some v → holds_lock v.phase ≡ true → drawn_by v.phase ≡ 0 → g.shown ≡ g.past
+-- it is told of no more than was heard, once each seat is decided
+told_then : (phase : Phase) (fin : ℕ) (undecided : ℕ → Bool) (told : ℕ) → ((i : ℕ) → undecided i ≡ false) → IsHeard fin undecided told → IsHeard fin undecided (unwrap_or (ended_in phase fin) told)
+told_then Free fin undecided told settled h = h
+told_then Held fin undecided told settled h = h
+told_then Headed fin undecided told settled h = h
+told_then Ready fin undecided told settled h = h
+told_then Open fin undecided told settled h = h
+told_then Finished fin undecided told settled h = h
+told_then Signalling fin undecided told settled h = record { most = omega arith; decided = λ i waits. absurd (true≢false (sym waits ∙ settled i)) }
+
+first_then : (phase : Phase) (fin told : ℕ) → FIRST_XID ≤ fin → FIRST_XID ≤ told → FIRST_XID ≤ unwrap_or (ended_in phase fin) told
+first_then Free fin told f h = h
+first_then Held fin told f h = h
+first_then Headed fin told f h = h
+first_then Ready fin told f h = h
+first_then Open fin told f h = h
+first_then Finished fin told f h = h
+first_then Signalling fin told f h = f
+
+-- no seat is undecided where the holder has none in its list
+all_decided : (phase : Phase) (waits : ℕ → Bool) (i : ℕ) → waits i ≡ false → pending phase waits i ≡ false
+all_decided Free waits i e = refl
+all_decided Held waits i e = refl
+all_decided Headed waits i e = refl
+all_decided Ready waits i e = refl
+all_decided Open waits i e = refl
+all_decided Finished waits i e = refl
+all_decided Signalling waits i e = e
+
+drops : (z : Shape) (c : Content) (g : World) (views : List View) (id : ℕ) (v : View) → Law z c g views → get_elem? views id ≡ some v → holds_lock v.phase ≡ true → drawn_by v.phase ≡ 0 → g.shown ≡ g.past → ((i : ℕ) → g.undecided i ≡ false)
     → Law z (record c { lock = 0 }) g (set views id (freed v))
-drops z c g views id v h here held nothing even =
+drops z c g views id v h here held nothing even settled =
     let w : View = freed v in
     let gone : (j : ℕ) (u : View) → j ≢ id → get_elem? views j ≡ some u → holds_lock u.phase ≡ true → ⊥ = alone c.lock g.holder views id v h.locking here held in record {
       laid = h.laid;
@@ -162,9 +217,12 @@ drops z c g views id v h here held nothing even =
         counted = h.history.counted;
         finished = h.history.finished;
         sessions = h.history.sessions;
+        written = h.history.written;
+        one_more = h.history.one_more;
         begins = h.history.begins;
         free = λ _. even;
         sees = each_keep (λ _ u. Begins u.known.seen g.past) views id v w here h.history.sees (λ p. p);
+        own_seen = each_keep (λ _ u. All (λ x. x < next_xid u.known.seen) u.known.own) views id v w here h.history.own_seen (λ p. p);
         owns = each_keep (λ _ u. u.known.own ≡ xids_of u.known.session g.past) views id v w here h.history.owns (λ p. p);
       };
       numbers = record {
@@ -182,18 +240,45 @@ drops z c g views id v h here held nothing even =
         fates = each_turn (Fates g.past c.statuses) (Fates g.past c.statuses) views id w h.statuses.fates (λ held. absurd (cc)) (λ j u other there p. p);
       };
       budget = budget_keep views id v w here z g.made g.past h.budget (omega arith);
+      posts = posts_keep views id v w here z.format g.past c.fin c.stop g.made c.tail c.pos h.posts refl refl refl;
+      walks = walks_keep views id v w here z.format (room_of z) c.head c.cells h.walks refl refl (omega arith);
+      looks = record {
+        looking = each_turn (LooksBy z.format g.past c.fin g.looked g.target c.tail) (LooksBy z.format g.past c.fin g.looked g.target c.tail) views id w h.looks.looking (λ held. absurd (cc)) (λ j u other there p. p);
+        spared = each_keep (Spared g.looked g.target) views id v w here h.looks.spared (λ p. p);
+        aims = h.looks.aims;
+        above = h.looks.above;
+      };
+      wakes = record {
+        small = h.wakes.small;
+        heeds = heeds_keep views id v w here z.format g.past c.fin g.undecided c.wakes h.wakes.heeds refl refl refl refl refl;
+        signals = each_turn (Signals g.undecided) (Signals g.undecided) views id w h.wakes.signals (λ held. absurd (cc)) (λ j u other there p. p);
+        calm = λ _. settled;
+        heard = each_keep (λ _ u. IsHeard c.fin g.undecided u.known.told) views id v w here h.wakes.heard (λ p.
+            subst (λ (e : Option ℕ). IsHeard c.fin g.undecided (unwrap_or e v.known.told)) (sym (h.wakes.ended id v here)) (told_then v.phase c.fin g.undecided v.known.told settled p));
+        ended = each_turn (λ _ u. u.ended ≡ ended_in u.phase c.fin) (λ _ u. u.ended ≡ ended_in u.phase c.fin) views id w h.wakes.ended refl (λ j u other there p. p);
+      };
+      flags = flags_keep views id v w here c.fin g.undecided c.flags h.flags refl
+          (subst (λ (e : Option ℕ). FIRST_XID ≤ unwrap_or e v.known.told) (sym (h.wakes.ended id v here)) (first_then v.phase c.fin v.known.told (let counted = h.history.counted in omega (arith, counted)) (h.flags.told id v here))) refl refl;
+      named = named_keep views id v w here h.named refl refl refl refl refl;
+      taken = taken_keep views id v w here z g.made c.fin g.seat g.past h.taken refl refl;
     }
 
+-- nobody waits in a list in which nobody does
+pub none_waits : (undecided : List Bool) → All (λ b. b ≡ false) undecided → (i : ℕ) → waits_in undecided i ≡ false
+none_waits [] all i = refl
+none_waits (b ∷ undecided) all zero = All-head (λ (x : Bool). x ≡ false) b undecided all
+none_waits (b ∷ undecided) all (suc i) = none_waits undecided (All-tail (λ (x : Bool). x ≡ false) b undecided all) i
+
 -- while the holder has drawn no number, the head shows the journal
-pub idle_shows : (phase : Phase) (z : Shape) (stop : ℕ) (past shown seen : List Tx) (cells : List ℕ) (session : ℕ) (pen : Rattle.pgn_words.specs.declared.view.Pen.Pen) → may_drop phase ≡ true
-    → HoldsIn phase z.format (λ log. Keeps (room_of z) (Rattle.pgn_model.specs.Packing.page_start stop) log cells) past shown seen session pen → shown ≡ past
-idle_shows Free z stop past shown seen cells session pen e h = absurd (cc)
-idle_shows Held z stop past shown seen cells session pen e h = h.shown_is
-idle_shows Headed z stop past shown seen cells session pen e h = h.idle.shown_is
-idle_shows Ready z stop past shown seen cells session pen e h = h.idle.shown_is
-idle_shows Open z stop past shown seen cells session pen e h = absurd (cc)
-idle_shows Finished z stop past shown seen cells session pen e h = absurd (cc)
-idle_shows Signalling z stop past shown seen cells session pen e h = h.shown_is
+pub idle_shows : (phase : Phase) (z : Shape) (stop : ℕ) (past shown seen : List Tx) (cells : List ℕ) (session db : ℕ) (pen : Rattle.pgn_words.specs.declared.view.Pen.Pen) → may_drop phase ≡ true
+    → HoldsIn phase z.format (λ log. Keeps (room_of z) (Rattle.pgn_model.specs.Packing.page_start stop) log cells) past shown seen session db pen → shown ≡ past
+idle_shows Free z stop past shown seen cells session db pen e h = absurd (cc)
+idle_shows Held z stop past shown seen cells session db pen e h = h.shown_is
+idle_shows Headed z stop past shown seen cells session db pen e h = h.idle.shown_is
+idle_shows Ready z stop past shown seen cells session db pen e h = h.idle.shown_is
+idle_shows Open z stop past shown seen cells session db pen e h = absurd (cc)
+idle_shows Finished z stop past shown seen cells session db pen e h = absurd (cc)
+idle_shows Signalling z stop past shown seen cells session db pen e h = h.idle.shown_is
 
 idle_holds : (phase : Phase) → may_drop phase ≡ true → (holds_lock phase ≡ true) × (drawn_by phase ≡ 0)
 idle_holds Free e = absurd (cc)
@@ -204,16 +289,16 @@ idle_holds Open e = absurd (cc)
 idle_holds Finished e = absurd (cc)
 idle_holds Signalling e = (refl, refl)
 
-pub drop_lock_allowed : (z : Shape) (slots id : ℕ) (me : Me ℕ View) → may_drop me.0.phase ≡ true → Allows (Lawful z) slots id me 0 (λ _. 0) (λ _. TellsDrop (step slots 0 0 0 none) me 0)
-drop_lock_allowed z slots id me idle =
+pub drop_lock_allowed : (z : Shape) (slots id : ℕ) (me : Me ℕ View) → may_drop me.0.phase ≡ true → ((i : ℕ) → waits_in me.0.undecided i ≡ false) → Allows (Lawful z) slots id me 0 (λ _. 0) (λ _. TellsDrop (step slots 0 0 0 none) me 0)
+drop_lock_allowed z slots id me idle settled =
     allowed z slots id 0 me (λ _. 0) (λ _. TellsDrop (step slots 0 0 0 none) me 0) (λ shape c g views h here.
     let phase = idle_holds me.0.phase idle in
-    let even = idle_shows me.0.phase z c.stop g.past g.shown me.0.known.seen c.cells me.0.known.session me.0.pen idle (h.holding.holds id me.0 here) in record {
+    let even = idle_shows me.0.phase z c.stop g.past g.shown me.0.known.seen c.cells me.0.known.session me.0.known.db me.0.pen idle (h.holding.holds id me.0 here) in record {
       w = freed me.0;
       content = record c { lock = 0 };
       world = g;
       moves = refl;
-      law = drops z c g views id me.0 h here phase.0 phase.1 even;
+      law = drops z c g views id me.0 h here phase.0 phase.1 even (λ i. h.wakes.signals id me.0 here phase.0 i ∙ all_decided me.0.phase (waits_in me.0.undecided) i (settled i));
       told = record { slots = refl; view = refl };
     })
 
@@ -222,11 +307,11 @@ learns : (past seen : List Tx) → Begins seen past → past ≡ seen ++ drop (l
 learns past seen b = begins-rest seen past b
 
 taken_told : (z : Shape) (c : Content) (g : World) (views : List View) (id : ℕ) (v : View) → Law z c g views → get_elem? views id ≡ some v → 0 < v.known.session
-    → HasLocked v (record v { phase = Held; known = record v.known { seen = g.past } })
+    → HasLocked v (locked g.past v)
 taken_told z c g views id v h here positive =
     let rest : g.past ≡ v.known.seen ++ drop (length v.known.seen) g.past = begins-rest v.known.seen g.past (h.history.sees id v here) in record {
       more = drop (length v.known.seen) g.past;
-      view = ap (λ (xs : List Tx). let x : View = record v { phase = Held; known = record v.known { seen = xs } } in x) rest;
+      view = ap (λ (xs : List Tx). locked xs v) rest;
       finished = h.history.finished;
       few = few_left z g.made g.past views id v h.budget here h.history.finished (setup_of z c g views id v h here positive);
     }
@@ -252,7 +337,7 @@ tries : (z : Shape) (id : ℕ) (me : Me ℕ View) (slots : ℕ) (c : Content) (g
 tries z id me slots c g views free positive h here =
     exchanged c.lock 0 me.0.known.session (λ (y : ℕ). Goes z id 0 me y (TellsLock (step slots 0 0 me.0.known.session none) me) c views)
     (λ nothing. record {
-      w = record me.0 { phase = Held; known = record me.0.known { seen = g.past } };
+      w = locked g.past me.0;
       content = record c { lock = me.0.known.session };
       world = record g { holder = id };
       moves = refl;

@@ -13,10 +13,13 @@ use Rattle.pgn_words.specs.declared.view.View.{View}
 use Rattle.pgn_words.specs.declared.view.Phase.TheVariants.{Ready}
 use Rattle.pgn_words.specs.Words.{Content, row, room_of}
 use Rattle.pgn_words.specs.Views.{holds_lock, knows_stop, drawn_by, fated}
+use Rattle.pgn_words.specs.WakeRule.{ended_in, pending, waits_in}
+use Rattle.pgn_words.specs.ListenRule.{LooksBy, Spared}
 use Rattle.pgn_words.specs.Rule.{World, Draws, KnowsStop, Holds, IsHeaded, Law, Lawful, Keeps}
 use Rattle.pgn_words.specs.Told.{TellsDraw, drawn}
-use Rattle.pgn_words.proofs.EachLaws.{each_turn}
+use Rattle.pgn_words.proofs.EachLaws.{each_turn, each_keep}
 use Rattle.pgn_words.proofs.Frames.{seats_keep, locking_keep, history_keep, budget_keep, statuses_keep}
+use Rattle.pgn_words.proofs.MoreFrames.{posts_keep, walks_keep, looks_keep, heeds_keep, wakes_keep, flags_keep, named_keep, taken_keep}
 use Rattle.pgn_words.proofs.LockKept.{held_setup, alone, few_left, some_of}
 use Rattle.pgn_words.proofs.HeadKept.{phase_holds}
 use Rattle.pgn_words.proofs.Meets.{allowed}
@@ -35,7 +38,7 @@ draws z c g views id v notes h here ready filled valid different few =
       seats = seats_keep views id v w here z g.made g.seat h.seats refl refl refl refl;
       locking = locking_keep views id v w here c.lock g.holder h.locking refl (sym held);
       stored = h.stored;
-      history = history_keep views id v w here c.lock c.fin g.made g.past g.shown h.history refl refl refl;
+      history = history_keep views id v w here z c.lock c.fin g.made g.past g.shown h.history refl refl refl;
       numbers = record {
         free = λ nobody. let is = locked.1 in let positive = locked.2 in absurd (omega (arith, nobody, is, positive));
         draws = each_turn (Draws c.fin c.xid) (Draws c.fin (c.xid + 1)) views id w h.numbers.draws (λ also. omega (arith, mine)) (λ j u other there p also. absurd (alone c.lock g.holder views id v h.locking here held j u other there also));
@@ -56,6 +59,18 @@ draws z c g views id v notes h here ready filled valid different few =
       };
       statuses = statuses_keep views id v w here c.lock g.past c.statuses h.statuses (sym held) (sym (ap (λ p. fated p v.pen.ending.fate) ready));
       budget = budget_keep views id v w here z g.made g.past h.budget (omega (arith, few));
+      posts = posts_keep views id v w here z.format g.past c.fin c.stop g.made c.tail c.pos h.posts refl refl refl;
+      walks = walks_keep views id v w here z.format (room_of z) c.head c.cells h.walks refl refl (omega arith);
+      looks = record {
+        looking = each_turn (LooksBy z.format g.past c.fin g.looked g.target c.tail) (LooksBy z.format g.past c.fin g.looked g.target c.tail) views id w h.looks.looking (λ held. tt) (λ j u other there p. p);
+        spared = each_keep (Spared g.looked g.target) views id v w here h.looks.spared (λ p. p);
+        aims = h.looks.aims;
+        above = h.looks.above;
+      };
+      wakes = wakes_keep views id v w here z.format c.lock c.fin g.past g.undecided c.wakes h.wakes refl refl refl refl refl refl (sym held) (λ i. sym (ap (λ p. pending p (waits_in v.undecided) i) ready)) refl (sym (ap (λ p. ended_in p c.fin) ready));
+      flags = flags_keep views id v w here c.fin g.undecided c.flags h.flags refl (h.flags.told id v here) refl refl;
+      named = named_keep views id v w here h.named refl refl refl refl refl;
+      taken = taken_keep views id v w here z g.made c.fin g.seat g.past h.taken refl refl;
     }
 
 pub draw_allowed : (z : Shape) (slots id : ℕ) (me : Me ℕ View) (notes : List Note) → me.0.phase ≡ Ready → notes ≢ [] → All IsNote notes → AllPairs (λ a b. a ≢ b) notes → length notes ≤ me.0.known.notes_left

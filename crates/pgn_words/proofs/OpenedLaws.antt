@@ -10,7 +10,7 @@ use Rattle.pgn_model.specs.Shape.{Shape}
 use Rattle.pgn_words.specs.declared.view.View.{View}
 use Rattle.pgn_words.specs.Views.{opened, no_seat, seat_of}
 use Rattle.pgn_words.specs.Told.{after_making, made_by}
-use Rattle.pgn_words.specs.Passes.{IsPassOf, shape_of, view_of, known_of, opened_from}
+use Rattle.pgn_words.specs.Passes.{IsPassOf, IsFresh, shape_of, view_of, known_of, opened_from}
 
 -- one more seat
 pub opened_from-push : (n : ℕ) (seats : List SeatSetup) (seat : SeatSetup) → opened_from n (seats ++ seat ∷ []) ≡ opened_from n seats ++ opened (n + length seats) seat ∷ []
@@ -23,11 +23,9 @@ opened_from-push n (s ∷ seats) seat =
 pub record AreMade (queue : WordQueue) (first : WordPass) (passes : List WordPass) (k : ℕ) : Type 0 where
   pub first_own : IsPassOf queue first
   pub made : (view_of first).made ≡ k
-  pub first_free : (view_of first).phase ≡ Free
-  pub first_told : (view_of first).ended ≡ None
+  pub first_fresh : IsFresh first
   pub own : All (IsPassOf queue) passes
-  pub free : All (λ pass. (view_of pass).phase ≡ Free) passes
-  pub told : All (λ pass. (view_of pass).ended ≡ None) passes
+  pub fresh : All IsFresh passes
   pub known : known_of first ∷ map known_of passes ≡ opened_from 1 (take k (shape_of queue).seats)
 
 -- the first one has made one more
@@ -49,11 +47,9 @@ next_made queue first now pass passes k made within now_own now_is own is =
     let more : take (k + 1) seats ≡ take k seats ++ get_or seats k no_seat ∷ [] = ap (λ n. take n seats) next ∙ take_more seats k within in record {
       first_own = now_own;
       made = ap (λ (v : View). v.made) now_is ∙ ap (λ n. n + 1) made.made;
-      first_free = ap (λ (v : View). v.phase) now_is ∙ made.first_free;
-      first_told = ap (λ (v : View). v.ended) now_is ∙ made.first_told;
+      first_fresh = fresh_on first now (view_of first) now_is made.first_fresh;
       own = All-push (IsPassOf queue) passes pass made.own own;
-      told = All-push (λ (p : WordPass). (view_of p).ended ≡ None) passes pass made.told (ap (λ (v : View). v.ended) is);
-      free = All-push (λ (p : WordPass). (view_of p).phase ≡ Free) passes pass made.free (ap (λ (v : View). v.phase) is);
+      fresh = All-push IsFresh passes pass made.fresh (made_fresh (view_of first) pass is);
       known =
           ap (λ x. x ∷ map known_of (passes ++ pass ∷ [])) (ap (λ (v : View). v.known) now_is)
           ∙ ap (λ l. known_of first ∷ l) (map_more passes pass)
@@ -63,6 +59,24 @@ next_made queue first now pass passes k made within now_own now_is own is =
           ∙ ap (opened_from 1) (sym more);
     }
   where
+    fresh_on : (first now : WordPass) (v : View) → view_of now ≡ after_making (view_of first) → IsFresh first → IsFresh now
+    fresh_on first now v is f = record {
+      free = ap (λ (x : View). x.phase) is ∙ f.free;
+      told = ap (λ (x : View). x.ended) is ∙ f.told;
+      decided = ap (λ (x : View). x.undecided) is ∙ f.decided;
+      out = ap (λ (x : View). x.post.listen) is ∙ f.out;
+      alone = ap (λ (x : View). x.joined) is ∙ f.alone;
+    }
+
+    made_fresh : (v : View) (pass : WordPass) → view_of pass ≡ made_by v → IsFresh pass
+    made_fresh v pass is = record {
+      free = ap (λ (x : View). x.phase) is;
+      told = ap (λ (x : View). x.ended) is;
+      decided = ap (λ (x : View). x.undecided) is;
+      out = ap (λ (x : View). x.post.listen) is;
+      alone = ap (λ (x : View). x.joined) is;
+    }
+
     take_more : (seats : List SeatSetup) (k : ℕ) → k < length seats → take (suc k) seats ≡ take k seats ++ get_or seats k no_seat ∷ []
     take_more [] k within = absurd (omega (arith, within))
     take_more (s ∷ seats) zero within = refl

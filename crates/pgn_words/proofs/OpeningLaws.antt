@@ -1,5 +1,6 @@
 -- The words of an empty queue, with one pass, meet the rule.
-use Rattle.std.proofs.Common.{◌≡◌, ◌≢◌, ℕ, zero, suc, ◌+◌, ◌*◌, ◌%◌, ◌^◌, ◌<◌, ◌≤◌, List, [], ◌∷◌, ◌++◌, length, get_or, set, drop, replicate, sum_by, sym, refl, ap, ◌∙◌, subst, arith}
+use Rattle.std.specs.Prelude.{Contains}
+use Rattle.std.proofs.Common.{◌≡◌, ◌≢◌, inl, true, false, All, ℕ, zero, suc, ◌+◌, ◌*◌, ◌%◌, ◌^◌, ◌<◌, ◌≤◌, List, [], ◌∷◌, ◌++◌, length, get_or, set, drop, replicate, sum_by, sym, refl, ap, ◌∙◌, subst, arith}
 use Rattle.std.proofs.lemmas.List.{length-replicate, replicate-append-replicate}
 use Rattle.std.proofs.lemmas.List.Elements.{All-nil}
 use Rattle.std.proofs.lemmas.List.Sums.{sum_by-cons}
@@ -8,12 +9,17 @@ use Rattle.std.proofs.Common.{Some}
 use Rattle.atomic_table.specs.Table.{opening}
 use Rattle.pgn_model.specs.Begins.{Begins}
 use Rattle.pgn_model.proofs.BeginsLaws.{begins-none}
-use Rattle.pgn_model.specs.Journal.{xids_of, IsFinished}
+use Rattle.pgn_model.specs.Journal.{next_xid, xids_of, IsFinished}
 use Rattle.pgn_model.specs.Packing.{image, image_from}
+use Rattle.pgn_model.specs.Pieces.{IsWritten}
 use Rattle.pgn_model.specs.Shape.{Shape, IsShape}
+use Rattle.pgn_model.proofs.PackingLemmas.{first_place}
 use Rattle.pgn_words.specs.Words.{row, seats_of, status_words, room_of, word_count, first_content}
-use Rattle.pgn_words.specs.Views.{first_view, spent_by}
-use Rattle.pgn_words.specs.Rule.{Seated, Makes, Locks, WasMade, Draws, KnowsStop, Holds, Law, Lawful, Fates, status_at}
+use Rattle.pgn_words.specs.Views.{first_view, seat_of, spent_by}
+use Rattle.pgn_words.specs.declared.view.Listen.TheVariants.{Registered}
+use Rattle.pgn_words.specs.ListenRule.{Placed, Marks, ShowsPosition, Walking, Bounds, LooksBy, Spared}
+use Rattle.pgn_words.specs.WakeRule.{IsHeard, Heeds, Signals, ended_in, raised_in, found_in, named_in, Raised, IsMost, Marked, IsTaken}
+use Rattle.pgn_words.specs.Rule.{World, Seated, Makes, Locks, WasMade, Draws, KnowsStop, Holds, Law, Lawful, Fates, status_at}
 use Rattle.pgn_layout.specs.Status.{status_word, status_in}
 use Rattle.pgn_layout.proofs.StatusLaws.{none_is_set}
 use Rattle.pgn_words.proofs.EachLaws.{each_one}
@@ -56,8 +62,11 @@ nothing_shown : (z : Shape) → image z.format [] ≡ []
 unfolding image image_from
 nothing_shown z = refl
 
-opens_law : (z : Shape) → IsShape z → Law z (first_content z) (record { past = []; shown = []; holder = 0; made = 1; seat = λ n. 0 }) (first_view z ∷ [])
-opens_law z shape = record {
+abbrev first_world : World
+first_world = record { past = []; shown = []; holder = 0; made = 1; seat = λ n. 0; looked = 0; target = 0; undecided = λ i. false }
+
+opens_law : (z : Shape) → IsShape z → 0 < (seat_of z 1).db → (seat_of z 1).db < 2 ^ 32 → Law z (first_content z) first_world (first_view z ∷ [])
+opens_law z shape some_db db_fits = record {
   laid = record {
     pos_long = length-replicate {A = ℕ} (seats_of z) 0;
     wakes_long = length-replicate {A = ℕ} (seats_of z) 0;
@@ -67,7 +76,7 @@ opens_law z shape = record {
   };
   seats = record {
     few = shape.some_seats;
-    seated = each_one (Seated z 1 (λ n. 0)) (first_view z) (λ _. record { sits = refl; was_made = omega arith; db_is = refl; setup_is = refl });
+    seated = each_one (Seated z 1 (λ n. 0)) (first_view z) (λ _. record { sits = refl; was_made = omega arith; db_is = refl; some_db = some_db; db_fits = db_fits; setup_is = refl });
     makes = each_one (Makes 1) (first_view z) (λ _. (refl, refl));
   };
   locking = record { locks = each_one (Locks 0 0) (first_view z) (λ held. absurd (cc)); owned = λ lock. absurd (lock refl) };
@@ -76,14 +85,18 @@ opens_law z shape = record {
     kept = λ i x low there. absurd (none-some (Some x) (subst (λ (log : List (Rattle.std.proofs.Common.Option ℕ)). Rattle.std.proofs.Common.slice_get log i ≡ Some (Some x)) (nothing_shown z) there));
     ahead = omega arith;
     small = zero_there (room_of z);
+    low = omega arith;
   };
   history = record {
     counted = refl;
     finished = All-nil IsFinished;
-    sessions = All-nil (WasMade 1);
+    sessions = All-nil (WasMade z 1);
+    written = All-nil IsWritten;
+    one_more = omega arith;
     begins = begins-none [];
     free = λ _. refl;
     sees = each_one (λ _ u. Begins u.known.seen []) (first_view z) (begins-none []);
+    own_seen = each_one (λ _ u. All (λ x. x < next_xid u.known.seen) u.known.own) (first_view z) (All-nil (λ (x : ℕ). x < 3));
     owns = each_one (λ _ u. u.known.own ≡ xids_of u.known.session []) (first_view z) refl;
   };
   numbers = record { free = λ _. refl; draws = each_one (Draws 3 3) (first_view z) (λ held. absurd (cc)) };
@@ -97,10 +110,45 @@ opens_law z shape = record {
   budget =
       let taken = seat_taken z.seats 0 (let seats = shape.some_seats in omega (arith, seats)) in
       let mine = sum_by-cons spent_by (first_view z) [] in omega (arith, taken, mine);
+  posts = record {
+    placed = each_one (Placed z.format [] 3 0) (first_view z) (λ has. absurd (cc));
+    marks = each_one Marks (first_view z) refl;
+    shows = each_one (ShowsPosition (replicate (seats_of z) 0)) (first_view z) (λ i number. zero_is (seats_of z) i);
+    owned = λ i some_mark. let none = zero_is (seats_of z) i in absurd (omega (arith, none, some_mark));
+    unmade = λ i later. zero_is (seats_of z) i;
+    tail_placed = record { at_is = sym (first_place z.format []); least = omega arith; most = omega arith; kept = omega arith; low = omega arith };
+  };
+  walks = record { walking = each_one Walking (first_view z) (λ walks. absurd (cc)); bounds = each_one (Bounds z.format (room_of z) 0 (replicate (room_of z) 0)) (first_view z) (λ bounded. absurd (cc)) };
+  looks = record {
+    looking = each_one (LooksBy z.format [] 3 0 0 (3 * 2 ^ 32)) (first_view z) (λ held. absurd (cc));
+    spared = each_one (Spared 0 0) (first_view z) (λ has. absurd (cc));
+    aims = omega arith;
+    above = omega arith;
+  };
+  wakes = record {
+    small = λ i. let none = zero_is (seats_of z) i in omega (arith, none);
+    heeds = each_one (Heeds z.format [] 3 (λ i. false) (replicate (seats_of z) 0)) (first_view z) (λ registered. absurd (cc));
+    signals = each_one (Signals (λ i. false)) (first_view z) (λ held. absurd (cc));
+    calm = λ _ i. refl;
+    heard = each_one (λ _ u. IsHeard 3 (λ i. false) u.known.told) (first_view z) (record { most = omega arith; decided = λ i waits. absurd (cc) });
+    ended = each_one (λ _ u. u.ended ≡ ended_in u.phase 3) (first_view z) refl;
+  };
+  flags = record {
+    heard = λ f. let none = zero_is z.flags f in record { most = omega (arith, none); decided = λ i waits. absurd (cc) };
+    told = each_one (λ _ u. 3 ≤ u.known.told) (first_view z) (omega arith);
+    most = each_one (λ _ u. All (IsMost (replicate z.flags 0)) (raised_in u)) (first_view z) (All-nil (IsMost (replicate z.flags 0)));
+    source = λ f. inl (zero_is z.flags f);
+    found = each_one (λ _ u. All (Raised (first_view z ∷ [])) (found_in u)) (first_view z) (All-nil (Raised (first_view z ∷ [])));
+  };
+  named = record {
+    current = each_one (λ _ u. u.post.listen ≡ Registered → Contains u.known.marks u.post.mark) (first_view z) (λ registered. absurd (cc));
+    named = each_one (λ _ u. All (Marked (first_view z ∷ [])) (named_in u)) (first_view z) (All-nil (Marked (first_view z ∷ [])));
+  };
+  taken = each_one (λ j u. All (IsTaken z 1 3 (λ n. 0) [] j u.known.session) u.joined) (first_view z) (All-nil (IsTaken z 1 3 (λ n. 0) [] 0 1));
 }
 
-pub opens : (z : Shape) (words : List ℕ) → IsShape z → words ≡ row (first_content z) → Lawful z (opening words [] (first_view z))
-opens z words shape stands = record { shape = shape; content = first_content z; world = record { past = []; shown = []; holder = 0; made = 1; seat = λ n. 0 }; stands = stands; law = opens_law z shape }
+pub opens : (z : Shape) (words : List ℕ) → IsShape z → 0 < (seat_of z 1).db → (seat_of z 1).db < 2 ^ 32 → words ≡ row (first_content z) → Lawful z (opening words [] (first_view z))
+opens z words shape some_db db_fits stands = record { shape = shape; content = first_content z; world = first_world; stands = stands; law = opens_law z shape some_db db_fits }
 
 -- the same, as the code writes them
 pub written : (z : Shape) (count a b d : ℕ) (items : List ℕ) → items ≡ replicate count 0 → a ≡ 3 → b ≡ 3 → d ≡ 3 → count ≡ word_count z

@@ -2,7 +2,7 @@
 use Rattle.std.proofs.Common.{◌≡◌, ℕ, suc, ◌+◌, ◌-◌, ◌∷◌, List, ◌++◌, length, get_or, set, refl, ap, ◌∙◌, arith, length-append, ◌<◌}
 use Rattle.std.proofs.lemmas.List.{set-append_left, get_or_append_left, set-append_right, get_or-append-add}
 use Rattle.pgn_model.specs.Shape.{Shape}
-use Rattle.pgn_words.specs.Words.{Content, row, cells_at, statuses_at}
+use Rattle.pgn_words.specs.Words.{Content, row, pos_at, wakes_at, flags_at, cells_at, statuses_at}
 use Rattle.pgn_words.specs.Rule.{Laid}
 
 -- the words before the cells, but for the first six
@@ -69,3 +69,48 @@ get_status_word z c k laid within =
     ∙ get_or-append-add c.wakes (c.flags ++ (c.statuses ++ c.cells)) (length c.flags + k) 0
     ∙ get_or-append-add c.flags (c.statuses ++ c.cells) k 0
     ∙ get_or_append_left c.statuses c.cells 0 k within
+
+pub set_pos : (z : Shape) (c : Content) (k x : ℕ) → k < length c.pos → set (row c) (pos_at + k) x ≡ row (record c { pos = set c.pos k x })
+set_pos z c k x within =
+    let index : pos_at + k ≡ suc (suc (suc (suc (suc (suc k))))) = omega arith in
+    ap (λ n. set (row c) n x) index
+    ∙ ap (λ l. c.lock ∷ c.head ∷ c.fin ∷ c.tail ∷ c.stop ∷ c.xid ∷ l) (set_within c.pos (c.wakes ++ (c.flags ++ (c.statuses ++ c.cells))) k x within)
+
+pub get_pos : (z : Shape) (c : Content) (k : ℕ) → k < length c.pos → get_or (row c) (pos_at + k) 0 ≡ get_or c.pos k 0
+get_pos z c k within =
+    let index : pos_at + k ≡ suc (suc (suc (suc (suc (suc k))))) = omega arith in
+    ap (λ n. get_or (row c) n 0) index ∙ get_or_append_left c.pos (c.wakes ++ (c.flags ++ (c.statuses ++ c.cells))) 0 k within
+
+wake_index : (z : Shape) (c : Content) (k : ℕ) → Laid z c.pos c.wakes c.flags c.statuses c.cells → wakes_at z + k ≡ suc (suc (suc (suc (suc (suc (length c.pos + k))))))
+wake_index z c k laid = omega (arith, laid.pos_long)
+
+pub set_wake_word : (z : Shape) (c : Content) (k x : ℕ) → Laid z c.pos c.wakes c.flags c.statuses c.cells → k < length c.wakes → set (row c) (wakes_at z + k) x ≡ row (record c { wakes = set c.wakes k x })
+set_wake_word z c k x laid within =
+    ap (λ n. set (row c) n x) (wake_index z c k laid)
+    ∙ ap (λ l. c.lock ∷ c.head ∷ c.fin ∷ c.tail ∷ c.stop ∷ c.xid ∷ l)
+    (set_right c.pos (c.wakes ++ (c.flags ++ (c.statuses ++ c.cells))) k x
+    ∙ ap (λ l. c.pos ++ l) (set_within c.wakes (c.flags ++ (c.statuses ++ c.cells)) k x within))
+
+pub get_wake_word : (z : Shape) (c : Content) (k : ℕ) → Laid z c.pos c.wakes c.flags c.statuses c.cells → k < length c.wakes → get_or (row c) (wakes_at z + k) 0 ≡ get_or c.wakes k 0
+get_wake_word z c k laid within =
+    ap (λ n. get_or (row c) n 0) (wake_index z c k laid)
+    ∙ get_or-append-add c.pos (c.wakes ++ (c.flags ++ (c.statuses ++ c.cells))) k 0
+    ∙ get_or_append_left c.wakes (c.flags ++ (c.statuses ++ c.cells)) 0 k within
+
+flag_index : (z : Shape) (c : Content) (k : ℕ) → Laid z c.pos c.wakes c.flags c.statuses c.cells → flags_at z + k ≡ suc (suc (suc (suc (suc (suc (length c.pos + (length c.wakes + k)))))))
+flag_index z c k laid = omega (arith, laid.pos_long, laid.wakes_long)
+
+pub set_flag_word : (z : Shape) (c : Content) (k x : ℕ) → Laid z c.pos c.wakes c.flags c.statuses c.cells → k < length c.flags → set (row c) (flags_at z + k) x ≡ row (record c { flags = set c.flags k x })
+set_flag_word z c k x laid within =
+    ap (λ n. set (row c) n x) (flag_index z c k laid)
+    ∙ ap (λ l. c.lock ∷ c.head ∷ c.fin ∷ c.tail ∷ c.stop ∷ c.xid ∷ l)
+    (set_right c.pos (c.wakes ++ (c.flags ++ (c.statuses ++ c.cells))) (length c.wakes + k) x
+    ∙ ap (λ l. c.pos ++ l) (set_right c.wakes (c.flags ++ (c.statuses ++ c.cells)) k x
+    ∙ ap (λ l. c.wakes ++ l) (set_within c.flags (c.statuses ++ c.cells) k x within)))
+
+pub get_flag_word : (z : Shape) (c : Content) (k : ℕ) → Laid z c.pos c.wakes c.flags c.statuses c.cells → k < length c.flags → get_or (row c) (flags_at z + k) 0 ≡ get_or c.flags k 0
+get_flag_word z c k laid within =
+    ap (λ n. get_or (row c) n 0) (flag_index z c k laid)
+    ∙ get_or-append-add c.pos (c.wakes ++ (c.flags ++ (c.statuses ++ c.cells))) (length c.wakes + k) 0
+    ∙ get_or-append-add c.wakes (c.flags ++ (c.statuses ++ c.cells)) k 0
+    ∙ get_or_append_left c.flags (c.statuses ++ c.cells) 0 k within

@@ -1,5 +1,15 @@
 pub mod Words
 pub mod Views
+pub mod Positions
+pub mod Each
+pub mod ListenRule
+pub mod WakeRule
 pub mod Rule
 pub mod Told
+pub mod Listening
+pub mod Looking
+pub mod Waking
 pub mod Passes
+pub mod Closing
+pub mod Laws
+pub mod Examples

@@ -1,5 +1,5 @@
 -- A queue and its passes, as callers see them.
-use Rattle.std.specs.Prelude.{◌≡◌, ℕ, ◌+◌, List, [], ◌∷◌, ◌<◌}
+use Rattle.std.specs.Prelude.{◌≡◌, ℕ, ◌+◌, Bool, true, false, List, [], ◌∷◌, length, ◌<◌, ◌≤◌, None}
 use Rattle.pgn_model.specs.declared.known.Known.{Known}
 use Rattle.pgn_model.specs.declared.setup.SeatSetup.{SeatSetup}
 use Rattle.pgn_model.specs.Shape.{Shape}
@@ -7,7 +7,10 @@ use Rattle.pgn_words.specs.declared.view.View.{View}
 use Rattle.pgn_words.specs.declared.pass.WordQueue.{WordQueue}
 use Rattle.pgn_words.specs.declared.pass.WordPass.{WordPass}
 use Rattle.pgn_words.specs.declared.pass.WordNote.{WordNote}
-use Rattle.pgn_words.specs.Views.{opened}
+use Rattle.pgn_words.specs.declared.view.Phase.TheVariants.{Free}
+use Rattle.pgn_words.specs.declared.view.Listen.TheVariants.{Out}
+use Rattle.pgn_words.specs.Views.{opened, is_settled}
+use Rattle.pgn_words.specs.Positions.{listens_at}
 
 -- what the queue was opened for
 abbrev pub shape_of : WordQueue → Shape
@@ -27,6 +30,7 @@ pub record IsPassOf (queue : WordQueue) (pass : WordPass) : Type 0 where
   pub bare : pass.seat.me.1 ≡ []
   pub setup : pass.seat.me.0.setup ≡ queue.table.shared.key
   pub number : 0 < pass.seat.me.0.known.session
+  pub within : pass.seat.me.0.known.session ≤ length queue.table.shared.key.seats
 
 -- what is known of the passes of seats as they are opened, of which the first is that of session n
 abbrev pub opened_from : ℕ → List SeatSetup → List Known
@@ -42,3 +46,21 @@ pub record IsNoteOf (queue : WordQueue) (note : WordNote) : Type 0 where
   pub table : note.seat.table_id ≡ queue.table.shared.table_id
   pub bare : note.seat.me.1 ≡ []
   pub number : note.seat.me.0.known.session ≡ 0
+
+-- the pass is as it was opened: it does not hold the lock, was told of nothing, and is no listener
+pub record IsFresh (pass : WordPass) : Type 0 where
+  pub free : (view_of pass).phase ≡ Free
+  pub told : (view_of pass).ended ≡ None
+  pub decided : (view_of pass).undecided ≡ []
+  pub out : (view_of pass).post.listen ≡ Out
+  pub alone : (view_of pass).joined ≡ []
+
+-- between the calls of a hub a pass neither holds the lock nor joins
+pub record IsAtRest (view : View) : Type 0 where
+  pub free : view.phase ≡ Free
+  pub told : view.ended ≡ None
+  pub decided : view.undecided ≡ []
+  pub settled : is_settled view.post.listen ≡ true
+  pub alone : view.joined ≡ []
+  -- a listener has its mark, and nobody else has one
+  pub listens : view.known.mark ≡ listens_at view.post

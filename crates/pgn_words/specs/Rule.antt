@@ -1,6 +1,6 @@
 -- The rule of the words, which holds before and after each step of each pass. It speaks of what the words hold, of what no word and
 -- no pass by itself has, and of the passes. Each group of clauses takes what it reads.
-use Rattle.std.specs.Prelude.{◌≡◌, ◌≢◌, ℕ, ◌+◌, ◌%◌, ◌^◌, ◌<◌, ◌≤◌, true, List, [], ◌∷◌, ◌++◌, length, get_or, drop, slice_get, Option, Some, All, AllPairs, sum_by}
+use Rattle.std.specs.Prelude.{◌≡◌, ◌≢◌, ℕ, ◌+◌, ◌%◌, ◌^◌, ◌<◌, ◌≤◌, Bool, true, List, [], ◌∷◌, ◌++◌, length, get_or, drop, slice_get, Option, Some, All, AllPairs, sum_by}
 use mathlib.Core.Option.{some}
 use lib.ListN.{get_elem?}
 use Rattle.atomic_table.specs.Table.{State}
@@ -12,26 +12,30 @@ use Rattle.pgn_model.specs.Begins.{Begins}
 use Rattle.pgn_layout.specs.Status.{status_word, status_in, status_code}
 use Rattle.pgn_model.specs.Journal.{next_xid, entry, xids_of, IsFinished}
 use Rattle.pgn_model.specs.Packing.{page_start, image}
+use Rattle.pgn_model.specs.Pieces.{IsWritten}
 use Rattle.pgn_model.specs.Shape.{Shape, IsShape, notes_of_seats}
 use Rattle.pgn_words.specs.declared.view.View.{View}
 use Rattle.pgn_words.specs.declared.view.Pen.{Pen}
 use Rattle.pgn_words.specs.declared.view.Phase.{Phase}
 use Rattle.pgn_words.specs.declared.view.Phase.TheVariants.{Free, Held, Headed, Ready, Open, Finished, Signalling}
+pub use Rattle.pgn_words.specs.Each.{Each, Keeps}
+use Rattle.pgn_words.specs.ListenRule.{Posts, Walks, Looks}
+use Rattle.pgn_words.specs.WakeRule.{Wakes, Flags, Named, Taken}
 use Rattle.pgn_words.specs.Words.{Content, row, seats_of, status_words, room_of}
 use Rattle.pgn_words.specs.Views.{holds_lock, fated, knows_stop, drawn_by, seat_of, spent_by}
 
 -- What no word and no pass by itself has: the finished transactions; these and what the head shows of the open one; the seat among the
--- table's seats that holds the lock; how many passes were made; and where the pass of each session sits.
+-- table's seats that holds the lock; how many passes were made; where the pass of each session sits; at how many seats the
+-- last second look has looked, and its target; and the seats that are not decided after the last transaction.
 pub record World : Type 0 where
   pub past : List Tx
   pub shown : List Tx
   pub holder : ℕ
   pub made : ℕ
   pub seat : ℕ → ℕ
-
--- each pass has it
-abbrev pub Each : (ℕ → View → Type 0) → List View → Type 0
-Each P views = (j : ℕ) (v : View) → get_elem? views j ≡ some v → P j v
+  pub looked : ℕ
+  pub target : ℕ
+  pub undecided : ℕ → Bool
 
 -- there are as many words of each kind as the queue was opened for
 pub record Laid (z : Shape) (pos wakes flags statuses cells : List ℕ) : Type 0 where
@@ -46,6 +50,8 @@ pub record IsSeated (z : Shape) (made : ℕ) (seat : ℕ → ℕ) (j : ℕ) (v :
   pub sits : seat v.known.session ≡ j
   pub was_made : v.known.session ≤ made
   pub db_is : v.known.db ≡ (seat_of z v.known.session).db
+  pub some_db : 0 < v.known.db
+  pub db_fits : v.known.db < 2 ^ 32
   pub setup_is : v.setup ≡ z
 
 -- a note, and a pass that was joined, have the number 0 and are no session's
@@ -69,29 +75,30 @@ pub record Locking (lock holder : ℕ) (views : List View) : Type 0 where
   pub locks : Each (Locks lock holder) views
   pub owned : lock ≢ 0 → (v : View) × (get_elem? views holder ≡ some v) × (v.known.session ≡ lock) × (holds_lock v.phase ≡ true)
 
--- the cells hold what stands in a list of cells, from a place on. Where the pages end, the cells are used again
-abbrev pub Keeps : ℕ → ℕ → List (Option ℕ) → List ℕ → Type 0
-Keeps room from log cells = (i x : ℕ) → from ≤ i → slice_get log i ≡ Some (Some x) → get_or cells (i % room) 0 ≡ x
-
 -- what the cells hold up to the head
 pub record Stored (z : Shape) (head stop : ℕ) (shown : List Tx) (cells : List ℕ) : Type 0 where
   pub headed : head ≡ length (image z.format shown)
   pub kept : Keeps (room_of z) (page_start stop) (image z.format shown) cells
   pub ahead : head ≤ page_start (stop + z.pages)
   pub small : (k : ℕ) → get_or cells k 0 < 2 ^ 32
+  pub low : head < 2 ^ 32
 
-abbrev pub WasMade : ℕ → Tx → Type 0
-WasMade made tx = (1 ≤ tx.session) × (tx.session ≤ made)
+-- a transaction is of a session whose pass was made, and of its database
+abbrev pub WasMade : Shape → ℕ → Tx → Type 0
+WasMade z made tx = (1 ≤ tx.session) × (tx.session ≤ made) × (tx.db ≡ (seat_of z tx.session).db)
 
 -- the journal, and what each pass knows of it
-pub record History (lock fin made : ℕ) (past shown : List Tx) (views : List View) : Type 0 where
+pub record History (z : Shape) (lock fin made : ℕ) (past shown : List Tx) (views : List View) : Type 0 where
   pub counted : fin ≡ next_xid past
   pub finished : All IsFinished past
-  pub sessions : All (WasMade made) past
+  pub sessions : All (WasMade z made) past
+  pub written : All IsWritten shown
+  pub one_more : length shown ≤ length past + 1
   pub begins : Begins past shown
   pub free : lock ≡ 0 → shown ≡ past
   pub sees : Each (λ _ v. Begins v.known.seen past) views
   pub owns : Each (λ _ v. v.known.own ≡ xids_of v.known.session past) views
+  pub own_seen : Each (λ _ v. All (λ x. x < next_xid v.known.seen) v.known.own) views
 
 abbrev pub Draws : ℕ → ℕ → ℕ → View → Type 0
 Draws fin xid j v = holds_lock v.phase ≡ true → xid ≡ fin + drawn_by v.phase
@@ -128,24 +135,32 @@ pub record IsWriting (format : Format) (keeps : List (Option ℕ) → Type 0) (p
   pub taken_is : pen.taken ≡ length pen.notes
 
 -- it has set the status, and the head shows the journal with its transaction
-pub record IsEnding (format : Format) (past shown seen : List Tx) (session : ℕ) (pen : Pen) : Type 0 where
+pub record IsEnding (format : Format) (past shown seen : List Tx) (session db : ℕ) (pen : Pen) : Type 0 where
   pub seen_is : seen ≡ past
   pub shows : image format (past ++ pen.ending ∷ []) ≡ image format shown
   pub finished : IsFinished pen.ending
   pub session_is : pen.ending.session ≡ session
+  pub db_is : pen.ending.db ≡ db
   pub taken_is : pen.taken ≡ length pen.ending.notes
 
-abbrev pub HoldsIn : Phase → Format → (List (Option ℕ) → Type 0) → List Tx → List Tx → List Tx → ℕ → Pen → Type 0
-HoldsIn Free format keeps past shown seen session pen = Unit {0}
-HoldsIn Held format keeps past shown seen session pen = IsIdle past shown seen
-HoldsIn Headed format keeps past shown seen session pen = IsHeaded format past shown seen pen
-HoldsIn Ready format keeps past shown seen session pen = IsHeaded format past shown seen pen
-HoldsIn Open format keeps past shown seen session pen = IsWriting format keeps past shown seen pen
-HoldsIn Finished format keeps past shown seen session pen = IsEnding format past shown seen session pen
-HoldsIn Signalling format keeps past shown seen session pen = IsIdle past shown seen
+-- its transaction is the last one of the journal
+pub record IsSignalling (past shown seen : List Tx) (db : ℕ) (pen : Pen) : Type 0 where
+  pub idle : IsIdle past shown seen
+  pub before : List Tx
+  pub last : past ≡ before ++ pen.ending ∷ []
+  pub db_is : pen.ending.db ≡ db
+
+abbrev pub HoldsIn : Phase → Format → (List (Option ℕ) → Type 0) → List Tx → List Tx → List Tx → ℕ → ℕ → Pen → Type 0
+HoldsIn Free format keeps past shown seen session db pen = Unit {0}
+HoldsIn Held format keeps past shown seen session db pen = IsIdle past shown seen
+HoldsIn Headed format keeps past shown seen session db pen = IsHeaded format past shown seen pen
+HoldsIn Ready format keeps past shown seen session db pen = IsHeaded format past shown seen pen
+HoldsIn Open format keeps past shown seen session db pen = IsWriting format keeps past shown seen pen
+HoldsIn Finished format keeps past shown seen session db pen = IsEnding format past shown seen session db pen
+HoldsIn Signalling format keeps past shown seen session db pen = IsSignalling past shown seen db pen
 
 abbrev pub Holds : Shape → ℕ → List Tx → List Tx → List ℕ → ℕ → View → Type 0
-Holds z stop past shown cells j v = HoldsIn v.phase z.format (λ log. Keeps (room_of z) (page_start stop) log cells) past shown v.known.seen v.known.session v.pen
+Holds z stop past shown cells j v = HoldsIn v.phase z.format (λ log. Keeps (room_of z) (page_start stop) log cells) past shown v.known.seen v.known.session v.known.db v.pen
 
 -- the open transaction
 pub record Holding (z : Shape) (stop : ℕ) (past shown : List Tx) (cells : List ℕ) (views : List View) : Type 0 where
@@ -181,11 +196,18 @@ pub record Law (z : Shape) (c : Content) (g : World) (views : List View) : Type 
   pub seats : Seats z g.made g.seat views
   pub locking : Locking c.lock g.holder views
   pub stored : Stored z c.head c.stop g.shown c.cells
-  pub history : History c.lock c.fin g.made g.past g.shown views
+  pub history : History z c.lock c.fin g.made g.past g.shown views
   pub numbers : Numbers c.lock c.fin c.xid views
   pub holding : Holding z c.stop g.past g.shown c.cells views
   pub statuses : Statuses c.lock g.past c.statuses views
   pub budget : Budget z g.made g.past views
+  pub posts : Posts z.format g.past c.fin c.stop g.made c.tail c.pos views
+  pub walks : Walks z.format (room_of z) c.head c.cells views
+  pub looks : Looks z.format g.past c.fin c.stop g.looked g.target c.tail views
+  pub wakes : Wakes z.format c.lock c.fin g.past g.undecided c.wakes views
+  pub flags : Flags c.fin g.undecided c.flags views
+  pub named : Named views
+  pub taken : Taken z g.made c.fin g.seat g.past views
 
 -- the rule
 pub record Lawful (z : Shape) (s : State ℕ View) : Type 0 where

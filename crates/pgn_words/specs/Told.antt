@@ -1,29 +1,48 @@
 -- What each step needs beyond its phase, what the pass is after it, and what it tells.
-use Rattle.std.specs.Prelude.{◌≡◌, ◌≢◌, ℕ, ◌+◌, ◌-◌, ◌%◌, ◌^◌, ◌<◌, ◌≤◌, List, [], ◌∷◌, ◌++◌, length, slice_get, Some, All, None, true, unwrap_or, drop, cond, max}
+use Rattle.std.specs.Prelude.{◌≡◌, ◌≢◌, ℕ, ◌+◌, ◌-◌, ◌%◌, ◌^◌, ◌<◌, ◌≤◌, List, [], ◌∷◌, ◌++◌, length, replicate, slice_get, Some, All, None, true, unwrap_or, drop, cond, max}
 use Rattle.atomic_table.specs.Table.{Step, Me}
 use Rattle.pgn_base.specs.declared.note.Note.{Note}
 use Rattle.pgn_model.specs.declared.tx.Tx.{Tx}
 use Rattle.pgn_model.specs.declared.tx.Fate.{Fate}
+use Rattle.pgn_model.specs.declared.tx.Fate.TheVariants.{Committed, Aborted}
 use Rattle.pgn_layout.specs.Status.{status_word, status_in, status_code}
 use Rattle.pgn_base.specs.declared.limits.TheConstants.{FIRST_XID}
 use Rattle.pgn_model.specs.Journal.{next_xid, entry, IsFinished}
-use Rattle.pgn_model.specs.Packing.{page_start, image}
+use Rattle.pgn_model.specs.Packing.{page_of, page_start, image}
 use Rattle.pgn_model.specs.Pieces.{draft}
 use Rattle.pgn_model.specs.Shape.{notes_of_seats}
 use Rattle.pgn_layout.specs.Batches.{padded_to}
 use Rattle.pgn_words.specs.declared.view.View.{View}
 use Rattle.pgn_words.specs.declared.view.Phase.TheVariants.{Free, Held, Headed, Ready, Open, Finished, Signalling}
+use Rattle.pgn_words.specs.declared.view.Look.TheVariants.{Idle, Second}
 use Rattle.pgn_words.specs.Words.{seats_of, room_of, cells_at, statuses_at}
-use Rattle.pgn_words.specs.Views.{stored_by, opened_view, holds_lock, opened, no_seat, no_pen, no_setup}
+use Rattle.pgn_words.specs.Views.{stored_by, opened_view, holds_lock, opened, no_seat, no_pen, no_setup, no_post, no_walk, no_eye}
 
 -- A seat at the table of words: what the rule sees of it, and the slots that it holds, of which there are none.
 abbrev pub Mine : Type 0
 Mine = Me ℕ View
 
+-- what a pass shows of itself stays
+pub record IsSamePass (v w : View) : Type 0 where
+  pub setup : w.setup ≡ v.setup
+  pub session : w.known.session ≡ v.known.session
+  pub db : w.known.db ≡ v.known.db
+  pub mark : w.known.mark ≡ v.known.mark
+  pub told : w.known.told ≡ v.known.told
+  pub left : w.known.notes_left ≡ v.known.notes_left
+  pub owes : w.known.owes ≡ v.known.owes
+  pub ended : w.ended ≡ v.ended
+  pub base : w.post.mark ≡ v.post.mark
+  pub at : w.post.at ≡ v.post.at
+
+-- the pass holds the lock, knows this journal, and has looked at nothing
+abbrev pub locked : List Tx → View → View
+locked seen v = record v { phase = Held; eye = record v.eye { look = Idle }; known = record v.known { seen = seen } }
+
 -- the lock was free: the pass holds it, and knows the whole journal
 pub record HasLocked (v w : View) : Type 0 where
   pub more : List Tx
-  pub view : w ≡ record v { phase = Held; known = record v.known { seen = v.known.seen ++ more } }
+  pub view : w ≡ locked (v.known.seen ++ more) v
   pub finished : All IsFinished w.known.seen
   -- each further notification still has a number and a status
   pub few : length w.known.seen + w.known.notes_left ≤ notes_of_seats w.setup.seats
@@ -42,7 +61,7 @@ pub record TellsLock (s : Step ℕ) (v : Mine) (n : ℕ) (w : Mine) : Type 0 whe
 
 -- the pass gives the lock up; where it has finished a transaction, it is told of it
 abbrev pub freed : View → View
-freed v = record v { phase = Free; ended = None; known = record v.known { told = unwrap_or v.ended v.known.told } }
+freed v = record v { phase = Free; ended = None; undecided = []; known = record v.known { told = unwrap_or v.ended v.known.told } }
 
 pub record TellsDrop (s : Step ℕ) (v : Mine) (n : ℕ) (w : Mine) : Type 0 where
   pub slots : w.1 ≡ v.1
@@ -56,6 +75,7 @@ pub record TellsHead (s : Step ℕ) (v : Mine) (n : ℕ) (w : Mine) : Type 0 whe
   pub slots : w.1 ≡ v.1
   pub view : w.0 ≡ head_known v.0
   pub head : n ≡ length (image v.0.setup.format v.0.known.seen)
+  pub low : n < 2 ^ 32
 
 -- the holder has loaded the oldest kept page
 abbrev pub stop_known : ℕ → View → View
@@ -71,6 +91,7 @@ pub record TellsStop (s : Step ℕ) (v : Mine) (n : ℕ) (w : Mine) : Type 0 whe
 abbrev pub drawn : List Note → View → View
 drawn notes v = record v {
   phase = Open;
+  eye = record v.eye { look = Idle };
   known = record v.known { notes_left = v.known.notes_left - length notes };
   pen = record v.pen { notes = notes; taken = length notes };
 }
@@ -98,29 +119,46 @@ pub record TellsCell (s : Step ℕ) (v : Mine) (n : ℕ) (w : Mine) : Type 0 whe
   pub low : n < 2 ^ 32
   pub value : (at x : ℕ) → s.word ≡ cells_at v.0.setup + at % room_of v.0.setup → page_start v.0.stop ≤ at → slice_get (stored_by v.0) at ≡ Some (Some x) → n ≡ x
 
+-- so many notifications of a transaction are written, so far with this fate: not all of them, where a filler stands after them
+abbrev pub IsWrittenOf : Fate → ℕ → ℕ → Type 0
+IsWrittenOf Committed queued count = queued ≤ count
+IsWrittenOf Aborted queued count = queued < count
+
 -- The head may move to a place: what was stored, padded up to the place, is the image of the journal and of what is written of the
 -- transaction. So far it has one of two fates: Committed after an entry, Aborted after a filler.
 pub record MayShow (v : View) (to : ℕ) : Type 0 where
   pub queued : ℕ
   pub fate : Fate
   pub image_is : image v.setup.format (v.known.seen ++ draft v.known.session v.known.db v.pen.notes queued fate ∷ []) ≡ padded_to to (stored_by v)
+  pub written : IsWrittenOf fate queued (length v.pen.notes)
   pub up : length (stored_by v) ≤ to
   -- it is no further than the limit from the oldest kept page
   pub within : to ≤ page_start (v.stop + v.setup.pages)
 
 -- the head shows what was stored
 abbrev pub head_stored : ℕ → View → View
-head_stored to v = record v { pen = record v.pen { cells = padded_to to (stored_by v); batch = [] } }
+head_stored to v = record v { pen = record v.pen { cells = padded_to to (stored_by v); batch = [] }; eye = record v.eye { look = Idle } }
 
 pub record TellsHeadStore (s : Step ℕ) (v : Mine) (n : ℕ) (w : Mine) : Type 0 where
   pub slots : w.1 ≡ v.1
   pub view : w.0 ≡ head_stored s.first v.0
+  pub low : s.first < 2 ^ 32
 
--- The transaction may end so: nothing is stored past the head, and the head shows the journal and the transaction.
+-- The holder has looked at every position twice since the head last moved, has kept no more pages than are needed, and still there is
+-- no page left for the head.
+pub record HasAdvanced (v : View) : Type 0 where
+  pub second : v.eye.look ≡ Second
+  pub all : v.eye.looked ≡ seats_of v.setup
+  pub kept : page_of v.eye.target ≤ v.stop
+  pub no_page : v.stop + v.setup.pages ≤ page_of (length v.pen.cells)
+
+-- The transaction may end so: nothing is stored past the head, and the head shows the journal and the transaction. It is aborted only
+-- where no page is left.
 pub record MayEnd (v : View) (tx : Tx) : Type 0 where
   pub none_stored : v.pen.batch ≡ []
   pub all_shown : v.pen.cells ≡ image v.setup.format (v.known.seen ++ tx ∷ [])
   pub finished : IsFinished tx
+  pub full : tx.fate ≡ Aborted → HasAdvanced v
 
 -- the transaction's status is set
 abbrev pub ended_by : Tx → View → View
@@ -134,6 +172,7 @@ pub record TellsStatusSet (tx : Tx) (s : Step ℕ) (v : Mine) (n : ℕ) (w : Min
 abbrev pub fin_stored : View → View
 fin_stored v = record v {
   phase = Signalling;
+  undecided = replicate (seats_of v.setup) true;
   ended = Some (next_xid v.known.seen + 1);
   known = record v.known { seen = v.known.seen ++ v.pen.ending ∷ []; own = v.known.own ++ next_xid v.known.seen ∷ [] };
   pen = record v.pen { taken = 0 };
@@ -167,21 +206,26 @@ pub record TellsStatus (s : Step ℕ) (v : Mine) (n : ℕ) (w : Mine) : Type 0 w
   pub view : w.0 ≡ v.0
   pub value : (x : ℕ) (tx : Tx) → s.word ≡ statuses_at v.0.setup + status_word x → FIRST_XID ≤ x → entry v.0.known.seen x ≡ Some tx → status_in n x ≡ status_code tx.fate
 
--- of a note nothing is known but what is in it
-abbrev pub noted : View → View
-noted v = record {
-  known = record (opened 0 no_seat) { seen = v.known.seen; told = v.known.told };
+-- of a note that was joined, or of a pass that another has taken in, nothing is known
+abbrev pub spent_view : View
+spent_view = record {
+  known = opened 0 no_seat;
   setup = no_setup;
   made = 0;
+  joined = [];
   phase = Free;
   ended = None;
   stop = 0;
   pen = no_pen;
+  post = no_post;
+  walk = no_walk;
+  eye = no_eye;
+  undecided = [];
 }
 
--- of a note that was joined nothing is known
-abbrev pub spent_view : View
-spent_view = record { known = opened 0 no_seat; setup = no_setup; made = 0; phase = Free; ended = None; stop = 0; pen = no_pen }
+-- of a note nothing is known but what is in it
+abbrev pub noted : View → View
+noted v = record spent_view { known = record (opened 0 no_seat) { seen = v.known.seen; told = v.known.told } }
 
 -- the first list, and then what the second has beyond its length
 abbrev pub longer : List Tx → List Tx → List Tx

@@ -14,6 +14,14 @@ use Rattle.pgn_words.specs.declared.view.View.{View}
 use Rattle.pgn_words.specs.declared.view.Pen.{Pen}
 use Rattle.pgn_words.specs.declared.view.Phase.{Phase}
 use Rattle.pgn_words.specs.declared.view.Phase.TheVariants.{Free, Held, Headed, Ready, Open, Finished, Signalling}
+use Rattle.pgn_words.specs.declared.view.Listen.{Listen}
+use Rattle.pgn_words.specs.declared.view.Listen.TheVariants.{Out, Joining, Based, Registered}
+use Rattle.pgn_words.specs.declared.view.Stage.{Stage}
+use Rattle.pgn_words.specs.declared.view.Stage.TheVariants.{Still, Begun, Shown}
+use Rattle.pgn_words.specs.declared.view.Look.TheVariants.{Idle}
+use Rattle.pgn_words.specs.declared.view.Post.{Post}
+use Rattle.pgn_words.specs.declared.view.Walk.{Walk}
+use Rattle.pgn_words.specs.declared.view.Eye.{Eye}
 
 -- the pass holds the lock
 abbrev pub holds_lock : Phase → Bool
@@ -55,6 +63,29 @@ knows_cells Open = true
 knows_cells Finished = false
 knows_cells Signalling = false
 
+-- the pass may advance the tail: it knows the head and the oldest kept page, and has not set a status that is still to be finished
+abbrev pub may_look : Phase → Bool
+may_look Free = false
+may_look Held = false
+may_look Headed = false
+may_look Ready = true
+may_look Open = true
+may_look Finished = false
+may_look Signalling = true
+
+-- it is a listener or none, and on no way between
+abbrev pub is_settled : Listen → Bool
+is_settled Out = true
+is_settled Joining = false
+is_settled Based = false
+is_settled Registered = true
+
+-- the pass is on its way to a later mark
+abbrev pub is_walking : Stage → Bool
+is_walking Still = false
+is_walking Begun = true
+is_walking Shown = true
+
 -- how many numbers the pass has drawn and not yet finished
 abbrev pub drawn_by : Phase → ℕ
 drawn_by Free = 0
@@ -95,6 +126,18 @@ no_tx = record { session = 0; db = 0; notes = []; queued = 0; fate = Committed }
 abbrev pub no_pen : Pen
 no_pen = record { notes = []; taken = 0; cells = []; batch = []; ending = no_tx }
 
+-- it is no listener
+abbrev pub no_post : Post
+no_post = record { listen = Out; mark = FIRST_XID; at = 0 }
+
+-- it is on no way
+abbrev pub no_walk : Walk
+no_walk = record { stage = Still; upto = FIRST_XID; shown = [] }
+
+-- nothing is looked at
+abbrev pub no_eye : Eye
+no_eye = record { look = Idle; looked = 0; least = 0; tail = 0; target = 0 }
+
 -- nothing is loaded
 abbrev pub not_advanced : Advance
 not_advanced = record { first = []; second = []; tail = None }
@@ -122,11 +165,24 @@ opened session seat = record {
 
 -- the pass of a session as it is opened
 abbrev pub opened_view : Shape → ℕ → View
-opened_view z session = record { known = opened session (seat_of z session); setup = z; made = 0; phase = Free; ended = None; stop = 0; pen = no_pen }
+opened_view z session = record {
+  known = opened session (seat_of z session);
+  setup = z;
+  made = 0;
+  joined = [];
+  phase = Free;
+  ended = None;
+  stop = 0;
+  pen = no_pen;
+  post = no_post;
+  walk = no_walk;
+  eye = no_eye;
+  undecided = [];
+}
 
 -- the first pass, which makes the others
 abbrev pub first_view : Shape → View
-first_view z = record { known = opened 1 (seat_of z 1); setup = z; made = 1; phase = Free; ended = None; stop = 0; pen = no_pen }
+first_view z = record (opened_view z 1) { made = 1 }
 
 -- what the pass has stored: up to the head, and past it
 abbrev pub stored_by : View → List (Option ℕ)

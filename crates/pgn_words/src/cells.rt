@@ -1,4 +1,4 @@
-ghost use Rattle.std.specs.Prelude.{◌≡◌, ℕ, ◌+◌, ◌%◌, ◌<◌, ◌≤◌, true, length, slice_get, Some};
+ghost use Rattle.std.specs.Prelude.{◌≡◌, ℕ, ◌+◌, ◌%◌, ◌^◌, ◌<◌, ◌≤◌, true, length, slice_get, Some};
 ghost use Rattle.pgn_model.specs.Packing.{page_of, page_start, image};
 ghost use Rattle.pgn_words.specs.Words.{cells_at, room_of, word_count};
 ghost use Rattle.pgn_words.specs.Passes.{IsPassOf, view_of, known_of, shape_of};
@@ -22,7 +22,7 @@ const PAGE_CELLS: u64 = PAGE_BYTES as u64 / CELL_BYTES as u64;
 
 impl WordQueue {
     // The word of a cell. There is one page of them more than the limit, and they are used again and again.
-    fn word_of_cell(&self, at: Pos) -> usize
+    pub(crate) fn word_of_cell(&self, at: Pos) -> usize
         ensures value { result ≡ cells_at (shape_of self.now) + at % room_of (shape_of self.now) }
         ensures within { result < word_count (shape_of self.now) }
     {
@@ -38,6 +38,7 @@ impl WordQueue {
         ensures own { IsPassOf self.now pass.new }
         ensures view { view_of pass.new ≡ head_known (view_of pass.old) }
         ensures head { result ≡ length (image (shape_of self.now).format (known_of pass.old).seen) }
+        ensures low { result < 2 ^ 32 }
     {
         Pos::new(self.table.shared.load::<LoadHead>(&mut pass.seat, HEAD))
     }
@@ -96,6 +97,7 @@ impl WordQueue {
         requires shows { MayShow (view_of pass.old) to }
         ensures own { IsPassOf self.now pass.new }
         ensures view { view_of pass.new ≡ head_stored to (view_of pass.old) }
+        ensures low { to < 2 ^ 32 }
     {
         self.table
             .shared

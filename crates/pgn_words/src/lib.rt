@@ -6,30 +6,46 @@
 //! and what the caller learns.
 //!
 //! `Lawful` in `specs/Rule.antt` is the rule. It holds of the words that `open` makes, and each step keeps it, whatever the other
-//! passes do in between. A writer, once it has the lock:
+//! passes do in between. `laws::rule` says what follows from it. A writer, once it has the lock:
 //!
 //!     let head = queue.load_head(pass);
 //!     let stop = queue.load_stop(pass);
 //!     let xid = queue.draw_xid(pass, notes);
 //!     queue.store_cell(pass, head, cell);
 //!
+//! A listener, from its mark's place on:
+//!
+//!     let upto = queue.begin_walk(pass);
+//!     let head = queue.show_head(pass);
+//!     let cell = queue.load_shown(pass, at);
+//!
 //! Nobody waits in a step, and only `open` takes memory.
 #![tactic(auto)]
 
 mod cells;
+mod closing;
+pub mod examples;
+mod flags;
+pub mod laws;
+mod listening;
 mod lock;
+mod looks;
 mod notes;
 mod numbers;
 mod opening;
 mod pass;
 mod pass_view;
 mod plays;
+mod pos_word;
 mod statuses;
 mod view;
+mod wakes;
+mod walks;
 
 pub use lock::Held;
 pub use pass::{WordNote, WordPass, WordQueue};
-pub use view::{Pen, Phase, View};
+pub use pos_word::PosWord;
+pub use view::{Eye, Listen, Look, Pen, Phase, Post, Stage, View, Walk};
 
 #[cfg(test)]
 mod tests;

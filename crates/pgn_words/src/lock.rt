@@ -1,4 +1,4 @@
-ghost use Rattle.std.specs.Prelude.{◌≡◌, ◌≢◌, ◌≤◌, ◌<◌, true, IfOk, IfErr, OnOk, OnErr};
+ghost use Rattle.std.specs.Prelude.{◌≡◌, ◌≢◌, ◌≤◌, ◌<◌, true, false, All, IfOk, IfErr, OnOk, OnErr};
 ghost use Rattle.pgn_words.specs.Passes.{IsPassOf, view_of};
 ghost use Rattle.pgn_words.specs.Views.{may_drop};
 ghost use Rattle.pgn_words.specs.Told.{HasLocked, IsLocked, freed};
@@ -45,10 +45,11 @@ impl WordQueue {
 
     /// Gives the lock up, with no transaction open. Where it has finished one, it is told of it.
     ///
-    /// A hub calls it at the end of what it does under the lock: before it draws a number, or after `store_fin`.
+    /// A hub calls it at the end of what it does under the lock: before it draws a number, or once it has set the wakes.
     pub fn drop_lock(&self, pass: &mut WordPass)
         requires own { IsPassOf self.now pass.old }
         requires phase { may_drop (view_of pass.old).phase ≡ true }
+        requires decided { All (λ undecided. undecided ≡ false) (view_of pass.old).undecided }
         ensures own { IsPassOf self.now pass.new }
         ensures view { view_of pass.new ≡ freed (view_of pass.old) }
     {

@@ -7,7 +7,7 @@ use crate::plays::{JoinNote, MakeNote};
 use pgn_base::Xid;
 
 // The later one of two numbers.
-fn later_of(a: Xid, b: Xid) -> Xid
+pub(crate) fn later_of(a: Xid, b: Xid) -> Xid
     ensures { result ≡ max a b }
 {
     if a.get() < b.get() { b } else { a }

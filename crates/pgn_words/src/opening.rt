@@ -3,14 +3,14 @@ ghost use Rattle.pgn_base.specs.declared.limits.TheConstants.{NOTE_LINES_MAX};
 ghost use Rattle.pgn_model.specs.Shape.{notes_of_seats};
 ghost use Rattle.pgn_words.specs.Words.{cells_at, statuses_at, status_words, row, first_content};
 ghost use Rattle.pgn_words.specs.Views.{seat_of, first_view};
-ghost use Rattle.pgn_words.specs.Passes.{IsPassOf, shape_of, view_of, known_of, opened_from};
+ghost use Rattle.pgn_words.specs.Passes.{IsPassOf, IsFresh, shape_of, view_of, known_of, opened_from};
 ghost use Rattle.pgn_words.specs.Told.{after_making, made_by};
-ghost use Rattle.pgn_words.specs.declared.view.Phase.TheVariants as phases;
 
 use crate::pass::{WordPass, WordQueue};
 use crate::plays::MakePass;
 use atomic_table::Table;
 use pgn_base::{CELL_BYTES, FIRST_XID, PAGE_BYTES, SessionNo, Xid};
+use pgn_layout::Pos;
 use pgn_model::{SeatSetup, Setup};
 use std::alloc::{AllocError, Global};
 
@@ -81,15 +81,21 @@ impl WordQueue {
         ensures view { IfOk result (λ made. view_of made.1 ≡ first_view setup.now) }
     {
         let pages = u64::from(setup.pages());
+        let seat_count = setup.seats().len();
+        let wakes_at = SINGLE_WORDS + seat_count;
+        let flags_at = wakes_at + seat_count;
         let statuses_at = first_status_word(setup);
         let cells_at = statuses_at + status_word_count(setup);
         let words = first_words(alloc, setup, cells_at)?;
-        let (table, seat) = Table::of_words(alloc, words.as_slice(), setup)?;
         let seats = setup.seats();
         let first = seats[0];
+        let _db = first.db.get();
+        let (table, seat) = Table::of_words(alloc, words.as_slice(), setup)?;
         let queue = WordQueue {
             table,
             pages,
+            wakes_at,
+            flags_at,
             statuses_at,
             cells_at,
         };
@@ -101,6 +107,9 @@ impl WordQueue {
             told: Xid::new(FIRST_XID),
             notes_left: first.notes,
             ended: None,
+            base: Xid::new(FIRST_XID),
+            at: Pos::new(0),
+            owes: false,
         };
         Ok((queue, pass))
     }
@@ -117,6 +126,7 @@ impl WordQueue {
         ensures made_own { IsPassOf self.now result }
         ensures made_view { view_of result ≡ made_by (view_of first.old) }
     {
+        let _db = seat.db.get();
         let made = self.table.shared.split_seat::<MakePass>(&mut first.seat);
         WordPass {
             seat: made,
@@ -126,6 +136,9 @@ impl WordQueue {
             told: Xid::new(FIRST_XID),
             notes_left: seat.notes,
             ended: None,
+            base: Xid::new(FIRST_XID),
+            at: Pos::new(0),
+            owes: false,
         }
     }
 
@@ -134,8 +147,7 @@ impl WordQueue {
         ensures shape { IfOk result (λ opened. shape_of opened.0 ≡ setup.now) }
         ensures passes { IfOk result (λ opened. map known_of opened.1.items ≡ opened_from 1 setup.now.seats) }
         ensures own { IfOk result (λ opened. All (IsPassOf opened.0) opened.1.items) }
-        ensures free { IfOk result (λ opened. All (λ pass. (view_of pass).phase ≡ phases.Free) opened.1.items) }
-        ensures told { IfOk result (λ opened. All (λ pass. (view_of pass).ended ≡ None) opened.1.items) }
+        ensures free { IfOk result (λ opened. All IsFresh opened.1.items) }
     {
         let (queue, mut first) = WordQueue::with_first(alloc, setup)?;
         let seats = setup.seats();

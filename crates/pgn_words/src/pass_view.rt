@@ -1,7 +1,9 @@
 ghost use Rattle.std.specs.Prelude.{◌≡◌};
+ghost use Rattle.pgn_words.specs.Passes.{known_of, view_of};
 
 use crate::pass::WordPass;
 use pgn_base::{DbOid, SessionNo, Xid};
+use pgn_layout::Pos;
 use pgn_model::PassView;
 
 impl PassView for WordPass {
@@ -27,5 +29,21 @@ impl PassView for WordPass {
 
     fn notes_left(&self) -> u32 {
         self.notes_left
+    }
+}
+
+impl WordPass {
+    /// The place of a listener's mark: where the transaction numbered by it begins, or would begin.
+    pub fn place(&self) -> Pos
+        ensures { result ≡ (view_of self.now).post.at }
+    {
+        self.at
+    }
+
+    /// Whether a wake was taken that no read has followed.
+    pub fn owes(&self) -> bool
+        ensures { result ≡ (known_of self.now).owes }
+    {
+        self.owes
     }
 }

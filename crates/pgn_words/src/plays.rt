@@ -1,5 +1,9 @@
 //! What each step on the words tells.
 ghost use Rattle.pgn_words.specs.Told.{TellsLock, TellsDrop, TellsHead, TellsStop, TellsDraw, TellsCellStore, TellsCell, TellsHeadStore, TellsStatusSet, TellsFinStore, TellsFin, TellsStatus, after_making, made_by, noted, joined, spent_view};
+ghost use Rattle.pgn_words.specs.Listening.{TellsJoining, TellsBase, TellsRegistered, TellsBegun, TellsShown, TellsShownCell, TellsForwarded, TellsLeft};
+ghost use Rattle.pgn_words.specs.Looking.{TellsFirstLook, TellsTail, TellsTailStore, TellsSecondLook, TellsStopStore};
+ghost use Rattle.pgn_words.specs.Waking.{TellsTaken, TellsWakeLook, TellsWakeSet, TellsRaised, TellsLooked};
+ghost use Rattle.pgn_words.specs.Closing.{taken_in};
 
 use crate::view::View;
 use atomic_table::{Join, Play, Split};
@@ -128,6 +132,122 @@ pub(crate) struct JoinNote;
 
 impl Join<View> for JoinNote {
     ghost both = { joined };
+
+    ghost spent = { spent_view };
+}
+
+pub(crate) struct MarkJoining;
+
+impl Play<u8, View> for MarkJoining {
+    ghost then = { TellsJoining };
+}
+
+pub(crate) struct LoadBase;
+
+impl Play<u8, View> for LoadBase {
+    ghost then = { TellsBase };
+}
+
+pub(crate) struct StoreValid;
+
+impl Play<u8, View> for StoreValid {
+    ghost then = { TellsRegistered };
+}
+
+pub(crate) struct BeginWalk;
+
+impl Play<u8, View> for BeginWalk {
+    ghost then = { TellsBegun };
+}
+
+pub(crate) struct ShowHead;
+
+impl Play<u8, View> for ShowHead {
+    ghost then = { TellsShown };
+}
+
+pub(crate) struct LoadShown;
+
+impl Play<u8, View> for LoadShown {
+    ghost then = { TellsShownCell };
+}
+
+pub(crate) struct StoreForward;
+
+impl Play<u8, View> for StoreForward {
+    ghost then = { TellsForwarded };
+}
+
+pub(crate) struct StoreOut;
+
+impl Play<u8, View> for StoreOut {
+    ghost then = { TellsLeft };
+}
+
+pub(crate) struct FirstLook;
+
+impl Play<u8, View> for FirstLook {
+    ghost then = { TellsFirstLook };
+}
+
+pub(crate) struct LoadTail;
+
+impl Play<u8, View> for LoadTail {
+    ghost then = { TellsTail };
+}
+
+pub(crate) struct StoreTail;
+
+impl Play<u8, View> for StoreTail {
+    ghost then = { TellsTailStore };
+}
+
+pub(crate) struct SecondLook;
+
+impl Play<u8, View> for SecondLook {
+    ghost then = { TellsSecondLook };
+}
+
+pub(crate) struct StoreStop;
+
+impl Play<u8, View> for StoreStop {
+    ghost then = { TellsStopStore };
+}
+
+pub(crate) struct TakeWake;
+
+impl Play<u8, View> for TakeWake {
+    ghost then = { TellsTaken };
+}
+
+pub(crate) struct WakeLook;
+
+impl Play<u8, View> for WakeLook {
+    ghost then = { TellsWakeLook };
+}
+
+pub(crate) struct SetWake;
+
+impl Play<u8, View> for SetWake {
+    ghost then = { TellsWakeSet };
+}
+
+pub(crate) struct RaiseFlag;
+
+impl Play<u8, View> for RaiseFlag {
+    ghost then = { TellsRaised };
+}
+
+pub(crate) struct LookFlag;
+
+impl Play<u8, View> for LookFlag {
+    ghost then = { TellsLooked };
+}
+
+pub(crate) struct JoinPass;
+
+impl Join<View> for JoinPass {
+    ghost both = { taken_in };
 
     ghost spent = { spent_view };
 }

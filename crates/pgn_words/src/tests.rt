@@ -1,11 +1,15 @@
-ghost use Rattle.std.specs.Prelude.{◌≡◌, ◌^◌, ◌+◌, ◌<◌, ◌≤◌, ◌≢◌, true, length, All, AllPairs, IfOk, IfSome};
+ghost use Rattle.std.specs.Prelude.{◌≡◌, ◌^◌, ◌+◌, ◌<◌, ◌≤◌, true, length, All, IfOk, IfSome};
 ghost use Rattle.pgn_base.specs.Notes.{IsNote};
-ghost use Rattle.pgn_words.specs.Passes.{IsPassOf, view_of, known_of, shape_of};
-ghost use Rattle.std.specs.Prelude.{[]};
+ghost use Rattle.pgn_words.specs.Passes.{IsPassOf, IsFresh, view_of, known_of, shape_of};
+ghost use Rattle.std.specs.Prelude.{[], ◌∷◌, replicate};
 ghost use Rattle.pgn_model.specs.Journal.{next_xid};
 ghost use Rattle.pgn_model.specs.Packing.{image};
+ghost use Rattle.pgn_base.specs.declared.format.Format.TheVariants.{One};
 ghost use Rattle.pgn_model.specs.Shape.{notes_of_seats};
+ghost use Rattle.pgn_model.specs.examples.Packing.{virtual_note, virtual_cells};
 ghost use Rattle.pgn_words.specs.Told.{drawn};
+ghost use Rattle.pgn_words.specs.declared.view.Listen.TheVariants as listens;
+ghost use Rattle.pgn_words.specs.declared.view.Stage.TheVariants as stages;
 ghost use Rattle.pgn_words.specs.declared.view.Phase.TheVariants as phases;
 
 use super::*;
@@ -14,6 +18,21 @@ use pgn_layout::Pos;
 use pgn_model::{Fate, PassView, SeatSetup, Setup};
 use std::alloc::Global;
 use std::test::Fail;
+
+// The cells of the entry of a notification on the channel `virtual`, in database 1, of transaction 3 by process 1001.
+const ENTRY: [u32; 11] = [
+    44,
+    1,
+    3,
+    1001,
+    0x7472_6976,
+    0x006c_6175,
+    0x7369_6854,
+    0x2073_6920,
+    0x2065_6874,
+    0x6c79_6170,
+    0x0064_616f,
+];
 
 // A seat of database 1, whose session may send two notifications.
 fn seat() -> SeatSetup
@@ -25,21 +44,28 @@ fn seat() -> SeatSetup
     }
 }
 
-// A queue of two pages with two seats.
+// A queue of two pages and one flag with two seats.
 fn setup_of_two(alloc: Global) -> Result<Setup, Fail>
-    ensures { IfOk result (λ setup. setup.pages ≡ 2) }
+    ensures pages { IfOk result (λ setup. setup.pages ≡ 2) }
+    ensures flags { IfOk result (λ setup. setup.flags ≡ 1) }
+    ensures seats { IfOk result (λ setup. length setup.seats ≡ 2) }
+    ensures format { IfOk result (λ setup. setup.format ≡ One) }
 {
     let mut seats = Vec::with_capacity(alloc, 2)?;
     seats.push(seat())?;
     seats.push(seat())?;
-    Ok(Setup::new(2, 0, seats))
+    Ok(Setup::new(2, 1, seats))
 }
 
-// A queue of two pages for two sessions of database 1, each of which may send two notifications.
+// A queue of two pages and one flag for two sessions of database 1, each of which may send two notifications.
 fn open_two(alloc: Global) -> Result<(WordQueue, WordPass, WordPass), Fail>
     ensures own { IfOk result (λ opened. IsPassOf opened.0 opened.1 × IsPassOf opened.0 opened.2) }
     ensures pages { IfOk result (λ opened. (shape_of opened.0).pages ≡ 2) }
-    ensures free { IfOk result (λ opened. ((view_of opened.1).phase ≡ phases.Free) × ((view_of opened.2).phase ≡ phases.Free)) }
+    ensures flags { IfOk result (λ opened. (shape_of opened.0).flags ≡ 1) }
+    ensures seats { IfOk result (λ opened. length (shape_of opened.0).seats ≡ 2) }
+    ensures format { IfOk result (λ opened. (shape_of opened.0).format ≡ One) }
+    ensures first { IfOk result (λ opened. IsFresh opened.1) }
+    ensures second { IfOk result (λ opened. IsFresh opened.2) }
 {
     let setup = setup_of_two(alloc)?;
     let (queue, mut passes) = WordQueue::open(alloc, &setup)?;
@@ -110,8 +136,6 @@ fn draw(queue: &WordQueue, pass: &mut WordPass, notes: &[Note; 1]) -> Option<Xid
     ensures own { IsPassOf queue.now pass.new }
     ensures view { IfSome result (λ _. view_of pass.new ≡ drawn notes.now (view_of pass.old)) }
     ensures valid { IfSome result (λ _. All IsNote notes.now) }
-    ensures some { IfSome result (λ _. notes.now ≢ []) }
-    ensures different { IfSome result (λ _. AllPairs (λ a b. a ≢ b) notes.now) }
     ensures number { IfSome result (λ xid. xid ≡ next_xid (known_of pass.old).seen) }
     ensures reach { IfSome result (λ _. length (known_of pass.old).seen < notes_of_seats (shape_of queue.now).seats) }
 {
@@ -142,41 +166,167 @@ fn a_writer_reads_what_it_stored(rt: HostRuntime) -> Result<(), Fail> {
     Ok(())
 }
 
-// It gives up a transaction of which nothing is written, where the head stands at the beginning of a page.
-fn give_up(queue: &WordQueue, pass: &mut WordPass, head: Pos, xid: Xid) -> Result<(), Fail>
+// It joins with the announced tail as its base, and is a listener.
+fn join(queue: &WordQueue, pass: &mut WordPass) -> (Xid, Pos)
     requires own { IsPassOf queue.now pass.old }
-    requires opened { (view_of pass.old).phase ≡ phases.Open }
-    requires number { xid ≡ next_xid (known_of pass.old).seen }
-    requires reach { length (known_of pass.old).seen < notes_of_seats (shape_of queue.now).seats }
-    requires none_stored { (view_of pass.old).pen.batch ≡ [] }
-    requires cells { (view_of pass.old).pen.cells ≡ image (view_of pass.old).setup.format (known_of pass.old).seen }
-    requires head { head ≡ length (view_of pass.old).pen.cells }
-    requires some { (view_of pass.old).pen.notes ≢ [] }
-    requires valid { All IsNote (view_of pass.old).pen.notes }
-    requires different { AllPairs (λ a b. a ≢ b) (view_of pass.old).pen.notes }
+    requires free { (view_of pass.old).phase ≡ phases.Free }
+    requires out { (view_of pass.old).post.listen ≡ listens.Out }
     ensures own { IsPassOf queue.now pass.new }
-    ensures free { IfOk result (λ _. (view_of pass.new).phase ≡ phases.Free) }
+    ensures free { (view_of pass.new).phase ≡ phases.Free }
+    ensures listens { (view_of pass.new).post.listen ≡ listens.Registered }
 {
-    if head.get() % 2048 != 0 {
-        return Err(Fail::from("inside a page"));
-    }
-    queue.set_status(pass, xid, Fate::Aborted, 0);
-    queue.store_fin(pass, xid);
-    queue.drop_lock(pass);
+    queue.mark_joining(pass);
+    let base = queue.load_base(pass);
+    queue.store_valid(pass);
+    base
+}
+
+#[test]
+fn a_session_joins_and_leaves(rt: HostRuntime) -> Result<(), Fail> {
+    let (queue, _first, mut second) = open_two(rt.alloc())?;
+    let (base, place) = join(&queue, &mut second);
+    assert_eq!(rt; (base.get(), place.get()), (3, 0));
+    assert_eq!(rt; second.mark().map(|mark| mark.get()), Some(3));
+    assert!(rt; second.owes());
+    queue.store_out(&mut second);
+    assert!(rt; second.mark().is_none());
     Ok(())
 }
 
 #[test]
-fn an_aborted_transaction_is_heard_of(rt: HostRuntime) -> Result<(), Fail> {
+fn a_listener_reads_up_to_the_head(rt: HostRuntime) -> Result<(), Fail> {
+    let (queue, _first, mut second) = open_two(rt.alloc())?;
+    join(&queue, &mut second);
+    assert_eq!(rt; queue.begin_walk(&mut second).get(), 3);
+    assert_eq!(rt; queue.show_head(&mut second).get(), 0);
+    assert!(rt; !queue.take_wake(&mut second));
+    Ok(())
+}
+
+#[test]
+fn a_flag_tells_who_looks(rt: HostRuntime) -> Result<(), Fail> {
     let (queue, mut first, mut second) = open_two(rt.alloc())?;
-    let Some((head, _)) = make_ready(&queue, &mut first) else {
+    assert!(rt; queue.look_flag(&mut second, 0).is_none());
+    assert_eq!(rt; queue.raise_flag(&mut first, 0).get(), 3);
+    let found = queue.look_flag(&mut second, 0);
+    assert_eq!(rt; found.map(|number| number.get()), Some(3));
+    Ok(())
+}
+
+// The notification on the channel `virtual`.
+fn virtual_note(alloc: Global) -> Result<Note, Fail>
+    ensures { IfOk result (λ note. note ≡ virtual_note) }
+{
+    Ok(Note {
+        channel: Name::new(alloc, "virtual")?,
+        payload: Payload::new(alloc, "This is the payload")?,
+    })
+}
+
+// It stores the cells of the entry, from the first one of an empty queue on.
+fn store_entry(queue: &WordQueue, pass: &mut WordPass)
+    requires own { IsPassOf queue.now pass.old }
+    requires pages { (shape_of queue.now).pages ≡ 2 }
+    requires opened { (view_of pass.old).phase ≡ phases.Open }
+    requires none_shown { length (view_of pass.old).pen.cells ≡ 0 }
+    requires none_stored { (view_of pass.old).pen.batch ≡ [] }
+    ensures own { IsPassOf queue.now pass.new }
+    ensures view { view_of pass.new ≡ record (view_of pass.old) { pen = record (view_of pass.old).pen { batch = virtual_cells } } }
+{
+    for k in 0..ENTRY.len() {
+        queue.store_cell(pass, Pos::new(k as u64), ENTRY[k]);
+    }
+}
+
+// It shows them, and commits the transaction.
+fn commit(queue: &WordQueue, pass: &mut WordPass, xid: Xid)
+    requires own { IsPassOf queue.now pass.old }
+    requires pages { (shape_of queue.now).pages ≡ 2 }
+    requires format { (shape_of queue.now).format ≡ One }
+    requires opened { (view_of pass.old).phase ≡ phases.Open }
+    requires notes { (view_of pass.old).pen.notes ≡ virtual_note ∷ [] }
+    requires valid { All IsNote (view_of pass.old).pen.notes }
+    requires session { (known_of pass.old).session ≡ 1 }
+    requires db { (known_of pass.old).db ≡ 1 }
+    requires first { xid ≡ 3 }
+    requires number { xid ≡ next_xid (known_of pass.old).seen }
+    requires reach { length (known_of pass.old).seen < notes_of_seats (shape_of queue.now).seats }
+    requires shows { (view_of pass.old).pen.cells ≡ image (view_of pass.old).setup.format (known_of pass.old).seen }
+    requires none_shown { length (view_of pass.old).pen.cells ≡ 0 }
+    requires stored { (view_of pass.old).pen.batch ≡ virtual_cells }
+    ensures own { IsPassOf queue.now pass.new }
+    ensures signals { (view_of pass.new).phase ≡ phases.Signalling }
+    ensures undecided { (view_of pass.new).undecided ≡ replicate (length (view_of pass.old).setup.seats) true }
+{
+    queue.store_head(pass, Pos::new(11));
+    queue.set_status(pass, xid, Fate::Committed, 1);
+    queue.store_fin(pass, xid);
+}
+
+// It wakes both sessions, and gives the lock up.
+fn wake_both(queue: &WordQueue, pass: &mut WordPass)
+    requires own { IsPassOf queue.now pass.old }
+    requires seats { length (shape_of queue.now).seats ≡ 2 }
+    requires signals { (view_of pass.old).phase ≡ phases.Signalling }
+    requires undecided { (view_of pass.old).undecided ≡ true ∷ true ∷ [] }
+    ensures own { IsPassOf queue.now pass.new }
+    ensures free { (view_of pass.new).phase ≡ phases.Free }
+{
+    queue.set_wake(pass, 0);
+    queue.set_wake(pass, 1);
+    queue.drop_lock(pass);
+}
+
+// It publishes the notification as the first transaction.
+fn publish(queue: &WordQueue, pass: &mut WordPass, notes: &[Note; 1]) -> Result<(), Fail>
+    requires own { IsPassOf queue.now pass.old }
+    requires pages { (shape_of queue.now).pages ≡ 2 }
+    requires format { (shape_of queue.now).format ≡ One }
+    requires seats { length (shape_of queue.now).seats ≡ 2 }
+    requires free { (view_of pass.old).phase ≡ phases.Free }
+    requires notes { notes.now ≡ virtual_note ∷ [] }
+    ensures own { IsPassOf queue.now pass.new }
+    ensures free { IfOk result (λ _. (view_of pass.new).phase ≡ phases.Free) }
+{
+    let Some((head, _)) = make_ready(queue, pass) else {
         return Err(Fail::from("no lock"));
     };
-    let Some(xid) = draw(&queue, &mut first, &[note(rt.alloc())?]) else {
+    let Some(xid) = draw(queue, pass, notes) else {
         return Err(Fail::from("no number"));
     };
-    give_up(&queue, &mut first, head, xid)?;
+    if (head.get(), xid.get()) != (0, 3) || (pass.session().get(), pass.db().get()) != (1, 1) {
+        return Err(Fail::from("not the first transaction of the first session"));
+    }
+    store_entry(queue, pass);
+    commit(queue, pass, xid);
+    wake_both(queue, pass);
+    Ok(())
+}
+
+// The cells from the first one on are those of the entry.
+fn shows_entry(queue: &WordQueue, pass: &mut WordPass) -> bool
+    requires own { IsPassOf queue.now pass.old }
+    requires shown { (view_of pass.old).walk.stage ≡ stages.Shown }
+    ensures own { IsPassOf queue.now pass.new }
+    ensures view { view_of pass.new ≡ view_of pass.old }
+{
+    for k in 0..ENTRY.len() {
+        if queue.load_shown(pass, Pos::new(k as u64)) != ENTRY[k] {
+            return false;
+        }
+    }
+    true
+}
+
+#[test]
+fn a_listener_reads_what_was_committed(rt: HostRuntime) -> Result<(), Fail> {
+    let (queue, mut first, mut second) = open_two(rt.alloc())?;
+    join(&queue, &mut second);
+    publish(&queue, &mut first, &[virtual_note(rt.alloc())?])?;
     assert_eq!(rt; first.told().get(), 4);
-    assert_eq!(rt; queue.load_fin(&mut second).get(), 4);
+    assert_eq!(rt; queue.begin_walk(&mut second).get(), 4);
+    assert_eq!(rt; queue.show_head(&mut second).get(), 11);
+    assert!(rt; shows_entry(&queue, &mut second));
+    assert!(rt; queue.take_wake(&mut second));
     Ok(())
 }

@@ -20,6 +20,38 @@ pub enum Phase {
     Signalling,
 }
 
+/// What a pass is as a listener.
+pub enum Listen {
+    /// It is none.
+    Out,
+    /// Its position says that it joins.
+    Joining,
+    /// It has loaded the announced tail besides.
+    Based,
+    /// Its position has its mark and the mark's place.
+    Registered,
+}
+
+/// How far a listener has come on its way to a later mark.
+pub enum Stage {
+    /// It is on no way.
+    Still,
+    /// It has loaded the first unfinished number, which is to be its mark.
+    Begun,
+    /// It has loaded the head besides.
+    Shown,
+}
+
+/// What a holder of the lock is doing as it advances the tail.
+pub enum Look {
+    /// Nothing.
+    Idle,
+    /// It looks at each position for the least mark.
+    First,
+    /// It has loaded the announced tail, and looks at each position for the first place that is still needed.
+    Second,
+}
+
 /// What the holder of the lock knows of its transaction. No value of it is made.
 pub struct Pen {
     /// The notifications of the transaction, and how many notifications it has taken from those that may still be sent.
@@ -32,6 +64,35 @@ pub struct Pen {
     pub ending: Tx,
 }
 
+/// Where a pass stands as a listener. No value of it is made.
+pub struct Post {
+    pub listen: Listen,
+    /// Once it is based, its mark and the mark's place.
+    pub mark: u64,
+    pub at: u64,
+}
+
+/// A listener's way to a later mark. No value of it is made.
+pub struct Walk {
+    pub stage: Stage,
+    /// The mark that it goes to.
+    pub upto: u64,
+    /// The journal that the loaded head shows, with what is written of an open transaction.
+    pub shown: LinkedList<Tx>,
+}
+
+/// What the holder of the lock has seen of the positions. No value of it is made.
+pub struct Eye {
+    pub look: Look,
+    /// How many seats this look has looked at.
+    pub looked: u64,
+    /// The least mark so far and its place, and the announced tail, each packed as in its word.
+    pub least: u64,
+    pub tail: u64,
+    /// The first place that is still needed, as far as the second look has come.
+    pub target: u64,
+}
+
 /// What the rule of the words sees of a pass. No value of it is made.
 pub struct View {
     pub known: Known,
@@ -39,10 +100,17 @@ pub struct View {
     pub setup: Setup,
     /// How many passes were made, in the pass that makes them; 0 in the others.
     pub made: u64,
+    /// What is known of the passes that this one has taken in.
+    pub joined: LinkedList<Known>,
     pub phase: Phase,
     /// While it signals, the number after that of its transaction: what it is told once it gives the lock up.
     pub ended: Option<u64>,
     /// The oldest kept page.
     pub stop: u64,
     pub pen: Pen,
+    pub post: Post,
+    pub walk: Walk,
+    pub eye: Eye,
+    /// While it signals, for each seat whether it may still need a wake.
+    pub undecided: LinkedList<bool>,
 }

@@ -13,5 +13,5 @@ fetch_or-requires g c =
       omega (arith, counted, within),
       status_bits_allowed c.args.self.now.table.shared.key _ _ _ c.args.xid _ _
           (draft (known_of pass).session (known_of pass).db (view_of pass).pen.notes c.args.queued c.args.fate) _
-          c.status_bits.ensures c.requires.given c.word_of_status-word.ensures.value c.requires.phase c.requires.number c.requires.reach c.requires.ends refl refl,
+          c.status_bits.ensures c.requires.given c.word_of_status-word.ensures.value c.requires.phase c.requires.number c.requires.reach c.requires.ends refl refl refl,
     )

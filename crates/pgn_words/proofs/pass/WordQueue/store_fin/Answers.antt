@@ -1,5 +1,5 @@
 use Rattle.std.proofs.Common.{arith}
-use Rattle.pgn_words.proofs.StatusKept.{store_fin_allowed}
+use Rattle.pgn_words.proofs.FinKept.{store_fin_allowed}
 use Rattle.pgn_words.proofs.pass.WordQueue.store_fin.Goals as goal
 
 pub store-requires : goal.store-requires

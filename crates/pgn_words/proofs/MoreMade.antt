@@ -1,0 +1,33 @@
+-- Groups of the rule on flags and marks, after a pass was made.
+use Rattle.std.specs.Prelude.{Contains}
+use Rattle.std.proofs.Common.{◌≡◌, ◌⊎◌, ⊎_elim, inl, inr, ℕ, ◌≤◌, Bool, List, [], ◌∷◌, ◌++◌, length, get_or, All, sym, refl, subst}
+use Rattle.std.proofs.lemmas.List.Elements.{All-nil, All-weaker}
+use mathlib.Core.Option.{some}
+use lib.ListN.{get_elem?}
+use Rattle.atomic_table.proofs.Lists.{at_longer}
+use Rattle.pgn_words.specs.declared.view.View.{View}
+use Rattle.pgn_words.specs.declared.view.Listen.TheVariants.{Registered}
+use Rattle.pgn_words.specs.Each.{Someone}
+use Rattle.pgn_words.specs.WakeRule.{raised_in, found_in, named_in, Raised, IsMost, Flags, MarkedBy, Marked, Named}
+use Rattle.pgn_words.proofs.EachLaws.{each_made}
+
+module _ (views : List View) (w : View) where
+  pub someone_more : (P : View → Type 0) → Someone P views → Someone P (views ++ w ∷ [])
+  someone_more P (j, u, there, positive, p) = (j, u, at_longer views (w ∷ []) j u there, positive, p)
+
+  pub flags_more : (fin : ℕ) (undecided : ℕ → Bool) (flags : List ℕ) → Flags fin undecided flags views → 3 ≤ w.known.told → raised_in w ≡ [] → found_in w ≡ [] → Flags fin undecided flags (views ++ w ∷ [])
+  flags_more fin undecided flags h first raised found = record {
+    heard = h.heard;
+    told = each_made (λ _ u. 3 ≤ u.known.told) views w h.told first;
+    most = each_made (λ _ u. All (IsMost flags) (raised_in u)) views w h.most (subst (λ (l : List (ℕ × ℕ)). All (IsMost flags) l) (sym raised) (All-nil (IsMost flags)));
+    source = λ f. ⊎_elim (λ none. inl none) (λ r. inr (someone_more (λ u. Contains (raised_in u) (f, get_or flags f 0)) r)) (h.source f);
+    found = λ j u there. All-weaker (Raised views) (Raised (views ++ w ∷ [])) (λ x r. someone_more (λ y. Contains (raised_in y) x) r) (found_in u)
+        (each_made (λ _ x. All (Raised views) (found_in x)) views w h.found (subst (λ (l : List (ℕ × ℕ)). All (Raised views) l) (sym found) (All-nil (Raised views))) j u there);
+  }
+
+  pub named_more : Named views → (w.post.listen ≡ Registered → Contains w.known.marks w.post.mark) → named_in w ≡ [] → Named (views ++ w ∷ [])
+  named_more h current named = record {
+    current = each_made (λ _ u. u.post.listen ≡ Registered → Contains u.known.marks u.post.mark) views w h.current current;
+    named = λ j u there. All-weaker (Marked views) (Marked (views ++ w ∷ [])) (λ x m. someone_more (MarkedBy x) m) (named_in u)
+        (each_made (λ _ x. All (Marked views) (named_in x)) views w h.named (subst (λ (l : List (ℕ × ℕ)). All (Marked views) l) (sym named) (All-nil (Marked views))) j u there);
+  }

@@ -1,0 +1,48 @@
+-- The rule refuses the small cases.
+use Rattle.std.proofs.Common.{◌≡◌, ℕ, ◌≤◌, ◌<◌, true, false, List, [], ◌∷◌, Option, Some, refl, arith}
+use Rattle.pgn_base.specs.declared.format.Format.TheVariants.{One}
+use Rattle.pgn_words.specs.Views.{no_eye}
+use Rattle.pgn_words.specs.Rule.{Keeps, Locks, Draws}
+use Rattle.pgn_words.specs.ListenRule.{IsPlaced, ShowsPosition, Marks, Spared, IsSecond}
+use Rattle.pgn_words.specs.WakeRule.{IsHeard, Signals, IsMost}
+use Rattle.pgn_words.specs.Examples.{listener, holder}
+
+pub no_other_cell : Keeps 2048 0 (Some 44 ∷ []) (45 ∷ []) → ⊥
+no_other_cell h = let same = h 0 44 (omega arith) refl in omega (arith, same)
+
+pub no_other_holder : Locks 1 0 0 holder → ⊥
+no_other_holder h = let locked = h refl in let number = locked.1 in omega (arith, number)
+
+pub not_drawn_twice : Draws 3 4 0 holder → ⊥
+not_drawn_twice h = let xid = h refl in omega (arith, xid)
+
+pub not_too_late : IsPlaced One [] 3 0 4 0 → ⊥
+not_too_late h = let most = h.most in omega (arith, most)
+
+pub no_page_gone : IsPlaced One [] 3 1 3 0 → ⊥
+no_page_gone h = let kept = h.kept in omega (arith, kept)
+
+pub not_hidden : ShowsPosition (0 ∷ []) 0 listener → ⊥
+not_hidden h = let word = h 0 refl in omega (arith, word)
+
+pub not_without_mark : Marks 0 listener → ⊥
+not_without_mark h = absurd (cc)
+
+pub not_before_target : Spared 1 2048 0 listener → ⊥
+not_before_target h = let up = h refl (omega arith) in omega (arith, up)
+
+pub no_other_target : IsSecond 0 2048 12884901888 no_eye → ⊥
+no_other_target h = let begins = h.begins refl in omega (arith, begins)
+
+pub not_heard_too_early : IsHeard 4 (λ i. true) 4 → ⊥
+not_heard_too_early h = let low = h.decided 0 refl in omega (arith, low)
+
+pub not_undecided : Signals (λ i. true) 0 holder → ⊥
+not_undecided h = let waits = h refl 0 in absurd (cc)
+
+pub no_greater : IsMost (3 ∷ []) (0, 4) → ⊥
+no_greater h = let low = h.1 in omega (arith, low)
+
+pub ruleset refused_writers = (no_other_cell, no_other_holder, not_drawn_twice)
+pub ruleset refused_listeners = (not_too_late, no_page_gone, not_hidden, not_without_mark, not_before_target, no_other_target)
+pub ruleset refused_wakes = (not_heard_too_early, not_undecided, no_greater)

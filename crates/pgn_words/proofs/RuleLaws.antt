@@ -1,0 +1,34 @@
+-- Proofs of what follows from the rule.
+use Rattle.std.proofs.Common.{◌≡◌, ◌≢◌, ⊎_elim, ℕ, ◌+◌, ◌<◌, true≢false, sym, ap, ◌∙◌, arith}
+use Rattle.pgn_model.proofs.NearLaws.{near-shrinks}
+use Rattle.pgn_model.specs.Journal.{is_committed_in}
+use Rattle.pgn_words.specs.Views.{knows_stop}
+use Rattle.pgn_words.specs.WakeRule.{served}
+use Rattle.pgn_words.specs.Laws.{WalksReadTheJournal, PagesAreSpared, NoWakeIsLost, FlagsAreHeard, ToldIsHeard}
+use Rattle.pgn_words.proofs.WakeKept.{heard_served}
+
+pub walks_read : WalksReadTheJournal
+walks_read z c g views j v h there shown at x from is = (h.walks.bounds j v there shown).0 at x from is
+
+pub pages_spared : PagesAreSpared
+pages_spared z c g views id v h here opened at old page turn j u there has =
+    let stop : v.stop ≡ c.stop = h.holding.stops id v here (ap knows_stop opened) in
+    let kept = (h.posts.placed j u there has).1.kept in omega (arith, page, turn, stop, kept)
+
+pub no_wake_lost : NoWakeIsLost
+no_wake_lost z c g views j i v h there registered number unset nothing_owed =
+    ⊎_elim
+    (λ set_now. absurd (unset set_now))
+    (λ r. ⊎_elim
+    (λ owed. absurd (true≢false (sym owed ∙ nothing_owed)))
+    (λ near. near-shrinks z.format (is_committed_in v.known.db) g.past v.post.mark v.post.mark (served g.undecided c.fin i) v.known.told (heard_served c.fin g.undecided i v.known.told (h.wakes.heard j v there)) (omega arith) near)
+    r)
+    (h.wakes.heeds j v there registered i number).still
+
+pub flags_heard : FlagsAreHeard
+flags_heard z c g views f h = h.flags.heard f
+
+pub told_heard : ToldIsHeard
+told_heard z c g views j v h there = h.wakes.heard j v there
+
+pub ruleset rule_laws = (walks_read, pages_spared, no_wake_lost, flags_heard, told_heard)

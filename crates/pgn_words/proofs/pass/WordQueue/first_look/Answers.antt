@@ -1,0 +1,13 @@
+use Rattle.std.proofs.Common.{arith, subst, sym}
+use Rattle.pgn_words.specs.declared.pos_word.PosWord.{PosWord}
+use Rattle.pgn_words.specs.Passes.{view_of}
+use Rattle.pgn_words.specs.Looking.{HasLookedFirst}
+use Rattle.pgn_words.proofs.LookKept.{first_look_allowed}
+use Rattle.pgn_words.proofs.pass.WordQueue.first_look.Goals as goal
+
+pub load-requires : goal.load-requires
+load-requires c = (c.requires.own.table, (let counted = c.args.self.now.counted in let within = c.word_of_position-word.ensures.within in omega (arith, counted, within)), first_look_allowed _ _ _ _ c.args.seat _ c.word_of_position-word.ensures.value c.requires.seat c.requires.phase c.requires.next)
+
+pub returns-clause-looked : goal.returns-clause-looked
+returns-clause-looked c =
+    rw c.position_of.ensures (c.load.ensures.2.looked c.args.seat c.word_of_position-word.ensures.value)

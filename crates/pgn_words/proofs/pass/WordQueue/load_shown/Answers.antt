@@ -1,0 +1,6 @@
+use Rattle.std.proofs.Common.{arith}
+use Rattle.pgn_words.proofs.WalkKept.{load_shown_allowed}
+use Rattle.pgn_words.proofs.pass.WordQueue.load_shown.Goals as goal
+
+pub load-requires : goal.load-requires
+load-requires c = (c.requires.own.table, (let counted = c.args.self.now.counted in let within = c.word_of_cell-word.ensures.within in omega (arith, counted, within)), load_shown_allowed _ _ _ _ c.args.at _ c.requires.own.number c.word_of_cell-word.ensures.value c.requires.shown)

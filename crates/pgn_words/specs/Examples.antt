@@ -1,0 +1,15 @@
+-- Small cases that the rule refuses.
+use Rattle.std.specs.Prelude.{ℕ, List, []}
+use Rattle.pgn_words.specs.declared.view.View.{View}
+use Rattle.pgn_words.specs.declared.view.Listen.TheVariants.{Registered}
+use Rattle.pgn_words.specs.declared.view.Phase.TheVariants.{Held}
+use Rattle.pgn_words.specs.Views.{no_seat, opened}
+use Rattle.pgn_words.specs.Told.{spent_view}
+
+-- the pass of session 1, which listens from the first transaction on
+abbrev pub listener : View
+listener = record spent_view { known = opened 1 no_seat; post = record { listen = Registered; mark = 3; at = 0 } }
+
+-- the pass of session 2, which holds the lock
+abbrev pub holder : View
+holder = record spent_view { known = opened 2 no_seat; phase = Held }

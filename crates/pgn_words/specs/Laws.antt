@@ -1,0 +1,40 @@
+-- What follows from the rule, for whoever reads, writes or waits.
+use Rattle.std.specs.Prelude.{◌≡◌, ◌≢◌, ℕ, ◌+◌, ◌%◌, ◌<◌, ◌≤◌, true, false, List, get_or, slice_get, Option, Some}
+use mathlib.Core.Option.{some}
+use lib.ListN.{get_elem?}
+use Rattle.pgn_model.specs.Journal.{is_committed_in}
+use Rattle.pgn_model.specs.Near.{Near}
+use Rattle.pgn_model.specs.Packing.{page_of, image}
+use Rattle.pgn_model.specs.Shape.{Shape}
+use Rattle.pgn_words.specs.declared.view.View.{View}
+use Rattle.pgn_words.specs.declared.view.Listen.TheVariants.{Registered}
+use Rattle.pgn_words.specs.declared.view.Phase.TheVariants.{Open}
+use Rattle.pgn_words.specs.declared.view.Stage.TheVariants.{Shown}
+use Rattle.pgn_words.specs.Words.{Content, room_of}
+use Rattle.pgn_words.specs.Positions.{is_placed}
+use Rattle.pgn_words.specs.WakeRule.{IsHeard}
+use Rattle.pgn_words.specs.Rule.{World, Law}
+
+-- a cell that a walk loads from its mark's place on is that of the journal that the loaded head showed, whatever was stored since
+abbrev pub WalksReadTheJournal : Type 0
+WalksReadTheJournal = (z : Shape) (c : Content) (g : World) (views : List View) (j : ℕ) (v : View) → Law z c g views → get_elem? views j ≡ some v → v.walk.stage ≡ Shown
+    → (at x : ℕ) → v.post.at ≤ at → slice_get (image z.format v.walk.shown) at ≡ Some (Some x) → get_or c.cells (at % room_of z) 0 ≡ x
+
+-- where a writer may store a cell of a page, the page that lay there before is an earlier one than that of each position, and of each
+-- tail that a joiner has loaded
+abbrev pub PagesAreSpared : Type 0
+PagesAreSpared = (z : Shape) (c : Content) (g : World) (views : List View) (id : ℕ) (v : View) → Law z c g views → get_elem? views id ≡ some v → v.phase ≡ Open
+    → (at old : ℕ) → page_of at < v.stop + z.pages → old + z.pages + 1 ≡ page_of at
+    → (j : ℕ) (u : View) → get_elem? views j ≡ some u → is_placed u.post.listen ≡ true → old < page_of u.post.at
+
+-- a listener whose wake is not set, and that owes no read, need not read up to what it was told
+abbrev pub NoWakeIsLost : Type 0
+NoWakeIsLost = (z : Shape) (c : Content) (g : World) (views : List View) (j i : ℕ) (v : View) → Law z c g views → get_elem? views j ≡ some v → v.post.listen ≡ Registered → v.known.session ≡ i + 1
+    → get_or c.wakes i 0 ≢ 1 → v.known.owes ≡ false → Near z.format (is_committed_in v.known.db) g.past v.post.mark v.known.told
+
+-- all wakes are set of the transactions below the number that a flag shows, and of those below what a pass was told
+abbrev pub FlagsAreHeard : Type 0
+FlagsAreHeard = (z : Shape) (c : Content) (g : World) (views : List View) (f : ℕ) → Law z c g views → IsHeard c.fin g.undecided (get_or c.flags f 0)
+
+abbrev pub ToldIsHeard : Type 0
+ToldIsHeard = (z : Shape) (c : Content) (g : World) (views : List View) (j : ℕ) (v : View) → Law z c g views → get_elem? views j ≡ some v → IsHeard c.fin g.undecided v.known.told

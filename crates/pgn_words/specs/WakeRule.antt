@@ -1,0 +1,129 @@
+-- The groups of the rule on wakes, flags, the marks that looks met, and the passes that were taken in at the end.
+use Rattle.std.specs.Prelude.{◌≡◌, ◌≢◌, ◌⊎◌, ℕ, ◌+◌, ◌-◌, ◌<◌, ◌≤◌, Bool, true, false, cond, List, [], ◌∷◌, ◌++◌, length, get_or, Option, None, Some, All, Any, Contains, flat_map}
+use mathlib.Core.Option.{some}
+use lib.ListN.{get_elem?}
+use Rattle.pgn_base.specs.declared.format.Format.{Format}
+use Rattle.pgn_base.specs.declared.limits.TheConstants.{FIRST_XID}
+use Rattle.pgn_model.specs.declared.tx.Tx.{Tx}
+use Rattle.pgn_model.specs.declared.known.Known.{Known}
+use Rattle.pgn_model.specs.Begins.{Begins}
+use Rattle.pgn_model.specs.Journal.{next_xid, is_committed_in, xids_of}
+use Rattle.pgn_model.specs.Near.{Near}
+use Rattle.pgn_model.specs.Shape.{Shape}
+use Rattle.pgn_words.specs.declared.view.View.{View}
+use Rattle.pgn_words.specs.declared.view.Phase.{Phase}
+use Rattle.pgn_words.specs.declared.view.Phase.TheVariants.{Free, Held, Headed, Ready, Open, Finished, Signalling}
+use Rattle.pgn_words.specs.declared.view.Listen.TheVariants.{Registered}
+use Rattle.pgn_words.specs.Views.{holds_lock, is_walking, seat_of}
+use Rattle.pgn_words.specs.Each.{Each, Someone}
+
+-- how far the listener at a seat was served: of the last transaction only once its seat was decided
+abbrev pub served : (ℕ → Bool) → ℕ → ℕ → ℕ
+served undecided fin i = cond (undecided i) (fin - 1) fin
+
+-- the wakes of each transaction below the number were set
+pub record IsHeard (fin : ℕ) (undecided : ℕ → Bool) (n : ℕ) : Type 0 where
+  pub most : n ≤ fin
+  pub decided : (i : ℕ) → undecided i ≡ true → n + 1 ≤ fin
+
+-- a listener at a seat is woken, or owes a read, or need not read up to what it was served of; the same from the end of its walk on
+pub record IsHeeded (format : Format) (past : List Tx) (upto : ℕ) (wake db mark : ℕ) (walks : Bool) (ends : ℕ) (owes : Bool) : Type 0 where
+  pub still : (wake ≡ 1) ⊎ ((owes ≡ true) ⊎ Near format (is_committed_in db) past mark upto)
+  pub walked : walks ≡ true → (wake ≡ 1) ⊎ Near format (is_committed_in db) past ends upto
+
+abbrev pub Heeds : Format → List Tx → ℕ → (ℕ → Bool) → List ℕ → ℕ → View → Type 0
+Heeds format past fin undecided wakes j v = v.post.listen ≡ Registered → (i : ℕ) → v.known.session ≡ i + 1
+    → IsHeeded format past (served undecided fin i) (get_or wakes i 0) v.known.db v.post.mark (is_walking v.walk.stage) v.walk.upto v.known.owes
+
+-- in a list of what is undecided, whether a seat is
+abbrev pub waits_in : List Bool → ℕ → Bool
+waits_in undecided i = get_or undecided i false
+
+-- the seats that are undecided, by the holder's phase and by its list
+abbrev pub pending : Phase → (ℕ → Bool) → ℕ → Bool
+pending Free waits i = false
+pending Held waits i = false
+pending Headed waits i = false
+pending Ready waits i = false
+pending Open waits i = false
+pending Finished waits i = false
+pending Signalling waits i = waits i
+
+abbrev pub Signals : (ℕ → Bool) → ℕ → View → Type 0
+Signals undecided j v = holds_lock v.phase ≡ true → (i : ℕ) → undecided i ≡ pending v.phase (waits_in v.undecided) i
+
+-- what the holder will be told, by its phase
+abbrev pub ended_in : Phase → ℕ → Option ℕ
+ended_in Free fin = None
+ended_in Held fin = None
+ended_in Headed fin = None
+ended_in Ready fin = None
+ended_in Open fin = None
+ended_in Finished fin = None
+ended_in Signalling fin = Some fin
+
+-- no wake is lost
+pub record Wakes (format : Format) (lock fin : ℕ) (past : List Tx) (undecided : ℕ → Bool) (wakes : List ℕ) (views : List View) : Type 0 where
+  pub small : (i : ℕ) → get_or wakes i 0 ≤ 1
+  pub heeds : Each (Heeds format past fin undecided wakes) views
+  pub signals : Each (Signals undecided) views
+  pub calm : lock ≡ 0 → (i : ℕ) → undecided i ≡ false
+  pub heard : Each (λ _ v. IsHeard fin undecided v.known.told) views
+  pub ended : Each (λ _ v. v.ended ≡ ended_in v.phase fin) views
+
+-- the flags that a pass raised, those that it found, and the marks that its looks met, each with those of the passes that it has taken in
+abbrev pub raised_in : View → List (ℕ × ℕ)
+raised_in v = v.known.raised ++ flat_map (λ k. k.raised) v.joined
+
+abbrev pub found_in : View → List (ℕ × ℕ)
+found_in v = v.known.found ++ flat_map (λ k. k.found) v.joined
+
+abbrev pub named_in : View → List (ℕ × ℕ)
+named_in v = v.known.named ++ flat_map (λ k. k.named) v.joined
+
+-- a pass raised the flag with the number
+abbrev pub Raised : List View → ℕ × ℕ → Type 0
+Raised views pair = Someone (λ v. Contains (raised_in v) pair) views
+
+-- a flag's number is that of a transaction, and no more than the flag's word holds
+abbrev pub IsMost : List ℕ → ℕ × ℕ → Type 0
+IsMost flags pair = (FIRST_XID ≤ pair.1) × (pair.1 ≤ get_or flags pair.0 0)
+
+-- each flag's word holds the greatest number with which it was raised, and 0 where it was not
+pub record Flags (fin : ℕ) (undecided : ℕ → Bool) (flags : List ℕ) (views : List View) : Type 0 where
+  pub heard : (f : ℕ) → IsHeard fin undecided (get_or flags f 0)
+  pub told : Each (λ _ v. FIRST_XID ≤ v.known.told) views
+  pub most : Each (λ _ v. All (IsMost flags) (raised_in v)) views
+  pub source : (f : ℕ) → (get_or flags f 0 ≡ 0) ⊎ Raised views (f, get_or flags f 0)
+  pub found : Each (λ _ v. All (Raised views) (found_in v)) views
+
+-- the session stood at the mark
+abbrev pub IsMarkedBy : ℕ × ℕ → Known → Type 0
+IsMarkedBy pair k = (k.session ≡ pair.0) × Contains k.marks pair.1
+
+-- by the pass or by one that it took
+abbrev pub MarkedBy : ℕ × ℕ → View → Type 0
+MarkedBy pair v = IsMarkedBy pair v.known ⊎ Any (IsMarkedBy pair) v.joined
+
+abbrev pub Marked : List View → ℕ × ℕ → Type 0
+Marked views pair = Someone (MarkedBy pair) views
+
+-- each mark that a look met is one of its session
+pub record Named (views : List View) : Type 0 where
+  pub current : Each (λ _ v. v.post.listen ≡ Registered → Contains v.known.marks v.post.mark) views
+  pub named : Each (λ _ v. All (Marked views) (named_in v)) views
+
+-- a pass that was taken in is that of another session, it has its seat's database, and knows what a pass knows
+pub record IsTaken (z : Shape) (made fin : ℕ) (seat : ℕ → ℕ) (past : List Tx) (j session : ℕ) (k : Known) : Type 0 where
+  pub sits : seat k.session ≡ j
+  pub positive : 0 < k.session
+  pub was_made : k.session ≤ made
+  pub other : k.session ≢ session
+  pub db_is : k.db ≡ (seat_of z k.session).db
+  pub sees : Begins k.seen past
+  pub owns : k.own ≡ xids_of k.session past
+  pub own_seen : All (λ x. x < next_xid k.seen) k.own
+  pub told : k.told ≤ fin
+
+abbrev pub Taken : Shape → ℕ → ℕ → (ℕ → ℕ) → List Tx → List View → Type 0
+Taken z made fin seat past views = Each (λ j v. All (IsTaken z made fin seat past j v.known.session) v.joined) views

@@ -1,0 +1,114 @@
+-- Wakes and flags: what each step makes of the pass, and what it tells.
+use Rattle.std.specs.Prelude.{◌≡◌, ◌≢◌, ℕ, ◌+◌, ◌^◌, ◌<◌, ◌≤◌, ◌==◌, ◌||◌, max, Bool, true, false, not, List, [], ◌∷◌, ◌++◌, length, get_or, slice_set, Option, Some, None, All}
+use Rattle.atomic_table.specs.Table.{Step}
+use Rattle.pgn_base.specs.declared.limits.TheConstants.{FIRST_XID}
+use Rattle.pgn_lanes.specs.Behind.{is_woken}
+use Rattle.pgn_model.specs.declared.tx.Tx.{Tx}
+use Rattle.pgn_model.specs.Journal.{next_xid, is_committed_in}
+use Rattle.pgn_model.specs.Near.{Near}
+use Rattle.pgn_model.specs.Packing.{image}
+use Rattle.pgn_words.specs.declared.pos_word.PosWord.{PosWord}
+use Rattle.pgn_words.specs.declared.view.View.{View}
+use Rattle.pgn_words.specs.declared.view.Stage.TheVariants.{Still}
+use Rattle.pgn_words.specs.Words.{pos_at, wakes_at, flags_at}
+use Rattle.pgn_words.specs.Views.{seat_of}
+use Rattle.pgn_words.specs.Positions.{mark_in, position_in, place_or}
+use Rattle.pgn_words.specs.Looking.{TellsPosition}
+use Rattle.pgn_words.specs.Told.{Mine, IsSamePass}
+
+-- The pass has taken its wake. It owes a read where the wake was set or a read was owed; and where neither was so, the journal has
+-- nothing that it need read, up to what it was told.
+pub record HasTaken (v : View) (was_set : Bool) (w : View) : Type 0 where
+  pub more : List Tx
+  pub view : w ≡ record v {
+    known = record v.known { seen = v.known.seen ++ more; owes = was_set || v.known.owes; wake_look = Some (was_set, v.known.owes) };
+    walk = record v.walk { stage = Still };
+  }
+  pub near : (was_set || v.known.owes) ≡ false → Near v.setup.format (is_committed_in v.known.db) w.known.seen v.post.mark v.known.told
+
+pub record TellsTaken (s : Step ℕ) (v : Mine) (n : ℕ) (w : Mine) : Type 0 where
+  pub slots : w.1 ≡ v.1
+  pub taken : HasTaken v.0 (not (n == 0)) w.0
+  pub kept : (w.0.setup ≡ v.0.setup) × (w.0.ended ≡ v.0.ended)
+
+-- the session of a seat may still need a wake, as far as the pass knows
+abbrev pub is_undecided : View → ℕ → Bool
+is_undecided v seat = get_or v.undecided seat false
+
+-- a listener at this position, of the session of this seat, needs a wake by what the pass has committed: nobody who is out or joins does
+abbrev pub needs_wake : View → ℕ → PosWord → Bool
+needs_wake v seat position =
+    let head = length (image v.setup.format v.known.seen) in
+    is_woken head v.known.db (place_or head position) (seat_of v.setup (seat + 1)).db
+
+-- the pass has looked at the position of a seat
+abbrev pub wake_looked : ℕ → PosWord → View → View
+wake_looked seat position v = record v { undecided = slice_set v.undecided seat (needs_wake v seat position) }
+
+-- what a look at a seat with this position makes of the pass, and what it learns
+pub record HasLookedToWake (v : View) (seat : ℕ) (found : PosWord) (w : View) : Type 0 where
+  pub view : w ≡ wake_looked seat found v
+  pub position : TellsPosition v seat found
+
+pub record TellsWakeLook (s : Step ℕ) (v : Mine) (n : ℕ) (w : Mine) : Type 0 where
+  pub slots : w.1 ≡ v.1
+  pub looked : (seat : ℕ) → s.word ≡ pos_at + seat → HasLookedToWake v.0 seat (position_in n) w.0
+  pub low : 2 ≤ n → FIRST_XID ≤ mark_in n
+  pub same : IsSamePass v.0 w.0
+
+-- the wake of a seat is set
+abbrev pub wake_set : ℕ → View → View
+wake_set seat v = record v { undecided = slice_set v.undecided seat false }
+
+pub record TellsWakeSet (s : Step ℕ) (v : Mine) (n : ℕ) (w : Mine) : Type 0 where
+  pub slots : w.1 ≡ v.1
+  pub view : (seat : ℕ) → s.word ≡ wakes_at v.0.setup + seat → w.0 ≡ wake_set seat v.0
+  pub same : IsSamePass v.0 w.0
+
+-- a flag was raised with what the pass was told
+abbrev pub raised : ℕ → View → View
+raised flag v = record v { known = record v.known { raised = v.known.raised ++ (flag, v.known.told) ∷ [] } }
+
+pub record TellsRaised (s : Step ℕ) (v : Mine) (n : ℕ) (w : Mine) : Type 0 where
+  pub slots : w.1 ≡ v.1
+  pub view : (flag : ℕ) → s.word ≡ flags_at v.0.setup + flag → w.0 ≡ raised flag v.0
+  pub same : IsSamePass v.0 w.0
+
+-- The flag was not raised when the pass looked at it, so the pass has neither raised nor found it.
+pub record HasFoundNone (v : View) (flag : ℕ) (w : View) : Type 0 where
+  pub more : List Tx
+  pub view : w ≡ record v { known = record v.known { seen = v.known.seen ++ more; looks = v.known.looks + 1; flag_look = Some (flag, None) } }
+  pub not_raised : All (λ pair. pair.0 ≢ flag) v.known.raised
+  pub not_found : All (λ pair. pair.0 ≢ flag) v.known.found
+
+-- The pass has found a number at the flag: it is told of it, knows the journal up to it, and has raised or found no greater one for the flag.
+pub record HasFound (v : View) (flag x : ℕ) (w : View) : Type 0 where
+  pub more : List Tx
+  pub view : w ≡ record v {
+    known = record v.known {
+      seen = v.known.seen ++ more;
+      told = max v.known.told x;
+      found = v.known.found ++ (flag, x) ∷ [];
+      looks = v.known.looks + 1;
+      flag_look = Some (flag, Some x);
+    };
+  }
+  pub first : FIRST_XID ≤ x
+  pub within : x ≤ next_xid w.known.seen
+  pub after_raised : All (λ pair. pair.0 ≡ flag → pair.1 ≤ x) v.known.raised
+  pub after_found : All (λ pair. pair.0 ≡ flag → pair.1 ≤ x) v.known.found
+
+-- what a look at a flag finds
+abbrev pub HasLooked : View → ℕ → Option ℕ → View → Type 0
+HasLooked v flag None w = HasFoundNone v flag w
+HasLooked v flag (Some x) w = HasFound v flag x w
+
+pub record TellsLooked (s : Step ℕ) (v : Mine) (n : ℕ) (w : Mine) : Type 0 where
+  pub slots : w.1 ≡ v.1
+  pub none : (flag : ℕ) → s.word ≡ flags_at v.0.setup + flag → n ≡ 0 → HasFoundNone v.0 flag w.0
+  pub found : (flag : ℕ) → s.word ≡ flags_at v.0.setup + flag → n ≢ 0 → HasFound v.0 flag n w.0
+  pub first : n ≢ 0 → FIRST_XID ≤ n
+  pub low : n < 2 ^ 32
+  -- what it shows of itself stays, but for what it was told
+  pub told : w.0.known.told ≡ max v.0.known.told n
+  pub same : IsSamePass v.0 (record w.0 { known = record w.0.known { told = v.0.known.told } })

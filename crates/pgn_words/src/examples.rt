@@ -1,0 +1,45 @@
+ghost use Rattle.std.specs.Prelude.{◌≡◌, ◌≢◌, ℕ, ◌+◌, ◌≤◌, ◌<◌, true, false, [], ◌∷◌, Some};
+ghost use Rattle.pgn_base.specs.declared.format.Format.TheVariants.{One};
+ghost use Rattle.pgn_words.specs.Views.{no_eye};
+ghost use Rattle.pgn_words.specs.Rule.{Keeps, Locks, Draws};
+ghost use Rattle.pgn_words.specs.ListenRule.{IsPlaced, ShowsPosition, Marks, Spared, IsSecond};
+ghost use Rattle.pgn_words.specs.WakeRule.{IsHeard, Signals, IsMost};
+ghost use Rattle.pgn_words.specs.Examples.{listener, holder};
+
+/// What the rule refuses of the words and of a writer.
+#[tactic(auto, using(crate::proofs::RefusedSteps::refused_writers))]
+pub fn writers()
+    // A cell of the image holds another number.
+    ensures another_cell { Keeps 2048 0 (Some 44 ∷ []) (45 ∷ []) → ⊥ }
+    // The lock's word names another session than its holder.
+    ensures another_holder { Locks 1 0 0 holder → ⊥ }
+    // The next number is not the first unfinished one, and the holder has drawn none.
+    ensures drawn_twice { Draws 3 4 0 holder → ⊥ }
+{}
+
+/// What it refuses of listeners and of an advance of the tail.
+#[tactic(auto, using(crate::proofs::RefusedSteps::refused_listeners))]
+pub fn listeners()
+    // A mark is past the first unfinished number, or its page is not kept.
+    ensures too_late { IsPlaced One [] 3 0 4 0 → ⊥ }
+    ensures page_gone { IsPlaced One [] 3 1 3 0 → ⊥ }
+    // The word of a listener's position says that it is none.
+    ensures hidden { ShowsPosition (0 ∷ []) 0 listener → ⊥ }
+    // Its mark is not known.
+    ensures no_mark { Marks 0 listener → ⊥ }
+    // A seat that was looked at stands before the target.
+    ensures before_target { Spared 1 2048 0 listener → ⊥ }
+    // The second look begins with a target that is not the tail's place.
+    ensures other_target { IsSecond 0 2048 12884901888 no_eye → ⊥ }
+{}
+
+/// What it refuses of wakes and flags.
+#[tactic(auto, using(crate::proofs::RefusedSteps::refused_wakes))]
+pub fn wakes()
+    // What was heard goes up to a transaction after which some seat is undecided.
+    ensures heard_too_early { IsHeard 4 (λ i. true) 4 → ⊥ }
+    // A seat is undecided while the holder does not signal.
+    ensures undecided { Signals (λ i. true) 0 holder → ⊥ }
+    // A flag was raised with a greater number than its word holds.
+    ensures greater { IsMost (3 ∷ []) (0, 4) → ⊥ }
+{}

@@ -1,0 +1,55 @@
+ghost use Rattle.std.specs.Prelude.{◌≡◌, ◌+◌, ◌<◌, ◌≤◌};
+ghost use Rattle.pgn_words.specs.Words.{flags_at as first_flag, word_count};
+ghost use Rattle.pgn_words.specs.Passes.{IsPassOf, view_of, known_of, shape_of};
+ghost use Rattle.pgn_words.specs.Waking.{raised, HasLooked};
+
+use crate::notes::later_of;
+use crate::pass::{WordPass, WordQueue};
+use crate::plays::{LookFlag, RaiseFlag};
+use pgn_base::Xid;
+
+impl WordQueue {
+    // The word of a flag. Flags count from 0.
+    fn word_of_flag(&self, flag: u32) -> usize
+        requires { flag < (shape_of self.now).flags }
+        ensures value { result ≡ first_flag (shape_of self.now) + flag }
+        ensures within { result < word_count (shape_of self.now) }
+    {
+        self.flags_at + flag as usize
+    }
+
+    /// Raises a flag with what the pass was told, and answers it. The flag keeps the greatest number.
+    ///
+    /// That there is such a flag is asked of a hub's caller, here and in `look_flag`.
+    pub fn raise_flag(&self, pass: &mut WordPass, flag: u32) -> Xid
+        requires own { IsPassOf self.now pass.old }
+        requires flag { flag < (shape_of self.now).flags }
+        ensures own { IsPassOf self.now pass.new }
+        ensures view { view_of pass.new ≡ raised flag (view_of pass.old) }
+        ensures told { result ≡ (known_of pass.old).told }
+    {
+        let word = self.word_of_flag(flag);
+        let told = u64::from(pass.told.get());
+        self.table
+            .shared
+            .fetch_max::<RaiseFlag>(&mut pass.seat, word, told);
+        pass.told
+    }
+
+    /// The greatest number that a flag was raised with, if it was raised. The pass is told of it.
+    pub fn look_flag(&self, pass: &mut WordPass, flag: u32) -> Option<Xid>
+        requires own { IsPassOf self.now pass.old }
+        requires flag { flag < (shape_of self.now).flags }
+        ensures own { IsPassOf self.now pass.new }
+        ensures looked { HasLooked (view_of pass.old) flag result (view_of pass.new) }
+    {
+        let word = self.word_of_flag(flag);
+        let found = self.table.shared.load::<LookFlag>(&mut pass.seat, word);
+        if found == 0 {
+            return None;
+        }
+        let found = Xid::new(found as u32);
+        pass.told = later_of(pass.told, found);
+        Some(found)
+    }
+}

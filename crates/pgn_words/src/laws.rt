@@ -1,0 +1,15 @@
+ghost use Rattle.pgn_words.specs.Laws.{WalksReadTheJournal, PagesAreSpared, NoWakeIsLost, FlagsAreHeard, ToldIsHeard};
+
+/// What follows from the rule.
+#[tactic(auto, using(crate::proofs::RuleLaws::rule_laws))]
+pub fn rule()
+    // A cell that a walk loads is that of the journal, whatever was stored since the head was loaded.
+    ensures walks { WalksReadTheJournal }
+    // A page is used again only once each position, and each tail that a joiner has loaded, is on a later one.
+    ensures pages { PagesAreSpared }
+    // Who is not woken and owes no read need not read.
+    ensures wakes { NoWakeIsLost }
+    // All wakes are set of what a flag shows, and of what a pass was told.
+    ensures flags { FlagsAreHeard }
+    ensures told { ToldIsHeard }
+{}

@@ -1,0 +1,62 @@
+ghost use Rattle.std.specs.Prelude.{◌≡◌, ◌^◌, ℕ, ◌<◌, ◌≤◌, true, slice_get, Some};
+ghost use Rattle.pgn_model.specs.Packing.{image};
+ghost use Rattle.pgn_words.specs.Views.{is_walking};
+ghost use Rattle.pgn_words.specs.Passes.{IsPassOf, view_of, shape_of};
+ghost use Rattle.pgn_words.specs.Listening.{HasBegun, HasShown};
+ghost use Rattle.pgn_words.specs.declared.view.Listen.TheVariants as listens;
+ghost use Rattle.pgn_words.specs.declared.view.Phase.TheVariants as phases;
+ghost use Rattle.pgn_words.specs.declared.view.Stage.TheVariants as stages;
+
+use crate::pass::{WordPass, WordQueue};
+use crate::plays::{BeginWalk, LoadShown, ShowHead};
+use pgn_base::Xid;
+use pgn_layout::Pos;
+
+/// The word that holds the place after the last written cell.
+const HEAD: usize = 1;
+
+/// The word that holds the first unfinished transaction number.
+const FIN: usize = 2;
+
+impl WordQueue {
+    /// Loads the first unfinished number, to which a listener goes from its mark. A way that was begun before is given up.
+    ///
+    /// A hub calls it first of all as it reads, and as it joins, next after `store_valid`.
+    pub fn begin_walk(&self, pass: &mut WordPass) -> Xid
+        requires own { IsPassOf self.now pass.old }
+        requires phase { (view_of pass.old).phase ≡ phases.Free }
+        requires listens { (view_of pass.old).post.listen ≡ listens.Registered }
+        ensures own { IsPassOf self.now pass.new }
+        ensures begun { HasBegun (view_of pass.old) result (view_of pass.new) }
+    {
+        let fin = self.table.shared.load::<BeginWalk>(&mut pass.seat, FIN);
+        Xid::new(fin as u32)
+    }
+
+    /// Loads the head, up to which the cells can be read from the listener's mark on.
+    ///
+    /// A hub calls it next after `begin_walk`: only so does the head show all that the listener goes to.
+    pub fn show_head(&self, pass: &mut WordPass) -> Pos
+        requires own { IsPassOf self.now pass.old }
+        requires phase { (view_of pass.old).phase ≡ phases.Free }
+        requires walks { is_walking (view_of pass.old).walk.stage ≡ true }
+        ensures own { IsPassOf self.now pass.new }
+        ensures shown { HasShown (view_of pass.old) result (view_of pass.new) }
+    {
+        Pos::new(self.table.shared.load::<ShowHead>(&mut pass.seat, HEAD))
+    }
+
+    /// A cell that the loaded head shows.
+    ///
+    /// A hub asks for cells from the listener's mark up to the head.
+    pub fn load_shown(&self, pass: &mut WordPass, at: Pos) -> u32
+        requires own { IsPassOf self.now pass.old }
+        requires shown { (view_of pass.old).walk.stage ≡ stages.Shown }
+        ensures own { IsPassOf self.now pass.new }
+        ensures view { view_of pass.new ≡ view_of pass.old }
+        ensures value { (x : ℕ) → (view_of pass.old).post.at ≤ at → slice_get (image (shape_of self.now).format (view_of pass.old).walk.shown) at ≡ Some (Some x) → result ≡ x }
+    {
+        let word = self.word_of_cell(at);
+        self.table.shared.load::<LoadShown>(&mut pass.seat, word) as u32
+    }
+}
