@@ -1,0 +1,34 @@
+-- what holds of a session as its pass comes to know more
+pub mod KnownLaws
+-- a read, and a session that need not read
+pub mod ReadLaws
+-- a session that is over, and one that begins
+pub mod OverLaws
+-- a line that the block answers
+pub mod BlockLaws
+-- a commit
+pub mod CommitLaws
+-- a line that raises a flag, and one that awaits one
+pub mod FlagLaws
+-- a turn of an await
+pub mod AwaitLaws
+-- a line that quits
+pub mod QuitLaws
+-- the queue's usage
+pub mod UsageLaws
+-- what each step of a commit leaves
+pub mod CommitSteps
+-- what comes of a commit
+pub mod CommittedLaws
+-- of one that meets a full queue
+pub mod FullLaws
+-- the end of a script
+pub mod EndLaws
+-- what a step came to
+pub mod StepLaws
+-- what a step of a whole session promises
+pub mod WholeLaws
+-- a step by a command
+pub mod RunLaws
+-- why examples are refused
+mod ExampleLemmas

@@ -1,0 +1,141 @@
+-- A session that is over: its pass may hear more, its trace is lawful and left no read out.
+use Rattle.std.proofs.Common.{◌≡◌, ℕ, ◌≤◌, max, List, [], ◌++◌, length, drop, Some, Contains, sym, ap, ◌∙◌, refl, subst, arith, append_assoc}
+use Rattle.std.proofs.lemmas.List.Elements.{All-nil}
+use Rattle.pgn_model.specs.declared.tx.Tx.{Tx}
+use Rattle.pgn_model.specs.declared.item.Item.{Item}
+use Rattle.pgn_model.specs.declared.known.Known.{Known}
+use Rattle.pgn_model.specs.declared.scenario.Section.{Section}
+use Rattle.pgn_model.specs.declared.trace.Trace.{Trace}
+use Rattle.pgn_model.specs.Shape.{Shape}
+use Rattle.pgn_model.specs.Inputs.{QuitsLast, note_lines_of}
+use Rattle.pgn_model.specs.Walk.{Terms, State, start}
+use Rattle.pgn_model.specs.Trace.{TraceOk, Fresh}
+use Rattle.pgn_model.specs.Legal.{IsFullThere}
+use Rattle.pgn_model.proofs.GrowingLaws.{up_to_date-grows}
+use Rattle.pgn_model.proofs.NextLineLaws.{empty-stands, holds-within, end-is_lawful, end-is_fresh}
+use Rattle.pgn_hub.specs.Passes.{opened_pass}
+use Rattle.pgn_hub.specs.Calls.{HasLearned, HasHeard, longer}
+use Rattle.pgn_block.specs.Views.{BlockView, idle_view}
+use Rattle.pgn_session.specs.declared.doing.FlagPlan.{FlagPlan}
+use Rattle.pgn_session.specs.declared.doing.Doing.{Doing}
+use Rattle.pgn_session.specs.declared.doing.Doing.TheVariants.{Lines, Over}
+use Rattle.pgn_session.specs.Standing.{StandsAt, terms_of, IsRested}
+use Rattle.pgn_session.specs.Parts.{HasReadOn}
+use Rattle.pgn_session.proofs.KnownLaws.{stands-grows}
+use Rattle.pgn_session.proofs.ReadLaws.{read-rested}
+
+-- more of the journal is known, and the pass was told more
+over-more : (terms : Terms) (plan : FlagPlan) (done : ℕ) (block : BlockView) (set : List (List ℕ)) (k : Known) (items : List Item) (more : List Tx) (told : ℕ)
+    → k.told ≤ told → IsRested terms plan done block set Over k items → IsRested terms plan done block set Over (record k { seen = k.seen ++ more; told = told }) items
+over-more terms plan done block set k items more told later h =
+    let s : State = h.state in
+    let g : StandsAt terms (record k { seen = k.seen ++ more }) items s = stands-grows terms k more items s h.stands in
+    record {
+      state = s;
+      stands = record { holds = g.holds; session = g.session; database = g.database; own = g.own; mark = g.mark; marks = g.marks; stood = g.stood; named = g.named; patient = g.patient };
+      rest = h.rest;
+      channels = h.channels;
+      here = (
+        record { owes = h.here.0.owes; done = h.here.0.done; dropped = h.here.0.dropped; tells = record { told = omega (arith, h.here.0.tells.told); raised = h.here.0.tells.raised; found = h.here.0.tells.found } },
+        up_to_date-grows terms k.seen more s (holds-within terms k.seen items s h.stands.holds).told h.here.1,
+      );
+    }
+
+over-learned : (terms : Terms) (plan : FlagPlan) (done : ℕ) (block : BlockView) (set : List (List ℕ)) (k q : Known) (items : List Item)
+    → HasLearned k q → IsRested terms plan done block set Over k items → IsRested terms plan done block set Over q items
+over-learned terms plan done block set k q items l h =
+    subst (λ (p : Known). IsRested terms plan done block set Over p items) (sym l.known) (over-more terms plan done block set k items l.more k.told (omega arith) h)
+
+over-heard : (terms : Terms) (plan : FlagPlan) (done : ℕ) (block : BlockView) (set : List (List ℕ)) (from k q : Known) (items : List Item)
+    → HasHeard from k q → IsRested terms plan done block set Over k items → IsRested terms plan done block set Over q items
+over-heard terms plan done block set from k q items heard h =
+    let told : ℕ = max k.told from.told in
+    let rest : List Tx = drop (length k.seen) from.seen in
+    let grown : longer k.seen from.seen ++ heard.more ≡ k.seen ++ (rest ++ heard.more) = append_assoc k.seen rest heard.more in
+    let e : q ≡ record k { seen = k.seen ++ (rest ++ heard.more); told = told } = heard.known ∙ ap (λ (seen : List Tx). let p : Known = record k { seen = seen; told = told } in p) grown in
+    subst (λ (p : Known). IsRested terms plan done block set Over p items) (sym e) (over-more terms plan done block set k items (rest ++ heard.more) told (omega arith) h)
+
+-- at the end
+over-lawful : (terms : Terms) (plan : FlagPlan) (done : ℕ) (block : BlockView) (set : List (List ℕ)) (k : Known) (items : List Item)
+    → IsRested terms plan done block set Over k items → TraceOk terms (record { session = terms.section.no; db = terms.section.db; items = items; last = k.mark }) k.seen
+over-lawful terms plan done block set k items h =
+    end-is_lawful terms k.seen (record { session = terms.section.no; db = terms.section.db; items = items; last = k.mark }) h.state h.stands.holds.stands_fresh.stands
+    (record { session = refl; database = refl; answered = h.here.0.owes; done = h.here.0.done; mark = h.stands.mark })
+
+over-fresh : (terms : Terms) (plan : FlagPlan) (done : ℕ) (block : BlockView) (set : List (List ℕ)) (k : Known) (items : List Item)
+    → IsRested terms plan done block set Over k items → Fresh terms (record { session = terms.section.no; db = terms.section.db; items = items; last = k.mark }) k.seen
+over-fresh terms plan done block set k items h =
+    end-is_fresh terms k.seen (record { session = terms.section.no; db = terms.section.db; items = items; last = k.mark }) h.state h.stands.holds.stands_fresh h.here.1
+
+-- a session as it begins
+opened-rested : (shape : Shape) (section : Section) (plan : FlagPlan) (patience : ℕ) (k : Known) → k ≡ opened_pass section.no (record { db = section.db; notes = section.note_lines })
+    → note_lines_of section.lines ≤ section.note_lines → QuitsLast section.lines → 1 ≤ patience → IsRested (terms_of shape section patience) plan 0 idle_view [] Lines k []
+opened-rested shape section plan patience k e counted quits enough =
+    subst (λ (p : Known). IsRested (terms_of shape section patience) plan 0 idle_view [] Lines p []) (sym e)
+    (record {
+      state = start section;
+      stands = record {
+        holds = record { stands_fresh = empty-stands (terms_of shape section patience) []; full = All-nil (IsFullThere (terms_of shape section patience).settings []); found = All-nil (λ (pair : ℕ × ℕ). pair.1 ≤ 3) };
+        session = refl;
+        database = refl;
+        own = refl;
+        mark = refl;
+        marks = record { of_left = All-nil (Contains []); of_right = All-nil (Contains []) };
+        stood = tt;
+        named = All-nil (Contains []);
+        patient = enough;
+      };
+      rest = refl;
+      channels = refl;
+      here = (record { owes = refl; block_state = refl; list = refl; tells = record { told = refl; raised = refl; found = refl }; budget = omega (arith, counted); quits_last = quits }, λ idle. tt);
+    })
+
+pub learned-at_end : (terms : Terms) (plan : FlagPlan) (done : ℕ) (block : BlockView) (set : List (List ℕ)) (doing : Doing) (k q : Known) (items after : List Item)
+    → doing ≡ Over → HasLearned k q → after ≡ items → IsRested terms plan done block set doing k items → IsRested terms plan done block set doing q after
+learned-at_end terms plan done block set doing k q items after over l same h =
+    subst (λ (is : List Item). IsRested terms plan done block set doing q is) (sym same)
+    (subst (λ (d : Doing). IsRested terms plan done block set d q items) (sym over)
+    (over-learned terms plan done block set k q items l (subst (λ (d : Doing). IsRested terms plan done block set d k items) over h)))
+
+pub heard-at_end : (terms : Terms) (plan : FlagPlan) (done : ℕ) (block : BlockView) (set : List (List ℕ)) (doing : Doing) (from k q : Known) (items : List Item)
+    → doing ≡ Over → HasHeard from k q → IsRested terms plan done block set doing k items → IsRested terms plan done block set doing q items
+heard-at_end terms plan done block set doing from k q items over heard h =
+    subst (λ (d : Doing). IsRested terms plan done block set d q items) (sym over)
+    (over-heard terms plan done block set from k q items heard (subst (λ (d : Doing). IsRested terms plan done block set d k items) over h))
+
+-- a read at the end
+over-read : (terms : Terms) (plan : FlagPlan) (done : ℕ) (block : BlockView) (set : List (List ℕ)) (k q : Known) (items after : List Item) (from to : ℕ)
+    → HasReadOn k q set from to items after → k.mark ≡ Some from → IsRested terms plan done block set Over k items → IsRested terms plan done block set Over q after
+over-read terms plan done block set k q items after from to r is_from h =
+    read-rested terms plan done block set Over k q items after from to r h.here.0.dropped is_from
+    (record { state = h.state; stands = h.stands; rest = h.rest; channels = h.channels; here = h.here.0 })
+
+pub read-at_end : (terms : Terms) (plan : FlagPlan) (done : ℕ) (block : BlockView) (set : List (List ℕ)) (doing : Doing) (k q : Known) (items after : List Item) (from to : ℕ)
+    → doing ≡ Over → HasReadOn k q set from to items after → k.mark ≡ Some from → IsRested terms plan done block set doing k items → IsRested terms plan done block set doing q after
+read-at_end terms plan done block set doing k q items after from to over r is_from h =
+    subst (λ (d : Doing). IsRested terms plan done block set d q after) (sym over)
+    (over-read terms plan done block set k q items after from to r is_from (subst (λ (d : Doing). IsRested terms plan done block set d k items) over h))
+
+pub lawful-at_end : (shape : Shape) (section : Section) (patience : ℕ) (plan : FlagPlan) (done : ℕ) (block : BlockView) (set : List (List ℕ)) (doing : Doing) (k : Known) (items : List Item) (trace : Trace)
+    → trace ≡ record { session = section.no; db = section.db; items = items; last = k.mark } → doing ≡ Over → IsRested (terms_of shape section patience) plan done block set doing k items
+    → TraceOk (terms_of shape section patience) trace k.seen
+lawful-at_end shape section patience plan done block set doing k items trace e over h =
+    subst (λ (t : Trace). TraceOk (terms_of shape section patience) t k.seen) (sym e)
+    (over-lawful (terms_of shape section patience) plan done block set k items (subst (λ (d : Doing). IsRested (terms_of shape section patience) plan done block set d k items) over h))
+
+pub fresh-at_end : (shape : Shape) (section : Section) (patience : ℕ) (plan : FlagPlan) (done : ℕ) (block : BlockView) (set : List (List ℕ)) (doing : Doing) (k : Known) (items : List Item) (trace : Trace)
+    → trace ≡ record { session = section.no; db = section.db; items = items; last = k.mark } → doing ≡ Over → IsRested (terms_of shape section patience) plan done block set doing k items
+    → Fresh (terms_of shape section patience) trace k.seen
+fresh-at_end shape section patience plan done block set doing k items trace e over h =
+    subst (λ (t : Trace). Fresh (terms_of shape section patience) t k.seen) (sym e)
+    (over-fresh (terms_of shape section patience) plan done block set k items (subst (λ (d : Doing). IsRested (terms_of shape section patience) plan done block set d k items) over h))
+
+pub begins-rested : (shape : Shape) (section : Section) (plan : FlagPlan) (patience : ℕ) (block : BlockView) (set : List (List ℕ)) (k : Known) (items : List Item)
+    → k ≡ opened_pass section.no (record { db = section.db; notes = section.note_lines }) → note_lines_of section.lines ≤ section.note_lines → QuitsLast section.lines
+    → 1 ≤ patience → block ≡ idle_view → set ≡ [] → items ≡ [] → IsRested (terms_of shape section patience) plan 0 block set Lines k items
+begins-rested shape section plan patience block set k items e counted quits enough idle none nothing =
+    let terms : Terms = terms_of shape section patience in
+    subst (λ (b : BlockView). IsRested terms plan 0 b set Lines k items) (sym idle)
+    (subst (λ (channels : List (List ℕ)). IsRested terms plan 0 idle_view channels Lines k items) (sym none)
+    (subst (λ (is : List Item). IsRested terms plan 0 idle_view [] Lines k is) (sym nothing)
+    (opened-rested shape section plan patience k e counted quits enough)))

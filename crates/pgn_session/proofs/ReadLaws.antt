@@ -1,0 +1,218 @@
+-- A read that was made, and a session that need not read.
+use Rattle.std.proofs.Common.{◌≡◌, ◌≢◌, ℕ, ◌≤◌, Bool, true, false, cond, nat_lt, ltb-true, ltb-false, List, [], ◌∷◌, ◌++◌, Option, Some, None, IfSome, Contains, sym, ap, ◌∙◌, refl, subst, arith}
+use Rattle.std.proofs.lemmas.List.Elements.{All-push, All-contains, Contains-push}
+use Rattle.pgn_base.specs.declared.note.Delivery.{Delivery}
+use Rattle.pgn_model.specs.declared.tx.Tx.{Tx}
+use Rattle.pgn_model.specs.declared.block_state.BlockState.TheVariants.{Idle}
+use Rattle.pgn_model.specs.declared.item.Item.{Item}
+use Rattle.pgn_model.specs.declared.item.Item.TheVariants.{Read}
+use Rattle.pgn_model.specs.declared.known.Known.{Known}
+use Rattle.pgn_model.specs.Journal.{next_xid, is_committed_in}
+use Rattle.pgn_model.specs.Due.{due}
+use Rattle.pgn_model.specs.Near.{Near}
+use Rattle.pgn_model.specs.Walk.{Terms, State}
+use Rattle.pgn_model.specs.Legal.{IsFullThere}
+use Rattle.pgn_model.specs.laws.NextLine.{StandsFresh, MayReadTo}
+use Rattle.pgn_model.proofs.NextLineLaws.{idle-reads, await-reads, end-reads, no_listener-is_up_to_date, reader-is_up_to_date, quiet-is_up_to_date, finished-more}
+use Rattle.pgn_hub.specs.Calls.{HasLearned, HasWoken}
+use Rattle.pgn_block.specs.Views.{BlockView}
+use Rattle.pgn_session.specs.declared.doing.FlagPlan.{FlagPlan}
+use Rattle.pgn_session.specs.declared.doing.Doing.{Doing}
+use Rattle.pgn_session.specs.declared.doing.Doing.TheVariants.{Lines, Committing, Awaiting, Ending, Over}
+use Rattle.pgn_session.specs.Parts.{HasReadOn, with_read}
+use Rattle.pgn_session.specs.Standing.{StandsAt, HasAnswered, IsAnswered, IsRested}
+use Rattle.pgn_session.proofs.KnownLaws.{stands-grows, stands-learned, IsSameTold, answered-same, told-below, answered-rested, answered-in_block, members-push, members-again}
+
+-- a pass that has looked at its wake
+pub stands-woken : (terms : Terms) (k q : Known) (items : List Item) (s : State) (woken : Bool) → HasWoken terms.settings.format k q woken → StandsAt terms k items s → StandsAt terms q items s
+stands-woken terms k q items s woken w h =
+    let g = stands-grows terms k w.more items s h in
+    subst (λ (p : Known). StandsAt terms p items s) (sym w.known)
+    (record { holds = g.holds; session = g.session; database = g.database; own = g.own; mark = g.mark; marks = g.marks; stood = g.stood; named = g.named; patient = g.patient })
+
+same-woken : (terms : Terms) (k q : Known) (woken : Bool) → HasWoken terms.settings.format k q woken → IsSameTold k q
+same-woken terms k q woken w = record {
+  told = ap (λ (p : Known). p.told) w.known;
+  raised = ap (λ (p : Known). p.raised) w.known;
+  found = ap (λ (p : Known). p.found) w.known;
+  notes_left = ap (λ (p : Known). p.notes_left) w.known;
+}
+
+same-learned : (k q : Known) → HasLearned k q → IsSameTold k q
+same-learned k q l = record {
+  told = ap (λ (p : Known). p.told) l.known;
+  raised = ap (λ (p : Known). p.raised) l.known;
+  found = ap (λ (p : Known). p.found) l.known;
+  notes_left = ap (λ (p : Known). p.notes_left) l.known;
+}
+
+-- a session that was woken has still to read
+pub woken-answered : (terms : Terms) (plan : FlagPlan) (done : ℕ) (block : BlockView) (set : List (List ℕ)) (doing : Doing) (k q : Known) (items : List Item) (woken : Bool)
+    → HasWoken terms.settings.format k q woken → IsAnswered terms plan done block set doing k items → IsAnswered terms plan done block set doing q items
+woken-answered terms plan done block set doing k q items woken w h = record {
+  state = h.state;
+  stands = stands-woken terms k q items h.state woken w h.stands;
+  rest = h.rest;
+  channels = h.channels;
+  here = answered-same terms plan block k q h.state doing (same-woken terms k q woken w) h.here;
+}
+
+pub learned-answered : (terms : Terms) (plan : FlagPlan) (done : ℕ) (block : BlockView) (set : List (List ℕ)) (doing : Doing) (k q : Known) (items : List Item)
+    → HasLearned k q → IsAnswered terms plan done block set doing k items → IsAnswered terms plan done block set doing q items
+learned-answered terms plan done block set doing k q items l h = record {
+  state = h.state;
+  stands = stands-learned terms k q items h.state l h.stands;
+  rest = h.rest;
+  channels = h.channels;
+  here = answered-same terms plan block k q h.state doing (same-learned k q l) h.here;
+}
+
+-- a session that was not woken has rested
+pub quiet-rested : (terms : Terms) (plan : FlagPlan) (done : ℕ) (block : BlockView) (set : List (List ℕ)) (doing : Doing) (k q : Known) (items : List Item)
+    → HasWoken terms.settings.format k q false → IsAnswered terms plan done block set doing k items → IsRested terms plan done block set doing q items
+quiet-rested terms plan done block set doing k q items w h =
+    let near : IfSome h.state.mark (λ mark. Near terms.settings.format (is_committed_in terms.section.db) q.seen mark k.told) =
+    subst (λ (db : ℕ). IfSome h.state.mark (λ mark. Near terms.settings.format (is_committed_in db) q.seen mark k.told)) h.stands.database
+    (subst (λ (own : Option ℕ). IfSome own (λ mark. Near terms.settings.format (is_committed_in k.db) q.seen mark k.told)) (sym h.stands.mark) (w.near refl)) in
+    record {
+      state = h.state;
+      stands = stands-woken terms k q items h.state false w h.stands;
+      rest = h.rest;
+      channels = h.channels;
+      here = answered-rested terms plan block q h.state doing
+          (answered-same terms plan block k q h.state doing (same-woken terms k q false w) h.here)
+          (quiet-is_up_to_date terms q.seen h.state k.told (told-below terms plan block k h.state doing h.here) near);
+    }
+
+-- who is no listener has rested
+pub out-rested : (terms : Terms) (plan : FlagPlan) (done : ℕ) (block : BlockView) (set : List (List ℕ)) (doing : Doing) (k : Known) (items : List Item)
+    → k.mark ≡ None → IsAnswered terms plan done block set doing k items → IsRested terms plan done block set doing k items
+out-rested terms plan done block set doing k items out h = record {
+  state = h.state;
+  stands = h.stands;
+  rest = h.rest;
+  channels = h.channels;
+  here = answered-rested terms plan block k h.state doing h.here (no_listener-is_up_to_date terms k.seen h.state (h.stands.mark ∙ out));
+}
+
+-- in a block a session has rested
+pub in_block-rested : (terms : Terms) (plan : FlagPlan) (done : ℕ) (block : BlockView) (set : List (List ℕ)) (doing : Doing) (k : Known) (items : List Item)
+    → block.state ≢ Idle → IsAnswered terms plan done block set doing k items → IsRested terms plan done block set doing k items
+in_block-rested terms plan done block set doing k items busy h = record {
+  state = h.state;
+  stands = h.stands;
+  rest = h.rest;
+  channels = h.channels;
+  here = answered-in_block terms plan block k h.state doing busy h.here;
+}
+
+-- a read may be shown wherever a session has answered and no block is open
+read-shown : (terms : Terms) (plan : FlagPlan) (block : BlockView) (k : Known) (seen : List Tx) (items : List Item) (s : State) (doing : Doing) (from to : ℕ)
+    → StandsFresh terms seen items s → block.state ≡ Idle → HasAnswered terms plan block k s doing → MayReadTo seen s from to
+    → StandsFresh terms seen (items ++ Read from to (due seen from to terms.section.db s.set) ∷ []) (record s { mark = Some to; marks = s.marks ++ to ∷ [] })
+read-shown terms plan block k seen items s Lines from to h idle a may = idle-reads terms seen items s from to h a.owes (a.block_state ∙ idle) may
+read-shown terms plan block k seen items s (Committing actions notes tag) from to h idle a may = absurd a
+read-shown terms plan block k seen items s (Awaiting flag looks) from to h idle a may = await-reads terms seen items s flag from to h a.0.owes (a.0.block_state ∙ idle) may
+read-shown terms plan block k seen items s (Ending found looks) from to h idle a may = end-reads terms seen items s from to h a.0.owes a.0.done may
+read-shown terms plan block k seen items s Over from to h idle a may = end-reads terms seen items s from to h a.owes a.done may
+
+-- the mark moves, and nothing else of where the session stands
+answered-moved : (terms : Terms) (plan : FlagPlan) (block : BlockView) (k : Known) (s : State) (mark : Option ℕ) (marks : List ℕ) (doing : Doing)
+    → HasAnswered terms plan block k s doing → HasAnswered terms plan block k (record s { mark = mark; marks = marks }) doing
+answered-moved terms plan block k s mark marks Lines h = record { owes = h.owes; block_state = h.block_state; list = h.list; tells = record { told = h.tells.told; raised = h.tells.raised; found = h.tells.found }; budget = h.budget; quits_last = h.quits_last }
+answered-moved terms plan block k s mark marks (Committing actions notes tag) h = h
+answered-moved terms plan block k s mark marks (Awaiting flag looks) h =
+    (record { owes = h.0.owes; block_state = h.0.block_state; list = h.0.list; tells = record { told = h.0.tells.told; raised = h.0.tells.raised; found = h.0.tells.found }; budget = h.0.budget; quits_last = h.0.quits_last }, h.1, h.2)
+answered-moved terms plan block k s mark marks (Ending found looks) h =
+    (record { owes = h.0.owes; done = h.0.done; dropped = h.0.dropped; tells = record { told = h.0.tells.told; raised = h.0.tells.raised; found = h.0.tells.found } }, h.1, h.2, h.3)
+answered-moved terms plan block k s mark marks Over h = record { owes = h.owes; done = h.done; dropped = h.dropped; tells = record { told = h.tells.told; raised = h.tells.raised; found = h.tells.found } }
+
+-- a read that moved the mark, and one that did not
+reads : (terms : Terms) (plan : FlagPlan) (done : ℕ) (block : BlockView) (set : List (List ℕ)) (doing : Doing) (k : Known) (more : List Tx) (items : List Item) (from to : ℕ) (b : Bool)
+    → nat_lt from to ≡ b → k.mark ≡ Some from → from ≤ to → k.told ≤ to → to ≤ next_xid (k.seen ++ more) → block.state ≡ Idle → IsAnswered terms plan done block set doing k items
+    → IsRested terms plan done block set doing (record k { seen = k.seen ++ more; mark = Some to; marks = k.marks ++ to ∷ []; owes = false })
+    (cond b (items ++ Read from to (due (k.seen ++ more) from to k.db set) ∷ []) items)
+reads terms plan done block set doing k more items from to true e is_from forward after_told within idle h =
+    let seen : List Tx = k.seen ++ more in
+    let s : State = h.state in
+    let after : State = record s { mark = Some to; marks = s.marks ++ to ∷ [] } in
+    let q : Known = record k { seen = seen; mark = Some to; marks = k.marks ++ to ∷ []; owes = false } in
+    let g : StandsAt terms (record k { seen = seen }) items s = stands-grows terms k more items s h.stands in
+    let below : s.told ≤ k.told = told-below terms plan block k s doing h.here in
+    let shown : StandsFresh terms seen (items ++ Read from to (due seen from to terms.section.db s.set) ∷ []) after =
+    read-shown terms plan block k seen items s doing from to g.holds.stands_fresh idle h.here
+    (record { from_mark = h.stands.mark ∙ is_from; forward = ltb-true from to e; after_told = omega (arith, below, after_told); in_journal = within }) in
+    let same : due seen from to terms.section.db s.set ≡ due seen from to k.db set =
+    ap (λ (db : ℕ). due seen from to db s.set) (sym h.stands.database) ∙ ap (λ (channels : List (List ℕ)). due seen from to k.db channels) h.channels in
+    let shown_so : StandsFresh terms seen (items ++ Read from to (due seen from to k.db set) ∷ []) after =
+    subst (λ (got : List Delivery). StandsFresh terms seen (items ++ Read from to got ∷ []) after) same shown in
+    let there : HasAnswered terms plan block q after doing =
+    answered-moved terms plan block q s (Some to) (s.marks ++ to ∷ []) doing
+    (answered-same terms plan block k q s doing (record { told = refl; raised = refl; found = refl; notes_left = refl }) h.here) in
+    record {
+      state = after;
+      stands = record {
+        holds = record {
+          stands_fresh = shown_so;
+          full = All-push (IsFullThere terms.settings seen) items (Read from to (due seen from to k.db set)) g.holds.full tt;
+          found = g.holds.found;
+        };
+        session = h.stands.session;
+        database = h.stands.database;
+        own = finished-more items (Read from to (due seen from to k.db set) ∷ []) refl ∙ h.stands.own;
+        mark = refl;
+        marks = members-push s.marks k.marks to h.stands.marks;
+        stood = Contains-push k.marks to;
+        named = h.stands.named;
+        patient = h.stands.patient;
+      };
+      rest = h.rest;
+      channels = h.channels;
+      here = answered-rested terms plan block q after doing there (reader-is_up_to_date terms seen after to refl (omega (arith, below, after_told)));
+    }
+reads terms plan done block set doing k more items from to false e is_from forward after_told within idle h =
+    let seen : List Tx = k.seen ++ more in
+    let s : State = h.state in
+    let q : Known = record k { seen = seen; mark = Some to; marks = k.marks ++ to ∷ []; owes = false } in
+    let g : StandsAt terms (record k { seen = seen }) items s = stands-grows terms k more items s h.stands in
+    let below : s.told ≤ k.told = told-below terms plan block k s doing h.here in
+    let back : to ≤ from = ltb-false from to e in
+    let still : from ≡ to = omega (arith, back, forward) in
+    let at : s.mark ≡ Some to = h.stands.mark ∙ is_from ∙ ap Some still in
+    let stood : IfSome (Some to) (Contains k.marks) = subst (λ (mark : Option ℕ). IfSome mark (Contains k.marks)) (is_from ∙ ap Some still) h.stands.stood in
+    record {
+      state = s;
+      stands = record {
+        holds = g.holds;
+        session = h.stands.session;
+        database = h.stands.database;
+        own = h.stands.own;
+        mark = at;
+        marks = members-again s.marks k.marks to (All-contains (Contains s.marks) k.marks to h.stands.marks.of_right stood) h.stands.marks;
+        stood = Contains-push k.marks to;
+        named = h.stands.named;
+        patient = h.stands.patient;
+      };
+      rest = h.rest;
+      channels = h.channels;
+      here = answered-rested terms plan block q s doing
+          (answered-same terms plan block k q s doing (record { told = refl; raised = refl; found = refl; notes_left = refl }) h.here)
+          (reader-is_up_to_date terms seen s to at (omega (arith, below, after_told)));
+    }
+
+-- a session that has read has rested
+pub read-rested : (terms : Terms) (plan : FlagPlan) (done : ℕ) (block : BlockView) (set : List (List ℕ)) (doing : Doing) (k q : Known) (items after : List Item) (from to : ℕ)
+    → HasReadOn k q set from to items after → block.state ≡ Idle → k.mark ≡ Some from → IsAnswered terms plan done block set doing k items → IsRested terms plan done block set doing q after
+read-rested terms plan done block set doing k q items after from to r idle is_from h =
+    let read = r.read in
+    let same_from : Some read.from ≡ Some from = sym read.from_mark ∙ is_from in
+    let starts : read.from ≡ from = cc in
+    let seen : q.seen ≡ k.seen ++ read.more = ap (λ (p : Known). p.seen) read.known in
+    let forward : from ≤ to = omega (arith, read.forward, starts) in
+    let within : to ≤ next_xid (k.seen ++ read.more) = subst (λ (txs : List Tx). to ≤ next_xid txs) seen read.in_seen in
+    let got : r.got ≡ due (k.seen ++ read.more) from to k.db set =
+    read.delivered ∙ ap (λ (txs : List Tx). due txs read.from to k.db set) seen ∙ ap (λ (n : ℕ). due (k.seen ++ read.more) n to k.db set) starts in
+    let shown : after ≡ with_read items from to (due (k.seen ++ read.more) from to k.db set) = r.shown ∙ ap (λ (ds : List Delivery). with_read items from to ds) got in
+    subst (λ (is : List Item). IsRested terms plan done block set doing q is) (sym shown)
+    (subst (λ (p : Known). IsRested terms plan done block set doing p (with_read items from to (due (k.seen ++ read.more) from to k.db set))) (sym read.known)
+    (reads terms plan done block set doing k read.more items from to (nat_lt from to) refl is_from forward read.after_told within idle h))

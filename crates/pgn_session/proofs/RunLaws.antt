@@ -1,0 +1,94 @@
+-- A step of a whole session by a command: what the block answers at once, what the hub shows, and a commit that was handed out.
+use Rattle.std.proofs.Common.{◌≡◌, ℕ, ◌+◌, List, [], ◌∷◌, ◌++◌, length, drop, None, sym, ap, ◌∙◌, refl, subst, append-nil, append_assoc}
+use Rattle.pgn_base.specs.declared.note.Note.{Note}
+use Rattle.pgn_base.specs.declared.answers.Tag.{Tag}
+use Rattle.pgn_base.specs.declared.answers.Tag.TheVariants as tag
+use Rattle.pgn_base.specs.declared.listen_set.Action.{Action}
+use Rattle.pgn_model.specs.declared.command.Command.{Command}
+use Rattle.pgn_model.specs.declared.scenario.Act.TheVariants.{Run}
+use Rattle.pgn_model.specs.declared.item.Item.{Item}
+use Rattle.pgn_model.specs.declared.item.Item.TheVariants as item
+use Rattle.pgn_model.specs.declared.known.Known.{Known}
+use Rattle.pgn_model.specs.Shape.{Shape}
+use Rattle.pgn_model.specs.Walk.{Terms}
+use Rattle.pgn_block.specs.Views.{BlockView}
+use Rattle.pgn_block.specs.declared.effect.Kind.TheVariants.{ListeningChannels, QueueUsage}
+use Rattle.pgn_block.specs.declared.effect.Effect.{Effect}
+use Rattle.pgn_block.specs.declared.effect.Effect.TheVariants as effect
+use Rattle.pgn_session.specs.declared.session.Session.{Session}
+use Rattle.pgn_session.specs.declared.doing.Step.{Step}
+use Rattle.pgn_session.specs.declared.doing.Step.TheVariants.{Did}
+use Rattle.pgn_session.specs.declared.doing.Doing.{Doing}
+use Rattle.pgn_session.specs.declared.doing.Doing.TheVariants.{Lines, Committing}
+use Rattle.pgn_session.specs.Parts.{HasTaken, HasShownUsage, answered_items, IsToldByBlock}
+use Rattle.pgn_session.specs.Standing.{terms_of, IsAnswered, IsRested}
+use Rattle.pgn_session.specs.Steps.{ShowsLine}
+use Rattle.pgn_session.specs.Whole.{ComesWith, HasAnswer, HasRest, HasStepped}
+use Rattle.pgn_session.proofs.BlockLaws.{block-answered}
+use Rattle.pgn_session.proofs.UsageLaws.{usage-answered}
+use Rattle.pgn_session.proofs.CommitLaws.{handed-out}
+use Rattle.pgn_session.proofs.WholeLaws.{line-did}
+
+-- what the block answers shows its line
+told-shows : (items : List Item) (line : ℕ) (set : List (List ℕ)) (e : Effect) → IsToldByBlock e → ShowsLine line items (answered_items items line set e)
+told-shows items line set effect.Nothing h = record { more = []; shown = sym (append-nil _) }
+told-shows items line set (effect.Reply done warning) h = record { more = item.Reply done warning ∷ []; shown = refl }
+told-shows items line set (effect.Refuse refusal) h = record { more = item.Refuse refusal ∷ []; shown = refl }
+told-shows items line set (effect.Query ListeningChannels) h =
+    record { more = item.Channels set ∷ [] ++ item.Reply (tag.Select (length set)) None ∷ []; shown = append_assoc (items ++ item.Line line ∷ []) (item.Channels set ∷ []) (item.Reply (tag.Select (length set)) None ∷ []) }
+told-shows items line set (effect.Query QueueUsage) h = absurd h
+told-shows items line set (effect.Commit actions notes done) h = absurd h
+
+-- a line that the block alone answers
+pub told-stepped : {P : Type 0} (shape : Shape) (known : P → Known) (s n : Session P) (line : ℕ) (command : Command) (next : BlockView) (e : Effect) (step : Step) → ComesWith s line (Run command) → s.doing ≡ Lines → HasRest shape known s
+    → HasTaken s.block command e next → IsToldByBlock e → n ≡ record s { block = next; items = n.items; done = s.done + 1 } → n.items.items ≡ answered_items s.items.items line s.set.channels e → step ≡ Did → HasStepped shape known s Lines n step
+told-stepped {P} shape known s n line command next e step comes between rested taken told same shown did =
+    let terms : Terms = terms_of shape s.section s.patience in
+    let at : IsRested terms s.plan s.done s.block s.set.channels Lines (known s.pass) s.items.items =
+    subst (λ (d : Doing). IsRested terms s.plan s.done s.block s.set.channels d (known s.pass) s.items.items) between rested in
+    let answers : IsAnswered terms s.plan (s.done + 1) next s.set.channels s.doing (known s.pass) n.items.items =
+    subst (λ (d : Doing). IsAnswered terms s.plan (s.done + 1) next s.set.channels d (known s.pass) n.items.items) (sym between)
+    (subst (λ (is : List Item). IsAnswered terms s.plan (s.done + 1) next s.set.channels Lines (known s.pass) is) (ap (λ (m : ℕ). answered_items s.items.items m s.set.channels e) comes.number ∙ sym shown)
+    (block-answered terms s.plan s.done s.block next s.set.channels (known s.pass) s.items.items comes.next (drop (s.done + 1) s.section.lines) command e at comes.split refl comes.does taken told)) in
+    subst (λ (x : Step). HasStepped shape known s Lines n x) (sym did)
+    (line-did shape known s n line (Run command) comes
+    (record { section = ap (λ (x : Session P). x.section) same; plan = ap (λ (x : Session P). x.plan) same; patience = ap (λ (x : Session P). x.patience) same })
+    (ap (λ (x : Session P). x.done) same)
+    (subst (λ (x : Session P). HasAnswer shape known x) (sym same) answers)
+    (subst (λ (is : List Item). ShowsLine line s.items.items is) (sym shown) (told-shows s.items.items line s.set.channels e told), ap (λ (x : Session P). x.doing) same ∙ between, refl))
+
+-- a line that is answered by the queue's usage
+pub usage-stepped : {P : Type 0} (shape : Shape) (known : P → Known) (s n : Session P) (line : ℕ) (command : Command) (next : BlockView) (step : Step) → ComesWith s line (Run command) → s.doing ≡ Lines → HasRest shape known s
+    → HasTaken s.block command (effect.Query QueueUsage) next → n ≡ record s { pass = n.pass; block = next; items = n.items; done = s.done + 1 } → HasShownUsage shape (known s.pass) (known n.pass) line s.items.items n.items.items → step ≡ Did
+    → HasStepped shape known s Lines n step
+usage-stepped {P} shape known s n line command next step comes between rested taken same used did =
+    let terms : Terms = terms_of shape s.section s.patience in
+    let at : IsRested terms s.plan s.done s.block s.set.channels Lines (known s.pass) s.items.items =
+    subst (λ (d : Doing). IsRested terms s.plan s.done s.block s.set.channels d (known s.pass) s.items.items) between rested in
+    let here : HasShownUsage shape (known s.pass) (known n.pass) comes.next.line s.items.items n.items.items =
+    subst (λ (m : ℕ). HasShownUsage shape (known s.pass) (known n.pass) m s.items.items n.items.items) (sym comes.number) used in
+    let answers : IsAnswered terms s.plan (s.done + 1) next s.set.channels s.doing (known n.pass) n.items.items =
+    subst (λ (d : Doing). IsAnswered terms s.plan (s.done + 1) next s.set.channels d (known n.pass) n.items.items) (sym between)
+    (usage-answered shape terms s.plan s.done s.block next s.set.channels (known s.pass) (known n.pass) s.items.items n.items.items comes.next (drop (s.done + 1) s.section.lines) command at comes.split refl comes.does taken here refl refl) in
+    subst (λ (x : Step). HasStepped shape known s Lines n x) (sym did)
+    (line-did shape known s n line (Run command) comes
+    (record { section = ap (λ (x : Session P). x.section) same; plan = ap (λ (x : Session P). x.plan) same; patience = ap (λ (x : Session P). x.patience) same })
+    (ap (λ (x : Session P). x.done) same)
+    (subst (λ (x : Session P). HasAnswer shape known x) (sym same) answers) (
+      record {
+        more = item.Used used.usage ∷ [] ++ item.Reply (tag.Select 1) None ∷ [];
+        shown = used.shown ∙ append_assoc (s.items.items ++ item.Line line ∷ []) (item.Used used.usage ∷ []) (item.Reply (tag.Select 1) None ∷ []);
+      },
+      ap (λ (x : Session P). x.doing) same ∙ between,
+      refl,
+    ))
+
+-- a commit that the block has handed out
+pub handed-rested : {P : Type 0} (shape : Shape) (known : P → Known) (s : Session P) (line : ℕ) (command : Command) (next : BlockView) (items : List Item) (actions : List Action) (notes : List Note) (done : Tag)
+    → ComesWith s line (Run command) → s.doing ≡ Lines → HasRest shape known s → HasTaken s.block command (effect.Commit actions notes done) next → items ≡ s.items.items
+    → IsRested (terms_of shape s.section s.patience) s.plan s.done next s.set.channels (Committing actions notes done) (known s.pass) items
+handed-rested shape known s line command next items actions notes done comes between rested taken same =
+    let terms : Terms = terms_of shape s.section s.patience in
+    subst (λ (is : List Item). IsRested terms s.plan s.done next s.set.channels (Committing actions notes done) (known s.pass) is) (sym same)
+    (handed-out terms s.plan s.done s.block next s.set.channels (known s.pass) s.items.items comes.next (drop (s.done + 1) s.section.lines) command actions notes done
+    (subst (λ (d : Doing). IsRested terms s.plan s.done s.block s.set.channels d (known s.pass) s.items.items) between rested) comes.split comes.does taken)

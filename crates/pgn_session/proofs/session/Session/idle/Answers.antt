@@ -1,0 +1,29 @@
+use Rattle.std.proofs.Common.{List, ap, sym, subst, ◌∙◌, rules}
+use Rattle.pgn_model.specs.declared.item.Item.{Item}
+use Rattle.pgn_model.specs.declared.known.Known.{Known}
+use Rattle.pgn_session.specs.Standing.{terms_of, IsAnswered}
+use Rattle.pgn_session.proofs.ReadLaws.{quiet-rested, woken-answered, learned-answered, read-rested}
+use Rattle.pgn_session.proofs.KnownLaws.{on-err}
+use Rattle.pgn_session.proofs.session.Session.idle.Goals as goal
+
+pub returns-then-not-woken-clause-rested : goal.returns-then-not-woken-clause-rested
+returns-then-not-woken-clause-rested g c =
+    let s = c.args.self.now in
+    quiet-rested (terms_of (g.H.Hub.shape c.args.hub.now) s.section s.patience) s.plan s.done s.block s.set.channels s.doing (g.P.PassView.known s.pass) (g.P.PassView.known c.woken.new.pass) s.items.items
+    c.if-not-woken.ensures.woken c.requires.answered
+
+pub returns-in_err-to-clause-refused : goal.returns-in_err-to-clause-refused
+returns-in_err-to-clause-refused g c =
+    let s = c.args.self.now in
+    let terms = terms_of (g.H.Hub.shape c.args.hub.now) s.section s.patience in
+    let woken = woken-answered terms s.plan s.done s.block s.set.channels s.doing (g.P.PassView.known s.pass) (g.P.PassView.known c.woken.new.pass) s.items.items _ c.woken.ensures.woken c.requires.answered in
+    let learned = learned-answered terms s.plan s.done s.block s.set.channels s.doing (g.P.PassView.known c.woken.new.pass) (g.P.PassView.known c.read_on.new.pass) s.items.items c.in_err-to.ensures.refused woken in
+    on-err _ _ (subst (λ (items : List Item). IsAnswered terms s.plan s.done s.block s.set.channels s.doing (g.P.PassView.known c.read_on.new.pass) items) (sym c.in_err-to.ensures.refused_shows_nothing) learned)
+
+pub returns-clause-rested : goal.returns-clause-rested
+returns-clause-rested g c =
+    let s = c.args.self.now in
+    let terms = terms_of (g.H.Hub.shape c.args.hub.now) s.section s.patience in
+    let woken = woken-answered terms s.plan s.done s.block s.set.channels s.doing (g.P.PassView.known s.pass) (g.P.PassView.known c.woken.new.pass) s.items.items _ c.woken.ensures.woken c.requires.answered in
+    read-rested terms s.plan s.done s.block s.set.channels s.doing (g.P.PassView.known c.woken.new.pass) (g.P.PassView.known c.read_on.new.pass) s.items.items c.read_on.new.items.items c.in-Some.from c.in_ok-to.to
+    c.in_ok-to.ensures.read (search rules) (ap (λ (k : Known). k.mark) c.woken.ensures.woken.known ∙ sym c.in-Some.ensures) woken

@@ -1,0 +1,12 @@
+-- what the parts of a call do
+pub mod Parts
+-- what a commit does
+pub mod Commits
+-- what holds of a session between its calls
+pub mod Standing
+-- what a step does
+pub mod Steps
+-- the same of a whole session
+pub mod Whole
+-- data of examples
+pub mod Examples

@@ -1,0 +1,216 @@
+ghost use Rattle.std.specs.Prelude.{◌≡◌, ◌+◌, ◌≤◌, ◌<◌, [], ◌∷◌, ◌++◌, None, length, IfOk, OnOk, OnErr, vec_len, vec_capacity};
+ghost use Rattle.pgn_model.specs.declared.scenario.Act.TheVariants as act;
+ghost use Rattle.pgn_session.specs.declared.doing.Doing.TheVariants as doing;
+ghost use Rattle.pgn_session.specs.Parts.{HasShownUsage};
+ghost use Rattle.pgn_session.specs.Whole.{HasRest, RestsAt, ComesWith, HasStepped, HasRefused};
+
+use crate::commit::commit;
+use crate::line::measure;
+use crate::{Doing, Session, Step};
+use pgn_base::{Actions, Copied, Name, Names, Notes, Tag};
+use pgn_block::{Effect, Kind};
+use pgn_hub::Hub;
+use pgn_model::{Command, Item, PassView};
+use std::alloc::{AllocError, Global};
+use std::sync::Wait;
+
+// A line with a command.
+impl<P: PassView + Send + Drop> Session<P> {
+    /// Has the block answer a command.
+    pub(crate) fn run<H: Hub<Pass = P>, R: Wait>(
+        &mut self,
+        rt: &R,
+        alloc: Global,
+        hub: &H,
+        line: u32,
+        command: Command,
+    ) -> Result<Step, AllocError>
+        requires own { H.is_pass hub.now self.old.pass }
+        requires place { self.old.doing ≡ doing.Lines }
+        requires rested { HasRest (H.shape hub.now) P.known self.old }
+        requires comes { ComesWith self.old line (act.Run command) }
+        requires counted { self.old.done < usize.MAX }
+        ensures own { H.is_pass hub.now self.new.pass }
+        ensures stepped { IfOk result (λ step. HasStepped (H.shape hub.now) P.known self.old doing.Lines self.new step) }
+        ensures refused { OnErr result (HasRefused (H.shape hub.now) P.known self.old doing.Lines self.new) }
+    {
+        self.items.reserve(3)?;
+        let rows = rows_for(alloc, &command, self.set.names())?;
+        let effect = self.block.step(command)?;
+        match effect {
+            Effect::Nothing => Ok(self.show_line(line)),
+            Effect::Reply { tag, warning } => Ok(self.show(line, Item::Reply { tag, warning })),
+            Effect::Refuse { refusal } => Ok(self.show(line, Item::Refuse { refusal })),
+            Effect::Query {
+                kind: Kind::ListeningChannels,
+            } => Ok(self.show_rows(line, rows)),
+            Effect::Query {
+                kind: Kind::QueueUsage,
+            } => Ok(self.measure(rt, hub, line)),
+            Effect::Commit {
+                actions,
+                notes,
+                tag,
+            } => self.commit(rt, hub, actions, notes, tag),
+        }
+    }
+
+    // Records a line that is not answered.
+    fn show_line(&mut self, line: u32) -> Step
+        requires room { vec_len self.old.items + 1 ≤ vec_capacity self.old.items }
+        requires counted { self.old.done < usize.MAX }
+        ensures same { self.new ≡ record self.old { items = self.new.items; done = self.old.done + 1 } }
+        ensures shown { self.new.items.items ≡ self.old.items.items ++ Item.Line line ∷ [] }
+        ensures did { result ≡ Step.Did }
+    {
+        self.items.push(Item::Line { line }).unwrap();
+        self.done += 1;
+        Step::Did
+    }
+
+    // Records a line and its answer.
+    fn show(&mut self, line: u32, answer: Item) -> Step
+        requires room { vec_len self.old.items + 2 ≤ vec_capacity self.old.items }
+        requires counted { self.old.done < usize.MAX }
+        ensures same { self.new ≡ record self.old { items = self.new.items; done = self.old.done + 1 } }
+        ensures shown { self.new.items.items ≡ self.old.items.items ++ Item.Line line ∷ [] ++ answer ∷ [] }
+        ensures did { result ≡ Step.Did }
+    {
+        self.items.push(Item::Line { line }).unwrap();
+        self.items.push(answer).unwrap();
+        self.done += 1;
+        Step::Did
+    }
+
+    // Records a line and the channels that it asks for.
+    fn show_rows(&mut self, line: u32, rows: Rows) -> Step
+        requires room { vec_len self.old.items + 3 ≤ vec_capacity self.old.items }
+        requires counted { self.old.done < usize.MAX }
+        ensures same { self.new ≡ record self.old { items = self.new.items; done = self.old.done + 1 } }
+        ensures shown { self.new.items.items ≡ self.old.items.items ++ Item.Line line ∷ [] ++ Item.Channels rows.names ∷ [] ++ Item.Reply (Tag.Select rows.count) None ∷ [] }
+        ensures did { result ≡ Step.Did }
+    {
+        show_channels(&mut self.items, line, rows);
+        self.done += 1;
+        Step::Did
+    }
+
+    // Records a line and the queue's usage.
+    fn measure<H: Hub<Pass = P>, R: Wait>(&mut self, rt: &R, hub: &H, line: u32) -> Step
+        requires own { H.is_pass hub.now self.old.pass }
+        requires room { vec_len self.old.items + 3 ≤ vec_capacity self.old.items }
+        requires counted { self.old.done < usize.MAX }
+        ensures own { H.is_pass hub.now self.new.pass }
+        ensures same { self.new ≡ record self.old { pass = self.new.pass; items = self.new.items; done = self.old.done + 1 } }
+        ensures measured { HasShownUsage (H.shape hub.now) (P.known self.old.pass) (P.known self.new.pass) line self.old.items.items self.new.items.items }
+        ensures did { result ≡ Step.Did }
+    {
+        measure(rt, hub, &mut self.pass, &mut self.items, line);
+        self.done += 1;
+        Step::Did
+    }
+
+    /// Commits what the block has handed out. After a refusal it is kept for the next step.
+    pub(crate) fn commit<H: Hub<Pass = P>, R: Wait>(
+        &mut self,
+        rt: &R,
+        hub: &H,
+        actions: Actions,
+        notes: Notes,
+        tag: Tag,
+    ) -> Result<Step, AllocError>
+        requires own { H.is_pass hub.now self.old.pass }
+        requires place { self.old.doing ≡ doing.Lines }
+        requires rested { RestsAt (H.shape hub.now) P.known self.old (doing.Committing actions notes tag) }
+        ensures own { H.is_pass hub.now self.new.pass }
+        ensures stepped { IfOk result (λ step. HasStepped (H.shape hub.now) P.known self.old (doing.Committing actions notes tag) self.new step) }
+        ensures refused { OnErr result (HasRefused (H.shape hub.now) P.known self.old (doing.Committing actions notes tag) self.new) }
+    {
+        if self.make_room(actions.as_slice().len()).is_err() {
+            self.doing = Doing::Committing {
+                actions,
+                notes,
+                tag,
+            };
+            return Err(AllocError);
+        }
+        let line = self.section.lines.as_slice()[self.done].line;
+        commit(
+            rt,
+            hub,
+            &mut self.pass,
+            &mut self.set,
+            &mut self.items,
+            line,
+            actions,
+            notes,
+            tag,
+        );
+        self.done += 1;
+        Ok(Step::Did)
+    }
+
+    // Makes room for the items of a commit, and in the set for as many channels as it has actions.
+    fn make_room(&mut self, actions: usize) -> Result<(), AllocError>
+        ensures same { self.new ≡ record self.old { items = self.new.items; set = self.new.set } }
+        ensures items { self.new.items.items ≡ self.old.items.items }
+        ensures channels { self.new.set.channels ≡ self.old.set.channels }
+        ensures room { OnOk result (vec_len self.new.items + 5 ≤ vec_capacity self.new.items) }
+        ensures set_room { OnOk result (actions ≤ self.new.set.room) }
+    {
+        self.items.reserve(5)?;
+        self.set.reserve(actions)
+    }
+}
+
+// The channels that a command asks for, and how many they are.
+#[derive(Drop)]
+struct Rows {
+    names: Names,
+    count: u32,
+}
+
+// The rows that a command may ask for. More than a tag can count have no place in memory.
+fn rows_for(alloc: Global, command: &Command, names: &[Name]) -> Result<Rows, AllocError>
+    ensures names { IfOk result (λ rows. command.now ≡ Command.ListeningChannels → rows.names ≡ names.now) }
+    ensures count { IfOk result (λ rows. rows.count ≡ length rows.names) }
+{
+    let Command::ListeningChannels = command else {
+        return Ok(Rows {
+            names: Names::new(alloc),
+            count: 0,
+        });
+    };
+    let Ok(count) = u32::try_from(names.len()) else {
+        return Err(AllocError);
+    };
+    let names = copy_names(alloc, names)?;
+    Ok(Rows { names, count })
+}
+
+// Records the channels that the session listens to.
+fn show_channels(items: &mut Vec<Item>, line: u32, rows: Rows)
+    requires { vec_len items.old + 3 ≤ vec_capacity items.old }
+    ensures { items.new.items ≡ items.old.items ++ Item.Line line ∷ [] ++ Item.Channels rows.names ∷ [] ++ Item.Reply (Tag.Select rows.count) None ∷ [] }
+{
+    let Rows { names, count } = rows;
+    items.push(Item::Line { line }).unwrap();
+    items.push(Item::Channels { names }).unwrap();
+    items
+        .push(Item::Reply {
+            tag: Tag::Select(count),
+            warning: None,
+        })
+        .unwrap();
+}
+
+// Names, copied.
+fn copy_names(alloc: Global, names: &[Name]) -> Result<Names, AllocError>
+    ensures { IfOk result (λ copied. copied ≡ names.now) }
+{
+    let mut copied = Names::new(alloc);
+    for name in names {
+        copied.push(name.copy(alloc)?)?;
+    }
+    Ok(copied)
+}

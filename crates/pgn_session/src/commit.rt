@@ -1,0 +1,200 @@
+ghost use Rattle.std.specs.Prelude.{◌≡◌, ◌≢◌, ◌+◌, ◌≤◌, [], ◌∷◌, ◌++◌, length, Option, Some, None, Ok, Err, AllPairs, IsTrue, vec_len, vec_capacity};
+ghost use Rattle.std.specs.List.{list_any};
+ghost use Rattle.pgn_base.specs.Channels.{applied};
+ghost use Rattle.pgn_model.specs.Savepoints.{is_listen};
+ghost use Rattle.pgn_model.specs.laws.NextLine.{is_enlisting, is_leaving};
+ghost use Rattle.pgn_session.specs.Commits.{HasJoined, HasSent, HasLeftIf, HasCommitted, set_after, enlisted_items, sent_items, left_items, ending_item, commit_items};
+
+use pgn_base::{Action, Actions, Enlisted, Full, ListenSet, Note, Notes, Refusal, Tag, Xid};
+use pgn_hub::Hub;
+use pgn_model::{Item, PassView};
+use std::sync::Wait;
+
+/// Commits a transaction, and records its line: the session becomes a listener, where an action listens; the notifications are
+/// sent; the actions take effect, unless the queue was full; a listener whose set is then empty leaves. It takes no memory.
+pub(crate) fn commit<P: PassView + Send + Drop, H: Hub<Pass = P>, R: Wait>(
+    rt: &R,
+    hub: &H,
+    pass: &mut P,
+    set: &mut ListenSet,
+    items: &mut Vec<Item>,
+    line: u32,
+    actions: Actions,
+    notes: Notes,
+    tag: Tag,
+)
+    requires own { H.is_pass hub.now pass.old }
+    requires different { AllPairs (λ a b. a ≢ b) notes }
+    requires few { length notes ≤ (P.known pass.old).notes_left }
+    requires set_room { length actions ≤ set.old.room }
+    requires room { vec_len items.old + 5 ≤ vec_capacity items.old }
+    ensures own { H.is_pass hub.now pass.new }
+    ensures committed { HasCommitted (H.shape hub.now) (P.known pass.old) (P.known pass.new) set.old.channels set.new.channels line actions notes tag items.old.items items.new.items }
+{
+    let enlisted = enlist_where_it_listens(hub, pass, actions.as_slice());
+    let sent = send(rt, hub, pass, notes.as_slice());
+    settle(set, actions, &sent);
+    let left = leave_where_empty(hub, pass, set);
+    show_commit(items, line, enlisted, sent, notes, left, tag);
+}
+
+// This one does.
+fn listens(action: &Action) -> bool
+    ensures { result ≡ is_listen action.now }
+{
+    match action {
+        Action::Listen(_) => true,
+        Action::Unlisten(_) | Action::UnlistenAll => false,
+    }
+}
+
+// An action listens.
+fn some_listens(actions: &[Action]) -> bool
+    ensures { result ≡ list_any is_listen actions.now }
+{
+    actions.iter().any(|action| listens(action))
+}
+
+// An action listens, and the session is no listener yet.
+fn is_to_enlist(actions: &[Action], mark: Option<Xid>) -> bool
+    ensures { result ≡ is_enlisting actions.now mark }
+{
+    some_listens(actions) && mark.is_none()
+}
+
+// A session that is no listener becomes one where an action listens.
+fn enlist_where_it_listens<P: PassView + Send + Drop, H: Hub<Pass = P>>(
+    hub: &H,
+    pass: &mut P,
+    actions: &[Action],
+) -> Option<Enlisted>
+    requires own { H.is_pass hub.now pass.old }
+    ensures own { H.is_pass hub.now pass.new }
+    ensures joined { HasJoined (is_enlisting actions.now (P.known pass.old).mark) (P.known pass.old) (P.known pass.new) result }
+    ensures notes { (P.known pass.new).notes_left ≡ (P.known pass.old).notes_left }
+{
+    if !is_to_enlist(actions, pass.mark()) {
+        return None;
+    }
+    Some(hub.enlist(pass))
+}
+
+// The notifications are published, or meet a full queue.
+fn send<P: PassView + Send + Drop, H: Hub<Pass = P>, R: Wait>(
+    rt: &R,
+    hub: &H,
+    pass: &mut P,
+    notes: &[Note],
+) -> Option<Result<Xid, Full>>
+    requires own { H.is_pass hub.now pass.old }
+    requires different { AllPairs (λ a b. a ≢ b) notes.now }
+    requires few { length notes.now ≤ (P.known pass.old).notes_left }
+    ensures own { H.is_pass hub.now pass.new }
+    ensures sent { HasSent (H.shape hub.now) (P.known pass.old) (P.known pass.new) notes.now result }
+{
+    if notes.is_empty() {
+        return None;
+    }
+    Some(hub.publish(rt, pass, notes))
+}
+
+// The actions take effect, unless the queue was full.
+fn settle(set: &mut ListenSet, actions: Actions, sent: &Option<Result<Xid, Full>>)
+    requires { length actions ≤ set.old.room }
+    ensures { set.new.channels ≡ set_after sent.now set.old.channels actions }
+{
+    if let Some(Err(_)) = sent {
+        return;
+    }
+    set.apply(actions);
+}
+
+// A listener whose set is empty leaves.
+fn leave_where_empty<P: PassView + Send + Drop, H: Hub<Pass = P>>(
+    hub: &H,
+    pass: &mut P,
+    set: &ListenSet,
+) -> bool
+    requires own { H.is_pass hub.now pass.old }
+    ensures own { H.is_pass hub.now pass.new }
+    ensures result { result ≡ is_leaving (P.known pass.old).mark set.now.channels }
+    ensures left { HasLeftIf (is_leaving (P.known pass.old).mark set.now.channels) (P.known pass.old) (P.known pass.new) }
+{
+    if pass.mark().is_none() || !set.names().is_empty() {
+        return false;
+    }
+    hub.leave(pass);
+    true
+}
+
+// Records a commit.
+fn show_commit(
+    items: &mut Vec<Item>,
+    line: u32,
+    enlisted: Option<Enlisted>,
+    sent: Option<Result<Xid, Full>>,
+    notes: Notes,
+    left: bool,
+    tag: Tag,
+)
+    requires { vec_len items.old + 5 ≤ vec_capacity items.old }
+    ensures { items.new.items ≡ commit_items items.old.items line enlisted sent notes left tag }
+{
+    items.push(Item::Line { line }).unwrap();
+    show_enlisted(items, enlisted);
+    show_sent(items, &sent, notes);
+    show_left(items, left);
+    show_ending(items, sent, tag);
+}
+
+// Records that the session has become a listener.
+fn show_enlisted(items: &mut Vec<Item>, enlisted: Option<Enlisted>)
+    requires { vec_len items.old + 1 ≤ vec_capacity items.old }
+    ensures items { items.new.items ≡ items.old.items ++ enlisted_items enlisted }
+    ensures room { vec_capacity items.old ≤ vec_capacity items.new }
+    ensures one { vec_len items.new ≤ vec_len items.old + 1 }
+{
+    if let Some(Enlisted { base, point }) = enlisted {
+        items.push(Item::Enlist { base, point }).unwrap();
+    }
+}
+
+// Records what came of the notifications.
+fn show_sent(items: &mut Vec<Item>, sent: &Option<Result<Xid, Full>>, notes: Notes)
+    requires { vec_len items.old + 1 ≤ vec_capacity items.old }
+    ensures items { items.new.items ≡ items.old.items ++ sent_items sent.now notes }
+    ensures room { vec_capacity items.old ≤ vec_capacity items.new }
+    ensures one { vec_len items.new ≤ vec_len items.old + 1 }
+{
+    match sent {
+        None => {}
+        Some(Ok(xid)) => items.push(Item::Publish { xid: *xid, notes }).unwrap(),
+        Some(Err(full)) => items.push(Item::QueueFull { full: *full, notes }).unwrap(),
+    }
+}
+
+// Records that the session is no listener any more.
+fn show_left(items: &mut Vec<Item>, left: bool)
+    requires { vec_len items.old + 1 ≤ vec_capacity items.old }
+    ensures items { items.new.items ≡ items.old.items ++ left_items left }
+    ensures room { vec_capacity items.old ≤ vec_capacity items.new }
+    ensures one { vec_len items.new ≤ vec_len items.old + 1 }
+{
+    if left {
+        items.push(Item::Leave).unwrap();
+    }
+}
+
+// Records the answer to a commit.
+fn show_ending(items: &mut Vec<Item>, sent: Option<Result<Xid, Full>>, tag: Tag)
+    requires { vec_len items.old + 1 ≤ vec_capacity items.old }
+    ensures { items.new.items ≡ items.old.items ++ ending_item sent tag ∷ [] }
+{
+    let ending = match sent {
+        Some(Err(_)) => Item::Refuse {
+            refusal: Refusal::QueueFull,
+        },
+        None | Some(Ok(_)) => Item::Reply { tag, warning: None },
+    };
+    items.push(ending).unwrap();
+}

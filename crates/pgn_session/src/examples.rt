@@ -1,0 +1,49 @@
+//! Examples in numbers of what a step did and came to, and beside each what is refused. The passes are those of `pgn_hub`'s examples:
+//! session 1 listens, the flag 0 was raised with the number 4, and nobody raised the flag 1.
+ghost use Rattle.std.specs.Prelude.{◌≡◌, [], ◌∷◌, Some, None};
+ghost use Rattle.pgn_hub.specs.Examples.{listening, found_0, found_none};
+ghost use Rattle.pgn_session.specs.Steps.{HasTurned, AnswersLine, Waits, Ends, StandsStill};
+ghost use Rattle.pgn_session.specs.Examples.{two_sessions};
+
+use crate::{Doing, Step};
+use pgn_base::Tag;
+use pgn_model::Item;
+
+/// A turn of an await, with a patience of 3.
+pub fn turn()
+    ensures waits { HasTurned 1 1 3 listening found_none [] [] (Doing.Awaiting 1 1) Step.Waiting }
+    ensures finds { HasTurned 0 2 3 listening found_0 [] (Item.Found 4 ∷ []) Doing.Lines Step.Did }
+    ensures times_out { HasTurned 1 3 3 listening found_none [] (Item.TimedOut 3 ∷ []) Doing.Lines Step.Did }
+    ensures too_early { HasTurned 1 1 3 listening found_none [] (Item.TimedOut 1 ∷ []) Doing.Lines Step.Did → ⊥ }
+    ensures never { HasTurned 1 3 3 listening found_none [] [] (Doing.Awaiting 1 3) Step.Waiting → ⊥ }
+    ensures without_a_look { HasTurned 1 3 3 listening listening [] (Item.TimedOut 3 ∷ []) Doing.Lines Step.Did → ⊥ }
+    ensures at_another_flag { HasTurned 0 1 3 listening found_none [] [] (Doing.Awaiting 0 1) Step.Waiting → ⊥ }
+{}
+
+/// Whether a line got its whole answer, where so many lines have begun before and after.
+pub fn answered()
+    ensures at_once { AnswersLine Doing.Lines 2 Doing.Lines 3 }
+    ensures at_last { AnswersLine (Doing.Awaiting 1 1) 3 Doing.Lines 3 }
+    ensures begun { AnswersLine Doing.Lines 2 (Doing.Awaiting 1 1) 3 → ⊥ }
+    ensures waiting { AnswersLine (Doing.Awaiting 1 1) 3 (Doing.Awaiting 1 2) 3 → ⊥ }
+    ensures end { AnswersLine Doing.Lines 3 (Doing.Ending 0 0) 3 → ⊥ }
+{}
+
+/// Whether a session waits, with a patience of 3, and whether it is over. The end flags are 0 and 1.
+pub fn waiting()
+    ensures awaits { Waits two_sessions 3 listening found_none (Doing.Awaiting 1 1) }
+    ensures waits_on { Waits two_sessions 3 listening found_none (Doing.Ending 1 2) }
+    ensures spent { Waits two_sessions 3 listening found_none (Doing.Awaiting 1 3) → ⊥ }
+    ensures did_not_look { Waits two_sessions 3 listening listening (Doing.Awaiting 1 1) → ⊥ }
+    ensures at_another_flag { Waits two_sessions 3 listening found_none (Doing.Ending 0 2) → ⊥ }
+    ensures patience_spent { Ends two_sessions 3 (Doing.Ending 1 2) found_0 }
+    ensures one_flag_missing { Ends two_sessions 3 (Doing.Ending 1 1) found_0 → ⊥ }
+    ensures between_lines { Ends two_sessions 3 Doing.Lines found_0 → ⊥ }
+{}
+
+/// Where a session stands after a step that was refused.
+pub fn refused()
+    ensures handed_out { StandsStill Doing.Lines (Doing.Committing [] [] Tag.Commit) }
+    ensures looked { StandsStill (Doing.Awaiting 1 1) (Doing.Awaiting 1 2) → ⊥ }
+    ensures at_the_end { StandsStill (Doing.Ending 0 0) (Doing.Ending 0 0) → ⊥ }
+{}

@@ -1,0 +1,134 @@
+ghost use Rattle.std.specs.Prelude.{◌≡◌, ◌+◌, ◌≤◌, ◌<◌, [], ◌∷◌, ◌++◌, Option, Some, None, vec_len, vec_capacity};
+ghost use Rattle.pgn_hub.specs.Calls.{HasRaised, HasLooked};
+ghost use Rattle.pgn_session.specs.Parts.{HasQuit, HasShownUsage, looked_items};
+ghost use Rattle.pgn_session.specs.Steps.{HasLookedOn};
+ghost use Rattle.pgn_model.specs.laws.NextLine.{quit_items};
+
+use crate::FlagPlan;
+use pgn_base::{Tag, Xid};
+use pgn_hub::Hub;
+use pgn_model::{Item, PassView};
+use std::sync::Wait;
+
+/// Raises a flag, and records its line.
+pub(crate) fn signal<P: PassView + Send + Drop, H: Hub<Pass = P>>(
+    hub: &H,
+    pass: &mut P,
+    items: &mut Vec<Item>,
+    line: u32,
+    flag: u32,
+)
+    requires own { H.is_pass hub.now pass.old }
+    requires flag { flag < (H.shape hub.now).flags }
+    requires room { vec_len items.old + 2 ≤ vec_capacity items.old }
+    ensures own { H.is_pass hub.now pass.new }
+    ensures raised { HasRaised (P.known pass.old) (P.known pass.new) flag (P.known pass.old).told }
+    ensures shown { items.new.items ≡ items.old.items ++ Item.Line line ∷ [] ++ Item.Raise (P.known pass.old).told ∷ [] }
+{
+    items.push(Item::Line { line }).unwrap();
+    let value = hub.raise(pass, flag);
+    items.push(Item::Raise { value }).unwrap();
+}
+
+/// Looks once at an awaited flag, and records whether it was found, or whether this was the last look that the patience allows:
+/// answers whether the line has its answer. `looks` is how many looks there have been with this one.
+pub(crate) fn look<P: PassView + Send + Drop, H: Hub<Pass = P>>(
+    hub: &H,
+    pass: &mut P,
+    items: &mut Vec<Item>,
+    flag: u32,
+    looks: u64,
+    patience: u64,
+) -> Option<Xid>
+    requires own { H.is_pass hub.now pass.old }
+    requires flag { flag < (H.shape hub.now).flags }
+    requires room { vec_len items.old + 1 ≤ vec_capacity items.old }
+    ensures own { H.is_pass hub.now pass.new }
+    ensures looked { HasLooked (P.known pass.old) (P.known pass.new) flag result }
+    ensures shown { items.new.items ≡ looked_items items.old.items looks patience result }
+{
+    let found = hub.look(pass, flag);
+    show_look(items, &found, looks, patience);
+    found
+}
+
+// Records a look that found something, or the last one.
+fn show_look(items: &mut Vec<Item>, found: &Option<Xid>, looks: u64, patience: u64)
+    requires { vec_len items.old + 1 ≤ vec_capacity items.old }
+    ensures { items.new.items ≡ looked_items items.old.items looks patience found.now }
+{
+    match found {
+        Some(value) => items.push(Item::Found { value: *value }).unwrap(),
+        None => {
+            if looks >= patience {
+                items.push(Item::TimedOut { looks }).unwrap();
+            }
+        }
+    }
+}
+
+/// Leaves, where the session is a listener, and records its line.
+pub(crate) fn quit<P: PassView + Send + Drop, H: Hub<Pass = P>>(
+    hub: &H,
+    pass: &mut P,
+    items: &mut Vec<Item>,
+    line: u32,
+)
+    requires own { H.is_pass hub.now pass.old }
+    requires room { vec_len items.old + 2 ≤ vec_capacity items.old }
+    ensures own { H.is_pass hub.now pass.new }
+    ensures left { HasQuit (P.known pass.old) (P.known pass.new) }
+    ensures shown { items.new.items ≡ items.old.items ++ Item.Line line ∷ [] ++ quit_items (P.known pass.old).mark }
+{
+    items.push(Item::Line { line }).unwrap();
+    if pass.mark().is_none() {
+        return;
+    }
+    hub.leave(pass);
+    items.push(Item::Leave).unwrap();
+}
+
+/// Shows the queue's usage, and records its line.
+pub(crate) fn measure<P: PassView + Send + Drop, H: Hub<Pass = P>, R: Wait>(
+    rt: &R,
+    hub: &H,
+    pass: &mut P,
+    items: &mut Vec<Item>,
+    line: u32,
+)
+    requires own { H.is_pass hub.now pass.old }
+    requires room { vec_len items.old + 3 ≤ vec_capacity items.old }
+    ensures own { H.is_pass hub.now pass.new }
+    ensures measured { HasShownUsage (H.shape hub.now) (P.known pass.old) (P.known pass.new) line items.old.items items.new.items }
+{
+    items.push(Item::Line { line }).unwrap();
+    let usage = hub.usage(rt, pass);
+    items.push(Item::Used { usage }).unwrap();
+    items
+        .push(Item::Reply {
+            tag: Tag::Select(1),
+            warning: None,
+        })
+        .unwrap();
+}
+
+/// Looks at the end flags of the sessions behind the first ones, in order, until a look gives nothing: answers how many were found.
+pub(crate) fn find_ends<P: PassView + Send + Drop, H: Hub<Pass = P>>(
+    hub: &H,
+    pass: &mut P,
+    plan: FlagPlan,
+    first: u32,
+) -> u32
+    requires own { H.is_pass hub.now pass.old }
+    requires flags { plan.first_end + plan.sessions ≤ (H.shape hub.now).flags }
+    requires within { first ≤ plan.sessions }
+    ensures own { H.is_pass hub.now pass.new }
+    ensures looked { HasLookedOn plan first result (P.known pass.old) (P.known pass.new) }
+{
+    for session in first..plan.sessions {
+        if hub.look(pass, plan.first_end + session).is_none() {
+            return session;
+        }
+    }
+    plan.sessions
+}

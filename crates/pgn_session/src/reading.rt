@@ -1,0 +1,41 @@
+ghost use Rattle.std.specs.Prelude.{◌≡◌, ◌<◌, Some, IfOk, OnErr, vec_len, vec_capacity};
+ghost use Rattle.pgn_hub.specs.Calls.{HasLearned};
+ghost use Rattle.pgn_session.specs.Parts.{HasReadOn, with_read};
+
+use pgn_base::{Deliveries, ListenSet, Xid};
+use pgn_hub::Hub;
+use pgn_model::{Item, PassView};
+use std::alloc::{AllocError, Global};
+
+/// Reads on from the mark, and records it where the mark has moved: answers the new mark.
+pub(crate) fn read_on<P: PassView + Send + Drop, H: Hub<Pass = P>>(
+    hub: &H,
+    alloc: Global,
+    pass: &mut P,
+    set: &ListenSet,
+    items: &mut Vec<Item>,
+    from: Xid,
+) -> Result<Xid, AllocError>
+    requires own { H.is_pass hub.now pass.old }
+    requires mark { (P.known pass.old).mark ≡ Some from }
+    ensures own { H.is_pass hub.now pass.new }
+    ensures read { IfOk result (λ to. HasReadOn (P.known pass.old) (P.known pass.new) set.now.channels from to items.old.items items.new.items) }
+    ensures refused { OnErr result (HasLearned (P.known pass.old) (P.known pass.new)) }
+    ensures refused_shows_nothing { OnErr result (items.new.items ≡ items.old.items) }
+{
+    items.reserve(1)?;
+    let mut got = Vec::new(alloc);
+    let to = hub.scan(alloc, pass, set, &mut got)?;
+    show_read(items, from, to, Deliveries::from_items(got));
+    Ok(to)
+}
+
+// Records a read where the mark has moved.
+fn show_read(items: &mut Vec<Item>, from: Xid, to: Xid, got: Deliveries)
+    requires room { vec_len items.old < vec_capacity items.old }
+    ensures { items.new.items ≡ with_read items.old.items from to got }
+{
+    if from < to {
+        items.push(Item::Read { from, to, got }).unwrap();
+    }
+}
