@@ -30,5 +30,3 @@ flags_heard z c g views f h = h.flags.heard f
 
 pub told_heard : ToldIsHeard
 told_heard z c g views j v h there = h.wakes.heard j v there
-
-pub ruleset rule_laws = (walks_read, pages_spared, no_wake_lost, flags_heard, told_heard)

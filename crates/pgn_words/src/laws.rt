@@ -1,7 +1,6 @@
 ghost use Rattle.pgn_words.specs.Laws.{WalksReadTheJournal, PagesAreSpared, NoWakeIsLost, FlagsAreHeard, ToldIsHeard};
 
 /// What follows from the rule.
-#[tactic(auto, using(crate::proofs::RuleLaws::rule_laws))]
 pub fn rule()
     // A cell that a walk loads is that of the journal, whatever was stored since the head was loaded.
     ensures walks { WalksReadTheJournal }

@@ -1,0 +1,17 @@
+use Rattle.pgn_words.proofs.RuleLaws.{walks_read, pages_spared, no_wake_lost, flags_heard, told_heard}
+use Rattle.pgn_words.proofs.laws.rule.Goals as goal
+
+pub returns-clause-walks : goal.returns-clause-walks
+returns-clause-walks c = walks_read
+
+pub returns-clause-pages : goal.returns-clause-pages
+returns-clause-pages c = pages_spared
+
+pub returns-clause-wakes : goal.returns-clause-wakes
+returns-clause-wakes c = no_wake_lost
+
+pub returns-clause-flags : goal.returns-clause-flags
+returns-clause-flags c = flags_heard
+
+pub returns-clause-told : goal.returns-clause-told
+returns-clause-told c = told_heard
