@@ -29,7 +29,7 @@ use Rattle.pgn_words.specs.Rule.{World, KnowsStop, HoldsIn, Holds, IsWriting, La
 use Rattle.pgn_words.specs.Told.{TellsCellStore, TellsCell, TellsHeadStore, MayShow, cell_stored, head_stored}
 use Rattle.pgn_words.proofs.EachLaws.{each_turn, each_keep}
 use Rattle.pgn_words.proofs.Frames.{seats_keep, locking_keep, history_keep, numbers_keep, budget_keep, statuses_keep}
-use Rattle.pgn_words.proofs.MoreFrames.{posts_keep, walks_keep, looks_keep, heeds_keep, wakes_keep, flags_keep, named_keep, taken_keep}
+use Rattle.pgn_words.proofs.MoreFrames.{posts_keep, looks_keep, wakes_keep, flags_keep, named_keep, taken_keep}
 use Rattle.pgn_words.proofs.LockKept.{held_setup, alone, others_hold, has_left}
 use Rattle.pgn_words.proofs.ImageLaws.{shown_low, written_part}
 use Rattle.pgn_words.proofs.HeadKept.{phase_holds}

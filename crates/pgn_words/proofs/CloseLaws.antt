@@ -3,7 +3,7 @@ use Rattle.std.specs.Prelude.{Any, Contains, flat_map, IsSomeAnd}
 use Rattle.std.specs.List.{range_with_len}
 use Rattle.std.proofs.Common.{◌≡◌, ◌≢◌, ◌⊎◌, inl, inr, ⊎_elim, ℕ, zero, suc, ◌+◌, ◌-◌, ◌^◌, ◌<◌, ◌≤◌, List, [], ◌∷◌, ◌++◌, length, map, get_or, Option, Some, slice_get, All, sym, refl, ap, ◌∙◌, subst, arith}
 use Rattle.std.proofs.lemmas.List.Elements.{All-nil, All-cons, All-head, All-tail}
-use Rattle.std.proofs.lemmas.Option.{none-some, same_Some, slice_get_within}
+use Rattle.std.proofs.lemmas.Option.{none-some, same_Some}
 use mathlib.Core.Option.{some, some-injective}
 use lib.ListN.{get_elem?}
 use Rattle.atomic_table.specs.Table.{Final, Seen}
@@ -11,7 +11,7 @@ use Rattle.pgn_hub.specs.Gathered.{IsBy, IsAmongMarks, Gathered}
 use Rattle.pgn_model.specs.declared.tx.Tx.{Tx}
 use Rattle.pgn_model.specs.declared.known.Known.{Known}
 use Rattle.pgn_model.specs.Begins.{Begins}
-use Rattle.pgn_model.specs.Journal.{next_xid, xids_of, IsFinished}
+use Rattle.pgn_model.specs.Journal.{next_xid, xids_of}
 use Rattle.pgn_model.specs.Shape.{Shape, notes_of_seats}
 use Rattle.pgn_words.specs.declared.view.View.{View}
 use Rattle.pgn_words.specs.declared.pass.WordPass.{WordPass}
@@ -19,11 +19,11 @@ use Rattle.pgn_words.specs.declared.pass.WordQueue.{WordQueue}
 use Rattle.pgn_words.specs.Words.{Content, seats_of}
 use Rattle.pgn_words.specs.Views.{seat_of}
 use Rattle.pgn_words.specs.Closing.{settled}
-use Rattle.pgn_words.specs.Passes.{IsPassOf, IsAtRest, view_of, known_of}
+use Rattle.pgn_words.specs.Passes.{IsPassOf, view_of, known_of}
 use Rattle.pgn_words.specs.WakeRule.{raised_in, found_in, named_in, Raised, IsMarkedBy, Marked, IsTaken}
 use Rattle.pgn_words.specs.Rule.{World, WasMade, Law, Lawful}
 use Rattle.pgn_words.proofs.LockKept.{few_left}
-use Rattle.pgn_words.proofs.TakenLaws.{contains_left, contains_right, contains_parts, all_left, all_right}
+use Rattle.pgn_words.proofs.TakenLaws.{contains_left, contains_right, contains_parts}
 
 -- what is so of each item of a list, by its place
 all_at : {X : Type 0} (P : X → Type 0) (xs : List X) → ((i : ℕ) (x : X) → slice_get xs i ≡ Some x → P x) → All P xs

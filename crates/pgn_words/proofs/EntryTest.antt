@@ -1,6 +1,5 @@
 -- The cells that the tests write: those of one entry, at the beginning of an empty queue.
-use Rattle.std.proofs.Common.{◌≡◌, ◌≢◌, ℕ, ◌+◌, ◌≤◌, true, List, [], ◌∷◌, ◌++◌, length, Option, Some, All, AllPairs, sym, refl, ap, ◌∙◌, subst, arith}
-use Rattle.std.proofs.lemmas.List.{append-nil}
+use Rattle.std.proofs.Common.{◌≡◌, ℕ, List, [], ◌∷◌, ◌++◌, length, Option, All, sym, refl, ap, ◌∙◌, subst, arith}
 use Rattle.pgn_base.specs.declared.format.Format.{Format}
 use Rattle.pgn_base.specs.declared.format.Format.TheVariants.{One}
 use Rattle.pgn_base.specs.declared.note.Note.{Note}
@@ -11,7 +10,7 @@ use Rattle.pgn_model.specs.Journal.{next_xid}
 use Rattle.pgn_model.specs.Bytes.{header, entry_length, spelled}
 use Rattle.pgn_model.specs.Packing.{sender_of, page_rest, entry_cells, note_cells, notes_cells, image, filled_cells}
 use Rattle.pgn_model.specs.Pieces.{draft}
-use Rattle.pgn_model.specs.examples.Packing.{virtual_note, virtual_bytes, virtual_cells}
+use Rattle.pgn_model.specs.examples.Packing.{virtual_note, virtual_cells}
 use Rattle.pgn_layout.specs.Batches.{padded_to}
 use Rattle.pgn_words.specs.declared.view.View.{View}
 use Rattle.pgn_words.specs.Views.{stored_by}

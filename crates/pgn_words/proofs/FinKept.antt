@@ -1,32 +1,25 @@
 -- The store of the first unfinished number keeps the rule.
-use Rattle.std.proofs.Common.{◌≡◌, ◌≢◌, ◌⊎◌, inl, inr, ℕ, zero, suc, replicate, ◌+◌, ◌-◌, ◌<◌, ◌≤◌, true, List, [], ◌∷◌, ◌++◌, length, get_or, set, sum_by, bit_or, All, Option, Some, slice_get, sym, refl, ap, ◌∙◌, subst, ⊎_elim, arith, length-set, length-append, get_or-set_other, get_or-set_same, append-nil, drop, true≢false, Bool, false, cond, ◌==◌, ◌^◌}
+use Rattle.std.proofs.Common.{◌≡◌, ◌≢◌, ◌⊎◌, inl, inr, ℕ, zero, suc, replicate, ◌+◌, ◌-◌, ◌<◌, ◌≤◌, true, List, [], ◌∷◌, ◌++◌, length, get_or, set, sum_by, All, Option, Some, slice_get, sym, refl, ap, ◌∙◌, subst, ⊎_elim, arith, length-append, append-nil, Bool, false, cond, ◌==◌, ◌^◌}
 use Rattle.std.proofs.lemmas.Bool.Decides.{nat_tests}
-use Rattle.std.proofs.lemmas.Option.{slice_get_within}
 use Rattle.std.proofs.lemmas.List.Elements.{All-push, All-weaker}
 use Rattle.std.proofs.lemmas.List.Sums.{sum_by-append, sum_by-cons}
 use mathlib.Core.Option.{some, none}
 use lib.ListN.{get_elem?}
-use native.Mathlib.Decide.{ℕ_discrete}
 use Rattle.atomic_table.specs.Table.{Me, Allows, step}
-use Rattle.atomic_table.proofs.Lists.{set_again}
 use Rattle.pgn_model.specs.declared.tx.Tx.{Tx}
-use Rattle.pgn_model.specs.declared.tx.Fate.{Fate}
 use Rattle.pgn_model.specs.Begins.{Begins}
-use Rattle.pgn_model.proofs.BeginsLaws.{begins-continued, begins-itself, begins-on, begins-holds, begins-rest, begins-shorter}
-use Rattle.pgn_model.specs.Journal.{next_xid, entry, xids_of, IsFinished}
+use Rattle.pgn_model.proofs.BeginsLaws.{begins-continued, begins-itself, begins-on}
+use Rattle.pgn_model.specs.Journal.{next_xid, xids_of, IsFinished}
 use Rattle.pgn_base.specs.declared.format.Format.{Format}
 use Rattle.pgn_model.specs.declared.known.Known.{Known}
 use Rattle.pgn_model.specs.Pieces.{IsWritten}
 use Rattle.pgn_model.proofs.DraftLaws.{xids_go_on, finished_are_written}
-use Rattle.pgn_model.specs.Packing.{page_start, image}
-use Rattle.pgn_model.specs.Shape.{Shape, IsShape, notes_of_seats}
-use Rattle.pgn_layout.specs.Status.{status_word, status_in, status_set, status_code}
-use Rattle.pgn_layout.proofs.StatusLaws.{set_is_read, others_stay}
+use Rattle.pgn_model.specs.Packing.{page_start}
+use Rattle.pgn_model.specs.Shape.{Shape, IsShape}
+use Rattle.pgn_layout.specs.Status.{status_code}
 use Rattle.pgn_words.specs.declared.view.View.{View}
-use Rattle.pgn_words.specs.declared.view.Phase.{Phase}
-use Rattle.pgn_words.specs.declared.view.Pen.{Pen}
-use Rattle.pgn_words.specs.declared.view.Phase.TheVariants.{Free, Held, Headed, Ready, Open, Finished, Signalling}
-use Rattle.pgn_words.specs.Words.{Content, row, seats_of, room_of, statuses_at, status_words}
+use Rattle.pgn_words.specs.declared.view.Phase.TheVariants.{Finished}
+use Rattle.pgn_words.specs.Words.{Content, row, seats_of, room_of}
 use Rattle.pgn_words.specs.Views.{holds_lock, knows_stop, drawn_by, spent_by, fated, is_walking, seat_of}
 use Rattle.pgn_words.specs.declared.view.Eye.{Eye}
 use Rattle.pgn_words.specs.declared.view.Look.{Look}
@@ -34,16 +27,15 @@ use Rattle.pgn_words.specs.declared.view.Look.TheVariants.{Idle, First, Second}
 use Rattle.pgn_words.specs.Positions.{mark_in, place_in}
 use Rattle.pgn_words.specs.ListenRule.{Placed, Marks, ShowsPosition, LookIn, LooksBy, Spared}
 use Rattle.pgn_words.specs.WakeRule.{served, IsHeard, IsHeeded, Heeds, Signals, ended_in, pending, waits_in, raised_in, found_in, Raised, IsMost, IsTaken}
-use Rattle.pgn_words.specs.Rule.{World, KnowsStop, Draws, HoldsIn, Holds, IsWriting, IsEnding, WasMade, Fates, Law, Lawful, Keeps, Budget, notes_of, status_at}
-use Rattle.pgn_words.specs.Told.{TellsStatusSet, TellsFin, TellsFinStore, TellsStatus, MayEnd, ended_by, fin_stored}
+use Rattle.pgn_words.specs.Rule.{World, KnowsStop, Draws, Holds, IsEnding, WasMade, Fates, Law, Lawful, Keeps, Budget, notes_of, status_at}
+use Rattle.pgn_words.specs.Told.{TellsFinStore, fin_stored}
 use Rattle.pgn_words.proofs.EachLaws.{each_turn, each_keep, sum_set, own_further}
 use Rattle.pgn_words.proofs.ImageLaws.{written_part, placed_grows, least_grows}
 use Rattle.pgn_words.proofs.NearSteps.{heeded_later}
-use Rattle.pgn_words.proofs.Frames.{seats_keep, locking_keep, history_keep, numbers_keep, budget_keep, statuses_keep}
-use Rattle.pgn_words.proofs.MoreFrames.{still_there, posts_keep, walks_keep, looks_keep, heeds_keep, wakes_keep, raised_keep, flags_keep, named_keep, taken_keep}
-use Rattle.pgn_words.proofs.LockKept.{held_setup, setup_of, alone, free_holds, others_hold, few_left, few_txs, has_left, some_of}
+use Rattle.pgn_words.proofs.Frames.{seats_keep, locking_keep}
+use Rattle.pgn_words.proofs.MoreFrames.{still_there, walks_keep, raised_keep, named_keep}
+use Rattle.pgn_words.proofs.LockKept.{held_setup, alone, free_holds, others_hold, few_txs, has_left, some_of}
 use Rattle.pgn_words.proofs.HeadKept.{phase_holds}
-use Rattle.pgn_words.proofs.RowLaws.{set_status_word, get_status_word}
 use Rattle.pgn_words.proofs.Meets.{allowed}
 
 -- the journal grows by the transaction that has ended, and no seat is decided yet

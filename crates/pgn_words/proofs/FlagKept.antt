@@ -1,13 +1,12 @@
 -- The steps on flags keep the rule.
 use Rattle.std.specs.Prelude.{Contains, flat_map}
-use Rattle.std.proofs.Common.{◌≡◌, ◌≢◌, ◌⊎◌, inl, inr, ⊎_elim, ℕ, zero, suc, ◌+◌, ◌-◌, ◌^◌, ◌<◌, ◌≤◌, max, Bool, true, false, List, [], ◌∷◌, ◌++◌, length, drop, get_or, set, Option, Some, None, All, sym, refl, ap, ◌∙◌, subst, arith, true≢false, length-set, get_or-set_other, get_or-set_same}
-use Rattle.std.proofs.lemmas.List.Elements.{All-nil, All-cons, All-head, All-tail, All-append, All-weaker, All-contains}
+use Rattle.std.proofs.Common.{◌≡◌, ◌≢◌, ◌⊎◌, inl, inr, ⊎_elim, ℕ, zero, suc, ◌+◌, ◌<◌, ◌≤◌, max, Bool, true, false, List, [], ◌∷◌, ◌++◌, length, drop, get_or, set, Option, Some, None, All, sym, refl, ap, ◌∙◌, subst, arith, true≢false, length-set, get_or-set_other, get_or-set_same}
+use Rattle.std.proofs.lemmas.List.Elements.{All-nil, All-cons, All-head, All-tail, All-weaker, All-contains}
 use mathlib.Core.Option.{some, none}
 use lib.ListN.{get_elem?}
 use native.Mathlib.Decide.{ℕ_discrete, dec_le}
 use Rattle.atomic_table.specs.Table.{Me, Allows, step}
 use Rattle.pgn_model.specs.declared.tx.Tx.{Tx}
-use Rattle.pgn_model.specs.declared.known.Known.{Known}
 use Rattle.pgn_model.specs.Begins.{Begins}
 use Rattle.pgn_model.proofs.BeginsLaws.{begins-itself, begins-shorter}
 use Rattle.pgn_model.specs.Journal.{next_xid, xids_of}
@@ -16,9 +15,8 @@ use Rattle.pgn_model.specs.Shape.{Shape, IsShape, notes_of_seats}
 use Rattle.pgn_words.specs.declared.view.View.{View}
 use Rattle.pgn_words.specs.Words.{Content, row, room_of, flags_at}
 use Rattle.pgn_words.specs.Views.{holds_lock}
-use Rattle.pgn_words.specs.Told.{IsSamePass}
 use Rattle.pgn_words.specs.Waking.{raised, TellsRaised, HasFoundNone, HasFound, TellsLooked}
-use Rattle.pgn_words.specs.WakeRule.{IsHeard, Signals, ended_in, raised_in, found_in, named_in, Raised, IsMost, Flags, Marked, MarkedBy}
+use Rattle.pgn_words.specs.WakeRule.{IsHeard, Signals, ended_in, raised_in, found_in, Raised, IsMost}
 use Rattle.pgn_words.specs.Rule.{World, HoldsIn, KnowsStop, Holds, Law, Lawful, Keeps}
 use Rattle.pgn_words.proofs.EachLaws.{each_turn, each_keep, changed_at, own_further}
 use Rattle.pgn_words.proofs.Frames.{seats_keep, locking_keep, numbers_keep, budget_keep, statuses_keep, history_keep}

@@ -16,7 +16,7 @@ use Rattle.pgn_words.specs.Rule.{World, KnowsStop, HoldsIn, Holds, IsHeaded, IsI
 use Rattle.pgn_words.specs.Told.{TellsHead, TellsStop, head_known, stop_known}
 use Rattle.pgn_words.proofs.EachLaws.{each_turn}
 use Rattle.pgn_words.proofs.Frames.{seats_keep, locking_keep, history_keep, numbers_keep, budget_keep, statuses_keep}
-use Rattle.pgn_words.proofs.MoreFrames.{posts_keep, walks_keep, looks_keep, heeds_keep, wakes_keep, flags_keep, named_keep, taken_keep}
+use Rattle.pgn_words.proofs.MoreFrames.{posts_keep, walks_keep, looks_keep, wakes_keep, flags_keep, named_keep, taken_keep}
 use Rattle.pgn_words.proofs.LockKept.{held_setup}
 use Rattle.pgn_words.proofs.Meets.{allowed}
 

@@ -1,5 +1,5 @@
 -- Places and images of a journal that grows, and how large they can be.
-use Rattle.std.proofs.Common.{◌≡◌, ℕ, ◌+◌, ◌*◌, ◌^◌, ◌<◌, ◌≤◌, Bool, true, false, cond, List, [], ◌∷◌, ◌++◌, length, take, sum_by, All, sym, ap, ◌∙◌, refl, subst, arith}
+use Rattle.std.proofs.Common.{◌≡◌, ℕ, ◌+◌, ◌*◌, ◌^◌, ◌<◌, ◌≤◌, true, false, cond, List, [], ◌∷◌, ◌++◌, length, take, All, sym, ◌∙◌, subst, arith}
 use Rattle.std.proofs.lemmas.List.{length-take}
 use Rattle.std.proofs.lemmas.List.Elements.{All-head, All-tail, All-take}
 use Rattle.pgn_base.specs.declared.format.Format.{Format}
@@ -10,10 +10,10 @@ use Rattle.pgn_model.specs.declared.tx.Fate.{Fate}
 use Rattle.pgn_model.specs.declared.tx.Fate.TheVariants.{Committed, Aborted}
 use Rattle.pgn_model.specs.Begins.{Begins}
 use Rattle.pgn_model.specs.Journal.{next_xid, IsFinished}
-use Rattle.pgn_model.specs.Packing.{next_page, is_page_start, image, place, put, put_all, ended, after}
+use Rattle.pgn_model.specs.Packing.{next_page, is_page_start, image, put, put_all, ended, after}
 use Rattle.pgn_model.specs.Pieces.{draft, IsWritten}
 use Rattle.pgn_model.specs.Shape.{Shape}
-use Rattle.pgn_model.proofs.PackingLemmas.{put_takes, place_bound, last_place, places_agree, place_grows}
+use Rattle.pgn_model.proofs.PackingLemmas.{put_takes, place_bound, last_place, places_agree}
 use Rattle.pgn_model.proofs.DraftLaws.{one_more_image}
 use Rattle.pgn_words.specs.Rule.{notes_of}
 use Rattle.pgn_words.specs.ListenRule.{IsPlaced, IsLeast}

@@ -1,5 +1,5 @@
 -- The steps on the lock keep the rule.
-use Rattle.std.proofs.Common.{◌≡◌, ◌≢◌, ℕ, zero, suc, ◌+◌, ◌<◌, ◌≤◌, ◌==◌, true, false, Bool, Option, None, Some, true≢false, unwrap_or, List, [], ◌∷◌, ◌++◌, length, drop, set, sum_by, All, sym, refl, ap, ◌∙◌, subst, arith}
+use Rattle.std.proofs.Common.{◌≡◌, ◌≢◌, ℕ, zero, suc, ◌+◌, ◌<◌, ◌≤◌, ◌==◌, true, false, Bool, Option, true≢false, unwrap_or, List, [], ◌∷◌, ◌++◌, length, drop, set, sum_by, All, sym, refl, ap, ◌∙◌, subst, arith}
 use Rattle.std.proofs.lemmas.List.Elements.{All-head, All-tail}
 use Rattle.std.proofs.lemmas.List.Sums.{sum_by-cons}
 use mathlib.Core.Option.{some, none, some-injective, some-ne-none}
@@ -26,7 +26,7 @@ use Rattle.pgn_words.specs.Rule.{World, Locks, Locking, Draws, KnowsStop, HoldsI
 use Rattle.pgn_words.specs.Told.{HasLocked, IsLocked, TellsLock, TellsDrop, locked, freed}
 use Rattle.pgn_words.proofs.EachLaws.{each_turn, each_keep, changed_at, own_further}
 use Rattle.pgn_words.proofs.Frames.{seats_keep, budget_keep}
-use Rattle.pgn_words.proofs.MoreFrames.{posts_keep, walks_keep, looks_keep, heeds_keep, wakes_keep, flags_keep, named_keep, taken_keep}
+use Rattle.pgn_words.proofs.MoreFrames.{posts_keep, walks_keep, heeds_keep, flags_keep, named_keep, taken_keep}
 use Rattle.pgn_words.proofs.Meets.{Goes, allowed}
 
 -- nobody holds the lock while its word is 0

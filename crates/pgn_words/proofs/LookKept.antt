@@ -1,50 +1,43 @@
 -- The looks of an advance of the tail, and the announcing of the tail, keep the rule.
-use Rattle.std.proofs.Common.{◌≡◌, ◌≢◌, ◌⊎◌, inl, inr, ⊎_elim, ℕ, suc, zero, ◌+◌, ◌-◌, ◌*◌, ◌/◌, ◌%◌, ◌^◌, ◌<◌, ◌≤◌, ◌==◌, min, Bool, true, false, cond, List, [], ◌∷◌, ◌++◌, length, get_or, set, All, sym, refl, ap, ◌∙◌, subst, arith, true≢false}
+use Rattle.std.proofs.Common.{◌≡◌, ◌≢◌, ⊎_elim, ℕ, ◌+◌, ◌^◌, ◌<◌, ◌≤◌, ◌==◌, Bool, true, false, cond, List, [], ◌∷◌, ◌++◌, length, get_or, set, All, sym, refl, ap, ◌∙◌, subst, arith, true≢false}
 use Rattle.std.specs.Prelude.{flat_map, Contains}
 use Rattle.std.proofs.lemmas.List.Elements.{All-weaker, All-append, All-drop}
 use Rattle.std.proofs.lemmas.List.{append_assoc, append-nil}
 use Rattle.std.proofs.lemmas.Bool.Decides.{nat_tests}
 use mathlib.Core.Option.{some, none}
 use lib.ListN.{get_elem?}
-use native.Mathlib.Decide.{ℕ_discrete, dec_le}
 use Rattle.atomic_table.specs.Table.{Me, Allows, step}
-use Rattle.atomic_table.proofs.Lists.{set_again}
-use Rattle.pgn_base.specs.declared.format.Format.{Format}
 use Rattle.pgn_model.specs.declared.tx.Tx.{Tx}
-use Rattle.pgn_model.specs.declared.known.Known.{Known}
 use Rattle.pgn_model.specs.declared.known.Advance.{Advance}
-use Rattle.pgn_model.specs.Begins.{Begins}
-use Rattle.pgn_model.specs.Journal.{next_xid, xids_of}
-use Rattle.pgn_model.specs.Packing.{page_of, page_start, place, image}
+use Rattle.pgn_model.specs.Journal.{next_xid}
+use Rattle.pgn_model.specs.Packing.{page_of, page_start, image}
 use Rattle.pgn_model.specs.Shape.{Shape, IsShape, notes_of_seats}
 use Rattle.pgn_model.proofs.PackingLemmas.{last_place}
 use Rattle.pgn_words.specs.declared.pos_word.PosWord.{PosWord}
-use Rattle.pgn_words.specs.declared.pos_word.PosWord.TheVariants as words
 use Rattle.pgn_words.specs.declared.view.View.{View}
 use Rattle.pgn_words.specs.declared.view.Eye.{Eye}
-use Rattle.pgn_words.specs.declared.view.Listen.{Listen}
-use Rattle.pgn_words.specs.declared.view.Listen.TheVariants.{Out, Joining, Based, Registered}
+use Rattle.pgn_words.specs.declared.view.Listen.TheVariants.{Registered}
 use Rattle.pgn_words.specs.declared.view.Phase.{Phase}
 use Rattle.pgn_words.specs.declared.view.Phase.TheVariants.{Free, Held, Headed, Ready, Open, Finished, Signalling}
 use Rattle.pgn_words.specs.declared.view.Look.{Look}
-use Rattle.pgn_words.specs.declared.view.Look.TheVariants.{Idle, First, Second}
+use Rattle.pgn_words.specs.declared.view.Look.TheVariants.{First, Second}
 use Rattle.pgn_words.specs.Words.{Content, row, room_of, seats_of, pos_at}
-use Rattle.pgn_words.specs.Views.{holds_lock, knows_stop, may_look, not_advanced}
-use Rattle.pgn_words.specs.Positions.{packed, mark_in, place_in, position_in, shown_as, word_of, marked, place_or, met_at, is_placed, IsPlacedIn, IsPositionIn}
+use Rattle.pgn_words.specs.Views.{holds_lock, knows_stop, may_look}
+use Rattle.pgn_words.specs.Positions.{packed, mark_in, place_in, position_in, met_at, IsPlacedIn, IsPositionIn}
 use Rattle.pgn_words.specs.Told.{IsSamePass}
-use Rattle.pgn_words.specs.Looking.{MayLookFirst, look_begun, least_after, looked_first, first_looked, TellsPosition, HasLeast, HasLookedFirst, TellsFirstLook, second_begun, TellsTail, MayAnnounce, announced, TellsTailStore, MayLookSecond, looked_second, second_looked, HasFloor, HasLookedSecond, TellsSecondLook, MayFree, stopped, TellsStopStore}
-use Rattle.pgn_words.specs.ListenRule.{IsPlaced, Placed, IsLeast, IsSecond, LookIn, LooksBy, Spared}
-use Rattle.pgn_words.specs.WakeRule.{named_in, Marked, MarkedBy, Signals, ended_in, waits_in, pending}
-use Rattle.pgn_words.specs.Rule.{World, KnowsStop, HoldsIn, Holds, Law, Lawful, Keeps}
-use Rattle.pgn_words.proofs.EachLaws.{each_turn, each_keep, each_map}
+use Rattle.pgn_words.specs.Looking.{MayLookFirst, look_begun, least_after, looked_first, TellsPosition, HasLeast, HasLookedFirst, TellsFirstLook, second_begun, TellsTail, MayAnnounce, announced, TellsTailStore}
+use Rattle.pgn_words.specs.ListenRule.{IsPlaced, IsLeast, IsSecond, LookIn, LooksBy, Spared}
+use Rattle.pgn_words.specs.WakeRule.{named_in, Marked, MarkedBy}
+use Rattle.pgn_words.specs.Rule.{World, KnowsStop, Holds, Law, Lawful, Keeps}
+use Rattle.pgn_words.proofs.EachLaws.{each_turn, each_keep}
 use Rattle.pgn_words.proofs.Frames.{seats_keep, locking_keep, history_keep, numbers_keep, budget_keep, statuses_keep}
-use Rattle.pgn_words.proofs.MoreFrames.{still_there, someone_keep, posts_keep, walks_keep, wakes_keep, flags_keep, taken_keep}
+use Rattle.pgn_words.proofs.MoreFrames.{someone_keep, posts_keep, walks_keep, wakes_keep, flags_keep, taken_keep}
 use Rattle.pgn_words.proofs.LockKept.{held_setup, alone, few_left}
 use Rattle.pgn_words.proofs.StatusKept.{holder_sees}
 use Rattle.pgn_words.proofs.RowLaws.{get_pos}
 use Rattle.pgn_words.proofs.WalkKept.{placed_in}
-use Rattle.pgn_words.proofs.MetLaws.{seat_shows, IsMet, Met, met, first_mark, met_in, met_named, least_met, places_follow, mark_of_packed, place_of_packed}
-use Rattle.pgn_words.proofs.Meets.{Goes, allowed}
+use Rattle.pgn_words.proofs.MetLaws.{seat_shows, met, first_mark, met_in, met_named, least_met, places_follow, mark_of_packed, place_of_packed}
+use Rattle.pgn_words.proofs.Meets.{allowed}
 
 -- who may look holds the lock
 pub looker_holds : (p : Phase) → may_look p ≡ true → (holds_lock p ≡ true) × (knows_stop p ≡ true)

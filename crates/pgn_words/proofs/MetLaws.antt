@@ -18,7 +18,7 @@ use Rattle.pgn_words.specs.declared.view.View.{View}
 use Rattle.pgn_words.specs.declared.view.Listen.{Listen}
 use Rattle.pgn_words.specs.declared.view.Listen.TheVariants.{Out, Joining, Based, Registered}
 use Rattle.pgn_words.specs.Words.{Content}
-use Rattle.pgn_words.specs.Positions.{packed, mark_in, place_in, position_in, shown_as, word_of, met_at, is_placed, IsPlacedIn, IsPositionIn}
+use Rattle.pgn_words.specs.Positions.{packed, mark_in, place_in, position_in, shown_as, word_of, met_at, is_placed, IsPositionIn}
 use Rattle.pgn_words.specs.Looking.{least_after}
 use Rattle.pgn_words.specs.ListenRule.{IsPlaced, IsLeast}
 use Rattle.pgn_words.specs.WakeRule.{Marked}

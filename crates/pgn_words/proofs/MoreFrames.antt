@@ -1,5 +1,5 @@
 -- Groups of the rule on listeners that a step leaves as they are: the pass that makes it does not change in what the group reads.
-use Rattle.std.proofs.Common.{◌≡◌, ◌⊎◌, ℕ, ◌+◌, ◌<◌, ◌≤◌, Bool, true, List, ◌++◌, length, get_or, set, Option, sym, ap, ◌∙◌, subst, refl, arith, inl, inr, ⊎_elim, All}
+use Rattle.std.proofs.Common.{◌≡◌, ℕ, ◌+◌, ◌<◌, ◌≤◌, Bool, true, List, ◌++◌, length, get_or, set, sym, ap, ◌∙◌, subst, arith, inl, inr, ⊎_elim, All}
 use Rattle.std.specs.Prelude.{Any, Contains, flat_map}
 use Rattle.std.proofs.lemmas.List.Elements.{All-weaker}
 use mathlib.Core.Option.{some, some-injective}
@@ -10,7 +10,7 @@ use Rattle.pgn_base.specs.declared.format.Format.{Format}
 use Rattle.pgn_base.specs.declared.limits.TheConstants.{FIRST_XID}
 use Rattle.pgn_model.specs.declared.tx.Tx.{Tx}
 use Rattle.pgn_model.specs.declared.known.Known.{Known}
-use Rattle.pgn_model.specs.Packing.{page_of, image}
+use Rattle.pgn_model.specs.Packing.{image}
 use Rattle.pgn_model.specs.Shape.{Shape}
 use Rattle.pgn_words.specs.declared.view.View.{View}
 use Rattle.pgn_words.specs.declared.view.Post.{Post}
@@ -21,7 +21,7 @@ use Rattle.pgn_words.specs.declared.view.Stage.TheVariants.{Shown}
 use Rattle.pgn_words.specs.Views.{holds_lock, is_walking}
 use Rattle.pgn_words.specs.Positions.{shown_as, word_of, listens_at, is_placed}
 use Rattle.pgn_words.specs.Each.{Each, Someone, Keeps}
-use Rattle.pgn_words.specs.ListenRule.{IsPlaced, Placed, Marks, ShowsPosition, Owned, Posts, Walking, Bounds, Walks, LookIn, LooksBy, Spared, Looks}
+use Rattle.pgn_words.specs.ListenRule.{IsPlaced, Placed, Marks, ShowsPosition, Posts, Walking, Bounds, Walks, LookIn, LooksBy, Spared, Looks}
 use Rattle.pgn_words.specs.WakeRule.{served, waits_in, pending, ended_in, IsHeard, IsHeeded, Heeds, Signals, Wakes, raised_in, found_in, named_in, Raised, IsMost, Flags, IsMarkedBy, MarkedBy, Marked, Named, IsTaken, Taken}
 use Rattle.pgn_words.proofs.EachLaws.{each_keep, changed_at}
 

@@ -1,9 +1,7 @@
 -- Groups of the rule on flags and marks, after a pass was made.
 use Rattle.std.specs.Prelude.{Contains}
-use Rattle.std.proofs.Common.{◌≡◌, ◌⊎◌, ⊎_elim, inl, inr, ℕ, ◌≤◌, Bool, List, [], ◌∷◌, ◌++◌, length, get_or, All, sym, refl, subst}
+use Rattle.std.proofs.Common.{◌≡◌, ⊎_elim, inl, inr, ℕ, ◌≤◌, Bool, List, [], ◌∷◌, ◌++◌, get_or, All, sym, subst}
 use Rattle.std.proofs.lemmas.List.Elements.{All-nil, All-weaker}
-use mathlib.Core.Option.{some}
-use lib.ListN.{get_elem?}
 use Rattle.atomic_table.proofs.Lists.{at_longer}
 use Rattle.pgn_words.specs.declared.view.View.{View}
 use Rattle.pgn_words.specs.declared.view.Listen.TheVariants.{Registered}

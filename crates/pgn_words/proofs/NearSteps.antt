@@ -1,5 +1,5 @@
 -- Listeners that are near the end of the journal, as it grows.
-use Rattle.std.proofs.Common.{◌≡◌, ◌≢◌, ◌⊎◌, inl, inr, ⊎_elim, ℕ, zero, suc, ◌+◌, ◌-◌, ◌<◌, ◌≤◌, ◌==◌, ◌&&◌, ◌||◌, Bool, true, false, cond, List, [], ◌∷◌, ◌++◌, length, take, drop, Option, Some, slice_get, All, sym, ap, ◌∙◌, refl, subst, arith, true≢false}
+use Rattle.std.proofs.Common.{◌≡◌, ◌≢◌, inl, inr, ⊎_elim, ℕ, zero, suc, ◌+◌, ◌-◌, ◌<◌, ◌≤◌, ◌==◌, ◌&&◌, ◌||◌, Bool, true, false, cond, List, [], ◌∷◌, ◌++◌, length, take, drop, Some, slice_get, All, sym, ap, ◌∙◌, refl, subst, arith, true≢false}
 use Rattle.std.specs.List.{list_any}
 use Rattle.std.proofs.lemmas.List.{length-append}
 use Rattle.std.proofs.lemmas.List.Elements.{All-head, All-tail}
@@ -14,7 +14,7 @@ use Rattle.pgn_model.specs.Journal.{next_xid, is_committed, is_committed_in, IsQ
 use Rattle.pgn_model.specs.Packing.{page_of, place}
 use Rattle.pgn_model.specs.Near.{Near}
 use Rattle.pgn_model.proofs.PackingLemmas.{place_grows, place_rises}
-use Rattle.pgn_model.proofs.NearLaws.{near-grows, near-shrinks, near-itself}
+use Rattle.pgn_model.proofs.NearLaws.{near-grows, near-itself}
 use Rattle.pgn_words.specs.WakeRule.{served, IsHeeded}
 use Rattle.pgn_words.proofs.LockKept.{some_of}
 

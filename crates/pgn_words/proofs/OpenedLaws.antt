@@ -1,11 +1,10 @@
 -- The passes as they are made, one after another.
-use Rattle.std.proofs.Common.{◌≡◌, ℕ, zero, suc, ◌+◌, ◌-◌, ◌<◌, List, [], ◌∷◌, ◌++◌, length, get_or, take, map, All, sym, refl, ap, ◌∙◌, arith, None}
+use Rattle.std.proofs.Common.{◌≡◌, ℕ, zero, suc, ◌+◌, ◌-◌, ◌<◌, List, [], ◌∷◌, ◌++◌, length, get_or, take, map, All, sym, refl, ap, ◌∙◌, arith}
 use Rattle.std.proofs.lemmas.List.{length-take}
 use Rattle.std.proofs.lemmas.List.Elements.{All-push}
 use Rattle.pgn_model.specs.declared.setup.SeatSetup.{SeatSetup}
 use Rattle.pgn_words.specs.declared.pass.WordQueue.{WordQueue}
 use Rattle.pgn_words.specs.declared.pass.WordPass.{WordPass}
-use Rattle.pgn_words.specs.declared.view.Phase.TheVariants.{Free}
 use Rattle.pgn_model.specs.Shape.{Shape}
 use Rattle.pgn_words.specs.declared.view.View.{View}
 use Rattle.pgn_words.specs.Views.{opened, no_seat, seat_of}

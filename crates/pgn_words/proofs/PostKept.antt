@@ -1,7 +1,7 @@
 -- What a listener does keeps the rule: one lemma for all that it changes of itself and of its position.
 use Rattle.std.specs.Prelude.{Contains}
-use Rattle.std.proofs.Common.{◌≡◌, ◌≢◌, ◌⊎◌, ℕ, ◌+◌, ◌-◌, ◌<◌, ◌≤◌, Bool, true, false, List, [], ◌∷◌, ◌++◌, length, get_or, set, Option, Some, None, All, sym, refl, ap, ◌∙◌, subst, arith, ⊎_elim, inl, inr, true≢false}
-use mathlib.Core.Option.{some, some-injective}
+use Rattle.std.proofs.Common.{◌≡◌, ◌≢◌, ℕ, ◌+◌, ◌<◌, ◌≤◌, Bool, true, false, List, length, get_or, set, Option, All, sym, refl, ap, ◌∙◌, subst, arith, ⊎_elim, inl, inr, true≢false}
+use mathlib.Core.Option.{some}
 use lib.ListN.{get_elem?}
 use native.Mathlib.Decide.{ℕ_discrete}
 use Rattle.pgn_model.specs.declared.tx.Tx.{Tx}

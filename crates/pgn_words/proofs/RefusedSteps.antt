@@ -1,5 +1,5 @@
 -- The rule refuses the small cases.
-use Rattle.std.proofs.Common.{◌≡◌, ℕ, ◌≤◌, ◌<◌, true, false, List, [], ◌∷◌, Option, Some, refl, arith}
+use Rattle.std.proofs.Common.{true, [], ◌∷◌, Some, refl, arith}
 use Rattle.pgn_base.specs.declared.format.Format.TheVariants.{One}
 use Rattle.pgn_words.specs.Views.{no_eye}
 use Rattle.pgn_words.specs.Rule.{Keeps, Locks, Draws}

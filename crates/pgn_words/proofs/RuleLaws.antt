@@ -1,5 +1,5 @@
 -- Proofs of what follows from the rule.
-use Rattle.std.proofs.Common.{◌≡◌, ◌≢◌, ⊎_elim, ℕ, ◌+◌, ◌<◌, true≢false, sym, ap, ◌∙◌, arith}
+use Rattle.std.proofs.Common.{◌≡◌, ⊎_elim, true≢false, sym, ap, ◌∙◌, arith}
 use Rattle.pgn_model.proofs.NearLaws.{near-shrinks}
 use Rattle.pgn_model.specs.Journal.{is_committed_in}
 use Rattle.pgn_words.specs.Views.{knows_stop}

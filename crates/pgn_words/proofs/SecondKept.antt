@@ -1,5 +1,5 @@
 -- The second look of an advance of the tail, and the store of the oldest kept page, keep the rule.
-use Rattle.std.proofs.Common.{◌≡◌, ◌≢◌, ℕ, suc, zero, ◌+◌, ◌-◌, ◌*◌, ◌/◌, ◌%◌, ◌^◌, ◌<◌, ◌≤◌, min, Bool, true, false, List, [], ◌∷◌, ◌++◌, length, get_or, set, Option, All, sym, refl, ap, ◌∙◌, subst, arith, true≢false}
+use Rattle.std.proofs.Common.{◌≡◌, ◌≢◌, ℕ, ◌+◌, ◌<◌, ◌≤◌, min, true, List, ◌++◌, length, get_or, set, Option, sym, refl, ap, ◌∙◌, subst, arith, true≢false}
 use Rattle.std.specs.Prelude.{flat_map}
 use mathlib.Core.Option.{some, none}
 use lib.ListN.{get_elem?}
@@ -8,35 +8,33 @@ use Rattle.atomic_table.specs.Table.{Me, Allows, step}
 use Rattle.atomic_table.proofs.Lists.{set_again}
 use Rattle.pgn_base.specs.declared.format.Format.{Format}
 use Rattle.pgn_model.specs.declared.tx.Tx.{Tx}
-use Rattle.pgn_model.specs.Packing.{page_of, page_start, place, image}
-use Rattle.pgn_model.specs.Shape.{Shape, IsShape}
+use Rattle.pgn_model.specs.Packing.{page_of, page_start}
+use Rattle.pgn_model.specs.Shape.{Shape}
 use Rattle.pgn_words.specs.declared.pos_word.PosWord.{PosWord}
 use Rattle.pgn_words.specs.declared.pos_word.PosWord.TheVariants as words
 use Rattle.pgn_words.specs.declared.view.View.{View}
-use Rattle.pgn_words.specs.declared.view.Eye.{Eye}
 use Rattle.pgn_words.specs.declared.view.Pen.{Pen}
 use Rattle.pgn_words.specs.declared.view.Listen.{Listen}
 use Rattle.pgn_words.specs.declared.view.Listen.TheVariants.{Out, Joining, Based, Registered}
 use Rattle.pgn_words.specs.declared.view.Phase.{Phase}
 use Rattle.pgn_words.specs.declared.view.Phase.TheVariants.{Free, Held, Headed, Ready, Open, Finished, Signalling}
 use Rattle.pgn_words.specs.declared.view.Look.{Look}
-use Rattle.pgn_words.specs.declared.view.Look.TheVariants.{Second}
 use Rattle.pgn_words.specs.Words.{Content, row, room_of, seats_of, pos_at}
-use Rattle.pgn_words.specs.Views.{holds_lock, knows_stop, may_look}
-use Rattle.pgn_words.specs.Positions.{packed, mark_in, place_in, position_in, shown_as, place_or, met_at, is_placed, IsPlacedIn}
+use Rattle.pgn_words.specs.Views.{holds_lock, may_look}
+use Rattle.pgn_words.specs.Positions.{packed, mark_in, place_in, position_in, shown_as, place_or, met_at, is_placed}
 use Rattle.pgn_words.specs.Told.{IsSamePass}
 use Rattle.pgn_words.specs.Looking.{least_after, HasLeast, MayLookSecond, looked_second, second_looked, HasFloor, HasLookedSecond, TellsSecondLook, MayFree, stopped, TellsStopStore}
 use Rattle.pgn_words.specs.ListenRule.{IsPlaced, Placed, IsLeast, IsSecond, Spared}
 use Rattle.pgn_words.specs.Rule.{World, KnowsStop, HoldsIn, Holds, Law, Lawful, Keeps}
-use Rattle.pgn_words.proofs.EachLaws.{each_turn, each_keep}
+use Rattle.pgn_words.proofs.EachLaws.{each_turn}
 use Rattle.pgn_words.proofs.Frames.{seats_keep, locking_keep, history_keep, numbers_keep, budget_keep, statuses_keep}
 use Rattle.pgn_words.proofs.MoreFrames.{posts_keep, walks_keep, looks_keep, wakes_keep, flags_keep, named_keep, taken_keep}
 use Rattle.pgn_words.proofs.LockKept.{held_setup, alone, others_hold, others_stop}
 use Rattle.pgn_words.proofs.StatusKept.{holder_sees}
 use Rattle.pgn_words.proofs.RowLaws.{get_pos}
-use Rattle.pgn_words.proofs.MetLaws.{seat_shows, IsMet, Met, met, first_mark, met_named, least_met, places_follow, place_of_packed}
-use Rattle.pgn_words.proofs.LookKept.{looker_holds, gazed, gazes, named_more, position_told, least_told, in_second}
-use Rattle.pgn_words.proofs.Meets.{Goes, allowed}
+use Rattle.pgn_words.proofs.MetLaws.{seat_shows, Met, met, first_mark, met_named, least_met, places_follow, place_of_packed}
+use Rattle.pgn_words.proofs.LookKept.{looker_holds, gazes, named_more, position_told, least_told, in_second}
+use Rattle.pgn_words.proofs.Meets.{allowed}
 
 -- what the second look makes of the world and of the pass, at a position
 record IsSeconded (z : Shape) (c : Content) (g : World) (views : List View) (id : ℕ) (v : View) (seat : ℕ) (p : PosWord) : Type 0 where

@@ -1,38 +1,30 @@
 -- The taking in of a pass keeps the rule.
-use Rattle.std.specs.Prelude.{Any, Contains, flat_map}
-use Rattle.std.proofs.Common.{◌≡◌, ◌≢◌, ◌⊎◌, inl, inr, ⊎_elim, ℕ, zero, suc, ◌+◌, ◌<◌, ◌≤◌, Bool, true, false, cond, List, [], ◌∷◌, ◌++◌, length, drop, get_or, set, All, sym, refl, ap, ◌∙◌, subst, arith, true≢false}
-use Rattle.std.proofs.lemmas.List.{append-nil, length-append, drop_all}
+use Rattle.std.specs.Prelude.{Contains}
+use Rattle.std.proofs.Common.{◌≡◌, ◌≢◌, inl, inr, ⊎_elim, ℕ, zero, ◌+◌, ◌<◌, ◌≤◌, true, List, [], ◌∷◌, ◌++◌, get_or, set, All, sym, refl, ap, ◌∙◌, arith, true≢false}
 use Rattle.std.proofs.lemmas.List.Elements.{All-nil, All-cons, All-append, All-weaker}
 use mathlib.Core.Option.{some, some-injective}
 use lib.ListN.{get_elem?}
-use native.Mathlib.Decide.{ℕ_discrete}
 use Rattle.atomic_table.specs.Table.{Joins}
 use Rattle.atomic_table.proofs.Lists.{set_else}
-use Rattle.pgn_model.specs.declared.tx.Tx.{Tx}
 use Rattle.pgn_model.specs.declared.known.Known.{Known}
 use Rattle.pgn_model.specs.Begins.{Begins}
-use Rattle.pgn_model.proofs.BeginsLaws.{begins-none, begins-shorter}
+use Rattle.pgn_model.proofs.BeginsLaws.{begins-none}
 use Rattle.pgn_model.specs.Journal.{next_xid, xids_of}
-use Rattle.pgn_model.specs.Packing.{page_start, image}
 use Rattle.pgn_model.specs.Shape.{Shape}
 use Rattle.pgn_words.specs.declared.view.View.{View}
-use Rattle.pgn_words.specs.declared.view.Phase.{Phase}
 use Rattle.pgn_words.specs.declared.view.Phase.TheVariants.{Free}
 use Rattle.pgn_words.specs.declared.view.Listen.{Listen}
 use Rattle.pgn_words.specs.declared.view.Listen.TheVariants.{Out, Registered}
-use Rattle.pgn_words.specs.declared.view.Stage.TheVariants.{Shown}
 use Rattle.pgn_words.specs.Words.{Content, room_of}
-use Rattle.pgn_words.specs.Views.{holds_lock, is_walking, spent_by, drawn_by, fated}
+use Rattle.pgn_words.specs.Views.{holds_lock, spent_by}
 use Rattle.pgn_words.specs.Positions.{shown_as, word_of}
-use Rattle.pgn_words.specs.Told.{longer, spent_view}
+use Rattle.pgn_words.specs.Told.{spent_view}
 use Rattle.pgn_words.specs.Closing.{taken_in}
 use Rattle.pgn_words.specs.ListenRule.{Placed, Marks, ShowsPosition, Walking, Bounds, LooksBy, Spared}
 use Rattle.pgn_words.specs.WakeRule.{IsHeard, Heeds, Signals, ended_in, raised_in, found_in, named_in, Raised, IsMost, IsMarkedBy, MarkedBy, Marked, IsTaken}
-use Rattle.pgn_words.specs.Rule.{World, Seated, Makes, Locks, Draws, KnowsStop, HoldsIn, Holds, Fates, Law, Lawful, Keeps}
+use Rattle.pgn_words.specs.Rule.{World, Seated, Makes, Locks, Draws, KnowsStop, Holds, Fates, Law, Lawful}
 use Rattle.pgn_words.proofs.EachLaws.{sum_set}
-use Rattle.pgn_words.proofs.LockKept.{others_hold}
-use Rattle.pgn_words.proofs.StatusKept.{holder_sees}
-use Rattle.pgn_words.proofs.NoteKept.{none_of_no, longer_begins}
+use Rattle.pgn_words.proofs.NoteKept.{none_of_no}
 use Rattle.pgn_words.proofs.TakenLaws.{seat_moved, seat_stays, seat_goes, each_two, seen_at, someone_two, any_left, any_right, all_taken, has_mine, has_theirs}
 
 -- one more pass is among those that were taken in

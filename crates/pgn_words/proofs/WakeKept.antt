@@ -1,10 +1,9 @@
 -- The steps on wakes keep the rule.
-use Rattle.std.specs.Prelude.{Contains}
-use Rattle.std.proofs.Common.{◌≡◌, ◌≢◌, ◌⊎◌, inl, inr, ⊎_elim, ℕ, zero, suc, ◌+◌, ◌-◌, ◌*◌, ◌/◌, ◌^◌, ◌<◌, ◌≤◌, ◌==◌, ◌||◌, nat_le, not, Bool, true, false, cond, List, [], ◌∷◌, ◌++◌, length, drop, get_or, set, bit_or, Option, Some, All, sym, refl, ap, ◌∙◌, subst, arith, true≢false, length-set, get_or-set_other, get_or-set_same}
+use Rattle.std.proofs.Common.{◌≡◌, ◌≢◌, ◌⊎◌, inl, inr, ⊎_elim, ℕ, zero, suc, ◌+◌, ◌-◌, ◌/◌, ◌<◌, ◌≤◌, ◌==◌, ◌||◌, nat_le, not, Bool, true, false, cond, List, [], ◌∷◌, ◌++◌, length, drop, get_or, set, bit_or, Option, Some, All, sym, refl, ap, ◌∙◌, subst, arith, true≢false, length-set, get_or-set_other, get_or-set_same}
 use Rattle.std.proofs.lemmas.Bool.Decides.{nat_tests}
-use mathlib.Core.Option.{some, none, some-injective}
+use mathlib.Core.Option.{some, none}
 use lib.ListN.{get_elem?}
-use native.Mathlib.Decide.{ℕ_discrete, dec_le}
+use native.Mathlib.Decide.{ℕ_discrete}
 use Rattle.atomic_table.specs.Table.{Me, Allows, step}
 use Rattle.pgn_base.specs.declared.format.Format.{Format}
 use Rattle.pgn_lanes.specs.Behind.{is_woken}
@@ -13,24 +12,21 @@ use Rattle.pgn_model.proofs.BeginsLaws.{begins-itself, begins-shorter}
 use Rattle.pgn_model.specs.Journal.{next_xid, is_committed_in, IsFinished}
 use Rattle.pgn_model.specs.Near.{Near}
 use Rattle.pgn_model.proofs.NearLaws.{near-shrinks}
-use Rattle.pgn_model.specs.Packing.{page_of, page_start, place, image}
-use Rattle.pgn_model.specs.Shape.{Shape, IsShape}
+use Rattle.pgn_model.specs.Packing.{page_start, place, image}
+use Rattle.pgn_model.specs.Shape.{Shape}
 use Rattle.pgn_model.proofs.PackingLemmas.{place_grows, last_place}
 use Rattle.pgn_words.specs.declared.pos_word.PosWord.{PosWord}
-use Rattle.pgn_words.specs.declared.pos_word.PosWord.TheVariants as words
 use Rattle.pgn_words.specs.declared.view.View.{View}
 use Rattle.pgn_words.specs.declared.view.Listen.{Listen}
-use Rattle.pgn_words.specs.declared.view.Listen.TheVariants.{Out, Joining, Based, Registered}
-use Rattle.pgn_words.specs.declared.view.Phase.{Phase}
-use Rattle.pgn_words.specs.declared.view.Phase.TheVariants.{Free, Held, Headed, Ready, Open, Finished, Signalling}
-use Rattle.pgn_words.specs.declared.view.Stage.TheVariants.{Still, Shown}
+use Rattle.pgn_words.specs.declared.view.Listen.TheVariants.{Registered}
+use Rattle.pgn_words.specs.declared.view.Phase.TheVariants.{Signalling}
+use Rattle.pgn_words.specs.declared.view.Stage.TheVariants.{Still}
 use Rattle.pgn_words.specs.Words.{Content, row, room_of, seats_of, pos_at, wakes_at}
 use Rattle.pgn_words.specs.Views.{holds_lock, seat_of, is_walking}
-use Rattle.pgn_words.specs.Positions.{mark_in, place_in, position_in, shown_as, place_or, is_placed}
-use Rattle.pgn_words.specs.Told.{IsSamePass}
-use Rattle.pgn_words.specs.Waking.{HasTaken, TellsTaken, is_undecided, needs_wake, wake_looked, HasLookedToWake, TellsWakeLook, wake_set, TellsWakeSet}
-use Rattle.pgn_words.specs.WakeRule.{served, IsHeard, IsHeeded, Heeds, waits_in, pending, Signals, ended_in, Flags}
-use Rattle.pgn_words.specs.Rule.{World, KnowsStop, HoldsIn, Holds, IsSignalling, Law, Lawful, Keeps}
+use Rattle.pgn_words.specs.Positions.{position_in, shown_as, place_or, is_placed}
+use Rattle.pgn_words.specs.Waking.{TellsTaken, is_undecided, needs_wake, wake_looked, HasLookedToWake, TellsWakeLook, wake_set, TellsWakeSet}
+use Rattle.pgn_words.specs.WakeRule.{served, IsHeard, IsHeeded, Heeds, waits_in, pending, Signals, ended_in}
+use Rattle.pgn_words.specs.Rule.{World, KnowsStop, Holds, IsSignalling, Law, Lawful, Keeps}
 use Rattle.pgn_words.proofs.EachLaws.{each_turn, each_keep}
 use Rattle.pgn_words.proofs.Frames.{seats_keep, locking_keep, history_keep, numbers_keep, budget_keep, statuses_keep}
 use Rattle.pgn_words.proofs.MoreFrames.{posts_keep, walks_keep, looks_keep, flags_keep, named_keep, taken_keep}
@@ -41,9 +37,9 @@ use Rattle.pgn_words.proofs.NearSteps.{none_between, near_other}
 use Rattle.pgn_words.proofs.RowLaws.{get_pos, set_wake_word, get_wake_word}
 use Rattle.pgn_words.proofs.PostKept.{turned, turns}
 use Rattle.pgn_words.proofs.WalkKept.{seat_within, learned_more}
-use Rattle.pgn_words.proofs.MetLaws.{seat_shows, IsMet, Met, met, first_mark}
+use Rattle.pgn_words.proofs.MetLaws.{seat_shows, first_mark}
 use Rattle.pgn_words.proofs.LookKept.{position_told}
-use Rattle.pgn_words.proofs.Meets.{Goes, allowed}
+use Rattle.pgn_words.proofs.Meets.{allowed}
 
 -- what was heard is at most what a listener was served of
 pub heard_served : (fin : ℕ) (undecided : ℕ → Bool) (i n : ℕ) → IsHeard fin undecided n → n ≤ served undecided fin i

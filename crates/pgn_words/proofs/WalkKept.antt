@@ -1,6 +1,6 @@
 -- The steps of a listener keep the rule: joining, its walks through the cells, and leaving.
 use Rattle.std.specs.Prelude.{Contains}
-use Rattle.std.proofs.Common.{◌≡◌, ◌≢◌, ◌⊎◌, ℕ, ◌+◌, ◌-◌, ◌*◌, ◌%◌, ◌^◌, ◌<◌, ◌≤◌, Bool, true, false, List, [], ◌∷◌, ◌++◌, length, drop, get_or, set, Option, Some, None, All, slice_get, sym, refl, ap, ◌∙◌, subst, arith, ⊎_elim, inl, inr, true≢false, length-set, get_or-set_other, get_or-set_same}
+use Rattle.std.proofs.Common.{◌≡◌, ℕ, ◌+◌, ◌-◌, ◌%◌, ◌^◌, ◌<◌, ◌≤◌, true, false, List, [], ◌∷◌, ◌++◌, length, drop, get_or, set, Some, None, slice_get, sym, refl, ap, ◌∙◌, subst, arith, ⊎_elim, inl, inr, true≢false, length-set, get_or-set_other, get_or-set_same}
 use Rattle.std.proofs.lemmas.Grind.{common_steps}
 use mathlib.Core.Option.{some, none}
 use lib.ListN.{get_elem?}
@@ -8,13 +8,9 @@ use Rattle.atomic_table.specs.Table.{Me, Allows, step}
 use Rattle.atomic_table.proofs.Lists.{set_again}
 use Rattle.pgn_base.specs.declared.format.Format.{Format}
 use Rattle.pgn_model.specs.declared.tx.Tx.{Tx}
-use Rattle.pgn_model.specs.Begins.{Begins}
 use Rattle.pgn_model.proofs.BeginsLaws.{begins-itself, begins-on, begins-rest, begins-shorter}
-use Rattle.pgn_model.specs.Journal.{next_xid, is_committed_in, IsFinished}
-use Rattle.pgn_model.specs.Near.{Near}
-use Rattle.pgn_model.proofs.NearLaws.{near-itself}
-use Rattle.pgn_model.specs.Packing.{page_of, page_start, place, image}
-use Rattle.pgn_model.specs.Pieces.{IsWritten}
+use Rattle.pgn_model.specs.Journal.{next_xid}
+use Rattle.pgn_model.specs.Packing.{page_start, place, image}
 use Rattle.pgn_model.specs.Shape.{Shape, IsShape, notes_of_seats}
 use Rattle.pgn_model.proofs.PackingLemmas.{place_grows, last_place}
 use Rattle.pgn_model.proofs.DraftLaws.{longer_agrees}
@@ -25,21 +21,17 @@ use Rattle.pgn_words.specs.declared.view.Listen.{Listen}
 use Rattle.pgn_words.specs.declared.view.Listen.TheVariants.{Out, Joining, Based, Registered}
 use Rattle.pgn_words.specs.declared.view.Phase.TheVariants.{Free}
 use Rattle.pgn_words.specs.declared.view.Stage.TheVariants.{Still, Begun, Shown}
-use Rattle.pgn_words.specs.Words.{Content, row, room_of, seats_of, pos_at, cells_at}
+use Rattle.pgn_words.specs.Words.{Content, row, room_of, pos_at, cells_at}
 use Rattle.pgn_words.specs.Views.{holds_lock, is_walking}
-use Rattle.pgn_words.specs.Positions.{packed, mark_in, place_in, shown_as, marked, word_of, listens_at, is_placed, IsPlacedIn}
-use Rattle.pgn_words.specs.ListenRule.{IsPlaced}
-use Rattle.pgn_words.specs.WakeRule.{served, IsHeard, IsHeeded}
-use Rattle.pgn_words.specs.Rule.{World, HoldsIn, Law, Lawful, Keeps, notes_of}
+use Rattle.pgn_words.specs.Positions.{packed, mark_in, place_in, shown_as, marked, word_of, is_placed, IsPlacedIn}
+use Rattle.pgn_words.specs.Rule.{World, Law, Lawful, Keeps}
 use Rattle.pgn_words.specs.Listening.{joining, TellsJoining, TellsBase, registered, TellsRegistered, TellsBegun, TellsShown, TellsShownCell, forwarded, TellsForwarded, left, TellsLeft}
-use Rattle.pgn_words.proofs.EachLaws.{each_keep}
-use Rattle.pgn_words.proofs.LockKept.{setup_of, few_left, few_txs}
+use Rattle.pgn_words.proofs.LockKept.{setup_of, few_left}
 use Rattle.pgn_words.proofs.StatusKept.{holder_sees}
-use Rattle.pgn_words.proofs.ImageLaws.{written_part}
 use Rattle.pgn_words.proofs.NearSteps.{near_itself_served}
 use Rattle.pgn_words.proofs.RowLaws.{set_pos, get_cell}
 use Rattle.pgn_words.proofs.PostKept.{moved, moves}
-use Rattle.pgn_words.proofs.Meets.{Goes, allowed}
+use Rattle.pgn_words.proofs.Meets.{allowed}
 
 -- a session has a position
 pub seat_within : (z : Shape) (c : Content) (g : World) (views : List View) (id : ℕ) (v : View) (i : ℕ) → Law z c g views → get_elem? views id ≡ some v → v.known.session ≡ i + 1 → i < length c.pos

@@ -1,9 +1,7 @@
 -- The end of the queue: one pass takes in the others.
-use Rattle.std.specs.Prelude.{None, ◌≡◌, ℕ, Bool, List, [], ◌∷◌, ◌++◌}
+use Rattle.std.specs.Prelude.{None, [], ◌∷◌, ◌++◌}
 use Rattle.pgn_model.specs.declared.known.Known.{Known}
 use Rattle.pgn_words.specs.declared.view.View.{View}
-use Rattle.pgn_words.specs.declared.view.Listen.{Listen}
-use Rattle.pgn_words.specs.declared.view.Listen.TheVariants.{Out, Registered}
 
 -- one pass has taken in another, which is free and no listener: what was known of it is kept
 abbrev pub taken_in : View → View → View

@@ -1,5 +1,4 @@
 -- Small cases that the rule refuses.
-use Rattle.std.specs.Prelude.{ℕ, List, []}
 use Rattle.pgn_words.specs.declared.view.View.{View}
 use Rattle.pgn_words.specs.declared.view.Listen.TheVariants.{Registered}
 use Rattle.pgn_words.specs.declared.view.Phase.TheVariants.{Held}

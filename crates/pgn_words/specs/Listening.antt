@@ -1,12 +1,10 @@
 -- Listeners: what each of their steps makes of the pass, and what it tells.
 use Rattle.std.specs.Prelude.{◌≡◌, ℕ, ◌+◌, ◌%◌, ◌^◌, ◌<◌, ◌≤◌, List, [], ◌∷◌, ◌++◌, length, slice_get, Some, None, All, true, false}
 use Rattle.atomic_table.specs.Table.{Step}
-use Rattle.pgn_base.specs.declared.limits.TheConstants.{FIRST_XID}
-use Rattle.pgn_base.specs.declared.format.Format.{Format}
 use Rattle.pgn_model.specs.declared.tx.Tx.{Tx}
 use Rattle.pgn_model.specs.Begins.{Begins}
 use Rattle.pgn_model.specs.Journal.{next_xid, IsFinished}
-use Rattle.pgn_model.specs.Packing.{image, place}
+use Rattle.pgn_model.specs.Packing.{image}
 use Rattle.pgn_model.specs.Pieces.{IsWritten}
 use Rattle.pgn_model.specs.Shape.{notes_of_seats}
 use Rattle.pgn_words.specs.declared.view.View.{View}

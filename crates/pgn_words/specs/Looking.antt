@@ -1,15 +1,13 @@
 -- The two looks of an advance of the tail: what each step makes of the pass, and what it tells.
-use Rattle.std.specs.Prelude.{◌≡◌, ◌⊎◌, ℕ, ◌+◌, ◌==◌, ◌^◌, ◌<◌, ◌≤◌, min, cond, List, [], ◌∷◌, ◌++◌, length, Some, None}
+use Rattle.std.specs.Prelude.{◌≡◌, ◌⊎◌, ℕ, ◌+◌, ◌==◌, ◌^◌, ◌<◌, ◌≤◌, min, cond, [], ◌∷◌, ◌++◌, length, Some}
 use Rattle.atomic_table.specs.Table.{Step}
 use Rattle.pgn_base.specs.declared.limits.TheConstants.{FIRST_XID}
-use Rattle.pgn_base.specs.declared.format.Format.{Format}
-use Rattle.pgn_model.specs.declared.tx.Tx.{Tx}
 use Rattle.pgn_model.specs.Journal.{next_xid}
 use Rattle.pgn_model.specs.Packing.{page_of, image}
 use Rattle.pgn_words.specs.declared.pos_word.PosWord.{PosWord}
 use Rattle.pgn_words.specs.declared.pos_word.PosWord.TheVariants as words
 use Rattle.pgn_words.specs.declared.view.View.{View}
-use Rattle.pgn_words.specs.declared.view.Look.TheVariants.{Idle, First, Second}
+use Rattle.pgn_words.specs.declared.view.Look.TheVariants.{First, Second}
 use Rattle.pgn_words.specs.Words.{seats_of, pos_at}
 use Rattle.pgn_words.specs.Views.{not_advanced}
 use Rattle.pgn_words.specs.Positions.{packed, mark_in, place_in, position_in, shown_as, marked, place_or, met_at, IsPlacedIn, IsPositionIn}

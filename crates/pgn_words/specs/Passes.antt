@@ -1,5 +1,5 @@
 -- A queue and its passes, as callers see them.
-use Rattle.std.specs.Prelude.{◌≡◌, ℕ, ◌+◌, Bool, true, false, List, [], ◌∷◌, length, ◌<◌, ◌≤◌, None}
+use Rattle.std.specs.Prelude.{◌≡◌, ℕ, ◌+◌, true, List, [], ◌∷◌, length, ◌<◌, ◌≤◌, None}
 use Rattle.pgn_model.specs.declared.known.Known.{Known}
 use Rattle.pgn_model.specs.declared.setup.SeatSetup.{SeatSetup}
 use Rattle.pgn_model.specs.Shape.{Shape}

@@ -1,5 +1,5 @@
 -- Wakes and flags: what each step makes of the pass, and what it tells.
-use Rattle.std.specs.Prelude.{◌≡◌, ◌≢◌, ℕ, ◌+◌, ◌^◌, ◌<◌, ◌≤◌, ◌==◌, ◌||◌, max, Bool, true, false, not, List, [], ◌∷◌, ◌++◌, length, get_or, slice_set, Option, Some, None, All}
+use Rattle.std.specs.Prelude.{◌≡◌, ◌≢◌, ℕ, ◌+◌, ◌^◌, ◌<◌, ◌≤◌, ◌==◌, ◌||◌, max, Bool, false, not, List, [], ◌∷◌, ◌++◌, length, get_or, slice_set, Option, Some, None, All}
 use Rattle.atomic_table.specs.Table.{Step}
 use Rattle.pgn_base.specs.declared.limits.TheConstants.{FIRST_XID}
 use Rattle.pgn_lanes.specs.Behind.{is_woken}

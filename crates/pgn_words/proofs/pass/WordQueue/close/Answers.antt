@@ -1,7 +1,7 @@
-use Rattle.std.proofs.Common.{◌≡◌, ◌++◌, ◌∷◌, [], refl, sym, ap, ◌∙◌, append_assoc, arith}
+use Rattle.std.proofs.Common.{◌++◌, ◌∷◌, [], refl, sym, ap, ◌∙◌, append_assoc, arith}
 use Rattle.pgn_words.specs.declared.view.View.{View}
-use Rattle.pgn_words.specs.Passes.{view_of, known_of}
-use Rattle.pgn_words.proofs.CloseLaws.{HasTakenIn, first_and_rest, joined_more, closed_low, closes, none_left}
+use Rattle.pgn_words.specs.Passes.{view_of}
+use Rattle.pgn_words.proofs.CloseLaws.{first_and_rest, joined_more, closed_low, closes, none_left}
 use Rattle.pgn_words.proofs.pass.WordQueue.close.Goals as goal
 
 pub loop-pass-init : goal.loop-pass-init

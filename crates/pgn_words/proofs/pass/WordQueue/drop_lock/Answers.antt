@@ -1,5 +1,4 @@
-use Rattle.std.proofs.Common.{◌≡◌, ℕ, Bool, false, List, length, get_or, All, arith}
-use Rattle.pgn_words.specs.WakeRule.{waits_in}
+use Rattle.std.proofs.Common.{arith}
 use Rattle.pgn_words.proofs.LockKept.{drop_lock_allowed, none_waits}
 use Rattle.pgn_words.proofs.pass.WordQueue.drop_lock.Goals as goal
 

@@ -1,7 +1,4 @@
-use Rattle.std.proofs.Common.{arith, subst, sym}
-use Rattle.pgn_words.specs.declared.pos_word.PosWord.{PosWord}
-use Rattle.pgn_words.specs.Passes.{view_of}
-use Rattle.pgn_words.specs.Looking.{HasLookedFirst}
+use Rattle.std.proofs.Common.{arith}
 use Rattle.pgn_words.proofs.LookKept.{first_look_allowed}
 use Rattle.pgn_words.proofs.pass.WordQueue.first_look.Goals as goal
 

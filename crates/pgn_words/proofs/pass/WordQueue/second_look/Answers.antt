@@ -1,7 +1,4 @@
-use Rattle.std.proofs.Common.{arith, subst, sym}
-use Rattle.pgn_words.specs.declared.pos_word.PosWord.{PosWord}
-use Rattle.pgn_words.specs.Passes.{view_of}
-use Rattle.pgn_words.specs.Looking.{HasLookedSecond}
+use Rattle.std.proofs.Common.{arith}
 use Rattle.pgn_words.proofs.SecondKept.{second_look_allowed}
 use Rattle.pgn_words.proofs.pass.WordQueue.second_look.Goals as goal
 
