@@ -44,5 +44,7 @@ pub no_greater : IsMost (3 ∷ []) (0, 4) → ⊥
 no_greater h = let low = h.1 in omega (arith, low)
 
 pub ruleset refused_writers = (no_other_cell, no_other_holder, not_drawn_twice)
+
 pub ruleset refused_listeners = (not_too_late, no_page_gone, not_hidden, not_without_mark, not_before_target, no_other_target)
+
 pub ruleset refused_wakes = (not_heard_too_early, not_undecided, no_greater)
