@@ -1,0 +1,2 @@
+mod SlotLaws
+pub mod ShownLaws

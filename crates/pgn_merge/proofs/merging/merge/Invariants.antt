@@ -1,0 +1,8 @@
+use Rattle.std.proofs.Common.{List, take}
+use Rattle.pgn_model.specs.declared.tx.Tx.{Tx}
+use Rattle.pgn_merge.specs.Shown.{ShowsJournal}
+use Rattle.pgn_merge.specs.Slots.{HasPlacedAll}
+use Rattle.pgn_merge.proofs.merging.merge.Given as goal
+
+abbrev pub invariant-loop-trace : goal.invariant-loop-trace
+invariant-loop-trace l = (journal : List Tx) → ShowsJournal journal l.fn.traces → HasPlacedAll journal (take l.trace-index l.fn.traces) l.slots.items

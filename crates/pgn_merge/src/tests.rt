@@ -1,0 +1,137 @@
+use crate::merge;
+use pgn_base::{DbOid, Full, Name, Note, Notes, Payload, SessionNo, Xid};
+use pgn_model::{Fate, Item, Items, Trace, Tx};
+use std::alloc::{AllocError, Global};
+use std::test::Fail;
+
+fn number(n: u32) -> Xid {
+    Xid::new(n.max(3))
+}
+
+// A notification on channel c for each payload.
+fn notes(alloc: Global, payloads: &str) -> Result<Notes, Fail> {
+    let mut notes = Notes::new(alloc);
+    for payload in payloads.split(' ') {
+        let channel = Name::new(alloc, "c")?;
+        let payload = Payload::new(alloc, payload)?;
+        notes.push(Note { channel, payload })?;
+    }
+    Ok(notes)
+}
+
+fn publish(alloc: Global, xid: u32, payloads: &str) -> Result<Item, Fail> {
+    let notes = notes(alloc, payloads)?;
+    Ok(Item::Publish {
+        xid: number(xid),
+        notes,
+    })
+}
+
+fn full(alloc: Global, xid: u32, queued: u32, payloads: &str) -> Result<Item, Fail> {
+    let notes = notes(alloc, payloads)?;
+    Ok(Item::QueueFull {
+        full: Full {
+            xid: number(xid),
+            queued,
+            head_page: 2,
+            floor_mark: number(3),
+            floor_page: 0,
+            holder: None,
+        },
+        notes,
+    })
+}
+
+fn trace(alloc: Global, session: u32, db: u32) -> Trace {
+    Trace {
+        session: SessionNo::new(session.clamp(1, 256)),
+        db: DbOid::new(db.max(1)),
+        items: Items::new(alloc),
+        last: None,
+    }
+}
+
+// Two sessions of two databases that commit in turns.
+fn in_turns(alloc: Global) -> Result<Vec<Trace>, Fail> {
+    let mut first = trace(alloc, 1, 7);
+    first.items.push(Item::Line { line: 2 })?;
+    first.items.push(publish(alloc, 4, "b")?)?;
+    let mut second = trace(alloc, 2, 8);
+    second.items.push(publish(alloc, 3, "a")?)?;
+    second.items.push(publish(alloc, 5, "c d")?)?;
+    let mut traces = Vec::new(alloc);
+    traces.push(first)?;
+    traces.push(second)?;
+    Ok(traces)
+}
+
+// One session that meets a full queue twice, and then commits.
+fn aborted(alloc: Global) -> Result<Vec<Trace>, Fail> {
+    let mut only = trace(alloc, 256, 4294967295);
+    only.items.push(full(alloc, 3, 0, "a")?)?;
+    only.items.push(full(alloc, 4, 1, "b c")?)?;
+    only.items.push(publish(alloc, 5, "d")?)?;
+    let mut traces = Vec::new(alloc);
+    traces.push(only)?;
+    Ok(traces)
+}
+
+// Whether a transaction is this session's, ended so with so many queued, and its notifications end with this payload.
+fn is(tx: Option<&Tx>, session: u32, fate: Fate, queued: u32, payload: &str) -> bool {
+    let Some(tx) = tx else {
+        return false;
+    };
+    let Some(last) = tx.notes.as_slice().last() else {
+        return false;
+    };
+    tx.session.get() == session
+        && tx.fate == fate
+        && tx.queued == queued
+        && last.payload.as_bytes() == payload.as_bytes()
+}
+
+#[test]
+fn by_number(rt: HostRuntime) -> Result<(), Fail> {
+    let alloc = rt.alloc();
+    let traces = in_turns(alloc)?;
+    let journal = merge(alloc, traces.as_slice())?;
+    assert_eq!(rt; journal.len(), 3);
+    assert!(rt; is(journal.get(0), 2, Fate::Committed, 1, "a"));
+    assert!(rt; is(journal.get(1), 1, Fate::Committed, 1, "b"));
+    assert!(rt; is(journal.get(2), 2, Fate::Committed, 2, "d"));
+    Ok(())
+}
+
+#[test]
+fn of_each_database(rt: HostRuntime) -> Result<(), Fail> {
+    let alloc = rt.alloc();
+    let traces = in_turns(alloc)?;
+    let mut databases = Vec::new(alloc);
+    for tx in merge(alloc, traces.as_slice())? {
+        databases.push(tx.db.get())?;
+    }
+    assert_eq!(rt; databases.as_slice(), [8, 7, 8].as_slice());
+    Ok(())
+}
+
+#[test]
+fn with_the_aborted_ones(rt: HostRuntime) -> Result<(), Fail> {
+    let alloc = rt.alloc();
+    let traces = aborted(alloc)?;
+    let journal = merge(alloc, traces.as_slice())?;
+    assert_eq!(rt; journal.len(), 3);
+    assert!(rt; is(journal.get(0), 256, Fate::Aborted, 0, "a"));
+    assert!(rt; is(journal.get(1), 256, Fate::Aborted, 1, "c"));
+    assert!(rt; is(journal.get(2), 256, Fate::Committed, 1, "d"));
+    Ok(())
+}
+
+#[test]
+fn of_nothing(rt: HostRuntime) -> Result<(), AllocError> {
+    let alloc = rt.alloc();
+    let mut traces = Vec::new(alloc);
+    assert!(rt; merge(alloc, traces.as_slice())?.is_empty());
+    traces.push(trace(alloc, 1, 1))?;
+    assert!(rt; merge(alloc, traces.as_slice())?.is_empty());
+    Ok(())
+}
