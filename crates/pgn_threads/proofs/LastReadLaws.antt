@@ -1,0 +1,100 @@
+-- Sessions that read once more, and then have read up to what every one was told.
+use Rattle.std.proofs.Common.{◌≡◌, ℕ, zero, suc, ◌+◌, ◌<◌, ◌≤◌, List, [], ◌∷◌, length, set, get_or, map, take, Option, None, Some, IfSome, All, sym, ap, ◌∙◌, refl, subst, arith}
+use Rattle.std.proofs.lemmas.Option.{IfSome_then}
+use Rattle.std.proofs.lemmas.List.{take_all}
+use Rattle.std.proofs.Math.Seq.{map-set_same}
+use Rattle.std.proofs.lemmas.List.Elements.{All-set, All-more}
+use Rattle.pgn_model.specs.declared.item.Item.{Item}
+use Rattle.pgn_model.specs.declared.known.Known.{Known}
+use Rattle.pgn_model.specs.Shape.{Shape}
+use Rattle.pgn_session.specs.declared.session.Session.{Session}
+use Rattle.pgn_session.specs.Parts.{HasFinished, HasFinishedFrom}
+use Rattle.pgn_session.specs.Whole.{HasRest}
+use Rattle.pgn_threads.specs.Parts.{HasReadAll}
+use Rattle.pgn_threads.specs.Whole.{IsOver, script_of}
+use Rattle.pgn_threads.specs.Drain.{passes_of, tolds_of, told_at, AreTop, HasReadOwn}
+
+-- what a session was told is as it was, and it has read up to that
+record HasReadUp (old new : Known) : Type 0 where
+  same : new.told ≡ old.told
+  read : HasReadOwn new
+
+finished-up : (old new : Known) (set : List (List ℕ)) (before after : List Item) → HasFinished old new set before after → HasReadUp old new
+finished-up old new set before after h = by old.mark refl h
+  where
+    by : (mark : Option ℕ) → old.mark ≡ mark → HasFinishedFrom mark old new set before after → HasReadUp old new
+    by None e h = record { same = ap (λ (k : Known). k.told) h.0; read = subst (λ (mark : Option ℕ). IfSome mark (λ m. new.told ≤ m)) (sym (ap (λ (k : Known). k.mark) h.0 ∙ e)) tt }
+    by (Some from) e h =
+        let read = h.1.read in
+        let told : new.told ≡ old.told = ap (λ (k : Known). k.told) read.known in
+        record {
+          same = told;
+          read = subst (λ (mark : Option ℕ). IfSome mark (λ m. new.told ≤ m)) (sym (ap (λ (k : Known). k.mark) read.known)) (omega (arith, told, read.after_told));
+        }
+
+module _ {P : Type 0} (is_own : P → Type 0) (shape : Shape) (known : P → Known) (sessions : List (Session P)) (i : ℕ) (d s : Session P) (lt : i < length sessions) (own : is_own s.pass) (rested : HasRest shape known s)
+    (same : s ≡ record (get_or sessions i d) { pass = s.pass; items = s.items }) (finished : HasFinished (known (get_or sessions i d).pass) (known s.pass) (get_or sessions i d).set.channels (get_or sessions i d).items.items s.items.items) where
+  pub read-over : All (IsOver is_own shape known) sessions → All (IsOver is_own shape known) (set sessions i s)
+  read-over h =
+      All-set (IsOver is_own shape known) sessions i s
+      (record { own = own; over = ap (λ (t : Session P). t.doing) same ∙ (h i d lt).over; rested = rested }) h
+
+  pub read-scripts : map script_of (set sessions i s) ≡ map script_of sessions
+  read-scripts = map-set_same (λ (t : Session P). script_of t) sessions i s d (ap (λ (t : Session P). script_of t) same)
+
+  pub read-told : tolds_of known (set sessions i s) ≡ tolds_of known sessions
+  read-told = map-set_same (λ (t : Session P). (known t.pass).told) sessions i s d (finished-up (known (get_or sessions i d).pass) (known s.pass) (get_or sessions i d).set.channels (get_or sessions i d).items.items s.items.items finished).same
+
+  -- one more has read
+  pub read-more : All HasReadOwn (take i (passes_of known sessions)) → All HasReadOwn (take (i + 1) (passes_of known (set sessions i s)))
+  read-more h = more sessions i lt h
+    where
+      up : HasReadOwn (known s.pass)
+      up = (finished-up (known (get_or sessions i d).pass) (known s.pass) (get_or sessions i d).set.channels (get_or sessions i d).items.items s.items.items finished).read
+
+      taken : (ss : List (Session P)) (k : ℕ) → k < length ss → take k (passes_of known (set ss k s)) ≡ take k (passes_of known ss)
+      taken [] k less = absurd (omega (arith, less))
+      taken (t ∷ ss) zero less = refl
+      taken (t ∷ ss) (suc k) less = ap (λ (ks : List Known). known t.pass ∷ ks) (taken ss k (omega (arith, less)))
+
+      there : (ss : List (Session P)) (k : ℕ) (e : Known) → k < length ss → get_or (passes_of known (set ss k s)) k e ≡ known s.pass
+      there [] k e less = absurd (omega (arith, less))
+      there (t ∷ ss) zero e less = refl
+      there (t ∷ ss) (suc k) e less = there ss k e (omega (arith, less))
+
+      long : (ss : List (Session P)) (k : ℕ) → k < length ss → k < length (passes_of known (set ss k s))
+      long [] k less = absurd (omega (arith, less))
+      long (t ∷ ss) zero less = omega arith
+      long (t ∷ ss) (suc k) less = omega (arith, long ss k (omega (arith, less)))
+
+      more : (ss : List (Session P)) (k : ℕ) → k < length ss → All HasReadOwn (take k (passes_of known ss)) → All HasReadOwn (take (k + 1) (passes_of known (set ss k s)))
+      more ss k less before =
+          All-more HasReadOwn (passes_of known (set ss k s)) k (known s.pass) (long ss k less)
+          (subst (λ (ks : List Known). All HasReadOwn ks) (sym (taken ss k less)) before)
+          (subst HasReadOwn (sym (there ss k (known s.pass) less)) up)
+
+-- the told of each pass
+told-of : {P : Type 0} (known : P → Known) (sessions : List (Session P)) (k : ℕ) (d : Known) → k < length (passes_of known sessions) → (get_or (passes_of known sessions) k d).told ≡ told_at (tolds_of known sessions) k
+told-of known [] k d lt = absurd (omega (arith, lt))
+told-of known (s ∷ sessions) zero d lt = refl
+told-of known (s ∷ sessions) (suc k) d lt = told-of known sessions k d (omega (arith, lt))
+
+same-length : {P : Type 0} (known : P → Known) (sessions : List (Session P)) → length (passes_of known sessions) ≡ length (tolds_of known sessions)
+same-length known [] = refl
+same-length known (s ∷ sessions) = ap suc (same-length known sessions)
+
+-- where nobody was told more than any other, who has read up to what it was told has read up to what all were
+pub all-read : {P : Type 0} (known : P → Known) (sessions : List (Session P)) (n : ℕ) → length (passes_of known sessions) ≤ n → AreTop (tolds_of known sessions) 0 → All HasReadOwn (take n (passes_of known sessions))
+    → All (HasReadAll (passes_of known sessions)) (passes_of known sessions)
+all-read known sessions n le tops read = λ k d lt.
+    let passes : List Known = passes_of known sessions in
+    let one : Known = get_or passes k d in
+    let own : All HasReadOwn passes = subst (λ (ks : List Known). All HasReadOwn ks) (take_all n passes le) read in
+    IfSome_then one.mark (own k d lt) (λ mark up j e less.
+    omega (
+      arith,
+      up,
+      told-of known sessions k d lt,
+      told-of known sessions j e less,
+      tops k (omega arith) (omega (arith, lt, same-length known sessions)) j (omega (arith, less, same-length known sessions)),
+    ))

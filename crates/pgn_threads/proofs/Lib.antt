@@ -1,0 +1,9 @@
+mod DrainLaws
+mod FlagWalkLaws
+mod LastReadLaws
+mod ListLemmas
+mod MeetLaws
+mod OpenLaws
+mod RunLaws
+mod ToldLaws
+mod WholeLaws

@@ -1,0 +1,36 @@
+-- What the sessions of a scenario are given: seats, passes and scripts.
+use Rattle.std.specs.Prelude.{◌≡◌, ℕ, ◌≤◌, List, ◌++◌, map, take, drop, All}
+use Rattle.pgn_model.specs.declared.known.Known.{Known}
+use Rattle.pgn_model.specs.declared.scenario.Section.{Section}
+use Rattle.pgn_model.specs.declared.setup.SeatSetup.{SeatSetup}
+use Rattle.pgn_model.specs.Shape.{Shape}
+use Rattle.pgn_model.specs.Inputs.{QuitsLast, note_lines_of}
+use Rattle.pgn_hub.specs.Passes.{opened_pass}
+use Rattle.pgn_session.specs.declared.doing.FlagPlan.{FlagPlan}
+use Rattle.pgn_session.specs.declared.session.Session.{Session}
+use Rattle.pgn_session.specs.Whole.{HasRest}
+use Rattle.pgn_threads.specs.Whole.{Script, script_of}
+
+-- the seat of a section
+abbrev pub seat_for : Section → SeatSetup
+seat_for section = record { db = section.db; notes = section.note_lines }
+
+-- the pass of its session as the hub is opened
+abbrev pub opened_for : Section → Known
+opened_for section = opened_pass section.no (seat_for section)
+
+-- what its session is to run
+abbrev pub script_for : FlagPlan → ℕ → Section → Script
+script_for plan patience section = record { section = section; plan = plan; patience = patience }
+
+-- a session can be made for the section: a quit is only its last line, and its lines that notify are counted
+pub record IsFit (section : Section) : Type 0 where
+  pub quits_last : QuitsLast section.lines
+  pub counted : note_lines_of section.lines ≤ section.note_lines
+
+-- sessions were made for the first sections, so many, and these passes are left
+pub record HaveOpened {P : Type 0} (known : P → Known) (plan : FlagPlan) (patience : ℕ) (sections : List Section) (all left : List P) (sessions : List (Session P)) (count : ℕ) : Type 0 where
+  pub whole : map (λ s. s.pass) sessions ++ left ≡ all
+  pub rest : map known left ≡ map opened_for (drop count sections)
+  pub scripts : map script_of sessions ≡ map (script_for plan patience) (take count sections)
+  pub rested : (shape : Shape) → All (HasRest shape known) sessions

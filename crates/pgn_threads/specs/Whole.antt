@@ -1,0 +1,31 @@
+-- What holds of whole sessions before they run and once they are over.
+use Rattle.std.specs.Prelude.{◌≡◌, ℕ}
+use Rattle.pgn_model.specs.declared.known.Known.{Known}
+use Rattle.pgn_model.specs.declared.scenario.Section.{Section}
+use Rattle.pgn_model.specs.Shape.{Shape}
+use Rattle.pgn_session.specs.declared.session.Session.{Session}
+use Rattle.pgn_session.specs.declared.doing.FlagPlan.{FlagPlan}
+use Rattle.pgn_session.specs.declared.doing.Doing.TheVariants.{Over}
+use Rattle.pgn_session.specs.Standing.{IsServedBy}
+use Rattle.pgn_session.specs.Whole.{HasRest}
+
+-- what a session was given to run
+pub record Script : Type 0 where
+  pub section : Section
+  pub plan : FlagPlan
+  pub patience : ℕ
+
+abbrev pub script_of : {P : Type 0} → Session P → Script
+script_of s = record { section = s.section; plan = s.plan; patience = s.patience }
+
+-- the session's pass is the hub's, which has each flag that the session may name, and the session left no read out
+pub record IsReady {P : Type 0} (is_own : P → Type 0) (shape : Shape) (known : P → Known) (s : Session P) : Type 0 where
+  pub own : is_own s.pass
+  pub served : IsServedBy shape s.section s.plan
+  pub rested : HasRest shape known s
+
+-- the session's pass is the hub's, the session is over, and it left no read out
+pub record IsOver {P : Type 0} (is_own : P → Type 0) (shape : Shape) (known : P → Known) (s : Session P) : Type 0 where
+  pub own : is_own s.pass
+  pub over : s.doing ≡ Over
+  pub rested : HasRest shape known s

@@ -1,0 +1,36 @@
+//! All sessions of a scenario, each on a thread of its own, over one hub.
+//!
+//! `run_sessions` runs sessions until all are over. `drain` then lets them hear from each other what each was told, and lets each
+//! that still listens read once more. `run_on_hub` does all that a scenario takes: it opens a hub, makes a session for each
+//! section, runs and drains them, gathers their passes and merges their traces. What it answers is a legal run of the scenario.
+//!
+//! That the sessions run side by side is not said by a contract: a body that runs one after another on one thread meets it too,
+//! where no session awaits another. The law in `laws` leads from sessions that are over and gathered passes to a legal run.
+//!
+//! A caller: the sessions of two sections run and are drained.
+//!
+//! ```
+//! fn run_and_drain<P: PassView + Send + Drop, H: Hub<Pass = P> + Sync, R: Threads + Wait + Sync>(
+//!     rt: &R,
+//!     alloc: Global,
+//!     hub: &H,
+//!     sessions: &mut [Session<P>],
+//! ) -> Result<(), AllocError>
+//!     requires { All (IsReady (H.is_pass hub.now) (H.shape hub.now) P.known) sessions.old }
+//! {
+//!     run_sessions(rt, alloc, hub, sessions)?;
+//!     drain(alloc, hub, sessions)?;
+//!     Ok(())
+//! }
+//! ```
+#![tactic(auto)]
+
+mod draining;
+pub mod laws;
+mod opening;
+mod running;
+mod whole_run;
+
+pub use draining::drain;
+pub use running::run_sessions;
+pub use whole_run::{Run, run_on_hub};

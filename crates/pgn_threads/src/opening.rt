@@ -1,0 +1,70 @@
+ghost use Rattle.std.specs.Prelude.{◌≡◌, ◌≤◌, map, IfOk, All};
+ghost use Rattle.pgn_model.specs.Shape.{Shape};
+ghost use Rattle.pgn_session.specs.Whole.{HasRest};
+ghost use Rattle.pgn_threads.specs.Parts.{part_of, trace_of};
+ghost use Rattle.pgn_threads.specs.Whole.{script_of};
+ghost use Rattle.pgn_threads.specs.Opened.{opened_for, script_for, seat_for, IsFit};
+
+use pgn_base::Copied;
+use pgn_model::{PassView, SeatSetup, Section, Trace};
+use pgn_session::{FlagPlan, Session};
+use std::alloc::{AllocError, Global};
+
+/// A seat for each section.
+pub(crate) fn seats_for(alloc: Global, sections: &[Section]) -> Result<Vec<SeatSetup>, AllocError>
+    ensures { IfOk result (λ seats. seats.items ≡ map seat_for sections.now) }
+{
+    let mut seats = Vec::with_capacity(alloc, sections.len())?;
+    for section in sections {
+        seats.push(SeatSetup {
+            db: section.db,
+            notes: section.note_lines,
+        })?;
+    }
+    Ok(seats)
+}
+
+/// A session for each section, before the first line of its script, with its pass as the hub was opened.
+pub(crate) fn open_sessions<P: PassView + Send + Drop>(
+    alloc: Global,
+    passes: Vec<P>,
+    sections: &[Section],
+    plan: FlagPlan,
+    patience: u64,
+) -> Result<Vec<Session<P>>, AllocError>
+    requires opened { map P.known passes.items ≡ map opened_for sections.now }
+    requires fit { All IsFit sections.now }
+    requires patient { 1 ≤ patience }
+    ensures passes { IfOk result (λ sessions. map (λ s. s.pass) sessions.items ≡ passes.items) }
+    ensures scripts { IfOk result (λ sessions. map script_of sessions.items ≡ map (script_for plan patience) sections.now) }
+    ensures rested { IfOk result (λ sessions. (shape : Shape) → All (HasRest shape P.known) sessions.items) }
+{
+    let mut sessions = Vec::with_capacity(alloc, sections.len())?;
+    let mut passes = passes.into_iter();
+    for section in sections {
+        let Some(pass) = passes.next() else {
+            unreachable!();
+        };
+        let section = section.copy(alloc)?;
+        sessions.push(Session::new(alloc, pass, section, plan, patience)?)?;
+    }
+    Ok(sessions)
+}
+
+/// The passes of sessions, and their traces.
+pub(crate) fn logs<P: PassView + Send + Drop>(
+    alloc: Global,
+    sessions: Vec<Session<P>>,
+) -> Result<(Vec<P>, Vec<Trace>), AllocError>
+    ensures passes { IfOk result (λ logs. logs.0.items ≡ map (λ s. s.pass) sessions.items) }
+    ensures traces { IfOk result (λ logs. logs.1.items ≡ map (λ s. trace_of (part_of P.known s)) sessions.items) }
+{
+    let mut passes = Vec::with_capacity(alloc, sessions.len())?;
+    let mut traces = Vec::with_capacity(alloc, sessions.len())?;
+    for session in sessions {
+        let (pass, trace) = session.into_log();
+        passes.push(pass)?;
+        traces.push(trace)?;
+    }
+    Ok((passes, traces))
+}

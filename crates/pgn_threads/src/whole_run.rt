@@ -1,0 +1,81 @@
+ghost use Rattle.std.specs.Prelude.{◌≡◌, ◌+◌, ◌≤◌, map, length, OnOk, IfOk, All};
+ghost use Rattle.pgn_base.specs.declared.limits.TheConstants.{PAGES_MIN, PAGES_MAX};
+ghost use Rattle.pgn_base.specs.declared.format.Format.TheVariants.{One};
+ghost use Rattle.pgn_model.specs.Inputs.{IsSound};
+ghost use Rattle.pgn_model.specs.Legal.{Legal};
+ghost use Rattle.pgn_hub.specs.Passes.{IsWithin};
+ghost use Rattle.pgn_threads.specs.Parts.{HasReadAll};
+ghost use Rattle.pgn_threads.specs.Whole.{IsReady, IsOver, script_of};
+ghost use Rattle.pgn_threads.specs.Drain.{passes_of};
+
+use crate::opening::{logs, open_sessions, seats_for};
+use crate::{drain, run_sessions};
+use pgn_hub::Hub;
+use pgn_merge::merge;
+use pgn_model::{PassView, Scenario, Setup, Trace, Tx};
+use pgn_session::{FlagPlan, Session};
+use std::alloc::{AllocError, Global};
+use std::sync::Wait;
+use std::thread::Threads;
+
+/// A run of a scenario: the journal, and the trace of each session.
+#[derive(Drop)]
+pub struct Run {
+    pub journal: Vec<Tx>,
+    pub traces: Vec<Trace>,
+}
+
+/// Runs a scenario over a hub of this type, which it opens with a limit of so many pages: every session on a thread of its own,
+/// where an await takes so many looks. The error is that memory did not suffice.
+pub fn run_on_hub<H: Hub + Sync + Drop, R: Threads + Wait + Sync>(
+    rt: &R,
+    alloc: Global,
+    scenario: &Scenario,
+    pages: u32,
+    patience: u64,
+) -> Result<Run, AllocError>
+    requires sound { IsSound scenario.now }
+    requires some_pages { PAGES_MIN ≤ pages }
+    requires few_pages { pages ≤ PAGES_MAX }
+    requires patient { 1 ≤ patience }
+    ensures legal { IfOk result (λ run. Legal scenario.now (record { format = One; limit = pages; patience = patience }) run.journal.items run.traces.items) }
+{
+    let sections = scenario.sections.as_slice();
+    let plan = FlagPlan {
+        first_end: scenario.flags.as_slice().len() as u32,
+        sessions: sections.len() as u32,
+    };
+    let seats = seats_for(alloc, sections)?;
+    let setup = Setup::new(pages, plan.first_end + plan.sessions, seats);
+    let (hub, passes) = H::open(alloc, setup)?;
+    let mut sessions = open_sessions(alloc, passes, sections, plan, patience)?;
+    settle(rt, alloc, &hub, sessions.as_mut_slice())?;
+    let (passes, traces) = logs(alloc, sessions)?;
+    are_within(&hub, passes.as_slice());
+    let _roll = hub.gather(passes);
+    let journal = merge(alloc, traces.as_slice())?;
+    Ok(Run { journal, traces })
+}
+
+// Runs sessions until all are over, and drains them.
+fn settle<P: PassView + Send + Drop, H: Hub<Pass = P> + Sync, R: Threads + Wait + Sync>(
+    rt: &R,
+    alloc: Global,
+    hub: &H,
+    sessions: &mut [Session<P>],
+) -> Result<(), AllocError>
+    requires ready { All (IsReady (H.is_pass hub.now) (H.shape hub.now) P.known) sessions.old }
+    ensures over { OnOk result (All (IsOver (H.is_pass hub.now) (H.shape hub.now) P.known) sessions.new) }
+    ensures scripts { OnOk result (map script_of sessions.new ≡ map script_of sessions.old) }
+    ensures read { OnOk result (All (HasReadAll (passes_of P.known sessions.new)) (passes_of P.known sessions.new)) }
+{
+    run_sessions(rt, alloc, hub, sessions)?;
+    drain(alloc, hub, sessions)?;
+    Ok(())
+}
+
+// What holds of each pass of a hub between calls.
+fn are_within<H: Hub>(hub: &H, passes: &[H::Pass])
+    requires { All (H.is_pass hub.now) passes.now }
+    ensures { All (λ pass. IsWithin (H.Pass.known pass)) passes.now }
+{}
