@@ -29,4 +29,5 @@ pub mod TakenKept
 pub mod CloseLaws
 pub mod EntryTest
 pub mod RuleLaws
+pub mod WayLaws
 pub mod RefusedSteps

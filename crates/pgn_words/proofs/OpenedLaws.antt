@@ -1,22 +1,23 @@
 -- The passes as they are made, one after another.
-use Rattle.std.proofs.Common.{◌≡◌, ℕ, zero, suc, ◌+◌, ◌-◌, ◌<◌, List, [], ◌∷◌, ◌++◌, length, get_or, take, map, All, sym, refl, ap, ◌∙◌, arith}
-use Rattle.std.proofs.lemmas.List.{length-take}
+use Rattle.std.proofs.Common.{◌≡◌, ℕ, ◌+◌, ◌-◌, ◌<◌, List, [], ◌∷◌, ◌++◌, length, get_or, take, map, All, sym, ap, ◌∙◌, arith}
+use Rattle.std.proofs.lemmas.List.{length-take, map-append, take_more}
 use Rattle.std.proofs.lemmas.List.Elements.{All-push}
 use Rattle.pgn_model.specs.declared.setup.SeatSetup.{SeatSetup}
+use Rattle.pgn_hub.specs.Passes.{opened_pass, opened_passes}
 use Rattle.pgn_words.specs.declared.pass.WordQueue.{WordQueue}
 use Rattle.pgn_words.specs.declared.pass.WordPass.{WordPass}
 use Rattle.pgn_model.specs.Shape.{Shape}
 use Rattle.pgn_words.specs.declared.view.View.{View}
-use Rattle.pgn_words.specs.Views.{opened, no_seat, seat_of}
+use Rattle.pgn_words.specs.Views.{no_seat, seat_of}
 use Rattle.pgn_words.specs.Told.{after_making, made_by}
-use Rattle.pgn_words.specs.Passes.{IsPassOf, IsFresh, shape_of, view_of, known_of, opened_from}
+use Rattle.pgn_words.specs.Passes.{IsPassOf, IsFresh, shape_of, view_of, known_of}
 
 -- one more seat
-pub opened_from-push : (n : ℕ) (seats : List SeatSetup) (seat : SeatSetup) → opened_from n (seats ++ seat ∷ []) ≡ opened_from n seats ++ opened (n + length seats) seat ∷ []
-opened_from-push n [] seat = let same : n ≡ n + 0 = omega arith in ap (λ k. opened k seat ∷ []) same
-opened_from-push n (s ∷ seats) seat =
+pub opened_passes-push : (n : ℕ) (seats : List SeatSetup) (seat : SeatSetup) → opened_passes n (seats ++ seat ∷ []) ≡ opened_passes n seats ++ opened_pass (n + length seats) seat ∷ []
+opened_passes-push n [] seat = let same : n ≡ n + 0 = omega arith in ap (λ k. opened_pass k seat ∷ []) same
+opened_passes-push n (s ∷ seats) seat =
     let same : n + 1 + length seats ≡ n + length (s ∷ seats) = omega arith in
-    ap (λ l. opened n s ∷ l) (opened_from-push (n + 1) seats seat) ∙ ap (λ k. opened n s ∷ (opened_from (n + 1) seats ++ opened k seat ∷ [])) same
+    ap (λ l. opened_pass n s ∷ l) (opened_passes-push (n + 1) seats seat) ∙ ap (λ k. opened_pass n s ∷ (opened_passes (n + 1) seats ++ opened_pass k seat ∷ [])) same
 
 -- so many passes are made: the first, and behind it the others
 pub record AreMade (queue : WordQueue) (first : WordPass) (passes : List WordPass) (k : ℕ) : Type 0 where
@@ -25,7 +26,7 @@ pub record AreMade (queue : WordQueue) (first : WordPass) (passes : List WordPas
   pub first_fresh : IsFresh first
   pub own : All (IsPassOf queue) passes
   pub fresh : All IsFresh passes
-  pub known : known_of first ∷ map known_of passes ≡ opened_from 1 (take k (shape_of queue).seats)
+  pub known : known_of first ∷ map known_of passes ≡ opened_passes 1 (take k (shape_of queue).seats)
 
 -- the first one has made one more
 pub next_made : (queue : WordQueue) (first now pass : WordPass) (passes : List WordPass) (k : ℕ) → AreMade queue first passes k → k < length (shape_of queue).seats
@@ -36,14 +37,13 @@ next_made queue first now pass passes k made within now_own now_is own is =
     let long : length (take k seats) ≡ k = let size = length-take k seats in omega (arith, size, within) in
     let index : k + 1 - 1 ≡ k = omega arith in
     let number : k + 1 ≡ 1 + length (take k seats) = omega (arith, long) in
-    let known : known_of pass ≡ opened (1 + length (take k seats)) (get_or seats k no_seat) =
+    let known : known_of pass ≡ opened_pass (1 + length (take k seats)) (get_or seats k no_seat) =
     ap (λ (v : View). v.known) is
-    ∙ ap (λ n. opened (n + 1) (seat_of (view_of first).setup (n + 1))) made.made
-    ∙ ap (λ (z : Shape). opened (k + 1) (seat_of z (k + 1))) setup
-    ∙ ap (λ n. opened (k + 1) (get_or seats n no_seat)) index
-    ∙ ap (λ n. opened n (get_or seats k no_seat)) number in
-    let next : k + 1 ≡ suc k = omega arith in
-    let more : take (k + 1) seats ≡ take k seats ++ get_or seats k no_seat ∷ [] = ap (λ n. take n seats) next ∙ take_more seats k within in record {
+    ∙ ap (λ n. opened_pass (n + 1) (seat_of (view_of first).setup (n + 1))) made.made
+    ∙ ap (λ (z : Shape). opened_pass (k + 1) (seat_of z (k + 1))) setup
+    ∙ ap (λ n. opened_pass (k + 1) (get_or seats n no_seat)) index
+    ∙ ap (λ n. opened_pass n (get_or seats k no_seat)) number in
+    let more : take (k + 1) seats ≡ take k seats ++ get_or seats k no_seat ∷ [] = take_more seats k no_seat within in record {
       first_own = now_own;
       made = ap (λ (v : View). v.made) now_is ∙ ap (λ n. n + 1) made.made;
       first_fresh = fresh_on first now (view_of first) now_is made.first_fresh;
@@ -51,11 +51,11 @@ next_made queue first now pass passes k made within now_own now_is own is =
       fresh = All-push IsFresh passes pass made.fresh (made_fresh (view_of first) pass is);
       known =
           ap (λ x. x ∷ map known_of (passes ++ pass ∷ [])) (ap (λ (v : View). v.known) now_is)
-          ∙ ap (λ l. known_of first ∷ l) (map_more passes pass)
+          ∙ ap (λ l. known_of first ∷ l) (map-append known_of passes (pass ∷ []))
           ∙ ap (λ l. l ++ known_of pass ∷ []) made.known
-          ∙ ap (λ x. opened_from 1 (take k seats) ++ x ∷ []) known
-          ∙ sym (opened_from-push 1 (take k seats) (get_or seats k no_seat))
-          ∙ ap (opened_from 1) (sym more);
+          ∙ ap (λ x. opened_passes 1 (take k seats) ++ x ∷ []) known
+          ∙ sym (opened_passes-push 1 (take k seats) (get_or seats k no_seat))
+          ∙ ap (opened_passes 1) (sym more);
     }
   where
     fresh_on : (first now : WordPass) (v : View) → view_of now ≡ after_making (view_of first) → IsFresh first → IsFresh now
@@ -75,12 +75,3 @@ next_made queue first now pass passes k made within now_own now_is own is =
       out = ap (λ (x : View). x.post.listen) is;
       alone = ap (λ (x : View). x.joined) is;
     }
-
-    take_more : (seats : List SeatSetup) (k : ℕ) → k < length seats → take (suc k) seats ≡ take k seats ++ get_or seats k no_seat ∷ []
-    take_more [] k within = absurd (omega (arith, within))
-    take_more (s ∷ seats) zero within = refl
-    take_more (s ∷ seats) (suc k) within = ap (λ l. s ∷ l) (take_more seats k (omega (arith, within)))
-
-    map_more : (passes : List WordPass) (pass : WordPass) → map known_of (passes ++ pass ∷ []) ≡ map known_of passes ++ known_of pass ∷ []
-    map_more [] pass = refl
-    map_more (p ∷ passes) pass = ap (λ l. known_of p ∷ l) (map_more passes pass)

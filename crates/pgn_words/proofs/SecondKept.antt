@@ -5,7 +5,6 @@ use mathlib.Core.Option.{some, none}
 use lib.ListN.{get_elem?}
 use native.Mathlib.Decide.{ℕ_discrete, dec_le}
 use Rattle.atomic_table.specs.Table.{Me, Allows, step}
-use Rattle.atomic_table.proofs.Lists.{set_again}
 use Rattle.pgn_base.specs.declared.format.Format.{Format}
 use Rattle.pgn_model.specs.declared.tx.Tx.{Tx}
 use Rattle.pgn_model.specs.Packing.{page_of, page_start}
@@ -23,7 +22,7 @@ use Rattle.pgn_words.specs.Words.{Content, row, room_of, seats_of, pos_at}
 use Rattle.pgn_words.specs.Views.{holds_lock, may_look}
 use Rattle.pgn_words.specs.Positions.{packed, mark_in, place_in, position_in, shown_as, place_or, met_at, is_placed}
 use Rattle.pgn_words.specs.Told.{IsSamePass}
-use Rattle.pgn_words.specs.Looking.{least_after, HasLeast, MayLookSecond, looked_second, second_looked, HasFloor, HasLookedSecond, TellsSecondLook, MayFree, stopped, TellsStopStore}
+use Rattle.pgn_words.specs.Looking.{least_after, HasLeast, MayLookSecond, looked_second, joins_at, second_looked, HasFloor, HasLookedSecond, TellsSecondLook, MayFree, stopped, TellsStopStore}
 use Rattle.pgn_words.specs.ListenRule.{IsPlaced, Placed, IsLeast, IsSecond, Spared}
 use Rattle.pgn_words.specs.Rule.{World, KnowsStop, HoldsIn, Holds, Law, Lawful, Keeps}
 use Rattle.pgn_words.proofs.EachLaws.{each_turn}
@@ -121,9 +120,13 @@ seconds z c g views id v seat words.Out h here held setup seen may is found =
     (let above = h.looks.above in omega (arith, above, target)) (omega (arith, below)) in
     record { world = record g { looked = seat + 1; target = min v.eye.target v.eye.target }; law = r.0; least = r.1; floor = r.2 }
 seconds z c g views id v seat words.Joining h here held setup seen may is found =
-    let second = in_second z c g views id v h here held may.second in record {
+    let second = in_second z c g views id v h here held may.second in
+    let w : View = joins_at seat v in
+    let looks : IsSecond g.looked g.target c.tail w.eye = record { looked_is = second.1.looked_is; target_is = second.1.target_is; tail_is = second.1.tail_is; begins = second.1.begins; floor = second.1.floor } in record {
       world = g;
-      law = subst (λ (us : List View). Law z c g us) (sym (set_again views id v here)) h;
+      law = gazes z c g views id v w.eye v.known.named v.known.advance c.tail g.looked g.target h here held h.posts.tail_placed
+          (subst (λ (k : Look). Rattle.pgn_words.specs.ListenRule.LookIn k z.format g.past c.fin g.looked g.target c.tail w.eye) (sym may.second) (second.0, looks))
+          (λ j u there spared. spared) h.looks.aims h.looks.above (h.named.named id v here);
       least = least_told z c g views v v.eye.least h setup seen second.0;
       floor = λ some_looked. let looked = second.1.looked_is in let target = second.1.target_is in let floor = second.1.floor (omega (arith, some_looked, looked)) in omega (arith, floor, target);
     }

@@ -191,7 +191,7 @@ begin_walk_allowed z slots id me positive free registered =
     })
 
 -- what the head shows has few transactions
-shown_few : (z : Shape) (c : Content) (g : World) (views : List View) (id : ℕ) (v : View) → IsShape z → Law z c g views → get_elem? views id ≡ some v → v.setup ≡ z → next_xid g.shown < 2 ^ 32
+pub shown_few : (z : Shape) (c : Content) (g : World) (views : List View) (id : ℕ) (v : View) → IsShape z → Law z c g views → get_elem? views id ≡ some v → v.setup ≡ z → next_xid g.shown < 2 ^ 32
 shown_few z c g views id v shape h here setup =
     let left = few_left z g.made g.past views id v h.budget here h.history.finished setup in
     let all : notes_of_seats v.setup.seats ≤ 65536 = let most = shape.few_notes in subst (λ (y : Shape). notes_of_seats y.seats ≤ 65536) (sym setup) most in

@@ -1,16 +1,18 @@
 -- What follows from the rule, for whoever reads, writes or waits.
-use Rattle.std.specs.Prelude.{◌≡◌, ◌≢◌, ℕ, ◌+◌, ◌%◌, ◌<◌, ◌≤◌, true, false, List, get_or, slice_get, Some}
+use Rattle.std.specs.Prelude.{◌≡◌, ◌≢◌, ℕ, ◌+◌, ◌%◌, ◌<◌, ◌≤◌, true, false, List, length, get_or, slice_get, Some}
 use mathlib.Core.Option.{some}
 use lib.ListN.{get_elem?}
+use Rattle.pgn_base.specs.declared.format.Format.TheVariants.{One}
 use Rattle.pgn_model.specs.Journal.{is_committed_in}
 use Rattle.pgn_model.specs.Near.{Near}
-use Rattle.pgn_model.specs.Packing.{page_of, image}
-use Rattle.pgn_model.specs.Shape.{Shape}
+use Rattle.pgn_model.specs.Packing.{page_of, place, image}
+use Rattle.pgn_model.specs.Shape.{Shape, IsShape}
 use Rattle.pgn_words.specs.declared.view.View.{View}
 use Rattle.pgn_words.specs.declared.view.Listen.TheVariants.{Registered}
 use Rattle.pgn_words.specs.declared.view.Phase.TheVariants.{Open}
 use Rattle.pgn_words.specs.declared.view.Stage.TheVariants.{Shown}
 use Rattle.pgn_words.specs.Words.{Content, room_of}
+use Rattle.pgn_words.specs.Views.{is_walking}
 use Rattle.pgn_words.specs.Positions.{is_placed}
 use Rattle.pgn_words.specs.WakeRule.{IsHeard}
 use Rattle.pgn_words.specs.Rule.{World, Law}
@@ -19,6 +21,18 @@ use Rattle.pgn_words.specs.Rule.{World, Law}
 abbrev pub WalksReadTheJournal : Type 0
 WalksReadTheJournal = (z : Shape) (c : Content) (g : World) (views : List View) (j : ℕ) (v : View) → Law z c g views → get_elem? views j ≡ some v → v.walk.stage ≡ Shown
     → (at x : ℕ) → v.post.at ≤ at → slice_get (image z.format v.walk.shown) at ≡ Some (Some x) → get_or c.cells (at % room_of z) 0 ≡ x
+
+-- up to the place of the number to which a walk goes a cell is that of the finished journal, and the pass knows that part of it
+abbrev pub WalksReadTheFinished : Type 0
+WalksReadTheFinished = (z : Shape) (c : Content) (g : World) (views : List View) (j : ℕ) (v : View) → Law z c g views → get_elem? views j ≡ some v → is_walking v.walk.stage ≡ true
+    → (at x : ℕ) → v.post.at ≤ at → at < place z.format g.past v.walk.upto → slice_get (image z.format g.past) at ≡ Some (Some x)
+    → (slice_get (image z.format v.known.seen) at ≡ Some (Some x)) × (get_or c.cells (at % room_of z) 0 ≡ x)
+
+-- where that place is before the loaded head, the number that a walk loads there is no less than the one to which it goes: it stands in
+-- the third cell of the entry or filler
+abbrev pub WalksEndInTime : Type 0
+WalksEndInTime = (z : Shape) (c : Content) (g : World) (views : List View) (j : ℕ) (v : View) → IsShape z → Law z c g views → get_elem? views j ≡ some v → z.format ≡ One → v.walk.stage ≡ Shown
+    → (at : ℕ) → at ≡ place z.format g.past v.walk.upto → at < length (image z.format v.walk.shown) → v.walk.upto ≤ get_or c.cells ((at + 2) % room_of z) 0
 
 -- where a writer may store a cell of a page, the page that lay there before is an earlier one than that of each position, and of each
 -- tail that a joiner has loaded

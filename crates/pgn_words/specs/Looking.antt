@@ -1,15 +1,15 @@
 -- The two looks of an advance of the tail: what each step makes of the pass, and what it tells.
-use Rattle.std.specs.Prelude.{◌≡◌, ◌⊎◌, ℕ, ◌+◌, ◌==◌, ◌^◌, ◌<◌, ◌≤◌, min, cond, [], ◌∷◌, ◌++◌, length, Some}
+use Rattle.std.specs.Prelude.{◌≡◌, ◌⊎◌, ℕ, ◌+◌, ◌==◌, ◌^◌, ◌<◌, ◌≤◌, min, cond, [], ◌∷◌, ◌++◌, length, Some, None}
 use Rattle.atomic_table.specs.Table.{Step}
 use Rattle.pgn_base.specs.declared.limits.TheConstants.{FIRST_XID}
 use Rattle.pgn_model.specs.Journal.{next_xid}
 use Rattle.pgn_model.specs.Packing.{page_of, image}
+use Rattle.pgn_hub.specs.Passes.{no_advance}
 use Rattle.pgn_words.specs.declared.pos_word.PosWord.{PosWord}
 use Rattle.pgn_words.specs.declared.pos_word.PosWord.TheVariants as words
 use Rattle.pgn_words.specs.declared.view.View.{View}
 use Rattle.pgn_words.specs.declared.view.Look.TheVariants.{First, Second}
 use Rattle.pgn_words.specs.Words.{seats_of, pos_at}
-use Rattle.pgn_words.specs.Views.{not_advanced}
 use Rattle.pgn_words.specs.Positions.{packed, mark_in, place_in, position_in, shown_as, marked, place_or, met_at, IsPlacedIn, IsPositionIn}
 use Rattle.pgn_words.specs.Told.{Mine, IsSamePass}
 
@@ -21,8 +21,8 @@ MayLookFirst v seat = (seat ≡ 0) ⊎ ((v.eye.look ≡ First) × (v.eye.looked 
 -- journal's end.
 abbrev pub look_begun : View → View
 look_begun v = record v {
-  eye = record { look = First; looked = 0; least = packed (next_xid v.known.seen) (length (image v.setup.format v.known.seen)); tail = 0; target = 0 };
-  known = record v.known { advance = not_advanced };
+  eye = record { look = First; looked = 0; least = packed (next_xid v.known.seen) (length (image v.setup.format v.known.seen)); tail = 0; target = 0; joins = None };
+  known = record v.known { advance = no_advance };
 }
 
 -- the least mark so far with its place, after a position
@@ -68,7 +68,7 @@ pub record TellsFirstLook (s : Step ℕ) (v : Mine) (n : ℕ) (w : Mine) : Type 
 -- the second look begins: from the announced tail's place on pages are needed
 abbrev pub second_begun : ℕ → View → View
 second_begun tail v = record v {
-  eye = record v.eye { look = Second; looked = 0; tail = tail; target = place_in tail };
+  eye = record v.eye { look = Second; looked = 0; tail = tail; target = place_in tail; joins = None };
   known = record v.known { advance = record v.known.advance { tail = Some (mark_in tail) } };
 }
 
@@ -102,17 +102,21 @@ pub record MayLookSecond (v : View) (seat : ℕ) : Type 0 where
 -- the second look has looked at a seat
 abbrev pub looked_second : ℕ → PosWord → View → View
 looked_second seat position v = record v {
-  eye = record v.eye { looked = seat + 1; least = least_after position v.eye.least; target = min (place_or v.eye.target position) v.eye.target };
+  eye = record v.eye { looked = seat + 1; least = least_after position v.eye.least; target = min (place_or v.eye.target position) v.eye.target; joins = None };
   known = record v.known {
     named = v.known.named ++ met_at seat position;
     advance = record v.known.advance { second = v.known.advance.second ++ marked position ∷ [] };
   };
 }
 
+-- the second look has found a session that joins at a seat
+abbrev pub joins_at : ℕ → View → View
+joins_at seat v = record v { eye = record v.eye { joins = Some seat } }
+
 -- a session that joins may still come to a place before the target, so its seat does not count as looked at
 abbrev pub second_looked : ℕ → PosWord → View → View
 second_looked seat words.Out v = looked_second seat words.Out v
-second_looked seat words.Joining v = v
+second_looked seat words.Joining v = joins_at seat v
 second_looked seat (words.At mark at) v = looked_second seat (words.At mark at) v
 
 -- the floor is no later than the first place that is needed, once a seat was looked at

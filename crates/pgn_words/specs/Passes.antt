@@ -1,7 +1,6 @@
 -- A queue and its passes, as callers see them.
-use Rattle.std.specs.Prelude.{◌≡◌, ℕ, ◌+◌, true, List, [], ◌∷◌, length, ◌<◌, ◌≤◌, None}
+use Rattle.std.specs.Prelude.{◌≡◌, true, [], length, ◌<◌, ◌≤◌, None}
 use Rattle.pgn_model.specs.declared.known.Known.{Known}
-use Rattle.pgn_model.specs.declared.setup.SeatSetup.{SeatSetup}
 use Rattle.pgn_model.specs.Shape.{Shape}
 use Rattle.pgn_words.specs.declared.view.View.{View}
 use Rattle.pgn_words.specs.declared.pass.WordQueue.{WordQueue}
@@ -9,7 +8,7 @@ use Rattle.pgn_words.specs.declared.pass.WordPass.{WordPass}
 use Rattle.pgn_words.specs.declared.pass.WordNote.{WordNote}
 use Rattle.pgn_words.specs.declared.view.Phase.TheVariants.{Free}
 use Rattle.pgn_words.specs.declared.view.Listen.TheVariants.{Out}
-use Rattle.pgn_words.specs.Views.{opened, is_settled}
+use Rattle.pgn_words.specs.Views.{is_settled}
 use Rattle.pgn_words.specs.Positions.{listens_at}
 
 -- what the queue was opened for
@@ -31,11 +30,6 @@ pub record IsPassOf (queue : WordQueue) (pass : WordPass) : Type 0 where
   pub setup : pass.seat.me.0.setup ≡ queue.table.shared.key
   pub number : 0 < pass.seat.me.0.known.session
   pub within : pass.seat.me.0.known.session ≤ length queue.table.shared.key.seats
-
--- what is known of the passes of seats as they are opened, of which the first is that of session n
-abbrev pub opened_from : ℕ → List SeatSetup → List Known
-opened_from n [] = []
-opened_from n (seat ∷ seats) = opened n seat ∷ opened_from (n + 1) seats
 
 -- what the rule sees of a note
 abbrev pub noted_view : WordNote → View

@@ -12,11 +12,12 @@ use Rattle.pgn_model.specs.Packing.{page_of, page_start, image}
 use Rattle.pgn_model.specs.Pieces.{draft}
 use Rattle.pgn_model.specs.Shape.{notes_of_seats}
 use Rattle.pgn_layout.specs.Batches.{padded_to}
+use Rattle.pgn_hub.specs.Passes.{opened_pass}
 use Rattle.pgn_words.specs.declared.view.View.{View}
 use Rattle.pgn_words.specs.declared.view.Phase.TheVariants.{Free, Held, Headed, Ready, Open, Finished, Signalling}
 use Rattle.pgn_words.specs.declared.view.Look.TheVariants.{Idle, Second}
 use Rattle.pgn_words.specs.Words.{seats_of, room_of, cells_at, statuses_at}
-use Rattle.pgn_words.specs.Views.{stored_by, opened_view, holds_lock, opened, no_seat, no_pen, no_setup, no_post, no_walk, no_eye}
+use Rattle.pgn_words.specs.Views.{stored_by, opened_view, holds_lock, no_seat, no_setup}
 
 -- A seat at the table of words: what the rule sees of it, and the slots that it holds, of which there are none.
 abbrev pub Mine : Type 0
@@ -208,24 +209,11 @@ pub record TellsStatus (s : Step ℕ) (v : Mine) (n : ℕ) (w : Mine) : Type 0 w
 
 -- of a note that was joined, or of a pass that another has taken in, nothing is known
 abbrev pub spent_view : View
-spent_view = record {
-  known = opened 0 no_seat;
-  setup = no_setup;
-  made = 0;
-  joined = [];
-  phase = Free;
-  ended = None;
-  stop = 0;
-  pen = no_pen;
-  post = no_post;
-  walk = no_walk;
-  eye = no_eye;
-  undecided = [];
-}
+spent_view = record (opened_view no_setup 0) { known = opened_pass 0 no_seat }
 
 -- of a note nothing is known but what is in it
 abbrev pub noted : View → View
-noted v = record spent_view { known = record (opened 0 no_seat) { seen = v.known.seen; told = v.known.told } }
+noted v = record spent_view { known = record (opened_pass 0 no_seat) { seen = v.known.seen; told = v.known.told } }
 
 -- the first list, and then what the second has beyond its length
 abbrev pub longer : List Tx → List Tx → List Tx

@@ -6,10 +6,9 @@ use Rattle.pgn_model.specs.declared.tx.Tx.{Tx}
 use Rattle.pgn_model.specs.declared.tx.Fate.{Fate}
 use Rattle.pgn_model.specs.declared.tx.Fate.TheVariants.{Committed}
 use Rattle.pgn_model.specs.declared.setup.SeatSetup.{SeatSetup}
-use Rattle.pgn_model.specs.declared.known.Known.{Known}
-use Rattle.pgn_model.specs.declared.known.Advance.{Advance}
 use Rattle.pgn_model.specs.Shape.{Shape}
 use Rattle.pgn_layout.specs.Status.{status_code}
+use Rattle.pgn_hub.specs.Passes.{opened_pass}
 use Rattle.pgn_words.specs.declared.view.View.{View}
 use Rattle.pgn_words.specs.declared.view.Pen.{Pen}
 use Rattle.pgn_words.specs.declared.view.Phase.{Phase}
@@ -136,37 +135,12 @@ no_walk = record { stage = Still; upto = FIRST_XID; shown = [] }
 
 -- nothing is looked at
 abbrev pub no_eye : Eye
-no_eye = record { look = Idle; looked = 0; least = 0; tail = 0; target = 0 }
-
--- nothing is loaded
-abbrev pub not_advanced : Advance
-not_advanced = record { first = []; second = []; tail = None }
-
--- what is known of a session's pass as it is opened: the journal is empty, and the session is no listener
-abbrev pub opened : ℕ → SeatSetup → Known
-opened session seat = record {
-  session = session;
-  db = seat.db;
-  seen = [];
-  own = [];
-  marks = [];
-  mark = None;
-  told = FIRST_XID;
-  notes_left = seat.notes;
-  owes = false;
-  raised = [];
-  found = [];
-  named = [];
-  looks = 0;
-  flag_look = None;
-  advance = not_advanced;
-  wake_look = None;
-}
+no_eye = record { look = Idle; looked = 0; least = 0; tail = 0; target = 0; joins = None }
 
 -- the pass of a session as it is opened
 abbrev pub opened_view : Shape → ℕ → View
 opened_view z session = record {
-  known = opened session (seat_of z session);
+  known = opened_pass session (seat_of z session);
   setup = z;
   made = 0;
   joined = [];

@@ -8,14 +8,9 @@ ghost use Rattle.pgn_words.specs.declared.view.Phase.TheVariants as phases;
 
 use crate::pass::{WordPass, WordQueue};
 use crate::plays::{LoadCell, LoadHead, LoadStop, StoreCell, StoreHead};
+use crate::words::{HEAD, STOP};
 use pgn_base::{CELL_BYTES, PAGE_BYTES};
 use pgn_layout::Pos;
-
-/// The word that holds the place after the last written cell.
-const HEAD: usize = 1;
-
-/// The word that holds the oldest kept page.
-const STOP: usize = 4;
 
 /// The cells of a page.
 const PAGE_CELLS: u64 = PAGE_BYTES as u64 / CELL_BYTES as u64;
@@ -31,7 +26,7 @@ impl WordQueue {
 
     /// The place after the last written cell, behind the whole journal. The holder knows it from then on.
     ///
-    /// A writer calls it first of all under the lock.
+    /// - *phase*: a hub's `publish` and `usage` call it first of all under the lock.
     pub fn load_head(&self, pass: &mut WordPass) -> Pos
         requires own { IsPassOf self.now pass.old }
         requires phase { (view_of pass.old).phase ≡ phases.Held }
@@ -45,7 +40,7 @@ impl WordQueue {
 
     /// The oldest kept page. The holder knows it from then on.
     ///
-    /// A writer calls it next after `load_head`.
+    /// - *phase*: they call it next after `load_head`.
     pub fn load_stop(&self, pass: &mut WordPass) -> u64
         requires own { IsPassOf self.now pass.old }
         requires phase { (view_of pass.old).phase ≡ phases.Headed }
@@ -58,8 +53,10 @@ impl WordQueue {
 
     /// Stores the next cell past the head. It is seen by nobody until the head moves past it.
     ///
-    /// A writer goes from the head that it knows cell by cell, and begins a batch only where the head's page is less than the limit
-    /// past the oldest kept one; a batch stays on its page.
+    /// - *phase*: a writer stores cells after `draw_xid` and before `set_status`.
+    /// - *next*: it goes from the head that it knows cell by cell.
+    /// - *page*: it begins a batch only where the head's page is less than the limit past the oldest kept one, and a batch stays on its
+    ///   page.
     pub fn store_cell(&self, pass: &mut WordPass, at: Pos, value: u32)
         requires own { IsPassOf self.now pass.old }
         requires phase { (view_of pass.old).phase ≡ phases.Open }
@@ -76,7 +73,7 @@ impl WordQueue {
 
     /// A cell that the holder has stored, or that the head showed when the holder loaded it.
     ///
-    /// The holder has loaded the oldest kept page, and has not set its transaction's status.
+    /// - *phase*: a holder asks once it has loaded the oldest kept page, and before it sets its transaction's status.
     pub fn load_cell(&self, pass: &mut WordPass, at: Pos) -> u32
         requires own { IsPassOf self.now pass.old }
         requires phase { knows_cells (view_of pass.old).phase ≡ true }
@@ -90,7 +87,8 @@ impl WordQueue {
 
     /// Moves the head up to a place, so that all cells before it are seen.
     ///
-    /// A writer that has stored a planned batch shows by it that the cells are the image of the journal and its draft.
+    /// - *phase*: a writer calls it after each batch, before `set_status`.
+    /// - *shows*: it has stored a planned batch; by the laws of `pgn_layout` the cells are then the image of the journal and its draft.
     pub fn store_head(&self, pass: &mut WordPass, to: Pos)
         requires own { IsPassOf self.now pass.old }
         requires phase { (view_of pass.old).phase ≡ phases.Open }

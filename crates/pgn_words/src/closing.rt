@@ -8,11 +8,9 @@ ghost use Rattle.pgn_words.specs.declared.view.Phase.TheVariants as phases;
 
 use crate::pass::{WordPass, WordQueue};
 use crate::plays::JoinPass;
+use crate::words::FIN;
 use pgn_base::FIRST_XID;
 use pgn_model::Roll;
-
-/// The word that holds the first unfinished transaction number.
-const FIN: usize = 2;
 
 impl WordQueue {
     // Takes another pass in, which is no listener.
@@ -57,7 +55,8 @@ impl WordQueue {
 
     /// Ends the queue with all of its passes, in order: how many transactions its journal has.
     ///
-    /// A hub's caller hands in all passes of the hub. Between its calls each is at rest.
+    /// - *own*, *all*: a hub's `gather` asks its own caller for all passes of the hub, in order.
+    /// - *rest*: between a hub's calls each pass is at rest.
     pub fn close(self, mut passes: Vec<WordPass>) -> Roll
         requires own { All (IsPassOf self) passes.items }
         requires rest { All (λ pass. IsAtRest (view_of pass)) passes.items }

@@ -1,4 +1,4 @@
-ghost use Rattle.std.specs.Prelude.{◌≡◌, ◌+◌, ◌<◌, ◌≤◌};
+ghost use Rattle.std.specs.Prelude.{◌≡◌, ◌+◌, ◌<◌};
 ghost use Rattle.pgn_words.specs.Words.{flags_at as first_flag, word_count};
 ghost use Rattle.pgn_words.specs.Passes.{IsPassOf, view_of, known_of, shape_of};
 ghost use Rattle.pgn_words.specs.Waking.{raised, HasLooked};
@@ -20,7 +20,7 @@ impl WordQueue {
 
     /// Raises a flag with what the pass was told, and answers it. The flag keeps the greatest number.
     ///
-    /// That there is such a flag is asked of a hub's caller, here and in `look_flag`.
+    /// - *flag*: a hub's `raise` asks its own caller for one of the flags that there are.
     pub fn raise_flag(&self, pass: &mut WordPass, flag: u32) -> Xid
         requires own { IsPassOf self.now pass.old }
         requires flag { flag < (shape_of self.now).flags }
@@ -37,6 +37,8 @@ impl WordQueue {
     }
 
     /// The greatest number that a flag was raised with, if it was raised. The pass is told of it.
+    ///
+    /// - *flag*: a hub's `look` asks its own caller for one of the flags that there are.
     pub fn look_flag(&self, pass: &mut WordPass, flag: u32) -> Option<Xid>
         requires own { IsPassOf self.now pass.old }
         requires flag { flag < (shape_of self.now).flags }

@@ -1,9 +1,12 @@
-ghost use Rattle.pgn_words.specs.Laws.{WalksReadTheJournal, PagesAreSpared, NoWakeIsLost, FlagsAreHeard, ToldIsHeard};
+ghost use Rattle.pgn_words.specs.Laws.{WalksReadTheJournal, WalksReadTheFinished, WalksEndInTime, PagesAreSpared, NoWakeIsLost, FlagsAreHeard, ToldIsHeard};
 
 /// What follows from the rule.
 pub fn rule()
     // A cell that a walk loads is that of the journal, whatever was stored since the head was loaded.
     ensures walks { WalksReadTheJournal }
+    // Up to where its way ends it is that of the finished journal, and the number that stands there is no less than where it goes.
+    ensures finished { WalksReadTheFinished }
+    ensures ends { WalksEndInTime }
     // A page is used again only once each position, and each tail that a joiner has loaded, is on a later one.
     ensures pages { PagesAreSpared }
     // Who is not woken and owes no read need not read.

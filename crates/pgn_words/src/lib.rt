@@ -19,7 +19,8 @@
 //!     let head = queue.show_head(pass);
 //!     let cell = queue.load_shown(pass, at);
 //!
-//! Nobody waits in a step, and only `open` takes memory.
+//! Each call asks for a pass of the queue (*own*): a hub has those that `open` has made, and every call keeps this. What a call asks for
+//! besides stands in its comment, with who meets it. Nobody waits in a step, and only `open` takes memory.
 #![tactic(auto)]
 
 mod cells;
@@ -41,6 +42,7 @@ mod statuses;
 mod view;
 mod wakes;
 mod walks;
+mod words;
 
 pub use lock::Held;
 pub use pass::{WordNote, WordPass, WordQueue};

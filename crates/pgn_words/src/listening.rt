@@ -1,6 +1,6 @@
-ghost use Rattle.std.specs.Prelude.{◌≡◌, ◌+◌, ◌^◌, ◌<◌, ◌≤◌};
+ghost use Rattle.std.specs.Prelude.{◌≡◌, ◌+◌, ◌^◌, ◌<◌};
 ghost use Rattle.pgn_model.specs.Packing.{place};
-ghost use Rattle.pgn_words.specs.Words.{seats_of, pos_at, word_count};
+ghost use Rattle.pgn_words.specs.Words.{pos_at};
 ghost use Rattle.pgn_words.specs.Passes.{IsPassOf, view_of, known_of, shape_of};
 ghost use Rattle.pgn_words.specs.Listening.{joining, HasBase, registered, forwarded, left};
 ghost use Rattle.pgn_words.specs.declared.view.Listen.TheVariants as listens;
@@ -9,15 +9,10 @@ ghost use Rattle.pgn_words.specs.declared.view.Stage.TheVariants as stages;
 
 use crate::pass::{WordPass, WordQueue};
 use crate::plays::{LoadBase, MarkJoining, StoreForward, StoreOut, StoreValid};
-use crate::pos_word::{PosWord, parts_of, word_of};
+use crate::pos_word::{parts_of, word_of};
+use crate::words::{POSITIONS, TAIL};
 use pgn_base::{SessionNo, Xid};
 use pgn_layout::Pos;
-
-/// The word that holds the announced tail.
-const TAIL: usize = 3;
-
-/// Where the positions begin.
-pub(crate) const POSITIONS: usize = 6;
 
 impl WordQueue {
     // The word of a session's own position.
@@ -29,7 +24,8 @@ impl WordQueue {
 
     /// Says that the session joins, so that nobody reclaims what it may still load.
     ///
-    /// A hub's caller asks for it where the session is no listener.
+    /// - *phase*: a hub's pass is free where `enlist` is called.
+    /// - *out*: `enlist` asks its own caller for a session that is no listener.
     pub fn mark_joining(&self, pass: &mut WordPass)
         requires own { IsPassOf self.now pass.old }
         requires phase { (view_of pass.old).phase ≡ phases.Free }
@@ -45,7 +41,7 @@ impl WordQueue {
 
     /// The announced tail, a mark and its place. It is the session's base from then on.
     ///
-    /// A hub calls it next after `mark_joining`.
+    /// - *joining*: a hub's `enlist` calls it next after `mark_joining`.
     pub fn load_base(&self, pass: &mut WordPass) -> (Xid, Pos)
         requires own { IsPassOf self.now pass.old }
         requires joining { (view_of pass.old).post.listen ≡ listens.Joining }
@@ -62,7 +58,8 @@ impl WordQueue {
 
     /// Registers the session with its base. It owes a read.
     ///
-    /// A hub calls it next after `load_base`.
+    /// - *based*: a hub's `enlist` calls it next after `load_base`.
+    /// - *low*: `load_base` tells it.
     pub fn store_valid(&self, pass: &mut WordPass)
         requires own { IsPassOf self.now pass.old }
         requires based { (view_of pass.old).post.listen ≡ listens.Based }
@@ -81,10 +78,12 @@ impl WordQueue {
 
     /// Moves a listener on to the mark that it went to, at the place to which its walk came.
     ///
-    /// A hub's walk goes from entry to entry until the number of one is not below that mark, or to the loaded head.
+    /// - *shown*: a hub's `scan` and `enlist` call it after `show_head`.
+    /// - *mark*: it is what `begin_walk` has answered.
+    /// - *place*: their walk goes from entry to entry until the number of one is not below that mark, or to the loaded head.
+    /// - *low*: it is no later than the loaded head, of which `show_head` tells it.
     pub fn store_forward(&self, pass: &mut WordPass, mark: Xid, pos: Pos)
         requires own { IsPassOf self.now pass.old }
-        requires phase { (view_of pass.old).phase ≡ phases.Free }
         requires shown { (view_of pass.old).walk.stage ≡ stages.Shown }
         requires mark { mark ≡ (view_of pass.old).walk.upto }
         requires place { pos ≡ place (shape_of self.now).format (known_of pass.old).seen mark }
@@ -105,10 +104,9 @@ impl WordQueue {
 
     /// Makes a listener none.
     ///
-    /// A hub's caller asks for it where the session is a listener.
+    /// - *listens*: a hub's `leave` asks its own caller for a listener; `close` calls it where the pass has a mark.
     pub fn store_out(&self, pass: &mut WordPass)
         requires own { IsPassOf self.now pass.old }
-        requires phase { (view_of pass.old).phase ≡ phases.Free }
         requires listens { (view_of pass.old).post.listen ≡ listens.Registered }
         ensures own { IsPassOf self.now pass.new }
         ensures view { view_of pass.new ≡ left (view_of pass.old) }

@@ -1,4 +1,4 @@
-ghost use Rattle.std.specs.Prelude.{◌≡◌, ◌≢◌, ◌≤◌, ◌<◌, true, false, All, IfOk, IfErr, OnOk, OnErr};
+ghost use Rattle.std.specs.Prelude.{◌≡◌, true, false, All, IfErr, OnOk, OnErr};
 ghost use Rattle.pgn_words.specs.Passes.{IsPassOf, view_of};
 ghost use Rattle.pgn_words.specs.Views.{may_drop};
 ghost use Rattle.pgn_words.specs.Told.{HasLocked, IsLocked, freed};
@@ -6,10 +6,8 @@ ghost use Rattle.pgn_words.specs.declared.view.Phase.TheVariants as phases;
 
 use crate::pass::{WordPass, WordQueue};
 use crate::plays::{DropLock, TryLock};
+use crate::words::LOCK;
 use pgn_base::SessionNo;
-
-/// The word that holds 0, or the number of the session that has the lock.
-const LOCK: usize = 0;
 
 /// Another session holds the lock.
 #[derive(Clone, Copy, Debug, PartialEq, Eq)]
@@ -20,7 +18,7 @@ pub struct Held {
 impl WordQueue {
     /// Takes the lock, if nobody holds it. The holder knows the whole journal.
     ///
-    /// A hub's pass is free between the hub's calls, and a call that takes the lock gives it up.
+    /// - *phase*: a hub's pass is free between the hub's calls, and a call that takes the lock gives it up.
     pub fn try_lock(&self, pass: &mut WordPass) -> Result<(), Held>
         requires own { IsPassOf self.now pass.old }
         requires phase { (view_of pass.old).phase ≡ phases.Free }
@@ -45,7 +43,8 @@ impl WordQueue {
 
     /// Gives the lock up, with no transaction open. Where it has finished one, it is told of it.
     ///
-    /// A hub calls it at the end of what it does under the lock: before it draws a number, or once it has set the wakes.
+    /// - *phase*: a hub's `publish` and `usage` call it last, with no number drawn, or once the transaction is finished.
+    /// - *decided*: by then `publish` has looked at each seat, and has set the wakes that are needed.
     pub fn drop_lock(&self, pass: &mut WordPass)
         requires own { IsPassOf self.now pass.old }
         requires phase { may_drop (view_of pass.old).phase ≡ true }

@@ -1,4 +1,4 @@
-ghost use Rattle.std.specs.Prelude.{◌≡◌, ◌+◌, ◌^◌, ◌<◌, ◌≤◌, true, length};
+ghost use Rattle.std.specs.Prelude.{◌≡◌, ◌+◌, ◌^◌, ◌<◌, true, length};
 ghost use Rattle.pgn_words.specs.Words.{seats_of, pos_at, word_count};
 ghost use Rattle.pgn_words.specs.Views.{may_look};
 ghost use Rattle.pgn_words.specs.Passes.{IsPassOf, view_of, known_of, shape_of};
@@ -6,18 +6,12 @@ ghost use Rattle.pgn_words.specs.Positions.{packed, IsPlacedIn};
 ghost use Rattle.pgn_words.specs.Looking.{MayLookFirst, HasLookedFirst, second_begun, MayAnnounce, announced, MayLookSecond, HasLookedSecond, MayFree, stopped};
 ghost use Rattle.pgn_words.specs.declared.view.Look.TheVariants as looks;
 
-use crate::listening::POSITIONS;
 use crate::pass::{WordPass, WordQueue};
 use crate::plays::{FirstLook, LoadTail, SecondLook, StoreStop, StoreTail};
 use crate::pos_word::{PosWord, parts_of, position_of, word_of};
+use crate::words::{POSITIONS, STOP, TAIL};
 use pgn_base::Xid;
 use pgn_layout::Pos;
-
-/// The word that holds the announced tail.
-const TAIL: usize = 3;
-
-/// The word that holds the oldest kept page.
-const STOP: usize = 4;
 
 impl WordQueue {
     // The word of a seat's position. Seats count from 0.
@@ -31,7 +25,8 @@ impl WordQueue {
 
     /// The position of a seat, in the first look of an advance, which goes from seat to seat from 0 on.
     ///
-    /// A hub begins an advance before it draws a number, as its batches find no page, and after it has set its wakes.
+    /// - *phase*: a hub advances the tail before it draws a number, where its batches find no page, or after it has set its wakes.
+    /// - *seat*, *next*: it goes from seat to seat, from 0 on.
     pub fn first_look(&self, pass: &mut WordPass, seat: u32) -> PosWord
         requires own { IsPassOf self.now pass.old }
         requires phase { may_look (view_of pass.old).phase ≡ true }
@@ -46,7 +41,8 @@ impl WordQueue {
 
     /// The announced tail, with which the second look begins.
     ///
-    /// A hub calls it once the first look has looked at each seat.
+    /// - *phase*: it is the phase in which the first look was made.
+    /// - *look*, *all*: a hub calls it once the first look has looked at each seat.
     pub fn load_tail(&self, pass: &mut WordPass) -> (Xid, Pos)
         requires own { IsPassOf self.now pass.old }
         requires phase { may_look (view_of pass.old).phase ≡ true }
@@ -63,7 +59,10 @@ impl WordQueue {
 
     /// Announces the least mark of the first look, and its place, as the tail.
     ///
-    /// A hub calls it next after `load_tail`, where the loaded mark is less.
+    /// - *phase*: it is the phase in which the first look was made.
+    /// - *least*: a hub keeps the least mark and its place as it looks, and calls it next after `load_tail`, where the loaded mark is
+    ///   less.
+    /// - *low*: the place is no later than the head, of which `load_head` tells it.
     pub fn store_tail(&self, pass: &mut WordPass, mark: Xid, pos: Pos)
         requires own { IsPassOf self.now pass.old }
         requires phase { may_look (view_of pass.old).phase ≡ true }
@@ -79,7 +78,9 @@ impl WordQueue {
 
     /// The position of a seat, in the second look of an advance. A seat whose session joins does not count as looked at.
     ///
-    /// A hub goes from seat to seat, from 0 on, once the tail has come to the least mark; it looks at a joiner again, or gives up.
+    /// - *phase*: it is the phase in which the first look was made.
+    /// - *seat*, *next*: a hub goes from seat to seat, from 0 on, once the tail has come to the least mark. It looks at a joiner again,
+    ///   or gives up.
     pub fn second_look(&self, pass: &mut WordPass, seat: u32) -> PosWord
         requires own { IsPassOf self.now pass.old }
         requires phase { may_look (view_of pass.old).phase ≡ true }
@@ -94,8 +95,9 @@ impl WordQueue {
 
     /// Lets the pages before this one be used again.
     ///
-    /// A hub calls it once the second look has looked at each seat, with the page of the first place that is needed, where that is
-    /// later than the oldest kept page.
+    /// - *phase*: it is the phase in which the looks were made.
+    /// - *free*: a hub calls it once the second look has looked at each seat, with the page of the first place that is needed, where
+    ///   that is later than the oldest kept page.
     pub fn store_stop(&self, pass: &mut WordPass, page: u64)
         requires own { IsPassOf self.now pass.old }
         requires phase { may_look (view_of pass.old).phase ≡ true }

@@ -33,7 +33,7 @@ impl WordQueue {
 
     /// The pass learns what is in the note. A holder of the lock knows the journal already.
     ///
-    /// The note is of this queue: its hub has it of one of its own passes.
+    /// - *note*: a hub's `meet` has the note of another one of the hub's passes.
     pub fn join(&self, pass: &mut WordPass, note: WordNote)
         requires own { IsPassOf self.now pass.old }
         requires note { IsNoteOf self.now note }

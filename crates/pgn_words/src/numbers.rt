@@ -8,22 +8,22 @@ ghost use Rattle.pgn_words.specs.declared.view.Phase.TheVariants as phases;
 
 use crate::pass::{WordPass, WordQueue};
 use crate::plays::{DrawXid, Given};
-use pgn_base::{Note, Xid, are_notes};
+use crate::words::XID;
+use pgn_base::{Note, Xid};
 use std::marker::Brand;
-
-/// The word that holds the next transaction number.
-const XID: usize = 5;
 
 impl WordQueue {
     /// Draws the number of a transaction of these notifications, which have no repeats. They are taken from those that the session may
     /// still send.
     ///
-    /// The caller has loaded the head and then the oldest kept page. That the notifications are some, different and no more than the
-    /// session may still send is asked of its own caller.
+    /// - *phase*: a writer calls it next after `load_stop`.
+    /// - *some*, *different*, *few*: a hub's `publish` asks its own caller for the same.
+    /// - *valid*: `are_notes` says so, which `publish` calls before it takes the lock.
     pub fn draw_xid(&self, pass: &mut WordPass, notes: &[Note]) -> Xid
         requires own { IsPassOf self.now pass.old }
         requires phase { (view_of pass.old).phase ≡ phases.Ready }
         requires some { notes.now ≢ [] }
+        requires valid { All IsNote notes.now }
         requires different { AllPairs (λ a b. a ≢ b) notes.now }
         requires few { length notes.now ≤ (known_of pass.old).notes_left }
         ensures own { IsPassOf self.now pass.new }
@@ -31,7 +31,6 @@ impl WordQueue {
         ensures number { result ≡ next_xid (known_of pass.old).seen }
         ensures reach { length (known_of pass.old).seen < notes_of_seats (shape_of self.now).seats }
     {
-        are_notes(notes);
         self.draw_as::<Brand>(pass, notes)
     }
 

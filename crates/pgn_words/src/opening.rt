@@ -1,34 +1,20 @@
-ghost use Rattle.std.specs.Prelude.{◌≡◌, ℕ, None, ◌+◌, ◌<◌, ◌≤◌, map, length, All, IfOk, vec_len};
+ghost use Rattle.std.specs.Prelude.{◌≡◌, ◌+◌, ◌<◌, ◌≤◌, map, length, All, IfOk};
 ghost use Rattle.pgn_base.specs.declared.limits.TheConstants.{NOTE_LINES_MAX};
 ghost use Rattle.pgn_model.specs.Shape.{notes_of_seats};
+ghost use Rattle.pgn_hub.specs.Passes.{opened_passes};
 ghost use Rattle.pgn_words.specs.Words.{cells_at, statuses_at, status_words, row, first_content};
 ghost use Rattle.pgn_words.specs.Views.{seat_of, first_view};
-ghost use Rattle.pgn_words.specs.Passes.{IsPassOf, IsFresh, shape_of, view_of, known_of, opened_from};
+ghost use Rattle.pgn_words.specs.Passes.{IsPassOf, IsFresh, shape_of, view_of, known_of};
 ghost use Rattle.pgn_words.specs.Told.{after_making, made_by};
 
 use crate::pass::{WordPass, WordQueue};
 use crate::plays::MakePass;
+use crate::words::{FIN, POSITIONS, STATUSES_A_WORD, TAIL, XID};
 use atomic_table::Table;
 use pgn_base::{CELL_BYTES, FIRST_XID, PAGE_BYTES, SessionNo, Xid};
 use pgn_layout::Pos;
 use pgn_model::{SeatSetup, Setup};
 use std::alloc::{AllocError, Global};
-
-/// The words of which there is one each: the lock, the head, the first unfinished number, the tail, the oldest kept page and the next
-/// number.
-const SINGLE_WORDS: usize = 6;
-
-/// The word that holds the first unfinished transaction number.
-const FIN: usize = 2;
-
-/// The word that holds the announced tail: a mark, and below it the place in 32 bits.
-const TAIL: usize = 3;
-
-/// The word that holds the next transaction number.
-const XID: usize = 5;
-
-/// The statuses of so many transactions stand in one word.
-const STATUSES_A_WORD: usize = 32;
 
 // How many notifications all sessions may send.
 fn notes_of_all(seats: &[SeatSetup]) -> usize
@@ -48,7 +34,7 @@ fn first_status_word(setup: &Setup) -> usize
 {
     let flags = setup.flags() as usize;
     let seats = setup.seats();
-    SINGLE_WORDS + seats.len() + seats.len() + flags
+    POSITIONS + seats.len() + seats.len() + flags
 }
 
 // How many status words there are.
@@ -82,7 +68,7 @@ impl WordQueue {
     {
         let pages = u64::from(setup.pages());
         let seat_count = setup.seats().len();
-        let wakes_at = SINGLE_WORDS + seat_count;
+        let wakes_at = POSITIONS + seat_count;
         let flags_at = wakes_at + seat_count;
         let statuses_at = first_status_word(setup);
         let cells_at = statuses_at + status_word_count(setup);
@@ -145,7 +131,7 @@ impl WordQueue {
     /// The words of an empty queue, and a pass for each seat, in order. The error is that memory did not suffice.
     pub fn open(alloc: Global, setup: &Setup) -> Result<(WordQueue, Vec<WordPass>), AllocError>
         ensures shape { IfOk result (λ opened. shape_of opened.0 ≡ setup.now) }
-        ensures passes { IfOk result (λ opened. map known_of opened.1.items ≡ opened_from 1 setup.now.seats) }
+        ensures passes { IfOk result (λ opened. map known_of opened.1.items ≡ opened_passes 1 setup.now.seats) }
         ensures own { IfOk result (λ opened. All (IsPassOf opened.0) opened.1.items) }
         ensures free { IfOk result (λ opened. All IsFresh opened.1.items) }
     {

@@ -12,16 +12,11 @@ ghost use Rattle.pgn_words.specs.declared.view.Phase.TheVariants as phases;
 
 use crate::pass::{WordPass, WordQueue};
 use crate::plays::{Ending, LoadFin, LoadStatus, SetStatus, StoreFin};
+use crate::words::{FIN, STATUSES_A_WORD};
 use pgn_base::{FIRST_XID, Xid};
 use pgn_layout::{status_bits, status_of};
 use pgn_model::Fate;
 use std::marker::Brand;
-
-/// The word that holds the first unfinished transaction number.
-const FIN: usize = 2;
-
-/// The statuses of so many transactions stand in one word.
-const STATUSES_A_WORD: usize = 32;
 
 impl WordQueue {
     // The word of a status, where the notifications that may be sent reach so far.
@@ -35,8 +30,10 @@ impl WordQueue {
 
     /// Sets the status of the transaction, of whose notifications so many were queued.
     ///
-    /// A writer has shown all that it stored, and what the head shows is the journal and the transaction as it ends: a fact of how it
-    /// went from batch to batch. Its number is in reach, as `draw_xid` says.
+    /// - *phase*: a writer calls it once, after its last batch.
+    /// - *number*, *reach*: it has the number from `draw_xid`, which tells both.
+    /// - *ends*: it has shown all that it stored, and what the head shows is the journal and the transaction as it ends: a fact of how
+    ///   it went from batch to batch. It aborts only after an advance that found no page.
     pub fn set_status(&self, pass: &mut WordPass, xid: Xid, fate: Fate, queued: u32)
         requires own { IsPassOf self.now pass.old }
         requires phase { (view_of pass.old).phase ≡ phases.Open }
@@ -68,7 +65,8 @@ impl WordQueue {
 
     /// Makes the transaction one of the journal.
     ///
-    /// A writer calls it next after `set_status`, with the number that it has drawn.
+    /// - *phase*: a writer calls it next after `set_status`.
+    /// - *number*: it has the number from `draw_xid`.
     pub fn store_fin(&self, pass: &mut WordPass, xid: Xid)
         requires own { IsPassOf self.now pass.old }
         requires phase { (view_of pass.old).phase ≡ phases.Finished }
@@ -95,7 +93,8 @@ impl WordQueue {
 
     /// How a finished transaction ended.
     ///
-    /// A reader asks for numbers of entries below the first unfinished number that it has loaded; they are in reach, as `load_fin` says.
+    /// - *below*: a reader asks for numbers of entries below the first unfinished number that it has loaded.
+    /// - *reach*: `load_fin` and `begin_walk` tell it.
     pub fn load_status(&self, pass: &mut WordPass, xid: Xid) -> Fate
         requires own { IsPassOf self.now pass.old }
         requires below { xid < next_xid (known_of pass.old).seen }

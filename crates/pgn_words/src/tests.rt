@@ -1,38 +1,24 @@
-ghost use Rattle.std.specs.Prelude.{◌≡◌, ◌^◌, ◌+◌, ◌<◌, ◌≤◌, true, length, All, IfOk, IfSome};
+ghost use Rattle.std.specs.Prelude.{◌≡◌, ◌^◌, ◌<◌, length, All, IfOk, IfSome, []};
 ghost use Rattle.pgn_base.specs.Notes.{IsNote};
-ghost use Rattle.pgn_words.specs.Passes.{IsPassOf, IsFresh, view_of, known_of, shape_of};
-ghost use Rattle.std.specs.Prelude.{[], ◌∷◌, replicate};
+ghost use Rattle.pgn_base.specs.declared.format.Format.TheVariants.{One};
 ghost use Rattle.pgn_model.specs.Journal.{next_xid};
 ghost use Rattle.pgn_model.specs.Packing.{image};
-ghost use Rattle.pgn_base.specs.declared.format.Format.TheVariants.{One};
 ghost use Rattle.pgn_model.specs.Shape.{notes_of_seats};
-ghost use Rattle.pgn_model.specs.examples.Packing.{virtual_note, virtual_cells};
+ghost use Rattle.pgn_words.specs.Passes.{IsPassOf, IsFresh, view_of, known_of, shape_of};
 ghost use Rattle.pgn_words.specs.Told.{drawn};
 ghost use Rattle.pgn_words.specs.declared.view.Listen.TheVariants as listens;
-ghost use Rattle.pgn_words.specs.declared.view.Stage.TheVariants as stages;
 ghost use Rattle.pgn_words.specs.declared.view.Phase.TheVariants as phases;
 
 use super::*;
 use pgn_base::{DbOid, Name, Note, Payload, SessionNo, Xid, are_notes};
 use pgn_layout::Pos;
-use pgn_model::{Fate, PassView, SeatSetup, Setup};
+use pgn_model::{PassView, SeatSetup, Setup};
 use std::alloc::Global;
 use std::test::Fail;
 
-// The cells of the entry of a notification on the channel `virtual`, in database 1, of transaction 3 by process 1001.
-const ENTRY: [u32; 11] = [
-    44,
-    1,
-    3,
-    1001,
-    0x7472_6976,
-    0x006c_6175,
-    0x7369_6854,
-    0x2073_6920,
-    0x2065_6874,
-    0x6c79_6170,
-    0x0064_616f,
-];
+mod entry;
+mod looks;
+mod threads;
 
 // A seat of database 1, whose session may send two notifications.
 fn seat() -> SeatSetup
@@ -102,7 +88,24 @@ fn one_holds_the_lock(rt: HostRuntime) -> Result<(), Fail> {
     Ok(())
 }
 
-// The pass takes the lock, and loads the head and the oldest kept page.
+// The holder loads the head and the oldest kept page.
+fn get_ready(queue: &WordQueue, pass: &mut WordPass) -> (Pos, u64)
+    requires own { IsPassOf queue.now pass.old }
+    requires held { (view_of pass.old).phase ≡ phases.Held }
+    ensures own { IsPassOf queue.now pass.new }
+    ensures ready { (view_of pass.new).phase ≡ phases.Ready }
+    ensures cells { (view_of pass.new).pen.cells ≡ image (view_of pass.new).setup.format (known_of pass.new).seen }
+    ensures batch { (view_of pass.new).pen.batch ≡ [] }
+    ensures head { result.0 ≡ length (view_of pass.new).pen.cells }
+    ensures low { result.0 < 2 ^ 32 }
+    ensures stop { result.1 ≡ (view_of pass.new).stop }
+{
+    let head = queue.load_head(pass);
+    let stop = queue.load_stop(pass);
+    (head, stop)
+}
+
+// The same of a pass that takes the lock first.
 fn make_ready(queue: &WordQueue, pass: &mut WordPass) -> Option<(Pos, u64)>
     requires own { IsPassOf queue.now pass.old }
     requires free { (view_of pass.old).phase ≡ phases.Free }
@@ -111,14 +114,13 @@ fn make_ready(queue: &WordQueue, pass: &mut WordPass) -> Option<(Pos, u64)>
     ensures cells { IfSome result (λ found. (view_of pass.new).pen.cells ≡ image (view_of pass.new).setup.format (known_of pass.new).seen) }
     ensures batch { IfSome result (λ found. (view_of pass.new).pen.batch ≡ []) }
     ensures head { IfSome result (λ found. found.0 ≡ length (view_of pass.new).pen.cells) }
+    ensures low { IfSome result (λ found. found.0 < 2 ^ 32) }
     ensures stop { IfSome result (λ found. found.1 ≡ (view_of pass.new).stop) }
 {
     if queue.try_lock(pass).is_err() {
         return None;
     }
-    let head = queue.load_head(pass);
-    let stop = queue.load_stop(pass);
-    Some((head, stop))
+    Some(get_ready(queue, pass))
 }
 
 // A notification on the channel `c`.
@@ -210,123 +212,5 @@ fn a_flag_tells_who_looks(rt: HostRuntime) -> Result<(), Fail> {
     assert_eq!(rt; queue.raise_flag(&mut first, 0).get(), 3);
     let found = queue.look_flag(&mut second, 0);
     assert_eq!(rt; found.map(|number| number.get()), Some(3));
-    Ok(())
-}
-
-// The notification on the channel `virtual`.
-fn virtual_note(alloc: Global) -> Result<Note, Fail>
-    ensures { IfOk result (λ note. note ≡ virtual_note) }
-{
-    Ok(Note {
-        channel: Name::new(alloc, "virtual")?,
-        payload: Payload::new(alloc, "This is the payload")?,
-    })
-}
-
-// It stores the cells of the entry, from the first one of an empty queue on.
-fn store_entry(queue: &WordQueue, pass: &mut WordPass)
-    requires own { IsPassOf queue.now pass.old }
-    requires pages { (shape_of queue.now).pages ≡ 2 }
-    requires opened { (view_of pass.old).phase ≡ phases.Open }
-    requires none_shown { length (view_of pass.old).pen.cells ≡ 0 }
-    requires none_stored { (view_of pass.old).pen.batch ≡ [] }
-    ensures own { IsPassOf queue.now pass.new }
-    ensures view { view_of pass.new ≡ record (view_of pass.old) { pen = record (view_of pass.old).pen { batch = virtual_cells } } }
-{
-    for k in 0..ENTRY.len() {
-        queue.store_cell(pass, Pos::new(k as u64), ENTRY[k]);
-    }
-}
-
-// It shows them, and commits the transaction.
-fn commit(queue: &WordQueue, pass: &mut WordPass, xid: Xid)
-    requires own { IsPassOf queue.now pass.old }
-    requires pages { (shape_of queue.now).pages ≡ 2 }
-    requires format { (shape_of queue.now).format ≡ One }
-    requires opened { (view_of pass.old).phase ≡ phases.Open }
-    requires notes { (view_of pass.old).pen.notes ≡ virtual_note ∷ [] }
-    requires valid { All IsNote (view_of pass.old).pen.notes }
-    requires session { (known_of pass.old).session ≡ 1 }
-    requires db { (known_of pass.old).db ≡ 1 }
-    requires first { xid ≡ 3 }
-    requires number { xid ≡ next_xid (known_of pass.old).seen }
-    requires reach { length (known_of pass.old).seen < notes_of_seats (shape_of queue.now).seats }
-    requires shows { (view_of pass.old).pen.cells ≡ image (view_of pass.old).setup.format (known_of pass.old).seen }
-    requires none_shown { length (view_of pass.old).pen.cells ≡ 0 }
-    requires stored { (view_of pass.old).pen.batch ≡ virtual_cells }
-    ensures own { IsPassOf queue.now pass.new }
-    ensures signals { (view_of pass.new).phase ≡ phases.Signalling }
-    ensures undecided { (view_of pass.new).undecided ≡ replicate (length (view_of pass.old).setup.seats) true }
-{
-    queue.store_head(pass, Pos::new(11));
-    queue.set_status(pass, xid, Fate::Committed, 1);
-    queue.store_fin(pass, xid);
-}
-
-// It wakes both sessions, and gives the lock up.
-fn wake_both(queue: &WordQueue, pass: &mut WordPass)
-    requires own { IsPassOf queue.now pass.old }
-    requires seats { length (shape_of queue.now).seats ≡ 2 }
-    requires signals { (view_of pass.old).phase ≡ phases.Signalling }
-    requires undecided { (view_of pass.old).undecided ≡ true ∷ true ∷ [] }
-    ensures own { IsPassOf queue.now pass.new }
-    ensures free { (view_of pass.new).phase ≡ phases.Free }
-{
-    queue.set_wake(pass, 0);
-    queue.set_wake(pass, 1);
-    queue.drop_lock(pass);
-}
-
-// It publishes the notification as the first transaction.
-fn publish(queue: &WordQueue, pass: &mut WordPass, notes: &[Note; 1]) -> Result<(), Fail>
-    requires own { IsPassOf queue.now pass.old }
-    requires pages { (shape_of queue.now).pages ≡ 2 }
-    requires format { (shape_of queue.now).format ≡ One }
-    requires seats { length (shape_of queue.now).seats ≡ 2 }
-    requires free { (view_of pass.old).phase ≡ phases.Free }
-    requires notes { notes.now ≡ virtual_note ∷ [] }
-    ensures own { IsPassOf queue.now pass.new }
-    ensures free { IfOk result (λ _. (view_of pass.new).phase ≡ phases.Free) }
-{
-    let Some((head, _)) = make_ready(queue, pass) else {
-        return Err(Fail::from("no lock"));
-    };
-    let Some(xid) = draw(queue, pass, notes) else {
-        return Err(Fail::from("no number"));
-    };
-    if (head.get(), xid.get()) != (0, 3) || (pass.session().get(), pass.db().get()) != (1, 1) {
-        return Err(Fail::from("not the first transaction of the first session"));
-    }
-    store_entry(queue, pass);
-    commit(queue, pass, xid);
-    wake_both(queue, pass);
-    Ok(())
-}
-
-// The cells from the first one on are those of the entry.
-fn shows_entry(queue: &WordQueue, pass: &mut WordPass) -> bool
-    requires own { IsPassOf queue.now pass.old }
-    requires shown { (view_of pass.old).walk.stage ≡ stages.Shown }
-    ensures own { IsPassOf queue.now pass.new }
-    ensures view { view_of pass.new ≡ view_of pass.old }
-{
-    for k in 0..ENTRY.len() {
-        if queue.load_shown(pass, Pos::new(k as u64)) != ENTRY[k] {
-            return false;
-        }
-    }
-    true
-}
-
-#[test]
-fn a_listener_reads_what_was_committed(rt: HostRuntime) -> Result<(), Fail> {
-    let (queue, mut first, mut second) = open_two(rt.alloc())?;
-    join(&queue, &mut second);
-    publish(&queue, &mut first, &[virtual_note(rt.alloc())?])?;
-    assert_eq!(rt; first.told().get(), 4);
-    assert_eq!(rt; queue.begin_walk(&mut second).get(), 4);
-    assert_eq!(rt; queue.show_head(&mut second).get(), 11);
-    assert!(rt; shows_entry(&queue, &mut second));
-    assert!(rt; queue.take_wake(&mut second));
     Ok(())
 }

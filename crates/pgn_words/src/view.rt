@@ -91,6 +91,8 @@ pub struct Eye {
     pub tail: u64,
     /// The first place that is still needed, as far as the second look has come.
     pub target: u64,
+    /// The seat at which the second look has last found a session that joins, until it goes on from there.
+    pub joins: Option<u64>,
 }
 
 /// What the rule of the words sees of a pass. No value of it is made.

@@ -1,5 +1,5 @@
-ghost use Rattle.std.specs.Prelude.{◌≡◌, ◌+◌, ◌<◌, ◌≤◌, true, ◌||◌};
-ghost use Rattle.pgn_words.specs.Words.{seats_of, pos_at, wakes_at as first_wake, word_count};
+ghost use Rattle.std.specs.Prelude.{◌≡◌, ◌+◌, ◌<◌, true};
+ghost use Rattle.pgn_words.specs.Words.{seats_of, wakes_at as first_wake, word_count};
 ghost use Rattle.pgn_words.specs.Passes.{IsPassOf, view_of, shape_of};
 ghost use Rattle.pgn_words.specs.Waking.{HasTaken, is_undecided, HasLookedToWake, wake_set};
 ghost use Rattle.pgn_words.specs.declared.view.Listen.TheVariants as listens;
@@ -21,7 +21,7 @@ impl WordQueue {
 
     /// Takes the listener's wake: whether it was set. It is not set any more.
     ///
-    /// A hub calls it where its caller asks whether a listener is to read.
+    /// - *listens*: a hub's `woken` asks its own caller for a listener.
     pub fn take_wake(&self, pass: &mut WordPass) -> bool
         requires own { IsPassOf self.now pass.old }
         requires listens { (view_of pass.old).post.listen ≡ listens.Registered }
@@ -37,7 +37,8 @@ impl WordQueue {
 
     /// The position of a seat, to see whether its session needs a wake.
     ///
-    /// A writer looks at each seat once after `store_fin`.
+    /// - *phase*: a writer calls it after `store_fin`.
+    /// - *seat*, *undecided*: it looks at each seat once, from 0 on.
     pub fn wake_look(&self, pass: &mut WordPass, seat: u32) -> PosWord
         requires own { IsPassOf self.now pass.old }
         requires phase { (view_of pass.old).phase ≡ phases.Signalling }
@@ -52,7 +53,8 @@ impl WordQueue {
 
     /// Sets the wake of a seat.
     ///
-    /// A writer sets those whose positions need it.
+    /// - *phase*: a writer calls it after `store_fin`.
+    /// - *seat*, *undecided*: it sets the wakes of those seats where its look has found a need, each once.
     pub fn set_wake(&self, pass: &mut WordPass, seat: u32)
         requires own { IsPassOf self.now pass.old }
         requires phase { (view_of pass.old).phase ≡ phases.Signalling }

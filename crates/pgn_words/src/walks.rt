@@ -1,4 +1,4 @@
-ghost use Rattle.std.specs.Prelude.{◌≡◌, ◌^◌, ℕ, ◌<◌, ◌≤◌, true, slice_get, Some};
+ghost use Rattle.std.specs.Prelude.{◌≡◌, ℕ, ◌≤◌, true, slice_get, Some};
 ghost use Rattle.pgn_model.specs.Packing.{image};
 ghost use Rattle.pgn_words.specs.Views.{is_walking};
 ghost use Rattle.pgn_words.specs.Passes.{IsPassOf, view_of, shape_of};
@@ -9,19 +9,15 @@ ghost use Rattle.pgn_words.specs.declared.view.Stage.TheVariants as stages;
 
 use crate::pass::{WordPass, WordQueue};
 use crate::plays::{BeginWalk, LoadShown, ShowHead};
+use crate::words::{FIN, HEAD};
 use pgn_base::Xid;
 use pgn_layout::Pos;
-
-/// The word that holds the place after the last written cell.
-const HEAD: usize = 1;
-
-/// The word that holds the first unfinished transaction number.
-const FIN: usize = 2;
 
 impl WordQueue {
     /// Loads the first unfinished number, to which a listener goes from its mark. A way that was begun before is given up.
     ///
-    /// A hub calls it first of all as it reads, and as it joins, next after `store_valid`.
+    /// - *phase*: a hub's pass is free where `scan` or `enlist` is called.
+    /// - *listens*: `scan` asks its own caller for a listener, and `enlist` calls it next after `store_valid`.
     pub fn begin_walk(&self, pass: &mut WordPass) -> Xid
         requires own { IsPassOf self.now pass.old }
         requires phase { (view_of pass.old).phase ≡ phases.Free }
@@ -35,10 +31,10 @@ impl WordQueue {
 
     /// Loads the head, up to which the cells can be read from the listener's mark on.
     ///
-    /// A hub calls it next after `begin_walk`: only so does the head show all that the listener goes to.
+    /// - *walks*: a hub's `scan` and `enlist` call it next after `begin_walk`: only so does the head show all that the listener goes
+    ///   to.
     pub fn show_head(&self, pass: &mut WordPass) -> Pos
         requires own { IsPassOf self.now pass.old }
-        requires phase { (view_of pass.old).phase ≡ phases.Free }
         requires walks { is_walking (view_of pass.old).walk.stage ≡ true }
         ensures own { IsPassOf self.now pass.new }
         ensures shown { HasShown (view_of pass.old) result (view_of pass.new) }
@@ -48,7 +44,7 @@ impl WordQueue {
 
     /// A cell that the loaded head shows.
     ///
-    /// A hub asks for cells from the listener's mark up to the head.
+    /// - *shown*: a hub's `scan` and `enlist` ask for cells after `show_head`, from the listener's mark up to the head.
     pub fn load_shown(&self, pass: &mut WordPass, at: Pos) -> u32
         requires own { IsPassOf self.now pass.old }
         requires shown { (view_of pass.old).walk.stage ≡ stages.Shown }

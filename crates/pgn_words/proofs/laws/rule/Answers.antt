@@ -1,8 +1,15 @@
 use Rattle.pgn_words.proofs.RuleLaws.{walks_read, pages_spared, no_wake_lost, flags_heard, told_heard}
+use Rattle.pgn_words.proofs.WayLaws.{walks_read_finished, walks_end_in_time}
 use Rattle.pgn_words.proofs.laws.rule.Goals as goal
 
 pub returns-clause-walks : goal.returns-clause-walks
 returns-clause-walks c = walks_read
+
+pub returns-clause-finished : goal.returns-clause-finished
+returns-clause-finished c = walks_read_finished
+
+pub returns-clause-ends : goal.returns-clause-ends
+returns-clause-ends c = walks_end_in_time
 
 pub returns-clause-pages : goal.returns-clause-pages
 returns-clause-pages c = pages_spared

@@ -11,5 +11,5 @@ loop-k-preserved c =
     let seats = c.seats-seats.ensures.value in
     let test = c.loop-k-test.true in
     let size : length c.seats-seats.result.now ≡ length (shape_of c.in_ok-queue.queue).seats = ap length seats ∙ ap (λ (z : Shape). length z.seats) (sym c.in_ok-queue.ensures.shape) in
-    subst (λ (ps : List WordPass). AreMade c.in_ok-queue.queue c.make_pass.new.first ps (c.loop-k.k + 1)) (sym c.in_ok-push.ensures.items)
+    subst (λ (ps : List WordPass). AreMade c.in_ok-queue.queue c.make_pass.new.first ps (c.loop-k.k + 1)) (sym {A = List WordPass} c.in_ok-push.ensures.items)
     (next_made c.in_ok-queue.queue c.loop-k.first c.make_pass.new.first c.make_pass.result c.loop-k.passes.items c.loop-k.k c.loop-k.invariant (omega (arith, test, size)) made.own made.view made.made_own made.made_view)
