@@ -1,0 +1,16 @@
+mod WayLaws
+mod ReadingLaws
+mod ReadLaws
+mod ListenLaws
+mod JoinerLaws
+mod StoringLaws
+mod PlacingKept
+mod WakeLaws
+mod OpenedLaws
+mod OpenedPair
+mod LookLaws
+mod AdvanceLaws
+mod UsageLaws
+mod PublishLaws
+mod ServingLaws
+mod RefusedCases

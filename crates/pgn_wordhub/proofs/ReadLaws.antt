@@ -1,0 +1,131 @@
+-- A read as a whole, and the joining of a listener.
+use Rattle.std.proofs.Common.{◌≡◌, ℕ, ◌+◌, ◌^◌, ◌<◌, ◌≤◌, false, List, [], ◌∷◌, ◌++◌, length, Some, sym, refl, ap, ◌∙◌, subst, arith}
+use Rattle.std.proofs.lemmas.List.{length-append, append_assoc}
+use Rattle.pgn_base.specs.declared.format.Format.{Format}
+use Rattle.pgn_base.specs.declared.format.Format.TheVariants.{One}
+use Rattle.pgn_base.specs.declared.note.Delivery.{Delivery}
+use Rattle.pgn_base.specs.declared.queue_answers.Enlisted.{Enlisted}
+use Rattle.pgn_model.specs.declared.tx.Tx.{Tx}
+use Rattle.pgn_model.specs.declared.known.Known.{Known}
+use Rattle.pgn_model.specs.Journal.{next_xid}
+use Rattle.pgn_model.specs.Due.{due}
+use Rattle.pgn_model.specs.Packing.{image, place}
+use Rattle.pgn_model.specs.Shape.{Shape}
+use Rattle.pgn_model.proofs.BeginsLaws.{begins-shorter}
+use Rattle.pgn_model.proofs.PackingLemmas.{place_grows, last_place}
+use Rattle.pgn_model.proofs.DraftLaws.{longer_agrees}
+use Rattle.pgn_hub.specs.Calls as calls
+use Rattle.pgn_hub.proofs.WithinLaws.{calls-keep_within}
+use Rattle.pgn_words.specs.declared.view.View.{View}
+use Rattle.pgn_words.specs.declared.view.Listen.TheVariants.{Based, Registered}
+use Rattle.pgn_words.specs.declared.view.Stage.TheVariants.{Still, Begun, Shown}
+use Rattle.pgn_words.specs.Positions.{IsPlacedIn}
+use Rattle.pgn_words.specs.Listening.{joining, HasBase, registered, HasBegun, HasShown, forwarded}
+use Rattle.pgn_wordhub.specs.Passes.{IsHubView}
+use Rattle.pgn_wordhub.specs.Walks.{Leads, Walks, shown_cells}
+use Rattle.pgn_wordhub.proofs.WayLaws.{begins_at}
+
+-- the mark of a place belongs to the journal of format One
+placed_one : (f : Format) (seen : List Tx) (mark at : ℕ) → f ≡ One → IsPlacedIn f seen mark at → at ≡ place One seen mark
+placed_one f seen mark at e p = p.at_is ∙ ap (λ (g : Format). place g seen mark) e
+
+-- a listener that has loaded the first unfinished number and then the head is on a way up to it, which gives what is due
+pub reads_from : (v w u : View) (n h : ℕ) (channels : List (List ℕ)) (got : List Delivery) → v.setup.format ≡ One → HasBegun v n w → HasShown w h u
+    → Walks (shown_cells u) n u.known.db channels u.known.seen u.post.at (place One u.known.seen n) got (got ++ due u.known.seen u.post.mark n u.known.db channels)
+reads_from v w u n h channels got one begun shown =
+    let format : w.setup.format ≡ One = ap (λ (x : View). x.setup.format) begun.view ∙ one in
+    let there : w.post.at ≡ place One w.known.seen w.post.mark = placed_one w.setup.format w.known.seen w.post.mark w.post.at format begun.placed in
+    let walks = begins_at w.known.seen shown.shown w.post.mark w.post.at w.known.db channels got shown.begins shown.written shown.few begun.finished begun.placed.first begun.placed.within there in
+    let named = subst (λ (f : ℕ). Walks (image One shown.shown) f w.known.db channels w.known.seen w.post.at (place One w.known.seen f) got (got ++ due w.known.seen w.post.mark f w.known.db channels)) (sym begun.number) walks in
+    subst (λ (x : View). Walks (shown_cells x) n x.known.db channels x.known.seen x.post.at (place One x.known.seen n) got (got ++ due x.known.seen x.post.mark n x.known.db channels)) (sym shown.view) named
+
+-- the same way from its base, as it joins
+pub joins_from : (v w u : View) (n h at : ℕ) → v.setup.format ≡ One → at ≡ u.post.at → HasBegun v n w → HasShown w h u → Leads (shown_cells u) n at (place One u.known.seen n)
+joins_from v w u n h at one is begun shown =
+    let walks = reads_from v w u n h [] [] one begun shown in
+    subst (λ (k : ℕ). Leads (shown_cells u) n k (place One u.known.seen n)) (sym is) (record { todo = walks.todo; later = walks.later; way = walks.way })
+
+-- the place up to which it goes is one of 32 bits
+pub reads_low : (v w u : View) (n h : ℕ) → v.setup.format ≡ One → HasBegun v n w → HasShown w h u → place One u.known.seen n < 2 ^ 32
+reads_low v w u n h one begun shown =
+    let format : w.setup.format ≡ One = ap (λ (x : View). x.setup.format) begun.view ∙ one in
+    let seen : u.known.seen ≡ w.known.seen = ap (λ (x : View). x.known.seen) shown.view in
+    let number = begun.number in
+    let shorter = begins-shorter w.known.seen shown.shown shown.begins in
+    let inside : n ≤ next_xid shown.shown = omega (arith, number, shorter) in
+    let same : place One shown.shown n ≡ place One w.known.seen n = longer_agrees.places One w.known.seen shown.shown n shown.begins (omega (arith, number)) in
+    let up = place_grows One shown.shown n (next_xid shown.shown) inside in
+    let end = last_place One shown.shown (next_xid shown.shown) (omega arith) in
+    let head : h ≡ length (image One shown.shown) = shown.head ∙ ap (λ (f : Format). length (image f shown.shown)) format in
+    let low = shown.low in
+    subst (λ (txs : List Tx). place One txs n < 2 ^ 32) (sym seen) (omega (arith, same, up, end, head, low))
+
+-- what is known after a read
+pub has_read : (z : Shape) (v w u x : View) (n h at : ℕ) (channels : List (List ℕ)) (before after : List Delivery) → IsHubView z v → v.known.mark ≡ Some v.post.mark → HasBegun v n w → HasShown w h u
+    → x ≡ forwarded at u → after ≡ before ++ due u.known.seen u.post.mark n u.known.db channels → calls.HasRead v.known x.known channels n before after
+has_read z v w u x n h at channels before after hub mark begun shown e gave =
+    let W : View = record v { known = record v.known { seen = v.known.seen ++ begun.more }; walk = record v.walk { stage = Begun; upto = n } } in
+    let U : View = record W { walk = record W.walk { stage = Shown; shown = shown.shown } } in
+    let is_u : u ≡ U = shown.view ∙ ap (λ (y : View). let k : View = record y { walk = record y.walk { stage = Shown; shown = shown.shown } } in k) begun.view in
+    let is_x : x ≡ forwarded at U = e ∙ ap (forwarded at) is_u in
+    let seen : w.known.seen ≡ v.known.seen ++ begun.more = ap (λ (y : View). y.known.seen) begun.view in
+    let long : length w.known.seen ≡ length v.known.seen + length begun.more = ap length seen ∙ length-append v.known.seen begun.more in
+    let number = begun.number in
+    let place = begun.placed.within in
+    let stays : w.post.mark ≡ v.post.mark = ap (λ (y : View). y.post.mark) begun.view in
+    let told = hub.within.told in
+    record {
+      more = begun.more;
+      from = v.post.mark;
+      from_mark = mark;
+      known = ap (λ (y : View). y.known) is_x;
+      forward = omega (arith, place, stays, number);
+      after_told = omega (arith, told, long, number);
+      after_seen = omega (arith, long, number);
+      in_seen = subst (λ (y : View). n ≤ next_xid y.known.seen) (sym is_x) (let l = length-append v.known.seen begun.more in omega (arith, number, long, l));
+      delivered = gave ∙ ap (λ (y : View). before ++ due y.known.seen y.post.mark n y.known.db channels) is_u
+          ∙ ap (λ (y : View). before ++ due y.known.seen v.post.mark n v.known.db channels) (sym is_x);
+    }
+
+-- what is known after a session has joined, and that its pass is one of the hub's
+pub enlists : (z : Shape) (v a b r w u x : View) (m p n h at : ℕ) (got : Enlisted) → IsHubView z v → a ≡ joining v → HasBase a m p b → r ≡ registered b → HasBegun r n w → HasShown w h u → x ≡ forwarded at u
+    → got ≡ record { base = m; point = n } → IsHubView z x × calls.HasEnlisted v.known x.known got
+enlists z v a b r w u x m p n h at got hub e1 base e3 begun shown e6 is_got =
+    let seen : List Tx = v.known.seen ++ base.more ++ begun.more in
+    let X : View = record v {
+      known = record v.known { seen = seen; mark = Some n; marks = v.known.marks ++ m ∷ [] ++ n ∷ []; owes = false };
+      post = record { listen = Registered; mark = n; at = at };
+      walk = record { stage = Still; upto = n; shown = shown.shown };
+    } in
+    let is_b = base.view ∙ ap (λ (y : View). let k : View = record y { known = record y.known { seen = y.known.seen ++ base.more }; post = record { listen = Based; mark = m; at = p } } in k) e1 in
+    let is_w = begun.view ∙ ap (λ (y : View). let k : View = record y { known = record y.known { seen = y.known.seen ++ begun.more }; walk = record y.walk { stage = Begun; upto = n } } in k) (e3 ∙ ap registered is_b) in
+    let is_u = shown.view ∙ ap (λ (y : View). let k : View = record y { walk = record y.walk { stage = Shown; shown = shown.shown } } in k) is_w in
+    let is_x : x ≡ X = e6 ∙ ap (forwarded at) is_u in
+    let seen_b : b.known.seen ≡ v.known.seen ++ base.more = ap (λ (y : View). y.known.seen) is_b in
+    let seen_w : w.known.seen ≡ seen = ap (λ (y : View). y.known.seen) is_w in
+    let long_b : length b.known.seen ≡ length v.known.seen + length base.more = ap length seen_b ∙ length-append v.known.seen base.more in
+    let more = length-append v.known.seen base.more in
+    let long_w : length w.known.seen ≡ length (v.known.seen ++ base.more) + length begun.more = ap length seen_w ∙ length-append (v.known.seen ++ base.more) begun.more in
+    let all = length-append (v.known.seen ++ base.more) begun.more in
+    let number = begun.number in
+    let placed = base.placed.within in
+    let told = hub.within.told in
+    let after : next_xid v.known.seen ≤ n = omega (arith, number, long_w, more) in
+    let has : calls.HasEnlisted v.known X.known (record { base = m; point = n }) = record {
+      more = base.more ++ begun.more;
+      known = ap (λ (txs : List Tx). let k : Known = record v.known { seen = txs; mark = Some n; marks = v.known.marks ++ m ∷ [] ++ n ∷ []; owes = false } in k) (append_assoc v.known.seen base.more begun.more);
+      first = base.placed.first;
+      ordered = omega (arith, placed, long_b, number, long_w, more);
+      after_told = omega (arith, told, after);
+      after_marks = Rattle.std.proofs.lemmas.List.Elements.All-weaker (λ k. k ≤ next_xid v.known.seen) (λ k. k ≤ n) (λ k le. omega (arith, le, after)) v.known.marks hub.within.marks;
+      after_seen = after;
+      in_seen = omega (arith, number, long_w, all);
+    } in
+    subst (λ (y : View). IsHubView z y × calls.HasEnlisted v.known y.known got) (sym is_x) (
+      record {
+        rest = record { free = hub.rest.free; told = hub.rest.told; decided = hub.rest.decided; settled = refl; alone = hub.rest.alone; listens = refl };
+        within = calls-keep_within.enlisted v.known X.known (record { base = m; point = n }) has hub.within;
+        seated = record { first = hub.seated.first; seat = hub.seated.seat };
+      },
+      subst (λ (g : Enlisted). calls.HasEnlisted v.known X.known g) (sym is_got) has,
+    )

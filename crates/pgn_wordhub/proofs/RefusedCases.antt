@@ -1,0 +1,200 @@
+-- The definitions of this crate refuse the small cases.
+use Rattle.std.proofs.Common.{◌≡◌, ℕ, ◌≤◌, true, false, [], ◌∷◌, List, length, Option, Some, None, refl, ap, arith}
+use Rattle.std.proofs.lemmas.List.Elements.{All-head}
+use Rattle.pgn_base.specs.declared.format.Format.TheVariants.{One}
+use Rattle.pgn_base.specs.declared.note.Delivery.{Delivery}
+use Rattle.pgn_model.specs.declared.tx.Tx.{Tx}
+use Rattle.pgn_model.specs.declared.known.Known.{Known}
+use Rattle.pgn_model.specs.Packing.{image, image_from}
+use Rattle.pgn_model.specs.Pieces.{Piece, AFiller, piece_bytes, number_of, IsNumbered}
+use Rattle.pgn_model.proofs.BytesLemmas.{length-spelled}
+use Rattle.pgn_model.proofs.PackingLemmas.{entry_whole}
+use Rattle.pgn_model.proofs.PieceLaws.{first_cells}
+use Rattle.pgn_hub.specs.Examples.{two_seats, note_a, tx_3, got_a}
+use Rattle.pgn_words.specs.declared.view.View.{View}
+use Rattle.pgn_words.specs.Examples.{listener, holder}
+use Rattle.pgn_wordhub.specs.Passes.{IsHubView}
+use Rattle.pgn_wordhub.specs.Walks.{StandsAt, IsCell, IsOnWay, Leads, HasWay, Walks, IsWalking, Turns, HasTurned, HasEntry, ArePartsOf, IsDueEntry, HasDueEntry, IsEntryAt, HasEntryAt}
+use Rattle.pgn_wordhub.specs.Wakes.{IsWaiting, IsAtHead}
+use Rattle.pgn_wordhub.specs.Placing.{IsPlacing, HasWritten, IsHeldUp}
+use Rattle.pgn_wordhub.specs.Floors.{IsFloorOf}
+use Rattle.pgn_wordhub.specs.Looks.{HasCome, HasSeenFirst, HasSeenSecond, HasSeenSome}
+use Rattle.pgn_wordhub.specs.Advancing.{HasAdvancedTo, HasTried, HasFreedTo, HasGivenUp, IsFreed, HasTriedTail}
+use Rattle.pgn_wordhub.specs.Finishing.{HasCommitted, HasEnded}
+use Rattle.pgn_wordhub.specs.Examples.{first_pass, third_pass, told_of_3, with_mark, stored_one, writing, undecided_one, first_look, tail_is_late, one_seen, one_joins, both_seen, none_freed, one_page, sender_3, other_db}
+use Rattle.pgn_wordhub.proofs.WayLaws.{cell_of}
+
+pub no_holder : IsHubView two_seats holder → ⊥
+no_holder h = let free = h.rest.free in absurd (cc)
+
+pub no_unknown_mark : IsHubView two_seats listener → ⊥
+no_unknown_mark h = let listens = h.rest.listens in absurd (cc)
+
+pub no_third : IsHubView two_seats third_pass → ⊥
+no_third h = h.seated.seat
+
+pub nothing_stands : (piece : Piece) → StandsAt [] 0 piece → ⊥
+nothing_stands piece h = let there = cell_of [] 0 0 (length (piece_bytes One piece)) piece h (first_cells.first One piece h.readable) in absurd (cc)
+
+pub no_other_cell : IsCell (Some 44 ∷ []) 0 45 → ⊥
+no_other_cell h = let same = h 44 refl in omega (arith, same)
+
+pub not_unfinished : (cells : List (Option ℕ)) (end : ℕ) → IsOnWay cells 3 0 end (AFiller 8 sender_3 ∷ []) [] → ⊥
+not_unfinished cells end h = let first = All-head (IsNumbered 3 3) (AFiller 8 sender_3) [] h.below in let high = first.high in omega (arith, high)
+
+pub not_left_out : (cells : List (Option ℕ)) (end : ℕ) → IsOnWay cells 4 0 end [] (AFiller 8 sender_3 ∷ []) → ⊥
+not_left_out cells end h = let first = All-head (λ piece. 4 ≤ number_of piece) (AFiller 8 sender_3) [] h.above in omega (arith, first)
+
+pub not_past_the_head : Leads [] 3 1 1 → ⊥
+not_past_the_head h = let within = h.way.within in omega (arith, within)
+
+pub no_way : HasWay [] 3 1 → ⊥
+no_way h = let within = h.leads.way.within in omega (arith, within)
+
+pub no_walk : (owed : List Delivery) → Walks [] 3 1 [] [] 1 1 [] owed → ⊥
+no_walk owed h = let within = h.way.within in omega (arith, within)
+
+pub none_walking : IsWalking [] 3 1 [] [] 1 [] → ⊥
+none_walking h = let within = h.walks.way.within in omega (arith, within)
+
+pub no_early_end : Turns [] 3 1 [] [] 0 1 [] [] None → ⊥
+no_early_end h = let there = h.0 in omega (arith, there)
+
+pub no_stay : Turns [] 3 1 [] [] 0 1 [] [] (Some 0) → ⊥
+no_stay h = let on = h.0 in omega (arith, on)
+
+pub nothing_taken_back : HasTurned [] 3 1 [] [] 0 (got_a ∷ []) [] None → ⊥
+nothing_taken_back h = let after = h.after_is in absurd (cc)
+
+pub no_empty_entry : HasEntry [] → ⊥
+no_empty_entry h =
+    let long = length-spelled One h.note h.sender.db h.sender.xid h.sender.pid in
+    let some = entry_whole One h.note in
+    let none = ap length h.spelling in
+    let least = some.1 in omega (arith, long, least, none)
+
+pub no_other_number : (pid : ℕ) (channel payload : List ℕ) → ArePartsOf note_a sender_3 4 pid channel payload → ⊥
+no_other_number pid channel payload h = let number = h.xid_is in omega (arith, number)
+
+pub no_other_database : (seen : List Tx) (bytes : List ℕ) → IsDueEntry 1 seen bytes note_a other_db → ⊥
+no_other_database seen bytes h = let db = h.of_db in omega (arith, db)
+
+pub none_due_unfinished : (bytes : List ℕ) → HasDueEntry 1 [] bytes → ⊥
+none_due_unfinished bytes h = let low = h.due.numbered.low in let high = h.due.numbered.high in omega (arith, low, high)
+
+pub no_entry_of_another : (cells : List (Option ℕ)) (len : ℕ) (seen : List Tx) → IsEntryAt cells 0 len 1 seen note_a other_db → ⊥
+no_entry_of_another cells len seen h = let db = h.of_db in omega (arith, db)
+
+pub no_entry_unfinished : (cells : List (Option ℕ)) (len : ℕ) → HasEntryAt cells 0 len 1 [] → ⊥
+no_entry_unfinished cells len h = let low = h.entry.numbered.low in let high = h.entry.numbered.high in omega (arith, low, high)
+
+pub not_unshown : (placed at : ℕ) → IsPlacing stored_one [] placed at → ⊥
+not_unshown placed at h = let fresh = h.fresh in absurd (cc)
+
+pub not_ahead : IsPlacing writing [] 0 1 → ⊥
+not_ahead h = let end = h.end in omega (arith, end)
+
+pub not_told : HasWritten first_pass told_of_3 → ⊥
+not_told h = let told = ap (λ (v : View). v.known.told) h.view in omega (arith, told)
+
+pub not_all : (at mark floor : ℕ) (holder : Option ℕ) → IsHeldUp two_seats writing writing 2 2 at mark floor holder → ⊥
+not_all at mark floor holder h = let left = h.left in omega (arith, left)
+
+pub no_page_left : (mark floor : ℕ) (holder : Option ℕ) → IsHeldUp two_seats writing writing 2 0 4095 mark floor holder → ⊥
+no_page_left mark floor holder h = let none = h.no_page in omega (arith, none)
+
+pub not_undecided : HasCommitted writing undecided_one tx_3 → ⊥
+not_undecided h = let first = All-head (λ b. b ≡ false) true [] h.decided in absurd (cc)
+
+pub not_ended_undecided : HasEnded writing undecided_one → ⊥
+not_ended_undecided h = let first = All-head (λ b. b ≡ false) true [] h.decided in absurd (cc)
+
+pub not_still_open : HasEnded writing writing → ⊥
+not_still_open h = let phase = ap (λ (v : View). v.phase) h.view in absurd (cc)
+
+pub not_past_the_number : (least at : ℕ) → IsFloorOf One [] [] least 4 at None → ⊥
+not_past_the_number least at h = let below = h.floor.below in omega (arith, below)
+
+pub not_past_a_mark : (least at : ℕ) → IsFloorOf One (tx_3 ∷ []) ((1, 3) ∷ []) least 4 at None → ⊥
+not_past_a_mark least at h = let low = All-head (λ (pair : ℕ × ℕ). 4 ≤ pair.1) (1, 3) [] h.floor.least in omega (arith, low)
+
+pub own_seat_shows : HasCome 1 (Some 3) 1 (None ∷ []) → ⊥
+own_seat_shows h = let there = h.own_met (omega arith) in let within = there.1 in omega (arith, within)
+
+pub own_seat_shows_none : HasCome 1 None 1 (Some 3 ∷ []) → ⊥
+own_seat_shows_none h = let there = All-head (λ (pair : ℕ × ℕ). pair.0 ≡ 1 → None ≡ Some pair.1) (1, 3) [] h.own refl in absurd (cc)
+
+pub no_seat_left_out : HasCome 1 None 2 (None ∷ []) → ⊥
+no_seat_left_out h = let long = h.long in omega (arith, long)
+
+pub not_the_second : (mark at : ℕ) (holder : Option ℕ) → HasSeenFirst one_seen one_seen 1 mark at holder → ⊥
+not_the_second mark at holder h = let look = h.look in absurd (cc)
+
+pub no_late_tail : (mark at : ℕ) (holder : Option ℕ) → HasSeenSecond tail_is_late tail_is_late 0 mark at holder → ⊥
+no_late_tail mark at holder h = let announced = h.announced refl in omega (arith, announced)
+
+pub not_the_first : HasSeenSome first_look first_look → ⊥
+not_the_first h = let look = h.look in absurd (cc)
+
+pub all_seats : (mark at : ℕ) (holder : Option ℕ) → HasAdvancedTo two_seats first_pass one_seen mark at holder → ⊥
+all_seats mark at holder h = let all = h.all in omega (arith, all)
+
+pub no_page_kept : (mark at : ℕ) (holder : Option ℕ) → HasAdvancedTo two_seats first_pass none_freed mark at holder → ⊥
+no_page_kept mark at holder h = let kept = h.kept in omega (arith, kept)
+
+pub not_told_by_looks : HasTried first_pass told_of_3 → ⊥
+not_told_by_looks h = let told = ap (λ (v : View). v.known.told) h.view in omega (arith, told)
+
+pub frees_one : HasFreedTo two_seats both_seen 0 1
+frees_one = record { second = refl; all = refl; greater = refl; stop = refl }
+
+pub frees_none : HasFreedTo two_seats none_freed 0 0 → ⊥
+frees_none h = let greater = h.greater in omega (arith, greater)
+
+pub frees_after_all : HasFreedTo two_seats one_seen 0 1 → ⊥
+frees_after_all h = let all = h.all in omega (arith, all)
+
+pub gives_up : HasGivenUp two_seats one_joins 0 2
+gives_up = record { second = refl; left = omega arith; joins = refl; there = refl; stop = refl }
+
+pub no_other_joiner : HasGivenUp two_seats one_joins 0 1 → ⊥
+no_other_joiner h = let there = h.there in omega (arith, there)
+
+pub none_joins : HasGivenUp two_seats one_seen 0 2 → ⊥
+none_joins h = let joins = h.joins in absurd (cc)
+
+pub none_left_to_join : HasGivenUp two_seats none_freed 0 3 → ⊥
+none_left_to_join h = let left = h.left in omega (arith, left)
+
+pub freed_one : IsFreed two_seats both_seen one_page
+freed_one = frees_one
+
+pub none_beside_a_joiner : IsFreed two_seats both_seen (record one_page { joiner = Some 3 }) → ⊥
+none_beside_a_joiner h = let same = h.1 in omega (arith, same)
+
+pub no_mark_moved : HasTriedTail first_pass.known with_mark.known → ⊥
+no_mark_moved h = let mark = ap (λ (k : Known). k.mark) h.known in absurd (cc)
+
+pub not_signalling : IsWaiting two_seats holder → ⊥
+not_signalling h = let phase = h.phase in absurd (cc)
+
+pub both_seats : IsWaiting two_seats undecided_one → ⊥
+both_seats h = let all = ap length h.all in omega (arith, all)
+
+pub at_the_head : IsAtHead two_seats first_pass 1 → ⊥
+unfolding image image_from
+at_the_head h = omega (arith, h)
+
+pub ruleset refused_passes = (no_holder, no_unknown_mark, no_third)
+
+pub ruleset refused_ways = (no_other_cell, not_unfinished, not_left_out, not_past_the_head, no_way, no_walk, none_walking, no_early_end, no_stay, nothing_taken_back)
+
+pub ruleset refused_entries = (no_empty_entry, no_other_number, no_other_database, none_due_unfinished, no_entry_of_another, no_entry_unfinished)
+
+pub ruleset refused_writers = (not_unshown, not_ahead, not_told, not_all, no_page_left, not_undecided, not_ended_undecided, not_still_open)
+
+pub ruleset refused_looks = (not_past_the_number, own_seat_shows, own_seat_shows_none, no_seat_left_out, not_the_second, no_late_tail, not_the_first)
+
+pub ruleset refused_advances = (all_seats, no_page_kept, not_told_by_looks, frees_one, frees_none, frees_after_all, gives_up, no_other_joiner, none_joins, none_left_to_join, freed_one, none_beside_a_joiner, no_mark_moved)
+
+pub ruleset refused_wakes = (not_signalling, both_seats, at_the_head)

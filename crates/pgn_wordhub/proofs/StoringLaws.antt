@@ -1,0 +1,105 @@
+-- Cells that are stored past the head, one after another.
+use Rattle.std.proofs.Common.{◌≡◌, ℕ, zero, suc, ◌+◌, ◌*◌, ◌/◌, ◌<◌, ◌≤◌, ◌==◌, false, cond, List, [], ◌∷◌, ◌++◌, length, take, drop, slice_get, Option, Some, unwrap_or, sym, ap, ◌∙◌, arith}
+use Rattle.std.specs.Int.{w32, from_le_bytes}
+use Rattle.std.proofs.lemmas.List.{append_assoc, length-append, length-take, take_all}
+use Rattle.std.proofs.Math.Seq.{take-suc}
+use Rattle.std.proofs.lemmas.Option.{slice_get_within, get_or_from_slice_get}
+use Rattle.std.proofs.lemmas.Bool.Decides.{nat_tests}
+use Rattle.pgn_base.specs.declared.format.Format.TheVariants.{One}
+use Rattle.pgn_base.specs.declared.note.Note.{Note}
+use Rattle.pgn_model.specs.Bytes.{entry_length, spelled, filler, IsEntryLength}
+use Rattle.pgn_model.specs.Packing.{Sender, filled_cells, page_of, page_start, HasRoom}
+use Rattle.pgn_model.proofs.BytesLemmas.{length-spelled, length-filler}
+use Rattle.pgn_layout.specs.declared.batch.Batch.{Batch}
+use Rattle.pgn_layout.specs.Batches.{IsPlanned, entry_of, entries_of, batch_cells}
+use Rattle.pgn_layout.proofs.BatchLaws.{batches_stay, fillers_take_rests}
+use Rattle.pgn_model.proofs.PackingLemmas.{length-filled_cells}
+use Rattle.pgn_model.proofs.PieceLaws.{cells_hold_numbers}
+use Rattle.pgn_words.specs.declared.view.View.{View}
+use Rattle.pgn_words.specs.Views.{stored_by}
+use Rattle.pgn_words.specs.Told.{cell_stored}
+use Rattle.pgn_wordhub.specs.Placing.{stored_more}
+
+-- how many cells are stored
+pub stored_long : (v w : View) (cells : List (Option ℕ)) → w ≡ stored_more cells v → length (stored_by w) ≡ length (stored_by v) + length cells
+stored_long v w cells e =
+    ap (λ (u : View). length (stored_by u)) e ∙ ap length (sym (append_assoc v.pen.cells v.pen.batch cells)) ∙ length-append (v.pen.cells ++ v.pen.batch) cells
+
+pub stored_on : (v w u : View) (xs ys : List (Option ℕ)) → w ≡ stored_more xs v → u ≡ stored_more ys w → u ≡ stored_more (xs ++ ys) v
+stored_on v w u xs ys e f = f ∙ ap (stored_more ys) e ∙ ap (λ b. let y : View = record v { pen = record v.pen { batch = b } } in y) (append_assoc v.pen.batch xs ys)
+
+-- the next cell of bytes
+pub next_cell : (bytes : List ℕ) (k : ℕ) → k < length bytes / 4 → take (k + 1) (filled_cells bytes) ≡ take k (filled_cells bytes) ++ Some (from_le_bytes w32 (drop (4 * k) bytes)) ∷ []
+next_cell bytes k below =
+    let cells = filled_cells bytes in
+    let d : Option ℕ = Some (from_le_bytes w32 (drop (4 * k) bytes)) in
+    let is : slice_get cells k ≡ Some d = cells_hold_numbers bytes k below in
+    let inside : k < length cells = slice_get_within cells k d is in
+    let more : k + 1 ≡ suc k = omega arith in
+    ap (λ (n : ℕ). take n cells) more ∙ take-suc cells k d inside ∙ ap (λ (y : Option ℕ). take k cells ++ y ∷ []) (get_or_from_slice_get cells k d d is)
+
+pub stores_next : (v w u : View) (bytes : List ℕ) (k x : ℕ) → w ≡ stored_more (take k (filled_cells bytes)) v → k < length bytes / 4 → x ≡ from_le_bytes w32 (drop (4 * k) bytes) → u ≡ cell_stored x w
+    → u ≡ stored_more (take (k + 1) (filled_cells bytes)) v
+stores_next v w u bytes k x e below value f =
+    stored_on v w u (take k (filled_cells bytes)) (Some x ∷ []) e f ∙ ap (λ n. stored_more (take k (filled_cells bytes) ++ Some n ∷ []) v) value
+    ∙ ap (λ cells. stored_more cells v) (sym (next_cell bytes k below))
+
+pub stores_all : (v w : View) (bytes : List ℕ) (k : ℕ) → w ≡ stored_more (take k (filled_cells bytes)) v → length bytes / 4 ≤ k → w ≡ stored_more (filled_cells bytes) v
+stores_all v w bytes k e past = e ∙ ap (λ cells. stored_more cells v) (take_all k (filled_cells bytes) (let all = length-filled_cells bytes in omega (arith, all, past)))
+
+-- where the next cell lies
+pub next_at : (v w : View) (bytes : List ℕ) (k at : ℕ) → w ≡ stored_more (take k (filled_cells bytes)) v → k < length bytes / 4 → at ≡ length (stored_by v) → at + k ≡ length (stored_by w)
+next_at v w bytes k at e below is =
+    let long = stored_long v w (take k (filled_cells bytes)) e in
+    let all = length-filled_cells bytes in
+    let part = length-take k (filled_cells bytes) in omega (arith, long, all, part, below, is)
+
+-- the entry of a notification takes as many cells as its length says
+pub entry_long : (sender : Sender) (note : Note) → length (entry_of One sender note) ≡ entry_length One note / 4
+entry_long sender note = length-filled_cells (spelled One note sender.db sender.xid sender.pid) ∙ ap (λ n. n / 4) (length-spelled One note sender.db sender.xid sender.pid)
+
+-- each entry of a run stands within the run
+pub entry_within : (sender : Sender) (run : List Note) (i : ℕ) (note : Note) → slice_get run i ≡ Some note
+    → length (entries_of One sender (take i run)) + length (entry_of One sender note) ≤ length (entries_of One sender run)
+entry_within sender [] i note e = absurd (let inside = slice_get_within [] i note e in omega (arith, inside))
+entry_within sender (n ∷ run) zero note e =
+    let same : n ≡ note = ap (λ (o : Option Note). unwrap_or o n) e in
+    let all = length-append (entry_of One sender n) (entries_of One sender run) in
+    let size = ap (λ (m : Note). length (entry_of One sender m)) same in omega (arith, all, size)
+entry_within sender (n ∷ run) (suc i) note e =
+    let before = entry_within sender run i note e in
+    let part = length-append (entry_of One sender n) (entries_of One sender (take i run)) in
+    let all = length-append (entry_of One sender n) (entries_of One sender run) in omega (arith, before, part, all)
+
+-- the cells of a planned batch end on its page
+pub batch_within : (sender : Sender) (at : ℕ) (notes : List Note) (batch : Batch) (end : ℕ) → HasRoom One at → IsPlanned One at notes batch → page_of at < end
+    → at + length (batch_cells One sender notes batch) ≤ page_start end
+batch_within sender at notes batch end room planned below =
+    let cells = batches_stay.cells One sender at notes batch room planned in
+    let page = batches_stay.page One at notes batch planned in omega (arith, cells, page, below)
+
+pub entries_within : (sender : Sender) (at : ℕ) (notes : List Note) (batch : Batch) (end i : ℕ) (note : Note) → HasRoom One at → IsPlanned One at notes batch → page_of at < end → slice_get (take batch.fits notes) i ≡ Some note
+    → at + length (entries_of One sender (take i (take batch.fits notes))) + length (entry_of One sender note) ≤ page_start end
+entries_within sender at notes batch end i note room planned below e =
+    let all = batch_within sender at notes batch end room planned below in
+    let entries = entries_of One sender (take batch.fits notes) in
+    let filler = cond (batch.filler == 0) [] (filled_cells (filler One batch.filler sender.xid sender.pid)) in
+    let size = length-append entries filler in
+    let part = entry_within sender (take batch.fits notes) i note e in omega (arith, all, size, part)
+
+-- the filler of a batch stands behind its entries
+pub filler_within : (sender : Sender) (at : ℕ) (notes : List Note) (batch : Batch) (end : ℕ) → HasRoom One at → IsPlanned One at notes batch → page_of at < end → 0 < batch.filler
+    → (IsEntryLength One batch.filler) × (at + length (entries_of One sender (take batch.fits notes)) + batch.filler / 4 ≤ page_start end)
+filler_within sender at notes batch end room planned below some =
+    let long = fillers_take_rests.long One at notes batch room planned some in
+    let left = fillers_take_rests.stands One sender at notes batch planned some in
+    let all = batch_within sender at notes batch end room planned below in
+    let entries = entries_of One sender (take batch.fits notes) in
+    let least = long.least in
+    let none : batch.filler == 0 ≡ false = grind (arith, nat_tests, some) in
+    let size : length (batch_cells One sender notes batch) ≡ length entries + length (filled_cells (filler One batch.filler sender.xid sender.pid)) =
+    ap (λ b. length (entries ++ cond b [] (filled_cells (filler One batch.filler sender.xid sender.pid)))) none ∙ length-append entries (filled_cells (filler One batch.filler sender.xid sender.pid)) in
+    let cells = length-filled_cells (filler One batch.filler sender.xid sender.pid) in
+    let bytes = length-filler One batch.filler sender.xid sender.pid (omega (arith, least)) in
+    let quarter : length (filler One batch.filler sender.xid sender.pid) / 4 ≡ batch.filler / 4 = ap (λ n. n / 4) bytes in
+    (long, omega (arith, all, size, cells, quarter))

@@ -1,0 +1,34 @@
+use Rattle.std.proofs.Common.{rules, ◌≡◌, ◌+◌, ◌^◌, ◌<◌, length, sym, ◌∙◌, subst, arith}
+use Rattle.pgn_words.specs.declared.pos_word.PosWord.TheVariants as words
+use Rattle.std.proofs.lemmas.List.{length-set}
+use Rattle.pgn_model.specs.Packing.{image}
+use Rattle.pgn_model.specs.Shape.{Shape}
+use Rattle.pgn_words.specs.Passes.{view_of}
+use Rattle.pgn_wordhub.proofs.LookLaws.{may_look_second, second_goes_on, kept_goes_on, first_stays}
+use Rattle.pgn_wordhub.proofs.hub.WordHub.try_second.Goals as goal
+
+pub second_look-position-requires-clause-next : goal.second_look-position-requires-clause-next
+second_look-position-requires-clause-next c = may_look_second (view_of c.args.pass.now) (view_of c.loop-seat.pass) c.loop-seat.seat c.loop-seat.floor.mark c.loop-seat.floor.at c.loop-seat.floor.holder c.loop-seat.invariant.1
+
+pub loop-seat-preserved : goal.loop-seat-preserved
+loop-seat-preserved c =
+    let v = view_of c.args.pass.now in
+    let w = view_of c.loop-seat.pass in
+    let x = view_of c.second_look-position.new.pass in
+    let inv = c.loop-seat.invariant in
+    let seat = c.loop-seat.seat in
+    let kept = c.keep_for.result in
+    let small : length (image v.setup.format v.known.seen) < 2 ^ 32 = subst (λ (y : Shape). length (image y.format v.known.seen) < 2 ^ 32) (sym c.requires.own.setup) c.requires.low in
+    let test = c.loop-seat-test.true in
+    let end = c.seats-seat-end.ensures in
+    let few = c.args.self.now.shaped.few_seats in
+    let long = inv.3 in
+    let settled : c.second_look-position.result ≡ words.Joining → ⊥ = search rules in
+    let below : seat + 1 < length c.loop-seat.places = omega (arith, test, end, few, long) in (
+      c.second_look-position.ensures.own,
+      second_goes_on v w x seat c.loop-seat.floor.mark c.loop-seat.floor.at c.keep_for.new.self.mark c.keep_for.new.self.at c.loop-seat.floor.holder c.keep_for.new.self.holder c.second_look-position.result
+          c.requires.listens small settled inv.1 c.second_look-position.ensures.looked c.keep_for.ensures.met,
+      kept_goes_on w x seat c.args.tail kept c.loop-seat.places c.second_look-position.result settled c.second_look-position.ensures.looked c.keep_for.ensures.place below inv.2,
+      length-set c.loop-seat.places (seat + 1) kept ∙ inv.3,
+      first_stays c.loop-seat.places (seat + 1) kept c.args.tail (omega arith) inv.4,
+    )

@@ -1,0 +1,73 @@
+-- Small cases that the definitions of this crate refuse, and a few that they meet.
+use Rattle.std.specs.Prelude.{◌*◌, ◌^◌, true, [], ◌∷◌, Some, None}
+use Rattle.pgn_model.specs.Packing.{Sender}
+use Rattle.pgn_hub.specs.Passes.{opened_pass}
+use Rattle.pgn_hub.specs.Examples.{seat, two_seats}
+use Rattle.pgn_words.specs.declared.view.View.{View}
+use Rattle.pgn_words.specs.declared.view.Phase.TheVariants.{Open, Signalling}
+use Rattle.pgn_words.specs.declared.view.Look.TheVariants.{First, Second}
+use Rattle.pgn_words.specs.Views.{opened_view, no_eye}
+use Rattle.pgn_wordhub.specs.declared.looks.Freed.{Freed}
+
+-- the first session's pass as it is opened
+abbrev pub first_pass : View
+first_pass = opened_view two_seats 1
+
+-- the same, as a pass of a third session, which has no seat
+abbrev pub third_pass : View
+third_pass = record first_pass { known = opened_pass 3 seat }
+
+-- the same, once it was told of transaction 3
+abbrev pub told_of_3 : View
+told_of_3 = record first_pass { known = record (opened_pass 1 seat) { told = 4 } }
+
+-- the same, with a mark
+abbrev pub with_mark : View
+with_mark = record first_pass { known = record (opened_pass 1 seat) { mark = Some 3 } }
+
+-- it has an open transaction, and has stored a cell past the head
+abbrev pub stored_one : View
+stored_one = record first_pass { phase = Open; pen = record first_pass.pen { batch = Some 44 ∷ [] } }
+
+-- it has an open transaction and has stored nothing
+abbrev pub writing : View
+writing = record first_pass { phase = Open }
+
+-- it has ended a transaction, and does not know of the first seat whether it needs a wake
+abbrev pub undecided_one : View
+undecided_one = record first_pass { phase = Signalling; undecided = true ∷ [] }
+
+-- its first look has come to no seat yet
+abbrev pub first_look : View
+first_look = record first_pass { eye = record no_eye { look = First } }
+
+-- its second look has come to no seat yet, and the announced tail is before the least mark of the first look
+abbrev pub tail_is_late : View
+tail_is_late = record first_pass { eye = record no_eye { look = Second; least = 4 * 2 ^ 32; tail = 3 * 2 ^ 32 } }
+
+-- its second look has come over one seat
+abbrev pub one_seen : View
+one_seen = record first_pass { eye = record no_eye { look = Second; looked = 1; target = 2048 } }
+
+-- the same, once it has found a session that joins at the other seat
+abbrev pub one_joins : View
+one_joins = record one_seen { eye = record one_seen.eye { joins = Some 1 } }
+
+-- its second look has come over both seats, page 1 is the first that is needed, and the pages before it may be used again
+abbrev pub both_seen : View
+both_seen = record first_pass { stop = 1; eye = record no_eye { look = Second; looked = 2; target = 2048 } }
+
+-- the same, with both pages kept
+abbrev pub none_freed : View
+none_freed = record both_seen { stop = 0 }
+
+-- one page was freed
+abbrev pub one_page : Freed
+one_page = record { from = 0; to = 1; joiner = None }
+
+-- two sessions, as senders of transaction 3 and of one in another database
+abbrev pub sender_3 : Sender
+sender_3 = record { db = 1; xid = 3; pid = 1001 }
+
+abbrev pub other_db : Sender
+other_db = record { db = 2; xid = 3; pid = 1001 }

@@ -1,0 +1,232 @@
+ghost use Rattle.std.specs.Prelude.{◌≡◌, ◌≢◌, ◌+◌, ◌++◌, ◌^◌, ◌<◌, ◌≤◌, true, false, [], ◌∷◌, length, All, AllPairs, IfOk, IfErr};
+ghost use Rattle.pgn_base.specs.Notes.{IsNote};
+ghost use Rattle.pgn_model.specs.Journal.{next_xid};
+ghost use Rattle.pgn_base.specs.declared.format.Format.TheVariants.{One};
+ghost use Rattle.pgn_model.specs.Packing.{page_of, image};
+ghost use Rattle.pgn_model.specs.Shape.{notes_of_seats};
+ghost use Rattle.pgn_model.specs.declared.tx.Fate.TheVariants as fates;
+ghost use Rattle.pgn_hub.specs.Calls.{HasPublished, HasMetFull, HasMeasured};
+ghost use Rattle.pgn_words.specs.Passes.{IsPassOf, view_of, known_of};
+ghost use Rattle.pgn_words.specs.Positions.{listens_at};
+ghost use Rattle.pgn_words.specs.Views.{may_look};
+ghost use Rattle.pgn_words.specs.Told.{MayEnd, head_known, stop_known, freed};
+ghost use Rattle.pgn_words.specs.declared.view.Phase.TheVariants as phases;
+ghost use Rattle.pgn_wordhub.specs.Passes.{hub_shape, IsHubPass};
+ghost use Rattle.pgn_wordhub.specs.Advancing.{advanced_view, HasTried, HasTriedTail, IsFreed};
+ghost use Rattle.pgn_wordhub.specs.Placing.{begun_view, IsPlacing};
+ghost use Rattle.pgn_wordhub.specs.Finishing.{own_tx, finished_view, HasCommitted, HasEnded};
+
+use crate::WordHub;
+use crate::floor::Floor;
+use crate::looks::Freed;
+use crate::placing::Placing;
+use pgn_base::{CLEANUP_DELAY_PAGES, Full, Note, Usage, Xid};
+use pgn_layout::Pos;
+use pgn_model::Fate;
+use pgn_words::WordPass;
+use std::sync::Wait;
+
+impl WordHub {
+    // Ends the transaction with a fate, and wakes those that it concerns.
+    fn finish(&self, pass: &mut WordPass, xid: Xid, fate: Fate, queued: usize, head: Pos)
+        requires own { IsPassOf self.now.queue pass.old }
+        requires phase { (view_of pass.old).phase ≡ phases.Open }
+        requires xid { xid ≡ next_xid (known_of pass.old).seen }
+        requires reach { length (known_of pass.old).seen < notes_of_seats (hub_shape self.now).seats }
+        requires low { queued < 2 ^ 32 }
+        requires ends { MayEnd (view_of pass.old) (own_tx (view_of pass.old) queued fate) }
+        requires head { head ≡ length (image (hub_shape self.now).format ((known_of pass.old).seen ++ own_tx (view_of pass.old) queued fate ∷ [])) }
+        ensures own { IsPassOf self.now.queue pass.new }
+        ensures view { view_of pass.new ≡ finished_view (own_tx (view_of pass.old) queued fate) (view_of pass.new).undecided (view_of pass.old) }
+        ensures decided { All (λ undecided. undecided ≡ false) (view_of pass.new).undecided }
+    {
+        self.queue.set_status(pass, xid, fate, queued as u32);
+        self.queue.store_fin(pass, xid);
+        self.wake(pass, head);
+    }
+
+    // After a commit, advances the tail once in a while: where the head has entered a page whose number is a multiple of four.
+    fn clean_up(&self, pass: &mut WordPass, xid: Xid, from: Pos, placing: &Placing)
+        requires own { IsPassOf self.now.queue pass.old }
+        requires phase { may_look (view_of pass.old).phase ≡ true }
+        requires number { xid + 1 ≡ next_xid (known_of pass.old).seen }
+        requires few { xid + 1 < 2 ^ 32 }
+        requires head { placing.now.at ≡ length (image One (known_of pass.old).seen) }
+        requires low { placing.now.at < 2 ^ 32 }
+        requires listens { (known_of pass.old).mark ≡ listens_at (view_of pass.old).post }
+        requires stop { placing.now.stop ≡ (view_of pass.old).stop }
+        ensures own { IsPassOf self.now.queue pass.new }
+        ensures tried { HasTried (view_of pass.old) (view_of pass.new) }
+    {
+        let every = CLEANUP_DELAY_PAGES;
+        if from.page() / every < placing.at.page() / every {
+            let next = Xid::new(xid.get() + 1);
+            let _freed = self.try_advance(pass, next, placing.at, placing.stop);
+        }
+    }
+
+    // Why a transaction met a full queue.
+    fn full_of(xid: Xid, placing: &Placing, floor: &Floor) -> Full
+        requires { placing.now.placed < 2 ^ 32 }
+        ensures { result ≡ record {
+          xid = xid;
+          queued = placing.now.placed;
+          head_page = page_of placing.now.at;
+          floor_mark = floor.now.mark;
+          floor_page = page_of floor.now.at;
+          holder = floor.now.holder;
+        } }
+    {
+        Full {
+            xid,
+            queued: placing.placed as u32,
+            head_page: placing.at.page(),
+            floor_mark: floor.mark,
+            floor_page: floor.at.page(),
+            holder: floor.holder,
+        }
+    }
+
+    // Loads the head and the oldest kept page, and draws the number of a transaction with these notifications.
+    fn begin(&self, pass: &mut WordPass, notes: &[Note]) -> (Xid, Placing)
+        requires own { IsPassOf self.now.queue pass.old }
+        requires phase { (view_of pass.old).phase ≡ phases.Held }
+        requires valid { All IsNote notes.now }
+        requires some { notes.now ≢ [] }
+        requires different { AllPairs (λ a b. a ≢ b) notes.now }
+        requires few { length notes.now ≤ (known_of pass.old).notes_left }
+        ensures own { IsPassOf self.now.queue pass.new }
+        ensures view { view_of pass.new ≡ begun_view notes.now result.1.stop (view_of pass.old) }
+        ensures number { result.0 ≡ next_xid (known_of pass.old).seen }
+        ensures placing { IsPlacing (view_of pass.new) notes.now result.1.placed result.1.at }
+        ensures none_placed { result.1.placed ≡ 0 }
+        ensures start { result.1.at ≡ length (image One (known_of pass.old).seen) }
+    {
+        let at = self.queue.load_head(pass);
+        let stop = self.queue.load_stop(pass);
+        let xid = self.queue.draw_xid(pass, notes);
+        let placing = Placing {
+            at,
+            stop,
+            placed: 0,
+        };
+        (xid, placing)
+    }
+
+    // Ends a transaction of which all notifications are placed.
+    fn commit(&self, pass: &mut WordPass, xid: Xid, from: Pos, placing: &Placing)
+        requires own { IsPassOf self.now.queue pass.old }
+        requires phase { (view_of pass.old).phase ≡ phases.Open }
+        requires xid { xid ≡ next_xid (known_of pass.old).seen }
+        requires reach { length (known_of pass.old).seen < notes_of_seats (hub_shape self.now).seats }
+        requires placed { placing.now.placed < 2 ^ 32 }
+        requires ends { MayEnd (view_of pass.old) (own_tx (view_of pass.old) placing.now.placed fates.Committed) }
+        requires end { placing.now.at ≡ length (view_of pass.old).pen.cells }
+        requires low { placing.now.at < 2 ^ 32 }
+        requires stop { placing.now.stop ≡ (view_of pass.old).stop }
+        requires listens { (known_of pass.old).mark ≡ listens_at (view_of pass.old).post }
+        ensures own { IsPassOf self.now.queue pass.new }
+        ensures committed { HasCommitted (view_of pass.old) (view_of pass.new) (own_tx (view_of pass.old) placing.now.placed fates.Committed) }
+    {
+        self.finish(pass, xid, Fate::Committed, placing.placed, placing.at);
+        self.clean_up(pass, xid, from, placing);
+    }
+
+    // Publishes a transaction under the lock. The pass is told of it once it gives the lock up.
+    pub(crate) fn publish_locked<R: Wait>(
+        &self,
+        rt: &R,
+        pass: &mut WordPass,
+        notes: &[Note],
+    ) -> Result<Xid, Full>
+        requires own { IsPassOf self.now.queue pass.old }
+        requires phase { (view_of pass.old).phase ≡ phases.Held }
+        requires listens { (known_of pass.old).mark ≡ listens_at (view_of pass.old).post }
+        requires room { length (known_of pass.old).seen + (known_of pass.old).notes_left ≤ notes_of_seats (hub_shape self.now).seats }
+        requires valid { All IsNote notes.now }
+        requires some { notes.now ≢ [] }
+        requires different { AllPairs (λ a b. a ≢ b) notes.now }
+        requires few { length notes.now ≤ (known_of pass.old).notes_left }
+        ensures own { IsPassOf self.now.queue pass.new }
+        ensures ended { HasEnded (view_of pass.old) (view_of pass.new) }
+        ensures committed { IfOk result (λ x. HasPublished (known_of pass.old) (freed (view_of pass.new)).known notes.now x) }
+        ensures full { IfErr result (λ full. HasMetFull (hub_shape self.now) (known_of pass.old) (freed (view_of pass.new)).known notes.now full) }
+    {
+        let (xid, mut placing) = self.begin(pass, notes);
+        let from = placing.at;
+        match self.place_all(rt, pass, notes, xid, &mut placing) {
+            None => {
+                self.commit(pass, xid, from, &placing);
+                Ok(xid)
+            }
+            Some(floor) => {
+                self.finish(pass, xid, Fate::Aborted, placing.placed, placing.at);
+                Err(WordHub::full_of(xid, &placing, &floor))
+            }
+        }
+    }
+
+    // What is in use, under the lock.
+    pub(crate) fn measure<R: Wait>(&self, rt: &R, pass: &mut WordPass) -> Usage
+        requires own { IsPassOf self.now.queue pass.old }
+        requires phase { (view_of pass.old).phase ≡ phases.Held }
+        requires listens { (known_of pass.old).mark ≡ listens_at (view_of pass.old).post }
+        ensures own { IsPassOf self.now.queue pass.new }
+        ensures view { view_of pass.new ≡ advanced_view (view_of pass.new) (stop_known (view_of pass.new).stop (head_known (view_of pass.old))) }
+        ensures measured { HasMeasured (hub_shape self.now) (known_of pass.old) (known_of pass.new) result }
+    {
+        let head = self.queue.load_head(pass);
+        let stop = self.queue.load_stop(pass);
+        let at = self.queue.load_fin(pass);
+        let (floor, _) = self.advance(rt, pass, at, head, stop);
+        Usage {
+            at,
+            occupied: head.page() - floor.at.page(),
+            limit: self.pages,
+            floor_mark: floor.mark,
+            holder: floor.holder,
+        }
+    }
+
+    // Advances the tail once under the lock, but for where a session joins.
+    fn try_tail(&self, pass: &mut WordPass) -> Freed
+        requires own { IsPassOf self.now.queue pass.old }
+        requires phase { (view_of pass.old).phase ≡ phases.Held }
+        requires listens { (known_of pass.old).mark ≡ listens_at (view_of pass.old).post }
+        ensures own { IsPassOf self.now.queue pass.new }
+        ensures tried { HasTried (stop_known result.from (head_known (view_of pass.old))) (view_of pass.new) }
+        ensures freed { IsFreed (hub_shape self.now) (view_of pass.new) result }
+    {
+        let head = self.queue.load_head(pass);
+        let from = self.queue.load_stop(pass);
+        let next = self.queue.load_fin(pass);
+        match self.try_advance(pass, next, head, from) {
+            Ok(to) => Freed {
+                from,
+                to,
+                joiner: None,
+            },
+            Err(joiner) => Freed {
+                from,
+                to: from,
+                joiner: Some(joiner),
+            },
+        }
+    }
+
+    /// Advances the tail once, without waiting for a session that joins.
+    ///
+    /// It waits for the lock. Where each seat was looked at twice, the oldest kept page is then that of the first place which a session
+    /// still needs, and never less than it was; at a session that joins the call gives up, and all pages stay. It takes no memory.
+    pub fn advance_tail<R: Wait>(&self, rt: &R, pass: &mut WordPass) -> Freed
+        requires own { IsHubPass self.now pass.old }
+        ensures own { IsHubPass self.now pass.new }
+        ensures tried { HasTriedTail (known_of pass.old) (known_of pass.new) }
+        ensures freed { IsFreed (hub_shape self.now) (view_of pass.new) result }
+    {
+        self.lock(rt, pass);
+        let freed = self.try_tail(pass);
+        self.queue.drop_lock(pass);
+        freed
+    }
+}
