@@ -1,5 +1,6 @@
 mod DrainLaws
 mod FlagWalkLaws
+mod GiveUpLaws
 mod LastReadLaws
 mod ListLemmas
 mod MeetLaws

@@ -1,6 +1,8 @@
 -- What the sessions of a scenario are given: seats, passes and scripts.
-use Rattle.std.specs.Prelude.{◌≡◌, ℕ, ◌≤◌, List, ◌++◌, map, take, drop, All}
+use Rattle.std.specs.Prelude.{◌≡◌, ℕ, ◌+◌, ◌≤◌, List, length, ◌++◌, map, take, drop, All}
 use Rattle.pgn_model.specs.declared.known.Known.{Known}
+use Rattle.pgn_base.specs.declared.format.Format.TheVariants.{One}
+use Rattle.pgn_model.specs.declared.scenario.Scenario.{Scenario}
 use Rattle.pgn_model.specs.declared.scenario.Section.{Section}
 use Rattle.pgn_model.specs.declared.setup.SeatSetup.{SeatSetup}
 use Rattle.pgn_model.specs.Shape.{Shape}
@@ -34,3 +36,11 @@ pub record HaveOpened {P : Type 0} (known : P → Known) (plan : FlagPlan) (pati
   pub rest : map known left ≡ map opened_for (drop count sections)
   pub scripts : map script_of sessions ≡ map (script_for plan patience) (take count sections)
   pub rested : (shape : Shape) → All (HasRest shape known) sessions
+
+-- the flags that the scripts name come first, and then an end flag for each session
+abbrev pub plan_for : Scenario → FlagPlan
+plan_for scenario = record { first_end = length scenario.flags; sessions = length scenario.sections }
+
+-- what the hub is opened for: a seat for each section, and these flags
+abbrev pub shape_for : Scenario → ℕ → Shape
+shape_for scenario pages = record { format = One; pages = pages; flags = length scenario.flags + length scenario.sections; seats = map seat_for scenario.sections }

@@ -1,12 +1,12 @@
 -- What holds of whole sessions before they run and once they are over.
-use Rattle.std.specs.Prelude.{◌≡◌, ℕ}
+use Rattle.std.specs.Prelude.{◌≡◌, ℕ, Contains}
 use Rattle.pgn_model.specs.declared.known.Known.{Known}
 use Rattle.pgn_model.specs.declared.scenario.Section.{Section}
 use Rattle.pgn_model.specs.Shape.{Shape}
 use Rattle.pgn_session.specs.declared.session.Session.{Session}
 use Rattle.pgn_session.specs.declared.doing.FlagPlan.{FlagPlan}
 use Rattle.pgn_session.specs.declared.doing.Doing.TheVariants.{Over}
-use Rattle.pgn_session.specs.Standing.{IsServedBy}
+use Rattle.pgn_session.specs.Standing.{IsServedBy, end_flag}
 use Rattle.pgn_session.specs.Whole.{HasRest}
 
 -- what a session was given to run
@@ -29,3 +29,7 @@ pub record IsOver {P : Type 0} (is_own : P → Type 0) (shape : Shape) (known : 
   pub own : is_own s.pass
   pub over : s.doing ≡ Over
   pub rested : HasRest shape known s
+
+-- the session has raised its end flag with what it was told, so that no other waits for it
+abbrev pub HasGivenUp : {P : Type 0} → (P → Known) → Session P → Type 0
+HasGivenUp known s = Contains (known s.pass).raised (end_flag s.plan s.section.no, (known s.pass).told)

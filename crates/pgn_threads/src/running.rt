@@ -1,6 +1,7 @@
-ghost use Rattle.std.specs.Prelude.{◌≡◌, ◌<◌, map, length, OnOk, All};
+ghost use Rattle.std.specs.Prelude.{◌≡◌, ◌<◌, map, length, OnOk, OnErr, All};
 ghost use Rattle.std.specs.Thread.{IsSync, IsSend};
-ghost use Rattle.pgn_threads.specs.Whole.{IsReady, IsOver, script_of};
+ghost use Rattle.pgn_session.specs.Standing.{IsServedBy};
+ghost use Rattle.pgn_threads.specs.Whole.{HasGivenUp, IsReady, IsOver, script_of};
 
 use pgn_hub::Hub;
 use pgn_model::PassView;
@@ -77,12 +78,22 @@ fn run_session<P: PassView + Send + Drop, H: Hub<Pass = P>, R: Wait>(
     requires ready { IsReady (H.is_pass hub.now) (H.shape hub.now) P.known session.old }
     ensures over { OnOk result (IsOver (H.is_pass hub.now) (H.shape hub.now) P.known session.new) }
     ensures script { OnOk result (script_of session.new ≡ script_of session.old) }
+    ensures gave_up { OnErr result (HasGivenUp P.known session.new) }
 {
     if go_on(rt, alloc, hub, session).is_err() {
-        session.give_up(hub);
+        give_up(hub, session);
         return Err(AllocError);
     }
     Ok(())
+}
+
+// Raises the session's end flag, so that no other waits for it.
+fn give_up<P: PassView + Send + Drop, H: Hub<Pass = P>>(hub: &H, session: &mut Session<P>)
+    requires own { H.is_pass hub.now session.old.pass }
+    requires served { IsServedBy (H.shape hub.now) session.old.section session.old.plan }
+    ensures gave_up { HasGivenUp P.known session.new }
+{
+    session.give_up(hub);
 }
 
 // Takes step after step, and reads between them, until the session is over or is refused memory.

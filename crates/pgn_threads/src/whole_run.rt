@@ -7,6 +7,7 @@ ghost use Rattle.pgn_hub.specs.Passes.{IsWithin};
 ghost use Rattle.pgn_threads.specs.Parts.{HasReadAll};
 ghost use Rattle.pgn_threads.specs.Whole.{IsReady, IsOver, script_of};
 ghost use Rattle.pgn_threads.specs.Drain.{passes_of};
+ghost use Rattle.pgn_threads.specs.Opened.{plan_for, script_for, shape_for};
 
 use crate::opening::{logs, open_sessions, seats_for};
 use crate::{drain, run_sessions};
@@ -40,6 +41,31 @@ pub fn run_on_hub<H: Hub + Sync + Drop, R: Threads + Wait + Sync>(
     requires patient { 1 ≤ patience }
     ensures legal { IfOk result (λ run. Legal scenario.now (record { format = One; limit = pages; patience = patience }) run.journal.items run.traces.items) }
 {
+    let (hub, mut sessions) = open_on_hub::<H>(alloc, scenario, pages, patience)?;
+    settle(rt, alloc, &hub, sessions.as_mut_slice())?;
+    let (passes, traces) = logs(alloc, sessions)?;
+    are_within(&hub, passes.as_slice());
+    let _roll = hub.gather(passes);
+    let journal = merge(alloc, traces.as_slice())?;
+    Ok(Run { journal, traces })
+}
+
+/// Opens a hub of this type for a scenario, with a limit of so many pages, and makes a session for each section, ready to run, where
+/// an await takes so many looks. The error is that memory did not suffice.
+pub fn open_on_hub<H: Hub + Drop>(
+    alloc: Global,
+    scenario: &Scenario,
+    pages: u32,
+    patience: u64,
+) -> Result<(H, Vec<Session<H::Pass>>), AllocError>
+    requires sound { IsSound scenario.now }
+    requires some_pages { PAGES_MIN ≤ pages }
+    requires few_pages { pages ≤ PAGES_MAX }
+    requires patient { 1 ≤ patience }
+    ensures shape { IfOk result (λ opened. H.shape opened.0 ≡ shape_for scenario.now pages) }
+    ensures ready { IfOk result (λ opened. All (IsReady (H.is_pass opened.0) (H.shape opened.0) H.Pass.known) opened.1.items) }
+    ensures scripts { IfOk result (λ opened. map script_of opened.1.items ≡ map (script_for (plan_for scenario.now) patience) scenario.now.sections) }
+{
     let sections = scenario.sections.as_slice();
     let plan = FlagPlan {
         first_end: scenario.flags.as_slice().len() as u32,
@@ -48,13 +74,8 @@ pub fn run_on_hub<H: Hub + Sync + Drop, R: Threads + Wait + Sync>(
     let seats = seats_for(alloc, sections)?;
     let setup = Setup::new(pages, plan.first_end + plan.sessions, seats);
     let (hub, passes) = H::open(alloc, setup)?;
-    let mut sessions = open_sessions(alloc, passes, sections, plan, patience)?;
-    settle(rt, alloc, &hub, sessions.as_mut_slice())?;
-    let (passes, traces) = logs(alloc, sessions)?;
-    are_within(&hub, passes.as_slice());
-    let _roll = hub.gather(passes);
-    let journal = merge(alloc, traces.as_slice())?;
-    Ok(Run { journal, traces })
+    let sessions = open_sessions(alloc, passes, sections, plan, patience)?;
+    Ok((hub, sessions))
 }
 
 // Runs sessions until all are over, and drains them.
