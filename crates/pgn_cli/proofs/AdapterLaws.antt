@@ -1,5 +1,5 @@
 -- Bytes that an interrupted call has kept.
-use Rattle.std.proofs.Common.{◌≡◌, ℕ, List, ◌++◌, Option, Some, None, Result, Ok, Err, take, sym, ap, ◌∙◌, refl}
+use Rattle.std.proofs.Common.{ℕ, List, ◌++◌, Option, Some, None, Result, Ok, Err, take, sym, ap, ◌∙◌, refl}
 use Rattle.std.specs.Io.KnownBytes.{Keeps, Appends, Consumes, ReadConsumes, WriteAppends}
 
 -- bytes keep themselves

@@ -1,10 +1,14 @@
 -- What stands on the errors' stream where a run has ended.
-use Rattle.std.proofs.Common.{◌≡◌, ◌≢◌, ℕ, List, [], Option, Some, None, Result, Ok, Err, IfOk, sym, ap, ◌∙◌, append-nil}
+use Rattle.std.proofs.Common.{◌≡◌, ◌≢◌, ℕ, List, [], Option, Some, None, Result, Ok, Err, IfOk, IfSome, sym, ap, ◌∙◌, refl, arith, append-nil}
 use Rattle.std.specs.Io.KnownBytes.{Appends}
 use Rattle.pgn_base.specs.Outside.{AppendsPrefix, HasCause, Rose, Writes}
+use Rattle.pgn_model.specs.declared.scenario.ScenarioFault.{ScenarioFault}
+use Rattle.pgn_model.specs.Inputs.{ReadsAsScenario}
 use Rattle.pgn_run.specs.declared.status.Status.{Status}
-use Rattle.pgn_run.specs.declared.status.Status.TheVariants.{NoMemory, BadWords}
+use Rattle.pgn_run.specs.declared.status.Status.TheVariants.{Done, BadWords, BadScenario, ReadFault, WriteFault, NoMemory}
 use Rattle.pgn_run.specs.Run.{code_of}
+use Rattle.pgn_cli.specs.FaultLine.{fault_text}
+use Rattle.pgn_cli.specs.Program.{IsRefused, NamesFault}
 
 -- a whole text is a prefix of itself
 whole-prefix : (old new : Option (List ℕ)) (text : List ℕ) → Appends old new text → AppendsPrefix old new text
@@ -27,3 +31,42 @@ pub code-of_words : {T E : Type 0} (words : Result T E) (AreOther : T → Type 0
     → IfOk words (λ (w : T). AreOther w → status ≢ NoMemory → status ≡ BadWords) → IfOk words (λ (w : T). AreOther w → code ≢ 6 → code ≡ 2)
 code-of_words (Ok w) AreOther status code is h = λ other memory. is ∙ ap code_of (h other (λ short. memory (is ∙ ap code_of short)))
 code-of_words (Err e) AreOther status code is h = h
+
+-- the status of a scenario's fault names it
+pub names-fault : (left old new : Option (List ℕ)) (status : Status) (code : ℕ) → code ≡ code_of status → AppendsPrefix old new (fault_text status)
+    → ((fault : ScenarioFault) → status ≡ BadScenario fault → IfSome left (λ input. ReadsAsScenario input (Err fault))) → code ≡ 3 → IfSome left (NamesFault old new)
+names-fault None old new status code is line reads three = tt
+names-fault (Some input) old new Done code is line reads three = absurd (omega (arith, is, three))
+names-fault (Some input) old new BadWords code is line reads three = absurd (omega (arith, is, three))
+names-fault (Some input) old new (BadScenario fault) code is line reads three = record { fault = fault; reads = reads fault refl; line = line }
+names-fault (Some input) old new ReadFault code is line reads three = absurd (omega (arith, is, three))
+names-fault (Some input) old new WriteFault code is line reads three = absurd (omega (arith, is, three))
+names-fault (Some input) old new NoMemory code is line reads three = absurd (omega (arith, is, three))
+
+-- what is not done, and no write that failed, has written nothing
+pub refused-keeps : (old new : Option (List ℕ)) (status : Status) → (status ≡ BadWords → new ≡ old) → ((fault : ScenarioFault) → status ≡ BadScenario fault → new ≡ old)
+    → (status ≡ ReadFault → new ≡ old) → (status ≡ NoMemory → new ≡ old) → IsRefused status → new ≡ old
+refused-keeps old new Done words scenario read memory refused = absurd refused
+refused-keeps old new BadWords words scenario read memory refused = words refl
+refused-keeps old new (BadScenario fault) words scenario read memory refused = scenario fault refl
+refused-keeps old new ReadFault words scenario read memory refused = read refl
+refused-keeps old new WriteFault words scenario read memory refused = absurd refused
+refused-keeps old new NoMemory words scenario read memory refused = memory refl
+
+-- the status of what has written nothing
+pub refused-code : (status : Status) (code : ℕ) → code ≡ code_of status → code ≢ 0 → code ≢ 5 → IsRefused status
+refused-code Done code is done fault = absurd (done is)
+refused-code BadWords code is done fault = tt
+refused-code (BadScenario found) code is done fault = tt
+refused-code ReadFault code is done fault = tt
+refused-code WriteFault code is done fault = absurd (fault is)
+refused-code NoMemory code is done fault = tt
+
+-- the status of a write that failed
+pub write-fault-code : (status : Status) (code : ℕ) → code ≡ code_of status → code ≡ 5 → status ≡ WriteFault
+write-fault-code Done code is five = absurd (omega (arith, is, five))
+write-fault-code BadWords code is five = absurd (omega (arith, is, five))
+write-fault-code (BadScenario found) code is five = absurd (omega (arith, is, five))
+write-fault-code ReadFault code is five = absurd (omega (arith, is, five))
+write-fault-code WriteFault code is five = refl
+write-fault-code NoMemory code is five = absurd (omega (arith, is, five))

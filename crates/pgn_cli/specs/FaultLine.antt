@@ -1,7 +1,7 @@
 -- The line on standard error.
 use Rattle.std.specs.Prelude.{ℕ, List, [], ◌++◌, codes, decimal}
 use Rattle.pgn_run.specs.declared.status.Status.{Status}
-use Rattle.pgn_run.specs.declared.status.Status.TheVariants.{Done, BadWords, BadScenario, ReadFault, WriteFault, NoMemory, NotBuilt}
+use Rattle.pgn_run.specs.declared.status.Status.TheVariants.{Done, BadWords, BadScenario, ReadFault, WriteFault, NoMemory}
 use Rattle.pgn_model.specs.declared.scenario.ScenarioFault.{ScenarioFault}
 use Rattle.pgn_model.specs.declared.scenario.ScenarioFault.TheVariants.{TooLarge, LineTooLong, NotUtf8, NulByte, BadMeta, NoSession, SameName, TooMany, Empty, NeverSignalled}
 
@@ -30,4 +30,3 @@ fault_text (BadScenario fault) = scenario_fault_text fault
 fault_text ReadFault = codes "pgnotify: read failed\n"
 fault_text WriteFault = codes "pgnotify: write failed\n"
 fault_text NoMemory = codes "pgnotify: out of memory\n"
-fault_text (NotBuilt line) = line_fault line (codes ": not built yet\n")

@@ -1,12 +1,15 @@
 -- How the program ends.
-use Rattle.std.specs.Prelude.{◌≡◌, ℕ, List, Option}
+use Rattle.std.specs.Prelude.{◌≡◌, ℕ, List, Option, Err}
 use Rattle.std.specs.Io.KnownBytes.{Appends}
 use Rattle.std.specs.declared.io.ErrorKind.{ErrorKind}
 use Rattle.std.specs.declared.io.ErrorKind.TheVariants.{OutOfMemory}
 use Rattle.pgn_base.specs.Outside.{AppendsPrefix, Rose}
+use Rattle.pgn_model.specs.declared.scenario.ScenarioFault.{ScenarioFault}
+use Rattle.pgn_model.specs.Inputs.{ReadsAsScenario}
 use Rattle.pgn_run.specs.declared.status.Status.{Status}
+use Rattle.pgn_run.specs.declared.status.Status.TheVariants.{Done, WriteFault}
 use Rattle.pgn_run.specs.Run.{code_of}
-use Rattle.pgn_cli.specs.FaultLine.{fault_text}
+use Rattle.pgn_cli.specs.FaultLine.{fault_text, scenario_fault_text}
 use Rattle.pgn_cli.specs.declared.words.NoWords.{NoWords}
 use Rattle.pgn_cli.specs.declared.words.NoWords.TheVariants.{Memory, NotText}
 
@@ -15,9 +18,21 @@ abbrev pub refused_for : ErrorKind → NoWords
 refused_for OutOfMemory = Memory
 refused_for kind = NotText
 
+-- the outcomes with which nothing is written
+abbrev pub IsRefused : Status → Type 0
+IsRefused Done = ⊥
+IsRefused WriteFault = ⊥
+IsRefused status = Unit {0}
+
 -- the exit status is that of an outcome, and the outcome's line was written to the errors, whole where no fault was counted
 pub record Ends (code : ℕ) (old new : Option (List ℕ)) (before now : ℕ) : Type 0 where
   pub status : Status
   pub is_code : code ≡ code_of status
   pub line : AppendsPrefix old new (fault_text status)
   pub whole : ¬ Rose before now → Appends old new (fault_text status)
+
+-- the input is no scenario, and the line of its fault was written to the errors, or a prefix of that line
+pub record NamesFault (old new : Option (List ℕ)) (input : List ℕ) : Type 0 where
+  pub fault : ScenarioFault
+  pub reads : ReadsAsScenario input (Err fault)
+  pub line : AppendsPrefix old new (scenario_fault_text fault)

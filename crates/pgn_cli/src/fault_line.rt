@@ -23,7 +23,6 @@ pub fn fault_line<K: Sink>(sink: &mut K, status: &Status) -> Result<(), Failed>
         Status::ReadFault => write_all(sink, b"pgnotify: read failed\n"),
         Status::WriteFault => write_all(sink, b"pgnotify: write failed\n"),
         Status::NoMemory => write_all(sink, b"pgnotify: out of memory\n"),
-        Status::NotBuilt { line } => at_line(sink, *line, b": not built yet\n"),
     }
 }
 

@@ -18,6 +18,7 @@ use words::words;
 
 fn main(rt: HostRuntime) -> ExitCode {
     ExitCode::from(program(
+        &rt,
         rt.alloc(),
         words(&rt),
         &mut Input::new(rt.stdin()),

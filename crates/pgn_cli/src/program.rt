@@ -1,18 +1,23 @@
-ghost use Rattle.std.specs.Prelude.{◌≡◌, ◌≢◌, ◌<◌, map, string_bytes, IfOk, IfSome};
+ghost use Rattle.std.specs.Prelude.{◌≡◌, ◌≢◌, ◌<◌, map, string_bytes, Err, IfOk, IfSome};
 ghost use Rattle.std.specs.Io.KnownBytes.{Appends};
-ghost use Rattle.pgn_base.specs.Outside.{Rose};
+ghost use Rattle.pgn_base.specs.Outside.{AppendsPrefix, Rose};
+ghost use Rattle.pgn_model.specs.declared.scenario.ScenarioFault.{ScenarioFault};
+ghost use Rattle.pgn_model.specs.Inputs.{ReadsAsScenario};
 ghost use Rattle.pgn_run.specs.Run.{Runs, run_words};
-ghost use Rattle.pgn_cli.specs.Program.{Ends};
+ghost use Rattle.pgn_cli.specs.Program.{Ends, IsRefused, NamesFault};
 
 use crate::fault_line::fault_line;
 use crate::words::NoWords;
 use pgn_base::{Sink, Source};
 use pgn_run::{Status, run_notify};
 use std::alloc::{AllocError, Global};
+use std::sync::Wait;
+use std::thread::Threads;
 
 /// All that the program does: it makes the one call of the product over these words, and writes one line to `errors` where the
-/// run is not done. The result is the exit status.
-pub fn program<S: Source, K: Sink, E: Sink>(
+/// run is not done. The result is the exit status. Sessions may wait for one another, so that it is not promised that the call returns.
+pub fn program<S: Source, K: Sink, E: Sink, R: Threads + Wait + Sync>(
+    rt: &R,
     alloc: Global,
     words: Result<Vec<String>, NoWords>,
     source: &mut S,
@@ -21,32 +26,39 @@ pub fn program<S: Source, K: Sink, E: Sink>(
 ) -> u8
     ensures ends { Ends result (E.held errors.old) (E.held errors.new) (E.faults errors.old) (E.faults errors.new) }
     ensures done { result ≡ 0 → IfSome (S.left source.old) (λ input. Runs input (Appends (K.held sink.old) (K.held sink.new))) }
+    ensures bad_scenario { result ≡ 3 → IfSome (S.left source.old) (NamesFault (E.held errors.old) (E.held errors.new)) }
     ensures read_fault { result ≡ 4 → Rose (S.faults source.old) (S.faults source.new) }
     ensures read_fault_where_due { S.faults source.old < S.faults source.new → result ≡ 4 }
     ensures write_fault { result ≡ 5 → Rose (K.faults sink.old) (K.faults sink.new) }
     ensures write_fault_where_due { K.faults sink.old < K.faults sink.new → result ≡ 5 }
+    ensures write_fault_writes_a_prefix { result ≡ 5 → IfSome (S.left source.old) (λ input. Runs input (AppendsPrefix (K.held sink.old) (K.held sink.new))) }
+    ensures refused_writes_nothing { result ≢ 0 → result ≢ 5 → K.held sink.new ≡ K.held sink.old }
     ensures no_memory { words ≡ Err NoWords.Memory → result ≡ 6 }
     ensures not_text { words ≡ Err NoWords.NotText → result ≡ 2 }
     ensures right_words { IfOk words (λ words. result ≡ 2 → map string_bytes words.items ≢ run_words) }
     ensures other_words { IfOk words (λ words. map string_bytes words.items ≢ run_words → result ≢ 6 → result ≡ 2) }
 {
-    let status = status_of(alloc, words, source, sink);
+    let status = status_of(rt, alloc, words, source, sink);
     let _ = fault_line(errors, &status);
     status.code()
 }
 
 // How a run of these words ends.
-fn status_of<S: Source, K: Sink>(
+fn status_of<S: Source, K: Sink, R: Threads + Wait + Sync>(
+    rt: &R,
     alloc: Global,
     words: Result<Vec<String>, NoWords>,
     source: &mut S,
     sink: &mut K,
 ) -> Status
     ensures done { result ≡ Status.Done → IfSome (S.left source.old) (λ input. Runs input (Appends (K.held sink.old) (K.held sink.new))) }
+    ensures bad_scenario { (fault : ScenarioFault) → result ≡ Status.BadScenario fault → IfSome (S.left source.old) (λ input. ReadsAsScenario input (Err fault)) }
     ensures read_fault { result ≡ Status.ReadFault → Rose (S.faults source.old) (S.faults source.new) }
     ensures read_fault_where_due { S.faults source.old < S.faults source.new → result ≡ Status.ReadFault }
     ensures write_fault { result ≡ Status.WriteFault → Rose (K.faults sink.old) (K.faults sink.new) }
     ensures write_fault_where_due { K.faults sink.old < K.faults sink.new → result ≡ Status.WriteFault }
+    ensures write_fault_writes_a_prefix { result ≡ Status.WriteFault → IfSome (S.left source.old) (λ input. Runs input (AppendsPrefix (K.held sink.old) (K.held sink.new))) }
+    ensures refused_writes_nothing { IsRefused result → K.held sink.new ≡ K.held sink.old }
     ensures no_memory { words ≡ Err NoWords.Memory → result ≡ Status.NoMemory }
     ensures not_text { words ≡ Err NoWords.NotText → result ≡ Status.BadWords }
     ensures right_words { IfOk words (λ words. result ≡ Status.BadWords → map string_bytes words.items ≢ run_words) }
@@ -58,7 +70,7 @@ fn status_of<S: Source, K: Sink>(
         Err(NoWords::NotText) => return Status::BadWords,
     };
     match borrowed(alloc, words.as_slice()) {
-        Ok(words) => run_notify(alloc, words.as_slice(), source, sink),
+        Ok(words) => run_notify(rt, alloc, words.as_slice(), source, sink),
         Err(AllocError) => Status::NoMemory,
     }
 }

@@ -8,11 +8,13 @@ use pgn_run::Status;
 use std::alloc::{AllocError, Global};
 use std::io;
 use std::io::{ErrorKind, Read, Write};
+use std::sync::Wait;
 use std::test::Fail;
+use std::thread::Threads;
 
 #[test]
 fn one_line_on_standard_error(rt: HostRuntime) -> Result<(), Fail> {
-    let table: [(Status, u8, &[u8]); 16] = [
+    let table: [(Status, u8, &[u8]); 15] = [
         (Status::Done, 0, b""),
         (
             Status::BadWords,
@@ -72,11 +74,6 @@ fn one_line_on_standard_error(rt: HostRuntime) -> Result<(), Fail> {
         (Status::ReadFault, 4, b"pgnotify: read failed\n"),
         (Status::WriteFault, 5, b"pgnotify: write failed\n"),
         (Status::NoMemory, 6, b"pgnotify: out of memory\n"),
-        (
-            Status::NotBuilt { line: 12 },
-            7,
-            b"pgnotify: line 12: not built yet\n",
-        ),
     ];
     let alloc = rt.alloc();
     for (status, code, line) in table {
@@ -93,7 +90,10 @@ fn a_line_is_cut_where_its_sink_fails(rt: HostRuntime) -> Result<(), Fail> {
     let alloc = rt.alloc();
     let mut sink = MemSink::new(alloc, 16, Vec::new(alloc), 100)?;
     assert_eq!(rt;
-        fault_line(&mut sink, &Status::NotBuilt { line: 12 }),
+        fault_line(
+            &mut sink,
+            &Status::BadScenario(ScenarioFault::BadMeta { line: 12 })
+        ),
         Err(Failed)
     );
     assert_eq!(rt; sink.held(), b"pgnotify: line 1".as_slice());
@@ -142,13 +142,17 @@ fn owned(
 }
 
 // The exit status, the output and the line on the errors' stream.
-fn ended(alloc: Global, run: &Run<'_>) -> Result<(u8, MemSink, MemSink), AllocError> {
+fn ended<R: Threads + Wait + Sync>(
+    rt: &R,
+    alloc: Global,
+    run: &Run<'_>,
+) -> Result<(u8, MemSink, MemSink), AllocError> {
     let input = run.input.as_bytes().to_vec(alloc)?;
     let mut source = MemSource::new(input, [run.failing_read].to_vec(alloc)?, 7);
     let mut sink = MemSink::new(alloc, 100, [run.failing_write].to_vec(alloc)?, 20)?;
     let mut errors = MemSink::new(alloc, run.errors, Vec::new(alloc), 9)?;
     let words = owned(alloc, run.words)?;
-    let code = program(alloc, words, &mut source, &mut sink, &mut errors);
+    let code = program(rt, alloc, words, &mut source, &mut sink, &mut errors);
     Ok((code, sink, errors))
 }
 
@@ -215,9 +219,9 @@ fn each_way_to_end(rt: HostRuntime) -> Result<(), Fail> {
                 input: "NOTIFY c\n",
                 ..PLAIN
             },
-            7,
+            3,
             "",
-            "pgnotify: line 1: not built yet\n",
+            "pgnotify: line 1: no session\n",
         ),
         (
             Run {
@@ -225,14 +229,14 @@ fn each_way_to_end(rt: HostRuntime) -> Result<(), Fail> {
                 errors: 16,
                 ..PLAIN
             },
-            7,
+            3,
             "",
             "pgnotify: line 1",
         ),
     ];
     let alloc = rt.alloc();
     for (run, code, output, line) in table {
-        let (ended, sink, errors) = ended(alloc, &run)?;
+        let (ended, sink, errors) = ended(&rt, alloc, &run)?;
         assert_eq!(rt; ended, code);
         assert_eq!(rt; sink.held(), output.as_bytes());
         assert_eq!(rt; errors.held(), line.as_bytes());

@@ -1,11 +1,12 @@
 -- Laws of a text whose quotes stand twice, written by runs that end with a quote.
-use Rattle.std.proofs.Common.{◌≡◌, ℕ, ◌+◌, ◌-◌, ◌<◌, ◌≤◌, Bool, true, false, not, ◌&&◌, cond, eqb, List, [], ◌∷◌, ◌++◌, length, take, drop, get_or, sym, ap, ◌∙◌, refl, inl, inr, arith, append_assoc, append-nil, add-one, drop-cons}
-use Rattle.std.specs.Prelude.{flat_map}
+use Rattle.std.proofs.Common.{◌≡◌, ℕ, ◌+◌, ◌-◌, ◌<◌, ◌≤◌, Bool, true, false, not, cond, eqb, List, [], ◌∷◌, ◌++◌, length, take, drop, get_or, sym, ap, ◌∙◌, refl, inl, inr, arith, append_assoc, append-nil, add-one, drop-cons}
+use Rattle.std.specs.Prelude.{flat_map, ◌||◌, ◌==◌}
+use Rattle.std.specs.List.{list_any}
 use Rattle.std.proofs.lemmas.List.{drop_all, take_rest}
 use Rattle.std.proofs.lemmas.List.Edits.{between_more}
 use Rattle.std.proofs.lemmas.Bool.Decides.{eqb_tells}
 use Rattle.pgn_model.specs.Text.{doubled_byte}
-use Rattle.pgn_run.specs.Spelling.{lacks}
+use Rattle.pgn_model.specs.laws.Inputs.{lacks}
 
 -- the next item of a list
 flat_map-drop_at : {A : Type 0} (f : A → List ℕ) (xs : List A) (i : ℕ) (d : A) → i < length xs → flat_map f (drop i xs) ≡ f (get_or xs i d) ++ flat_map f (drop (i + 1) xs)
@@ -47,7 +48,7 @@ pending-all quote text start =
     ∙ append-nil (take (length text - start) (drop start text)) ∙ take_rest text start
 
 -- a byte of a text with no quote, and then the rest
-doubled-first : (quote byte : ℕ) (bytes : List ℕ) (same : Bool) → (not same && lacks quote bytes) ≡ true → (lacks quote bytes ≡ true → flat_map (doubled_byte quote) bytes ≡ bytes)
+doubled-first : (quote byte : ℕ) (bytes : List ℕ) (same : Bool) → not (same || list_any (λ b. b == quote) bytes) ≡ true → (lacks quote bytes ≡ true → flat_map (doubled_byte quote) bytes ≡ bytes)
     → cond same (quote ∷ quote ∷ []) (byte ∷ []) ++ flat_map (doubled_byte quote) bytes ≡ byte ∷ bytes
 doubled-first quote byte bytes true h rest = cc
 doubled-first quote byte bytes false h rest = ap (λ t. byte ∷ t) (rest h)

@@ -1,11 +1,5 @@
-pub mod CommandLaws
-pub mod HeadLaws
-pub mod LinesLaws
-pub mod ReadingLaws
-pub mod SpellingLaws
 pub mod RunLaws
-pub mod SoFarLaws
-pub mod ScanLaws
+pub mod OverLaws
 pub mod PutsLaws
 pub mod LineLaws
 pub mod DoublingLaws

@@ -6,7 +6,7 @@ use Rattle.std.proofs.lemmas.List.{drop_all}
 use Rattle.std.proofs.lemmas.Bool.{cases_lt}
 use Rattle.pgn_base.specs.declared.source.Failed.{Failed}
 use Rattle.pgn_base.specs.declared.limits.TheConstants.{FIRST_XID}
-use Rattle.pgn_base.specs.Outside.{AppendsPrefix, Writes, HasCause, Rose}
+use Rattle.pgn_base.specs.Outside.{AppendsPrefix, Writes, HasCause}
 use Rattle.pgn_model.specs.declared.tx.Tx.{Tx}
 use Rattle.pgn_model.specs.declared.scenario.Section.{Section}
 use Rattle.pgn_model.specs.declared.trace.Trace.{Trace}

@@ -1,15 +1,18 @@
 -- From what was read and answered to what the program's call says.
-use Rattle.std.proofs.Common.{◌≡◌, ℕ, ◌+◌, ◌<◌, ◌≤◌, ◌⊎◌, Bool, bytes_eq, codes, map, List, [], ◌∷◌, length, take, get_or, Option, Some, None, IfSome, OnSome, IsSomeAnd, IsTrue, sym, ap, ◌∙◌, refl, subst, inl, inr, arith, length-take, length-append, take_all, Bor}
+use Rattle.std.proofs.Common.{◌≡◌, ℕ, ◌+◌, ◌<◌, ◌≤◌, ◌⊎◌, Bool, bytes_eq, codes, map, List, [], ◌∷◌, length, take, get_or, Option, Some, None, Result, Ok, Err, IfSome, OnSome, IsSomeAnd, IsTrue, sym, ap, ◌∙◌, refl, subst, inl, inr, arith, length-take, length-append, take_all, Bor}
+use Rattle.std.proofs.lemmas.Bool.{cases_lt}
 use Rattle.std.proofs.lemmas.Slice.Eq.{bytes_eq-Decides}
 use Rattle.std.specs.Io.KnownBytes.{Appends, Consumes, IsAtEnd}
 use Rattle.pgn_base.specs.declared.limits.TheConstants.{INPUT_BYTES_MAX}
 use Rattle.pgn_base.specs.Outside.{AppendsPrefix, Rose}
 use Rattle.pgn_model.specs.declared.scenario.Scenario.{Scenario}
+use Rattle.pgn_model.specs.declared.scenario.ScenarioFault.{ScenarioFault}
+use Rattle.pgn_model.specs.declared.scenario.ScenarioFault.TheVariants.{TooLarge}
+use Rattle.pgn_model.specs.Inputs.{ReadsAsScenario, Large}
+use Rattle.pgn_model.proofs.InputLaws.{reads-input}
 use Rattle.pgn_run.specs.declared.status.Status.{Status}
-use Rattle.pgn_run.specs.declared.status.Status.TheVariants.{Done, BadWords, BadScenario, ReadFault, WriteFault, NoMemory, NotBuilt}
-use Rattle.pgn_run.specs.Reading.{ReadsAsPlainScenario, BreaksAt}
+use Rattle.pgn_run.specs.declared.status.Status.TheVariants.{Done, BadWords, BadScenario, ReadFault, WriteFault, NoMemory}
 use Rattle.pgn_run.specs.Run.{Runs, Answers, run_words}
-use Rattle.pgn_run.proofs.ReadingLaws.{reads-not-breaks, breaks-once}
 
 -- the only word of a list of one
 pub one-word : (words : List (Bor (List ℕ))) (d : Bor (List ℕ)) (r : Bool) → 1 ≤ length words → length words < 2 → r ≡ bytes_eq (get_or words 0 d).now (codes "run")
@@ -30,20 +33,43 @@ within-is-whole xs input e h =
     let short : length (take 16777217 xs) ≤ 16777216 = omega (arith, ap length e) in
     e ∙ whole 16777216 xs short
 
--- an input has the reading of what was read of it
-reads-whole : (xs input : List ℕ) (scenario : Scenario) → input ≡ take 16777217 xs → ReadsAsPlainScenario input scenario → ReadsAsPlainScenario xs scenario
-reads-whole xs input scenario e h = subst (λ (bytes : List ℕ). ReadsAsPlainScenario bytes scenario) (within-is-whole xs input e h.within) h
+-- an input has one reading
+one-reading : (input : List ℕ) (a b : Result Scenario ScenarioFault) → ReadsAsScenario input a → ReadsAsScenario input b → a ≡ b
+one-reading input a b h k = sym (reads-input input a h) ∙ reads-input input b k
 
--- an input breaks where what was read of it does
-breaks-whole : (xs input : List ℕ) (line : ℕ) → input ≡ take 16777217 xs → BreaksAt input line → BreaksAt xs line
-breaks-whole xs input line e (inl large) =
-    let past : INPUT_BYTES_MAX < length input = large.0 in
-    inl (omega (arith, ap length e, length-take 16777217 xs), large.1)
-breaks-whole xs input line e (inr broken) = subst (λ (bytes : List ℕ). BreaksAt bytes line) (within-is-whole xs input e broken.0) (inr broken)
+-- an input has the reading of what was read of it
+reads-whole : (xs input : List ℕ) (read : Result Scenario ScenarioFault) → input ≡ take 16777217 xs → ReadsAsScenario input read → ReadsAsScenario xs read
+reads-whole xs input read e h = elim (cases_lt INPUT_BYTES_MAX (length input)) [
+  | inl large ↦
+      let past : INPUT_BYTES_MAX < length xs = omega (arith, large, ap length e, length-take 16777217 xs) in
+      let same : Err TooLarge ≡ read = one-reading input (Err TooLarge) read (Large large) h in
+      subst (λ (r : Result Scenario ScenarioFault). ReadsAsScenario xs r) same (Large past)
+  | inr small ↦ subst (λ (bytes : List ℕ). ReadsAsScenario bytes read) (within-is-whole xs input e small) h
+]
+
+-- what reads as a scenario is within the limit
+scenario-within : (input : List ℕ) (scenario : Scenario) → ReadsAsScenario input (Ok scenario) → length input ≤ INPUT_BYTES_MAX
+scenario-within input scenario h = elim (cases_lt INPUT_BYTES_MAX (length input)) [
+  | inl large ↦ let same : Err TooLarge ≡ Ok scenario = one-reading input (Err TooLarge) (Ok scenario) (Large large) h in absurd (cc)
+  | inr small ↦ small
+]
+
+-- a scenario is no fault
+no-fault : (input : List ℕ) (scenario : Scenario) (fault : ScenarioFault) → ReadsAsScenario input (Ok scenario) → ReadsAsScenario input (Err fault) → ⊥
+no-fault input scenario fault h k = let same : Ok scenario ≡ Err fault = one-reading input (Ok scenario) (Err fault) h k in cc
+
+-- an input has one fault
+one-fault : (input : List ℕ) (a b : ScenarioFault) → ReadsAsScenario input (Err a) → ReadsAsScenario input (Err b) → a ≡ b
+one-fault input a b h k = let same : Err a ≡ Err b = one-reading input (Err a) (Err b) h k in cc
 
 -- an input's run is that of what was read of it
 runs-whole : (xs input : List ℕ) (P : List ℕ → Type 0) → input ≡ take 16777217 xs → Runs input P → Runs xs P
-runs-whole xs input P e h = record { scenario = h.scenario; journal = h.journal; traces = h.traces; reads = reads-whole xs input h.scenario e h.reads; legal = h.legal; output = h.output }
+runs-whole xs input P e h = record { scenario = h.scenario; journal = h.journal; traces = h.traces; reads = reads-whole xs input (Ok h.scenario) e h.reads; legal = h.legal; output = h.output }
+
+-- what follows of known bytes
+if-some : (known : Option (List ℕ)) (A B : List ℕ → Type 0) → ((xs : List ℕ) → A xs → B xs) → IfSome known A → IfSome known B
+if-some None A B f h = h
+if-some (Some xs) A B f h = f xs h
 
 module _ (left : Option (List ℕ)) (input : List ℕ) (old new : Option (List ℕ)) (before now : ℕ) (status : Status)
     (bytes : IfSome left (λ xs. input ≡ take 16777217 xs)) (answers : Answers input old new before now status) where
@@ -52,25 +78,13 @@ module _ (left : Option (List ℕ)) (input : List ℕ) (old new : Option (List �
   answered other e = subst (λ (s : Status). Answers input old new before now s) e answers
 
   pub done-runs : status ≡ Done → IfSome left (λ xs. Runs xs (Appends old new))
-  done-runs e = with left bytes
-    where
-      with : (o : Option (List ℕ)) → IfSome o (λ xs. input ≡ take 16777217 xs) → IfSome o (λ xs. Runs xs (Appends old new))
-      with None b = b
-      with (Some xs) b = runs-whole xs input (Appends old new) b (answered Done e)
+  done-runs e = if-some left (λ xs. input ≡ take 16777217 xs) (λ xs. Runs xs (Appends old new)) (λ xs b. runs-whole xs input (Appends old new) b (answered Done e)) bytes
 
   pub write-fault-runs : status ≡ WriteFault → IfSome left (λ xs. Runs xs (AppendsPrefix old new))
-  write-fault-runs e = with left bytes
-    where
-      with : (o : Option (List ℕ)) → IfSome o (λ xs. input ≡ take 16777217 xs) → IfSome o (λ xs. Runs xs (AppendsPrefix old new))
-      with None b = b
-      with (Some xs) b = runs-whole xs input (AppendsPrefix old new) b (answered WriteFault e).0
+  write-fault-runs e = if-some left (λ xs. input ≡ take 16777217 xs) (λ xs. Runs xs (AppendsPrefix old new)) (λ xs b. runs-whole xs input (AppendsPrefix old new) b (answered WriteFault e).0) bytes
 
-  pub not-built-breaks : (line : ℕ) → status ≡ NotBuilt line → IfSome left (λ xs. BreaksAt xs line)
-  not-built-breaks line e = with left bytes
-    where
-      with : (o : Option (List ℕ)) → IfSome o (λ xs. input ≡ take 16777217 xs) → IfSome o (λ xs. BreaksAt xs line)
-      with None b = b
-      with (Some xs) b = breaks-whole xs input line b (answered (NotBuilt line) e).0
+  pub bad-scenario-reads : (fault : ScenarioFault) → status ≡ BadScenario fault → IfSome left (λ xs. ReadsAsScenario xs (Err fault))
+  bad-scenario-reads fault e = if-some left (λ xs. input ≡ take 16777217 xs) (λ xs. ReadsAsScenario xs (Err fault)) (λ xs b. reads-whole xs input (Err fault) b (answered (BadScenario fault) e).0) bytes
 
   pub done-at-end : (rest : Option (List ℕ)) → Consumes left rest input → status ≡ Done → OnSome left (IsAtEnd rest)
   done-at-end rest consumed e = with left rest bytes consumed
@@ -79,7 +93,8 @@ module _ (left : Option (List ℕ)) (input : List ℕ) (old new : Option (List �
       with None r b h = b
       with (Some xs) None b h = absurd h
       with (Some xs) (Some ys) b h =
-          let all : input ≡ xs = within-is-whole xs input b (answered Done e).reads.within in
+          let run : Runs input (Appends old new) = answered Done e in
+          let all : input ≡ xs = within-is-whole xs input b (scenario-within input run.scenario run.reads) in
           let none : length ys ≡ 0 = omega (arith, ap length all, ap length h, length-append input ys) in
           empty ys none
         where
@@ -90,25 +105,23 @@ module _ (left : Option (List ℕ)) (input : List ℕ) (old new : Option (List �
 -- what comes of an input that reads as a scenario, where no write failed
 pub reads-done : (left : Option (List ℕ)) (input : List ℕ) (old new : Option (List ℕ)) (before now : ℕ) (status : Status) (scenario : Scenario)
     → IfSome left (λ xs. input ≡ take 16777217 xs) → Answers input old new before now status
-    → IsSomeAnd left (λ xs. ReadsAsPlainScenario xs scenario) → ¬ Rose before now → (status ≡ Done) ⊎ (status ≡ NoMemory)
+    → IsSomeAnd left (λ xs. ReadsAsScenario xs (Ok scenario)) → ¬ Rose before now → (status ≡ Done) ⊎ (status ≡ NoMemory)
 reads-done None input old new before now status scenario bytes answers reads rose = absurd reads
 reads-done (Some xs) input old new before now Done scenario bytes answers reads rose = inl refl
 reads-done (Some xs) input old new before now BadWords scenario bytes answers reads rose = absurd answers
-reads-done (Some xs) input old new before now (BadScenario fault) scenario bytes answers reads rose = absurd answers
+reads-done (Some xs) input old new before now (BadScenario fault) scenario bytes answers reads rose = absurd (no-fault xs scenario fault reads (reads-whole xs input (Err fault) bytes answers.0))
 reads-done (Some xs) input old new before now ReadFault scenario bytes answers reads rose = absurd answers
 reads-done (Some xs) input old new before now WriteFault scenario bytes answers reads rose = absurd (rose answers.1)
 reads-done (Some xs) input old new before now NoMemory scenario bytes answers reads rose = inr refl
-reads-done (Some xs) input old new before now (NotBuilt line) scenario bytes answers reads rose = absurd (reads-not-breaks xs scenario line reads (breaks-whole xs input line bytes answers.0))
 
--- what comes of an input that breaks at a line
-pub breaks-not-built : (left : Option (List ℕ)) (input : List ℕ) (old new : Option (List ℕ)) (before now : ℕ) (status : Status) (line : ℕ)
+-- what comes of an input with a fault
+pub faulty-refused : (left : Option (List ℕ)) (input : List ℕ) (old new : Option (List ℕ)) (before now : ℕ) (status : Status) (fault : ScenarioFault)
     → IfSome left (λ xs. input ≡ take 16777217 xs) → Answers input old new before now status
-    → IsSomeAnd left (λ xs. BreaksAt xs line) → (status ≡ NotBuilt line) ⊎ (status ≡ NoMemory)
-breaks-not-built None input old new before now status line bytes answers breaks = absurd breaks
-breaks-not-built (Some xs) input old new before now Done line bytes answers breaks = absurd (reads-not-breaks xs answers.scenario line (reads-whole xs input answers.scenario bytes answers.reads) breaks)
-breaks-not-built (Some xs) input old new before now BadWords line bytes answers breaks = absurd answers
-breaks-not-built (Some xs) input old new before now (BadScenario fault) line bytes answers breaks = absurd answers
-breaks-not-built (Some xs) input old new before now ReadFault line bytes answers breaks = absurd answers
-breaks-not-built (Some xs) input old new before now WriteFault line bytes answers breaks = absurd (reads-not-breaks xs answers.0.scenario line (reads-whole xs input answers.0.scenario bytes answers.0.reads) breaks)
-breaks-not-built (Some xs) input old new before now NoMemory line bytes answers breaks = inr refl
-breaks-not-built (Some xs) input old new before now (NotBuilt other) line bytes answers breaks = inl (ap NotBuilt (breaks-once xs other line (breaks-whole xs input other bytes answers.0) breaks))
+    → IsSomeAnd left (λ xs. ReadsAsScenario xs (Err fault)) → (status ≡ BadScenario fault) ⊎ (status ≡ NoMemory)
+faulty-refused None input old new before now status fault bytes answers reads = absurd reads
+faulty-refused (Some xs) input old new before now Done fault bytes answers reads = absurd (no-fault xs answers.scenario fault (reads-whole xs input (Ok answers.scenario) bytes answers.reads) reads)
+faulty-refused (Some xs) input old new before now BadWords fault bytes answers reads = absurd answers
+faulty-refused (Some xs) input old new before now (BadScenario other) fault bytes answers reads = inl (ap BadScenario (one-fault xs other fault (reads-whole xs input (Err other) bytes answers.0) reads))
+faulty-refused (Some xs) input old new before now ReadFault fault bytes answers reads = absurd answers
+faulty-refused (Some xs) input old new before now WriteFault fault bytes answers reads = absurd (no-fault xs answers.0.scenario fault (reads-whole xs input (Ok answers.0.scenario) bytes answers.0.reads) reads)
+faulty-refused (Some xs) input old new before now NoMemory fault bytes answers reads = inr refl

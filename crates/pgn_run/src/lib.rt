@@ -1,12 +1,12 @@
-//! All that the program does, in one call: it reads the input, runs the session and writes the text.
+//! All that the program does, in one call: it reads the input, runs its sessions over one shared queue and writes the text.
 //!
 //! `run_notify` carries the headline. Where it answers `Done`, what was left in the source reads as a scenario, and what was
-//! written is the output text of a journal and of traces that are a legal run of it: what is due to the listener, of its
+//! written is the output text of a journal and of traces that are a legal run of it: what is due to each listener, of its
 //! database, on a channel of its set and from its mark on, reaches it once and in commit order. Every other answer has its cause
-//! in the contract, and says what was read and written.
+//! in the contract, and says what was read and written. Sessions may wait for one another, so that no contract promises that the
+//! call returns.
 //!
-//! As far as it is built, a scenario is one section whose lines are LISTEN and NOTIFY in one exact spelling; everything else is
-//! answered `NotBuilt` with its line. The session runs over a list of transactions that stands in for the queue.
+//! `run_scenario` is all of it behind the reading, over a hub of the type that its caller names.
 //!
 //! A caller, in a test:
 //!
@@ -15,7 +15,7 @@
 //! let input = Vec::from_slice(alloc, b"\\session a 1\nLISTEN c\n")?;
 //! let mut source = MemSource::new(input, Vec::new(alloc), 100);
 //! let mut sink = MemSink::new(alloc, 1000, Vec::new(alloc), 100)?;
-//! let status = run_notify(alloc, &["run"], &mut source, &mut sink);
+//! let status = run_notify(&rt, alloc, &["run"], &mut source, &mut sink);
 //! assert_eq!(rt; status, Status::Done);
 //! let want = b"journal 0\nsession 1 a db 1 pid 1001\n> LISTEN c\n+enlist 3 3\nLISTEN\nend mark 3\n";
 //! assert_eq!(rt; sink.held(), want.as_slice());
@@ -24,13 +24,13 @@
 
 mod input;
 mod line_cursor;
-mod reading;
 mod render;
 mod run;
-mod session;
+mod scenario_run;
 mod status;
 #[cfg(test)]
 mod tests;
 
 pub use run::run_notify;
+pub use scenario_run::run_scenario;
 pub use status::Status;

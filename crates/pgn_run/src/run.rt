@@ -1,25 +1,30 @@
-ghost use Rattle.std.specs.Prelude.{◌≡◌, ◌≢◌, ◌⊎◌, ◌↔◌, ◌<◌, ◌≤◌, ◌+◌, ℕ, map, take, IfSome, OnSome, IsSomeAnd, IsTrue};
+ghost use Rattle.std.specs.Prelude.{◌≡◌, ◌≢◌, ◌⊎◌, ◌↔◌, ◌<◌, ◌≤◌, ◌+◌, map, take, Ok, Err, IfSome, OnSome, IsSomeAnd, IsTrue};
 ghost use Rattle.std.specs.Io.KnownBytes.{Appends, Consumes, IsAtEnd};
 ghost use Rattle.pgn_base.specs.Outside.{AppendsPrefix, Rose};
 ghost use Rattle.pgn_model.specs.declared.scenario.Scenario.{Scenario};
 ghost use Rattle.pgn_model.specs.declared.scenario.ScenarioFault.{ScenarioFault};
-ghost use Rattle.pgn_run.specs.Reading.{ReadsAsPlainScenario, BreaksAt};
+ghost use Rattle.pgn_model.specs.Inputs.{ReadsAsScenario};
 ghost use Rattle.pgn_run.specs.Run.{Runs, Answers, HasRead, run_words};
 
-use crate::Status;
 use crate::input::{Unread, read_input};
-use crate::reading::read;
-use crate::render::render;
-use crate::session::run_scenario;
-use pgn_base::{INPUT_BYTES_MAX, Sink, Source};
+use crate::{Status, run_scenario};
+use pgn_base::{INPUT_BYTES_MAX, PAGES_DEFAULT, PATIENCE_DEFAULT, Sink, Source};
+use pgn_hub::Hub;
+use pgn_scenario::read_scenario;
+use pgn_wordhub::WordHub;
 use std::alloc::{AllocError, Global};
+use std::sync::Wait;
+use std::thread::Threads;
 
 // How many bytes of an input are read at most: one more than an input may have.
 const READ_LIMIT: usize = INPUT_BYTES_MAX + 1;
 
 /// Does all that the program does. `words` are those after the program's name; the one command is `run`: it reads a scenario
-/// from the source, runs it, and writes the journal and what each session was answered and received to the sink.
-pub fn run_notify<S: Source, K: Sink>(
+/// from the source, runs every session of it on a thread of its own, and writes the journal and what each session was answered
+/// and received to the sink. Sessions may wait for one another, so that it is not promised that the call returns; what stands here
+/// holds where it does.
+pub fn run_notify<S: Source, K: Sink, R: Threads + Wait + Sync>(
+    rt: &R,
     alloc: Global,
     words: &[&str],
     source: &mut S,
@@ -34,15 +39,14 @@ pub fn run_notify<S: Source, K: Sink>(
     ensures bad_words_read_nothing { result ≡ Status.BadWords → source.new ≡ source.old }
     ensures bad_words_write_nothing { result ≡ Status.BadWords → sink.new ≡ sink.old }
 
-    ensures not_built { (line : ℕ) → result ≡ Status.NotBuilt line
-        → IfSome (S.left source.old) (λ input. BreaksAt input line) }
-    ensures not_built_where_due { (line : ℕ) → map (λ word. word.now) words.now ≡ run_words
-        → IsSomeAnd (S.left source.old) (λ input. BreaksAt input line)
+    ensures bad_scenario { (fault : ScenarioFault) → result ≡ Status.BadScenario fault
+        → IfSome (S.left source.old) (λ input. ReadsAsScenario input (Err fault)) }
+    ensures bad_scenario_where_due { (fault : ScenarioFault) → map (λ word. word.now) words.now ≡ run_words
+        → IsSomeAnd (S.left source.old) (λ input. ReadsAsScenario input (Err fault))
         → ¬ Rose (S.faults source.old) (S.faults source.new)
-        → (result ≡ Status.NotBuilt line) ⊎ (result ≡ Status.NoMemory) }
-    ensures not_built_writes_nothing { (line : ℕ) → result ≡ Status.NotBuilt line → K.held sink.new ≡ K.held sink.old }
-
-    ensures no_bad_scenario { (fault : ScenarioFault) → result ≢ Status.BadScenario fault }
+        → (result ≡ Status.BadScenario fault) ⊎ (result ≡ Status.NoMemory) }
+    ensures bad_scenario_writes_nothing { (fault : ScenarioFault) → result ≡ Status.BadScenario fault
+        → K.held sink.new ≡ K.held sink.old }
 
     ensures read_fault { result ≡ Status.ReadFault → Rose (S.faults source.old) (S.faults source.new) }
     ensures read_fault_where_due { S.faults source.old < S.faults source.new → result ≡ Status.ReadFault }
@@ -60,7 +64,7 @@ pub fn run_notify<S: Source, K: Sink>(
         Consumes (S.left source.old) (S.left source.new) (take (INPUT_BYTES_MAX + 1) left)) }
 
     ensures complete { (scenario : Scenario) → map (λ word. word.now) words.now ≡ run_words
-        → IsSomeAnd (S.left source.old) (λ input. ReadsAsPlainScenario input scenario)
+        → IsSomeAnd (S.left source.old) (λ input. ReadsAsScenario input (Ok scenario))
         → ¬ Rose (S.faults source.old) (S.faults source.new)
         → ¬ Rose (K.faults sink.old) (K.faults sink.new)
         → (result ≡ Status.Done) ⊎ (result ≡ Status.NoMemory) }
@@ -69,7 +73,7 @@ pub fn run_notify<S: Source, K: Sink>(
         return Status::BadWords;
     }
     match read_input(alloc, source, READ_LIMIT) {
-        Ok(input) => answer(alloc, input, sink),
+        Ok(input) => answer::<WordHub, K, R>(rt, alloc, input, sink),
         Err(Unread::Failed) => Status::ReadFault,
         Err(Unread::Memory) => Status::NoMemory,
     }
@@ -85,29 +89,29 @@ fn is_run(words: &[&str]) -> bool
     }
 }
 
-// Runs an input that was read, and lets it go once it is a scenario.
-fn answer<K: Sink>(alloc: Global, input: Vec<u8>, sink: &mut K) -> Status
+// Runs an input that was read, over a hub of this type, and lets the input go once it is a scenario.
+fn answer<H: Hub + Sync + Drop, K: Sink, R: Threads + Wait + Sync>(
+    rt: &R,
+    alloc: Global,
+    input: Vec<u8>,
+    sink: &mut K,
+) -> Status
     ensures answers { Answers input.items (K.held sink.old) (K.held sink.new) (K.faults sink.old) (K.faults sink.new) result }
     ensures later { K.faults sink.old ≤ K.faults sink.new }
     ensures rose { K.faults sink.old < K.faults sink.new → result ≡ Status.WriteFault }
 {
-    let reading = read(alloc, input.as_slice());
+    let reading = read_scenario(alloc, input.as_slice());
     drop(input);
-    let scenario = match reading {
-        Ok(Ok(scenario)) => scenario,
-        Ok(Err(line)) => return Status::NotBuilt { line },
-        Err(AllocError) => return Status::NoMemory,
-    };
-    let Ok(run) = run_scenario(alloc, &scenario) else {
-        return Status::NoMemory;
-    };
-    match render(
-        sink,
-        &scenario,
-        run.journal.as_slice(),
-        run.traces.as_slice(),
-    ) {
-        Ok(()) => Status::Done,
-        Err(_) => Status::WriteFault,
+    match reading {
+        Ok(Ok(scenario)) => run_scenario::<H, K, R>(
+            rt,
+            alloc,
+            &scenario,
+            PAGES_DEFAULT,
+            PATIENCE_DEFAULT,
+            sink,
+        ),
+        Ok(Err(fault)) => Status::BadScenario(fault),
+        Err(AllocError) => Status::NoMemory,
     }
 }

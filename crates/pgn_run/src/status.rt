@@ -14,15 +14,13 @@ pub enum Status {
     /// The sink failed; a prefix of the output was written.
     WriteFault,
     NoMemory,
-    /// The input's lowest line, from 1, that is not built yet; 0 for an input that is too large.
-    NotBuilt { line: u32 },
 }
 
 impl Status {
     ghost use Rattle.std.specs.Prelude.{◌≡◌};
     ghost use Rattle.pgn_run.specs.Run.{code_of};
 
-    /// The program's exit status, from 0 to 7.
+    /// The program's exit status, from 0 to 6.
     pub fn code(&self) -> u8
         ensures { result ≡ code_of self.now }
     {
@@ -33,7 +31,6 @@ impl Status {
             Status::ReadFault => 4,
             Status::WriteFault => 5,
             Status::NoMemory => 6,
-            Status::NotBuilt { .. } => 7,
         }
     }
 }

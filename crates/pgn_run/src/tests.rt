@@ -1,11 +1,29 @@
 use super::*;
 use pgn_base::{MemSink, MemSource};
+use pgn_hub::Hub;
+use pgn_scenario::read_scenario;
 use std::alloc::{AllocError, Global};
+use std::sync::Wait;
 use std::test::Fail;
+use std::thread::Threads;
 
-const SELF_NOTIFY: &[u8] = b"\\session a 1\nLISTEN c\nNOTIFY c, 'x'\n";
+mod answers;
+mod gate;
+mod job_table;
+mod over_hub;
+mod queue;
+mod refusals;
+mod several;
+mod single;
 
-const SELF_NOTIFY_OUTPUT: &[u8] = b"journal 1
+const SELF_NOTIFY: &str = "\
+\\session a 1
+LISTEN c
+NOTIFY c, 'x'
+";
+
+const SELF_NOTIFY_OUTPUT: &str = "\
+journal 1
 xid 3 session 1 commit 1
   \"c\", 'x'
 session 1 a db 1 pid 1001
@@ -36,208 +54,63 @@ const AMPLE: Outside<'static> = Outside {
     room: 1 << 16,
 };
 
-// How a run ends, and what it wrote.
-fn run(
+// What a run has written that is done; of another one how it ended, and what it wrote.
+fn told(alloc: Global, status: Status, held: &[u8]) -> Result<String, Fail> {
+    let written = str::from_utf8(held)?;
+    match status {
+        Status::Done => Ok(String::from_str(alloc, written)?),
+        _ => Ok(format!(in alloc; "{status:?}: {written}")?),
+    }
+}
+
+// What comes of these words and this input.
+fn comes_of<R: Threads + Wait + Sync>(
+    rt: &R,
     alloc: Global,
     words: &[&str],
     input: &[u8],
     outside: &Outside<'_>,
-) -> Result<(Status, Vec<u8>), AllocError> {
+) -> Result<String, Fail> {
     let most = outside.most.max(1);
     let bytes = Vec::from_slice(alloc, input)?;
     let mut source = MemSource::new(bytes, Vec::from_slice(alloc, outside.read_fails)?, most);
     let fails = Vec::from_slice(alloc, outside.write_fails)?;
     let mut sink = MemSink::new(alloc, outside.room, fails, most)?;
-    let status = run_notify(alloc, words, &mut source, &mut sink);
-    Ok((status, Vec::from_slice(alloc, sink.held())?))
+    let status = run_notify(rt, alloc, words, &mut source, &mut sink);
+    told(alloc, status, sink.held())
 }
 
-// A first line, and then a line with a run of one letter in it.
-fn with_run(alloc: Global, front: &[u8], count: usize, back: &[u8]) -> Result<Vec<u8>, AllocError> {
-    let mut text = Vec::from_slice(alloc, front)?;
-    for _ in 0..count {
-        text.push(b'x')?;
-    }
-    text.extend_from_slice(back)?;
-    Ok(text)
+// What comes of this input.
+fn shown<R: Threads + Wait + Sync>(rt: &R, alloc: Global, input: &str) -> Result<String, Fail> {
+    comes_of(rt, alloc, &["run"], input.as_bytes(), &AMPLE)
 }
 
-#[test]
-fn worked_examples(rt: HostRuntime) -> Result<(), Fail> {
-    let table: [(&[u8], &[u8]); 4] = [
-        (SELF_NOTIFY, SELF_NOTIFY_OUTPUT),
-        // An empty section.
-        (
-            b"\\session a 1",
-            b"journal 0\nsession 1 a db 1 pid 1001\nend\n",
-        ),
-        // A listener is delivered to from its point on, and its base is the first transaction.
-        (
-            b"\\session a 7\nNOTIFY c, 'early'\nLISTEN c\nNOTIFY c, 'late'",
-            b"journal 2
-xid 3 session 1 commit 1
-  \"c\", 'early'
-xid 4 session 1 commit 1
-  \"c\", 'late'
-session 1 a db 7 pid 1001
-> NOTIFY c, 'early'
-+publish 3
-NOTIFY
-> LISTEN c
-+enlist 3 4
-LISTEN
-> NOTIFY c, 'late'
-+publish 4
-NOTIFY
-+read 4 5
-  4 1001 \"c\", 'late'
-end mark 5
-",
-        ),
-        // A read that delivers nothing still moves the mark, and listening again does nothing.
-        (
-            b"\\session a 1\nLISTEN c\nLISTEN c\nNOTIFY d, ''\n",
-            b"journal 1
-xid 3 session 1 commit 1
-  \"d\", ''
-session 1 a db 1 pid 1001
-> LISTEN c
-+enlist 3 3
-LISTEN
-> LISTEN c
-LISTEN
-> NOTIFY d, ''
-+publish 3
-NOTIFY
-+read 3 4
-end mark 4
-",
-        ),
-    ];
-    for (input, output) in table {
-        let (status, held) = run(rt.alloc(), &["run"], input, &AMPLE)?;
-        assert_eq!(rt; status, Status::Done);
-        assert_eq!(rt; held.as_slice(), output);
-    }
-    Ok(())
+// What comes of this input over a hub of this type, with a limit of so many pages, where an await takes so many looks.
+fn shown_over<H: Hub + Sync + Drop, R: Threads + Wait + Sync>(
+    rt: &R,
+    alloc: Global,
+    input: &str,
+    pages: u32,
+    patience: u64,
+) -> Result<String, Fail> {
+    let Ok(scenario) = read_scenario(alloc, input.as_bytes())? else {
+        return Err(Fail::from("no scenario"));
+    };
+    let mut sink = MemSink::new(alloc, 1 << 16, Vec::new(alloc), 1 << 20)?;
+    let pages = pages.clamp(2, 1024);
+    let patience = patience.max(1);
+    let status = run_scenario::<H, MemSink, R>(rt, alloc, &scenario, pages, patience, &mut sink);
+    told(alloc, status, sink.held())
 }
 
-#[test]
-fn refuses_and_writes_nothing(rt: HostRuntime) -> Result<(), Fail> {
-    let alloc = rt.alloc();
-    let long_name = with_run(alloc, b"\\session a 1\nLISTEN ", 64, b"\n")?;
-    let long_payload = with_run(alloc, b"\\session a 1\nLISTEN c\nNOTIFY c, '", 8000, b"'\n")?;
-    let largest = with_run(alloc, b"", 16_777_216, b"")?;
-    let too_large = with_run(alloc, b"", 16_777_217, b"")?;
-    let table: [(&[&str], &[u8], Status); 17] = [
-        (&["run"], b"", Status::NotBuilt { line: 1 }),
-        (&["run"], b"NOTIFY c", Status::NotBuilt { line: 1 }),
-        (
-            &["run"],
-            b"\\session a 1\n\\session b 1\n",
-            Status::NotBuilt { line: 2 },
-        ),
-        (
-            &["run"],
-            b"\\session a 1\nLISTEN c\nVACUUM\n",
-            Status::NotBuilt { line: 3 },
-        ),
-        (
-            &["run"],
-            b"\\session a 1\nNOTIFY c, 'it''s'\n",
-            Status::NotBuilt { line: 2 },
-        ),
-        (
-            &["run"],
-            b"\\session a 1\nNOTIFY c, '\x7f'\n",
-            Status::NotBuilt { line: 2 },
-        ),
-        (
-            &["run"],
-            b"\\session a 1\nNOTIFY c, '\xff'\n",
-            Status::NotBuilt { line: 2 },
-        ),
-        (
-            &["run"],
-            b"\\session a 1\nNOTIFY c, '\x00'\n",
-            Status::NotBuilt { line: 2 },
-        ),
-        (&["run"], long_name.as_slice(), Status::NotBuilt { line: 2 }),
-        (
-            &["run"],
-            long_payload.as_slice(),
-            Status::NotBuilt { line: 3 },
-        ),
-        (&["run"], largest.as_slice(), Status::NotBuilt { line: 1 }),
-        (&["run"], too_large.as_slice(), Status::NotBuilt { line: 0 }),
-        (&[], SELF_NOTIFY, Status::BadWords),
-        (&["walk"], SELF_NOTIFY, Status::BadWords),
-        (&["run", "run"], SELF_NOTIFY, Status::BadWords),
-        (&["run", "--pages", "2"], SELF_NOTIFY, Status::BadWords),
-        (&["Run"], SELF_NOTIFY, Status::BadWords),
-    ];
-    for (words, input, want) in table {
-        let (status, held) = run(alloc, words, input, &AMPLE)?;
-        assert_eq!(rt; status, want);
-        assert!(rt; held.is_empty());
+// The texts stand in the text, one after another.
+fn in_order(text: &str, parts: &[&str]) -> bool {
+    let mut rest = text;
+    for part in parts {
+        let Some((_, after)) = rest.split_once(*part) else {
+            return false;
+        };
+        rest = after;
     }
-    Ok(())
-}
-
-#[test]
-fn names_the_side_that_failed(rt: HostRuntime) -> Result<(), Fail> {
-    let table: [(Outside<'_>, Status, &[u8]); 6] = [
-        (
-            Outside {
-                read_fails: &[1],
-                ..AMPLE
-            },
-            Status::ReadFault,
-            b"",
-        ),
-        // The last read of three is the one that finds the end.
-        (
-            Outside {
-                read_fails: &[3],
-                most: 20,
-                ..AMPLE
-            },
-            Status::ReadFault,
-            b"",
-        ),
-        (
-            Outside {
-                write_fails: &[1],
-                ..AMPLE
-            },
-            Status::WriteFault,
-            b"",
-        ),
-        (
-            Outside {
-                write_fails: &[2],
-                most: 4,
-                ..AMPLE
-            },
-            Status::WriteFault,
-            b"jour",
-        ),
-        (
-            Outside { room: 10, ..AMPLE },
-            Status::WriteFault,
-            b"journal 1\n",
-        ),
-        // Both work byte by byte.
-        (
-            Outside { most: 1, ..AMPLE },
-            Status::Done,
-            SELF_NOTIFY_OUTPUT,
-        ),
-    ];
-    for (outside, want, written) in table {
-        let (status, held) = run(rt.alloc(), &["run"], SELF_NOTIFY, &outside)?;
-        assert_eq!(rt; status, want);
-        assert_eq!(rt; held.as_slice(), written);
-    }
-    Ok(())
+    true
 }

@@ -1,4 +1,4 @@
-use Rattle.pgn_cli.proofs.EndLaws.{written-prefix, written-whole, code-of_words}
+use Rattle.pgn_cli.proofs.EndLaws.{written-prefix, written-whole, code-of_words, names-fault, refused-code, write-fault-code}
 use Rattle.pgn_cli.proofs.program.program.Goals as goal
 
 pub returns-clause-ends : goal.returns-clause-ends
@@ -11,3 +11,12 @@ returns-clause-ends g c = record {
 
 pub returns-clause-other_words : goal.returns-clause-other_words
 returns-clause-other_words g c = code-of_words c.args.words _ c.status_of-status.result _ c.code.ensures c.status_of-status.ensures.other_words
+
+pub returns-clause-bad_scenario : goal.returns-clause-bad_scenario
+returns-clause-bad_scenario g c = names-fault (g.S.Source.left c.args.source.now) (g.E.Sink.held c.args.errors.now) (g.E.Sink.held c.fault_line.new.sink) c.status_of-status.result _ c.code.ensures (written-prefix _ _ c.fault_line.result _ c.fault_line.ensures.bytes) c.status_of-status.ensures.bad_scenario
+
+pub returns-clause-write_fault_writes_a_prefix : goal.returns-clause-write_fault_writes_a_prefix
+returns-clause-write_fault_writes_a_prefix g c five = c.status_of-status.ensures.write_fault_writes_a_prefix (write-fault-code c.status_of-status.result _ c.code.ensures five)
+
+pub returns-clause-refused_writes_nothing : goal.returns-clause-refused_writes_nothing
+returns-clause-refused_writes_nothing g c done fault = c.status_of-status.ensures.refused_writes_nothing (refused-code c.status_of-status.result _ c.code.ensures done fault)

@@ -1,4 +1,4 @@
-use Rattle.pgn_run.proofs.RunLaws.{done-runs, done-at-end, write-fault-runs, not-built-breaks, breaks-not-built, reads-done}
+use Rattle.pgn_run.proofs.RunLaws.{done-runs, done-at-end, write-fault-runs, bad-scenario-reads, faulty-refused, reads-done}
 use Rattle.pgn_run.proofs.run.run_notify.Goals as goal
 
 pub returns-in-Ok-clause-done : goal.returns-in-Ok-clause-done
@@ -7,11 +7,11 @@ returns-in-Ok-clause-done g c = done-runs (g.S.Source.left c.args.source.now) c.
 pub returns-in-Ok-clause-done_reads_all : goal.returns-in-Ok-clause-done_reads_all
 returns-in-Ok-clause-done_reads_all g c = done-at-end (g.S.Source.left c.args.source.now) c.in-Ok.input.items (g.K.Sink.held c.args.sink.now) (g.K.Sink.held c.answer.new.sink) _ _ c.answer.result c.in-Ok.ensures.bytes c.answer.ensures.answers (g.S.Source.left c.read_input.new.source) c.in-Ok.ensures.consumed
 
-pub returns-in-Ok-clause-not_built : goal.returns-in-Ok-clause-not_built
-returns-in-Ok-clause-not_built g c = not-built-breaks (g.S.Source.left c.args.source.now) c.in-Ok.input.items (g.K.Sink.held c.args.sink.now) (g.K.Sink.held c.answer.new.sink) _ _ c.answer.result c.in-Ok.ensures.bytes c.answer.ensures.answers
+pub returns-in-Ok-clause-bad_scenario : goal.returns-in-Ok-clause-bad_scenario
+returns-in-Ok-clause-bad_scenario g c = bad-scenario-reads (g.S.Source.left c.args.source.now) c.in-Ok.input.items (g.K.Sink.held c.args.sink.now) (g.K.Sink.held c.answer.new.sink) _ _ c.answer.result c.in-Ok.ensures.bytes c.answer.ensures.answers
 
-pub returns-in-Ok-clause-not_built_where_due : goal.returns-in-Ok-clause-not_built_where_due
-returns-in-Ok-clause-not_built_where_due g c = λ line words breaks rose. breaks-not-built (g.S.Source.left c.args.source.now) c.in-Ok.input.items (g.K.Sink.held c.args.sink.now) (g.K.Sink.held c.answer.new.sink) _ _ c.answer.result line c.in-Ok.ensures.bytes c.answer.ensures.answers breaks
+pub returns-in-Ok-clause-bad_scenario_where_due : goal.returns-in-Ok-clause-bad_scenario_where_due
+returns-in-Ok-clause-bad_scenario_where_due g c = λ fault words reads rose. faulty-refused (g.S.Source.left c.args.source.now) c.in-Ok.input.items (g.K.Sink.held c.args.sink.now) (g.K.Sink.held c.answer.new.sink) _ _ c.answer.result fault c.in-Ok.ensures.bytes c.answer.ensures.answers reads
 
 pub returns-in-Ok-clause-write_fault_writes_a_prefix : goal.returns-in-Ok-clause-write_fault_writes_a_prefix
 returns-in-Ok-clause-write_fault_writes_a_prefix g c = write-fault-runs (g.S.Source.left c.args.source.now) c.in-Ok.input.items (g.K.Sink.held c.args.sink.now) (g.K.Sink.held c.answer.new.sink) _ _ c.answer.result c.in-Ok.ensures.bytes c.answer.ensures.answers

@@ -1,6 +1,6 @@
 use Rattle.std.proofs.Common.{sym}
+use Rattle.pgn_scenario.proofs.ByteLaws.{cut_nowhere}
 use Rattle.pgn_run.proofs.PutsLaws.{Puts-same}
-use Rattle.pgn_run.proofs.SpellingLaws.{cut_nowhere}
 use Rattle.pgn_run.proofs.DoublingLaws.{doubled-none}
 use Rattle.pgn_run.proofs.render.output.Out.doubled.Goals as goal
 

@@ -1,0 +1,198 @@
+ghost use Rattle.std.specs.Prelude.{◌≡◌, map, length, All};
+ghost use Rattle.std.specs.List.{range_with_len};
+
+use super::{SELF_NOTIFY, shown_over};
+use pgn_base::{Delivery, Enlisted, Full, ListenSet, Note, PATIENCE_DEFAULT, Usage, Xid};
+use pgn_hub::Hub;
+use pgn_model::{PassView, Roll, Setup};
+use pgn_scenario::read_scenario;
+use pgn_threads::{open_on_hub, run_sessions};
+use pgn_wordhub::WordHub;
+use std::alloc::{AllocError, Global};
+use std::sync::atomic::{AtomicU64, Ordering};
+use std::sync::{Arc, Wait};
+use std::test::Fail;
+use std::thread;
+
+// How many transactions have begun, and how many of them waited for a second one in vain.
+#[derive(Drop)]
+struct Turns {
+    begun: AtomicU64,
+    spent: AtomicU64,
+}
+
+// A word hub whose first transaction waits, at most so many turns, until a second one has begun. Once the turns are spent its reads
+// find no memory. So it tells sessions that run side by side from those that one thread takes, in whatever order, and a run of its
+// sessions from a text that was made without it.
+#[derive(Drop)]
+struct Gate<const TURNS: u32> {
+    hub: WordHub,
+    turns: Arc<Turns, Global>,
+}
+
+impl<const TURNS: u32> Gate<TURNS> {
+    fn has_two(&self) -> bool {
+        self.turns.begun.load(Ordering::SeqCst) >= 2
+    }
+
+    // Whether a second transaction has begun within the turns.
+    fn waits(&self) -> bool {
+        for _ in 0..TURNS {
+            if self.has_two() {
+                return true;
+            }
+            thread::yield_now();
+        }
+        self.has_two()
+    }
+
+    fn begins(&self) {
+        self.turns.begun.fetch_add(1, Ordering::SeqCst);
+        if !self.waits() {
+            self.turns.spent.fetch_add(1, Ordering::SeqCst);
+        }
+    }
+
+    fn is_spent(&self) -> bool {
+        self.turns.spent.load(Ordering::SeqCst) != 0
+    }
+}
+
+impl<const TURNS: u32> Hub for Gate<TURNS> {
+    ghost use Rattle.pgn_hub.specs.Gathered.{Gathered};
+    ghost use Rattle.pgn_wordhub.specs.Passes.{IsHubPass, hub_shape};
+
+    type Pass = <WordHub as Hub>::Pass;
+
+    ghost shape = { λ gate. hub_shape gate.hub };
+
+    ghost is_pass = { λ gate pass. IsHubPass gate.hub pass };
+
+    ghost shaped = { λ gate. gate.hub.shaped };
+
+    ghost within = { λ gate pass h. h.view.within };
+
+    ghost seated = { λ gate pass h. h.view.seated };
+
+    fn open(alloc: Global, setup: Setup) -> Result<(Self, Vec<Self::Pass>), AllocError> {
+        let turns = Turns {
+            begun: AtomicU64::new(0),
+            spent: AtomicU64::new(0),
+        };
+        let turns = Arc::new(alloc, turns)?;
+        let (hub, passes) = WordHub::open(alloc, setup)?;
+        Ok((Gate { hub, turns }, passes))
+    }
+
+    fn publish<R: Wait>(&self, rt: &R, pass: &mut Self::Pass, notes: &[Note]) -> Result<Xid, Full> {
+        self.begins();
+        self.hub.publish(rt, pass, notes)
+    }
+
+    fn enlist(&self, pass: &mut Self::Pass) -> Enlisted {
+        self.hub.enlist(pass)
+    }
+
+    fn scan(
+        &self,
+        alloc: Global,
+        pass: &mut Self::Pass,
+        set: &ListenSet,
+        out: &mut Vec<Delivery>,
+    ) -> Result<Xid, AllocError> {
+        if self.is_spent() {
+            return Err(AllocError);
+        }
+        self.hub.scan(alloc, pass, set, out)
+    }
+
+    fn leave(&self, pass: &mut Self::Pass) {
+        self.hub.leave(pass);
+    }
+
+    fn woken(&self, pass: &mut Self::Pass) -> bool {
+        self.hub.woken(pass)
+    }
+
+    fn raise(&self, pass: &mut Self::Pass, flag: u32) -> Xid {
+        self.hub.raise(pass, flag)
+    }
+
+    fn look(&self, pass: &mut Self::Pass, flag: u32) -> Option<Xid> {
+        self.hub.look(pass, flag)
+    }
+
+    fn usage<R: Wait>(&self, rt: &R, pass: &mut Self::Pass) -> Usage {
+        self.hub.usage(rt, pass)
+    }
+
+    fn meet(&self, from: &mut Self::Pass, into: &mut Self::Pass) {
+        self.hub.meet(from, into);
+    }
+
+    // What is known of a pass is that of its seat's view.
+    fn gather(self, passes: Vec<Self::Pass>) -> Roll
+        requires own { All (IsHubPass self.hub) passes.items }
+        requires all { map (λ pass. pass.seat.me.0.known.session) passes.items ≡ range_with_len 1 (length (hub_shape self.hub).seats) }
+        ensures { Gathered (map (λ pass. pass.seat.me.0.known) passes.items) result.count }
+    {
+        let Gate { hub, .. } = self;
+        hub.gather(passes)
+    }
+}
+
+const TWO_WRITERS: &str = "\
+\\session a 1
+NOTIFY c
+\\session b 1
+NOTIFY c
+";
+
+#[test]
+fn sessions_run_side_by_side(rt: HostRuntime) -> Result<(), Fail> {
+    let alloc = rt.alloc();
+    let Ok(scenario) = read_scenario(alloc, TWO_WRITERS.as_bytes())? else {
+        return Err(Fail::from("no scenario"));
+    };
+    let (hub, mut sessions) = open_on_hub::<Gate<10_000_000>>(
+        alloc,
+        &scenario,
+        256,
+        PATIENCE_DEFAULT,
+    )?;
+    run_sessions(&rt, alloc, &hub, sessions.as_mut_slice())?;
+    assert!(rt; !hub.is_spent());
+    Ok(())
+}
+
+const TWO_LISTENERS: &str = "\
+\\session a 1
+LISTEN c
+NOTIFY c
+\\session b 1
+LISTEN c
+NOTIFY c
+";
+
+#[test]
+fn a_run_takes_its_sessions_side_by_side(rt: HostRuntime) -> Result<(), Fail> {
+    let alloc = rt.alloc();
+    let text = shown_over::<Gate<10_000_000>, HostRuntime>(
+        &rt,
+        alloc,
+        TWO_LISTENERS,
+        256,
+        PATIENCE_DEFAULT,
+    )?;
+    assert!(rt; text.as_str().starts_with("journal 2\n"));
+    Ok(())
+}
+
+// A text that is made without the hub needs no memory of its reads.
+#[test]
+fn a_run_is_over_its_hub(rt: HostRuntime) -> Result<(), Fail> {
+    let alloc = rt.alloc();
+    let text = shown_over::<Gate<0>, HostRuntime>(&rt, alloc, SELF_NOTIFY, 256, PATIENCE_DEFAULT)?;
+    assert_eq!(rt; text.as_str(), "NoMemory: ");
+    Ok(())
+}

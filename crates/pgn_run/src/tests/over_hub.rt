@@ -1,0 +1,285 @@
+ghost use Rattle.std.specs.Prelude.{◌≡◌, ◌≤◌, Ok, length, IfOk, OnOk, All};
+ghost use Rattle.std.specs.Thread.{IsSync, IsSend};
+ghost use Rattle.pgn_threads.specs.Whole.{IsReady, IsOver};
+ghost use Rattle.pgn_session.specs.declared.doing.Doing.TheVariants.{Over};
+ghost use Rattle.pgn_model.specs.Inputs.{IsSound};
+
+use pgn_base::{DbOid, Name, Note, Payload};
+use pgn_hub::Hub;
+use pgn_model::{Item, PassView, Scenario, SeatSetup, Setup};
+use pgn_scenario::read_scenario;
+use pgn_session::{Session, Step};
+use pgn_threads::{drain, open_on_hub};
+use pgn_wordhub::WordHub;
+use std::alloc::{AllocError, Global};
+use std::sync::Wait;
+use std::test::Fail;
+use std::thread::{Threads, join_mut};
+
+fn scenario_of(alloc: Global, input: &str) -> Result<Scenario, Fail>
+    ensures { IfOk result IsSound }
+{
+    match read_scenario(alloc, input.as_bytes())? {
+        Ok(scenario) => Ok(scenario),
+        Err(_) => Err(Fail::from("no scenario")),
+    }
+}
+
+// A hub of two pages, and the sessions of a scenario of two.
+fn open_two<H: Hub + Drop>(
+    alloc: Global,
+    input: &str,
+) -> Result<(H, Session<H::Pass>, Session<H::Pass>), Fail>
+    ensures first { IfOk result (λ opened. IsReady (H.is_pass opened.0) (H.shape opened.0) H.Pass.known opened.1) }
+    ensures second { IfOk result (λ opened. IsReady (H.is_pass opened.0) (H.shape opened.0) H.Pass.known opened.2) }
+{
+    let scenario = scenario_of(alloc, input)?;
+    let (hub, mut sessions) = open_on_hub::<H>(alloc, &scenario, 2, 1000)?;
+    let Some(second) = sessions.pop() else {
+        return Err(Fail::from("no session"));
+    };
+    let Some(first) = sessions.pop() else {
+        return Err(Fail::from("one session"));
+    };
+    Ok((hub, first, second))
+}
+
+// One step, and a read where the session may have to.
+fn turn<P: PassView + Send + Drop, H: Hub<Pass = P>, R: Wait>(
+    rt: &R,
+    alloc: Global,
+    hub: &H,
+    session: &mut Session<P>,
+) -> Result<Step, AllocError>
+    requires ready { IsReady (H.is_pass hub.now) (H.shape hub.now) P.known session.old }
+    ensures ready { OnOk result (IsReady (H.is_pass hub.now) (H.shape hub.now) P.known session.new) }
+    ensures over { result ≡ Ok Step.Ended → session.new.doing ≡ Over }
+{
+    let step = session.step(rt, alloc, hub)?;
+    if step == Step::Did {
+        let _done = session.idle(alloc, hub)?;
+    }
+    Ok(step)
+}
+
+// So many turns.
+fn turns<P: PassView + Send + Drop, H: Hub<Pass = P>, R: Wait>(
+    rt: &R,
+    alloc: Global,
+    hub: &H,
+    session: &mut Session<P>,
+    count: u32,
+) -> Result<(), AllocError>
+    requires ready { IsReady (H.is_pass hub.now) (H.shape hub.now) P.known session.old }
+    ensures ready { OnOk result (IsReady (H.is_pass hub.now) (H.shape hub.now) P.known session.new) }
+{
+    for _ in 0..count {
+        turn(rt, alloc, hub, session)?;
+    }
+    Ok(())
+}
+
+// The turn in which the session finds that it is over.
+fn last_turn<P: PassView + Send + Drop, H: Hub<Pass = P>, R: Wait>(
+    rt: &R,
+    alloc: Global,
+    hub: &H,
+    session: &mut Session<P>,
+) -> Result<(), Fail>
+    requires ready { IsReady (H.is_pass hub.now) (H.shape hub.now) P.known session.old }
+    ensures over { OnOk result (IsOver (H.is_pass hub.now) (H.shape hub.now) P.known session.new) }
+{
+    if turn(rt, alloc, hub, session)? != Step::Ended {
+        return Err(Fail::from("not over"));
+    }
+    Ok(())
+}
+
+// The mark of a session's pass.
+fn mark_of<P: PassView + Send + Drop>(session: &Session<P>) -> Option<u32> {
+    match session.pass.mark() {
+        Some(mark) => Some(mark.get()),
+        None => None,
+    }
+}
+
+// The last item of a session, where it is a read: from where, up to where, and how many deliveries.
+fn last_read<P: PassView + Send + Drop>(session: &Session<P>) -> Option<(u32, u32, usize)> {
+    match session.items.last()? {
+        Item::Read { from, to, got } => Some((from.get(), to.get(), got.as_slice().len())),
+        _ => None,
+    }
+}
+
+// A session listens, sends in a block, and reads what it sent once the block has ended.
+#[test]
+fn a_session_reads_what_it_sent(rt: HostRuntime) -> Result<(), Fail> {
+    let alloc = rt.alloc();
+    let input = "\\session a 1\nLISTEN c\nBEGIN\nNOTIFY c\nCOMMIT\n\\session b 1\n";
+    let (hub, mut first, _second) = open_two::<WordHub>(alloc, input)?;
+    assert_eq!(rt; mark_of(&first), None);
+    turns(&rt, alloc, &hub, &mut first, 3)?;
+    assert_eq!(rt; mark_of(&first), Some(3));
+    assert_eq!(rt; last_read(&first), None);
+    turns(&rt, alloc, &hub, &mut first, 1)?;
+    assert_eq!(rt; mark_of(&first), Some(4));
+    assert_eq!(rt; last_read(&first), Some((3, 4, 1)));
+    Ok(())
+}
+
+// The first session listens and finds that the second is not over; the second sends and ends; the first ends without a read.
+fn end_both<P: PassView + Send + Drop, H: Hub<Pass = P>, R: Wait>(
+    rt: &R,
+    alloc: Global,
+    hub: &H,
+    first: &mut Session<P>,
+    second: &mut Session<P>,
+) -> Result<(), Fail>
+    requires first { IsReady (H.is_pass hub.now) (H.shape hub.now) P.known first.old }
+    requires second { IsReady (H.is_pass hub.now) (H.shape hub.now) P.known second.old }
+    ensures first { OnOk result (IsOver (H.is_pass hub.now) (H.shape hub.now) P.known first.new) }
+    ensures second { OnOk result (IsOver (H.is_pass hub.now) (H.shape hub.now) P.known second.new) }
+{
+    turns(rt, alloc, hub, first, 3)?;
+    turns(rt, alloc, hub, second, 2)?;
+    last_turn(rt, alloc, hub, second)?;
+    last_turn(rt, alloc, hub, first)?;
+    Ok(())
+}
+
+// A session that is over and has not read what was sent reads it as it is drained.
+#[test]
+fn drain_reads_what_is_left(rt: HostRuntime) -> Result<(), Fail> {
+    let alloc = rt.alloc();
+    let input = "\\session a 1\nLISTEN c\n\\session b 1\nNOTIFY c\n";
+    let (hub, mut first, mut second) = open_two::<WordHub>(alloc, input)?;
+    end_both(&rt, alloc, &hub, &mut first, &mut second)?;
+    assert_eq!(rt; mark_of(&first), Some(3));
+    assert_eq!(rt; last_read(&first), None);
+    let mut both = [first, second];
+    drain(alloc, &hub, &mut both)?;
+    assert_eq!(rt; mark_of(&both[0]), Some(4));
+    assert_eq!(rt; last_read(&both[0]), Some((3, 4, 1)));
+    assert_eq!(rt; mark_of(&both[1]), None);
+    Ok(())
+}
+
+// So many transactions of one notification. How many were committed.
+fn publish_often<P: PassView + Send + Drop, H: Hub<Pass = P>, R: Wait>(
+    rt: &R,
+    hub: &H,
+    pass: &mut P,
+    notes: &[Note; 1],
+    times: u32,
+) -> u32
+    requires own { H.is_pass hub.now pass.old }
+    ensures own { H.is_pass hub.now pass.new }
+    ensures session { (P.known pass.new).session ≡ (P.known pass.old).session }
+{
+    let mut committed: u32 = 0;
+    for _ in 0..times {
+        if pass.notes_left() >= 1 && hub.publish(rt, pass, notes).is_ok() {
+            committed = committed.saturating_add(1);
+        }
+    }
+    committed
+}
+
+// Two passes publish so many transactions each, on a thread of its own each. How many were committed.
+fn publish_side_by_side<
+    P: PassView + Send + Drop,
+    H: Hub<Pass = P> + Sync,
+    R: Threads + Wait + Sync,
+>(rt: &R, hub: &H, first: &mut P, second: &mut P, notes: &[Note; 1], times: u32) -> (u32, u32)
+    requires first { H.is_pass hub.now first.old }
+    requires second { H.is_pass hub.now second.old }
+    ensures first { H.is_pass hub.now first.new }
+    ensures second { H.is_pass hub.now second.new }
+    ensures first_session { (P.known first.new).session ≡ (P.known first.old).session }
+    ensures second_session { (P.known second.new).session ≡ (P.known second.old).session }
+{
+    join_mut(
+        rt,
+        &mut || -> u32
+            requires { IsSync R.row × IsSync H.row × IsSend P.row × H.is_pass hub.now first.now }
+            ensures { H.is_pass hub.entry.now first.exit.now × ((P.known first.exit.now).session ≡ (P.known first.entry.now).session) }
+        { publish_often(rt, hub, first, notes, times) },
+        &mut || -> u32
+            requires { IsSync R.row × IsSync H.row × IsSend P.row × H.is_pass hub.now second.now }
+            ensures { H.is_pass hub.entry.now second.exit.now × ((P.known second.exit.now).session ≡ (P.known second.entry.now).session) }
+        { publish_often(rt, hub, second, notes, times) },
+    )
+}
+
+fn note(alloc: Global) -> Result<Note, Fail> {
+    Ok(Note {
+        channel: Name::new(alloc, "c")?,
+        payload: Payload::new(alloc, "")?,
+    })
+}
+
+// A seat of database 1, whose session may send so many notifications.
+fn seat(notes: u32) -> SeatSetup
+    ensures { result.notes ≡ notes }
+{
+    SeatSetup {
+        db: DbOid::new(1),
+        notes,
+    }
+}
+
+// A hub of two pages for two sessions, each of which may send so many notifications.
+fn open_passes<P: PassView + Send + Drop, H: Hub<Pass = P> + Drop>(
+    alloc: Global,
+    notes: u32,
+) -> Result<(H, P, P), Fail>
+    requires few { notes ≤ 1000 }
+    ensures first { IfOk result (λ opened. H.is_pass opened.0 opened.1 × ((P.known opened.1).session ≡ 1)) }
+    ensures second { IfOk result (λ opened. H.is_pass opened.0 opened.2 × ((P.known opened.2).session ≡ 2)) }
+    ensures seats { IfOk result (λ opened. length (H.shape opened.0).seats ≡ 2) }
+{
+    let mut seats = Vec::with_capacity(alloc, 2)?;
+    seats.push(seat(notes))?;
+    seats.push(seat(notes))?;
+    let (hub, mut passes) = H::open(alloc, Setup::new(2, 2, seats))?;
+    let Some(second) = passes.pop() else {
+        return Err(Fail::from("no pass"));
+    };
+    let Some(first) = passes.pop() else {
+        return Err(Fail::from("one pass"));
+    };
+    Ok((hub, first, second))
+}
+
+// How many transactions two passes have committed, of so many each, and how many the journal has.
+fn publish_and_gather<
+    P: PassView + Send + Drop,
+    H: Hub<Pass = P> + Sync + Drop,
+    R: Threads + Wait + Sync,
+>(rt: &R, alloc: Global, times: u32) -> Result<(u32, u32, u32), Fail>
+    requires few { times ≤ 1000 }
+{
+    let (hub, mut first, mut second) = open_passes::<P, H>(alloc, times)?;
+    let notes = [note(alloc)?];
+    let (by_first, by_second) = publish_side_by_side(
+        rt,
+        &hub,
+        &mut first,
+        &mut second,
+        &notes,
+        times,
+    );
+    let mut passes = Vec::with_capacity(alloc, 2)?;
+    passes.push(first)?;
+    passes.push(second)?;
+    let roll = hub.gather(passes);
+    Ok((by_first, by_second, roll.count))
+}
+
+#[test]
+fn two_passes_publish_side_by_side(rt: HostRuntime) -> Result<(), Fail> {
+    type Pass = <WordHub as Hub>::Pass;
+    let done = publish_and_gather::<Pass, WordHub, HostRuntime>(&rt, rt.alloc(), 50)?;
+    assert_eq!(rt; done, (50, 50, 100));
+    Ok(())
+}
