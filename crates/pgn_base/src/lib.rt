@@ -23,6 +23,7 @@
 #![tactic(auto)]
 
 mod answers;
+mod command;
 mod copied;
 mod format;
 mod in_place;
@@ -41,6 +42,7 @@ mod source;
 mod text;
 
 pub use answers::{Needs, Refusal, Tag, Warning, Which};
+pub use command::Command;
 pub use copied::Copied;
 pub use format::Format;
 pub use limits::{

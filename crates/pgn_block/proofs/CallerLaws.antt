@@ -1,9 +1,9 @@
 -- A block that is told commands one after another.
 use Rattle.std.proofs.Common.{◌≡◌, ℕ, List, [], ◌∷◌, ◌++◌, refl, sym, ap, ◌∙◌, append_assoc, append-nil}
-use Rattle.pgn_model.specs.declared.block_state.BlockState.{BlockState}
-use Rattle.pgn_model.specs.declared.command.Command.{Command}
-use Rattle.pgn_model.specs.Answers.{answer, next_state, list_after}
-use Rattle.pgn_model.specs.Savepoints.{Change, changes_of, live_names}
+use Rattle.pgn_answers.specs.declared.block_state.BlockState.{BlockState}
+use Rattle.pgn_base.specs.declared.command.Command.{Command}
+use Rattle.pgn_answers.specs.Answers.{answer, next_state, list_after}
+use Rattle.pgn_answers.specs.Savepoints.{Change, changes_of, live_names}
 use Rattle.pgn_pending.specs.Kept.{StandsFor}
 use Rattle.pgn_block.specs.declared.effect.Effect.{Effect}
 use Rattle.pgn_block.specs.Views.{BlockView, idle_view}

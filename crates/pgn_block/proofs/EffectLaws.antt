@@ -1,12 +1,12 @@
 -- Laws of what a step gives.
 use Rattle.std.proofs.Common.{◌≡◌, ℕ, true, ◌&&◌, ◌||◌, List, [], refl, ◌∙◌}
-use Rattle.pgn_model.specs.declared.block_state.BlockState.{BlockState}
-use Rattle.pgn_model.specs.declared.block_state.BlockState.TheVariants.{Idle}
-use Rattle.pgn_model.specs.declared.command.Command.{Command}
-use Rattle.pgn_model.specs.Savepoints.{Change}
-use Rattle.pgn_model.specs.Answers.{Outcome, Commits, Replies, Refuses, Silent, GivesChannels, GivesUsage, answer, next_state, list_after}
-use Rattle.pgn_model.specs.laws.Answers.{is_idle, is_in_block, is_commit, is_transaction, ends_by_commit}
-use Rattle.pgn_model.proofs.AnswerLemmas.{what-commits}
+use Rattle.pgn_answers.specs.declared.block_state.BlockState.{BlockState}
+use Rattle.pgn_answers.specs.declared.block_state.BlockState.TheVariants.{Idle}
+use Rattle.pgn_base.specs.declared.command.Command.{Command}
+use Rattle.pgn_answers.specs.Savepoints.{Change}
+use Rattle.pgn_answers.specs.Answers.{Outcome, Commits, Replies, Refuses, Silent, GivesChannels, GivesUsage, answer, next_state, list_after}
+use Rattle.pgn_answers.specs.laws.Answers.{is_idle, is_in_block, is_commit, is_transaction, ends_by_commit}
+use Rattle.pgn_answers.proofs.AnswerLemmas.{what-commits}
 use Rattle.pgn_block.specs.Effects.{effect_of}
 use Rattle.pgn_block.specs.Laws.{hands_out}
 

@@ -1,11 +1,11 @@
 -- Laws of what a step gives.
 use Rattle.std.specs.Prelude.{◌≡◌, ℕ, Bool, true, false, ◌&&◌, ◌||◌, List, []}
-use Rattle.pgn_model.specs.declared.block_state.BlockState.{BlockState}
-use Rattle.pgn_model.specs.declared.block_state.BlockState.TheVariants.{Idle}
-use Rattle.pgn_model.specs.declared.command.Command.{Command}
-use Rattle.pgn_model.specs.Savepoints.{Change}
-use Rattle.pgn_model.specs.Answers.{Outcome, answer, next_state, list_after}
-use Rattle.pgn_model.specs.laws.Answers.{is_idle, is_in_block, is_transaction, ends_by_commit}
+use Rattle.pgn_answers.specs.declared.block_state.BlockState.{BlockState}
+use Rattle.pgn_answers.specs.declared.block_state.BlockState.TheVariants.{Idle}
+use Rattle.pgn_base.specs.declared.command.Command.{Command}
+use Rattle.pgn_answers.specs.Savepoints.{Change}
+use Rattle.pgn_answers.specs.Answers.{Outcome, answer, next_state, list_after}
+use Rattle.pgn_answers.specs.laws.Answers.{is_idle, is_in_block, is_transaction, ends_by_commit}
 use Rattle.pgn_block.specs.declared.effect.Effect.{Effect}
 use Rattle.pgn_block.specs.declared.effect.Effect.TheVariants.{Commit}
 use Rattle.pgn_block.specs.Effects.{effect_of}

@@ -2,11 +2,11 @@
 use Rattle.std.specs.Prelude.{◌≡◌, ℕ, List, [], ◌++◌, Some, None}
 use Rattle.pgn_base.specs.declared.answers.Tag.{Tag}
 use Rattle.pgn_base.specs.declared.answers.Warning.TheVariants.{AlreadyInBlock}
-use Rattle.pgn_model.specs.declared.block_state.BlockState.{BlockState}
-use Rattle.pgn_model.specs.declared.block_state.BlockState.TheVariants.{Idle, InBlock, Failed}
-use Rattle.pgn_model.specs.declared.command.Command.{Command}
-use Rattle.pgn_model.specs.Answers.{Outcome, Commits, Replies, GivesChannels, GivesUsage, in_state, ignored, answer, next_state}
-use Rattle.pgn_model.specs.Savepoints.{Change, changes_of, live_names}
+use Rattle.pgn_answers.specs.declared.block_state.BlockState.{BlockState}
+use Rattle.pgn_answers.specs.declared.block_state.BlockState.TheVariants.{Idle, InBlock, Failed}
+use Rattle.pgn_base.specs.declared.command.Command.{Command}
+use Rattle.pgn_answers.specs.Answers.{Outcome, Commits, Replies, GivesChannels, GivesUsage, in_state, ignored, answer, next_state}
+use Rattle.pgn_answers.specs.Savepoints.{Change, changes_of, live_names}
 use Rattle.pgn_pending.specs.Kept.{StandsFor}
 use Rattle.pgn_block.specs.declared.effect.Kind.{Kind}
 use Rattle.pgn_block.specs.declared.effect.Kind.TheVariants.{ListeningChannels, QueueUsage}

@@ -1,13 +1,14 @@
 ghost use Rattle.std.specs.Prelude.{◌≡◌, ◌↔◌, ℕ, List, [], ◌++◌, IsTrue, IsErr, IfOk, OnOk, OnErr};
-ghost use Rattle.pgn_model.specs.Savepoints.{Change, changes_of, live_names};
-ghost use Rattle.pgn_model.specs.Answers.{answer, next_state, list_after};
+ghost use Rattle.pgn_answers.specs.Savepoints.{Change, changes_of, live_names};
+ghost use Rattle.pgn_answers.specs.Answers.{answer, next_state, list_after};
 ghost use Rattle.pgn_pending.specs.Kept.{HasHistory, StandsFor};
 ghost use Rattle.pgn_block.specs.Views.{idle_view};
 ghost use Rattle.pgn_block.specs.Effects.{effect_of, takes_memory};
 
 use crate::Effect;
 use crate::stage::Stage;
-use pgn_model::{BlockState, Command};
+use pgn_answers::BlockState;
+use pgn_base::Command;
 use std::alloc::{AllocError, Global};
 use std::marker::Model;
 

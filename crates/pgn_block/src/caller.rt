@@ -2,7 +2,7 @@ ghost use Rattle.std.specs.Prelude.{◌≡◌, IfOk};
 ghost use Rattle.pgn_block.specs.Effects.{effects_of};
 
 use crate::{Block, Effect};
-use pgn_model::Command;
+use pgn_base::Command;
 use std::alloc::{AllocError, Global};
 
 /// What a block gives for these commands, one after another. The error is that memory did not suffice for one of them.

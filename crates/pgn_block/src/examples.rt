@@ -1,5 +1,5 @@
 ghost use Rattle.std.specs.Prelude.{◌≡◌, true, false, ◌∷◌, ◌++◌, map, replicate};
-ghost use Rattle.pgn_model.specs.declared.block_state.BlockState.TheVariants.{Idle, InBlock, Failed};
+ghost use Rattle.pgn_answers.specs.declared.block_state.BlockState.TheVariants.{Idle, InBlock, Failed};
 ghost use Rattle.pgn_block.specs.Effects.{takes_memory, effects_of};
 ghost use Rattle.pgn_block.specs.Examples.{repeats, repeats_give, registers_and_leaves, registers_and_leaves_give, fails, fails_give, queries, queries_give, each_command};
 

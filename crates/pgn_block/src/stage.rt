@@ -1,7 +1,7 @@
 ghost use Rattle.std.specs.Prelude.{◌≡◌, ℕ, not, List, [], ◌∷◌, IsTrue, IsErr, IfOk, OnErr};
-ghost use Rattle.pgn_model.specs.Savepoints.{Change, Acted, Noted};
-ghost use Rattle.pgn_model.specs.Answers.{Commits};
-ghost use Rattle.pgn_model.specs.laws.Answers.{is_in_block, is_failed};
+ghost use Rattle.pgn_answers.specs.Savepoints.{Change, Acted, Noted};
+ghost use Rattle.pgn_answers.specs.Answers.{Commits};
+ghost use Rattle.pgn_answers.specs.laws.Answers.{is_in_block, is_failed};
 ghost use Rattle.pgn_pending.specs.Kept.{StandsFor};
 ghost use Rattle.pgn_block.specs.Views.{view_of, idle_view};
 ghost use Rattle.pgn_block.specs.Effects.{effect_of, takes_memory};
@@ -9,7 +9,8 @@ ghost use Rattle.pgn_block.specs.Steps.{Steps, IsStep, failed_view, opens, sends
 
 use crate::{Effect, Kind};
 use pgn_base::{Action, Name, Needs, Note, Refusal, Tag, Warning, Which};
-use pgn_model::{BlockState, Command};
+use pgn_answers::BlockState;
+use pgn_base::Command;
 use pgn_pending::{NoSuch, Pending};
 use std::alloc::{AllocError, Global};
 use std::mem;

@@ -1,6 +1,7 @@
 use super::*;
 use pgn_base::{Action, Actions, Name, Needs, Note, Notes, Payload, Refusal, Tag, Warning, Which};
-use pgn_model::{BlockState, Command};
+use pgn_answers::BlockState;
+use pgn_base::Command;
 use std::alloc::{AllocError, Global};
 use std::test::Fail;
 

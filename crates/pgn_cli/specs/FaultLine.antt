@@ -2,8 +2,8 @@
 use Rattle.std.specs.Prelude.{ℕ, List, [], ◌++◌, codes, decimal}
 use Rattle.pgn_run.specs.declared.status.Status.{Status}
 use Rattle.pgn_run.specs.declared.status.Status.TheVariants.{Done, BadWords, BadScenario, ReadFault, WriteFault, NoMemory}
-use Rattle.pgn_model.specs.declared.scenario.ScenarioFault.{ScenarioFault}
-use Rattle.pgn_model.specs.declared.scenario.ScenarioFault.TheVariants.{TooLarge, LineTooLong, NotUtf8, NulByte, BadMeta, NoSession, SameName, TooMany, Empty, NeverSignalled}
+use Rattle.pgn_language.specs.declared.scenario.ScenarioFault.{ScenarioFault}
+use Rattle.pgn_language.specs.declared.scenario.ScenarioFault.TheVariants.{TooLarge, LineTooLong, NotUtf8, NulByte, BadMeta, NoSession, SameName, TooMany, Empty, NeverSignalled}
 
 -- what is wrong at a line
 abbrev pub line_fault : ℕ → List ℕ → List ℕ

@@ -4,8 +4,8 @@ use Rattle.std.specs.Io.KnownBytes.{Appends}
 use Rattle.std.specs.declared.io.ErrorKind.{ErrorKind}
 use Rattle.std.specs.declared.io.ErrorKind.TheVariants.{OutOfMemory}
 use Rattle.pgn_base.specs.Outside.{AppendsPrefix, Rose}
-use Rattle.pgn_model.specs.declared.scenario.ScenarioFault.{ScenarioFault}
-use Rattle.pgn_model.specs.Inputs.{ReadsAsScenario}
+use Rattle.pgn_language.specs.declared.scenario.ScenarioFault.{ScenarioFault}
+use Rattle.pgn_language.specs.Inputs.{ReadsAsScenario}
 use Rattle.pgn_run.specs.declared.status.Status.{Status}
 use Rattle.pgn_run.specs.declared.status.Status.TheVariants.{Done, WriteFault}
 use Rattle.pgn_run.specs.Run.{code_of}

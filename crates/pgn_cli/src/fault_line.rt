@@ -4,7 +4,7 @@ ghost use Rattle.pgn_cli.specs.FaultLine.{fault_text, scenario_fault_text, line_
 
 use itoa::Buffer;
 use pgn_base::{Failed, Sink, write_all};
-use pgn_model::ScenarioFault;
+use pgn_language::ScenarioFault;
 use pgn_run::Status;
 
 /// Writes the one line on standard error of an outcome, and nothing where the run is done. Where it fails, a prefix of the line

@@ -1,8 +1,8 @@
 ghost use Rattle.std.specs.Prelude.{◌≡◌, ◌≢◌, ◌<◌, map, string_bytes, Err, IfOk, IfSome};
 ghost use Rattle.std.specs.Io.KnownBytes.{Appends};
 ghost use Rattle.pgn_base.specs.Outside.{AppendsPrefix, Rose};
-ghost use Rattle.pgn_model.specs.declared.scenario.ScenarioFault.{ScenarioFault};
-ghost use Rattle.pgn_model.specs.Inputs.{ReadsAsScenario};
+ghost use Rattle.pgn_language.specs.declared.scenario.ScenarioFault.{ScenarioFault};
+ghost use Rattle.pgn_language.specs.Inputs.{ReadsAsScenario};
 ghost use Rattle.pgn_run.specs.Run.{Runs, run_words};
 ghost use Rattle.pgn_cli.specs.Program.{Ends, IsRefused, NamesFault};
 

@@ -3,7 +3,7 @@ use crate::fault_line::fault_line;
 use crate::program::program;
 use crate::words::NoWords;
 use pgn_base::{Failed, MemSink, MemSource, Sink, Source, write_all};
-use pgn_model::ScenarioFault;
+use pgn_language::ScenarioFault;
 use pgn_run::Status;
 use std::alloc::{AllocError, Global};
 use std::io;

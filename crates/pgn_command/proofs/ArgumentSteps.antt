@@ -5,11 +5,11 @@ use Rattle.std.specs.List.{repeat, list_any}
 use Rattle.std.specs.Prelude.{Result, Ok, Err}
 use Rattle.std.proofs.lemmas.Bool.{false≢true, cases_Bool}
 use Rattle.std.proofs.lemmas.List.{append-nil}
-use Rattle.pgn_model.specs.declared.command.Command.{Command}
-use Rattle.pgn_model.specs.declared.command.Command.TheVariants as command
-use Rattle.pgn_model.specs.Tokens.{Lexeme, Word, Quoted, Literal, Number, Sign, Wrong, Token}
-use Rattle.pgn_model.specs.Grammar.{Slot, Key, Quote, Count, Punct, fits_slot, ReadsAs, text_of, value_of}
-use Rattle.pgn_model.specs.laws.Grammar.{after_first, is_done}
+use Rattle.pgn_base.specs.declared.command.Command.{Command}
+use Rattle.pgn_base.specs.declared.command.Command.TheVariants as command
+use Rattle.pgn_language.specs.Tokens.{Lexeme, Word, Quoted, Literal, Number, Sign, Wrong, Token}
+use Rattle.pgn_language.specs.Grammar.{Slot, Key, Quote, Count, Punct, fits_slot, ReadsAs, text_of, value_of}
+use Rattle.pgn_language.specs.laws.Grammar.{after_first, is_done}
 use Rattle.pgn_command.specs.Reading.{front_lexeme, front_at, takes, expecting, closing, noted, Argument, after_argument, arguing, repeating, calling, outcome}
 use Rattle.pgn_command.proofs.FormSteps.{Stands, stands-next, stands-by, stands-stop, stands-lack, stands-taken, stands-refused, before_all, expecting-reads, taken-fits, key-word, only-fits, only-fails}
 use Rattle.pgn_command.proofs.CloseSteps.{done, Complete, done-reads}

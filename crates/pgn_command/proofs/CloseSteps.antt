@@ -2,10 +2,10 @@
 use Rattle.std.proofs.Common.{◌≡◌, ◌≢◌, ℕ, Bool, true, false, cond, ◌||◌, inl, inr, List, [], ◌∷◌, ◌++◌, length, filter_map, sym, refl, subst, drop, codes}
 use Rattle.std.specs.Str.{byte}
 use Rattle.std.proofs.lemmas.Bool.{cases_Bool}
-use Rattle.pgn_model.specs.declared.command.Command.{Command}
-use Rattle.pgn_model.specs.Tokens.{Lexeme, Word, Quoted, Literal, Number, Sign, Wrong, Token}
-use Rattle.pgn_model.specs.Grammar.{Slot, Key, Name, Punct, fits_slot, IsForm, ReadsAs, name_of}
-use Rattle.pgn_model.specs.laws.Grammar.{after_first}
+use Rattle.pgn_base.specs.declared.command.Command.{Command}
+use Rattle.pgn_language.specs.Tokens.{Lexeme, Word, Quoted, Literal, Number, Sign, Wrong, Token}
+use Rattle.pgn_language.specs.Grammar.{Slot, Key, Name, Punct, fits_slot, IsForm, ReadsAs, name_of}
+use Rattle.pgn_language.specs.laws.Grammar.{after_first}
 use Rattle.pgn_command.specs.Reading.{front_lexeme, ending, closing, past_work, naming, outcome}
 use Rattle.pgn_command.proofs.FormSteps.{Stands, stands-next, stands-by, stands-stop, stands-whole, before_all, expecting-reads, alike, key-word, key-cases, sign-cases}
 

@@ -3,10 +3,10 @@ use Rattle.std.proofs.Common.{◌≡◌, ◌≢◌, ℕ, Bool, true, false, cond
 use Rattle.std.specs.Str.{byte, str_eq_ignore_ascii_case}
 use Rattle.std.specs.Prelude.{Err}
 use Rattle.std.proofs.lemmas.Bool.{cases_Bool, and_from}
-use Rattle.pgn_model.specs.declared.command.Command.TheVariants as command
-use Rattle.pgn_model.specs.Tokens.{Lexeme, Word, Quoted, Literal, Number, Sign, Wrong, Token, tokens}
-use Rattle.pgn_model.specs.Grammar.{Slot, Key, Name, Punct, fits_slot, ReadsAs, table, name_of}
-use Rattle.pgn_model.specs.laws.Grammar.{after_first, table_slots}
+use Rattle.pgn_base.specs.declared.command.Command.TheVariants as command
+use Rattle.pgn_language.specs.Tokens.{Lexeme, Word, Quoted, Literal, Number, Sign, Wrong, Token, tokens}
+use Rattle.pgn_language.specs.Grammar.{Slot, Key, Name, Punct, fits_slot, ReadsAs, table, name_of}
+use Rattle.pgn_language.specs.laws.Grammar.{after_first, table_slots}
 use Rattle.pgn_command.specs.declared.verb.Verb.{Verb}
 use Rattle.pgn_command.specs.declared.verb.Verb.TheVariants as verb
 use Rattle.pgn_command.specs.Reading.{front_lexeme, takes, expecting, closing, past_work, rolling, noted, asking, calling, selecting, verb_of, starting, stated, outcome}

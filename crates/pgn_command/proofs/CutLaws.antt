@@ -8,9 +8,9 @@ use Rattle.std.proofs.lemmas.Bool.Decides.{nat_tests}
 use Rattle.std.proofs.lemmas.Str.{IsUtf8-take, IsCharBoundary-from_take}
 use Rattle.std.proofs.Math.Seq.{take-length}
 use Rattle.std.proofs.lemmas.List.{take-map}
-use Rattle.pgn_model.specs.Grammar.{begins_character, cut}
-use Rattle.pgn_model.specs.laws.Tokens.{IsLongestPrefix}
-use Rattle.pgn_model.proofs.TokenLaws.{cut-longest}
+use Rattle.pgn_language.specs.Grammar.{begins_character, cut}
+use Rattle.pgn_language.specs.laws.Tokens.{IsLongestPrefix}
+use Rattle.pgn_language.proofs.TokenLaws.{cut-longest}
 
 -- a text is cut at the last character that begins early enough
 pub cut-at : (n k : ℕ) (text : List ℕ) → IsUtf8 text → k ≤ n → IsCharBoundary text k → ((i : ℕ) → k < i → i ≤ n → IsCharBoundary text i → ⊥) → cut n text ≡ take k text

@@ -6,12 +6,12 @@ use Rattle.std.proofs.lemmas.Slice.Eq.{bytes_eq-Decides}
 use Rattle.std.proofs.lemmas.Bool.{false≢true, both_ways, cases_Bool}
 use Rattle.std.proofs.lemmas.List.{map-append, append-nil}
 use Rattle.std.specs.Prelude.{Result, Err}
-use Rattle.pgn_model.specs.declared.command.Command.{Command}
-use Rattle.pgn_model.specs.declared.command.Command.TheVariants as command
-use Rattle.pgn_model.specs.Tokens.{Lexeme, Word, Quoted, Literal, Number, Sign, Wrong, Token, tokens}
-use Rattle.pgn_model.specs.Grammar.{Slot, Key, Name, Quote, Count, Punct, fits_slot, all_fit, Form, table, IsForm, IsOneOf, BeginsForm, lexemes_of, ReadsAs, Whole, Stops, Lacks, limited}
-use Rattle.pgn_model.specs.laws.Grammar.{after_first, followers, table_slots, is_done}
-use Rattle.pgn_model.proofs.GrammarLaws.{followers-tell, followers-done}
+use Rattle.pgn_base.specs.declared.command.Command.{Command}
+use Rattle.pgn_base.specs.declared.command.Command.TheVariants as command
+use Rattle.pgn_language.specs.Tokens.{Lexeme, Word, Quoted, Literal, Number, Sign, Wrong, Token, tokens}
+use Rattle.pgn_language.specs.Grammar.{Slot, Key, Name, Quote, Count, Punct, fits_slot, all_fit, Form, table, IsForm, IsOneOf, BeginsForm, lexemes_of, ReadsAs, Whole, Stops, Lacks, limited}
+use Rattle.pgn_language.specs.laws.Grammar.{after_first, followers, table_slots, is_done}
+use Rattle.pgn_language.proofs.GrammarLaws.{followers-tell, followers-done}
 use Rattle.pgn_command.specs.Reading.{front_lexeme, front_at, takes, expecting, outcome}
 
 followers-append : (ways : List (List Slot)) (some more : List Lexeme) → followers ways (some ++ more) ≡ followers (followers ways some) more

@@ -5,9 +5,8 @@ use Rattle.std.proofs.lemmas.Bool.{cases_Bool, and_parts}
 use Rattle.std.proofs.lemmas.List.{take-append-drop, drop-drop, length-take-le, length-drop}
 use Rattle.std.proofs.lemmas.Bool.Decides.{nat_tests}
 use Rattle.std.proofs.lemmas.Str.{IsUtf8-drop, IsCharBoundary-start, IsCharBoundary-after_ascii, IsCharBoundary-from_rest, IsCharBoundary-before_ascii, IsCharBoundary-end}
-use Rattle.pgn_model.specs.Tokens.{Token, tokens_from, Kind, ABlank, AComment, AWord, ANumber, ASign, AQuoted, ALiteral, ANothing, kind, Front, Blank, Comment, OneToken, NoToken, front, is_blank, begins_comment, begins_word, goes_on_word, is_sign}
-use Rattle.pgn_model.specs.Tokens.{Wrong}
-use Rattle.pgn_model.specs.laws.Tokens.{NoneFollows}
+use Rattle.pgn_language.specs.Tokens.{Token, tokens_from, Kind, ABlank, AComment, AWord, ANumber, ASign, AQuoted, ALiteral, ANothing, kind, Front, Blank, Comment, OneToken, NoToken, front, is_blank, begins_comment, begins_word, goes_on_word, is_sign, Wrong}
+use Rattle.pgn_language.specs.laws.Tokens.{NoneFollows}
 use Rattle.std.specs.Char.{is_ascii_digit}
 
 -- the first bytes that pass a test

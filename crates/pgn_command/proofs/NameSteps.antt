@@ -3,11 +3,11 @@ use Rattle.std.proofs.Common.{◌≡◌, ◌≢◌, ℕ, Bool, true, false, cond
 use Rattle.std.specs.Str.{byte, str_eq_ignore_ascii_case}
 use Rattle.std.specs.Prelude.{Result, Ok, Err}
 use Rattle.std.proofs.lemmas.Bool.{false≢true, cases_Bool, eqb-true}
-use Rattle.pgn_model.specs.declared.command.Command.{Command}
-use Rattle.pgn_model.specs.declared.command.Command.TheVariants as command
-use Rattle.pgn_model.specs.Tokens.{Lexeme, Word, Quoted, Literal, Number, Sign, Wrong, Token}
-use Rattle.pgn_model.specs.Grammar.{Slot, Key, Name, Quote, Punct, fits_slot, ReadsAs, name_of, text_of}
-use Rattle.pgn_model.specs.laws.Grammar.{after_first}
+use Rattle.pgn_base.specs.declared.command.Command.{Command}
+use Rattle.pgn_base.specs.declared.command.Command.TheVariants as command
+use Rattle.pgn_language.specs.Tokens.{Lexeme, Word, Quoted, Literal, Number, Sign, Wrong, Token}
+use Rattle.pgn_language.specs.Grammar.{Slot, Key, Name, Quote, Punct, fits_slot, ReadsAs, name_of, text_of}
+use Rattle.pgn_language.specs.laws.Grammar.{after_first}
 use Rattle.pgn_command.specs.Reading.{front_lexeme, takes, expecting, closing, past_work, past_savepoint, naming, rolling, unlistening, notifying, paying, noted, Argument, after_argument, asking, outcome}
 use Rattle.pgn_command.proofs.FormSteps.{Stands, stands-next, stands-by, stands-stop, stands-lack, stands-whole, stands-taken, stands-refused, before_all, expecting-reads, alike, key-word, key-cases, sign-cases}
 use Rattle.pgn_command.proofs.CloseSteps.{done, Complete, closing-reads, done-reads, named, worked}

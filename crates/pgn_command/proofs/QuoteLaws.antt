@@ -4,10 +4,10 @@ use Rattle.std.proofs.lemmas.Bool.{cases_Bool, eqb-true, eq-eqb, both_ways, fals
 use Rattle.std.proofs.lemmas.List.{take-append-drop, drop-drop, drop_more, take_at, length-take-le, length-drop, get_or-drop, take_all, drop_at, get_or_at}
 use Rattle.std.proofs.lemmas.Str.{IsCharBoundary-after_ascii}
 use Rattle.std.proofs.lemmas.List.Concat.{flat_map-append}
-use Rattle.pgn_model.specs.Text.{doubled_byte}
-use Rattle.pgn_model.specs.Tokens.{Inside, closed, preceded}
-use Rattle.pgn_model.specs.laws.Tokens.{IsClosed}
-use Rattle.pgn_model.proofs.TokenLaws.{quotes-tell}
+use Rattle.pgn_language.specs.Quotes.{doubled_byte}
+use Rattle.pgn_language.specs.Tokens.{Inside, closed, preceded}
+use Rattle.pgn_language.specs.laws.Tokens.{IsClosed}
+use Rattle.pgn_language.proofs.TokenLaws.{quotes-tell}
 use Rattle.memchr.specs.Find.{IsFirstByte, is_byte}
 use Rattle.pgn_command.specs.Texts.{single, starts, NoneAmong, IsQuoteAt, FindsQuote, IsInside, IsTwice}
 

@@ -5,8 +5,8 @@ use Rattle.std.specs.Char.{is_ascii_digit, digit_value}
 use Rattle.std.specs.Str.Parse.{IsNumeral, AllDigits}
 use Rattle.std.proofs.lemmas.List.Folds.{length-prefix_len}
 use Rattle.std.proofs.lemmas.Str.{IsCharBoundary-after_ascii}
-use Rattle.pgn_model.specs.Tokens.{Lexeme, Word, Number, Sign, Quoted, Literal, Token, tokens_from, Inside, closed, NoToken, OneToken, AWord, ANumber, ASign, AQuoted, ALiteral, ANothing, goes_on_word, quoted_front, literal_front}
-use Rattle.pgn_model.proofs.SlotLaws.{tokens-skip}
+use Rattle.pgn_language.specs.Tokens.{Lexeme, Word, Number, Sign, Quoted, Literal, Token, tokens_from, Inside, closed, NoToken, OneToken, AWord, ANumber, ASign, AQuoted, ALiteral, ANothing, goes_on_word, quoted_front, literal_front}
+use Rattle.pgn_language.proofs.SlotLaws.{tokens-skip}
 use Rattle.std.proofs.lemmas.Bool.{eqb-true, eqb-false, cases_Bool}
 use Rattle.std.proofs.lemmas.Bool.Decides.{nat_tests}
 use Rattle.pgn_command.specs.Texts.{single, IsInside}

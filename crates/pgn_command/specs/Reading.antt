@@ -3,10 +3,10 @@ use Rattle.std.specs.Prelude.{◌≡◌, ℕ, Bool, true, false, ◌||◌, ◌&&
 use Rattle.std.specs.Str.{str_eq_ignore_ascii_case, byte}
 use Rattle.std.specs.List.{repeat}
 use Rattle.pgn_base.specs.declared.note.Note.{Note}
-use Rattle.pgn_model.specs.declared.command.Command.{Command}
-use Rattle.pgn_model.specs.declared.command.Command.TheVariants as command
-use Rattle.pgn_model.specs.Tokens.{Lexeme, Word, Wrong, Token}
-use Rattle.pgn_model.specs.Grammar.{Slot, Key, Name, Quote, Count, Punct, fits_slot, name_of, text_of, value_of, limited}
+use Rattle.pgn_base.specs.declared.command.Command.{Command}
+use Rattle.pgn_base.specs.declared.command.Command.TheVariants as command
+use Rattle.pgn_language.specs.Tokens.{Lexeme, Word, Wrong, Token}
+use Rattle.pgn_language.specs.Grammar.{Slot, Key, Name, Quote, Count, Punct, fits_slot, name_of, text_of, value_of, limited}
 use Rattle.pgn_command.specs.declared.verb.Verb.{Verb}
 use Rattle.pgn_command.specs.declared.verb.Verb.TheVariants as verb
 

@@ -1,10 +1,10 @@
 -- What the statements of the code are.
 use Rattle.std.specs.Prelude.{◌≡◌, ℕ, List, [], true, false, drop, Result, Ok, Err, MatchResult}
 use Rattle.std.specs.List.{repeat}
-use Rattle.pgn_model.specs.declared.command.Command.{Command}
-use Rattle.pgn_model.specs.declared.command.Command.TheVariants as command
-use Rattle.pgn_model.specs.Tokens as model
-use Rattle.pgn_model.specs.Grammar.{Name, name_of}
+use Rattle.pgn_base.specs.declared.command.Command.{Command}
+use Rattle.pgn_base.specs.declared.command.Command.TheVariants as command
+use Rattle.pgn_language.specs.Tokens as model
+use Rattle.pgn_language.specs.Grammar.{Name, name_of}
 use Rattle.pgn_command.specs.Texts.{single}
 use Rattle.pgn_command.specs.Reading.{noted, Ahead, Argument, takes, front_lexeme, front_at}
 use Rattle.pgn_command.specs.declared.statement.Ident.{Ident}

@@ -1,7 +1,7 @@
 -- Texts between quotes.
 use Rattle.std.specs.Prelude.{◌≡◌, ℕ, Bool, ◌+◌, ◌-◌, ◌<◌, ◌≤◌, Option, MatchOption, drop, flat_map, ◌&&◌, ◌==◌, List, [], ◌∷◌, length, take, slice_index, true, false, Some}
-use Rattle.pgn_model.specs.Tokens.{closed}
-use Rattle.pgn_model.specs.Text.{doubled_byte}
+use Rattle.pgn_language.specs.Tokens.{closed}
+use Rattle.pgn_language.specs.Quotes.{doubled_byte}
 
 -- a text with each quote that is written twice once
 abbrev pub single : ℕ → List ℕ → List ℕ

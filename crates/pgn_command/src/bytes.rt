@@ -1,7 +1,7 @@
 ghost use Rattle.std.specs.Prelude.{◌≡◌, ◌+◌, ◌≤◌, ◌∷◌, drop, length};
 ghost use Rattle.std.specs.List.{list_all, prefix_len};
 ghost use Rattle.std.specs.Char.{is_ascii_digit};
-ghost use Rattle.pgn_model.specs.Tokens.{is_blank, begins_word, goes_on_word, is_sign};
+ghost use Rattle.pgn_language.specs.Tokens.{is_blank, begins_word, goes_on_word, is_sign};
 ghost use Rattle.pgn_command.specs.Lexing.{Starts, IsStart, starts_comment};
 
 // How many bytes are compared side by side.

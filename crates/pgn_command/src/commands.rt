@@ -1,14 +1,14 @@
 ghost use Rattle.std.specs.Prelude.{◌≡◌, length, IfOk};
-ghost use Rattle.pgn_model.specs.declared.command.Command.TheVariants as command;
-ghost use Rattle.pgn_model.specs.Grammar.{limited, past_limit};
-ghost use Rattle.pgn_model.specs.laws.Commands.{IsValid};
+ghost use Rattle.pgn_base.specs.declared.command.Command.TheVariants as command;
+ghost use Rattle.pgn_language.specs.Grammar.{limited, past_limit};
+ghost use Rattle.pgn_language.specs.laws.Commands.{IsValid};
 ghost use Rattle.pgn_command.specs.Reading.{noted};
 ghost use Rattle.pgn_command.specs.Statements.{ident_name, text_bytes, meant};
 
 use crate::statement::{Ident, Statement, Text};
 use crate::texts::{channel_of, name_of, payload_of, text_len};
 use pgn_base::{NAME_BYTES_MAX, Note, PAYLOAD_BYTES_MAX, Which};
-use pgn_model::Command;
+use pgn_base::Command;
 use std::alloc::{AllocError, Global};
 
 /// The command that a statement is, or which limit it goes past.

@@ -1,5 +1,5 @@
 ghost use Rattle.std.specs.Prelude.{◌≡◌, codes, MatchResult};
-ghost use Rattle.pgn_model.specs.Grammar.{Key, Quote, Count, Punct, fits_slot, text_of, value_of};
+ghost use Rattle.pgn_language.specs.Grammar.{Key, Quote, Count, Punct, fits_slot, text_of, value_of};
 ghost use Rattle.pgn_command.specs.Texts.{single};
 ghost use Rattle.pgn_command.specs.Reading as told;
 ghost use Rattle.pgn_command.specs.Statements.{Gives, GivesText, IsNamed, IsUnnamed, meant, ident_lexeme};

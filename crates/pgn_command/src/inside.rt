@@ -1,5 +1,5 @@
 ghost use Rattle.std.specs.Prelude.{◌≡◌, ◌+◌, ◌<◌, ◌≤◌, length, flat_map, IfSome};
-ghost use Rattle.pgn_model.specs.Text.{doubled_byte};
+ghost use Rattle.pgn_language.specs.Quotes.{doubled_byte};
 ghost use Rattle.pgn_command.specs.Texts.{single};
 
 /// What stands between two quotes, as it is written: each quote in it twice.

@@ -1,7 +1,7 @@
 ghost use Rattle.std.specs.Prelude.{◌≡◌, ℕ, ◌+◌, ◌<◌, ◌≤◌, false, true, List, ◌∷◌, [], length, take, drop, IsUtf8, IsCharBoundary};
 ghost use Rattle.pgn_base.specs.declared.limits.TheConstants.{LINE_BYTES_MAX};
-ghost use Rattle.pgn_model.specs.Tokens.{tokens_from, is_blank};
-ghost use Rattle.pgn_model.specs.laws.Tokens.{NoneFollows};
+ghost use Rattle.pgn_language.specs.Tokens.{tokens_from, is_blank};
+ghost use Rattle.pgn_language.specs.laws.Tokens.{NoneFollows};
 ghost use Rattle.pgn_command.specs.Lexing.{shown, IsStart, EndsAt, HasDigits, Starts, IsStuck, IsRead};
 ghost use Rattle.pgn_command.specs.declared.bytes.Start.TheVariants as start;
 

@@ -1,7 +1,7 @@
 ghost use Rattle.std.specs.Prelude.{◌≡◌, ◌<◌, ◌≤◌, length, drop, cond, MatchOption};
 ghost use Rattle.std.specs.Str.Parse.{IsNumeral, digits_value};
-ghost use Rattle.pgn_model.specs.Tokens.{tokens};
-ghost use Rattle.pgn_model.specs.Grammar.{Key, Name, Quote, Count, Punct, text_of, value_of};
+ghost use Rattle.pgn_language.specs.Tokens.{tokens};
+ghost use Rattle.pgn_language.specs.Grammar.{Key, Name, Quote, Count, Punct, text_of, value_of};
 ghost use Rattle.pgn_command.specs.Texts.{single};
 ghost use Rattle.pgn_command.specs.Reading.{front_lexeme, front_at, front_verb, nothing_ahead, takes, IsTaken, IsKept};
 ghost use Rattle.pgn_command.specs.Statements.{ident_lexeme};
@@ -23,7 +23,7 @@ pub struct Parser<'a> {
 
 impl<'a> Model for Parser<'a> {
     ghost use Rattle.std.specs.Prelude.{ℕ, ◌+◌, ◌≤◌, length};
-    ghost use Rattle.pgn_model.specs.Tokens.{tokens_from};
+    ghost use Rattle.pgn_language.specs.Tokens.{tokens_from};
     ghost use Rattle.pgn_command.specs.Lexing.{shown, EndsAt, HasDigits};
     ghost use Rattle.pgn_command.specs.Reading.{Ahead};
 

@@ -1,5 +1,5 @@
 ghost use Rattle.std.specs.Prelude.{◌≡◌, ◌<◌, ◌≤◌, drop, length, IfOk, MatchOption, None, string_bytes};
-ghost use Rattle.pgn_model.specs.Tokens.{closed};
+ghost use Rattle.pgn_language.specs.Tokens.{closed};
 ghost use Rattle.pgn_command.specs.Texts.{single, starts, FindsQuote, IsInside};
 
 use crate::inside::Inside;

@@ -1,6 +1,6 @@
 use crate::parse_line;
 use pgn_base::{LINE_BYTES_MAX, Name, Note, Which};
-use pgn_model::Command;
+use pgn_base::Command;
 use std::alloc::{AllocError, Global};
 use std::test::Fail;
 

@@ -1,6 +1,6 @@
 ghost use Rattle.std.specs.Prelude.{◌≡◌, ◌<◌, length, IfOk, IfSome, string_bytes};
 ghost use Rattle.pgn_base.specs.Texts.{IsName, IsPayload};
-ghost use Rattle.pgn_model.specs.Grammar as grammar;
+ghost use Rattle.pgn_language.specs.Grammar as grammar;
 ghost use Rattle.pgn_command.specs.Statements.{ident_name, text_bytes};
 
 use crate::quotes::unquoted;

@@ -3,8 +3,8 @@ use Rattle.std.proofs.Common.{◌≡◌, ◌≢◌, ℕ, ◌-◌, List, drop, Re
 use Rattle.std.specs.Prelude.{◌↔◌}
 use Rattle.pgn_base.specs.declared.format.Format.TheVariants.{One}
 use Rattle.pgn_base.specs.declared.note.Note.{Note}
-use Rattle.pgn_model.specs.Bytes.{entry_length, IsEntryLength}
-use Rattle.pgn_model.proofs.BytesLemmas.{entry_lengths, reads_back, none_is_filler, filler_reads_back}
+use Rattle.pgn_journal.specs.Bytes.{entry_length, IsEntryLength}
+use Rattle.pgn_journal.proofs.BytesLemmas.{entry_lengths, reads_back, none_is_filler, filler_reads_back}
 use Rattle.pgn_entry.specs.declared.entry_fault.EntryFault.{EntryFault}
 use Rattle.pgn_entry.specs.declared.entry_fault.EntryFault.TheVariants.{Short, BadLength, NoNul, BadText, BadPad}
 use Rattle.pgn_entry.specs.declared.entry_view.EntryView.{EntryView}

@@ -6,8 +6,8 @@ use Rattle.std.proofs.lemmas.Bool.{cases_lt, cases_eq}
 use Rattle.pgn_base.specs.declared.format.Format.TheVariants.{One}
 use Rattle.pgn_base.specs.declared.note.Note.{Note}
 use Rattle.pgn_base.specs.Notes.{IsNote}
-use Rattle.pgn_model.specs.Bytes.{header, entry_length, spelled, filler, IsHead, IsEntryLength}
-use Rattle.pgn_model.proofs.BytesLemmas.{length-header, entry_lengths}
+use Rattle.pgn_journal.specs.Bytes.{header, entry_length, spelled, filler, IsHead, IsEntryLength}
+use Rattle.pgn_journal.proofs.BytesLemmas.{length-header, entry_lengths}
 use Rattle.pgn_entry.specs.Reading.{is_zero, number_at, body, IsAllZero, note_of, padding_of, HasHead, BeginsEntry, BeginsFiller}
 use Rattle.pgn_entry.specs.Parts.{IsWhole}
 use Rattle.pgn_entry.proofs.WrittenLaws.{entry_has_room}

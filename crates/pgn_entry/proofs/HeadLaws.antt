@@ -6,7 +6,7 @@ use Rattle.std.proofs.lemmas.List.{take-append-drop, length-take-le, get_or-take
 use Rattle.std.proofs.lemmas.Bool.{cases_lt}
 use Rattle.std.proofs.lemmas.Nat.{le_bytes_4, from_le_bytes-to_le_bytes_4}
 use Rattle.pgn_base.specs.declared.format.Format.TheVariants.{One}
-use Rattle.pgn_model.specs.Bytes.{four_bytes, header, IsHead}
+use Rattle.pgn_journal.specs.Bytes.{four_bytes, header, IsHead}
 use Rattle.pgn_entry.specs.Reading.{number_at, body}
 
 -- each of these is a byte

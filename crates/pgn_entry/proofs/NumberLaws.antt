@@ -4,7 +4,7 @@ use Rattle.std.specs.Int.{w32, from_le_bytes}
 use Rattle.std.specs.List.{between}
 use Rattle.std.proofs.lemmas.Slice.{between_to_end}
 use Rattle.byteorder.specs.Endian.{little_number, little_bytes}
-use Rattle.pgn_model.specs.Bytes.{four_bytes}
+use Rattle.pgn_journal.specs.Bytes.{four_bytes}
 use Rattle.pgn_entry.specs.Reading.{number_at}
 
 -- byteorder reads the number of std's words from four bytes

@@ -1,10 +1,10 @@
 -- The bytes of a piece read as its fields.
 use Rattle.std.proofs.Common.{◌≡◌, List, ℕ, [], refl, sym, ◌∙◌, subst, append-nil}
 use Rattle.pgn_base.specs.declared.format.Format.TheVariants.{One}
-use Rattle.pgn_model.specs.Bytes.{entry_length, spelled, filler, IsEntryLength}
-use Rattle.pgn_model.specs.Pieces as pieces
-use Rattle.pgn_model.specs.Pieces.{Piece, piece_bytes, IsReadable}
-use Rattle.pgn_model.proofs.PieceLaws.{piece_has_bytes}
+use Rattle.pgn_journal.specs.Bytes.{entry_length, spelled, filler, IsEntryLength}
+use Rattle.pgn_journal.specs.Pieces as pieces
+use Rattle.pgn_journal.specs.Pieces.{Piece, piece_bytes, IsReadable}
+use Rattle.pgn_journal.proofs.PieceLaws.{piece_has_bytes}
 use Rattle.pgn_entry.specs.declared.entry_fault.EntryFault.{EntryFault}
 use Rattle.pgn_entry.specs.Pieces.{ArePiece, IsReadAs}
 use Rattle.pgn_entry.specs.Reading.{Reading, AnEntry, AFiller, AFault, ReadsAs}

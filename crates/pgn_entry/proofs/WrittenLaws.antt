@@ -4,8 +4,8 @@ use Rattle.std.proofs.lemmas.List.{drop_all, take_at, drop_at, length-take-le, d
 use borrow.Rule.Slice.PartMut.{put_mid}
 use Rattle.pgn_base.specs.declared.format.Format.TheVariants.{One}
 use Rattle.pgn_base.specs.declared.note.Note.{Note}
-use Rattle.pgn_model.specs.Bytes.{padded, header, entry_length, spelled, filler}
-use Rattle.pgn_model.proofs.BytesLemmas.{length-header}
+use Rattle.pgn_journal.specs.Bytes.{padded, header, entry_length, spelled, filler}
+use Rattle.pgn_journal.proofs.BytesLemmas.{length-header}
 
 -- zero bytes, the first of them apart
 first_apart : (n m : ℕ) → n ≡ m + 1 → replicate {A = ℕ} n 0 ≡ 0 ∷ replicate {A = ℕ} m 0

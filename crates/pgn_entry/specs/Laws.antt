@@ -3,7 +3,7 @@ use Rattle.std.specs.Prelude.{◌≡◌, ℕ, ◌<◌, List, ◌++◌}
 use Rattle.pgn_base.specs.declared.format.Format.TheVariants.{One}
 use Rattle.pgn_base.specs.declared.note.Note.{Note}
 use Rattle.pgn_base.specs.Notes.{IsNote}
-use Rattle.pgn_model.specs.Bytes.{entry_length, spelled, filler, IsHead, IsEntryLength}
+use Rattle.pgn_journal.specs.Bytes.{entry_length, spelled, filler, IsHead, IsEntryLength}
 use Rattle.pgn_entry.specs.Reading.{Reading, AnEntry, AFiller, ReadsAs}
 
 -- bytes read as one thing at most

@@ -2,7 +2,7 @@
 use Rattle.std.specs.Prelude.{◌≡◌, ℕ, ◌≤◌, List, count_by}
 use Rattle.pgn_base.specs.declared.format.Format.TheVariants.{One}
 use Rattle.pgn_base.specs.Notes.{IsNote}
-use Rattle.pgn_model.specs.Bytes.{entry_length}
+use Rattle.pgn_journal.specs.Bytes.{entry_length}
 use Rattle.pgn_entry.specs.declared.entry_fault.EntryFault.TheVariants.{Short, BadLength, NoNul, BadText, BadPad}
 use Rattle.pgn_entry.specs.declared.head.Head.{Head}
 use Rattle.pgn_entry.specs.Reading.{stated_length, stated_db, stated_xid, stated_pid, is_zero, note_of, padding_of, IsAllZero, HasHead, LacksZeros, HasBadTexts, HasBadPadding, Reading, AnEntry, AFiller, AFault}

@@ -2,10 +2,10 @@
 use Rattle.std.specs.Prelude.{◌≡◌, ℕ, List}
 use Rattle.pgn_base.specs.declared.format.Format.TheVariants.{One}
 use Rattle.pgn_base.specs.declared.note.Note.{Note}
-use Rattle.pgn_model.specs.Bytes.{entry_length}
-use Rattle.pgn_model.specs.Packing.{Sender}
-use Rattle.pgn_model.specs.Pieces as pieces
-use Rattle.pgn_model.specs.Pieces.{Piece, piece_bytes, IsReadable}
+use Rattle.pgn_journal.specs.Bytes.{entry_length}
+use Rattle.pgn_journal.specs.Packing.{Sender}
+use Rattle.pgn_journal.specs.Pieces as pieces
+use Rattle.pgn_journal.specs.Pieces.{Piece, piece_bytes, IsReadable}
 use Rattle.pgn_entry.specs.Reading.{Reading, AnEntry, AFiller, AFault}
 
 -- bytes are those of a piece

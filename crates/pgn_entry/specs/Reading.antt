@@ -6,7 +6,7 @@ use Rattle.pgn_base.specs.declared.format.Format.TheVariants.{One}
 use Rattle.pgn_base.specs.declared.note.Note.{Note}
 use Rattle.pgn_base.specs.Texts.{IsName, IsPayload}
 use Rattle.pgn_base.specs.Notes.{IsNote}
-use Rattle.pgn_model.specs.Bytes.{header_bytes, alignment, least_bytes, page_bytes, entry_length, spelled, filler, IsHead, IsEntryLength}
+use Rattle.pgn_journal.specs.Bytes.{header_bytes, alignment, least_bytes, page_bytes, entry_length, spelled, filler, IsHead, IsEntryLength}
 use Rattle.pgn_entry.specs.declared.entry_fault.EntryFault.{EntryFault}
 use Rattle.pgn_entry.specs.declared.entry_fault.EntryFault.TheVariants.{Short, BadLength, NoNul, BadText, BadPad}
 use Rattle.pgn_entry.specs.declared.entry_view.EntryView.{EntryView}

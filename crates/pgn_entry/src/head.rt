@@ -1,6 +1,6 @@
 ghost use Rattle.std.specs.Prelude.{◌≡◌, ◌≤◌, length};
 ghost use Rattle.pgn_base.specs.declared.format.Format.TheVariants.{One};
-ghost use Rattle.pgn_model.specs.Bytes.{header, header_bytes};
+ghost use Rattle.pgn_journal.specs.Bytes.{header, header_bytes};
 ghost use Rattle.pgn_entry.specs.Reading.{stated_length, stated_db, stated_xid, stated_pid};
 
 use byteorder::{ByteOrder, LittleEndian};

@@ -1,7 +1,7 @@
 ghost use Rattle.std.specs.Prelude.{◌≡◌, ◌+◌, ◌≤◌, ◌↔◌, IsTrue};
 ghost use Rattle.pgn_base.specs.declared.format.Format.TheVariants.{One};
 ghost use Rattle.pgn_base.specs.declared.limits.TheConstants.{NAME_BYTES_MAX, PAYLOAD_BYTES_MAX};
-ghost use Rattle.pgn_model.specs.Bytes.{header_bytes, aligned, entry_length, IsEntryLength};
+ghost use Rattle.pgn_journal.specs.Bytes.{header_bytes, aligned, entry_length, IsEntryLength};
 
 use crate::format::{ALIGNMENT, HEADER_BYTES, LEAST_BYTES};
 use pgn_base::{Note, PAGE_BYTES};

@@ -1,6 +1,6 @@
 ghost use Rattle.std.specs.Prelude.{◌≡◌, Ok};
 ghost use Rattle.pgn_base.specs.declared.format.Format.TheVariants.{One};
-ghost use Rattle.pgn_model.specs.Pieces.{Piece, piece_bytes, IsReadable};
+ghost use Rattle.pgn_journal.specs.Pieces.{Piece, piece_bytes, IsReadable};
 ghost use Rattle.pgn_entry.specs.Pieces.{ArePiece, IsReadAs};
 ghost use Rattle.pgn_entry.specs.Reading.{told};
 

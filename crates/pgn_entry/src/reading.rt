@@ -1,7 +1,7 @@
 ghost use Rattle.std.specs.Prelude.{◌≡◌, ℕ, ◌↔◌, IfOk, IfErr, IsErrOf};
 ghost use Rattle.pgn_base.specs.declared.format.Format.TheVariants.{One};
 ghost use Rattle.pgn_base.specs.declared.note.Note.{Note};
-ghost use Rattle.pgn_model.specs.Bytes.{entry_length};
+ghost use Rattle.pgn_journal.specs.Bytes.{entry_length};
 ghost use Rattle.pgn_entry.specs.Parts.{IsHeadOf, BodyReadsAs, FillerReadsAs};
 ghost use Rattle.pgn_entry.specs.Reading.{IsRefused, BeginsEntry, BeginsFiller, AnEntry, AFiller, ReadsAs, body, told};
 
@@ -47,7 +47,7 @@ fn read_filler<'a>(head: &Head, body: &[u8]) -> Result<EntryView<'a>, EntryFault
 }
 
 // The entry with this head, whose body stands after it up to its length.
-#[tactic(auto, unfolding(pgn_model::specs::Bytes::entry_length))]
+#[tactic(auto, unfolding(pgn_journal::specs::Bytes::entry_length))]
 fn read_body<'a>(head: &Head, body: &'a [u8]) -> Result<EntryView<'a>, EntryFault>
     ensures { BodyReadsAs head.now body.now (told result) }
 {

@@ -1,6 +1,6 @@
 ghost use Rattle.std.specs.Prelude.{◌≡◌, ◌+◌, ◌≤◌, [], ◌∷◌, ◌++◌, length};
 ghost use Rattle.pgn_base.specs.declared.format.Format.TheVariants.{One};
-ghost use Rattle.pgn_model.specs.Bytes.{padded, entry_length, spelled, filler, IsEntryLength};
+ghost use Rattle.pgn_journal.specs.Bytes.{padded, entry_length, spelled, filler, IsEntryLength};
 
 use crate::format::HEADER_BYTES;
 use crate::head::Head;

@@ -2,12 +2,12 @@
 use Rattle.std.proofs.Common.{◌≡◌, ℕ, ◌≤◌, List, ◌++◌, length, Option, Some, None, IfSome, All, Contains, sym, ap, ◌∙◌, subst, arith, length-append}
 use Rattle.std.proofs.lemmas.Option.{IfSome_then}
 use Rattle.std.proofs.lemmas.List.Elements.{All-contains, Contains-append_right}
-use Rattle.pgn_model.specs.declared.known.Known.{Known}
-use Rattle.pgn_model.specs.Journal.{next_xid, is_committed_in}
-use Rattle.pgn_model.specs.Due.{due}
-use Rattle.pgn_model.proofs.DueLaws.{due-grows}
-use Rattle.pgn_model.proofs.NearLaws.{near-grows}
-use Rattle.pgn_model.proofs.QueueUseLaws.{no_page-grows, usage-grows}
+use Rattle.pgn_hub.specs.declared.known.Known.{Known}
+use Rattle.pgn_journal.specs.Journal.{next_xid, is_committed_in}
+use Rattle.pgn_journal.specs.Due.{due}
+use Rattle.pgn_journal.proofs.DueLaws.{due-grows}
+use Rattle.pgn_journal.proofs.NearLaws.{near-grows}
+use Rattle.pgn_journal.proofs.QueueUseLaws.{no_page-grows, usage-grows}
 use Rattle.pgn_hub.specs.Calls.{IsHolder, met_by}
 use Rattle.pgn_hub.specs.Laws.{ReadGrows, WokenGrows, FullGrows, MeasuredGrows, HoldersAreNamed}
 

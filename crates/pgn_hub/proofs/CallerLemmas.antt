@@ -3,10 +3,10 @@ use Rattle.std.proofs.Common.{◌≡◌, ℕ, ◌+◌, ◌-◌, List, [], ◌∷
 use Rattle.std.specs.List.{range_with_len}
 use Rattle.std.proofs.lemmas.List.Elements.{All-nil, All-cons}
 use Rattle.pgn_base.specs.declared.limits.TheConstants.{FIRST_XID}
-use Rattle.pgn_model.specs.declared.setup.SeatSetup.{SeatSetup}
-use Rattle.pgn_model.specs.declared.tx.Tx.{Tx}
-use Rattle.pgn_model.specs.declared.known.Known.{Known}
-use Rattle.pgn_model.specs.Journal.{xids_of}
+use Rattle.pgn_hub.specs.declared.setup.SeatSetup.{SeatSetup}
+use Rattle.pgn_journal.specs.declared.tx.Tx.{Tx}
+use Rattle.pgn_hub.specs.declared.known.Known.{Known}
+use Rattle.pgn_journal.specs.Journal.{xids_of}
 use Rattle.pgn_hub.specs.Passes.{opened_pass, opened_passes}
 use Rattle.pgn_hub.specs.Gathered.{Gathered, IsBy}
 use Rattle.pgn_hub.proofs.SeatLaws.{opened-seats}

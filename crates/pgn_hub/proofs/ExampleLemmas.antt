@@ -8,16 +8,16 @@ use Rattle.std.proofs.lemmas.Str.{IsUtf8-from_ascii}
 use Rattle.std.proofs.lemmas.Str.Ascii.{IsAscii-nil, IsAscii-cons}
 use Rattle.pgn_base.specs.declared.note.Note.{Note}
 use Rattle.pgn_base.specs.declared.format.Format.TheVariants.{One}
-use Rattle.pgn_model.specs.declared.tx.Tx.{Tx}
-use Rattle.pgn_model.specs.declared.tx.Fate.TheVariants.{Committed, Aborted}
-use Rattle.pgn_model.specs.Begins.{Begins}
+use Rattle.pgn_journal.specs.declared.tx.Tx.{Tx}
+use Rattle.pgn_journal.specs.declared.tx.Fate.TheVariants.{Committed, Aborted}
+use Rattle.pgn_journal.specs.Begins.{Begins}
 use Rattle.pgn_base.specs.Notes.{IsNote}
-use Rattle.pgn_model.specs.Journal.{xids_of, IsFinished}
-use Rattle.pgn_model.specs.Packing.{put_all, page_of, place, place_at, fits}
-use Rattle.pgn_model.specs.QueueUse.{NoPage}
-use Rattle.pgn_model.specs.examples.Packing.{bare_note, sent, letters}
-use Rattle.pgn_model.proofs.PackingLemmas.{first_place, places_agree}
-use Rattle.pgn_model.proofs.PackingSteps.{length-letters, full_5, full_6, larger_end, larger_4}
+use Rattle.pgn_journal.specs.Journal.{xids_of, IsFinished}
+use Rattle.pgn_journal.specs.Packing.{put_all, page_of, place, place_at, fits}
+use Rattle.pgn_journal.specs.QueueUse.{NoPage}
+use Rattle.pgn_journal.specs.examples.Packing.{bare_note, sent, letters}
+use Rattle.pgn_journal.proofs.PackingLemmas.{first_place, places_agree}
+use Rattle.pgn_journal.proofs.PackingSteps.{length-letters, full_5, full_6, larger_end, larger_4}
 use Rattle.pgn_hub.specs.Gathered.{IsBy}
 use Rattle.pgn_hub.specs.Examples as example
 

@@ -2,10 +2,9 @@
 use Rattle.std.proofs.Common.{◌≡◌, ℕ, ◌≤◌, Option, Some, IfSome, Contains, inl, inr, sym, ap, ◌∙◌, refl, subst}
 use Rattle.std.proofs.lemmas.Option.{IfSome_then}
 use Rattle.std.proofs.lemmas.List.Elements.{All-contains, Contains-append_left, Contains-append_cases}
-use Rattle.pgn_model.specs.declared.known.Advance.{Advance}
-use Rattle.pgn_model.specs.declared.scenario.Section.{Section}
-use Rattle.pgn_model.specs.Shape.{Shape}
-use Rattle.pgn_model.specs.Walk.{IsFloorFor}
+use Rattle.pgn_hub.specs.declared.known.Advance.{Advance}
+use Rattle.pgn_hub.specs.Shape.{Shape}
+use Rattle.pgn_journal.specs.QueueUse.{IsFloorFor}
 use Rattle.pgn_hub.specs.Calls.{LooksTwice, IsFloor, IsHolder, met_by, met_from}
 use Rattle.pgn_hub.specs.Laws.{OwnFloors}
 
@@ -32,15 +31,15 @@ own-holds shape session x floor mark holder advance looks held is =
     let mine : IsHolder x (met_by advance) floor (Some session) = subst (λ (h : Option ℕ). IsHolder x (met_by advance) floor h) is held in
     own-met shape session floor mark advance looks mine.1
 
-floor-for : (section : Section) (shape : Shape) (session x floor : ℕ) (mark holder : Option ℕ) (advance : Advance) → session ≡ section.no → LooksTwice shape session mark advance
-    → IsFloor x (met_by advance) floor holder → IsFloorFor section mark floor holder
-floor-for section shape session x floor mark holder advance is looks floors = record {
+floor-for : (own : ℕ) (shape : Shape) (session x floor : ℕ) (mark holder : Option ℕ) (advance : Advance) → session ≡ own → LooksTwice shape session mark advance
+    → IsFloor x (met_by advance) floor holder → IsFloorFor own mark floor holder
+floor-for own shape session x floor mark holder advance is looks floors = record {
   below = floor-below shape session x floor mark holder advance looks floors;
   own = λ h. own-holds shape session x floor mark holder advance looks floors.held (h ∙ ap Some (sym is));
 }
 
 pub own-floors : OwnFloors
 own-floors = record {
-  of_full = λ section shape old new notes full is h. floor-for section shape old.session full.xid full.floor_mark old.mark full.holder new.advance is h.looked h.floor;
-  of_usage = λ section shape old new usage is h. floor-for section shape old.session usage.at usage.floor_mark old.mark usage.holder new.advance is h.looked h.floor;
+  of_full = λ own shape old new notes full is h. floor-for own shape old.session full.xid full.floor_mark old.mark full.holder new.advance is h.looked h.floor;
+  of_usage = λ own shape old new usage is h. floor-for own shape old.session usage.at usage.floor_mark old.mark usage.holder new.advance is h.looked h.floor;
 }

@@ -3,10 +3,10 @@ use Rattle.std.proofs.Common.{◌≡◌, ℕ, zero, suc, ◌+◌, ◌-◌, ◌<�
 use Rattle.std.proofs.lemmas.Option.{IfSome_then}
 use Rattle.std.proofs.lemmas.List.Elements.{All-contains, Contains-append_right}
 use Rattle.pgn_base.specs.declared.limits.TheConstants.{FIRST_XID}
-use Rattle.pgn_model.specs.declared.tx.Tx.{Tx}
-use Rattle.pgn_model.specs.declared.known.Known.{Known}
-use Rattle.pgn_model.specs.Journal.{xids_from, xids_of}
-use Rattle.pgn_model.proofs.BeginsLaws.{begins-shorter}
+use Rattle.pgn_journal.specs.declared.tx.Tx.{Tx}
+use Rattle.pgn_hub.specs.declared.known.Known.{Known}
+use Rattle.pgn_journal.specs.Journal.{xids_from, xids_of}
+use Rattle.pgn_journal.proofs.BeginsLaws.{begins-shorter}
 use Rattle.pgn_hub.specs.Passes.{IsWithin}
 use Rattle.pgn_hub.specs.Gathered.{Gathered, IsBy}
 use Rattle.pgn_hub.specs.Laws.{LastReads}

@@ -8,16 +8,16 @@ use Rattle.pgn_base.specs.declared.note.Delivery.{Delivery}
 use Rattle.pgn_base.specs.declared.queue_answers.Full.{Full}
 use Rattle.pgn_base.specs.declared.queue_answers.Usage.{Usage}
 use Rattle.pgn_base.specs.declared.queue_answers.Enlisted.{Enlisted}
-use Rattle.pgn_model.specs.declared.tx.Tx.{Tx}
-use Rattle.pgn_model.specs.declared.tx.Fate.{Fate}
-use Rattle.pgn_model.specs.declared.tx.Fate.TheVariants.{Committed, Aborted}
-use Rattle.pgn_model.specs.declared.known.Known.{Known}
-use Rattle.pgn_model.specs.declared.known.Advance.{Advance}
-use Rattle.pgn_model.specs.Journal.{next_xid, is_committed_in}
-use Rattle.pgn_model.specs.Due.{due}
-use Rattle.pgn_model.specs.Near.{Near}
-use Rattle.pgn_model.specs.QueueUse.{NoPage, ShowsUsage}
-use Rattle.pgn_model.specs.Shape.{Shape}
+use Rattle.pgn_journal.specs.declared.tx.Tx.{Tx}
+use Rattle.pgn_journal.specs.declared.tx.Fate.{Fate}
+use Rattle.pgn_journal.specs.declared.tx.Fate.TheVariants.{Committed, Aborted}
+use Rattle.pgn_hub.specs.declared.known.Known.{Known}
+use Rattle.pgn_hub.specs.declared.known.Advance.{Advance}
+use Rattle.pgn_journal.specs.Journal.{next_xid, is_committed_in}
+use Rattle.pgn_journal.specs.Due.{due}
+use Rattle.pgn_journal.specs.Near.{Near}
+use Rattle.pgn_journal.specs.QueueUse.{NoPage, ShowsUsage}
+use Rattle.pgn_hub.specs.Shape.{Shape}
 
 -- the pass learns of the journal, and nothing else
 pub record HasLearned (old new : Known) : Type 0 where

@@ -7,14 +7,14 @@ use Rattle.pgn_base.specs.declared.note.Delivery.{Delivery}
 use Rattle.pgn_base.specs.declared.queue_answers.Full.{Full}
 use Rattle.pgn_base.specs.declared.queue_answers.Usage.{Usage}
 use Rattle.pgn_base.specs.declared.queue_answers.Enlisted.{Enlisted}
-use Rattle.pgn_model.specs.declared.setup.SeatSetup.{SeatSetup}
-use Rattle.pgn_model.specs.declared.tx.Tx.{Tx}
-use Rattle.pgn_model.specs.declared.tx.Fate.TheVariants.{Committed, Aborted}
-use Rattle.pgn_model.specs.declared.known.Known.{Known}
-use Rattle.pgn_model.specs.declared.known.Advance.{Advance}
-use Rattle.pgn_model.specs.Due.{delivery}
-use Rattle.pgn_model.specs.Shape.{Shape}
-use Rattle.pgn_model.specs.examples.Packing.{letters, sent}
+use Rattle.pgn_hub.specs.declared.setup.SeatSetup.{SeatSetup}
+use Rattle.pgn_journal.specs.declared.tx.Tx.{Tx}
+use Rattle.pgn_journal.specs.declared.tx.Fate.TheVariants.{Committed, Aborted}
+use Rattle.pgn_hub.specs.declared.known.Known.{Known}
+use Rattle.pgn_hub.specs.declared.known.Advance.{Advance}
+use Rattle.pgn_journal.specs.Due.{delivery}
+use Rattle.pgn_hub.specs.Shape.{Shape}
+use Rattle.pgn_journal.specs.examples.Packing.{letters, sent}
 use Rattle.pgn_hub.specs.Passes.{opened_pass}
 
 -- each session may send eight notifications in database 1

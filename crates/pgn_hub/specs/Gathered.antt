@@ -1,9 +1,9 @@
 -- What is known when all passes are gathered.
 use Rattle.std.specs.Prelude.{◌≡◌, ℕ, ◌-◌, ◌<◌, ◌≤◌, List, length, flat_map, slice_get, All, Contains, IsSomeAnd}
-use Rattle.pgn_model.specs.declared.tx.Tx.{Tx}
-use Rattle.pgn_model.specs.declared.known.Known.{Known}
-use Rattle.pgn_model.specs.Begins.{Begins}
-use Rattle.pgn_model.specs.Journal.{IsFinished, next_xid, xids_of}
+use Rattle.pgn_journal.specs.declared.tx.Tx.{Tx}
+use Rattle.pgn_hub.specs.declared.known.Known.{Known}
+use Rattle.pgn_journal.specs.Begins.{Begins}
+use Rattle.pgn_journal.specs.Journal.{IsFinished, next_xid, xids_of}
 
 -- the transaction is of a session with this pass, and of its database
 pub record IsBy (k : Known) (tx : Tx) : Type 0 where

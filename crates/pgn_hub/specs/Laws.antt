@@ -3,22 +3,20 @@ use Rattle.std.specs.Prelude.{◌≡◌, ℕ, ◌+◌, ◌≤◌, false, Bool, L
 use Rattle.std.specs.List.{range_with_len}
 use Rattle.pgn_base.specs.declared.limits.TheConstants.{FIRST_XID}
 use Rattle.pgn_base.specs.declared.queue_answers.Enlisted.{Enlisted}
-use Rattle.pgn_model.specs.declared.setup.SeatSetup.{SeatSetup}
-use Rattle.pgn_model.specs.declared.scenario.Section.{Section}
-use Rattle.pgn_model.specs.declared.tx.Fate.TheVariants.{Committed, Aborted}
-use Rattle.pgn_model.specs.Walk.{IsFloorFor}
+use Rattle.pgn_hub.specs.declared.setup.SeatSetup.{SeatSetup}
+use Rattle.pgn_journal.specs.declared.tx.Fate.TheVariants.{Committed, Aborted}
+use Rattle.pgn_journal.specs.QueueUse.{IsFloorFor, NoPage, ShowsUsage}
 use Rattle.pgn_base.specs.declared.format.Format.{Format}
 use Rattle.pgn_base.specs.declared.note.Note.{Note}
 use Rattle.pgn_base.specs.declared.note.Delivery.{Delivery}
 use Rattle.pgn_base.specs.declared.queue_answers.Full.{Full}
 use Rattle.pgn_base.specs.declared.queue_answers.Usage.{Usage}
-use Rattle.pgn_model.specs.declared.tx.Tx.{Tx}
-use Rattle.pgn_model.specs.declared.known.Known.{Known}
-use Rattle.pgn_model.specs.Journal.{next_xid, entry, is_committed_in}
-use Rattle.pgn_model.specs.Due.{due}
-use Rattle.pgn_model.specs.Near.{Near}
-use Rattle.pgn_model.specs.QueueUse.{NoPage, ShowsUsage}
-use Rattle.pgn_model.specs.Shape.{Shape}
+use Rattle.pgn_journal.specs.declared.tx.Tx.{Tx}
+use Rattle.pgn_hub.specs.declared.known.Known.{Known}
+use Rattle.pgn_journal.specs.Journal.{next_xid, entry, is_committed_in}
+use Rattle.pgn_journal.specs.Due.{due}
+use Rattle.pgn_journal.specs.Near.{Near}
+use Rattle.pgn_hub.specs.Shape.{Shape}
 use Rattle.pgn_hub.specs.Passes.{IsWithin, opened_passes}
 use Rattle.pgn_hub.specs.Calls.{HasPublished, HasEnlisted, HasHeard, HasLearned, HasLeft, HasFound, HasFoundNone, HasMetFull, HasRaised, HasRead, HasMeasured, HasWoken, tx_of}
 use Rattle.pgn_hub.specs.Gathered.{Gathered}
@@ -127,10 +125,10 @@ pub record TransactionsFollow : Type 0 where
 
 -- a listener's own mark is no lower than the floor, and it holds the floor only where its mark is the floor
 pub record OwnFloors : Type 0 where
-  pub of_full : (section : Section) (shape : Shape) (old new : Known) (notes : List Note) (full : Full) → old.session ≡ section.no → HasMetFull shape old new notes full
-      → IsFloorFor section old.mark full.floor_mark full.holder
-  pub of_usage : (section : Section) (shape : Shape) (old new : Known) (usage : Usage) → old.session ≡ section.no → HasMeasured shape old new usage
-      → IsFloorFor section old.mark usage.floor_mark usage.holder
+  pub of_full : (session : ℕ) (shape : Shape) (old new : Known) (notes : List Note) (full : Full) → old.session ≡ session → HasMetFull shape old new notes full
+      → IsFloorFor session old.mark full.floor_mark full.holder
+  pub of_usage : (session : ℕ) (shape : Shape) (old new : Known) (usage : Usage) → old.session ≡ session → HasMeasured shape old new usage
+      → IsFloorFor session old.mark usage.floor_mark usage.holder
 
 -- where all passes are gathered, and each listener has read up to what every pass was told of, each has read the whole journal
 abbrev pub LastReads : Type 0

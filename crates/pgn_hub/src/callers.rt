@@ -4,7 +4,7 @@ ghost use Rattle.pgn_hub.specs.Laws.{KeepsSeat};
 
 use crate::Hub;
 use pgn_base::{Delivery, ListenSet, Note, Xid};
-use pgn_model::{PassView, Roll, Setup};
+use crate::{PassView, Roll, Setup};
 use std::alloc::{AllocError, Global};
 use std::sync::Wait;
 

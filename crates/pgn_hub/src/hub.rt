@@ -1,12 +1,12 @@
 ghost use Rattle.std.specs.Prelude.{◌≡◌, ◌≢◌, ◌<◌, ◌≤◌, [], map, length, All, AllPairs, IfOk, OnErr, IfErr, IsSome};
 ghost use Rattle.std.specs.List.{range_with_len};
-ghost use Rattle.pgn_model.specs.Shape.{Shape, IsShape};
+ghost use Rattle.pgn_hub.specs.Shape.{Shape, IsShape};
 ghost use Rattle.pgn_hub.specs.Passes.{IsSeated, IsWithin, opened_passes};
 ghost use Rattle.pgn_hub.specs.Calls.{HasPublished, HasEnlisted, HasHeard, HasLearned, HasLeft, HasLooked, HasMetFull, HasRaised, HasRead, HasMeasured, HasWoken};
 ghost use Rattle.pgn_hub.specs.Gathered.{Gathered};
 
 use pgn_base::{Delivery, Enlisted, Full, ListenSet, Note, Usage, Xid};
-use pgn_model::{PassView, Roll, Setup};
+use crate::{PassView, Roll, Setup};
 use std::alloc::{AllocError, Global};
 use std::sync::Wait;
 

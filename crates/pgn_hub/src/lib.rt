@@ -35,6 +35,14 @@
 pub mod callers;
 pub mod examples;
 mod hub;
+mod known;
 pub mod laws;
+mod pass_view;
+mod roll;
+mod setup;
 
 pub use hub::Hub;
+pub use known::{Advance, Known};
+pub use pass_view::PassView;
+pub use roll::Roll;
+pub use setup::{SeatSetup, Seats, Setup};

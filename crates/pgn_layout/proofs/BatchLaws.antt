@@ -4,9 +4,9 @@ use Rattle.std.proofs.lemmas.List.{append-nil, length-append}
 use Rattle.std.proofs.lemmas.Bool.Decides.{nat_tests}
 use Rattle.pgn_base.specs.declared.format.Format.{Format}
 use Rattle.pgn_base.specs.declared.note.Note.{Note}
-use Rattle.pgn_model.specs.Bytes.{filler, IsEntryLength}
-use Rattle.pgn_model.specs.Packing.{Sender, next_page, bytes_left, filled_cells, filler_cells, notes_cells, put_all, HasRoom}
-use Rattle.pgn_model.proofs.PackingLemmas.{least_within, room_next, room_put_all, length-filler_cells, pages_hold, put_all_rises}
+use Rattle.pgn_journal.specs.Bytes.{filler, IsEntryLength}
+use Rattle.pgn_journal.specs.Packing.{Sender, next_page, bytes_left, filled_cells, filler_cells, notes_cells, put_all, HasRoom}
+use Rattle.pgn_journal.proofs.PackingLemmas.{least_within, room_next, room_put_all, length-filler_cells, pages_hold, put_all_rises}
 use Rattle.pgn_layout.specs.declared.batch.Batch.{Batch}
 use Rattle.pgn_layout.specs.Batches.{IsWhole, IsFilled, IsPlanned, Whole, Filled, empty_cells, padded_to, entries_of, batch_cells}
 use Rattle.pgn_layout.specs.Laws.{RunsAreCells, BatchesStay, FillersTakeRests}

@@ -3,10 +3,10 @@ use Rattle.std.proofs.Common.{◌≡◌, ℕ, ◌+◌, ◌<◌, true, false, Lis
 use Rattle.std.specs.Str.{byte}
 use Rattle.pgn_base.specs.declared.format.Format.TheVariants.{One}
 use Rattle.pgn_base.specs.declared.note.Note.{Note}
-use Rattle.pgn_model.specs.Bytes.{aligned, entry_length}
-use Rattle.pgn_model.specs.Packing.{fits, next_page, put, put_bytes, Sender, bytes_left, after_bytes, after_rest, place_at}
-use Rattle.pgn_model.specs.examples.Packing.{bare_note, letters}
-use Rattle.pgn_model.proofs.PackingSteps.{length-letters, put_letters}
+use Rattle.pgn_journal.specs.Bytes.{aligned, entry_length}
+use Rattle.pgn_journal.specs.Packing.{fits, next_page, put, put_bytes, Sender, bytes_left, after_bytes, after_rest, place_at}
+use Rattle.pgn_journal.specs.examples.Packing.{bare_note, letters}
+use Rattle.pgn_journal.proofs.PackingSteps.{length-letters, put_letters}
 use Rattle.pgn_layout.specs.declared.batch.Batch.{Batch}
 use Rattle.pgn_layout.specs.Batches.{Runs, IsPlanned, Whole, Filled, AreBatches, fillers_from, IsPlaced, AfterNotes, AfterFiller}
 use Rattle.pgn_layout.specs.Examples.{to_the_edge, over_the_edge, first_batch, last_batch}

@@ -8,9 +8,9 @@ use Rattle.std.proofs.lemmas.Grind.{fold-append}
 use Rattle.pgn_base.specs.declared.format.Format.{Format}
 use Rattle.pgn_base.specs.declared.note.Note.{Note}
 use Rattle.pgn_base.specs.Notes.{IsNote}
-use Rattle.pgn_model.specs.Bytes.{entry_length}
-use Rattle.pgn_model.specs.Packing.{next_page, bytes_left, fits, put, put_all, HasRoom}
-use Rattle.pgn_model.proofs.PackingLemmas.{least_within, fits_next, note_moves}
+use Rattle.pgn_journal.specs.Bytes.{entry_length}
+use Rattle.pgn_journal.specs.Packing.{next_page, bytes_left, fits, put, put_all, HasRoom}
+use Rattle.pgn_journal.proofs.PackingLemmas.{least_within, fits_next, note_moves}
 use Rattle.pgn_layout.specs.declared.batch.Batch.{Batch}
 use Rattle.pgn_layout.specs.Batches.{Runs, FirstIsTooLong, IsPlanned, Whole, Filled, AreBatches, batches_end, batch_fillers, fillers_from}
 use Rattle.pgn_layout.proofs.BatchLaws.{filled_room, same_page, batches_stay}

@@ -4,8 +4,8 @@ use Rattle.std.proofs.lemmas.List.{drop_all}
 use Rattle.std.proofs.lemmas.Bool.{cases_lt}
 use Rattle.pgn_base.specs.declared.format.Format.{Format}
 use Rattle.pgn_base.specs.declared.note.Note.{Note}
-use Rattle.pgn_model.specs.Packing.{next_page, bytes_left, put, put_all}
-use Rattle.pgn_model.proofs.PackingLemmas.{put_rises}
+use Rattle.pgn_journal.specs.Packing.{next_page, bytes_left, put, put_all}
+use Rattle.pgn_journal.proofs.PackingLemmas.{put_rises}
 use Rattle.pgn_layout.specs.declared.batch.Batch.{Batch}
 use Rattle.pgn_layout.specs.Batches.{Runs, FirstIsTooLong, IsWhole, IsFilled, IsPlanned, Whole, Filled}
 use Rattle.pgn_layout.specs.Laws.{OneBatch}

@@ -9,14 +9,14 @@ use Rattle.std.proofs.lemmas.Grind.{fold-append}
 use Rattle.pgn_base.specs.declared.format.Format.{Format}
 use Rattle.pgn_base.specs.declared.note.Note.{Note}
 use Rattle.pgn_base.specs.Notes.{IsNote}
-use Rattle.pgn_model.specs.declared.tx.Tx.{Tx}
-use Rattle.pgn_model.specs.declared.tx.Fate.TheVariants.{Committed, Aborted}
-use Rattle.pgn_model.specs.Journal.{next_xid}
-use Rattle.pgn_model.specs.Bytes.{entry_length}
-use Rattle.pgn_model.specs.Packing.{Sender, sender_of, next_page, is_page_start, fits, filler_cells, notes_cells, image, put, put_all, HasRoom}
-use Rattle.pgn_model.specs.Pieces.{draft}
-use Rattle.pgn_model.proofs.PackingLemmas.{room_next, room_put_all, length-filler_cells, packed_notes, pages_hold, notes_in_turn, fits_next}
-use Rattle.pgn_model.proofs.DraftLaws.{one_more_image, draft_at_page_start}
+use Rattle.pgn_journal.specs.declared.tx.Tx.{Tx}
+use Rattle.pgn_journal.specs.declared.tx.Fate.TheVariants.{Committed, Aborted}
+use Rattle.pgn_journal.specs.Journal.{next_xid}
+use Rattle.pgn_journal.specs.Bytes.{entry_length}
+use Rattle.pgn_journal.specs.Packing.{Sender, sender_of, next_page, is_page_start, fits, filler_cells, notes_cells, image, put, put_all, HasRoom}
+use Rattle.pgn_journal.specs.Pieces.{draft}
+use Rattle.pgn_journal.proofs.PackingLemmas.{room_next, room_put_all, length-filler_cells, packed_notes, pages_hold, notes_in_turn, fits_next}
+use Rattle.pgn_journal.proofs.DraftLaws.{one_more_image, draft_at_page_start}
 use Rattle.pgn_layout.specs.declared.batch.Batch.{Batch}
 use Rattle.pgn_layout.specs.Batches.{FirstIsTooLong, IsPlanned, Whole, Filled, padded_to, batch_cells, AreBatches, batches_end, with_batches, IsPlaced, AfterNotes, AfterFiller, StandAfterNotes, StandAfterFiller}
 use Rattle.pgn_layout.specs.Laws.{PlacingBegins, PlacingStands, PlacingGoesOn, PlacingEnds, HasImage, PlacedIsDraft, PlacedIsCutShort, BatchesArePut}

@@ -5,8 +5,8 @@ use Rattle.std.proofs.lemmas.Grind.{fold-append}
 use Rattle.std.proofs.lemmas.Bool.Decides.{nat_tests}
 use Rattle.pgn_base.specs.declared.format.Format.TheVariants.{One}
 use Rattle.pgn_base.specs.declared.note.Note.{Note}
-use Rattle.pgn_model.specs.Bytes.{entry_length}
-use Rattle.pgn_model.specs.Packing.{next_page, bytes_left, fits, after_bytes, put_bytes, put, put_all, HasRoom}
+use Rattle.pgn_journal.specs.Bytes.{entry_length}
+use Rattle.pgn_journal.specs.Packing.{next_page, bytes_left, fits, after_bytes, put_bytes, put, put_all, HasRoom}
 use Rattle.pgn_layout.specs.Batches.{Runs, IsPlanned, Whole}
 use Rattle.pgn_layout.proofs.RunLaws.{runs-push, runs_within}
 

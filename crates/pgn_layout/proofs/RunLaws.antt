@@ -5,10 +5,10 @@ use Rattle.std.proofs.lemmas.Grind.{common_steps}
 use Rattle.pgn_base.specs.declared.format.Format.{Format}
 use Rattle.pgn_base.specs.declared.note.Note.{Note}
 use Rattle.pgn_base.specs.Notes.{IsNote}
-use Rattle.pgn_model.specs.Bytes.{entry_length, spelled}
-use Rattle.pgn_model.specs.Packing.{Sender, cells_in, fits, has_room, next_page, cells_left, page_rest, entry_cells, filler_cells, note_cells, notes_cells, after_rest, after_bytes, put_bytes, put, put_all, HasRoom}
-use Rattle.pgn_model.proofs.BytesLemmas.{length-spelled}
-use Rattle.pgn_model.proofs.PackingLemmas.{length-filled_cells, least_within, room_next, room_put, packed_note, packed_notes, note_moves, put_rises, put_all_rises}
+use Rattle.pgn_journal.specs.Bytes.{entry_length, spelled}
+use Rattle.pgn_journal.specs.Packing.{Sender, cells_in, fits, has_room, next_page, cells_left, page_rest, entry_cells, filler_cells, note_cells, notes_cells, after_rest, after_bytes, put_bytes, put, put_all, HasRoom}
+use Rattle.pgn_journal.proofs.BytesLemmas.{length-spelled}
+use Rattle.pgn_journal.proofs.PackingLemmas.{length-filled_cells, least_within, room_next, room_put, packed_note, packed_notes, note_moves, put_rises, put_all_rises}
 use Rattle.pgn_layout.specs.Batches.{FitsBefore, Runs, empty_cells, entry_of, entries_of}
 
 -- how many cells an entry has

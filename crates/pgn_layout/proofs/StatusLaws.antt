@@ -6,8 +6,8 @@ use Rattle.std.proofs.Math.Nat.{mod-eq_of_lt, div-eq_of_lt, div-div-eq-div-mul, 
 use Rattle.std.proofs.lemmas.Bool.{cases_lt}
 use Rattle.std.proofs.lemmas.Nat.{pow_pos, pow-add, or_shr, or_mod, or_lt}
 use Rattle.pgn_base.specs.declared.limits.TheConstants.{FIRST_XID}
-use Rattle.pgn_model.specs.declared.tx.Fate.{Fate}
-use Rattle.pgn_model.specs.declared.tx.Fate.TheVariants.{Committed, Aborted}
+use Rattle.pgn_journal.specs.declared.tx.Fate.{Fate}
+use Rattle.pgn_journal.specs.declared.tx.Fate.TheVariants.{Committed, Aborted}
 use Rattle.pgn_layout.specs.Status.{status_word, status_shift, status_code, status_in, status_set}
 use Rattle.pgn_layout.specs.Laws.{NoneIsSet, SetIsRead, OthersStay, SetFits, CodesTell, StatusHasBits}
 

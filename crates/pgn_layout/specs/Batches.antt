@@ -3,8 +3,8 @@ use Rattle.std.specs.Prelude.{◌≡◌, ◌≢◌, ℕ, ◌-◌, ◌<◌, ◌�
 use Rattle.std.specs.List.{flat_map}
 use Rattle.pgn_base.specs.declared.format.Format.{Format}
 use Rattle.pgn_base.specs.declared.note.Note.{Note}
-use Rattle.pgn_model.specs.Bytes.{entry_length, spelled, filler}
-use Rattle.pgn_model.specs.Packing.{Sender, next_page, bytes_left, fits, filled_cells, filler_cells, notes_cells, put, put_all}
+use Rattle.pgn_journal.specs.Bytes.{entry_length, spelled, filler}
+use Rattle.pgn_journal.specs.Packing.{Sender, next_page, bytes_left, fits, filled_cells, filler_cells, notes_cells, put, put_all}
 use Rattle.pgn_layout.specs.declared.batch.Batch.{Batch}
 
 -- the entry of a notification fits on the page of a place, and where more follow, the page goes on after it

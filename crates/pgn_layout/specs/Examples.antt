@@ -2,8 +2,8 @@
 use Rattle.std.specs.Prelude.{List, [], ◌∷◌}
 use Rattle.std.specs.Str.{byte}
 use Rattle.pgn_base.specs.declared.note.Note.{Note}
-use Rattle.pgn_model.specs.Packing.{place_at}
-use Rattle.pgn_model.specs.examples.Packing.{letters}
+use Rattle.pgn_journal.specs.Packing.{place_at}
+use Rattle.pgn_journal.specs.examples.Packing.{letters}
 use Rattle.pgn_layout.specs.declared.batch.Batch.{Batch}
 
 -- three notifications whose entries fill the first page to its end

@@ -5,14 +5,14 @@ use Rattle.pgn_base.specs.declared.limits.TheConstants.{FIRST_XID}
 use Rattle.pgn_base.specs.declared.format.Format.{Format}
 use Rattle.pgn_base.specs.declared.note.Note.{Note}
 use Rattle.pgn_base.specs.Notes.{IsNote}
-use Rattle.pgn_model.specs.declared.tx.Tx.{Tx}
-use Rattle.pgn_model.specs.declared.tx.Fate.{Fate}
-use Rattle.pgn_model.specs.declared.tx.Fate.TheVariants.{Committed, Aborted}
-use Rattle.pgn_model.specs.Journal.{next_xid}
-use Rattle.pgn_model.specs.Bytes.{IsEntryLength}
-use Rattle.pgn_model.specs.Packing.{Sender, sender_of, next_page, is_page_start, bytes_left, notes_cells, image, put_all, HasRoom}
-use Rattle.pgn_model.specs.QueueUse.{IsCutShort}
-use Rattle.pgn_model.specs.Pieces.{draft}
+use Rattle.pgn_journal.specs.declared.tx.Tx.{Tx}
+use Rattle.pgn_journal.specs.declared.tx.Fate.{Fate}
+use Rattle.pgn_journal.specs.declared.tx.Fate.TheVariants.{Committed, Aborted}
+use Rattle.pgn_journal.specs.Journal.{next_xid}
+use Rattle.pgn_journal.specs.Bytes.{IsEntryLength}
+use Rattle.pgn_journal.specs.Packing.{Sender, sender_of, next_page, is_page_start, bytes_left, notes_cells, image, put_all, HasRoom}
+use Rattle.pgn_journal.specs.QueueUse.{IsCutShort}
+use Rattle.pgn_journal.specs.Pieces.{draft}
 use Rattle.pgn_layout.specs.declared.batch.Batch.{Batch}
 use Rattle.pgn_layout.specs.Batches.{Runs, IsPlanned, empty_cells, padded_to, entries_of, batch_cells, AreBatches, batches_end, with_batches, batch_fillers, fillers_from, IsPlaced}
 use Rattle.pgn_layout.specs.Status.{status_word, status_shift, status_code, status_in, status_set}

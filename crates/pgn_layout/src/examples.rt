@@ -1,9 +1,9 @@
 ghost use Rattle.std.specs.Prelude.{◌≡◌, ℕ, ◌+◌, ◌^◌, List, [], ◌∷◌, map, Option};
 ghost use Rattle.std.specs.Str.{byte};
 ghost use Rattle.pgn_base.specs.declared.format.Format.TheVariants.{One};
-ghost use Rattle.pgn_model.specs.declared.tx.Fate.TheVariants.{Committed, Aborted};
-ghost use Rattle.pgn_model.specs.Packing.{Sender, place_at, filler_cells};
-ghost use Rattle.pgn_model.specs.examples.Packing.{bare_note, letters};
+ghost use Rattle.pgn_journal.specs.declared.tx.Fate.TheVariants.{Committed, Aborted};
+ghost use Rattle.pgn_journal.specs.Packing.{Sender, place_at, filler_cells};
+ghost use Rattle.pgn_journal.specs.examples.Packing.{bare_note, letters};
 ghost use Rattle.pgn_layout.specs.Batches.{Runs, IsPlanned, AreBatches, fillers_from, IsPlaced};
 ghost use Rattle.pgn_layout.specs.Status.{status_word, status_in, status_set};
 ghost use Rattle.pgn_layout.specs.Examples.{to_the_edge, over_the_edge, first_batch, last_batch};

@@ -1,7 +1,7 @@
 ghost use Rattle.std.specs.Prelude.{◌≡◌, ◌≢◌, ◌⊎◌, ◌^◌, ◌<◌, ◌≤◌, [], length};
 ghost use Rattle.pgn_base.specs.declared.format.Format.TheVariants.{One};
-ghost use Rattle.pgn_model.specs.Bytes.{least_bytes, IsEntryLength};
-ghost use Rattle.pgn_model.specs.Packing.{next_page, bytes_left, fits, after_bytes, HasRoom};
+ghost use Rattle.pgn_journal.specs.Bytes.{least_bytes, IsEntryLength};
+ghost use Rattle.pgn_journal.specs.Packing.{next_page, bytes_left, fits, after_bytes, HasRoom};
 ghost use Rattle.pgn_layout.specs.Batches.{IsPlanned};
 
 use crate::pos::PAGE_CELLS;
@@ -30,7 +30,7 @@ fn left_on_page(pos: Pos) -> u32
 
 /// The place after an entry or a filler of so many bytes. Where the rest of the page is shorter than the shortest entry, it is
 /// skipped.
-#[tactic(auto, unfolding(pgn_model::specs::Packing::after_bytes, pgn_model::specs::Packing::after_rest))]
+#[tactic(auto, unfolding(pgn_journal::specs::Packing::after_bytes, pgn_journal::specs::Packing::after_rest))]
 pub fn advance(pos: Pos, len: u32) -> Pos
     requires low { pos < 2 ^ 32 }
     requires least { least_bytes One ≤ len }

@@ -1,5 +1,5 @@
 ghost use Rattle.std.specs.Prelude.{◌≡◌, ◌^◌, ◌<◌};
-ghost use Rattle.pgn_model.specs.Packing.{page_of};
+ghost use Rattle.pgn_journal.specs.Packing.{page_of};
 
 use pgn_base::{CELL_BYTES, PAGE_BYTES};
 use std::marker::Model;

@@ -2,7 +2,7 @@ ghost use Rattle.std.specs.Prelude.{◌≡◌, ◌*◌, ◌^◌, ◌≤◌, ◌<
 ghost use Rattle.pgn_layout.specs.Status.{status_code, status_shift, status_in, status_set};
 
 use pgn_base::{FIRST_XID, Xid};
-use pgn_model::Fate;
+use pgn_journal::Fate;
 
 /// The statuses of so many transactions stand in one word.
 const STATUSES_A_WORD: u32 = 32;

@@ -1,10 +1,10 @@
 ghost use Rattle.std.specs.Prelude.{◌^◌, ◌<◌, IfSome};
 ghost use Rattle.pgn_base.specs.declared.format.Format.TheVariants.{One};
-ghost use Rattle.pgn_model.specs.Packing.{HasRoom};
+ghost use Rattle.pgn_journal.specs.Packing.{HasRoom};
 
 use super::*;
 use pgn_base::{Name, Note, Payload, Xid};
-use pgn_model::Fate;
+use pgn_journal::Fate;
 use std::alloc::Global;
 use std::str;
 use std::test::Fail;

@@ -1,7 +1,7 @@
 -- How transactions are put into their places: the transaction numbered x goes to place x - 3.
 use Rattle.std.specs.Prelude.{◌≡◌, ◌≢◌, ◌↔◌, ℕ, ◌+◌, ◌-◌, ◌<◌, ◌≤◌, max, List, ◌++◌, length, replicate, Option, Some, None, IfSome, slice_get, All}
 use Rattle.pgn_base.specs.declared.limits.TheConstants.{FIRST_XID}
-use Rattle.pgn_model.specs.declared.tx.Tx.{Tx}
+use Rattle.pgn_journal.specs.declared.tx.Tx.{Tx}
 use Rattle.pgn_model.specs.declared.item.Item.{Item}
 use Rattle.pgn_model.specs.declared.trace.Trace.{Trace}
 use Rattle.pgn_merge.specs.Shown.{finished}

@@ -1,10 +1,11 @@
 ghost use Rattle.std.specs.Prelude.{◌≡◌, ◌-◌, List, filter_map, IfOk, OnOk, All};
-ghost use Rattle.pgn_model.specs.declared.tx.Tx.{Tx};
+ghost use Rattle.pgn_journal.specs.declared.tx.Tx.{Tx};
 ghost use Rattle.pgn_merge.specs.Shown.{ShowsJournal, IsShownIn, finished};
 ghost use Rattle.pgn_merge.specs.Slots.{IsPartOf, IsFilled, HasPlaced, IsWidened};
 
 use pgn_base::{Copied, FIRST_XID, Xid};
-use pgn_model::{Fate, Item, Trace, Tx};
+use pgn_journal::{Fate, Tx};
+use pgn_model::{Item, Trace};
 use std::alloc::{AllocError, Global};
 
 /// The journal that the traces show: each transaction that some trace shows as finished, in order of their numbers. Where the traces

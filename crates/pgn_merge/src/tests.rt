@@ -1,6 +1,7 @@
 use crate::merge;
 use pgn_base::{DbOid, Full, Name, Note, Notes, Payload, SessionNo, Xid};
-use pgn_model::{Fate, Item, Items, Trace, Tx};
+use pgn_journal::{Fate, Tx};
+use pgn_model::{Item, Items, Trace};
 use std::alloc::{AllocError, Global};
 use std::test::Fail;
 

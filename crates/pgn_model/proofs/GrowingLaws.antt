@@ -1,19 +1,19 @@
 -- Proofs of the laws of a trace as the journal grows.
 use Rattle.std.proofs.Common.{◌≡◌, ℕ, ◌+◌, ◌-◌, ◌<◌, ◌≤◌, max, List, [], ◌∷◌, ◌++◌, length, Option, Some, None, IfSome, All, fold, sym, refl, subst, arith, length-append}
 use Rattle.std.proofs.lemmas.List.Elements.{All-nil, All-head, All-tail, All-push, All-weaker, All-cons, All-pop}
-use Rattle.pgn_model.specs.declared.tx.Tx.{Tx}
+use Rattle.pgn_journal.specs.declared.tx.Tx.{Tx}
 use Rattle.pgn_model.specs.declared.item.Item.{Item}
 use Rattle.pgn_model.specs.declared.item.Item.TheVariants.{Line, Enlist, Publish, QueueFull, Leave, Reply, Refuse, Channels, Used, Raise, Found, TimedOut, Read}
-use Rattle.pgn_model.specs.Journal.{next_xid, is_committed_in}
-use Rattle.pgn_model.specs.Near.{Near}
+use Rattle.pgn_journal.specs.Journal.{next_xid, is_committed_in}
+use Rattle.pgn_journal.specs.Near.{Near}
 use Rattle.pgn_model.specs.Along.{Along}
 use Rattle.pgn_model.specs.Walk.{Settings, Terms, State, Owed, Awaiting, start, after_item, Allowed, IsCommittedBy, IsAbortedBy, at_line, at_enlist, at_publish, at_full, at_leave, at_rows, at_raise, at_found, IsAwaiting, holder_at, IsGreatest}
 use Rattle.pgn_model.specs.Trace.{IsLawful, IsFreshAt, state_after}
 use Rattle.pgn_model.specs.Legal.{IsShownWithin, IsFullThere}
 use Rattle.pgn_model.specs.laws.Growing.{IsStateWithin, ShownGrows, ShownOver, FullGrows, ToldWithin, MarksWithin, MarkWithin, StateWithin, UpToDateGrows, FreshSoFarGrows, TraceOkGrows, FreshGrows, LawfulShows}
-use Rattle.pgn_model.proofs.JournalLaws.{entry-within}
-use Rattle.pgn_model.proofs.NearLaws.{near-grows}
-use Rattle.pgn_model.proofs.QueueUseLaws.{no_page-grows}
+use Rattle.pgn_journal.proofs.JournalLaws.{entry-within}
+use Rattle.pgn_journal.proofs.NearLaws.{near-grows}
+use Rattle.pgn_journal.proofs.QueueUseLaws.{no_page-grows}
 use Rattle.pgn_model.proofs.WalkLaws.{Along-weaker, Stands-grows}
 use Rattle.pgn_model.proofs.CarriedLaws.{Carried, carried, begun, carried-line, carried-enlist, carried-publish, carried-full, carried-leave, carried-rows, carried-raise, marks-found, told-found}
 

@@ -19,20 +19,22 @@ use Rattle.pgn_base.specs.declared.answers.Refusal.TheVariants.{Syntax, Bounds, 
 use Rattle.pgn_base.specs.declared.answers.Refusal.TheVariants as refused
 use Rattle.pgn_base.specs.declared.queue_answers.Full.{Full}
 use Rattle.pgn_base.specs.declared.queue_answers.Usage.{Usage}
-use Rattle.pgn_model.specs.declared.tx.Tx.{Tx}
-use Rattle.pgn_model.specs.declared.tx.Fate.{Fate}
-use Rattle.pgn_model.specs.declared.tx.Fate.TheVariants as fate
-use Rattle.pgn_model.specs.declared.scenario.ScriptLine.{ScriptLine}
-use Rattle.pgn_model.specs.declared.scenario.Section.{Section}
+use Rattle.pgn_journal.specs.declared.tx.Tx.{Tx}
+use Rattle.pgn_journal.specs.declared.tx.Fate.{Fate}
+use Rattle.pgn_journal.specs.declared.tx.Fate.TheVariants as fate
+use Rattle.pgn_language.specs.declared.scenario.ScriptLine.{ScriptLine}
+use Rattle.pgn_language.specs.declared.scenario.Section.{Section}
 use Rattle.pgn_model.specs.declared.item.Item.{Item}
 use Rattle.pgn_model.specs.declared.item.Item.TheVariants.{Line, Enlist, Publish, QueueFull, Leave, Reply, Refuse, Channels, Used, Raise, Found, TimedOut, Read}
 use Rattle.pgn_model.specs.declared.trace.Trace.{Trace}
-use Rattle.pgn_model.specs.Lines.{lines_of}
-use Rattle.pgn_model.specs.Inputs.{IsOneLine, IsSoundSection}
-use Rattle.pgn_model.specs.Text.{joined, doubled_byte, quoted, note_text, note_line, delivery_line, fate_text, entry_lines, entries_lines, journal_lines, line_text, holder_text, full_line, usage_lines, channel_line, refusal_text, tag_text, warning_text, warning_lines, item_lines, end_line, section_line, trace_lines, traces_lines, text_lines}
-use Rattle.pgn_model.specs.laws.Inputs.{lacks}
+use Rattle.pgn_language.specs.Lines.{lines_of}
+use Rattle.pgn_language.specs.Inputs.{IsOneLine, IsSoundSection}
+use Rattle.pgn_model.specs.Text.{joined, note_text, note_line, delivery_line, fate_text, entry_lines, entries_lines, journal_lines, line_text, holder_text, full_line, usage_lines, channel_line, item_lines, end_line, section_line, trace_lines, traces_lines, text_lines}
+use Rattle.pgn_language.specs.Quotes.{doubled_byte, quoted}
+use Rattle.pgn_answers.specs.Refusals.{refusal_text, tag_text, warning_text, warning_lines}
+use Rattle.pgn_language.specs.laws.Inputs.{lacks}
 use Rattle.pgn_model.specs.laws.Text.{IsOneLineNote, IsOneLineItem, TextHasLines}
-use Rattle.pgn_model.proofs.LineLaws.{lines-cut, lacks-parts}
+use Rattle.pgn_language.proofs.LineLaws.{lines-cut, lacks-parts}
 
 -- no LF stands in the text
 abbrev Clean : List ℕ → Type 0

@@ -1,14 +1,14 @@
 -- Laws of the walk over a trace.
 use Rattle.std.proofs.Common.{◌≡◌, ℕ, ◌+◌, ◌-◌, ◌≤◌, List, [], ◌∷◌, ◌++◌, length, fold, sym, ap, ◌∙◌, refl, subst, arith, length-append}
-use Rattle.pgn_model.specs.declared.tx.Tx.{Tx}
+use Rattle.pgn_journal.specs.declared.tx.Tx.{Tx}
 use Rattle.pgn_model.specs.declared.item.Item.{Item}
 use Rattle.pgn_model.specs.declared.item.Item.TheVariants.{Line, Enlist, Publish, QueueFull, Leave, Reply, Refuse, Channels, Used, Raise, Found, TimedOut, Read}
 use Rattle.pgn_model.specs.Along.{Along}
 use Rattle.pgn_model.specs.Walk.{Terms, State, after_item, start, Allowed, IsCommittedBy, IsAbortedBy}
 use Rattle.pgn_model.specs.Trace.{IsLawful, Stands}
-use Rattle.pgn_model.proofs.DueLaws.{due-grows}
-use Rattle.pgn_model.proofs.JournalLaws.{entry-append}
-use Rattle.pgn_model.proofs.QueueUseLaws.{usage-grows}
+use Rattle.pgn_journal.proofs.DueLaws.{due-grows}
+use Rattle.pgn_journal.proofs.JournalLaws.{entry-append}
+use Rattle.pgn_journal.proofs.QueueUseLaws.{usage-grows}
 
 -- one more item at the end
 pub Along-push : {S I : Type 0} (next : S → I → S) (P : S → I → Type 0) (s : S) (items : List I) (item : I) → Along next P s items → P (fold next s items) item → Along next P s (items ++ item ∷ [])

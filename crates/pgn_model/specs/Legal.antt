@@ -1,14 +1,14 @@
 -- A journal and all traces together are a run of a scenario.
 use Rattle.std.specs.Prelude.{◌≡◌, ℕ, ◌≤◌, ◌==◌, Bool, true, List, [], ◌∷◌, Option, Some, None, IfSome, All, Any, Contains, filter_map, flat_map}
 use Rattle.std.specs.List.{list_any}
-use Rattle.pgn_model.specs.declared.tx.Tx.{Tx}
-use Rattle.pgn_model.specs.declared.scenario.Section.{Section}
-use Rattle.pgn_model.specs.declared.scenario.Scenario.{Scenario}
+use Rattle.pgn_journal.specs.declared.tx.Tx.{Tx}
+use Rattle.pgn_language.specs.declared.scenario.Section.{Section}
+use Rattle.pgn_language.specs.declared.scenario.Scenario.{Scenario}
 use Rattle.pgn_model.specs.declared.item.Item.{Item}
 use Rattle.pgn_model.specs.declared.item.Item.TheVariants.{Enlist, Publish, QueueFull, Used, Raise, Found, Read}
 use Rattle.pgn_model.specs.declared.trace.Trace.{Trace}
-use Rattle.pgn_model.specs.Journal.{next_xid, IsFinished, xids_of}
-use Rattle.pgn_model.specs.QueueUse.{NoPage}
+use Rattle.pgn_journal.specs.Journal.{next_xid, IsFinished, xids_of}
+use Rattle.pgn_journal.specs.QueueUse.{NoPage}
 use Rattle.pgn_model.specs.Walk.{Settings, Terms, State}
 use Rattle.pgn_model.specs.Trace.{TraceOk, Fresh, state_after}
 

@@ -3,35 +3,24 @@ use Rattle.std.specs.Prelude.{ℕ, ◌+◌, ◌==◌, cond, List, [], ◌∷◌,
 use Rattle.pgn_base.specs.declared.limits.TheConstants.{PID_BASE, FIRST_XID}
 use Rattle.pgn_base.specs.declared.note.Note.{Note}
 use Rattle.pgn_base.specs.declared.note.Delivery.{Delivery}
-use Rattle.pgn_base.specs.declared.answers.Tag.{Tag}
-use Rattle.pgn_base.specs.declared.answers.Tag.TheVariants as tag
-use Rattle.pgn_base.specs.declared.answers.Warning.{Warning}
-use Rattle.pgn_base.specs.declared.answers.Refusal.{Refusal}
 use Rattle.pgn_base.specs.declared.queue_answers.Full.{Full}
 use Rattle.pgn_base.specs.declared.queue_answers.Usage.{Usage}
-use Rattle.pgn_model.specs.declared.tx.Tx.{Tx}
-use Rattle.pgn_model.specs.declared.tx.Fate.{Fate}
-use Rattle.pgn_model.specs.declared.tx.Fate.TheVariants.{Committed, Aborted}
-use Rattle.pgn_model.specs.declared.scenario.ScriptLine.{ScriptLine}
-use Rattle.pgn_model.specs.declared.scenario.Section.{Section}
-use Rattle.pgn_model.specs.declared.scenario.Scenario.{Scenario}
+use Rattle.pgn_journal.specs.declared.tx.Tx.{Tx}
+use Rattle.pgn_journal.specs.declared.tx.Fate.{Fate}
+use Rattle.pgn_journal.specs.declared.tx.Fate.TheVariants.{Committed, Aborted}
+use Rattle.pgn_language.specs.declared.scenario.ScriptLine.{ScriptLine}
+use Rattle.pgn_language.specs.declared.scenario.Section.{Section}
+use Rattle.pgn_language.specs.declared.scenario.Scenario.{Scenario}
 use Rattle.pgn_model.specs.declared.item.Item.{Item}
 use Rattle.pgn_model.specs.declared.item.Item.TheVariants.{Line, Enlist, Publish, QueueFull, Leave, Reply, Refuse, Channels, Used, Raise, Found, TimedOut, Read}
 use Rattle.pgn_model.specs.declared.trace.Trace.{Trace}
-use Rattle.pgn_model.specs.Journal.{is_committed}
-use Rattle.pgn_model.specs.Refusals.{warning_code, warning_message, refusal_code, refusal_message}
+use Rattle.pgn_journal.specs.Journal.{is_committed}
+use Rattle.pgn_answers.specs.Refusals.{refusal_text, tag_text, warning_lines}
+use Rattle.pgn_language.specs.Quotes.{quoted}
 
 -- lines joined to a text, each ended by LF
 abbrev pub joined : List (List ℕ) → List ℕ
 joined lines = flat_map (λ line. line ++ 10 ∷ []) lines
-
--- a byte, twice where it is the quote
-abbrev pub doubled_byte : ℕ → ℕ → List ℕ
-doubled_byte quote byte = cond (byte == quote) (quote ∷ quote ∷ []) (byte ∷ [])
-
--- a text between quotes, each quote inside it twice
-abbrev pub quoted : ℕ → List ℕ → List ℕ
-quoted quote bytes = quote ∷ [] ++ flat_map (doubled_byte quote) bytes ++ quote ∷ []
 
 -- a notification: the channel between double quotes, a comma, and the payload between single quotes
 abbrev pub note_text : Note → List ℕ
@@ -63,32 +52,6 @@ journal_lines journal = (codes "journal " ++ decimal (length journal)) ∷ entri
 abbrev pub line_text : ℕ → List ScriptLine → List ℕ
 line_text n [] = []
 line_text n (line ∷ lines) = cond (line.line == n) line.text (line_text n lines)
-
--- a command tag
-abbrev pub tag_text : Tag → List ℕ
-tag_text tag.Begin = codes "BEGIN"
-tag_text tag.Start = codes "START TRANSACTION"
-tag_text tag.Commit = codes "COMMIT"
-tag_text tag.Rollback = codes "ROLLBACK"
-tag_text tag.Savepoint = codes "SAVEPOINT"
-tag_text tag.Release = codes "RELEASE"
-tag_text tag.Listen = codes "LISTEN"
-tag_text tag.Unlisten = codes "UNLISTEN"
-tag_text tag.Notify = codes "NOTIFY"
-tag_text (tag.Select rows) = codes "SELECT " ++ decimal rows
-
--- a warning's code and text
-abbrev pub warning_text : Warning → List ℕ
-warning_text warning = warning_code warning ++ codes ": " ++ warning_message warning
-
--- a refusal's code and text
-abbrev pub refusal_text : Refusal → List ℕ
-refusal_text refusal = refusal_code refusal ++ codes ": " ++ refusal_message refusal
-
--- the line of a warning, where there is one
-abbrev pub warning_lines : Option Warning → List (List ℕ)
-warning_lines None = []
-warning_lines (Some warning) = (codes "WARNING: " ++ warning_text warning) ∷ []
 
 -- the line of a notification that was received
 abbrev pub delivery_line : Delivery → List ℕ

@@ -1,12 +1,12 @@
 -- Which traces are lawful, and which leave no read out.
 use Rattle.std.specs.Prelude.{◌≡◌, ℕ, List, [], Option, IfSome, fold}
-use Rattle.pgn_model.specs.declared.tx.Tx.{Tx}
-use Rattle.pgn_model.specs.declared.block_state.BlockState.TheVariants.{Idle}
+use Rattle.pgn_journal.specs.declared.tx.Tx.{Tx}
+use Rattle.pgn_answers.specs.declared.block_state.BlockState.TheVariants.{Idle}
 use Rattle.pgn_model.specs.declared.item.Item.{Item}
 use Rattle.pgn_model.specs.declared.item.Item.TheVariants.{Line}
 use Rattle.pgn_model.specs.declared.trace.Trace.{Trace}
-use Rattle.pgn_model.specs.Journal.{is_committed_in}
-use Rattle.pgn_model.specs.Near.{Near}
+use Rattle.pgn_journal.specs.Journal.{is_committed_in}
+use Rattle.pgn_journal.specs.Near.{Near}
 use Rattle.pgn_model.specs.Along.{Along}
 use Rattle.pgn_model.specs.Walk.{Terms, State, Nothing, start, after_item, Allowed}
 

@@ -15,22 +15,22 @@ use Rattle.pgn_base.specs.declared.queue_answers.Full.{Full}
 use Rattle.pgn_base.specs.declared.queue_answers.Usage.{Usage}
 use Rattle.pgn_base.specs.declared.listen_set.Action.{Action}
 use Rattle.pgn_base.specs.Channels.{applied}
-use Rattle.pgn_model.specs.declared.tx.Tx.{Tx}
-use Rattle.pgn_model.specs.declared.tx.Fate.TheVariants.{Committed, Aborted}
-use Rattle.pgn_model.specs.declared.block_state.BlockState.{BlockState}
-use Rattle.pgn_model.specs.declared.block_state.BlockState.TheVariants.{Idle}
-use Rattle.pgn_model.specs.declared.command.Command.{Command}
-use Rattle.pgn_model.specs.declared.scenario.Act.{Act}
-use Rattle.pgn_model.specs.declared.scenario.Act.TheVariants.{Run, Signal, Await, Quit}
-use Rattle.pgn_model.specs.declared.scenario.ScriptLine.{ScriptLine}
-use Rattle.pgn_model.specs.declared.scenario.Section.{Section}
+use Rattle.pgn_journal.specs.declared.tx.Tx.{Tx}
+use Rattle.pgn_journal.specs.declared.tx.Fate.TheVariants.{Committed, Aborted}
+use Rattle.pgn_answers.specs.declared.block_state.BlockState.{BlockState}
+use Rattle.pgn_answers.specs.declared.block_state.BlockState.TheVariants.{Idle}
+use Rattle.pgn_base.specs.declared.command.Command.{Command}
+use Rattle.pgn_language.specs.declared.scenario.Act.{Act}
+use Rattle.pgn_language.specs.declared.scenario.Act.TheVariants.{Run, Signal, Await, Quit}
+use Rattle.pgn_language.specs.declared.scenario.ScriptLine.{ScriptLine}
+use Rattle.pgn_language.specs.declared.scenario.Section.{Section}
 use Rattle.pgn_model.specs.declared.item.Item.{Item}
 use Rattle.pgn_model.specs.declared.item.Item.TheVariants.{Line, Enlist, Publish, QueueFull, Leave, Reply, Refuse, Channels, Used, Raise, Found, TimedOut, Read}
-use Rattle.pgn_model.specs.Journal.{entry, next_xid}
-use Rattle.pgn_model.specs.Due.{due}
-use Rattle.pgn_model.specs.QueueUse.{ShowsUsage}
-use Rattle.pgn_model.specs.Savepoints.{Change, live_names, surviving_actions, surviving_notes, firsts, is_listen, changes_of}
-use Rattle.pgn_model.specs.Answers.{Outcome, Commits, Replies, Refuses, Silent, GivesChannels, GivesUsage, answer, next_state, list_after}
+use Rattle.pgn_journal.specs.Journal.{entry, next_xid}
+use Rattle.pgn_journal.specs.Due.{due}
+use Rattle.pgn_journal.specs.QueueUse.{IsFloorFor, ShowsUsage}
+use Rattle.pgn_answers.specs.Savepoints.{Change, live_names, surviving_actions, surviving_notes, firsts, is_listen, changes_of}
+use Rattle.pgn_answers.specs.Answers.{Outcome, Commits, Replies, Refuses, Silent, GivesChannels, GivesUsage, answer, next_state, list_after}
 
 -- what the command line sets: the format of the queue's entries, the queue's limit in pages, and how many looks an await takes
 pub record Settings : Type 0 where
@@ -288,11 +288,6 @@ pub record IsAbortedBy (section : Section) (notes : List Note) (count : ℕ) (tx
   pub aborted : tx.fate ≡ Aborted
   pub some : tx.queued ≡ count
 
--- a floor that is shown is not above the session's own mark, and the session holds it only where it is that mark
-pub record IsFloorFor (section : Section) (mark : Option ℕ) (floor : ℕ) (holder : Option ℕ) : Type 0 where
-  pub below : IfSome mark (λ own. floor ≤ own)
-  pub own : holder ≡ Some section.no → mark ≡ Some floor
-
 -- a script line begins: the one before it has its whole answer, and it is the next
 pub record BeginsLine (s : State) (line : ℕ) : Type 0 where
   pub answered : s.owed ≡ Nothing
@@ -321,7 +316,7 @@ pub record MeetsFullQueue (terms : Terms) (journal : List Tx) (s : State) (full 
   pub after_told : s.told ≤ full.xid
   pub after_mark : IfSome s.mark (λ mark. mark ≤ full.xid)
   pub in_journal : IsSomeAnd (entry journal full.xid) (IsAbortedBy terms.section notes full.queued)
-  pub floor : IsFloorFor terms.section s.mark full.floor_mark full.holder
+  pub floor : IsFloorFor terms.section.no s.mark full.floor_mark full.holder
 
 -- the queue's usage is shown, at no earlier number than the session was told or has read
 pub record MeasuresQueue (terms : Terms) (journal : List Tx) (s : State) (usage : Usage) : Type 0 where
@@ -329,7 +324,7 @@ pub record MeasuresQueue (terms : Terms) (journal : List Tx) (s : State) (usage 
   pub after_told : s.told ≤ usage.at
   pub after_mark : IfSome s.mark (λ mark. mark ≤ usage.at)
   pub shown : ShowsUsage terms.settings.format terms.settings.limit journal usage
-  pub floor : IsFloorFor terms.section s.mark usage.floor_mark usage.holder
+  pub floor : IsFloorFor terms.section.no s.mark usage.floor_mark usage.holder
 
 -- a flag is raised: it shows what the session was told
 pub record RaisesFlag (s : State) (value : ℕ) : Type 0 where

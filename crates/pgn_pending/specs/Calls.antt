@@ -1,5 +1,5 @@
 -- What the calls on a Pending put into the history of its transaction.
-use Rattle.pgn_model.specs.Savepoints.{Change, Saved, Acted, Noted, RolledBack, Released}
+use Rattle.pgn_answers.specs.Savepoints.{Change, Saved, Acted, Noted, RolledBack, Released}
 use Rattle.pgn_pending.specs.declared.call.Call.{Call}
 use Rattle.pgn_pending.specs.declared.call.Call.TheVariants as call
 

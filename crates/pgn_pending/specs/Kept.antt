@@ -3,7 +3,7 @@ use Rattle.std.specs.Prelude.{◌≡◌, ℕ, ◌+◌, Bool, cond, List, [], ◌
 use Rattle.std.specs.List.{list_any}
 use Rattle.pgn_base.specs.declared.note.Note.{Note}
 use Rattle.pgn_base.specs.declared.listen_set.Action.{Action}
-use Rattle.pgn_model.specs.Savepoints.{Change, Saved, Acted, Noted, RolledBack, Released, acted_action, noted_note, same_note, live_changes}
+use Rattle.pgn_answers.specs.Savepoints.{Change, Saved, Acted, Noted, RolledBack, Released, acted_action, noted_note, same_note, live_changes}
 use Rattle.pgn_pending.specs.declared.savepoint.Savepoint.{Savepoint}
 
 -- the actions, the notifications without their repeats, and the savepoints that stand, each in order

@@ -1,5 +1,5 @@
 ghost use Rattle.std.specs.Prelude.{◌≡◌, [], ◌∷◌, ◌++◌, List, map, IfOk, OnOk};
-ghost use Rattle.pgn_model.specs.Savepoints.{Change, surviving_actions, surviving_notes, firsts};
+ghost use Rattle.pgn_answers.specs.Savepoints.{Change, surviving_actions, surviving_notes, firsts};
 ghost use Rattle.pgn_pending.specs.Kept.{StandsFor};
 ghost use Rattle.pgn_pending.specs.Calls.{change_of};
 

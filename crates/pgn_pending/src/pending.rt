@@ -1,6 +1,6 @@
 ghost use Rattle.std.specs.Prelude.{◌≡◌, ◌+◌, ◌≤◌, ◌↔◌, [], ◌∷◌, ◌++◌, List, length, vec_capacity, false, IsErr, OnOk, OnErr};
 ghost use Rattle.pgn_base.specs.Names.{has_name};
-ghost use Rattle.pgn_model.specs.Savepoints.{Change, Saved, Acted, Noted, RolledBack, Released, live_names, surviving_actions, surviving_notes, firsts};
+ghost use Rattle.pgn_answers.specs.Savepoints.{Change, Saved, Acted, Noted, RolledBack, Released, live_names, surviving_actions, surviving_notes, firsts};
 ghost use Rattle.pgn_pending.specs.Kept.{HasHistory, StandsFor, with_note};
 
 use crate::savepoint::{Savepoint, newest};

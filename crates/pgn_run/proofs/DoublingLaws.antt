@@ -5,8 +5,8 @@ use Rattle.std.specs.List.{list_any}
 use Rattle.std.proofs.lemmas.List.{drop_all, take_rest}
 use Rattle.std.proofs.lemmas.List.Edits.{between_more}
 use Rattle.std.proofs.lemmas.Bool.Decides.{eqb_tells}
-use Rattle.pgn_model.specs.Text.{doubled_byte}
-use Rattle.pgn_model.specs.laws.Inputs.{lacks}
+use Rattle.pgn_language.specs.Quotes.{doubled_byte}
+use Rattle.pgn_language.specs.laws.Inputs.{lacks}
 
 -- the next item of a list
 flat_map-drop_at : {A : Type 0} (f : A → List ℕ) (xs : List A) (i : ℕ) (d : A) → i < length xs → flat_map f (drop i xs) ≡ f (get_or xs i d) ++ flat_map f (drop (i + 1) xs)

@@ -1,6 +1,6 @@
 -- Laws of the text of a script line.
 use Rattle.std.proofs.Common.{◌≡◌, ℕ, ◌+◌, ◌<◌, suc, List, length, drop, get_or, sym, ap, ◌∙◌, cond, eqb, add-one, drop-cons}
-use Rattle.pgn_model.specs.declared.scenario.ScriptLine.{ScriptLine}
+use Rattle.pgn_language.specs.declared.scenario.ScriptLine.{ScriptLine}
 use Rattle.pgn_model.specs.Text.{line_text}
 
 -- what is found from the next line on

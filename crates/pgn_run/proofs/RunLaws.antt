@@ -5,11 +5,11 @@ use Rattle.std.proofs.lemmas.Slice.Eq.{bytes_eq-Decides}
 use Rattle.std.specs.Io.KnownBytes.{Appends, Consumes, IsAtEnd}
 use Rattle.pgn_base.specs.declared.limits.TheConstants.{INPUT_BYTES_MAX}
 use Rattle.pgn_base.specs.Outside.{AppendsPrefix, Rose}
-use Rattle.pgn_model.specs.declared.scenario.Scenario.{Scenario}
-use Rattle.pgn_model.specs.declared.scenario.ScenarioFault.{ScenarioFault}
-use Rattle.pgn_model.specs.declared.scenario.ScenarioFault.TheVariants.{TooLarge}
-use Rattle.pgn_model.specs.Inputs.{ReadsAsScenario, Large}
-use Rattle.pgn_model.proofs.InputLaws.{reads-input}
+use Rattle.pgn_language.specs.declared.scenario.Scenario.{Scenario}
+use Rattle.pgn_language.specs.declared.scenario.ScenarioFault.{ScenarioFault}
+use Rattle.pgn_language.specs.declared.scenario.ScenarioFault.TheVariants.{TooLarge}
+use Rattle.pgn_language.specs.Inputs.{ReadsAsScenario, Large}
+use Rattle.pgn_language.proofs.InputLaws.{reads-input}
 use Rattle.pgn_run.specs.declared.status.Status.{Status}
 use Rattle.pgn_run.specs.declared.status.Status.TheVariants.{Done, BadWords, BadScenario, ReadFault, WriteFault, NoMemory}
 use Rattle.pgn_run.specs.Run.{Runs, Answers, run_words}

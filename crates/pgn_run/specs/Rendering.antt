@@ -1,9 +1,10 @@
 -- What is given out to a sink through a buffer.
 use Rattle.std.specs.Prelude.{◌≡◌, ℕ, ◌<◌, ◌≤◌, List, [], ◌∷◌, ◌++◌, codes, flat_map, length, drop, Option, None, Some, MatchResult}
 use Rattle.pgn_base.specs.Outside.{AppendsPrefix, HasCause}
-use Rattle.pgn_model.specs.declared.scenario.ScriptLine.{ScriptLine}
+use Rattle.pgn_language.specs.declared.scenario.ScriptLine.{ScriptLine}
 use Rattle.pgn_base.specs.declared.note.Note.{Note}
-use Rattle.pgn_model.specs.Text.{line_text, doubled_byte, quoted}
+use Rattle.pgn_model.specs.Text.{line_text}
+use Rattle.pgn_language.specs.Quotes.{doubled_byte, quoted}
 use Rattle.pgn_run.specs.declared.line_cursor.LineCursor.{LineCursor}
 use Rattle.pgn_run.specs.declared.render.output.Out.{Out}
 

@@ -2,10 +2,10 @@
 use Rattle.std.specs.Prelude.{◌≡◌, ℕ, List, [], ◌∷◌, Option, Ok, Err, codes}
 use Rattle.std.specs.Io.KnownBytes.{Appends}
 use Rattle.pgn_base.specs.Outside.{AppendsPrefix, Rose}
-use Rattle.pgn_model.specs.declared.tx.Tx.{Tx}
-use Rattle.pgn_model.specs.declared.scenario.Scenario.{Scenario}
+use Rattle.pgn_journal.specs.declared.tx.Tx.{Tx}
+use Rattle.pgn_language.specs.declared.scenario.Scenario.{Scenario}
 use Rattle.pgn_model.specs.declared.trace.Trace.{Trace}
-use Rattle.pgn_model.specs.Inputs.{ReadsAsScenario}
+use Rattle.pgn_language.specs.Inputs.{ReadsAsScenario}
 use Rattle.pgn_model.specs.Walk.{Settings, default_settings}
 use Rattle.pgn_model.specs.Legal.{Legal}
 use Rattle.pgn_model.specs.Text.{text}

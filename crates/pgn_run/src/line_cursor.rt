@@ -1,9 +1,9 @@
 ghost use Rattle.std.specs.Prelude.{◌≡◌, List};
-ghost use Rattle.pgn_model.specs.declared.scenario.ScriptLine.{ScriptLine};
+ghost use Rattle.pgn_language.specs.declared.scenario.ScriptLine.{ScriptLine};
 ghost use Rattle.pgn_model.specs.Text.{line_text};
 ghost use Rattle.pgn_run.specs.Rendering.{HasPassed};
 
-use pgn_model::ScriptLine;
+use pgn_language::ScriptLine;
 
 /// A place in a section's lines, and the largest line number before it. Numbers that rise are found in one pass over the lines.
 #[derive(Drop)]

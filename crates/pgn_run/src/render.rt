@@ -11,7 +11,9 @@ mod section;
 
 use crate::render::output::Out;
 use pgn_base::{Failed, Sink};
-use pgn_model::{Scenario, Trace, Tx};
+use pgn_journal::Tx;
+use pgn_language::Scenario;
+use pgn_model::Trace;
 
 /// Writes the output of a run. It takes no memory, and nothing is left to be written once it answers.
 pub fn render<K: Sink>(
@@ -37,9 +39,10 @@ mod tests {
         DbOid, Deliveries, Delivery, MemSink, Name, Names, Note, Notes, Payload, SessionNo, Tag,
         Xid,
     };
-    use pgn_model::{
-        Act, Command, Fate, Item, Items, LineText, ScriptLine, ScriptLines, Section, Sections,
-    };
+    use pgn_base::Command;
+    use pgn_journal::Fate;
+    use pgn_language::{Act, LineText, ScriptLine, ScriptLines, Section, Sections};
+    use pgn_model::{Item, Items};
     use std::alloc::Global;
     use std::test::Fail;
 

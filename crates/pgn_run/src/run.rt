@@ -1,9 +1,9 @@
 ghost use Rattle.std.specs.Prelude.{◌≡◌, ◌≢◌, ◌⊎◌, ◌↔◌, ◌<◌, ◌≤◌, ◌+◌, map, take, Ok, Err, IfSome, OnSome, IsSomeAnd, IsTrue};
 ghost use Rattle.std.specs.Io.KnownBytes.{Appends, Consumes, IsAtEnd};
 ghost use Rattle.pgn_base.specs.Outside.{AppendsPrefix, Rose};
-ghost use Rattle.pgn_model.specs.declared.scenario.Scenario.{Scenario};
-ghost use Rattle.pgn_model.specs.declared.scenario.ScenarioFault.{ScenarioFault};
-ghost use Rattle.pgn_model.specs.Inputs.{ReadsAsScenario};
+ghost use Rattle.pgn_language.specs.declared.scenario.Scenario.{Scenario};
+ghost use Rattle.pgn_language.specs.declared.scenario.ScenarioFault.{ScenarioFault};
+ghost use Rattle.pgn_language.specs.Inputs.{ReadsAsScenario};
 ghost use Rattle.pgn_run.specs.Run.{Runs, Answers, HasRead, run_words};
 
 use crate::input::{Unread, read_input};

@@ -3,7 +3,7 @@ ghost use Rattle.std.specs.Io.KnownBytes.{Appends};
 ghost use Rattle.pgn_base.specs.declared.format.Format.TheVariants.{One};
 ghost use Rattle.pgn_base.specs.declared.limits.TheConstants.{PAGES_MIN, PAGES_MAX};
 ghost use Rattle.pgn_base.specs.Outside.{AppendsPrefix, HasCause, Rose};
-ghost use Rattle.pgn_model.specs.Inputs.{IsSound};
+ghost use Rattle.pgn_language.specs.Inputs.{IsSound};
 ghost use Rattle.pgn_model.specs.Text.{text};
 ghost use Rattle.pgn_run.specs.Run.{RunsOver, HasWritten};
 
@@ -11,7 +11,7 @@ use crate::Status;
 use crate::render::render;
 use pgn_base::Sink;
 use pgn_hub::Hub;
-use pgn_model::Scenario;
+use pgn_language::Scenario;
 use pgn_threads::{Run, run_on_hub};
 use std::alloc::Global;
 use std::sync::Wait;

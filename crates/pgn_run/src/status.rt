@@ -1,4 +1,4 @@
-use pgn_model::ScenarioFault;
+use pgn_language::ScenarioFault;
 
 /// How a run ended. Its `code` is the program's exit status.
 #[derive(Clone, Copy, Debug, PartialEq, Eq)]

@@ -6,8 +6,8 @@ use Rattle.std.proofs.lemmas.Bool.{cases_Bool, false≢true}
 use Rattle.std.proofs.lemmas.List.Folds.{list_any-append}
 use Rattle.std.proofs.lemmas.Slice.Eq.{bytes_eq-Decides}
 use Rattle.pgn_base.specs.Names.{has_name}
-use Rattle.pgn_model.specs.Lines.{Says, SaysNothing, Opens, Runs, Signals, Awaits, Quits, NoMeta, says, trimmed}
-use Rattle.pgn_model.specs.Inputs.{all_say, with_name, signalled_flag, is_unsignalled}
+use Rattle.pgn_language.specs.Lines.{Says, SaysNothing, Opens, Runs, Signals, Awaits, Quits, NoMeta, says, trimmed}
+use Rattle.pgn_language.specs.Inputs.{all_say, with_name, signalled_flag, is_unsignalled}
 use Rattle.pgn_scenario.specs.Flags.{has_wait, with_wait, first_unsignalled}
 use Rattle.pgn_scenario.specs.Steps.{State, steps}
 use Rattle.pgn_scenario.proofs.SectionLaws.{made, next, first_step, same_line}

@@ -6,10 +6,10 @@ use Rattle.std.proofs.lemmas.Bool.Decides.{nat_tests}
 use Rattle.std.proofs.lemmas.List.{take_all, drop_all, drop_more, drop_at, take_more, get_or-take, length-take, length-drop, length-reverse, reverse-append, reverse-reverse}
 use Rattle.std.proofs.lemmas.Str.{IsCharBoundary-before_ascii, IsCharBoundary-end}
 use Rattle.memchr.specs.Find.{Nowhere, NoneBefore, Passes, is_byte}
-use Rattle.pgn_model.specs.Tokens.{is_blank}
-use Rattle.pgn_model.specs.Lines.{trimmed_end, lines_of}
-use Rattle.pgn_model.proofs.LineLaws.{lines_last}
-use Rattle.pgn_model.specs.laws.Inputs.{lacks}
+use Rattle.pgn_language.specs.Tokens.{is_blank}
+use Rattle.pgn_language.specs.Lines.{trimmed_end, lines_of}
+use Rattle.pgn_language.proofs.LineLaws.{lines_last}
+use Rattle.pgn_language.specs.laws.Inputs.{lacks}
 use Rattle.pgn_scenario.specs.Cutting.{IsCutAt}
 
 pub none_any : (byte : ℕ) (xs : List ℕ) → ((k : ℕ) → k < length xs → (get_or xs k 0 == byte) ≡ true → ⊥) → list_any (λ b. b == byte) xs ≡ false

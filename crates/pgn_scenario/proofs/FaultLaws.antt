@@ -10,13 +10,13 @@ use Rattle.std.proofs.lemmas.List.Folds.{list_any-append}
 use Rattle.std.proofs.lemmas.List.Elements.{filter_map-append}
 use Rattle.pgn_base.specs.declared.limits.TheConstants.{FLAGS_MAX, LINE_BYTES_MAX, NOTE_LINES_MAX, SECTIONS_MAX}
 use Rattle.pgn_base.specs.Names.{has_name}
-use Rattle.pgn_model.specs.declared.command.Command.{Command}
-use Rattle.pgn_model.specs.declared.scenario.Act.TheVariants.{Run, Signal, Await, Quit}
-use Rattle.pgn_model.specs.declared.scenario.ScenarioFault.{ScenarioFault}
-use Rattle.pgn_model.specs.declared.scenario.ScenarioFault.TheVariants as fault
-use Rattle.pgn_model.specs.Lines.{Says, SaysNothing, Opens, Runs, Signals, Awaits, Quits, NoMeta, says, trimmed}
-use Rattle.pgn_model.specs.Inputs.{all_say, section_names, flags_of, notifies, has_quit, has_section, is_opening, is_quit, opened_name, named_flag, with_name, line_number, line_start, are_too_many, fault_said, fault_of, flag_number, script_line}
-use Rattle.pgn_model.specs.laws.Inputs.{first_fault}
+use Rattle.pgn_base.specs.declared.command.Command.{Command}
+use Rattle.pgn_language.specs.declared.scenario.Act.TheVariants.{Run, Signal, Await, Quit}
+use Rattle.pgn_language.specs.declared.scenario.ScenarioFault.{ScenarioFault}
+use Rattle.pgn_language.specs.declared.scenario.ScenarioFault.TheVariants as fault
+use Rattle.pgn_language.specs.Lines.{Says, SaysNothing, Opens, Runs, Signals, Awaits, Quits, NoMeta, says, trimmed}
+use Rattle.pgn_language.specs.Inputs.{all_say, section_names, flags_of, notifies, has_quit, has_section, is_opening, is_quit, opened_name, named_flag, with_name, line_number, line_start, are_too_many, fault_said, fault_of, flag_number, script_line}
+use Rattle.pgn_language.specs.laws.Inputs.{first_fault}
 use Rattle.pgn_scenario.specs.Flags.{signalling, awaiting}
 use Rattle.pgn_scenario.specs.Steps.{State, at_start, with_line, acted, opened, unless_many, opening, within, added, after_ok, passed, step, steps}
 

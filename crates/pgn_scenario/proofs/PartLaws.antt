@@ -4,9 +4,9 @@ use Rattle.std.specs.List.{list_any, prefix_len}
 use Rattle.std.proofs.lemmas.Bool.{cases_Bool, or_from, not-false, not_from_true, not_from_false}
 use Rattle.std.proofs.lemmas.Bool.Decides.{nat_tests}
 use Rattle.std.proofs.lemmas.List.{append-nil, length-take}
-use Rattle.pgn_model.specs.Lines.{is_gap, parts_of}
-use Rattle.pgn_model.specs.laws.Tokens.{NoneFollows}
-use Rattle.pgn_model.proofs.LineLaws.{parts-are_cut}
+use Rattle.pgn_language.specs.Lines.{is_gap, parts_of}
+use Rattle.pgn_language.specs.laws.Tokens.{NoneFollows}
+use Rattle.pgn_language.proofs.LineLaws.{parts-are_cut}
 use Rattle.pgn_command.proofs.GapLaws.{front-passes, front-fails, front-ends, front-bound, ascii-boundary, ends-boundary}
 use Rattle.pgn_scenario.specs.Parting.{past_gap}
 

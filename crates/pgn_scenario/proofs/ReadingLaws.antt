@@ -4,15 +4,15 @@ use Rattle.std.specs.Prelude.{IfOk, filter_map}
 use Rattle.std.specs.Option.{option_to_list}
 use Rattle.std.proofs.lemmas.Bool.{le-ltb, lt-ltb}
 use Rattle.pgn_base.specs.declared.limits.TheConstants.{INPUT_BYTES_MAX}
-use Rattle.pgn_model.specs.declared.scenario.Scenario.{Scenario}
-use Rattle.pgn_model.specs.declared.scenario.Section.{Section}
-use Rattle.pgn_model.specs.declared.scenario.ScenarioFault.{ScenarioFault}
-use Rattle.pgn_model.specs.declared.scenario.ScenarioFault.TheVariants as fault
-use Rattle.pgn_model.specs.Lines.{lines_of}
-use Rattle.pgn_model.specs.Inputs.{all_say, flags_of, has_section, signalled_flag, unsignalled, scenario_of, sections_from, ReadsAsScenario, IsSound}
-use Rattle.pgn_model.specs.laws.Inputs.{first_fault, whole_reading, lines_reading, input_reading}
-use Rattle.pgn_model.proofs.InputLaws.{input-reads}
-use Rattle.pgn_model.proofs.SoundLaws.{only-sound}
+use Rattle.pgn_language.specs.declared.scenario.Scenario.{Scenario}
+use Rattle.pgn_language.specs.declared.scenario.Section.{Section}
+use Rattle.pgn_language.specs.declared.scenario.ScenarioFault.{ScenarioFault}
+use Rattle.pgn_language.specs.declared.scenario.ScenarioFault.TheVariants as fault
+use Rattle.pgn_language.specs.Lines.{lines_of}
+use Rattle.pgn_language.specs.Inputs.{all_say, flags_of, has_section, signalled_flag, unsignalled, scenario_of, sections_from, ReadsAsScenario, IsSound}
+use Rattle.pgn_language.specs.laws.Inputs.{first_fault, whole_reading, lines_reading, input_reading}
+use Rattle.pgn_language.proofs.InputLaws.{input-reads}
+use Rattle.pgn_language.proofs.SoundLaws.{only-sound}
 use Rattle.pgn_scenario.specs.Flags.{first_unsignalled}
 use Rattle.pgn_scenario.specs.Steps.{State, at_start, steps, finished}
 use Rattle.pgn_scenario.proofs.FaultLaws.{StandsFor, starts, AllFollow, steps_follow}

@@ -1,10 +1,10 @@
 -- What a text says, by its command.
 use Rattle.std.proofs.Common.{◌≡◌, ℕ, List, sym, ap, refl}
-use Rattle.pgn_model.specs.declared.command.Command.{Command}
-use Rattle.pgn_model.specs.declared.command.Command.TheVariants as command
-use Rattle.pgn_model.specs.Grammar.{ReadsAs, reading}
-use Rattle.pgn_model.specs.Lines.{Runs, command_says}
-use Rattle.pgn_model.proofs.GrammarLaws.{reading-computes}
+use Rattle.pgn_base.specs.declared.command.Command.{Command}
+use Rattle.pgn_base.specs.declared.command.Command.TheVariants as command
+use Rattle.pgn_language.specs.Grammar.{ReadsAs, reading}
+use Rattle.pgn_language.specs.Lines.{Runs, command_says}
+use Rattle.pgn_language.proofs.GrammarLaws.{reading-computes}
 
 -- a command that is read says what the reading says
 pub says-read : (text : List ℕ) (one : Command) → ReadsAs text one → command_says one ≡ command_says (reading text)

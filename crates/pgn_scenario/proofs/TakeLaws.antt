@@ -11,13 +11,13 @@ use Rattle.std.proofs.lemmas.List.Elements.{Contains-append_left, Contains-appen
 use Rattle.std.proofs.lemmas.Str.{IsUtf8-from_is_utf8, is_utf8-from_IsUtf8}
 use Rattle.memchr.specs.Find.{IsFirstByte, is_byte}
 use Rattle.pgn_base.specs.declared.limits.TheConstants.{LINE_BYTES_MAX, NOTE_LINES_MAX}
-use Rattle.pgn_model.specs.declared.scenario.Section.{Section}
-use Rattle.pgn_model.specs.declared.scenario.ScriptLine.{ScriptLine}
-use Rattle.pgn_model.specs.declared.scenario.ScenarioFault.{ScenarioFault}
-use Rattle.pgn_model.specs.declared.scenario.ScenarioFault.TheVariants as fault
-use Rattle.pgn_model.specs.Lines.{Says, says, text_says, trimmed}
-use Rattle.pgn_model.specs.laws.Inputs.{IsTextOf}
-use Rattle.pgn_model.proofs.LineLaws.{is-trimmed}
+use Rattle.pgn_language.specs.declared.scenario.Section.{Section}
+use Rattle.pgn_language.specs.declared.scenario.ScriptLine.{ScriptLine}
+use Rattle.pgn_language.specs.declared.scenario.ScenarioFault.{ScenarioFault}
+use Rattle.pgn_language.specs.declared.scenario.ScenarioFault.TheVariants as fault
+use Rattle.pgn_language.specs.Lines.{Says, says, text_says, trimmed}
+use Rattle.pgn_language.specs.laws.Inputs.{IsTextOf}
+use Rattle.pgn_language.proofs.LineLaws.{is-trimmed}
 use Rattle.pgn_scenario.specs.Steps.{State, note_of, with_line, added, after_ok, passed, step, outcome, IsCounted}
 use Rattle.pgn_scenario.proofs.ByteLaws.{none_any}
 

@@ -3,7 +3,7 @@ use Rattle.std.specs.Prelude.{ℕ, Bool, cond, List, [], ◌∷◌, ◌++◌, Op
 use Rattle.std.specs.Option.{is_some}
 use Rattle.std.specs.Map.{lookup}
 use Rattle.pgn_base.specs.Names.{has_name}
-use Rattle.pgn_model.specs.Inputs.{with_name}
+use Rattle.pgn_language.specs.Inputs.{with_name}
 
 -- the flags in order of first appearance, those that are signalled, and those that are awaited, each with the first line that
 -- awaits it, in the order of these lines

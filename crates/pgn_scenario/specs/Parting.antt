@@ -1,7 +1,7 @@
 -- The parts of a meta line.
 use Rattle.std.specs.Prelude.{◌≡◌, ℕ, List, [], ◌∷◌, drop}
 use Rattle.std.specs.List.{prefix_len}
-use Rattle.pgn_model.specs.Lines.{NoMeta, is_gap, meta_says}
+use Rattle.pgn_language.specs.Lines.{NoMeta, is_gap, meta_says}
 use Rattle.pgn_scenario.specs.declared.parts.Parts.{Parts}
 use Rattle.pgn_scenario.specs.declared.parts.Parts.TheVariants.{One, Two, Three, Other}
 

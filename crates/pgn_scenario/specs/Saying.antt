@@ -1,5 +1,5 @@
 -- What the code tells of a line.
-use Rattle.pgn_model.specs.Lines as lines
+use Rattle.pgn_language.specs.Lines as lines
 use Rattle.pgn_scenario.specs.declared.said.Said.{Said}
 use Rattle.pgn_scenario.specs.declared.said.Said.TheVariants as said
 use Rattle.pgn_scenario.specs.declared.said.Deed.{Deed}

@@ -6,16 +6,16 @@ use Rattle.std.specs.Str.{is_utf8}
 use Rattle.std.specs.Str.Lossy.{utf8_valid_len}
 use Rattle.pgn_base.specs.declared.limits.TheConstants.{FLAGS_MAX, INPUT_BYTES_MAX, LINE_BYTES_MAX, NOTE_LINES_MAX, SECTIONS_MAX}
 use Rattle.pgn_base.specs.Names.{has_name}
-use Rattle.pgn_model.specs.declared.command.Command.{Command}
-use Rattle.pgn_model.specs.declared.scenario.Act.{Act}
-use Rattle.pgn_model.specs.declared.scenario.Act.TheVariants.{Run, Signal, Await, Quit}
-use Rattle.pgn_model.specs.declared.scenario.ScriptLine.{ScriptLine}
-use Rattle.pgn_model.specs.declared.scenario.Section.{Section}
-use Rattle.pgn_model.specs.declared.scenario.Scenario.{Scenario}
-use Rattle.pgn_model.specs.declared.scenario.ScenarioFault.{ScenarioFault}
-use Rattle.pgn_model.specs.declared.scenario.ScenarioFault.TheVariants as fault
-use Rattle.pgn_model.specs.Lines.{Says, SaysNothing, Opens, Runs, Signals, Awaits, Quits, NoMeta, says, trimmed}
-use Rattle.pgn_model.specs.Inputs.{with_name, flag_number, is_note_act, script_line, section}
+use Rattle.pgn_base.specs.declared.command.Command.{Command}
+use Rattle.pgn_language.specs.declared.scenario.Act.{Act}
+use Rattle.pgn_language.specs.declared.scenario.Act.TheVariants.{Run, Signal, Await, Quit}
+use Rattle.pgn_language.specs.declared.scenario.ScriptLine.{ScriptLine}
+use Rattle.pgn_language.specs.declared.scenario.Section.{Section}
+use Rattle.pgn_language.specs.declared.scenario.Scenario.{Scenario}
+use Rattle.pgn_language.specs.declared.scenario.ScenarioFault.{ScenarioFault}
+use Rattle.pgn_language.specs.declared.scenario.ScenarioFault.TheVariants as fault
+use Rattle.pgn_language.specs.Lines.{Says, SaysNothing, Opens, Runs, Signals, Awaits, Quits, NoMeta, says, trimmed}
+use Rattle.pgn_language.specs.Inputs.{with_name, flag_number, is_note_act, script_line, section}
 use Rattle.pgn_scenario.specs.Flags.{Flags, no_flags, signalling, awaiting, first_unsignalled}
 
 -- what the lines so far make: the sections that have ended, the one that has not, the names of both, the flags, how many lines

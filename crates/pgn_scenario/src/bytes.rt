@@ -1,7 +1,7 @@
 ghost use Rattle.std.specs.Prelude.{◌≡◌, ◌+◌, ◌<◌, ◌≤◌, not, true, length, reverse, slice_index};
 ghost use Rattle.std.specs.List.{prefix_len};
-ghost use Rattle.pgn_model.specs.Tokens.{is_blank};
-ghost use Rattle.pgn_model.specs.Lines.{is_gap};
+ghost use Rattle.pgn_language.specs.Tokens.{is_blank};
+ghost use Rattle.pgn_language.specs.Lines.{is_gap};
 
 /// How many bytes at the front are blanks.
 pub fn blanks_before(bytes: &[u8]) -> usize

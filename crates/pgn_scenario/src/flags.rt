@@ -1,5 +1,5 @@
 ghost use Rattle.std.specs.Prelude.{◌≡◌, ◌<◌, length, IfOk, OnOk};
-ghost use Rattle.pgn_model.specs.Inputs.{flag_number};
+ghost use Rattle.pgn_language.specs.Inputs.{flag_number};
 ghost use Rattle.pgn_scenario.specs.Flags.{no_flags, signalling, awaiting, first_unsignalled};
 
 use indexmap::{IndexMap, IndexSet};

@@ -2,7 +2,7 @@ ghost use Rattle.std.specs.Prelude.{◌≡◌, ◌<◌, ◌≤◌, true, false, 
 ghost use Rattle.std.specs.List.{list_all};
 ghost use Rattle.std.specs.Char.{is_ascii_digit};
 ghost use Rattle.std.specs.Str.Parse.{IsNumeral, digits_value};
-ghost use Rattle.pgn_model.specs.Lines.{is_label, is_label_byte, is_database};
+ghost use Rattle.pgn_language.specs.Lines.{is_label, is_label_byte, is_database};
 
 use pgn_base::{DbOid, NAME_BYTES_MAX, Name, NameFault};
 use std::alloc::{AllocError, Global};

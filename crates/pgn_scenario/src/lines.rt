@@ -1,6 +1,6 @@
 ghost use Rattle.std.specs.Prelude.{◌≡◌, ◌+◌, ◌<◌, ◌≤◌, true, ◌∷◌, ◌++◌, length, MatchOption};
-ghost use Rattle.pgn_model.specs.Lines.{lines_of};
-ghost use Rattle.pgn_model.specs.laws.Inputs.{lacks};
+ghost use Rattle.pgn_language.specs.Lines.{lines_of};
+ghost use Rattle.pgn_language.specs.laws.Inputs.{lacks};
 ghost use Rattle.pgn_scenario.specs.Cutting.{IsCutAt};
 
 use memchr::memchr;

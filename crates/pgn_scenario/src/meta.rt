@@ -1,5 +1,5 @@
 ghost use Rattle.std.specs.Prelude.{◌≡◌, [], ◌∷◌, IfOk};
-ghost use Rattle.pgn_model.specs.Lines.{parts_of, meta_says};
+ghost use Rattle.pgn_language.specs.Lines.{parts_of, meta_says};
 ghost use Rattle.pgn_scenario.specs.Saying.{told};
 
 use crate::labels::{database_of, is_label, name_of};

@@ -1,5 +1,5 @@
 ghost use Rattle.std.specs.Prelude.{◌≡◌, [], ◌∷◌, MatchOption};
-ghost use Rattle.pgn_model.specs.Lines.{parts_of};
+ghost use Rattle.pgn_language.specs.Lines.{parts_of};
 ghost use Rattle.pgn_scenario.specs.Parting.{IsParted, past_gap};
 
 use crate::bytes::{gap_bytes, part_bytes};

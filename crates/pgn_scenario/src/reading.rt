@@ -1,13 +1,13 @@
 ghost use Rattle.std.specs.Prelude.{◌≡◌, ◌≤◌, length, IfOk};
 ghost use Rattle.pgn_base.specs.declared.limits.TheConstants.{INPUT_BYTES_MAX};
-ghost use Rattle.pgn_model.specs.Lines.{lines_of};
-ghost use Rattle.pgn_model.specs.Inputs.{ReadsAsScenario, IsSound};
+ghost use Rattle.pgn_language.specs.Lines.{lines_of};
+ghost use Rattle.pgn_language.specs.Inputs.{ReadsAsScenario, IsSound};
 ghost use Rattle.pgn_scenario.specs.Steps.{at_start, steps};
 
 use crate::lines::first_line;
 use crate::so_far::SoFar;
 use pgn_base::INPUT_BYTES_MAX;
-use pgn_model::{Scenario, ScenarioFault};
+use pgn_language::{Scenario, ScenarioFault};
 use std::alloc::{AllocError, Global};
 
 /// The scenario that an input reads as, or its one fault. Each input has exactly one reading, so that this says which in both

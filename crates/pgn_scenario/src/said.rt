@@ -1,12 +1,12 @@
 ghost use Rattle.std.specs.Prelude.{◌≡◌, ◌≤◌, length, Contains, IfOk};
-ghost use Rattle.pgn_model.specs.Lines.{text_says, command_says};
-ghost use Rattle.pgn_model.specs.Grammar.{reading};
+ghost use Rattle.pgn_language.specs.Lines.{text_says, command_says};
+ghost use Rattle.pgn_language.specs.Grammar.{reading};
 ghost use Rattle.pgn_scenario.specs.Saying.{told};
 
 use crate::meta::meta_of;
 use pgn_base::{DbOid, LINE_BYTES_MAX, Name};
 use pgn_command::parse_line;
-use pgn_model::Command;
+use pgn_base::Command;
 use std::alloc::{AllocError, Global};
 
 /// What a line says.

@@ -1,6 +1,6 @@
 ghost use Rattle.std.specs.Prelude.{◌≡◌, ◌+◌, ◌^◌, ◌<◌, ◌≤◌, length, option_map, IfOk, IfSome, OnOk, OnErr};
 ghost use Rattle.pgn_base.specs.declared.limits.TheConstants.{INPUT_BYTES_MAX, NOTE_LINES_MAX};
-ghost use Rattle.pgn_model.specs.Inputs.{is_note_act};
+ghost use Rattle.pgn_language.specs.Inputs.{is_note_act};
 ghost use Rattle.pgn_scenario.specs.Saying.{told, told_deed};
 ghost use Rattle.pgn_scenario.specs.Steps.{at_start, note_of, with_line, acted, ended, added, opening, running, signals, awaits, quits, step, passed, finished, outcome};
 
@@ -12,9 +12,8 @@ use memchr::memchr;
 use pgn_base::{
     Copied, DbOid, FLAGS_MAX, LINE_BYTES_MAX, NOTE_LINES_MAX, Name, SECTIONS_MAX, SessionNo,
 };
-use pgn_model::{
-    Act, Command, LineText, Scenario, ScenarioFault, ScriptLine, ScriptLines, Section, Sections,
-};
+use pgn_base::Command;
+use pgn_language::{Act, LineText, Scenario, ScenarioFault, ScriptLine, ScriptLines, Section, Sections};
 use std::alloc::{AllocError, Global};
 use std::marker::Model;
 use std::str;

@@ -1,6 +1,6 @@
 use crate::read_scenario;
 use pgn_base::{INPUT_BYTES_MAX, LINE_BYTES_MAX};
-use pgn_model::{Scenario, ScenarioFault, ScriptLine, Section};
+use pgn_language::{Scenario, ScenarioFault, ScriptLine, Section};
 use std::alloc::{AllocError, Global};
 use std::test::Fail;
 

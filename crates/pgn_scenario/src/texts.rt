@@ -1,5 +1,5 @@
 ghost use Rattle.std.specs.Prelude.{◌≡◌};
-ghost use Rattle.pgn_model.specs.Lines.{trimmed, trimmed_start, trimmed_end};
+ghost use Rattle.pgn_language.specs.Lines.{trimmed, trimmed_start, trimmed_end};
 
 use crate::bytes::{blanks_after, blanks_before};
 

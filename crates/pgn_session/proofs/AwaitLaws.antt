@@ -1,16 +1,16 @@
 -- A line that awaits a flag, and each turn of it.
 use Rattle.std.proofs.Common.{◌≡◌, ◌≢◌, ℕ, ◌+◌, ◌<◌, ◌≤◌, max, Bool, true, false, cond, nat_lt, ltb-true, ltb-false, List, [], ◌∷◌, ◌++◌, drop, take, take-append-drop, Option, Some, None, All, Contains, sym, ap, ◌∙◌, refl, subst, arith}
 use Rattle.std.proofs.lemmas.List.Elements.{All-push, All-contains, Contains-push, Contains-append_left, Contains-append_right}
-use Rattle.pgn_model.specs.declared.block_state.BlockState.TheVariants.{Idle}
-use Rattle.pgn_model.specs.declared.scenario.Act.{Act}
-use Rattle.pgn_model.specs.declared.scenario.Act.TheVariants.{Await}
-use Rattle.pgn_model.specs.declared.scenario.ScriptLine.{ScriptLine}
+use Rattle.pgn_answers.specs.declared.block_state.BlockState.TheVariants.{Idle}
+use Rattle.pgn_language.specs.declared.scenario.Act.{Act}
+use Rattle.pgn_language.specs.declared.scenario.Act.TheVariants.{Await}
+use Rattle.pgn_language.specs.declared.scenario.ScriptLine.{ScriptLine}
 use Rattle.pgn_model.specs.declared.item.Item.{Item}
 use Rattle.pgn_model.specs.declared.item.Item.TheVariants.{Line, Found, TimedOut}
-use Rattle.pgn_model.specs.declared.known.Known.{Known}
-use Rattle.pgn_model.specs.declared.tx.Tx.{Tx}
-use Rattle.pgn_model.specs.Journal.{next_xid}
-use Rattle.pgn_model.specs.Inputs.{QuitsLast}
+use Rattle.pgn_hub.specs.declared.known.Known.{Known}
+use Rattle.pgn_journal.specs.declared.tx.Tx.{Tx}
+use Rattle.pgn_journal.specs.Journal.{next_xid}
+use Rattle.pgn_language.specs.Inputs.{QuitsLast}
 use Rattle.pgn_model.specs.Walk.{Terms, State, Nothing}
 use Rattle.pgn_model.specs.Walk as walk
 use Rattle.pgn_model.specs.Legal.{IsFullThere}
@@ -30,7 +30,7 @@ use Rattle.pgn_session.specs.Parts.{looked_items}
 use Rattle.pgn_session.specs.Steps.{HasTurned, looked_doing, looked_step}
 use Rattle.pgn_session.proofs.FlagLaws.{budget-less}
 use Rattle.pgn_hub.specs.Passes.{IsWithin, IsPairWithin}
-use Rattle.pgn_model.specs.declared.scenario.Section.{Section}
+use Rattle.pgn_language.specs.declared.scenario.Section.{Section}
 use Rattle.pgn_session.proofs.KnownLaws.{stands-grows}
 use Rattle.pgn_session.proofs.BlockLaws.{comes}
 

@@ -6,19 +6,19 @@ use Rattle.pgn_base.specs.declared.answers.Tag.TheVariants as tag
 use Rattle.pgn_base.specs.declared.answers.Refusal.TheVariants.{NeedsBlock, NoSavepoint}
 use Rattle.pgn_base.specs.declared.answers.Needs.TheVariants as needs
 use Rattle.pgn_base.specs.Names.{has_name}
-use Rattle.pgn_model.specs.declared.block_state.BlockState.{BlockState}
-use Rattle.pgn_model.specs.declared.block_state.BlockState.TheVariants.{Idle, InBlock, Failed}
-use Rattle.pgn_model.specs.declared.command.Command.{Command}
-use Rattle.pgn_model.specs.declared.command.Command.TheVariants as command
-use Rattle.pgn_model.specs.declared.scenario.Act.{Act}
-use Rattle.pgn_model.specs.declared.scenario.Act.TheVariants.{Run}
-use Rattle.pgn_model.specs.declared.scenario.ScriptLine.{ScriptLine}
+use Rattle.pgn_answers.specs.declared.block_state.BlockState.{BlockState}
+use Rattle.pgn_answers.specs.declared.block_state.BlockState.TheVariants.{Idle, InBlock, Failed}
+use Rattle.pgn_base.specs.declared.command.Command.{Command}
+use Rattle.pgn_base.specs.declared.command.Command.TheVariants as command
+use Rattle.pgn_language.specs.declared.scenario.Act.{Act}
+use Rattle.pgn_language.specs.declared.scenario.Act.TheVariants.{Run}
+use Rattle.pgn_language.specs.declared.scenario.ScriptLine.{ScriptLine}
 use Rattle.pgn_model.specs.declared.item.Item.{Item}
 use Rattle.pgn_model.specs.declared.item.Item.TheVariants as item
-use Rattle.pgn_model.specs.declared.known.Known.{Known}
-use Rattle.pgn_model.specs.Savepoints.{Change, changes_of, live_names, noted_note}
-use Rattle.pgn_model.specs.Inputs.{QuitsLast, note_lines_of, is_note_command, is_note_act}
-use Rattle.pgn_model.specs.Answers.{Outcome, Commits, Replies, Refuses, Silent, GivesChannels, GivesUsage, answer, next_state, list_after, in_state, ignored}
+use Rattle.pgn_hub.specs.declared.known.Known.{Known}
+use Rattle.pgn_answers.specs.Savepoints.{Change, changes_of, live_names, noted_note}
+use Rattle.pgn_language.specs.Inputs.{QuitsLast, note_lines_of, is_note_command, is_note_act}
+use Rattle.pgn_answers.specs.Answers.{Outcome, Commits, Replies, Refuses, Silent, GivesChannels, GivesUsage, answer, next_state, list_after, in_state, ignored}
 use Rattle.pgn_model.specs.Walk.{Terms, State, Nothing}
 use Rattle.pgn_model.specs.Legal.{IsFullThere, finished_xids}
 use Rattle.pgn_model.specs.laws.NextLine.{StandsFresh, ComesNext, outcome_in}

@@ -5,22 +5,19 @@ use Rattle.std.proofs.lemmas.List.Elements.{All-weaker, All-contains, Contains-p
 use Rattle.pgn_base.specs.declared.note.Note.{Note}
 use Rattle.pgn_base.specs.declared.queue_answers.Full.{Full}
 use Rattle.pgn_base.specs.declared.queue_answers.Enlisted.{Enlisted}
-use Rattle.pgn_model.specs.declared.tx.Tx.{Tx}
-use Rattle.pgn_model.specs.declared.tx.Fate.TheVariants.{Committed, Aborted}
+use Rattle.pgn_journal.specs.declared.tx.Tx.{Tx}
+use Rattle.pgn_journal.specs.declared.tx.Fate.TheVariants.{Committed, Aborted}
 use Rattle.pgn_model.specs.declared.item.Item.{Item}
 use Rattle.pgn_model.specs.declared.item.Item.TheVariants.{Enlist, Publish}
-use Rattle.pgn_model.specs.declared.known.Known.{Known}
-use Rattle.pgn_model.specs.Journal.{next_xid}
-use Rattle.pgn_model.specs.Shape.{Shape}
-use Rattle.pgn_model.specs.Walk.{Terms, State}
-use Rattle.pgn_model.specs.laws.NextLine.{MayEnlist, MayPublish, publish_items, published_xids, published_told}
-use Rattle.pgn_model.proofs.NextLineLaws.{last-is_published}
+use Rattle.pgn_hub.specs.declared.known.Known.{Known}
+use Rattle.pgn_journal.specs.Journal.{next_xid}
+use Rattle.pgn_hub.specs.Shape.{Shape}
+use Rattle.pgn_model.specs.Walk.{Terms, State, Nothing}
+use Rattle.pgn_model.specs.laws.NextLine.{MayEnlist, MayPublish, publish_items, published_xids, published_told, HoldsSoFar, StandsFresh}
+use Rattle.pgn_model.proofs.NextLineLaws.{last-is_published, holds-grows}
 use Rattle.pgn_hub.specs.Calls.{HasPublished, HasMetFull, tx_of}
-use Rattle.pgn_model.specs.Walk.{Nothing}
-use Rattle.pgn_model.specs.Inputs.{QuitsLast, note_lines_of}
+use Rattle.pgn_language.specs.Inputs.{QuitsLast, note_lines_of}
 use Rattle.pgn_model.specs.Legal.{IsFullThere, finished_xids}
-use Rattle.pgn_model.specs.laws.NextLine.{HoldsSoFar, StandsFresh}
-use Rattle.pgn_model.proofs.NextLineLaws.{holds-grows}
 use Rattle.pgn_pending.specs.Kept.{StandsFor}
 use Rattle.pgn_block.specs.Views.{BlockView}
 use Rattle.pgn_session.specs.declared.doing.FlagPlan.{FlagPlan}

@@ -6,16 +6,15 @@ use Rattle.pgn_base.specs.declared.answers.Tag.{Tag}
 use Rattle.pgn_base.specs.declared.answers.Refusal.TheVariants as refused
 use Rattle.pgn_base.specs.declared.listen_set.Action.{Action}
 use Rattle.pgn_base.specs.Channels.{applied}
-use Rattle.pgn_model.specs.declared.tx.Tx.{Tx}
+use Rattle.pgn_journal.specs.declared.tx.Tx.{Tx}
 use Rattle.pgn_model.specs.declared.item.Item.{Item}
 use Rattle.pgn_model.specs.declared.item.Item.TheVariants.{Line, Reply, Refuse}
-use Rattle.pgn_model.specs.declared.known.Known.{Known}
-use Rattle.pgn_model.specs.Journal.{next_xid}
-use Rattle.pgn_model.specs.Shape.{Shape}
+use Rattle.pgn_hub.specs.declared.known.Known.{Known}
+use Rattle.pgn_journal.specs.Journal.{next_xid}
+use Rattle.pgn_hub.specs.Shape.{Shape}
 use Rattle.pgn_model.specs.Walk.{Terms, State}
-use Rattle.pgn_model.specs.laws.NextLine.{is_enlisting, is_leaving, MayEnlist, MayPublish, enlist_items, publish_items, leave_items, published_xids, published_told, enlisted_mark, enlisted_marks, left_mark}
+use Rattle.pgn_model.specs.laws.NextLine.{is_enlisting, is_leaving, MayEnlist, MayPublish, enlist_items, publish_items, leave_items, published_xids, published_told, enlisted_mark, enlisted_marks, left_mark, HoldsSoFar, StandsFresh, CommitsNext, committed}
 use Rattle.pgn_model.specs.Legal.{IsFullThere, finished_xids}
-use Rattle.pgn_model.specs.laws.NextLine.{HoldsSoFar, StandsFresh, CommitsNext, committed}
 use Rattle.pgn_model.proofs.NextLineLaws.{holds-grows, holds-within, line-commits, commits_next-grows, commit-finishes, commit-keeps_full}
 use Rattle.pgn_pending.specs.Kept.{StandsFor}
 use Rattle.pgn_block.specs.Views.{BlockView}

@@ -1,9 +1,9 @@
 -- The end of a script: what is open is dropped, and the end flag is raised.
 use Rattle.std.proofs.Common.{◌≡◌, ℕ, ◌+◌, ◌<◌, ◌≤◌, Bool, true, false, ◌&&◌, cond, nat_lt, ltb-true, ltb-false, lt-ltb, le-ltb, List, [], ◌∷◌, ◌++◌, length, drop, Option, Some, None, is_some, Contains, sym, ap, ◌∙◌, refl, subst, arith, append-nil, append_assoc, length-append}
 use Rattle.std.proofs.lemmas.List.Elements.{All-nil, All-cons, All-push, Contains-push, Contains-append_left}
-use Rattle.pgn_model.specs.declared.tx.Tx.{Tx}
+use Rattle.pgn_journal.specs.declared.tx.Tx.{Tx}
 use Rattle.pgn_model.specs.declared.item.Item.{Item}
-use Rattle.pgn_model.specs.declared.known.Known.{Known}
+use Rattle.pgn_hub.specs.declared.known.Known.{Known}
 use Rattle.pgn_model.specs.Walk.{Terms, State}
 use Rattle.pgn_model.specs.Trace.{IsUpToDate}
 use Rattle.pgn_model.proofs.GrowingLaws.{up_to_date-grows}

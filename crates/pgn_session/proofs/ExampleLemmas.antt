@@ -2,7 +2,7 @@
 use Rattle.std.proofs.Common.{◌≡◌, ℕ, ◌≤◌, [], ◌∷◌, Option, Some, None, ap, arith, refl}
 use Rattle.std.proofs.lemmas.List.Elements.{All-nil, All-cons, All-contains}
 use Rattle.pgn_model.specs.declared.item.Item.TheVariants.{TimedOut, Found}
-use Rattle.pgn_model.specs.declared.known.Known.{Known}
+use Rattle.pgn_hub.specs.declared.known.Known.{Known}
 use Rattle.pgn_hub.specs.Calls.{HasLooked}
 use Rattle.pgn_hub.specs.Examples.{tx_3, listening, found_0, found_none}
 use Rattle.pgn_session.specs.Parts.{looked_items}

@@ -2,13 +2,13 @@
 use Rattle.std.proofs.Common.{◌≡◌, ℕ, ◌+◌, ◌≤◌, cond, List, [], ◌∷◌, ◌++◌, drop, sym, ap, ◌∙◌, refl, subst, arith}
 use Rattle.std.proofs.lemmas.List.Sums.{sum_by-cons}
 use Rattle.std.proofs.lemmas.List.Elements.{All-push}
-use Rattle.pgn_model.specs.declared.scenario.Act.TheVariants.{Signal}
-use Rattle.pgn_model.specs.declared.scenario.ScriptLine.{ScriptLine}
+use Rattle.pgn_language.specs.declared.scenario.Act.TheVariants.{Signal}
+use Rattle.pgn_language.specs.declared.scenario.ScriptLine.{ScriptLine}
 use Rattle.pgn_model.specs.declared.item.Item.{Item}
 use Rattle.pgn_model.specs.declared.item.Item.TheVariants.{Line, Raise}
-use Rattle.pgn_model.specs.declared.known.Known.{Known}
-use Rattle.pgn_model.specs.declared.tx.Tx.{Tx}
-use Rattle.pgn_model.specs.Inputs.{QuitsLast, note_lines_of, is_note_act}
+use Rattle.pgn_hub.specs.declared.known.Known.{Known}
+use Rattle.pgn_journal.specs.declared.tx.Tx.{Tx}
+use Rattle.pgn_language.specs.Inputs.{QuitsLast, note_lines_of, is_note_act}
 use Rattle.pgn_model.specs.Walk.{Terms, State, Nothing}
 use Rattle.pgn_model.specs.Legal.{IsFullThere}
 use Rattle.pgn_model.specs.laws.NextLine.{StandsFresh, ComesNext}

@@ -7,23 +7,21 @@ use Rattle.pgn_base.specs.declared.answers.Tag.{Tag}
 use Rattle.pgn_base.specs.declared.answers.Refusal.TheVariants as refused
 use Rattle.pgn_base.specs.declared.queue_answers.Full.{Full}
 use Rattle.pgn_base.specs.declared.listen_set.Action.{Action}
-use Rattle.pgn_model.specs.declared.tx.Tx.{Tx}
-use Rattle.pgn_model.specs.declared.tx.Fate.TheVariants.{Aborted}
+use Rattle.pgn_journal.specs.declared.tx.Tx.{Tx}
+use Rattle.pgn_journal.specs.declared.tx.Fate.TheVariants.{Aborted}
 use Rattle.pgn_model.specs.declared.item.Item.{Item}
 use Rattle.pgn_model.specs.declared.item.Item.TheVariants.{Line, QueueFull, Refuse}
-use Rattle.pgn_model.specs.declared.known.Known.{Known}
-use Rattle.pgn_model.specs.Journal.{next_xid}
-use Rattle.pgn_model.specs.Shape.{Shape}
+use Rattle.pgn_hub.specs.declared.known.Known.{Known}
+use Rattle.pgn_journal.specs.Journal.{next_xid}
+use Rattle.pgn_hub.specs.Shape.{Shape}
 use Rattle.pgn_model.specs.Walk.{Terms, State}
-use Rattle.pgn_model.specs.laws.NextLine.{is_enlisting, is_leaving, MayEnlist, enlist_items, leave_items, MayMeetFull, enlisted_mark, enlisted_marks, left_mark}
+use Rattle.pgn_model.specs.laws.NextLine.{is_enlisting, is_leaving, MayEnlist, enlist_items, leave_items, MayMeetFull, enlisted_mark, enlisted_marks, left_mark, HoldsSoFar, StandsFresh, CommitsNext, met_full}
 use Rattle.pgn_hub.specs.Calls.{HasMetFull, tx_of}
-use Rattle.pgn_model.specs.Walk.{IsFloorFor}
-use Rattle.pgn_model.specs.QueueUse.{NoPage}
+use Rattle.pgn_journal.specs.QueueUse.{IsFloorFor, NoPage}
 use Rattle.pgn_base.specs.declared.format.Format.{Format}
 use Rattle.pgn_hub.proofs.FloorLaws.{own-floors}
 use Rattle.pgn_hub.proofs.CallLaws.{holders-are_named}
 use Rattle.pgn_model.specs.Legal.{IsFullThere, finished_xids}
-use Rattle.pgn_model.specs.laws.NextLine.{HoldsSoFar, StandsFresh, CommitsNext, met_full}
 use Rattle.pgn_model.proofs.NextLineLaws.{holds-grows, holds-within, commits_next-grows, line-meets_full, last-met_full, full-finishes, full-keeps_full}
 use Rattle.pgn_pending.specs.Kept.{StandsFor}
 use Rattle.pgn_block.specs.Views.{BlockView}
@@ -32,8 +30,8 @@ use Rattle.pgn_session.specs.declared.doing.Doing.TheVariants.{Lines, Committing
 use Rattle.pgn_session.specs.Standing.{terms_of, HaveSameMembers, IsCommitting, IsAnswered, IsRested, IsAt}
 use Rattle.pgn_session.specs.Steps.{ShowsLine, ShowsNext}
 use Rattle.pgn_session.proofs.CommittedLaws.{committed-answered}
-use Rattle.pgn_model.specs.declared.scenario.Section.{Section}
-use Rattle.pgn_model.specs.declared.scenario.ScriptLine.{ScriptLine}
+use Rattle.pgn_language.specs.declared.scenario.Section.{Section}
+use Rattle.pgn_language.specs.declared.scenario.ScriptLine.{ScriptLine}
 use Rattle.std.proofs.lemmas.List.{drop_more, length-drop}
 use Rattle.std.proofs.Math.ListN.{get_or}
 use Rattle.pgn_session.specs.Commits.{HasSent, HasCommitted, is_full, set_after, enlisted_items, sent_items, left_items, ending_item}
@@ -51,7 +49,7 @@ may-meet_full terms shape j f notes full told mark h session database after is a
     subst (λ (txs : List Tx). MayMeetFull terms txs told mark full notes) (sym whole)
     (last-met_full terms (j.seen ++ h.more) tx told mark full notes h.number (omega (arith, after, longer)) (IfSome_then mark at (λ m below. omega (arith, below, longer)))
     (record { by_session = session; in_database = database; with_notes = refl; aborted = refl; some = refl })
-    (subst (λ (m : Option ℕ). IsFloorFor terms.section m full.floor_mark full.holder) (sym is) (own-floors.of_full terms.section shape j f notes full session h)))
+    (subst (λ (m : Option ℕ). IsFloorFor terms.section.no m full.floor_mark full.holder) (sym is) (own-floors.of_full terms.section.no shape j f notes full session h)))
 
 -- a commit that met a full queue
 pub full-answered : (shape : Shape) (terms : Terms) (plan : FlagPlan) (done : ℕ) (set channels : List (List ℕ)) (k q : Known) (items after : List Item) (actions : List Action) (notes : List Note) (tag : Tag) (block : BlockView) (full : Full)

@@ -1,10 +1,10 @@
 -- What holds of a session stays so as its pass comes to know more.
 use Rattle.std.proofs.Common.{◌≡◌, ◌≢◌, ℕ, ◌+◌, ◌≤◌, List, [], ◌∷◌, ◌++◌, Option, Some, None, IfSome, All, Contains, sym, ◌∙◌, subst, arith, Result, Ok, Err, OnErr}
 use Rattle.std.proofs.lemmas.List.Elements.{All-nil, All-cons, All-append, All-push, All-weaker, Contains-push, Contains-append_left}
-use Rattle.pgn_model.specs.declared.tx.Tx.{Tx}
-use Rattle.pgn_model.specs.declared.block_state.BlockState.TheVariants.{Idle}
+use Rattle.pgn_journal.specs.declared.tx.Tx.{Tx}
+use Rattle.pgn_answers.specs.declared.block_state.BlockState.TheVariants.{Idle}
 use Rattle.pgn_model.specs.declared.item.Item.{Item}
-use Rattle.pgn_model.specs.declared.known.Known.{Known}
+use Rattle.pgn_hub.specs.declared.known.Known.{Known}
 use Rattle.pgn_model.specs.Walk.{Terms, State, Owed, holder_at}
 use Rattle.pgn_model.specs.Trace.{IsUpToDate}
 use Rattle.pgn_model.proofs.NextLineLaws.{holds-grows}

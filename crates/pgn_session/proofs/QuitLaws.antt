@@ -1,14 +1,14 @@
 -- A line that quits: what is open is dropped, a listener leaves, and the end flag is raised.
 use Rattle.std.proofs.Common.{◌≡◌, ℕ, ◌+◌, ◌≤◌, List, [], ◌∷◌, ◌++◌, drop, Option, Some, None, All, sym, ap, ◌∙◌, refl, subst, arith, append-nil}
 use Rattle.std.proofs.lemmas.List.Elements.{All-nil, All-cons, All-push, All-append}
-use Rattle.pgn_model.specs.declared.block_state.BlockState.TheVariants.{Idle}
-use Rattle.pgn_model.specs.declared.scenario.Act.TheVariants.{Quit}
-use Rattle.pgn_model.specs.declared.scenario.ScriptLine.{ScriptLine}
+use Rattle.pgn_answers.specs.declared.block_state.BlockState.TheVariants.{Idle}
+use Rattle.pgn_language.specs.declared.scenario.Act.TheVariants.{Quit}
+use Rattle.pgn_language.specs.declared.scenario.ScriptLine.{ScriptLine}
 use Rattle.pgn_model.specs.declared.item.Item.{Item}
 use Rattle.pgn_model.specs.declared.item.Item.TheVariants.{Line, Leave}
-use Rattle.pgn_model.specs.declared.known.Known.{Known}
-use Rattle.pgn_model.specs.declared.tx.Tx.{Tx}
-use Rattle.pgn_model.specs.Inputs.{QuitsLast}
+use Rattle.pgn_hub.specs.declared.known.Known.{Known}
+use Rattle.pgn_journal.specs.declared.tx.Tx.{Tx}
+use Rattle.pgn_language.specs.Inputs.{QuitsLast}
 use Rattle.pgn_model.specs.Walk.{Terms, State, Nothing}
 use Rattle.pgn_model.specs.Legal.{IsFullThere, finished_xids}
 use Rattle.pgn_model.specs.laws.NextLine.{StandsFresh, ComesNext, quit_items}

@@ -8,23 +8,23 @@ use Rattle.pgn_base.specs.declared.answers.Refusal.TheVariants.{NeedsBlock, NoSa
 use Rattle.pgn_base.specs.declared.answers.Needs.TheVariants as needs
 use Rattle.pgn_base.specs.declared.queue_answers.Usage.{Usage}
 use Rattle.pgn_base.specs.Names.{has_name}
-use Rattle.pgn_model.specs.declared.block_state.BlockState.{BlockState}
-use Rattle.pgn_model.specs.declared.block_state.BlockState.TheVariants.{Idle, InBlock, Failed}
-use Rattle.pgn_model.specs.declared.command.Command.{Command}
-use Rattle.pgn_model.specs.declared.command.Command.TheVariants as command
-use Rattle.pgn_model.specs.declared.scenario.Act.TheVariants.{Run}
-use Rattle.pgn_model.specs.declared.scenario.ScriptLine.{ScriptLine}
+use Rattle.pgn_answers.specs.declared.block_state.BlockState.{BlockState}
+use Rattle.pgn_answers.specs.declared.block_state.BlockState.TheVariants.{Idle, InBlock, Failed}
+use Rattle.pgn_base.specs.declared.command.Command.{Command}
+use Rattle.pgn_base.specs.declared.command.Command.TheVariants as command
+use Rattle.pgn_language.specs.declared.scenario.Act.TheVariants.{Run}
+use Rattle.pgn_language.specs.declared.scenario.ScriptLine.{ScriptLine}
 use Rattle.pgn_model.specs.declared.item.Item.{Item}
 use Rattle.pgn_model.specs.declared.item.Item.TheVariants.{Line, Used, Reply}
-use Rattle.pgn_model.specs.declared.known.Known.{Known}
-use Rattle.pgn_model.specs.declared.tx.Tx.{Tx}
-use Rattle.pgn_model.specs.Journal.{next_xid}
-use Rattle.pgn_model.specs.QueueUse.{ShowsUsage}
-use Rattle.pgn_model.specs.Shape.{Shape}
-use Rattle.pgn_model.specs.Inputs.{QuitsLast}
-use Rattle.pgn_model.specs.Savepoints.{Change, changes_of, live_names}
-use Rattle.pgn_model.specs.Answers.{Outcome, Commits, Replies, Refuses, Silent, GivesChannels, GivesUsage, answer, next_state, list_after, in_state, ignored}
-use Rattle.pgn_model.specs.Walk.{Terms, State, Nothing, holder_at, IsFloorFor}
+use Rattle.pgn_hub.specs.declared.known.Known.{Known}
+use Rattle.pgn_journal.specs.declared.tx.Tx.{Tx}
+use Rattle.pgn_journal.specs.Journal.{next_xid}
+use Rattle.pgn_journal.specs.QueueUse.{ShowsUsage, IsFloorFor}
+use Rattle.pgn_hub.specs.Shape.{Shape}
+use Rattle.pgn_language.specs.Inputs.{QuitsLast}
+use Rattle.pgn_answers.specs.Savepoints.{Change, changes_of, live_names}
+use Rattle.pgn_answers.specs.Answers.{Outcome, Commits, Replies, Refuses, Silent, GivesChannels, GivesUsage, answer, next_state, list_after, in_state, ignored}
+use Rattle.pgn_model.specs.Walk.{Terms, State, Nothing, holder_at}
 use Rattle.pgn_model.specs.Legal.{IsFullThere}
 use Rattle.pgn_model.specs.laws.NextLine.{StandsFresh, HoldsSoFar, ComesNext, MayMeasure, outcome_in}
 use Rattle.pgn_model.proofs.NextLineLaws.{line-gives_usage, comes_next-grows, holds-within, finished-more}
@@ -107,7 +107,7 @@ may-measure terms shape k q usage told mark r format pages session is after at =
       after_told = omega (arith, after, longer);
       after_mark = IfSome_then mark at (λ m below. omega (arith, below, longer));
       shown = subst (λ (n : ℕ). ShowsUsage terms.settings.format n q.seen usage) (sym pages) (subst (λ (f : Format). ShowsUsage f shape.pages q.seen usage) (sym format) r.shows);
-      floor = subst (λ (m : Option ℕ). IsFloorFor terms.section m usage.floor_mark usage.holder) (sym is) (own-floors.of_usage terms.section shape k q usage session r);
+      floor = subst (λ (m : Option ℕ). IsFloorFor terms.section.no m usage.floor_mark usage.holder) (sym is) (own-floors.of_usage terms.section.no shape k q usage session r);
     }
 
 -- the usage was shown

@@ -1,10 +1,10 @@
 -- What a step of a whole session promises, from what it has done or why it was refused.
 use Rattle.std.proofs.Common.{◌≡◌, ◌≢◌, ◌↔◌, ℕ, ◌+◌, List, ◌∷◌, drop, Result, Ok, Err, IfOk, OnErr, sym, ap, refl, subst}
 use Rattle.pgn_model.specs.declared.item.Item.{Item}
-use Rattle.pgn_model.specs.declared.known.Known.{Known}
-use Rattle.pgn_model.specs.declared.scenario.Act.{Act}
-use Rattle.pgn_model.specs.declared.scenario.ScriptLine.{ScriptLine}
-use Rattle.pgn_model.specs.Shape.{Shape}
+use Rattle.pgn_hub.specs.declared.known.Known.{Known}
+use Rattle.pgn_language.specs.declared.scenario.Act.{Act}
+use Rattle.pgn_language.specs.declared.scenario.ScriptLine.{ScriptLine}
+use Rattle.pgn_hub.specs.Shape.{Shape}
 use Rattle.pgn_block.specs.Views.{BlockView}
 use Rattle.pgn_model.specs.Walk.{Terms}
 use Rattle.pgn_session.specs.declared.session.Session.{Session}

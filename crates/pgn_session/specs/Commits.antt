@@ -7,10 +7,10 @@ use Rattle.pgn_base.specs.declared.queue_answers.Full.{Full}
 use Rattle.pgn_base.specs.declared.queue_answers.Enlisted.{Enlisted}
 use Rattle.pgn_base.specs.declared.listen_set.Action.{Action}
 use Rattle.pgn_base.specs.Channels.{applied}
-use Rattle.pgn_model.specs.declared.known.Known.{Known}
+use Rattle.pgn_hub.specs.declared.known.Known.{Known}
 use Rattle.pgn_model.specs.declared.item.Item.{Item}
 use Rattle.pgn_model.specs.declared.item.Item.TheVariants.{Line, Enlist, Publish, QueueFull, Leave, Reply, Refuse}
-use Rattle.pgn_model.specs.Shape.{Shape}
+use Rattle.pgn_hub.specs.Shape.{Shape}
 use Rattle.pgn_model.specs.laws.NextLine.{is_enlisting, is_leaving}
 use Rattle.pgn_hub.specs.Calls.{HasEnlisted, HasPublished, HasMetFull, HasLeft}
 

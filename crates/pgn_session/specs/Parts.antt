@@ -3,14 +3,14 @@ use Rattle.std.specs.Prelude.{◌≡◌, ℕ, true, false, Option, Some, None, L
 use Rattle.pgn_base.specs.declared.note.Delivery.{Delivery}
 use Rattle.pgn_base.specs.declared.answers.Tag.TheVariants as tag
 use Rattle.pgn_base.specs.declared.queue_answers.Usage.{Usage}
-use Rattle.pgn_model.specs.Shape.{Shape}
-use Rattle.pgn_model.specs.declared.known.Known.{Known}
+use Rattle.pgn_hub.specs.Shape.{Shape}
+use Rattle.pgn_hub.specs.declared.known.Known.{Known}
 use Rattle.pgn_model.specs.declared.item.Item.{Item}
 use Rattle.pgn_model.specs.declared.item.Item.TheVariants as item
 use Rattle.pgn_base.specs.declared.format.Format.{Format}
-use Rattle.pgn_model.specs.declared.command.Command.{Command}
-use Rattle.pgn_model.specs.Savepoints.{Change, changes_of, live_names}
-use Rattle.pgn_model.specs.Answers.{answer, next_state, list_after}
+use Rattle.pgn_base.specs.declared.command.Command.{Command}
+use Rattle.pgn_answers.specs.Savepoints.{Change, changes_of, live_names}
+use Rattle.pgn_answers.specs.Answers.{answer, next_state, list_after}
 use Rattle.pgn_pending.specs.Kept.{StandsFor}
 use Rattle.pgn_block.specs.Views.{BlockView}
 use Rattle.pgn_block.specs.Effects.{effect_of}

@@ -1,5 +1,5 @@
 ghost use Rattle.std.specs.Prelude.{◌≡◌, ◌+◌, ◌≤◌, ◌<◌, [], ◌∷◌, ◌++◌, None, length, IfOk, OnOk, OnErr, vec_len, vec_capacity};
-ghost use Rattle.pgn_model.specs.declared.scenario.Act.TheVariants as act;
+ghost use Rattle.pgn_language.specs.declared.scenario.Act.TheVariants as act;
 ghost use Rattle.pgn_session.specs.declared.doing.Doing.TheVariants as doing;
 ghost use Rattle.pgn_session.specs.Parts.{HasShownUsage};
 ghost use Rattle.pgn_session.specs.Whole.{HasRest, RestsAt, ComesWith, HasStepped, HasRefused};
@@ -10,7 +10,9 @@ use crate::{Doing, Session, Step};
 use pgn_base::{Actions, Copied, Name, Names, Notes, Tag};
 use pgn_block::{Effect, Kind};
 use pgn_hub::Hub;
-use pgn_model::{Command, Item, PassView};
+use pgn_base::Command;
+use pgn_hub::PassView;
+use pgn_model::Item;
 use std::alloc::{AllocError, Global};
 use std::sync::Wait;
 

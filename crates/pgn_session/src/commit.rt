@@ -1,13 +1,14 @@
 ghost use Rattle.std.specs.Prelude.{◌≡◌, ◌≢◌, ◌+◌, ◌≤◌, [], ◌∷◌, ◌++◌, length, Option, Some, None, Ok, Err, AllPairs, IsTrue, vec_len, vec_capacity};
 ghost use Rattle.std.specs.List.{list_any};
 ghost use Rattle.pgn_base.specs.Channels.{applied};
-ghost use Rattle.pgn_model.specs.Savepoints.{is_listen};
+ghost use Rattle.pgn_answers.specs.Savepoints.{is_listen};
 ghost use Rattle.pgn_model.specs.laws.NextLine.{is_enlisting, is_leaving};
 ghost use Rattle.pgn_session.specs.Commits.{HasJoined, HasSent, HasLeftIf, HasCommitted, set_after, enlisted_items, sent_items, left_items, ending_item, commit_items};
 
 use pgn_base::{Action, Actions, Enlisted, Full, ListenSet, Note, Notes, Refusal, Tag, Xid};
 use pgn_hub::Hub;
-use pgn_model::{Item, PassView};
+use pgn_hub::PassView;
+use pgn_model::Item;
 use std::sync::Wait;
 
 /// Commits a transaction, and records its line: the session becomes a listener, where an action listens; the notifications are

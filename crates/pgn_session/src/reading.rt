@@ -4,7 +4,8 @@ ghost use Rattle.pgn_session.specs.Parts.{HasReadOn, with_read};
 
 use pgn_base::{Deliveries, ListenSet, Xid};
 use pgn_hub::Hub;
-use pgn_model::{Item, PassView};
+use pgn_hub::PassView;
+use pgn_model::Item;
 use std::alloc::{AllocError, Global};
 
 /// Reads on from the mark, and records it where the mark has moved: answers the new mark.

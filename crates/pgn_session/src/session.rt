@@ -1,7 +1,7 @@
 ghost use Rattle.std.specs.Prelude.{◌≡◌, ◌≢◌, ◌↔◌, ℕ, ◌+◌, ◌≤◌, ◌<◌, [], Option, Some, None, Ok, IsSome, IfSome, IfOk, OnOk, OnErr};
-ghost use Rattle.pgn_model.specs.declared.block_state.BlockState.TheVariants.{Idle};
-ghost use Rattle.pgn_model.specs.Shape.{Shape};
-ghost use Rattle.pgn_model.specs.Inputs.{QuitsLast, note_lines_of};
+ghost use Rattle.pgn_answers.specs.declared.block_state.BlockState.TheVariants.{Idle};
+ghost use Rattle.pgn_hub.specs.Shape.{Shape};
+ghost use Rattle.pgn_language.specs.Inputs.{QuitsLast, note_lines_of};
 ghost use Rattle.pgn_model.specs.Trace.{TraceOk, Fresh};
 ghost use Rattle.pgn_hub.specs.Passes.{opened_pass};
 ghost use Rattle.pgn_hub.specs.Calls.{HasLearned, HasHeard, HasRaised};
@@ -14,7 +14,10 @@ use crate::{Doing, FlagPlan, IdleDone};
 use pgn_base::{ListenSet, SessionNo};
 use pgn_block::Block;
 use pgn_hub::Hub;
-use pgn_model::{BlockState, Item, Items, PassView, Section, Trace};
+use pgn_answers::BlockState;
+use pgn_hub::PassView;
+use pgn_language::Section;
+use pgn_model::{Item, Items, Trace};
 use std::alloc::{AllocError, Global};
 
 /// Room for so many items is taken at the start.

@@ -1,5 +1,5 @@
 ghost use Rattle.std.specs.Prelude.{◌≡◌, ◌≢◌, ◌↔◌, ◌⊎◌, ◌+◌, ◌≤◌, ◌<◌, [], ◌∷◌, Ok, drop, IfOk, OnOk, OnErr, vec_len, vec_capacity};
-ghost use Rattle.pgn_model.specs.declared.scenario.Act.TheVariants as act;
+ghost use Rattle.pgn_language.specs.declared.scenario.Act.TheVariants as act;
 ghost use Rattle.pgn_session.specs.declared.doing.Doing.TheVariants as doing;
 ghost use Rattle.pgn_session.specs.Standing.{IsServedBy};
 ghost use Rattle.pgn_session.specs.Steps.{AnswersLine, BeginsEnd, Waits, Ends, HasMoved, HasTurned, HasWaited, StandsStill};
@@ -10,7 +10,9 @@ use crate::session::raise_end;
 use crate::{Doing, Session, Step};
 use pgn_base::{Copied, ListenSet};
 use pgn_hub::Hub;
-use pgn_model::{Act, Item, PassView};
+use pgn_hub::PassView;
+use pgn_language::Act;
+use pgn_model::Item;
 use std::alloc::{AllocError, Global};
 use std::mem;
 use std::sync::Wait;

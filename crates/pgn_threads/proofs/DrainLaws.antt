@@ -2,8 +2,8 @@
 use Rattle.std.proofs.Common.{◌≡◌, ℕ, ◌+◌, ◌-◌, ◌<◌, ◌≤◌, List, length, map, take, All, sym, ap, ◌∙◌, refl, subst, arith}
 use Rattle.std.proofs.lemmas.List.{length-map}
 use Rattle.std.proofs.lemmas.List.Elements.{All-nil}
-use Rattle.pgn_model.specs.declared.known.Known.{Known}
-use Rattle.pgn_model.specs.Shape.{Shape}
+use Rattle.pgn_hub.specs.declared.known.Known.{Known}
+use Rattle.pgn_hub.specs.Shape.{Shape}
 use Rattle.pgn_session.specs.declared.session.Session.{Session}
 use Rattle.pgn_threads.specs.Parts.{HasReadAll}
 use Rattle.pgn_threads.specs.Whole.{IsOver, Script, script_of}

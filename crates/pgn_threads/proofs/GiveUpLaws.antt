@@ -2,7 +2,7 @@
 use Rattle.std.proofs.Common.{◌≡◌, ℕ, [], ◌∷◌, ◌++◌, ap, sym, subst}
 use Rattle.std.specs.List.{Contains}
 use Rattle.std.proofs.lemmas.List.Elements.{Contains-push}
-use Rattle.pgn_model.specs.declared.known.Known.{Known}
+use Rattle.pgn_hub.specs.declared.known.Known.{Known}
 use Rattle.pgn_hub.specs.Calls.{HasRaised}
 use Rattle.pgn_session.specs.declared.session.Session.{Session}
 use Rattle.pgn_session.specs.Standing.{end_flag}

@@ -4,18 +4,18 @@ use Rattle.std.proofs.lemmas.Option.{IfSome_then}
 use Rattle.std.proofs.lemmas.List.Elements.{All-head, All-tail, All-map, All-weaker, All-contains, All-same, Contains-get_or, Contains-append_left, Contains-append_right, Contains-append_cases}
 use Rattle.std.proofs.lemmas.List.Folds.{list_any-from_Any}
 use Rattle.pgn_base.specs.declared.limits.TheConstants.{FIRST_XID}
-use Rattle.pgn_model.specs.declared.tx.Tx.{Tx}
-use Rattle.pgn_model.specs.declared.known.Known.{Known}
-use Rattle.pgn_model.specs.declared.scenario.Section.{Section}
+use Rattle.pgn_journal.specs.declared.tx.Tx.{Tx}
+use Rattle.pgn_hub.specs.declared.known.Known.{Known}
+use Rattle.pgn_language.specs.declared.scenario.Section.{Section}
 use Rattle.pgn_model.specs.declared.trace.Trace.{Trace}
-use Rattle.pgn_model.specs.Begins.{Begins}
-use Rattle.pgn_model.specs.Shape.{Shape}
-use Rattle.pgn_model.specs.Journal.{next_xid, xids_of}
+use Rattle.pgn_journal.specs.Begins.{Begins}
+use Rattle.pgn_hub.specs.Shape.{Shape}
+use Rattle.pgn_journal.specs.Journal.{next_xid, xids_of}
 use Rattle.pgn_model.specs.Walk.{Settings, Terms, State, Nothing}
 use Rattle.pgn_model.specs.Trace.{TraceOk, Fresh, IsUpToDate, state_after}
 use Rattle.pgn_model.specs.Legal.{EachTrace, End, ends, WasRaised, StoodAt, IsShownWithin, IsFullThere, finished_xids, names_section, Legal}
 use Rattle.pgn_model.specs.laws.NextLine.{HoldsSoFar}
-use Rattle.pgn_model.proofs.BeginsLaws.{begins-rest}
+use Rattle.pgn_journal.proofs.BeginsLaws.{begins-rest}
 use Rattle.pgn_model.proofs.GrowingLaws.{up_to_date-grows}
 use Rattle.pgn_model.proofs.NextLineLaws.{holds-grows, holds-shows, holds-within, end-is_lawful, end-is_fresh}
 use Rattle.pgn_hub.specs.Passes.{IsWithin}

@@ -2,13 +2,13 @@
 use Rattle.std.proofs.Common.{◌≡◌, ℕ, suc, ◌+◌, List, [], ◌∷◌, length, map, get_or, All, sym, ap, ◌∙◌, refl, subst, arith}
 use Rattle.std.specs.List.{range_with_len}
 use Rattle.std.proofs.lemmas.List.Elements.{All-map, All-same}
-use Rattle.pgn_model.specs.declared.tx.Tx.{Tx}
-use Rattle.pgn_model.specs.declared.known.Known.{Known}
-use Rattle.pgn_model.specs.declared.scenario.Section.{Section}
-use Rattle.pgn_model.specs.declared.scenario.Scenario.{Scenario}
+use Rattle.pgn_journal.specs.declared.tx.Tx.{Tx}
+use Rattle.pgn_hub.specs.declared.known.Known.{Known}
+use Rattle.pgn_language.specs.declared.scenario.Section.{Section}
+use Rattle.pgn_language.specs.declared.scenario.Scenario.{Scenario}
 use Rattle.pgn_model.specs.declared.trace.Trace.{Trace}
-use Rattle.pgn_model.specs.Inputs.{AreNumbered, IsSound}
-use Rattle.pgn_model.specs.Shape.{Shape}
+use Rattle.pgn_language.specs.Inputs.{AreNumbered, IsSound}
+use Rattle.pgn_hub.specs.Shape.{Shape}
 use Rattle.pgn_model.specs.Walk.{Settings}
 use Rattle.pgn_model.specs.Legal.{Legal}
 use Rattle.pgn_merge.specs.Shown.{ShowsJournal}

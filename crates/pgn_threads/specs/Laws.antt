@@ -1,9 +1,9 @@
 -- Laws of a whole run.
 use Rattle.std.specs.Prelude.{◌≡◌, ℕ, List, map, All}
-use Rattle.pgn_model.specs.declared.scenario.Scenario.{Scenario}
-use Rattle.pgn_model.specs.declared.scenario.Section.{Section}
-use Rattle.pgn_model.specs.Shape.{Shape}
-use Rattle.pgn_model.specs.Inputs.{AreNumbered, HasFlagBelow}
+use Rattle.pgn_language.specs.declared.scenario.Scenario.{Scenario}
+use Rattle.pgn_language.specs.declared.scenario.Section.{Section}
+use Rattle.pgn_hub.specs.Shape.{Shape}
+use Rattle.pgn_language.specs.Inputs.{AreNumbered, HasFlagBelow}
 use Rattle.pgn_model.specs.Legal.{Legal}
 use Rattle.pgn_hub.specs.Gathered.{Gathered}
 use Rattle.pgn_session.specs.declared.doing.FlagPlan.{FlagPlan}

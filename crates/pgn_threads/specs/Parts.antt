@@ -1,10 +1,10 @@
 -- What contracts see of the sessions of a scenario once they are over.
 use Rattle.std.specs.Prelude.{ℕ, ◌≤◌, List, IfSome, All}
 use Rattle.pgn_model.specs.declared.item.Item.{Item}
-use Rattle.pgn_model.specs.declared.known.Known.{Known}
-use Rattle.pgn_model.specs.declared.scenario.Section.{Section}
+use Rattle.pgn_hub.specs.declared.known.Known.{Known}
+use Rattle.pgn_language.specs.declared.scenario.Section.{Section}
 use Rattle.pgn_model.specs.declared.trace.Trace.{Trace}
-use Rattle.pgn_model.specs.Shape.{Shape}
+use Rattle.pgn_hub.specs.Shape.{Shape}
 use Rattle.pgn_model.specs.Walk.{Settings}
 use Rattle.pgn_block.specs.Views.{BlockView}
 use Rattle.pgn_hub.specs.Passes.{IsWithin}

@@ -1,8 +1,8 @@
 -- What holds of whole sessions before they run and once they are over.
 use Rattle.std.specs.Prelude.{◌≡◌, ℕ, Contains}
-use Rattle.pgn_model.specs.declared.known.Known.{Known}
-use Rattle.pgn_model.specs.declared.scenario.Section.{Section}
-use Rattle.pgn_model.specs.Shape.{Shape}
+use Rattle.pgn_hub.specs.declared.known.Known.{Known}
+use Rattle.pgn_language.specs.declared.scenario.Section.{Section}
+use Rattle.pgn_hub.specs.Shape.{Shape}
 use Rattle.pgn_session.specs.declared.session.Session.{Session}
 use Rattle.pgn_session.specs.declared.doing.FlagPlan.{FlagPlan}
 use Rattle.pgn_session.specs.declared.doing.Doing.TheVariants.{Over}

@@ -4,7 +4,7 @@ ghost use Rattle.pgn_threads.specs.Whole.{IsOver, script_of};
 ghost use Rattle.pgn_threads.specs.Drain.{passes_of, tolds_of, heard_up, heard_down, HasReadOwn};
 
 use pgn_hub::Hub;
-use pgn_model::PassView;
+use pgn_hub::PassView;
 use pgn_session::Session;
 use std::alloc::{AllocError, Global};
 

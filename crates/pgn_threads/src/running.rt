@@ -4,7 +4,7 @@ ghost use Rattle.pgn_session.specs.Standing.{IsServedBy};
 ghost use Rattle.pgn_threads.specs.Whole.{HasGivenUp, IsReady, IsOver, script_of};
 
 use pgn_hub::Hub;
-use pgn_model::PassView;
+use pgn_hub::PassView;
 use pgn_session::{Session, Step};
 use std::alloc::{AllocError, Global};
 use std::sync::Wait;

@@ -4,11 +4,11 @@ use Rattle.std.proofs.lemmas.List.{append_assoc}
 use Rattle.std.proofs.lemmas.List.Elements.{All-contains_itself}
 use Rattle.pgn_base.specs.declared.format.Format.{Format}
 use Rattle.pgn_base.specs.declared.format.Format.TheVariants.{One}
-use Rattle.pgn_model.specs.declared.known.Advance.{Advance}
-use Rattle.pgn_model.specs.Journal.{next_xid}
-use Rattle.pgn_model.specs.Packing.{page_of, place}
-use Rattle.pgn_model.specs.Shape.{Shape}
-use Rattle.pgn_model.specs.declared.known.Known.{Known}
+use Rattle.pgn_hub.specs.declared.known.Advance.{Advance}
+use Rattle.pgn_journal.specs.Journal.{next_xid}
+use Rattle.pgn_journal.specs.Packing.{page_of, place}
+use Rattle.pgn_hub.specs.Shape.{Shape}
+use Rattle.pgn_hub.specs.declared.known.Known.{Known}
 use Rattle.pgn_hub.specs.Calls.{met_from, met_by, LooksTwice, IsFloor}
 use Rattle.pgn_hub.specs.Passes.{IsWithin, IsSeated, no_advance}
 use Rattle.pgn_hub.proofs.WithinLaws.{calls-keep_within}

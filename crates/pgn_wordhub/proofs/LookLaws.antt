@@ -9,10 +9,10 @@ use native.Mathlib.Decide.{ℕ_discrete}
 use Rattle.pgn_lanes.specs.Least.{least_with}
 use Rattle.pgn_lanes.proofs.LeastLaws.{least_with-append}
 use Rattle.pgn_base.specs.declared.format.Format.{Format}
-use Rattle.pgn_model.specs.declared.tx.Tx.{Tx}
-use Rattle.pgn_model.specs.Journal.{next_xid}
-use Rattle.pgn_model.specs.Packing.{image}
-use Rattle.pgn_model.proofs.PackingLemmas.{last_place}
+use Rattle.pgn_journal.specs.declared.tx.Tx.{Tx}
+use Rattle.pgn_journal.specs.Journal.{next_xid}
+use Rattle.pgn_journal.specs.Packing.{image}
+use Rattle.pgn_journal.proofs.PackingLemmas.{last_place}
 use Rattle.pgn_hub.specs.Calls.{met_from}
 use Rattle.pgn_hub.specs.Passes.{no_advance}
 use Rattle.pgn_words.specs.declared.pos_word.PosWord.{PosWord}

@@ -1,8 +1,8 @@
 -- Two passes as they are opened.
 use Rattle.std.proofs.Common.{◌≡◌, ℕ, zero, suc, ◌+◌, List, [], ◌∷◌, ◌++◌, length, map, Some, None, All, sym, refl, ap, ◌∙◌, subst, arith}
 use Rattle.std.proofs.lemmas.List.Elements.{All-pop}
-use Rattle.pgn_model.specs.declared.known.Known.{Known}
-use Rattle.pgn_model.specs.declared.setup.SeatSetup.{SeatSetup}
+use Rattle.pgn_hub.specs.declared.known.Known.{Known}
+use Rattle.pgn_hub.specs.declared.setup.SeatSetup.{SeatSetup}
 use Rattle.pgn_hub.specs.Passes.{opened_pass, opened_passes}
 use Rattle.pgn_words.specs.Passes.{known_of}
 use Rattle.pgn_words.specs.declared.pass.WordPass.{WordPass}

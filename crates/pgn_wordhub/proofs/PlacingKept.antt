@@ -6,14 +6,14 @@ use Rattle.pgn_base.specs.declared.format.Format.{Format}
 use Rattle.pgn_base.specs.declared.format.Format.TheVariants.{One}
 use Rattle.pgn_base.specs.declared.note.Note.{Note}
 use Rattle.pgn_base.specs.Notes.{IsNote}
-use Rattle.pgn_model.specs.declared.tx.Tx.{Tx}
-use Rattle.pgn_model.specs.declared.tx.Fate.{Fate}
-use Rattle.pgn_model.specs.declared.tx.Fate.TheVariants.{Committed, Aborted}
-use Rattle.pgn_model.specs.Journal.{next_xid}
-use Rattle.pgn_model.specs.Packing.{page_of, next_page, is_page_start, image, place, put_all}
-use Rattle.pgn_model.specs.Pieces.{draft}
-use Rattle.pgn_model.proofs.PackingLemmas.{room_of_image}
-use Rattle.pgn_model.proofs.DraftLaws.{one_more_image}
+use Rattle.pgn_journal.specs.declared.tx.Tx.{Tx}
+use Rattle.pgn_journal.specs.declared.tx.Fate.{Fate}
+use Rattle.pgn_journal.specs.declared.tx.Fate.TheVariants.{Committed, Aborted}
+use Rattle.pgn_journal.specs.Journal.{next_xid}
+use Rattle.pgn_journal.specs.Packing.{page_of, next_page, is_page_start, image, place, put_all}
+use Rattle.pgn_journal.specs.Pieces.{draft}
+use Rattle.pgn_journal.proofs.PackingLemmas.{room_of_image}
+use Rattle.pgn_journal.proofs.DraftLaws.{one_more_image}
 use Rattle.pgn_layout.specs.declared.batch.Batch.{Batch}
 use Rattle.pgn_layout.specs.Batches.{FirstIsTooLong, IsPlanned, padded_to, batch_cells, IsPlaced, AfterNotes, AfterFiller}
 use Rattle.pgn_layout.proofs.BatchLaws.{batches_stay}
@@ -23,7 +23,7 @@ use Rattle.pgn_words.specs.Views.{stored_by}
 use Rattle.pgn_words.specs.Positions.{listens_at}
 use Rattle.pgn_words.specs.Told.{MayShow, IsWrittenOf, head_stored}
 use Rattle.std.proofs.lemmas.List.Elements.{All-weaker, Contains-append_right}
-use Rattle.pgn_model.specs.Shape.{Shape}
+use Rattle.pgn_hub.specs.Shape.{Shape}
 use Rattle.pgn_hub.specs.Calls.{met_by, LooksTwice, IsFloor}
 use Rattle.pgn_wordhub.specs.Placing.{writer_of, stored_more, IsPlacing, HasWritten, IsHeldUp}
 use Rattle.pgn_wordhub.specs.Advancing.{HasAdvancedTo}

@@ -7,17 +7,17 @@ use Rattle.pgn_base.specs.declared.format.Format.TheVariants.{One}
 use Rattle.pgn_base.specs.declared.note.Note.{Note}
 use Rattle.pgn_base.specs.declared.queue_answers.Full.{Full}
 use Rattle.pgn_base.specs.Notes.{IsNote}
-use Rattle.pgn_model.specs.declared.tx.Tx.{Tx}
-use Rattle.pgn_model.specs.declared.tx.Fate.{Fate}
-use Rattle.pgn_model.specs.declared.tx.Fate.TheVariants.{Committed, Aborted}
-use Rattle.pgn_model.specs.declared.known.Known.{Known}
-use Rattle.pgn_model.specs.declared.known.Advance.{Advance}
-use Rattle.pgn_model.specs.Journal.{next_xid, entry, IsFinished}
-use Rattle.pgn_model.specs.Packing.{page_of, page_start, is_page_start, image, place, HasRoom}
-use Rattle.pgn_model.specs.Pieces.{draft}
-use Rattle.pgn_model.specs.QueueUse.{IsCutShort, NoPage}
-use Rattle.pgn_model.specs.Shape.{Shape}
-use Rattle.pgn_model.proofs.PackingLemmas.{room_of_image, last_place, places_agree}
+use Rattle.pgn_journal.specs.declared.tx.Tx.{Tx}
+use Rattle.pgn_journal.specs.declared.tx.Fate.{Fate}
+use Rattle.pgn_journal.specs.declared.tx.Fate.TheVariants.{Committed, Aborted}
+use Rattle.pgn_hub.specs.declared.known.Known.{Known}
+use Rattle.pgn_hub.specs.declared.known.Advance.{Advance}
+use Rattle.pgn_journal.specs.Journal.{next_xid, entry, IsFinished}
+use Rattle.pgn_journal.specs.Packing.{page_of, page_start, is_page_start, image, place, HasRoom}
+use Rattle.pgn_journal.specs.Pieces.{draft}
+use Rattle.pgn_journal.specs.QueueUse.{IsCutShort, NoPage}
+use Rattle.pgn_hub.specs.Shape.{Shape}
+use Rattle.pgn_journal.proofs.PackingLemmas.{room_of_image, last_place, places_agree}
 use Rattle.pgn_hub.specs.Calls.{met_by, tx_of, IsFloor, LooksTwice, HasPublished, HasMetFull}
 use Rattle.pgn_layout.specs.Batches.{IsPlaced}
 use Rattle.pgn_layout.proofs.PlacingLaws.{placing_begins, placed_is_draft, placed_is_cut_short}

@@ -5,15 +5,15 @@ use Rattle.pgn_base.specs.declared.format.Format.{Format}
 use Rattle.pgn_base.specs.declared.format.Format.TheVariants.{One}
 use Rattle.pgn_base.specs.declared.note.Delivery.{Delivery}
 use Rattle.pgn_base.specs.declared.queue_answers.Enlisted.{Enlisted}
-use Rattle.pgn_model.specs.declared.tx.Tx.{Tx}
-use Rattle.pgn_model.specs.declared.known.Known.{Known}
-use Rattle.pgn_model.specs.Journal.{next_xid}
-use Rattle.pgn_model.specs.Due.{due}
-use Rattle.pgn_model.specs.Packing.{image, place}
-use Rattle.pgn_model.specs.Shape.{Shape}
-use Rattle.pgn_model.proofs.BeginsLaws.{begins-shorter}
-use Rattle.pgn_model.proofs.PackingLemmas.{place_grows, last_place}
-use Rattle.pgn_model.proofs.DraftLaws.{longer_agrees}
+use Rattle.pgn_journal.specs.declared.tx.Tx.{Tx}
+use Rattle.pgn_hub.specs.declared.known.Known.{Known}
+use Rattle.pgn_journal.specs.Journal.{next_xid}
+use Rattle.pgn_journal.specs.Due.{due}
+use Rattle.pgn_journal.specs.Packing.{image, place}
+use Rattle.pgn_hub.specs.Shape.{Shape}
+use Rattle.pgn_journal.proofs.BeginsLaws.{begins-shorter}
+use Rattle.pgn_journal.proofs.PackingLemmas.{place_grows, last_place}
+use Rattle.pgn_journal.proofs.DraftLaws.{longer_agrees}
 use Rattle.pgn_hub.specs.Calls as calls
 use Rattle.pgn_hub.proofs.WithinLaws.{calls-keep_within}
 use Rattle.pgn_words.specs.declared.view.View.{View}

@@ -8,12 +8,12 @@ use Rattle.std.specs.List.{flat_map}
 use Rattle.pgn_base.specs.Names.{has_name}
 use Rattle.pgn_base.specs.declared.format.Format.TheVariants.{One}
 use Rattle.pgn_base.specs.declared.note.Note.{Note}
-use Rattle.pgn_model.specs.declared.tx.Tx.{Tx}
-use Rattle.pgn_model.specs.Journal.{entry}
-use Rattle.pgn_model.specs.Bytes.{four_bytes}
-use Rattle.pgn_model.specs.Packing.{Sender, filled_cells, cells_in}
-use Rattle.pgn_model.specs.Pieces.{Piece, AnEntry, piece_bytes, gives, delivery_of}
-use Rattle.pgn_model.proofs.PieceLaws.{piece_has_bytes, numbers_give_bytes}
+use Rattle.pgn_journal.specs.declared.tx.Tx.{Tx}
+use Rattle.pgn_journal.specs.Journal.{entry}
+use Rattle.pgn_journal.specs.Bytes.{four_bytes}
+use Rattle.pgn_journal.specs.Packing.{Sender, filled_cells, cells_in}
+use Rattle.pgn_journal.specs.Pieces.{Piece, AnEntry, piece_bytes, gives, delivery_of}
+use Rattle.pgn_journal.proofs.PieceLaws.{piece_has_bytes, numbers_give_bytes}
 use Rattle.pgn_wordhub.specs.Walks.{StandsAt, IsDueEntry, IsEntryAt}
 use Rattle.pgn_wordhub.proofs.WayLaws.{cell_of}
 
@@ -39,7 +39,7 @@ loaded_bytes cells at piece numbers stands long are =
     (λ k n is. are k n (within k n is) (cell_of cells at k n piece stands is))
   where
     within : (k n : ℕ) → slice_get (filled_cells (piece_bytes One piece)) k ≡ Some (Some n) → k < length numbers
-    within k n is = let inside = Rattle.std.proofs.lemmas.Option.slice_get_within (filled_cells (piece_bytes One piece)) k (Some n) is in let all = Rattle.pgn_model.proofs.PackingLemmas.length-filled_cells (piece_bytes One piece) in omega (arith, inside, all, long)
+    within k n is = let inside = Rattle.std.proofs.lemmas.Option.slice_get_within (filled_cells (piece_bytes One piece)) k (Some n) is in let all = Rattle.pgn_journal.proofs.PackingLemmas.length-filled_cells (piece_bytes One piece) in omega (arith, inside, all, long)
 
 -- the bytes of an entry of a finished transaction that lies at a place
 pub due_at : (cells : List (Option ℕ)) (at len db : ℕ) (seen : List Tx) (bytes : List ℕ) (note : Note) (sender : Sender) → IsEntryAt cells at len db seen note sender → bytes ≡ piece_bytes One (AnEntry note sender)

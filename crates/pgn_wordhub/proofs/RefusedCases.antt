@@ -3,13 +3,13 @@ use Rattle.std.proofs.Common.{◌≡◌, ℕ, ◌≤◌, true, false, [], ◌∷
 use Rattle.std.proofs.lemmas.List.Elements.{All-head}
 use Rattle.pgn_base.specs.declared.format.Format.TheVariants.{One}
 use Rattle.pgn_base.specs.declared.note.Delivery.{Delivery}
-use Rattle.pgn_model.specs.declared.tx.Tx.{Tx}
-use Rattle.pgn_model.specs.declared.known.Known.{Known}
-use Rattle.pgn_model.specs.Packing.{image, image_from}
-use Rattle.pgn_model.specs.Pieces.{Piece, AFiller, piece_bytes, number_of, IsNumbered}
-use Rattle.pgn_model.proofs.BytesLemmas.{length-spelled}
-use Rattle.pgn_model.proofs.PackingLemmas.{entry_whole}
-use Rattle.pgn_model.proofs.PieceLaws.{first_cells}
+use Rattle.pgn_journal.specs.declared.tx.Tx.{Tx}
+use Rattle.pgn_hub.specs.declared.known.Known.{Known}
+use Rattle.pgn_journal.specs.Packing.{image, image_from}
+use Rattle.pgn_journal.specs.Pieces.{Piece, AFiller, piece_bytes, number_of, IsNumbered}
+use Rattle.pgn_journal.proofs.BytesLemmas.{length-spelled}
+use Rattle.pgn_journal.proofs.PackingLemmas.{entry_whole}
+use Rattle.pgn_journal.proofs.PieceLaws.{first_cells}
 use Rattle.pgn_hub.specs.Examples.{two_seats, note_a, tx_3, got_a}
 use Rattle.pgn_words.specs.declared.view.View.{View}
 use Rattle.pgn_words.specs.Examples.{listener, holder}

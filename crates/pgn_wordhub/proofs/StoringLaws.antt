@@ -7,14 +7,14 @@ use Rattle.std.proofs.lemmas.Option.{slice_get_within, get_or_from_slice_get}
 use Rattle.std.proofs.lemmas.Bool.Decides.{nat_tests}
 use Rattle.pgn_base.specs.declared.format.Format.TheVariants.{One}
 use Rattle.pgn_base.specs.declared.note.Note.{Note}
-use Rattle.pgn_model.specs.Bytes.{entry_length, spelled, filler, IsEntryLength}
-use Rattle.pgn_model.specs.Packing.{Sender, filled_cells, page_of, page_start, HasRoom}
-use Rattle.pgn_model.proofs.BytesLemmas.{length-spelled, length-filler}
+use Rattle.pgn_journal.specs.Bytes.{entry_length, spelled, filler, IsEntryLength}
+use Rattle.pgn_journal.specs.Packing.{Sender, filled_cells, page_of, page_start, HasRoom}
+use Rattle.pgn_journal.proofs.BytesLemmas.{length-spelled, length-filler}
 use Rattle.pgn_layout.specs.declared.batch.Batch.{Batch}
 use Rattle.pgn_layout.specs.Batches.{IsPlanned, entry_of, entries_of, batch_cells}
 use Rattle.pgn_layout.proofs.BatchLaws.{batches_stay, fillers_take_rests}
-use Rattle.pgn_model.proofs.PackingLemmas.{length-filled_cells}
-use Rattle.pgn_model.proofs.PieceLaws.{cells_hold_numbers}
+use Rattle.pgn_journal.proofs.PackingLemmas.{length-filled_cells}
+use Rattle.pgn_journal.proofs.PieceLaws.{cells_hold_numbers}
 use Rattle.pgn_words.specs.declared.view.View.{View}
 use Rattle.pgn_words.specs.Views.{stored_by}
 use Rattle.pgn_words.specs.Told.{cell_stored}

@@ -4,12 +4,12 @@ use Rattle.std.proofs.lemmas.List.{append-nil}
 use Rattle.pgn_base.specs.declared.format.Format.{Format}
 use Rattle.pgn_base.specs.declared.format.Format.TheVariants.{One}
 use Rattle.pgn_base.specs.declared.queue_answers.Usage.{Usage}
-use Rattle.pgn_model.specs.declared.tx.Tx.{Tx}
-use Rattle.pgn_model.specs.Journal.{next_xid}
-use Rattle.pgn_model.specs.Packing.{page_of, place, image}
-use Rattle.pgn_model.specs.QueueUse.{ShowsUsage}
-use Rattle.pgn_model.specs.Shape.{Shape}
-use Rattle.pgn_model.proofs.PackingLemmas.{last_place, place_grows}
+use Rattle.pgn_journal.specs.declared.tx.Tx.{Tx}
+use Rattle.pgn_journal.specs.Journal.{next_xid}
+use Rattle.pgn_journal.specs.Packing.{page_of, place, image}
+use Rattle.pgn_journal.specs.QueueUse.{ShowsUsage}
+use Rattle.pgn_hub.specs.Shape.{Shape}
+use Rattle.pgn_journal.proofs.PackingLemmas.{last_place, place_grows}
 use Rattle.pgn_hub.specs.Calls.{met_by, IsFloor, IsHolder, HasMeasured}
 use Rattle.pgn_words.specs.declared.view.View.{View}
 use Rattle.pgn_words.specs.Told.{head_known, stop_known}

@@ -8,17 +8,17 @@ use Rattle.std.proofs.lemmas.Bool.Decides.{nat_tests}
 use Rattle.pgn_base.specs.declared.limits.TheConstants.{FIRST_XID}
 use Rattle.pgn_base.specs.declared.format.Format.TheVariants.{One}
 use Rattle.pgn_base.specs.declared.note.Delivery.{Delivery}
-use Rattle.pgn_model.specs.declared.tx.Tx.{Tx}
-use Rattle.pgn_model.specs.Begins.{Begins}
-use Rattle.pgn_model.specs.Journal.{next_xid, entries_between, IsFinished}
-use Rattle.pgn_model.specs.Bytes.{IsEntryLength}
-use Rattle.pgn_model.specs.Due.{due}
-use Rattle.pgn_model.specs.Packing.{HasRoom, filled_cells, page_rest, entry_cells, image, place, after_bytes}
-use Rattle.pgn_model.specs.Pieces.{Piece, AnEntry, AFiller, piece_bytes, db_of, number_of, lay, pieces_from, gives, give_all, committed_by, IsNumbered, IsReadable, IsWritten}
-use Rattle.pgn_model.proofs.BeginsLaws.{begins-continued, begins-holds, begins-shorter}
-use Rattle.pgn_model.proofs.PieceLaws.{journal_is_cut, pieces_give_all_due, pieces_are_readable, pieces_are_numbered, piece_advances, first_cells, next_cells, finished_queue_all}
-use Rattle.pgn_model.proofs.PackingLemmas.{room_place, place_grows, last_place}
-use Rattle.pgn_model.proofs.DraftLaws.{longer_agrees}
+use Rattle.pgn_journal.specs.declared.tx.Tx.{Tx}
+use Rattle.pgn_journal.specs.Begins.{Begins}
+use Rattle.pgn_journal.specs.Journal.{next_xid, entries_between, IsFinished}
+use Rattle.pgn_journal.specs.Bytes.{IsEntryLength}
+use Rattle.pgn_journal.specs.Due.{due}
+use Rattle.pgn_journal.specs.Packing.{HasRoom, filled_cells, page_rest, entry_cells, image, place, after_bytes}
+use Rattle.pgn_journal.specs.Pieces.{Piece, AnEntry, AFiller, piece_bytes, db_of, number_of, lay, pieces_from, gives, give_all, committed_by, IsNumbered, IsReadable, IsWritten}
+use Rattle.pgn_journal.proofs.BeginsLaws.{begins-continued, begins-holds, begins-shorter}
+use Rattle.pgn_journal.proofs.PieceLaws.{journal_is_cut, pieces_give_all_due, pieces_are_readable, pieces_are_numbered, piece_advances, first_cells, next_cells, finished_queue_all}
+use Rattle.pgn_journal.proofs.PackingLemmas.{room_place, place_grows, last_place}
+use Rattle.pgn_journal.proofs.DraftLaws.{longer_agrees}
 use Rattle.pgn_wordhub.specs.Walks.{StandsAt, IsCell, IsEntryAt, HasEntryAt, IsOnWay, Leads, Walks, IsWalking, Turns, HasTurned}
 
 -- what stands in the rest of a list stands in the list
@@ -149,8 +149,8 @@ db_at cells at d piece stands is = is (db_of piece) (cell_of cells at 1 (db_of p
 pub gives_none : (db : ℕ) (channels : List (List ℕ)) (committed : ℕ → Bool) (piece : Piece) → (db_of piece ≡ db → ⊥) → gives db channels committed piece ≡ []
 gives_none db channels committed (AnEntry note sender) other =
     let differs : sender.db == db ≡ false = grind (arith, nat_tests, other) in
-    ap (λ b. cond (committed sender.xid && b) (cond (Rattle.pgn_model.specs.Due.listens channels note) (Rattle.pgn_model.specs.Pieces.delivery_of sender note ∷ []) []) []) differs
-    ∙ ap (λ b. cond b (cond (Rattle.pgn_model.specs.Due.listens channels note) (Rattle.pgn_model.specs.Pieces.delivery_of sender note ∷ []) []) []) (and_false (committed sender.xid))
+    ap (λ b. cond (committed sender.xid && b) (cond (Rattle.pgn_journal.specs.Due.listens channels note) (Rattle.pgn_journal.specs.Pieces.delivery_of sender note ∷ []) []) []) differs
+    ∙ ap (λ b. cond b (cond (Rattle.pgn_journal.specs.Due.listens channels note) (Rattle.pgn_journal.specs.Pieces.delivery_of sender note ∷ []) []) []) (and_false (committed sender.xid))
   where
     and_false : (b : Bool) → (b && false) ≡ false
     and_false true = refl
@@ -190,7 +190,7 @@ begins_at seen shown mark at db channels got begins written few finished low wit
         comes = ap (λ n. n + length (lay One n todo)) start ∙ journal_is_cut.ends One shown mark fin low within inside ∙ stop;
       };
       adds = ap (λ l. got ++ l) (ap (λ (txs : List Tx). give_all db channels (committed_by seen) (pieces_from One mark here txs)) same
-          ∙ pieces_give_all_due One seen mark fin here db channels (All-weaker IsFinished Rattle.pgn_model.specs.Pieces.QueuesAll finished_queue_all seen finished) low);
+          ∙ pieces_give_all_due One seen mark fin here db channels (All-weaker IsFinished Rattle.pgn_journal.specs.Pieces.QueuesAll finished_queue_all seen finished) low);
     }
   where
     long_part : (shown : List Tx) (mark fin : ℕ) → next_xid shown < 2 ^ 32 → 3 ≤ mark → mark ≤ fin → fin ≤ next_xid shown → mark + length (entries_between shown mark fin) ≤ 2 ^ 32
@@ -300,7 +300,7 @@ turn_passes cells fin db at d x len channels seen got before is of_db first belo
 pub turn_takes : (cells : List (Option ℕ)) (db at d x len : ℕ) (channels : List (List ℕ)) (seen : List Tx) (got after : List Delivery) → at < length cells
     → IsCell cells (at + 2) x → IsCell cells (at + 1) d → IsCell cells (at + 0) len → x < next_xid seen → d ≡ db → 0 < db
     → IsWalking cells (next_xid seen) db channels seen at got
-    → ((note : Rattle.pgn_base.specs.declared.note.Note.Note) (sender : Rattle.pgn_model.specs.Packing.Sender) → IsEntryAt cells at len db seen note sender → after ≡ got ++ gives db channels (committed_by seen) (AnEntry note sender))
+    → ((note : Rattle.pgn_base.specs.declared.note.Note.Note) (sender : Rattle.pgn_journal.specs.Packing.Sender) → IsEntryAt cells at len db seen note sender → after ≡ got ++ gives db channels (committed_by seen) (AnEntry note sender))
     → HasTurned cells (next_xid seen) db channels seen at got after (Some (after_bytes One at len))
 turn_takes cells db at d x len channels seen got after before is of_db first below same some walking taken =
     let fin = next_xid seen in record {
@@ -314,7 +314,7 @@ turn_takes cells db at d x len channels seen got after before is of_db first bel
     }
   where
     by_piece : (piece : Piece) → 0 < db → db_of piece ≡ db → StandsAt cells at piece → len ≡ length (piece_bytes One piece) → IsNumbered FIRST_XID (next_xid seen) piece
-        → ((note : Rattle.pgn_base.specs.declared.note.Note.Note) (sender : Rattle.pgn_model.specs.Packing.Sender) → IsEntryAt cells at len db seen note sender → after ≡ got ++ gives db channels (committed_by seen) (AnEntry note sender))
+        → ((note : Rattle.pgn_base.specs.declared.note.Note.Note) (sender : Rattle.pgn_journal.specs.Packing.Sender) → IsEntryAt cells at len db seen note sender → after ≡ got ++ gives db channels (committed_by seen) (AnEntry note sender))
         → after ≡ got ++ gives db channels (committed_by seen) piece
     by_piece (AnEntry note sender) some of_db stands long numbered taken = taken note sender (record { stands = stands; long = long; of_db = of_db; numbered = numbered })
     by_piece (AFiller n sender) some of_db stands long numbered taken = absurd (omega (arith, some, of_db))

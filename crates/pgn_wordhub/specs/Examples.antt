@@ -1,6 +1,6 @@
 -- Small cases that the definitions of this crate refuse, and a few that they meet.
 use Rattle.std.specs.Prelude.{◌*◌, ◌^◌, true, [], ◌∷◌, Some, None}
-use Rattle.pgn_model.specs.Packing.{Sender}
+use Rattle.pgn_journal.specs.Packing.{Sender}
 use Rattle.pgn_hub.specs.Passes.{opened_pass}
 use Rattle.pgn_hub.specs.Examples.{seat, two_seats}
 use Rattle.pgn_words.specs.declared.view.View.{View}

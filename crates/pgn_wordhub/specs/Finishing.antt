@@ -1,8 +1,8 @@
 -- A writer that ends its transaction.
 use Rattle.std.specs.Prelude.{◌≡◌, ℕ, Bool, false, List, ◌++◌, All}
-use Rattle.pgn_model.specs.declared.tx.Tx.{Tx}
-use Rattle.pgn_model.specs.declared.tx.Fate.{Fate}
-use Rattle.pgn_model.specs.Pieces.{draft}
+use Rattle.pgn_journal.specs.declared.tx.Tx.{Tx}
+use Rattle.pgn_journal.specs.declared.tx.Fate.{Fate}
+use Rattle.pgn_journal.specs.Pieces.{draft}
 use Rattle.pgn_words.specs.declared.view.View.{View}
 use Rattle.pgn_words.specs.declared.view.Phase.TheVariants.{Signalling}
 use Rattle.pgn_words.specs.Told.{ended_by, fin_stored}

@@ -1,5 +1,5 @@
 -- A hub and its passes, between calls.
-use Rattle.pgn_model.specs.Shape.{Shape}
+use Rattle.pgn_hub.specs.Shape.{Shape}
 use Rattle.pgn_hub.specs.Passes.{IsWithin, IsSeated}
 use Rattle.pgn_words.specs.declared.view.View.{View}
 use Rattle.pgn_words.specs.declared.pass.WordPass.{WordPass}

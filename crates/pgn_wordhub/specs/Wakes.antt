@@ -1,7 +1,7 @@
 -- A writer that wakes listeners.
 use Rattle.std.specs.Prelude.{◌≡◌, ℕ, Bool, true, List, length, replicate}
-use Rattle.pgn_model.specs.Packing.{image}
-use Rattle.pgn_model.specs.Shape.{Shape}
+use Rattle.pgn_journal.specs.Packing.{image}
+use Rattle.pgn_hub.specs.Shape.{Shape}
 use Rattle.pgn_words.specs.declared.view.View.{View}
 use Rattle.pgn_words.specs.declared.view.Phase.TheVariants.{Signalling}
 

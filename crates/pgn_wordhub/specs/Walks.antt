@@ -4,10 +4,10 @@ use Rattle.pgn_base.specs.declared.limits.TheConstants.{FIRST_XID}
 use Rattle.pgn_base.specs.declared.format.Format.TheVariants.{One}
 use Rattle.pgn_base.specs.declared.note.Note.{Note}
 use Rattle.pgn_base.specs.declared.note.Delivery.{Delivery}
-use Rattle.pgn_model.specs.declared.tx.Tx.{Tx}
-use Rattle.pgn_model.specs.Journal.{next_xid}
-use Rattle.pgn_model.specs.Packing.{Sender, HasRoom, entry_cells, image}
-use Rattle.pgn_model.specs.Pieces.{Piece, AnEntry, piece_bytes, number_of, lay, give_all, committed_by, IsNumbered, IsReadable}
+use Rattle.pgn_journal.specs.declared.tx.Tx.{Tx}
+use Rattle.pgn_journal.specs.Journal.{next_xid}
+use Rattle.pgn_journal.specs.Packing.{Sender, HasRoom, entry_cells, image}
+use Rattle.pgn_journal.specs.Pieces.{Piece, AnEntry, piece_bytes, number_of, lay, give_all, committed_by, IsNumbered, IsReadable}
 use Rattle.pgn_words.specs.declared.view.View.{View}
 
 -- a piece lies at a place, and can be read

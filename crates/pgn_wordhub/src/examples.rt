@@ -2,8 +2,8 @@
 ghost use Rattle.std.specs.Prelude.{◌≡◌, ℕ, ◌^◌, ◌*◌, ◌<◌, [], ◌∷◌, List, Option, Some, None};
 ghost use Rattle.pgn_base.specs.declared.note.Delivery.{Delivery};
 ghost use Rattle.pgn_base.specs.declared.format.Format.TheVariants.{One};
-ghost use Rattle.pgn_model.specs.declared.tx.Tx.{Tx};
-ghost use Rattle.pgn_model.specs.Pieces.{Piece, AFiller};
+ghost use Rattle.pgn_journal.specs.declared.tx.Tx.{Tx};
+ghost use Rattle.pgn_journal.specs.Pieces.{Piece, AFiller};
 ghost use Rattle.pgn_hub.specs.Examples.{two_seats, note_a, tx_3, got_a};
 ghost use Rattle.pgn_words.specs.Examples.{listener, holder};
 ghost use Rattle.pgn_wordhub.specs.Passes.{IsHubView};

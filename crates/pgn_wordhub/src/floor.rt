@@ -1,8 +1,8 @@
 ghost use Rattle.std.specs.Prelude.{◌≡◌, ℕ, ◌^◌, ◌∷◌, ◌++◌, ◌<◌, ◌≤◌, List, [], length, min, true, false, IfSome, IsSomeAnd};
 ghost use Rattle.pgn_base.specs.declared.format.Format.{Format};
 ghost use Rattle.pgn_base.specs.declared.limits.TheConstants.{SECTIONS_MAX};
-ghost use Rattle.pgn_model.specs.declared.tx.Tx.{Tx};
-ghost use Rattle.pgn_model.specs.Packing.{image};
+ghost use Rattle.pgn_journal.specs.declared.tx.Tx.{Tx};
+ghost use Rattle.pgn_journal.specs.Packing.{image};
 ghost use Rattle.pgn_words.specs.Positions.{packed, met_at, place_or, IsPlacedIn, IsPositionIn};
 ghost use Rattle.pgn_words.specs.Looking.{least_after};
 ghost use Rattle.pgn_wordhub.specs.Floors.{IsFloorOf};

@@ -1,6 +1,6 @@
 ghost use Rattle.std.specs.Prelude.{◌≡◌, map, length};
 ghost use Rattle.pgn_base.specs.declared.format.Format.TheVariants.{One};
-ghost use Rattle.pgn_model.specs.Shape.{IsShape};
+ghost use Rattle.pgn_hub.specs.Shape.{IsShape};
 ghost use Rattle.pgn_words.specs.Passes.{shape_of};
 
 use pgn_words::WordQueue;

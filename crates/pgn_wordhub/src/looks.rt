@@ -1,8 +1,8 @@
 ghost use Rattle.std.specs.Prelude.{◌≡◌, ◌≢◌, ℕ, ◌+◌, ◌^◌, ◌<◌, ◌≤◌, max, true, length, slice_get, Some, IfOk, IfErr};
 ghost use Rattle.pgn_base.specs.declared.format.Format.TheVariants.{One};
 ghost use Rattle.pgn_lanes.specs.Least.{least_with};
-ghost use Rattle.pgn_model.specs.Journal.{next_xid};
-ghost use Rattle.pgn_model.specs.Packing.{page_of, image};
+ghost use Rattle.pgn_journal.specs.Journal.{next_xid};
+ghost use Rattle.pgn_journal.specs.Packing.{page_of, image};
 ghost use Rattle.pgn_words.specs.Passes.{IsPassOf, view_of, known_of};
 ghost use Rattle.pgn_words.specs.Positions.{packed, mark_in, listens_at};
 ghost use Rattle.pgn_words.specs.Views.{may_look};

@@ -2,8 +2,8 @@ ghost use Rattle.std.specs.Prelude.{◌≡◌, IfOk};
 ghost use Rattle.pgn_base.specs.declared.note.Note.{Note};
 ghost use Rattle.pgn_base.specs.declared.format.Format.TheVariants.{One};
 ghost use Rattle.pgn_base.specs.Texts.{IsName, IsPayload};
-ghost use Rattle.pgn_model.specs.Packing.{Sender};
-ghost use Rattle.pgn_model.specs.Pieces.{AnEntry, piece_bytes, IsReadable};
+ghost use Rattle.pgn_journal.specs.Packing.{Sender};
+ghost use Rattle.pgn_journal.specs.Pieces.{AnEntry, piece_bytes, IsReadable};
 ghost use Rattle.pgn_wordhub.specs.Walks.{HasEntry, ArePartsOf};
 
 use pgn_base::{Delivery, Name, NameFault, Note, Payload, PayloadFault, Xid};

@@ -2,9 +2,9 @@ ghost use Rattle.std.specs.Prelude.{◌≡◌, ◌≢◌, ◌⊎◌, ℕ, ◌+�
 ghost use Rattle.std.specs.Int.{w32, from_le_bytes};
 ghost use Rattle.pgn_base.specs.declared.format.Format.TheVariants.{One};
 ghost use Rattle.pgn_base.specs.declared.limits.TheConstants.{PID_BASE};
-ghost use Rattle.pgn_model.specs.Journal.{next_xid};
-ghost use Rattle.pgn_model.specs.Bytes.{entry_length};
-ghost use Rattle.pgn_model.specs.Packing.{page_of, page_start, cells_in, filled_cells, image, HasRoom};
+ghost use Rattle.pgn_journal.specs.Journal.{next_xid};
+ghost use Rattle.pgn_journal.specs.Bytes.{entry_length};
+ghost use Rattle.pgn_journal.specs.Packing.{page_of, page_start, cells_in, filled_cells, image, HasRoom};
 ghost use Rattle.pgn_layout.specs.Batches.{IsPlanned, entry_of, batch_cells};
 ghost use Rattle.pgn_words.specs.Passes.{IsPassOf, view_of, known_of};
 ghost use Rattle.pgn_words.specs.Positions.{listens_at};
@@ -19,7 +19,7 @@ use byteorder::{ByteOrder, LittleEndian};
 use pgn_base::{CELL_BYTES, Note, PAGE_BYTES, PID_BASE, Xid};
 use pgn_entry::{entry_len, write_entry, write_filler};
 use pgn_layout::{Batch, Pos, plan_batch};
-use pgn_model::PassView;
+use pgn_hub::PassView;
 use pgn_words::WordPass;
 use std::sync::Wait;
 

@@ -5,7 +5,7 @@ ghost use Rattle.pgn_wordhub.specs.Passes.{IsHubPass, hub_shape};
 use super::*;
 use pgn_base::{Action, Actions, DbOid, Delivery, ListenSet, Name, Note, Payload, Xid};
 use pgn_hub::Hub;
-use pgn_model::{PassView, SeatSetup, Setup};
+use pgn_hub::{PassView, SeatSetup, Setup};
 use pgn_words::WordPass;
 use std::alloc::Global;
 use std::str;

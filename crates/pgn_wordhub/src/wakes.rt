@@ -1,6 +1,6 @@
 ghost use Rattle.std.specs.Prelude.{◌≡◌, ℕ, ◌*◌, ◌^◌, ◌<◌, ◌≤◌, Bool, true, false, length, replicate, slice_index_or, All};
 ghost use Rattle.pgn_lanes.specs.Behind.{Marks, mask_bit, plain_behind};
-ghost use Rattle.pgn_model.specs.Packing.{image};
+ghost use Rattle.pgn_journal.specs.Packing.{image};
 ghost use Rattle.pgn_words.specs.Passes.{IsPassOf, view_of, known_of};
 ghost use Rattle.pgn_words.specs.Positions.{place_or};
 ghost use Rattle.pgn_words.specs.Waking.{is_undecided, wake_set};
@@ -12,7 +12,7 @@ use crate::WordHub;
 use pgn_base::SECTIONS_MAX;
 use pgn_lanes::behind;
 use pgn_layout::Pos;
-use pgn_model::PassView;
+use pgn_hub::PassView;
 use pgn_words::{PosWord, WordPass};
 
 /// A place for each seat.

@@ -1,10 +1,10 @@
 ghost use Rattle.std.specs.Prelude.{◌≡◌, ◌≢◌, ◌+◌, ◌++◌, ◌^◌, ◌<◌, ◌≤◌, true, false, [], ◌∷◌, length, All, AllPairs, IfOk, IfErr};
 ghost use Rattle.pgn_base.specs.Notes.{IsNote};
-ghost use Rattle.pgn_model.specs.Journal.{next_xid};
+ghost use Rattle.pgn_journal.specs.Journal.{next_xid};
 ghost use Rattle.pgn_base.specs.declared.format.Format.TheVariants.{One};
-ghost use Rattle.pgn_model.specs.Packing.{page_of, image};
-ghost use Rattle.pgn_model.specs.Shape.{notes_of_seats};
-ghost use Rattle.pgn_model.specs.declared.tx.Fate.TheVariants as fates;
+ghost use Rattle.pgn_journal.specs.Packing.{page_of, image};
+ghost use Rattle.pgn_hub.specs.Shape.{notes_of_seats};
+ghost use Rattle.pgn_journal.specs.declared.tx.Fate.TheVariants as fates;
 ghost use Rattle.pgn_hub.specs.Calls.{HasPublished, HasMetFull, HasMeasured};
 ghost use Rattle.pgn_words.specs.Passes.{IsPassOf, view_of, known_of};
 ghost use Rattle.pgn_words.specs.Positions.{listens_at};
@@ -22,7 +22,7 @@ use crate::looks::Freed;
 use crate::placing::Placing;
 use pgn_base::{CLEANUP_DELAY_PAGES, Full, Note, Usage, Xid};
 use pgn_layout::Pos;
-use pgn_model::Fate;
+use pgn_journal::Fate;
 use pgn_words::WordPass;
 use std::sync::Wait;
 

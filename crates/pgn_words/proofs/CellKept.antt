@@ -5,15 +5,14 @@ use mathlib.Core.Option.{some, none}
 use lib.ListN.{get_elem?}
 use Rattle.atomic_table.specs.Table.{Me, Allows, step}
 use Rattle.atomic_table.proofs.Lists.{set_again}
-use Rattle.pgn_model.specs.declared.tx.Tx.{Tx}
-use Rattle.pgn_model.specs.Begins.{Begins}
-use Rattle.pgn_model.specs.Journal.{next_xid}
-use Rattle.pgn_model.proofs.BeginsLaws.{begins-continued}
-use Rattle.pgn_model.specs.Packing.{page_of, page_start, image}
-use Rattle.pgn_model.specs.Pieces.{draft}
-use Rattle.pgn_model.specs.Pieces.{IsWritten}
-use Rattle.pgn_model.specs.Shape.{Shape, IsShape}
-use Rattle.pgn_model.proofs.DraftLaws.{drafts_are_written}
+use Rattle.pgn_journal.specs.declared.tx.Tx.{Tx}
+use Rattle.pgn_journal.specs.Begins.{Begins}
+use Rattle.pgn_journal.specs.Journal.{next_xid}
+use Rattle.pgn_journal.proofs.BeginsLaws.{begins-continued}
+use Rattle.pgn_journal.specs.Packing.{page_of, page_start, image}
+use Rattle.pgn_journal.specs.Pieces.{draft, IsWritten}
+use Rattle.pgn_hub.specs.Shape.{Shape, IsShape}
+use Rattle.pgn_journal.proofs.DraftLaws.{drafts_are_written}
 use Rattle.std.proofs.lemmas.List.Elements.{All-push}
 use Rattle.pgn_layout.specs.Batches.{padded_to}
 use Rattle.pgn_words.specs.declared.view.View.{View}
@@ -234,7 +233,7 @@ shows z c g views id v to shape h here opened may =
         free = λ nobody. let is = locked.1 in let positive = locked.2 in absurd (omega (arith, nobody, is, positive));
         sees = each_keep (λ _ u. Begins u.known.seen g.past) views id v w here h.history.sees (λ p. p);
         own_seen = each_keep (λ _ u. All (λ x. x < next_xid u.known.seen) u.known.own) views id v w here h.history.own_seen (λ p. p);
-        owns = each_keep (λ _ u. u.known.own ≡ Rattle.pgn_model.specs.Journal.xids_of u.known.session g.past) views id v w here h.history.owns (λ p. p);
+        owns = each_keep (λ _ u. u.known.own ≡ Rattle.pgn_journal.specs.Journal.xids_of u.known.session g.past) views id v w here h.history.owns (λ p. p);
       };
       numbers = numbers_keep views id v w here c.lock c.fin c.xid h.numbers refl refl;
       holding = record {

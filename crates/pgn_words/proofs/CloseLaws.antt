@@ -8,11 +8,11 @@ use mathlib.Core.Option.{some, some-injective}
 use lib.ListN.{get_elem?}
 use Rattle.atomic_table.specs.Table.{Final, Seen}
 use Rattle.pgn_hub.specs.Gathered.{IsBy, IsAmongMarks, Gathered}
-use Rattle.pgn_model.specs.declared.tx.Tx.{Tx}
-use Rattle.pgn_model.specs.declared.known.Known.{Known}
-use Rattle.pgn_model.specs.Begins.{Begins}
-use Rattle.pgn_model.specs.Journal.{next_xid, xids_of}
-use Rattle.pgn_model.specs.Shape.{Shape, notes_of_seats}
+use Rattle.pgn_journal.specs.declared.tx.Tx.{Tx}
+use Rattle.pgn_hub.specs.declared.known.Known.{Known}
+use Rattle.pgn_journal.specs.Begins.{Begins}
+use Rattle.pgn_journal.specs.Journal.{next_xid, xids_of}
+use Rattle.pgn_hub.specs.Shape.{Shape, notes_of_seats}
 use Rattle.pgn_words.specs.declared.view.View.{View}
 use Rattle.pgn_words.specs.declared.pass.WordPass.{WordPass}
 use Rattle.pgn_words.specs.declared.pass.WordQueue.{WordQueue}

@@ -5,18 +5,18 @@ use Rattle.std.proofs.lemmas.Nat.{from_le_bytes-to_le_bytes_4}
 use Rattle.std.proofs.lemmas.List.{append-nil, length-append}
 use Rattle.pgn_base.specs.declared.format.Format.{Format}
 use Rattle.pgn_base.specs.declared.format.Format.TheVariants.{One}
-use Rattle.pgn_model.specs.declared.tx.Tx.{Tx}
-use Rattle.pgn_model.specs.declared.tx.Fate.TheVariants.{Committed}
-use Rattle.pgn_model.specs.Journal.{next_xid}
-use Rattle.pgn_model.specs.Bytes.{header, entry_length, spelled}
-use Rattle.pgn_model.specs.Packing.{sender_of, page_rest, entry_cells, note_cells, notes_cells, image, filled_cells}
-use Rattle.pgn_model.specs.Pieces.{draft}
-use Rattle.pgn_model.specs.examples.Packing.{virtual_note, virtual_cells}
+use Rattle.pgn_journal.specs.declared.tx.Tx.{Tx}
+use Rattle.pgn_journal.specs.declared.tx.Fate.TheVariants.{Committed}
+use Rattle.pgn_journal.specs.Journal.{next_xid}
+use Rattle.pgn_journal.specs.Bytes.{header, entry_length, spelled}
+use Rattle.pgn_journal.specs.Packing.{sender_of, page_rest, entry_cells, note_cells, notes_cells, image, filled_cells}
+use Rattle.pgn_journal.specs.Pieces.{draft}
+use Rattle.pgn_journal.specs.examples.Packing.{virtual_note, virtual_cells}
 use Rattle.pgn_layout.specs.Batches.{padded_to}
 use Rattle.pgn_words.specs.declared.view.View.{View}
 use Rattle.pgn_words.specs.Told.{MayShow, head_stored}
 use Rattle.pgn_words.specs.Examples.{IsOpenAt, IsShowing}
-use Rattle.pgn_model.proofs.DraftLaws.{one_more_image}
+use Rattle.pgn_journal.proofs.DraftLaws.{one_more_image}
 
 -- the cells of the entry with a number, by a process
 abbrev pub cells_of : ℕ → ℕ → List (Option ℕ)

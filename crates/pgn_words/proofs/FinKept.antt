@@ -6,16 +6,16 @@ use Rattle.std.proofs.lemmas.List.Sums.{sum_by-append, sum_by-cons}
 use mathlib.Core.Option.{some, none}
 use lib.ListN.{get_elem?}
 use Rattle.atomic_table.specs.Table.{Me, Allows, step}
-use Rattle.pgn_model.specs.declared.tx.Tx.{Tx}
-use Rattle.pgn_model.specs.Begins.{Begins}
-use Rattle.pgn_model.proofs.BeginsLaws.{begins-continued, begins-itself, begins-on}
-use Rattle.pgn_model.specs.Journal.{next_xid, xids_of, IsFinished}
+use Rattle.pgn_journal.specs.declared.tx.Tx.{Tx}
+use Rattle.pgn_journal.specs.Begins.{Begins}
+use Rattle.pgn_journal.proofs.BeginsLaws.{begins-continued, begins-itself, begins-on}
+use Rattle.pgn_journal.specs.Journal.{next_xid, xids_of, IsFinished}
 use Rattle.pgn_base.specs.declared.format.Format.{Format}
-use Rattle.pgn_model.specs.declared.known.Known.{Known}
-use Rattle.pgn_model.specs.Pieces.{IsWritten}
-use Rattle.pgn_model.proofs.DraftLaws.{xids_go_on, finished_are_written}
-use Rattle.pgn_model.specs.Packing.{page_start}
-use Rattle.pgn_model.specs.Shape.{Shape, IsShape}
+use Rattle.pgn_hub.specs.declared.known.Known.{Known}
+use Rattle.pgn_journal.specs.Pieces.{IsWritten}
+use Rattle.pgn_journal.proofs.DraftLaws.{xids_go_on, finished_are_written}
+use Rattle.pgn_journal.specs.Packing.{page_start}
+use Rattle.pgn_hub.specs.Shape.{Shape, IsShape}
 use Rattle.pgn_layout.specs.Status.{status_code}
 use Rattle.pgn_words.specs.declared.view.View.{View}
 use Rattle.pgn_words.specs.declared.view.Phase.TheVariants.{Finished}

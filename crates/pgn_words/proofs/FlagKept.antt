@@ -6,12 +6,12 @@ use mathlib.Core.Option.{some, none}
 use lib.ListN.{get_elem?}
 use native.Mathlib.Decide.{ℕ_discrete, dec_le}
 use Rattle.atomic_table.specs.Table.{Me, Allows, step}
-use Rattle.pgn_model.specs.declared.tx.Tx.{Tx}
-use Rattle.pgn_model.specs.Begins.{Begins}
-use Rattle.pgn_model.proofs.BeginsLaws.{begins-itself, begins-shorter}
-use Rattle.pgn_model.specs.Journal.{next_xid, xids_of}
-use Rattle.pgn_model.specs.Packing.{page_start}
-use Rattle.pgn_model.specs.Shape.{Shape, IsShape, notes_of_seats}
+use Rattle.pgn_journal.specs.declared.tx.Tx.{Tx}
+use Rattle.pgn_journal.specs.Begins.{Begins}
+use Rattle.pgn_journal.proofs.BeginsLaws.{begins-itself, begins-shorter}
+use Rattle.pgn_journal.specs.Journal.{next_xid, xids_of}
+use Rattle.pgn_journal.specs.Packing.{page_start}
+use Rattle.pgn_hub.specs.Shape.{Shape, IsShape, notes_of_seats}
 use Rattle.pgn_words.specs.declared.view.View.{View}
 use Rattle.pgn_words.specs.Words.{Content, row, room_of, flags_at}
 use Rattle.pgn_words.specs.Views.{holds_lock}

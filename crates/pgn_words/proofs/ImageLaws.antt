@@ -5,16 +5,16 @@ use Rattle.std.proofs.lemmas.List.Elements.{All-head, All-tail, All-take}
 use Rattle.pgn_base.specs.declared.format.Format.{Format}
 use Rattle.pgn_base.specs.declared.note.Note.{Note}
 use Rattle.pgn_base.specs.Notes.{IsNote}
-use Rattle.pgn_model.specs.declared.tx.Tx.{Tx}
-use Rattle.pgn_model.specs.declared.tx.Fate.{Fate}
-use Rattle.pgn_model.specs.declared.tx.Fate.TheVariants.{Committed, Aborted}
-use Rattle.pgn_model.specs.Begins.{Begins}
-use Rattle.pgn_model.specs.Journal.{next_xid, IsFinished}
-use Rattle.pgn_model.specs.Packing.{next_page, is_page_start, image, put, put_all, ended, after}
-use Rattle.pgn_model.specs.Pieces.{draft, IsWritten}
-use Rattle.pgn_model.specs.Shape.{Shape}
-use Rattle.pgn_model.proofs.PackingLemmas.{put_takes, place_bound, last_place, places_agree}
-use Rattle.pgn_model.proofs.DraftLaws.{one_more_image}
+use Rattle.pgn_journal.specs.declared.tx.Tx.{Tx}
+use Rattle.pgn_journal.specs.declared.tx.Fate.{Fate}
+use Rattle.pgn_journal.specs.declared.tx.Fate.TheVariants.{Committed, Aborted}
+use Rattle.pgn_journal.specs.Begins.{Begins}
+use Rattle.pgn_journal.specs.Journal.{next_xid, IsFinished}
+use Rattle.pgn_journal.specs.Packing.{next_page, is_page_start, image, put, put_all, ended, after}
+use Rattle.pgn_journal.specs.Pieces.{draft, IsWritten}
+use Rattle.pgn_hub.specs.Shape.{Shape}
+use Rattle.pgn_journal.proofs.PackingLemmas.{put_takes, place_bound, last_place, places_agree}
+use Rattle.pgn_journal.proofs.DraftLaws.{one_more_image}
 use Rattle.pgn_words.specs.Rule.{notes_of}
 use Rattle.pgn_words.specs.ListenRule.{IsPlaced, IsLeast}
 use Rattle.pgn_words.specs.Positions.{mark_in}

@@ -9,12 +9,12 @@ use Rattle.atomic_table.proofs.Lists.{exchanged, set_again}
 use prog.Atomic.{either}
 use Rattle.pgn_base.specs.declared.limits.TheConstants.{FIRST_XID}
 use Rattle.pgn_base.specs.declared.note.Note.{Note}
-use Rattle.pgn_model.specs.declared.tx.Tx.{Tx}
-use Rattle.pgn_model.specs.declared.tx.Fate.{Fate}
-use Rattle.pgn_model.specs.Begins.{Begins}
-use Rattle.pgn_model.proofs.BeginsLaws.{begins-rest, begins-itself, begins-shorter}
-use Rattle.pgn_model.specs.Journal.{next_xid, xids_of, IsFinished}
-use Rattle.pgn_model.specs.Shape.{Shape, notes_of_seats}
+use Rattle.pgn_journal.specs.declared.tx.Tx.{Tx}
+use Rattle.pgn_journal.specs.declared.tx.Fate.{Fate}
+use Rattle.pgn_journal.specs.Begins.{Begins}
+use Rattle.pgn_journal.proofs.BeginsLaws.{begins-rest, begins-itself, begins-shorter}
+use Rattle.pgn_journal.specs.Journal.{next_xid, xids_of, IsFinished}
+use Rattle.pgn_hub.specs.Shape.{Shape, notes_of_seats}
 use Rattle.pgn_words.specs.declared.view.View.{View}
 use Rattle.pgn_words.specs.declared.view.Phase.{Phase}
 use Rattle.pgn_words.specs.declared.view.Phase.TheVariants.{Free, Held, Headed, Ready, Open, Finished, Signalling}
@@ -50,7 +50,7 @@ free_holds Signalling nothing = absurd (nothing refl)
 
 pub others_hold : (z : Shape) (stop : ℕ) (past shown : List Tx) (cells : List ℕ) (j : ℕ) (u : View) → (holds_lock u.phase ≡ true → ⊥) → Holds z stop past shown cells j u
 others_hold z stop past shown cells j u nothing =
-    subst (λ (p : Phase). HoldsIn p z.format (λ log. Keeps (room_of z) (Rattle.pgn_model.specs.Packing.page_start stop) log cells) past shown u.known.seen u.known.session u.known.db u.pen) (sym (free_holds u.phase nothing)) tt
+    subst (λ (p : Phase). HoldsIn p z.format (λ log. Keeps (room_of z) (Rattle.pgn_journal.specs.Packing.page_start stop) log cells) past shown u.known.seen u.known.session u.known.db u.pen) (sym (free_holds u.phase nothing)) tt
 
 pub others_stop : (stop j : ℕ) (u : View) → (holds_lock u.phase ≡ true → ⊥) → KnowsStop stop j u
 others_stop stop j u nothing knows = absurd (nothing (knowing u.phase knows))
@@ -271,7 +271,7 @@ none_waits (b ∷ undecided) all (suc i) = none_waits undecided (All-tail (λ (x
 
 -- while the holder has drawn no number, the head shows the journal
 pub idle_shows : (phase : Phase) (z : Shape) (stop : ℕ) (past shown seen : List Tx) (cells : List ℕ) (session db : ℕ) (pen : Rattle.pgn_words.specs.declared.view.Pen.Pen) → may_drop phase ≡ true
-    → HoldsIn phase z.format (λ log. Keeps (room_of z) (Rattle.pgn_model.specs.Packing.page_start stop) log cells) past shown seen session db pen → shown ≡ past
+    → HoldsIn phase z.format (λ log. Keeps (room_of z) (Rattle.pgn_journal.specs.Packing.page_start stop) log cells) past shown seen session db pen → shown ≡ past
 idle_shows Free z stop past shown seen cells session db pen e h = absurd (cc)
 idle_shows Held z stop past shown seen cells session db pen e h = h.shown_is
 idle_shows Headed z stop past shown seen cells session db pen e h = h.idle.shown_is

@@ -7,12 +7,12 @@ use Rattle.std.proofs.lemmas.Bool.Decides.{nat_tests}
 use mathlib.Core.Option.{some, none}
 use lib.ListN.{get_elem?}
 use Rattle.atomic_table.specs.Table.{Me, Allows, step}
-use Rattle.pgn_model.specs.declared.tx.Tx.{Tx}
-use Rattle.pgn_model.specs.declared.known.Advance.{Advance}
-use Rattle.pgn_model.specs.Journal.{next_xid}
-use Rattle.pgn_model.specs.Packing.{page_of, page_start, image}
-use Rattle.pgn_model.specs.Shape.{Shape, IsShape, notes_of_seats}
-use Rattle.pgn_model.proofs.PackingLemmas.{last_place}
+use Rattle.pgn_journal.specs.declared.tx.Tx.{Tx}
+use Rattle.pgn_hub.specs.declared.known.Advance.{Advance}
+use Rattle.pgn_journal.specs.Journal.{next_xid}
+use Rattle.pgn_journal.specs.Packing.{page_of, page_start, image}
+use Rattle.pgn_hub.specs.Shape.{Shape, IsShape, notes_of_seats}
+use Rattle.pgn_journal.proofs.PackingLemmas.{last_place}
 use Rattle.pgn_words.specs.declared.pos_word.PosWord.{PosWord}
 use Rattle.pgn_words.specs.declared.view.View.{View}
 use Rattle.pgn_words.specs.declared.view.Eye.{Eye}
@@ -149,7 +149,7 @@ first_least z c g views id v seat shape h here held setup seen may true e =
     head_low z c g views h =
         let low = h.stored.low in
         let headed = h.stored.headed in
-        let more = Rattle.pgn_model.proofs.BeginsLaws.begins-shorter (image z.format g.past) (image z.format g.shown) (Rattle.pgn_model.proofs.DraftLaws.longer_agrees.images z.format g.past g.shown h.history.begins) in
+        let more = Rattle.pgn_journal.proofs.BeginsLaws.begins-shorter (image z.format g.past) (image z.format g.shown) (Rattle.pgn_journal.proofs.DraftLaws.longer_agrees.images z.format g.past g.shown h.history.begins) in
         omega (arith, low, headed, more)
 first_least z c g views id v seat shape h here held setup seen may false e =
     ⊎_elim

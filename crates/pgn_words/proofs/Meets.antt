@@ -3,7 +3,7 @@ use Rattle.std.proofs.Common.{◌≡◌, ℕ, List, get_or, set, sym, ap, ◌∙
 use mathlib.Core.Option.{some}
 use lib.ListN.{get_elem?}
 use Rattle.atomic_table.specs.Table.{Me, Allows, keeps}
-use Rattle.pgn_model.specs.Shape.{Shape, IsShape}
+use Rattle.pgn_hub.specs.Shape.{Shape, IsShape}
 use Rattle.pgn_words.specs.declared.view.View.{View}
 use Rattle.pgn_words.specs.Words.{Content, row}
 use Rattle.pgn_words.specs.Rule.{World, Law, Lawful}

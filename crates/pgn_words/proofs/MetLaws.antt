@@ -7,11 +7,11 @@ use mathlib.Core.Option.{some}
 use lib.ListN.{get_elem?}
 use native.Mathlib.Decide.{ℕ_discrete, dec_le}
 use Rattle.pgn_base.specs.declared.format.Format.{Format}
-use Rattle.pgn_model.specs.declared.tx.Tx.{Tx}
-use Rattle.pgn_model.specs.Journal.{next_xid}
-use Rattle.pgn_model.specs.Packing.{place}
-use Rattle.pgn_model.specs.Shape.{Shape}
-use Rattle.pgn_model.proofs.PackingLemmas.{place_grows}
+use Rattle.pgn_journal.specs.declared.tx.Tx.{Tx}
+use Rattle.pgn_journal.specs.Journal.{next_xid}
+use Rattle.pgn_journal.specs.Packing.{place}
+use Rattle.pgn_hub.specs.Shape.{Shape}
+use Rattle.pgn_journal.proofs.PackingLemmas.{place_grows}
 use Rattle.pgn_words.specs.declared.pos_word.PosWord.{PosWord}
 use Rattle.pgn_words.specs.declared.pos_word.PosWord.TheVariants as words
 use Rattle.pgn_words.specs.declared.view.View.{View}

@@ -7,14 +7,14 @@ use Rattle.std.proofs.lemmas.Option.{none-some, same_Some}
 use Rattle.std.proofs.lemmas.Bool.Decides.{nat_tests}
 use native.Mathlib.Decide.{ℕ_discrete}
 use Rattle.pgn_base.specs.declared.format.Format.{Format}
-use Rattle.pgn_model.specs.declared.tx.Tx.{Tx}
-use Rattle.pgn_model.specs.declared.tx.Fate.{Fate}
-use Rattle.pgn_model.specs.declared.tx.Fate.TheVariants.{Committed, Aborted}
-use Rattle.pgn_model.specs.Journal.{next_xid, is_committed, is_committed_in, IsQueued, IsFinished}
-use Rattle.pgn_model.specs.Packing.{page_of, place}
-use Rattle.pgn_model.specs.Near.{Near}
-use Rattle.pgn_model.proofs.PackingLemmas.{place_grows, place_rises}
-use Rattle.pgn_model.proofs.NearLaws.{near-grows, near-itself}
+use Rattle.pgn_journal.specs.declared.tx.Tx.{Tx}
+use Rattle.pgn_journal.specs.declared.tx.Fate.{Fate}
+use Rattle.pgn_journal.specs.declared.tx.Fate.TheVariants.{Committed, Aborted}
+use Rattle.pgn_journal.specs.Journal.{next_xid, is_committed, is_committed_in, IsQueued, IsFinished}
+use Rattle.pgn_journal.specs.Packing.{page_of, place}
+use Rattle.pgn_journal.specs.Near.{Near}
+use Rattle.pgn_journal.proofs.PackingLemmas.{place_grows, place_rises}
+use Rattle.pgn_journal.proofs.NearLaws.{near-grows, near-itself}
 use Rattle.pgn_words.specs.WakeRule.{served, IsHeeded}
 use Rattle.pgn_words.proofs.LockKept.{some_of}
 

@@ -9,11 +9,11 @@ use lib.ListN.{get_elem?}
 use native.Mathlib.Decide.{dec_le}
 use Rattle.atomic_table.specs.Table.{Splits, Joins}
 use Rattle.atomic_table.proofs.Lists.{at_longer, set_again, set_else}
-use Rattle.pgn_model.specs.declared.tx.Tx.{Tx}
-use Rattle.pgn_model.specs.Begins.{Begins}
-use Rattle.pgn_model.proofs.BeginsLaws.{begins-none, begins-rest, begins-alike}
-use Rattle.pgn_model.specs.Journal.{next_xid, xids_from, xids_of}
-use Rattle.pgn_model.specs.Shape.{Shape}
+use Rattle.pgn_journal.specs.declared.tx.Tx.{Tx}
+use Rattle.pgn_journal.specs.Begins.{Begins}
+use Rattle.pgn_journal.proofs.BeginsLaws.{begins-none, begins-rest, begins-alike}
+use Rattle.pgn_journal.specs.Journal.{next_xid, xids_from, xids_of}
+use Rattle.pgn_hub.specs.Shape.{Shape}
 use Rattle.pgn_words.specs.declared.view.View.{View}
 use Rattle.pgn_words.specs.Words.{Content, room_of}
 use Rattle.pgn_words.specs.Views.{holds_lock, spent_by}

@@ -1,19 +1,18 @@
 -- The words of an empty queue, with one pass, meet the rule.
 use Rattle.std.specs.Prelude.{Contains}
-use Rattle.std.proofs.Common.{◌≡◌, ◌≢◌, inl, true, false, All, ℕ, zero, suc, ◌+◌, ◌*◌, ◌%◌, ◌^◌, ◌<◌, ◌≤◌, List, [], ◌∷◌, ◌++◌, length, get_or, set, drop, replicate, sum_by, sym, refl, ap, ◌∙◌, subst, arith}
+use Rattle.std.proofs.Common.{◌≡◌, ◌≢◌, inl, true, false, All, ℕ, zero, suc, ◌+◌, ◌*◌, ◌%◌, ◌^◌, ◌<◌, ◌≤◌, List, [], ◌∷◌, ◌++◌, length, get_or, set, drop, replicate, sum_by, sym, refl, ap, ◌∙◌, subst, arith, Some}
 use Rattle.std.proofs.lemmas.List.{length-replicate, replicate-append-replicate}
 use Rattle.std.proofs.lemmas.List.Elements.{All-nil}
 use Rattle.std.proofs.lemmas.List.Sums.{sum_by-cons}
 use Rattle.std.proofs.lemmas.Option.{none-some}
-use Rattle.std.proofs.Common.{Some}
 use Rattle.atomic_table.specs.Table.{opening}
-use Rattle.pgn_model.specs.Begins.{Begins}
-use Rattle.pgn_model.proofs.BeginsLaws.{begins-none}
-use Rattle.pgn_model.specs.Journal.{next_xid, xids_of, IsFinished}
-use Rattle.pgn_model.specs.Packing.{image, image_from}
-use Rattle.pgn_model.specs.Pieces.{IsWritten}
-use Rattle.pgn_model.specs.Shape.{Shape, IsShape}
-use Rattle.pgn_model.proofs.PackingLemmas.{first_place}
+use Rattle.pgn_journal.specs.Begins.{Begins}
+use Rattle.pgn_journal.proofs.BeginsLaws.{begins-none}
+use Rattle.pgn_journal.specs.Journal.{next_xid, xids_of, IsFinished}
+use Rattle.pgn_journal.specs.Packing.{image, image_from}
+use Rattle.pgn_journal.specs.Pieces.{IsWritten}
+use Rattle.pgn_hub.specs.Shape.{Shape, IsShape}
+use Rattle.pgn_journal.proofs.PackingLemmas.{first_place}
 use Rattle.pgn_words.specs.Words.{row, seats_of, status_words, room_of, word_count, first_content}
 use Rattle.pgn_words.specs.Views.{first_view, seat_of, spent_by}
 use Rattle.pgn_words.specs.declared.view.Listen.TheVariants.{Registered}

@@ -1,7 +1,7 @@
 -- The words of a kind of which there are many, read and written among all words.
 use Rattle.std.proofs.Common.{◌≡◌, ℕ, suc, ◌+◌, ◌-◌, ◌∷◌, List, ◌++◌, length, get_or, set, refl, ap, ◌∙◌, arith, length-append, ◌<◌}
 use Rattle.std.proofs.lemmas.List.{set-append_left, get_or_append_left, set-append_right, get_or-append-add}
-use Rattle.pgn_model.specs.Shape.{Shape}
+use Rattle.pgn_hub.specs.Shape.{Shape}
 use Rattle.pgn_words.specs.Words.{Content, row, pos_at, wakes_at, flags_at, cells_at, statuses_at}
 use Rattle.pgn_words.specs.Rule.{Laid}
 

@@ -1,7 +1,7 @@
 -- Proofs of what follows from the rule.
 use Rattle.std.proofs.Common.{◌≡◌, ⊎_elim, true≢false, sym, ap, ◌∙◌, arith}
-use Rattle.pgn_model.proofs.NearLaws.{near-shrinks}
-use Rattle.pgn_model.specs.Journal.{is_committed_in}
+use Rattle.pgn_journal.proofs.NearLaws.{near-shrinks}
+use Rattle.pgn_journal.specs.Journal.{is_committed_in}
 use Rattle.pgn_words.specs.Views.{knows_stop}
 use Rattle.pgn_words.specs.WakeRule.{served}
 use Rattle.pgn_words.specs.Laws.{WalksReadTheJournal, PagesAreSpared, NoWakeIsLost, FlagsAreHeard, ToldIsHeard}

@@ -6,13 +6,13 @@ use lib.ListN.{get_elem?}
 use native.Mathlib.Decide.{ℕ_discrete}
 use Rattle.atomic_table.specs.Table.{Me, Allows, step}
 use Rattle.atomic_table.proofs.Lists.{set_again}
-use Rattle.pgn_model.specs.declared.tx.Tx.{Tx}
-use Rattle.pgn_model.specs.declared.tx.Fate.{Fate}
-use Rattle.pgn_model.specs.Begins.{Begins}
-use Rattle.pgn_model.proofs.BeginsLaws.{begins-itself, begins-holds, begins-rest, begins-shorter}
-use Rattle.pgn_model.specs.Journal.{next_xid, entry, xids_of}
-use Rattle.pgn_model.specs.Packing.{page_start, image}
-use Rattle.pgn_model.specs.Shape.{Shape, notes_of_seats}
+use Rattle.pgn_journal.specs.declared.tx.Tx.{Tx}
+use Rattle.pgn_journal.specs.declared.tx.Fate.{Fate}
+use Rattle.pgn_journal.specs.Begins.{Begins}
+use Rattle.pgn_journal.proofs.BeginsLaws.{begins-itself, begins-holds, begins-rest, begins-shorter}
+use Rattle.pgn_journal.specs.Journal.{next_xid, entry, xids_of}
+use Rattle.pgn_journal.specs.Packing.{page_start, image}
+use Rattle.pgn_hub.specs.Shape.{Shape, notes_of_seats}
 use Rattle.pgn_layout.specs.Status.{status_word, status_in, status_set, status_code}
 use Rattle.pgn_layout.proofs.StatusLaws.{set_is_read, others_stay}
 use Rattle.pgn_words.specs.declared.view.View.{View}

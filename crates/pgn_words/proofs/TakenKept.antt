@@ -6,11 +6,11 @@ use mathlib.Core.Option.{some, some-injective}
 use lib.ListN.{get_elem?}
 use Rattle.atomic_table.specs.Table.{Joins}
 use Rattle.atomic_table.proofs.Lists.{set_else}
-use Rattle.pgn_model.specs.declared.known.Known.{Known}
-use Rattle.pgn_model.specs.Begins.{Begins}
-use Rattle.pgn_model.proofs.BeginsLaws.{begins-none}
-use Rattle.pgn_model.specs.Journal.{next_xid, xids_of}
-use Rattle.pgn_model.specs.Shape.{Shape}
+use Rattle.pgn_hub.specs.declared.known.Known.{Known}
+use Rattle.pgn_journal.specs.Begins.{Begins}
+use Rattle.pgn_journal.proofs.BeginsLaws.{begins-none}
+use Rattle.pgn_journal.specs.Journal.{next_xid, xids_of}
+use Rattle.pgn_hub.specs.Shape.{Shape}
 use Rattle.pgn_words.specs.declared.view.View.{View}
 use Rattle.pgn_words.specs.declared.view.Phase.TheVariants.{Free}
 use Rattle.pgn_words.specs.declared.view.Listen.{Listen}

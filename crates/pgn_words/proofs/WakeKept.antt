@@ -7,14 +7,14 @@ use native.Mathlib.Decide.{ℕ_discrete}
 use Rattle.atomic_table.specs.Table.{Me, Allows, step}
 use Rattle.pgn_base.specs.declared.format.Format.{Format}
 use Rattle.pgn_lanes.specs.Behind.{is_woken}
-use Rattle.pgn_model.specs.declared.tx.Tx.{Tx}
-use Rattle.pgn_model.proofs.BeginsLaws.{begins-itself, begins-shorter}
-use Rattle.pgn_model.specs.Journal.{next_xid, is_committed_in, IsFinished}
-use Rattle.pgn_model.specs.Near.{Near}
-use Rattle.pgn_model.proofs.NearLaws.{near-shrinks}
-use Rattle.pgn_model.specs.Packing.{page_start, place, image}
-use Rattle.pgn_model.specs.Shape.{Shape}
-use Rattle.pgn_model.proofs.PackingLemmas.{place_grows, last_place}
+use Rattle.pgn_journal.specs.declared.tx.Tx.{Tx}
+use Rattle.pgn_journal.proofs.BeginsLaws.{begins-itself, begins-shorter}
+use Rattle.pgn_journal.specs.Journal.{next_xid, is_committed_in, IsFinished}
+use Rattle.pgn_journal.specs.Near.{Near}
+use Rattle.pgn_journal.proofs.NearLaws.{near-shrinks}
+use Rattle.pgn_journal.specs.Packing.{page_start, place, image}
+use Rattle.pgn_hub.specs.Shape.{Shape}
+use Rattle.pgn_journal.proofs.PackingLemmas.{place_grows, last_place}
 use Rattle.pgn_words.specs.declared.pos_word.PosWord.{PosWord}
 use Rattle.pgn_words.specs.declared.view.View.{View}
 use Rattle.pgn_words.specs.declared.view.Listen.{Listen}

@@ -7,13 +7,13 @@ use lib.ListN.{get_elem?}
 use Rattle.atomic_table.specs.Table.{Me, Allows, step}
 use Rattle.atomic_table.proofs.Lists.{set_again}
 use Rattle.pgn_base.specs.declared.format.Format.{Format}
-use Rattle.pgn_model.specs.declared.tx.Tx.{Tx}
-use Rattle.pgn_model.proofs.BeginsLaws.{begins-itself, begins-on, begins-rest, begins-shorter}
-use Rattle.pgn_model.specs.Journal.{next_xid}
-use Rattle.pgn_model.specs.Packing.{page_start, place, image}
-use Rattle.pgn_model.specs.Shape.{Shape, IsShape, notes_of_seats}
-use Rattle.pgn_model.proofs.PackingLemmas.{place_grows, last_place}
-use Rattle.pgn_model.proofs.DraftLaws.{longer_agrees}
+use Rattle.pgn_journal.specs.declared.tx.Tx.{Tx}
+use Rattle.pgn_journal.proofs.BeginsLaws.{begins-itself, begins-on, begins-rest, begins-shorter}
+use Rattle.pgn_journal.specs.Journal.{next_xid}
+use Rattle.pgn_journal.specs.Packing.{page_start, place, image}
+use Rattle.pgn_hub.specs.Shape.{Shape, IsShape, notes_of_seats}
+use Rattle.pgn_journal.proofs.PackingLemmas.{place_grows, last_place}
+use Rattle.pgn_journal.proofs.DraftLaws.{longer_agrees}
 use Rattle.pgn_words.specs.declared.view.View.{View}
 use Rattle.pgn_words.specs.declared.view.Post.{Post}
 use Rattle.pgn_words.specs.declared.view.Walk.{Walk}

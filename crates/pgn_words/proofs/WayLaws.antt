@@ -5,15 +5,15 @@ use Rattle.std.proofs.lemmas.List.Elements.{All-head, All-drop}
 use Rattle.std.proofs.lemmas.Option.{slice_get_within, get_or_from_slice_get, slice_get_read, slice_get-get_or}
 use Rattle.pgn_base.specs.declared.format.Format.{Format}
 use Rattle.pgn_base.specs.declared.format.Format.TheVariants.{One}
-use Rattle.pgn_model.specs.declared.tx.Tx.{Tx}
-use Rattle.pgn_model.specs.Begins.{Begins}
-use Rattle.pgn_model.specs.Journal.{next_xid}
-use Rattle.pgn_model.specs.Packing.{page_start, filled_cells, page_rest, entry_cells, image, place}
-use Rattle.pgn_model.specs.Pieces.{Piece, piece_bytes, number_of, lay, pieces_from, IsNumbered, IsReadable, IsWritten}
-use Rattle.pgn_model.proofs.BeginsLaws.{begins-continued, begins-holds, begins-shorter}
-use Rattle.pgn_model.proofs.DraftLaws.{longer_agrees}
-use Rattle.pgn_model.proofs.PackingLemmas.{room_place, place_grows, last_place}
-use Rattle.pgn_model.proofs.PieceLaws.{image_drops, image_is_laid, pieces_are_numbered, pieces_are_readable, next_cells}
+use Rattle.pgn_journal.specs.declared.tx.Tx.{Tx}
+use Rattle.pgn_journal.specs.Begins.{Begins}
+use Rattle.pgn_journal.specs.Journal.{next_xid}
+use Rattle.pgn_journal.specs.Packing.{page_start, filled_cells, page_rest, entry_cells, image, place}
+use Rattle.pgn_journal.specs.Pieces.{Piece, piece_bytes, number_of, lay, pieces_from, IsNumbered, IsReadable, IsWritten}
+use Rattle.pgn_journal.proofs.BeginsLaws.{begins-continued, begins-holds, begins-shorter}
+use Rattle.pgn_journal.proofs.DraftLaws.{longer_agrees}
+use Rattle.pgn_journal.proofs.PackingLemmas.{room_place, place_grows, last_place}
+use Rattle.pgn_journal.proofs.PieceLaws.{image_drops, image_is_laid, pieces_are_numbered, pieces_are_readable, next_cells}
 use Rattle.pgn_words.specs.Views.{is_walking}
 use Rattle.pgn_words.specs.Positions.{is_placed}
 use Rattle.pgn_words.specs.Laws.{WalksReadTheFinished, WalksEndInTime}

@@ -1,6 +1,6 @@
 -- The end of the queue: one pass takes in the others.
 use Rattle.std.specs.Prelude.{None, [], ◌∷◌, ◌++◌}
-use Rattle.pgn_model.specs.declared.known.Known.{Known}
+use Rattle.pgn_hub.specs.declared.known.Known.{Known}
 use Rattle.pgn_words.specs.declared.view.View.{View}
 
 -- one pass has taken in another, which is free and no listener: what was known of it is kept

@@ -1,11 +1,11 @@
 -- Small cases that the rule refuses, and what the tests' writers do.
 use Rattle.std.specs.Prelude.{◌≡◌, ℕ, [], ◌∷◌, length, All}
 use Rattle.pgn_base.specs.Notes.{IsNote}
-use Rattle.pgn_model.specs.declared.tx.Fate.TheVariants.{Committed}
-use Rattle.pgn_model.specs.Journal.{next_xid}
-use Rattle.pgn_model.specs.Packing.{image}
-use Rattle.pgn_model.specs.Pieces.{draft}
-use Rattle.pgn_model.specs.examples.Packing.{virtual_note}
+use Rattle.pgn_journal.specs.declared.tx.Fate.TheVariants.{Committed}
+use Rattle.pgn_journal.specs.Journal.{next_xid}
+use Rattle.pgn_journal.specs.Packing.{image}
+use Rattle.pgn_journal.specs.Pieces.{draft}
+use Rattle.pgn_journal.specs.examples.Packing.{virtual_note}
 use Rattle.pgn_hub.specs.Passes.{opened_pass}
 use Rattle.pgn_words.specs.declared.view.View.{View}
 use Rattle.pgn_words.specs.declared.view.Listen.TheVariants.{Registered}

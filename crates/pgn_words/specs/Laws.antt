@@ -3,10 +3,10 @@ use Rattle.std.specs.Prelude.{◌≡◌, ◌≢◌, ℕ, ◌+◌, ◌%◌, ◌<�
 use mathlib.Core.Option.{some}
 use lib.ListN.{get_elem?}
 use Rattle.pgn_base.specs.declared.format.Format.TheVariants.{One}
-use Rattle.pgn_model.specs.Journal.{is_committed_in}
-use Rattle.pgn_model.specs.Near.{Near}
-use Rattle.pgn_model.specs.Packing.{page_of, place, image}
-use Rattle.pgn_model.specs.Shape.{Shape, IsShape}
+use Rattle.pgn_journal.specs.Journal.{is_committed_in}
+use Rattle.pgn_journal.specs.Near.{Near}
+use Rattle.pgn_journal.specs.Packing.{page_of, place, image}
+use Rattle.pgn_hub.specs.Shape.{Shape, IsShape}
 use Rattle.pgn_words.specs.declared.view.View.{View}
 use Rattle.pgn_words.specs.declared.view.Listen.TheVariants.{Registered}
 use Rattle.pgn_words.specs.declared.view.Phase.TheVariants.{Open}

@@ -1,12 +1,12 @@
 -- Listeners: what each of their steps makes of the pass, and what it tells.
 use Rattle.std.specs.Prelude.{◌≡◌, ℕ, ◌+◌, ◌%◌, ◌^◌, ◌<◌, ◌≤◌, List, [], ◌∷◌, ◌++◌, length, slice_get, Some, None, All, true, false}
 use Rattle.atomic_table.specs.Table.{Step}
-use Rattle.pgn_model.specs.declared.tx.Tx.{Tx}
-use Rattle.pgn_model.specs.Begins.{Begins}
-use Rattle.pgn_model.specs.Journal.{next_xid, IsFinished}
-use Rattle.pgn_model.specs.Packing.{image}
-use Rattle.pgn_model.specs.Pieces.{IsWritten}
-use Rattle.pgn_model.specs.Shape.{notes_of_seats}
+use Rattle.pgn_journal.specs.declared.tx.Tx.{Tx}
+use Rattle.pgn_journal.specs.Begins.{Begins}
+use Rattle.pgn_journal.specs.Journal.{next_xid, IsFinished}
+use Rattle.pgn_journal.specs.Packing.{image}
+use Rattle.pgn_journal.specs.Pieces.{IsWritten}
+use Rattle.pgn_hub.specs.Shape.{notes_of_seats}
 use Rattle.pgn_words.specs.declared.view.View.{View}
 use Rattle.pgn_words.specs.declared.view.Listen.TheVariants.{Out, Joining, Based, Registered}
 use Rattle.pgn_words.specs.declared.view.Stage.TheVariants.{Still, Begun, Shown}

@@ -7,13 +7,13 @@ use Rattle.atomic_table.specs.Table.{State}
 use Rattle.pgn_base.specs.declared.format.Format.{Format}
 use Rattle.pgn_base.specs.declared.limits.TheConstants.{FIRST_XID}
 use Rattle.pgn_base.specs.Notes.{IsNote}
-use Rattle.pgn_model.specs.declared.tx.Tx.{Tx}
-use Rattle.pgn_model.specs.Begins.{Begins}
+use Rattle.pgn_journal.specs.declared.tx.Tx.{Tx}
+use Rattle.pgn_journal.specs.Begins.{Begins}
 use Rattle.pgn_layout.specs.Status.{status_word, status_in, status_code}
-use Rattle.pgn_model.specs.Journal.{next_xid, entry, xids_of, IsFinished}
-use Rattle.pgn_model.specs.Packing.{page_start, image}
-use Rattle.pgn_model.specs.Pieces.{IsWritten}
-use Rattle.pgn_model.specs.Shape.{Shape, IsShape, notes_of_seats}
+use Rattle.pgn_journal.specs.Journal.{next_xid, entry, xids_of, IsFinished}
+use Rattle.pgn_journal.specs.Packing.{page_start, image}
+use Rattle.pgn_journal.specs.Pieces.{IsWritten}
+use Rattle.pgn_hub.specs.Shape.{Shape, IsShape, notes_of_seats}
 use Rattle.pgn_words.specs.declared.view.View.{View}
 use Rattle.pgn_words.specs.declared.view.Pen.{Pen}
 use Rattle.pgn_words.specs.declared.view.Phase.{Phase}

@@ -2,15 +2,15 @@
 use Rattle.std.specs.Prelude.{◌≡◌, ◌≢◌, ℕ, ◌+◌, ◌-◌, ◌%◌, ◌^◌, ◌<◌, ◌≤◌, List, [], ◌∷◌, ◌++◌, length, replicate, slice_get, Some, All, None, true, unwrap_or, drop, cond, max}
 use Rattle.atomic_table.specs.Table.{Step, Me}
 use Rattle.pgn_base.specs.declared.note.Note.{Note}
-use Rattle.pgn_model.specs.declared.tx.Tx.{Tx}
-use Rattle.pgn_model.specs.declared.tx.Fate.{Fate}
-use Rattle.pgn_model.specs.declared.tx.Fate.TheVariants.{Committed, Aborted}
+use Rattle.pgn_journal.specs.declared.tx.Tx.{Tx}
+use Rattle.pgn_journal.specs.declared.tx.Fate.{Fate}
+use Rattle.pgn_journal.specs.declared.tx.Fate.TheVariants.{Committed, Aborted}
 use Rattle.pgn_layout.specs.Status.{status_word, status_in, status_code}
 use Rattle.pgn_base.specs.declared.limits.TheConstants.{FIRST_XID}
-use Rattle.pgn_model.specs.Journal.{next_xid, entry, IsFinished}
-use Rattle.pgn_model.specs.Packing.{page_of, page_start, image}
-use Rattle.pgn_model.specs.Pieces.{draft}
-use Rattle.pgn_model.specs.Shape.{notes_of_seats}
+use Rattle.pgn_journal.specs.Journal.{next_xid, entry, IsFinished}
+use Rattle.pgn_journal.specs.Packing.{page_of, page_start, image}
+use Rattle.pgn_journal.specs.Pieces.{draft}
+use Rattle.pgn_hub.specs.Shape.{notes_of_seats}
 use Rattle.pgn_layout.specs.Batches.{padded_to}
 use Rattle.pgn_hub.specs.Passes.{opened_pass}
 use Rattle.pgn_words.specs.declared.view.View.{View}

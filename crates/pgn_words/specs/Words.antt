@@ -1,8 +1,8 @@
 -- The words of the queue, by name, and where each stands among the words.
 use Rattle.std.specs.Prelude.{ℕ, ◌+◌, ◌*◌, ◌/◌, ◌^◌, max, List, ◌∷◌, ◌++◌, length, replicate}
 use Rattle.pgn_base.specs.declared.limits.TheConstants.{FIRST_XID}
-use Rattle.pgn_model.specs.Shape.{Shape, notes_of_seats}
-use Rattle.pgn_model.specs.Packing.{page_cells}
+use Rattle.pgn_hub.specs.Shape.{Shape, notes_of_seats}
+use Rattle.pgn_journal.specs.Packing.{page_cells}
 
 -- what the words hold. Positions and wakes have a word for each seat
 pub record Content : Type 0 where

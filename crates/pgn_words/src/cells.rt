@@ -1,5 +1,5 @@
 ghost use Rattle.std.specs.Prelude.{◌≡◌, ℕ, ◌+◌, ◌%◌, ◌^◌, ◌<◌, ◌≤◌, true, length, slice_get, Some};
-ghost use Rattle.pgn_model.specs.Packing.{page_of, page_start, image};
+ghost use Rattle.pgn_journal.specs.Packing.{page_of, page_start, image};
 ghost use Rattle.pgn_words.specs.Words.{cells_at, room_of, word_count};
 ghost use Rattle.pgn_words.specs.Passes.{IsPassOf, view_of, known_of, shape_of};
 ghost use Rattle.pgn_words.specs.Views.{knows_cells, stored_by};

@@ -10,7 +10,7 @@ use crate::pass::{WordPass, WordQueue};
 use crate::plays::JoinPass;
 use crate::words::FIN;
 use pgn_base::FIRST_XID;
-use pgn_model::Roll;
+use pgn_hub::Roll;
 
 impl WordQueue {
     // Takes another pass in, which is no listener.

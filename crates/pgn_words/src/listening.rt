@@ -1,5 +1,5 @@
 ghost use Rattle.std.specs.Prelude.{◌≡◌, ◌+◌, ◌^◌, ◌<◌};
-ghost use Rattle.pgn_model.specs.Packing.{place};
+ghost use Rattle.pgn_journal.specs.Packing.{place};
 ghost use Rattle.pgn_words.specs.Words.{pos_at};
 ghost use Rattle.pgn_words.specs.Passes.{IsPassOf, view_of, known_of, shape_of};
 ghost use Rattle.pgn_words.specs.Listening.{joining, HasBase, registered, forwarded, left};

@@ -1,7 +1,7 @@
 ghost use Rattle.std.specs.Prelude.{◌≡◌, ◌≢◌, ◌≤◌, ◌<◌, [], length, All, AllPairs};
 ghost use Rattle.pgn_base.specs.Notes.{IsNote};
-ghost use Rattle.pgn_model.specs.Journal.{next_xid};
-ghost use Rattle.pgn_model.specs.Shape.{notes_of_seats};
+ghost use Rattle.pgn_journal.specs.Journal.{next_xid};
+ghost use Rattle.pgn_hub.specs.Shape.{notes_of_seats};
 ghost use Rattle.pgn_words.specs.Passes.{IsPassOf, view_of, known_of, shape_of};
 ghost use Rattle.pgn_words.specs.Told.{drawn};
 ghost use Rattle.pgn_words.specs.declared.view.Phase.TheVariants as phases;

@@ -1,6 +1,6 @@
 ghost use Rattle.std.specs.Prelude.{◌≡◌, ◌+◌, ◌<◌, ◌≤◌, map, length, All, IfOk};
 ghost use Rattle.pgn_base.specs.declared.limits.TheConstants.{NOTE_LINES_MAX};
-ghost use Rattle.pgn_model.specs.Shape.{notes_of_seats};
+ghost use Rattle.pgn_hub.specs.Shape.{notes_of_seats};
 ghost use Rattle.pgn_hub.specs.Passes.{opened_passes};
 ghost use Rattle.pgn_words.specs.Words.{cells_at, statuses_at, status_words, row, first_content};
 ghost use Rattle.pgn_words.specs.Views.{seat_of, first_view};
@@ -13,7 +13,7 @@ use crate::words::{FIN, POSITIONS, STATUSES_A_WORD, TAIL, XID};
 use atomic_table::Table;
 use pgn_base::{CELL_BYTES, FIRST_XID, PAGE_BYTES, SessionNo, Xid};
 use pgn_layout::Pos;
-use pgn_model::{SeatSetup, Setup};
+use pgn_hub::{SeatSetup, Setup};
 use std::alloc::{AllocError, Global};
 
 // How many notifications all sessions may send.

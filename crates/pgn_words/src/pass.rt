@@ -1,12 +1,12 @@
 ghost use Rattle.std.specs.Prelude.{◌≡◌};
-ghost use Rattle.pgn_model.specs.Shape.{IsShape};
+ghost use Rattle.pgn_hub.specs.Shape.{IsShape};
 ghost use Rattle.pgn_words.specs.Words.{word_count, cells_at as first_cell, wakes_at as first_wake, flags_at as first_flag, statuses_at as first_status};
 
 use crate::view::View;
 use atomic_table::{Seat, Table, TableRule};
 use pgn_base::{DbOid, SessionNo, Xid};
 use pgn_layout::Pos;
-use pgn_model::Setup;
+use pgn_hub::Setup;
 use std::alloc::Global;
 
 /// The rule that every step keeps.

@@ -4,7 +4,7 @@ ghost use Rattle.pgn_words.specs.Passes.{known_of, view_of};
 use crate::pass::WordPass;
 use pgn_base::{DbOid, SessionNo, Xid};
 use pgn_layout::Pos;
-use pgn_model::PassView;
+use pgn_hub::PassView;
 
 impl PassView for WordPass {
     ghost use Rattle.pgn_words.specs.Passes.{known_of};

@@ -83,7 +83,7 @@ impl Split<View> for MakePass {
 
 // The transaction as it ends. It is no operand of the step, so the caller gives it to the proof.
 pub(crate) trait Ending {
-    ghost use Rattle.pgn_model.specs.declared.tx.Tx.{Tx};
+    ghost use Rattle.pgn_journal.specs.declared.tx.Tx.{Tx};
 
     ghost tx: { Tx };
 }

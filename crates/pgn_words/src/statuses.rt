@@ -1,9 +1,9 @@
 ghost use Rattle.std.specs.Prelude.{◌≡◌, ◌+◌, ◌<◌, ◌≤◌, Some, length};
 ghost use Rattle.pgn_base.specs.declared.limits.TheConstants.{FIRST_XID};
-ghost use Rattle.pgn_model.specs.declared.tx.Tx.{Tx};
-ghost use Rattle.pgn_model.specs.Journal.{next_xid, entry};
-ghost use Rattle.pgn_model.specs.Pieces.{draft};
-ghost use Rattle.pgn_model.specs.Shape.{notes_of_seats};
+ghost use Rattle.pgn_journal.specs.declared.tx.Tx.{Tx};
+ghost use Rattle.pgn_journal.specs.Journal.{next_xid, entry};
+ghost use Rattle.pgn_journal.specs.Pieces.{draft};
+ghost use Rattle.pgn_hub.specs.Shape.{notes_of_seats};
 ghost use Rattle.pgn_layout.specs.Status.{status_word};
 ghost use Rattle.pgn_words.specs.Words.{statuses_at as first_status, word_count};
 ghost use Rattle.pgn_words.specs.Passes.{IsPassOf, view_of, known_of, shape_of};
@@ -15,7 +15,7 @@ use crate::plays::{Ending, LoadFin, LoadStatus, SetStatus, StoreFin};
 use crate::words::{FIN, STATUSES_A_WORD};
 use pgn_base::{FIRST_XID, Xid};
 use pgn_layout::{status_bits, status_of};
-use pgn_model::Fate;
+use pgn_journal::Fate;
 use std::marker::Brand;
 
 impl WordQueue {

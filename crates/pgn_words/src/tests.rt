@@ -1,9 +1,9 @@
 ghost use Rattle.std.specs.Prelude.{◌≡◌, ◌^◌, ◌<◌, length, All, IfOk, IfSome, []};
 ghost use Rattle.pgn_base.specs.Notes.{IsNote};
 ghost use Rattle.pgn_base.specs.declared.format.Format.TheVariants.{One};
-ghost use Rattle.pgn_model.specs.Journal.{next_xid};
-ghost use Rattle.pgn_model.specs.Packing.{image};
-ghost use Rattle.pgn_model.specs.Shape.{notes_of_seats};
+ghost use Rattle.pgn_journal.specs.Journal.{next_xid};
+ghost use Rattle.pgn_journal.specs.Packing.{image};
+ghost use Rattle.pgn_hub.specs.Shape.{notes_of_seats};
 ghost use Rattle.pgn_words.specs.Passes.{IsPassOf, IsFresh, view_of, known_of, shape_of};
 ghost use Rattle.pgn_words.specs.Told.{drawn};
 ghost use Rattle.pgn_words.specs.declared.view.Listen.TheVariants as listens;
@@ -12,7 +12,7 @@ ghost use Rattle.pgn_words.specs.declared.view.Phase.TheVariants as phases;
 use super::*;
 use pgn_base::{DbOid, Name, Note, Payload, SessionNo, Xid, are_notes};
 use pgn_layout::Pos;
-use pgn_model::{PassView, SeatSetup, Setup};
+use pgn_hub::{PassView, SeatSetup, Setup};
 use std::alloc::Global;
 use std::test::Fail;
 

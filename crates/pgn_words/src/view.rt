@@ -1,5 +1,6 @@
 use pgn_base::Note;
-use pgn_model::{Known, Setup, Tx};
+use pgn_hub::{Known, Setup};
+use pgn_journal::Tx;
 use std::collections::LinkedList;
 
 /// What a pass is doing as a writer.

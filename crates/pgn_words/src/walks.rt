@@ -1,5 +1,5 @@
 ghost use Rattle.std.specs.Prelude.{◌≡◌, ℕ, ◌≤◌, true, slice_get, Some};
-ghost use Rattle.pgn_model.specs.Packing.{image};
+ghost use Rattle.pgn_journal.specs.Packing.{image};
 ghost use Rattle.pgn_words.specs.Views.{is_walking};
 ghost use Rattle.pgn_words.specs.Passes.{IsPassOf, view_of, shape_of};
 ghost use Rattle.pgn_words.specs.Listening.{HasBegun, HasShown};

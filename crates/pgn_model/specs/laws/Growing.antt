@@ -1,9 +1,9 @@
 -- Laws of a trace as the journal grows: what holds of it over a journal holds over a longer one.
 use Rattle.std.specs.Prelude.{ℕ, ◌≤◌, List, ◌++◌, IfSome, All}
-use Rattle.pgn_model.specs.declared.tx.Tx.{Tx}
+use Rattle.pgn_journal.specs.declared.tx.Tx.{Tx}
 use Rattle.pgn_model.specs.declared.item.Item.{Item}
 use Rattle.pgn_model.specs.declared.trace.Trace.{Trace}
-use Rattle.pgn_model.specs.Journal.{next_xid}
+use Rattle.pgn_journal.specs.Journal.{next_xid}
 use Rattle.pgn_model.specs.Along.{Along}
 use Rattle.pgn_model.specs.Walk.{Settings, Terms, State, start, after_item}
 use Rattle.pgn_model.specs.Trace.{state_after, IsLawful, TraceOk, IsUpToDate, IsFreshAt, Fresh, Stands}

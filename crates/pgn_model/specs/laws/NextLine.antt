@@ -15,27 +15,27 @@ use Rattle.pgn_base.specs.declared.queue_answers.Full.{Full}
 use Rattle.pgn_base.specs.declared.queue_answers.Usage.{Usage}
 use Rattle.pgn_base.specs.declared.listen_set.Action.{Action}
 use Rattle.pgn_base.specs.Channels.{applied}
-use Rattle.pgn_model.specs.declared.tx.Tx.{Tx}
-use Rattle.pgn_model.specs.declared.block_state.BlockState.{BlockState}
-use Rattle.pgn_model.specs.declared.block_state.BlockState.TheVariants.{Idle, InBlock}
-use Rattle.pgn_model.specs.declared.command.Command.{Command}
-use Rattle.pgn_model.specs.declared.command.Command.TheVariants.{Commit, Listen, Unlisten, UnlistenAll, Notify, PgNotify}
-use Rattle.pgn_model.specs.declared.scenario.Act.{Act}
-use Rattle.pgn_model.specs.declared.scenario.Act.TheVariants.{Run, Signal, Await, Quit}
-use Rattle.pgn_model.specs.declared.scenario.ScriptLine.{ScriptLine}
+use Rattle.pgn_journal.specs.declared.tx.Tx.{Tx}
+use Rattle.pgn_answers.specs.declared.block_state.BlockState.{BlockState}
+use Rattle.pgn_answers.specs.declared.block_state.BlockState.TheVariants.{Idle, InBlock}
+use Rattle.pgn_base.specs.declared.command.Command.{Command}
+use Rattle.pgn_base.specs.declared.command.Command.TheVariants.{Commit, Listen, Unlisten, UnlistenAll, Notify, PgNotify}
+use Rattle.pgn_language.specs.declared.scenario.Act.{Act}
+use Rattle.pgn_language.specs.declared.scenario.Act.TheVariants.{Run, Signal, Await, Quit}
+use Rattle.pgn_language.specs.declared.scenario.ScriptLine.{ScriptLine}
 use Rattle.pgn_model.specs.declared.item.Item.{Item}
 use Rattle.pgn_model.specs.declared.item.Item.TheVariants.{Line, Enlist, Publish, QueueFull, Leave, Reply, Refuse, Channels, Used, Raise, Found, TimedOut, Read}
 use Rattle.pgn_model.specs.declared.trace.Trace.{Trace}
-use Rattle.pgn_model.specs.Journal.{entry, next_xid, is_committed_in}
-use Rattle.pgn_model.specs.Due.{due}
-use Rattle.pgn_model.specs.QueueUse.{ShowsUsage, NoPage}
-use Rattle.pgn_model.specs.Savepoints.{live_names, surviving_actions, surviving_notes, firsts, is_listen, changes_of}
-use Rattle.pgn_model.specs.Answers.{Outcome, Commits, Replies, Refuses, Silent, GivesChannels, GivesUsage, answer, list_after}
+use Rattle.pgn_journal.specs.Journal.{entry, next_xid, is_committed_in}
+use Rattle.pgn_journal.specs.Due.{due}
+use Rattle.pgn_journal.specs.QueueUse.{ShowsUsage, NoPage, IsFloorFor}
+use Rattle.pgn_answers.specs.Savepoints.{live_names, surviving_actions, surviving_notes, firsts, is_listen, changes_of}
+use Rattle.pgn_answers.specs.Answers.{Outcome, Commits, Replies, Refuses, Silent, GivesChannels, GivesUsage, answer, list_after}
 use Rattle.pgn_model.specs.Along.{Along}
-use Rattle.pgn_model.specs.Walk.{Terms, State, Nothing, Awaiting, start, after_item, is_empty_set, holder_at, IsCommittedBy, IsAbortedBy, IsFloorFor, IsGreatest, IsUnknown, Settings}
+use Rattle.pgn_model.specs.Walk.{Terms, State, Nothing, Awaiting, start, after_item, is_empty_set, holder_at, IsCommittedBy, IsAbortedBy, IsGreatest, IsUnknown, Settings}
 use Rattle.pgn_model.specs.Trace.{TraceOk, Fresh, IsUpToDate, IsFreshAt, Stands}
 use Rattle.pgn_model.specs.Legal.{IsShownWithin, finished_xids, IsFullThere}
-use Rattle.pgn_model.specs.Near.{Near}
+use Rattle.pgn_journal.specs.Near.{Near}
 use Rattle.pgn_model.specs.laws.Growing.{IsStateWithin}
 
 -- items that are lawful so far and left no read out where a line began, and the state that they lead to
@@ -171,14 +171,14 @@ pub record MayMeetFull (terms : Terms) (journal : List Tx) (told : ℕ) (mark : 
   pub after_told : told ≤ full.xid
   pub after_mark : IfSome mark (λ own. own ≤ full.xid)
   pub in_journal : IsSomeAnd (entry journal full.xid) (IsAbortedBy terms.section notes full.queued)
-  pub floor : IsFloorFor terms.section mark full.floor_mark full.holder
+  pub floor : IsFloorFor terms.section.no mark full.floor_mark full.holder
 
 -- it may show this usage of the queue
 pub record MayMeasure (terms : Terms) (journal : List Tx) (told : ℕ) (mark : Option ℕ) (usage : Usage) : Type 0 where
   pub after_told : told ≤ usage.at
   pub after_mark : IfSome mark (λ own. own ≤ usage.at)
   pub shown : ShowsUsage terms.settings.format terms.settings.limit journal usage
-  pub floor : IsFloorFor terms.section mark usage.floor_mark usage.holder
+  pub floor : IsFloorFor terms.section.no mark usage.floor_mark usage.holder
 
 -- the session may read from its mark on to this number
 pub record MayReadTo (journal : List Tx) (s : State) (from to : ℕ) : Type 0 where
@@ -299,7 +299,7 @@ LastIsPublished = (terms : Terms) (journal : List Tx) (tx : Tx) (told : ℕ) (ma
 abbrev pub LastMetFull : Type 0
 LastMetFull = (terms : Terms) (journal : List Tx) (tx : Tx) (told : ℕ) (mark : Option ℕ) (full : Full) (notes : List Note)
     → full.xid ≡ next_xid journal → told ≤ next_xid journal → IfSome mark (λ own. own ≤ next_xid journal) → IsAbortedBy terms.section notes full.queued tx
-    → IsFloorFor terms.section mark full.floor_mark full.holder → MayMeetFull terms (journal ++ tx ∷ []) told mark full notes
+    → IsFloorFor terms.section.no mark full.floor_mark full.holder → MayMeetFull terms (journal ++ tx ∷ []) told mark full notes
 
 -- the transactions that a trace shows as finished, after a commit: in step
 abbrev pub CommitFinishes : Type 0

@@ -2,13 +2,13 @@
 use Rattle.std.specs.Prelude.{◌≡◌, List, All}
 use Rattle.pgn_base.specs.declared.note.Note.{Note}
 use Rattle.pgn_base.specs.declared.answers.Refusal.TheVariants.{NoSavepoint}
-use Rattle.pgn_model.specs.declared.tx.Tx.{Tx}
-use Rattle.pgn_model.specs.declared.scenario.Scenario.{Scenario}
+use Rattle.pgn_journal.specs.declared.tx.Tx.{Tx}
+use Rattle.pgn_language.specs.declared.scenario.Scenario.{Scenario}
 use Rattle.pgn_model.specs.declared.item.Item.{Item}
 use Rattle.pgn_model.specs.declared.item.Item.TheVariants.{Refuse, Channels, Read}
 use Rattle.pgn_model.specs.declared.trace.Trace.{Trace}
-use Rattle.pgn_model.specs.Lines.{lines_of}
-use Rattle.pgn_model.specs.Inputs.{IsOneLine, IsSound}
+use Rattle.pgn_language.specs.Lines.{lines_of}
+use Rattle.pgn_language.specs.Inputs.{IsOneLine, IsSound}
 use Rattle.pgn_model.specs.Text.{text, text_lines}
 
 -- no LF stands in a notification

@@ -1,6 +1,6 @@
 -- Laws of lawful traces.
 use Rattle.std.specs.Prelude.{List, [], ◌∷◌, ◌++◌}
-use Rattle.pgn_model.specs.declared.tx.Tx.{Tx}
+use Rattle.pgn_journal.specs.declared.tx.Tx.{Tx}
 use Rattle.pgn_model.specs.declared.item.Item.{Item}
 use Rattle.pgn_model.specs.Walk.{Terms, State, after_item, Allowed}
 use Rattle.pgn_model.specs.Trace.{IsLawful, Stands}

@@ -1,14 +1,15 @@
 #![tactic(auto, using(crate::proofs::PutsLaws::put_laws))]
 
 ghost use Rattle.std.specs.Prelude.{◌≡◌, [], ◌∷◌, ◌++◌, codes, decimal, flat_map, map};
-ghost use Rattle.pgn_model.specs.Refusals.{refusal_code, refusal_message};
-ghost use Rattle.pgn_model.specs.Text.{delivery_line, full_line, holder_text, item_lines, joined, refusal_text, tag_text, usage_lines, warning_lines, warning_text};
+ghost use Rattle.pgn_answers.specs.Refusals.{refusal_code, refusal_message, refusal_text, tag_text, warning_lines, warning_text};
+ghost use Rattle.pgn_model.specs.Text.{delivery_line, full_line, holder_text, item_lines, joined, usage_lines};
 ghost use Rattle.pgn_run.specs.Rendering.{HasPassed, Puts, ended};
 
 use crate::line_cursor::LineCursor;
 use crate::render::output::Out;
 use pgn_base::{Delivery, Full, Needs, Refusal, SessionNo, Sink, Tag, Usage, Warning, Which, Xid};
-use pgn_model::{Item, ScriptLine};
+use pgn_language::ScriptLine;
+use pgn_model::Item;
 
 // A warning's code and text.
 fn text_of_warning(warning: Warning) -> &'static [u8]

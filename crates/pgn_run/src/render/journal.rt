@@ -7,7 +7,7 @@ ghost use Rattle.pgn_run.specs.Rendering.{Puts};
 
 use crate::render::output::Out;
 use pgn_base::{FIRST_XID, Sink};
-use pgn_model::{Fate, Tx};
+use pgn_journal::{Fate, Tx};
 
 impl Out {
     // How a transaction ended.

@@ -1,7 +1,8 @@
 #![tactic(auto, using(crate::proofs::PutsLaws::put_laws))]
 
 ghost use Rattle.std.specs.Prelude.{◌++◌, codes, decimal, flat_map, map};
-ghost use Rattle.pgn_model.specs.Text.{channel_line, delivery_line, doubled_byte, joined, note_line};
+ghost use Rattle.pgn_model.specs.Text.{channel_line, delivery_line, joined, note_line};
+ghost use Rattle.pgn_language.specs.Quotes.{doubled_byte};
 ghost use Rattle.pgn_run.specs.Rendering.{Puts, ended, note_behind};
 
 use crate::render::output::Out;

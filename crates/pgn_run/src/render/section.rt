@@ -7,7 +7,8 @@ ghost use Rattle.pgn_run.specs.Rendering.{Puts, ended};
 
 use crate::render::output::Out;
 use pgn_base::{PID_BASE, SessionNo, Sink, Xid};
-use pgn_model::{Section, Trace};
+use pgn_language::Section;
+use pgn_model::Trace;
 
 impl Out {
     // A section's number, name and database.

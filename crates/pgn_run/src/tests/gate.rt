@@ -4,7 +4,7 @@ ghost use Rattle.std.specs.List.{range_with_len};
 use super::{SELF_NOTIFY, shown_over};
 use pgn_base::{Delivery, Enlisted, Full, ListenSet, Note, PATIENCE_DEFAULT, Usage, Xid};
 use pgn_hub::Hub;
-use pgn_model::{PassView, Roll, Setup};
+use pgn_hub::{PassView, Roll, Setup};
 use pgn_scenario::read_scenario;
 use pgn_threads::{open_on_hub, run_sessions};
 use pgn_wordhub::WordHub;

@@ -2,11 +2,13 @@ ghost use Rattle.std.specs.Prelude.{◌≡◌, ◌≤◌, Ok, length, IfOk, OnOk
 ghost use Rattle.std.specs.Thread.{IsSync, IsSend};
 ghost use Rattle.pgn_threads.specs.Whole.{IsReady, IsOver};
 ghost use Rattle.pgn_session.specs.declared.doing.Doing.TheVariants.{Over};
-ghost use Rattle.pgn_model.specs.Inputs.{IsSound};
+ghost use Rattle.pgn_language.specs.Inputs.{IsSound};
 
 use pgn_base::{DbOid, Name, Note, Payload};
 use pgn_hub::Hub;
-use pgn_model::{Item, PassView, Scenario, SeatSetup, Setup};
+use pgn_hub::{PassView, SeatSetup, Setup};
+use pgn_language::Scenario;
+use pgn_model::Item;
 use pgn_scenario::read_scenario;
 use pgn_session::{Session, Step};
 use pgn_threads::{drain, open_on_hub};

@@ -1,8 +1,8 @@
 //! One notification from a writer to a listener, by the cells of its entry.
 ghost use Rattle.std.specs.Prelude.{◌≡◌, ◌+◌, ◌<◌, ◌≤◌, ◌⊎◌, length, map, slice_set, Some, IfOk, IfSome, [], ◌∷◌};
 ghost use Rattle.pgn_base.specs.declared.format.Format.TheVariants.{One};
-ghost use Rattle.pgn_model.specs.Shape.{notes_of_seats};
-ghost use Rattle.pgn_model.specs.examples.Packing.{virtual_note, virtual_cells};
+ghost use Rattle.pgn_hub.specs.Shape.{notes_of_seats};
+ghost use Rattle.pgn_journal.specs.examples.Packing.{virtual_note, virtual_cells};
 ghost use Rattle.pgn_words.specs.Passes.{IsPassOf, view_of, known_of, shape_of};
 ghost use Rattle.pgn_words.specs.Examples.{IsOpenAt, IsShowing};
 ghost use Rattle.pgn_words.specs.declared.view.Phase.TheVariants as phases;
@@ -12,7 +12,8 @@ use super::{draw, get_ready, join, open_two};
 use crate::{WordPass, WordQueue};
 use pgn_base::{Name, Note, PID_BASE, Payload, SessionNo, Xid};
 use pgn_layout::Pos;
-use pgn_model::{Fate, PassView};
+use pgn_hub::PassView;
+use pgn_journal::Fate;
 use std::alloc::Global;
 use std::test::Fail;
 

@@ -1,6 +1,6 @@
 //! A session joins between the two looks of an advance.
 ghost use Rattle.std.specs.Prelude.{◌≡◌, ◌^◌, ◌<◌, ◌≤◌, true, length, Some, IfSome};
-ghost use Rattle.pgn_model.specs.Packing.{image};
+ghost use Rattle.pgn_journal.specs.Packing.{image};
 ghost use Rattle.pgn_words.specs.Passes.{IsPassOf, view_of, known_of, shape_of};
 ghost use Rattle.pgn_words.specs.Positions.{packed, mark_in};
 ghost use Rattle.pgn_words.specs.declared.view.Listen.TheVariants as listens;

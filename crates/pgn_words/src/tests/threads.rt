@@ -1,7 +1,7 @@
 //! Two threads step on the words at the same time.
 ghost use Rattle.std.specs.Prelude.{◌≡◌, [], ◌∷◌, length};
 ghost use Rattle.pgn_base.specs.declared.format.Format.TheVariants.{One};
-ghost use Rattle.pgn_model.specs.examples.Packing.{virtual_note};
+ghost use Rattle.pgn_journal.specs.examples.Packing.{virtual_note};
 ghost use Rattle.pgn_words.specs.Passes.{IsPassOf, view_of, shape_of};
 ghost use Rattle.pgn_words.specs.declared.view.Listen.TheVariants as listens;
 ghost use Rattle.pgn_words.specs.declared.view.Phase.TheVariants as phases;
@@ -10,7 +10,7 @@ use super::entry::{publish, publish_locked, shows_entry, virtual_note};
 use super::{join, open_two};
 use crate::{WordPass, WordQueue};
 use pgn_base::Note;
-use pgn_model::PassView;
+use pgn_hub::PassView;
 use std::sync::Wait;
 use std::test::Fail;
 use std::thread;

@@ -1,6 +1,6 @@
 use Rattle.std.proofs.Common.{◌≡◌, ◌&&◌, drop}
 use Rattle.std.specs.List.{list_all}
-use Rattle.pgn_model.specs.Tokens.{is_blank}
+use Rattle.pgn_language.specs.Tokens.{is_blank}
 use Rattle.pgn_command.proofs.bytes.are_blank.Given as goal
 
 abbrev pub invariant-loop-byte : goal.invariant-loop-byte

@@ -1,6 +1,6 @@
 use Rattle.std.proofs.Common.{◌≡◌, ℕ, ◌+◌, ◌-◌, ◌≤◌, true, take, drop, length, sym, ap, ◌∙◌, arith}
 use Rattle.std.specs.List.{list_all, prefix_len}
-use Rattle.pgn_model.specs.Tokens.{is_blank}
+use Rattle.pgn_language.specs.Tokens.{is_blank}
 use Rattle.pgn_command.proofs.GapLaws.{front-group}
 use Rattle.pgn_command.proofs.bytes.blank_groups.Goals as goal
 

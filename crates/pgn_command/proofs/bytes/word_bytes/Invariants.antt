@@ -1,6 +1,6 @@
 use Rattle.std.proofs.Common.{◌≡◌, ◌+◌, drop}
 use Rattle.std.specs.List.{prefix_len}
-use Rattle.pgn_model.specs.Tokens.{goes_on_word}
+use Rattle.pgn_language.specs.Tokens.{goes_on_word}
 use Rattle.pgn_command.proofs.bytes.word_bytes.Given as goal
 
 abbrev pub invariant-loop-at : goal.invariant-loop-at

@@ -1,6 +1,6 @@
 use Rattle.std.proofs.Common.{◌≡◌, ℕ, ◌+◌, List, length, take, flat_map, None, sym, ap, ◌∙◌, subst, arith}
-use Rattle.pgn_model.specs.Text.{doubled_byte}
-use Rattle.pgn_model.specs.Tokens.{closed}
+use Rattle.pgn_language.specs.Quotes.{doubled_byte}
+use Rattle.pgn_language.specs.Tokens.{closed}
 use Rattle.pgn_command.specs.Texts.{single, IsInside}
 use Rattle.pgn_command.proofs.QuoteLaws.{Written, written-next, written-spelled, written-counted, written-closed, written-twice, written-open, from_start}
 use Rattle.pgn_command.proofs.quotes.inside.Goals as goal

@@ -1,9 +1,9 @@
 use Rattle.std.proofs.Common.{◌≡◌, ℕ, List, length, sym, ap, ◌∙◌, subst}
 use Rattle.std.specs.Prelude.{Result, Ok, Err, IfOk}
-use Rattle.pgn_model.specs.declared.command.Command.{Command}
-use Rattle.pgn_model.specs.Tokens.{Token, tokens}
-use Rattle.pgn_model.specs.Grammar.{ReadsAs, limited}
-use Rattle.pgn_model.proofs.ValidForms.{readings-valid}
+use Rattle.pgn_base.specs.declared.command.Command.{Command}
+use Rattle.pgn_language.specs.Tokens.{Token, tokens}
+use Rattle.pgn_language.specs.Grammar.{ReadsAs, limited}
+use Rattle.pgn_language.proofs.ValidForms.{readings-valid}
 use Rattle.pgn_command.specs.Reading.{stated, outcome}
 use Rattle.pgn_command.specs.Statements.{meant}
 use Rattle.pgn_command.proofs.CommandSteps.{stated-reads}

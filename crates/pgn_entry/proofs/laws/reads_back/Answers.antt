@@ -1,6 +1,6 @@
 use Rattle.std.proofs.Common.{◌++◌, refl}
 use Rattle.pgn_base.specs.declared.format.Format.TheVariants.{One}
-use Rattle.pgn_model.specs.Bytes.{entry_length, spelled, filler}
+use Rattle.pgn_journal.specs.Bytes.{entry_length, spelled, filler}
 use Rattle.pgn_entry.specs.Reading.{AnEntry, AFiller}
 use Rattle.pgn_entry.proofs.AnswerLaws.{reads_as_one}
 use Rattle.pgn_entry.proofs.laws.reads_back.Goals as goal

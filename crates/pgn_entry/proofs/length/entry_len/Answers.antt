@@ -1,8 +1,8 @@
 use Rattle.std.proofs.Common.{◌≡◌, rules, sym, subst}
 use Rattle.pgn_base.specs.declared.format.Format.TheVariants.{One}
 use Rattle.pgn_base.specs.Notes.{IsNote}
-use Rattle.pgn_model.specs.Bytes.{entry_length, IsEntryLength}
-use Rattle.pgn_model.proofs.BytesLemmas.{entry_lengths}
+use Rattle.pgn_journal.specs.Bytes.{entry_length, IsEntryLength}
+use Rattle.pgn_journal.proofs.BytesLemmas.{entry_lengths}
 use Rattle.pgn_entry.proofs.length.entry_len.Goals as goal
 
 pub returns-clause-value : goal.returns-clause-value

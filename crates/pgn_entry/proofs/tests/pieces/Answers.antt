@@ -1,7 +1,7 @@
 use Rattle.std.proofs.Common.{refl, arith, codes, []}
-use Rattle.pgn_model.specs.Bytes.{filler, header, spelled, entry_length}
-use Rattle.pgn_model.specs.Pieces.{AnEntry, AFiller}
-use Rattle.pgn_model.proofs.PlainNotes.{plain-note}
+use Rattle.pgn_journal.specs.Bytes.{filler, header, spelled, entry_length}
+use Rattle.pgn_journal.specs.Pieces.{AnEntry, AFiller}
+use Rattle.pgn_journal.proofs.PlainNotes.{plain-note}
 use Rattle.pgn_entry.proofs.tests.pieces.Goals as goal
 
 pub read_piece-requires : goal.read_piece-requires

@@ -1,6 +1,6 @@
 use Rattle.std.proofs.Common.{rules, ◌≡◌, ◌≤◌, [], ◌∷◌, ◌++◌, length, arith}
 use Rattle.pgn_base.specs.declared.format.Format.TheVariants.{One}
-use Rattle.pgn_model.specs.Bytes.{header, padded, entry_length}
+use Rattle.pgn_journal.specs.Bytes.{header, padded, entry_length}
 use Rattle.pgn_entry.proofs.WrittenLaws.{entry_has_room, left_after, entry_stands}
 use Rattle.pgn_entry.proofs.writing.write_entry.Goals as goal
 

@@ -1,6 +1,6 @@
 use Rattle.std.proofs.Common.{◌≡◌, ◌≤◌, length, replicate, refl, arith}
 use Rattle.pgn_base.specs.declared.format.Format.TheVariants.{One}
-use Rattle.pgn_model.specs.Bytes.{header}
+use Rattle.pgn_journal.specs.Bytes.{header}
 use Rattle.pgn_entry.proofs.WrittenLaws.{left_after, filler_stands}
 use Rattle.pgn_entry.proofs.writing.write_filler.Goals as goal
 

@@ -1,5 +1,5 @@
 use Rattle.std.proofs.Common.{map, ap}
-use Rattle.pgn_model.specs.Shape.{Shape}
+use Rattle.pgn_hub.specs.Shape.{Shape}
 use Rattle.pgn_hub.proofs.CallerLemmas.{opened_in_order, nobody_sent}
 use Rattle.pgn_hub.proofs.callers.open_and_gather.Goals as goal
 

@@ -1,7 +1,7 @@
 use Rattle.std.proofs.Common.{◌≡◌, ℕ, ◌≤◌, [], ◌∷◌, length, take, sym, ap, ◌∙◌, refl, arith, rules, length-take}
 use Rattle.std.proofs.lemmas.List.Elements.{All-nil, All-cons, All-contains}
-use Rattle.pgn_model.specs.Journal.{IsFinished, xids_of}
-use Rattle.pgn_model.proofs.BeginsLaws.{begins-whole}
+use Rattle.pgn_journal.specs.Journal.{IsFinished, xids_of}
+use Rattle.pgn_journal.proofs.BeginsLaws.{begins-whole}
 use Rattle.pgn_hub.specs.Examples.{tx_3, last_1}
 use Rattle.pgn_hub.proofs.ExampleLemmas.{only, only_tx, no_second, finished}
 use Rattle.pgn_hub.proofs.examples.gather.Goals as goal

@@ -1,6 +1,6 @@
 use Rattle.std.proofs.Common.{◌≡◌, [], ◌∷◌, refl, arith, rules}
-use Rattle.pgn_model.specs.Bytes.{header, entry_length, spelled}
-use Rattle.pgn_model.specs.Packing.{filled_cells, page_rest, entry_cells, note_cells, notes_cells, end_cells, tx_cells, image_from, image, place}
+use Rattle.pgn_journal.specs.Bytes.{header, entry_length, spelled}
+use Rattle.pgn_journal.specs.Packing.{filled_cells, page_rest, entry_cells, note_cells, notes_cells, end_cells, tx_cells, image_from, image, place}
 use Rattle.pgn_hub.proofs.examples.usage.Goals as goal
 
 pub returns-clause-met : goal.returns-clause-met

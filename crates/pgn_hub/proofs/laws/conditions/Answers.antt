@@ -1,5 +1,5 @@
 use Rattle.std.proofs.Common.{ap, is_some}
-use Rattle.pgn_model.specs.declared.known.Known.{Known}
+use Rattle.pgn_hub.specs.declared.known.Known.{Known}
 use Rattle.pgn_hub.proofs.SeatLaws.{opened-seats, opened-marks}
 use Rattle.pgn_hub.proofs.laws.conditions.Goals as goal
 

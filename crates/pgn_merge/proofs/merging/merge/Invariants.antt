@@ -1,5 +1,5 @@
 use Rattle.std.proofs.Common.{List, take}
-use Rattle.pgn_model.specs.declared.tx.Tx.{Tx}
+use Rattle.pgn_journal.specs.declared.tx.Tx.{Tx}
 use Rattle.pgn_merge.specs.Shown.{ShowsJournal}
 use Rattle.pgn_merge.specs.Slots.{HasPlacedAll}
 use Rattle.pgn_merge.proofs.merging.merge.Given as goal

@@ -1,5 +1,5 @@
 use Rattle.std.proofs.Common.{List, take, All}
-use Rattle.pgn_model.specs.declared.tx.Tx.{Tx}
+use Rattle.pgn_journal.specs.declared.tx.Tx.{Tx}
 use Rattle.pgn_merge.specs.Shown.{IsShownIn}
 use Rattle.pgn_merge.specs.Slots.{IsPartOf, HasPlaced}
 use Rattle.pgn_merge.proofs.merging.place_all.Given as goal

@@ -1,5 +1,5 @@
 use Rattle.std.proofs.Common.{List, Option, sym, subst, rules}
-use Rattle.pgn_model.specs.declared.tx.Tx.{Tx}
+use Rattle.pgn_journal.specs.declared.tx.Tx.{Tx}
 use Rattle.pgn_merge.specs.Slots.{GoesOnEmpty}
 use Rattle.pgn_merge.proofs.SlotLaws.{one-empty}
 use Rattle.pgn_merge.proofs.merging.widen.Goals as goal

@@ -1,6 +1,6 @@
 use Rattle.std.proofs.Common.{◌≡◌, ◌+◌, ◌<◌, ◌≤◌, true, length, reverse, take, get_or}
 use Rattle.std.specs.List.{prefix_len}
-use Rattle.pgn_model.specs.Tokens.{is_blank}
+use Rattle.pgn_language.specs.Tokens.{is_blank}
 use Rattle.pgn_scenario.proofs.bytes.blanks_after.Given as goal
 
 abbrev pub invariant-loop-end : goal.invariant-loop-end

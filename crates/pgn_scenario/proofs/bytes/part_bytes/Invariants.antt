@@ -1,6 +1,6 @@
 use Rattle.std.proofs.Common.{◌≡◌, ◌+◌, not, drop}
 use Rattle.std.specs.List.{prefix_len}
-use Rattle.pgn_model.specs.Lines.{is_gap}
+use Rattle.pgn_language.specs.Lines.{is_gap}
 use Rattle.pgn_scenario.proofs.bytes.part_bytes.Given as goal
 
 abbrev pub invariant-loop-at : goal.invariant-loop-at

@@ -1,6 +1,6 @@
 use Rattle.std.proofs.Common.{ap, ◌∙◌}
-use Rattle.pgn_model.specs.Lines.{lines_of}
-use Rattle.pgn_model.proofs.LineLaws.{lines-cut}
+use Rattle.pgn_language.specs.Lines.{lines_of}
+use Rattle.pgn_language.proofs.LineLaws.{lines-cut}
 use Rattle.pgn_scenario.proofs.ByteLaws.{lines-uncut}
 use Rattle.pgn_scenario.proofs.lines.first_line.Goals as goal
 

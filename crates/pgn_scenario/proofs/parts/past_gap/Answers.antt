@@ -1,6 +1,6 @@
 use Rattle.std.proofs.Common.{ℕ, List, subst, IsCharBoundary}
 use Rattle.std.specs.List.{prefix_len}
-use Rattle.pgn_model.specs.Lines.{is_gap}
+use Rattle.pgn_language.specs.Lines.{is_gap}
 use Rattle.pgn_scenario.proofs.PartLaws.{gap-boundary}
 use Rattle.pgn_scenario.proofs.parts.past_gap.Goals as goal
 

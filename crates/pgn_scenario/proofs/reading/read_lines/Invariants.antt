@@ -1,6 +1,6 @@
 use Rattle.std.proofs.Common.{◌≡◌, ◌+◌, ◌<◌, ◌≤◌, length}
 use Rattle.pgn_base.specs.declared.limits.TheConstants.{INPUT_BYTES_MAX}
-use Rattle.pgn_model.specs.Lines.{lines_of}
+use Rattle.pgn_language.specs.Lines.{lines_of}
 use Rattle.pgn_scenario.specs.Steps.{at_start, steps}
 use Rattle.pgn_scenario.proofs.reading.read_lines.Given as goal
 

@@ -1,5 +1,5 @@
 use Rattle.std.proofs.Common.{◌∙◌, sym, ap}
-use Rattle.pgn_model.specs.Lines.{command_says}
+use Rattle.pgn_language.specs.Lines.{command_says}
 use Rattle.pgn_scenario.proofs.SaidLaws.{says-read, runs}
 use Rattle.pgn_scenario.proofs.said.command_of.Goals as goal
 

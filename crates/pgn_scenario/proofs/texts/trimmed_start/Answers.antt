@@ -1,6 +1,6 @@
 use Rattle.std.proofs.Common.{ℕ, List, subst, IsCharBoundary}
 use Rattle.std.specs.List.{prefix_len}
-use Rattle.pgn_model.specs.Tokens.{is_blank}
+use Rattle.pgn_language.specs.Tokens.{is_blank}
 use Rattle.pgn_command.proofs.GapLaws.{blanks-boundary}
 use Rattle.pgn_scenario.proofs.texts.trimmed_start.Goals as goal
 

@@ -1,7 +1,7 @@
 use Rattle.std.proofs.Common.{rules, length, ap, ◌∙◌}
 use Rattle.std.proofs.lemmas.List.Elements.{All-same}
-use Rattle.pgn_model.specs.Shape.{Shape}
-use Rattle.pgn_model.specs.declared.scenario.Section.{Section}
+use Rattle.pgn_hub.specs.Shape.{Shape}
+use Rattle.pgn_language.specs.declared.scenario.Section.{Section}
 use Rattle.pgn_session.specs.declared.doing.FlagPlan.{FlagPlan}
 use Rattle.pgn_session.specs.Standing.{IsServedBy}
 use Rattle.pgn_threads.proofs.OpenLaws.{passes-opened, all-served}

@@ -2,10 +2,10 @@ use Rattle.std.proofs.Common.{refl, List, map, drop, length, sym, ap, subst, ◌
 use Rattle.std.specs.List.{range_with_len}
 use Rattle.pgn_merge.specs.Shown.{ShowsJournal}
 use Rattle.pgn_model.specs.declared.trace.Trace.{Trace}
-use Rattle.pgn_model.specs.declared.setup.SeatSetup.{SeatSetup}
+use Rattle.pgn_hub.specs.declared.setup.SeatSetup.{SeatSetup}
 use Rattle.std.proofs.lemmas.List.{length-map}
 use Rattle.std.proofs.lemmas.List.Elements.{All-map, All-same}
-use Rattle.pgn_model.specs.Shape.{Shape}
+use Rattle.pgn_hub.specs.Shape.{Shape}
 use Rattle.pgn_hub.specs.Passes.{IsWithin}
 use Rattle.pgn_session.specs.declared.session.Session.{Session}
 use Rattle.pgn_threads.specs.Whole.{IsReady, script_of}

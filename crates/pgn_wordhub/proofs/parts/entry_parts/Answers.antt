@@ -1,6 +1,6 @@
 use Rattle.std.proofs.Common.{Ok, ap, subst}
 use Rattle.pgn_base.specs.declared.note.Note.{Note}
-use Rattle.pgn_model.specs.Pieces.{AnEntry}
+use Rattle.pgn_journal.specs.Pieces.{AnEntry}
 use Rattle.pgn_entry.specs.declared.entry_view.EntryView.{EntryView}
 use Rattle.pgn_entry.specs.Pieces.{IsReadAs}
 use Rattle.pgn_entry.specs.Reading.{told}

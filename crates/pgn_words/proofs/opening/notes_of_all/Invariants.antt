@@ -1,5 +1,5 @@
 use Rattle.std.proofs.Common.{◌≡◌, ◌+◌, drop}
-use Rattle.pgn_model.specs.Shape.{notes_of_seats}
+use Rattle.pgn_hub.specs.Shape.{notes_of_seats}
 use Rattle.pgn_words.proofs.opening.notes_of_all.Given as goal
 
 abbrev pub invariant-loop-seat : goal.invariant-loop-seat

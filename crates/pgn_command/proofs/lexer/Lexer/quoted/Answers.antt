@@ -1,5 +1,5 @@
 use Rattle.std.proofs.Common.{ℕ, List, drop, sym, ap, ◌∙◌, subst, arith}
-use Rattle.pgn_model.specs.Tokens.{closed}
+use Rattle.pgn_language.specs.Tokens.{closed}
 use Rattle.pgn_command.specs.Texts.{IsInside}
 use Rattle.pgn_command.specs.declared.bytes.Start.TheVariants as start
 use Rattle.pgn_command.proofs.TokenSteps.{quoted-boundary, open-quoted, found-boundary, starts-some, read-quoted, stuck-empty, none-some, some-none}

@@ -1,6 +1,6 @@
 use Rattle.std.proofs.Common.{ℕ, List, sym, subst, arith, IsCharBoundary, length-drop}
 use Rattle.std.specs.List.{prefix_len}
-use Rattle.pgn_model.specs.Tokens.{is_blank}
+use Rattle.pgn_language.specs.Tokens.{is_blank}
 use Rattle.pgn_command.proofs.GapLaws.{past-blanks, blanks-boundary, front-ends, front-bound}
 use Rattle.pgn_command.proofs.lexer.Lexer.skip_blanks.Goals as goal
 

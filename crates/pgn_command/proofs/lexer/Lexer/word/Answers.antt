@@ -1,6 +1,6 @@
 use Rattle.std.proofs.Common.{◌≡◌, ℕ, sym, ap, ◌∙◌, subst, IsCharBoundary}
 use Rattle.std.specs.List.{prefix_len}
-use Rattle.pgn_model.specs.Tokens.{goes_on_word}
+use Rattle.pgn_language.specs.Tokens.{goes_on_word}
 use Rattle.pgn_command.proofs.GapLaws.{word-boundary}
 use Rattle.pgn_command.proofs.TokenSteps.{read-word}
 use Rattle.pgn_command.proofs.lexer.Lexer.word.Goals as goal

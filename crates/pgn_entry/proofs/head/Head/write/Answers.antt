@@ -1,4 +1,4 @@
-use Rattle.pgn_model.specs.Bytes.{header}
+use Rattle.pgn_journal.specs.Bytes.{header}
 use Rattle.pgn_entry.proofs.head.Head.write.Goals as goal
 
 pub returns : goal.returns

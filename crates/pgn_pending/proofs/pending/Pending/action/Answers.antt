@@ -1,5 +1,5 @@
 use Rattle.std.proofs.Common.{[], ◌∷◌, ◌++◌, sym, ◌∙◌}
-use Rattle.pgn_model.specs.Savepoints.{Acted}
+use Rattle.pgn_answers.specs.Savepoints.{Acted}
 use Rattle.pgn_pending.proofs.KeptLemmas.{after-acted}
 use Rattle.pgn_pending.proofs.pending.Pending.action.Goals as goal
 

@@ -1,5 +1,5 @@
 use Rattle.std.proofs.Common.{[], ◌∷◌, ◌++◌, sym, ◌∙◌}
-use Rattle.pgn_model.specs.Savepoints.{Saved}
+use Rattle.pgn_answers.specs.Savepoints.{Saved}
 use Rattle.pgn_pending.proofs.KeptLemmas.{after-saved}
 use Rattle.pgn_pending.proofs.pending.Pending.mark.Goals as goal
 

@@ -1,5 +1,5 @@
 use Rattle.std.proofs.Common.{◌≤◌, [], ◌∷◌, ◌++◌, length, sym, ◌∙◌, arith, vec_capacity}
-use Rattle.pgn_model.specs.Savepoints.{Noted}
+use Rattle.pgn_answers.specs.Savepoints.{Noted}
 use Rattle.pgn_pending.proofs.KeptLemmas.{after-noted}
 use Rattle.pgn_pending.proofs.pending.Pending.note.Goals as goal
 

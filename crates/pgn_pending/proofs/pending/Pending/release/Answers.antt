@@ -1,5 +1,5 @@
 use Rattle.std.proofs.Common.{◌≡◌, false, [], ◌∷◌, ◌++◌, sym, ap, ◌∙◌}
-use Rattle.pgn_model.specs.Savepoints.{Released}
+use Rattle.pgn_answers.specs.Savepoints.{Released}
 use Rattle.pgn_pending.specs.Kept.{Kept, is_saved}
 use Rattle.pgn_pending.proofs.KeptLemmas.{IsNewest, none-saved, newest-saved, refused, granted, live-is_saved, after-released_none, after-released}
 use Rattle.pgn_pending.proofs.pending.Pending.release.Goals as goal

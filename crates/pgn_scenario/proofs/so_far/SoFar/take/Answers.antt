@@ -1,7 +1,7 @@
 use Rattle.std.proofs.Common.{◌≡◌, false, sym, ap, ◌∙◌}
 use Rattle.std.specs.List.{list_any}
 use Rattle.std.specs.Prelude.{◌==◌}
-use Rattle.pgn_model.specs.Lines.{trimmed}
+use Rattle.pgn_language.specs.Lines.{trimmed}
 use Rattle.pgn_scenario.proofs.TakeLaws.{nul-found, nul-none, text-no_nul, step-not_utf8, step-nul, step-added}
 use Rattle.pgn_scenario.proofs.so_far.SoFar.take.Goals as goal
 

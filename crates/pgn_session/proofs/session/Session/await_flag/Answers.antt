@@ -1,7 +1,7 @@
 use Rattle.std.proofs.Common.{◌≡◌, ◌+◌, List, ◌∷◌, ◌++◌, [], ap, ◌∙◌, sym, subst}
 use Rattle.pgn_model.specs.declared.item.Item.{Item}
 use Rattle.pgn_model.specs.declared.item.Item.TheVariants.{Line}
-use Rattle.pgn_model.specs.declared.scenario.Act.TheVariants.{Await}
+use Rattle.pgn_language.specs.declared.scenario.Act.TheVariants.{Await}
 use Rattle.pgn_session.specs.declared.session.Session.{Session}
 use Rattle.pgn_session.specs.Standing.{terms_of}
 use Rattle.pgn_session.specs.Steps.{HasTurned}

@@ -1,6 +1,6 @@
 use Rattle.std.proofs.Common.{List, ap, sym, subst, ◌∙◌, rules}
 use Rattle.pgn_model.specs.declared.item.Item.{Item}
-use Rattle.pgn_model.specs.declared.known.Known.{Known}
+use Rattle.pgn_hub.specs.declared.known.Known.{Known}
 use Rattle.pgn_session.specs.Standing.{terms_of, IsAnswered}
 use Rattle.pgn_session.proofs.ReadLaws.{quiet-rested, woken-answered, learned-answered, read-rested}
 use Rattle.pgn_session.proofs.KnownLaws.{on-err}

@@ -2,7 +2,7 @@ use Rattle.std.proofs.Common.{◌≤◌, ◌+◌, ℕ, List, ◌∷◌, ◌++◌
 use Rattle.pgn_base.specs.Listening.{Listening}
 use Rattle.pgn_model.specs.declared.item.Item.{Item}
 use Rattle.pgn_model.specs.declared.item.Item.TheVariants.{Line}
-use Rattle.pgn_model.specs.declared.scenario.Act.TheVariants.{Quit}
+use Rattle.pgn_language.specs.declared.scenario.Act.TheVariants.{Quit}
 use Rattle.pgn_model.specs.laws.NextLine.{quit_items}
 use Rattle.pgn_block.specs.Views.{BlockView, idle_view}
 use Rattle.pgn_session.specs.declared.doing.Doing.TheVariants.{Over}

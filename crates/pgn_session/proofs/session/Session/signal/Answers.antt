@@ -1,7 +1,7 @@
 use Rattle.std.proofs.Common.{◌≡◌, List, ◌∷◌, ◌++◌, [], ap, ◌∙◌, refl}
 use Rattle.pgn_model.specs.declared.item.Item.{Item}
 use Rattle.pgn_model.specs.declared.item.Item.TheVariants.{Line, Raise}
-use Rattle.pgn_model.specs.declared.scenario.Act.TheVariants.{Signal}
+use Rattle.pgn_language.specs.declared.scenario.Act.TheVariants.{Signal}
 use Rattle.pgn_session.specs.Standing.{terms_of}
 use Rattle.pgn_session.proofs.FlagLaws.{signal-line}
 use Rattle.pgn_session.proofs.WholeLaws.{line-did}

@@ -1,6 +1,6 @@
 use Rattle.std.proofs.Common.{◌≡◌, ℕ, ◌+◌, slice_get, ap, ◌∙◌, arith}
 use Rattle.pgn_base.specs.declared.format.Format.{Format}
-use Rattle.pgn_model.specs.Packing.{image}
+use Rattle.pgn_journal.specs.Packing.{image}
 use Rattle.pgn_words.specs.Passes.{view_of}
 use Rattle.pgn_wordhub.proofs.hub.WordHub.cell.Goals as goal
 

@@ -1,9 +1,8 @@
-use Rattle.std.proofs.Common.{◌≡◌, ℕ, length, sym, refl, ap, ◌∙◌, subst, arith}
-use Rattle.pgn_model.specs.Packing.{image}
-use Rattle.pgn_model.specs.Shape.{Shape}
+use Rattle.std.proofs.Common.{◌≡◌, ℕ, length, sym, refl, ap, ◌∙◌, subst, arith, None}
+use Rattle.pgn_journal.specs.Packing.{image}
+use Rattle.pgn_hub.specs.Shape.{Shape}
 use Rattle.pgn_words.specs.Passes.{view_of}
-use Rattle.std.proofs.Common.{None}
-use Rattle.pgn_model.specs.Journal.{next_xid}
+use Rattle.pgn_journal.specs.Journal.{next_xid}
 use Rattle.pgn_wordhub.specs.Looks.{begun_at, HasSeenFirst}
 use Rattle.pgn_wordhub.proofs.LookLaws.{first_begins, may_look_first, first_keeps, first_goes_on}
 use Rattle.pgn_wordhub.proofs.hub.WordHub.look_first.Goals as goal

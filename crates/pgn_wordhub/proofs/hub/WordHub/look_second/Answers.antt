@@ -1,7 +1,7 @@
 use Rattle.std.proofs.Common.{◌+◌, ◌^◌, ◌<◌, length, sym, ◌∙◌, subst, arith}
 use Rattle.std.proofs.lemmas.List.{length-set}
-use Rattle.pgn_model.specs.Packing.{image}
-use Rattle.pgn_model.specs.Shape.{Shape}
+use Rattle.pgn_journal.specs.Packing.{image}
+use Rattle.pgn_hub.specs.Shape.{Shape}
 use Rattle.pgn_words.specs.Passes.{view_of}
 use Rattle.pgn_wordhub.proofs.LookLaws.{may_look_second, second_goes_on, kept_goes_on, first_stays}
 use Rattle.pgn_wordhub.proofs.hub.WordHub.look_second.Goals as goal

@@ -1,6 +1,6 @@
 use Rattle.std.proofs.Common.{◌≡◌, ℕ, ◌-◌, sym, ap, ◌∙◌, subst, arith}
-use Rattle.pgn_model.specs.Journal.{next_xid}
-use Rattle.pgn_model.specs.Packing.{page_of}
+use Rattle.pgn_journal.specs.Journal.{next_xid}
+use Rattle.pgn_journal.specs.Packing.{page_of}
 use Rattle.pgn_hub.specs.Calls.{HasMeasured}
 use Rattle.pgn_words.specs.declared.view.View.{View}
 use Rattle.pgn_words.specs.Passes.{view_of}

@@ -4,7 +4,7 @@ use Rattle.pgn_base.specs.declared.note.Note.{Note}
 use Rattle.pgn_layout.specs.Batches.{IsPlanned, batch_cells}
 use Rattle.pgn_wordhub.specs.Placing.{writer_of, stored_more}
 use Rattle.pgn_base.specs.declared.format.Format.TheVariants.{One}
-use Rattle.pgn_model.specs.Shape.{Shape}
+use Rattle.pgn_hub.specs.Shape.{Shape}
 use Rattle.pgn_words.specs.Passes.{view_of}
 use Rattle.pgn_wordhub.proofs.PlacingKept.{may_show, places_on}
 use Rattle.pgn_wordhub.proofs.hub.WordHub.place_batch.Goals as goal

@@ -1,8 +1,8 @@
 use Rattle.std.proofs.Common.{◌≡◌, sym, ap, ◌∙◌, subst}
 use Rattle.pgn_base.specs.declared.format.Format.TheVariants.{One}
 use Rattle.pgn_base.specs.declared.queue_answers.Full.{Full}
-use Rattle.pgn_model.specs.declared.tx.Fate.TheVariants as fates
-use Rattle.pgn_model.specs.Shape.{Shape}
+use Rattle.pgn_journal.specs.declared.tx.Fate.TheVariants as fates
+use Rattle.pgn_hub.specs.Shape.{Shape}
 use Rattle.pgn_hub.specs.Calls.{HasMetFull}
 use Rattle.pgn_words.specs.Passes.{view_of}
 use Rattle.pgn_words.specs.Told.{freed}

@@ -1,9 +1,9 @@
 use Rattle.std.proofs.Common.{◌≡◌, ℕ, ◌^◌, ◌<◌, ◌++◌, sym, ap, ◌∙◌, subst}
 use Rattle.pgn_base.specs.declared.format.Format.{Format}
 use Rattle.pgn_base.specs.declared.format.Format.TheVariants.{One}
-use Rattle.pgn_model.specs.Due.{due}
-use Rattle.pgn_model.specs.Packing.{place}
-use Rattle.pgn_model.specs.Shape.{Shape}
+use Rattle.pgn_journal.specs.Due.{due}
+use Rattle.pgn_journal.specs.Packing.{place}
+use Rattle.pgn_hub.specs.Shape.{Shape}
 use Rattle.pgn_words.specs.declared.view.View.{View}
 use Rattle.pgn_words.specs.Passes.{view_of, known_of, shape_of}
 use Rattle.pgn_wordhub.specs.Walks.{Walks, IsWalking, shown_cells}

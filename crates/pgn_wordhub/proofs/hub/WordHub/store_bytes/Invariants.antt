@@ -1,5 +1,5 @@
 use Rattle.std.proofs.Common.{◌≡◌, take}
-use Rattle.pgn_model.specs.Packing.{filled_cells}
+use Rattle.pgn_journal.specs.Packing.{filled_cells}
 use Rattle.pgn_words.specs.Passes.{IsPassOf, view_of}
 use Rattle.pgn_wordhub.specs.Placing.{stored_more}
 use Rattle.pgn_wordhub.proofs.hub.WordHub.store_bytes.Given as goal

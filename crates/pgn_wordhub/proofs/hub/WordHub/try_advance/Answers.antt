@@ -1,6 +1,6 @@
 use Rattle.std.proofs.Common.{length, sym, ap, ◌∙◌}
 use Rattle.pgn_base.specs.declared.format.Format.{Format}
-use Rattle.pgn_model.specs.Packing.{image}
+use Rattle.pgn_journal.specs.Packing.{image}
 use Rattle.pgn_words.specs.Passes.{known_of}
 use Rattle.pgn_wordhub.proofs.hub.WordHub.try_advance.Goals as goal
 

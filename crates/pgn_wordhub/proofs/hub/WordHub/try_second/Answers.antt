@@ -1,8 +1,8 @@
 use Rattle.std.proofs.Common.{rules, ◌≡◌, ◌+◌, ◌^◌, ◌<◌, length, sym, ◌∙◌, subst, arith}
 use Rattle.pgn_words.specs.declared.pos_word.PosWord.TheVariants as words
 use Rattle.std.proofs.lemmas.List.{length-set}
-use Rattle.pgn_model.specs.Packing.{image}
-use Rattle.pgn_model.specs.Shape.{Shape}
+use Rattle.pgn_journal.specs.Packing.{image}
+use Rattle.pgn_hub.specs.Shape.{Shape}
 use Rattle.pgn_words.specs.Passes.{view_of}
 use Rattle.pgn_wordhub.proofs.LookLaws.{may_look_second, second_goes_on, kept_goes_on, first_stays}
 use Rattle.pgn_wordhub.proofs.hub.WordHub.try_second.Goals as goal

@@ -1,9 +1,9 @@
 use Rattle.std.proofs.Common.{◌≡◌, ℕ, ◌++◌, Some, sym, ap, ◌∙◌, subst, arith}
 use Rattle.pgn_base.specs.declared.note.Note.{Note}
-use Rattle.pgn_model.specs.Journal.{next_xid}
+use Rattle.pgn_journal.specs.Journal.{next_xid}
 use Rattle.pgn_base.specs.declared.format.Format.TheVariants.{One}
-use Rattle.pgn_model.specs.Packing.{Sender, after_bytes}
-use Rattle.pgn_model.specs.Pieces.{AnEntry, gives, committed_by}
+use Rattle.pgn_journal.specs.Packing.{Sender, after_bytes}
+use Rattle.pgn_journal.specs.Pieces.{AnEntry, gives, committed_by}
 use Rattle.pgn_words.specs.declared.view.View.{View}
 use Rattle.pgn_words.specs.Passes.{view_of}
 use Rattle.pgn_wordhub.specs.Walks.{IsEntryAt, HasEntryAt, HasTurned, IsWalking, shown_cells}

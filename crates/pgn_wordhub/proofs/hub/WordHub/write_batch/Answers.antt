@@ -3,8 +3,8 @@ use Rattle.std.proofs.lemmas.List.{take_all, length-take-le}
 use Rattle.std.proofs.lemmas.Option.{slice_get_read}
 use Rattle.pgn_base.specs.declared.format.Format.TheVariants.{One}
 use Rattle.pgn_base.specs.declared.note.Note.{Note}
-use Rattle.pgn_model.specs.Bytes.{IsEntryLength}
-use Rattle.pgn_model.proofs.BytesLemmas.{length-filler}
+use Rattle.pgn_journal.specs.Bytes.{IsEntryLength}
+use Rattle.pgn_journal.proofs.BytesLemmas.{length-filler}
 use Rattle.pgn_words.specs.declared.view.View.{View}
 use Rattle.pgn_words.specs.Passes.{view_of, known_of}
 use Rattle.pgn_wordhub.specs.Passes.{hub_shape}

@@ -1,5 +1,5 @@
 use Rattle.std.proofs.Common.{◌∙◌, sym, ap}
-use Rattle.pgn_model.specs.Shape.{Shape}
+use Rattle.pgn_hub.specs.Shape.{Shape}
 use Rattle.pgn_hub.specs.Passes.{opened_passes}
 use Rattle.pgn_words.specs.Passes.{shape_of}
 use Rattle.pgn_wordhub.proofs.OpenedLaws.{opened_passes_are}

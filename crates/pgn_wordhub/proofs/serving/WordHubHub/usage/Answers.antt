@@ -1,10 +1,10 @@
 use Rattle.std.proofs.Common.{◌≡◌, ◌++◌, List, None, unwrap_or, sym, ap, ◌∙◌, subst}
 use Rattle.std.proofs.lemmas.List.{append_assoc}
 use Rattle.pgn_base.specs.declared.queue_answers.Usage.{Usage}
-use Rattle.pgn_model.specs.declared.tx.Tx.{Tx}
-use Rattle.pgn_model.specs.declared.known.Known.{Known}
-use Rattle.pgn_model.specs.Journal.{next_xid}
-use Rattle.pgn_model.specs.Shape.{Shape}
+use Rattle.pgn_journal.specs.declared.tx.Tx.{Tx}
+use Rattle.pgn_hub.specs.declared.known.Known.{Known}
+use Rattle.pgn_journal.specs.Journal.{next_xid}
+use Rattle.pgn_hub.specs.Shape.{Shape}
 use Rattle.pgn_hub.specs.Calls.{HasMeasured}
 use Rattle.pgn_words.specs.declared.view.View.{View}
 use Rattle.pgn_words.specs.Passes.{view_of}

@@ -1,5 +1,5 @@
 use Rattle.std.proofs.Common.{◌≡◌, ◌+◌, ℕ, ap, ◌∙◌, arith}
-use Rattle.pgn_model.specs.declared.setup.SeatSetup.{SeatSetup}
+use Rattle.pgn_hub.specs.declared.setup.SeatSetup.{SeatSetup}
 use Rattle.pgn_words.specs.Views.{seat_of}
 use Rattle.pgn_words.specs.Passes.{view_of}
 use Rattle.pgn_words.proofs.PassKept.{make_allowed}

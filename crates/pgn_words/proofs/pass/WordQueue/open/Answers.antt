@@ -1,5 +1,5 @@
 use Rattle.std.proofs.Common.{List, ◌≡◌, ◌+◌, length, arith, subst, sym, ap, ◌∙◌}
-use Rattle.pgn_model.specs.Shape.{Shape}
+use Rattle.pgn_hub.specs.Shape.{Shape}
 use Rattle.pgn_words.specs.declared.pass.WordPass.{WordPass}
 use Rattle.pgn_words.specs.Passes.{shape_of}
 use Rattle.pgn_words.proofs.OpenedLaws.{AreMade, next_made}

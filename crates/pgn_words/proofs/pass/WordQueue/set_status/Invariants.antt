@@ -1,4 +1,4 @@
-use Rattle.pgn_model.specs.Pieces.{draft}
+use Rattle.pgn_journal.specs.Pieces.{draft}
 use Rattle.pgn_words.specs.Passes.{known_of, view_of}
 use Rattle.pgn_words.proofs.pass.WordQueue.set_status.Given as goal
 

@@ -1,5 +1,5 @@
 use Rattle.std.proofs.Common.{arith, refl}
-use Rattle.pgn_model.specs.Pieces.{draft}
+use Rattle.pgn_journal.specs.Pieces.{draft}
 use Rattle.pgn_words.specs.Passes.{known_of, view_of}
 use Rattle.pgn_words.proofs.StatusKept.{status_bits_allowed}
 use Rattle.pgn_words.proofs.pass.WordQueue.set_status_as.Goals as goal

@@ -1,5 +1,5 @@
 use Rattle.std.proofs.Common.{ℕ, ap, ◌∙◌, arith}
-use Rattle.pgn_model.specs.Packing.{place}
+use Rattle.pgn_journal.specs.Packing.{place}
 use Rattle.pgn_words.specs.Passes.{view_of}
 use Rattle.pgn_words.proofs.WalkKept.{store_forward_allowed}
 use Rattle.pgn_words.proofs.pass.WordQueue.store_forward.Goals as goal

@@ -1,5 +1,5 @@
 use Rattle.std.proofs.Common.{◌≡◌, ℕ, ◌≤◌, arith, subst}
-use Rattle.pgn_model.specs.Shape.{Shape, IsShape}
+use Rattle.pgn_hub.specs.Shape.{Shape, IsShape}
 use Rattle.pgn_words.specs.Words.{seats_of}
 use Rattle.pgn_words.proofs.LockKept.{try_lock_allowed}
 use Rattle.pgn_words.proofs.pass.WordQueue.try_lock.Goals as goal

@@ -1,5 +1,5 @@
 use Rattle.std.proofs.Common.{◌≡◌, ◌≤◌, List, [], ◌∷◌, length, get_or, ap, ◌∙◌, arith}
-use Rattle.pgn_model.specs.declared.setup.SeatSetup.{SeatSetup}
+use Rattle.pgn_hub.specs.declared.setup.SeatSetup.{SeatSetup}
 use Rattle.pgn_words.specs.Views.{seat_of, no_seat}
 use Rattle.pgn_words.proofs.OpeningLaws.{opens}
 use Rattle.pgn_words.proofs.pass.WordQueue.with_first.Goals as goal

@@ -1,6 +1,6 @@
 use Rattle.std.proofs.Common.{List, Option, ℕ, map, Some, ap, ◌∙◌, ⊎_elim, arith}
 use Rattle.std.proofs.lemmas.List.{length-map}
-use Rattle.pgn_model.specs.Shape.{Shape}
+use Rattle.pgn_hub.specs.Shape.{Shape}
 use Rattle.pgn_words.specs.Passes.{view_of}
 use Rattle.pgn_words.proofs.EntryTest.{entry_written, may_show, is_showing}
 use Rattle.pgn_words.proofs.tests.entry.write.Goals as goal

@@ -1,6 +1,6 @@
 use Rattle.std.proofs.Common.{◌≤◌}
 use Rattle.std.specs.Prelude.{flat_map}
-use Rattle.pgn_model.specs.Text.{doubled_byte}
+use Rattle.pgn_language.specs.Quotes.{doubled_byte}
 use Rattle.pgn_run.proofs.DoublingLaws.{pending}
 use Rattle.pgn_run.proofs.PutsLaws.{Toward}
 use Rattle.pgn_run.proofs.render.output.Out.runs.Given as goal

@@ -1,0 +1,3 @@
+-- Laws over the definitions.
+pub mod Savepoints
+pub mod Answers

@@ -1,0 +1,5 @@
+pub mod PieceSteps
+pub mod LongLiterals
+pub mod RunSteps
+pub mod FullSteps
+pub mod RefusedSteps

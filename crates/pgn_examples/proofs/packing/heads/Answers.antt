@@ -1,0 +1,14 @@
+use Rattle.std.proofs.Common.{arith}
+use Rattle.pgn_examples.proofs.packing.heads.Goals as goal
+
+pub returns-clause-database : goal.returns-clause-database
+returns-clause-database c = λ h. let e = h.db_fits in absurd (omega (arith, e))
+
+pub returns-clause-number : goal.returns-clause-number
+returns-clause-number c = λ h. let e = h.xid_fits in absurd (omega (arith, e))
+
+pub returns-clause-number_of_two : goal.returns-clause-number_of_two
+returns-clause-number_of_two c = λ h. let e = h.xid_fits in absurd (omega (arith, e))
+
+pub returns-clause-process : goal.returns-clause-process
+returns-clause-process c = λ h. let e = h.pid_fits in absurd (omega (arith, e))

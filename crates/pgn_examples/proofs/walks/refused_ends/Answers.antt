@@ -1,0 +1,28 @@
+use Rattle.pgn_examples.proofs.walks.refused_ends.Goals as goal
+
+pub returns-clause-no_mark : goal.returns-clause-no_mark
+returns-clause-no_mark c = λ h. let e = h.ended.mark in cc
+
+pub returns-clause-another_mark : goal.returns-clause-another_mark
+returns-clause-another_mark c = λ h. let e = h.ended.mark in cc
+
+pub returns-clause-a_mark : goal.returns-clause-a_mark
+returns-clause-a_mark c = λ h. let e = h.ended.mark in cc
+
+pub returns-clause-in_an_await : goal.returns-clause-in_an_await
+returns-clause-in_an_await c = λ h. let e = h.ended.answered in cc
+
+pub returns-clause-in_a_signal : goal.returns-clause-in_a_signal
+returns-clause-in_a_signal c = λ h. let e = h.ended.answered in cc
+
+pub returns-clause-in_a_quit : goal.returns-clause-in_a_quit
+returns-clause-in_a_quit c = λ h. let e = h.ended.answered in cc
+
+pub returns-clause-in_a_query : goal.returns-clause-in_a_query
+returns-clause-in_a_query c = λ h. let e = h.ended.answered in cc
+
+pub returns-clause-in_a_query_of_usage : goal.returns-clause-in_a_query_of_usage
+returns-clause-in_a_query_of_usage c = λ h. let e = h.ended.answered in cc
+
+pub returns-clause-in_a_refusal : goal.returns-clause-in_a_refusal
+returns-clause-in_a_refusal c = λ h. let e = h.ended.answered in cc

@@ -1,0 +1,20 @@
+use Rattle.std.proofs.Common.{arith}
+use Rattle.pgn_examples.proofs.walks.refused_lines.Goals as goal
+
+pub returns-clause-out_of_order : goal.returns-clause-out_of_order
+returns-clause-out_of_order c = λ h. let e = h.lawful.0.next in absurd (omega (arith, e))
+
+pub returns-clause-another_number : goal.returns-clause-another_number
+returns-clause-another_number c = λ h. let e = h.lawful.0.next in absurd (omega (arith, e))
+
+pub returns-clause-left_out : goal.returns-clause-left_out
+returns-clause-left_out c = λ h. let e = h.ended.done in cc
+
+pub returns-clause-one_more : goal.returns-clause-one_more
+returns-clause-one_more c = λ h. h.lawful.1.1.1.0.next
+
+pub returns-clause-twice : goal.returns-clause-twice
+returns-clause-twice c = λ h. h.lawful.1.1.1.0.next
+
+pub returns-clause-before_the_answer : goal.returns-clause-before_the_answer
+returns-clause-before_the_answer c = λ h. let e = h.lawful.1.1.0.answered in cc

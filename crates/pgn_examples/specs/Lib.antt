@@ -1,0 +1,15 @@
+-- Worked examples, written out.
+pub mod Runs
+pub mod Pieces
+pub mod Savepoints
+pub mod Answers
+pub mod Due
+pub mod Texts
+pub mod Inputs
+pub mod Scripts
+pub mod Blocks
+pub mod Flags
+pub mod FullQueue
+pub mod RefusedRuns
+pub mod Walks
+pub mod WholeRuns

@@ -1,0 +1,25 @@
+ghost use Rattle.std.specs.Prelude.{◌≡◌, [], ◌∷◌};
+ghost use Rattle.pgn_model.specs.Walk.{default_settings};
+ghost use Rattle.pgn_model.specs.Legal.{Legal};
+ghost use Rattle.pgn_model.specs.Text.{text};
+ghost use Rattle.pgn_examples.specs.Blocks.{failed_block_scenario, failed_block_trace, failed_block_text, left_scenario, left_journal, left_trace, left_text, quit_scenario, quit_trace, quit_text};
+
+/// A block fails at the first error. Its commands are ignored, a line that is no command is still told so, and its COMMIT rolls it
+/// back, so that nothing is sent. A further COMMIT warns that no transaction is in progress.
+pub fn failed_block_run()
+    ensures legal { Legal failed_block_scenario default_settings [] (failed_block_trace ∷ []) }
+    ensures shown { text failed_block_scenario [] (failed_block_trace ∷ []) ≡ failed_block_text }
+{}
+
+/// A session that listens and stops listening in one block becomes a listener at the commit, publishes its notification, and leaves
+/// without having received it.
+pub fn registered_then_left()
+    ensures legal { Legal left_scenario default_settings left_journal (left_trace ∷ []) }
+    ensures shown { text left_scenario left_journal (left_trace ∷ []) ≡ left_text }
+{}
+
+/// Where nothing was sent no page of the queue is in use. A listener that quits in a block leaves, and nothing of the block is sent.
+pub fn usage_and_quit()
+    ensures legal { Legal quit_scenario default_settings [] (quit_trace ∷ []) }
+    ensures shown { text quit_scenario [] (quit_trace ∷ []) ≡ quit_text }
+{}

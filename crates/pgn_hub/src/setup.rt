@@ -1,0 +1,99 @@
+ghost use Rattle.std.specs.Prelude.{◌≡◌, ◌≤◌, sum_by, vec_len};
+ghost use Rattle.pgn_base.specs.declared.limits.TheConstants.{HUB_FLAGS_MAX, NOTE_LINES_MAX, PAGES_MAX, PAGES_MIN, SECTIONS_MAX};
+
+use pgn_base::{Copied, DbOid, Seq};
+use std::alloc::{AllocError, Global};
+use std::marker::Model;
+
+/// What a queue keeps for a session: its database, and how many notifications it may still send.
+#[derive(Clone, Copy, Debug, PartialEq, Eq)]
+pub struct SeatSetup {
+    pub db: DbOid,
+    pub notes: u32,
+}
+
+pub type Seats = Seq<SeatSetup>;
+
+impl Copied for SeatSetup {
+    fn copy(&self, _alloc: Global) -> Result<Self, AllocError> {
+        Ok(*self)
+    }
+}
+
+/// What a queue is opened for: its limit in pages, how many flags there are, and a seat for each session, in order. Contracts see
+/// it as a `Shape`.
+#[derive(Debug, Drop)]
+pub struct Setup {
+    pages: u32,
+    flags: u32,
+    seats: Seats,
+}
+
+impl Model for Setup {
+    ghost use Rattle.pgn_base.specs.declared.format.Format.TheVariants.{One};
+    ghost use Rattle.pgn_hub.specs.Shape.{Shape, IsShape};
+
+    ghost Value = { Shape };
+
+    ghost view = { λ s. record { pages = s.pages; flags = s.flags; seats = s.seats; format = One } };
+
+    ghost invariant = { λ s. IsShape (record { pages = s.pages; flags = s.flags; seats = s.seats; format = One }) };
+}
+
+impl Setup {
+    ghost use Rattle.pgn_base.specs.declared.format.Format.TheVariants.{One};
+    ghost use Rattle.pgn_hub.specs.Shape.{IsShape};
+
+    /// Pages are 2 to 1,024, flags at most 512, seats 1 to 256, and their notifications together at most 65,536.
+    pub fn new(pages: u32, flags: u32, seats: Vec<SeatSetup>) -> Setup
+        requires some_pages { PAGES_MIN ≤ pages }
+        requires few_pages { pages ≤ PAGES_MAX }
+        requires few_flags { flags ≤ HUB_FLAGS_MAX }
+        requires some_seats { 1 ≤ vec_len seats }
+        requires few_seats { vec_len seats ≤ SECTIONS_MAX }
+        requires few_notes { sum_by (λ seat. seat.notes) seats.items ≤ NOTE_LINES_MAX }
+        ensures { result ≡ record { pages = pages; flags = flags; seats = seats.items; format = One } }
+    {
+        Setup {
+            pages,
+            flags,
+            seats: Seats::from_items(seats),
+        }
+    }
+
+    /// The limit of the queue, in pages.
+    pub fn pages(&self) -> u32
+        ensures value { result ≡ self.now.pages }
+        ensures format { self.now.format ≡ One }
+        ensures is_shape { IsShape self.now }
+    {
+        self.pages
+    }
+
+    /// How many flags there are.
+    pub fn flags(&self) -> u32
+        ensures value { result ≡ self.now.flags }
+        ensures is_shape { IsShape self.now }
+    {
+        self.flags
+    }
+
+    /// The seats, in order of their sessions.
+    pub fn seats(&self) -> &[SeatSetup]
+        ensures value { result.now ≡ self.now.seats }
+        ensures is_shape { IsShape self.now }
+    {
+        self.seats.as_slice()
+    }
+}
+
+impl Copied for Setup {
+    fn copy(&self, alloc: Global) -> Result<Self, AllocError> {
+        let seats = self.seats.copy(alloc)?;
+        Ok(Setup {
+            pages: self.pages,
+            flags: self.flags,
+            seats,
+        })
+    }
+}

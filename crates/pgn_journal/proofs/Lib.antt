@@ -1,0 +1,12 @@
+pub mod BeginsLaws
+pub mod JournalLaws
+pub mod DueLaws
+pub mod TextBytes
+pub mod BytesLemmas
+pub mod PackingLemmas
+pub mod PackingSteps
+pub mod PlainNotes
+pub mod NearLaws
+pub mod QueueUseLaws
+pub mod PieceLaws
+pub mod DraftLaws

@@ -1,0 +1,13 @@
+-- lists that begin others; the journal, and what is due from it
+pub mod Begins
+pub mod Journal
+pub mod Due
+-- the queue: the bytes of entries, where they lie, and how much of it is in use
+pub mod Bytes
+pub mod Packing
+pub mod Near
+pub mod QueueUse
+pub mod Pieces
+-- laws over these definitions, and the data of worked examples that several crates use
+pub mod laws
+pub mod examples

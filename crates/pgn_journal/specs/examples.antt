@@ -1,0 +1,2 @@
+-- Data of worked examples that several crates use.
+pub mod Packing

@@ -1,0 +1,11 @@
+pub mod GrammarLaws
+pub mod TokenLaws
+pub mod LineLaws
+pub mod InputLaws
+pub mod SoundLaws
+pub mod SlotLaws
+pub mod CoverLaws
+pub mod CleanTokens
+pub mod KeptForms
+pub mod OneLineCommands
+pub mod ValidForms
