@@ -6,7 +6,7 @@
 //! end the block, and ROLLBACK TO a savepoint from before the error, which leads back into it. Outside a block, LISTEN, UNLISTEN
 //! and NOTIFY are transactions of their own, and commit at once.
 //!
-//! The contract of `step` is the table of answers, `answer` in `pgn_model`: for every history of the open transaction, the effect,
+//! The contract of `step` is the table of answers, `answer` in `pgn_answers`: for every history of the open transaction, the effect,
 //! the next state and the history after it are those of the table's cell. Contracts see a `Block` as `BlockView`, its state and
 //! what is kept of its transaction. `effects_after` is a caller: it tells a block commands one after another.
 #![tactic(auto)]

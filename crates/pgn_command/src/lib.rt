@@ -1,6 +1,6 @@
 //! What a line of SQL reads as: the lexer and the grammar of the commands.
 //!
-//! `parse_line` gives exactly the reading of a line that `pgn_model` defines (`ReadsAs`), which is always there and only one. The
+//! `parse_line` gives exactly the reading of a line that `pgn_language` defines (`ReadsAs`), which is always there and only one. The
 //! layer above may rely on it both ways: a command is what the table of commands makes of the line's tokens, `Bad` tells the
 //! first byte at which no form of the table goes on, and `Invalid` the first limit that a notification goes past. Only want of
 //! memory is refused.

@@ -7,7 +7,7 @@
 //!
 //! An entry is its length, its database, its transaction and the process number of its sender, four bytes each with the lowest
 //! first, then the channel and the payload, each with a zero byte after it, and zero bytes up to its length. A filler is such a
-//! head with database 0, and zero bytes. Both definitions are `spelled` and `filler` of `pgn_model`.
+//! head with database 0, and zero bytes. Both definitions are `spelled` and `filler` of `pgn_journal`.
 //!
 //! None of these calls takes memory. What is read is shown as parts of the bytes that were given.
 //!

@@ -1,6 +1,6 @@
 //! Where entries and fillers lie in the queue, and where the status of a transaction stands in its word.
 //!
-//! `Packing` of `pgn_model` places the notifications of a whole journal one after another. A writer knows the head alone, and writes
+//! `Packing` of `pgn_journal` places the notifications of a whole journal one after another. A writer knows the head alone, and writes
 //! in batches: the entries that fit on the head's page, and a filler where the next one does not fit. `plan_batch` gives the next
 //! batch, and `laws::placing` says that batch after batch comes to the cells, the fillers and the end of the definitions. A writer:
 //!

@@ -1,6 +1,6 @@
 //! What an input reads as: a scenario, or its one fault.
 //!
-//! `read_scenario` gives exactly the reading that `pgn_model` defines (`ReadsAsScenario`), which is always there and only one. The
+//! `read_scenario` gives exactly the reading that `pgn_language` defines (`ReadsAsScenario`), which is always there and only one. The
 //! layer above may rely on it both ways: a scenario or a fault is given exactly where the input reads so, and every scenario is
 //! sound (`IsSound`). Only want of memory is refused, and it may come at any point.
 //!
