@@ -18,6 +18,11 @@
 //! its name, the text that is wanted and the text that is found.
 #![tactic(auto)]
 
+mod answers;
+mod cases;
+mod faults;
+mod lines;
+mod printer;
 mod report;
 mod row;
 mod runs;

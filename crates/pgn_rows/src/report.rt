@@ -1,3 +1,6 @@
+use crate::answers::{answers_row, blocks_row};
+use crate::faults::faults_row;
+use crate::lines::lines_row;
 use crate::row::{Outcome, Row, read_row};
 use crate::runs::run_row;
 use std::alloc::{AllocError, Global};
@@ -61,9 +64,17 @@ fn outcome<R: Threads + Wait + Sync>(
     words: Vec<String>,
     input: Vec<u8>,
 ) -> Result<Outcome, AllocError> {
-    match name.rsplit_once('.') {
-        _ => run_row(rt, alloc, words.as_slice(), input),
-    }
+    let Some((_, kind)) = name.rsplit_once('.') else {
+        return run_row(rt, alloc, words.as_slice(), input);
+    };
+    let output = match kind {
+        "lines" => lines_row(alloc, &input)?,
+        "faults" => faults_row(alloc, &input)?,
+        "answers" => answers_row(alloc, &input)?,
+        "blocks" => blocks_row(alloc, &input)?,
+        _ => Vec::from_slice(alloc, b"no kind of row")?,
+    };
+    Ok(Outcome { output, status: 0 })
 }
 
 // An outcome below its heading. A LF follows what does not end in one.

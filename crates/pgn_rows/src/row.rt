@@ -18,13 +18,6 @@ pub struct Outcome {
     pub status: u8,
 }
 
-impl Outcome {
-    /// Of a row that is no run.
-    pub fn of_text(output: Vec<u8>) -> Outcome {
-        Outcome { output, status: 0 }
-    }
-}
-
 /// Reads the files of the row of this name.
 pub fn read_row<R: Files + AllocGlobal>(rt: &R, name: &str) -> io::Result<Row> {
     let input = read_file(rt, name, "input")?;
