@@ -1,7 +1,5 @@
 use pgn_answers::BlockState;
-use pgn_base::{
-    Action, Actions, Command, Name, Needs, Note, Notes, Refusal, Tag, Warning, Which,
-};
+use pgn_base::{Action, Actions, Command, Name, Needs, Note, Notes, Refusal, Tag, Warning, Which};
 use pgn_block::{Effect, Kind};
 use pgn_language::{Act, Scenario, ScenarioFault, ScriptLine, Section};
 use std::alloc::{AllocError, Global};
@@ -89,7 +87,10 @@ impl Printer {
             ScenarioFault::SameName { line } => self.at_line(line, b"name of an earlier section"),
             ScenarioFault::TooMany { line } => self.at_line(line, b"too many"),
             ScenarioFault::Empty => self.bytes(b"no section"),
-            ScenarioFault::NeverSignalled { line } => self.at_line(line, b"flag is never signalled"),
+            ScenarioFault::NeverSignalled { line } => self.at_line(
+                line,
+                b"flag is never signalled",
+            ),
         }
     }
 
@@ -248,7 +249,8 @@ impl Printer {
     }
 }
 
-const ABORTED: &[u8] = b"ERROR: 25P02: current transaction is aborted, commands ignored until end of transaction block";
+const ABORTED: &[u8] =
+    b"ERROR: 25P02: current transaction is aborted, commands ignored until end of transaction block";
 
 const FULL: &[u8] = b"ERROR: 54000: too many notifications in the NOTIFY queue";
 

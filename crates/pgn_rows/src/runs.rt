@@ -1,4 +1,4 @@
-ghost use Rattle.std.specs.Prelude.{◌≡◌, ◌≤◌, ◌×◌, IfSome};
+ghost use Rattle.std.specs.Prelude.{◌≤◌};
 ghost use Rattle.pgn_base.specs.declared.limits.TheConstants.{PAGES_MIN, PAGES_MAX};
 
 use crate::row::Outcome;
@@ -22,13 +22,7 @@ pub fn run_row<R: Threads + Wait + Sync>(
 ) -> Result<Outcome, AllocError> {
     let words = borrowed(alloc, words)?;
     let mut sink = MemSink::new(alloc, ROOM, Vec::new(alloc), ROOM)?;
-    let status = match limits_of(words.as_slice()) {
-        Some(limits) => run_within(rt, alloc, &limits, input.as_slice(), &mut sink)?,
-        None => {
-            let mut source = MemSource::new(input, Vec::new(alloc), ROOM);
-            run_notify(rt, alloc, words.as_slice(), &mut source, &mut sink)
-        }
-    };
+    let status = status_of(rt, alloc, words.as_slice(), input, &mut sink)?;
     let output = Vec::from_slice(alloc, sink.held())?;
     Ok(Outcome {
         output,
@@ -42,6 +36,46 @@ fn borrowed(alloc: Global, words: &[String]) -> Result<Vec<&str>, AllocError> {
         texts.push(word.as_str())?;
     }
     Ok(texts)
+}
+
+// How a run ends. The words that set limits, which `run_notify` refuses, are taken here.
+fn status_of<R: Threads + Wait + Sync>(
+    rt: &R,
+    alloc: Global,
+    words: &[&str],
+    input: Vec<u8>,
+    sink: &mut MemSink,
+) -> Result<Status, AllocError> {
+    if let Some(limits) = limits_of(words) {
+        let pages = limits.pages.unwrap_or(PAGES_DEFAULT);
+        let patience = limits.patience.unwrap_or(PATIENCE_DEFAULT);
+        if (PAGES_MIN..=PAGES_MAX).contains(&pages) && patience != 0 {
+            return run_within(rt, alloc, input.as_slice(), pages, patience, sink);
+        }
+    }
+    let mut source = MemSource::new(input, Vec::new(alloc), ROOM);
+    Ok(run_notify(rt, alloc, words, &mut source, sink))
+}
+
+// A run within these limits.
+fn run_within<R: Threads + Wait + Sync>(
+    rt: &R,
+    alloc: Global,
+    input: &[u8],
+    pages: u32,
+    patience: u64,
+    sink: &mut MemSink,
+) -> Result<Status, AllocError>
+    requires some_pages { PAGES_MIN ≤ pages }
+    requires few_pages { pages ≤ PAGES_MAX }
+    requires patient { 1 ≤ patience }
+{
+    match read_scenario(alloc, input)? {
+        Ok(scenario) => Ok(run_scenario::<WordHub, MemSink, R>(
+            rt, alloc, &scenario, pages, patience, sink,
+        )),
+        Err(fault) => Ok(Status::BadScenario(fault)),
+    }
 }
 
 // The limits that words of the command line set.
@@ -62,59 +96,27 @@ fn limits_of(words: &[&str]) -> Option<Limits> {
         patience: None,
     };
     for option in options.chunks(2) {
-        if !limits.set(option) {
-            return None;
-        }
+        limits = limits.with(option)?;
     }
     Some(limits)
 }
 
 impl Limits {
-    // Sets what an option and its number say, and whether they can be set: each once, and within its range.
-    fn set(&mut self, option: &[&str]) -> bool {
-        match option {
-            [name, number] if *name == "--pages" && self.pages.is_none() => {
-                self.pages = pages_of(number);
-                self.pages.is_some()
-            }
-            [name, number] if *name == "--patience" && self.patience.is_none() => {
-                self.patience = patience_of(number);
-                self.patience.is_some()
-            }
-            _ => false,
+    // These limits and that of an option with its number, which is set once.
+    fn with(self, option: &[&str]) -> Option<Limits> {
+        let [name, number] = option else {
+            return None;
+        };
+        match (*name, self.pages, self.patience) {
+            ("--pages", None, patience) => Some(Limits {
+                pages: Some(number.parse::<u32>().ok()?),
+                patience,
+            }),
+            ("--patience", pages, None) => Some(Limits {
+                pages,
+                patience: Some(number.parse::<u64>().ok()?),
+            }),
+            _ => None,
         }
     }
-}
-
-fn pages_of(number: &str) -> Option<u32> {
-    let pages = number.parse::<u32>().ok()?;
-    if (PAGES_MIN..=PAGES_MAX).contains(&pages) {
-        Some(pages)
-    } else {
-        None
-    }
-}
-
-fn patience_of(number: &str) -> Option<u64> {
-    let patience = number.parse::<u64>().ok()?;
-    if patience == 0 { None } else { Some(patience) }
-}
-
-// A run within these limits, as `run_notify` makes one within the default.
-fn run_within<R: Threads + Wait + Sync>(
-    rt: &R,
-    alloc: Global,
-    limits: &Limits,
-    input: &[u8],
-    sink: &mut MemSink,
-) -> Result<Status, AllocError> {
-    let scenario = match read_scenario(alloc, input)? {
-        Ok(scenario) => scenario,
-        Err(fault) => return Ok(Status::BadScenario(fault)),
-    };
-    let pages = limits.pages.unwrap_or(PAGES_DEFAULT).clamp(PAGES_MIN, PAGES_MAX);
-    let patience = limits.patience.unwrap_or(PATIENCE_DEFAULT).max(1);
-    Ok(run_scenario::<WordHub, MemSink, R>(
-        rt, alloc, &scenario, pages, patience, sink,
-    ))
 }
