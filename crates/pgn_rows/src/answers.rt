@@ -60,11 +60,21 @@ pub fn blocks_row(alloc: Global, input: &[u8]) -> Result<Vec<u8>, AllocError> {
 fn put_answers(printer: &mut Printer, alloc: Global, case: &[u8]) -> Result<(), AllocError> {
     let mut block = Block::new(alloc);
     for line in lines(alloc, case)? {
-        printer.bytes(line)?;
-        printer.bytes(b": ")?;
-        put_answer(printer, alloc, &mut block, line)?;
+        put_told(printer, alloc, &mut block, line)?;
     }
     Ok(())
+}
+
+// A line, and on the same line what it is answered.
+fn put_told(
+    printer: &mut Printer,
+    alloc: Global,
+    block: &mut Block,
+    line: &[u8],
+) -> Result<(), AllocError> {
+    printer.bytes(line)?;
+    printer.bytes(b": ")?;
+    put_answer(printer, alloc, block, line)
 }
 
 // What a line is answered, and the new state where it changes.

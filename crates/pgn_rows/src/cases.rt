@@ -42,8 +42,11 @@ pub fn written_out(alloc: Global, text: &[u8]) -> Result<Vec<u8>, AllocError> {
 
 // As many of the first byte as make a longest line with the one that follows.
 fn put_many(whole: &mut Vec<u8>, part: &[u8]) -> Result<(), AllocError> {
-    match part.first() {
-        Some(byte) => whole.resize(whole.len() + LINE_BYTES_MAX - 1, *byte),
-        None => Ok(()),
+    let Some(byte) = part.first() else {
+        return Ok(());
+    };
+    for _ in 1..LINE_BYTES_MAX {
+        whole.push(*byte)?;
     }
+    Ok(())
 }

@@ -9,16 +9,16 @@ pub fn lines_row(alloc: Global, input: &[u8]) -> Result<Vec<u8>, AllocError> {
     let mut printer = Printer::new(alloc);
     for line in lines(alloc, input)? {
         put_reading(&mut printer, alloc, line)?;
+        printer.bytes(b"\n")?;
     }
     Ok(printer.into_text())
 }
 
 fn put_reading(printer: &mut Printer, alloc: Global, line: &[u8]) -> Result<(), AllocError> {
     match command_of(alloc, line)? {
-        Some(command) => printer.command(&command)?,
-        None => printer.bytes(b"no line")?,
+        Some(command) => printer.command(&command),
+        None => printer.bytes(b"no line"),
     }
-    printer.bytes(b"\n")
 }
 
 /// The command that a line reads as, unless it can be no line of an input.

@@ -122,10 +122,14 @@ impl Printer {
         self.bytes(b"\nsection ")?;
         self.number(section.no.get())?;
         self.named(b"", &section.name)?;
+        self.section_numbers(section.db.get(), section.note_lines)
+    }
+
+    fn section_numbers(&mut self, database: u32, note_lines: u32) -> Result<(), AllocError> {
         self.bytes(b" database ")?;
-        self.number(section.db.get())?;
+        self.number(database)?;
         self.bytes(b" lines that notify ")?;
-        self.number(section.note_lines)
+        self.number(note_lines)
     }
 
     fn script(&mut self, lines: &[ScriptLine]) -> Result<(), AllocError> {
