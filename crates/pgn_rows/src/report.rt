@@ -1,3 +1,5 @@
+ghost use Rattle.std.specs.Prelude.{◌≡◌, ◌++◌, IfOk, codes};
+
 use crate::answers::{answers_row, blocks_row};
 use crate::faults::faults_row;
 use crate::lines::lines_row;
@@ -28,7 +30,9 @@ fn text_or_none(alloc: Global, text: Result<Vec<u8>, AllocError>) -> Vec<u8> {
     }
 }
 
-fn line(alloc: Global, name: &str, what: &str) -> Result<Vec<u8>, AllocError> {
+fn line(alloc: Global, name: &str, what: &str) -> Result<Vec<u8>, AllocError>
+    ensures { IfOk result (λ text. text.items ≡ name.now ++ what.now ++ codes "\n") }
+{
     let mut text = Vec::from_slice(alloc, name.as_bytes())?;
     text.extend_from_slice(what.as_bytes())?;
     text.push(b'\n')?;
