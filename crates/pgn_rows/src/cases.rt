@@ -1,0 +1,52 @@
+use bstr::ByteSlice;
+use pgn_base::LINE_BYTES_MAX;
+use std::alloc::{AllocError, Global};
+
+// What follows each case of an input.
+const END_OF_CASE: &[u8] = b"\n=====\n";
+
+// The character `…`: it and the byte after it stand for many of that byte.
+const MANY: &[u8] = b"\xe2\x80\xa6";
+
+/// The cases of an input.
+pub fn cases(alloc: Global, input: &[u8]) -> Result<Vec<&[u8]>, AllocError> {
+    let mut cases = Vec::new(alloc);
+    let front = input.strip_suffix(END_OF_CASE).unwrap_or(input);
+    for case in front.split_str(END_OF_CASE) {
+        cases.push(case)?;
+    }
+    Ok(cases)
+}
+
+/// The lines of a text. The LF of the last one may be left out.
+pub fn lines(alloc: Global, text: &[u8]) -> Result<Vec<&[u8]>, AllocError> {
+    let mut lines = Vec::new(alloc);
+    let front = text.strip_suffix(b"\n").unwrap_or(text);
+    for line in front.split_str(b"\n") {
+        lines.push(line)?;
+    }
+    Ok(lines)
+}
+
+/// The text with what `…` stands for.
+pub fn written_out(alloc: Global, text: &[u8]) -> Result<Vec<u8>, AllocError> {
+    let mut whole = Vec::new(alloc);
+    for (count, part) in text.split_str(MANY).enumerate() {
+        if count != 0 {
+            put_many(&mut whole, part)?;
+        }
+        whole.extend_from_slice(part)?;
+    }
+    Ok(whole)
+}
+
+// As many of the first byte as make a longest line with the one that follows.
+fn put_many(whole: &mut Vec<u8>, part: &[u8]) -> Result<(), AllocError> {
+    let Some(byte) = part.first() else {
+        return Ok(());
+    };
+    for _ in 1..LINE_BYTES_MAX {
+        whole.push(*byte)?;
+    }
+    Ok(())
+}

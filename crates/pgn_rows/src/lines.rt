@@ -1,0 +1,35 @@
+use crate::cases::{lines, written_out};
+use crate::printer::Printer;
+use pgn_base::{Command, LINE_BYTES_MAX};
+use pgn_command::parse_line;
+use std::alloc::{AllocError, Global};
+
+/// What each line of the input reads as, a line each.
+pub fn lines_row(alloc: Global, input: &[u8]) -> Result<Vec<u8>, AllocError> {
+    let mut printer = Printer::new(alloc);
+    for line in lines(alloc, input)? {
+        put_reading(&mut printer, alloc, line)?;
+        printer.bytes(b"\n")?;
+    }
+    Ok(printer.into_text())
+}
+
+fn put_reading(printer: &mut Printer, alloc: Global, line: &[u8]) -> Result<(), AllocError> {
+    match command_of(alloc, line)? {
+        Some(command) => printer.command(&command),
+        None => printer.bytes(b"no line"),
+    }
+}
+
+/// The command that a line reads as, unless it can be no line of an input.
+pub fn command_of(alloc: Global, line: &[u8]) -> Result<Option<Command>, AllocError> {
+    let whole = written_out(alloc, line)?;
+    let Ok(line) = str::from_utf8(whole.as_slice()) else {
+        return Ok(None);
+    };
+    if line.len() > LINE_BYTES_MAX || line.as_bytes().contains(&0) {
+        return Ok(None);
+    }
+    let command = parse_line(alloc, line)?;
+    Ok(Some(command))
+}

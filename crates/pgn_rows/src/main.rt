@@ -1,0 +1,42 @@
+//! Worked rows: inputs with the outputs that they must give, as files, and the program that compares them.
+//!
+//! Standard input names the rows, one a line. The files of a row lie in the folder in which the program runs: `NAME.input` and
+//! `NAME.output`, and where they are not the default `NAME.words` (the words of the command line, one a line; else the one word
+//! `run`) and `NAME.status` (the exit status in decimal; else 0). What is done with an input is told by the name's ending:
+//!
+//! - a plain name: a run of the program, of these words over this input;
+//! - `.lines`: each line of the input is a line of SQL, and the output has what it reads as, a line each;
+//! - `.faults`: the output has for each case of the input its fault, or the scenario that it reads as;
+//! - `.answers`: each line of the input is a line of SQL, and the output has its answers in each state of a transaction block;
+//! - `.blocks`: the lines of a case are told to one block, one after another, and the output has the answer to each.
+//!
+//! After each case of an input a LF, `=====` and a LF follow, which are no part of it: a case that ends in a LF has an empty line
+//! before its `=====`. A character `…` in a line of SQL or in a case, and the byte after it, stand for 65,536 of that byte, as many
+//! as a line may have.
+//!
+//! A row that comes out right prints its name, so that standard output is to be standard input again. A row that differs prints
+//! its name, the text that is wanted and the text that is found.
+#![tactic(auto)]
+
+mod answers;
+mod cases;
+mod faults;
+mod lines;
+mod printer;
+mod report;
+mod row;
+mod runs;
+
+use report::report;
+use std::io;
+use std::io::Write;
+
+// What cannot be written is missed by who compares the output.
+fn main(rt: HostRuntime) -> io::Result<()> {
+    for name in rt.lines(rt.alloc()) {
+        let name = name?;
+        let text = report(&rt, rt.alloc(), name.as_str());
+        let _ = rt.stdout().write_all(text.as_slice());
+    }
+    Ok(())
+}

@@ -1,0 +1,99 @@
+ghost use Rattle.std.specs.Prelude.{◌≡◌, ◌++◌, IfOk, codes};
+
+use crate::answers::{answers_row, blocks_row};
+use crate::faults::faults_row;
+use crate::lines::lines_row;
+use crate::row::{Outcome, Row, read_row};
+use crate::runs::run_row;
+use std::alloc::{AllocError, Global};
+use std::fs::Files;
+use std::sync::Wait;
+use std::thread::Threads;
+
+/// What is printed of the row of this name: the name alone where the row comes out right.
+pub fn report<R: Files + AllocGlobal + Threads + Wait + Sync>(
+    rt: &R,
+    alloc: Global,
+    name: &str,
+) -> Vec<u8> {
+    match read_row(rt, name) {
+        Ok(row) => text_or_none(alloc, judged(rt, alloc, name, row)),
+        Err(_) => text_or_none(alloc, line(alloc, name, " cannot be read")),
+    }
+}
+
+// Where memory does not suffice for the text, there is none, and so no name.
+fn text_or_none(alloc: Global, text: Result<Vec<u8>, AllocError>) -> Vec<u8> {
+    match text {
+        Ok(text) => text,
+        Err(AllocError) => Vec::new(alloc),
+    }
+}
+
+fn line(alloc: Global, name: &str, what: &str) -> Result<Vec<u8>, AllocError>
+    ensures { IfOk result (λ text. text.items ≡ name.now ++ what.now ++ codes "\n") }
+{
+    let mut text = Vec::from_slice(alloc, name.as_bytes())?;
+    text.extend_from_slice(what.as_bytes())?;
+    text.push(b'\n')?;
+    Ok(text)
+}
+
+fn judged<R: Threads + Wait + Sync>(
+    rt: &R,
+    alloc: Global,
+    name: &str,
+    row: Row,
+) -> Result<Vec<u8>, AllocError> {
+    let Row {
+        words,
+        input,
+        wanted,
+    } = row;
+    let found = outcome(rt, alloc, name, words, input)?;
+    if found.status == wanted.status && found.output.as_slice() == wanted.output.as_slice() {
+        return line(alloc, name, "");
+    }
+    let mut text = line(alloc, name, " differs")?;
+    put_outcome(&mut text, alloc, "wanted", &wanted)?;
+    put_outcome(&mut text, alloc, "found", &found)?;
+    Ok(text)
+}
+
+// What the row's input comes to, by the ending of its name.
+fn outcome<R: Threads + Wait + Sync>(
+    rt: &R,
+    alloc: Global,
+    name: &str,
+    words: Vec<String>,
+    input: Vec<u8>,
+) -> Result<Outcome, AllocError> {
+    let Some((_, kind)) = name.rsplit_once('.') else {
+        return run_row(rt, alloc, words.as_slice(), input);
+    };
+    let output = match kind {
+        "lines" => lines_row(alloc, &input)?,
+        "faults" => faults_row(alloc, &input)?,
+        "answers" => answers_row(alloc, &input)?,
+        "blocks" => blocks_row(alloc, &input)?,
+        _ => Vec::from_slice(alloc, b"no kind of row")?,
+    };
+    Ok(Outcome { output, status: 0 })
+}
+
+// An outcome below its heading. A LF follows what does not end in one.
+fn put_outcome(
+    text: &mut Vec<u8>,
+    alloc: Global,
+    what: &str,
+    outcome: &Outcome,
+) -> Result<(), AllocError> {
+    let (bytes, status) = (outcome.output.len(), outcome.status);
+    let head = format!(in alloc; "--- {what}: {bytes} bytes, status {status}\n")?;
+    text.extend_from_slice(head.as_bytes())?;
+    text.extend_from_slice(outcome.output.as_slice())?;
+    if !outcome.output.ends_with(b"\n") {
+        text.push(b'\n')?;
+    }
+    Ok(())
+}
