@@ -28,8 +28,6 @@ mod render;
 mod run;
 mod scenario_run;
 mod status;
-#[cfg(test)]
-mod tests;
 
 pub use run::run_notify;
 pub use scenario_run::run_scenario;

@@ -2,14 +2,11 @@ ghost use Rattle.std.specs.Prelude.{◌≡◌, ◌≤◌, Ok, length, IfOk, OnOk
 ghost use Rattle.std.specs.Thread.{IsSync, IsSend};
 ghost use Rattle.pgn_threads.specs.Whole.{IsReady, IsOver};
 ghost use Rattle.pgn_session.specs.declared.doing.Doing.TheVariants.{Over};
-ghost use Rattle.pgn_language.specs.Inputs.{IsSound};
 
+use super::scenario_of;
 use pgn_base::{DbOid, Name, Note, Payload};
-use pgn_hub::Hub;
-use pgn_hub::{PassView, SeatSetup, Setup};
-use pgn_language::Scenario;
+use pgn_hub::{Hub, PassView, SeatSetup, Setup};
 use pgn_model::Item;
-use pgn_scenario::read_scenario;
 use pgn_session::{Session, Step};
 use pgn_threads::{drain, open_on_hub};
 use pgn_wordhub::WordHub;
@@ -17,15 +14,6 @@ use std::alloc::{AllocError, Global};
 use std::sync::Wait;
 use std::test::Fail;
 use std::thread::{Threads, join_mut};
-
-fn scenario_of(alloc: Global, input: &str) -> Result<Scenario, Fail>
-    ensures { IfOk result IsSound }
-{
-    match read_scenario(alloc, input.as_bytes())? {
-        Ok(scenario) => Ok(scenario),
-        Err(_) => Err(Fail::from("no scenario")),
-    }
-}
 
 // A hub of two pages, and the sessions of a scenario of two.
 fn open_two<H: Hub + Drop>(
