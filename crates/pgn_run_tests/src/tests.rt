@@ -2,7 +2,7 @@ ghost use Rattle.std.specs.Prelude.{IfOk};
 ghost use Rattle.pgn_language.specs.Inputs.{IsSound};
 
 use pgn_base::{MemSink, MemSource};
-use pgn_language::Scenario;
+use pgn_language::{Scenario, ScenarioFault};
 use pgn_run::{Status, run_notify};
 use pgn_scenario::read_scenario;
 use std::alloc::Global;
@@ -14,7 +14,7 @@ mod gate;
 mod job_table;
 mod listeners;
 mod over_hub;
-mod refusals;
+mod streams;
 
 const SELF_NOTIFY: &str = "\
 \\session a 1
@@ -41,9 +41,19 @@ const AMPLE: Outside<'static> = Outside {
 // What a run has written that is done; of another one how it ended, and what it wrote.
 fn told(alloc: Global, status: Status, held: &[u8]) -> Result<String, Fail> {
     let written = str::from_utf8(held)?;
+    let ending = ending_of(status);
+    Ok(format!(in alloc; "{ending}{written}")?)
+}
+
+fn ending_of(status: Status) -> &'static str {
     match status {
-        Status::Done => Ok(String::from_str(alloc, written)?),
-        _ => Ok(format!(in alloc; "{status:?}: {written}")?),
+        Status::Done => "",
+        Status::BadWords => "BadWords: ",
+        Status::BadScenario(ScenarioFault::TooLarge) => "BadScenario(TooLarge): ",
+        Status::BadScenario(_) => "BadScenario: ",
+        Status::ReadFault => "ReadFault: ",
+        Status::WriteFault => "WriteFault: ",
+        Status::NoMemory => "NoMemory: ",
     }
 }
 
