@@ -16,12 +16,12 @@ use std::test::Fail;
 use std::thread::{Threads, join_mut};
 
 // A hub of two pages, and the sessions of a scenario of two.
-fn open_two<H: Hub + Drop>(
+fn open_two<P: PassView + Send + Drop, H: Hub<Pass = P> + Drop>(
     alloc: Global,
     input: &str,
-) -> Result<(H, Session<H::Pass>, Session<H::Pass>), Fail>
-    ensures first { IfOk result (λ opened. IsReady (H.is_pass opened.0) (H.shape opened.0) H.Pass.known opened.1) }
-    ensures second { IfOk result (λ opened. IsReady (H.is_pass opened.0) (H.shape opened.0) H.Pass.known opened.2) }
+) -> Result<(H, Session<P>, Session<P>), Fail>
+    ensures first { IfOk result (λ opened. IsReady (H.is_pass opened.0) (H.shape opened.0) P.known opened.1) }
+    ensures second { IfOk result (λ opened. IsReady (H.is_pass opened.0) (H.shape opened.0) P.known opened.2) }
 {
     let scenario = scenario_of(alloc, input)?;
     let (hub, mut sessions) = open_on_hub::<H>(alloc, &scenario, 2, 1000)?;
@@ -101,19 +101,37 @@ fn last_read<P: PassView + Send + Drop>(session: &Session<P>) -> Option<(u32, u3
     }
 }
 
-// A session listens, sends in a block, and reads what it sent once the block has ended.
+// The session's mark is this one, and its last item is no read.
+fn has_not_read<P: PassView + Send + Drop>(session: &Session<P>, mark: u32) -> bool {
+    mark_of(session) == Some(mark) && last_read(session).is_none()
+}
+
+// The session's mark is this one, and its last item is a read from there to here, of one delivery.
+fn has_read_one<P: PassView + Send + Drop>(session: &Session<P>, from: u32, to: u32) -> bool {
+    mark_of(session) == Some(to) && last_read(session) == Some((from, to, 1))
+}
+
+// A session listens, sends in a block, and reads what it sent once the block has ended: whether it has no mark at first, has not
+// read in the block, and has read after it.
+fn read_after_the_block<P: PassView + Send + Drop, H: Hub<Pass = P> + Drop, R: Wait>(
+    rt: &R,
+    alloc: Global,
+) -> Result<(bool, bool, bool), Fail> {
+    let input = "\\session a 1\nLISTEN c\nBEGIN\nNOTIFY c\nCOMMIT\n\\session b 1\n";
+    let (hub, mut first, _second) = open_two::<P, H>(alloc, input)?;
+    let unmarked = mark_of(&first).is_none();
+    turns(rt, alloc, &hub, &mut first, 3)?;
+    let unread = has_not_read(&first, 3);
+    turns(rt, alloc, &hub, &mut first, 1)?;
+    Ok((unmarked, unread, has_read_one(&first, 3, 4)))
+}
+
+type WordPass = <WordHub as Hub>::Pass;
+
 #[test]
 fn a_session_reads_what_it_sent(rt: HostRuntime) -> Result<(), Fail> {
-    let alloc = rt.alloc();
-    let input = "\\session a 1\nLISTEN c\nBEGIN\nNOTIFY c\nCOMMIT\n\\session b 1\n";
-    let (hub, mut first, _second) = open_two::<WordHub>(alloc, input)?;
-    assert_eq!(rt; mark_of(&first), None);
-    turns(&rt, alloc, &hub, &mut first, 3)?;
-    assert_eq!(rt; mark_of(&first), Some(3));
-    assert_eq!(rt; last_read(&first), None);
-    turns(&rt, alloc, &hub, &mut first, 1)?;
-    assert_eq!(rt; mark_of(&first), Some(4));
-    assert_eq!(rt; last_read(&first), Some((3, 4, 1)));
+    let seen = read_after_the_block::<WordPass, WordHub, HostRuntime>(&rt, rt.alloc())?;
+    assert_eq!(rt; seen, (true, true, true));
     Ok(())
 }
 
@@ -137,20 +155,26 @@ fn end_both<P: PassView + Send + Drop, H: Hub<Pass = P>, R: Wait>(
     Ok(())
 }
 
-// A session that is over and has not read what was sent reads it as it is drained.
-#[test]
-fn drain_reads_what_is_left(rt: HostRuntime) -> Result<(), Fail> {
-    let alloc = rt.alloc();
+// A session is over, and reads as it is drained what was sent: whether it has not read before, has read after, and the other one,
+// which sent it, has no mark.
+fn read_as_it_is_drained<P: PassView + Send + Drop, H: Hub<Pass = P> + Drop, R: Wait>(
+    rt: &R,
+    alloc: Global,
+) -> Result<(bool, bool, bool), Fail> {
     let input = "\\session a 1\nLISTEN c\n\\session b 1\nNOTIFY c\n";
-    let (hub, mut first, mut second) = open_two::<WordHub>(alloc, input)?;
-    end_both(&rt, alloc, &hub, &mut first, &mut second)?;
-    assert_eq!(rt; mark_of(&first), Some(3));
-    assert_eq!(rt; last_read(&first), None);
+    let (hub, mut first, mut second) = open_two::<P, H>(alloc, input)?;
+    end_both(rt, alloc, &hub, &mut first, &mut second)?;
+    let unread = has_not_read(&first, 3);
     let mut both = [first, second];
     drain(alloc, &hub, &mut both)?;
-    assert_eq!(rt; mark_of(&both[0]), Some(4));
-    assert_eq!(rt; last_read(&both[0]), Some((3, 4, 1)));
-    assert_eq!(rt; mark_of(&both[1]), None);
+    let read = has_read_one(&both[0], 3, 4);
+    Ok((unread, read, mark_of(&both[1]).is_none()))
+}
+
+#[test]
+fn drain_reads_what_is_left(rt: HostRuntime) -> Result<(), Fail> {
+    let seen = read_as_it_is_drained::<WordPass, WordHub, HostRuntime>(&rt, rt.alloc())?;
+    assert_eq!(rt; seen, (true, true, true));
     Ok(())
 }
 
@@ -268,8 +292,7 @@ fn publish_and_gather<
 
 #[test]
 fn two_passes_publish_side_by_side(rt: HostRuntime) -> Result<(), Fail> {
-    type Pass = <WordHub as Hub>::Pass;
-    let done = publish_and_gather::<Pass, WordHub, HostRuntime>(&rt, rt.alloc(), 50)?;
+    let done = publish_and_gather::<WordPass, WordHub, HostRuntime>(&rt, rt.alloc(), 50)?;
     assert_eq!(rt; done, (50, 50, 100));
     Ok(())
 }
