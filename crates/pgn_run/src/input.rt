@@ -6,7 +6,7 @@ use pgn_base::Source;
 use std::alloc::{AllocError, Global};
 
 /// Why an input was not read.
-#[derive(Clone, Copy, Debug, PartialEq, Eq)]
+#[derive(Clone, Copy)]
 pub enum Unread {
     Failed,
     Memory,

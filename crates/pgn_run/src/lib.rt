@@ -16,7 +16,7 @@
 //! let mut source = MemSource::new(input, Vec::new(alloc), 100);
 //! let mut sink = MemSink::new(alloc, 1000, Vec::new(alloc), 100)?;
 //! let status = run_notify(&rt, alloc, &["run"], &mut source, &mut sink);
-//! assert_eq!(rt; status, Status::Done);
+//! assert!(rt; matches!(status, Status::Done));
 //! let want = b"journal 0\nsession 1 a db 1 pid 1001\n> LISTEN c\n+enlist 3 3\nLISTEN\nend mark 3\n";
 //! assert_eq!(rt; sink.held(), want.as_slice());
 //! ```
@@ -28,8 +28,6 @@ mod render;
 mod run;
 mod scenario_run;
 mod status;
-#[cfg(test)]
-mod tests;
 
 pub use run::run_notify;
 pub use scenario_run::run_scenario;

@@ -1,7 +1,7 @@
 use pgn_language::ScenarioFault;
 
 /// How a run ended. Its `code` is the program's exit status.
-#[derive(Clone, Copy, Debug, PartialEq, Eq)]
+#[derive(Clone, Copy)]
 pub enum Status {
     /// The whole output was written.
     Done,

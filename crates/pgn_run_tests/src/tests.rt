@@ -1,41 +1,25 @@
-use super::*;
+ghost use Rattle.std.specs.Prelude.{IfOk};
+ghost use Rattle.pgn_language.specs.Inputs.{IsSound};
+
 use pgn_base::{MemSink, MemSource};
-use pgn_hub::Hub;
+use pgn_language::{Scenario, ScenarioFault};
+use pgn_run::{Status, run_notify};
 use pgn_scenario::read_scenario;
-use std::alloc::{AllocError, Global};
+use std::alloc::Global;
 use std::sync::Wait;
 use std::test::Fail;
 use std::thread::Threads;
 
-mod answers;
 mod gate;
 mod job_table;
+mod listeners;
 mod over_hub;
-mod queue;
-mod refusals;
-mod several;
-mod single;
+mod streams;
 
 const SELF_NOTIFY: &str = "\
 \\session a 1
 LISTEN c
 NOTIFY c, 'x'
-";
-
-const SELF_NOTIFY_OUTPUT: &str = "\
-journal 1
-xid 3 session 1 commit 1
-  \"c\", 'x'
-session 1 a db 1 pid 1001
-> LISTEN c
-+enlist 3 3
-LISTEN
-> NOTIFY c, 'x'
-+publish 3
-NOTIFY
-+read 3 4
-  3 1001 \"c\", 'x'
-end mark 4
 ";
 
 // A source's and a sink's faults: which calls fail, how many bytes a call moves at most, and the sink's room.
@@ -57,17 +41,26 @@ const AMPLE: Outside<'static> = Outside {
 // What a run has written that is done; of another one how it ended, and what it wrote.
 fn told(alloc: Global, status: Status, held: &[u8]) -> Result<String, Fail> {
     let written = str::from_utf8(held)?;
+    let ending = ending_of(status);
+    Ok(format!(in alloc; "{ending}{written}")?)
+}
+
+fn ending_of(status: Status) -> &'static str {
     match status {
-        Status::Done => Ok(String::from_str(alloc, written)?),
-        _ => Ok(format!(in alloc; "{status:?}: {written}")?),
+        Status::Done => "",
+        Status::BadWords => "BadWords: ",
+        Status::BadScenario(ScenarioFault::TooLarge) => "BadScenario(TooLarge): ",
+        Status::BadScenario(_) => "BadScenario: ",
+        Status::ReadFault => "ReadFault: ",
+        Status::WriteFault => "WriteFault: ",
+        Status::NoMemory => "NoMemory: ",
     }
 }
 
-// What comes of these words and this input.
+// What comes of this input.
 fn comes_of<R: Threads + Wait + Sync>(
     rt: &R,
     alloc: Global,
-    words: &[&str],
     input: &[u8],
     outside: &Outside<'_>,
 ) -> Result<String, Fail> {
@@ -76,31 +69,22 @@ fn comes_of<R: Threads + Wait + Sync>(
     let mut source = MemSource::new(bytes, Vec::from_slice(alloc, outside.read_fails)?, most);
     let fails = Vec::from_slice(alloc, outside.write_fails)?;
     let mut sink = MemSink::new(alloc, outside.room, fails, most)?;
-    let status = run_notify(rt, alloc, words, &mut source, &mut sink);
+    let status = run_notify(rt, alloc, &["run"], &mut source, &mut sink);
     told(alloc, status, sink.held())
 }
 
-// What comes of this input.
+// What comes of this input where nothing fails.
 fn shown<R: Threads + Wait + Sync>(rt: &R, alloc: Global, input: &str) -> Result<String, Fail> {
-    comes_of(rt, alloc, &["run"], input.as_bytes(), &AMPLE)
+    comes_of(rt, alloc, input.as_bytes(), &AMPLE)
 }
 
-// What comes of this input over a hub of this type, with a limit of so many pages, where an await takes so many looks.
-fn shown_over<H: Hub + Sync + Drop, R: Threads + Wait + Sync>(
-    rt: &R,
-    alloc: Global,
-    input: &str,
-    pages: u32,
-    patience: u64,
-) -> Result<String, Fail> {
-    let Ok(scenario) = read_scenario(alloc, input.as_bytes())? else {
-        return Err(Fail::from("no scenario"));
-    };
-    let mut sink = MemSink::new(alloc, 1 << 16, Vec::new(alloc), 1 << 20)?;
-    let pages = pages.clamp(2, 1024);
-    let patience = patience.max(1);
-    let status = run_scenario::<H, MemSink, R>(rt, alloc, &scenario, pages, patience, &mut sink);
-    told(alloc, status, sink.held())
+fn scenario_of(alloc: Global, input: &str) -> Result<Scenario, Fail>
+    ensures { IfOk result IsSound }
+{
+    match read_scenario(alloc, input.as_bytes())? {
+        Ok(scenario) => Ok(scenario),
+        Err(_) => Err(Fail::from("no scenario")),
+    }
 }
 
 // The texts stand in the text, one after another.

@@ -1,11 +1,12 @@
 ghost use Rattle.std.specs.Prelude.{◌≡◌, map, length, All};
 ghost use Rattle.std.specs.List.{range_with_len};
 
-use super::{SELF_NOTIFY, shown_over};
-use pgn_base::{Delivery, Enlisted, Full, ListenSet, Note, PATIENCE_DEFAULT, Usage, Xid};
-use pgn_hub::Hub;
-use pgn_hub::{PassView, Roll, Setup};
-use pgn_scenario::read_scenario;
+use super::{SELF_NOTIFY, scenario_of, told};
+use pgn_base::{
+    Delivery, Enlisted, Full, ListenSet, MemSink, Note, PAGES_DEFAULT, PATIENCE_DEFAULT, Usage, Xid,
+};
+use pgn_hub::{Hub, PassView, Roll, Setup};
+use pgn_run::run_scenario;
 use pgn_threads::{open_on_hub, run_sessions};
 use pgn_wordhub::WordHub;
 use std::alloc::{AllocError, Global};
@@ -13,6 +14,7 @@ use std::sync::atomic::{AtomicU64, Ordering};
 use std::sync::{Arc, Wait};
 use std::test::Fail;
 use std::thread;
+use std::thread::Threads;
 
 // How many transactions have begun, and how many of them waited for a second one in vain.
 #[derive(Drop)]
@@ -151,18 +153,35 @@ NOTIFY c
 #[test]
 fn sessions_run_side_by_side(rt: HostRuntime) -> Result<(), Fail> {
     let alloc = rt.alloc();
-    let Ok(scenario) = read_scenario(alloc, TWO_WRITERS.as_bytes())? else {
-        return Err(Fail::from("no scenario"));
-    };
+    let scenario = scenario_of(alloc, TWO_WRITERS)?;
     let (hub, mut sessions) = open_on_hub::<Gate<10_000_000>>(
         alloc,
         &scenario,
-        256,
+        PAGES_DEFAULT,
         PATIENCE_DEFAULT,
     )?;
     run_sessions(&rt, alloc, &hub, sessions.as_mut_slice())?;
     assert!(rt; !hub.is_spent());
     Ok(())
+}
+
+// What comes of this input over a hub of this type.
+fn shown_over<H: Hub + Sync + Drop, R: Threads + Wait + Sync>(
+    rt: &R,
+    alloc: Global,
+    input: &str,
+) -> Result<String, Fail> {
+    let scenario = scenario_of(alloc, input)?;
+    let mut sink = MemSink::new(alloc, 1 << 16, Vec::new(alloc), 1 << 20)?;
+    let status = run_scenario::<H, MemSink, R>(
+        rt,
+        alloc,
+        &scenario,
+        PAGES_DEFAULT,
+        PATIENCE_DEFAULT,
+        &mut sink,
+    );
+    told(alloc, status, sink.held())
 }
 
 const TWO_LISTENERS: &str = "\
@@ -176,14 +195,7 @@ NOTIFY c
 
 #[test]
 fn a_run_takes_its_sessions_side_by_side(rt: HostRuntime) -> Result<(), Fail> {
-    let alloc = rt.alloc();
-    let text = shown_over::<Gate<10_000_000>, HostRuntime>(
-        &rt,
-        alloc,
-        TWO_LISTENERS,
-        256,
-        PATIENCE_DEFAULT,
-    )?;
+    let text = shown_over::<Gate<10_000_000>, HostRuntime>(&rt, rt.alloc(), TWO_LISTENERS)?;
     assert!(rt; text.as_str().starts_with("journal 2\n"));
     Ok(())
 }
@@ -191,8 +203,7 @@ fn a_run_takes_its_sessions_side_by_side(rt: HostRuntime) -> Result<(), Fail> {
 // A text that is made without the hub needs no memory of its reads.
 #[test]
 fn a_run_is_over_its_hub(rt: HostRuntime) -> Result<(), Fail> {
-    let alloc = rt.alloc();
-    let text = shown_over::<Gate<0>, HostRuntime>(&rt, alloc, SELF_NOTIFY, 256, PATIENCE_DEFAULT)?;
+    let text = shown_over::<Gate<0>, HostRuntime>(&rt, rt.alloc(), SELF_NOTIFY)?;
     assert_eq!(rt; text.as_str(), "NoMemory: ");
     Ok(())
 }

@@ -2,14 +2,11 @@ ghost use Rattle.std.specs.Prelude.{◌≡◌, ◌≤◌, Ok, length, IfOk, OnOk
 ghost use Rattle.std.specs.Thread.{IsSync, IsSend};
 ghost use Rattle.pgn_threads.specs.Whole.{IsReady, IsOver};
 ghost use Rattle.pgn_session.specs.declared.doing.Doing.TheVariants.{Over};
-ghost use Rattle.pgn_language.specs.Inputs.{IsSound};
 
+use super::scenario_of;
 use pgn_base::{DbOid, Name, Note, Payload};
-use pgn_hub::Hub;
-use pgn_hub::{PassView, SeatSetup, Setup};
-use pgn_language::Scenario;
+use pgn_hub::{Hub, PassView, SeatSetup, Setup};
 use pgn_model::Item;
-use pgn_scenario::read_scenario;
 use pgn_session::{Session, Step};
 use pgn_threads::{drain, open_on_hub};
 use pgn_wordhub::WordHub;
@@ -17,34 +14,6 @@ use std::alloc::{AllocError, Global};
 use std::sync::Wait;
 use std::test::Fail;
 use std::thread::{Threads, join_mut};
-
-fn scenario_of(alloc: Global, input: &str) -> Result<Scenario, Fail>
-    ensures { IfOk result IsSound }
-{
-    match read_scenario(alloc, input.as_bytes())? {
-        Ok(scenario) => Ok(scenario),
-        Err(_) => Err(Fail::from("no scenario")),
-    }
-}
-
-// A hub of two pages, and the sessions of a scenario of two.
-fn open_two<H: Hub + Drop>(
-    alloc: Global,
-    input: &str,
-) -> Result<(H, Session<H::Pass>, Session<H::Pass>), Fail>
-    ensures first { IfOk result (λ opened. IsReady (H.is_pass opened.0) (H.shape opened.0) H.Pass.known opened.1) }
-    ensures second { IfOk result (λ opened. IsReady (H.is_pass opened.0) (H.shape opened.0) H.Pass.known opened.2) }
-{
-    let scenario = scenario_of(alloc, input)?;
-    let (hub, mut sessions) = open_on_hub::<H>(alloc, &scenario, 2, 1000)?;
-    let Some(second) = sessions.pop() else {
-        return Err(Fail::from("no session"));
-    };
-    let Some(first) = sessions.pop() else {
-        return Err(Fail::from("one session"));
-    };
-    Ok((hub, first, second))
-}
 
 // One step, and a read where the session may have to.
 fn turn<P: PassView + Send + Drop, H: Hub<Pass = P>, R: Wait>(
@@ -113,24 +82,58 @@ fn last_read<P: PassView + Send + Drop>(session: &Session<P>) -> Option<(u32, u3
     }
 }
 
-// A session listens, sends in a block, and reads what it sent once the block has ended.
+// The session's mark is this one, and its last item is no read.
+fn has_not_read<P: PassView + Send + Drop>(session: &Session<P>, mark: u32) -> bool {
+    mark_of(session) == Some(mark) && last_read(session).is_none()
+}
+
+// The session's mark is this one, and its last item is a read from there to here, of one delivery.
+fn has_read_one<P: PassView + Send + Drop>(session: &Session<P>, from: u32, to: u32) -> bool {
+    mark_of(session) == Some(to) && last_read(session) == Some((from, to, 1))
+}
+
+// The first session listens, sends in a block, and ends the block: whether it has no mark at first, has not read in the block, and
+// has read after it.
+fn take_the_first<P: PassView + Send + Drop, H: Hub<Pass = P>, R: Wait>(
+    rt: &R,
+    alloc: Global,
+    hub: &H,
+    sessions: &mut [Session<P>],
+) -> Result<(bool, bool, bool), Fail>
+    requires ready { All (IsReady (H.is_pass hub.now) (H.shape hub.now) P.known) sessions.old }
+{
+    let [first, _] = sessions else {
+        return Err(Fail::from("no two sessions"));
+    };
+    let unmarked = mark_of(first).is_none();
+    turns(rt, alloc, hub, first, 3)?;
+    let unread = has_not_read(first, 3);
+    turns(rt, alloc, hub, first, 1)?;
+    Ok((unmarked, unread, has_read_one(first, 3, 4)))
+}
+
+// The same over a hub of two pages.
+fn read_after_the_block<P: PassView + Send + Drop, H: Hub<Pass = P> + Drop, R: Wait>(
+    rt: &R,
+    alloc: Global,
+) -> Result<(bool, bool, bool), Fail> {
+    let input = "\\session a 1\nLISTEN c\nBEGIN\nNOTIFY c\nCOMMIT\n\\session b 1\n";
+    let scenario = scenario_of(alloc, input)?;
+    let (hub, mut sessions) = open_on_hub::<H>(alloc, &scenario, 2, 1000)?;
+    take_the_first(rt, alloc, &hub, sessions.as_mut_slice())
+}
+
+type WordPass = <WordHub as Hub>::Pass;
+
 #[test]
 fn a_session_reads_what_it_sent(rt: HostRuntime) -> Result<(), Fail> {
-    let alloc = rt.alloc();
-    let input = "\\session a 1\nLISTEN c\nBEGIN\nNOTIFY c\nCOMMIT\n\\session b 1\n";
-    let (hub, mut first, _second) = open_two::<WordHub>(alloc, input)?;
-    assert_eq!(rt; mark_of(&first), None);
-    turns(&rt, alloc, &hub, &mut first, 3)?;
-    assert_eq!(rt; mark_of(&first), Some(3));
-    assert_eq!(rt; last_read(&first), None);
-    turns(&rt, alloc, &hub, &mut first, 1)?;
-    assert_eq!(rt; mark_of(&first), Some(4));
-    assert_eq!(rt; last_read(&first), Some((3, 4, 1)));
+    let seen = read_after_the_block::<WordPass, WordHub, HostRuntime>(&rt, rt.alloc())?;
+    assert_eq!(rt; seen, (true, true, true));
     Ok(())
 }
 
 // The first session listens and finds that the second is not over; the second sends and ends; the first ends without a read.
-fn end_both<P: PassView + Send + Drop, H: Hub<Pass = P>, R: Wait>(
+fn end_each<P: PassView + Send + Drop, H: Hub<Pass = P>, R: Wait>(
     rt: &R,
     alloc: Global,
     hub: &H,
@@ -149,20 +152,86 @@ fn end_both<P: PassView + Send + Drop, H: Hub<Pass = P>, R: Wait>(
     Ok(())
 }
 
+// The same of a session on the left and one on the right.
+fn end_halves<P: PassView + Send + Drop, H: Hub<Pass = P>, R: Wait>(
+    rt: &R,
+    alloc: Global,
+    hub: &H,
+    left: &mut [Session<P>],
+    right: &mut [Session<P>],
+) -> Result<(), Fail>
+    requires one_each { (length left.old ≡ 1) × (length right.old ≡ 1) }
+    requires left { All (IsReady (H.is_pass hub.now) (H.shape hub.now) P.known) left.old }
+    requires right { All (IsReady (H.is_pass hub.now) (H.shape hub.now) P.known) right.old }
+    ensures left { OnOk result (All (IsOver (H.is_pass hub.now) (H.shape hub.now) P.known) left.new) }
+    ensures right { OnOk result (All (IsOver (H.is_pass hub.now) (H.shape hub.now) P.known) right.new) }
+{
+    end_each(rt, alloc, hub, &mut left[0], &mut right[0])
+}
+
+// The same of two sessions.
+fn end_both<P: PassView + Send + Drop, H: Hub<Pass = P>, R: Wait>(
+    rt: &R,
+    alloc: Global,
+    hub: &H,
+    sessions: &mut [Session<P>],
+) -> Result<(), Fail>
+    requires ready { All (IsReady (H.is_pass hub.now) (H.shape hub.now) P.known) sessions.old }
+    ensures over { OnOk result (All (IsOver (H.is_pass hub.now) (H.shape hub.now) P.known) sessions.new) }
+{
+    if sessions.len() != 2 {
+        return Err(Fail::from("no two sessions"));
+    }
+    let (left, right) = sessions.split_at_mut(1);
+    end_halves(rt, alloc, hub, left, right)
+}
+
+// The first session has not read, and the second one has no mark.
+fn are_unread<P: PassView + Send + Drop>(sessions: &[Session<P>]) -> bool {
+    match sessions {
+        [first, second] => has_not_read(first, 3) && mark_of(second).is_none(),
+        _ => false,
+    }
+}
+
+// The first session has read what the second one sent, which has no mark.
+fn are_read<P: PassView + Send + Drop>(sessions: &[Session<P>]) -> bool {
+    match sessions {
+        [first, second] => has_read_one(first, 3, 4) && mark_of(second).is_none(),
+        _ => false,
+    }
+}
+
+// Ends both sessions and drains them: whether the first one has not read before, and has read after.
+fn end_and_drain<P: PassView + Send + Drop, H: Hub<Pass = P>, R: Wait>(
+    rt: &R,
+    alloc: Global,
+    hub: &H,
+    sessions: &mut [Session<P>],
+) -> Result<(bool, bool), Fail>
+    requires ready { All (IsReady (H.is_pass hub.now) (H.shape hub.now) P.known) sessions.old }
+{
+    end_both(rt, alloc, hub, sessions)?;
+    let unread = are_unread(sessions);
+    drain(alloc, hub, sessions)?;
+    Ok((unread, are_read(sessions)))
+}
+
+// The same over a hub of two pages.
+fn read_as_it_is_drained<P: PassView + Send + Drop, H: Hub<Pass = P> + Drop, R: Wait>(
+    rt: &R,
+    alloc: Global,
+) -> Result<(bool, bool), Fail> {
+    let scenario = scenario_of(alloc, "\\session a 1\nLISTEN c\n\\session b 1\nNOTIFY c\n")?;
+    let (hub, mut sessions) = open_on_hub::<H>(alloc, &scenario, 2, 1000)?;
+    end_and_drain(rt, alloc, &hub, sessions.as_mut_slice())
+}
+
 // A session that is over and has not read what was sent reads it as it is drained.
 #[test]
 fn drain_reads_what_is_left(rt: HostRuntime) -> Result<(), Fail> {
-    let alloc = rt.alloc();
-    let input = "\\session a 1\nLISTEN c\n\\session b 1\nNOTIFY c\n";
-    let (hub, mut first, mut second) = open_two::<WordHub>(alloc, input)?;
-    end_both(&rt, alloc, &hub, &mut first, &mut second)?;
-    assert_eq!(rt; mark_of(&first), Some(3));
-    assert_eq!(rt; last_read(&first), None);
-    let mut both = [first, second];
-    drain(alloc, &hub, &mut both)?;
-    assert_eq!(rt; mark_of(&both[0]), Some(4));
-    assert_eq!(rt; last_read(&both[0]), Some((3, 4, 1)));
-    assert_eq!(rt; mark_of(&both[1]), None);
+    let seen = read_as_it_is_drained::<WordPass, WordHub, HostRuntime>(&rt, rt.alloc())?;
+    assert_eq!(rt; seen, (true, true));
     Ok(())
 }
 
@@ -280,8 +349,7 @@ fn publish_and_gather<
 
 #[test]
 fn two_passes_publish_side_by_side(rt: HostRuntime) -> Result<(), Fail> {
-    type Pass = <WordHub as Hub>::Pass;
-    let done = publish_and_gather::<Pass, WordHub, HostRuntime>(&rt, rt.alloc(), 50)?;
+    let done = publish_and_gather::<WordPass, WordHub, HostRuntime>(&rt, rt.alloc(), 50)?;
     assert_eq!(rt; done, (50, 50, 100));
     Ok(())
 }

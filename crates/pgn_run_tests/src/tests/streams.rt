@@ -1,0 +1,144 @@
+use super::{AMPLE, Outside, SELF_NOTIFY, comes_of};
+use pgn_base::INPUT_BYTES_MAX;
+use std::alloc::{AllocError, Global};
+use std::test::Fail;
+
+// One byte more than an input may have.
+#[test]
+fn too_large(rt: HostRuntime) -> Result<(), Fail> {
+    let input = vec![in rt.alloc(); b'\n'; INPUT_BYTES_MAX + 1]?;
+    let found = comes_of(&rt, rt.alloc(), &input, &AMPLE)?;
+    assert_eq!(rt; found.as_str(), "BadScenario(TooLarge): ");
+    Ok(())
+}
+
+const SELF_NOTIFY_OUTPUT: &str = "\
+journal 1
+xid 3 session 1 commit 1
+  \"c\", 'x'
+session 1 a db 1 pid 1001
+> LISTEN c
++enlist 3 3
+LISTEN
+> NOTIFY c, 'x'
++publish 3
+NOTIFY
++read 3 4
+  3 1001 \"c\", 'x'
+end mark 4
+";
+
+// Which side failed, and that what was written is a front of the text.
+#[test]
+fn names_the_side_that_failed(rt: HostRuntime) -> Result<(), Fail> {
+    let table: [(Outside<'_>, &str); 6] = [
+        (
+            Outside {
+                read_fails: &[1],
+                ..AMPLE
+            },
+            "ReadFault: ",
+        ),
+        // The last read of three is the one that finds the end.
+        (
+            Outside {
+                read_fails: &[3],
+                most: 20,
+                ..AMPLE
+            },
+            "ReadFault: ",
+        ),
+        (
+            Outside {
+                write_fails: &[1],
+                ..AMPLE
+            },
+            "WriteFault: ",
+        ),
+        (
+            Outside {
+                write_fails: &[2],
+                most: 4,
+                ..AMPLE
+            },
+            "WriteFault: jour",
+        ),
+        (Outside { room: 10, ..AMPLE }, "WriteFault: journal 1\n"),
+        // Both work byte by byte.
+        (Outside { most: 1, ..AMPLE }, SELF_NOTIFY_OUTPUT),
+    ];
+    for (outside, want) in table {
+        let found = comes_of(&rt, rt.alloc(), SELF_NOTIFY.as_bytes(), &outside)?;
+        assert_eq!(rt; found.as_str(), want);
+    }
+    Ok(())
+}
+
+const QUOTES: &str = "\
+\\session a 1
+LISTEN \"a\"\"\"\"b\"
+NOTIFY \"a\"\"\"\"b\", '''it''s'''
+";
+
+const QUOTES_OUTPUT: &str = "\
+journal 1
+xid 3 session 1 commit 1
+  \"a\"\"\"\"b\", '''it''s'''
+session 1 a db 1 pid 1001
+> LISTEN \"a\"\"\"\"b\"
++enlist 3 3
+LISTEN
+> NOTIFY \"a\"\"\"\"b\", '''it''s'''
++publish 3
+NOTIFY
++read 3 4
+  3 1001 \"a\"\"\"\"b\", '''it''s'''
+end mark 4
+";
+
+// Each quote is written twice, and a write takes a part of most pieces.
+#[test]
+fn quotes_in_parts(rt: HostRuntime) -> Result<(), Fail> {
+    let outside = Outside { most: 7, ..AMPLE };
+    let found = comes_of(&rt, rt.alloc(), QUOTES.as_bytes(), &outside)?;
+    assert_eq!(rt; found.as_str(), QUOTES_OUTPUT);
+    Ok(())
+}
+
+// A command whose line has so many bytes, at least nine.
+fn long_line(alloc: Global, bytes: usize) -> Result<String, AllocError> {
+    let mut line = String::from_str(alloc, "UNLISTEN")?;
+    for _ in 9..bytes {
+        line.push(' ')?;
+    }
+    line.push('*')?;
+    Ok(line)
+}
+
+// A script of lines of so many bytes, and what it shows.
+fn long_lines(alloc: Global, sizes: &[usize]) -> Result<(String, String), AllocError> {
+    let mut input = String::from_str(alloc, "\\session a 1\n")?;
+    let mut output = String::from_str(alloc, "journal 0\nsession 1 a db 1 pid 1001\n")?;
+    for bytes in sizes {
+        let line = long_line(alloc, *bytes)?;
+        input.push_str(format!(in alloc; "{line}\n")?.as_str())?;
+        output.push_str(format!(in alloc; "> {line}\nUNLISTEN\n")?.as_str())?;
+    }
+    output.push_str("end\n")?;
+    Ok((input, output))
+}
+
+// What is kept back comes to 8,192 bytes with the first line. Of the next ones that many bytes, one less and more are left over
+// once it is full.
+#[test]
+fn a_text_larger_than_the_buffer(rt: HostRuntime) -> Result<(), Fail> {
+    let alloc = rt.alloc();
+    let (input, output) = long_lines(alloc, &[8154, 16_372, 16_371, 20_000, 12])?;
+    let outside = Outside {
+        most: 3000,
+        ..AMPLE
+    };
+    let found = comes_of(&rt, alloc, input.as_bytes(), &outside)?;
+    assert!(rt; found == output);
+    Ok(())
+}
