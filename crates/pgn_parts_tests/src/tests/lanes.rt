@@ -1,0 +1,169 @@
+ghost use Rattle.std.specs.Prelude.{◌≡◌, ◌<◌, ◌≤◌, length};
+
+use pgn_lanes::{behind, first_zero, least};
+
+// The longest slice that is tried.
+const MOST: usize = 70;
+
+#[test]
+fn least_of_equal_words(rt: HostRuntime) {
+    for len in 0..=MOST {
+        let largest = [u64::MAX; MOST];
+        let none = if len == 0 { None } else { Some(u64::MAX) };
+        assert!(rt; least(&largest[..len]) == none, "of {len}, all largest");
+        let nines = [9; MOST];
+        let none = if len == 0 { None } else { Some(9) };
+        assert!(rt; least(&nines[..len]) == none, "of {len}, all equal");
+    }
+}
+
+// The least of so many nines with a five in these two places.
+fn least_with_fives(len: usize, at: usize, also: usize) -> Option<u64>
+    requires within { len ≤ 70 }
+    requires first { at < len }
+    requires second { also < len }
+{
+    let mut words = [9; MOST];
+    words[at] = 5;
+    words[also] = 5;
+    least(&words[..len])
+}
+
+#[test]
+fn least_at_each_place(rt: HostRuntime) {
+    for len in 0..=MOST {
+        for at in 0..len {
+            assert!(rt;
+                least_with_fives(len, at, at) == Some(5),
+                "of {len}, at {at}"
+            );
+            assert!(rt;
+                least_with_fives(len, at, len / 2) == Some(5),
+                "of {len}, at {at} and in the middle"
+            );
+        }
+    }
+}
+
+// The first zero of so many equal bytes with zeros from one place up to another.
+fn zero_between(len: usize, others: u8, from: usize, to: usize) -> Option<usize>
+    requires within { len ≤ 70 }
+    requires order { from ≤ to }
+    requires end { to ≤ 70 }
+{
+    let mut bytes = [others; MOST];
+    bytes[from..to].fill(0);
+    first_zero(&bytes[..len])
+}
+
+#[test]
+fn first_zero_nowhere(rt: HostRuntime) {
+    for len in 0..=MOST {
+        for others in [u8::MAX, 1] {
+            assert!(rt;
+                zero_between(len, others, len, len) == None,
+                "of {len}, all {others}"
+            );
+        }
+    }
+}
+
+#[test]
+fn first_zero_at_each_place(rt: HostRuntime) {
+    for len in 0..=MOST {
+        for at in 0..len {
+            assert!(rt;
+                zero_between(len, u8::MAX, at, at + 1) == Some(at),
+                "of {len}, at {at}"
+            );
+            assert!(rt;
+                zero_between(len, 1, at, MOST) == Some(at),
+                "of {len}, from {at} on"
+            );
+        }
+    }
+}
+
+// The mask for a writer of database 1 that has moved the head to the last cell, of so many listeners at this position, and from
+// one place up to another at that.
+fn marks(len: usize, dbs: &[u32], position: u64, from: usize, to: usize, other: u64) -> [u64; 2]
+    requires within { len ≤ 70 }
+    requires same_length { length dbs.now ≡ 70 }
+    requires order { from ≤ to }
+    requires end { to ≤ 70 }
+{
+    let mut pos = [position; MOST];
+    pos[from..to].fill(other);
+    let mut mask = [0; 2];
+    behind(&pos[..len], &dbs[..len], u64::MAX, 1, &mut mask);
+    mask
+}
+
+// The mask that has the bits from one place up to another.
+fn bits(from: usize, to: usize) -> [u64; 2]
+    requires { to ≤ 128 }
+{
+    let mut mask = [0; 2];
+    for i in from..to {
+        mask[i / 64] |= 1 << (i % 64);
+    }
+    mask
+}
+
+#[test]
+fn behind_of_equal_positions(rt: HostRuntime) {
+    for len in 0..=MOST {
+        let own = marks(len, &[1; MOST], u64::MAX, 0, 0, 0);
+        assert!(rt; own == [0; 2], "of {len}, all largest");
+        // Four pages before the last one ends here.
+        let others = [u32::MAX; MOST];
+        let far = marks(len, &others, u64::MAX - 8192, 0, 0, 0);
+        assert!(rt; far == bits(0, len), "of {len}, all equal");
+        let near = marks(len, &others, u64::MAX - 8191, 0, 0, 0);
+        assert!(rt; near == [0; 2], "of {len}, nowhere");
+    }
+}
+
+#[test]
+fn behind_at_each_place(rt: HostRuntime) {
+    let dbs = [1; MOST];
+    for len in 0..=MOST {
+        for at in 0..len {
+            let one = marks(len, &dbs, u64::MAX, at, at + 1, u64::MAX - 1);
+            assert!(rt; one == bits(at, at + 1), "of {len}, at {at}");
+            let rest = marks(len, &dbs, u64::MAX, at, MOST, 7);
+            assert!(rt; rest == bits(at, len), "of {len}, from {at} on");
+        }
+    }
+}
+
+// The databases of all listeners: this one in one place, 2 before it, and the last one after it.
+fn databases(at: usize, db: u32) -> [u32; 70]
+    requires { at < 70 }
+{
+    let mut dbs = [u32::MAX; MOST];
+    dbs[..at].fill(2);
+    dbs[at] = db;
+    dbs
+}
+
+#[test]
+fn behind_of_other_databases(rt: HostRuntime) {
+    for len in 0..=MOST {
+        for at in 0..len {
+            let dbs = databases(at, u32::MAX);
+            let far = marks(len, &dbs, u64::MAX - 8191, at, at + 1, u64::MAX - 8192);
+            assert!(rt; far == bits(at, at + 1), "of {len}, at {at}");
+            let own = marks(len, &databases(at, 1), u64::MAX - 8191, 0, 0, 0);
+            assert!(rt; own == bits(at, at + 1), "of {len}, its own {at}");
+        }
+    }
+}
+
+#[test]
+fn behind_of_two_databases(rt: HostRuntime) {
+    let pos = [10240, 10239, 4095, 4096, 10240];
+    let mut mask = [0; 1];
+    behind(&pos, &[1, 1, 2, 2, 2], 10240, 1, &mut mask);
+    assert!(rt; mask == [0b00110]);
+}
