@@ -1,3 +1,5 @@
+ghost use Rattle.std.specs.Prelude.{◌≤◌};
+
 use super::{note, repeated};
 use pgn_base::{DbOid, Note, Xid};
 use pgn_entry::{
@@ -305,13 +307,6 @@ fn each_byte_of_the_second_entry_changed(rt: HostRuntime) {
     }
 }
 
-// Zero bytes that begin with this length.
-fn zeros(len: u32) -> [u8; 8196] {
-    let mut bytes = [0; 8196];
-    bytes[..4].copy_from_slice(&len.to_le_bytes());
-    bytes
-}
-
 const PAGE_VIEW: EntryView<'static> = EntryView::Filler {
     len: 8192,
     xid: 0,
@@ -332,11 +327,18 @@ const LENGTHS: [(u32, EntryFault, Read<'static>); 7] = [
 #[test]
 fn lengths(rt: HostRuntime) {
     for (len, in_twenty, in_a_page) in LENGTHS {
-        let bytes = zeros(len);
+        let mut bytes = [0; 8192];
+        bytes[..4].copy_from_slice(&len.to_le_bytes());
         assert!(rt; read_entry(&bytes[..20]) == Err(in_twenty), "at {len}");
-        assert!(rt; read_entry(&bytes[..8192]) == in_a_page, "at {len}");
+        assert!(rt; read_entry(&bytes) == in_a_page, "at {len}");
     }
-    assert!(rt; read_entry(&zeros(8196)) == Err(EntryFault::BadLength));
+}
+
+#[test]
+fn a_length_above_a_page(rt: HostRuntime) {
+    let mut bytes = [0; 8196];
+    bytes[..4].copy_from_slice(&8196u32.to_le_bytes());
+    assert!(rt; read_entry(&bytes) == Err(EntryFault::BadLength));
 }
 
 // A length, and how often which letters make the channel and the payload, and the fault.

@@ -84,19 +84,26 @@ fn first_zero_at_each_place(rt: HostRuntime) {
     }
 }
 
-// The mask for a writer of database 1 that has moved the head to the last cell, of so many listeners at this position, and from
-// one place up to another at that.
+// The mask for a writer of database 1 that has moved the head to the last cell.
+fn mask_of(pos: &[u64], dbs: &[u32]) -> [u64; 2]
+    requires same_length { length pos.now ≡ length dbs.now }
+    requires room { length pos.now ≤ 128 }
+{
+    let mut mask = [0; 2];
+    behind(pos, dbs, u64::MAX, 1, &mut mask);
+    mask
+}
+
+// The mask of so many listeners at this position, and from one place up to another at that.
 fn marks(len: usize, dbs: &[u32], position: u64, from: usize, to: usize, other: u64) -> [u64; 2]
     requires within { len ≤ 70 }
-    requires same_length { length dbs.now ≡ 70 }
+    requires databases { length dbs.now ≡ 70 }
     requires order { from ≤ to }
     requires end { to ≤ 70 }
 {
     let mut pos = [position; MOST];
     pos[from..to].fill(other);
-    let mut mask = [0; 2];
-    behind(&pos[..len], &dbs[..len], u64::MAX, 1, &mut mask);
-    mask
+    mask_of(&pos[..len], &dbs[..len])
 }
 
 // The mask that has the bits from one place up to another.

@@ -5,7 +5,6 @@ use pgn_base::{
     Copied, Deliveries, Delivery, ListenSet, Name, Names, Note, Payload, Refusal, Seq, Text, Xid,
 };
 use std::alloc::{AllocError, Global};
-use std::process::Abort;
 use std::test::Fail;
 
 fn copy_of<T: Copied + Drop>(alloc: Global, value: &T) -> Result<T, AllocError> {
@@ -53,8 +52,13 @@ fn a_copy_of_a_refusal(rt: HostRuntime) -> Result<(), Fail> {
         return Err("another refusal")?;
     };
     assert!(rt; name.as_bytes() == b"s".as_slice());
+    Ok(())
+}
+
+#[test]
+fn a_copy_of_a_syntax_error(rt: HostRuntime) -> Result<(), Fail> {
     let at = Refusal::Syntax { at: 9 };
-    assert!(rt; matches!(at.copy(alloc)?, Refusal::Syntax { at: 9 }));
+    assert!(rt; matches!(at.copy(rt.alloc())?, Refusal::Syntax { at: 9 }));
     Ok(())
 }
 
@@ -80,7 +84,10 @@ fn lists_keep_their_order(rt: HostRuntime) -> Result<(), Fail> {
     names.push(Name::new(alloc, "b")?)?;
     names.push(Name::new(alloc, "a")?)?;
     let names = format!(in alloc; "{names:?}")?;
-    assert!(rt; names.as_str() == "Seq { items: [Name { text: \"b\" }, Name { text: \"a\" }] }");
+    assert_eq!(rt;
+        names.as_str(),
+        "Seq { items: [Name { text: \"b\" }, Name { text: \"a\" }] }"
+    );
     Ok(())
 }
 
@@ -101,13 +108,17 @@ fn notes_and_sets_go_to_threads(rt: HostRuntime) -> Result<(), Fail> {
     Ok(())
 }
 
+fn name_set(alloc: Global, texts: &[&str]) -> Result<IndexSet<Name>, Fail> {
+    let mut set = IndexSet::new(alloc);
+    for text in texts {
+        set.insert(Name::new(alloc, *text)?)?;
+    }
+    Ok(set)
+}
+
 #[test]
 fn equal_names_are_one_entry(rt: HostRuntime) -> Result<(), Fail> {
-    let alloc = rt.alloc();
-    let mut set = IndexSet::new(alloc);
-    for text in ["b", "a", "b"] {
-        set.insert(Name::new(alloc, text)?)?;
-    }
+    let set = name_set(rt.alloc(), &["b", "a", "b"])?;
     let [first, second] = set.as_slice() else {
         return Err("two names are different")?;
     };
@@ -127,13 +138,17 @@ fn equal_payloads_are_one_entry(rt: HostRuntime) -> Result<(), Fail> {
     Ok(())
 }
 
+fn note_set(alloc: Global, payloads: &[&str]) -> Result<IndexSet<Note>, Fail> {
+    let mut set = IndexSet::new(alloc);
+    for payload in payloads {
+        set.insert(note(alloc, "c", *payload)?)?;
+    }
+    Ok(set)
+}
+
 #[test]
 fn notes_differ_by_their_payload(rt: HostRuntime) -> Result<(), Fail> {
-    let alloc = rt.alloc();
-    let mut set = IndexSet::new(alloc);
-    for payload in ["2", "1", "2"] {
-        set.insert(note(alloc, "c", payload)?)?;
-    }
+    let set = note_set(rt.alloc(), &["2", "1", "2"])?;
     let [first, second] = set.as_slice() else {
         return Err("two notes are different")?;
     };
