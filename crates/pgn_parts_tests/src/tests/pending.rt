@@ -162,7 +162,7 @@ fn levels(alloc: Global) -> Result<Pending, Fail> {
     Ok(pending)
 }
 
-// Half of the levels are rolled back and released, from the innermost, and the others released.
+// Half of the levels are rolled back and released, from the innermost, and the others released. No savepoint is left then.
 fn end_levels(rt: &impl Abort, pending: &mut Pending, name: &Name) {
     for level in 0..300u32 {
         if level < 150 {
@@ -170,17 +170,22 @@ fn end_levels(rt: &impl Abort, pending: &mut Pending, name: &Name) {
         }
         assert!(rt; pending.release(name) == Ok(()));
     }
+    assert!(rt; pending.release(name) == Err(NoSuch));
+    assert!(rt; pending.back_to(name) == Err(NoSuch));
+}
+
+fn left_of_levels(rt: &impl Abort, alloc: Global) -> Result<Notes, Fail> {
+    let mut pending = levels(alloc)?;
+    let name = Name::new(alloc, "s")?;
+    end_levels(rt, &mut pending, &name);
+    let (_, notes) = pending.finish();
+    Ok(notes)
 }
 
 #[test]
 fn three_hundred_nested_savepoints(rt: HostRuntime) -> Result<(), Fail> {
     let alloc = rt.alloc();
-    let name = Name::new(alloc, "s")?;
-    let mut pending = levels(alloc)?;
-    end_levels(&rt, &mut pending, &name);
-    assert!(rt; pending.release(&name) == Err(NoSuch));
-    assert!(rt; pending.back_to(&name) == Err(NoSuch));
-    let (_, notes) = pending.finish();
+    let notes = left_of_levels(&rt, alloc)?;
     assert!(rt; notes.as_slice().len() == 150);
     for (level, note) in notes.as_slice().iter().enumerate() {
         let payload = format!(in alloc; "{level}")?;
