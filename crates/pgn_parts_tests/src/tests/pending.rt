@@ -116,36 +116,37 @@ fn as_commands(alloc: Global, left: &(Actions, Notes)) -> Result<Vec<u8>, AllocE
     Ok(text)
 }
 
-// A row's commands, how often there is no such savepoint, and what is left.
-fn cut(row: &str) -> Option<(&str, &str, &str)> {
-    let (commands, answer) = row.split_once(" => ")?;
-    let (refusals, left) = answer.split_once(": ")?;
-    Some((commands, refusals, left))
+// What these commands answer: how often there is no such savepoint, and what is left.
+fn answer(alloc: Global, commands: &str) -> Result<Vec<u8>, Fail> {
+    let (refused, pending) = tell_all(alloc, commands)?;
+    let front = format!(in alloc; "{refused}: ")?;
+    let mut text = Vec::from_slice(alloc, front.as_bytes())?;
+    text.append(&mut as_commands(alloc, &pending.finish())?)?;
+    Ok(text)
 }
 
 #[test]
 fn what_is_left_of_a_transaction(rt: HostRuntime) -> Result<(), Fail> {
-    let alloc = rt.alloc();
     for row in TRANSACTIONS.lines() {
-        let (commands, refusals, want) = cut(row).ok_or("a row")?;
-        let (refused, pending) = tell_all(alloc, commands)?;
-        assert!(rt;
-            format!(in alloc; "{refused}")?.as_str() == refusals,
-            "{row}"
-        );
-        let left = as_commands(alloc, &pending.finish())?;
-        assert!(rt; left.as_slice() == want.as_bytes(), "{row}");
+        let (commands, want) = row.split_once(" => ").ok_or("commands and an answer")?;
+        let answer = answer(rt.alloc(), commands)?;
+        assert!(rt; answer.as_slice() == want.as_bytes(), "{row}");
     }
     Ok(())
 }
 
+// What is left of a row's commands, made one after another.
+fn left(alloc: Global, commands: &str) -> Result<Vec<u8>, Fail> {
+    let left = finish_after(alloc, all_calls(alloc, commands)?)?;
+    Ok(as_commands(alloc, &left)?)
+}
+
 #[test]
 fn what_is_left_after_calls(rt: HostRuntime) -> Result<(), Fail> {
-    let alloc = rt.alloc();
     for row in TRANSACTIONS.lines() {
-        let (commands, _, want) = cut(row).ok_or("a row")?;
-        let left = finish_after(alloc, all_calls(alloc, commands)?)?;
-        let left = as_commands(alloc, &left)?;
+        let (commands, answer) = row.split_once(" => ").ok_or("commands and an answer")?;
+        let (_, want) = answer.split_once(": ").ok_or("a count and what is left")?;
+        let left = left(rt.alloc(), commands)?;
         assert!(rt; left.as_slice() == want.as_bytes(), "{row}");
     }
     Ok(())
