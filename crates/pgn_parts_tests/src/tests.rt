@@ -1,4 +1,5 @@
-// A module for each part. Here stands what several of them make.
+// A module for each part, and four for what `pgn_base` has: values, lists, sets, and the fakes of the outside. Here stands what
+// several of them make.
 mod entries;
 mod lanes;
 mod layout;

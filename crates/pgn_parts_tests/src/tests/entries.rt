@@ -1,4 +1,4 @@
-ghost use Rattle.std.specs.Prelude.{◌≤◌};
+ghost use Rattle.std.specs.Prelude.{◌<◌, ◌≤◌};
 
 use super::{note, repeated};
 use pgn_base::{DbOid, Note, Xid};
@@ -270,11 +270,11 @@ const SECOND: [Change; 12] = [
 ];
 
 // The two entries in a row, with one byte changed.
-fn changed(at: usize, value: u8) -> [u8; 64] {
+fn changed(at: usize, value: u8) -> [u8; 64]
+    requires { at < 64 }
+{
     let mut bytes = two_entries();
-    if let Some(byte) = bytes.get_mut(at) {
-        *byte = value;
-    }
+    bytes[at] = value;
     bytes
 }
 
@@ -283,6 +283,7 @@ fn assert_changes(rt: &impl Abort, change: Change, begin: usize, channel: &[u8],
     requires { begin ≤ 64 }
 {
     let (from, to, value, fault) = change;
+    assert!(rt; to <= 64);
     for at in from..to {
         let bytes = changed(at, value);
         assert!(rt;

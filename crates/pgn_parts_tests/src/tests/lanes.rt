@@ -72,14 +72,12 @@ fn first_zero_nowhere(rt: HostRuntime) {
 fn first_zero_at_each_place(rt: HostRuntime) {
     for len in 0..=MOST {
         for at in 0..len {
-            assert!(rt;
-                zero_between(len, u8::MAX, at, at + 1) == Some(at),
-                "of {len}, at {at}"
-            );
-            assert!(rt;
-                zero_between(len, 1, at, MOST) == Some(at),
-                "of {len}, from {at} on"
-            );
+            for others in [u8::MAX, 1] {
+                let one = zero_between(len, others, at, at + 1);
+                assert!(rt; one == Some(at), "of {len}, at {at} among {others}");
+                let rest = zero_between(len, others, at, MOST);
+                assert!(rt; rest == Some(at), "of {len}, from {at} on, after {others}");
+            }
         }
     }
 }
@@ -117,16 +115,24 @@ fn bits(from: usize, to: usize) -> [u64; 2]
     mask
 }
 
+// Other databases than that of the writer: 2 before a place, and the last one from there on.
+fn others(from: usize) -> [u32; 70]
+    requires { from ≤ 70 }
+{
+    let mut dbs = [u32::MAX; MOST];
+    dbs[..from].fill(2);
+    dbs
+}
+
 #[test]
 fn behind_of_equal_positions(rt: HostRuntime) {
     for len in 0..=MOST {
         let own = marks(len, &[1; MOST], u64::MAX, 0, 0, 0);
         assert!(rt; own == [0; 2], "of {len}, all largest");
         // Four pages before the last one ends here.
-        let others = [u32::MAX; MOST];
-        let far = marks(len, &others, u64::MAX - 8192, 0, 0, 0);
+        let far = marks(len, &others(len / 2), u64::MAX - 8192, 0, 0, 0);
         assert!(rt; far == bits(0, len), "of {len}, all equal");
-        let near = marks(len, &others, u64::MAX - 8191, 0, 0, 0);
+        let near = marks(len, &others(len / 2), u64::MAX - 8191, 0, 0, 0);
         assert!(rt; near == [0; 2], "of {len}, nowhere");
     }
 }
@@ -144,25 +150,31 @@ fn behind_at_each_place(rt: HostRuntime) {
     }
 }
 
-// The databases of all listeners: this one in one place, 2 before it, and the last one after it.
-fn databases(at: usize, db: u32) -> [u32; 70]
-    requires { at < 70 }
+// The database and the position by which one listener is woken: four pages behind, or the writer's own database.
+const WOKEN: [(u32, u64); 3] = [
+    (u32::MAX, u64::MAX - 8192),
+    (2, u64::MAX - 8192),
+    (1, u64::MAX - 8191),
+];
+
+// The mask of so many listeners of other databases, not four pages behind, and one of this database and position.
+fn marks_with(len: usize, at: usize, db: u32, position: u64) -> [u64; 2]
+    requires within { len ≤ 70 }
+    requires place { at < len }
 {
-    let mut dbs = [u32::MAX; MOST];
-    dbs[..at].fill(2);
+    let mut dbs = others(at);
     dbs[at] = db;
-    dbs
+    marks(len, &dbs, u64::MAX - 8191, at, at + 1, position)
 }
 
 #[test]
 fn behind_of_other_databases(rt: HostRuntime) {
     for len in 0..=MOST {
         for at in 0..len {
-            let dbs = databases(at, u32::MAX);
-            let far = marks(len, &dbs, u64::MAX - 8191, at, at + 1, u64::MAX - 8192);
-            assert!(rt; far == bits(at, at + 1), "of {len}, at {at}");
-            let own = marks(len, &databases(at, 1), u64::MAX - 8191, 0, 0, 0);
-            assert!(rt; own == bits(at, at + 1), "of {len}, its own {at}");
+            for (db, position) in WOKEN {
+                let one = marks_with(len, at, db, position);
+                assert!(rt; one == bits(at, at + 1), "of {len}, {at} of database {db}");
+            }
         }
     }
 }
