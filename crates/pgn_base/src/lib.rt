@@ -62,6 +62,3 @@ pub use seq::Seq;
 pub use sink::{Sink, write_all};
 pub use source::{Failed, Source};
 pub use text::{TEXT_BYTES_IN_PLACE, Text};
-
-#[cfg(test)]
-mod tests;

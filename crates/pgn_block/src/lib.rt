@@ -21,6 +21,3 @@ mod stage;
 pub use block::{Block, each_has_a_history};
 pub use caller::effects_after;
 pub use effect::{Effect, Kind};
-
-#[cfg(test)]
-mod tests;

@@ -26,6 +26,3 @@ mod token;
 mod verb;
 
 pub use reading::parse_line;
-
-#[cfg(test)]
-mod tests;

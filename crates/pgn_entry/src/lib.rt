@@ -51,6 +51,3 @@ pub use length::entry_len;
 pub use piece::read_piece;
 pub use reading::read_entry;
 pub use writing::{write_entry, write_filler};
-
-#[cfg(test)]
-mod tests;

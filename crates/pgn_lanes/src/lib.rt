@@ -23,6 +23,3 @@ pub use laws::{behind_laws, least_laws};
 pub use wakes::behind;
 pub use words::least;
 pub use zeros::first_zero;
-
-#[cfg(test)]
-mod tests;

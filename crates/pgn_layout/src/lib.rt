@@ -24,6 +24,3 @@ pub use batch::Batch;
 pub use packing::{advance, plan_batch};
 pub use pos::Pos;
 pub use status::{status_bits, status_of};
-
-#[cfg(test)]
-mod tests;

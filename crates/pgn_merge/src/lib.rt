@@ -22,6 +22,3 @@ pub mod laws;
 mod merging;
 
 pub use merging::merge;
-
-#[cfg(test)]
-mod tests;

@@ -37,6 +37,3 @@ mod savepoint;
 
 pub use call::{Call, finish_after};
 pub use pending::{NoSuch, Pending, each_has_a_history};
-
-#[cfg(test)]
-mod tests;

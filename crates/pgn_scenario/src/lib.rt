@@ -24,6 +24,3 @@ mod so_far;
 mod texts;
 
 pub use reading::read_scenario;
-
-#[cfg(test)]
-mod tests;

@@ -1,6 +1,7 @@
-use crate::merge;
-use pgn_base::{DbOid, Full, Name, Note, Notes, Payload, SessionNo, Xid};
+use super::note;
+use pgn_base::{DbOid, Full, Notes, SessionNo, Xid};
 use pgn_journal::{Fate, Tx};
+use pgn_merge::merge;
 use pgn_model::{Item, Items, Trace};
 use std::alloc::{AllocError, Global};
 use std::test::Fail;
@@ -13,9 +14,7 @@ fn number(n: u32) -> Xid {
 fn notes(alloc: Global, payloads: &str) -> Result<Notes, Fail> {
     let mut notes = Notes::new(alloc);
     for payload in payloads.split(' ') {
-        let channel = Name::new(alloc, "c")?;
-        let payload = Payload::new(alloc, payload)?;
-        notes.push(Note { channel, payload })?;
+        notes.push(note(alloc, "c", payload)?)?;
     }
     Ok(notes)
 }

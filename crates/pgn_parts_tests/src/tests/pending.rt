@@ -1,0 +1,196 @@
+use super::note;
+use pgn_base::{Action, Actions, Name, Notes};
+use pgn_pending::{Call, NoSuch, Pending, finish_after};
+use std::alloc::{AllocError, Global};
+use std::process::Abort;
+use std::test::Fail;
+
+// The commands of a transaction, how often there was no such savepoint, and what is left. In order: repeats; a rolled back repeat;
+// savepoints of one name; a repeat whose first occurrence is rolled back; a repeat that is rolled back; a repeat across a released
+// savepoint, in a level that is released, and in a level that stands at the end; back to an outer savepoint; one payload on two
+// channels; back to one savepoint twice; the release of an outer savepoint; a name that was released; listening in a level that
+// is rolled back, and in one that is released.
+const TRANSACTIONS: &str = "\
+NOTIFY c a; NOTIFY c b; NOTIFY c a => 0: NOTIFY c a; NOTIFY c b
+SAVEPOINT s; NOTIFY c a; ROLLBACK s; NOTIFY c a => 0: NOTIFY c a
+SAVEPOINT s; NOTIFY c 1; SAVEPOINT s; NOTIFY c 2; RELEASE s; NOTIFY c 3; ROLLBACK s; NOTIFY c 4 => 0: NOTIFY c 4
+NOTIFY c a; SAVEPOINT s; NOTIFY c b; ROLLBACK s; NOTIFY c d; NOTIFY c b => 0: NOTIFY c a; NOTIFY c d; NOTIFY c b
+NOTIFY c a; SAVEPOINT s; NOTIFY c a; ROLLBACK s => 0: NOTIFY c a
+NOTIFY c a; SAVEPOINT s; NOTIFY c b; RELEASE s; NOTIFY c b; NOTIFY c a => 0: NOTIFY c a; NOTIFY c b
+NOTIFY c a; SAVEPOINT s; NOTIFY c a; NOTIFY c b; RELEASE s => 0: NOTIFY c a; NOTIFY c b
+NOTIFY c a; SAVEPOINT s; NOTIFY c b; NOTIFY c a => 0: NOTIFY c a; NOTIFY c b
+SAVEPOINT o; NOTIFY c a; SAVEPOINT i; NOTIFY c b; ROLLBACK o; ROLLBACK i; RELEASE i; NOTIFY c d => 2: NOTIFY c d
+NOTIFY c a; NOTIFY d a; NOTIFY c a => 0: NOTIFY c a; NOTIFY d a
+NOTIFY c a; SAVEPOINT s; NOTIFY c b; ROLLBACK s; NOTIFY c d; ROLLBACK s; NOTIFY c e => 0: NOTIFY c a; NOTIFY c e
+SAVEPOINT o; NOTIFY c a; SAVEPOINT i; NOTIFY c b; RELEASE o; ROLLBACK i; RELEASE i; ROLLBACK o => 3: NOTIFY c a; NOTIFY c b
+LISTEN c; SAVEPOINT s; NOTIFY c a; RELEASE s; NOTIFY c b; ROLLBACK s => 1: LISTEN c; NOTIFY c a; NOTIFY c b
+LISTEN c; SAVEPOINT s; LISTEN d; UNLISTEN *; ROLLBACK s; UNLISTEN e => 0: LISTEN c; UNLISTEN e
+LISTEN c; SAVEPOINT s; NOTIFY c a; UNLISTEN *; RELEASE s; LISTEN c => 0: LISTEN c; UNLISTEN *; LISTEN c; NOTIFY c a";
+
+fn call(alloc: Global, command: &str) -> Result<Call, Fail> {
+    let Some((verb, words)) = command.split_once(' ') else {
+        return Err("a verb and its words")?;
+    };
+    if verb == "NOTIFY" {
+        let (channel, payload) = words.split_once(' ').ok_or("a channel and a payload")?;
+        return Ok(Call::Note(note(alloc, channel, payload)?));
+    }
+    let name = Name::new(alloc, words)?;
+    match verb {
+        "LISTEN" => Ok(Call::Action(Action::Listen(name))),
+        "UNLISTEN" if words == "*" => Ok(Call::Action(Action::UnlistenAll)),
+        "UNLISTEN" => Ok(Call::Action(Action::Unlisten(name))),
+        "SAVEPOINT" => Ok(Call::Savepoint(name)),
+        "ROLLBACK" => Ok(Call::BackTo(name)),
+        "RELEASE" => Ok(Call::Release(name)),
+        _ => Err("another verb")?,
+    }
+}
+
+// Whether there was such a savepoint.
+fn tell(pending: &mut Pending, call: Call) -> Result<bool, AllocError> {
+    match call {
+        Call::Note(note) => pending.note(note)?,
+        Call::Action(action) => pending.action(action)?,
+        Call::Savepoint(name) => pending.mark(name)?,
+        Call::BackTo(name) => return Ok(pending.back_to(&name) != Err(NoSuch)),
+        Call::Release(name) => return Ok(pending.release(&name) != Err(NoSuch)),
+    }
+    Ok(true)
+}
+
+// What these commands leave, and how often there was no such savepoint.
+fn tell_all(alloc: Global, commands: &str) -> Result<(u32, Pending), Fail> {
+    let mut pending = Pending::new(alloc);
+    let mut refused = 0u32;
+    for command in commands.split("; ") {
+        if !tell(&mut pending, call(alloc, command)?)? {
+            refused = refused.saturating_add(1);
+        }
+    }
+    Ok((refused, pending))
+}
+
+fn all_calls(alloc: Global, commands: &str) -> Result<Vec<Call>, Fail> {
+    let mut calls = Vec::new(alloc);
+    for command in commands.split("; ") {
+        calls.push(call(alloc, command)?)?;
+    }
+    Ok(calls)
+}
+
+fn push_words(text: &mut Vec<u8>, verb: &[u8], words: &[u8]) -> Result<(), AllocError> {
+    if !text.is_empty() {
+        text.extend_from_slice(b"; ")?;
+    }
+    text.extend_from_slice(verb)?;
+    text.extend_from_slice(words)?;
+    Ok(())
+}
+
+fn push_actions(text: &mut Vec<u8>, actions: &Actions) -> Result<(), AllocError> {
+    for action in actions.as_slice() {
+        match action {
+            Action::Listen(name) => push_words(text, b"LISTEN ", name.as_bytes())?,
+            Action::Unlisten(name) => push_words(text, b"UNLISTEN ", name.as_bytes())?,
+            Action::UnlistenAll => push_words(text, b"UNLISTEN ", b"*")?,
+        }
+    }
+    Ok(())
+}
+
+fn push_notes(text: &mut Vec<u8>, notes: &Notes) -> Result<(), AllocError> {
+    for note in notes.as_slice() {
+        push_words(text, b"NOTIFY ", note.channel.as_bytes())?;
+        text.push(b' ')?;
+        text.extend_from_slice(note.payload.as_bytes())?;
+    }
+    Ok(())
+}
+
+// What is left as commands, the actions first.
+fn as_commands(alloc: Global, left: &(Actions, Notes)) -> Result<Vec<u8>, AllocError> {
+    let mut text = Vec::new(alloc);
+    push_actions(&mut text, &left.0)?;
+    push_notes(&mut text, &left.1)?;
+    Ok(text)
+}
+
+// What these commands answer: how often there is no such savepoint, and what is left.
+fn answer(alloc: Global, commands: &str) -> Result<Vec<u8>, Fail> {
+    let (refused, pending) = tell_all(alloc, commands)?;
+    let front = format!(in alloc; "{refused}: ")?;
+    let mut text = Vec::from_slice(alloc, front.as_bytes())?;
+    text.append(&mut as_commands(alloc, &pending.finish())?)?;
+    Ok(text)
+}
+
+#[test]
+fn what_is_left_of_a_transaction(rt: HostRuntime) -> Result<(), Fail> {
+    for row in TRANSACTIONS.lines() {
+        let (commands, want) = row.split_once(" => ").ok_or("commands and an answer")?;
+        let answer = answer(rt.alloc(), commands)?;
+        assert!(rt; answer.as_slice() == want.as_bytes(), "{row}");
+    }
+    Ok(())
+}
+
+// What is left of a row's commands, made one after another.
+fn left(alloc: Global, commands: &str) -> Result<Vec<u8>, Fail> {
+    let left = finish_after(alloc, all_calls(alloc, commands)?)?;
+    Ok(as_commands(alloc, &left)?)
+}
+
+#[test]
+fn what_is_left_after_calls(rt: HostRuntime) -> Result<(), Fail> {
+    for row in TRANSACTIONS.lines() {
+        let (commands, answer) = row.split_once(" => ").ok_or("commands and an answer")?;
+        let (_, want) = answer.split_once(": ").ok_or("a count and what is left")?;
+        let left = left(rt.alloc(), commands)?;
+        assert!(rt; left.as_slice() == want.as_bytes(), "{row}");
+    }
+    Ok(())
+}
+
+// Each of 300 levels sends its number.
+fn levels(alloc: Global) -> Result<Pending, Fail> {
+    let mut pending = Pending::new(alloc);
+    for level in 0..300u32 {
+        pending.mark(Name::new(alloc, "s")?)?;
+        let payload = format!(in alloc; "{level}")?;
+        pending.note(note(alloc, "c", &payload)?)?;
+    }
+    Ok(pending)
+}
+
+// Half of the levels are rolled back and released, from the innermost, and the others released. No savepoint is left then.
+fn end_levels(rt: &impl Abort, pending: &mut Pending, name: &Name) {
+    for level in 0..300u32 {
+        if level < 150 {
+            assert!(rt; pending.back_to(name) == Ok(()));
+        }
+        assert!(rt; pending.release(name) == Ok(()));
+    }
+    assert!(rt; pending.release(name) == Err(NoSuch));
+    assert!(rt; pending.back_to(name) == Err(NoSuch));
+}
+
+fn left_of_levels(rt: &impl Abort, alloc: Global) -> Result<Notes, Fail> {
+    let mut pending = levels(alloc)?;
+    let name = Name::new(alloc, "s")?;
+    end_levels(rt, &mut pending, &name);
+    let (_, notes) = pending.finish();
+    Ok(notes)
+}
+
+#[test]
+fn three_hundred_nested_savepoints(rt: HostRuntime) -> Result<(), Fail> {
+    let alloc = rt.alloc();
+    let notes = left_of_levels(&rt, alloc)?;
+    assert!(rt; notes.as_slice().len() == 150);
+    for (level, note) in notes.as_slice().iter().enumerate() {
+        let payload = format!(in alloc; "{level}")?;
+        assert!(rt; note.payload.as_bytes() == payload.as_bytes());
+    }
+    Ok(())
+}
