@@ -1,11 +1,11 @@
+//! A hub of two pages for two sessions, and what a session does with its calls.
 ghost use Rattle.std.specs.Prelude.{◌≡◌, ◌≤◌, ◌<◌, length, None, IsSome, IfOk};
 ghost use Rattle.pgn_words.specs.Passes.{known_of};
 ghost use Rattle.pgn_wordhub.specs.Passes.{IsHubPass, hub_shape};
 
-use super::*;
 use pgn_base::{Action, Actions, DbOid, Delivery, ListenSet, Name, Note, Payload, Xid};
-use pgn_hub::Hub;
-use pgn_hub::{PassView, SeatSetup, Setup};
+use pgn_hub::{Hub, PassView, SeatSetup, Setup};
+use pgn_wordhub::WordHub;
 use pgn_words::WordPass;
 use std::alloc::Global;
 use std::str;

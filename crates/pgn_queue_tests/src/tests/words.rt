@@ -1,3 +1,4 @@
+//! A queue of two pages for two sessions, and single steps on its words.
 ghost use Rattle.std.specs.Prelude.{◌≡◌, ◌^◌, ◌<◌, length, All, IfOk, IfSome, []};
 ghost use Rattle.pgn_base.specs.Notes.{IsNote};
 ghost use Rattle.pgn_base.specs.declared.format.Format.TheVariants.{One};
@@ -9,10 +10,10 @@ ghost use Rattle.pgn_words.specs.Told.{drawn};
 ghost use Rattle.pgn_words.specs.declared.view.Listen.TheVariants as listens;
 ghost use Rattle.pgn_words.specs.declared.view.Phase.TheVariants as phases;
 
-use super::*;
 use pgn_base::{DbOid, Name, Note, Payload, SessionNo, Xid, are_notes};
-use pgn_layout::Pos;
 use pgn_hub::{PassView, SeatSetup, Setup};
+use pgn_layout::Pos;
+use pgn_words::{WordPass, WordQueue};
 use std::alloc::Global;
 use std::test::Fail;
 
@@ -64,27 +65,43 @@ fn open_two(alloc: Global) -> Result<(WordQueue, WordPass, WordPass), Fail>
     Ok((queue, first, second))
 }
 
+// What a pass shows: its session and database, how many notifications it may still send, what it was told, and whether it has a mark.
+fn shown_by(pass: &WordPass) -> (u32, u32, u32, u32, bool) {
+    (
+        pass.session().get(),
+        pass.db().get(),
+        pass.notes_left(),
+        pass.told().get(),
+        pass.mark().is_some(),
+    )
+}
+
 #[test]
 fn a_pass_for_each_seat(rt: HostRuntime) -> Result<(), Fail> {
     let (_queue, first, second) = open_two(rt.alloc())?;
-    for (pass, session) in [(&first, 1), (&second, 2)] {
-        assert_eq!(rt; pass.session().get(), session);
-        assert_eq!(rt; pass.db().get(), 1);
-        assert_eq!(rt; pass.notes_left(), 2);
-        assert_eq!(rt; pass.told().get(), 3);
-        assert!(rt; pass.mark().is_none());
-    }
+    assert_eq!(rt; shown_by(&first), (1, 1, 2, 3, false));
+    assert_eq!(rt; shown_by(&second), (2, 1, 2, 3, false));
     Ok(())
+}
+
+// Who holds the lock, for a pass that finds it held.
+fn holder(queue: &WordQueue, pass: &mut WordPass) -> Option<SessionNo>
+    requires own { IsPassOf queue.now pass.old }
+    requires free { (view_of pass.old).phase ≡ phases.Free }
+    ensures own { IsPassOf queue.now pass.new }
+    ensures same { IfSome result (λ _. view_of pass.new ≡ view_of pass.old) }
+{
+    match queue.try_lock(pass) {
+        Ok(()) => None,
+        Err(held) => Some(held.by),
+    }
 }
 
 #[test]
 fn one_holds_the_lock(rt: HostRuntime) -> Result<(), Fail> {
     let (queue, mut first, mut second) = open_two(rt.alloc())?;
-    assert_eq!(rt; queue.try_lock(&mut first), Ok(()));
-    let held = Held {
-        by: SessionNo::new(1),
-    };
-    assert_eq!(rt; queue.try_lock(&mut second), Err(held));
+    assert!(rt; queue.try_lock(&mut first).is_ok());
+    assert_eq!(rt; holder(&queue, &mut second), Some(SessionNo::new(1)));
     Ok(())
 }
 

@@ -6,7 +6,7 @@ ghost use Rattle.pgn_wordhub.specs.Passes.{IsHubPass};
 
 use super::*;
 use std::alloc::AllocError;
-use std::thread::join_mut;
+use std::thread::{Threads, join_mut};
 
 /// How often a session tries.
 const TIMES: usize = 4000;
@@ -68,7 +68,22 @@ fn pages_are_used_again(rt: HostRuntime) -> Result<(), Fail> {
     Ok(())
 }
 
-// One try: a publish, whatever it answers, and then a read. A number that was answered is put behind `sent`.
+// What a session has sent and received.
+#[derive(Drop)]
+struct Log {
+    sent: Vec<Xid>,
+    got: Vec<Delivery>,
+}
+
+// Nothing yet.
+fn empty_log(alloc: Global) -> Log {
+    Log {
+        sent: Vec::new(alloc),
+        got: Vec::new(alloc),
+    }
+}
+
+// One try: a publish, whatever it answers, and then a read. A number that was answered is one that was sent.
 fn try_once<R: Wait>(
     rt: &R,
     alloc: Global,
@@ -76,8 +91,7 @@ fn try_once<R: Wait>(
     pass: &mut WordPass,
     notes: &[Note; 1],
     set: &ListenSet,
-    sent: &mut Vec<Xid>,
-    got: &mut Vec<Delivery>,
+    log: &mut Log,
 ) -> Result<(), AllocError>
     requires own { IsHubPass hub.now pass.old }
     requires listens { IsSome (known_of pass.old).mark }
@@ -86,9 +100,9 @@ fn try_once<R: Wait>(
     ensures session { (known_of pass.new).session ≡ (known_of pass.old).session }
 {
     if let Some(xid) = publish_one(rt, hub, pass, notes) {
-        sent.push(xid)?;
+        log.sent.push(xid)?;
     }
-    hub.scan(alloc, pass, set, got)?;
+    hub.scan(alloc, pass, set, &mut log.got)?;
     Ok(())
 }
 
@@ -100,8 +114,7 @@ fn tries<R: Wait>(
     pass: &mut WordPass,
     notes: &[Note; 1],
     set: &ListenSet,
-    sent: &mut Vec<Xid>,
-    got: &mut Vec<Delivery>,
+    log: &mut Log,
 ) -> Result<(), AllocError>
     requires own { IsHubPass hub.now pass.old }
     requires listens { IsSome (known_of pass.old).mark }
@@ -110,8 +123,63 @@ fn tries<R: Wait>(
     ensures session { (known_of pass.new).session ≡ (known_of pass.old).session }
 {
     'tries: for _ in 0..TIMES {
-        try_once(rt, alloc, hub, pass, notes, set, sent, got)?;
+        try_once(rt, alloc, hub, pass, notes, set, log)?;
     }
+    Ok(())
+}
+
+// Those of two sessions on two threads.
+fn try_both<R: Threads + Wait + Sync>(
+    rt: &R,
+    alloc: Global,
+    hub: &WordHub,
+    first: &mut WordPass,
+    second: &mut WordPass,
+    notes: &[Note; 1],
+    set: &ListenSet,
+    first_log: &mut Log,
+    second_log: &mut Log,
+) -> Result<(), AllocError>
+    requires first { IsHubPass hub.now first.old }
+    requires first_listens { IsSome (known_of first.old).mark }
+    requires second { IsHubPass hub.now second.old }
+    requires second_listens { IsSome (known_of second.old).mark }
+    ensures first { IsHubPass hub.now first.new }
+    ensures first_listens { IsSome (known_of first.new).mark }
+    ensures first_session { (known_of first.new).session ≡ (known_of first.old).session }
+    ensures second { IsHubPass hub.now second.new }
+    ensures second_listens { IsSome (known_of second.new).mark }
+    ensures second_session { (known_of second.new).session ≡ (known_of second.old).session }
+{
+    let (one, other) = join_mut(
+        rt,
+        &mut || tries(rt, alloc, hub, first, notes, set, first_log),
+        &mut || tries(rt, alloc, hub, second, notes, set, second_log),
+    );
+    one?;
+    other
+}
+
+// A session hears of what another one knows, and reads on.
+fn read_rest(
+    alloc: Global,
+    hub: &WordHub,
+    pass: &mut WordPass,
+    other: &mut WordPass,
+    set: &ListenSet,
+    log: &mut Log,
+) -> Result<(), AllocError>
+    requires own { IsHubPass hub.now pass.old }
+    requires listens { IsSome (known_of pass.old).mark }
+    requires other { IsHubPass hub.now other.old }
+    ensures own { IsHubPass hub.now pass.new }
+    ensures session { (known_of pass.new).session ≡ (known_of pass.old).session }
+    ensures other { IsHubPass hub.now other.new }
+    ensures other_mark { (known_of other.new).mark ≡ (known_of other.old).mark }
+    ensures other_session { (known_of other.new).session ≡ (known_of other.old).session }
+{
+    hub.meet(other, pass);
+    hub.scan(alloc, pass, set, &mut log.got)?;
     Ok(())
 }
 
@@ -143,47 +211,52 @@ fn is_all(got: &[Delivery], first: &[Xid], second: &[Xid]) -> bool {
     (of_first, of_second) == (first.len(), second.len())
 }
 
-#[test]
-fn two_threads(rt: HostRuntime) -> Result<(), Fail> {
-    let alloc = rt.alloc();
-    let (hub, mut first, mut second) = open_two(alloc)?;
-    hub.enlist(&mut first);
-    hub.enlist(&mut second);
+// Two listeners send and read at the same time, and read on afterwards.
+fn share<R: Threads + Wait + Sync>(
+    rt: &R,
+    alloc: Global,
+    hub: &WordHub,
+    first: &mut WordPass,
+    second: &mut WordPass,
+    first_log: &mut Log,
+    second_log: &mut Log,
+) -> Result<(), Fail>
+    requires first { IsHubPass hub.now first.old }
+    requires first_listens { IsSome (known_of first.old).mark }
+    requires second { IsHubPass hub.now second.old }
+    requires second_listens { IsSome (known_of second.old).mark }
+    ensures first { IsHubPass hub.now first.new }
+    ensures first_session { (known_of first.new).session ≡ (known_of first.old).session }
+    ensures second { IsHubPass hub.now second.new }
+    ensures second_session { (known_of second.new).session ≡ (known_of second.old).session }
+{
     let notes = [note(alloc, 100)?];
     let set = set_of_c(alloc)?;
-    let (mut a_sent, mut a_got) = (Vec::new(alloc), Vec::new(alloc));
-    let (mut b_sent, mut b_got) = (Vec::new(alloc), Vec::new(alloc));
-    let (a, b) = join_mut(
+    try_both(
+        rt, alloc, hub, first, second, &notes, &set, first_log, second_log,
+    )?;
+    read_rest(alloc, hub, first, second, &set, first_log)?;
+    read_rest(alloc, hub, second, first, &set, second_log)?;
+    Ok(())
+}
+
+#[test]
+fn two_threads(rt: HostRuntime) -> Result<(), Fail> {
+    let (hub, mut first, mut second) = open_two(rt.alloc())?;
+    hub.enlist(&mut first);
+    hub.enlist(&mut second);
+    let (mut a, mut b) = (empty_log(rt.alloc()), empty_log(rt.alloc()));
+    share(
         &rt,
-        &mut || tries(
-            &rt,
-            alloc,
-            &hub,
-            &mut first,
-            &notes,
-            &set,
-            &mut a_sent,
-            &mut a_got,
-        ),
-        &mut || tries(
-            &rt,
-            alloc,
-            &hub,
-            &mut second,
-            &notes,
-            &set,
-            &mut b_sent,
-            &mut b_got,
-        ),
-    );
-    a?;
-    b?;
-    hub.meet(&mut second, &mut first);
-    hub.meet(&mut first, &mut second);
-    hub.scan(alloc, &mut first, &set, &mut a_got)?;
-    hub.scan(alloc, &mut second, &set, &mut b_got)?;
-    assert!(rt; is_all(&a_got, &a_sent, &b_sent));
-    assert!(rt; is_all(&b_got, &a_sent, &b_sent));
-    assert_eq!(rt; count_journal(alloc, hub, first, second)?, 8000);
+        rt.alloc(),
+        &hub,
+        &mut first,
+        &mut second,
+        &mut a,
+        &mut b,
+    )?;
+    assert!(rt; is_all(&a.got, &a.sent, &b.sent));
+    assert!(rt; is_all(&b.got, &a.sent, &b.sent));
+    assert_eq!(rt; count_journal(rt.alloc(), hub, first, second)?, 8000);
     Ok(())
 }

@@ -1,38 +1,23 @@
 //! The tail advances: past a session that joins it does not, and without a full queue it does.
-ghost use Rattle.std.specs.Prelude.{◌≡◌, ◌^◌, ◌<◌, None, IsSome};
-ghost use Rattle.pgn_words.specs.Passes.{IsPassOf, view_of, known_of};
-ghost use Rattle.pgn_words.specs.Listening.{registered};
-ghost use Rattle.pgn_words.specs.declared.view.Listen.TheVariants as listens;
-ghost use Rattle.pgn_wordhub.specs.Passes.{IsHubPass, IsHubView, hub_shape};
+ghost use Rattle.std.specs.Prelude.{◌≡◌, ◌<◌, None, IsSome};
+ghost use Rattle.pgn_words.specs.Passes.{known_of};
+ghost use Rattle.pgn_wordhub.specs.Passes.{IsHubPass, hub_shape};
 
 use super::*;
-use crate::Freed;
 use pgn_base::SessionNo;
+use std::thread;
+use std::thread::Threads;
 
-// A session says that it joins, and loads its base.
-#[tactic(auto, using(crate::proofs::JoinerLaws::registers))]
-fn begin_to_join(hub: &WordHub, pass: &mut WordPass)
+/// How often a session advances the tail at most until it meets another one that joins.
+const ADVANCES: usize = 1_000_000;
+
+// What an advance did: the oldest kept page before it and after it, and the session that joined.
+fn advance<R: Wait>(rt: &R, hub: &WordHub, pass: &mut WordPass) -> (u64, u64, Option<SessionNo>)
     requires own { IsHubPass hub.now pass.old }
-    requires out { (known_of pass.old).mark ≡ None }
-    ensures own { IsPassOf hub.now.queue pass.new }
-    ensures based { (view_of pass.new).post.listen ≡ listens.Based }
-    ensures low { (view_of pass.new).post.at < 2 ^ 32 }
-    ensures rests { IsHubView (hub_shape hub.now) (registered (view_of pass.new)) }
-{
-    hub.queue.mark_joining(pass);
-    hub.queue.load_base(pass);
-}
-
-// It registers with its base.
-fn register(hub: &WordHub, pass: &mut WordPass)
-    requires own { IsPassOf hub.now.queue pass.old }
-    requires based { (view_of pass.old).post.listen ≡ listens.Based }
-    requires low { (view_of pass.old).post.at < 2 ^ 32 }
-    requires rests { IsHubView (hub_shape hub.now) (registered (view_of pass.old)) }
     ensures own { IsHubPass hub.now pass.new }
-    ensures listens { IsSome (known_of pass.new).mark }
 {
-    hub.queue.store_valid(pass);
+    let freed = hub.advance_tail(rt, pass);
+    (freed.from, freed.to, freed.joiner)
 }
 
 // Another session sends two largest notifications, which fill two pages.
@@ -46,22 +31,99 @@ fn send_two<R: Wait>(rt: &R, alloc: Global, hub: &WordHub, pass: &mut WordPass) 
     Ok(())
 }
 
-// What one advance did: the oldest kept page before it and after it, and the session that joined.
-fn freed(from: u64, to: u64, joiner: Option<SessionNo>) -> Freed {
-    Freed { from, to, joiner }
+#[test]
+fn a_listener_holds_the_tail(rt: HostRuntime) -> Result<(), Fail> {
+    let (hub, mut first, mut second) = open_two(rt.alloc())?;
+    hub.enlist(&mut first);
+    send_two(&rt, rt.alloc(), &hub, &mut second)?;
+    assert_eq!(rt; advance(&rt, &hub, &mut second), (0, 0, None));
+    assert_eq!(rt; receive(rt.alloc(), &hub, &mut first)?, (5, 2));
+    assert_eq!(rt; advance(&rt, &hub, &mut second), (0, 1, None));
+    Ok(())
+}
+
+// A session joins and leaves: whether the flag 0 was raised.
+fn join_once(hub: &WordHub, pass: &mut WordPass) -> bool
+    requires own { IsHubPass hub.now pass.old }
+    requires out { (known_of pass.old).mark ≡ None }
+    requires flags { 0 < (hub_shape hub.now).flags }
+    ensures own { IsHubPass hub.now pass.new }
+    ensures out { (known_of pass.new).mark ≡ None }
+{
+    hub.enlist(pass);
+    hub.leave(pass);
+    hub.look(pass, 0).is_some()
+}
+
+// It does so until the flag is raised.
+fn join_again<R: Wait>(rt: &R, hub: &WordHub, pass: &mut WordPass)
+    requires own { IsHubPass hub.now pass.old }
+    requires out { (known_of pass.old).mark ≡ None }
+    requires flags { 0 < (hub_shape hub.now).flags }
+{
+    'rounds: for _ in rt.forever() {
+        if join_once(hub, pass) {
+            break;
+        }
+    }
+}
+
+// What the first advance did that met a session which joined.
+fn meet_joiner<R: Wait>(rt: &R, hub: &WordHub, pass: &mut WordPass) -> Option<(u64, u64, SessionNo)>
+    requires own { IsHubPass hub.now pass.old }
+    ensures own { IsHubPass hub.now pass.new }
+{
+    'advances: for _ in 0..ADVANCES {
+        if let (from, to, Some(joiner)) = advance(rt, hub, pass) {
+            return Some((from, to, joiner));
+        }
+        thread::yield_now();
+    }
+    None
+}
+
+// The same; then it raises the flag.
+fn meet_and_raise<R: Wait>(
+    rt: &R,
+    hub: &WordHub,
+    pass: &mut WordPass,
+) -> Option<(u64, u64, SessionNo)>
+    requires own { IsHubPass hub.now pass.old }
+    requires flags { 0 < (hub_shape hub.now).flags }
+{
+    let met = meet_joiner(rt, hub, pass);
+    hub.raise(pass, 0);
+    met
+}
+
+// One thread joins while another advances the tail.
+fn join_and_advance<R: Threads + Wait + Sync>(
+    rt: &R,
+    hub: &WordHub,
+    mut joiner: WordPass,
+    mut other: WordPass,
+) -> ((), Option<(u64, u64, SessionNo)>)
+    requires joiner { IsHubPass hub.now joiner }
+    requires out { (known_of joiner).mark ≡ None }
+    requires other { IsHubPass hub.now other }
+    requires flags { 0 < (hub_shape hub.now).flags }
+{
+    thread::join(
+        rt,
+        move || join_again(rt, hub, &mut joiner),
+        move || meet_and_raise(rt, hub, &mut other),
+    )
 }
 
 #[test]
-fn a_joiner_holds_the_tail(rt: HostRuntime) -> Result<(), Fail> {
-    let (hub, mut first, mut second) = open_two(rt.alloc())?;
-    begin_to_join(&hub, &mut first);
+fn a_session_that_joins_is_named(rt: HostRuntime) -> Result<(), Fail> {
+    let (hub, first, mut second) = open_two(rt.alloc())?;
     send_two(&rt, rt.alloc(), &hub, &mut second)?;
-    let joiner = Some(SessionNo::new(1));
-    assert_eq!(rt; hub.advance_tail(&rt, &mut second), freed(0, 0, joiner));
-    register(&hub, &mut first);
-    assert_eq!(rt; hub.advance_tail(&rt, &mut second), freed(0, 0, None));
-    assert_eq!(rt; receive(rt.alloc(), &hub, &mut first)?, (5, 2));
-    assert_eq!(rt; hub.advance_tail(&rt, &mut second), freed(0, 1, None));
+    let Some((from, to, joiner)) = join_and_advance(&rt, &hub, first, second).1 else {
+        return Err(Fail::from("nobody joined"));
+    };
+    assert_eq!(rt; joiner.get(), 1);
+    assert_eq!(rt; from, to);
     Ok(())
 }
 
@@ -73,6 +135,6 @@ fn the_tail_moves_without_a_full_queue(rt: HostRuntime) -> Result<(), Fail> {
     send_four(&rt, &hub, &mut first, &notes);
     assert_eq!(rt; receive(rt.alloc(), &hub, &mut second)?, (7, 4));
     send(&rt, &hub, &mut first, &notes);
-    assert_eq!(rt; hub.advance_tail(&rt, &mut first), freed(3, 3, None));
+    assert_eq!(rt; advance(&rt, &hub, &mut first), (3, 3, None));
     Ok(())
 }

@@ -4,16 +4,16 @@ ghost use Rattle.pgn_base.specs.declared.format.Format.TheVariants.{One};
 ghost use Rattle.pgn_hub.specs.Shape.{notes_of_seats};
 ghost use Rattle.pgn_journal.specs.examples.Packing.{virtual_note, virtual_cells};
 ghost use Rattle.pgn_words.specs.Passes.{IsPassOf, view_of, known_of, shape_of};
-ghost use Rattle.pgn_words.specs.Examples.{IsOpenAt, IsShowing};
+ghost use Rattle.pgn_queue_tests.specs.Writers.{IsOpenAt, IsShowing};
 ghost use Rattle.pgn_words.specs.declared.view.Phase.TheVariants as phases;
 ghost use Rattle.pgn_words.specs.declared.view.Stage.TheVariants as stages;
 
-use super::{draw, get_ready, join, open_two};
-use crate::{WordPass, WordQueue};
+use super::{draw, get_ready, holder, join, open_two};
 use pgn_base::{Name, Note, PID_BASE, Payload, SessionNo, Xid};
-use pgn_layout::Pos;
 use pgn_hub::PassView;
 use pgn_journal::Fate;
+use pgn_layout::Pos;
+use pgn_words::{WordPass, WordQueue};
 use std::alloc::Global;
 use std::test::Fail;
 
@@ -191,19 +191,6 @@ pub(crate) fn shows_entry(queue: &WordQueue, pass: &mut WordPass) -> bool
         }
     }
     true
-}
-
-// Who holds the lock, for a pass that finds it held.
-fn holder(queue: &WordQueue, pass: &mut WordPass) -> Option<SessionNo>
-    requires own { IsPassOf queue.now pass.old }
-    requires free { (view_of pass.old).phase ≡ phases.Free }
-    ensures own { IsPassOf queue.now pass.new }
-    ensures same { IfSome result (λ _. view_of pass.new ≡ view_of pass.old) }
-{
-    match queue.try_lock(pass) {
-        Ok(()) => None,
-        Err(held) => Some(held.by),
-    }
 }
 
 #[test]

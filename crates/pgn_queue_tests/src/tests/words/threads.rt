@@ -8,9 +8,9 @@ ghost use Rattle.pgn_words.specs.declared.view.Phase.TheVariants as phases;
 
 use super::entry::{publish, publish_locked, shows_entry, virtual_note};
 use super::{join, open_two};
-use crate::{WordPass, WordQueue};
 use pgn_base::Note;
 use pgn_hub::PassView;
+use pgn_words::{WordPass, WordQueue};
 use std::sync::Wait;
 use std::test::Fail;
 use std::thread;

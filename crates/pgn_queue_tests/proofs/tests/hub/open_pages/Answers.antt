@@ -1,7 +1,7 @@
 use Rattle.std.proofs.Common.{List}
 use Rattle.pgn_wordhub.specs.Passes.{IsHubPass}
-use Rattle.pgn_wordhub.proofs.OpenedPair.{opened_pair, both_of}
-use Rattle.pgn_wordhub.proofs.tests.open_pages.Goals as goal
+use Rattle.pgn_queue_tests.proofs.OpenedPair.{opened_pair, both_of}
+use Rattle.pgn_queue_tests.proofs.tests.hub.open_pages.Goals as goal
 
 pub returns-clause-first : goal.returns-clause-first
 returns-clause-first c = (both_of (IsHubPass c.in_ok-hub.hub) c.in_ok-hub.passes.items c.pop.new.self.items c.pop-2.new.self.items c.in-Some-pop.first c.in-Some.second c.in-Some.ensures.items c.in-Some-pop.ensures.items c.in_ok-hub.ensures.own).0
