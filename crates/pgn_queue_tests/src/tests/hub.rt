@@ -3,7 +3,7 @@ ghost use Rattle.std.specs.Prelude.{◌≡◌, ◌≤◌, ◌<◌, length, None,
 ghost use Rattle.pgn_words.specs.Passes.{known_of};
 ghost use Rattle.pgn_wordhub.specs.Passes.{IsHubPass, hub_shape};
 
-use pgn_base::{Action, Actions, DbOid, Delivery, ListenSet, Name, Note, Payload, Xid};
+use pgn_base::{Action, Actions, DbOid, Delivery, ListenSet, Name, Note, Payload, SessionNo, Xid};
 use pgn_hub::{Hub, PassView, SeatSetup, Setup};
 use pgn_wordhub::WordHub;
 use pgn_words::WordPass;
@@ -183,6 +183,30 @@ fn receive(alloc: Global, hub: &WordHub, pass: &mut WordPass) -> Result<(u32, us
     let mut got = Vec::new(alloc);
     let to = read(alloc, hub, pass, &mut got)?;
     Ok((to, got.len()))
+}
+
+// What an advance did: the oldest kept page before it and after it, and the session that joined.
+fn advance<R: Wait>(rt: &R, hub: &WordHub, pass: &mut WordPass) -> (u64, u64, Option<SessionNo>)
+    requires own { IsHubPass hub.now pass.old }
+    ensures own { IsHubPass hub.now pass.new }
+    ensures mark { (known_of pass.new).mark ≡ (known_of pass.old).mark }
+    ensures session { (known_of pass.new).session ≡ (known_of pass.old).session }
+{
+    let freed = hub.advance_tail(rt, pass);
+    (freed.from, freed.to, freed.joiner)
+}
+
+// One pass hears of what another one knows: what it is told then.
+fn tell(hub: &WordHub, from: &mut WordPass, into: &mut WordPass) -> u32
+    requires from { IsHubPass hub.now from.old }
+    requires into { IsHubPass hub.now into.old }
+    ensures from { IsHubPass hub.now from.new }
+    ensures from_session { (known_of from.new).session ≡ (known_of from.old).session }
+    ensures into { IsHubPass hub.now into.new }
+    ensures into_session { (known_of into.new).session ≡ (known_of into.old).session }
+{
+    hub.meet(from, into);
+    into.told().get()
 }
 
 // Ends the hub: how many transactions its journal has.

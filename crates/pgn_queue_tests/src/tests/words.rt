@@ -205,7 +205,7 @@ fn a_session_joins_and_leaves(rt: HostRuntime) -> Result<(), Fail> {
     let (queue, _first, mut second) = open_two(rt.alloc())?;
     let (base, place) = join(&queue, &mut second);
     assert_eq!(rt; (base.get(), place.get()), (3, 0));
-    assert_eq!(rt; second.mark().map(|mark| mark.get()), Some(3));
+    assert_eq!(rt; second.mark(), Some(Xid::new(3)));
     assert!(rt; second.owes());
     queue.store_out(&mut second);
     assert!(rt; second.mark().is_none());
@@ -227,7 +227,6 @@ fn a_flag_tells_who_looks(rt: HostRuntime) -> Result<(), Fail> {
     let (queue, mut first, mut second) = open_two(rt.alloc())?;
     assert!(rt; queue.look_flag(&mut second, 0).is_none());
     assert_eq!(rt; queue.raise_flag(&mut first, 0).get(), 3);
-    let found = queue.look_flag(&mut second, 0);
-    assert_eq!(rt; found.map(|number| number.get()), Some(3));
+    assert_eq!(rt; queue.look_flag(&mut second, 0), Some(Xid::new(3)));
     Ok(())
 }

@@ -4,7 +4,7 @@ ghost use Rattle.pgn_words.specs.Passes.{known_of};
 ghost use Rattle.pgn_wordhub.specs.Passes.{IsHubPass, hub_shape};
 
 use super::*;
-use pgn_base::{SessionNo, Usage};
+use pgn_base::Usage;
 
 // A session listens, sends and reads: whether its wake was set, and what it has received.
 fn listen_and_read<R: Wait>(
@@ -47,12 +47,10 @@ fn one_pass_through_every_call(rt: HostRuntime) -> Result<(), Fail> {
     let (hub, mut first, mut second) = open_two(rt.alloc())?;
     let read = listen_and_read(&rt, rt.alloc(), &hub, &mut first)?;
     assert_eq!(rt; read, (true, 4, 1));
-    let freed = hub.advance_tail(&rt, &mut first);
-    assert_eq!(rt; (freed.from, freed.to, freed.joiner), (0, 0, None));
+    assert_eq!(rt; advance(&rt, &hub, &mut first), (0, 0, None));
     let done = signal_and_leave(&rt, &hub, &mut first);
     assert_eq!(rt; done, (Some(Xid::new(4)), 0));
-    hub.meet(&mut first, &mut second);
-    assert_eq!(rt; second.told().get(), 4);
+    assert_eq!(rt; tell(&hub, &mut first, &mut second), 4);
     assert_eq!(rt; count_journal(rt.alloc(), hub, first, second)?, 1);
     Ok(())
 }
@@ -141,8 +139,7 @@ fn the_end_counts_the_journal(rt: HostRuntime) -> Result<(), Fail> {
     let notes = [note(rt.alloc(), 1)?];
     send(&rt, &hub, &mut first, &notes);
     send(&rt, &hub, &mut second, &notes);
-    hub.meet(&mut second, &mut first);
-    assert_eq!(rt; first.told().get(), 5);
+    assert_eq!(rt; tell(&hub, &mut second, &mut first), 5);
     assert_eq!(rt; count_journal(rt.alloc(), hub, first, second)?, 2);
     Ok(())
 }

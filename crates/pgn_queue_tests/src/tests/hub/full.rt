@@ -4,7 +4,7 @@ ghost use Rattle.pgn_words.specs.Passes.{known_of};
 ghost use Rattle.pgn_wordhub.specs.Passes.{IsHubPass};
 
 use super::*;
-use pgn_base::{Full, SessionNo};
+use pgn_base::Full;
 
 // Why one notification met a full queue.
 fn meet_full<R: Wait>(
@@ -49,21 +49,50 @@ fn held_by_the_listener() -> Full {
     }
 }
 
+// The queue is full twice: why, and the number of the second transaction.
+fn meet_full_twice<R: Wait>(
+    rt: &R,
+    hub: &WordHub,
+    pass: &mut WordPass,
+    notes: &[Note; 1],
+) -> Result<(Full, Option<u32>), Fail>
+    requires own { IsHubPass hub.now pass.old }
+    ensures own { IsHubPass hub.now pass.new }
+{
+    let full = meet_full(rt, hub, pass, notes)?;
+    Ok((full, send(rt, hub, pass, notes)))
+}
+
+// A listener reads, another session sends a short notification, and the listener reads on: what it has received each time, and the
+// number in between.
+fn read_and_send<R: Wait>(
+    rt: &R,
+    alloc: Global,
+    hub: &WordHub,
+    reader: &mut WordPass,
+    writer: &mut WordPass,
+) -> Result<((u32, usize), Option<u32>, (u32, usize)), Fail>
+    requires reader { IsHubPass hub.now reader.old }
+    requires listens { IsSome (known_of reader.old).mark }
+    requires writer { IsHubPass hub.now writer.old }
+{
+    let notes = [note(alloc, 4)?];
+    let before = receive(alloc, hub, reader)?;
+    let number = send(rt, hub, writer, &notes);
+    let after = receive(alloc, hub, reader)?;
+    Ok((before, number, after))
+}
+
 #[test]
 fn full_and_freed_by_a_read(rt: HostRuntime) -> Result<(), Fail> {
     let (hub, mut first, mut second) = open_two(rt.alloc())?;
     hub.enlist(&mut first);
     let notes = [note(rt.alloc(), LARGEST)?];
     assert!(rt; fill(&rt, &hub, &mut second, &notes));
-    let full = meet_full(&rt, &hub, &mut second, &notes)?;
-    assert_eq!(rt; full, held_by_the_listener());
-    assert_eq!(rt; send(&rt, &hub, &mut second, &notes), None);
-    assert_eq!(rt; receive(rt.alloc(), &hub, &mut first)?, (7, 2));
-    assert_eq!(rt;
-        send(&rt, &hub, &mut second, &[note(rt.alloc(), 4)?]),
-        Some(7)
-    );
-    assert_eq!(rt; receive(rt.alloc(), &hub, &mut first)?, (8, 1));
+    let full = meet_full_twice(&rt, &hub, &mut second, &notes)?;
+    assert_eq!(rt; full, (held_by_the_listener(), None));
+    let read = read_and_send(&rt, rt.alloc(), &hub, &mut first, &mut second)?;
+    assert_eq!(rt; read, ((7, 2), Some(7), (8, 1)));
     Ok(())
 }
 

@@ -4,21 +4,11 @@ ghost use Rattle.pgn_words.specs.Passes.{known_of};
 ghost use Rattle.pgn_wordhub.specs.Passes.{IsHubPass, hub_shape};
 
 use super::*;
-use pgn_base::SessionNo;
 use std::thread;
 use std::thread::Threads;
 
 /// How often a session advances the tail at most until it meets another one that joins.
 const ADVANCES: usize = 1_000_000;
-
-// What an advance did: the oldest kept page before it and after it, and the session that joined.
-fn advance<R: Wait>(rt: &R, hub: &WordHub, pass: &mut WordPass) -> (u64, u64, Option<SessionNo>)
-    requires own { IsHubPass hub.now pass.old }
-    ensures own { IsHubPass hub.now pass.new }
-{
-    let freed = hub.advance_tail(rt, pass);
-    (freed.from, freed.to, freed.joiner)
-}
 
 // Another session sends two largest notifications, which fill two pages.
 fn send_two<R: Wait>(rt: &R, alloc: Global, hub: &WordHub, pass: &mut WordPass) -> Result<(), Fail>
