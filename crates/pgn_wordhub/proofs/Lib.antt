@@ -2,12 +2,10 @@ mod WayLaws
 mod ReadingLaws
 mod ReadLaws
 mod ListenLaws
-mod JoinerLaws
 mod StoringLaws
 mod PlacingKept
 mod WakeLaws
 mod OpenedLaws
-mod OpenedPair
 mod LookLaws
 mod AdvanceLaws
 mod UsageLaws

@@ -28,6 +28,3 @@ mod writing;
 
 pub use hub::WordHub;
 pub use looks::Freed;
-
-#[cfg(test)]
-mod tests;

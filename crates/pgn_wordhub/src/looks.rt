@@ -27,7 +27,7 @@ const PLACES: usize = SECTIONS_MAX as usize + 1;
 
 /// What `advance_tail` did: the numbers of the oldest kept page before it and after it, and a session that joined, for which it gave
 /// up. Where it gave up, both pages are the same.
-#[derive(Clone, Copy, Debug, PartialEq, Eq)]
+#[derive(Clone, Copy)]
 pub struct Freed {
     pub from: u64,
     pub to: u64,

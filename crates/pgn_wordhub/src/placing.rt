@@ -18,8 +18,8 @@ use crate::floor::Floor;
 use byteorder::{ByteOrder, LittleEndian};
 use pgn_base::{CELL_BYTES, Note, PAGE_BYTES, PID_BASE, Xid};
 use pgn_entry::{entry_len, write_entry, write_filler};
-use pgn_layout::{Batch, Pos, plan_batch};
 use pgn_hub::PassView;
+use pgn_layout::{Batch, Pos, plan_batch};
 use pgn_words::WordPass;
 use std::sync::Wait;
 

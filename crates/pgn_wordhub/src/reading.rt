@@ -17,9 +17,9 @@ use crate::WordHub;
 use crate::parts::{delivery_of, entry_parts};
 use byteorder::{ByteOrder, LittleEndian};
 use pgn_base::{CELL_BYTES, Delivery, ListenSet, PAGE_BYTES, Xid};
-use pgn_layout::{Pos, advance};
 use pgn_hub::PassView;
 use pgn_journal::Fate;
+use pgn_layout::{Pos, advance};
 use pgn_words::WordPass;
 use std::alloc::{AllocError, Global};
 

@@ -6,8 +6,7 @@ ghost use Rattle.pgn_wordhub.specs.Passes.{IsHubPass, hub_shape};
 
 use crate::WordHub;
 use pgn_base::{Delivery, Enlisted, Full, ListenSet, Note, Usage, Xid, are_notes};
-use pgn_hub::Hub;
-use pgn_hub::{Roll, SeatSetup, Setup};
+use pgn_hub::{Hub, Roll, SeatSetup, Setup};
 use pgn_words::{WordPass, WordQueue};
 use std::alloc::{AllocError, Global};
 use std::sync::Wait;

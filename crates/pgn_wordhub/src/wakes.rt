@@ -10,9 +10,9 @@ ghost use Rattle.pgn_wordhub.specs.Wakes.{decided_as, IsWaiting, IsAtHead};
 
 use crate::WordHub;
 use pgn_base::SECTIONS_MAX;
+use pgn_hub::PassView;
 use pgn_lanes::behind;
 use pgn_layout::Pos;
-use pgn_hub::PassView;
 use pgn_words::{PosWord, WordPass};
 
 /// A place for each seat.

@@ -21,8 +21,8 @@ use crate::floor::Floor;
 use crate::looks::Freed;
 use crate::placing::Placing;
 use pgn_base::{CLEANUP_DELAY_PAGES, Full, Note, Usage, Xid};
-use pgn_layout::Pos;
 use pgn_journal::Fate;
+use pgn_layout::Pos;
 use pgn_words::WordPass;
 use std::sync::Wait;
 

@@ -27,7 +27,6 @@ pub mod NoteKept
 pub mod TakenLaws
 pub mod TakenKept
 pub mod CloseLaws
-pub mod EntryTest
 pub mod RuleLaws
 pub mod WayLaws
 pub mod RefusedSteps

@@ -48,6 +48,3 @@ pub use lock::Held;
 pub use pass::{WordNote, WordPass, WordQueue};
 pub use pos_word::PosWord;
 pub use view::{Eye, Listen, Look, Pen, Phase, Post, Stage, View, Walk};
-
-#[cfg(test)]
-mod tests;

@@ -10,7 +10,7 @@ use crate::words::LOCK;
 use pgn_base::SessionNo;
 
 /// Another session holds the lock.
-#[derive(Clone, Copy, Debug, PartialEq, Eq)]
+#[derive(Clone, Copy)]
 pub struct Held {
     pub by: SessionNo,
 }

@@ -12,8 +12,8 @@ use crate::plays::MakePass;
 use crate::words::{FIN, POSITIONS, STATUSES_A_WORD, TAIL, XID};
 use atomic_table::Table;
 use pgn_base::{CELL_BYTES, FIRST_XID, PAGE_BYTES, SessionNo, Xid};
-use pgn_layout::Pos;
 use pgn_hub::{SeatSetup, Setup};
+use pgn_layout::Pos;
 use std::alloc::{AllocError, Global};
 
 // How many notifications all sessions may send.

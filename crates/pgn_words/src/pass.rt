@@ -5,8 +5,8 @@ ghost use Rattle.pgn_words.specs.Words.{word_count, cells_at as first_cell, wake
 use crate::view::View;
 use atomic_table::{Seat, Table, TableRule};
 use pgn_base::{DbOid, SessionNo, Xid};
-use pgn_layout::Pos;
 use pgn_hub::Setup;
+use pgn_layout::Pos;
 use std::alloc::Global;
 
 /// The rule that every step keeps.

@@ -3,8 +3,8 @@ ghost use Rattle.pgn_words.specs.Passes.{known_of, view_of};
 
 use crate::pass::WordPass;
 use pgn_base::{DbOid, SessionNo, Xid};
-use pgn_layout::Pos;
 use pgn_hub::PassView;
+use pgn_layout::Pos;
 
 impl PassView for WordPass {
     ghost use Rattle.pgn_words.specs.Passes.{known_of};

@@ -14,8 +14,8 @@ use crate::pass::{WordPass, WordQueue};
 use crate::plays::{Ending, LoadFin, LoadStatus, SetStatus, StoreFin};
 use crate::words::{FIN, STATUSES_A_WORD};
 use pgn_base::{FIRST_XID, Xid};
-use pgn_layout::{status_bits, status_of};
 use pgn_journal::Fate;
+use pgn_layout::{status_bits, status_of};
 use std::marker::Brand;
 
 impl WordQueue {

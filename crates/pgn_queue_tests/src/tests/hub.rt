@@ -1,0 +1,229 @@
+//! A hub of two pages for two sessions, and what a session does with its calls.
+ghost use Rattle.std.specs.Prelude.{◌≡◌, ◌≤◌, ◌<◌, length, None, IsSome, IfOk};
+ghost use Rattle.pgn_words.specs.Passes.{known_of};
+ghost use Rattle.pgn_wordhub.specs.Passes.{IsHubPass, hub_shape};
+
+use pgn_base::{Action, Actions, DbOid, Delivery, ListenSet, Name, Note, Payload, SessionNo, Xid};
+use pgn_hub::{Hub, PassView, SeatSetup, Setup};
+use pgn_wordhub::WordHub;
+use pgn_words::WordPass;
+use std::alloc::Global;
+use std::str;
+use std::sync::Wait;
+use std::test::Fail;
+
+mod calls;
+mod full;
+mod sharing;
+mod tail;
+
+/// The letters of a largest notification on a channel of one letter.
+const LARGEST: usize = 7999;
+
+/// How many notifications each session of a test may send.
+const NOTES: u32 = 4000;
+
+// A notification on the channel `c` whose payload has so many letters.
+fn note(alloc: Global, letters: usize) -> Result<Note, Fail>
+    ensures { IfOk result (λ note. length note.payload ≡ letters) }
+{
+    let payload = vec![in alloc; b'x'; letters]?;
+    Ok(Note {
+        channel: Name::new(alloc, "c")?,
+        payload: Payload::new(alloc, str::from_utf8(&payload)?)?,
+    })
+}
+
+// The set of the channel `c`.
+fn set_of_c(alloc: Global) -> Result<ListenSet, Fail> {
+    let mut actions = Actions::new(alloc);
+    actions.push(Action::Listen(Name::new(alloc, "c")?))?;
+    Ok(ListenSet::new(alloc).with(&actions)?)
+}
+
+// The seat of a session in a database.
+fn seat(db: u32) -> SeatSetup
+    requires { 0 < db }
+    ensures { result.notes ≡ 4000 }
+{
+    SeatSetup {
+        db: DbOid::new(db),
+        notes: NOTES,
+    }
+}
+
+// What a hub of so many pages and two flags is opened for, with two sessions, of which the first is in database 1.
+fn setup_of_two(alloc: Global, pages: u32, second_db: u32) -> Result<Setup, Fail>
+    requires some_pages { 2 ≤ pages }
+    requires few_pages { pages ≤ 1024 }
+    requires db { 0 < second_db }
+    ensures flags { IfOk result (λ setup. setup.flags ≡ 2) }
+    ensures seats { IfOk result (λ setup. length setup.seats ≡ 2) }
+{
+    let mut seats = Vec::with_capacity(alloc, 2)?;
+    seats.push(seat(1))?;
+    seats.push(seat(second_db))?;
+    Ok(Setup::new(pages, 2, seats))
+}
+
+// A hub of so many pages and two flags for two sessions, of which the first is in database 1.
+fn open_pages(
+    alloc: Global,
+    pages: u32,
+    second_db: u32,
+) -> Result<(WordHub, WordPass, WordPass), Fail>
+    requires some_pages { 2 ≤ pages }
+    requires few_pages { pages ≤ 1024 }
+    requires db { 0 < second_db }
+    ensures first { IfOk result (λ opened. IsHubPass opened.0 opened.1) }
+    ensures second { IfOk result (λ opened. IsHubPass opened.0 opened.2) }
+    ensures first_out { IfOk result (λ opened. (known_of opened.1).mark ≡ None) }
+    ensures second_out { IfOk result (λ opened. (known_of opened.2).mark ≡ None) }
+    ensures first_session { IfOk result (λ opened. (known_of opened.1).session ≡ 1) }
+    ensures second_session { IfOk result (λ opened. (known_of opened.2).session ≡ 2) }
+    ensures seats { IfOk result (λ opened. length (hub_shape opened.0).seats ≡ 2) }
+    ensures flags { IfOk result (λ opened. (hub_shape opened.0).flags ≡ 2) }
+{
+    let setup = setup_of_two(alloc, pages, second_db)?;
+    let (hub, mut passes) = WordHub::open(alloc, setup)?;
+    let Some(second) = passes.pop() else {
+        return Err(Fail::from("no pass"));
+    };
+    let Some(first) = passes.pop() else {
+        return Err(Fail::from("one pass"));
+    };
+    Ok((hub, first, second))
+}
+
+// A hub of two pages for two sessions of one database.
+fn open_two(alloc: Global) -> Result<(WordHub, WordPass, WordPass), Fail>
+    ensures first { IfOk result (λ opened. IsHubPass opened.0 opened.1) }
+    ensures second { IfOk result (λ opened. IsHubPass opened.0 opened.2) }
+    ensures first_out { IfOk result (λ opened. (known_of opened.1).mark ≡ None) }
+    ensures second_out { IfOk result (λ opened. (known_of opened.2).mark ≡ None) }
+    ensures first_session { IfOk result (λ opened. (known_of opened.1).session ≡ 1) }
+    ensures second_session { IfOk result (λ opened. (known_of opened.2).session ≡ 2) }
+    ensures seats { IfOk result (λ opened. length (hub_shape opened.0).seats ≡ 2) }
+    ensures flags { IfOk result (λ opened. (hub_shape opened.0).flags ≡ 2) }
+{
+    open_pages(alloc, 2, 1)
+}
+
+// The number of the transaction that publishes one notification: none where the queue is full, or the session has sent all it may.
+fn publish_one<R: Wait>(
+    rt: &R,
+    hub: &WordHub,
+    pass: &mut WordPass,
+    notes: &[Note; 1],
+) -> Option<Xid>
+    requires own { IsHubPass hub.now pass.old }
+    ensures own { IsHubPass hub.now pass.new }
+    ensures mark { (known_of pass.new).mark ≡ (known_of pass.old).mark }
+    ensures session { (known_of pass.new).session ≡ (known_of pass.old).session }
+{
+    if pass.notes_left() < 1 {
+        return None;
+    }
+    match hub.publish(rt, pass, notes) {
+        Ok(xid) => Some(xid),
+        Err(_) => None,
+    }
+}
+
+// The same, as a plain number.
+fn send<R: Wait>(rt: &R, hub: &WordHub, pass: &mut WordPass, notes: &[Note; 1]) -> Option<u32>
+    requires own { IsHubPass hub.now pass.old }
+    ensures own { IsHubPass hub.now pass.new }
+    ensures mark { (known_of pass.new).mark ≡ (known_of pass.old).mark }
+    ensures session { (known_of pass.new).session ≡ (known_of pass.old).session }
+{
+    match publish_one(rt, hub, pass, notes) {
+        Some(xid) => Some(xid.get()),
+        None => None,
+    }
+}
+
+// Sends one notification four times.
+fn send_four<R: Wait>(rt: &R, hub: &WordHub, pass: &mut WordPass, notes: &[Note; 1])
+    requires own { IsHubPass hub.now pass.old }
+    ensures own { IsHubPass hub.now pass.new }
+    ensures mark { (known_of pass.new).mark ≡ (known_of pass.old).mark }
+{
+    send(rt, hub, pass, notes);
+    send(rt, hub, pass, notes);
+    send(rt, hub, pass, notes);
+    send(rt, hub, pass, notes);
+}
+
+// Reads on: the new mark, and what was received is put behind `got`.
+fn read(
+    alloc: Global,
+    hub: &WordHub,
+    pass: &mut WordPass,
+    got: &mut Vec<Delivery>,
+) -> Result<u32, Fail>
+    requires own { IsHubPass hub.now pass.old }
+    requires listens { IsSome (known_of pass.old).mark }
+    ensures own { IsHubPass hub.now pass.new }
+    ensures listens { IsSome (known_of pass.new).mark }
+    ensures session { (known_of pass.new).session ≡ (known_of pass.old).session }
+{
+    let set = set_of_c(alloc)?;
+    Ok(hub.scan(alloc, pass, &set, got)?.get())
+}
+
+// Reads on: the new mark, and how many notifications were received.
+fn receive(alloc: Global, hub: &WordHub, pass: &mut WordPass) -> Result<(u32, usize), Fail>
+    requires own { IsHubPass hub.now pass.old }
+    requires listens { IsSome (known_of pass.old).mark }
+    ensures own { IsHubPass hub.now pass.new }
+    ensures listens { IsSome (known_of pass.new).mark }
+    ensures session { (known_of pass.new).session ≡ (known_of pass.old).session }
+{
+    let mut got = Vec::new(alloc);
+    let to = read(alloc, hub, pass, &mut got)?;
+    Ok((to, got.len()))
+}
+
+// What an advance did: the oldest kept page before it and after it, and the session that joined.
+fn advance<R: Wait>(rt: &R, hub: &WordHub, pass: &mut WordPass) -> (u64, u64, Option<SessionNo>)
+    requires own { IsHubPass hub.now pass.old }
+    ensures own { IsHubPass hub.now pass.new }
+    ensures mark { (known_of pass.new).mark ≡ (known_of pass.old).mark }
+    ensures session { (known_of pass.new).session ≡ (known_of pass.old).session }
+{
+    let freed = hub.advance_tail(rt, pass);
+    (freed.from, freed.to, freed.joiner)
+}
+
+// One pass hears of what another one knows: what it is told then.
+fn tell(hub: &WordHub, from: &mut WordPass, into: &mut WordPass) -> u32
+    requires from { IsHubPass hub.now from.old }
+    requires into { IsHubPass hub.now into.old }
+    ensures from { IsHubPass hub.now from.new }
+    ensures from_session { (known_of from.new).session ≡ (known_of from.old).session }
+    ensures into { IsHubPass hub.now into.new }
+    ensures into_session { (known_of into.new).session ≡ (known_of into.old).session }
+{
+    hub.meet(from, into);
+    into.told().get()
+}
+
+// Ends the hub: how many transactions its journal has.
+fn count_journal(
+    alloc: Global,
+    hub: WordHub,
+    first: WordPass,
+    second: WordPass,
+) -> Result<u32, Fail>
+    requires first { IsHubPass hub first }
+    requires second { IsHubPass hub second }
+    requires first_session { (known_of first).session ≡ 1 }
+    requires second_session { (known_of second).session ≡ 2 }
+    requires seats { length (hub_shape hub).seats ≡ 2 }
+{
+    let mut passes = Vec::with_capacity(alloc, 2)?;
+    passes.push(first)?;
+    passes.push(second)?;
+    Ok(hub.gather(passes).count)
+}

@@ -1,0 +1,145 @@
+//! A full queue, and what frees it.
+ghost use Rattle.std.specs.Prelude.{◌≡◌, None, IsSome, IfOk};
+ghost use Rattle.pgn_words.specs.Passes.{known_of};
+ghost use Rattle.pgn_wordhub.specs.Passes.{IsHubPass};
+
+use super::*;
+use pgn_base::Full;
+
+// Why one notification met a full queue.
+fn meet_full<R: Wait>(
+    rt: &R,
+    hub: &WordHub,
+    pass: &mut WordPass,
+    notes: &[Note; 1],
+) -> Result<Full, Fail>
+    requires own { IsHubPass hub.now pass.old }
+    ensures own { IsHubPass hub.now pass.new }
+    ensures mark { (known_of pass.new).mark ≡ (known_of pass.old).mark }
+{
+    if pass.notes_left() < 1 {
+        return Err(Fail::from("all sent"));
+    }
+    match hub.publish(rt, pass, notes) {
+        Ok(_) => Err(Fail::from("not full")),
+        Err(full) => Ok(full),
+    }
+}
+
+// Two largest notifications fill two pages.
+fn fill<R: Wait>(rt: &R, hub: &WordHub, pass: &mut WordPass, notes: &[Note; 1]) -> bool
+    requires own { IsHubPass hub.now pass.old }
+    ensures own { IsHubPass hub.now pass.new }
+    ensures mark { (known_of pass.new).mark ≡ (known_of pass.old).mark }
+{
+    let first = send(rt, hub, pass, notes);
+    let second = send(rt, hub, pass, notes);
+    (first, second) == (Some(3), Some(4))
+}
+
+// Session 1 has read nothing.
+fn held_by_the_listener() -> Full {
+    Full {
+        xid: Xid::new(5),
+        queued: 0,
+        head_page: 2,
+        floor_mark: Xid::new(3),
+        floor_page: 0,
+        holder: Some(SessionNo::new(1)),
+    }
+}
+
+// The queue is full twice: why, and the number of the second transaction.
+fn meet_full_twice<R: Wait>(
+    rt: &R,
+    hub: &WordHub,
+    pass: &mut WordPass,
+    notes: &[Note; 1],
+) -> Result<(Full, Option<u32>), Fail>
+    requires own { IsHubPass hub.now pass.old }
+    ensures own { IsHubPass hub.now pass.new }
+{
+    let full = meet_full(rt, hub, pass, notes)?;
+    Ok((full, send(rt, hub, pass, notes)))
+}
+
+// A listener reads, another session sends a short notification, and the listener reads on: what it has received each time, and the
+// number in between.
+fn read_and_send<R: Wait>(
+    rt: &R,
+    alloc: Global,
+    hub: &WordHub,
+    reader: &mut WordPass,
+    writer: &mut WordPass,
+) -> Result<((u32, usize), Option<u32>, (u32, usize)), Fail>
+    requires reader { IsHubPass hub.now reader.old }
+    requires listens { IsSome (known_of reader.old).mark }
+    requires writer { IsHubPass hub.now writer.old }
+{
+    let notes = [note(alloc, 4)?];
+    let before = receive(alloc, hub, reader)?;
+    let number = send(rt, hub, writer, &notes);
+    let after = receive(alloc, hub, reader)?;
+    Ok((before, number, after))
+}
+
+#[test]
+fn full_and_freed_by_a_read(rt: HostRuntime) -> Result<(), Fail> {
+    let (hub, mut first, mut second) = open_two(rt.alloc())?;
+    hub.enlist(&mut first);
+    let notes = [note(rt.alloc(), LARGEST)?];
+    assert!(rt; fill(&rt, &hub, &mut second, &notes));
+    let full = meet_full_twice(&rt, &hub, &mut second, &notes)?;
+    assert_eq!(rt; full, (held_by_the_listener(), None));
+    let read = read_and_send(&rt, rt.alloc(), &hub, &mut first, &mut second)?;
+    assert_eq!(rt; read, ((7, 2), Some(7), (8, 1)));
+    Ok(())
+}
+
+// The first transaction is larger than the queue, and nobody listens.
+fn held_by_nobody() -> Full {
+    Full {
+        xid: Xid::new(3),
+        queued: 2,
+        head_page: 2,
+        floor_mark: Xid::new(3),
+        floor_page: 0,
+        holder: None,
+    }
+}
+
+// Why a transaction of three large notifications met a full queue.
+fn send_three<R: Wait>(
+    rt: &R,
+    alloc: Global,
+    hub: &WordHub,
+    pass: &mut WordPass,
+) -> Result<Full, Fail>
+    requires own { IsHubPass hub.now pass.old }
+    ensures own { IsHubPass hub.now pass.new }
+{
+    if pass.notes_left() < 3 {
+        return Err(Fail::from("all sent"));
+    }
+    let notes = [
+        note(alloc, LARGEST - 2)?,
+        note(alloc, LARGEST - 1)?,
+        note(alloc, LARGEST)?,
+    ];
+    match hub.publish(rt, pass, &notes) {
+        Ok(_) => Err(Fail::from("not full")),
+        Err(full) => Ok(full),
+    }
+}
+
+#[test]
+fn full_without_a_listener(rt: HostRuntime) -> Result<(), Fail> {
+    let (hub, mut first, _second) = open_two(rt.alloc())?;
+    let full = send_three(&rt, rt.alloc(), &hub, &mut first)?;
+    assert_eq!(rt; full, held_by_nobody());
+    assert_eq!(rt;
+        send(&rt, &hub, &mut first, &[note(rt.alloc(), 0)?]),
+        Some(4)
+    );
+    Ok(())
+}

@@ -1,0 +1,262 @@
+//! Two sessions that share the queue for long.
+ghost use Rattle.std.specs.Prelude.{◌≡◌, ◌<◌, true, length, None, IsSome, IfOk};
+ghost use Rattle.std.specs.Thread.{IsSync, IsSend};
+ghost use Rattle.pgn_words.specs.Passes.{known_of};
+ghost use Rattle.pgn_wordhub.specs.Passes.{IsHubPass};
+
+use super::*;
+use std::alloc::AllocError;
+use std::thread::{Threads, join_mut};
+
+/// How often a session tries.
+const TIMES: usize = 4000;
+
+// One session sends, and another reads: whether that was sent, and one notification was received.
+fn send_and_read<R: Wait>(
+    rt: &R,
+    alloc: Global,
+    hub: &WordHub,
+    writer: &mut WordPass,
+    reader: &mut WordPass,
+    notes: &[Note; 1],
+    set: &ListenSet,
+) -> Result<bool, AllocError>
+    requires writer { IsHubPass hub.now writer.old }
+    requires reader { IsHubPass hub.now reader.old }
+    requires listens { IsSome (known_of reader.old).mark }
+    ensures writer { IsHubPass hub.now writer.new }
+    ensures reader { IsHubPass hub.now reader.new }
+    ensures listens { IsSome (known_of reader.new).mark }
+{
+    let sent = publish_one(rt, hub, writer, notes);
+    let mut got = Vec::new(alloc);
+    hub.scan(alloc, reader, set, &mut got)?;
+    Ok(sent.is_some() && got.len() == 1)
+}
+
+// Whether all of these rounds went so.
+fn rounds<R: Wait>(
+    rt: &R,
+    alloc: Global,
+    hub: &WordHub,
+    writer: &mut WordPass,
+    reader: &mut WordPass,
+) -> Result<bool, Fail>
+    requires writer { IsHubPass hub.now writer.old }
+    requires reader { IsHubPass hub.now reader.old }
+    requires listens { IsSome (known_of reader.old).mark }
+    ensures writer { IsHubPass hub.now writer.new }
+    ensures reader { IsHubPass hub.now reader.new }
+    ensures listens { IsSome (known_of reader.new).mark }
+{
+    let notes = [note(alloc, LARGEST)?];
+    let set = set_of_c(alloc)?;
+    'rounds: for _ in 0..TIMES {
+        if !send_and_read(rt, alloc, hub, writer, reader, &notes, &set)? {
+            return Ok(false);
+        }
+    }
+    Ok(true)
+}
+
+#[test]
+fn pages_are_used_again(rt: HostRuntime) -> Result<(), Fail> {
+    let (hub, mut first, mut second) = open_two(rt.alloc())?;
+    hub.enlist(&mut second);
+    assert!(rt; rounds(&rt, rt.alloc(), &hub, &mut first, &mut second)?);
+    assert_eq!(rt; receive(rt.alloc(), &hub, &mut second)?, (4003, 0));
+    Ok(())
+}
+
+// What a session has sent and received.
+#[derive(Drop)]
+struct Log {
+    sent: Vec<Xid>,
+    got: Vec<Delivery>,
+}
+
+// Nothing yet.
+fn empty_log(alloc: Global) -> Log {
+    Log {
+        sent: Vec::new(alloc),
+        got: Vec::new(alloc),
+    }
+}
+
+// One try: a publish, whatever it answers, and then a read. A number that was answered is one that was sent.
+fn try_once<R: Wait>(
+    rt: &R,
+    alloc: Global,
+    hub: &WordHub,
+    pass: &mut WordPass,
+    notes: &[Note; 1],
+    set: &ListenSet,
+    log: &mut Log,
+) -> Result<(), AllocError>
+    requires own { IsHubPass hub.now pass.old }
+    requires listens { IsSome (known_of pass.old).mark }
+    ensures own { IsHubPass hub.now pass.new }
+    ensures listens { IsSome (known_of pass.new).mark }
+    ensures session { (known_of pass.new).session ≡ (known_of pass.old).session }
+{
+    if let Some(xid) = publish_one(rt, hub, pass, notes) {
+        log.sent.push(xid)?;
+    }
+    hub.scan(alloc, pass, set, &mut log.got)?;
+    Ok(())
+}
+
+// All tries of one session.
+fn tries<R: Wait>(
+    rt: &R,
+    alloc: Global,
+    hub: &WordHub,
+    pass: &mut WordPass,
+    notes: &[Note; 1],
+    set: &ListenSet,
+    log: &mut Log,
+) -> Result<(), AllocError>
+    requires own { IsHubPass hub.now pass.old }
+    requires listens { IsSome (known_of pass.old).mark }
+    ensures own { IsHubPass hub.now pass.new }
+    ensures listens { IsSome (known_of pass.new).mark }
+    ensures session { (known_of pass.new).session ≡ (known_of pass.old).session }
+{
+    'tries: for _ in 0..TIMES {
+        try_once(rt, alloc, hub, pass, notes, set, log)?;
+    }
+    Ok(())
+}
+
+// Those of two sessions on two threads.
+fn try_both<R: Threads + Wait + Sync>(
+    rt: &R,
+    alloc: Global,
+    hub: &WordHub,
+    first: &mut WordPass,
+    second: &mut WordPass,
+    notes: &[Note; 1],
+    set: &ListenSet,
+    first_log: &mut Log,
+    second_log: &mut Log,
+) -> Result<(), AllocError>
+    requires first { IsHubPass hub.now first.old }
+    requires first_listens { IsSome (known_of first.old).mark }
+    requires second { IsHubPass hub.now second.old }
+    requires second_listens { IsSome (known_of second.old).mark }
+    ensures first { IsHubPass hub.now first.new }
+    ensures first_listens { IsSome (known_of first.new).mark }
+    ensures first_session { (known_of first.new).session ≡ (known_of first.old).session }
+    ensures second { IsHubPass hub.now second.new }
+    ensures second_listens { IsSome (known_of second.new).mark }
+    ensures second_session { (known_of second.new).session ≡ (known_of second.old).session }
+{
+    let (one, other) = join_mut(
+        rt,
+        &mut || tries(rt, alloc, hub, first, notes, set, first_log),
+        &mut || tries(rt, alloc, hub, second, notes, set, second_log),
+    );
+    one?;
+    other
+}
+
+// A session hears of what another one knows, and reads on.
+fn read_rest(
+    alloc: Global,
+    hub: &WordHub,
+    pass: &mut WordPass,
+    other: &mut WordPass,
+    set: &ListenSet,
+    log: &mut Log,
+) -> Result<(), AllocError>
+    requires own { IsHubPass hub.now pass.old }
+    requires listens { IsSome (known_of pass.old).mark }
+    requires other { IsHubPass hub.now other.old }
+    ensures own { IsHubPass hub.now pass.new }
+    ensures session { (known_of pass.new).session ≡ (known_of pass.old).session }
+    ensures other { IsHubPass hub.now other.new }
+    ensures other_mark { (known_of other.new).mark ≡ (known_of other.old).mark }
+    ensures other_session { (known_of other.new).session ≡ (known_of other.old).session }
+{
+    hub.meet(other, pass);
+    hub.scan(alloc, pass, set, &mut log.got)?;
+    Ok(())
+}
+
+// Whether a delivery is of the next of these transactions, which its sender has published.
+fn is_next(one: &Delivery, pid: u32, sent: &[Xid], count: usize) -> bool
+    ensures { result ≡ true → count < length sent.now }
+{
+    count < sent.len() && one.pid == pid && sent[count] == one.xid
+}
+
+// Whether what was received is what both sessions have sent, once and in order.
+fn is_all(got: &[Delivery], first: &[Xid], second: &[Xid]) -> bool {
+    let mut of_first = 0;
+    let mut of_second = 0;
+    let mut last = 0;
+    for one in got {
+        if one.xid.get() <= last {
+            return false;
+        }
+        last = one.xid.get();
+        if is_next(one, 1001, first, of_first) {
+            of_first += 1;
+        } else if is_next(one, 1002, second, of_second) {
+            of_second += 1;
+        } else {
+            return false;
+        }
+    }
+    (of_first, of_second) == (first.len(), second.len())
+}
+
+// Two listeners send and read at the same time, and read on afterwards.
+fn share<R: Threads + Wait + Sync>(
+    rt: &R,
+    alloc: Global,
+    hub: &WordHub,
+    first: &mut WordPass,
+    second: &mut WordPass,
+    first_log: &mut Log,
+    second_log: &mut Log,
+) -> Result<(), Fail>
+    requires first { IsHubPass hub.now first.old }
+    requires first_listens { IsSome (known_of first.old).mark }
+    requires second { IsHubPass hub.now second.old }
+    requires second_listens { IsSome (known_of second.old).mark }
+    ensures first { IsHubPass hub.now first.new }
+    ensures first_session { (known_of first.new).session ≡ (known_of first.old).session }
+    ensures second { IsHubPass hub.now second.new }
+    ensures second_session { (known_of second.new).session ≡ (known_of second.old).session }
+{
+    let notes = [note(alloc, 100)?];
+    let set = set_of_c(alloc)?;
+    try_both(
+        rt, alloc, hub, first, second, &notes, &set, first_log, second_log,
+    )?;
+    read_rest(alloc, hub, first, second, &set, first_log)?;
+    read_rest(alloc, hub, second, first, &set, second_log)?;
+    Ok(())
+}
+
+#[test]
+fn two_threads(rt: HostRuntime) -> Result<(), Fail> {
+    let (hub, mut first, mut second) = open_two(rt.alloc())?;
+    hub.enlist(&mut first);
+    hub.enlist(&mut second);
+    let (mut a, mut b) = (empty_log(rt.alloc()), empty_log(rt.alloc()));
+    share(
+        &rt,
+        rt.alloc(),
+        &hub,
+        &mut first,
+        &mut second,
+        &mut a,
+        &mut b,
+    )?;
+    assert!(rt; is_all(&a.got, &a.sent, &b.sent));
+    assert!(rt; is_all(&b.got, &a.sent, &b.sent));
+    assert_eq!(rt; count_journal(rt.alloc(), hub, first, second)?, 8000);
+    Ok(())
+}

@@ -1,0 +1,130 @@
+//! The tail advances: past a session that joins it does not, and without a full queue it does.
+ghost use Rattle.std.specs.Prelude.{◌≡◌, ◌<◌, None, IsSome};
+ghost use Rattle.pgn_words.specs.Passes.{known_of};
+ghost use Rattle.pgn_wordhub.specs.Passes.{IsHubPass, hub_shape};
+
+use super::*;
+use std::thread;
+use std::thread::Threads;
+
+/// How often a session advances the tail at most until it meets another one that joins.
+const ADVANCES: usize = 1_000_000;
+
+// Another session sends two largest notifications, which fill two pages.
+fn send_two<R: Wait>(rt: &R, alloc: Global, hub: &WordHub, pass: &mut WordPass) -> Result<(), Fail>
+    requires own { IsHubPass hub.now pass.old }
+    ensures own { IsHubPass hub.now pass.new }
+{
+    let notes = [note(alloc, LARGEST)?];
+    send(rt, hub, pass, &notes);
+    send(rt, hub, pass, &notes);
+    Ok(())
+}
+
+#[test]
+fn a_listener_holds_the_tail(rt: HostRuntime) -> Result<(), Fail> {
+    let (hub, mut first, mut second) = open_two(rt.alloc())?;
+    hub.enlist(&mut first);
+    send_two(&rt, rt.alloc(), &hub, &mut second)?;
+    assert_eq!(rt; advance(&rt, &hub, &mut second), (0, 0, None));
+    assert_eq!(rt; receive(rt.alloc(), &hub, &mut first)?, (5, 2));
+    assert_eq!(rt; advance(&rt, &hub, &mut second), (0, 1, None));
+    Ok(())
+}
+
+// A session joins and leaves: whether the flag 0 was raised.
+fn join_once(hub: &WordHub, pass: &mut WordPass) -> bool
+    requires own { IsHubPass hub.now pass.old }
+    requires out { (known_of pass.old).mark ≡ None }
+    requires flags { 0 < (hub_shape hub.now).flags }
+    ensures own { IsHubPass hub.now pass.new }
+    ensures out { (known_of pass.new).mark ≡ None }
+{
+    hub.enlist(pass);
+    hub.leave(pass);
+    hub.look(pass, 0).is_some()
+}
+
+// It does so until the flag is raised.
+fn join_again<R: Wait>(rt: &R, hub: &WordHub, pass: &mut WordPass)
+    requires own { IsHubPass hub.now pass.old }
+    requires out { (known_of pass.old).mark ≡ None }
+    requires flags { 0 < (hub_shape hub.now).flags }
+{
+    'rounds: for _ in rt.forever() {
+        if join_once(hub, pass) {
+            break;
+        }
+    }
+}
+
+// What the first advance did that met a session which joined.
+fn meet_joiner<R: Wait>(rt: &R, hub: &WordHub, pass: &mut WordPass) -> Option<(u64, u64, SessionNo)>
+    requires own { IsHubPass hub.now pass.old }
+    ensures own { IsHubPass hub.now pass.new }
+{
+    'advances: for _ in 0..ADVANCES {
+        if let (from, to, Some(joiner)) = advance(rt, hub, pass) {
+            return Some((from, to, joiner));
+        }
+        thread::yield_now();
+    }
+    None
+}
+
+// The same; then it raises the flag.
+fn meet_and_raise<R: Wait>(
+    rt: &R,
+    hub: &WordHub,
+    pass: &mut WordPass,
+) -> Option<(u64, u64, SessionNo)>
+    requires own { IsHubPass hub.now pass.old }
+    requires flags { 0 < (hub_shape hub.now).flags }
+{
+    let met = meet_joiner(rt, hub, pass);
+    hub.raise(pass, 0);
+    met
+}
+
+// One thread joins while another advances the tail.
+fn join_and_advance<R: Threads + Wait + Sync>(
+    rt: &R,
+    hub: &WordHub,
+    mut joiner: WordPass,
+    mut other: WordPass,
+) -> ((), Option<(u64, u64, SessionNo)>)
+    requires joiner { IsHubPass hub.now joiner }
+    requires out { (known_of joiner).mark ≡ None }
+    requires other { IsHubPass hub.now other }
+    requires flags { 0 < (hub_shape hub.now).flags }
+{
+    thread::join(
+        rt,
+        move || join_again(rt, hub, &mut joiner),
+        move || meet_and_raise(rt, hub, &mut other),
+    )
+}
+
+#[test]
+fn a_session_that_joins_is_named(rt: HostRuntime) -> Result<(), Fail> {
+    let (hub, first, mut second) = open_two(rt.alloc())?;
+    send_two(&rt, rt.alloc(), &hub, &mut second)?;
+    let Some((from, to, joiner)) = join_and_advance(&rt, &hub, first, second).1 else {
+        return Err(Fail::from("nobody joined"));
+    };
+    assert_eq!(rt; joiner.get(), 1);
+    assert_eq!(rt; from, to);
+    Ok(())
+}
+
+#[test]
+fn the_tail_moves_without_a_full_queue(rt: HostRuntime) -> Result<(), Fail> {
+    let (hub, mut first, mut second) = open_pages(rt.alloc(), 9, 1)?;
+    hub.enlist(&mut second);
+    let notes = [note(rt.alloc(), LARGEST)?];
+    send_four(&rt, &hub, &mut first, &notes);
+    assert_eq!(rt; receive(rt.alloc(), &hub, &mut second)?, (7, 4));
+    send(&rt, &hub, &mut first, &notes);
+    assert_eq!(rt; advance(&rt, &hub, &mut first), (3, 3, None));
+    Ok(())
+}

@@ -1,0 +1,235 @@
+//! One notification from a writer to a listener, by the cells of its entry.
+ghost use Rattle.std.specs.Prelude.{◌≡◌, ◌+◌, ◌<◌, ◌≤◌, ◌⊎◌, length, map, slice_set, Some, IfOk, IfSome, [], ◌∷◌};
+ghost use Rattle.pgn_base.specs.declared.format.Format.TheVariants.{One};
+ghost use Rattle.pgn_hub.specs.Shape.{notes_of_seats};
+ghost use Rattle.pgn_journal.specs.examples.Packing.{virtual_note, virtual_cells};
+ghost use Rattle.pgn_words.specs.Passes.{IsPassOf, view_of, known_of, shape_of};
+ghost use Rattle.pgn_queue_tests.specs.Writers.{IsOpenAt, IsShowing};
+ghost use Rattle.pgn_words.specs.declared.view.Phase.TheVariants as phases;
+ghost use Rattle.pgn_words.specs.declared.view.Stage.TheVariants as stages;
+
+use super::{draw, get_ready, holder, join, open_two};
+use pgn_base::{Name, Note, PID_BASE, Payload, SessionNo, Xid};
+use pgn_hub::PassView;
+use pgn_journal::Fate;
+use pgn_layout::Pos;
+use pgn_words::{WordPass, WordQueue};
+use std::alloc::Global;
+use std::test::Fail;
+
+// The cells of the entry of a notification on the channel `virtual`, in database 1, of transaction 3 by process 1001.
+const ENTRY: [u32; 11] = [
+    44,
+    1,
+    3,
+    1001,
+    0x7472_6976,
+    0x006c_6175,
+    0x7369_6854,
+    0x2073_6920,
+    0x2065_6874,
+    0x6c79_6170,
+    0x0064_616f,
+];
+
+// The same of the transaction with this number by this process.
+fn entry_of(number: u32, pid: u32) -> [u32; 11]
+    ensures long { length result ≡ 11 }
+    ensures cells { map (λ n. Some n) result ≡ slice_set (slice_set virtual_cells 2 (Some number)) 3 (Some pid) }
+{
+    let mut cells = ENTRY;
+    cells[2] = number;
+    cells[3] = pid;
+    cells
+}
+
+// The notification on the channel `virtual`.
+pub(crate) fn virtual_note(alloc: Global) -> Result<Note, Fail>
+    ensures { IfOk result (λ note. note ≡ virtual_note) }
+{
+    Ok(Note {
+        channel: Name::new(alloc, "virtual")?,
+        payload: Payload::new(alloc, "This is the payload")?,
+    })
+}
+
+// The holder draws a number, and answers where the journal ends: at the beginning, or behind one entry.
+fn begin(queue: &WordQueue, pass: &mut WordPass, notes: &[Note; 1]) -> Option<(u64, Xid)>
+    requires own { IsPassOf queue.now pass.old }
+    requires held { (view_of pass.old).phase ≡ phases.Held }
+    requires notes { notes.now ≡ virtual_note ∷ [] }
+    ensures own { IsPassOf queue.now pass.new }
+    ensures open { IfSome result (λ begun. IsOpenAt (view_of pass.new) begun.0 begun.1) }
+    ensures place { IfSome result (λ begun. (begun.0 ≡ 0) ⊎ (begun.0 ≡ 11)) }
+    ensures reach { IfSome result (λ _. length (known_of pass.new).seen < notes_of_seats (shape_of queue.now).seats) }
+{
+    let (head, _) = get_ready(queue, pass);
+    let xid = draw(queue, pass, notes)?;
+    let at = head.get();
+    if (at != 0 && at != 11) || pass.db().get() != 1 {
+        return None;
+    }
+    Some((at, xid))
+}
+
+// It stores these cells behind what the head shows.
+fn store_cells(queue: &WordQueue, pass: &mut WordPass, at: u64, cells: &[u32])
+    requires own { IsPassOf queue.now pass.old }
+    requires pages { (shape_of queue.now).pages ≡ 2 }
+    requires opened { (view_of pass.old).phase ≡ phases.Open }
+    requires shown { length (view_of pass.old).pen.cells ≡ at }
+    requires none_stored { (view_of pass.old).pen.batch ≡ [] }
+    requires eleven { length cells.now ≡ 11 }
+    requires first_page { at + 11 ≤ 2048 }
+    ensures own { IsPassOf queue.now pass.new }
+    ensures view { view_of pass.new ≡ record (view_of pass.old) { pen = record (view_of pass.old).pen { batch = map (λ n. Some n) cells.now } } }
+{
+    for k in 0..cells.len() {
+        queue.store_cell(pass, Pos::new(at + k as u64), cells[k]);
+    }
+}
+
+// Whether it loads the cells that it stored.
+fn loads_back(queue: &WordQueue, pass: &mut WordPass, at: u64, cells: &[u32]) -> bool
+    requires own { IsPassOf queue.now pass.old }
+    requires opened { (view_of pass.old).phase ≡ phases.Open }
+    requires low { at ≤ 11 }
+    requires eleven { length cells.now ≡ 11 }
+    ensures own { IsPassOf queue.now pass.new }
+    ensures view { view_of pass.new ≡ view_of pass.old }
+{
+    for k in 0..cells.len() {
+        if queue.load_cell(pass, Pos::new(at + k as u64)) != cells[k] {
+            return false;
+        }
+    }
+    true
+}
+
+// It stores the cells of the entry, loads them, and shows them: whether it has loaded what it stored.
+fn write(queue: &WordQueue, pass: &mut WordPass, at: u64, xid: Xid) -> bool
+    requires own { IsPassOf queue.now pass.old }
+    requires pages { (shape_of queue.now).pages ≡ 2 }
+    requires format { (shape_of queue.now).format ≡ One }
+    requires open { IsOpenAt (view_of pass.old) at xid }
+    requires place { (at ≡ 0) ⊎ (at ≡ 11) }
+    ensures own { IsPassOf queue.now pass.new }
+    ensures shows { IsShowing (view_of pass.new) xid }
+    ensures seen { (known_of pass.new).seen ≡ (known_of pass.old).seen }
+{
+    let cells = entry_of(xid.get(), PID_BASE + pass.session().get());
+    store_cells(queue, pass, at, &cells);
+    let same = loads_back(queue, pass, at, &cells);
+    queue.store_head(pass, Pos::new(at + 11));
+    same
+}
+
+// It commits the transaction, of which everything is shown, wakes both sessions, and gives the lock up.
+fn commit(queue: &WordQueue, pass: &mut WordPass, xid: Xid)
+    requires own { IsPassOf queue.now pass.old }
+    requires seats { length (shape_of queue.now).seats ≡ 2 }
+    requires shows { IsShowing (view_of pass.old) xid }
+    requires reach { length (known_of pass.old).seen < notes_of_seats (shape_of queue.now).seats }
+    ensures own { IsPassOf queue.now pass.new }
+    ensures free { (view_of pass.new).phase ≡ phases.Free }
+{
+    queue.set_status(pass, xid, Fate::Committed, 1);
+    queue.store_fin(pass, xid);
+    queue.set_wake(pass, 0);
+    queue.set_wake(pass, 1);
+    queue.drop_lock(pass);
+}
+
+// The holder publishes the notification, and gives the lock up: whether it has loaded what it stored.
+pub(crate) fn publish_locked(
+    queue: &WordQueue,
+    pass: &mut WordPass,
+    notes: &[Note; 1],
+) -> Option<bool>
+    requires own { IsPassOf queue.now pass.old }
+    requires pages { (shape_of queue.now).pages ≡ 2 }
+    requires format { (shape_of queue.now).format ≡ One }
+    requires seats { length (shape_of queue.now).seats ≡ 2 }
+    requires held { (view_of pass.old).phase ≡ phases.Held }
+    requires notes { notes.now ≡ virtual_note ∷ [] }
+    ensures own { IsPassOf queue.now pass.new }
+    ensures free { IfSome result (λ _. (view_of pass.new).phase ≡ phases.Free) }
+{
+    let (at, xid) = begin(queue, pass, notes)?;
+    let same = write(queue, pass, at, xid);
+    commit(queue, pass, xid);
+    Some(same)
+}
+
+// It takes the lock and publishes.
+pub(crate) fn publish(queue: &WordQueue, pass: &mut WordPass, notes: &[Note; 1]) -> Option<bool>
+    requires own { IsPassOf queue.now pass.old }
+    requires pages { (shape_of queue.now).pages ≡ 2 }
+    requires format { (shape_of queue.now).format ≡ One }
+    requires seats { length (shape_of queue.now).seats ≡ 2 }
+    requires free { (view_of pass.old).phase ≡ phases.Free }
+    requires notes { notes.now ≡ virtual_note ∷ [] }
+    ensures own { IsPassOf queue.now pass.new }
+    ensures free { IfSome result (λ _. (view_of pass.new).phase ≡ phases.Free) }
+{
+    if queue.try_lock(pass).is_err() {
+        return None;
+    }
+    publish_locked(queue, pass, notes)
+}
+
+// The cells from the first one on are those of the entry.
+pub(crate) fn shows_entry(queue: &WordQueue, pass: &mut WordPass) -> bool
+    requires own { IsPassOf queue.now pass.old }
+    requires shown { (view_of pass.old).walk.stage ≡ stages.Shown }
+    ensures own { IsPassOf queue.now pass.new }
+    ensures view { view_of pass.new ≡ view_of pass.old }
+{
+    for k in 0..ENTRY.len() {
+        if queue.load_shown(pass, Pos::new(k as u64)) != ENTRY[k] {
+            return false;
+        }
+    }
+    true
+}
+
+#[test]
+fn a_listener_reads_what_the_head_shows(rt: HostRuntime) -> Result<(), Fail> {
+    let (queue, mut first, mut second) = open_two(rt.alloc())?;
+    join(&queue, &mut second);
+    assert_eq!(rt; queue.begin_walk(&mut second).get(), 3);
+    let notes = [virtual_note(rt.alloc())?];
+    if queue.try_lock(&mut first).is_err() {
+        return Err(Fail::from("no lock"));
+    }
+    let Some((at, xid)) = begin(&queue, &mut first, &notes) else {
+        return Err(Fail::from("no number"));
+    };
+    assert_eq!(rt; (at, xid.get()), (0, 3));
+    let Some(by) = holder(&queue, &mut second) else {
+        return Err(Fail::from("no holder"));
+    };
+    assert_eq!(rt; by.get(), 1);
+    assert!(rt; write(&queue, &mut first, at, xid));
+    assert_eq!(rt; queue.show_head(&mut second).get(), 11);
+    assert!(rt; shows_entry(&queue, &mut second));
+    commit(&queue, &mut first, xid);
+    assert_eq!(rt; first.told().get(), 4);
+    Ok(())
+}
+
+#[test]
+fn a_wake_is_taken_and_set_again(rt: HostRuntime) -> Result<(), Fail> {
+    let (queue, mut first, mut second) = open_two(rt.alloc())?;
+    join(&queue, &mut second);
+    let notes = [virtual_note(rt.alloc())?];
+    let Some(true) = publish(&queue, &mut first, &notes) else {
+        return Err(Fail::from("not published"));
+    };
+    assert!(rt; queue.take_wake(&mut second));
+    assert!(rt; !queue.take_wake(&mut second));
+    assert_eq!(rt; publish(&queue, &mut first, &notes), Some(true));
+    assert!(rt; queue.take_wake(&mut second));
+    assert_eq!(rt; first.told().get(), 5);
+    Ok(())
+}
