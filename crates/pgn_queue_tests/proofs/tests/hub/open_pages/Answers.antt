@@ -1,4 +1,3 @@
-use Rattle.std.proofs.Common.{List}
 use Rattle.pgn_wordhub.specs.Passes.{IsHubPass}
 use Rattle.pgn_queue_tests.proofs.OpenedPair.{opened_pair, both_of}
 use Rattle.pgn_queue_tests.proofs.tests.hub.open_pages.Goals as goal
