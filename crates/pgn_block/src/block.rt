@@ -13,7 +13,7 @@ use std::alloc::{AllocError, Global};
 use std::marker::Model;
 
 /// A session's transaction block. Contracts see it as `BlockView`: its state, and what is kept of its open transaction.
-#[derive(Debug, Drop)]
+#[derive(Drop)]
 pub struct Block {
     stage: Stage,
 }

@@ -1,7 +1,7 @@
 use pgn_base::{Actions, Notes, Refusal, Tag, Warning};
 
 /// What a command comes to, as the session has to answer it.
-#[derive(Debug, Drop)]
+#[derive(Drop)]
 pub enum Effect {
     /// Nothing is answered.
     Nothing,
@@ -27,7 +27,7 @@ pub enum Effect {
 }
 
 /// What is asked for: the channels that the session listens to, or how full the queue is.
-#[derive(Clone, Copy, Debug, PartialEq, Eq)]
+#[derive(Clone, Copy)]
 pub enum Kind {
     ListeningChannels,
     QueueUsage,

@@ -17,7 +17,7 @@ use std::mem;
 
 /// The three states of a block, two of them with what is pending in it. In a failed block that is kept, since ROLLBACK TO goes
 /// back to what was before a savepoint. Each has the allocator, from which a new block is made.
-#[derive(Debug, Drop)]
+#[derive(Drop)]
 pub(crate) enum Stage {
     Idle { alloc: Global },
     InBlock { alloc: Global, pending: Pending },

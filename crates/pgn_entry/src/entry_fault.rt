@@ -1,5 +1,5 @@
 /// Why bytes begin with no entry and no filler: the first that holds, in this order.
-#[derive(Clone, Copy, Debug, PartialEq, Eq)]
+#[derive(Clone, Copy, PartialEq, Eq)]
 pub enum EntryFault {
     /// There are fewer than 20 bytes, or fewer than the length says.
     Short,

@@ -8,7 +8,7 @@ use pgn_base::{Action, Actions, Name, Note, Notes};
 use std::alloc::{AllocError, Global};
 
 /// A call on a `Pending`, which is a command of a transaction.
-#[derive(Debug, Drop)]
+#[derive(Drop)]
 pub enum Call {
     /// NOTIFY or pg_notify.
     Note(Note),

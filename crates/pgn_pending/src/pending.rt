@@ -10,7 +10,7 @@ use std::alloc::{AllocError, Global};
 use std::marker::Model;
 
 /// What a transaction has sent and done so far, and its savepoints. Contracts see it as `Kept`.
-#[derive(Debug, Drop)]
+#[derive(Drop)]
 pub struct Pending {
     actions: Vec<Action>,
     notes: IndexSet<Note>,
@@ -20,7 +20,7 @@ pub struct Pending {
 }
 
 /// No savepoint that stands has the name.
-#[derive(Clone, Copy, Debug, PartialEq, Eq)]
+#[derive(Clone, Copy, PartialEq, Eq)]
 pub struct NoSuch;
 
 impl Model for Pending {

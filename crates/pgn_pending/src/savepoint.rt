@@ -6,7 +6,7 @@ use pgn_base::Name;
 
 /// A savepoint that stands: its name, and how many notifications and actions there were when it was made. They are counted as
 /// they are kept, repeats once.
-#[derive(Debug, Drop)]
+#[derive(Drop)]
 pub struct Savepoint {
     pub name: Name,
     pub notes: usize,

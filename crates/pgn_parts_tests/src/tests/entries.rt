@@ -147,7 +147,7 @@ const REFUSED: [(&[u8], EntryFault); 4] = [
 fn entry_bytes_refused(rt: HostRuntime) {
     assert!(rt; read_entry(&SHORT[..19]) == Err(EntryFault::Short));
     for (bytes, fault) in REFUSED {
-        assert!(rt; read_entry(bytes) == Err(fault), "{fault:?}");
+        assert!(rt; read_entry(bytes) == Err(fault), "{bytes:?}");
     }
 }
 
