@@ -8,9 +8,8 @@ ghost use Rattle.pgn_block.specs.Effects.{effect_of, takes_memory};
 ghost use Rattle.pgn_block.specs.Steps.{Steps, IsStep, failed_view, opens, sends, asks};
 
 use crate::{Effect, Kind};
-use pgn_base::{Action, Name, Needs, Note, Refusal, Tag, Warning, Which};
 use pgn_answers::BlockState;
-use pgn_base::Command;
+use pgn_base::{Action, Command, Name, Needs, Note, Refusal, Tag, Warning, Which};
 use pgn_pending::{NoSuch, Pending};
 use std::alloc::{AllocError, Global};
 use std::mem;

@@ -7,8 +7,7 @@ ghost use Rattle.pgn_command.specs.Statements.{ident_name, text_bytes, meant};
 
 use crate::statement::{Ident, Statement, Text};
 use crate::texts::{channel_of, name_of, payload_of, text_len};
-use pgn_base::{NAME_BYTES_MAX, Note, PAYLOAD_BYTES_MAX, Which};
-use pgn_base::Command;
+use pgn_base::{Command, NAME_BYTES_MAX, Note, PAYLOAD_BYTES_MAX, Which};
 use std::alloc::{AllocError, Global};
 
 /// The command that a statement is, or which limit it goes past.

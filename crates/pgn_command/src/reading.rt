@@ -3,8 +3,7 @@ ghost use Rattle.pgn_language.specs.Grammar.{ReadsAs};
 
 use crate::commands::command_of;
 use crate::parser::Parser;
-use pgn_base::LINE_BYTES_MAX;
-use pgn_base::Command;
+use pgn_base::{Command, LINE_BYTES_MAX};
 use std::alloc::{AllocError, Global};
 
 /// The command that a line reads as. Each line reads as exactly one, so that this says which in both directions: `Bad` with the

@@ -2,9 +2,8 @@
 ghost use Rattle.std.specs.Prelude.{◌≡◌, ◌≢◌, ℕ, ◌<◌, ◌≤◌, [], ◌∷◌, ◌++◌, length, Some, None, IsSome, IfOk, AllPairs};
 ghost use Rattle.pgn_hub.specs.Laws.{KeepsSeat};
 
-use crate::Hub;
+use crate::{Hub, PassView, Roll, Setup};
 use pgn_base::{Delivery, ListenSet, Note, Xid};
-use crate::{PassView, Roll, Setup};
 use std::alloc::{AllocError, Global};
 use std::sync::Wait;
 

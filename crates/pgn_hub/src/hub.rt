@@ -5,8 +5,8 @@ ghost use Rattle.pgn_hub.specs.Passes.{IsSeated, IsWithin, opened_passes};
 ghost use Rattle.pgn_hub.specs.Calls.{HasPublished, HasEnlisted, HasHeard, HasLearned, HasLeft, HasLooked, HasMetFull, HasRaised, HasRead, HasMeasured, HasWoken};
 ghost use Rattle.pgn_hub.specs.Gathered.{Gathered};
 
-use pgn_base::{Delivery, Enlisted, Full, ListenSet, Note, Usage, Xid};
 use crate::{PassView, Roll, Setup};
+use pgn_base::{Delivery, Enlisted, Full, ListenSet, Note, Usage, Xid};
 use std::alloc::{AllocError, Global};
 use std::sync::Wait;
 

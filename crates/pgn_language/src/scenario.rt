@@ -1,6 +1,5 @@
 use crate::LineText;
-use pgn_base::Command;
-use pgn_base::{Copied, DbOid, Name, Names, Seq, SessionNo};
+use pgn_base::{Command, Copied, DbOid, Name, Names, Seq, SessionNo};
 use std::alloc::{AllocError, Global};
 
 /// What a script line does. A flag goes by its place in the scenario's `flags`.

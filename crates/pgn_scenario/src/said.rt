@@ -4,9 +4,8 @@ ghost use Rattle.pgn_language.specs.Grammar.{reading};
 ghost use Rattle.pgn_scenario.specs.Saying.{told};
 
 use crate::meta::meta_of;
-use pgn_base::{DbOid, LINE_BYTES_MAX, Name};
+use pgn_base::{Command, DbOid, LINE_BYTES_MAX, Name};
 use pgn_command::parse_line;
-use pgn_base::Command;
 use std::alloc::{AllocError, Global};
 
 /// What a line says.

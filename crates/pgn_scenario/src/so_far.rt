@@ -10,10 +10,12 @@ use crate::texts::trimmed;
 use indexmap::IndexSet;
 use memchr::memchr;
 use pgn_base::{
-    Copied, DbOid, FLAGS_MAX, LINE_BYTES_MAX, NOTE_LINES_MAX, Name, SECTIONS_MAX, SessionNo,
+    Command, Copied, DbOid, FLAGS_MAX, LINE_BYTES_MAX, NOTE_LINES_MAX, Name, SECTIONS_MAX,
+    SessionNo,
 };
-use pgn_base::Command;
-use pgn_language::{Act, LineText, Scenario, ScenarioFault, ScriptLine, ScriptLines, Section, Sections};
+use pgn_language::{
+    Act, LineText, Scenario, ScenarioFault, ScriptLine, ScriptLines, Section, Sections,
+};
 use std::alloc::{AllocError, Global};
 use std::marker::Model;
 use std::str;

@@ -7,11 +7,9 @@ ghost use Rattle.pgn_session.specs.Whole.{HasRest, RestsAt, ComesWith, HasSteppe
 use crate::commit::commit;
 use crate::line::measure;
 use crate::{Doing, Session, Step};
-use pgn_base::{Actions, Copied, Name, Names, Notes, Tag};
+use pgn_base::{Actions, Command, Copied, Name, Names, Notes, Tag};
 use pgn_block::{Effect, Kind};
-use pgn_hub::Hub;
-use pgn_base::Command;
-use pgn_hub::PassView;
+use pgn_hub::{Hub, PassView};
 use pgn_model::Item;
 use std::alloc::{AllocError, Global};
 use std::sync::Wait;

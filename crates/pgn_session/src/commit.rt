@@ -6,8 +6,7 @@ ghost use Rattle.pgn_model.specs.laws.NextLine.{is_enlisting, is_leaving};
 ghost use Rattle.pgn_session.specs.Commits.{HasJoined, HasSent, HasLeftIf, HasCommitted, set_after, enlisted_items, sent_items, left_items, ending_item, commit_items};
 
 use pgn_base::{Action, Actions, Enlisted, Full, ListenSet, Note, Notes, Refusal, Tag, Xid};
-use pgn_hub::Hub;
-use pgn_hub::PassView;
+use pgn_hub::{Hub, PassView};
 use pgn_model::Item;
 use std::sync::Wait;
 

@@ -6,8 +6,7 @@ ghost use Rattle.pgn_model.specs.laws.NextLine.{quit_items};
 
 use crate::FlagPlan;
 use pgn_base::{Tag, Xid};
-use pgn_hub::Hub;
-use pgn_hub::PassView;
+use pgn_hub::{Hub, PassView};
 use pgn_model::Item;
 use std::sync::Wait;
 

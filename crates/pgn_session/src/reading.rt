@@ -3,8 +3,7 @@ ghost use Rattle.pgn_hub.specs.Calls.{HasLearned};
 ghost use Rattle.pgn_session.specs.Parts.{HasReadOn, with_read};
 
 use pgn_base::{Deliveries, ListenSet, Xid};
-use pgn_hub::Hub;
-use pgn_hub::PassView;
+use pgn_hub::{Hub, PassView};
 use pgn_model::Item;
 use std::alloc::{AllocError, Global};
 

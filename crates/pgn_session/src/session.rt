@@ -11,11 +11,10 @@ ghost use Rattle.pgn_session.specs.Parts.{HasIdled, HasFinished};
 
 use crate::reading::read_on;
 use crate::{Doing, FlagPlan, IdleDone};
+use pgn_answers::BlockState;
 use pgn_base::{ListenSet, SessionNo};
 use pgn_block::Block;
-use pgn_hub::Hub;
-use pgn_answers::BlockState;
-use pgn_hub::PassView;
+use pgn_hub::{Hub, PassView};
 use pgn_language::Section;
 use pgn_model::{Item, Items, Trace};
 use std::alloc::{AllocError, Global};

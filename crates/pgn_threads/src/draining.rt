@@ -3,8 +3,7 @@ ghost use Rattle.pgn_threads.specs.Parts.{HasReadAll};
 ghost use Rattle.pgn_threads.specs.Whole.{IsOver, script_of};
 ghost use Rattle.pgn_threads.specs.Drain.{passes_of, tolds_of, heard_up, heard_down, HasReadOwn};
 
-use pgn_hub::Hub;
-use pgn_hub::PassView;
+use pgn_hub::{Hub, PassView};
 use pgn_session::Session;
 use std::alloc::{AllocError, Global};
 

@@ -3,8 +3,7 @@ ghost use Rattle.std.specs.Thread.{IsSync, IsSend};
 ghost use Rattle.pgn_session.specs.Standing.{IsServedBy};
 ghost use Rattle.pgn_threads.specs.Whole.{HasGivenUp, IsReady, IsOver, script_of};
 
-use pgn_hub::Hub;
-use pgn_hub::PassView;
+use pgn_hub::{Hub, PassView};
 use pgn_session::{Session, Step};
 use std::alloc::{AllocError, Global};
 use std::sync::Wait;

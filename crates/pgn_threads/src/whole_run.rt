@@ -11,11 +11,10 @@ ghost use Rattle.pgn_threads.specs.Opened.{plan_for, script_for, shape_for};
 
 use crate::opening::{logs, open_sessions, seats_for};
 use crate::{drain, run_sessions};
-use pgn_hub::Hub;
-use pgn_merge::merge;
-use pgn_hub::{PassView, Setup};
+use pgn_hub::{Hub, PassView, Setup};
 use pgn_journal::Tx;
 use pgn_language::Scenario;
+use pgn_merge::merge;
 use pgn_model::Trace;
 use pgn_session::{FlagPlan, Session};
 use std::alloc::{AllocError, Global};
