@@ -9,7 +9,7 @@ use pgn_layout::Pos;
 const PLACES: u64 = 1 << 32;
 
 /// What a session's position says.
-#[derive(Clone, Copy, Debug, PartialEq, Eq)]
+#[derive(Clone, Copy, PartialEq, Eq)]
 pub enum PosWord {
     /// The session is no listener.
     Out,
