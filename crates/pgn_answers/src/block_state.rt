@@ -1,5 +1,5 @@
 /// Where a session stands with its transaction block, as PostgreSQL's status byte `I`, `T` or `E`.
-#[derive(Clone, Copy, Debug, PartialEq, Eq)]
+#[derive(Clone, Copy, PartialEq, Eq)]
 pub enum BlockState {
     Idle,
     InBlock,

@@ -2,7 +2,7 @@ use crate::{Copied, Name};
 use std::alloc::{AllocError, Global};
 
 /// The word that answers a command, as PostgreSQL's command tags. `Select` has the number of rows.
-#[derive(Clone, Copy, Debug, PartialEq, Eq)]
+#[derive(Clone, Copy)]
 pub enum Tag {
     Begin,
     Start,
@@ -17,14 +17,14 @@ pub enum Tag {
 }
 
 /// What precedes a tag: 25001 "there is already a transaction in progress", or 25P01 "there is no transaction in progress".
-#[derive(Clone, Copy, Debug, PartialEq, Eq)]
+#[derive(Clone, Copy)]
 pub enum Warning {
     AlreadyInBlock,
     NotInBlock,
 }
 
 /// Which limit of pg_notify or NOTIFY a line goes past.
-#[derive(Clone, Copy, Debug, PartialEq, Eq)]
+#[derive(Clone, Copy)]
 pub enum Which {
     ChannelEmpty,
     ChannelTooLong,
@@ -32,7 +32,7 @@ pub enum Which {
 }
 
 /// Which command can only be used in a transaction block.
-#[derive(Clone, Copy, Debug, PartialEq, Eq)]
+#[derive(Clone, Copy)]
 pub enum Needs {
     Savepoint,
     RollbackTo,
@@ -40,7 +40,7 @@ pub enum Needs {
 }
 
 /// Why a command is refused. `at` counts bytes of the line's text, from 0.
-#[derive(Debug, Drop)]
+#[derive(Drop)]
 pub enum Refusal {
     Syntax { at: u32 },
     Bounds { which: Which },

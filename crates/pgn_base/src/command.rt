@@ -3,7 +3,7 @@ use std::alloc::{AllocError, Global};
 
 /// What a line of SQL asks for. `Invalid` is a line past a limit of pg_notify or NOTIFY, and `Bad` a line that is no command,
 /// with the byte, counted from 0, where it goes wrong.
-#[derive(Debug, Drop)]
+#[derive(Drop)]
 pub enum Command {
     Empty,
     Begin,

@@ -1,5 +1,5 @@
 /// A format of the queue's entries. Every call of the program takes `One`.
-#[derive(Clone, Copy, Debug, PartialEq, Eq)]
+#[derive(Clone, Copy)]
 pub enum Format {
     /// A head of 16 bytes, with the transaction's number in four of them, and lengths that are multiples of 4.
     One,

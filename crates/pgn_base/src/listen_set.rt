@@ -7,7 +7,7 @@ use std::alloc::{AllocError, Global};
 use std::marker::Model;
 
 /// What a transaction does to the listening set of its session.
-#[derive(Debug, Drop)]
+#[derive(Drop)]
 pub enum Action {
     Listen(Name),
     Unlisten(Name),

@@ -9,7 +9,7 @@ use std::marker::Model;
 
 /// A sink that keeps what is written, for tests. Contracts see that, the room that is left, how often it was written to and how
 /// often that failed.
-#[derive(Debug, Drop)]
+#[derive(Drop)]
 pub struct MemSink {
     bytes: Vec<u8>,
     room: usize,

@@ -7,7 +7,7 @@ use crate::{Failed, Source};
 use std::marker::Model;
 
 /// A source of known bytes, for tests. Contracts see what is left of them, how often it was read and how often that failed.
-#[derive(Debug, Drop)]
+#[derive(Drop)]
 pub struct MemSource {
     bytes: Vec<u8>,
     at: usize,

@@ -8,7 +8,7 @@ use std::alloc::{AllocError, Global};
 use std::hash::{Hash, Hasher};
 
 /// A notification as NOTIFY names it: a channel and a payload.
-#[derive(Debug, Drop)]
+#[derive(Drop)]
 pub struct Note {
     pub channel: Name,
     pub payload: Payload,
@@ -50,7 +50,7 @@ impl Hash for Note {
 }
 
 /// A notification as a listener receives it. `pid` is the process number of its sender, 1000 and the session's number.
-#[derive(Debug, Drop)]
+#[derive(Drop)]
 pub struct Delivery {
     pub xid: Xid,
     pub pid: u32,

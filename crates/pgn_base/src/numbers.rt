@@ -4,7 +4,7 @@ use crate::{FIRST_XID, SECTIONS_MAX};
 use std::marker::Model;
 
 /// A session's number in its scenario, from 1 to 256.
-#[derive(Clone, Copy, Debug, PartialEq, Eq, PartialOrd, Ord)]
+#[derive(Clone, Copy, Debug, PartialEq, Eq, PartialOrd)]
 pub struct SessionNo {
     number: u32,
 }
@@ -41,7 +41,7 @@ impl SessionNo {
 }
 
 /// The number of a database, from 1 to 4,294,967,295.
-#[derive(Clone, Copy, Debug, PartialEq, Eq, PartialOrd, Ord)]
+#[derive(Clone, Copy, Debug, PartialEq, Eq)]
 pub struct DbOid {
     number: u32,
 }
@@ -77,7 +77,7 @@ impl DbOid {
 
 /// A transaction number. The first that a run draws is 3, and entry k of the journal, from 0, has 3 + k. As a mark or a bound it
 /// stands for "below this number".
-#[derive(Clone, Copy, Debug, PartialEq, Eq, PartialOrd, Ord)]
+#[derive(Clone, Copy, Debug, PartialEq, Eq, PartialOrd)]
 pub struct Xid {
     number: u32,
 }

@@ -13,7 +13,7 @@ use std::hash::{Hash, Hasher};
 use std::marker::Model;
 
 /// What a notification says: 0 to 7,999 bytes of UTF-8 without a zero byte. Contracts see its bytes.
-#[derive(Debug, Drop)]
+#[derive(Drop)]
 pub struct Payload {
     text: Text,
 }

@@ -25,7 +25,7 @@ pub struct Usage {
 }
 
 /// Where a listener began: its base, and the point from which on it is delivered to.
-#[derive(Clone, Copy, Debug, PartialEq, Eq)]
+#[derive(Clone, Copy)]
 pub struct Enlisted {
     pub base: Xid,
     pub point: Xid,

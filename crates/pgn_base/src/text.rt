@@ -5,10 +5,8 @@ use crate::Copied;
 use crate::in_place::InPlace;
 use memchr::memchr;
 use std::alloc::{AllocError, Global};
-use std::fmt::{Debug, Formatter, Write};
 use std::marker::Model;
 use std::sync::ArcStr;
-use std::{fmt, str};
 
 /// The most bytes of a text that stands in the value itself.
 pub const TEXT_BYTES_IN_PLACE: usize = 22;
@@ -88,15 +86,6 @@ pub fn has_nul(text: &[u8]) -> bool
     ensures { IsTrue result ↔ Contains text.now 0 }
 {
     memchr(0, text).is_some()
-}
-
-impl Debug for Text {
-    fn fmt<W: Write>(&self, f: &mut Formatter<W>) -> fmt::Result {
-        match str::from_utf8(self.as_bytes()) {
-            Ok(text) => Debug::fmt(&text, f),
-            Err(_) => Debug::fmt(&self.as_bytes(), f),
-        }
-    }
 }
 
 // A name and a payload take so much where they stand.

@@ -22,7 +22,7 @@ impl Copied for SeatSetup {
 
 /// What a queue is opened for: its limit in pages, how many flags there are, and a seat for each session, in order. Contracts see
 /// it as a `Shape`.
-#[derive(Debug, Drop)]
+#[derive(Drop)]
 pub struct Setup {
     pages: u32,
     flags: u32,

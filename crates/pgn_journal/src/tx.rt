@@ -2,7 +2,7 @@ use pgn_base::{Copied, DbOid, Notes, SessionNo};
 use std::alloc::{AllocError, Global};
 
 /// How a finished transaction ended.
-#[derive(Clone, Copy, Debug, PartialEq, Eq)]
+#[derive(Clone, Copy, PartialEq, Eq)]
 pub enum Fate {
     Committed,
     Aborted,
@@ -10,7 +10,7 @@ pub enum Fate {
 
 /// A finished transaction that drew a number: who sent which notifications in which database, how many of them were queued, and
 /// how it ended.
-#[derive(Debug, Drop)]
+#[derive(Drop)]
 pub struct Tx {
     pub session: SessionNo,
     pub db: DbOid,

@@ -3,7 +3,7 @@ use pgn_base::{Command, Copied, DbOid, Name, Names, Seq, SessionNo};
 use std::alloc::{AllocError, Global};
 
 /// What a script line does. A flag goes by its place in the scenario's `flags`.
-#[derive(Debug, Drop)]
+#[derive(Drop)]
 pub enum Act {
     Run(Command),
     Signal(u32),
@@ -12,7 +12,7 @@ pub enum Act {
 }
 
 /// A line of a script: its number in the input, from 1, its text without the blanks at both ends, and its act.
-#[derive(Debug, Drop)]
+#[derive(Drop)]
 pub struct ScriptLine {
     pub line: u32,
     pub text: LineText,
@@ -23,7 +23,7 @@ pub type ScriptLines = Seq<ScriptLine>;
 
 /// One session's script. `note_lines` is how many of its lines have the command Notify or PgNotify; one that is Invalid or Bad
 /// does not count.
-#[derive(Debug, Drop)]
+#[derive(Drop)]
 pub struct Section {
     pub no: SessionNo,
     pub name: Name,
@@ -35,7 +35,7 @@ pub struct Section {
 pub type Sections = Seq<Section>;
 
 /// The scripts of all sessions, and the flags that they name, in order of first appearance.
-#[derive(Debug, Drop)]
+#[derive(Drop)]
 pub struct Scenario {
     pub sections: Sections,
     pub flags: Names,

@@ -8,7 +8,7 @@ use std::marker::Model;
 pub const PAGE_CELLS: u64 = PAGE_BYTES as u64 / CELL_BYTES as u64;
 
 /// A place in the queue: the number of a cell, counted from the first of page 0. Page p begins at 2048 * p.
-#[derive(Clone, Copy, Debug, PartialEq, Eq)]
+#[derive(Clone, Copy, PartialEq, Eq)]
 pub struct Pos {
     cell: u64,
 }

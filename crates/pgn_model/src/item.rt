@@ -2,7 +2,7 @@ use pgn_base::{Copied, Deliveries, Full, Names, Notes, Refusal, Seq, Tag, Usage,
 use std::alloc::{AllocError, Global};
 
 /// What a session's trace shows: a line of its script, a step of its commit, an answer, a flag, or a read.
-#[derive(Debug, Drop)]
+#[derive(Drop)]
 pub enum Item {
     /// A line of the script begins, by its number in the input.
     Line { line: u32 },

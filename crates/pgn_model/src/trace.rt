@@ -3,7 +3,7 @@ use pgn_base::{Copied, DbOid, SessionNo, Xid};
 use std::alloc::{AllocError, Global};
 
 /// What one session was answered and received, in order. `last` is its mark at the end, where it is a listener then.
-#[derive(Debug, Drop)]
+#[derive(Drop)]
 pub struct Trace {
     pub session: SessionNo,
     pub db: DbOid,

@@ -9,7 +9,7 @@ pub struct FlagPlan {
 }
 
 /// Where a session stands in its script.
-#[derive(Debug, Drop)]
+#[derive(Drop)]
 pub enum Doing {
     /// Between two lines.
     Lines,
