@@ -11,7 +11,7 @@ use Rattle.pgn_answers.specs.declared.block_state.BlockState.TheVariants.{InBloc
 use Rattle.pgn_base.specs.declared.command.Command.{Command}
 use Rattle.pgn_base.specs.declared.command.Command.TheVariants as command
 use Rattle.pgn_language.specs.declared.scenario.Act.{Act}
-use Rattle.pgn_language.specs.declared.scenario.Act.TheVariants.{Run}
+use Rattle.pgn_language.specs.declared.scenario.Act.TheVariants.{Run, Await}
 use Rattle.pgn_language.specs.declared.scenario.ScriptLine.{ScriptLine}
 use Rattle.pgn_language.specs.declared.scenario.Section.{Section}
 use Rattle.pgn_language.specs.declared.scenario.Scenario.{Scenario}
@@ -223,6 +223,10 @@ own_read = Read 3 4 (delivered 3 1005 x_note ∷ []) ∷ []
 -- LISTEN c, and then a line
 abbrev pub listen_then : Act → List ScriptLine
 listen_then act = runs 2 (command.Listen c_name) ∷ line_of 3 act ∷ []
+
+-- LISTEN c; \await f; BEGIN
+abbrev pub listen_await_begin : List ScriptLine
+listen_await_begin = listen_then (Await 0) ++ runs 4 command.Begin ∷ []
 
 -- the items of LISTEN c, and then nothing but the line's beginning
 abbrev pub listen_then_nothing : List Item

@@ -60,6 +60,10 @@ met_full n full = Line n ∷ QueueFull full (x_note ∷ []) ∷ Refuse refused.Q
 abbrev pub aborted_by : ℕ → ℕ → Note → Tx
 aborted_by session db note = record (sent_by session db (note ∷ [])) { queued = 0; fate = Aborted }
 
+-- a notification whose entry has 40 bytes
+abbrev pub of_40_bytes : Note
+of_40_bytes = on_c (codes "xxxxxxxxxxxxxxxxxxxxx")
+
 -- \await f; NOTIFY c, 'x'
 abbrev pub await_notify : List ScriptLine
 await_notify = line_of 2 (Await 0) ∷ runs 3 (command.Notify x_note) ∷ []
@@ -195,6 +199,26 @@ other_read = Read 3 4 (delivered 3 1006 x_note ∷ [])
 -- LISTEN c; BEGIN; \await f
 abbrev pub await_in_block : List ScriptLine
 await_in_block = runs 2 (command.Listen c_name) ∷ runs 3 command.Begin ∷ line_of 4 (Await 0) ∷ []
+
+-- LISTEN c; BEGIN; LISTEN 5; ROLLBACK
+abbrev pub listener_failed : List ScriptLine
+listener_failed = runs 2 (command.Listen c_name) ∷ runs 3 command.Begin ∷ runs 4 (command.Bad 7) ∷ runs 5 command.Rollback ∷ []
+
+-- LISTEN c; BEGIN; LISTEN 5; \await f; ROLLBACK
+abbrev pub await_in_failed : List ScriptLine
+await_in_failed = runs 2 (command.Listen c_name) ∷ runs 3 command.Begin ∷ runs 4 (command.Bad 7) ∷ line_of 5 (Await 0) ∷ runs 6 command.Rollback ∷ []
+
+-- the items of both, up to the line that fails the block
+abbrev pub listener_failed_front : List Item
+listener_failed_front = enlisted 2 3 3 ++ answered 3 tag.Begin ++ Line 4 ∷ Refuse (refused.Syntax 7) ∷ []
+
+-- LISTEN c; BEGIN; NOTIFY c, 'x'; UNLISTEN *; COMMIT
+abbrev pub leaves_at_commit : List ScriptLine
+leaves_at_commit = runs 2 (command.Listen c_name) ∷ runs 3 command.Begin ∷ runs 4 (command.Notify x_note) ∷ runs 5 command.UnlistenAll ∷ runs 6 command.Commit ∷ []
+
+-- its items, up to the COMMIT
+abbrev pub leaves_at_commit_front : List Item
+leaves_at_commit_front = enlisted 2 3 3 ++ answered 3 tag.Begin ++ answered 4 tag.Notify ++ answered 5 tag.Unlisten
 
 -- BEGIN; LISTEN c; NOTIFY c, 'x'; COMMIT
 abbrev pub listen_notify_block : List ScriptLine

@@ -18,6 +18,9 @@ pub fn lines_and_answers()
     ensures two_semicolons { ReadsAs (codes "LISTEN a;;") (command.Bad 9) }
     ensures two_commands { ReadsAs (codes "LISTEN a; LISTEN b") (command.Bad 10) }
     ensures work_and_transaction { ReadsAs (codes "BEGIN WORK TRANSACTION") (command.Bad 11) }
+    ensures null_for_literal { ReadsAs (codes "NOTIFY c, NULL") (command.Bad 10) }
+    ensures start_alone { ReadsAs (codes "START") (command.Bad 5) }
+    ensures no_open_bracket { ReadsAs (codes "SELECT pg_listening_channels)") (command.Bad 28) }
 {}
 
 /// A line of each command.
@@ -50,7 +53,7 @@ pub fn blank_lines()
     ensures two { ReadsAs (codes "; ;") (command.Bad 2) }
 {}
 
-/// After TO and after RELEASE the word SAVEPOINT is the key word where a name follows, and else the name.
+/// After TO and after RELEASE the word SAVEPOINT is the key word where a name follows, and else the name. After SAVEPOINT it is the name.
 pub fn savepoint_word()
     ensures release { ReadsAs (codes "RELEASE SAVEPOINT") (command.Release (codes "savepoint")) }
     ensures release_ended { ReadsAs (codes "RELEASE SAVEPOINT ;") (command.Release (codes "savepoint")) }
@@ -62,6 +65,7 @@ pub fn savepoint_word()
     ensures back_none { ReadsAs (codes "ROLLBACK TRANSACTION TO") (command.Bad 23) }
     ensures back_to { ReadsAs (codes "ROLLBACK TO to") (command.RollbackTo (codes "to")) }
     ensures abort_to { ReadsAs (codes "ABORT TO s") (command.Bad 6) }
+    ensures savepoint_twice { ReadsAs (codes "SAVEPOINT SAVEPOINT s") (command.Bad 20) }
 {}
 
 /// What is no token fits nowhere, and begins where it begins.
@@ -79,6 +83,8 @@ pub fn wrong_tokens()
     ensures comment_in_quotes { ReadsAs (codes "LISTEN \"a--b\"") (command.Listen (codes "a--b")) }
     ensures dollar_first { ReadsAs (codes "LISTEN $a") (command.Bad 7) }
     ensures dollar_inside { ReadsAs (codes "LISTEN a$1_") (command.Listen (codes "a$1_")) }
+    ensures at_sign_first { ReadsAs (codes "LISTEN @a") (command.Bad 7) }
+    ensures dot_inside { ReadsAs (codes "LISTEN a.b") (command.Bad 8) }
     ensures digit_first { ReadsAs (codes "LISTEN 1a") (command.Bad 7) }
     ensures quoted_key_word { ReadsAs (codes "\"LISTEN\" a") (command.Bad 0) }
     ensures earlier_token { ReadsAs (codes "COMMIT c 'x") (command.Bad 7) }
@@ -90,6 +96,7 @@ pub fn arguments()
     ensures repeated { ReadsAs (codes "select pg_notify('c', Repeat('ab', 3));") (command.PgNotify (record { channel = codes "c"; payload = codes "ababab" })) }
     ensures repeated_none { ReadsAs (codes "select pg_notify('c', repeat('ab', 00))") (command.PgNotify (record { channel = codes "c"; payload = [] })) }
     ensures repeated_both { ReadsAs (codes "select pg_notify(repeat('c', 2), repeat('x', 01))") (command.PgNotify (record { channel = codes "cc"; payload = codes "x" })) }
+    ensures repeated_null { ReadsAs (codes "SELECT pg_notify('c', repeat(NULL, 3))") (command.Bad 29) }
     ensures number_too_great { ReadsAs (codes "select pg_notify('c', repeat('', 10001))") (command.Bad 33) }
     ensures greatest_number { ReadsAs (codes "select pg_notify('c', repeat('', 10000))") (command.PgNotify (record { channel = codes "c"; payload = [] })) }
     ensures longer_number { ReadsAs (codes "select pg_notify('c', repeat('', 100000000000000000000000))") (command.Bad 33) }

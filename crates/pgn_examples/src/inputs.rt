@@ -39,6 +39,7 @@ pub fn faults_of_meta_lines()
     ensures database_past_limit { ReadsAsScenario (codes "\\session a 4294967296") (Err (fault.BadMeta 1)) }
     ensures long_database { ReadsAsScenario (codes "\\session a 00000000001") (Err (fault.BadMeta 1)) }
     ensures odd_name { ReadsAsScenario (codes "\\session a.b 1") (Err (fault.BadMeta 1)) }
+    ensures dollar_in_name { ReadsAsScenario (codes "\\session a$b 1") (Err (fault.BadMeta 1)) }
     ensures plus_in_name { ReadsAsScenario (codes "\\session a+b 1") (Err (fault.BadMeta 1)) }
     ensures long_name { ReadsAsScenario (codes "\\session aaaaaaaaaaaaaaaaaaaaaaaaaaaaaaaaaaaaaaaaaaaaaaaaaaaaaaaaaaaaaaaa 1") (Err (fault.BadMeta 1)) }
     ensures one_word_more { ReadsAsScenario (codes "\\session a 1 2") (Err (fault.BadMeta 1)) }

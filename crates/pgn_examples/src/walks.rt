@@ -16,7 +16,7 @@ ghost use Rattle.pgn_model.specs.declared.trace.Trace.{Trace};
 ghost use Rattle.pgn_journal.specs.Journal.{IsFinished, is_committed_in};
 ghost use Rattle.pgn_journal.specs.Near.{Near};
 ghost use Rattle.pgn_model.specs.Legal.{Legal, IsShownWithin, finished_xids};
-ghost use Rattle.pgn_examples.specs.Walks.{on_c, on_d, x_note, c_name, walker, its_terms, its_trace, IsTraceOf, IsRefused, IsFresh, sent_by, own_tx, other_tx, delivered, answered, enlisted, published, listen_notify, notify_alone, notify_listen, listen_alone, listen_again, listen_again_items, never_listens, never_listens_items, block_lines, block_front, block_items, block_journal, joining_lines, joining_front, joining_items, joining_journal, left_open, held_back, other_journal, own_journal, mixed_journal, mixed_due, mixed_front, aborted_journal, own_front, own_read, listen_then, listen_then_nothing, listener_again, behind_in_block, begin_twice, empty_line, listen_unlisten, listen_twice, notify_twice, listen_notify_begin, roll_back, y_note, y_journal, two_own_journal, repeats, repeats_journal, repeats_due, listen_notify_listen, sender, listener_trace, one_delivery, sender_trace, silent_trace, IsRun, alone, two_sent, pages_journal, settings_of_two, full_at, usage_at, two_blocks, two_blocks_items, two_blocks_journal, listen_in_block, listen_in_block_front, unlisten_one, unlisten_one_front, both_journal, pg_notify_alone};
+ghost use Rattle.pgn_examples.specs.Walks.{on_c, on_d, x_note, c_name, walker, its_terms, its_trace, IsTraceOf, IsRefused, IsFresh, sent_by, own_tx, other_tx, delivered, answered, enlisted, published, listen_notify, notify_alone, notify_listen, listen_alone, listen_again, listen_again_items, never_listens, never_listens_items, block_lines, block_front, block_items, block_journal, joining_lines, joining_front, joining_items, joining_journal, left_open, held_back, other_journal, own_journal, mixed_journal, mixed_due, mixed_front, aborted_journal, own_front, own_read, listen_then, listen_await_begin, listen_then_nothing, listener_again, behind_in_block, begin_twice, empty_line, listen_unlisten, listen_twice, notify_twice, listen_notify_begin, roll_back, y_note, y_journal, two_own_journal, repeats, repeats_journal, repeats_due, listen_notify_listen, sender, listener_trace, one_delivery, sender_trace, silent_trace, IsRun, alone, two_sent, pages_journal, settings_of_two, full_at, usage_at, two_blocks, two_blocks_items, two_blocks_journal, listen_in_block, listen_in_block_front, unlisten_one, unlisten_one_front, both_journal, pg_notify_alone};
 
 /// Traces of lines outside blocks: who listens already does not enlist again, and a read comes between lines or at the end.
 pub fn lawful_walks()
@@ -51,6 +51,7 @@ pub fn refused_lines()
     ensures one_more { IsRefused listen_alone [] (enlisted 2 3 3 ++ answered 3 tag.Begin) (Some 3) }
     ensures twice { IsRefused listen_alone [] (enlisted 2 3 3 ++ answered 2 tag.Listen) (Some 3) }
     ensures before_the_answer { IsRefused left_open [] (Line 2 ∷ Enlist 3 3 ∷ Line 3 ∷ Reply tag.Begin None ∷ []) (Some 3) }
+    ensures in_an_await { IsRefused listen_await_begin [] (enlisted 2 3 3 ++ Line 3 ∷ answered 4 tag.Begin) (Some 3) }
 {}
 
 /// Each line has its own answer, once.
@@ -206,6 +207,7 @@ pub fn unfinished_transactions()
     ensures more_queued { IsFinished (two_sent (x_note ∷ y_note ∷ []) 3 Committed) → ⊥ }
     ensures all_queued { IsFinished (two_sent (x_note ∷ y_note ∷ []) 2 Aborted) → ⊥ }
     ensures no_channel { IsFinished (two_sent (record { channel = []; payload = [] } ∷ []) 1 Committed) → ⊥ }
+    ensures no_channel_not_queued { IsFinished (two_sent (x_note ∷ (record { channel = []; payload = [] }) ∷ []) 1 Aborted) → ⊥ }
 {}
 
 /// A reader need not read on while nothing is due to it and it is less than four pages behind.

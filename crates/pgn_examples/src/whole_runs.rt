@@ -24,7 +24,7 @@ ghost use Rattle.pgn_examples.specs.Blocks.{left_journal};
 ghost use Rattle.pgn_examples.specs.FullQueue.{two_pages, full_scenario, full_run_journal, full_listener_trace, full_sender_trace, larger_run_journal};
 ghost use Rattle.pgn_examples.specs.RefusedRuns.{with_item, three_pages, usage_trace};
 ghost use Rattle.pgn_examples.specs.Walks.{walker, its_terms, its_trace, settings_of_two, IsTraceOf, IsRefused, x_note, y_note, c_name, answered, enlisted, published, own_journal, other_journal, aborted_journal, notify_alone, listen_alone, listen_notify, listen_then};
-ghost use Rattle.pgn_examples.specs.WholeRuns.{notify_signal, await_twice, other_flag_greater, other_flags_known, flags_in_failed, usage_signal, full_of, met_full, aborted_by, await_notify, second_aborted, listen_usage, none_in_use, used, full_run_usage, usage_scenario, channels_in_block, channels_in_block_front, listen_rolled_back, listens_twice, listens_twice_items, quit_alone, quit_in_block, quit_with_savepoint, each_refused, refused_with, bad_alone, begin_release, back_to_released, back_from_failed, back_from_failed_items, back_from_failed_journal, other_read, await_in_block, listen_notify_block, other_and_own, counted_journal, counted_traces, counted_text};
+ghost use Rattle.pgn_examples.specs.WholeRuns.{notify_signal, await_twice, other_flag_greater, other_flags_known, flags_in_failed, usage_signal, full_of, met_full, aborted_by, await_notify, second_aborted, of_40_bytes, listen_usage, none_in_use, used, full_run_usage, usage_scenario, channels_in_block, channels_in_block_front, listen_rolled_back, listens_twice, listens_twice_items, quit_alone, quit_in_block, quit_with_savepoint, each_refused, refused_with, bad_alone, begin_release, back_to_released, back_from_failed, back_from_failed_items, back_from_failed_journal, other_read, await_in_block, listener_failed, await_in_failed, listener_failed_front, leaves_at_commit, leaves_at_commit_front, listen_notify_block, other_and_own, counted_journal, counted_traces, counted_text};
 
 /// A flag is raised with what the session was told, and not with less.
 pub fn raised_flags()
@@ -96,6 +96,8 @@ pub fn settings_of_the_queue()
 pub fn cut_short()
     ensures at_a_page { IsCutShort One (place_at 0 8172) 1 (finished 1 1 (hello ∷ y_note ∷ []) 1 Aborted) }
     ensures fits { IsCutShort One (place_at 0 8172) 0 (finished 1 1 (hello ∷ []) 0 Aborted) → ⊥ }
+    // The first notification takes 40 of the 72 bytes of the page, and the next one 20 of the 32 that are left.
+    ensures next_fits { IsCutShort One (place_at 0 8120) 1 (finished 1 1 (of_40_bytes ∷ hello ∷ []) 1 Aborted) → ⊥ }
     ensures all_queued { IsCutShort One (place_at 0 8172) 1 (finished 1 1 (hello ∷ []) 1 Aborted) → ⊥ }
     ensures committed { IsCutShort One (place_at 1 0) 0 (finished 1 1 (hello ∷ []) 0 Committed) → ⊥ }
 {}
@@ -176,15 +178,19 @@ pub fn back_into_a_failed_block()
     ensures { IsTraceOf back_from_failed back_from_failed_journal back_from_failed_items None }
 {}
 
-/// A listener reads while it awaits a flag, unless a block is open, also on the last line; and not while it is to raise one or to leave.
+/// A listener reads while it awaits a flag, unless a block is open or has failed, also on the last line; and not while it is to raise
+/// one or to leave.
 pub fn reads_in_lines()
     ensures in_await { IsTraceOf (listen_then (Await 0)) other_journal (enlisted 2 3 3 ++ Line 3 ∷ other_read ∷ Found 4 ∷ []) (Some 4) }
     ensures in_block { IsRefused await_in_block other_journal (enlisted 2 3 3 ++ answered 3 tag.Begin ++ Line 4 ∷ other_read ∷ Found 4 ∷ []) (Some 4) }
+    ensures in_failed { IsRefused listener_failed other_journal (listener_failed_front ++ other_read ∷ answered 5 tag.Rollback) (Some 4) }
+    ensures in_await_in_failed { IsRefused await_in_failed other_journal (listener_failed_front ++ Line 5 ∷ other_read ∷ Found 4 ∷ answered 6 tag.Rollback) (Some 4) }
     ensures before_raise { IsRefused (listen_then (Signal 0)) other_journal (enlisted 2 3 3 ++ Line 3 ∷ other_read ∷ Raise 3 ∷ []) (Some 4) }
     ensures before_publish { IsRefused listen_notify_block other_and_own (answered 2 tag.Begin ++ answered 3 tag.Listen ++ answered 4 tag.Notify ++ Line 5 ∷ Enlist 3 3 ∷ Read 3 4 [] ∷ Publish 4 (x_note ∷ []) ∷ Reply tag.Commit None ∷ []) (Some 4) }
     ensures before_rows { IsRefused (listen_then (Run command.ListeningChannels)) other_journal (enlisted 2 3 3 ++ Line 3 ∷ other_read ∷ Channels (c_name ∷ []) ∷ Reply (tag.Select 1) None ∷ []) (Some 4) }
     ensures before_usage { IsRefused listen_usage other_journal (enlisted 2 3 3 ++ Line 3 ∷ other_read ∷ Used (none_in_use 4 4 None) ∷ Reply (tag.Select 1) None ∷ []) (Some 4) }
     ensures before_leave { IsRefused (listen_then Quit) other_journal (enlisted 2 3 3 ++ Line 3 ∷ Read 3 4 [] ∷ Leave ∷ []) None }
+    ensures before_leave_at_commit { IsRefused leaves_at_commit own_journal (leaves_at_commit_front ++ Line 6 ∷ Publish 3 (x_note ∷ []) ∷ Read 3 4 [] ∷ Leave ∷ Reply tag.Commit None ∷ []) None }
 {}
 
 /// The lines of the items that tell of the queue and of channels.

@@ -111,12 +111,26 @@ met_nobody = record { first = None ∷ None ∷ []; second = None ∷ None ∷ [
 abbrev pub met_both : Advance
 met_both = record { first = Some 3 ∷ Some 3 ∷ []; second = Some 3 ∷ Some 3 ∷ []; tail = Some 3 }
 
+-- session 1 reads between the looks: they meet it at the mark 3, and then at 4
+abbrev pub met_reader : Advance
+met_reader = record { first = Some 3 ∷ None ∷ []; second = Some 4 ∷ None ∷ []; tail = Some 3 }
+
+-- session 1 joins between the looks: only the second meets it
+abbrev pub met_joiner : Advance
+met_joiner = record { first = None ∷ None ∷ []; second = Some 3 ∷ None ∷ []; tail = Some 3 }
+
 -- session 2 asks for the usage: the transaction 3 and the next one begin on the same page
 abbrev pub usage_4 : Usage
 usage_4 = record { at = 4; occupied = 0; limit = 2; floor_mark = 3; holder = Some 1 }
 
 abbrev pub measured : Known
 measured = record published { named = (1, 3) ∷ (1, 3) ∷ []; advance = met_one }
+
+abbrev pub measured_reader : Known
+measured_reader = record published { named = (1, 3) ∷ (1, 4) ∷ []; advance = met_reader }
+
+abbrev pub measured_joiner : Known
+measured_joiner = record published { named = (1, 3) ∷ []; advance = met_joiner }
 
 -- session 1 hears what session 2 knows
 abbrev pub heard : Known

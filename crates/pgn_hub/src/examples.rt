@@ -8,7 +8,7 @@ ghost use Rattle.pgn_hub.specs.Shape.{IsShape};
 ghost use Rattle.pgn_hub.specs.Passes.{IsSeated, IsWithin, opened_passes};
 ghost use Rattle.pgn_hub.specs.Calls.{HasPublished, HasEnlisted, HasHeard, HasLearned, HasLeft, HasLooked, HasMetFull, HasRaised, HasRead, HasMeasured, HasWoken};
 ghost use Rattle.pgn_hub.specs.Gathered.{Gathered};
-ghost use Rattle.pgn_hub.specs.Examples.{two_seats, opened_1, opened_2, note_a, both_notes, tx_3, first_point, listening, quiet, published, woken_1, got_a, got_b, has_read, has_left, raised_0, found_0, found_none, met_one, met_nobody, usage_4, measured, heard, long_note, long_3, long_5, before_full, full_5, after_full, both_before_full, both_after_full, three_notes, full_3, larger_full, also_published, last_1, last_2};
+ghost use Rattle.pgn_hub.specs.Examples.{two_seats, opened_1, opened_2, note_a, both_notes, tx_3, first_point, listening, quiet, published, woken_1, got_a, got_b, has_read, has_left, raised_0, found_0, found_none, met_one, met_nobody, met_both, met_reader, usage_4, measured, measured_reader, measured_joiner, heard, long_note, long_3, long_5, before_full, full_5, after_full, both_before_full, both_after_full, three_notes, full_3, larger_full, also_published, last_1, last_2};
 
 /// Two passes are opened.
 pub fn open()
@@ -17,12 +17,15 @@ pub fn open()
     ensures in_order { map (λ k. k.session) (opened_passes 1 two_seats.seats) ≡ range_with_len 1 (length two_seats.seats) }
     ensures within { All IsWithin (opened_1 ∷ opened_2 ∷ []) }
     ensures seated { All (IsSeated two_seats) (opened_1 ∷ opened_2 ∷ []) }
+    ensures more_left_than_its_seat { IsSeated two_seats (record opened_1 { notes_left = 9 }) → ⊥ }
 {}
 
 /// What holds of each pass between calls, and the conditions of the calls, where each comes after the one before it.
 pub fn between_calls()
     ensures within { All IsWithin (listening ∷ quiet ∷ published ∷ woken_1 ∷ has_read ∷ has_left ∷ raised_0 ∷ found_0 ∷ found_none ∷ measured ∷ heard ∷ last_1 ∷ last_2 ∷ []) }
     ensures within_at_full_queue { All IsWithin (before_full ∷ after_full ∷ both_before_full ∷ both_after_full ∷ []) }
+    // It has seen the transaction 3, and wasn't told of it.
+    ensures raised_past_told { IsWithin (record woken_1 { raised = (0, 4) ∷ [] }) → ⊥ }
     ensures may_enlist { All (λ k. k.mark ≡ None) (opened_1 ∷ opened_2 ∷ has_left ∷ []) }
     ensures may_read { All (λ k. IsSome k.mark) (listening ∷ quiet ∷ woken_1 ∷ has_read ∷ found_0 ∷ found_none ∷ heard ∷ []) }
     ensures some_notes { both_notes ≢ [] }
@@ -147,6 +150,11 @@ pub fn usage()
     ensures floor_above_a_mark { HasMeasured two_seats published measured (record usage_4 { floor_mark = 4; holder = None }) → ⊥ }
     ensures floor_below_all { HasMeasured two_seats published measured (record usage_4 { floor_mark = 2 }) → ⊥ }
     ensures no_holder { HasMeasured two_seats published measured (record usage_4 { holder = None }) → ⊥ }
+    // The floor is the least that either look met.
+    ensures reads_between_looks { HasMeasured two_seats published measured_reader usage_4 }
+    ensures floor_of_the_second_look { HasMeasured two_seats published measured_reader (record usage_4 { floor_mark = 4; holder = None }) → ⊥ }
+    ensures joins_between_looks { HasMeasured two_seats published measured_joiner usage_4 }
+    ensures floor_of_the_first_look { HasMeasured two_seats published measured_joiner (record usage_4 { floor_mark = 4; holder = None }) → ⊥ }
     ensures looked_once { HasMeasured two_seats published (record measured { advance = record met_one { second = [] } }) usage_4 → ⊥ }
     // The advance of an earlier call, in which nobody was looked at anew.
     ensures an_earlier_advance { HasMeasured two_seats measured measured usage_4 → ⊥ }
@@ -177,6 +185,10 @@ pub fn full()
     ensures own_seat_elsewhere { HasMetFull two_seats (record both_before_full { mark = Some 4 }) (record both_after_full { mark = Some 4 }) long_note full_5 → ⊥ }
     ensures own_seat_left_out { HasMetFull two_seats both_before_full (record both_after_full { advance = met_one }) long_note full_5 → ⊥ }
     ensures not_named { HasMetFull two_seats before_full (record after_full { named = [] }) long_note full_5 → ⊥ }
+    // Session 1 has read between the looks.
+    ensures floor_of_the_second_look { HasMetFull two_seats before_full (record after_full { named = (1, 3) ∷ (1, 4) ∷ []; advance = met_reader }) long_note (record full_5 { floor_mark = 4 }) → ⊥ }
+    ensures not_met_first { HasMetFull two_seats both_before_full (record both_after_full { advance = record met_both { first = Some 3 ∷ None ∷ [] } }) long_note full_5 → ⊥ }
+    ensures not_met_second { HasMetFull two_seats both_before_full (record both_after_full { advance = record met_both { second = Some 3 ∷ None ∷ [] } }) long_note full_5 → ⊥ }
     // The advance of an earlier call, in which nobody was looked at anew.
     ensures an_earlier_advance { HasMetFull two_seats (record before_full { named = after_full.named; advance = met_one }) after_full long_note full_5 → ⊥ }
 {}
@@ -205,6 +217,8 @@ pub fn gather()
     ensures of_another { Gathered ((record last_1 { own = 3 ∷ [] }) ∷ last_2 ∷ []) 1 → ⊥ }
     ensures own_not_seen { Gathered (last_1 ∷ (record last_2 { seen = [] }) ∷ []) 1 → ⊥ }
     ensures two_journals { Gathered (last_1 ∷ (record last_2 { seen = (record tx_3 { fate = Aborted }) ∷ [] }) ∷ []) 1 → ⊥ }
+    ensures not_all_queued { Gathered ((record last_1 { seen = (record tx_3 { queued = 1 }) ∷ [] }) ∷ (record last_2 { seen = (record tx_3 { queued = 1 }) ∷ [] }) ∷ []) 1 → ⊥ }
+    ensures of_another_database { Gathered ((record last_1 { seen = (record tx_3 { db = 2 }) ∷ [] }) ∷ (record last_2 { seen = (record tx_3 { db = 2 }) ∷ [] }) ∷ []) 1 → ⊥ }
     ensures told_more { Gathered ((record last_1 { told = 5 }) ∷ last_2 ∷ []) 1 → ⊥ }
     ensures found_another_number { Gathered ((record last_1 { found = (0, 3) ∷ [] }) ∷ last_2 ∷ []) 1 → ⊥ }
     ensures found_another_flag { Gathered ((record last_1 { found = (1, 4) ∷ [] }) ∷ last_2 ∷ []) 1 → ⊥ }

@@ -46,3 +46,7 @@ returns-clause-negative c = reading-reads (codes "select pg_notify('c', repeat('
 pub returns-clause-quoted_null : goal.returns-clause-quoted_null
 unfolding table cut
 returns-clause-quoted_null c = reading-reads (codes "select pg_notify(\"NULL\", 'x')")
+
+pub returns-clause-repeated_null : goal.returns-clause-repeated_null
+unfolding table cut
+returns-clause-repeated_null c = reading-reads (codes "SELECT pg_notify('c', repeat(NULL, 3))")

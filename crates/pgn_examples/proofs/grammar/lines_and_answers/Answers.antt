@@ -54,3 +54,15 @@ returns-clause-two_commands c = reading-reads (codes "LISTEN a; LISTEN b")
 pub returns-clause-work_and_transaction : goal.returns-clause-work_and_transaction
 unfolding table cut
 returns-clause-work_and_transaction c = reading-reads (codes "BEGIN WORK TRANSACTION")
+
+pub returns-clause-null_for_literal : goal.returns-clause-null_for_literal
+unfolding table cut
+returns-clause-null_for_literal c = reading-reads (codes "NOTIFY c, NULL")
+
+pub returns-clause-start_alone : goal.returns-clause-start_alone
+unfolding table cut
+returns-clause-start_alone c = reading-reads (codes "START")
+
+pub returns-clause-no_open_bracket : goal.returns-clause-no_open_bracket
+unfolding table cut
+returns-clause-no_open_bracket c = reading-reads (codes "SELECT pg_listening_channels)")

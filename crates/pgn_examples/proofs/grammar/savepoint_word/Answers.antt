@@ -42,3 +42,7 @@ returns-clause-back_to c = reading-reads (codes "ROLLBACK TO to")
 pub returns-clause-abort_to : goal.returns-clause-abort_to
 unfolding table cut
 returns-clause-abort_to c = reading-reads (codes "ABORT TO s")
+
+pub returns-clause-savepoint_twice : goal.returns-clause-savepoint_twice
+unfolding table cut
+returns-clause-savepoint_twice c = reading-reads (codes "SAVEPOINT SAVEPOINT s")

@@ -66,3 +66,11 @@ returns-clause-one_dash c = reading-reads (codes "-")
 pub returns-clause-dash_for_name : goal.returns-clause-dash_for_name
 unfolding table cut
 returns-clause-dash_for_name c = reading-reads (codes "LISTEN -")
+
+pub returns-clause-at_sign_first : goal.returns-clause-at_sign_first
+unfolding table cut
+returns-clause-at_sign_first c = reading-reads (codes "LISTEN @a")
+
+pub returns-clause-dot_inside : goal.returns-clause-dot_inside
+unfolding table cut
+returns-clause-dot_inside c = reading-reads (codes "LISTEN a.b")

@@ -83,3 +83,7 @@ returns-clause-long_flag c = input-reads (codes "\\session a 1\n\\await aaaaaaaa
 pub returns-clause-plus_in_name : goal.returns-clause-plus_in_name
 unfolding table cut says fault_of scenario_of is_utf8 chars encode utf8_valid_len
 returns-clause-plus_in_name c = input-reads (codes "\\session a+b 1")
+
+pub returns-clause-dollar_in_name : goal.returns-clause-dollar_in_name
+unfolding table cut says fault_of scenario_of is_utf8 chars encode utf8_valid_len
+returns-clause-dollar_in_name c = input-reads (codes "\\session a$b 1")

@@ -18,3 +18,6 @@ returns-clause-twice c = λ h. h.lawful.1.1.1.0.next
 
 pub returns-clause-before_the_answer : goal.returns-clause-before_the_answer
 returns-clause-before_the_answer c = λ h. let e = h.lawful.1.1.0.answered in cc
+
+pub returns-clause-in_an_await : goal.returns-clause-in_an_await
+returns-clause-in_an_await c = λ h. let e = h.lawful.1.1.1.1.0.answered in cc

@@ -14,3 +14,7 @@ returns-clause-at_a_page c = record { aborted = refl; some = refl; not_all = ome
 pub returns-clause-fits : goal.returns-clause-fits
 unfolding entry_length
 returns-clause-fits c = λ h. neither (λ e. absurd (cc)) (λ e. absurd (cc)) h.stopped
+
+pub returns-clause-next_fits : goal.returns-clause-next_fits
+unfolding put put_bytes after_bytes after_rest entry_length
+returns-clause-next_fits c = λ h. neither (λ e. absurd (cc)) (λ e. absurd (cc)) h.stopped

@@ -1,6 +1,6 @@
-use Rattle.std.proofs.Common.{[], ◌∷◌, refl, rules}
+use Rattle.std.proofs.Common.{◌≡◌, ℕ, [], ◌∷◌, ap, refl, arith, rules}
 use Rattle.std.proofs.lemmas.List.Elements.{All-contains_itself}
-use Rattle.pgn_hub.proofs.ExampleLemmas.{no_page, larger_no_page}
+use Rattle.pgn_hub.proofs.ExampleLemmas.{no_page, larger_no_page, only}
 use Rattle.pgn_hub.proofs.examples.full.Goals as goal
 
 pub returns-clause-met : goal.returns-clause-met
@@ -38,3 +38,16 @@ returns-clause-nobody_listens c = record {
   floor = search rules;
   met = search rules;
 }
+
+pub returns-clause-floor_of_the_second_look : goal.returns-clause-floor_of_the_second_look
+returns-clause-floor_of_the_second_look c h = omega (arith, h.floor.least 0 (1, 3) (omega arith))
+
+pub returns-clause-not_met_first : goal.returns-clause-not_met_first
+returns-clause-not_met_first c h =
+    let same : 1 ≡ 2 = ap (λ (pair : ℕ × ℕ). pair.0) (only (1, 3) (2, 3) h.looked.own_met.0) in
+    omega (arith, same)
+
+pub returns-clause-not_met_second : goal.returns-clause-not_met_second
+returns-clause-not_met_second c h =
+    let same : 1 ≡ 2 = ap (λ (pair : ℕ × ℕ). pair.0) (only (1, 3) (2, 3) h.looked.own_met.1) in
+    omega (arith, same)

@@ -1,8 +1,11 @@
-use Rattle.std.proofs.Common.{◌≡◌, ℕ, ◌≤◌, [], ◌∷◌, length, take, sym, ap, ◌∙◌, refl, arith, rules, length-take}
+use Rattle.std.proofs.Common.{◌≡◌, ℕ, ◌-◌, ◌≤◌, List, [], ◌∷◌, length, take, slice_get, IsSomeAnd, All, sym, ap, ◌∙◌, refl, subst, arith, rules, length-take}
 use Rattle.std.proofs.lemmas.List.Elements.{All-nil, All-cons, All-contains}
+use Rattle.pgn_journal.specs.declared.tx.Tx.{Tx}
 use Rattle.pgn_journal.specs.Journal.{IsFinished, xids_of}
 use Rattle.pgn_journal.proofs.BeginsLaws.{begins-whole}
-use Rattle.pgn_hub.specs.Examples.{tx_3, last_1}
+use Rattle.pgn_hub.specs.declared.known.Known.{Known}
+use Rattle.pgn_hub.specs.Gathered.{IsBy}
+use Rattle.pgn_hub.specs.Examples.{tx_3, last_1, last_2}
 use Rattle.pgn_hub.proofs.ExampleLemmas.{only, only_tx, no_second, finished}
 use Rattle.pgn_hub.proofs.examples.gather.Goals as goal
 
@@ -79,3 +82,21 @@ returns-clause-named_another c h = omega (arith, (h.named 0 (2, 3) (omega arith)
 
 pub returns-clause-named_nobody : goal.returns-clause-named_nobody
 returns-clause-named_nobody c h = h.named 0 (3, 3) (omega arith)
+
+pub returns-clause-not_all_queued : goal.returns-clause-not_all_queued
+returns-clause-not_all_queued c h =
+    let tx : Tx = record tx_3 { queued = 1 } in
+    let is : tx ∷ [] ≡ h.journal = begins-whole (tx ∷ []) h.journal (h.seen 0 last_1 (omega arith)) (omega (arith, h.counted)) in
+    let all : All IsFinished (tx ∷ []) = subst (λ (txs : List Tx). All IsFinished txs) (sym is) h.finished in
+    let queued : 1 ≡ 2 = (all 0 tx (omega arith)).queueing in
+    omega (arith, queued)
+
+pub returns-clause-of_another_database : goal.returns-clause-of_another_database
+returns-clause-of_another_database c h =
+    let tx : Tx = record tx_3 { db = 2 } in
+    let is : tx ∷ [] ≡ h.journal = begins-whole (tx ∷ []) h.journal (h.seen 0 last_1 (omega arith)) (omega (arith, h.counted)) in
+    let passes : List Known = (record last_1 { seen = tx ∷ [] }) ∷ (record last_2 { seen = tx ∷ [] }) ∷ [] in
+    let P : Tx → Type 0 = λ a. IsSomeAnd (slice_get passes (a.session - 1)) (λ k. IsBy k a) in
+    let all : All P (tx ∷ []) = subst (λ (txs : List Tx). All P txs) (sym is) h.by_pass in
+    let database : 2 ≡ 1 = (all 0 tx (omega arith)).database in
+    omega (arith, database)
