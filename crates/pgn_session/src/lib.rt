@@ -5,9 +5,10 @@
 //! `HasAnswer`, each line so far has its whole answer, and it may have to read; and `HasRest`, no read was left out. Both say that
 //! the trace so far is lawful over what the pass has seen, and shows what the pass knows. `idle` leads from the one to the other.
 //!
-//! `new` makes a session that has rested. `step` takes it from `HasRest` to `HasAnswer`, and where it waits or is over it has rested
-//! still; `idle` leads from `HasAnswer` to `HasRest`. After a step that ended, `finish_read` reads once more and `into_log` gives the
-//! trace. A refused `step` may be made again, or the session calls `give_up`. `meet` lets another session hear what this one knows.
+//! `new` makes a session that has rested. `step` takes it from `HasRest` to `HasAnswer`, and only where it is over or the step was
+//! refused has it rested still; `idle` leads from `HasAnswer` to `HasRest`, so that a session that waits reads between its looks.
+//! After a step that ended, `finish_read` reads once more and `into_log` gives the trace. A refused `step` may be made again, or the
+//! session calls `give_up`. `meet` lets another session hear what this one knows.
 //!
 //! A caller: a session that is over reads once more and hands out its trace.
 //!

@@ -1,4 +1,4 @@
-ghost use Rattle.std.specs.Prelude.{◌≡◌, ◌≢◌, ◌↔◌, ◌⊎◌, ◌+◌, ◌≤◌, ◌<◌, [], ◌∷◌, Ok, drop, IfOk, OnOk, OnErr, vec_len, vec_capacity};
+ghost use Rattle.std.specs.Prelude.{◌≡◌, ◌↔◌, ◌⊎◌, ◌+◌, ◌≤◌, ◌<◌, [], ◌∷◌, Ok, drop, IfOk, OnOk, OnErr, vec_len, vec_capacity};
 ghost use Rattle.pgn_language.specs.declared.scenario.Act.TheVariants as act;
 ghost use Rattle.pgn_session.specs.declared.doing.Doing.TheVariants as doing;
 ghost use Rattle.pgn_session.specs.Standing.{IsServedBy};
@@ -21,6 +21,7 @@ impl<P: PassView + Send + Drop> Session<P> {
     /// Takes the next line of the script, or looks once more for an awaited flag, or waits for the others at the end. All memory is
     /// taken before the first call on the hub, so that after a refusal the pass and the trace are as they were; a commit that the
     /// block has handed out is kept for the next step.
+    /// A session that waits may have to read, as one whose line was answered: it has rested once it was idle.
     pub fn step<H: Hub<Pass = P>, R: Wait>(
         &mut self,
         rt: &R,
@@ -33,7 +34,8 @@ impl<P: PassView + Send + Drop> Session<P> {
         ensures own { H.is_pass hub.now self.new.pass }
         ensures same { IsSameScript self.old self.new }
         ensures answered { OnOk result (HasAnswer (H.shape hub.now) P.known self.new) }
-        ensures rested { result ≢ Ok Step.Did → HasRest (H.shape hub.now) P.known self.new }
+        ensures rested { result ≡ Ok Step.Ended → HasRest (H.shape hub.now) P.known self.new }
+        ensures refused { OnErr result (HasRest (H.shape hub.now) P.known self.new) }
         ensures moved { IfOk result (λ step. HasMoved self.old.plan self.old.section.no self.old.patience (drop self.old.done self.old.section.lines) self.old.doing self.old.done self.new.done (P.known self.old.pass) (P.known self.new.pass) self.old.items.items self.new.items.items self.new.doing step) }
         ensures did { (result ≡ Ok Step.Did) ↔ (AnswersLine self.old.doing self.old.done self.new.doing self.new.done ⊎ BeginsEnd self.old.plan self.old.section.no (drop self.old.done self.old.section.lines) self.old.doing self.new.doing (P.known self.old.pass) (P.known self.new.pass)) }
         ensures waiting { result ≡ Ok Step.Waiting → Waits self.old.plan self.old.patience (P.known self.old.pass) (P.known self.new.pass) self.new.doing }

@@ -16,11 +16,13 @@ use std::test::Fail;
 use std::thread;
 use std::thread::Threads;
 
-// How many transactions have begun, and how many of them waited for a second one in vain.
+// How many transactions have begun, how many of them waited for a second one in vain, and how often a session has looked whether it
+// was woken.
 #[derive(Drop)]
-struct Turns {
+struct Counts {
     begun: AtomicU64,
     spent: AtomicU64,
+    wake_looks: AtomicU64,
 }
 
 // A word hub whose first transaction waits, at most so many turns, until a second one has begun. Once the turns are spent its reads
@@ -29,12 +31,12 @@ struct Turns {
 #[derive(Drop)]
 struct Gate<const TURNS: u32> {
     hub: WordHub,
-    turns: Arc<Turns, Global>,
+    counts: Arc<Counts, Global>,
 }
 
 impl<const TURNS: u32> Gate<TURNS> {
     fn has_two(&self) -> bool {
-        self.turns.begun.load(Ordering::SeqCst) >= 2
+        self.counts.begun.load(Ordering::SeqCst) >= 2
     }
 
     // Whether a second transaction has begun within the turns.
@@ -49,14 +51,18 @@ impl<const TURNS: u32> Gate<TURNS> {
     }
 
     fn begins(&self) {
-        self.turns.begun.fetch_add(1, Ordering::SeqCst);
+        self.counts.begun.fetch_add(1, Ordering::SeqCst);
         if !self.waits() {
-            self.turns.spent.fetch_add(1, Ordering::SeqCst);
+            self.counts.spent.fetch_add(1, Ordering::SeqCst);
         }
     }
 
     fn is_spent(&self) -> bool {
-        self.turns.spent.load(Ordering::SeqCst) != 0
+        self.counts.spent.load(Ordering::SeqCst) != 0
+    }
+
+    fn wake_looks(&self) -> u64 {
+        self.counts.wake_looks.load(Ordering::SeqCst)
     }
 }
 
@@ -77,13 +83,14 @@ impl<const TURNS: u32> Hub for Gate<TURNS> {
     ghost seated = { λ gate pass h. h.view.seated };
 
     fn open(alloc: Global, setup: Setup) -> Result<(Self, Vec<Self::Pass>), AllocError> {
-        let turns = Turns {
+        let counts = Counts {
             begun: AtomicU64::new(0),
             spent: AtomicU64::new(0),
+            wake_looks: AtomicU64::new(0),
         };
-        let turns = Arc::new(alloc, turns)?;
+        let counts = Arc::new(alloc, counts)?;
         let (hub, passes) = WordHub::open(alloc, setup)?;
-        Ok((Gate { hub, turns }, passes))
+        Ok((Gate { hub, counts }, passes))
     }
 
     fn publish<R: Wait>(&self, rt: &R, pass: &mut Self::Pass, notes: &[Note]) -> Result<Xid, Full> {
@@ -113,6 +120,7 @@ impl<const TURNS: u32> Hub for Gate<TURNS> {
     }
 
     fn woken(&self, pass: &mut Self::Pass) -> bool {
+        self.counts.wake_looks.fetch_add(1, Ordering::SeqCst);
         self.hub.woken(pass)
     }
 
@@ -205,5 +213,24 @@ fn a_run_takes_its_sessions_side_by_side(rt: HostRuntime) -> Result<(), Fail> {
 fn a_run_is_over_its_hub(rt: HostRuntime) -> Result<(), Fail> {
     let text = shown_over::<Gate<0>, HostRuntime>(&rt, rt.alloc(), SELF_NOTIFY)?;
     assert_eq!(rt; text.as_str(), "NoMemory: ");
+    Ok(())
+}
+
+const AWAITS_ITSELF: &str = "\
+\\session a 1
+LISTEN c
+\\await f
+\\signal f
+";
+
+// A listener reads while it waits too: once after LISTEN, after each of the ten looks of the await, after the signal, and as the
+// script's end begins.
+#[test]
+fn a_session_that_waits_looks_whether_it_was_woken(rt: HostRuntime) -> Result<(), Fail> {
+    let alloc = rt.alloc();
+    let scenario = scenario_of(alloc, AWAITS_ITSELF)?;
+    let (hub, mut sessions) = open_on_hub::<Gate<0>>(alloc, &scenario, PAGES_DEFAULT, 10)?;
+    run_sessions(&rt, alloc, &hub, sessions.as_mut_slice())?;
+    assert_eq!(rt; hub.wake_looks(), 13);
     Ok(())
 }

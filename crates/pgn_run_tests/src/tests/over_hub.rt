@@ -15,7 +15,7 @@ use std::sync::Wait;
 use std::test::Fail;
 use std::thread::{Threads, join_mut};
 
-// One step, and a read where the session may have to.
+// One step, and a read where the session is not over and was woken.
 fn turn<P: PassView + Send + Drop, H: Hub<Pass = P>, R: Wait>(
     rt: &R,
     alloc: Global,
@@ -27,7 +27,7 @@ fn turn<P: PassView + Send + Drop, H: Hub<Pass = P>, R: Wait>(
     ensures over { result ≡ Ok Step.Ended → session.new.doing ≡ Over }
 {
     let step = session.step(rt, alloc, hub)?;
-    if step == Step::Did {
+    if step != Step::Ended {
         let _done = session.idle(alloc, hub)?;
     }
     Ok(step)
