@@ -1,13 +1,15 @@
 -- Examples of steps: one that finds its flag, and why others are refused.
-use Rattle.std.proofs.Common.{◌≡◌, ℕ, ◌≤◌, [], ◌∷◌, Option, Some, None, ap, arith, refl}
-use Rattle.std.proofs.lemmas.List.Elements.{All-nil, All-cons, All-contains}
-use Rattle.pgn_model.specs.declared.item.Item.TheVariants.{TimedOut, Found}
+use Rattle.std.proofs.Common.{◌≡◌, ℕ, ◌≤◌, Bool, true, false, List, [], ◌∷◌, Option, Some, None, All, ap, arith, refl, subst}
+use Rattle.std.proofs.lemmas.List.Elements.{All-nil, All-cons, All-head, All-contains}
+use Rattle.pgn_base.specs.declared.answers.Tag.TheVariants.{Begin, Notify}
+use Rattle.pgn_model.specs.declared.item.Item.{Item}
+use Rattle.pgn_model.specs.declared.item.Item.TheVariants.{Line, Publish, Reply, TimedOut, Found}
 use Rattle.pgn_hub.specs.declared.known.Known.{Known}
 use Rattle.pgn_hub.specs.Calls.{HasLooked}
-use Rattle.pgn_hub.specs.Examples.{tx_3, listening, found_0, found_none}
+use Rattle.pgn_hub.specs.Examples.{both_notes, tx_3, opened_2, published, listening, woken_1, found_0, found_none}
 use Rattle.pgn_session.specs.Parts.{looked_items}
 use Rattle.pgn_session.specs.Standing.{HaveEnded}
-use Rattle.pgn_session.specs.Steps.{LooksInVain, HasTurned}
+use Rattle.pgn_session.specs.Steps.{LooksInVain, IsWithoutHub, ShowsLine, HasTurned}
 use Rattle.pgn_session.specs.declared.doing.Doing.TheVariants.{Lines}
 use Rattle.pgn_session.specs.declared.doing.Step.TheVariants.{Did}
 use Rattle.pgn_session.specs.Examples.{two_sessions}
@@ -51,3 +53,36 @@ finds-it = record {
   place = refl;
   comes_to = refl;
 }
+
+-- an answer of the block
+abbrev begun : List Item
+begun = Reply Begin None ∷ []
+
+begun-alone : All IsWithoutHub begun
+begun-alone = All-cons IsWithoutHub (Reply Begin None) [] tt (All-nil IsWithoutHub)
+
+pub shows-answer : ShowsLine 2 listening listening [] (Line 2 ∷ Reply Begin None ∷ [])
+shows-answer = record { more = begun; shown = refl; untouched = λ all. refl }
+
+pub shows-nothing : ShowsLine 2 listening listening [] (Line 2 ∷ [])
+shows-nothing = record { more = []; shown = refl; untouched = λ all. refl }
+
+pub shows-sent : ShowsLine 2 opened_2 published [] (Line 2 ∷ Publish 3 both_notes ∷ Reply Notify None ∷ [])
+shows-sent = record {
+  more = Publish 3 both_notes ∷ Reply Notify None ∷ [];
+  shown = refl;
+  untouched = λ all. absurd (All-head IsWithoutHub (Publish 3 both_notes) (Reply Notify None ∷ []) all);
+}
+
+-- the pass has looked at its wake
+has-looked : woken_1 ≡ listening → ⊥
+has-looked e = let looks : ◌≡◌ {A = Option (Bool × Bool)} (Some (true, false)) None = ap (λ (k : Known). k.wake_look) e in cc
+
+pub takes-wake : ShowsLine 2 listening woken_1 [] (Line 2 ∷ Reply Begin None ∷ []) → ⊥
+takes-wake s = let same : begun ≡ s.more = cc (s.shown) in has-looked (s.untouched (subst (λ (items : List Item). All IsWithoutHub items) same begun-alone))
+
+pub takes-at-empty : ShowsLine 2 listening woken_1 [] (Line 2 ∷ []) → ⊥
+takes-at-empty s = let same : [] ≡ s.more = cc (s.shown) in has-looked (s.untouched (subst (λ (items : List Item). All IsWithoutHub items) same (All-nil IsWithoutHub)))
+
+pub other-line : ShowsLine 2 listening listening [] (Line 3 ∷ Reply Begin None ∷ []) → ⊥
+other-line s = let same : ◌≡◌ {A = ℕ} 3 2 = cc (s.shown) in omega (arith, same)

@@ -1,16 +1,17 @@
 -- What comes of a commit that meets a full queue, and of any commit.
-use Rattle.std.proofs.Common.{◌≡◌, ◌≢◌, ℕ, ◌+◌, ◌<◌, ◌≤◌, Bool, true, cond, List, [], ◌∷◌, ◌++◌, length, drop, Option, Some, None, Result, Ok, Err, IfSome, All, Contains, sym, ap, ◌∙◌, refl, subst, arith, length-append, append_assoc}
+use Rattle.std.proofs.Common.{◌≡◌, ◌≢◌, ℕ, ◌+◌, ◌<◌, ◌≤◌, Bool, true, false, cond, List, [], ◌∷◌, ◌++◌, length, drop, Option, Some, None, Result, Ok, Err, IfSome, All, Contains, sym, ap, ◌∙◌, refl, subst, arith, length-append, append_assoc}
 use Rattle.std.proofs.lemmas.Option.{IfSome_then}
-use Rattle.std.proofs.lemmas.List.Elements.{All-weaker, Contains-append_left}
+use Rattle.std.proofs.lemmas.List.Elements.{All-head, All-weaker, Contains-append_left}
 use Rattle.pgn_base.specs.declared.note.Note.{Note}
 use Rattle.pgn_base.specs.declared.answers.Tag.{Tag}
 use Rattle.pgn_base.specs.declared.answers.Refusal.TheVariants as refused
 use Rattle.pgn_base.specs.declared.queue_answers.Full.{Full}
+use Rattle.pgn_base.specs.declared.queue_answers.Enlisted.{Enlisted}
 use Rattle.pgn_base.specs.declared.listen_set.Action.{Action}
 use Rattle.pgn_journal.specs.declared.tx.Tx.{Tx}
 use Rattle.pgn_journal.specs.declared.tx.Fate.TheVariants.{Aborted}
 use Rattle.pgn_model.specs.declared.item.Item.{Item}
-use Rattle.pgn_model.specs.declared.item.Item.TheVariants.{Line, QueueFull, Refuse}
+use Rattle.pgn_model.specs.declared.item.Item.TheVariants.{Line, Enlist, Publish, QueueFull, Leave, Refuse}
 use Rattle.pgn_hub.specs.declared.known.Known.{Known}
 use Rattle.pgn_journal.specs.Journal.{next_xid}
 use Rattle.pgn_hub.specs.Shape.{Shape}
@@ -28,13 +29,13 @@ use Rattle.pgn_block.specs.Views.{BlockView}
 use Rattle.pgn_session.specs.declared.doing.FlagPlan.{FlagPlan}
 use Rattle.pgn_session.specs.declared.doing.Doing.TheVariants.{Lines, Committing}
 use Rattle.pgn_session.specs.Standing.{terms_of, HaveSameMembers, IsCommitting, IsAnswered, IsRested, IsAt}
-use Rattle.pgn_session.specs.Steps.{ShowsLine, ShowsNext}
+use Rattle.pgn_session.specs.Steps.{ShowsLine, ShowsNext, IsWithoutHub}
 use Rattle.pgn_session.proofs.CommittedLaws.{committed-answered}
 use Rattle.pgn_language.specs.declared.scenario.Section.{Section}
 use Rattle.pgn_language.specs.declared.scenario.ScriptLine.{ScriptLine}
 use Rattle.std.proofs.lemmas.List.{drop_more, length-drop}
 use Rattle.std.proofs.Math.ListN.{get_or}
-use Rattle.pgn_session.specs.Commits.{HasSent, HasCommitted, is_full, set_after, enlisted_items, sent_items, left_items, ending_item}
+use Rattle.pgn_session.specs.Commits.{HasJoined, HasSent, HasLeftIf, HasCommitted, is_full, set_after, enlisted_items, sent_items, left_items, ending_item}
 use Rattle.pgn_session.proofs.CommitSteps.{base_of, point_of, leads-joined, leads-full, may-enlist, same-enlist, members-joined, stood-joined, left-answered, at-joined}
 use Rattle.pgn_session.proofs.KnownLaws.{named-holder}
 
@@ -131,9 +132,25 @@ full-answered shape terms plan done set channels k q items after actions notes t
     here.quits_last
 
 -- what comes before stays in front
-regroup : (begun enlisted sent left ending : List Item) → begun ++ enlisted ++ sent ++ left ++ ending ≡ begun ++ (enlisted ++ sent ++ left ++ ending)
+regroup : (begun enlisted sent left ending : List Item) → begun ++ enlisted ++ sent ++ left ++ ending ≡ begun ++ (enlisted ++ (sent ++ (left ++ ending)))
 regroup begun enlisted sent left ending =
-    ap (λ (is : List Item). is ++ left ++ ending) (append_assoc begun enlisted sent) ∙ ap (λ (is : List Item). is ++ ending) (append_assoc begun (enlisted ++ sent) left) ∙ append_assoc begun (enlisted ++ sent ++ left) ending
+    append_assoc (begun ++ enlisted ++ sent) left ending ∙ append_assoc (begun ++ enlisted) sent (left ++ ending) ∙ append_assoc begun enlisted (sent ++ (left ++ ending))
+
+-- a step of a commit that shows nothing has left the pass as it was
+joined-untouched : (b : Bool) (k j : Known) (got : Option Enlisted) (rest : List Item) → HasJoined b k j got → All IsWithoutHub (enlisted_items got ++ rest) → (j ≡ k) × All IsWithoutHub rest
+joined-untouched true k j (Some got) rest h all = absurd (All-head IsWithoutHub (Enlist got.base got.point) rest all)
+joined-untouched true k j None rest h all = absurd h
+joined-untouched false k j (Some got) rest h all = absurd h
+joined-untouched false k j None rest h all = (h, all)
+
+sent-untouched : (shape : Shape) (j f : Known) (notes : List Note) (sent : Option (Result ℕ Full)) (rest : List Item) → HasSent shape j f notes sent → All IsWithoutHub (sent_items sent notes ++ rest) → (f ≡ j) × All IsWithoutHub rest
+sent-untouched shape j f notes None rest h all = (h.1, all)
+sent-untouched shape j f notes (Some (Ok x)) rest h all = absurd (All-head IsWithoutHub (Publish x notes) rest all)
+sent-untouched shape j f notes (Some (Err full)) rest h all = absurd (All-head IsWithoutHub (QueueFull full notes) rest all)
+
+left-untouched : (b : Bool) (f q : Known) (rest : List Item) → HasLeftIf b f q → All IsWithoutHub (left_items b ++ rest) → q ≡ f
+left-untouched true f q rest h all = absurd (All-head IsWithoutHub Leave rest all)
+left-untouched false f q rest h all = h
 
 -- the line that comes next, by its place
 pub next-line : (lines : List ScriptLine) (done : ℕ) (line : ScriptLine) (rest : List ScriptLine) (d : ScriptLine) → drop done lines ≡ line ∷ rest → (rest ≡ drop (done + 1) lines) × (get_or lines done d ≡ line)
@@ -149,18 +166,23 @@ indexed-line lines now done line rest d e is = ap (λ (ls : List ScriptLine). ge
 -- a commit is answered, and shows its line
 pub commit-answered : (shape : Shape) (section : Section) (patience : ℕ) (plan : FlagPlan) (done : ℕ) (set channels : List (List ℕ)) (k q : Known) (items after : List Item) (actions : List Action) (notes : List Note) (tag : Tag) (block : BlockView) (line : ℕ)
     → (h : IsRested (terms_of shape section patience) plan done block set (Committing actions notes tag) k items) → line ≡ h.here.line.line → HasCommitted shape k q set channels line actions notes tag items after
-    → IsAnswered (terms_of shape section patience) plan (done + 1) block channels Lines q after × ShowsNext (drop done section.lines) items after
+    → IsAnswered (terms_of shape section patience) plan (done + 1) block channels Lines q after × ShowsNext (drop done section.lines) k q items after
 commit-answered shape section patience plan done set channels k q items after actions notes tag block line h is c =
     let at : drop done section.lines ≡ h.here.line ∷ h.here.lines = sym h.rest ∙ h.here.next.comes.next in
     let behind : h.here.lines ≡ drop (done + 1) section.lines = (next-line section.lines done h.here.line h.here.lines h.here.line at).0 in
     let d : HasCommitted shape k q set channels h.here.line.line actions notes tag items after = subst (λ (n : ℕ). HasCommitted shape k q set channels n actions notes tag items after) is c in
     let begun : List Item = items ++ Line h.here.line.line ∷ [] in
     let left : Bool = is_leaving d.finished.mark channels in
-    let shows : ShowsLine h.here.line.line items after = record {
-      more = enlisted_items d.enlisted ++ sent_items d.sent notes ++ left_items left ++ ending_item d.sent tag ∷ [];
-      shown = d.shown ∙ regroup begun (enlisted_items d.enlisted) (sent_items d.sent notes) (left_items left) (ending_item d.sent tag ∷ []);
+    let ending : List Item = ending_item d.sent tag ∷ [] in
+    let shows : ShowsLine h.here.line.line k q items after = record {
+      more = enlisted_items d.enlisted ++ (sent_items d.sent notes ++ (left_items left ++ ending));
+      shown = d.shown ∙ regroup begun (enlisted_items d.enlisted) (sent_items d.sent notes) (left_items left) ending;
+      untouched = λ all.
+          let joined = joined-untouched (is_enlisting actions k.mark) k d.joined d.enlisted (sent_items d.sent notes ++ (left_items left ++ ending)) d.has_joined all in
+          let sent = sent-untouched shape d.joined d.finished notes d.sent (left_items left ++ ending) d.has_sent joined.1 in
+          left-untouched left d.finished q ending d.has_left sent.1 ∙ sent.0 ∙ joined.0;
     } in
-    (either behind d d.sent refl, subst (λ (ls : List ScriptLine). ShowsNext ls items after) (sym at) shows)
+    (either behind d d.sent refl, subst (λ (ls : List ScriptLine). ShowsNext ls k q items after) (sym at) shows)
   where
     either : h.here.lines ≡ drop (done + 1) section.lines → (d : HasCommitted shape k q set channels h.here.line.line actions notes tag items after) → (sent : Option (Result ℕ Full)) → d.sent ≡ sent
         → IsAnswered (terms_of shape section patience) plan (done + 1) block channels Lines q after

@@ -1,5 +1,6 @@
 -- A step of a whole session by a command: what the block answers at once, what the hub shows, and a commit that was handed out.
 use Rattle.std.proofs.Common.{◌≡◌, ℕ, ◌+◌, List, [], ◌∷◌, ◌++◌, length, drop, None, sym, ap, ◌∙◌, refl, subst, append-nil, append_assoc}
+use Rattle.std.proofs.lemmas.List.Elements.{All-head}
 use Rattle.pgn_base.specs.declared.note.Note.{Note}
 use Rattle.pgn_base.specs.declared.answers.Tag.{Tag}
 use Rattle.pgn_base.specs.declared.answers.Tag.TheVariants as tag
@@ -22,22 +23,26 @@ use Rattle.pgn_session.specs.declared.doing.Doing.{Doing}
 use Rattle.pgn_session.specs.declared.doing.Doing.TheVariants.{Lines, Committing}
 use Rattle.pgn_session.specs.Parts.{HasTaken, HasShownUsage, answered_items, IsToldByBlock}
 use Rattle.pgn_session.specs.Standing.{terms_of, IsAnswered, IsRested}
-use Rattle.pgn_session.specs.Steps.{ShowsLine}
+use Rattle.pgn_session.specs.Steps.{ShowsLine, IsWithoutHub}
 use Rattle.pgn_session.specs.Whole.{ComesWith, HasAnswer, HasRest, HasStepped}
 use Rattle.pgn_session.proofs.BlockLaws.{block-answered}
 use Rattle.pgn_session.proofs.UsageLaws.{usage-answered}
 use Rattle.pgn_session.proofs.CommitLaws.{handed-out}
 use Rattle.pgn_session.proofs.WholeLaws.{line-did}
 
--- what the block answers shows its line
-told-shows : (items : List Item) (line : ℕ) (set : List (List ℕ)) (e : Effect) → IsToldByBlock e → ShowsLine line items (answered_items items line set e)
-told-shows items line set effect.Nothing h = record { more = []; shown = sym (append-nil _) }
-told-shows items line set (effect.Reply done warning) h = record { more = item.Reply done warning ∷ []; shown = refl }
-told-shows items line set (effect.Refuse refusal) h = record { more = item.Refuse refusal ∷ []; shown = refl }
-told-shows items line set (effect.Query ListeningChannels) h =
-    record { more = item.Channels set ∷ [] ++ item.Reply (tag.Select (length set)) None ∷ []; shown = append_assoc (items ++ item.Line line ∷ []) (item.Channels set ∷ []) (item.Reply (tag.Select (length set)) None ∷ []) }
-told-shows items line set (effect.Query QueueUsage) h = absurd h
-told-shows items line set (effect.Commit actions notes done) h = absurd h
+-- what the block answers shows its line, and leaves the pass as it was
+told-shows : (k q : Known) (items : List Item) (line : ℕ) (set : List (List ℕ)) (e : Effect) → IsToldByBlock e → q ≡ k → ShowsLine line k q items (answered_items items line set e)
+told-shows k q items line set effect.Nothing h is = record { more = []; shown = sym (append-nil _); untouched = λ all. is }
+told-shows k q items line set (effect.Reply done warning) h is = record { more = item.Reply done warning ∷ []; shown = refl; untouched = λ all. is }
+told-shows k q items line set (effect.Refuse refusal) h is = record { more = item.Refuse refusal ∷ []; shown = refl; untouched = λ all. is }
+told-shows k q items line set (effect.Query ListeningChannels) h is =
+    record {
+      more = item.Channels set ∷ [] ++ item.Reply (tag.Select (length set)) None ∷ [];
+      shown = append_assoc (items ++ item.Line line ∷ []) (item.Channels set ∷ []) (item.Reply (tag.Select (length set)) None ∷ []);
+      untouched = λ all. is;
+    }
+told-shows k q items line set (effect.Query QueueUsage) h is = absurd h
+told-shows k q items line set (effect.Commit actions notes done) h is = absurd h
 
 -- a line that the block alone answers
 pub told-stepped : {P : Type 0} (shape : Shape) (known : P → Known) (s n : Session P) (line : ℕ) (command : Command) (next : BlockView) (e : Effect) (step : Step) → ComesWith s line (Run command) → s.doing ≡ Lines → HasRest shape known s
@@ -54,8 +59,12 @@ told-stepped {P} shape known s n line command next e step comes between rested t
     (line-did shape known s n line (Run command) comes
     (record { section = ap (λ (x : Session P). x.section) same; plan = ap (λ (x : Session P). x.plan) same; patience = ap (λ (x : Session P). x.patience) same })
     (ap (λ (x : Session P). x.done) same)
-    (subst (λ (x : Session P). HasAnswer shape known x) (sym same) answers)
-    (subst (λ (is : List Item). ShowsLine line s.items.items is) (sym shown) (told-shows s.items.items line s.set.channels e told), ap (λ (x : Session P). x.doing) same ∙ between, refl))
+    (subst (λ (x : Session P). HasAnswer shape known x) (sym same) answers) (
+      subst (λ (is : List Item). ShowsLine line (known s.pass) (known n.pass) s.items.items is) (sym shown)
+          (told-shows (known s.pass) (known n.pass) s.items.items line s.set.channels e told (ap (λ (x : Session P). known x.pass) same)),
+      ap (λ (x : Session P). x.doing) same ∙ between,
+      refl,
+    ))
 
 -- a line that is answered by the queue's usage
 pub usage-stepped : {P : Type 0} (shape : Shape) (known : P → Known) (s n : Session P) (line : ℕ) (command : Command) (next : BlockView) (step : Step) → ComesWith s line (Run command) → s.doing ≡ Lines → HasRest shape known s
@@ -78,6 +87,7 @@ usage-stepped {P} shape known s n line command next step comes between rested ta
       record {
         more = item.Used used.usage ∷ [] ++ item.Reply (tag.Select 1) None ∷ [];
         shown = used.shown ∙ append_assoc (s.items.items ++ item.Line line ∷ []) (item.Used used.usage ∷ []) (item.Reply (tag.Select 1) None ∷ []);
+        untouched = λ all. absurd (All-head IsWithoutHub (item.Used used.usage) (item.Reply (tag.Select 1) None ∷ []) all);
       },
       ap (λ (x : Session P). x.doing) same ∙ between,
       refl,

@@ -1,5 +1,5 @@
 -- What a step does, by where the session stood in its script.
-use Rattle.std.specs.Prelude.{◌≡◌, ℕ, ◌+◌, ◌<◌, ◌≤◌, ◌⊎◌, Bool, true, false, ◌&&◌, cond, nat_lt, List, [], ◌∷◌, ◌++◌, length, Option, Some, None}
+use Rattle.std.specs.Prelude.{◌≡◌, ℕ, ◌+◌, ◌<◌, ◌≤◌, ◌⊎◌, Bool, true, false, ◌&&◌, cond, nat_lt, List, [], ◌∷◌, ◌++◌, length, Option, Some, None, All}
 use Rattle.pgn_language.specs.declared.scenario.Act.{Act}
 use Rattle.pgn_language.specs.declared.scenario.Act.TheVariants.{Run, Signal, Await, Quit}
 use Rattle.pgn_language.specs.declared.scenario.ScriptLine.{ScriptLine}
@@ -77,14 +77,22 @@ pub record HasQuitAt (plan : FlagPlan) (session : ℕ) (old new : Known) (line :
   pub raised : HasRaised left new (end_flag plan session) left.told
   pub shown : after ≡ before ++ item.Line line ∷ [] ++ quit_items old.mark
 
--- a line was begun, and shows more
-pub record ShowsLine (line : ℕ) (before after : List Item) : Type 0 where
+-- the item shows what the block and the listening set tell: the hub has no part in it
+abbrev pub IsWithoutHub : Item → Type 0
+IsWithoutHub (item.Reply tag warning) = Unit {0}
+IsWithoutHub (item.Refuse refusal) = Unit {0}
+IsWithoutHub (item.Channels names) = Unit {0}
+IsWithoutHub shown = ⊥
+
+-- a line was begun, and shows more; where the hub has no part in any of that, the pass is untouched
+pub record ShowsLine (line : ℕ) (old new : Known) (before after : List Item) : Type 0 where
   pub more : List Item
   pub shown : after ≡ before ++ item.Line line ∷ [] ++ more
+  pub untouched : All IsWithoutHub more → new ≡ old
 
 -- a line with this act: what was done, where the session stands then, and what the step came to
 abbrev pub HasBegun : FlagPlan → ℕ → ℕ → ℕ → Act → Known → Known → List Item → List Item → Doing → Step → Type 0
-HasBegun plan session patience line (Run command) old new before after stands step = ShowsLine line before after × (stands ≡ doing.Lines) × (step ≡ Did)
+HasBegun plan session patience line (Run command) old new before after stands step = ShowsLine line old new before after × (stands ≡ doing.Lines) × (step ≡ Did)
 HasBegun plan session patience line (Signal flag) old new before after stands step = HasSignalled old new line flag before after × (stands ≡ doing.Lines) × (step ≡ Did)
 HasBegun plan session patience line (Await flag) old new before after stands step = HasTurned flag 1 patience old new (before ++ item.Line line ∷ []) after stands step
 HasBegun plan session patience line Quit old new before after stands step = HasQuitAt plan session old new line before after × (stands ≡ doing.Over) × (step ≡ Did)
@@ -103,15 +111,15 @@ HasGoneOn plan session patience [] done counted old new before after stands step
 HasGoneOn plan session patience (line ∷ lines) done counted old new before after stands step = HasBegun plan session patience line.line line.act old new before after stands step × (counted ≡ done + 1)
 
 -- the first of the lines to come shows its commit
-abbrev pub ShowsNext : List ScriptLine → List Item → List Item → Type 0
-ShowsNext [] before after = ⊥
-ShowsNext (line ∷ lines) before after = ShowsLine line.line before after
+abbrev pub ShowsNext : List ScriptLine → Known → Known → List Item → List Item → Type 0
+ShowsNext [] old new before after = ⊥
+ShowsNext (line ∷ lines) old new before after = ShowsLine line.line old new before after
 
 -- a step, by where the session stood
 abbrev pub HasMoved : FlagPlan → ℕ → ℕ → List ScriptLine → Doing → ℕ → ℕ → Known → Known → List Item → List Item → Doing → Step → Type 0
 HasMoved plan session patience lines doing.Lines done counted old new before after stands step = HasGoneOn plan session patience lines done counted old new before after stands step
 HasMoved plan session patience lines (doing.Committing actions notes tag) done counted old new before after stands step =
-    ShowsNext lines before after × (stands ≡ doing.Lines) × (step ≡ Did) × (counted ≡ done + 1)
+    ShowsNext lines old new before after × (stands ≡ doing.Lines) × (step ≡ Did) × (counted ≡ done + 1)
 HasMoved plan session patience lines (doing.Awaiting flag looks) done counted old new before after stands step = HasTurned flag (looks + 1) patience old new before after stands step × (counted ≡ done)
 HasMoved plan session patience lines (doing.Ending first looks) done counted old new before after stands step =
     HasWaited plan first looks patience old new stands step × (after ≡ before) × (counted ≡ done)

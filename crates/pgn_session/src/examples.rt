@@ -1,8 +1,8 @@
 //! Examples in numbers of what a step did and came to, and beside each what is refused. The passes are those of `pgn_hub`'s examples:
 //! session 1 listens, the flag 0 was raised with the number 4, and nobody raised the flag 1.
 ghost use Rattle.std.specs.Prelude.{◌≡◌, [], ◌∷◌, Some, None};
-ghost use Rattle.pgn_hub.specs.Examples.{listening, found_0, found_none};
-ghost use Rattle.pgn_session.specs.Steps.{HasTurned, AnswersLine, Waits, Ends, StandsStill};
+ghost use Rattle.pgn_hub.specs.Examples.{both_notes, opened_2, published, listening, woken_1, found_0, found_none};
+ghost use Rattle.pgn_session.specs.Steps.{HasTurned, ShowsLine, AnswersLine, Waits, Ends, StandsStill};
 ghost use Rattle.pgn_session.specs.Examples.{two_sessions};
 
 use crate::{Doing, Step};
@@ -18,6 +18,16 @@ pub fn turn()
     ensures never { HasTurned 1 3 3 listening found_none [] [] (Doing.Awaiting 1 3) Step.Waiting → ⊥ }
     ensures without_a_look { HasTurned 1 3 3 listening listening [] (Item.TimedOut 3 ∷ []) Doing.Lines Step.Did → ⊥ }
     ensures at_another_flag { HasTurned 0 1 3 listening found_none [] [] (Doing.Awaiting 0 1) Step.Waiting → ⊥ }
+{}
+
+/// What the second line shows: an answer in which the hub has no part, and one in which it has.
+pub fn line_shown()
+    ensures answered { ShowsLine 2 listening listening [] (Item.Line 2 ∷ Item.Reply Tag.Begin None ∷ []) }
+    ensures unanswered { ShowsLine 2 listening listening [] (Item.Line 2 ∷ []) }
+    ensures sent { ShowsLine 2 opened_2 published [] (Item.Line 2 ∷ Item.Publish 3 both_notes ∷ Item.Reply Tag.Notify None ∷ []) }
+    ensures takes_its_wake { ShowsLine 2 listening woken_1 [] (Item.Line 2 ∷ Item.Reply Tag.Begin None ∷ []) → ⊥ }
+    ensures takes_it_at_an_empty_line { ShowsLine 2 listening woken_1 [] (Item.Line 2 ∷ []) → ⊥ }
+    ensures another_line { ShowsLine 2 listening listening [] (Item.Line 3 ∷ Item.Reply Tag.Begin None ∷ []) → ⊥ }
 {}
 
 /// Whether a line got its whole answer, where so many lines have begun before and after.

@@ -34,9 +34,9 @@ returns-clause-stepped g c =
     let answers = commit-answered shape m.section m.patience m.plan m.done m.set.channels c.commit.new.set.channels (known m.pass) q m.items.items c.commit.new.items.items c.args.actions c.args.notes c.args.tag m.block (slice_index_or c.as_slice-2.result.now m.done c.index-as_slice-self.result).line
     rested number c.commit.ensures.committed in
     let between : m.doing ≡ Lines = ap (λ (x : Session g.row.P.Denot). x.doing) same ∙ c.requires.place in
-    let shows : ShowsNext (drop s.done s.section.lines) s.items.items c.commit.new.items.items =
-    subst (λ (items : List Item). ShowsNext (drop s.done s.section.lines) items c.commit.new.items.items) c.make_room.ensures.items
-    (subst (λ (x : Session g.row.P.Denot). ShowsNext (drop x.done x.section.lines) m.items.items c.commit.new.items.items) same answers.1) in
+    let shows : ShowsNext (drop s.done s.section.lines) (known s.pass) q s.items.items c.commit.new.items.items =
+    subst (λ (items : List Item). ShowsNext (drop s.done s.section.lines) (known s.pass) q items c.commit.new.items.items) c.make_room.ensures.items
+    (subst (λ (x : Session g.row.P.Denot). ShowsNext (drop x.done x.section.lines) (known x.pass) q m.items.items c.commit.new.items.items) same answers.1) in
     record {
       same = record { section = ap (λ (x : Session g.row.P.Denot). x.section) same; plan = ap (λ (x : Session g.row.P.Denot). x.plan) same; patience = ap (λ (x : Session g.row.P.Denot). x.patience) same };
       answered = subst (λ (d : Doing). IsAnswered (terms_of shape m.section m.patience) m.plan (m.done + 1) m.block c.commit.new.set.channels d q c.commit.new.items.items) (sym between) answers.0;

@@ -1,0 +1,20 @@
+use Rattle.pgn_session.proofs.ExampleLemmas.{shows-answer, shows-nothing, shows-sent, takes-wake, takes-at-empty, other-line}
+use Rattle.pgn_session.proofs.examples.line_shown.Goals as goal
+
+pub returns-clause-answered : goal.returns-clause-answered
+returns-clause-answered c = shows-answer
+
+pub returns-clause-unanswered : goal.returns-clause-unanswered
+returns-clause-unanswered c = shows-nothing
+
+pub returns-clause-sent : goal.returns-clause-sent
+returns-clause-sent c = shows-sent
+
+pub returns-clause-takes_its_wake : goal.returns-clause-takes_its_wake
+returns-clause-takes_its_wake c s = takes-wake s
+
+pub returns-clause-takes_it_at_an_empty_line : goal.returns-clause-takes_it_at_an_empty_line
+returns-clause-takes_it_at_an_empty_line c s = takes-at-empty s
+
+pub returns-clause-another_line : goal.returns-clause-another_line
+returns-clause-another_line c s = other-line s
