@@ -1,6 +1,7 @@
 -- A read that was made, and a session that need not read.
-use Rattle.std.proofs.Common.{◌≡◌, ◌≢◌, ℕ, ◌≤◌, Bool, true, false, cond, nat_lt, ltb-true, ltb-false, List, [], ◌∷◌, ◌++◌, Option, Some, None, IfSome, Contains, sym, ap, ◌∙◌, refl, subst, arith}
+use Rattle.std.proofs.Common.{◌≡◌, ◌≢◌, ℕ, ◌≤◌, Bool, true, false, cond, nat_lt, ltb-true, ltb-false, List, [], ◌∷◌, ◌++◌, append_assoc, Option, Some, None, IfSome, Contains, sym, ap, ◌∙◌, refl, subst, arith}
 use Rattle.std.proofs.lemmas.List.Elements.{All-push, All-contains, Contains-push}
+use Rattle.pgn_base.specs.declared.format.Format.{Format}
 use Rattle.pgn_base.specs.declared.note.Delivery.{Delivery}
 use Rattle.pgn_journal.specs.declared.tx.Tx.{Tx}
 use Rattle.pgn_answers.specs.declared.block_state.BlockState.TheVariants.{Idle}
@@ -44,6 +45,19 @@ same-learned k q l = record {
   raised = ap (λ (p : Known). p.raised) l.known;
   found = ap (λ (p : Known). p.found) l.known;
   notes_left = ap (λ (p : Known). p.notes_left) l.known;
+}
+
+-- a read that was refused is owed still
+pub owed-still : (format : Format) (k j q : Known) → HasWoken format k j true → HasLearned j q → HasWoken format k q true
+owed-still format k j q w l = record {
+  more = w.more ++ l.more;
+  was_set = w.was_set;
+  known =
+      l.known
+      ∙ ap (λ (p : Known). let t : Known = record p { seen = p.seen ++ l.more } in t) w.known
+      ∙ ap (λ (txs : List Tx). let t : Known = record k { seen = txs; owes = true; wake_look = Some (w.was_set, k.owes) } in t) (append_assoc k.seen w.more l.more);
+  cause = w.cause;
+  near = λ unset. absurd (let no : ⊥ = cc (unset) in no);
 }
 
 -- a session that was woken has still to read

@@ -1,10 +1,10 @@
-ghost use Rattle.std.specs.Prelude.{◌≡◌, ◌≢◌, ◌↔◌, ℕ, ◌+◌, ◌≤◌, ◌<◌, [], Option, Some, None, Ok, IsSome, IfSome, IfOk, OnOk, OnErr};
+ghost use Rattle.std.specs.Prelude.{◌≡◌, ◌≢◌, ◌↔◌, ℕ, ◌+◌, ◌≤◌, ◌<◌, true, [], Option, Some, None, Ok, IsSome, IfSome, IfOk, OnOk, OnErr};
 ghost use Rattle.pgn_answers.specs.declared.block_state.BlockState.TheVariants.{Idle};
 ghost use Rattle.pgn_hub.specs.Shape.{Shape};
 ghost use Rattle.pgn_language.specs.Inputs.{QuitsLast, note_lines_of};
 ghost use Rattle.pgn_model.specs.Trace.{TraceOk, Fresh};
 ghost use Rattle.pgn_hub.specs.Passes.{opened_pass};
-ghost use Rattle.pgn_hub.specs.Calls.{HasLearned, HasHeard, HasRaised};
+ghost use Rattle.pgn_hub.specs.Calls.{HasLearned, HasHeard, HasRaised, HasWoken};
 ghost use Rattle.pgn_session.specs.Standing.{terms_of, IsServedBy, end_flag};
 ghost use Rattle.pgn_session.specs.Whole.{HasAnswer, HasRest};
 ghost use Rattle.pgn_session.specs.Parts.{HasIdled, HasFinished};
@@ -71,7 +71,7 @@ impl<P: PassView + Send + Drop> Session<P> {
         })
     }
 
-    /// Reads where it was woken, unless a block is open. A refusal loses no wake.
+    /// Reads where it was woken, unless a block is open. A refusal loses no wake: the read is owed then.
     pub fn idle<H: Hub<Pass = P>>(&mut self, alloc: Global, hub: &H) -> Result<IdleDone, AllocError>
         requires own { H.is_pass hub.now self.old.pass }
         requires answered { HasAnswer (H.shape hub.now) P.known self.old }
@@ -82,6 +82,7 @@ impl<P: PassView + Send + Drop> Session<P> {
         ensures in_block { (result ≡ Ok IdleDone.InBlock) ↔ (self.old.block.state ≢ Idle) }
         ensures no_listener { (result ≡ Ok IdleDone.NotListening) ↔ (self.old.block.state ≡ Idle) × ((P.known self.old.pass).mark ≡ None) }
         ensures idled { IfOk result (λ done. HasIdled (H.shape hub.now).format (P.known self.old.pass) (P.known self.new.pass) self.old.set.channels self.old.items.items self.new.items.items done) }
+        ensures owed { OnErr result (HasWoken (H.shape hub.now).format (P.known self.old.pass) (P.known self.new.pass) true) }
         ensures unread { OnErr result ((P.known self.new.pass).mark ≡ (P.known self.old.pass).mark) }
         ensures unshown { OnErr result (self.new.items.items ≡ self.old.items.items) }
     {

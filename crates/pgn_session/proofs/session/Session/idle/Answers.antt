@@ -1,8 +1,9 @@
-use Rattle.std.proofs.Common.{List, ap, sym, subst, ◌∙◌, rules}
+use Rattle.std.proofs.Common.{◌≡◌, Bool, true, List, ap, sym, subst, ◌∙◌, rules}
 use Rattle.pgn_model.specs.declared.item.Item.{Item}
 use Rattle.pgn_hub.specs.declared.known.Known.{Known}
+use Rattle.pgn_hub.specs.Calls.{HasWoken}
 use Rattle.pgn_session.specs.Standing.{terms_of, IsAnswered}
-use Rattle.pgn_session.proofs.ReadLaws.{quiet-rested, woken-answered, learned-answered, read-rested}
+use Rattle.pgn_session.proofs.ReadLaws.{quiet-rested, owed-still, woken-answered, learned-answered, read-rested}
 use Rattle.pgn_session.proofs.KnownLaws.{on-err}
 use Rattle.pgn_session.proofs.session.Session.idle.Goals as goal
 
@@ -19,6 +20,15 @@ returns-in_err-to-clause-refused g c =
     let woken = woken-answered terms s.plan s.done s.block s.set.channels s.doing (g.P.PassView.known s.pass) (g.P.PassView.known c.woken.new.pass) s.items.items _ c.woken.ensures.woken c.requires.answered in
     let learned = learned-answered terms s.plan s.done s.block s.set.channels s.doing (g.P.PassView.known c.woken.new.pass) (g.P.PassView.known c.read_on.new.pass) s.items.items c.in_err-to.ensures.refused woken in
     on-err _ _ (subst (λ (items : List Item). IsAnswered terms s.plan s.done s.block s.set.channels s.doing (g.P.PassView.known c.read_on.new.pass) items) (sym c.in_err-to.ensures.refused_shows_nothing) learned)
+
+pub returns-in_err-to-clause-owed : goal.returns-in_err-to-clause-owed
+returns-in_err-to-clause-owed g c =
+    let format = (g.H.Hub.shape c.args.hub.now).format in
+    let k : Known = g.P.PassView.known c.args.self.now.pass in
+    let j : Known = g.P.PassView.known c.woken.new.pass in
+    let is : c.woken.result ≡ true = search rules in
+    let woken : HasWoken format k j true = subst (λ (b : Bool). HasWoken format k j b) is c.woken.ensures.woken in
+    on-err _ _ (owed-still format k j (g.P.PassView.known c.read_on.new.pass) woken c.in_err-to.ensures.refused)
 
 pub returns-clause-rested : goal.returns-clause-rested
 returns-clause-rested g c =
