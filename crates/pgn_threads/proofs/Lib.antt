@@ -6,5 +6,6 @@ mod ListLemmas
 mod MeetLaws
 mod OpenLaws
 mod RunLaws
+mod RunningLaws
 mod ToldLaws
 mod WholeLaws

@@ -1,5 +1,5 @@
 -- What holds of whole sessions before they run and once they are over.
-use Rattle.std.specs.Prelude.{◌≡◌, ℕ, Contains}
+use Rattle.std.specs.Prelude.{◌≡◌, ◌⊎◌, ℕ, List, map, All, Any, Contains, Result, OnOk, OnErr}
 use Rattle.pgn_hub.specs.declared.known.Known.{Known}
 use Rattle.pgn_language.specs.declared.scenario.Section.{Section}
 use Rattle.pgn_hub.specs.Shape.{Shape}
@@ -33,3 +33,15 @@ pub record IsOver {P : Type 0} (is_own : P → Type 0) (shape : Shape) (known : 
 -- the session has raised its end flag with what it was told, so that no other waits for it
 abbrev pub HasGivenUp : {P : Type 0} → (P → Known) → Session P → Type 0
 HasGivenUp known s = Contains (known s.pass).raised (end_flag s.plan s.section.no, (known s.pass).told)
+
+-- the session is over, or it has given up
+abbrev pub HasStopped : {P : Type 0} → (P → Type 0) → Shape → (P → Known) → Session P → Type 0
+HasStopped is_own shape known s = IsOver is_own shape known s ⊎ HasGivenUp known s
+
+-- sessions have run, each by its script: each is over or has given up; where that went well all are over, and else one at least has
+-- given up
+pub record HaveRun {P A E : Type 0} (is_own : P → Type 0) (shape : Shape) (known : P → Known) (old new : List (Session P)) (r : Result A E) : Type 0 where
+  pub over : OnOk r (All (IsOver is_own shape known) new)
+  pub scripts : map script_of new ≡ map script_of old
+  pub stopped : All (HasStopped is_own shape known) new
+  pub gave_up : OnErr r (Any (HasGivenUp known) new)

@@ -1,7 +1,7 @@
-ghost use Rattle.std.specs.Prelude.{◌≡◌, ◌<◌, map, length, OnOk, OnErr, All};
+ghost use Rattle.std.specs.Prelude.{◌≡◌, ◌<◌, true, false, ◌++◌, map, length, Ok, OnOk, OnErr, All, Any};
 ghost use Rattle.std.specs.Thread.{IsSync, IsSend};
 ghost use Rattle.pgn_session.specs.Standing.{IsServedBy};
-ghost use Rattle.pgn_threads.specs.Whole.{HasGivenUp, IsReady, IsOver, script_of};
+ghost use Rattle.pgn_threads.specs.Whole.{HasGivenUp, HasStopped, HaveRun, IsReady, IsOver, script_of};
 
 use pgn_hub::{Hub, PassView};
 use pgn_session::{Session, Step};
@@ -11,8 +11,8 @@ use std::thread;
 use std::thread::{Threads, join_mut};
 
 /// Runs sessions until all are over: each has a thread of its own, while threads can be had; where one can't be started, the
-/// caller does that work itself. The error is that memory did not suffice for some session; then it has raised its end flag, so
-/// that no other waits for it.
+/// caller does that work itself. The error is that memory did not suffice for some session. Each is then over or has given up: it
+/// has raised its end flag, so that no other waits for it.
 #[cycle(halves)]
 pub fn run_sessions<P: PassView + Send + Drop, H: Hub<Pass = P> + Sync, R: Threads + Wait + Sync>(
     rt: &R,
@@ -22,7 +22,9 @@ pub fn run_sessions<P: PassView + Send + Drop, H: Hub<Pass = P> + Sync, R: Threa
 ) -> Result<(), AllocError>
     requires ready { All (IsReady (H.is_pass hub.now) (H.shape hub.now) P.known) sessions.old }
     ensures over { OnOk result (All (IsOver (H.is_pass hub.now) (H.shape hub.now) P.known) sessions.new) }
-    ensures scripts { OnOk result (map script_of sessions.new ≡ map script_of sessions.old) }
+    ensures scripts { map script_of sessions.new ≡ map script_of sessions.old }
+    ensures stopped { All (HasStopped (H.is_pass hub.now) (H.shape hub.now) P.known) sessions.new }
+    ensures gave_up { OnErr result (Any (HasGivenUp P.known) sessions.new) }
 {
     if sessions.len() == 0 {
         return Ok(());
@@ -46,25 +48,20 @@ fn run_halves<P: PassView + Send + Drop, H: Hub<Pass = P> + Sync, R: Threads + W
     requires some { (0 < length left.old) × (0 < length right.old) }
     requires left { All (IsReady (H.is_pass hub.now) (H.shape hub.now) P.known) left.old }
     requires right { All (IsReady (H.is_pass hub.now) (H.shape hub.now) P.known) right.old }
-    ensures left { OnOk result (All (IsOver (H.is_pass hub.now) (H.shape hub.now) P.known) left.new) }
-    ensures right { OnOk result (All (IsOver (H.is_pass hub.now) (H.shape hub.now) P.known) right.new) }
-    ensures left_scripts { OnOk result (map script_of left.new ≡ map script_of left.old) }
-    ensures right_scripts { OnOk result (map script_of right.new ≡ map script_of right.old) }
+    ensures { HaveRun (H.is_pass hub.now) (H.shape hub.now) P.known (left.old ++ right.old) (left.new ++ right.new) result }
 {
     let (first, second) = join_mut(
         rt,
         &mut || -> Result<(), AllocError>
             requires { IsSync R.row × IsSync H.row × IsSend P.row × All (IsReady (H.is_pass hub.now) (H.shape hub.now) P.known) left.now }
-            ensures { OnOk result (All (IsOver (H.is_pass hub.entry.now) (H.shape hub.entry.now) P.known) left.exit.now) × OnOk result (map script_of left.exit.now ≡ map script_of left.entry.now) }
+            ensures { HaveRun (H.is_pass hub.entry.now) (H.shape hub.entry.now) P.known left.entry.now left.exit.now result }
         { run_sessions(rt, alloc, hub, left) },
         &mut || -> Result<(), AllocError>
             requires { IsSync R.row × IsSync H.row × IsSend P.row × All (IsReady (H.is_pass hub.now) (H.shape hub.now) P.known) right.now }
-            ensures { OnOk result (All (IsOver (H.is_pass hub.entry.now) (H.shape hub.entry.now) P.known) right.exit.now) × OnOk result (map script_of right.exit.now ≡ map script_of right.entry.now) }
+            ensures { HaveRun (H.is_pass hub.entry.now) (H.shape hub.entry.now) P.known right.entry.now right.exit.now result }
         { run_sessions(rt, alloc, hub, right) },
     );
-    first?;
-    second?;
-    Ok(())
+    first.and(second)
 }
 
 // Runs one session until it is over. After a refusal it raises its end flag.
@@ -76,7 +73,7 @@ fn run_session<P: PassView + Send + Drop, H: Hub<Pass = P>, R: Wait>(
 ) -> Result<(), AllocError>
     requires ready { IsReady (H.is_pass hub.now) (H.shape hub.now) P.known session.old }
     ensures over { OnOk result (IsOver (H.is_pass hub.now) (H.shape hub.now) P.known session.new) }
-    ensures script { OnOk result (script_of session.new ≡ script_of session.old) }
+    ensures script { script_of session.new ≡ script_of session.old }
     ensures gave_up { OnErr result (HasGivenUp P.known session.new) }
 {
     if go_on(rt, alloc, hub, session).is_err() {
@@ -91,6 +88,7 @@ fn give_up<P: PassView + Send + Drop, H: Hub<Pass = P>>(hub: &H, session: &mut S
     requires own { H.is_pass hub.now session.old.pass }
     requires served { IsServedBy (H.shape hub.now) session.old.section session.old.plan }
     ensures gave_up { HasGivenUp P.known session.new }
+    ensures script { script_of session.new ≡ script_of session.old }
 {
     session.give_up(hub);
 }
@@ -108,12 +106,31 @@ fn go_on<P: PassView + Send + Drop, H: Hub<Pass = P>, R: Wait>(
     ensures over { OnOk result (IsOver (H.is_pass hub.now) (H.shape hub.now) P.known session.new) }
 {
     for _ in rt.forever() {
-        match session.step(rt, alloc, hub)? {
-            Step::Ended => return Ok(()),
-            Step::Waiting => thread::yield_now(),
-            Step::Did => {}
+        if turn(rt, alloc, hub, session)? {
+            return Ok(());
         }
-        let _done = session.idle(alloc, hub)?;
     }
     unreachable!()
+}
+
+// Takes a step, and reads where the session was woken, unless it is over: answers whether it is.
+fn turn<P: PassView + Send + Drop, H: Hub<Pass = P>, R: Wait>(
+    rt: &R,
+    alloc: Global,
+    hub: &H,
+    session: &mut Session<P>,
+) -> Result<bool, AllocError>
+    requires ready { IsReady (H.is_pass hub.now) (H.shape hub.now) P.known session.old }
+    ensures own { H.is_pass hub.now session.new.pass }
+    ensures script { script_of session.new ≡ script_of session.old }
+    ensures over { result ≡ Ok true → IsOver (H.is_pass hub.now) (H.shape hub.now) P.known session.new }
+    ensures ready { result ≡ Ok false → IsReady (H.is_pass hub.now) (H.shape hub.now) P.known session.new }
+{
+    match session.step(rt, alloc, hub)? {
+        Step::Ended => return Ok(true),
+        Step::Waiting => thread::yield_now(),
+        Step::Did => {}
+    }
+    let _done = session.idle(alloc, hub)?;
+    Ok(false)
 }

@@ -1,0 +1,57 @@
+-- What is left of sessions that have run.
+use Rattle.std.proofs.Common.{◌≡◌, ◌+◌, List, ◌++◌, length, map, set, length-append, Any, Result, Ok, Err, OnErr, sym, ap, ◌∙◌, subst, arith}
+use Rattle.std.specs.Result.{result_and}
+use Rattle.std.proofs.lemmas.List.{map-append, get_or_append_left, get_or-append-add}
+use Rattle.std.proofs.lemmas.List.Elements.{All-append}
+use Rattle.std.proofs.lemmas.List.Quantifiers.{any-set}
+use Rattle.pgn_hub.specs.declared.known.Known.{Known}
+use Rattle.pgn_hub.specs.Shape.{Shape}
+use Rattle.pgn_session.specs.declared.session.Session.{Session}
+use Rattle.pgn_threads.specs.Whole.{Script, script_of, IsOver, HasGivenUp, HasStopped, HaveRun}
+
+-- one of a front, or of what follows it
+any-front : {X : Type 0} (Q : X → Type 0) (xs ys : List X) → Any Q xs → Any Q (xs ++ ys)
+any-front Q xs ys some = (some.0, some.1, omega (arith, some.2, length-append xs ys), get_or_append_left xs ys some.1 some.0 some.2 ∙ some.3, some.4)
+
+any-behind : {X : Type 0} (Q : X → Type 0) (xs ys : List X) → Any Q ys → Any Q (xs ++ ys)
+any-behind Q xs ys some = (length xs + some.0, some.1, omega (arith, some.2, length-append xs ys), get_or-append-add xs ys some.0 some.1 ∙ some.3, some.4)
+
+module _ {P : Type 0} (is_own : P → Type 0) (shape : Shape) (known : P → Known) where
+  -- one session
+  pub one-gave_up : {A E : Type 0} (old : List (Session P)) (s : Session P) (r : Result A E) → length old ≡ 1 → OnErr r (HasGivenUp known s) → OnErr r (Any (HasGivenUp known) (set old 0 s))
+  one-gave_up old s (Ok a) one gave_up = tt
+  one-gave_up old s (Err e) one gave_up = any-set (HasGivenUp known) old 0 s (omega (arith, one)) gave_up
+
+  both-scripts : (left left_new right right_new : List (Session P)) → map script_of left_new ≡ map script_of left → map script_of right_new ≡ map script_of right → map script_of (left_new ++ right_new) ≡ map script_of (left ++ right)
+  both-scripts left left_new right right_new l r =
+      map-append (λ (s : Session P). script_of s) left_new right_new
+      ∙ ap (λ (scripts : List Script). scripts ++ map script_of right_new) l
+      ∙ ap (λ (scripts : List Script). map script_of left ++ scripts) r
+      ∙ sym (map-append (λ (s : Session P). script_of s) left right)
+
+  -- two halves
+  both-ran : {A E : Type 0} (left left_new right right_new : List (Session P)) (first second : Result A E) → HaveRun is_own shape known left left_new first → HaveRun is_own shape known right right_new second
+      → HaveRun is_own shape known (left ++ right) (left_new ++ right_new) (result_and first second)
+  both-ran left left_new right right_new (Ok a) (Ok b) l r = record {
+    over = All-append (IsOver is_own shape known) left_new right_new l.over r.over;
+    scripts = both-scripts left left_new right right_new l.scripts r.scripts;
+    stopped = All-append (HasStopped is_own shape known) left_new right_new l.stopped r.stopped;
+    gave_up = tt;
+  }
+  both-ran left left_new right right_new (Ok a) (Err e) l r = record {
+    over = tt;
+    scripts = both-scripts left left_new right right_new l.scripts r.scripts;
+    stopped = All-append (HasStopped is_own shape known) left_new right_new l.stopped r.stopped;
+    gave_up = any-behind (HasGivenUp known) left_new right_new r.gave_up;
+  }
+  both-ran left left_new right right_new (Err e) second l r = record {
+    over = tt;
+    scripts = both-scripts left left_new right right_new l.scripts r.scripts;
+    stopped = All-append (HasStopped is_own shape known) left_new right_new l.stopped r.stopped;
+    gave_up = any-front (HasGivenUp known) left_new right_new l.gave_up;
+  }
+
+  pub halves-ran : {A E : Type 0} (left left_new right right_new : List (Session P)) (first second r : Result A E) → r ≡ result_and first second → HaveRun is_own shape known left left_new first → HaveRun is_own shape known right right_new second
+      → HaveRun is_own shape known (left ++ right) (left_new ++ right_new) r
+  halves-ran left left_new right right_new first second r is l k =
+      subst (λ (s : Result _ _). HaveRun is_own shape known (left ++ right) (left_new ++ right_new) s) (sym is) (both-ran left left_new right right_new first second l k)
