@@ -1,6 +1,6 @@
 ghost use Rattle.std.specs.Prelude.{◌≡◌, true, false, All, IfErr, OnOk, OnErr};
 ghost use Rattle.pgn_words.specs.Passes.{IsPassOf, view_of};
-ghost use Rattle.pgn_words.specs.Views.{may_drop};
+ghost use Rattle.pgn_words.specs.Views.{is_settled, may_drop};
 ghost use Rattle.pgn_words.specs.Told.{HasLocked, IsLocked, freed};
 ghost use Rattle.pgn_words.specs.declared.view.Phase.TheVariants as phases;
 
@@ -19,9 +19,12 @@ impl WordQueue {
     /// Takes the lock, if nobody holds it. The holder knows the whole journal.
     ///
     /// - *phase*: a hub's pass is free between the hub's calls, and a call that takes the lock gives it up.
+    /// - *settled*: so it does not join either, since `enlist` ends with a listener: a joiner that looked at its own seat as a holder
+    ///   would wait for itself.
     pub fn try_lock(&self, pass: &mut WordPass) -> Result<(), Held>
         requires own { IsPassOf self.now pass.old }
         requires phase { (view_of pass.old).phase ≡ phases.Free }
+        requires settled { is_settled (view_of pass.old).post.listen ≡ true }
         ensures own { IsPassOf self.now pass.new }
         ensures locked { OnOk result (HasLocked (view_of pass.old) (view_of pass.new)) }
         ensures held { IfErr result (λ held. IsLocked (view_of pass.old) held.by) }

@@ -3,6 +3,7 @@ ghost use Rattle.std.specs.Prelude.{◌≡◌, ◌^◌, ◌<◌, ◌≤◌, true
 ghost use Rattle.pgn_journal.specs.Packing.{image};
 ghost use Rattle.pgn_words.specs.Passes.{IsPassOf, view_of, known_of, shape_of};
 ghost use Rattle.pgn_words.specs.Positions.{packed, mark_in};
+ghost use Rattle.pgn_words.specs.Views.{is_settled};
 ghost use Rattle.pgn_words.specs.declared.view.Listen.TheVariants as listens;
 ghost use Rattle.pgn_words.specs.declared.view.Look.TheVariants as looks;
 ghost use Rattle.pgn_words.specs.declared.view.Phase.TheVariants as phases;
@@ -62,6 +63,7 @@ fn look_once(queue: &WordQueue, pass: &mut WordPass) -> bool
     requires own { IsPassOf queue.now pass.old }
     requires seats { length (shape_of queue.now).seats ≡ 2 }
     requires free { (view_of pass.old).phase ≡ phases.Free }
+    requires settled { is_settled (view_of pass.old).post.listen ≡ true }
     ensures own { IsPassOf queue.now pass.new }
     ensures ready { result ≡ true → (view_of pass.new).phase ≡ phases.Ready }
     ensures look { result ≡ true → (view_of pass.new).eye.look ≡ looks.Second }
