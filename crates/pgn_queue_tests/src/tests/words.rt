@@ -1,5 +1,5 @@
 //! A queue of two pages for two sessions, and single steps on its words.
-ghost use Rattle.std.specs.Prelude.{◌≡◌, ◌^◌, ◌<◌, true, length, All, IfOk, IfSome, []};
+ghost use Rattle.std.specs.Prelude.{◌≡◌, ◌^◌, ◌<◌, true, false, length, All, IfOk, IfSome, []};
 ghost use Rattle.pgn_base.specs.Notes.{IsNote};
 ghost use Rattle.pgn_base.specs.declared.format.Format.TheVariants.{One};
 ghost use Rattle.pgn_journal.specs.Journal.{next_xid};
@@ -119,6 +119,7 @@ fn get_ready(queue: &WordQueue, pass: &mut WordPass) -> (Pos, u64)
     ensures low { result.0 < 2 ^ 32 }
     ensures stop { result.1 ≡ (view_of pass.new).stop }
     ensures post { (view_of pass.new).post ≡ (view_of pass.old).post }
+    ensures undecided { (view_of pass.new).undecided ≡ (view_of pass.old).undecided }
 {
     let head = queue.load_head(pass);
     let stop = queue.load_stop(pass);
@@ -130,7 +131,9 @@ fn make_ready(queue: &WordQueue, pass: &mut WordPass) -> Option<(Pos, u64)>
     requires own { IsPassOf queue.now pass.old }
     requires free { (view_of pass.old).phase ≡ phases.Free }
     requires settled { is_settled (view_of pass.old).post.listen ≡ true }
+    requires decided { All (λ undecided. undecided ≡ false) (view_of pass.old).undecided }
     ensures own { IsPassOf queue.now pass.new }
+    ensures decided { IfSome result (λ found. All (λ undecided. undecided ≡ false) (view_of pass.new).undecided) }
     ensures ready { IfSome result (λ found. (view_of pass.new).phase ≡ phases.Ready) }
     ensures cells { IfSome result (λ found. (view_of pass.new).pen.cells ≡ image (view_of pass.new).setup.format (known_of pass.new).seen) }
     ensures batch { IfSome result (λ found. (view_of pass.new).pen.batch ≡ []) }

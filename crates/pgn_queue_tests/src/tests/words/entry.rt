@@ -135,6 +135,7 @@ fn commit(queue: &WordQueue, pass: &mut WordPass, xid: Xid)
     requires reach { length (known_of pass.old).seen < notes_of_seats (shape_of queue.now).seats }
     ensures own { IsPassOf queue.now pass.new }
     ensures free { (view_of pass.new).phase ≡ phases.Free }
+    ensures decided { (view_of pass.new).undecided ≡ [] }
     ensures post { (view_of pass.new).post ≡ (view_of pass.old).post }
 {
     queue.set_status(pass, xid, Fate::Committed, 1);
@@ -158,6 +159,7 @@ pub(crate) fn publish_locked(
     requires notes { notes.now ≡ virtual_note ∷ [] }
     ensures own { IsPassOf queue.now pass.new }
     ensures free { IfSome result (λ _. (view_of pass.new).phase ≡ phases.Free) }
+    ensures decided { IfSome result (λ _. (view_of pass.new).undecided ≡ []) }
     ensures post { IfSome result (λ _. (view_of pass.new).post ≡ (view_of pass.old).post) }
 {
     let (at, xid) = begin(queue, pass, notes)?;
@@ -177,6 +179,7 @@ pub(crate) fn publish(queue: &WordQueue, pass: &mut WordPass, notes: &[Note; 1])
     requires notes { notes.now ≡ virtual_note ∷ [] }
     ensures own { IsPassOf queue.now pass.new }
     ensures free { IfSome result (λ _. (view_of pass.new).phase ≡ phases.Free) }
+    ensures decided { IfSome result (λ _. (view_of pass.new).undecided ≡ []) }
     ensures post { IfSome result (λ _. (view_of pass.new).post ≡ (view_of pass.old).post) }
 {
     if queue.try_lock(pass).is_err() {
