@@ -38,7 +38,7 @@ pub record IsSamePass (v w : View) : Type 0 where
 
 -- the pass holds the lock, knows this journal, and has looked at nothing
 abbrev pub locked : List Tx → View → View
-locked seen v = record v { phase = Held; eye = record v.eye { look = Idle }; known = record v.known { seen = seen } }
+locked seen v = record v { phase = Held; held_by = None; eye = record v.eye { look = Idle }; known = record v.known { seen = seen } }
 
 -- the lock was free: the pass holds it, and knows the whole journal
 pub record HasLocked (v w : View) : Type 0 where
@@ -54,11 +54,15 @@ pub record IsLocked (v : View) (by : ℕ) : Type 0 where
   pub seated : by ≤ seats_of v.setup
   pub other : by ≢ v.known.session
 
+-- the pass keeps who had it
+abbrev pub refused : ℕ → View → View
+refused by v = record v { held_by = Some by }
+
 pub record TellsLock (s : Step ℕ) (v : Mine) (n : ℕ) (w : Mine) : Type 0 where
   pub slots : w.1 ≡ v.1
   pub same : w.0.setup ≡ v.0.setup
   pub free : n ≡ 0 → HasLocked v.0 w.0
-  pub locked : n ≢ 0 → (w.0 ≡ v.0) × IsLocked v.0 n
+  pub locked : n ≢ 0 → (w.0 ≡ refused n v.0) × IsLocked v.0 n
 
 -- the pass gives the lock up; where it has finished a transaction, it is told of it
 abbrev pub freed : View → View

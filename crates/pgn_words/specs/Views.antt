@@ -145,6 +145,7 @@ opened_view z session = record {
   made = 0;
   joined = [];
   phase = Free;
+  held_by = None;
   ended = None;
   stop = 0;
   pen = no_pen;

@@ -7,7 +7,7 @@ ghost use Rattle.pgn_journal.specs.Packing.{image};
 ghost use Rattle.pgn_hub.specs.Shape.{notes_of_seats};
 ghost use Rattle.pgn_words.specs.Passes.{IsPassOf, IsFresh, view_of, known_of, shape_of};
 ghost use Rattle.pgn_words.specs.Views.{is_settled};
-ghost use Rattle.pgn_words.specs.Told.{drawn};
+ghost use Rattle.pgn_words.specs.Told.{drawn, refused};
 ghost use Rattle.pgn_words.specs.declared.view.Listen.TheVariants as listens;
 ghost use Rattle.pgn_words.specs.declared.view.Phase.TheVariants as phases;
 
@@ -91,7 +91,7 @@ fn holder(queue: &WordQueue, pass: &mut WordPass) -> Option<SessionNo>
     requires free { (view_of pass.old).phase ≡ phases.Free }
     requires settled { is_settled (view_of pass.old).post.listen ≡ true }
     ensures own { IsPassOf queue.now pass.new }
-    ensures same { IfSome result (λ _. view_of pass.new ≡ view_of pass.old) }
+    ensures met { IfSome result (λ by. view_of pass.new ≡ refused by (view_of pass.old)) }
 {
     match queue.try_lock(pass) {
         Ok(()) => None,
