@@ -5,7 +5,7 @@ ghost use Rattle.std.specs.List.{range_with_len};
 ghost use Rattle.pgn_base.specs.declared.format.Format.TheVariants.{One};
 ghost use Rattle.pgn_journal.specs.declared.tx.Fate.TheVariants.{Committed, Aborted};
 ghost use Rattle.pgn_hub.specs.Shape.{IsShape};
-ghost use Rattle.pgn_hub.specs.Passes.{IsSeated, IsWithin, opened_passes};
+ghost use Rattle.pgn_hub.specs.Passes.{IsSeated, IsWithin, no_advance, opened_passes};
 ghost use Rattle.pgn_hub.specs.Calls.{HasPublished, HasEnlisted, HasHeard, HasLearned, HasLeft, HasLooked, HasMetFull, HasRaised, HasRead, HasMeasured, HasWoken};
 ghost use Rattle.pgn_hub.specs.Gathered.{Gathered};
 ghost use Rattle.pgn_hub.specs.Examples.{two_seats, opened_1, opened_2, note_a, both_notes, tx_3, first_point, listening, quiet, published, woken_1, got_a, got_b, has_read, has_left, raised_0, found_0, found_none, met_one, met_nobody, usage_4, measured, heard, long_note, long_3, long_5, before_full, full_5, after_full, both_before_full, both_after_full, three_notes, full_3, larger_full, also_published, last_1, last_2};
@@ -177,6 +177,8 @@ pub fn full()
     ensures own_seat_elsewhere { HasMetFull two_seats (record both_before_full { mark = Some 4 }) (record both_after_full { mark = Some 4 }) long_note full_5 → ⊥ }
     ensures own_seat_left_out { HasMetFull two_seats both_before_full (record both_after_full { advance = met_one }) long_note full_5 → ⊥ }
     ensures not_named { HasMetFull two_seats before_full (record after_full { named = [] }) long_note full_5 → ⊥ }
+    // The head has moved since the advance.
+    ensures a_batch_later { HasMetFull two_seats before_full (record after_full { advance = no_advance }) long_note full_5 → ⊥ }
     // The advance of an earlier call, in which nobody was looked at anew.
     ensures an_earlier_advance { HasMetFull two_seats (record before_full { named = after_full.named; advance = met_one }) after_full long_note full_5 → ⊥ }
 {}
