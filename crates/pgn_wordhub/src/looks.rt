@@ -25,8 +25,8 @@ use std::thread;
 /// A place for the announced tail, and one for each seat.
 const PLACES: usize = SECTIONS_MAX as usize + 1;
 
-/// What `advance_tail` did: the numbers of the oldest kept page before it and after it, and a session that joined, for which it gave
-/// up. Where it gave up, both pages are the same.
+/// What `advance_tail` did: the numbers of the oldest kept page, as it was found and after it, and a session that joined, for which it
+/// gave up. Where it gave up, both pages are the same.
 #[derive(Clone, Copy)]
 pub struct Freed {
     pub from: u64,
@@ -237,7 +237,7 @@ impl WordHub {
         requires stop { stop ≡ (view_of pass.old).stop }
         ensures own { IsPassOf self.now.queue pass.new }
         ensures tried { HasTried (view_of pass.old) (view_of pass.new) }
-        ensures stop { IfOk result (λ to. HasFreedTo (hub_shape self.now) (view_of pass.new) stop to) }
+        ensures stop { IfOk result (λ to. HasFreedTo (hub_shape self.now) (known_of pass.old).named (view_of pass.new) stop to) }
         ensures gave_up { IfErr result (λ joiner. HasGivenUp (hub_shape self.now) (view_of pass.new) stop joiner) }
     {
         let mut floor = self.look_first(pass, number, head);

@@ -175,7 +175,7 @@ impl WordHub {
         requires decided { All (λ undecided. undecided ≡ false) (view_of pass.old).undecided }
         requires listens { (known_of pass.old).mark ≡ listens_at (view_of pass.old).post }
         ensures own { IsPassOf self.now.queue pass.new }
-        ensures view { view_of pass.new ≡ advanced_view (view_of pass.new) (stop_known (view_of pass.new).stop (head_known (view_of pass.old))) }
+        ensures view { view_of pass.new ≡ advanced_view (view_of pass.new) (stop_known (view_of pass.new).loaded_stop (head_known (view_of pass.old))) }
         ensures measured { HasMeasured (hub_shape self.now) (known_of pass.old) (known_of pass.new) result }
     {
         let head = self.queue.load_head(pass);
@@ -199,7 +199,7 @@ impl WordHub {
         requires listens { (known_of pass.old).mark ≡ listens_at (view_of pass.old).post }
         ensures own { IsPassOf self.now.queue pass.new }
         ensures tried { HasTried (stop_known result.from (head_known (view_of pass.old))) (view_of pass.new) }
-        ensures freed { IsFreed (hub_shape self.now) (view_of pass.new) result }
+        ensures freed { IsFreed (hub_shape self.now) (known_of pass.old).named (view_of pass.new) result }
     {
         let head = self.queue.load_head(pass);
         let from = self.queue.load_stop(pass);
@@ -226,7 +226,7 @@ impl WordHub {
         requires own { IsHubPass self.now pass.old }
         ensures own { IsHubPass self.now pass.new }
         ensures tried { HasTriedTail (known_of pass.old) (known_of pass.new) }
-        ensures freed { IsFreed (hub_shape self.now) (view_of pass.new) result }
+        ensures freed { IsFreed (hub_shape self.now) (known_of pass.old).named (view_of pass.new) result }
     {
         self.lock(rt, pass);
         let freed = self.try_tail(pass);

@@ -84,7 +84,7 @@ pub record TellsHead (s : Step ℕ) (v : Mine) (n : ℕ) (w : Mine) : Type 0 whe
 
 -- the holder has loaded the oldest kept page
 abbrev pub stop_known : ℕ → View → View
-stop_known n v = record v { phase = Ready; stop = n }
+stop_known n v = record v { phase = Ready; stop = n; loaded_stop = n }
 
 pub record TellsStop (s : Step ℕ) (v : Mine) (n : ℕ) (w : Mine) : Type 0 where
   pub slots : w.1 ≡ v.1

@@ -148,6 +148,7 @@ opened_view z session = record {
   held_by = None;
   ended = None;
   stop = 0;
+  loaded_stop = 0;
   pen = no_pen;
   post = no_post;
   walk = no_walk;

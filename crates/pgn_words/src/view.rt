@@ -112,6 +112,8 @@ pub struct View {
     pub ended: Option<u64>,
     /// The oldest kept page.
     pub stop: u64,
+    /// The same, as the pass loaded it when it last had the lock.
+    pub loaded_stop: u64,
     pub pen: Pen,
     pub post: Post,
     pub walk: Walk,
