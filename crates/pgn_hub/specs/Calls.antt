@@ -74,8 +74,8 @@ pub record IsFloor (x : ℕ) (met : List (ℕ × ℕ)) (floor : ℕ) (holder : O
   pub held : IsHolder x met floor holder
 
 -- `publish` answers that the queue is full: this transaction is the journal's next, aborted; the pass is told of it. It comes after
--- an advance of this very call: what its looks met is named by this call, and the floor is the least of it. (Where the call made
--- several advances, no field says that this is the last: what is known of a pass doesn't show when the head moved)
+-- an advance of this very call, and the head hasn't moved since: what is known of an advance is emptied as the lock is taken and as
+-- the head moves. What its looks met is named by this call, and the floor is the least of it
 pub record HasMetFull (shape : Shape) (old new : Known) (notes : List Note) (full : Full) : Type 0 where
   pub more : List Tx
   pub named : List (ℕ × ℕ)

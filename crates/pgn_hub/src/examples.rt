@@ -5,7 +5,7 @@ ghost use Rattle.std.specs.List.{range_with_len};
 ghost use Rattle.pgn_base.specs.declared.format.Format.TheVariants.{One};
 ghost use Rattle.pgn_journal.specs.declared.tx.Fate.TheVariants.{Committed, Aborted};
 ghost use Rattle.pgn_hub.specs.Shape.{IsShape};
-ghost use Rattle.pgn_hub.specs.Passes.{IsSeated, IsWithin, opened_passes};
+ghost use Rattle.pgn_hub.specs.Passes.{IsSeated, IsWithin, no_advance, opened_passes};
 ghost use Rattle.pgn_hub.specs.Calls.{HasPublished, HasEnlisted, HasHeard, HasLearned, HasLeft, HasLooked, HasMetFull, HasRaised, HasRead, HasMeasured, HasWoken};
 ghost use Rattle.pgn_hub.specs.Gathered.{Gathered};
 ghost use Rattle.pgn_hub.specs.Examples.{two_seats, opened_1, opened_2, note_a, both_notes, tx_3, first_point, listening, quiet, published, woken_1, got_a, got_b, has_read, has_left, raised_0, found_0, found_none, met_one, met_nobody, met_both, met_reader, usage_4, measured, measured_reader, measured_joiner, heard, long_note, long_3, long_5, before_full, full_5, after_full, both_before_full, both_after_full, three_notes, full_3, larger_full, also_published, last_1, last_2};
@@ -189,6 +189,8 @@ pub fn full()
     ensures floor_of_the_second_look { HasMetFull two_seats before_full (record after_full { named = (1, 3) ∷ (1, 4) ∷ []; advance = met_reader }) long_note (record full_5 { floor_mark = 4 }) → ⊥ }
     ensures not_met_first { HasMetFull two_seats both_before_full (record both_after_full { advance = record met_both { first = Some 3 ∷ None ∷ [] } }) long_note full_5 → ⊥ }
     ensures not_met_second { HasMetFull two_seats both_before_full (record both_after_full { advance = record met_both { second = Some 3 ∷ None ∷ [] } }) long_note full_5 → ⊥ }
+    // The head has moved since the advance.
+    ensures a_batch_later { HasMetFull two_seats before_full (record after_full { advance = no_advance }) long_note full_5 → ⊥ }
     // The advance of an earlier call, in which nobody was looked at anew.
     ensures an_earlier_advance { HasMetFull two_seats (record before_full { named = after_full.named; advance = met_one }) after_full long_note full_5 → ⊥ }
 {}

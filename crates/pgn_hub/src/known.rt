@@ -28,7 +28,7 @@ pub struct Known {
     /// How many looks at flags the pass has made; and the last one: the flag, and the number that it had, if it was raised.
     pub looks: u64,
     pub flag_look: Option<(u64, Option<u64>)>,
-    /// The last advance of the tail.
+    /// The last advance of the tail. It is emptied as the pass takes the lock, and each time that it moves the head.
     pub advance: Advance,
     /// The last look at the pass's own wake: whether it was set, and whether a read was owed before.
     pub wake_look: Option<(bool, bool)>,

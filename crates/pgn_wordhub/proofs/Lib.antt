@@ -1,3 +1,4 @@
+mod LockLaws
 mod WayLaws
 mod ReadingLaws
 mod ReadLaws

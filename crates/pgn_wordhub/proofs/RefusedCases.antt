@@ -1,6 +1,6 @@
 -- The definitions of this crate refuse the small cases.
-use Rattle.std.proofs.Common.{◌≡◌, ℕ, ◌≤◌, true, false, [], ◌∷◌, List, length, Option, Some, None, refl, ap, arith}
-use Rattle.std.proofs.lemmas.List.Elements.{All-head}
+use Rattle.std.proofs.Common.{◌≡◌, ℕ, ◌≤◌, true, false, [], ◌∷◌, List, length, Option, Some, None, Contains, refl, ap, arith}
+use Rattle.std.proofs.lemmas.List.Elements.{All-nil, All-head}
 use Rattle.pgn_base.specs.declared.format.Format.TheVariants.{One}
 use Rattle.pgn_base.specs.declared.note.Delivery.{Delivery}
 use Rattle.pgn_journal.specs.declared.tx.Tx.{Tx}
@@ -8,7 +8,7 @@ use Rattle.pgn_hub.specs.declared.known.Known.{Known}
 use Rattle.pgn_journal.specs.Packing.{image, image_from}
 use Rattle.pgn_journal.specs.Pieces.{Piece, AFiller, piece_bytes, number_of, IsNumbered}
 use Rattle.pgn_journal.proofs.BytesLemmas.{length-spelled}
-use Rattle.pgn_journal.proofs.PackingLemmas.{entry_whole}
+use Rattle.pgn_journal.proofs.PackingLemmas.{entry_whole, first_place}
 use Rattle.pgn_journal.proofs.PieceLaws.{first_cells}
 use Rattle.pgn_hub.specs.Examples.{two_seats, note_a, tx_3, got_a}
 use Rattle.pgn_words.specs.declared.view.View.{View}
@@ -21,7 +21,7 @@ use Rattle.pgn_wordhub.specs.Floors.{IsFloorOf}
 use Rattle.pgn_wordhub.specs.Looks.{HasCome, HasSeenFirst, HasSeenSecond, HasSeenSome}
 use Rattle.pgn_wordhub.specs.Advancing.{HasAdvancedTo, HasTried, HasFreedTo, HasGivenUp, IsFreed, HasTriedTail}
 use Rattle.pgn_wordhub.specs.Finishing.{HasCommitted, HasEnded}
-use Rattle.pgn_wordhub.specs.Examples.{first_pass, third_pass, told_of_3, with_mark, stored_one, writing, undecided_one, first_look, tail_is_late, one_seen, one_joins, both_seen, none_freed, one_page, sender_3, other_db}
+use Rattle.pgn_wordhub.specs.Examples.{first_pass, third_pass, told_of_3, with_mark, stored_one, writing, undecided_one, first_look, tail_is_late, one_seen, one_joins, both_seen, seen_once, none_freed, one_page, sender_3, other_db}
 use Rattle.pgn_wordhub.proofs.WayLaws.{cell_of}
 
 pub no_holder : IsHubView two_seats holder → ⊥
@@ -145,14 +145,37 @@ no_page_kept mark at holder h = let kept = h.kept in omega (arith, kept)
 pub not_told_by_looks : HasTried first_pass told_of_3 → ⊥
 not_told_by_looks h = let told = ap (λ (v : View). v.known.told) h.view in omega (arith, told)
 
-pub frees_one : HasFreedTo two_seats both_seen 0 1
-frees_one = record { second = refl; all = refl; greater = refl; stop = refl }
+pub frees_one : HasFreedTo two_seats [] both_seen 0 1
+frees_one =
+    let first = first_place One [] in record {
+      named = [];
+      named_is = refl;
+      looked = record {
+        first_look = refl;
+        second_look = refl;
+        own_first = All-nil (λ (pair : ℕ × ℕ). pair.0 ≡ 1 → None ≡ Some pair.1);
+        own_second = All-nil (λ (pair : ℕ × ℕ). pair.0 ≡ 1 → None ≡ Some pair.1);
+        own_met = tt;
+      };
+      met = All-nil (Contains {X = ℕ × ℕ} []);
+      mark = 3;
+      holder = None;
+      floor = record { below = omega arith; least = All-nil (λ (pair : ℕ × ℕ). 3 ≤ pair.1); held = refl };
+      floor_kept = omega (arith, first);
+      second = refl;
+      all = refl;
+      greater = refl;
+      stop = refl;
+    }
 
-pub frees_none : HasFreedTo two_seats none_freed 0 0 → ⊥
+pub frees_none : HasFreedTo two_seats [] none_freed 0 0 → ⊥
 frees_none h = let greater = h.greater in omega (arith, greater)
 
-pub frees_after_all : HasFreedTo two_seats one_seen 0 1 → ⊥
+pub frees_after_all : HasFreedTo two_seats [] one_seen 0 1 → ⊥
 frees_after_all h = let all = h.all in omega (arith, all)
+
+pub frees_after_both : HasFreedTo two_seats [] seen_once 0 1 → ⊥
+frees_after_both h = let long = h.looked.second_look in omega (arith, long)
 
 pub gives_up : HasGivenUp two_seats one_joins 0 2
 gives_up = record { second = refl; left = omega arith; joins = refl; there = refl; stop = refl }
@@ -166,11 +189,14 @@ none_joins h = let joins = h.joins in absurd (cc)
 pub none_left_to_join : HasGivenUp two_seats none_freed 0 3 → ⊥
 none_left_to_join h = let left = h.left in omega (arith, left)
 
-pub freed_one : IsFreed two_seats both_seen one_page
-freed_one = frees_one
+pub freed_one : IsFreed two_seats [] both_seen one_page
+freed_one = record { from_is = refl; did = frees_one }
 
-pub none_beside_a_joiner : IsFreed two_seats both_seen (record one_page { joiner = Some 3 }) → ⊥
-none_beside_a_joiner h = let same = h.1 in omega (arith, same)
+pub not_from_the_end : IsFreed two_seats [] both_seen (record one_page { from = 1 }) → ⊥
+not_from_the_end h = let from = h.from_is in omega (arith, from)
+
+pub none_beside_a_joiner : IsFreed two_seats [] both_seen (record one_page { joiner = Some 3 }) → ⊥
+none_beside_a_joiner h = let same = h.did.1 in omega (arith, same)
 
 pub no_mark_moved : HasTriedTail first_pass.known with_mark.known → ⊥
 no_mark_moved h = let mark = ap (λ (k : Known). k.mark) h.known in absurd (cc)
@@ -195,6 +221,6 @@ pub ruleset refused_writers = (not_unshown, not_ahead, not_told, not_all, no_pag
 
 pub ruleset refused_looks = (not_past_the_number, own_seat_shows, own_seat_shows_none, no_seat_left_out, not_the_second, no_late_tail, not_the_first)
 
-pub ruleset refused_advances = (all_seats, no_page_kept, not_told_by_looks, frees_one, frees_none, frees_after_all, gives_up, no_other_joiner, none_joins, none_left_to_join, freed_one, none_beside_a_joiner, no_mark_moved)
+pub ruleset refused_advances = (all_seats, no_page_kept, not_told_by_looks, frees_one, frees_none, frees_after_all, frees_after_both, gives_up, no_other_joiner, none_joins, none_left_to_join, freed_one, not_from_the_end, none_beside_a_joiner, no_mark_moved)
 
 pub ruleset refused_wakes = (not_signalling, both_seats, at_the_head)

@@ -10,7 +10,7 @@ use Rattle.pgn_hub.specs.declared.known.Known.{Known}
 use Rattle.pgn_journal.specs.Journal.{next_xid}
 use Rattle.pgn_hub.specs.Shape.{Shape}
 use Rattle.pgn_hub.specs.Calls.{tx_of, HasPublished, HasMetFull}
-use Rattle.pgn_hub.specs.Passes.{IsWithin, IsSeated}
+use Rattle.pgn_hub.specs.Passes.{IsWithin, IsSeated, no_advance}
 use Rattle.pgn_hub.proofs.WithinLaws.{calls-keep_within}
 use Rattle.pgn_words.specs.declared.view.View.{View}
 use Rattle.pgn_words.specs.declared.view.Post.{Post}
@@ -21,9 +21,9 @@ use Rattle.pgn_wordhub.specs.Passes.{IsHubView}
 use Rattle.pgn_wordhub.specs.Finishing.{HasEnded}
 
 -- what was published, or met a full queue, with the lock taken was so from before it was taken
-pub published_from : (k l m : Known) (more : List Tx) (notes : List Note) (x : ℕ) → l ≡ record k { seen = k.seen ++ more } → HasPublished l m notes x → HasPublished k m notes x
+pub published_from : (k l m : Known) (more : List Tx) (notes : List Note) (x : ℕ) → l ≡ record k { seen = k.seen ++ more; advance = no_advance } → HasPublished l m notes x → HasPublished k m notes x
 published_from k l m more notes x e h =
-    let L : Known = record k { seen = k.seen ++ more } in
+    let L : Known = record k { seen = k.seen ++ more; advance = no_advance } in
     let g : HasPublished L m notes x = subst (λ (y : Known). HasPublished y m notes x) e h in record {
       more = more ++ g.more;
       named = g.named;
@@ -39,9 +39,9 @@ published_from k l m more notes x e h =
       } in u) (append_assoc k.seen more g.more);
     }
 
-pub met_full_from : (z : Shape) (k l m : Known) (more : List Tx) (notes : List Note) (full : Full) → l ≡ record k { seen = k.seen ++ more } → HasMetFull z l m notes full → HasMetFull z k m notes full
+pub met_full_from : (z : Shape) (k l m : Known) (more : List Tx) (notes : List Note) (full : Full) → l ≡ record k { seen = k.seen ++ more; advance = no_advance } → HasMetFull z l m notes full → HasMetFull z k m notes full
 met_full_from z k l m more notes full e h =
-    let L : Known = record k { seen = k.seen ++ more } in
+    let L : Known = record k { seen = k.seen ++ more; advance = no_advance } in
     let g : HasMetFull z L m notes full = subst (λ (y : Known). HasMetFull z y m notes full) e h in record {
       more = more ++ g.more;
       named = g.named;
@@ -102,7 +102,7 @@ still_seated z k l h seated =
 -- once it has given the lock up, it is one of the hub's again
 pub gives_up : (z : Shape) (v l m w : View) → IsHubView z v → HasLocked v l → HasEnded l m → w ≡ freed m → HasSent v.known w.known → IsHubView z w
 gives_up z v l m w h lock done free sent =
-    let after : View → View = λ y. freed (record y { phase = m.phase; ended = m.ended; stop = m.stop; pen = m.pen; eye = m.eye; undecided = m.undecided; known = m.known }) in
+    let after : View → View = λ y. freed (record y { phase = m.phase; ended = m.ended; stop = m.stop; loaded_stop = m.loaded_stop; pen = m.pen; eye = m.eye; undecided = m.undecided; known = m.known }) in
     let is : w ≡ after (locked (v.known.seen ++ lock.more) v) = free ∙ ap freed done.view ∙ ap after lock.view in
     let post : w.post ≡ v.post = ap (λ (y : View). y.post) is in record {
       rest = record {

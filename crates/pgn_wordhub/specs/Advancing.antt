@@ -15,7 +15,7 @@ use Rattle.pgn_wordhub.specs.declared.looks.Freed.{Freed}
 abbrev pub advanced_view : View → View → View
 advanced_view w v = record v { stop = w.stop; eye = w.eye; known = record v.known { named = w.known.named; advance = w.known.advance } }
 
--- each seat was looked at twice; the floor is the least of the own number and the marks that were met, and no page from it on was freed
+-- each seat was looked at twice; the floor is the least of the own number and the marks that were met, and the pages before it are free
 pub record HasAdvancedTo (z : Shape) (v w : View) (mark at : ℕ) (holder : Option ℕ) : Type 0 where
   pub named : List (ℕ × ℕ)
   pub named_is : w.known.named ≡ v.known.named ++ named
@@ -33,9 +33,18 @@ pub record HasTried (v w : View) : Type 0 where
   pub named : List (ℕ × ℕ)
   pub view : w ≡ record v { stop = w.stop; eye = w.eye; known = record v.known { named = v.known.named ++ named; advance = w.known.advance } }
 
--- The second look has looked at each seat. The oldest kept page is now the greater of what it was and the page of the first place that
--- is still needed.
-pub record HasFreedTo (z : Shape) (w : View) (from to : ℕ) : Type 0 where
+-- Each seat was looked at twice, and what the looks met is named beside what was named before. The oldest kept page is now the greater
+-- of what it was and the page of the first place that is still needed. It is no earlier than that of the floor, the least of the next
+-- number and the marks that were met.
+pub record HasFreedTo (z : Shape) (before : List (ℕ × ℕ)) (w : View) (from to : ℕ) : Type 0 where
+  pub named : List (ℕ × ℕ)
+  pub named_is : w.known.named ≡ before ++ named
+  pub looked : LooksTwice z w.known.session w.known.mark w.known.advance
+  pub met : All (Contains named) (met_by w.known.advance)
+  pub mark : ℕ
+  pub holder : Option ℕ
+  pub floor : IsFloor (next_xid w.known.seen) (met_by w.known.advance) mark holder
+  pub floor_kept : page_of (place One w.known.seen mark) ≤ to
   pub second : w.eye.look ≡ Second
   pub all : w.eye.looked ≡ length z.seats
   pub greater : to ≡ max from (page_of w.eye.target)
@@ -51,12 +60,14 @@ pub record HasGivenUp (z : Shape) (w : View) (from joiner : ℕ) : Type 0 where
   pub stop : w.stop ≡ from
 
 -- what an advance did, by the session that joined, if one did
-abbrev pub IsFreedAs : Shape → View → ℕ → ℕ → Option ℕ → Type 0
-IsFreedAs z w from to None = HasFreedTo z w from to
-IsFreedAs z w from to (Some joiner) = HasGivenUp z w from joiner × (to ≡ from)
+abbrev pub IsFreedAs : Shape → List (ℕ × ℕ) → View → ℕ → ℕ → Option ℕ → Type 0
+IsFreedAs z before w from to None = HasFreedTo z before w from to
+IsFreedAs z before w from to (Some joiner) = HasGivenUp z w from joiner × (to ≡ from)
 
-abbrev pub IsFreed : Shape → View → Freed → Type 0
-IsFreed z w freed = IsFreedAs z w freed.from freed.to freed.joiner
+-- from the oldest kept page as the pass loaded it
+pub record IsFreed (z : Shape) (before : List (ℕ × ℕ)) (w : View) (freed : Freed) : Type 0 where
+  pub from_is : freed.from ≡ w.loaded_stop
+  pub did : IsFreedAs z before w freed.from freed.to freed.joiner
 
 -- an advance was tried between transactions: the pass has heard of the journal, and names what the looks have met
 pub record HasTriedTail (old new : Known) : Type 0 where

@@ -2,7 +2,7 @@
 use Rattle.std.specs.Prelude.{◌*◌, ◌^◌, true, [], ◌∷◌, Some, None}
 use Rattle.pgn_journal.specs.Packing.{Sender}
 use Rattle.pgn_hub.specs.Passes.{opened_pass}
-use Rattle.pgn_hub.specs.Examples.{seat, two_seats}
+use Rattle.pgn_hub.specs.Examples.{seat, two_seats, met_nobody}
 use Rattle.pgn_words.specs.declared.view.View.{View}
 use Rattle.pgn_words.specs.declared.view.Phase.TheVariants.{Open, Signalling}
 use Rattle.pgn_words.specs.declared.view.Look.TheVariants.{First, Second}
@@ -53,9 +53,17 @@ one_seen = record first_pass { eye = record no_eye { look = Second; looked = 1; 
 abbrev pub one_joins : View
 one_joins = record one_seen { eye = record one_seen.eye { joins = Some 1 } }
 
--- its second look has come over both seats, page 1 is the first that is needed, and the pages before it may be used again
+-- its second look has come over both seats and met nobody, page 1 is the first that is needed, and the pages before it may be used again
 abbrev pub both_seen : View
-both_seen = record first_pass { stop = 1; eye = record no_eye { look = Second; looked = 2; target = 2048 } }
+both_seen = record first_pass {
+  stop = 1;
+  eye = record no_eye { look = Second; looked = 2; target = 2048 };
+  known = record (opened_pass 1 seat) { advance = met_nobody };
+}
+
+-- the same, with no seat in what the second look has loaded
+abbrev pub seen_once : View
+seen_once = record both_seen { known = record (opened_pass 1 seat) { advance = record met_nobody { second = [] } } }
 
 -- the same, with both pages kept
 abbrev pub none_freed : View

@@ -23,5 +23,5 @@ pub record HasCommitted (v w : View) (tx : Tx) : Type 0 where
 
 -- the pass has ended a transaction under the lock, and all wakes are decided: what it is as a listener stays, and what it has taken in
 pub record HasEnded (v w : View) : Type 0 where
-  pub view : w ≡ record v { phase = Signalling; ended = w.ended; stop = w.stop; pen = w.pen; eye = w.eye; undecided = w.undecided; known = w.known }
+  pub view : w ≡ record v { phase = Signalling; ended = w.ended; stop = w.stop; loaded_stop = w.loaded_stop; pen = w.pen; eye = w.eye; undecided = w.undecided; known = w.known }
   pub decided : All (λ undecided. undecided ≡ false) w.undecided

@@ -39,9 +39,9 @@ pub record IsPlacing (v : View) (notes : List Note) (placed at : ℕ) : Type 0 w
   pub low : at < 2 ^ 32
   pub within : at ≤ page_start (v.stop + v.setup.pages)
 
--- all of it but the cells up to the head, and the look
+-- all of it but the cells up to the head, the look, and what it has loaded
 abbrev pub placed_view : View → View → View
-placed_view w v = record v { pen = record v.pen { cells = w.pen.cells; batch = w.pen.batch }; eye = w.eye }
+placed_view w v = record v { pen = record v.pen { cells = w.pen.cells; batch = w.pen.batch }; eye = w.eye; known = record v.known { advance = w.known.advance } }
 
 -- of the pass a writer changes, as it places, the cells, the oldest kept page, the look and what its looks have met, of which it names more
 pub record HasWritten (v w : View) : Type 0 where

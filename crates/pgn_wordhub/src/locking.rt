@@ -1,5 +1,6 @@
-ghost use Rattle.std.specs.Prelude.{◌≡◌};
+ghost use Rattle.std.specs.Prelude.{◌≡◌, true};
 ghost use Rattle.pgn_words.specs.Passes.{IsPassOf, view_of};
+ghost use Rattle.pgn_words.specs.Views.{is_settled};
 ghost use Rattle.pgn_words.specs.Told.{HasLocked};
 ghost use Rattle.pgn_words.specs.declared.view.Phase.TheVariants as phases;
 
@@ -13,6 +14,7 @@ impl WordHub {
     pub(crate) fn lock<R: Wait>(&self, rt: &R, pass: &mut WordPass)
         requires own { IsPassOf self.now.queue pass.old }
         requires free { (view_of pass.old).phase ≡ phases.Free }
+        requires settled { is_settled (view_of pass.old).post.listen ≡ true }
         ensures own { IsPassOf self.now.queue pass.new }
         ensures locked { HasLocked (view_of pass.old) (view_of pass.new) }
     {

@@ -1,4 +1,4 @@
-ghost use Rattle.std.specs.Prelude.{◌≡◌, ◌≢◌, ℕ, ◌+◌, ◌^◌, ◌<◌, ◌≤◌, max, true, length, slice_get, Some, IfOk, IfErr};
+ghost use Rattle.std.specs.Prelude.{◌≡◌, ◌≢◌, ℕ, ◌+◌, ◌^◌, ◌<◌, ◌≤◌, max, true, false, length, slice_get, Some, All, IfOk, IfErr};
 ghost use Rattle.pgn_base.specs.declared.format.Format.TheVariants.{One};
 ghost use Rattle.pgn_lanes.specs.Least.{least_with};
 ghost use Rattle.pgn_journal.specs.Journal.{next_xid};
@@ -25,8 +25,8 @@ use std::thread;
 /// A place for the announced tail, and one for each seat.
 const PLACES: usize = SECTIONS_MAX as usize + 1;
 
-/// What `advance_tail` did: the numbers of the oldest kept page before it and after it, and a session that joined, for which it gave
-/// up. Where it gave up, both pages are the same.
+/// What `advance_tail` did: the numbers of the oldest kept page, as it was found and after it, and a session that joined, for which it
+/// gave up. Where it gave up, both pages are the same.
 #[derive(Clone, Copy)]
 pub struct Freed {
     pub from: u64,
@@ -39,6 +39,7 @@ impl WordHub {
     pub(crate) fn look_first(&self, pass: &mut WordPass, number: Xid, head: Pos) -> Floor
         requires own { IsPassOf self.now.queue pass.old }
         requires phase { may_look (view_of pass.old).phase ≡ true }
+        requires decided { All (λ undecided. undecided ≡ false) (view_of pass.old).undecided }
         requires number { number ≡ next_xid (known_of pass.old).seen }
         requires head { head ≡ length (image (hub_shape self.now).format (known_of pass.old).seen) }
         requires low { head < 2 ^ 32 }
@@ -62,6 +63,7 @@ impl WordHub {
     pub(crate) fn announce(&self, pass: &mut WordPass, floor: &Floor) -> Pos
         requires own { IsPassOf self.now.queue pass.old }
         requires phase { may_look (view_of pass.old).phase ≡ true }
+        requires decided { All (λ undecided. undecided ≡ false) (view_of pass.old).undecided }
         requires look { (view_of pass.old).eye.look ≡ looks.First }
         requires all { (view_of pass.old).eye.looked ≡ length (hub_shape self.now).seats }
         requires least { (view_of pass.old).eye.least ≡ packed floor.now.mark floor.now.at }
@@ -84,6 +86,7 @@ impl WordHub {
     fn look_settled<R: Wait>(&self, rt: &R, pass: &mut WordPass, seat: u32) -> PosWord
         requires own { IsPassOf self.now.queue pass.old }
         requires phase { may_look (view_of pass.old).phase ≡ true }
+        requires decided { All (λ undecided. undecided ≡ false) (view_of pass.old).undecided }
         requires seat { seat < length (hub_shape self.now).seats }
         requires next { MayLookSecond (view_of pass.old) seat }
         ensures own { IsPassOf self.now.queue pass.new }
@@ -104,6 +107,7 @@ impl WordHub {
     fn look_second<R: Wait>(&self, rt: &R, pass: &mut WordPass, floor: &mut Floor, tail: Pos) -> Pos
         requires own { IsPassOf self.now.queue pass.old }
         requires phase { may_look (view_of pass.old).phase ≡ true }
+        requires decided { All (λ undecided. undecided ≡ false) (view_of pass.old).undecided }
         requires begun { HasSeenSecond (view_of pass.old) (view_of pass.old) 0 floor.old.mark floor.old.at floor.old.holder }
         requires tail { tail ≡ (view_of pass.old).eye.target }
         requires low { length (image (hub_shape self.now).format (known_of pass.old).seen) < 2 ^ 32 }
@@ -130,6 +134,7 @@ impl WordHub {
     ) -> Result<Pos, SessionNo>
         requires own { IsPassOf self.now.queue pass.old }
         requires phase { may_look (view_of pass.old).phase ≡ true }
+        requires decided { All (λ undecided. undecided ≡ false) (view_of pass.old).undecided }
         requires begun { HasSeenSecond (view_of pass.old) (view_of pass.old) 0 floor.old.mark floor.old.at floor.old.holder }
         requires tail { tail ≡ (view_of pass.old).eye.target }
         requires low { length (image (hub_shape self.now).format (known_of pass.old).seen) < 2 ^ 32 }
@@ -166,6 +171,7 @@ impl WordHub {
     fn free(&self, pass: &mut WordPass, target: Pos, stop: u64) -> u64
         requires own { IsPassOf self.now.queue pass.old }
         requires phase { may_look (view_of pass.old).phase ≡ true }
+        requires decided { All (λ undecided. undecided ≡ false) (view_of pass.old).undecided }
         requires second { (view_of pass.old).eye.look ≡ looks.Second }
         requires all { (view_of pass.old).eye.looked ≡ length (hub_shape self.now).seats }
         requires target { target ≡ (view_of pass.old).eye.target }
@@ -194,6 +200,7 @@ impl WordHub {
     ) -> (Floor, u64)
         requires own { IsPassOf self.now.queue pass.old }
         requires phase { may_look (view_of pass.old).phase ≡ true }
+        requires decided { All (λ undecided. undecided ≡ false) (view_of pass.old).undecided }
         requires number { number ≡ next_xid (known_of pass.old).seen }
         requires head { head ≡ length (image One (known_of pass.old).seen) }
         requires low { head < 2 ^ 32 }
@@ -222,6 +229,7 @@ impl WordHub {
     ) -> Result<u64, SessionNo>
         requires own { IsPassOf self.now.queue pass.old }
         requires phase { may_look (view_of pass.old).phase ≡ true }
+        requires decided { All (λ undecided. undecided ≡ false) (view_of pass.old).undecided }
         requires number { number ≡ next_xid (known_of pass.old).seen }
         requires head { head ≡ length (image One (known_of pass.old).seen) }
         requires low { head < 2 ^ 32 }
@@ -229,7 +237,7 @@ impl WordHub {
         requires stop { stop ≡ (view_of pass.old).stop }
         ensures own { IsPassOf self.now.queue pass.new }
         ensures tried { HasTried (view_of pass.old) (view_of pass.new) }
-        ensures stop { IfOk result (λ to. HasFreedTo (hub_shape self.now) (view_of pass.new) stop to) }
+        ensures stop { IfOk result (λ to. HasFreedTo (hub_shape self.now) (known_of pass.old).named (view_of pass.new) stop to) }
         ensures gave_up { IfErr result (λ joiner. HasGivenUp (hub_shape self.now) (view_of pass.new) stop joiner) }
     {
         let mut floor = self.look_first(pass, number, head);

@@ -1,4 +1,4 @@
-ghost use Rattle.std.specs.Prelude.{◌≡◌, ◌≢◌, ◌⊎◌, ℕ, ◌+◌, ◌*◌, ◌%◌, ◌^◌, ◌<◌, ◌≤◌, length, drop, true, false, None, IfSome};
+ghost use Rattle.std.specs.Prelude.{◌≡◌, ◌≢◌, ◌⊎◌, ℕ, ◌+◌, ◌*◌, ◌%◌, ◌^◌, ◌<◌, ◌≤◌, length, drop, true, false, None, All, IfSome};
 ghost use Rattle.std.specs.Int.{w32, from_le_bytes};
 ghost use Rattle.pgn_base.specs.declared.format.Format.TheVariants.{One};
 ghost use Rattle.pgn_base.specs.declared.limits.TheConstants.{PID_BASE};
@@ -180,6 +180,7 @@ impl WordHub {
         requires start { placing.old.at ≡ length (image One (known_of pass.old).seen) }
         requires within { placing.old.placed ≤ length notes.now }
         requires stop { placing.old.stop ≡ (view_of pass.old).stop }
+        requires decided { All (λ undecided. undecided ≡ false) (view_of pass.old).undecided }
         requires listens { (known_of pass.old).mark ≡ listens_at (view_of pass.old).post }
         ensures own { IsPassOf self.now.queue pass.new }
         ensures writes { HasWritten (view_of pass.old) (view_of pass.new) }

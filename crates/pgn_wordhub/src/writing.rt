@@ -49,6 +49,7 @@ impl WordHub {
     fn clean_up(&self, pass: &mut WordPass, xid: Xid, from: Pos, placing: &Placing)
         requires own { IsPassOf self.now.queue pass.old }
         requires phase { may_look (view_of pass.old).phase ≡ true }
+        requires decided { All (λ undecided. undecided ≡ false) (view_of pass.old).undecided }
         requires number { xid + 1 ≡ next_xid (known_of pass.old).seen }
         requires few { xid + 1 < 2 ^ 32 }
         requires head { placing.now.at ≡ length (image One (known_of pass.old).seen) }
@@ -141,6 +142,7 @@ impl WordHub {
     ) -> Result<Xid, Full>
         requires own { IsPassOf self.now.queue pass.old }
         requires phase { (view_of pass.old).phase ≡ phases.Held }
+        requires decided { All (λ undecided. undecided ≡ false) (view_of pass.old).undecided }
         requires listens { (known_of pass.old).mark ≡ listens_at (view_of pass.old).post }
         requires room { length (known_of pass.old).seen + (known_of pass.old).notes_left ≤ notes_of_seats (hub_shape self.now).seats }
         requires valid { All IsNote notes.now }
@@ -170,9 +172,10 @@ impl WordHub {
     pub(crate) fn measure<R: Wait>(&self, rt: &R, pass: &mut WordPass) -> Usage
         requires own { IsPassOf self.now.queue pass.old }
         requires phase { (view_of pass.old).phase ≡ phases.Held }
+        requires decided { All (λ undecided. undecided ≡ false) (view_of pass.old).undecided }
         requires listens { (known_of pass.old).mark ≡ listens_at (view_of pass.old).post }
         ensures own { IsPassOf self.now.queue pass.new }
-        ensures view { view_of pass.new ≡ advanced_view (view_of pass.new) (stop_known (view_of pass.new).stop (head_known (view_of pass.old))) }
+        ensures view { view_of pass.new ≡ advanced_view (view_of pass.new) (stop_known (view_of pass.new).loaded_stop (head_known (view_of pass.old))) }
         ensures measured { HasMeasured (hub_shape self.now) (known_of pass.old) (known_of pass.new) result }
     {
         let head = self.queue.load_head(pass);
@@ -192,10 +195,11 @@ impl WordHub {
     fn try_tail(&self, pass: &mut WordPass) -> Freed
         requires own { IsPassOf self.now.queue pass.old }
         requires phase { (view_of pass.old).phase ≡ phases.Held }
+        requires decided { All (λ undecided. undecided ≡ false) (view_of pass.old).undecided }
         requires listens { (known_of pass.old).mark ≡ listens_at (view_of pass.old).post }
         ensures own { IsPassOf self.now.queue pass.new }
         ensures tried { HasTried (stop_known result.from (head_known (view_of pass.old))) (view_of pass.new) }
-        ensures freed { IsFreed (hub_shape self.now) (view_of pass.new) result }
+        ensures freed { IsFreed (hub_shape self.now) (known_of pass.old).named (view_of pass.new) result }
     {
         let head = self.queue.load_head(pass);
         let from = self.queue.load_stop(pass);
@@ -222,7 +226,7 @@ impl WordHub {
         requires own { IsHubPass self.now pass.old }
         ensures own { IsHubPass self.now pass.new }
         ensures tried { HasTriedTail (known_of pass.old) (known_of pass.new) }
-        ensures freed { IsFreed (hub_shape self.now) (view_of pass.new) result }
+        ensures freed { IsFreed (hub_shape self.now) (known_of pass.old).named (view_of pass.new) result }
     {
         self.lock(rt, pass);
         let freed = self.try_tail(pass);

@@ -5,7 +5,7 @@ use Rattle.std.proofs.lemmas.List.Sums.{sum_by-cons}
 use mathlib.Core.Option.{some, none, some-injective, some-ne-none}
 use lib.ListN.{get_elem?}
 use Rattle.atomic_table.specs.Table.{Me, Allows, step}
-use Rattle.atomic_table.proofs.Lists.{exchanged, set_again}
+use Rattle.atomic_table.proofs.Lists.{exchanged}
 use prog.Atomic.{either}
 use Rattle.pgn_base.specs.declared.limits.TheConstants.{FIRST_XID}
 use Rattle.pgn_base.specs.declared.note.Note.{Note}
@@ -23,10 +23,10 @@ use Rattle.pgn_words.specs.Views.{holds_lock, knows_stop, drawn_by, spent_by, fa
 use Rattle.pgn_words.specs.ListenRule.{LooksBy, Spared}
 use Rattle.pgn_words.specs.WakeRule.{IsHeard, Signals, ended_in, pending, waits_in}
 use Rattle.pgn_words.specs.Rule.{World, Locks, Locking, Draws, KnowsStop, HoldsIn, Holds, Law, Lawful, Keeps, Budget, notes_of, Fates}
-use Rattle.pgn_words.specs.Told.{HasLocked, IsLocked, TellsLock, TellsDrop, locked, freed}
+use Rattle.pgn_words.specs.Told.{HasLocked, IsLocked, TellsLock, TellsDrop, locked, refused, freed}
 use Rattle.pgn_words.proofs.EachLaws.{each_turn, each_keep, changed_at, own_further}
-use Rattle.pgn_words.proofs.Frames.{seats_keep, budget_keep}
-use Rattle.pgn_words.proofs.MoreFrames.{posts_keep, walks_keep, heeds_keep, flags_keep, named_keep, taken_keep}
+use Rattle.pgn_words.proofs.Frames.{seats_keep, locking_keep, history_keep, numbers_keep, budget_keep, statuses_keep}
+use Rattle.pgn_words.proofs.MoreFrames.{posts_keep, walks_keep, looks_keep, heeds_keep, wakes_keep, flags_keep, named_keep, taken_keep}
 use Rattle.pgn_words.proofs.Meets.{Goes, allowed}
 
 -- nobody holds the lock while its word is 0
@@ -331,6 +331,31 @@ held_told z c g views id v h here free positive lock =
           let is : holds_lock v.phase ≡ false = ap holds_lock free in absurd (cc);
     }
 
+-- The lock was not free: the pass keeps who had it.
+refuses : (z : Shape) (c : Content) (g : World) (views : List View) (id : ℕ) (v : View) (by : ℕ) → Law z c g views → get_elem? views id ≡ some v → Law z c g (set views id (refused by v))
+refuses z c g views id v by h here =
+    let w : View = refused by v in record {
+      laid = h.laid;
+      seats = seats_keep views id v w here z g.made g.seat h.seats refl refl refl refl;
+      locking = locking_keep views id v w here c.lock g.holder h.locking refl refl;
+      stored = h.stored;
+      history = history_keep views id v w here z c.lock c.fin g.made g.past g.shown h.history refl refl refl;
+      numbers = numbers_keep views id v w here c.lock c.fin c.xid h.numbers refl refl;
+      holding = record {
+        holds = each_keep (Holds z c.stop g.past g.shown c.cells) views id v w here h.holding.holds (λ x. x);
+        stops = each_keep (KnowsStop c.stop) views id v w here h.holding.stops (λ x. x);
+      };
+      statuses = statuses_keep views id v w here c.lock g.past c.statuses h.statuses refl refl;
+      budget = budget_keep views id v w here z g.made g.past h.budget (omega arith);
+      posts = posts_keep views id v w here z.format g.past c.fin c.stop g.made c.tail c.pos h.posts refl refl refl;
+      walks = walks_keep views id v w here z.format (room_of z) c.head c.cells h.walks refl refl (omega arith);
+      looks = looks_keep views id v w here z.format g.past c.fin c.stop g.looked g.target c.tail h.looks refl refl refl refl;
+      wakes = wakes_keep views id v w here z.format c.lock c.fin g.past g.undecided c.wakes h.wakes refl refl refl refl refl refl refl (λ i. refl) refl refl;
+      flags = flags_keep views id v w here c.fin g.undecided c.flags h.flags refl (h.flags.told id v here) refl refl;
+      named = named_keep views id v w here h.named refl refl refl refl refl;
+      taken = taken_keep views id v w here z g.made c.fin g.seat g.past h.taken refl refl;
+    }
+
 -- the same, whatever is found
 tries : (z : Shape) (id : ℕ) (me : Me ℕ View) (slots : ℕ) (c : Content) (g : World) (views : List View) → me.0.phase ≡ Free → 0 < me.0.known.session → Law z c g views → get_elem? views id ≡ some me.0
     → Goes z id 0 me (either (c.lock == 0) me.0.known.session c.lock) (TellsLock (step slots 0 0 me.0.known.session none) me) c views
@@ -345,11 +370,11 @@ tries z id me slots c g views free positive h here =
       told = record { slots = refl; same = refl; free = λ _. taken_told z c g views id me.0 h here positive; locked = λ lock. absurd (lock nothing) };
     })
     (λ lock. record {
-      w = me.0;
+      w = refused c.lock me.0;
       content = c;
       world = g;
       moves = refl;
-      law = subst (λ (us : List View). Law z c g us) (sym (set_again views id me.0 here)) h;
+      law = refuses z c g views id me.0 c.lock h here;
       told = record { slots = refl; same = refl; free = λ nothing. absurd (lock nothing); locked = λ _. (refl, held_told z c g views id me.0 h here free positive lock) };
     })
 

@@ -12,7 +12,7 @@ use Rattle.pgn_journal.specs.Packing.{page_of, page_start, image}
 use Rattle.pgn_journal.specs.Pieces.{draft}
 use Rattle.pgn_hub.specs.Shape.{notes_of_seats}
 use Rattle.pgn_layout.specs.Batches.{padded_to}
-use Rattle.pgn_hub.specs.Passes.{opened_pass}
+use Rattle.pgn_hub.specs.Passes.{no_advance, opened_pass}
 use Rattle.pgn_words.specs.declared.view.View.{View}
 use Rattle.pgn_words.specs.declared.view.Phase.TheVariants.{Free, Held, Headed, Ready, Open, Finished, Signalling}
 use Rattle.pgn_words.specs.declared.view.Look.TheVariants.{Idle, Second}
@@ -36,9 +36,9 @@ pub record IsSamePass (v w : View) : Type 0 where
   pub base : w.post.mark ≡ v.post.mark
   pub at : w.post.at ≡ v.post.at
 
--- the pass holds the lock, knows this journal, and has looked at nothing
+-- the pass holds the lock, knows this journal, and has looked at nothing: of an advance nothing is loaded yet
 abbrev pub locked : List Tx → View → View
-locked seen v = record v { phase = Held; eye = record v.eye { look = Idle }; known = record v.known { seen = seen } }
+locked seen v = record v { phase = Held; held_by = None; eye = record v.eye { look = Idle }; known = record v.known { seen = seen; advance = no_advance } }
 
 -- the lock was free: the pass holds it, and knows the whole journal
 pub record HasLocked (v w : View) : Type 0 where
@@ -54,11 +54,15 @@ pub record IsLocked (v : View) (by : ℕ) : Type 0 where
   pub seated : by ≤ seats_of v.setup
   pub other : by ≢ v.known.session
 
+-- the pass keeps who had it
+abbrev pub refused : ℕ → View → View
+refused by v = record v { held_by = Some by }
+
 pub record TellsLock (s : Step ℕ) (v : Mine) (n : ℕ) (w : Mine) : Type 0 where
   pub slots : w.1 ≡ v.1
   pub same : w.0.setup ≡ v.0.setup
   pub free : n ≡ 0 → HasLocked v.0 w.0
-  pub locked : n ≢ 0 → (w.0 ≡ v.0) × IsLocked v.0 n
+  pub locked : n ≢ 0 → (w.0 ≡ refused n v.0) × IsLocked v.0 n
 
 -- the pass gives the lock up; where it has finished a transaction, it is told of it
 abbrev pub freed : View → View
@@ -80,7 +84,7 @@ pub record TellsHead (s : Step ℕ) (v : Mine) (n : ℕ) (w : Mine) : Type 0 whe
 
 -- the holder has loaded the oldest kept page
 abbrev pub stop_known : ℕ → View → View
-stop_known n v = record v { phase = Ready; stop = n }
+stop_known n v = record v { phase = Ready; stop = n; loaded_stop = n }
 
 pub record TellsStop (s : Step ℕ) (v : Mine) (n : ℕ) (w : Mine) : Type 0 where
   pub slots : w.1 ≡ v.1
@@ -136,9 +140,13 @@ pub record MayShow (v : View) (to : ℕ) : Type 0 where
   -- it is no further than the limit from the oldest kept page
   pub within : to ≤ page_start (v.stop + v.setup.pages)
 
--- the head shows what was stored
+-- the head shows what was stored, and what was loaded of an advance counts no more
 abbrev pub head_stored : ℕ → View → View
-head_stored to v = record v { pen = record v.pen { cells = padded_to to (stored_by v); batch = [] }; eye = record v.eye { look = Idle } }
+head_stored to v = record v {
+  pen = record v.pen { cells = padded_to to (stored_by v); batch = [] };
+  eye = record v.eye { look = Idle };
+  known = record v.known { advance = no_advance };
+}
 
 pub record TellsHeadStore (s : Step ℕ) (v : Mine) (n : ℕ) (w : Mine) : Type 0 where
   pub slots : w.1 ≡ v.1

@@ -1,7 +1,7 @@
-ghost use Rattle.std.specs.Prelude.{◌≡◌, true, false, All, IfErr, OnOk, OnErr};
+ghost use Rattle.std.specs.Prelude.{◌≡◌, true, false, All, IfErr, OnOk};
 ghost use Rattle.pgn_words.specs.Passes.{IsPassOf, view_of};
-ghost use Rattle.pgn_words.specs.Views.{may_drop};
-ghost use Rattle.pgn_words.specs.Told.{HasLocked, IsLocked, freed};
+ghost use Rattle.pgn_words.specs.Views.{is_settled, may_drop};
+ghost use Rattle.pgn_words.specs.Told.{HasLocked, IsLocked, refused, freed};
 ghost use Rattle.pgn_words.specs.declared.view.Phase.TheVariants as phases;
 
 use crate::pass::{WordPass, WordQueue};
@@ -16,16 +16,20 @@ pub struct Held {
 }
 
 impl WordQueue {
-    /// Takes the lock, if nobody holds it. The holder knows the whole journal.
+    /// Takes the lock, if nobody holds it. The holder knows the whole journal. Where it is refused, the pass keeps the session that this
+    /// try has found.
     ///
     /// - *phase*: a hub's pass is free between the hub's calls, and a call that takes the lock gives it up.
+    /// - *settled*: so it does not join either, since `enlist` ends with a listener: a joiner that looked at its own seat as a holder
+    ///   would wait for itself.
     pub fn try_lock(&self, pass: &mut WordPass) -> Result<(), Held>
         requires own { IsPassOf self.now pass.old }
         requires phase { (view_of pass.old).phase ≡ phases.Free }
+        requires settled { is_settled (view_of pass.old).post.listen ≡ true }
         ensures own { IsPassOf self.now pass.new }
         ensures locked { OnOk result (HasLocked (view_of pass.old) (view_of pass.new)) }
         ensures held { IfErr result (λ held. IsLocked (view_of pass.old) held.by) }
-        ensures stays { OnErr result (view_of pass.new ≡ view_of pass.old) }
+        ensures met { IfErr result (λ held. view_of pass.new ≡ refused held.by (view_of pass.old)) }
     {
         let number = u64::from(pass.session.get());
         let by = self

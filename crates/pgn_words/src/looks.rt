@@ -1,4 +1,4 @@
-ghost use Rattle.std.specs.Prelude.{◌≡◌, ◌+◌, ◌^◌, ◌<◌, true, length};
+ghost use Rattle.std.specs.Prelude.{◌≡◌, ◌+◌, ◌^◌, ◌<◌, true, false, length, All};
 ghost use Rattle.pgn_words.specs.Words.{seats_of, pos_at, word_count};
 ghost use Rattle.pgn_words.specs.Views.{may_look};
 ghost use Rattle.pgn_words.specs.Passes.{IsPassOf, view_of, known_of, shape_of};
@@ -26,10 +26,12 @@ impl WordQueue {
     /// The position of a seat, in the first look of an advance, which goes from seat to seat from 0 on.
     ///
     /// - *phase*: a hub advances the tail before it draws a number, where its batches find no page, or after it has set its wakes.
+    /// - *decided*: before `store_fin` there is no seat to decide on, and after it the wakes come first.
     /// - *seat*, *next*: it goes from seat to seat, from 0 on.
     pub fn first_look(&self, pass: &mut WordPass, seat: u32) -> PosWord
         requires own { IsPassOf self.now pass.old }
         requires phase { may_look (view_of pass.old).phase ≡ true }
+        requires decided { All (λ undecided. undecided ≡ false) (view_of pass.old).undecided }
         requires seat { seat < seats_of (shape_of self.now) }
         requires next { MayLookFirst (view_of pass.old) seat }
         ensures own { IsPassOf self.now pass.new }
@@ -41,11 +43,12 @@ impl WordQueue {
 
     /// The announced tail, with which the second look begins.
     ///
-    /// - *phase*: it is the phase in which the first look was made.
+    /// - *phase*, *decided*: nothing of it has changed since the first look.
     /// - *look*, *all*: a hub calls it once the first look has looked at each seat.
     pub fn load_tail(&self, pass: &mut WordPass) -> (Xid, Pos)
         requires own { IsPassOf self.now pass.old }
         requires phase { may_look (view_of pass.old).phase ≡ true }
+        requires decided { All (λ undecided. undecided ≡ false) (view_of pass.old).undecided }
         requires look { (view_of pass.old).eye.look ≡ looks.First }
         requires all { (view_of pass.old).eye.looked ≡ seats_of (shape_of self.now) }
         ensures own { IsPassOf self.now pass.new }
@@ -59,13 +62,14 @@ impl WordQueue {
 
     /// Announces the least mark of the first look, and its place, as the tail.
     ///
-    /// - *phase*: it is the phase in which the first look was made.
+    /// - *phase*, *decided*: nothing of it has changed since the first look.
     /// - *least*: a hub keeps the least mark and its place as it looks, and calls it next after `load_tail`, where the loaded mark is
     ///   less.
     /// - *low*: the place is no later than the head, of which `load_head` tells it.
     pub fn store_tail(&self, pass: &mut WordPass, mark: Xid, pos: Pos)
         requires own { IsPassOf self.now pass.old }
         requires phase { may_look (view_of pass.old).phase ≡ true }
+        requires decided { All (λ undecided. undecided ≡ false) (view_of pass.old).undecided }
         requires least { MayAnnounce (view_of pass.old) mark pos }
         requires low { pos < 2 ^ 32 }
         ensures own { IsPassOf self.now pass.new }
@@ -78,12 +82,13 @@ impl WordQueue {
 
     /// The position of a seat, in the second look of an advance. A seat whose session joins does not count as looked at.
     ///
-    /// - *phase*: it is the phase in which the first look was made.
+    /// - *phase*, *decided*: nothing of it has changed since the first look.
     /// - *seat*, *next*: a hub goes from seat to seat, from 0 on, once the tail has come to the least mark. It looks at a joiner again,
     ///   or gives up.
     pub fn second_look(&self, pass: &mut WordPass, seat: u32) -> PosWord
         requires own { IsPassOf self.now pass.old }
         requires phase { may_look (view_of pass.old).phase ≡ true }
+        requires decided { All (λ undecided. undecided ≡ false) (view_of pass.old).undecided }
         requires seat { seat < seats_of (shape_of self.now) }
         requires next { MayLookSecond (view_of pass.old) seat }
         ensures own { IsPassOf self.now pass.new }
@@ -95,12 +100,13 @@ impl WordQueue {
 
     /// Lets the pages before this one be used again.
     ///
-    /// - *phase*: it is the phase in which the looks were made.
+    /// - *phase*, *decided*: nothing of it has changed since the looks.
     /// - *free*: a hub calls it once the second look has looked at each seat, with the page of the first place that is needed, where
     ///   that is later than the oldest kept page.
     pub fn store_stop(&self, pass: &mut WordPass, page: u64)
         requires own { IsPassOf self.now pass.old }
         requires phase { may_look (view_of pass.old).phase ≡ true }
+        requires decided { All (λ undecided. undecided ≡ false) (view_of pass.old).undecided }
         requires free { MayFree (view_of pass.old) page }
         ensures own { IsPassOf self.now pass.new }
         ensures view { view_of pass.new ≡ stopped page (view_of pass.old) }

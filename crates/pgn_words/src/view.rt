@@ -106,10 +106,14 @@ pub struct View {
     /// What is known of the passes that this one has taken in.
     pub joined: LinkedList<Known>,
     pub phase: Phase,
+    /// The session that had the lock when it last tried to take it, if it was refused.
+    pub held_by: Option<u64>,
     /// While it signals, the number after that of its transaction: what it is told once it gives the lock up.
     pub ended: Option<u64>,
     /// The oldest kept page.
     pub stop: u64,
+    /// The same, as the pass loaded it when it last had the lock.
+    pub loaded_stop: u64,
     pub pen: Pen,
     pub post: Post,
     pub walk: Walk,

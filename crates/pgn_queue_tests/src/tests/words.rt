@@ -1,12 +1,13 @@
 //! A queue of two pages for two sessions, and single steps on its words.
-ghost use Rattle.std.specs.Prelude.{◌≡◌, ◌^◌, ◌<◌, length, All, IfOk, IfSome, []};
+ghost use Rattle.std.specs.Prelude.{◌≡◌, ◌^◌, ◌<◌, true, false, length, All, IfOk, IfSome, []};
 ghost use Rattle.pgn_base.specs.Notes.{IsNote};
 ghost use Rattle.pgn_base.specs.declared.format.Format.TheVariants.{One};
 ghost use Rattle.pgn_journal.specs.Journal.{next_xid};
 ghost use Rattle.pgn_journal.specs.Packing.{image};
 ghost use Rattle.pgn_hub.specs.Shape.{notes_of_seats};
 ghost use Rattle.pgn_words.specs.Passes.{IsPassOf, IsFresh, view_of, known_of, shape_of};
-ghost use Rattle.pgn_words.specs.Told.{drawn};
+ghost use Rattle.pgn_words.specs.Views.{is_settled};
+ghost use Rattle.pgn_words.specs.Told.{drawn, refused};
 ghost use Rattle.pgn_words.specs.declared.view.Listen.TheVariants as listens;
 ghost use Rattle.pgn_words.specs.declared.view.Phase.TheVariants as phases;
 
@@ -88,8 +89,9 @@ fn a_pass_for_each_seat(rt: HostRuntime) -> Result<(), Fail> {
 fn holder(queue: &WordQueue, pass: &mut WordPass) -> Option<SessionNo>
     requires own { IsPassOf queue.now pass.old }
     requires free { (view_of pass.old).phase ≡ phases.Free }
+    requires settled { is_settled (view_of pass.old).post.listen ≡ true }
     ensures own { IsPassOf queue.now pass.new }
-    ensures same { IfSome result (λ _. view_of pass.new ≡ view_of pass.old) }
+    ensures met { IfSome result (λ by. view_of pass.new ≡ refused by (view_of pass.old)) }
 {
     match queue.try_lock(pass) {
         Ok(()) => None,
@@ -116,6 +118,8 @@ fn get_ready(queue: &WordQueue, pass: &mut WordPass) -> (Pos, u64)
     ensures head { result.0 ≡ length (view_of pass.new).pen.cells }
     ensures low { result.0 < 2 ^ 32 }
     ensures stop { result.1 ≡ (view_of pass.new).stop }
+    ensures post { (view_of pass.new).post ≡ (view_of pass.old).post }
+    ensures undecided { (view_of pass.new).undecided ≡ (view_of pass.old).undecided }
 {
     let head = queue.load_head(pass);
     let stop = queue.load_stop(pass);
@@ -126,7 +130,10 @@ fn get_ready(queue: &WordQueue, pass: &mut WordPass) -> (Pos, u64)
 fn make_ready(queue: &WordQueue, pass: &mut WordPass) -> Option<(Pos, u64)>
     requires own { IsPassOf queue.now pass.old }
     requires free { (view_of pass.old).phase ≡ phases.Free }
+    requires settled { is_settled (view_of pass.old).post.listen ≡ true }
+    requires decided { All (λ undecided. undecided ≡ false) (view_of pass.old).undecided }
     ensures own { IsPassOf queue.now pass.new }
+    ensures decided { IfSome result (λ found. All (λ undecided. undecided ≡ false) (view_of pass.new).undecided) }
     ensures ready { IfSome result (λ found. (view_of pass.new).phase ≡ phases.Ready) }
     ensures cells { IfSome result (λ found. (view_of pass.new).pen.cells ≡ image (view_of pass.new).setup.format (known_of pass.new).seen) }
     ensures batch { IfSome result (λ found. (view_of pass.new).pen.batch ≡ []) }

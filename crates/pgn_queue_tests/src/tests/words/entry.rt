@@ -1,8 +1,9 @@
 //! One notification from a writer to a listener, by the cells of its entry.
-ghost use Rattle.std.specs.Prelude.{◌≡◌, ◌+◌, ◌<◌, ◌≤◌, ◌⊎◌, length, map, slice_set, Some, IfOk, IfSome, [], ◌∷◌};
+ghost use Rattle.std.specs.Prelude.{◌≡◌, ◌+◌, ◌<◌, ◌≤◌, ◌⊎◌, true, length, map, slice_set, Some, IfOk, IfSome, [], ◌∷◌};
 ghost use Rattle.pgn_base.specs.declared.format.Format.TheVariants.{One};
 ghost use Rattle.pgn_hub.specs.Shape.{notes_of_seats};
 ghost use Rattle.pgn_journal.specs.examples.Packing.{virtual_note, virtual_cells};
+ghost use Rattle.pgn_words.specs.Views.{is_settled};
 ghost use Rattle.pgn_words.specs.Passes.{IsPassOf, view_of, known_of, shape_of};
 ghost use Rattle.pgn_queue_tests.specs.Writers.{IsOpenAt, IsShowing};
 ghost use Rattle.pgn_words.specs.declared.view.Phase.TheVariants as phases;
@@ -62,6 +63,7 @@ fn begin(queue: &WordQueue, pass: &mut WordPass, notes: &[Note; 1]) -> Option<(u
     ensures open { IfSome result (λ begun. IsOpenAt (view_of pass.new) begun.0 begun.1) }
     ensures place { IfSome result (λ begun. (begun.0 ≡ 0) ⊎ (begun.0 ≡ 11)) }
     ensures reach { IfSome result (λ _. length (known_of pass.new).seen < notes_of_seats (shape_of queue.now).seats) }
+    ensures post { IfSome result (λ _. (view_of pass.new).post ≡ (view_of pass.old).post) }
 {
     let (head, _) = get_ready(queue, pass);
     let xid = draw(queue, pass, notes)?;
@@ -116,6 +118,7 @@ fn write(queue: &WordQueue, pass: &mut WordPass, at: u64, xid: Xid) -> bool
     ensures own { IsPassOf queue.now pass.new }
     ensures shows { IsShowing (view_of pass.new) xid }
     ensures seen { (known_of pass.new).seen ≡ (known_of pass.old).seen }
+    ensures post { (view_of pass.new).post ≡ (view_of pass.old).post }
 {
     let cells = entry_of(xid.get(), PID_BASE + pass.session().get());
     store_cells(queue, pass, at, &cells);
@@ -132,6 +135,8 @@ fn commit(queue: &WordQueue, pass: &mut WordPass, xid: Xid)
     requires reach { length (known_of pass.old).seen < notes_of_seats (shape_of queue.now).seats }
     ensures own { IsPassOf queue.now pass.new }
     ensures free { (view_of pass.new).phase ≡ phases.Free }
+    ensures decided { (view_of pass.new).undecided ≡ [] }
+    ensures post { (view_of pass.new).post ≡ (view_of pass.old).post }
 {
     queue.set_status(pass, xid, Fate::Committed, 1);
     queue.store_fin(pass, xid);
@@ -154,6 +159,8 @@ pub(crate) fn publish_locked(
     requires notes { notes.now ≡ virtual_note ∷ [] }
     ensures own { IsPassOf queue.now pass.new }
     ensures free { IfSome result (λ _. (view_of pass.new).phase ≡ phases.Free) }
+    ensures decided { IfSome result (λ _. (view_of pass.new).undecided ≡ []) }
+    ensures post { IfSome result (λ _. (view_of pass.new).post ≡ (view_of pass.old).post) }
 {
     let (at, xid) = begin(queue, pass, notes)?;
     let same = write(queue, pass, at, xid);
@@ -168,9 +175,12 @@ pub(crate) fn publish(queue: &WordQueue, pass: &mut WordPass, notes: &[Note; 1])
     requires format { (shape_of queue.now).format ≡ One }
     requires seats { length (shape_of queue.now).seats ≡ 2 }
     requires free { (view_of pass.old).phase ≡ phases.Free }
+    requires settled { is_settled (view_of pass.old).post.listen ≡ true }
     requires notes { notes.now ≡ virtual_note ∷ [] }
     ensures own { IsPassOf queue.now pass.new }
     ensures free { IfSome result (λ _. (view_of pass.new).phase ≡ phases.Free) }
+    ensures decided { IfSome result (λ _. (view_of pass.new).undecided ≡ []) }
+    ensures post { IfSome result (λ _. (view_of pass.new).post ≡ (view_of pass.old).post) }
 {
     if queue.try_lock(pass).is_err() {
         return None;

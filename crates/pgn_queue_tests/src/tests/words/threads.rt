@@ -1,8 +1,9 @@
 //! Two threads step on the words at the same time.
-ghost use Rattle.std.specs.Prelude.{◌≡◌, [], ◌∷◌, length};
+ghost use Rattle.std.specs.Prelude.{◌≡◌, true, [], ◌∷◌, length};
 ghost use Rattle.pgn_base.specs.declared.format.Format.TheVariants.{One};
 ghost use Rattle.pgn_journal.specs.examples.Packing.{virtual_note};
 ghost use Rattle.pgn_words.specs.Passes.{IsPassOf, view_of, shape_of};
+ghost use Rattle.pgn_words.specs.Views.{is_settled};
 ghost use Rattle.pgn_words.specs.declared.view.Listen.TheVariants as listens;
 ghost use Rattle.pgn_words.specs.declared.view.Phase.TheVariants as phases;
 
@@ -20,6 +21,7 @@ use std::thread::Threads;
 fn wait_for_lock<R: Wait>(rt: &R, queue: &WordQueue, pass: &mut WordPass)
     requires own { IsPassOf queue.now pass.old }
     requires free { (view_of pass.old).phase ≡ phases.Free }
+    requires settled { is_settled (view_of pass.old).post.listen ≡ true }
     ensures own { IsPassOf queue.now pass.new }
     ensures held { (view_of pass.new).phase ≡ phases.Held }
 {
@@ -44,6 +46,7 @@ fn publish_in_turn<R: Wait>(
     requires format { (shape_of queue.now).format ≡ One }
     requires seats { length (shape_of queue.now).seats ≡ 2 }
     requires free { (view_of pass.old).phase ≡ phases.Free }
+    requires settled { is_settled (view_of pass.old).post.listen ≡ true }
     requires notes { notes.now ≡ virtual_note ∷ [] }
     ensures own { IsPassOf queue.now pass.new }
 {
@@ -68,8 +71,10 @@ fn publish_on_two<R: Threads + Wait + Sync>(
     requires notes { notes.now ≡ virtual_note ∷ [] }
     requires first { IsPassOf queue.now first }
     requires first_free { (view_of first).phase ≡ phases.Free }
+    requires first_settled { is_settled (view_of first).post.listen ≡ true }
     requires second { IsPassOf queue.now second }
     requires second_free { (view_of second).phase ≡ phases.Free }
+    requires second_settled { is_settled (view_of second).post.listen ≡ true }
 {
     thread::join(
         rt,
@@ -116,6 +121,7 @@ fn publish_and_read<R: Threads + Sync>(
     requires notes { notes.now ≡ virtual_note ∷ [] }
     requires writer { IsPassOf queue.now writer }
     requires writer_free { (view_of writer).phase ≡ phases.Free }
+    requires writer_settled { is_settled (view_of writer).post.listen ≡ true }
     requires reader { IsPassOf queue.now reader }
     requires reader_free { (view_of reader).phase ≡ phases.Free }
     requires listens { (view_of reader).post.listen ≡ listens.Registered }

@@ -4,17 +4,11 @@ use Rattle.pgn_journal.specs.Packing.{page_of}
 use Rattle.pgn_hub.specs.Calls.{HasMeasured}
 use Rattle.pgn_words.specs.declared.view.View.{View}
 use Rattle.pgn_words.specs.Passes.{view_of}
-use Rattle.pgn_words.specs.Views.{holds_lock}
-use Rattle.pgn_words.specs.Told.{head_known, stop_known, HasHeard}
 use Rattle.pgn_wordhub.specs.Passes.{hub_shape}
 use Rattle.pgn_wordhub.specs.Advancing.{advanced_view, HasAdvancedTo}
+use Rattle.pgn_wordhub.proofs.AdvanceLaws.{loads}
 use Rattle.pgn_wordhub.proofs.UsageLaws.{measures, floor_within}
 use Rattle.pgn_wordhub.proofs.hub.WordHub.measure.Goals as goal
-
--- the holder that loads the first unfinished number knew it all
-loads : (v a b w : View) (stop at : ℕ) → a ≡ head_known v → b ≡ stop_known stop a → HasHeard b at w → w ≡ stop_known stop (head_known v)
-loads v a b w stop at e f heard =
-    let is : b ≡ stop_known stop (head_known v) = f ∙ ap (stop_known stop) e in heard.holder (ap (λ (y : View). holds_lock y.phase) is) ∙ is
 
 pub overflow_sub-result : goal.overflow_sub-result
 overflow_sub-result g c =

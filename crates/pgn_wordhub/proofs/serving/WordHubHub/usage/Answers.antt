@@ -5,6 +5,7 @@ use Rattle.pgn_journal.specs.declared.tx.Tx.{Tx}
 use Rattle.pgn_hub.specs.declared.known.Known.{Known}
 use Rattle.pgn_journal.specs.Journal.{next_xid}
 use Rattle.pgn_hub.specs.Shape.{Shape}
+use Rattle.pgn_hub.specs.Passes.{no_advance}
 use Rattle.pgn_hub.specs.Calls.{HasMeasured}
 use Rattle.pgn_words.specs.declared.view.View.{View}
 use Rattle.pgn_words.specs.Passes.{view_of}
@@ -12,9 +13,9 @@ use Rattle.pgn_wordhub.specs.Passes.{hub_shape}
 use Rattle.pgn_wordhub.proofs.serving.WordHubHub.usage.Goals as goal
 
 -- measured from what was known before the lock was taken
-measured_from : (z : Shape) (k l m : Known) (more : List Tx) (usage : Usage) → l ≡ record k { seen = k.seen ++ more } → HasMeasured z l m usage → HasMeasured z k m usage
+measured_from : (z : Shape) (k l m : Known) (more : List Tx) (usage : Usage) → l ≡ record k { seen = k.seen ++ more; advance = no_advance } → HasMeasured z l m usage → HasMeasured z k m usage
 measured_from z k l m more usage e h =
-    let L : Known = record k { seen = k.seen ++ more } in
+    let L : Known = record k { seen = k.seen ++ more; advance = no_advance } in
     let g : HasMeasured z L m usage = subst (λ (x : Known). HasMeasured z x m usage) e h in record {
       more = more ++ g.more;
       named = g.named;
