@@ -111,3 +111,11 @@ is_showing v w x at number to cells format pages o entry eleven page is there he
       };
       number_is = o.number_is;
     })
+
+-- the head stands behind the entry
+pub head_behind : (v w x : View) (at number to : ℕ) (cells : List (Option ℕ)) → IsOpenAt v at number → length cells ≡ 11 → w ≡ record v { pen = record v.pen { batch = cells } } → to ≡ at + 11 → x ≡ head_stored to w → length x.pen.cells ≡ at + 11
+head_behind v w x at number to cells o eleven is there head =
+    let both = length-append v.pen.cells cells in
+    let here = o.long in
+    let same : x ≡ head_stored (at + 11) (record v { pen = record v.pen { batch = cells } }) = head ∙ ap (λ n. head_stored n w) there ∙ ap (head_stored (at + 11)) is in
+    ap (λ (y : View). length y.pen.cells) same ∙ ap length (not_padded (at + 11) (v.pen.cells ++ cells) (omega (arith, both, here, eleven))) ∙ omega (arith, both, here, eleven)

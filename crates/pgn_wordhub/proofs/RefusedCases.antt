@@ -12,6 +12,8 @@ use Rattle.pgn_journal.proofs.PackingLemmas.{entry_whole, first_place}
 use Rattle.pgn_journal.proofs.PieceLaws.{first_cells}
 use Rattle.pgn_hub.specs.Examples.{two_seats, note_a, tx_3, got_a}
 use Rattle.pgn_words.specs.declared.view.View.{View}
+use Rattle.pgn_words.specs.declared.view.Verdict.{Verdict}
+use Rattle.pgn_words.specs.declared.view.Verdict.TheVariants.{Unseen, Decided}
 use Rattle.pgn_words.specs.Examples.{listener, holder}
 use Rattle.pgn_wordhub.specs.Passes.{IsHubView}
 use Rattle.pgn_wordhub.specs.Walks.{StandsAt, IsCell, IsOnWay, Leads, HasWay, Walks, IsWalking, Turns, HasTurned, HasEntry, ArePartsOf, IsDueEntry, HasDueEntry, IsEntryAt, HasEntryAt}
@@ -104,10 +106,10 @@ pub no_page_left : (mark floor : ℕ) (holder : Option ℕ) → IsHeldUp two_sea
 no_page_left mark floor holder h = let none = h.no_page in omega (arith, none)
 
 pub not_undecided : HasCommitted writing undecided_one tx_3 → ⊥
-not_undecided h = let first = All-head (λ b. b ≡ false) true [] h.decided in absurd (cc)
+not_undecided h = let first = All-head (λ (verdict : Verdict). verdict ≡ Decided) Unseen [] h.decided in absurd (cc)
 
 pub not_ended_undecided : HasEnded writing undecided_one → ⊥
-not_ended_undecided h = let first = All-head (λ b. b ≡ false) true [] h.decided in absurd (cc)
+not_ended_undecided h = let first = All-head (λ (verdict : Verdict). verdict ≡ Decided) Unseen [] h.decided in absurd (cc)
 
 pub not_still_open : HasEnded writing writing → ⊥
 not_still_open h = let phase = ap (λ (v : View). v.phase) h.view in absurd (cc)

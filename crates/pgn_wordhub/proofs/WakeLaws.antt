@@ -1,6 +1,6 @@
 -- A writer that decides about the seats one after another.
-use Rattle.std.proofs.Common.{◌≡◌, ℕ, zero, suc, ◌-◌, ◌<◌, ◌≤◌, Bool, true, false, List, [], ◌∷◌, ◌++◌, length, take, replicate, map, set, get_or, slice_index_or, All, sym, refl, ap, ◌∙◌, subst, arith}
-use Rattle.std.proofs.lemmas.List.{length-take-le}
+use Rattle.std.proofs.Common.{◌≡◌, ℕ, zero, suc, ◌-◌, ◌<◌, ◌≤◌, Bool, false, List, [], ◌∷◌, ◌++◌, length, take, replicate, map, set, get_or, slice_index_or, All, sym, refl, ap, ◌∙◌, subst, arith}
+use Rattle.std.proofs.lemmas.List.{length-take-le, length-map, take-append-le, take_all}
 use Rattle.std.proofs.Math.Seq.{take-suc, take-suc-set, set-append_seam, get_or-append_seam}
 use Rattle.std.proofs.lemmas.List.Elements.{All-push}
 use Rattle.pgn_base.specs.declared.format.Format.{Format}
@@ -11,7 +11,11 @@ use Rattle.pgn_words.specs.declared.pos_word.PosWord.{PosWord}
 use Rattle.pgn_words.specs.declared.pos_word.PosWord.TheVariants as words
 use Rattle.pgn_words.specs.Views.{no_seat}
 use Rattle.pgn_words.specs.Positions.{place_or, IsPositionIn}
-use Rattle.pgn_lanes.specs.Behind.{is_woken, plain_behind}
+use Rattle.pgn_words.specs.declared.view.Verdict.{Verdict}
+use Rattle.pgn_words.specs.declared.view.Verdict.TheVariants.{Unseen, Decided}
+use Rattle.pgn_words.specs.Waking.{verdict_of}
+use Rattle.pgn_lanes.specs.Behind.{Marks, is_woken, plain_behind}
+use Rattle.pgn_wordhub.specs.Wakes.{Names}
 
 -- of listeners, and then of others
 behind_append : (head db : ℕ) (ps qs os rs : List ℕ) → length ps ≡ length os → plain_behind head db (ps ++ qs) (os ++ rs) ≡ plain_behind head db ps os ++ plain_behind head db qs rs
@@ -25,43 +29,71 @@ behind_long head db [] os same = refl
 behind_long head db (p ∷ ps) [] same = absurd (omega (arith, same))
 behind_long head db (p ∷ ps) (o ∷ os) same = ap suc (behind_long head db ps os (omega (arith, same)))
 
+-- the verdicts of answers, and then of one more
+verdicts_push : (answers : List Bool) (b : Bool) → map verdict_of (answers ++ b ∷ []) ≡ map verdict_of answers ++ verdict_of b ∷ []
+verdicts_push [] b = refl
+verdicts_push (a ∷ answers) b = ap (λ l. verdict_of a ∷ l) (verdicts_push answers b)
+
 -- the seats up to one are decided, and then that one is
 pub decides_next : (head db place own n seat : ℕ) (places dbs : List ℕ) → seat < n → length places ≡ n → length dbs ≡ n → own ≡ get_or dbs seat own
-    → set (plain_behind head db (take seat places) (take seat dbs) ++ replicate (n - seat) true) seat (is_woken head db place own)
-    ≡ plain_behind head db (take (suc seat) (set places seat place)) (take (suc seat) dbs) ++ replicate (n - suc seat) true
+    → set (map verdict_of (plain_behind head db (take seat places) (take seat dbs)) ++ replicate (n - seat) Unseen) seat (verdict_of (is_woken head db place own))
+    ≡ map verdict_of (plain_behind head db (take (suc seat) (set places seat place)) (take (suc seat) dbs)) ++ replicate (n - suc seat) Unseen
 decides_next head db place own n seat places dbs below long_places long_dbs is =
     let ps = take seat places in
     let os = take seat dbs in
     let short_ps : length ps ≡ seat = length-take-le seat places (omega (arith, below, long_places)) in
     let short_os : length os ≡ seat = length-take-le seat dbs (omega (arith, below, long_dbs)) in
     let same : length ps ≡ length os = short_ps ∙ sym short_os in
-    let done = plain_behind head db ps os in
-    let size : length done ≡ seat = behind_long head db ps os same ∙ short_ps in
+    let answers = plain_behind head db ps os in
+    let done = map verdict_of answers in
+    let verdict = verdict_of (is_woken head db place own) in
+    let size : length done ≡ seat = length-map answers verdict_of ∙ behind_long head db ps os same ∙ short_ps in
     let left : n - seat ≡ suc (n - suc seat) = omega (arith, below) in
-    ap (λ k. set (done ++ replicate k true) seat (is_woken head db place own)) left
-    ∙ ap (λ k. set (done ++ true ∷ replicate (n - suc seat) true) k (is_woken head db place own)) (sym size)
-    ∙ set-append_seam done true (replicate (n - suc seat) true) (is_woken head db place own)
-    ∙ sym (ap (λ l. l ++ replicate (n - suc seat) true)
+    ap (λ k. set (done ++ replicate k Unseen) seat verdict) left
+    ∙ ap (λ k. set (done ++ Unseen ∷ replicate (n - suc seat) Unseen) k verdict) (sym size)
+    ∙ set-append_seam done Unseen (replicate (n - suc seat) Unseen) verdict
+    ∙ sym (ap (λ l. map verdict_of l ++ replicate (n - suc seat) Unseen)
     (ap (λ l. plain_behind head db l (take (suc seat) dbs)) (take-suc-set places seat place (omega (arith, below, long_places)))
     ∙ ap (λ l. plain_behind head db (ps ++ place ∷ []) l) (take-suc dbs seat own (omega (arith, below, long_dbs)) ∙ ap (λ d. os ++ d ∷ []) (sym is))
     ∙ behind_append head db ps (place ∷ []) os (own ∷ []) same)
-    ∙ append_one done (is_woken head db place own) (replicate (n - suc seat) true))
+    ∙ ap (λ l. l ++ replicate (n - suc seat) Unseen) (verdicts_push answers (is_woken head db place own))
+    ∙ append_one done verdict (replicate (n - suc seat) Unseen))
   where
-    append_one : (xs : List Bool) (b : Bool) (ys : List Bool) → (xs ++ b ∷ []) ++ ys ≡ xs ++ b ∷ ys
+    append_one : (xs : List Verdict) (b : Verdict) (ys : List Verdict) → (xs ++ b ∷ []) ++ ys ≡ xs ++ b ∷ ys
     append_one [] b ys = refl
     append_one (x ∷ xs) b ys = ap (λ l. x ∷ l) (append_one xs b ys)
 
--- the next seat is undecided
-pub undecided_next : (head db n seat : ℕ) (places dbs : List ℕ) → seat < n → length places ≡ n → length dbs ≡ n
-    → get_or (plain_behind head db (take seat places) (take seat dbs) ++ replicate (n - seat) true) seat false ≡ true
-undecided_next head db n seat places dbs below long_places long_dbs =
+-- the next seat was not looked at
+pub unseen_next : (head db n seat : ℕ) (places dbs : List ℕ) → seat < n → length places ≡ n → length dbs ≡ n
+    → get_or (map verdict_of (plain_behind head db (take seat places) (take seat dbs)) ++ replicate (n - seat) Unseen) seat Decided ≡ Unseen
+unseen_next head db n seat places dbs below long_places long_dbs =
     let short_ps : length (take seat places) ≡ seat = length-take-le seat places (omega (arith, below, long_places)) in
     let short_os : length (take seat dbs) ≡ seat = length-take-le seat dbs (omega (arith, below, long_dbs)) in
-    let done = plain_behind head db (take seat places) (take seat dbs) in
-    let size : length done ≡ seat = behind_long head db (take seat places) (take seat dbs) (short_ps ∙ sym short_os) ∙ short_ps in
+    let answers = plain_behind head db (take seat places) (take seat dbs) in
+    let done = map verdict_of answers in
+    let size : length done ≡ seat = length-map answers verdict_of ∙ behind_long head db (take seat places) (take seat dbs) (short_ps ∙ sym short_os) ∙ short_ps in
     let left : n - seat ≡ suc (n - suc seat) = omega (arith, below) in
-    ap (λ k. get_or (done ++ replicate k true) seat false) left ∙ ap (λ k. get_or (done ++ true ∷ replicate (n - suc seat) true) k false) (sym size)
-    ∙ get_or-append_seam done true (replicate (n - suc seat) true) false
+    ap (λ k. get_or (done ++ replicate k Unseen) seat Decided) left ∙ ap (λ k. get_or (done ++ Unseen ∷ replicate (n - suc seat) Unseen) k Decided) (sym size)
+    ∙ get_or-append_seam done Unseen (replicate (n - suc seat) Unseen) Decided
+
+-- the first part of a list that was put together
+pub first_part : (n : ℕ) (xs ys : List ℕ) → length xs ≡ n → take n (xs ++ ys) ≡ xs
+first_part n xs ys long = take-append-le n xs ys (omega (arith, long)) ∙ take_all n xs (omega (arith, long))
+
+-- a mask of answers, by other names for what they are about
+pub marks_on : (mask : List ℕ) (h head d db : ℕ) (ps places os dbs : List ℕ) → Marks mask (plain_behind h d ps os) → h ≡ head → d ≡ db → ps ≡ places → os ≡ dbs → Marks mask (plain_behind head db places dbs)
+marks_on mask h head d db ps places os dbs marks at of there theirs =
+    subst (λ (l : List Bool). Marks mask l)
+    (ap (λ n. plain_behind n d ps os) at ∙ ap (λ n. plain_behind head n ps os) of ∙ ap (λ l. plain_behind head db l os) there ∙ ap (λ l. plain_behind head db places l) theirs) marks
+
+-- a mask of answers names the seats that need a wake by them
+pub names_from : (mask : List ℕ) (answers : List Bool) → Marks mask answers → Names mask (map verdict_of answers)
+names_from mask answers marks i = mapped answers i ∙ ap verdict_of (sym (marks i))
+  where
+    mapped : (bs : List Bool) (k : ℕ) → get_or (map verdict_of bs) k Decided ≡ verdict_of (slice_index_or bs k false)
+    mapped [] k = refl
+    mapped (b ∷ bs) zero = refl
+    mapped (b ∷ bs) (suc k) = mapped bs k
 
 -- the place of a position is no later than the head
 pub place_within : (format : Format) (seen : List Tx) (head : ℕ) (found : PosWord) → head ≡ length (image format seen) → IsPositionIn format seen found → place_or head found ≤ head

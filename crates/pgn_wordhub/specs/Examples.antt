@@ -1,10 +1,11 @@
 -- Small cases that the definitions of this crate refuse, and a few that they meet.
-use Rattle.std.specs.Prelude.{◌*◌, ◌^◌, true, [], ◌∷◌, Some, None}
+use Rattle.std.specs.Prelude.{◌*◌, ◌^◌, [], ◌∷◌, Some, None}
 use Rattle.pgn_journal.specs.Packing.{Sender}
 use Rattle.pgn_hub.specs.Passes.{opened_pass}
 use Rattle.pgn_hub.specs.Examples.{seat, two_seats, met_nobody}
 use Rattle.pgn_words.specs.declared.view.View.{View}
 use Rattle.pgn_words.specs.declared.view.Phase.TheVariants.{Open, Signalling}
+use Rattle.pgn_words.specs.declared.view.Verdict.TheVariants.{Unseen}
 use Rattle.pgn_words.specs.declared.view.Look.TheVariants.{First, Second}
 use Rattle.pgn_words.specs.Views.{opened_view, no_eye}
 use Rattle.pgn_wordhub.specs.declared.looks.Freed.{Freed}
@@ -35,7 +36,7 @@ writing = record first_pass { phase = Open }
 
 -- it has ended a transaction, and does not know of the first seat whether it needs a wake
 abbrev pub undecided_one : View
-undecided_one = record first_pass { phase = Signalling; undecided = true ∷ [] }
+undecided_one = record first_pass { phase = Signalling; verdicts = Unseen ∷ [] }
 
 -- its first look has come to no seat yet
 abbrev pub first_look : View

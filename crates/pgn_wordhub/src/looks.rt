@@ -1,11 +1,11 @@
-ghost use Rattle.std.specs.Prelude.{◌≡◌, ◌≢◌, ℕ, ◌+◌, ◌^◌, ◌<◌, ◌≤◌, max, true, false, length, slice_get, Some, All, IfOk, IfErr};
+ghost use Rattle.std.specs.Prelude.{◌≡◌, ◌≢◌, ℕ, ◌+◌, ◌^◌, ◌<◌, ◌≤◌, max, true, length, slice_get, Some, IfOk, IfErr};
 ghost use Rattle.pgn_base.specs.declared.format.Format.TheVariants.{One};
 ghost use Rattle.pgn_lanes.specs.Least.{least_with};
 ghost use Rattle.pgn_journal.specs.Journal.{next_xid};
 ghost use Rattle.pgn_journal.specs.Packing.{page_of, image};
 ghost use Rattle.pgn_words.specs.Passes.{IsPassOf, view_of, known_of};
 ghost use Rattle.pgn_words.specs.Positions.{packed, mark_in, listens_at};
-ghost use Rattle.pgn_words.specs.Views.{may_look};
+ghost use Rattle.pgn_words.specs.Views.{may_look, AreDecided};
 ghost use Rattle.pgn_words.specs.Looking.{second_begun, stopped, MayLookSecond, HasLookedSecond};
 ghost use Rattle.pgn_words.specs.declared.pos_word.PosWord.TheVariants as words;
 ghost use Rattle.pgn_words.specs.declared.view.Look.TheVariants as looks;
@@ -39,7 +39,7 @@ impl WordHub {
     pub(crate) fn look_first(&self, pass: &mut WordPass, number: Xid, head: Pos) -> Floor
         requires own { IsPassOf self.now.queue pass.old }
         requires phase { may_look (view_of pass.old).phase ≡ true }
-        requires decided { All (λ undecided. undecided ≡ false) (view_of pass.old).undecided }
+        requires decided { AreDecided (view_of pass.old).verdicts }
         requires number { number ≡ next_xid (known_of pass.old).seen }
         requires head { head ≡ length (image (hub_shape self.now).format (known_of pass.old).seen) }
         requires low { head < 2 ^ 32 }
@@ -63,7 +63,7 @@ impl WordHub {
     pub(crate) fn announce(&self, pass: &mut WordPass, floor: &Floor) -> Pos
         requires own { IsPassOf self.now.queue pass.old }
         requires phase { may_look (view_of pass.old).phase ≡ true }
-        requires decided { All (λ undecided. undecided ≡ false) (view_of pass.old).undecided }
+        requires decided { AreDecided (view_of pass.old).verdicts }
         requires look { (view_of pass.old).eye.look ≡ looks.First }
         requires all { (view_of pass.old).eye.looked ≡ length (hub_shape self.now).seats }
         requires least { (view_of pass.old).eye.least ≡ packed floor.now.mark floor.now.at }
@@ -86,7 +86,7 @@ impl WordHub {
     fn look_settled<R: Wait>(&self, rt: &R, pass: &mut WordPass, seat: u32) -> PosWord
         requires own { IsPassOf self.now.queue pass.old }
         requires phase { may_look (view_of pass.old).phase ≡ true }
-        requires decided { All (λ undecided. undecided ≡ false) (view_of pass.old).undecided }
+        requires decided { AreDecided (view_of pass.old).verdicts }
         requires seat { seat < length (hub_shape self.now).seats }
         requires next { MayLookSecond (view_of pass.old) seat }
         ensures own { IsPassOf self.now.queue pass.new }
@@ -107,7 +107,7 @@ impl WordHub {
     fn look_second<R: Wait>(&self, rt: &R, pass: &mut WordPass, floor: &mut Floor, tail: Pos) -> Pos
         requires own { IsPassOf self.now.queue pass.old }
         requires phase { may_look (view_of pass.old).phase ≡ true }
-        requires decided { All (λ undecided. undecided ≡ false) (view_of pass.old).undecided }
+        requires decided { AreDecided (view_of pass.old).verdicts }
         requires begun { HasSeenSecond (view_of pass.old) (view_of pass.old) 0 floor.old.mark floor.old.at floor.old.holder }
         requires tail { tail ≡ (view_of pass.old).eye.target }
         requires low { length (image (hub_shape self.now).format (known_of pass.old).seen) < 2 ^ 32 }
@@ -134,7 +134,7 @@ impl WordHub {
     ) -> Result<Pos, SessionNo>
         requires own { IsPassOf self.now.queue pass.old }
         requires phase { may_look (view_of pass.old).phase ≡ true }
-        requires decided { All (λ undecided. undecided ≡ false) (view_of pass.old).undecided }
+        requires decided { AreDecided (view_of pass.old).verdicts }
         requires begun { HasSeenSecond (view_of pass.old) (view_of pass.old) 0 floor.old.mark floor.old.at floor.old.holder }
         requires tail { tail ≡ (view_of pass.old).eye.target }
         requires low { length (image (hub_shape self.now).format (known_of pass.old).seen) < 2 ^ 32 }
@@ -171,7 +171,7 @@ impl WordHub {
     fn free(&self, pass: &mut WordPass, target: Pos, stop: u64) -> u64
         requires own { IsPassOf self.now.queue pass.old }
         requires phase { may_look (view_of pass.old).phase ≡ true }
-        requires decided { All (λ undecided. undecided ≡ false) (view_of pass.old).undecided }
+        requires decided { AreDecided (view_of pass.old).verdicts }
         requires second { (view_of pass.old).eye.look ≡ looks.Second }
         requires all { (view_of pass.old).eye.looked ≡ length (hub_shape self.now).seats }
         requires target { target ≡ (view_of pass.old).eye.target }
@@ -200,7 +200,7 @@ impl WordHub {
     ) -> (Floor, u64)
         requires own { IsPassOf self.now.queue pass.old }
         requires phase { may_look (view_of pass.old).phase ≡ true }
-        requires decided { All (λ undecided. undecided ≡ false) (view_of pass.old).undecided }
+        requires decided { AreDecided (view_of pass.old).verdicts }
         requires number { number ≡ next_xid (known_of pass.old).seen }
         requires head { head ≡ length (image One (known_of pass.old).seen) }
         requires low { head < 2 ^ 32 }
@@ -229,7 +229,7 @@ impl WordHub {
     ) -> Result<u64, SessionNo>
         requires own { IsPassOf self.now.queue pass.old }
         requires phase { may_look (view_of pass.old).phase ≡ true }
-        requires decided { All (λ undecided. undecided ≡ false) (view_of pass.old).undecided }
+        requires decided { AreDecided (view_of pass.old).verdicts }
         requires number { number ≡ next_xid (known_of pass.old).seen }
         requires head { head ≡ length (image One (known_of pass.old).seen) }
         requires low { head < 2 ^ 32 }

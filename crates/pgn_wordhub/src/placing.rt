@@ -1,4 +1,4 @@
-ghost use Rattle.std.specs.Prelude.{◌≡◌, ◌≢◌, ◌⊎◌, ℕ, ◌+◌, ◌*◌, ◌%◌, ◌^◌, ◌<◌, ◌≤◌, length, drop, true, false, None, All, IfSome};
+ghost use Rattle.std.specs.Prelude.{◌≡◌, ◌≢◌, ◌⊎◌, ℕ, ◌+◌, ◌*◌, ◌%◌, ◌^◌, ◌<◌, ◌≤◌, length, drop, true, false, None, IfSome};
 ghost use Rattle.std.specs.Int.{w32, from_le_bytes};
 ghost use Rattle.pgn_base.specs.declared.format.Format.TheVariants.{One};
 ghost use Rattle.pgn_base.specs.declared.limits.TheConstants.{PID_BASE};
@@ -8,7 +8,7 @@ ghost use Rattle.pgn_journal.specs.Packing.{page_of, page_start, cells_in, fille
 ghost use Rattle.pgn_layout.specs.Batches.{IsPlanned, entry_of, batch_cells};
 ghost use Rattle.pgn_words.specs.Passes.{IsPassOf, view_of, known_of};
 ghost use Rattle.pgn_words.specs.Positions.{listens_at};
-ghost use Rattle.pgn_words.specs.Views.{stored_by};
+ghost use Rattle.pgn_words.specs.Views.{stored_by, AreDecided};
 ghost use Rattle.pgn_words.specs.declared.view.Phase.TheVariants as phases;
 ghost use Rattle.pgn_wordhub.specs.Passes.{hub_shape};
 ghost use Rattle.pgn_wordhub.specs.Placing.{stored_more, writer_of, IsPlacing, HasWritten, IsHeldUp, placed_view};
@@ -180,7 +180,7 @@ impl WordHub {
         requires start { placing.old.at ≡ length (image One (known_of pass.old).seen) }
         requires within { placing.old.placed ≤ length notes.now }
         requires stop { placing.old.stop ≡ (view_of pass.old).stop }
-        requires decided { All (λ undecided. undecided ≡ false) (view_of pass.old).undecided }
+        requires decided { AreDecided (view_of pass.old).verdicts }
         requires listens { (known_of pass.old).mark ≡ listens_at (view_of pass.old).post }
         ensures own { IsPassOf self.now.queue pass.new }
         ensures writes { HasWritten (view_of pass.old) (view_of pass.new) }

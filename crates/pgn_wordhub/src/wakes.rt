@@ -1,12 +1,13 @@
-ghost use Rattle.std.specs.Prelude.{◌≡◌, ℕ, ◌*◌, ◌^◌, ◌<◌, ◌≤◌, Bool, true, false, length, replicate, slice_index_or, All};
-ghost use Rattle.pgn_lanes.specs.Behind.{Marks, mask_bit, plain_behind};
+ghost use Rattle.std.specs.Prelude.{◌≡◌, ℕ, ◌*◌, ◌^◌, ◌<◌, ◌≤◌, length, map, All};
+ghost use Rattle.pgn_lanes.specs.Behind.{mask_bit, plain_behind};
 ghost use Rattle.pgn_journal.specs.Packing.{image};
 ghost use Rattle.pgn_words.specs.Passes.{IsPassOf, view_of, known_of};
 ghost use Rattle.pgn_words.specs.Positions.{place_or};
-ghost use Rattle.pgn_words.specs.Waking.{is_undecided, wake_set};
+ghost use Rattle.pgn_words.specs.Views.{AreDecided};
+ghost use Rattle.pgn_words.specs.Waking.{verdict_on, verdict_of, wake_set};
 ghost use Rattle.pgn_words.specs.declared.view.Phase.TheVariants as phases;
 ghost use Rattle.pgn_wordhub.specs.Passes.{hub_shape};
-ghost use Rattle.pgn_wordhub.specs.Wakes.{decided_as, IsWaiting, IsAtHead};
+ghost use Rattle.pgn_wordhub.specs.Wakes.{decided_as, Names, IsWaiting, IsAtHead};
 
 use crate::WordHub;
 use pgn_base::SECTIONS_MAX;
@@ -39,10 +40,10 @@ impl WordHub {
         requires head { IsAtHead (hub_shape self.now) (view_of pass.old) head }
         requires long { length places.old ≡ length (hub_shape self.now).seats }
         ensures own { IsPassOf self.now.queue pass.new }
-        ensures view { view_of pass.new ≡ decided_as (plain_behind head (known_of pass.old).db places.new self.now.dbs.items) (view_of pass.old) }
+        ensures view { view_of pass.new ≡ decided_as (map verdict_of (plain_behind head (known_of pass.old).db places.new self.now.dbs.items)) (view_of pass.old) }
         ensures not_past { All (λ place. place ≤ head) places.new }
         ensures same_length { length places.new ≡ length places.old }
-        ensures long { length (view_of pass.new).undecided ≡ length (hub_shape self.now).seats }
+        ensures long { length (view_of pass.new).verdicts ≡ length (hub_shape self.now).seats }
     {
         for seat in 0..self.seats() {
             let position = self.queue.wake_look(pass, seat);
@@ -55,8 +56,8 @@ impl WordHub {
         requires own { IsPassOf self.now.queue pass.old }
         requires phase { (view_of pass.old).phase ≡ phases.Signalling }
         requires seat { seat < length (hub_shape self.now).seats }
-        requires needs { needs ≡ is_undecided (view_of pass.old) seat }
-        requires long { length (view_of pass.old).undecided ≡ length (hub_shape self.now).seats }
+        requires verdict { verdict_on (view_of pass.old) seat ≡ verdict_of needs }
+        requires long { length (view_of pass.old).verdicts ≡ length (hub_shape self.now).seats }
         ensures own { IsPassOf self.now.queue pass.new }
         ensures view { view_of pass.new ≡ wake_set seat (view_of pass.old) }
     {
@@ -77,12 +78,12 @@ impl WordHub {
     fn set_wakes(&self, pass: &mut WordPass, mask: &[u64])
         requires own { IsPassOf self.now.queue pass.old }
         requires phase { (view_of pass.old).phase ≡ phases.Signalling }
-        requires marks { Marks mask.now (view_of pass.old).undecided }
-        requires long { length (view_of pass.old).undecided ≡ length (hub_shape self.now).seats }
+        requires named { Names mask.now (view_of pass.old).verdicts }
+        requires long { length (view_of pass.old).verdicts ≡ length (hub_shape self.now).seats }
         requires room { length (hub_shape self.now).seats ≤ 64 * length mask.now }
         ensures own { IsPassOf self.now.queue pass.new }
-        ensures view { view_of pass.new ≡ decided_as (view_of pass.new).undecided (view_of pass.old) }
-        ensures decided { All (λ undecided. undecided ≡ false) (view_of pass.new).undecided }
+        ensures view { view_of pass.new ≡ decided_as (view_of pass.new).verdicts (view_of pass.old) }
+        ensures decided { AreDecided (view_of pass.new).verdicts }
     {
         for seat in 0..self.seats() {
             self.set_wake_of(pass, seat, WordHub::names(mask, seat));
@@ -95,8 +96,8 @@ impl WordHub {
         requires waits { IsWaiting (hub_shape self.now) (view_of pass.old) }
         requires head { IsAtHead (hub_shape self.now) (view_of pass.old) head }
         ensures own { IsPassOf self.now.queue pass.new }
-        ensures view { view_of pass.new ≡ decided_as (view_of pass.new).undecided (view_of pass.old) }
-        ensures decided { All (λ undecided. undecided ≡ false) (view_of pass.new).undecided }
+        ensures view { view_of pass.new ≡ decided_as (view_of pass.new).verdicts (view_of pass.old) }
+        ensures decided { AreDecided (view_of pass.new).verdicts }
     {
         let mut places = [0; SEATS];
         let mut mask = [0; SEATS / MASK_BITS];

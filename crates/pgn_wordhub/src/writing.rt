@@ -8,7 +8,7 @@ ghost use Rattle.pgn_journal.specs.declared.tx.Fate.TheVariants as fates;
 ghost use Rattle.pgn_hub.specs.Calls.{HasPublished, HasMetFull, HasMeasured};
 ghost use Rattle.pgn_words.specs.Passes.{IsPassOf, view_of, known_of};
 ghost use Rattle.pgn_words.specs.Positions.{listens_at};
-ghost use Rattle.pgn_words.specs.Views.{may_look};
+ghost use Rattle.pgn_words.specs.Views.{may_look, AreDecided};
 ghost use Rattle.pgn_words.specs.Told.{MayEnd, head_known, stop_known, freed};
 ghost use Rattle.pgn_words.specs.declared.view.Phase.TheVariants as phases;
 ghost use Rattle.pgn_wordhub.specs.Passes.{hub_shape, IsHubPass};
@@ -37,8 +37,8 @@ impl WordHub {
         requires ends { MayEnd (view_of pass.old) (own_tx (view_of pass.old) queued fate) }
         requires head { head ≡ length (image (hub_shape self.now).format ((known_of pass.old).seen ++ own_tx (view_of pass.old) queued fate ∷ [])) }
         ensures own { IsPassOf self.now.queue pass.new }
-        ensures view { view_of pass.new ≡ finished_view (own_tx (view_of pass.old) queued fate) (view_of pass.new).undecided (view_of pass.old) }
-        ensures decided { All (λ undecided. undecided ≡ false) (view_of pass.new).undecided }
+        ensures view { view_of pass.new ≡ finished_view (own_tx (view_of pass.old) queued fate) (view_of pass.new).verdicts (view_of pass.old) }
+        ensures decided { AreDecided (view_of pass.new).verdicts }
     {
         self.queue.set_status(pass, xid, fate, queued as u32);
         self.queue.store_fin(pass, xid);
@@ -49,7 +49,7 @@ impl WordHub {
     fn clean_up(&self, pass: &mut WordPass, xid: Xid, from: Pos, placing: &Placing)
         requires own { IsPassOf self.now.queue pass.old }
         requires phase { may_look (view_of pass.old).phase ≡ true }
-        requires decided { All (λ undecided. undecided ≡ false) (view_of pass.old).undecided }
+        requires decided { AreDecided (view_of pass.old).verdicts }
         requires number { xid + 1 ≡ next_xid (known_of pass.old).seen }
         requires few { xid + 1 < 2 ^ 32 }
         requires head { placing.now.at ≡ length (image One (known_of pass.old).seen) }
@@ -142,7 +142,7 @@ impl WordHub {
     ) -> Result<Xid, Full>
         requires own { IsPassOf self.now.queue pass.old }
         requires phase { (view_of pass.old).phase ≡ phases.Held }
-        requires decided { All (λ undecided. undecided ≡ false) (view_of pass.old).undecided }
+        requires decided { AreDecided (view_of pass.old).verdicts }
         requires listens { (known_of pass.old).mark ≡ listens_at (view_of pass.old).post }
         requires room { length (known_of pass.old).seen + (known_of pass.old).notes_left ≤ notes_of_seats (hub_shape self.now).seats }
         requires valid { All IsNote notes.now }
@@ -172,7 +172,7 @@ impl WordHub {
     pub(crate) fn measure<R: Wait>(&self, rt: &R, pass: &mut WordPass) -> Usage
         requires own { IsPassOf self.now.queue pass.old }
         requires phase { (view_of pass.old).phase ≡ phases.Held }
-        requires decided { All (λ undecided. undecided ≡ false) (view_of pass.old).undecided }
+        requires decided { AreDecided (view_of pass.old).verdicts }
         requires listens { (known_of pass.old).mark ≡ listens_at (view_of pass.old).post }
         ensures own { IsPassOf self.now.queue pass.new }
         ensures view { view_of pass.new ≡ advanced_view (view_of pass.new) (stop_known (view_of pass.new).loaded_stop (head_known (view_of pass.old))) }
@@ -195,7 +195,7 @@ impl WordHub {
     fn try_tail(&self, pass: &mut WordPass) -> Freed
         requires own { IsPassOf self.now.queue pass.old }
         requires phase { (view_of pass.old).phase ≡ phases.Held }
-        requires decided { All (λ undecided. undecided ≡ false) (view_of pass.old).undecided }
+        requires decided { AreDecided (view_of pass.old).verdicts }
         requires listens { (known_of pass.old).mark ≡ listens_at (view_of pass.old).post }
         ensures own { IsPassOf self.now.queue pass.new }
         ensures tried { HasTried (stop_known result.from (head_known (view_of pass.old))) (view_of pass.new) }

@@ -26,6 +26,7 @@ use Rattle.pgn_words.specs.declared.view.Look.{Look}
 use Rattle.pgn_words.specs.declared.view.Look.TheVariants.{Idle, First, Second}
 use Rattle.pgn_words.specs.Positions.{mark_in, place_in}
 use Rattle.pgn_words.specs.ListenRule.{Placed, Marks, ShowsPosition, LookIn, LooksBy, Spared}
+use Rattle.pgn_words.specs.declared.view.Verdict.TheVariants.{Unseen}
 use Rattle.pgn_words.specs.WakeRule.{served, IsHeard, IsHeeded, Heeds, Signals, ended_in, pending, waits_in, raised_in, found_in, Raised, IsMost, IsTaken}
 use Rattle.pgn_words.specs.Rule.{World, KnowsStop, Draws, Holds, IsEnding, WasMade, Fates, Law, Lawful, Keeps, Budget, notes_of, status_at}
 use Rattle.pgn_words.specs.Told.{TellsFinStore, fin_stored}
@@ -40,7 +41,7 @@ use Rattle.pgn_words.proofs.Meets.{allowed}
 
 -- the journal grows by the transaction that has ended, and no seat is decided yet
 abbrev pub after_ending : View → Shape → World → World
-after_ending v z g = record g { past = g.past ++ v.pen.ending ∷ []; shown = g.past ++ v.pen.ending ∷ []; undecided = waits_in (replicate (seats_of z) true) }
+after_ending v z g = record g { past = g.past ++ v.pen.ending ∷ []; shown = g.past ++ v.pen.ending ∷ []; undecided = waits_in (replicate (seats_of z) Unseen) }
 
 finishes : (z : Shape) (c : Content) (g : World) (views : List View) (id : ℕ) (v : View) → IsShape z → Law z c g views → get_elem? views id ≡ some v → v.phase ≡ Finished
     → Law z (record c { fin = c.fin + 1 }) (after_ending v z g) (set views id (fin_stored v))
@@ -62,8 +63,8 @@ finishes z c g views id v shape h here ended =
       (let is = was.session_is in let low = seated.was_made in omega (arith, is, low)),
       was.db_is ∙ seated.db_is ∙ ap (λ n. (seat_of z n).db) (sym was.session_is),
     ) in
-    let calm : (i : ℕ) → g.undecided i ≡ false = λ i. h.wakes.signals id v here held i ∙ ap (λ p. pending p (waits_in v.undecided) i) ended in
-    let all : ℕ → Bool = waits_in (replicate (seats_of z) true) in
+    let calm : (i : ℕ) → g.undecided i ≡ false = λ i. h.wakes.signals id v here held i ∙ ap (λ p. pending p (waits_in v.verdicts) i) ended in
+    let all : ℕ → Bool = waits_in (replicate (seats_of z) Unseen) in
     let heard_still : (n : ℕ) → IsHeard c.fin g.undecided n → IsHeard (c.fin + 1) all n = λ n p. record { most = let most = p.most in omega (arith, most); decided = λ i waits. let most = p.most in omega (arith, most) } in
     let setup : v.setup ≡ z = held_setup z c g views id v h here held in
     let heeds_still : (j : ℕ) (u : View) → get_elem? views j ≡ some u → Heeds z.format g.past c.fin g.undecided c.wakes j u → Heeds z.format now (c.fin + 1) all c.wakes j u =
@@ -151,7 +152,7 @@ finishes z c g views id v shape h here ended =
         small = h.wakes.small;
         heeds = each_turn (Heeds z.format g.past c.fin g.undecided c.wakes) (Heeds z.format now (c.fin + 1) all c.wakes) views id w h.wakes.heeds
             (heeds_still id v here (h.wakes.heeds id v here)) (λ j u other there p. heeds_still j u there p);
-        signals = each_turn (Signals g.undecided) (Signals all) views id w h.wakes.signals (λ _ i. ap (λ (y : Shape). waits_in (replicate (seats_of y) true) i) (sym setup)) (λ j u other there p also. absurd (gone j u other there also));
+        signals = each_turn (Signals g.undecided) (Signals all) views id w h.wakes.signals (λ _ i. ap (λ (y : Shape). waits_in (replicate (seats_of y) Unseen) i) (sym setup)) (λ j u other there p also. absurd (gone j u other there also));
         calm = λ nobody. let is = locked.1 in let positive = locked.2 in absurd (omega (arith, nobody, is, positive));
         heard = each_turn (λ _ u. IsHeard c.fin g.undecided u.known.told) (λ _ u. IsHeard (c.fin + 1) all u.known.told) views id w h.wakes.heard
             (heard_still v.known.told (h.wakes.heard id v here)) (λ j u other there p. heard_still u.known.told p);
@@ -181,7 +182,7 @@ finishes z c g views id v shape h here ended =
     look_grows First format past more fin fin' looked target tail eye counted further h = least_grows format past more fin fin' eye.least counted further h
     look_grows Second format past more fin fin' looked target tail eye counted further h = (least_grows format past more fin fin' eye.least counted further h.0, h.1)
 
-    all_wait : (n i : ℕ) → i < n → get_or (replicate n true) i false ≡ true
+    all_wait : (n i : ℕ) → i < n → waits_in (replicate n Unseen) i ≡ true
     all_wait zero i within = absurd (omega (arith, within))
     all_wait (suc n) zero within = refl
     all_wait (suc n) (suc i) within = all_wait n i (omega (arith, within))

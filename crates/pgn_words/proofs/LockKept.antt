@@ -18,8 +18,10 @@ use Rattle.pgn_hub.specs.Shape.{Shape, notes_of_seats}
 use Rattle.pgn_words.specs.declared.view.View.{View}
 use Rattle.pgn_words.specs.declared.view.Phase.{Phase}
 use Rattle.pgn_words.specs.declared.view.Phase.TheVariants.{Free, Held, Headed, Ready, Open, Finished, Signalling}
+use Rattle.pgn_words.specs.declared.view.Verdict.{Verdict}
+use Rattle.pgn_words.specs.declared.view.Verdict.TheVariants.{Decided}
 use Rattle.pgn_words.specs.Words.{Content, room_of, seats_of}
-use Rattle.pgn_words.specs.Views.{holds_lock, knows_stop, drawn_by, spent_by, fated, may_drop}
+use Rattle.pgn_words.specs.Views.{holds_lock, knows_stop, drawn_by, spent_by, fated, may_drop, is_open, AreDecided}
 use Rattle.pgn_words.specs.ListenRule.{LooksBy, Spared}
 use Rattle.pgn_words.specs.WakeRule.{IsHeard, Signals, ended_in, pending, waits_in}
 use Rattle.pgn_words.specs.Rule.{World, Locks, Locking, Draws, KnowsStop, HoldsIn, Holds, Law, Lawful, Keeps, Budget, notes_of, Fates}
@@ -264,10 +266,10 @@ drops z c g views id v h here held nothing even settled =
     }
 
 -- nobody waits in a list in which nobody does
-pub none_waits : (undecided : List Bool) → All (λ b. b ≡ false) undecided → (i : ℕ) → waits_in undecided i ≡ false
+pub none_waits : (verdicts : List Verdict) → AreDecided verdicts → (i : ℕ) → waits_in verdicts i ≡ false
 none_waits [] all i = refl
-none_waits (b ∷ undecided) all zero = All-head (λ (x : Bool). x ≡ false) b undecided all
-none_waits (b ∷ undecided) all (suc i) = none_waits undecided (All-tail (λ (x : Bool). x ≡ false) b undecided all) i
+none_waits (x ∷ verdicts) all zero = ap is_open (All-head (λ (y : Verdict). y ≡ Decided) x verdicts all)
+none_waits (x ∷ verdicts) all (suc i) = none_waits verdicts (All-tail (λ (y : Verdict). y ≡ Decided) x verdicts all) i
 
 -- while the holder has drawn no number, the head shows the journal
 pub idle_shows : (phase : Phase) (z : Shape) (stop : ℕ) (past shown seen : List Tx) (cells : List ℕ) (session db : ℕ) (pen : Rattle.pgn_words.specs.declared.view.Pen.Pen) → may_drop phase ≡ true
@@ -289,7 +291,7 @@ idle_holds Open e = absurd (cc)
 idle_holds Finished e = absurd (cc)
 idle_holds Signalling e = (refl, refl)
 
-pub drop_lock_allowed : (z : Shape) (slots id : ℕ) (me : Me ℕ View) → may_drop me.0.phase ≡ true → ((i : ℕ) → waits_in me.0.undecided i ≡ false) → Allows (Lawful z) slots id me 0 (λ _. 0) (λ _. TellsDrop (step slots 0 0 0 none) me 0)
+pub drop_lock_allowed : (z : Shape) (slots id : ℕ) (me : Me ℕ View) → may_drop me.0.phase ≡ true → ((i : ℕ) → waits_in me.0.verdicts i ≡ false) → Allows (Lawful z) slots id me 0 (λ _. 0) (λ _. TellsDrop (step slots 0 0 0 none) me 0)
 drop_lock_allowed z slots id me idle settled =
     allowed z slots id 0 me (λ _. 0) (λ _. TellsDrop (step slots 0 0 0 none) me 0) (λ shape c g views h here.
     let phase = idle_holds me.0.phase idle in
@@ -298,7 +300,7 @@ drop_lock_allowed z slots id me idle settled =
       content = record c { lock = 0 };
       world = g;
       moves = refl;
-      law = drops z c g views id me.0 h here phase.0 phase.1 even (λ i. h.wakes.signals id me.0 here phase.0 i ∙ all_decided me.0.phase (waits_in me.0.undecided) i (settled i));
+      law = drops z c g views id me.0 h here phase.0 phase.1 even (λ i. h.wakes.signals id me.0 here phase.0 i ∙ all_decided me.0.phase (waits_in me.0.verdicts) i (settled i));
       told = record { slots = refl; view = refl };
     })
 

@@ -91,7 +91,7 @@ module _ (views : List View) (id : ℕ) (v w : View) (here : get_elem? views id 
 
   pub wakes_keep : (format : Format) (lock fin : ℕ) (past : List Tx) (undecided : ℕ → Bool) (wakes : List ℕ) → Wakes format lock fin past undecided wakes views
       → w.known.session ≡ v.known.session → w.post ≡ v.post → w.walk ≡ v.walk → w.known.db ≡ v.known.db → w.known.owes ≡ v.known.owes → w.known.told ≡ v.known.told
-      → holds_lock w.phase ≡ holds_lock v.phase → ((i : ℕ) → pending w.phase (waits_in w.undecided) i ≡ pending v.phase (waits_in v.undecided) i)
+      → holds_lock w.phase ≡ holds_lock v.phase → ((i : ℕ) → pending w.phase (waits_in w.verdicts) i ≡ pending v.phase (waits_in v.verdicts) i)
       → w.ended ≡ v.ended → ended_in w.phase fin ≡ ended_in v.phase fin → Wakes format lock fin past undecided wakes (set views id w)
   wakes_keep format lock fin past undecided wakes h session post walk db owes told holds waits ended ends = record {
     small = h.small;

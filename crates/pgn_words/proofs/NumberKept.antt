@@ -67,7 +67,7 @@ draws z c g views id v notes h here ready filled valid different few =
         aims = h.looks.aims;
         above = h.looks.above;
       };
-      wakes = wakes_keep views id v w here z.format c.lock c.fin g.past g.undecided c.wakes h.wakes refl refl refl refl refl refl (sym held) (λ i. sym (ap (λ p. pending p (waits_in v.undecided) i) ready)) refl (sym (ap (λ p. ended_in p c.fin) ready));
+      wakes = wakes_keep views id v w here z.format c.lock c.fin g.past g.undecided c.wakes h.wakes refl refl refl refl refl refl (sym held) (λ i. sym (ap (λ p. pending p (waits_in v.verdicts) i) ready)) refl (sym (ap (λ p. ended_in p c.fin) ready));
       flags = flags_keep views id v w here c.fin g.undecided c.flags h.flags refl (h.flags.told id v here) refl refl;
       named = named_keep views id v w here h.named refl refl refl refl refl;
       taken = taken_keep views id v w here z g.made c.fin g.seat g.past h.taken refl refl;

@@ -62,7 +62,7 @@ next_made queue first now pass passes k made within now_own now_is own is =
     fresh_on first now v is f = record {
       free = ap (λ (x : View). x.phase) is ∙ f.free;
       told = ap (λ (x : View). x.ended) is ∙ f.told;
-      decided = ap (λ (x : View). x.undecided) is ∙ f.decided;
+      decided = ap (λ (x : View). x.verdicts) is ∙ f.decided;
       out = ap (λ (x : View). x.post.listen) is ∙ f.out;
       alone = ap (λ (x : View). x.joined) is ∙ f.alone;
     }
@@ -71,7 +71,7 @@ next_made queue first now pass passes k made within now_own now_is own is =
     made_fresh v pass is = record {
       free = ap (λ (x : View). x.phase) is;
       told = ap (λ (x : View). x.ended) is;
-      decided = ap (λ (x : View). x.undecided) is;
+      decided = ap (λ (x : View). x.verdicts) is;
       out = ap (λ (x : View). x.post.listen) is;
       alone = ap (λ (x : View). x.joined) is;
     }

@@ -22,9 +22,11 @@ use Rattle.pgn_words.specs.declared.view.Listen.TheVariants.{Registered}
 use Rattle.pgn_words.specs.declared.view.Phase.TheVariants.{Signalling}
 use Rattle.pgn_words.specs.declared.view.Stage.TheVariants.{Still}
 use Rattle.pgn_words.specs.Words.{Content, row, room_of, seats_of, pos_at, wakes_at}
-use Rattle.pgn_words.specs.Views.{holds_lock, seat_of, is_walking}
+use Rattle.pgn_words.specs.declared.view.Verdict.{Verdict}
+use Rattle.pgn_words.specs.declared.view.Verdict.TheVariants.{Unseen, Needed, Decided}
+use Rattle.pgn_words.specs.Views.{holds_lock, seat_of, is_open, is_walking}
 use Rattle.pgn_words.specs.Positions.{position_in, shown_as, place_or, is_placed}
-use Rattle.pgn_words.specs.Waking.{TellsTaken, is_undecided, needs_wake, wake_looked, HasLookedToWake, TellsWakeLook, wake_set, TellsWakeSet}
+use Rattle.pgn_words.specs.Waking.{TellsTaken, verdict_on, verdict_of, needs_wake, wake_looked, HasLookedToWake, TellsWakeLook, wake_set, TellsWakeSet}
 use Rattle.pgn_words.specs.WakeRule.{served, IsHeard, IsHeeded, Heeds, waits_in, pending, Signals, ended_in}
 use Rattle.pgn_words.specs.Rule.{World, KnowsStop, Holds, IsSignalling, Law, Lawful, Keeps}
 use Rattle.pgn_words.proofs.EachLaws.{each_turn, each_keep}
@@ -110,12 +112,12 @@ take_wake_allowed z slots id word me there positive registered =
     })
 
 -- the holder has decided on a seat: fewer are undecided, and every listener is heeded
-decides : (z : Shape) (c : Content) (g : World) (views : List View) (id : ℕ) (v : View) (us : List Bool) (ws : List ℕ) → Law z c g views → get_elem? views id ≡ some v → v.phase ≡ Signalling
+decides : (z : Shape) (c : Content) (g : World) (views : List View) (id : ℕ) (v : View) (us : List Verdict) (ws : List ℕ) → Law z c g views → get_elem? views id ≡ some v → v.phase ≡ Signalling
     → length ws ≡ length c.wakes → ((i : ℕ) → get_or ws i 0 ≤ 1) → ((i : ℕ) → waits_in us i ≡ true → g.undecided i ≡ true)
     → ((j : ℕ) (u : View) → get_elem? views j ≡ some u → Heeds z.format g.past c.fin g.undecided c.wakes j u → Heeds z.format g.past c.fin (waits_in us) ws j u)
-    → Law z (record c { wakes = ws }) (record g { undecided = waits_in us }) (set views id (record v { undecided = us }))
+    → Law z (record c { wakes = ws }) (record g { undecided = waits_in us }) (set views id (record v { verdicts = us }))
 decides z c g views id v us ws h here signals long small fewer heeds =
-    let w : View = record v { undecided = us } in
+    let w : View = record v { verdicts = us } in
     let held : holds_lock v.phase ≡ true = ap holds_lock signals in
     let locked = h.locking.locks id v here held in
     let gone : (j : ℕ) (u : View) → j ≢ id → get_elem? views j ≡ some u → holds_lock u.phase ≡ true → ⊥ = alone c.lock g.holder views id v h.locking here held in
@@ -164,17 +166,22 @@ bit_set (suc zero) low = refl
 bit_set (suc (suc n)) low = absurd (omega (arith, low))
 
 -- a list in which a seat is decided
-decided_other : (us : List Bool) (seat i : ℕ) (b : Bool) → i ≢ seat → waits_in (set us seat b) i ≡ waits_in us i
-decided_other us seat i b other = get_or-set_other us seat i b false other
+decided_other : (us : List Verdict) (seat i : ℕ) (b : Verdict) → i ≢ seat → waits_in (set us seat b) i ≡ waits_in us i
+decided_other us seat i b other = ap is_open (get_or-set_other us seat i b Decided other)
 
-decided_here : (us : List Bool) (seat : ℕ) (b : Bool) → waits_in us seat ≡ true → waits_in (set us seat b) seat ≡ b
+decided_here : (us : List Verdict) (seat : ℕ) (b : Verdict) → waits_in us seat ≡ true → waits_in (set us seat b) seat ≡ is_open b
 decided_here [] seat b waits = absurd (true≢false (sym waits))
 decided_here (x ∷ us) zero b waits = refl
 decided_here (x ∷ us) (suc seat) b waits = decided_here us seat b waits
 
-pub set_wake_allowed : (z : Shape) (slots id word seat : ℕ) (me : Me ℕ View) → word ≡ wakes_at z + seat → seat < seats_of z → me.0.phase ≡ Signalling → is_undecided me.0 seat ≡ true
+-- there is still to decide where a look has found a need
+still_open : (b : Bool) → is_open (verdict_of b) ≡ b
+still_open true = refl
+still_open false = refl
+
+pub set_wake_allowed : (z : Shape) (slots id word seat : ℕ) (me : Me ℕ View) → word ≡ wakes_at z + seat → seat < seats_of z → me.0.phase ≡ Signalling → verdict_on me.0 seat ≡ Needed
     → Allows (Lawful z) slots id me word (λ n. bit_or n 1) (TellsWakeSet (step slots word 1 0 none) me)
-set_wake_allowed z slots id word seat me there room signals waits =
+set_wake_allowed z slots id word seat me there room signals needed =
     allowed z slots id word me (λ n. bit_or n 1) (TellsWakeSet (step slots word 1 0 none) me) (λ shape c g views h here.
     let v = me.0 in
     let held : holds_lock v.phase ≡ true = ap holds_lock signals in
@@ -182,9 +189,9 @@ set_wake_allowed z slots id word seat me there room signals waits =
     let within : seat < length c.wakes = let long = h.laid.wakes_long in omega (arith, room, long) in
     let n : ℕ = get_or c.wakes seat 0 in
     let found : get_or (row c) word 0 ≡ n = ap (λ k. get_or (row c) k 0) there ∙ get_wake_word z c seat h.laid within in
-    let us : List Bool = set v.undecided seat false in
+    let us : List Verdict = set v.verdicts seat Decided in
     let ws : List ℕ = set c.wakes seat 1 in
-    let before : (i : ℕ) → g.undecided i ≡ waits_in v.undecided i = λ i. h.wakes.signals id v here held i ∙ ap (λ p. pending p (waits_in v.undecided) i) signals in
+    let before : (i : ℕ) → g.undecided i ≡ waits_in v.verdicts i = λ i. h.wakes.signals id v here held i ∙ ap (λ p. pending p (waits_in v.verdicts) i) signals in
     let set_now : get_or ws seat 0 ≡ 1 = get_or-set_same c.wakes seat 1 0 within in record {
       w = wake_set seat v;
       content = record c { wakes = ws };
@@ -192,9 +199,9 @@ set_wake_allowed z slots id word seat me there room signals waits =
       moves = ap (λ k. set (row c) word (bit_or k 1)) found ∙ ap (λ k. set (row c) word k) (bit_set n (h.wakes.small seat)) ∙ ap (λ k. set (row c) k 1) there ∙ set_wake_word z c seat 1 h.laid within;
       law = decides z c g views id v us ws h here signals (length-set c.wakes seat 1)
           (λ i. small_at c.wakes seat i within h.wakes.small (ℕ_discrete i seat))
-          (λ i still. before i ∙ fewer v.undecided seat i still (ℕ_discrete i seat))
+          (λ i still. before i ∙ fewer v.verdicts seat i still (ℕ_discrete i seat))
           (λ j u their x registered i number.
-          heeds_at z.format g.past c.fin g.undecided c.wakes v.undecided seat i u.known.db u.post.mark (is_walking u.walk.stage) u.walk.upto u.known.owes before set_now (x registered i number) (ℕ_discrete i seat));
+          heeds_at z.format g.past c.fin g.undecided c.wakes v.verdicts seat i u.known.db u.post.mark (is_walking u.walk.stage) u.walk.upto u.known.owes before set_now (x registered i number) (ℕ_discrete i seat));
       told = record {
         slots = refl;
         view = λ other is. let same : seat ≡ other = let e : wakes_at v.setup ≡ wakes_at z = ap wakes_at setup in omega (arith, there, is, e) in ap (λ s. wake_set s v) same;
@@ -206,23 +213,23 @@ set_wake_allowed z slots id word seat me there room signals waits =
     small_at wakes seat i within all (yes e) = let one = get_or-set_same wakes seat 1 0 within in let same : get_or (set wakes seat 1) i 0 ≡ get_or (set wakes seat 1) seat 0 = ap (λ k. get_or (set wakes seat 1) k 0) e in omega (arith, one, same)
     small_at wakes seat i within all (no ne) = let same = get_or-set_other wakes seat i 1 0 ne in let was = all i in omega (arith, same, was)
 
-    fewer : (us : List Bool) (seat i : ℕ) → waits_in (set us seat false) i ≡ true → Dec (i ≡ seat) → waits_in us i ≡ true
-    fewer us seat i still (yes e) = absurd (true≢false (sym still ∙ ap (waits_in (set us seat false)) e ∙ none_here us seat))
+    fewer : (us : List Verdict) (seat i : ℕ) → waits_in (set us seat Decided) i ≡ true → Dec (i ≡ seat) → waits_in us i ≡ true
+    fewer us seat i still (yes e) = absurd (true≢false (sym still ∙ ap (waits_in (set us seat Decided)) e ∙ none_here us seat))
       where
-        none_here : (bs : List Bool) (k : ℕ) → waits_in (set bs k false) k ≡ false
+        none_here : (bs : List Verdict) (k : ℕ) → waits_in (set bs k Decided) k ≡ false
         none_here [] k = refl
         none_here (b ∷ bs) zero = refl
         none_here (b ∷ bs) (suc k) = none_here bs k
-    fewer us seat i still (no ne) = sym (decided_other us seat i false ne) ∙ still
+    fewer us seat i still (no ne) = sym (decided_other us seat i Decided ne) ∙ still
 
-    heeds_at : (format : Format) (past : List Tx) (fin : ℕ) (undecided : ℕ → Bool) (wakes : List ℕ) (us : List Bool) (seat i db mark : ℕ) (walks : Bool) (ends : ℕ) (owes : Bool)
+    heeds_at : (format : Format) (past : List Tx) (fin : ℕ) (undecided : ℕ → Bool) (wakes : List ℕ) (us : List Verdict) (seat i db mark : ℕ) (walks : Bool) (ends : ℕ) (owes : Bool)
         → ((k : ℕ) → undecided k ≡ waits_in us k) → get_or (set wakes seat 1) seat 0 ≡ 1 → IsHeeded format past (served undecided fin i) (get_or wakes i 0) db mark walks ends owes → Dec (i ≡ seat)
-        → IsHeeded format past (served (waits_in (set us seat false)) fin i) (get_or (set wakes seat 1) i 0) db mark walks ends owes
+        → IsHeeded format past (served (waits_in (set us seat Decided)) fin i) (get_or (set wakes seat 1) i 0) db mark walks ends owes
     heeds_at format past fin undecided wakes us seat i db mark walks ends owes before set_now x (yes e) =
         let is : get_or (set wakes seat 1) i 0 ≡ 1 = ap (λ k. get_or (set wakes seat 1) k 0) e ∙ set_now in record { still = inl is; walked = λ _. inl is }
     heeds_at format past fin undecided wakes us seat i db mark walks ends owes before set_now x (no ne) =
-        same_heeded format past (served undecided fin i) (served (waits_in (set us seat false)) fin i) (get_or wakes i 0) (get_or (set wakes seat 1) i 0) db mark walks ends owes
-        (served_same undecided (waits_in (set us seat false)) fin i (decided_other us seat i false ne ∙ sym (before i))) (get_or-set_other wakes seat i 1 0 ne) x
+        same_heeded format past (served undecided fin i) (served (waits_in (set us seat Decided)) fin i) (get_or wakes i 0) (get_or (set wakes seat 1) i 0) db mark walks ends owes
+        (served_same undecided (waits_in (set us seat Decided)) fin i (decided_other us seat i Decided ne ∙ sym (before i))) (get_or-set_other wakes seat i 1 0 ne) x
 
 -- a listener whose position needs no wake is near the journal's end, by the two cases of the test
 near_from : (format : Format) (past before : List Tx) (last : Tx) (fin head db at own mark m : ℕ) → All IsFinished past → fin ≡ next_xid past → past ≡ before ++ last ∷ [] → last.db ≡ db → 3 ≤ mark → head ≡ length (image format past)
@@ -247,11 +254,12 @@ near_from format past before last fin head db at own mark m finished counted end
         let other : last.db ≢ own = λ same. let is : own == db ≡ true = let eq : own ≡ db = sym same ∙ by in grind (arith, nat_tests) in true≢false (sym is ∙ e) in
         near_other format own past before last m fin counted ends other (omega (arith, first, forth)) near (let up = place_grows format past mark m forth in omega (arith, close, end, at_is, up))
 
-pub wake_look_allowed : (z : Shape) (slots id word seat : ℕ) (me : Me ℕ View) → word ≡ pos_at + seat → seat < seats_of z → me.0.phase ≡ Signalling → is_undecided me.0 seat ≡ true
+pub wake_look_allowed : (z : Shape) (slots id word seat : ℕ) (me : Me ℕ View) → word ≡ pos_at + seat → seat < seats_of z → me.0.phase ≡ Signalling → verdict_on me.0 seat ≡ Unseen
     → Allows (Lawful z) slots id me word (λ n. n) (TellsWakeLook (step slots word 0 0 none) me)
-wake_look_allowed z slots id word seat me there room signals waits =
+wake_look_allowed z slots id word seat me there room signals unseen =
     allowed z slots id word me (λ n. n) (TellsWakeLook (step slots word 0 0 none) me) (λ shape c g views h here.
     let v = me.0 in
+    let waits : waits_in v.verdicts seat ≡ true = ap is_open unseen in
     let held : holds_lock v.phase ≡ true = ap holds_lock signals in
     let setup : v.setup ≡ z = held_setup z c g views id v h here held in
     let seen : v.known.seen ≡ g.past = holder_sees v.phase z (λ log. Keeps (room_of z) (page_start c.stop) log c.cells) g.past g.shown v.known.seen v.known.session v.known.db v.pen held (h.holding.holds id v here) in
@@ -261,22 +269,22 @@ wake_look_allowed z slots id word seat me there room signals waits =
     let within : seat < length c.pos = let long = h.laid.pos_long in omega (arith, room, long) in
     let found : get_or (row c) word 0 ≡ n = ap (λ k. get_or (row c) k 0) there ∙ get_pos z c seat within in
     let needs : Bool = needs_wake v seat p in
-    let us : List Bool = set v.undecided seat needs in
-    let before : (i : ℕ) → g.undecided i ≡ waits_in v.undecided i = λ i. h.wakes.signals id v here held i ∙ ap (λ q. pending q (waits_in v.undecided) i) signals in
+    let us : List Verdict = set v.verdicts seat (verdict_of needs) in
+    let before : (i : ℕ) → g.undecided i ≡ waits_in v.verdicts i = λ i. h.wakes.signals id v here held i ∙ ap (λ q. pending q (waits_in v.verdicts) i) signals in
     let head : ℕ = length (image v.setup.format v.known.seen) in
     let head_is : head ≡ length (image z.format g.past) = ap (λ (y : Shape). length (image y.format v.known.seen)) setup ∙ ap (λ (txs : List Tx). length (image z.format txs)) seen in
     let heeds : (j : ℕ) (u : View) → get_elem? views j ≡ some u → Heeds z.format g.past c.fin g.undecided c.wakes j u → Heeds z.format g.past c.fin (waits_in us) c.wakes j u = λ j u their x registered i number.
     let old : IsHeeded z.format g.past (served g.undecided c.fin i) (get_or c.wakes i 0) u.known.db u.post.mark (is_walking u.walk.stage) u.walk.upto u.known.owes = x registered i number in
     let here_again : i ≡ seat → needs ≡ false → (m : ℕ) → u.post.mark ≤ m → Near z.format (is_committed_in u.known.db) g.past m (served g.undecided c.fin i) → Near z.format (is_committed_in u.known.db) g.past m c.fin = λ same quiet m forth near.
     let place_there = (h.posts.placed j u their (ap is_placed registered)).1 in
-    let undecided_there : g.undecided i ≡ true = before i ∙ ap (waits_in v.undecided) same ∙ waits in
+    let undecided_there : g.undecided i ≡ true = before i ∙ ap (waits_in v.verdicts) same ∙ waits in
     let last_but : served g.undecided c.fin i ≡ c.fin - 1 = ap (λ b. cond b (c.fin - 1) c.fin) undecided_there in
     let shows : p ≡ shown_as u.post.listen u.post.mark u.post.at = seat_shows z c g views seat j u h their (omega (arith, number, same)) in
     let at_is : place_or head p ≡ u.post.at = ap (place_or head) (shows ∙ ap (λ (l : Listen). shown_as l u.post.mark u.post.at) registered) in
     let seat_db : (seat_of v.setup (seat + 1)).db ≡ u.known.db = ap (λ (y : Shape). (seat_of y (seat + 1)).db) setup ∙ ap (λ k. (seat_of z k).db) (let e : seat + 1 ≡ u.known.session = omega (arith, number, same) in e) ∙ sym (h.seats.seated j u their (omega (arith, number))).db_is in
     let asleep : is_woken head v.known.db u.post.at u.known.db ≡ false = ap (λ a. is_woken head v.known.db a u.known.db) (sym at_is) ∙ ap (λ d. is_woken head v.known.db (place_or head p) d) (sym seat_db) ∙ quiet in
     near_from z.format g.past was.before v.pen.ending c.fin head v.known.db u.post.at u.known.db u.post.mark m h.history.finished h.history.counted was.last was.db_is place_there.least head_is place_there.at_is asleep forth (subst (λ (e : ℕ). Near z.format (is_committed_in u.known.db) g.past m e) last_but near) in
-    heeds_at z.format g.past c.fin g.undecided c.wakes v.undecided seat i needs u.known.db u.post.mark (is_walking u.walk.stage) u.walk.upto u.known.owes before waits old
+    heeds_at z.format g.past c.fin g.undecided c.wakes v.verdicts seat i needs u.known.db u.post.mark (is_walking u.walk.stage) u.walk.upto u.known.owes before waits old
     (λ same quiet. here_again same quiet u.post.mark (omega arith))
     (λ same quiet walks. here_again same quiet u.walk.upto (h.walks.walking j u their walks).1)
     (ℕ_discrete i seat) needs refl in record {
@@ -284,7 +292,7 @@ wake_look_allowed z slots id word seat me there room signals waits =
       content = c;
       world = record g { undecided = waits_in us };
       moves = Rattle.std.proofs.lemmas.List.set-get_or (row c) word 0;
-      law = decides z c g views id v us c.wakes h here signals refl h.wakes.small (λ i still. before i ∙ fewer v.undecided seat i needs waits still (ℕ_discrete i seat)) heeds;
+      law = decides z c g views id v us c.wakes h here signals refl h.wakes.small (λ i still. before i ∙ fewer v.verdicts seat i (verdict_of needs) waits still (ℕ_discrete i seat)) heeds;
       told = subst (λ (k : ℕ). TellsWakeLook (step slots word 0 0 none) me k (wake_looked seat p v, me.1)) (sym found) (record {
         slots = refl;
         looked = λ other is.
@@ -295,24 +303,24 @@ wake_look_allowed z slots id word seat me there room signals waits =
       });
     })
   where
-    fewer : (us : List Bool) (seat i : ℕ) (b : Bool) → waits_in us seat ≡ true → waits_in (set us seat b) i ≡ true → Dec (i ≡ seat) → waits_in us i ≡ true
+    fewer : (us : List Verdict) (seat i : ℕ) (b : Verdict) → waits_in us seat ≡ true → waits_in (set us seat b) i ≡ true → Dec (i ≡ seat) → waits_in us i ≡ true
     fewer us seat i b waits still (yes e) = ap (waits_in us) e ∙ waits
     fewer us seat i b waits still (no ne) = sym (decided_other us seat i b ne) ∙ still
 
-    heeds_at : (format : Format) (past : List Tx) (fin : ℕ) (undecided : ℕ → Bool) (wakes : List ℕ) (us : List Bool) (seat i : ℕ) (needs : Bool) (db mark : ℕ) (walks : Bool) (ends : ℕ) (owes : Bool)
+    heeds_at : (format : Format) (past : List Tx) (fin : ℕ) (undecided : ℕ → Bool) (wakes : List ℕ) (us : List Verdict) (seat i : ℕ) (needs : Bool) (db mark : ℕ) (walks : Bool) (ends : ℕ) (owes : Bool)
         → ((k : ℕ) → undecided k ≡ waits_in us k) → waits_in us seat ≡ true → IsHeeded format past (served undecided fin i) (get_or wakes i 0) db mark walks ends owes
         → (i ≡ seat → needs ≡ false → Near format (is_committed_in db) past mark (served undecided fin i) → Near format (is_committed_in db) past mark fin)
         → (i ≡ seat → needs ≡ false → walks ≡ true → Near format (is_committed_in db) past ends (served undecided fin i) → Near format (is_committed_in db) past ends fin)
-        → Dec (i ≡ seat) → (b : Bool) → needs ≡ b → IsHeeded format past (served (waits_in (set us seat needs)) fin i) (get_or wakes i 0) db mark walks ends owes
+        → Dec (i ≡ seat) → (b : Bool) → needs ≡ b → IsHeeded format past (served (waits_in (set us seat (verdict_of needs))) fin i) (get_or wakes i 0) db mark walks ends owes
     heeds_at format past fin undecided wakes us seat i needs db mark walks ends owes before waits x near_mark near_end (no ne) b e =
-        same_heeded format past (served undecided fin i) (served (waits_in (set us seat needs)) fin i) (get_or wakes i 0) (get_or wakes i 0) db mark walks ends owes
-        (served_same undecided (waits_in (set us seat needs)) fin i (decided_other us seat i needs ne ∙ sym (before i))) refl x
+        same_heeded format past (served undecided fin i) (served (waits_in (set us seat (verdict_of needs))) fin i) (get_or wakes i 0) (get_or wakes i 0) db mark walks ends owes
+        (served_same undecided (waits_in (set us seat (verdict_of needs))) fin i (decided_other us seat i (verdict_of needs) ne ∙ sym (before i))) refl x
     heeds_at format past fin undecided wakes us seat i needs db mark walks ends owes before waits x near_mark near_end (yes e) true needs_it =
-        let is : waits_in (set us seat needs) i ≡ undecided i = ap (waits_in (set us seat needs)) e ∙ decided_here us seat needs waits ∙ needs_it ∙ sym waits ∙ sym (ap (waits_in us) e) ∙ sym (before i) in
-        same_heeded format past (served undecided fin i) (served (waits_in (set us seat needs)) fin i) (get_or wakes i 0) (get_or wakes i 0) db mark walks ends owes
-        (served_same undecided (waits_in (set us seat needs)) fin i is) refl x
+        let is : waits_in (set us seat (verdict_of needs)) i ≡ undecided i = ap (waits_in (set us seat (verdict_of needs))) e ∙ decided_here us seat (verdict_of needs) waits ∙ still_open needs ∙ needs_it ∙ sym waits ∙ sym (ap (waits_in us) e) ∙ sym (before i) in
+        same_heeded format past (served undecided fin i) (served (waits_in (set us seat (verdict_of needs))) fin i) (get_or wakes i 0) (get_or wakes i 0) db mark walks ends owes
+        (served_same undecided (waits_in (set us seat (verdict_of needs))) fin i is) refl x
     heeds_at format past fin undecided wakes us seat i needs db mark walks ends owes before waits x near_mark near_end (yes e) false quiet =
-        let now : served (waits_in (set us seat needs)) fin i ≡ fin = ap (λ b. cond b (fin - 1) fin) (ap (waits_in (set us seat needs)) e ∙ decided_here us seat needs waits ∙ quiet) in
+        let now : served (waits_in (set us seat (verdict_of needs))) fin i ≡ fin = ap (λ b. cond b (fin - 1) fin) (ap (waits_in (set us seat (verdict_of needs))) e ∙ decided_here us seat (verdict_of needs) waits ∙ still_open needs ∙ quiet) in
         subst (λ (n : ℕ). IsHeeded format past n (get_or wakes i 0) db mark walks ends owes) (sym now) (record {
           still = ⊎_elim (λ set_now. inl set_now) (λ r. ⊎_elim (λ o. inr (inl o)) (λ near. inr (inr (near_mark e quiet near))) r) x.still;
           walked = λ walk. ⊎_elim (λ set_now. inl set_now) (λ near. inr (near_end e quiet walk near)) (x.walked walk);

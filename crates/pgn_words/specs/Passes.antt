@@ -45,7 +45,7 @@ pub record IsNoteOf (queue : WordQueue) (note : WordNote) : Type 0 where
 pub record IsFresh (pass : WordPass) : Type 0 where
   pub free : (view_of pass).phase ≡ Free
   pub told : (view_of pass).ended ≡ None
-  pub decided : (view_of pass).undecided ≡ []
+  pub decided : (view_of pass).verdicts ≡ []
   pub out : (view_of pass).post.listen ≡ Out
   pub alone : (view_of pass).joined ≡ []
 
@@ -53,7 +53,7 @@ pub record IsFresh (pass : WordPass) : Type 0 where
 pub record IsAtRest (view : View) : Type 0 where
   pub free : view.phase ≡ Free
   pub told : view.ended ≡ None
-  pub decided : view.undecided ≡ []
+  pub decided : view.verdicts ≡ []
   pub settled : is_settled view.post.listen ≡ true
   pub alone : view.joined ≡ []
   -- a listener has its mark, and nobody else has one

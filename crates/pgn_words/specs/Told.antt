@@ -15,6 +15,7 @@ use Rattle.pgn_layout.specs.Batches.{padded_to}
 use Rattle.pgn_hub.specs.Passes.{no_advance, opened_pass}
 use Rattle.pgn_words.specs.declared.view.View.{View}
 use Rattle.pgn_words.specs.declared.view.Phase.TheVariants.{Free, Held, Headed, Ready, Open, Finished, Signalling}
+use Rattle.pgn_words.specs.declared.view.Verdict.TheVariants.{Unseen}
 use Rattle.pgn_words.specs.declared.view.Look.TheVariants.{Idle, Second}
 use Rattle.pgn_words.specs.Words.{seats_of, room_of, cells_at, statuses_at}
 use Rattle.pgn_words.specs.Views.{stored_by, opened_view, holds_lock, no_seat, no_setup}
@@ -66,7 +67,7 @@ pub record TellsLock (s : Step ℕ) (v : Mine) (n : ℕ) (w : Mine) : Type 0 whe
 
 -- the pass gives the lock up; where it has finished a transaction, it is told of it
 abbrev pub freed : View → View
-freed v = record v { phase = Free; ended = None; undecided = []; known = record v.known { told = unwrap_or v.ended v.known.told } }
+freed v = record v { phase = Free; ended = None; verdicts = []; known = record v.known { told = unwrap_or v.ended v.known.told } }
 
 pub record TellsDrop (s : Step ℕ) (v : Mine) (n : ℕ) (w : Mine) : Type 0 where
   pub slots : w.1 ≡ v.1
@@ -181,7 +182,7 @@ pub record TellsStatusSet (tx : Tx) (s : Step ℕ) (v : Mine) (n : ℕ) (w : Min
 abbrev pub fin_stored : View → View
 fin_stored v = record v {
   phase = Signalling;
-  undecided = replicate (seats_of v.setup) true;
+  verdicts = replicate (seats_of v.setup) Unseen;
   ended = Some (next_xid v.known.seen + 1);
   known = record v.known { seen = v.known.seen ++ v.pen.ending ∷ []; own = v.known.own ++ next_xid v.known.seen ∷ [] };
   pen = record v.pen { taken = 0 };

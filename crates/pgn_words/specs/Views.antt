@@ -1,5 +1,5 @@
 -- What the rule sees of a pass: as it is opened, and what its phase says.
-use Rattle.std.specs.Prelude.{ℕ, ◌+◌, ◌-◌, Bool, true, false, List, [], ◌++◌, slice_index_or, Option, None}
+use Rattle.std.specs.Prelude.{◌≡◌, ℕ, ◌+◌, ◌-◌, Bool, true, false, List, [], ◌++◌, slice_index_or, Option, None, All}
 use Rattle.pgn_base.specs.declared.format.Format.TheVariants.{One}
 use Rattle.pgn_base.specs.declared.limits.TheConstants.{FIRST_XID}
 use Rattle.pgn_journal.specs.declared.tx.Tx.{Tx}
@@ -13,6 +13,8 @@ use Rattle.pgn_words.specs.declared.view.View.{View}
 use Rattle.pgn_words.specs.declared.view.Pen.{Pen}
 use Rattle.pgn_words.specs.declared.view.Phase.{Phase}
 use Rattle.pgn_words.specs.declared.view.Phase.TheVariants.{Free, Held, Headed, Ready, Open, Finished, Signalling}
+use Rattle.pgn_words.specs.declared.view.Verdict.{Verdict}
+use Rattle.pgn_words.specs.declared.view.Verdict.TheVariants.{Unseen, Needed, Decided}
 use Rattle.pgn_words.specs.declared.view.Listen.{Listen}
 use Rattle.pgn_words.specs.declared.view.Listen.TheVariants.{Out, Joining, Based, Registered}
 use Rattle.pgn_words.specs.declared.view.Stage.{Stage}
@@ -71,6 +73,16 @@ may_look Ready = true
 may_look Open = true
 may_look Finished = false
 may_look Signalling = true
+
+-- the writer still has to decide on a seat
+abbrev pub is_open : Verdict → Bool
+is_open Unseen = true
+is_open Needed = true
+is_open Decided = false
+
+-- it has decided on each seat
+abbrev pub AreDecided : List Verdict → Type 0
+AreDecided verdicts = All (λ verdict. verdict ≡ Decided) verdicts
 
 -- it is a listener or none, and on no way between
 abbrev pub is_settled : Listen → Bool
@@ -153,7 +165,7 @@ opened_view z session = record {
   post = no_post;
   walk = no_walk;
   eye = no_eye;
-  undecided = [];
+  verdicts = [];
 }
 
 -- the first pass, which makes the others

@@ -11,8 +11,10 @@ use Rattle.pgn_hub.specs.Shape.{Shape}
 use Rattle.pgn_words.specs.declared.view.View.{View}
 use Rattle.pgn_words.specs.declared.view.Phase.{Phase}
 use Rattle.pgn_words.specs.declared.view.Phase.TheVariants.{Free, Held, Headed, Ready, Open, Finished, Signalling}
+use Rattle.pgn_words.specs.declared.view.Verdict.{Verdict}
+use Rattle.pgn_words.specs.declared.view.Verdict.TheVariants.{Decided}
 use Rattle.pgn_words.specs.declared.view.Listen.TheVariants.{Registered}
-use Rattle.pgn_words.specs.Views.{holds_lock, is_walking, seat_of}
+use Rattle.pgn_words.specs.Views.{holds_lock, is_open, is_walking, seat_of}
 use Rattle.pgn_words.specs.Each.{Each, Someone}
 
 -- how far the listener at a seat was served: of the last transaction only once its seat was decided
@@ -33,9 +35,9 @@ abbrev pub Heeds : Format → List Tx → ℕ → (ℕ → Bool) → List ℕ �
 Heeds format past fin undecided wakes j v = v.post.listen ≡ Registered → (i : ℕ) → v.known.session ≡ i + 1
     → IsHeeded format past (served undecided fin i) (get_or wakes i 0) v.known.db v.post.mark (is_walking v.walk.stage) v.walk.upto v.known.owes
 
--- in a list of what is undecided, whether a seat is
-abbrev pub waits_in : List Bool → ℕ → Bool
-waits_in undecided i = get_or undecided i false
+-- in a list of verdicts, whether there is still to decide on a seat
+abbrev pub waits_in : List Verdict → ℕ → Bool
+waits_in verdicts i = is_open (get_or verdicts i Decided)
 
 -- the seats that are undecided, by the holder's phase and by its list
 abbrev pub pending : Phase → (ℕ → Bool) → ℕ → Bool
@@ -48,7 +50,7 @@ pending Finished waits i = false
 pending Signalling waits i = waits i
 
 abbrev pub Signals : (ℕ → Bool) → ℕ → View → Type 0
-Signals undecided j v = holds_lock v.phase ≡ true → (i : ℕ) → undecided i ≡ pending v.phase (waits_in v.undecided) i
+Signals undecided j v = holds_lock v.phase ≡ true → (i : ℕ) → undecided i ≡ pending v.phase (waits_in v.verdicts) i
 
 -- what the holder will be told, by its phase
 abbrev pub ended_in : Phase → ℕ → Option ℕ

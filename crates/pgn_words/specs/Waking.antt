@@ -1,5 +1,5 @@
 -- Wakes and flags: what each step makes of the pass, and what it tells.
-use Rattle.std.specs.Prelude.{◌≡◌, ◌≢◌, ℕ, ◌+◌, ◌^◌, ◌<◌, ◌≤◌, ◌==◌, ◌||◌, max, Bool, false, not, List, [], ◌∷◌, ◌++◌, length, get_or, slice_set, Option, Some, None, All}
+use Rattle.std.specs.Prelude.{◌≡◌, ◌≢◌, ℕ, ◌+◌, ◌^◌, ◌<◌, ◌≤◌, ◌==◌, ◌||◌, max, Bool, false, not, cond, List, [], ◌∷◌, ◌++◌, length, get_or, slice_set, Option, Some, None, All}
 use Rattle.atomic_table.specs.Table.{Step}
 use Rattle.pgn_base.specs.declared.limits.TheConstants.{FIRST_XID}
 use Rattle.pgn_lanes.specs.Behind.{is_woken}
@@ -9,6 +9,8 @@ use Rattle.pgn_journal.specs.Near.{Near}
 use Rattle.pgn_journal.specs.Packing.{image}
 use Rattle.pgn_words.specs.declared.pos_word.PosWord.{PosWord}
 use Rattle.pgn_words.specs.declared.view.View.{View}
+use Rattle.pgn_words.specs.declared.view.Verdict.{Verdict}
+use Rattle.pgn_words.specs.declared.view.Verdict.TheVariants.{Needed, Decided}
 use Rattle.pgn_words.specs.declared.view.Stage.TheVariants.{Still}
 use Rattle.pgn_words.specs.Words.{pos_at, wakes_at, flags_at}
 use Rattle.pgn_words.specs.Views.{seat_of}
@@ -31,9 +33,13 @@ pub record TellsTaken (s : Step ℕ) (v : Mine) (n : ℕ) (w : Mine) : Type 0 wh
   pub taken : HasTaken v.0 (not (n == 0)) w.0
   pub kept : (w.0.setup ≡ v.0.setup) × (w.0.ended ≡ v.0.ended)
 
--- the session of a seat may still need a wake, as far as the pass knows
-abbrev pub is_undecided : View → ℕ → Bool
-is_undecided v seat = get_or v.undecided seat false
+-- what the pass has found out about a seat
+abbrev pub verdict_on : View → ℕ → Verdict
+verdict_on v seat = get_or v.verdicts seat Decided
+
+-- by a look at it
+abbrev pub verdict_of : Bool → Verdict
+verdict_of needs = cond needs Needed Decided
 
 -- a listener at this position, of the session of this seat, needs a wake by what the pass has committed: nobody who is out or joins does
 abbrev pub needs_wake : View → ℕ → PosWord → Bool
@@ -43,7 +49,7 @@ needs_wake v seat position =
 
 -- the pass has looked at the position of a seat
 abbrev pub wake_looked : ℕ → PosWord → View → View
-wake_looked seat position v = record v { undecided = slice_set v.undecided seat (needs_wake v seat position) }
+wake_looked seat position v = record v { verdicts = slice_set v.verdicts seat (verdict_of (needs_wake v seat position)) }
 
 -- what a look at a seat with this position makes of the pass, and what it learns
 pub record HasLookedToWake (v : View) (seat : ℕ) (found : PosWord) (w : View) : Type 0 where
@@ -58,7 +64,7 @@ pub record TellsWakeLook (s : Step ℕ) (v : Mine) (n : ℕ) (w : Mine) : Type 0
 
 -- the wake of a seat is set
 abbrev pub wake_set : ℕ → View → View
-wake_set seat v = record v { undecided = slice_set v.undecided seat false }
+wake_set seat v = record v { verdicts = slice_set v.verdicts seat Decided }
 
 pub record TellsWakeSet (s : Step ℕ) (v : Mine) (n : ℕ) (w : Mine) : Type 0 where
   pub slots : w.1 ≡ v.1

@@ -47,4 +47,4 @@ mod words;
 pub use lock::Held;
 pub use pass::{WordNote, WordPass, WordQueue};
 pub use pos_word::PosWord;
-pub use view::{Eye, Listen, Look, Pen, Phase, Post, Stage, View, Walk};
+pub use view::{Eye, Listen, Look, Pen, Phase, Post, Stage, Verdict, View, Walk};

@@ -1,6 +1,6 @@
 ghost use Rattle.std.specs.Prelude.{◌≡◌, true, false, All, IfErr, OnOk};
 ghost use Rattle.pgn_words.specs.Passes.{IsPassOf, view_of};
-ghost use Rattle.pgn_words.specs.Views.{is_settled, may_drop};
+ghost use Rattle.pgn_words.specs.Views.{is_settled, may_drop, AreDecided};
 ghost use Rattle.pgn_words.specs.Told.{HasLocked, IsLocked, refused, freed};
 ghost use Rattle.pgn_words.specs.declared.view.Phase.TheVariants as phases;
 
@@ -52,7 +52,7 @@ impl WordQueue {
     pub fn drop_lock(&self, pass: &mut WordPass)
         requires own { IsPassOf self.now pass.old }
         requires phase { may_drop (view_of pass.old).phase ≡ true }
-        requires decided { All (λ undecided. undecided ≡ false) (view_of pass.old).undecided }
+        requires decided { AreDecided (view_of pass.old).verdicts }
         ensures own { IsPassOf self.now pass.new }
         ensures view { view_of pass.new ≡ freed (view_of pass.old) }
     {

@@ -1,6 +1,6 @@
-ghost use Rattle.std.specs.Prelude.{◌≡◌, ◌+◌, ◌^◌, ◌<◌, true, false, length, All};
+ghost use Rattle.std.specs.Prelude.{◌≡◌, ◌+◌, ◌^◌, ◌<◌, true, length};
 ghost use Rattle.pgn_words.specs.Words.{seats_of, pos_at, word_count};
-ghost use Rattle.pgn_words.specs.Views.{may_look};
+ghost use Rattle.pgn_words.specs.Views.{may_look, AreDecided};
 ghost use Rattle.pgn_words.specs.Passes.{IsPassOf, view_of, known_of, shape_of};
 ghost use Rattle.pgn_words.specs.Positions.{packed, IsPlacedIn};
 ghost use Rattle.pgn_words.specs.Looking.{MayLookFirst, HasLookedFirst, second_begun, MayAnnounce, announced, MayLookSecond, HasLookedSecond, MayFree, stopped};
@@ -31,7 +31,7 @@ impl WordQueue {
     pub fn first_look(&self, pass: &mut WordPass, seat: u32) -> PosWord
         requires own { IsPassOf self.now pass.old }
         requires phase { may_look (view_of pass.old).phase ≡ true }
-        requires decided { All (λ undecided. undecided ≡ false) (view_of pass.old).undecided }
+        requires decided { AreDecided (view_of pass.old).verdicts }
         requires seat { seat < seats_of (shape_of self.now) }
         requires next { MayLookFirst (view_of pass.old) seat }
         ensures own { IsPassOf self.now pass.new }
@@ -48,7 +48,7 @@ impl WordQueue {
     pub fn load_tail(&self, pass: &mut WordPass) -> (Xid, Pos)
         requires own { IsPassOf self.now pass.old }
         requires phase { may_look (view_of pass.old).phase ≡ true }
-        requires decided { All (λ undecided. undecided ≡ false) (view_of pass.old).undecided }
+        requires decided { AreDecided (view_of pass.old).verdicts }
         requires look { (view_of pass.old).eye.look ≡ looks.First }
         requires all { (view_of pass.old).eye.looked ≡ seats_of (shape_of self.now) }
         ensures own { IsPassOf self.now pass.new }
@@ -69,7 +69,7 @@ impl WordQueue {
     pub fn store_tail(&self, pass: &mut WordPass, mark: Xid, pos: Pos)
         requires own { IsPassOf self.now pass.old }
         requires phase { may_look (view_of pass.old).phase ≡ true }
-        requires decided { All (λ undecided. undecided ≡ false) (view_of pass.old).undecided }
+        requires decided { AreDecided (view_of pass.old).verdicts }
         requires least { MayAnnounce (view_of pass.old) mark pos }
         requires low { pos < 2 ^ 32 }
         ensures own { IsPassOf self.now pass.new }
@@ -88,7 +88,7 @@ impl WordQueue {
     pub fn second_look(&self, pass: &mut WordPass, seat: u32) -> PosWord
         requires own { IsPassOf self.now pass.old }
         requires phase { may_look (view_of pass.old).phase ≡ true }
-        requires decided { All (λ undecided. undecided ≡ false) (view_of pass.old).undecided }
+        requires decided { AreDecided (view_of pass.old).verdicts }
         requires seat { seat < seats_of (shape_of self.now) }
         requires next { MayLookSecond (view_of pass.old) seat }
         ensures own { IsPassOf self.now pass.new }
@@ -106,7 +106,7 @@ impl WordQueue {
     pub fn store_stop(&self, pass: &mut WordPass, page: u64)
         requires own { IsPassOf self.now pass.old }
         requires phase { may_look (view_of pass.old).phase ≡ true }
-        requires decided { All (λ undecided. undecided ≡ false) (view_of pass.old).undecided }
+        requires decided { AreDecided (view_of pass.old).verdicts }
         requires free { MayFree (view_of pass.old) page }
         ensures own { IsPassOf self.now pass.new }
         ensures view { view_of pass.new ≡ stopped page (view_of pass.old) }

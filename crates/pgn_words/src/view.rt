@@ -21,6 +21,16 @@ pub enum Phase {
     Signalling,
 }
 
+/// What a writer that signals has found out about a seat.
+pub enum Verdict {
+    /// It has not looked at it yet.
+    Unseen,
+    /// The seat's session needs a wake.
+    Needed,
+    /// It needs none, or its wake is set.
+    Decided,
+}
+
 /// What a pass is as a listener.
 pub enum Listen {
     /// It is none.
@@ -118,6 +128,6 @@ pub struct View {
     pub post: Post,
     pub walk: Walk,
     pub eye: Eye,
-    /// While it signals, for each seat whether it may still need a wake.
-    pub undecided: LinkedList<bool>,
+    /// While it signals, what it has found out about each seat.
+    pub verdicts: LinkedList<Verdict>,
 }

@@ -1,9 +1,10 @@
 ghost use Rattle.std.specs.Prelude.{◌≡◌, ◌+◌, ◌<◌, true};
 ghost use Rattle.pgn_words.specs.Words.{seats_of, wakes_at as first_wake, word_count};
 ghost use Rattle.pgn_words.specs.Passes.{IsPassOf, view_of, shape_of};
-ghost use Rattle.pgn_words.specs.Waking.{HasTaken, is_undecided, HasLookedToWake, wake_set};
+ghost use Rattle.pgn_words.specs.Waking.{HasTaken, verdict_on, HasLookedToWake, wake_set};
 ghost use Rattle.pgn_words.specs.declared.view.Listen.TheVariants as listens;
 ghost use Rattle.pgn_words.specs.declared.view.Phase.TheVariants as phases;
+ghost use Rattle.pgn_words.specs.declared.view.Verdict.TheVariants as verdicts;
 
 use crate::pass::{WordPass, WordQueue};
 use crate::plays::{SetWake, TakeWake, WakeLook};
@@ -38,12 +39,12 @@ impl WordQueue {
     /// The position of a seat, to see whether its session needs a wake.
     ///
     /// - *phase*: a writer calls it after `store_fin`.
-    /// - *seat*, *undecided*: it looks at each seat once, from 0 on.
+    /// - *seat*, *unseen*: it looks at each seat once, from 0 on.
     pub fn wake_look(&self, pass: &mut WordPass, seat: u32) -> PosWord
         requires own { IsPassOf self.now pass.old }
         requires phase { (view_of pass.old).phase ≡ phases.Signalling }
         requires seat { seat < seats_of (shape_of self.now) }
-        requires undecided { is_undecided (view_of pass.old) seat ≡ true }
+        requires unseen { verdict_on (view_of pass.old) seat ≡ verdicts.Unseen }
         ensures own { IsPassOf self.now pass.new }
         ensures looked { HasLookedToWake (view_of pass.old) seat result (view_of pass.new) }
     {
@@ -54,12 +55,12 @@ impl WordQueue {
     /// Sets the wake of a seat.
     ///
     /// - *phase*: a writer calls it after `store_fin`.
-    /// - *seat*, *undecided*: it sets the wakes of those seats where its look has found a need, each once.
+    /// - *seat*, *needed*: it sets the wakes of those seats where its look has found a need, each once.
     pub fn set_wake(&self, pass: &mut WordPass, seat: u32)
         requires own { IsPassOf self.now pass.old }
         requires phase { (view_of pass.old).phase ≡ phases.Signalling }
         requires seat { seat < seats_of (shape_of self.now) }
-        requires undecided { is_undecided (view_of pass.old) seat ≡ true }
+        requires needed { verdict_on (view_of pass.old) seat ≡ verdicts.Needed }
         ensures own { IsPassOf self.now pass.new }
         ensures view { view_of pass.new ≡ wake_set seat (view_of pass.old) }
     {

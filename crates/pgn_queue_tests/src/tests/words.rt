@@ -1,12 +1,12 @@
 //! A queue of two pages for two sessions, and single steps on its words.
-ghost use Rattle.std.specs.Prelude.{◌≡◌, ◌^◌, ◌<◌, true, false, length, All, IfOk, IfSome, []};
+ghost use Rattle.std.specs.Prelude.{◌≡◌, ◌^◌, ◌<◌, true, length, map, ◌∷◌, All, IfOk, IfSome, []};
 ghost use Rattle.pgn_base.specs.Notes.{IsNote};
 ghost use Rattle.pgn_base.specs.declared.format.Format.TheVariants.{One};
 ghost use Rattle.pgn_journal.specs.Journal.{next_xid};
 ghost use Rattle.pgn_journal.specs.Packing.{image};
 ghost use Rattle.pgn_hub.specs.Shape.{notes_of_seats};
 ghost use Rattle.pgn_words.specs.Passes.{IsPassOf, IsFresh, view_of, known_of, shape_of};
-ghost use Rattle.pgn_words.specs.Views.{is_settled};
+ghost use Rattle.pgn_words.specs.Views.{is_settled, AreDecided};
 ghost use Rattle.pgn_words.specs.Told.{drawn, refused};
 ghost use Rattle.pgn_words.specs.declared.view.Listen.TheVariants as listens;
 ghost use Rattle.pgn_words.specs.declared.view.Phase.TheVariants as phases;
@@ -24,7 +24,8 @@ mod threads;
 
 // A seat of database 1, whose session may send two notifications.
 fn seat() -> SeatSetup
-    ensures { result.notes ≡ 2 }
+    ensures notes { result.notes ≡ 2 }
+    ensures db { result.db ≡ 1 }
 {
     SeatSetup {
         db: DbOid::new(1),
@@ -37,6 +38,7 @@ fn setup_of_two(alloc: Global) -> Result<Setup, Fail>
     ensures pages { IfOk result (λ setup. setup.pages ≡ 2) }
     ensures flags { IfOk result (λ setup. setup.flags ≡ 1) }
     ensures seats { IfOk result (λ setup. length setup.seats ≡ 2) }
+    ensures dbs { IfOk result (λ setup. map (λ seat. seat.db) setup.seats ≡ 1 ∷ 1 ∷ []) }
     ensures format { IfOk result (λ setup. setup.format ≡ One) }
 {
     let mut seats = Vec::with_capacity(alloc, 2)?;
@@ -51,6 +53,7 @@ fn open_two(alloc: Global) -> Result<(WordQueue, WordPass, WordPass), Fail>
     ensures pages { IfOk result (λ opened. (shape_of opened.0).pages ≡ 2) }
     ensures flags { IfOk result (λ opened. (shape_of opened.0).flags ≡ 1) }
     ensures seats { IfOk result (λ opened. length (shape_of opened.0).seats ≡ 2) }
+    ensures dbs { IfOk result (λ opened. map (λ seat. seat.db) (shape_of opened.0).seats ≡ 1 ∷ 1 ∷ []) }
     ensures format { IfOk result (λ opened. (shape_of opened.0).format ≡ One) }
     ensures first { IfOk result (λ opened. IsFresh opened.1) }
     ensures second { IfOk result (λ opened. IsFresh opened.2) }
@@ -119,7 +122,7 @@ fn get_ready(queue: &WordQueue, pass: &mut WordPass) -> (Pos, u64)
     ensures low { result.0 < 2 ^ 32 }
     ensures stop { result.1 ≡ (view_of pass.new).stop }
     ensures post { (view_of pass.new).post ≡ (view_of pass.old).post }
-    ensures undecided { (view_of pass.new).undecided ≡ (view_of pass.old).undecided }
+    ensures verdicts { (view_of pass.new).verdicts ≡ (view_of pass.old).verdicts }
 {
     let head = queue.load_head(pass);
     let stop = queue.load_stop(pass);
@@ -131,9 +134,9 @@ fn make_ready(queue: &WordQueue, pass: &mut WordPass) -> Option<(Pos, u64)>
     requires own { IsPassOf queue.now pass.old }
     requires free { (view_of pass.old).phase ≡ phases.Free }
     requires settled { is_settled (view_of pass.old).post.listen ≡ true }
-    requires decided { All (λ undecided. undecided ≡ false) (view_of pass.old).undecided }
+    requires decided { AreDecided (view_of pass.old).verdicts }
     ensures own { IsPassOf queue.now pass.new }
-    ensures decided { IfSome result (λ found. All (λ undecided. undecided ≡ false) (view_of pass.new).undecided) }
+    ensures decided { IfSome result (λ found. AreDecided (view_of pass.new).verdicts) }
     ensures ready { IfSome result (λ found. (view_of pass.new).phase ≡ phases.Ready) }
     ensures cells { IfSome result (λ found. (view_of pass.new).pen.cells ≡ image (view_of pass.new).setup.format (known_of pass.new).seen) }
     ensures batch { IfSome result (λ found. (view_of pass.new).pen.batch ≡ []) }

@@ -1,20 +1,24 @@
 //! One notification from a writer to a listener, by the cells of its entry.
-ghost use Rattle.std.specs.Prelude.{◌≡◌, ◌+◌, ◌<◌, ◌≤◌, ◌⊎◌, true, length, map, slice_set, Some, IfOk, IfSome, [], ◌∷◌};
+ghost use Rattle.std.specs.Prelude.{◌≡◌, ◌+◌, ◌<◌, ◌≤◌, ◌⊎◌, ◌==◌, not, true, length, map, slice_set, Some, IfOk, IfSome, [], ◌∷◌};
 ghost use Rattle.pgn_base.specs.declared.format.Format.TheVariants.{One};
 ghost use Rattle.pgn_hub.specs.Shape.{notes_of_seats};
 ghost use Rattle.pgn_journal.specs.examples.Packing.{virtual_note, virtual_cells};
-ghost use Rattle.pgn_words.specs.Views.{is_settled};
+ghost use Rattle.pgn_journal.specs.Packing.{image};
+ghost use Rattle.pgn_words.specs.Views.{is_settled, seat_of};
+ghost use Rattle.pgn_words.specs.Positions.{place_or};
+ghost use Rattle.pgn_words.specs.Waking.{verdict_on, verdict_of, wake_set};
 ghost use Rattle.pgn_words.specs.Passes.{IsPassOf, view_of, known_of, shape_of};
 ghost use Rattle.pgn_queue_tests.specs.Writers.{IsOpenAt, IsShowing};
 ghost use Rattle.pgn_words.specs.declared.view.Phase.TheVariants as phases;
 ghost use Rattle.pgn_words.specs.declared.view.Stage.TheVariants as stages;
+ghost use Rattle.pgn_words.specs.declared.view.Verdict.TheVariants as verdicts;
 
 use super::{draw, get_ready, holder, join, open_two};
 use pgn_base::{Name, Note, PID_BASE, Payload, SessionNo, Xid};
 use pgn_hub::PassView;
 use pgn_journal::Fate;
 use pgn_layout::Pos;
-use pgn_words::{WordPass, WordQueue};
+use pgn_words::{PosWord, WordPass, WordQueue};
 use std::alloc::Global;
 use std::test::Fail;
 
@@ -118,6 +122,8 @@ fn write(queue: &WordQueue, pass: &mut WordPass, at: u64, xid: Xid) -> bool
     ensures own { IsPassOf queue.now pass.new }
     ensures shows { IsShowing (view_of pass.new) xid }
     ensures seen { (known_of pass.new).seen ≡ (known_of pass.old).seen }
+    ensures db { (known_of pass.new).db ≡ (known_of pass.old).db }
+    ensures head { length (view_of pass.new).pen.cells ≡ at + 11 }
     ensures post { (view_of pass.new).post ≡ (view_of pass.old).post }
 {
     let cells = entry_of(xid.get(), PID_BASE + pass.session().get());
@@ -127,21 +133,65 @@ fn write(queue: &WordQueue, pass: &mut WordPass, at: u64, xid: Xid) -> bool
     same
 }
 
-// It commits the transaction, of which everything is shown, wakes both sessions, and gives the lock up.
-fn commit(queue: &WordQueue, pass: &mut WordPass, xid: Xid)
+// Whether a position is that of a listener which does not stand at the head.
+fn is_behind(position: PosWord, head: Pos) -> bool
+    ensures { result ≡ not (place_or head position == head) }
+{
+    match position {
+        PosWord::At { pos, .. } => pos.get() != head.get(),
+        _ => false,
+    }
+}
+
+// It sets the wake of a seat that needs it.
+fn set_wake_of(queue: &WordQueue, pass: &mut WordPass, seat: u32, needs: bool)
+    requires own { IsPassOf queue.now pass.old }
+    requires phase { (view_of pass.old).phase ≡ phases.Signalling }
+    requires seat { seat < length (shape_of queue.now).seats }
+    requires verdict { verdict_on (view_of pass.old) seat ≡ verdict_of needs }
+    requires long { length (view_of pass.old).verdicts ≡ length (shape_of queue.now).seats }
+    ensures own { IsPassOf queue.now pass.new }
+    ensures view { view_of pass.new ≡ wake_set seat (view_of pass.old) }
+{
+    if needs {
+        queue.set_wake(pass, seat);
+    }
+}
+
+// It looks at a seat of its own database, and wakes a listener that does not stand at the head.
+fn wake(queue: &WordQueue, pass: &mut WordPass, seat: u32, head: Pos)
+    requires own { IsPassOf queue.now pass.old }
+    requires phase { (view_of pass.old).phase ≡ phases.Signalling }
+    requires seat { seat < length (shape_of queue.now).seats }
+    requires unseen { verdict_on (view_of pass.old) seat ≡ verdicts.Unseen }
+    requires long { length (view_of pass.old).verdicts ≡ length (shape_of queue.now).seats }
+    requires head { head ≡ length (image (view_of pass.old).setup.format (known_of pass.old).seen) }
+    requires db { (seat_of (view_of pass.old).setup (seat + 1)).db ≡ (known_of pass.old).db }
+    ensures own { IsPassOf queue.now pass.new }
+    ensures view { view_of pass.new ≡ wake_set seat (view_of pass.old) }
+{
+    let position = queue.wake_look(pass, seat);
+    set_wake_of(queue, pass, seat, is_behind(position, head));
+}
+
+// It commits the transaction, of which everything is shown, wakes who needs it, and gives the lock up.
+fn commit(queue: &WordQueue, pass: &mut WordPass, xid: Xid, head: Pos)
     requires own { IsPassOf queue.now pass.old }
     requires seats { length (shape_of queue.now).seats ≡ 2 }
+    requires dbs { map (λ seat. seat.db) (shape_of queue.now).seats ≡ 1 ∷ 1 ∷ [] }
+    requires db { (known_of pass.old).db ≡ 1 }
+    requires head { head ≡ length (view_of pass.old).pen.cells }
     requires shows { IsShowing (view_of pass.old) xid }
     requires reach { length (known_of pass.old).seen < notes_of_seats (shape_of queue.now).seats }
     ensures own { IsPassOf queue.now pass.new }
     ensures free { (view_of pass.new).phase ≡ phases.Free }
-    ensures decided { (view_of pass.new).undecided ≡ [] }
+    ensures decided { (view_of pass.new).verdicts ≡ [] }
     ensures post { (view_of pass.new).post ≡ (view_of pass.old).post }
 {
     queue.set_status(pass, xid, Fate::Committed, 1);
     queue.store_fin(pass, xid);
-    queue.set_wake(pass, 0);
-    queue.set_wake(pass, 1);
+    wake(queue, pass, 0, head);
+    wake(queue, pass, 1, head);
     queue.drop_lock(pass);
 }
 
@@ -155,16 +205,17 @@ pub(crate) fn publish_locked(
     requires pages { (shape_of queue.now).pages ≡ 2 }
     requires format { (shape_of queue.now).format ≡ One }
     requires seats { length (shape_of queue.now).seats ≡ 2 }
+    requires dbs { map (λ seat. seat.db) (shape_of queue.now).seats ≡ 1 ∷ 1 ∷ [] }
     requires held { (view_of pass.old).phase ≡ phases.Held }
     requires notes { notes.now ≡ virtual_note ∷ [] }
     ensures own { IsPassOf queue.now pass.new }
     ensures free { IfSome result (λ _. (view_of pass.new).phase ≡ phases.Free) }
-    ensures decided { IfSome result (λ _. (view_of pass.new).undecided ≡ []) }
+    ensures decided { IfSome result (λ _. (view_of pass.new).verdicts ≡ []) }
     ensures post { IfSome result (λ _. (view_of pass.new).post ≡ (view_of pass.old).post) }
 {
     let (at, xid) = begin(queue, pass, notes)?;
     let same = write(queue, pass, at, xid);
-    commit(queue, pass, xid);
+    commit(queue, pass, xid, Pos::new(at + 11));
     Some(same)
 }
 
@@ -174,12 +225,13 @@ pub(crate) fn publish(queue: &WordQueue, pass: &mut WordPass, notes: &[Note; 1])
     requires pages { (shape_of queue.now).pages ≡ 2 }
     requires format { (shape_of queue.now).format ≡ One }
     requires seats { length (shape_of queue.now).seats ≡ 2 }
+    requires dbs { map (λ seat. seat.db) (shape_of queue.now).seats ≡ 1 ∷ 1 ∷ [] }
     requires free { (view_of pass.old).phase ≡ phases.Free }
     requires settled { is_settled (view_of pass.old).post.listen ≡ true }
     requires notes { notes.now ≡ virtual_note ∷ [] }
     ensures own { IsPassOf queue.now pass.new }
     ensures free { IfSome result (λ _. (view_of pass.new).phase ≡ phases.Free) }
-    ensures decided { IfSome result (λ _. (view_of pass.new).undecided ≡ []) }
+    ensures decided { IfSome result (λ _. (view_of pass.new).verdicts ≡ []) }
     ensures post { IfSome result (λ _. (view_of pass.new).post ≡ (view_of pass.old).post) }
 {
     if queue.try_lock(pass).is_err() {
@@ -223,7 +275,7 @@ fn a_listener_reads_what_the_head_shows(rt: HostRuntime) -> Result<(), Fail> {
     assert!(rt; write(&queue, &mut first, at, xid));
     assert_eq!(rt; queue.show_head(&mut second).get(), 11);
     assert!(rt; shows_entry(&queue, &mut second));
-    commit(&queue, &mut first, xid);
+    commit(&queue, &mut first, xid, Pos::new(at + 11));
     assert_eq!(rt; first.told().get(), 4);
     Ok(())
 }

@@ -1,9 +1,9 @@
 //! A session joins before the two looks of an advance, and between them.
-ghost use Rattle.std.specs.Prelude.{◌≡◌, ◌^◌, ◌<◌, ◌≤◌, true, false, length, Some, All, IfSome};
+ghost use Rattle.std.specs.Prelude.{◌≡◌, ◌^◌, ◌<◌, ◌≤◌, true, length, Some, IfSome};
 ghost use Rattle.pgn_journal.specs.Packing.{image};
 ghost use Rattle.pgn_words.specs.Passes.{IsPassOf, view_of, known_of, shape_of};
 ghost use Rattle.pgn_words.specs.Positions.{packed, mark_in};
-ghost use Rattle.pgn_words.specs.Views.{is_settled};
+ghost use Rattle.pgn_words.specs.Views.{is_settled, AreDecided};
 ghost use Rattle.pgn_words.specs.declared.view.Listen.TheVariants as listens;
 ghost use Rattle.pgn_words.specs.declared.view.Look.TheVariants as looks;
 ghost use Rattle.pgn_words.specs.declared.view.Phase.TheVariants as phases;
@@ -20,11 +20,11 @@ fn look_first(queue: &WordQueue, pass: &mut WordPass, head: Pos) -> Option<Xid>
     requires own { IsPassOf queue.now pass.old }
     requires seats { length (shape_of queue.now).seats ≡ 2 }
     requires ready { (view_of pass.old).phase ≡ phases.Ready }
-    requires decided { All (λ undecided. undecided ≡ false) (view_of pass.old).undecided }
+    requires decided { AreDecided (view_of pass.old).verdicts }
     requires head { head ≡ length (image (view_of pass.old).setup.format (known_of pass.old).seen) }
     ensures own { IsPassOf queue.now pass.new }
     ensures ready { IfSome result (λ _. (view_of pass.new).phase ≡ phases.Ready) }
-    ensures decided { IfSome result (λ _. All (λ undecided. undecided ≡ false) (view_of pass.new).undecided) }
+    ensures decided { IfSome result (λ _. AreDecided (view_of pass.new).verdicts) }
     ensures look { IfSome result (λ _. (view_of pass.new).eye.look ≡ looks.First) }
     ensures all { IfSome result (λ _. (view_of pass.new).eye.looked ≡ 2) }
     ensures least { IfSome result (λ fin. (view_of pass.new).eye.least ≡ packed fin head) }
@@ -44,14 +44,14 @@ fn begin_second(queue: &WordQueue, pass: &mut WordPass, head: Pos, fin: Xid)
     requires own { IsPassOf queue.now pass.old }
     requires seats { length (shape_of queue.now).seats ≡ 2 }
     requires ready { (view_of pass.old).phase ≡ phases.Ready }
-    requires decided { All (λ undecided. undecided ≡ false) (view_of pass.old).undecided }
+    requires decided { AreDecided (view_of pass.old).verdicts }
     requires look { (view_of pass.old).eye.look ≡ looks.First }
     requires all { (view_of pass.old).eye.looked ≡ 2 }
     requires least { (view_of pass.old).eye.least ≡ packed fin head }
     requires low { head < 2 ^ 32 }
     ensures own { IsPassOf queue.now pass.new }
     ensures ready { (view_of pass.new).phase ≡ phases.Ready }
-    ensures decided { All (λ undecided. undecided ≡ false) (view_of pass.new).undecided }
+    ensures decided { AreDecided (view_of pass.new).verdicts }
     ensures look { (view_of pass.new).eye.look ≡ looks.Second }
     ensures none { (view_of pass.new).eye.looked ≡ 0 }
     ensures announced { mark_in (view_of pass.new).eye.least ≤ mark_in (view_of pass.new).eye.tail }
@@ -68,10 +68,10 @@ fn look_once(queue: &WordQueue, pass: &mut WordPass) -> bool
     requires seats { length (shape_of queue.now).seats ≡ 2 }
     requires free { (view_of pass.old).phase ≡ phases.Free }
     requires settled { is_settled (view_of pass.old).post.listen ≡ true }
-    requires decided { All (λ undecided. undecided ≡ false) (view_of pass.old).undecided }
+    requires decided { AreDecided (view_of pass.old).verdicts }
     ensures own { IsPassOf queue.now pass.new }
     ensures ready { result ≡ true → (view_of pass.new).phase ≡ phases.Ready }
-    ensures decided { result ≡ true → All (λ undecided. undecided ≡ false) (view_of pass.new).undecided }
+    ensures decided { result ≡ true → AreDecided (view_of pass.new).verdicts }
     ensures look { result ≡ true → (view_of pass.new).eye.look ≡ looks.Second }
     ensures none { result ≡ true → (view_of pass.new).eye.looked ≡ 0 }
     ensures announced { result ≡ true → mark_in (view_of pass.new).eye.least ≤ mark_in (view_of pass.new).eye.tail }
@@ -91,13 +91,13 @@ fn pass_over(queue: &WordQueue, pass: &mut WordPass) -> bool
     requires own { IsPassOf queue.now pass.old }
     requires seats { length (shape_of queue.now).seats ≡ 2 }
     requires ready { (view_of pass.old).phase ≡ phases.Ready }
-    requires decided { All (λ undecided. undecided ≡ false) (view_of pass.old).undecided }
+    requires decided { AreDecided (view_of pass.old).verdicts }
     requires look { (view_of pass.old).eye.look ≡ looks.Second }
     requires none { (view_of pass.old).eye.looked ≡ 0 }
     requires announced { mark_in (view_of pass.old).eye.least ≤ mark_in (view_of pass.old).eye.tail }
     ensures own { IsPassOf queue.now pass.new }
     ensures ready { result ≡ true → (view_of pass.new).phase ≡ phases.Ready }
-    ensures decided { result ≡ true → All (λ undecided. undecided ≡ false) (view_of pass.new).undecided }
+    ensures decided { result ≡ true → AreDecided (view_of pass.new).verdicts }
     ensures look { result ≡ true → (view_of pass.new).eye.look ≡ looks.Second }
     ensures one { result ≡ true → (view_of pass.new).eye.looked ≡ 1 }
 {
@@ -109,12 +109,12 @@ fn meet_joiner(queue: &WordQueue, pass: &mut WordPass) -> bool
     requires own { IsPassOf queue.now pass.old }
     requires seats { length (shape_of queue.now).seats ≡ 2 }
     requires ready { (view_of pass.old).phase ≡ phases.Ready }
-    requires decided { All (λ undecided. undecided ≡ false) (view_of pass.old).undecided }
+    requires decided { AreDecided (view_of pass.old).verdicts }
     requires look { (view_of pass.old).eye.look ≡ looks.Second }
     requires one { (view_of pass.old).eye.looked ≡ 1 }
     ensures own { IsPassOf queue.now pass.new }
     ensures ready { (view_of pass.new).phase ≡ phases.Ready }
-    ensures decided { All (λ undecided. undecided ≡ false) (view_of pass.new).undecided }
+    ensures decided { AreDecided (view_of pass.new).verdicts }
     ensures look { result ≡ true → (view_of pass.new).eye.look ≡ looks.Second }
     ensures one { result ≡ true → (view_of pass.new).eye.looked ≡ 1 }
     ensures joins { result ≡ true → (view_of pass.new).eye.joins ≡ Some 1 }
@@ -127,13 +127,13 @@ fn look_at_joiner(queue: &WordQueue, pass: &mut WordPass) -> bool
     requires own { IsPassOf queue.now pass.old }
     requires seats { length (shape_of queue.now).seats ≡ 2 }
     requires ready { (view_of pass.old).phase ≡ phases.Ready }
-    requires decided { All (λ undecided. undecided ≡ false) (view_of pass.old).undecided }
+    requires decided { AreDecided (view_of pass.old).verdicts }
     requires look { (view_of pass.old).eye.look ≡ looks.Second }
     requires none { (view_of pass.old).eye.looked ≡ 0 }
     requires announced { mark_in (view_of pass.old).eye.least ≤ mark_in (view_of pass.old).eye.tail }
     ensures own { IsPassOf queue.now pass.new }
     ensures ready { result ≡ true → (view_of pass.new).phase ≡ phases.Ready }
-    ensures decided { result ≡ true → All (λ undecided. undecided ≡ false) (view_of pass.new).undecided }
+    ensures decided { result ≡ true → AreDecided (view_of pass.new).verdicts }
     ensures look { result ≡ true → (view_of pass.new).eye.look ≡ looks.Second }
     ensures one { result ≡ true → (view_of pass.new).eye.looked ≡ 1 }
 {
@@ -145,7 +145,7 @@ fn look_again(queue: &WordQueue, pass: &mut WordPass, joiner: &mut WordPass) -> 
     requires own { IsPassOf queue.now pass.old }
     requires seats { length (shape_of queue.now).seats ≡ 2 }
     requires ready { (view_of pass.old).phase ≡ phases.Ready }
-    requires decided { All (λ undecided. undecided ≡ false) (view_of pass.old).undecided }
+    requires decided { AreDecided (view_of pass.old).verdicts }
     requires look { (view_of pass.old).eye.look ≡ looks.Second }
     requires one { (view_of pass.old).eye.looked ≡ 1 }
     requires joiner { IsPassOf queue.now joiner.old }

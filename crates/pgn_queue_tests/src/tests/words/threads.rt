@@ -1,5 +1,5 @@
 //! Two threads step on the words at the same time.
-ghost use Rattle.std.specs.Prelude.{◌≡◌, true, [], ◌∷◌, length};
+ghost use Rattle.std.specs.Prelude.{◌≡◌, true, [], ◌∷◌, length, map};
 ghost use Rattle.pgn_base.specs.declared.format.Format.TheVariants.{One};
 ghost use Rattle.pgn_journal.specs.examples.Packing.{virtual_note};
 ghost use Rattle.pgn_words.specs.Passes.{IsPassOf, view_of, shape_of};
@@ -45,6 +45,7 @@ fn publish_in_turn<R: Wait>(
     requires pages { (shape_of queue.now).pages ≡ 2 }
     requires format { (shape_of queue.now).format ≡ One }
     requires seats { length (shape_of queue.now).seats ≡ 2 }
+    requires dbs { map (λ seat. seat.db) (shape_of queue.now).seats ≡ 1 ∷ 1 ∷ [] }
     requires free { (view_of pass.old).phase ≡ phases.Free }
     requires settled { is_settled (view_of pass.old).post.listen ≡ true }
     requires notes { notes.now ≡ virtual_note ∷ [] }
@@ -68,6 +69,7 @@ fn publish_on_two<R: Threads + Wait + Sync>(
     requires pages { (shape_of queue.now).pages ≡ 2 }
     requires format { (shape_of queue.now).format ≡ One }
     requires seats { length (shape_of queue.now).seats ≡ 2 }
+    requires dbs { map (λ seat. seat.db) (shape_of queue.now).seats ≡ 1 ∷ 1 ∷ [] }
     requires notes { notes.now ≡ virtual_note ∷ [] }
     requires first { IsPassOf queue.now first }
     requires first_free { (view_of first).phase ≡ phases.Free }
@@ -118,6 +120,7 @@ fn publish_and_read<R: Threads + Sync>(
     requires pages { (shape_of queue.now).pages ≡ 2 }
     requires format { (shape_of queue.now).format ≡ One }
     requires seats { length (shape_of queue.now).seats ≡ 2 }
+    requires dbs { map (λ seat. seat.db) (shape_of queue.now).seats ≡ 1 ∷ 1 ∷ [] }
     requires notes { notes.now ≡ virtual_note ∷ [] }
     requires writer { IsPassOf queue.now writer }
     requires writer_free { (view_of writer).phase ≡ phases.Free }

@@ -1,4 +1,4 @@
-use Rattle.std.proofs.Common.{◌≡◌, ℕ, suc, ◌+◌, ◌-◌, ◌<◌, ◌≤◌, ◌++◌, Bool, true, false, List, length, take, replicate, set, get_or, slice_index_or, All, sym, refl, ap, ◌∙◌, subst, arith}
+use Rattle.std.proofs.Common.{◌≡◌, ℕ, suc, ◌+◌, ◌-◌, ◌<◌, ◌≤◌, ◌++◌, Bool, List, length, take, replicate, map, set, get_or, slice_index_or, All, sym, refl, ap, ◌∙◌, subst, arith}
 use Rattle.std.proofs.lemmas.List.{length-map, take_all, append-nil}
 use Rattle.pgn_lanes.specs.Behind.{is_woken, plain_behind}
 use Rattle.pgn_base.specs.declared.format.Format.{Format}
@@ -8,15 +8,17 @@ use Rattle.pgn_hub.specs.Shape.{Shape}
 use Rattle.pgn_words.specs.declared.view.View.{View}
 use Rattle.pgn_words.specs.Views.{no_seat}
 use Rattle.pgn_words.specs.Positions.{place_or}
-use Rattle.pgn_words.specs.Waking.{needs_wake, wake_looked}
+use Rattle.pgn_words.specs.declared.view.Verdict.{Verdict}
+use Rattle.pgn_words.specs.declared.view.Verdict.TheVariants.{Unseen, Decided}
+use Rattle.pgn_words.specs.Waking.{needs_wake, verdict_of, wake_looked}
 use Rattle.pgn_words.specs.Passes.{view_of, known_of}
 use Rattle.pgn_wordhub.specs.Passes.{hub_shape}
 use Rattle.pgn_wordhub.specs.Wakes.{decided_as}
-use Rattle.pgn_wordhub.proofs.WakeLaws.{decides_next, undecided_next, place_within, places_within, db_of_seat, behind_long}
+use Rattle.pgn_wordhub.proofs.WakeLaws.{decides_next, unseen_next, place_within, places_within, db_of_seat, behind_long}
 use Rattle.pgn_wordhub.proofs.hub.WordHub.look_to_wake.Goals as goal
 
-pub wake_look-position-requires-clause-undecided : goal.wake_look-position-requires-clause-undecided
-wake_look-position-requires-clause-undecided c =
+pub wake_look-position-requires-clause-unseen : goal.wake_look-position-requires-clause-unseen
+wake_look-position-requires-clause-unseen c =
     let inv = c.loop-seat.invariant in
     let dbs = c.args.self.now.dbs.items in
     let all : length dbs ≡ length (hub_shape c.args.self.now).seats = ap length c.args.self.now.databases ∙ length-map (hub_shape c.args.self.now).seats (λ (s : SeatSetup). s.db) in
@@ -24,8 +26,8 @@ wake_look-position-requires-clause-undecided c =
     let end = c.seats-seat-end.ensures in
     let places = inv.1 in
     let long = c.requires.long in
-    ap (λ (v : View). get_or v.undecided c.loop-seat.seat false) inv.3
-    ∙ undecided_next c.args.head (known_of c.args.pass.now).db (length dbs) c.loop-seat.seat c.loop-seat.places dbs (omega (arith, test, end, all)) (omega (arith, places, long, all)) refl
+    ap (λ (v : View). get_or v.verdicts c.loop-seat.seat Decided) inv.3
+    ∙ unseen_next c.args.head (known_of c.args.pass.now).db (length dbs) c.loop-seat.seat c.loop-seat.places dbs (omega (arith, test, end, all)) (omega (arith, places, long, all)) refl
 
 pub loop-seat-preserved : goal.loop-seat-preserved
 loop-seat-preserved c =
@@ -63,10 +65,10 @@ loop-seat-preserved c =
       Rattle.std.proofs.lemmas.List.length-set c.loop-seat.places seat c.place_of.result ∙ inv.1,
       subst (λ (n : ℕ). All (λ p. p ≤ c.args.head) (take n (set c.loop-seat.places seat c.place_of.result))) (sym more)
           (places_within c.args.head seat c.place_of.result c.loop-seat.places (omega (arith, below, size)) inv.2 (omega (arith, within, place))),
-      looked.view ∙ ap (wake_looked seat found) inv.3 ∙ ap (λ (us : List Bool). decided_as us v) (
-          ap (λ b. set (plain_behind c.args.head v.known.db (take seat c.loop-seat.places) (take seat dbs) ++ replicate (length dbs - seat) true) seat b) (ap (λ (u : View). needs_wake u seat found) (sym inv.3) ∙ first)
+      looked.view ∙ ap (wake_looked seat found) inv.3 ∙ ap (λ (us : List Verdict). decided_as us v) (
+          ap (λ b. set (map verdict_of (plain_behind c.args.head v.known.db (take seat c.loop-seat.places) (take seat dbs)) ++ replicate (length dbs - seat) Unseen) seat (verdict_of b)) (ap (λ (u : View). needs_wake u seat found) (sym inv.3) ∙ first)
           ∙ decides_next c.args.head v.known.db c.place_of.result own (length dbs) seat c.loop-seat.places dbs below size refl is_own
-          ∙ ap (λ n. plain_behind c.args.head v.known.db (take n (set c.loop-seat.places seat c.place_of.result)) (take n dbs) ++ replicate (length dbs - n) true) (sym more)),
+          ∙ ap (λ n. map verdict_of (plain_behind c.args.head v.known.db (take n (set c.loop-seat.places seat c.place_of.result)) (take n dbs)) ++ replicate (length dbs - n) Unseen) (sym more)),
     )
 
 pub returns-clause-long : goal.returns-clause-long
@@ -84,8 +86,9 @@ returns-clause-long c =
     let ps : take seat c.loop-seat.places ≡ c.loop-seat.places = take_all seat c.loop-seat.places (omega (arith, places, long, all, past)) in
     let os : take seat dbs ≡ dbs = take_all seat dbs past in
     let none : length dbs - seat ≡ 0 = omega (arith, past) in
-    ap (λ (u : View). length u.undecided) inv.3
-    ∙ ap (λ k. length (plain_behind c.args.head v.known.db (take seat c.loop-seat.places) (take seat dbs) ++ replicate k true)) none
-    ∙ ap length (append-nil (plain_behind c.args.head v.known.db (take seat c.loop-seat.places) (take seat dbs)))
+    ap (λ (u : View). length u.verdicts) inv.3
+    ∙ ap (λ k. length (map verdict_of (plain_behind c.args.head v.known.db (take seat c.loop-seat.places) (take seat dbs)) ++ replicate k Unseen)) none
+    ∙ ap length (append-nil (map verdict_of (plain_behind c.args.head v.known.db (take seat c.loop-seat.places) (take seat dbs))))
+    ∙ length-map (plain_behind c.args.head v.known.db (take seat c.loop-seat.places) (take seat dbs)) verdict_of
     ∙ ap (λ l. length (plain_behind c.args.head v.known.db l (take seat dbs))) ps ∙ ap (λ l. length (plain_behind c.args.head v.known.db c.loop-seat.places l)) os
     ∙ behind_long c.args.head v.known.db c.loop-seat.places dbs (omega (arith, places, long, all)) ∙ inv.1 ∙ c.requires.long
