@@ -24,11 +24,11 @@ use Rattle.pgn_words.specs.Views.{holds_lock, knows_stop, knows_cells, stored_by
 use Rattle.pgn_words.specs.Positions.{is_placed}
 use Rattle.pgn_words.specs.declared.view.Stage.TheVariants.{Shown}
 use Rattle.pgn_words.specs.ListenRule.{LooksBy, Spared, Walking, Bounds}
-use Rattle.pgn_words.specs.Rule.{World, KnowsStop, HoldsIn, Holds, IsWriting, Law, Lawful, Keeps}
+use Rattle.pgn_words.specs.Rule.{World, KnowsStop, HoldsIn, Holds, IsWriting, Law, Lawful, Keeps, KnowsAll}
 use Rattle.pgn_words.specs.Told.{TellsCellStore, TellsCell, TellsHeadStore, MayShow, cell_stored, head_stored}
 use Rattle.pgn_words.proofs.EachLaws.{each_turn, each_keep}
 use Rattle.pgn_words.proofs.Frames.{seats_keep, locking_keep, history_keep, numbers_keep, budget_keep, statuses_keep}
-use Rattle.pgn_words.proofs.MoreFrames.{posts_keep, looks_keep, wakes_keep, flags_keep, named_keep, taken_keep}
+use Rattle.pgn_words.proofs.MoreFrames.{posts_keep, looks_keep, wakes_keep, flags_keep, named_keep, taken_keep, someone_keep}
 use Rattle.pgn_words.proofs.LockKept.{held_setup, alone, others_hold, has_left}
 use Rattle.pgn_words.proofs.ImageLaws.{shown_low, written_part}
 use Rattle.pgn_words.proofs.HeadKept.{phase_holds}
@@ -86,7 +86,7 @@ stores z c g views id v at x h here opened next page low =
         small = small_set c.cells (at % room_of z) x within low h.stored.small;
         low = h.stored.low;
       };
-      history = history_keep views id v w here z c.lock c.fin g.made g.past g.shown h.history refl refl refl;
+      history = history_keep views id v w here z c.lock c.fin g.made g.past g.shown h.history refl refl refl refl;
       numbers = numbers_keep views id v w here c.lock c.fin c.xid h.numbers refl refl;
       holding = record {
         holds = each_turn (Holds z c.stop g.past g.shown c.cells) (Holds z c.stop g.past g.shown (set c.cells (at % room_of z) x)) views id w h.holding.holds
@@ -115,7 +115,7 @@ stores z c g views id v at x h here opened next page low =
       wakes = wakes_keep views id v w here z.format c.lock c.fin g.past g.undecided c.wakes h.wakes refl refl refl refl refl refl refl (λ i. refl) refl refl;
       flags = flags_keep views id v w here c.fin g.undecided c.flags h.flags refl (h.flags.told id v here) refl refl;
       named = named_keep views id v w here h.named refl refl refl refl refl;
-      taken = taken_keep views id v w here z g.made c.fin g.seat g.past h.taken refl refl;
+      taken = taken_keep views id v w here z g.made c.fin g.undecided g.seat g.past h.taken refl refl;
     }
   where
     in_open : (z : Shape) (stop : ℕ) (past shown : List Tx) (cells : List ℕ) (j : ℕ) (w : View) → w.phase ≡ Open
@@ -231,6 +231,7 @@ shows z c g views id v to shape h here opened may =
         one_more = let more = length-append g.past (draft v.known.session v.known.db v.pen.notes may.queued may.fate ∷ []) in omega (arith, more);
         begins = begins-continued g.past (draft v.known.session v.known.db v.pen.notes may.queued may.fate ∷ []);
         free = λ nobody. let is = locked.1 in let positive = locked.2 in absurd (omega (arith, nobody, is, positive));
+        whole = someone_keep views id v w here (KnowsAll g.past) refl (λ p. p) h.history.whole;
         sees = each_keep (λ _ u. Begins u.known.seen g.past) views id v w here h.history.sees (λ p. p);
         own_seen = each_keep (λ _ u. All (λ x. x < next_xid u.known.seen) u.known.own) views id v w here h.history.own_seen (λ p. p);
         owns = each_keep (λ _ u. u.known.own ≡ Rattle.pgn_journal.specs.Journal.xids_of u.known.session g.past) views id v w here h.history.owns (λ p. p);
@@ -268,7 +269,7 @@ shows z c g views id v to shape h here opened may =
       wakes = wakes_keep views id v w here z.format c.lock c.fin g.past g.undecided c.wakes h.wakes refl refl refl refl refl refl refl (λ i. refl) refl refl;
       flags = flags_keep views id v w here c.fin g.undecided c.flags h.flags refl (h.flags.told id v here) refl refl;
       named = named_keep views id v w here h.named refl refl refl refl refl;
-      taken = taken_keep views id v w here z g.made c.fin g.seat g.past h.taken refl refl;
+      taken = taken_keep views id v w here z g.made c.fin g.undecided g.seat g.past h.taken refl refl;
     }
 
 pub store_head_allowed : (z : Shape) (slots id to : ℕ) (me : Me ℕ View) → me.0.phase ≡ Open → MayShow me.0 to → Allows (Lawful z) slots id me 1 (λ _. to) (λ _. TellsHeadStore (step slots 1 to 0 none) me to)

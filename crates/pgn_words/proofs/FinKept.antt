@@ -30,7 +30,7 @@ use Rattle.pgn_words.specs.declared.view.Verdict.TheVariants.{Unseen}
 use Rattle.pgn_words.specs.WakeRule.{served, IsHeard, IsHeeded, Heeds, Signals, ended_in, pending, waits_in, raised_in, found_in, Raised, IsMost, IsTaken}
 use Rattle.pgn_words.specs.Rule.{World, KnowsStop, Draws, Holds, IsEnding, WasMade, Fates, Law, Lawful, Keeps, Budget, notes_of, status_at}
 use Rattle.pgn_words.specs.Told.{TellsFinStore, fin_stored}
-use Rattle.pgn_words.proofs.EachLaws.{each_turn, each_keep, sum_set, own_further}
+use Rattle.pgn_words.proofs.EachLaws.{each_turn, each_keep, changed_at, sum_set, own_further}
 use Rattle.pgn_words.proofs.ImageLaws.{written_part, placed_grows, least_grows}
 use Rattle.pgn_words.proofs.NearSteps.{heeded_later}
 use Rattle.pgn_words.proofs.Frames.{seats_keep, locking_keep}
@@ -93,6 +93,7 @@ finishes z c g views id v shape h here ended =
         one_more = omega arith;
         begins = begins-itself now;
         free = λ nobody. refl;
+        whole = (id, w, changed_at views id v w here, locked.2, inl (ap (λ (txs : List Tx). txs ++ tx ∷ []) was.seen_is));
         sees = each_turn (λ _ u. Begins u.known.seen g.past) (λ _ u. Begins u.known.seen now) views id w h.history.sees
             (subst (λ (txs : List Tx). Begins txs now) (ap (λ (txs : List Tx). txs ++ tx ∷ []) (sym was.seen_is)) (begins-itself now))
             (λ j u other there p. begins-on u.known.seen g.past now p (begins-continued g.past (tx ∷ [])));
@@ -169,11 +170,11 @@ finishes z c g views id v shape h here ended =
             (each_keep (λ _ x. All (Raised views) (found_in x)) views id v w here h.flags.found (λ p. p) j u there);
       };
       named = named_keep views id v w here h.named refl refl refl refl refl;
-      taken = each_turn (λ j u. All (IsTaken z g.made c.fin g.seat g.past j u.known.session) u.joined) (λ j u. All (IsTaken z g.made (c.fin + 1) g.seat now j u.known.session) u.joined) views id w h.taken
-          (All-weaker (IsTaken z g.made c.fin g.seat g.past id v.known.session) (IsTaken z g.made (c.fin + 1) g.seat now id v.known.session)
-          (λ k p. gone_later z g.made c.fin g.seat g.past tx id v.known.session k p (λ same. p.other (sym same ∙ was.session_is))) v.joined (h.taken id v here))
-          (λ j u other there all_gone. All-weaker (IsTaken z g.made c.fin g.seat g.past j u.known.session) (IsTaken z g.made (c.fin + 1) g.seat now j u.known.session)
-          (λ k p. gone_later z g.made c.fin g.seat g.past tx j u.known.session k p (λ same. other (sym p.sits ∙ ap g.seat (sym same ∙ was.session_is) ∙ seated.sits))) u.joined all_gone);
+      taken = each_turn (λ j u. All (IsTaken z g.made c.fin g.undecided g.seat g.past j u.known.session) u.joined) (λ j u. All (IsTaken z g.made (c.fin + 1) all g.seat now j u.known.session) u.joined) views id w h.taken
+          (All-weaker (IsTaken z g.made c.fin g.undecided g.seat g.past id v.known.session) (IsTaken z g.made (c.fin + 1) all g.seat now id v.known.session)
+          (λ k p. gone_later z g.made c.fin g.undecided all g.seat g.past tx id v.known.session k p (λ same. p.other (sym same ∙ was.session_is))) v.joined (h.taken id v here))
+          (λ j u other there all_gone. All-weaker (IsTaken z g.made c.fin g.undecided g.seat g.past j u.known.session) (IsTaken z g.made (c.fin + 1) all g.seat now j u.known.session)
+          (λ k p. gone_later z g.made c.fin g.undecided all g.seat g.past tx j u.known.session k p (λ same. other (sym p.sits ∙ ap g.seat (sym same ∙ was.session_is) ∙ seated.sits))) u.joined all_gone);
     }
   where
     look_grows : (look : Look) (format : Format) (past more : List Tx) (fin fin' looked target tail : ℕ) (eye : Eye) → fin ≡ next_xid past → fin ≤ fin'
@@ -204,9 +205,9 @@ finishes z c g views id v shape h here ended =
         let differs : tx.session == session ≡ false = grind (arith, nat_tests, other) in
         is ∙ sym (append-nil (xids_of session past)) ∙ ap (λ b. xids_of session past ++ cond b (next_xid past ∷ []) []) (sym differs) ∙ sym (xids_go_on.one session past tx)
 
-    gone_later : (z : Shape) (made fin : ℕ) (seat : ℕ → ℕ) (past : List Tx) (tx : Tx) (j session : ℕ) (k : Known) → IsTaken z made fin seat past j session k → (tx.session ≡ k.session → ⊥)
-        → IsTaken z made (fin + 1) seat (past ++ tx ∷ []) j session k
-    gone_later z made fin seat past tx j session k p other = record {
+    gone_later : (z : Shape) (made fin : ℕ) (undecided all : ℕ → Bool) (seat : ℕ → ℕ) (past : List Tx) (tx : Tx) (j session : ℕ) (k : Known) → IsTaken z made fin undecided seat past j session k → (tx.session ≡ k.session → ⊥)
+        → IsTaken z made (fin + 1) all seat (past ++ tx ∷ []) j session k
+    gone_later z made fin undecided all seat past tx j session k p other = record {
       sits = p.sits;
       positive = p.positive;
       was_made = p.was_made;
@@ -215,7 +216,7 @@ finishes z c g views id v shape h here ended =
       sees = begins-on k.seen past (past ++ tx ∷ []) p.sees (begins-continued past (tx ∷ []));
       own_seen = p.own_seen;
       owns = own_stays k.session k.own past tx p.owns other;
-      told = let told = p.told in omega (arith, told);
+      heard = record { most = let most = p.heard.most in omega (arith, most); decided = λ i waits. let most = p.heard.most in omega (arith, most) };
     }
 
 -- a transaction that has ended counts among those that may be sent

@@ -17,7 +17,7 @@ use Rattle.pgn_words.specs.Words.{Content, row, room_of, flags_at}
 use Rattle.pgn_words.specs.Views.{holds_lock}
 use Rattle.pgn_words.specs.Waking.{raised, TellsRaised, HasFoundNone, HasFound, TellsLooked}
 use Rattle.pgn_words.specs.WakeRule.{IsHeard, Signals, ended_in, raised_in, found_in, Raised, IsMost}
-use Rattle.pgn_words.specs.Rule.{World, HoldsIn, KnowsStop, Holds, Law, Lawful, Keeps}
+use Rattle.pgn_words.specs.Rule.{World, HoldsIn, KnowsStop, Holds, Law, Lawful, Keeps, KnowsAll}
 use Rattle.pgn_words.proofs.EachLaws.{each_turn, each_keep, changed_at, own_further}
 use Rattle.pgn_words.proofs.Frames.{seats_keep, locking_keep, numbers_keep, budget_keep, statuses_keep, history_keep}
 use Rattle.pgn_words.proofs.MoreFrames.{someone_keep, posts_keep, walks_keep, looks_keep, heeds_keep, wakes_keep, named_keep, taken_keep}
@@ -73,7 +73,7 @@ raises z c g views id v f x h here positive within is =
       seats = seats_keep views id v w here z g.made g.seat h.seats refl refl refl refl;
       locking = locking_keep views id v w here c.lock g.holder h.locking refl refl;
       stored = h.stored;
-      history = history_keep views id v w here z c.lock c.fin g.made g.past g.shown h.history refl refl refl;
+      history = history_keep views id v w here z c.lock c.fin g.made g.past g.shown h.history refl refl refl refl;
       numbers = numbers_keep views id v w here c.lock c.fin c.xid h.numbers refl refl;
       holding = record {
         holds = each_keep (Holds z c.stop g.past g.shown c.cells) views id v w here h.holding.holds (λ y. y);
@@ -98,7 +98,7 @@ raises z c g views id v f x h here positive within is =
             (each_keep (λ _ y. All (Raised views) (found_in y)) views id v w here h.flags.found (λ y. y) j u there);
       };
       named = named_keep views id v w here h.named refl refl refl refl refl;
-      taken = taken_keep views id v w here z g.made c.fin g.seat g.past h.taken refl refl;
+      taken = taken_keep views id v w here z g.made c.fin g.undecided g.seat g.past h.taken refl refl;
     }
   where
     source_of : (e : ℕ) → e ≡ f → Dec (get_or c.flags f 0 ≤ v.known.told) → (x ≡ 0) ⊎ Raised (set views id (raised f v)) (e, x)
@@ -156,6 +156,7 @@ looks_at z c g views id v told found look h here heard first raised_all =
         one_more = h.history.one_more;
         begins = h.history.begins;
         free = h.history.free;
+        whole = someone_keep views id v w here (KnowsAll g.past) refl (λ _. inl refl) h.history.whole;
         sees = each_keep (λ _ u. Begins u.known.seen g.past) views id v w here h.history.sees (λ _. begins-itself g.past);
         own_seen = each_keep (λ _ u. All (λ x. x < next_xid u.known.seen) u.known.own) views id v w here h.history.own_seen (λ y. own_further v.known.own (length v.known.seen) (length g.past) (begins-shorter v.known.seen g.past (h.history.sees id v here)) y);
         owns = each_keep (λ _ u. u.known.own ≡ xids_of u.known.session g.past) views id v w here h.history.owns (λ y. y);
@@ -187,7 +188,7 @@ looks_at z c g views id v told found look h here heard first raised_all =
             (each_turn (λ _ y. All (Raised views) (found_in y)) (λ _ y. All (Raised views) (found_in y)) views id w h.flags.found raised_all (λ k y other theirs all. all) j u there);
       };
       named = named_keep views id v w here h.named refl refl refl refl refl;
-      taken = taken_keep views id v w here z g.made c.fin g.seat g.past h.taken refl refl;
+      taken = taken_keep views id v w here z g.made c.fin g.undecided g.seat g.past h.taken refl refl;
     }
   where
     by_lock : (b : Bool) → holds_lock v.phase ≡ b → Holds z c.stop g.past g.shown c.cells id v → Holds z c.stop g.past g.shown c.cells id (flag_seen g.past told found look v)

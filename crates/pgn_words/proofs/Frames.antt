@@ -1,17 +1,22 @@
 -- Groups of the rule that a step leaves as they are: the pass that makes it does not change in what the group reads.
-use Rattle.std.proofs.Common.{◌≡◌, ℕ, ◌+◌, ◌^◌, ◌<◌, ◌≤◌, true, All, List, set, sym, ap, ◌∙◌, subst, arith}
+use Rattle.std.proofs.Common.{◌≡◌, ⊎_elim, inl, inr, ℕ, ◌+◌, ◌^◌, ◌<◌, ◌≤◌, true, All, List, length, set, sym, ap, ◌∙◌, subst, arith}
+use Rattle.std.specs.Prelude.{Any}
 use mathlib.Core.Option.{some, some-injective}
 use lib.ListN.{get_elem?}
 use native.Mathlib.Decide.{ℕ_discrete}
 use Rattle.atomic_table.proofs.Lists.{set_else}
 use Rattle.pgn_journal.specs.declared.tx.Tx.{Tx}
 use Rattle.pgn_journal.specs.Begins.{Begins}
+use Rattle.pgn_journal.proofs.BeginsLaws.{begins-whole}
 use Rattle.pgn_journal.specs.Journal.{next_xid, xids_of}
+use Rattle.pgn_hub.specs.declared.known.Known.{Known}
 use Rattle.pgn_hub.specs.Shape.{Shape}
 use Rattle.pgn_words.specs.declared.view.View.{View}
 use Rattle.pgn_words.specs.Views.{holds_lock, knows_stop, drawn_by, spent_by, fated}
-use Rattle.pgn_words.specs.Rule.{Seated, Makes, Seats, Locks, Locking, History, Draws, Numbers, Budget, Fates, Statuses}
+use Rattle.pgn_words.specs.Rule.{Seated, Makes, Seats, Locks, Locking, KnowsAll, History, Draws, Numbers, Budget, Fates, Statuses}
+use Rattle.pgn_words.specs.Each.{Someone}
 use Rattle.pgn_words.proofs.EachLaws.{each_keep, changed_at, sum_set}
+use Rattle.pgn_words.proofs.MoreFrames.{someone_keep}
 
 module _ (views : List View) (id : ℕ) (v w : View) (here : get_elem? views id ≡ some v) where
   pub seats_keep : (z : Shape) (made : ℕ) (seat : ℕ → ℕ) → Seats z made seat views → w.known.session ≡ v.known.session → w.known.db ≡ v.known.db → w.setup ≡ v.setup → w.made ≡ v.made
@@ -43,9 +48,15 @@ module _ (views : List View) (id : ℕ) (v w : View) (here : get_elem? views id 
     owned = λ some. let o = h.owned some in there_after holder o.0 o.1 session holds lock o.2 o.3 (ℕ_discrete holder id);
   }
 
-  pub history_keep : (z : Shape) (lock fin made : ℕ) (past shown : List Tx) → History z lock fin made past shown views → w.known.session ≡ v.known.session → w.known.seen ≡ v.known.seen → w.known.own ≡ v.known.own
+  -- who knew the whole journal knows it still, where it has learned more
+  pub whole_keep : (past : List Tx) → w.known.session ≡ v.known.session → w.joined ≡ v.joined → Begins w.known.seen past → length v.known.seen ≤ length w.known.seen → Someone (KnowsAll past) views → Someone (KnowsAll past) (set views id w)
+  whole_keep past session gone begins longer h = someone_keep views id v w here (KnowsAll past) session
+      (λ p. ⊎_elim (λ all. inl (begins-whole w.known.seen past begins (let same : length v.known.seen ≡ length past = ap length all in omega (arith, same, longer))))
+      (λ theirs. inr (subst (λ (l : List Known). Any (λ k. k.seen ≡ past) l) (sym gone) theirs)) p) h
+
+  pub history_keep : (z : Shape) (lock fin made : ℕ) (past shown : List Tx) → History z lock fin made past shown views → w.known.session ≡ v.known.session → w.known.seen ≡ v.known.seen → w.known.own ≡ v.known.own → w.joined ≡ v.joined
       → History z lock fin made past shown (set views id w)
-  history_keep z lock fin made past shown h session seen own = record {
+  history_keep z lock fin made past shown h session seen own gone = record {
     counted = h.counted;
     finished = h.finished;
     sessions = h.sessions;
@@ -53,6 +64,7 @@ module _ (views : List View) (id : ℕ) (v w : View) (here : get_elem? views id 
     one_more = h.one_more;
     begins = h.begins;
     free = h.free;
+    whole = someone_keep views id v w here (KnowsAll past) session (λ p. ⊎_elim (λ all. inl (seen ∙ all)) (λ theirs. inr (subst (λ (l : List Known). Any (λ k. k.seen ≡ past) l) (sym gone) theirs)) p) h.whole;
     sees = each_keep (λ _ u. Begins u.known.seen past) views id v w here h.sees (λ p. subst (λ (xs : List Tx). Begins xs past) (sym seen) p);
     own_seen = each_keep (λ _ u. All (λ x. x < next_xid u.known.seen) u.known.own) views id v w here h.own_seen (λ p.
         subst (λ (xs : List Tx). All (λ x. x < next_xid xs) w.known.own) (sym seen) (subst (λ (ns : List ℕ). All (λ x. x < next_xid v.known.seen) ns) (sym own) p));

@@ -34,7 +34,7 @@ heads z c g views id v h here held =
       seats = seats_keep views id v w here z g.made g.seat h.seats refl refl refl refl;
       locking = locking_keep views id v w here c.lock g.holder h.locking refl holds;
       stored = h.stored;
-      history = history_keep views id v w here z c.lock c.fin g.made g.past g.shown h.history refl refl refl;
+      history = history_keep views id v w here z c.lock c.fin g.made g.past g.shown h.history refl refl refl refl;
       numbers = numbers_keep views id v w here c.lock c.fin c.xid h.numbers holds (sym (ap Rattle.pgn_words.specs.Views.drawn_by held));
       holding = record {
         holds = each_turn (Holds z c.stop g.past g.shown c.cells) (Holds z c.stop g.past g.shown c.cells) views id w h.holding.holds
@@ -49,7 +49,7 @@ heads z c g views id v h here held =
       wakes = wakes_keep views id v w here z.format c.lock c.fin g.past g.undecided c.wakes h.wakes refl refl refl refl refl refl holds (λ i. sym (ap (λ p. pending p (waits_in v.verdicts) i) held)) refl (sym (ap (λ p. ended_in p c.fin) held));
       flags = flags_keep views id v w here c.fin g.undecided c.flags h.flags refl (h.flags.told id v here) refl refl;
       named = named_keep views id v w here h.named refl refl refl refl refl;
-      taken = taken_keep views id v w here z g.made c.fin g.seat g.past h.taken refl refl;
+      taken = taken_keep views id v w here z g.made c.fin g.undecided g.seat g.past h.taken refl refl;
     }
 
 pub load_head_allowed : (z : Shape) (slots id : ℕ) (me : Me ℕ View) → me.0.phase ≡ Held → Allows (Lawful z) slots id me 1 (λ n. n) (TellsHead (step slots 1 0 0 none) me)
@@ -78,7 +78,7 @@ readies z c g views id v h here headed =
       seats = seats_keep views id v w here z g.made g.seat h.seats refl refl refl refl;
       locking = locking_keep views id v w here c.lock g.holder h.locking refl holds;
       stored = h.stored;
-      history = history_keep views id v w here z c.lock c.fin g.made g.past g.shown h.history refl refl refl;
+      history = history_keep views id v w here z c.lock c.fin g.made g.past g.shown h.history refl refl refl refl;
       numbers = numbers_keep views id v w here c.lock c.fin c.xid h.numbers holds (sym (ap Rattle.pgn_words.specs.Views.drawn_by headed));
       holding = record {
         holds = each_turn (Holds z c.stop g.past g.shown c.cells) (Holds z c.stop g.past g.shown c.cells) views id w h.holding.holds was (λ j u other there p. p);
@@ -92,7 +92,7 @@ readies z c g views id v h here headed =
       wakes = wakes_keep views id v w here z.format c.lock c.fin g.past g.undecided c.wakes h.wakes refl refl refl refl refl refl holds (λ i. sym (ap (λ p. pending p (waits_in v.verdicts) i) headed)) refl (sym (ap (λ p. ended_in p c.fin) headed));
       flags = flags_keep views id v w here c.fin g.undecided c.flags h.flags refl (h.flags.told id v here) refl refl;
       named = named_keep views id v w here h.named refl refl refl refl refl;
-      taken = taken_keep views id v w here z g.made c.fin g.seat g.past h.taken refl refl;
+      taken = taken_keep views id v w here z g.made c.fin g.undecided g.seat g.past h.taken refl refl;
     }
 
 pub load_stop_allowed : (z : Shape) (slots id : ℕ) (me : Me ℕ View) → me.0.phase ≡ Headed → Allows (Lawful z) slots id me 4 (λ n. n) (TellsStop (step slots 4 0 0 none) me)

@@ -1,5 +1,5 @@
 -- The steps on the lock keep the rule.
-use Rattle.std.proofs.Common.{◌≡◌, ◌≢◌, ℕ, zero, suc, ◌+◌, ◌<◌, ◌≤◌, ◌==◌, true, false, Bool, Option, true≢false, unwrap_or, List, [], ◌∷◌, ◌++◌, length, drop, set, sum_by, All, sym, refl, ap, ◌∙◌, subst, arith}
+use Rattle.std.proofs.Common.{◌≡◌, ◌≢◌, ℕ, zero, suc, ◌+◌, ◌<◌, ◌≤◌, ◌==◌, true, false, Bool, Option, true≢false, unwrap_or, List, [], ◌∷◌, ◌++◌, length, drop, set, sum_by, All, inl, sym, refl, ap, ◌∙◌, subst, arith}
 use Rattle.std.proofs.lemmas.List.Elements.{All-head, All-tail}
 use Rattle.std.proofs.lemmas.List.Sums.{sum_by-cons}
 use mathlib.Core.Option.{some, none, some-injective, some-ne-none}
@@ -24,11 +24,11 @@ use Rattle.pgn_words.specs.Words.{Content, room_of, seats_of}
 use Rattle.pgn_words.specs.Views.{holds_lock, knows_stop, drawn_by, spent_by, fated, may_drop, is_open, AreDecided}
 use Rattle.pgn_words.specs.ListenRule.{LooksBy, Spared}
 use Rattle.pgn_words.specs.WakeRule.{IsHeard, Signals, ended_in, pending, waits_in}
-use Rattle.pgn_words.specs.Rule.{World, Locks, Locking, Draws, KnowsStop, HoldsIn, Holds, Law, Lawful, Keeps, Budget, notes_of, Fates}
+use Rattle.pgn_words.specs.Rule.{World, Locks, Locking, Draws, KnowsStop, HoldsIn, Holds, Law, Lawful, Keeps, Budget, notes_of, Fates, KnowsAll}
 use Rattle.pgn_words.specs.Told.{HasLocked, IsLocked, TellsLock, TellsDrop, locked, refused, freed}
 use Rattle.pgn_words.proofs.EachLaws.{each_turn, each_keep, changed_at, own_further}
 use Rattle.pgn_words.proofs.Frames.{seats_keep, locking_keep, history_keep, numbers_keep, budget_keep, statuses_keep}
-use Rattle.pgn_words.proofs.MoreFrames.{posts_keep, walks_keep, looks_keep, heeds_keep, wakes_keep, flags_keep, named_keep, taken_keep}
+use Rattle.pgn_words.proofs.MoreFrames.{posts_keep, walks_keep, looks_keep, heeds_keep, wakes_keep, flags_keep, named_keep, taken_keep, someone_keep}
 use Rattle.pgn_words.proofs.Meets.{Goes, allowed}
 
 -- nobody holds the lock while its word is 0
@@ -133,6 +133,7 @@ takes z c g views id v h here free positive nothing =
         one_more = h.history.one_more;
         begins = h.history.begins;
         free = λ _. h.history.free nothing;
+        whole = someone_keep views id v w here (KnowsAll g.past) refl (λ p. inl refl) h.history.whole;
         sees = each_keep (λ _ u. Begins u.known.seen g.past) views id v w here h.history.sees (λ p. begins-itself g.past);
         own_seen = each_keep (λ _ u. All (λ x. x < next_xid u.known.seen) u.known.own) views id v w here h.history.own_seen (λ p. own_further v.known.own (length v.known.seen) (length g.past) (begins-shorter v.known.seen g.past (h.history.sees id v here)) p);
         owns = each_keep (λ _ u. u.known.own ≡ xids_of u.known.session g.past) views id v w here h.history.owns (λ p. p);
@@ -170,7 +171,7 @@ takes z c g views id v h here free positive nothing =
       };
       flags = flags_keep views id v w here c.fin g.undecided c.flags h.flags refl (h.flags.told id v here) refl refl;
       named = named_keep views id v w here h.named refl refl refl refl refl;
-      taken = taken_keep views id v w here z g.made c.fin g.seat g.past h.taken refl refl;
+      taken = taken_keep views id v w here z g.made c.fin g.undecided g.seat g.past h.taken refl refl;
     }
 
 -- The holder gives it up.
@@ -223,6 +224,7 @@ drops z c g views id v h here held nothing even settled =
         one_more = h.history.one_more;
         begins = h.history.begins;
         free = λ _. even;
+        whole = someone_keep views id v w here (KnowsAll g.past) refl (λ p. p) h.history.whole;
         sees = each_keep (λ _ u. Begins u.known.seen g.past) views id v w here h.history.sees (λ p. p);
         own_seen = each_keep (λ _ u. All (λ x. x < next_xid u.known.seen) u.known.own) views id v w here h.history.own_seen (λ p. p);
         owns = each_keep (λ _ u. u.known.own ≡ xids_of u.known.session g.past) views id v w here h.history.owns (λ p. p);
@@ -262,7 +264,7 @@ drops z c g views id v h here held nothing even settled =
       flags = flags_keep views id v w here c.fin g.undecided c.flags h.flags refl
           (subst (λ (e : Option ℕ). FIRST_XID ≤ unwrap_or e v.known.told) (sym (h.wakes.ended id v here)) (first_then v.phase c.fin v.known.told (let counted = h.history.counted in omega (arith, counted)) (h.flags.told id v here))) refl refl;
       named = named_keep views id v w here h.named refl refl refl refl refl;
-      taken = taken_keep views id v w here z g.made c.fin g.seat g.past h.taken refl refl;
+      taken = taken_keep views id v w here z g.made c.fin g.undecided g.seat g.past h.taken refl refl;
     }
 
 -- nobody waits in a list in which nobody does
@@ -341,7 +343,7 @@ refuses z c g views id v by h here =
       seats = seats_keep views id v w here z g.made g.seat h.seats refl refl refl refl;
       locking = locking_keep views id v w here c.lock g.holder h.locking refl refl;
       stored = h.stored;
-      history = history_keep views id v w here z c.lock c.fin g.made g.past g.shown h.history refl refl refl;
+      history = history_keep views id v w here z c.lock c.fin g.made g.past g.shown h.history refl refl refl refl;
       numbers = numbers_keep views id v w here c.lock c.fin c.xid h.numbers refl refl;
       holding = record {
         holds = each_keep (Holds z c.stop g.past g.shown c.cells) views id v w here h.holding.holds (λ x. x);
@@ -355,7 +357,7 @@ refuses z c g views id v by h here =
       wakes = wakes_keep views id v w here z.format c.lock c.fin g.past g.undecided c.wakes h.wakes refl refl refl refl refl refl refl (λ i. refl) refl refl;
       flags = flags_keep views id v w here c.fin g.undecided c.flags h.flags refl (h.flags.told id v here) refl refl;
       named = named_keep views id v w here h.named refl refl refl refl refl;
-      taken = taken_keep views id v w here z g.made c.fin g.seat g.past h.taken refl refl;
+      taken = taken_keep views id v w here z g.made c.fin g.undecided g.seat g.past h.taken refl refl;
     }
 
 -- the same, whatever is found

@@ -1,6 +1,6 @@
 -- The looks of an advance of the tail, and the announcing of the tail, keep the rule.
 use Rattle.std.proofs.Common.{◌≡◌, ◌≢◌, ⊎_elim, ℕ, ◌+◌, ◌^◌, ◌<◌, ◌≤◌, ◌==◌, Bool, true, false, cond, List, [], ◌∷◌, ◌++◌, length, get_or, set, All, sym, refl, ap, ◌∙◌, subst, arith, true≢false}
-use Rattle.std.specs.Prelude.{flat_map, Contains}
+use Rattle.std.specs.Prelude.{flat_map}
 use Rattle.std.proofs.lemmas.List.Elements.{All-weaker, All-append, All-drop}
 use Rattle.std.proofs.lemmas.List.{append_assoc, append-nil}
 use Rattle.std.proofs.lemmas.Bool.Decides.{nat_tests}
@@ -27,7 +27,7 @@ use Rattle.pgn_words.specs.Positions.{packed, mark_in, place_in, position_in, me
 use Rattle.pgn_words.specs.Told.{IsSamePass}
 use Rattle.pgn_words.specs.Looking.{MayLookFirst, look_begun, least_after, looked_first, TellsPosition, HasLeast, HasLookedFirst, TellsFirstLook, second_begun, TellsTail, MayAnnounce, announced, TellsTailStore}
 use Rattle.pgn_words.specs.ListenRule.{IsPlaced, IsLeast, IsSecond, LookIn, LooksBy, Spared}
-use Rattle.pgn_words.specs.WakeRule.{named_in, Marked, MarkedBy}
+use Rattle.pgn_words.specs.WakeRule.{named_in, Marked, MarkedBy, IsLast}
 use Rattle.pgn_words.specs.Rule.{World, KnowsStop, Holds, Law, Lawful, Keeps}
 use Rattle.pgn_words.proofs.EachLaws.{each_turn, each_keep}
 use Rattle.pgn_words.proofs.Frames.{seats_keep, locking_keep, history_keep, numbers_keep, budget_keep, statuses_keep}
@@ -70,7 +70,7 @@ gazes z c g views id v e ns a tail l y h here held placed looks spares aims abov
       seats = seats_keep views id v w here z g.made g.seat h.seats refl refl refl refl;
       locking = locking_keep views id v w here c.lock g.holder h.locking refl refl;
       stored = h.stored;
-      history = history_keep views id v w here z c.lock c.fin g.made g.past g.shown h.history refl refl refl;
+      history = history_keep views id v w here z c.lock c.fin g.made g.past g.shown h.history refl refl refl refl;
       numbers = numbers_keep views id v w here c.lock c.fin c.xid h.numbers refl refl;
       holding = record {
         holds = each_keep (Holds z c.stop g.past g.shown c.cells) views id v w here h.holding.holds (λ x. x);
@@ -89,11 +89,11 @@ gazes z c g views id v e ns a tail l y h here held placed looks spares aims abov
       wakes = wakes_keep views id v w here z.format c.lock c.fin g.past g.undecided c.wakes h.wakes refl refl refl refl refl refl refl (λ i. refl) refl refl;
       flags = flags_keep views id v w here c.fin g.undecided c.flags h.flags refl (h.flags.told id v here) refl refl;
       named = record {
-        current = each_keep (λ _ u. u.post.listen ≡ Registered → Contains u.known.marks u.post.mark) views id v w here h.named.current (λ x. x);
+        current = each_keep (λ _ u. u.post.listen ≡ Registered → IsLast u.known.marks u.post.mark) views id v w here h.named.current (λ x. x);
         named = λ j u there. All-weaker (Marked views) (Marked (set views id w)) (λ pair x. someone_keep views id v w here (MarkedBy pair) refl (λ y. y) x) (named_in u)
             (each_turn (λ _ x. All (Marked views) (named_in x)) (λ _ x. All (Marked views) (named_in x)) views id w h.named.named named (λ k x other theirs old. old) j u there);
       };
-      taken = taken_keep views id v w here z g.made c.fin g.seat g.past h.taken refl refl;
+      taken = taken_keep views id v w here z g.made c.fin g.undecided g.seat g.past h.taken refl refl;
     }
 
 -- the marks that a pass has met, with some more

@@ -21,9 +21,9 @@ use Rattle.pgn_words.specs.Words.{Content}
 use Rattle.pgn_words.specs.Positions.{packed, mark_in, place_in, position_in, shown_as, word_of, met_at, is_placed, IsPositionIn}
 use Rattle.pgn_words.specs.Looking.{least_after}
 use Rattle.pgn_words.specs.ListenRule.{IsPlaced, IsLeast}
-use Rattle.pgn_words.specs.WakeRule.{Marked}
+use Rattle.pgn_words.specs.WakeRule.{Marked, IsLast}
 use Rattle.pgn_words.specs.Rule.{World, Law}
-use Rattle.pgn_words.proofs.WalkKept.{placed_in}
+use Rattle.pgn_words.proofs.WalkKept.{placed_in, has_last}
 
 -- a word of 2 or more is a mark with its place
 pub position_at : (n : ℕ) → 2 ≤ n → position_in n ≡ words.At (mark_in n) (place_in n)
@@ -122,13 +122,17 @@ met_in format past fin stop views seat words.Out counted m = tt
 met_in format past fin stop views seat words.Joining counted m = tt
 met_in format past fin stop views seat (words.At mark at) counted m = placed_in format past fin mark at counted m.placed.at_is m.placed.least m.placed.most
 
+-- the last mark of a list is one of it
+last_there : (marks : List ℕ) (mark : ℕ) → IsLast marks mark → Contains marks mark
+last_there marks mark (before, is) = subst (λ (l : List ℕ). Contains l mark) (sym is) (has_last before mark)
+
 -- the mark that it shows is one of its session
 pub met_named : (z : Shape) (c : Content) (g : World) (views : List View) (seat : ℕ) (p : PosWord) → Law z c g views → Met z.format g.past c.fin c.stop views seat p → All (Marked views) (met_at seat p)
 met_named z c g views seat words.Out h m = All-nil (Marked views)
 met_named z c g views seat words.Joining h m = All-nil (Marked views)
 met_named z c g views seat (words.At mark at) h m =
     All-cons (Marked views) (seat + 1, mark) []
-    (m.who, m.pass, m.there, (let number = m.number in omega (arith, number)), Rattle.std.proofs.Common.inl (m.number, subst (λ (n : ℕ). Contains m.pass.known.marks n) m.mark_is (h.named.current m.who m.pass m.there m.registered)))
+    (m.who, m.pass, m.there, (let number = m.number in omega (arith, number)), Rattle.std.proofs.Common.inl (m.number, subst (λ (n : ℕ). Contains m.pass.known.marks n) m.mark_is (last_there m.pass.known.marks m.pass.post.mark (h.named.current m.who m.pass m.there m.registered))))
     (All-nil (Marked views))
 
 -- a word of a mark with its place

@@ -22,7 +22,7 @@ use Rattle.pgn_words.specs.Views.{holds_lock, is_walking}
 use Rattle.pgn_words.specs.Positions.{shown_as, word_of, listens_at, is_placed}
 use Rattle.pgn_words.specs.Each.{Each, Someone, Keeps}
 use Rattle.pgn_words.specs.ListenRule.{IsPlaced, Placed, Marks, ShowsPosition, Posts, Walking, Bounds, Walks, LookIn, LooksBy, Spared, Looks}
-use Rattle.pgn_words.specs.WakeRule.{served, waits_in, pending, ended_in, IsHeard, IsHeeded, Heeds, Signals, Wakes, raised_in, found_in, named_in, Raised, IsMost, Flags, IsMarkedBy, MarkedBy, Marked, Named, IsTaken, Taken}
+use Rattle.pgn_words.specs.WakeRule.{served, waits_in, pending, ended_in, IsHeard, IsHeeded, Heeds, Signals, Wakes, raised_in, found_in, named_in, Raised, IsMost, Flags, IsMarkedBy, MarkedBy, Marked, IsLast, Named, IsTaken, Taken}
 use Rattle.pgn_words.proofs.EachLaws.{each_keep, changed_at}
 
 module _ (views : List View) (id : ℕ) (v w : View) (here : get_elem? views id ≡ some v) where
@@ -122,8 +122,8 @@ module _ (views : List View) (id : ℕ) (v w : View) (here : get_elem? views id 
 
   pub named_keep : Named views → w.known.session ≡ v.known.session → w.post ≡ v.post → w.known.marks ≡ v.known.marks → w.joined ≡ v.joined → w.known.named ≡ v.known.named → Named (set views id w)
   named_keep h session post marks gone named = record {
-    current = each_keep (λ _ u. u.post.listen ≡ Registered → Contains u.known.marks u.post.mark) views id v w here h.current (λ p.
-        subst (λ (q : Post). q.listen ≡ Registered → Contains w.known.marks q.mark) (sym post) (λ r. subst (λ (l : List ℕ). Contains l v.post.mark) (sym marks) (p r)));
+    current = each_keep (λ _ u. u.post.listen ≡ Registered → IsLast u.known.marks u.post.mark) views id v w here h.current (λ p.
+        subst (λ (q : Post). q.listen ≡ Registered → IsLast w.known.marks q.mark) (sym post) (λ r. subst (λ (l : List ℕ). IsLast l v.post.mark) (sym marks) (p r)));
     named = λ j u there. All-weaker (Marked views) (Marked (set views id w))
         (λ x m. marked_keep x session (λ mine. (session ∙ mine.0, subst (λ (l : List ℕ). Contains l x.1) (sym marks) mine.1)) gone m) (named_in u)
         (each_keep (λ _ x. All (Marked views) (named_in x)) views id v w here h.named (λ p.
@@ -134,8 +134,9 @@ module _ (views : List View) (id : ℕ) (v w : View) (here : get_elem? views id 
       same = ap (λ (l : List (ℕ × ℕ)). l ++ flat_map (λ (k : Known). k.named) w.joined) named
           ∙ ap (λ (ks : List Known). v.known.named ++ flat_map (λ (k : Known). k.named) ks) gone
 
-  pub taken_keep : (z : Shape) (made fin : ℕ) (seat : ℕ → ℕ) (past : List Tx) → Taken z made fin seat past views → w.known.session ≡ v.known.session → w.joined ≡ v.joined → Taken z made fin seat past (set views id w)
-  taken_keep z made fin seat past h session gone =
-      each_keep (λ j u. All (IsTaken z made fin seat past j u.known.session) u.joined) views id v w here h (λ p.
-      subst (λ (n : ℕ). All (IsTaken z made fin seat past id n) w.joined) (sym session)
-      (subst (λ (l : List Known). All (IsTaken z made fin seat past id v.known.session) l) (sym gone) p))
+  pub taken_keep : (z : Shape) (made fin : ℕ) (undecided : ℕ → Bool) (seat : ℕ → ℕ) (past : List Tx) → Taken z made fin undecided seat past views → w.known.session ≡ v.known.session → w.joined ≡ v.joined
+      → Taken z made fin undecided seat past (set views id w)
+  taken_keep z made fin undecided seat past h session gone =
+      each_keep (λ j u. All (IsTaken z made fin undecided seat past j u.known.session) u.joined) views id v w here h (λ p.
+      subst (λ (n : ℕ). All (IsTaken z made fin undecided seat past id n) w.joined) (sym session)
+      (subst (λ (l : List Known). All (IsTaken z made fin undecided seat past id v.known.session) l) (sym gone) p))

@@ -6,7 +6,7 @@ use Rattle.atomic_table.proofs.Lists.{at_longer}
 use Rattle.pgn_words.specs.declared.view.View.{View}
 use Rattle.pgn_words.specs.declared.view.Listen.TheVariants.{Registered}
 use Rattle.pgn_words.specs.Each.{Someone}
-use Rattle.pgn_words.specs.WakeRule.{raised_in, found_in, named_in, Raised, IsMost, Flags, MarkedBy, Marked, Named}
+use Rattle.pgn_words.specs.WakeRule.{raised_in, found_in, named_in, Raised, IsMost, Flags, MarkedBy, Marked, Named, IsLast}
 use Rattle.pgn_words.proofs.EachLaws.{each_made}
 
 module _ (views : List View) (w : View) where
@@ -23,9 +23,9 @@ module _ (views : List View) (w : View) where
         (each_made (λ _ x. All (Raised views) (found_in x)) views w h.found (subst (λ (l : List (ℕ × ℕ)). All (Raised views) l) (sym found) (All-nil (Raised views))) j u there);
   }
 
-  pub named_more : Named views → (w.post.listen ≡ Registered → Contains w.known.marks w.post.mark) → named_in w ≡ [] → Named (views ++ w ∷ [])
+  pub named_more : Named views → (w.post.listen ≡ Registered → IsLast w.known.marks w.post.mark) → named_in w ≡ [] → Named (views ++ w ∷ [])
   named_more h current named = record {
-    current = each_made (λ _ u. u.post.listen ≡ Registered → Contains u.known.marks u.post.mark) views w h.current current;
+    current = each_made (λ _ u. u.post.listen ≡ Registered → IsLast u.known.marks u.post.mark) views w h.current current;
     named = λ j u there. All-weaker (Marked views) (Marked (views ++ w ∷ [])) (λ x m. someone_more (MarkedBy x) m) (named_in u)
         (each_made (λ _ x. All (Marked views) (named_in x)) views w h.named (subst (λ (l : List (ℕ × ℕ)). All (Marked views) l) (sym named) (All-nil (Marked views))) j u there);
   }

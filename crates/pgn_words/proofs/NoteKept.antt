@@ -20,11 +20,11 @@ use Rattle.pgn_words.specs.Views.{holds_lock, spent_by}
 use Rattle.pgn_words.specs.declared.view.Listen.TheVariants.{Registered}
 use Rattle.pgn_words.specs.Each.{Someone}
 use Rattle.pgn_words.specs.ListenRule.{Placed, Marks, ShowsPosition, Walking, Bounds, LooksBy, Spared}
-use Rattle.pgn_words.specs.WakeRule.{IsHeard, Heeds, Signals, ended_in, raised_in, found_in, named_in, Raised, IsMost, MarkedBy, Marked, IsTaken}
-use Rattle.pgn_words.specs.Rule.{World, Seated, Makes, Locks, WasMade, Draws, KnowsStop, Holds, Fates, Law, Lawful}
+use Rattle.pgn_words.specs.WakeRule.{IsHeard, Heeds, Signals, ended_in, raised_in, found_in, named_in, Raised, IsMost, MarkedBy, Marked, IsTaken, IsLast}
+use Rattle.pgn_words.specs.Rule.{World, Seated, Makes, Locks, WasMade, Draws, KnowsStop, Holds, Fates, Law, Lawful, KnowsAll}
 use Rattle.pgn_words.specs.Told.{noted, joined, longer, spent_view}
 use Rattle.pgn_words.proofs.EachLaws.{each_turn, each_made, sum_set, sum_made}
-use Rattle.pgn_words.proofs.MoreMade.{flags_more, named_more}
+use Rattle.pgn_words.proofs.MoreMade.{flags_more, named_more, someone_more}
 use Rattle.pgn_words.proofs.StatusKept.{hears}
 
 -- no transaction is of the number 0
@@ -68,6 +68,7 @@ notes z c g views id v h here =
         one_more = h.history.one_more;
         begins = h.history.begins;
         free = h.history.free;
+        whole = someone_more views w (KnowsAll g.past) h.history.whole;
         sees = each_made (λ _ u. Begins u.known.seen g.past) views w h.history.sees (h.history.sees id v here);
         own_seen = each_made (λ _ u. All (λ x. x < next_xid u.known.seen) u.known.own) views w h.history.own_seen (All-nil (λ (x : ℕ). x < next_xid v.known.seen));
         owns = each_made (λ _ u. u.known.own ≡ xids_of u.known.session g.past) views w h.history.owns (sym (none_of_no z 3 g.made g.past h.history.sessions));
@@ -112,7 +113,7 @@ notes z c g views id v h here =
       };
       flags = flags_more views w c.fin g.undecided c.flags h.flags (h.flags.told id v here) refl refl;
       named = named_more views w h.named (λ registered. absurd (cc)) refl;
-      taken = each_made (λ j u. All (IsTaken z g.made c.fin g.seat g.past j u.known.session) u.joined) views w h.taken (All-nil (IsTaken z g.made c.fin g.seat g.past (length views) 0));
+      taken = each_made (λ j u. All (IsTaken z g.made c.fin g.undecided g.seat g.past j u.known.session) u.joined) views w h.taken (All-nil (IsTaken z g.made c.fin g.undecided g.seat g.past (length views) 0));
     }
 
 pub note_allowed : (z : Shape) (id : ℕ) (v : View) → Splits (Lawful z) id v v (noted v)
@@ -153,6 +154,7 @@ spends z c g views id v h here number =
         one_more = h.history.one_more;
         begins = h.history.begins;
         free = h.history.free;
+        whole = someone_else views id v w here number (KnowsAll g.past) h.history.whole;
         sees = each_turn (λ _ u. Begins u.known.seen g.past) (λ _ u. Begins u.known.seen g.past) views id w h.history.sees (begins-none g.past) (λ j u other there p. p);
         own_seen = each_turn (λ _ u. All (λ x. x < next_xid u.known.seen) u.known.own) (λ _ u. All (λ x. x < next_xid u.known.seen) u.known.own) views id w h.history.own_seen (All-nil (λ (x : ℕ). x < 3)) (λ j u other there p. p);
         owns = each_turn (λ _ u. u.known.own ≡ xids_of u.known.session g.past) (λ _ u. u.known.own ≡ xids_of u.known.session g.past) views id w h.history.owns
@@ -209,12 +211,12 @@ spends z c g views id v h here number =
             (each_turn (λ _ x. All (Raised views) (found_in x)) (λ _ x. All (Raised views) (found_in x)) views id w h.flags.found (All-nil (Raised views)) (λ k x other there p. p) j u there);
       };
       named = record {
-        current = each_turn (λ _ u. u.post.listen ≡ Registered → Contains u.known.marks u.post.mark) (λ _ u. u.post.listen ≡ Registered → Contains u.known.marks u.post.mark) views id w h.named.current (λ registered. absurd (cc)) (λ j u other there p. p);
+        current = each_turn (λ _ u. u.post.listen ≡ Registered → IsLast u.known.marks u.post.mark) (λ _ u. u.post.listen ≡ Registered → IsLast u.known.marks u.post.mark) views id w h.named.current (λ registered. absurd (cc)) (λ j u other there p. p);
         named = λ j u there. All-weaker (Marked views) (Marked (set views id w)) (λ x m. someone_else views id v w here number (MarkedBy x) m) (named_in u)
             (each_turn (λ _ x. All (Marked views) (named_in x)) (λ _ x. All (Marked views) (named_in x)) views id w h.named.named (All-nil (Marked views)) (λ k x other there p. p) j u there);
       };
-      taken = each_turn (λ j u. All (IsTaken z g.made c.fin g.seat g.past j u.known.session) u.joined) (λ j u. All (IsTaken z g.made c.fin g.seat g.past j u.known.session) u.joined) views id w h.taken
-          (All-nil (IsTaken z g.made c.fin g.seat g.past id 0)) (λ j u other there p. p);
+      taken = each_turn (λ j u. All (IsTaken z g.made c.fin g.undecided g.seat g.past j u.known.session) u.joined) (λ j u. All (IsTaken z g.made c.fin g.undecided g.seat g.past j u.known.session) u.joined) views id w h.taken
+          (All-nil (IsTaken z g.made c.fin g.undecided g.seat g.past id 0)) (λ j u other there p. p);
     }
 
 -- of two prefixes of a list the longer one is a prefix

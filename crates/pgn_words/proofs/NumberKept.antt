@@ -38,7 +38,7 @@ draws z c g views id v notes h here ready filled valid different few =
       seats = seats_keep views id v w here z g.made g.seat h.seats refl refl refl refl;
       locking = locking_keep views id v w here c.lock g.holder h.locking refl (sym held);
       stored = h.stored;
-      history = history_keep views id v w here z c.lock c.fin g.made g.past g.shown h.history refl refl refl;
+      history = history_keep views id v w here z c.lock c.fin g.made g.past g.shown h.history refl refl refl refl;
       numbers = record {
         free = λ nobody. let is = locked.1 in let positive = locked.2 in absurd (omega (arith, nobody, is, positive));
         draws = each_turn (Draws c.fin c.xid) (Draws c.fin (c.xid + 1)) views id w h.numbers.draws (λ also. omega (arith, mine)) (λ j u other there p also. absurd (alone c.lock g.holder views id v h.locking here held j u other there also));
@@ -70,7 +70,7 @@ draws z c g views id v notes h here ready filled valid different few =
       wakes = wakes_keep views id v w here z.format c.lock c.fin g.past g.undecided c.wakes h.wakes refl refl refl refl refl refl (sym held) (λ i. sym (ap (λ p. pending p (waits_in v.verdicts) i) ready)) refl (sym (ap (λ p. ended_in p c.fin) ready));
       flags = flags_keep views id v w here c.fin g.undecided c.flags h.flags refl (h.flags.told id v here) refl refl;
       named = named_keep views id v w here h.named refl refl refl refl refl;
-      taken = taken_keep views id v w here z g.made c.fin g.seat g.past h.taken refl refl;
+      taken = taken_keep views id v w here z g.made c.fin g.undecided g.seat g.past h.taken refl refl;
     }
 
 pub draw_allowed : (z : Shape) (slots id : ℕ) (me : Me ℕ View) (notes : List Note) → me.0.phase ≡ Ready → notes ≢ [] → All IsNote notes → AllPairs (λ a b. a ≢ b) notes → length notes ≤ me.0.known.notes_left

@@ -1,5 +1,4 @@
 -- The words of an empty queue, with one pass, meet the rule.
-use Rattle.std.specs.Prelude.{Contains}
 use Rattle.std.proofs.Common.{◌≡◌, ◌≢◌, inl, true, false, All, ℕ, zero, suc, ◌+◌, ◌*◌, ◌%◌, ◌^◌, ◌<◌, ◌≤◌, List, [], ◌∷◌, ◌++◌, length, get_or, set, drop, replicate, sum_by, sym, refl, ap, ◌∙◌, subst, arith, Some}
 use Rattle.std.proofs.lemmas.List.{length-replicate, replicate-append-replicate}
 use Rattle.std.proofs.lemmas.List.Elements.{All-nil}
@@ -17,7 +16,7 @@ use Rattle.pgn_words.specs.Words.{row, seats_of, status_words, room_of, word_cou
 use Rattle.pgn_words.specs.Views.{first_view, seat_of, spent_by}
 use Rattle.pgn_words.specs.declared.view.Listen.TheVariants.{Registered}
 use Rattle.pgn_words.specs.ListenRule.{Placed, Marks, ShowsPosition, Walking, Bounds, LooksBy, Spared}
-use Rattle.pgn_words.specs.WakeRule.{IsHeard, Heeds, Signals, ended_in, raised_in, found_in, named_in, Raised, IsMost, Marked, IsTaken}
+use Rattle.pgn_words.specs.WakeRule.{IsHeard, Heeds, Signals, ended_in, raised_in, found_in, named_in, Raised, IsMost, Marked, IsTaken, IsLast}
 use Rattle.pgn_words.specs.Rule.{World, Seated, Makes, Locks, WasMade, Draws, KnowsStop, Holds, Law, Lawful, Fates, status_at}
 use Rattle.pgn_layout.specs.Status.{status_word, status_in}
 use Rattle.pgn_layout.proofs.StatusLaws.{none_is_set}
@@ -94,6 +93,7 @@ opens_law z shape some_db db_fits = record {
     one_more = omega arith;
     begins = begins-none [];
     free = λ _. refl;
+    whole = (0, first_view z, refl, omega arith, inl refl);
     sees = each_one (λ _ u. Begins u.known.seen []) (first_view z) (begins-none []);
     own_seen = each_one (λ _ u. All (λ x. x < next_xid u.known.seen) u.known.own) (first_view z) (All-nil (λ (x : ℕ). x < 3));
     owns = each_one (λ _ u. u.known.own ≡ xids_of u.known.session []) (first_view z) refl;
@@ -140,10 +140,10 @@ opens_law z shape some_db db_fits = record {
     found = each_one (λ _ u. All (Raised (first_view z ∷ [])) (found_in u)) (first_view z) (All-nil (Raised (first_view z ∷ [])));
   };
   named = record {
-    current = each_one (λ _ u. u.post.listen ≡ Registered → Contains u.known.marks u.post.mark) (first_view z) (λ registered. absurd (cc));
+    current = each_one (λ _ u. u.post.listen ≡ Registered → IsLast u.known.marks u.post.mark) (first_view z) (λ registered. absurd (cc));
     named = each_one (λ _ u. All (Marked (first_view z ∷ [])) (named_in u)) (first_view z) (All-nil (Marked (first_view z ∷ [])));
   };
-  taken = each_one (λ j u. All (IsTaken z 1 3 (λ n. 0) [] j u.known.session) u.joined) (first_view z) (All-nil (IsTaken z 1 3 (λ n. 0) [] 0 1));
+  taken = each_one (λ j u. All (IsTaken z 1 3 (λ i. false) (λ n. 0) [] j u.known.session) u.joined) (first_view z) (All-nil (IsTaken z 1 3 (λ i. false) (λ n. 0) [] 0 1));
 }
 
 pub opens : (z : Shape) (words : List ℕ) → IsShape z → 0 < (seat_of z 1).db → (seat_of z 1).db < 2 ^ 32 → words ≡ row (first_content z) → Lawful z (opening words [] (first_view z))

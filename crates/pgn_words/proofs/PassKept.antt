@@ -1,5 +1,5 @@
 -- The making of a pass keeps the rule.
-use Rattle.std.proofs.Common.{◌≡◌, ℕ, zero, suc, ◌+◌, ◌-◌, ◌^◌, ◌<◌, ◌≤◌, ◌==◌, true, false, cond, List, [], ◌∷◌, ◌++◌, length, get_or, drop, set, All, sym, refl, ap, ◌∙◌, subst, arith, length-set}
+use Rattle.std.proofs.Common.{Bool, ◌≡◌, ℕ, zero, suc, ◌+◌, ◌-◌, ◌^◌, ◌<◌, ◌≤◌, ◌==◌, true, false, cond, List, [], ◌∷◌, ◌++◌, length, get_or, drop, set, All, sym, refl, ap, ◌∙◌, subst, arith, length-set}
 use Rattle.std.proofs.lemmas.List.Elements.{All-nil, All-weaker, All-head, All-tail}
 use Rattle.std.proofs.lemmas.List.Sums.{sum_by-cons}
 use Rattle.std.proofs.lemmas.Bool.Decides.{nat_tests}
@@ -19,12 +19,12 @@ use Rattle.pgn_words.specs.Words.{Content, seats_of, room_of}
 use Rattle.pgn_words.specs.Views.{seat_of, no_seat, opened_view, spent_by}
 use Rattle.pgn_words.specs.ListenRule.{Placed, Marks, ShowsPosition, Walking, Bounds, LooksBy, Spared}
 use Rattle.pgn_words.specs.WakeRule.{IsHeard, Heeds, Signals, ended_in, IsTaken}
-use Rattle.pgn_words.specs.Rule.{World, IsSeated, Seated, Makes, Locks, Locking, WasMade, Draws, KnowsStop, Holds, Law, Lawful, Fates}
+use Rattle.pgn_words.specs.Rule.{World, IsSeated, Seated, Makes, Locks, Locking, WasMade, Draws, KnowsStop, Holds, Law, Lawful, Fates, KnowsAll}
 use Rattle.pgn_words.specs.Told.{after_making, made_by}
 use Rattle.pgn_words.proofs.EachLaws.{each_turn, each_keep, each_made, sum_set, sum_made}
 use Rattle.pgn_words.proofs.Frames.{locking_keep}
-use Rattle.pgn_words.proofs.MoreFrames.{posts_keep, flags_keep, named_keep}
-use Rattle.pgn_words.proofs.MoreMade.{flags_more, named_more}
+use Rattle.pgn_words.proofs.MoreFrames.{someone_keep, posts_keep, flags_keep, named_keep}
+use Rattle.pgn_words.proofs.MoreMade.{someone_more, flags_more, named_more}
 
 -- the seats, with one more
 abbrev pub seat_more : ℕ → ℕ → (ℕ → ℕ) → ℕ → ℕ
@@ -91,6 +91,7 @@ makes z c g views id v h here mine room some_db db_fits =
         one_more = h.history.one_more;
         begins = h.history.begins;
         free = h.history.free;
+        whole = someone_more (set views id left) right (KnowsAll g.past) (someone_keep views id v left here (KnowsAll g.past) refl (λ p. p) h.history.whole);
         sees = each_made (λ _ u. Begins u.known.seen g.past) (set views id left) right (each_keep (λ _ u. Begins u.known.seen g.past) views id v left here h.history.sees (λ p. p)) (begins-none g.past);
         own_seen = each_made (λ _ u. All (λ x. x < next_xid u.known.seen) u.known.own) (set views id left) right (each_keep (λ _ u. All (λ x. x < next_xid u.known.seen) u.known.own) views id v left here h.history.own_seen (λ p. p)) (All-nil (λ (x : ℕ). x < 3));
         owns = each_made (λ _ u. u.known.own ≡ xids_of u.known.session g.past) (set views id left) right (each_keep (λ _ u. u.known.own ≡ xids_of u.known.session g.past) views id v left here h.history.owns (λ p. p))
@@ -148,19 +149,19 @@ makes z c g views id v h here mine room some_db db_fits =
       };
       flags = flags_more (set views id left) right c.fin g.undecided c.flags (flags_keep views id v left here c.fin g.undecided c.flags h.flags refl (h.flags.told id v here) refl refl) (omega arith) refl refl;
       named = named_more (set views id left) right (named_keep views id v left here h.named refl refl refl refl refl) (λ registered. absurd (cc)) refl;
-      taken = each_made (λ j u. All (IsTaken z (g.made + 1) c.fin (seat_more g.made (length views) g.seat) g.past j u.known.session) u.joined) (set views id left) right
-          (each_turn (λ j u. All (IsTaken z g.made c.fin g.seat g.past j u.known.session) u.joined) (λ j u. All (IsTaken z (g.made + 1) c.fin (seat_more g.made (length views) g.seat) g.past j u.known.session) u.joined) views id left h.taken
-          (gone_more z g.made c.fin (length views) g.seat g.past id v.known.session v.joined keep (h.taken id v here))
-          (λ j u other there all. gone_more z g.made c.fin (length views) g.seat g.past j u.known.session u.joined keep all))
-          (All-nil (IsTaken z (g.made + 1) c.fin (seat_more g.made (length views) g.seat) g.past (length (set views id left)) (g.made + 1)));
+      taken = each_made (λ j u. All (IsTaken z (g.made + 1) c.fin g.undecided (seat_more g.made (length views) g.seat) g.past j u.known.session) u.joined) (set views id left) right
+          (each_turn (λ j u. All (IsTaken z g.made c.fin g.undecided g.seat g.past j u.known.session) u.joined) (λ j u. All (IsTaken z (g.made + 1) c.fin g.undecided (seat_more g.made (length views) g.seat) g.past j u.known.session) u.joined) views id left h.taken
+          (gone_more z g.made c.fin g.undecided (length views) g.seat g.past id v.known.session v.joined keep (h.taken id v here))
+          (λ j u other there all. gone_more z g.made c.fin g.undecided (length views) g.seat g.past j u.known.session u.joined keep all))
+          (All-nil (IsTaken z (g.made + 1) c.fin g.undecided (seat_more g.made (length views) g.seat) g.past (length (set views id left)) (g.made + 1)));
     }
   where
     more : (z : Shape) (made at : ℕ) (seat : ℕ → ℕ) (j : ℕ) (u : View) → ((n : ℕ) → n ≤ made → seat_more made at seat n ≡ seat n) → IsSeated z made seat j u → IsSeated z (made + 1) (seat_more made at seat) j u
     more z made at seat j u keep s = record { sits = keep u.known.session s.was_made ∙ s.sits; was_made = let low = s.was_made in omega (arith, low); db_is = s.db_is; some_db = s.some_db; db_fits = s.db_fits; setup_is = s.setup_is }
 
-    gone_more : (z : Shape) (made fin at : ℕ) (seat : ℕ → ℕ) (past : List Tx) (j session : ℕ) (gone : List Known) → ((n : ℕ) → n ≤ made → seat_more made at seat n ≡ seat n)
-        → All (IsTaken z made fin seat past j session) gone → All (IsTaken z (made + 1) fin (seat_more made at seat) past j session) gone
-    gone_more z made fin at seat past j session gone keep all = All-weaker (IsTaken z made fin seat past j session) (IsTaken z (made + 1) fin (seat_more made at seat) past j session) (λ k p. record {
+    gone_more : (z : Shape) (made fin : ℕ) (undecided : ℕ → Bool) (at : ℕ) (seat : ℕ → ℕ) (past : List Tx) (j session : ℕ) (gone : List Known) → ((n : ℕ) → n ≤ made → seat_more made at seat n ≡ seat n)
+        → All (IsTaken z made fin undecided seat past j session) gone → All (IsTaken z (made + 1) fin undecided (seat_more made at seat) past j session) gone
+    gone_more z made fin undecided at seat past j session gone keep all = All-weaker (IsTaken z made fin undecided seat past j session) (IsTaken z (made + 1) fin undecided (seat_more made at seat) past j session) (λ k p. record {
       sits = keep k.session p.was_made ∙ p.sits;
       positive = p.positive;
       was_made = let low = p.was_made in omega (arith, low);
@@ -169,7 +170,7 @@ makes z c g views id v h here mine room some_db db_fits =
       sees = p.sees;
       owns = p.owns;
       own_seen = p.own_seen;
-      told = p.told;
+      heard = p.heard;
     }) gone all
 
     seat_is : (z : Shape) (made : ℕ) (seat : ℕ → ℕ) (j : ℕ) (u : View) → Seated z made seat j u → u.known.session ≡ 1 → seat 1 ≡ j

@@ -18,11 +18,11 @@ use Rattle.pgn_words.specs.Words.{Content, room_of}
 use Rattle.pgn_words.specs.Views.{holds_lock, is_walking}
 use Rattle.pgn_words.specs.Positions.{shown_as, word_of, listens_at, is_placed}
 use Rattle.pgn_words.specs.ListenRule.{IsPlaced, Placed, Marks, ShowsPosition, Walking, Bounds, LooksBy, Spared}
-use Rattle.pgn_words.specs.WakeRule.{served, IsHeard, IsHeeded, Heeds, Signals, ended_in, named_in, Marked, MarkedBy}
+use Rattle.pgn_words.specs.WakeRule.{served, IsHeard, IsHeeded, Heeds, Signals, ended_in, named_in, Marked, MarkedBy, IsLast}
 use Rattle.pgn_words.specs.Rule.{World, HoldsIn, Holds, KnowsStop, Law, Keeps}
 use Rattle.std.proofs.lemmas.List.Elements.{All-weaker}
 use Rattle.pgn_words.proofs.EachLaws.{each_turn, each_keep, changed_at, own_further}
-use Rattle.pgn_words.proofs.Frames.{seats_keep, locking_keep, numbers_keep, budget_keep, statuses_keep}
+use Rattle.pgn_words.proofs.Frames.{seats_keep, locking_keep, numbers_keep, budget_keep, statuses_keep, whole_keep}
 use Rattle.pgn_words.proofs.MoreFrames.{still_there, someone_keep, flags_keep, taken_keep}
 use Rattle.pgn_words.proofs.LockKept.{others_hold}
 
@@ -40,7 +40,7 @@ pub turns : (z : Shape) (c : Content) (g : World) (views : List View) (id : ℕ)
     → (k.stage ≡ Shown → Keeps (room_of z) q.at (image z.format k.shown) c.cells × (length (image z.format k.shown) ≤ c.head))
     → length ws ≡ length c.wakes → ((j : ℕ) → j ≢ i → get_or ws j 0 ≡ get_or c.wakes j 0) → get_or ws i 0 ≤ 1
     → (q.listen ≡ Registered → IsHeeded z.format g.past (served g.undecided c.fin i) (get_or ws i 0) v.known.db q.mark (is_walking k.stage) k.upto o)
-    → ((n : ℕ) → Contains v.known.marks n → Contains ms n) → (q.listen ≡ Registered → Contains ms q.mark)
+    → ((n : ℕ) → Contains v.known.marks n → Contains ms n) → (q.listen ≡ Registered → IsLast ms q.mark)
     → Law z (record c { pos = p; wakes = ws }) g (set views id (turned txs m ms o wl q k v))
 turns z c g views id v i txs m ms o wl q k p ws h here number begins longer same long elsewhere word placed spared mark walks bounds wlong others_wake one heeds more current =
     let w : View = turned txs m ms o wl q k v in
@@ -60,6 +60,7 @@ turns z c g views id v i txs m ms o wl q k p ws h here number begins longer same
         one_more = h.history.one_more;
         begins = h.history.begins;
         free = h.history.free;
+        whole = whole_keep views id v w here g.past refl refl begins longer h.history.whole;
         sees = each_keep (λ _ u. Begins u.known.seen g.past) views id v w here h.history.sees (λ _. begins);
         own_seen = each_keep (λ _ u. All (λ x. x < next_xid u.known.seen) u.known.own) views id v w here h.history.own_seen (λ x. own_further v.known.own (length v.known.seen) (length txs) longer x);
         owns = each_keep (λ _ u. u.known.own ≡ xids_of u.known.session g.past) views id v w here h.history.owns (λ x. x);
@@ -106,12 +107,12 @@ turns z c g views id v i txs m ms o wl q k p ws h here number begins longer same
       };
       flags = flags_keep views id v w here c.fin g.undecided c.flags h.flags refl (h.flags.told id v here) refl refl;
       named = record {
-        current = each_turn (λ _ u. u.post.listen ≡ Registered → Contains u.known.marks u.post.mark) (λ _ u. u.post.listen ≡ Registered → Contains u.known.marks u.post.mark) views id w h.named.current current (λ j u other there x. x);
+        current = each_turn (λ _ u. u.post.listen ≡ Registered → IsLast u.known.marks u.post.mark) (λ _ u. u.post.listen ≡ Registered → IsLast u.known.marks u.post.mark) views id w h.named.current current (λ j u other there x. x);
         named = λ j u there. All-weaker (Marked views) (Marked (set views id w))
             (λ pair x. someone_keep views id v w here (MarkedBy pair) refl (λ y. ⊎_elim (λ mine. inl (mine.0, more pair.1 mine.1)) (λ theirs. inr theirs) y) x) (named_in u)
             (each_keep (λ _ x. All (Marked views) (named_in x)) views id v w here h.named.named (λ x. x) j u there);
       };
-      taken = taken_keep views id v w here z g.made c.fin g.seat g.past h.taken refl refl;
+      taken = taken_keep views id v w here z g.made c.fin g.undecided g.seat g.past h.taken refl refl;
     }
   where
     by_lock : (b : Bool) → holds_lock v.phase ≡ b → Holds z c.stop g.past g.shown c.cells id v → Holds z c.stop g.past g.shown c.cells id (turned txs m ms o wl q k v)
@@ -139,7 +140,7 @@ pub moves : (z : Shape) (c : Content) (g : World) (views : List View) (id : ℕ)
     → (is_walking k.stage ≡ true → (q.listen ≡ Registered) × (q.mark ≤ k.upto) × (k.upto ≤ next_xid txs))
     → (k.stage ≡ Shown → Keeps (room_of z) q.at (image z.format k.shown) c.cells × (length (image z.format k.shown) ≤ c.head))
     → (q.listen ≡ Registered → IsHeeded z.format g.past (served g.undecided c.fin i) (get_or c.wakes i 0) v.known.db q.mark (is_walking k.stage) k.upto o)
-    → ((n : ℕ) → Contains v.known.marks n → Contains ms n) → (q.listen ≡ Registered → Contains ms q.mark)
+    → ((n : ℕ) → Contains v.known.marks n → Contains ms n) → (q.listen ≡ Registered → IsLast ms q.mark)
     → Law z (record c { pos = p }) g (set views id (moved txs m ms o q k v))
 moves z c g views id v i txs m ms o q k p h here number begins longer same long elsewhere word placed spared mark walks bounds heeds more current =
     turns z c g views id v i txs m ms o v.known.wake_look q k p c.wakes h here number begins longer same long elsewhere word placed spared mark walks bounds refl (λ j other. refl) (h.wakes.small i) heeds more current

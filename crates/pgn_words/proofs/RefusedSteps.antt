@@ -1,10 +1,13 @@
 -- The rule refuses the small cases.
-use Rattle.std.proofs.Common.{true, [], ◌∷◌, Some, refl, arith}
+use Rattle.std.proofs.Common.{◌≡◌, ⊎_elim, ℕ, zero, suc, true, List, [], ◌∷◌, ◌++◌, length, get_or, Some, sym, refl, ap, subst, arith, length-append}
+use mathlib.Core.Option.{some-injective, some-ne-none}
 use Rattle.pgn_base.specs.declared.format.Format.TheVariants.{One}
+use Rattle.pgn_hub.specs.Examples.{two_seats, tx_3, published}
 use Rattle.pgn_words.specs.Views.{no_eye}
-use Rattle.pgn_words.specs.Rule.{Keeps, Locks, Draws}
+use Rattle.pgn_words.specs.Rule.{Keeps, Locks, Draws, KnowsAll}
 use Rattle.pgn_words.specs.ListenRule.{IsPlaced, ShowsPosition, Marks, Spared, IsSecond}
-use Rattle.pgn_words.specs.WakeRule.{IsHeard, Signals, IsMost}
+use Rattle.pgn_words.specs.WakeRule.{IsHeard, Signals, IsMost, IsLast, IsTaken}
+use Rattle.pgn_words.specs.Each.{Someone}
 use Rattle.pgn_words.specs.Examples.{listener, holder}
 
 pub no_other_cell : Keeps 2048 0 (Some 44 ∷ []) (45 ∷ []) → ⊥
@@ -43,8 +46,24 @@ not_undecided h = let waits = h refl 0 in absurd (cc)
 pub no_greater : IsMost (3 ∷ []) (0, 4) → ⊥
 no_greater h = let low = h.1 in omega (arith, low)
 
+pub no_earlier_mark : IsLast (3 ∷ 4 ∷ []) 3 → ⊥
+no_earlier_mark ([], is) = let long : 2 ≡ 1 = ap length is in omega (arith, long)
+no_earlier_mark (x ∷ [], is) = let last : 4 ≡ 3 = ap (λ (l : List ℕ). get_or l 1 0) is in omega (arith, last)
+no_earlier_mark (x ∷ y ∷ before, is) =
+    let long : 2 ≡ length (x ∷ y ∷ (before ++ 3 ∷ [])) = ap length is in
+    let more = length-append before (3 ∷ []) in omega (arith, long, more)
+
+pub nobody_knows : Someone (KnowsAll (tx_3 ∷ [])) (listener ∷ []) → ⊥
+nobody_knows (zero, v, there, positive, knows) =
+    let all : KnowsAll (tx_3 ∷ []) listener = subst (KnowsAll (tx_3 ∷ [])) (sym (some-injective listener v there)) knows in
+    ⊎_elim (λ seen. let long : 0 ≡ 1 = ap length seen in omega (arith, long)) (λ gone. let within = gone.2 in omega (arith, within)) all
+nobody_knows (suc j, v, there, positive, knows) = absurd (some-ne-none v (sym there))
+
+pub not_taken_too_early : IsTaken two_seats 2 4 (λ i. true) (λ n. 0) (tx_3 ∷ []) 0 1 published → ⊥
+not_taken_too_early h = let low = h.heard.decided 0 refl in omega (arith, low)
+
 pub ruleset refused_writers = (no_other_cell, no_other_holder, not_drawn_twice)
 
 pub ruleset refused_listeners = (not_too_late, no_page_gone, not_hidden, not_without_mark, not_before_target, no_other_target)
 
-pub ruleset refused_wakes = (not_heard_too_early, not_undecided, no_greater)
+pub ruleset refused_wakes = (not_heard_too_early, not_undecided, no_earlier_mark, nobody_knows, not_taken_too_early, no_greater)

@@ -239,7 +239,7 @@ frees z c g views id v page h here held may =
         small = h.stored.small;
         low = h.stored.low;
       };
-      history = history_keep views id v w here z c.lock c.fin g.made g.past g.shown h.history refl refl refl;
+      history = history_keep views id v w here z c.lock c.fin g.made g.past g.shown h.history refl refl refl refl;
       numbers = numbers_keep views id v w here c.lock c.fin c.xid h.numbers refl refl;
       holding = record {
         holds = each_turn (Holds z c.stop g.past g.shown c.cells) (Holds z page g.past g.shown c.cells) views id w h.holding.holds
@@ -263,7 +263,7 @@ frees z c g views id v page h here held may =
       wakes = wakes_keep views id v w here z.format c.lock c.fin g.past g.undecided c.wakes h.wakes refl refl refl refl refl refl refl (λ i. refl) refl refl;
       flags = flags_keep views id v w here c.fin g.undecided c.flags h.flags refl (h.flags.told id v here) refl refl;
       named = named_keep views id v w here h.named refl refl refl refl refl;
-      taken = taken_keep views id v w here z g.made c.fin g.seat g.past h.taken refl refl;
+      taken = taken_keep views id v w here z g.made c.fin g.undecided g.seat g.past h.taken refl refl;
     }
 
 pub store_stop_allowed : (z : Shape) (slots id page : ℕ) (me : Me ℕ View) → may_look me.0.phase ≡ true → MayFree me.0 page → Allows (Lawful z) slots id me 4 (λ _. page) (λ _. TellsStopStore (step slots 4 page 0 none) me page)

@@ -25,7 +25,7 @@ use Rattle.pgn_words.specs.WakeRule.{IsHeard, Signals, ended_in, pending, waits_
 use Rattle.pgn_words.specs.Rule.{World, KnowsStop, HoldsIn, Holds, IsWriting, Fates, Law, Lawful, Keeps, status_at}
 use Rattle.pgn_words.specs.Told.{TellsStatusSet, TellsFin, TellsStatus, MayEnd, ended_by}
 use Rattle.pgn_words.proofs.EachLaws.{each_turn, each_keep, own_further}
-use Rattle.pgn_words.proofs.Frames.{seats_keep, locking_keep, history_keep, numbers_keep, budget_keep, statuses_keep}
+use Rattle.pgn_words.proofs.Frames.{seats_keep, locking_keep, history_keep, numbers_keep, budget_keep, statuses_keep, whole_keep}
 use Rattle.pgn_words.proofs.MoreFrames.{posts_keep, walks_keep, looks_keep, heeds_keep, wakes_keep, flags_keep, named_keep, taken_keep}
 use Rattle.pgn_words.proofs.LockKept.{held_setup, setup_of, alone, others_hold, few_left, few_txs}
 use Rattle.pgn_words.proofs.HeadKept.{phase_holds}
@@ -75,7 +75,7 @@ ends z c g views id v tx x h here opened may notes session db number within =
       seats = seats_keep views id v w here z g.made g.seat h.seats refl refl refl refl;
       locking = locking_keep views id v w here c.lock g.holder h.locking refl (sym held);
       stored = h.stored;
-      history = history_keep views id v w here z c.lock c.fin g.made g.past g.shown h.history refl refl refl;
+      history = history_keep views id v w here z c.lock c.fin g.made g.past g.shown h.history refl refl refl refl;
       numbers = numbers_keep views id v w here c.lock c.fin c.xid h.numbers (sym held) (sym (ap drawn_by opened));
       holding = record {
         holds = each_turn (Holds z c.stop g.past g.shown c.cells) (Holds z c.stop g.past g.shown c.cells) views id w h.holding.holds
@@ -103,7 +103,7 @@ ends z c g views id v tx x h here opened may notes session db number within =
       wakes = wakes_keep views id v w here z.format c.lock c.fin g.past g.undecided c.wakes h.wakes refl refl refl refl refl refl (sym held) (λ i. sym (ap (λ p. pending p (waits_in v.verdicts) i) opened)) refl (sym (ap (λ p. ended_in p c.fin) opened));
       flags = flags_keep views id v w here c.fin g.undecided c.flags h.flags refl (h.flags.told id v here) refl refl;
       named = named_keep views id v w here h.named refl refl refl refl refl;
-      taken = taken_keep views id v w here z g.made c.fin g.seat g.past h.taken refl refl;
+      taken = taken_keep views id v w here z g.made c.fin g.undecided g.seat g.past h.taken refl refl;
     }
   where
     entry_low : (past : List Tx) (y : ℕ) (one : Tx) → entry past y ≡ Some one → 3 ≤ y → y < next_xid past
@@ -164,6 +164,7 @@ hears z c g views id v txs told h here begins longer same heard first =
         one_more = h.history.one_more;
         begins = h.history.begins;
         free = h.history.free;
+        whole = whole_keep views id v w here g.past refl refl begins longer h.history.whole;
         sees = each_keep (λ _ u. Begins u.known.seen g.past) views id v w here h.history.sees (λ p. begins);
         own_seen = each_keep (λ _ u. All (λ x. x < next_xid u.known.seen) u.known.own) views id v w here h.history.own_seen (λ p. own_further v.known.own (length v.known.seen) (length txs) longer p);
         owns = each_keep (λ _ u. u.known.own ≡ xids_of u.known.session g.past) views id v w here h.history.owns (λ p. p);
@@ -188,7 +189,7 @@ hears z c g views id v txs told h here begins longer same heard first =
       };
       flags = flags_keep views id v w here c.fin g.undecided c.flags h.flags refl first refl refl;
       named = named_keep views id v w here h.named refl refl refl refl refl;
-      taken = taken_keep views id v w here z g.made c.fin g.seat g.past h.taken refl refl;
+      taken = taken_keep views id v w here z g.made c.fin g.undecided g.seat g.past h.taken refl refl;
     }
   where
     by_lock : (b : Bool) → holds_lock v.phase ≡ b → Holds z c.stop g.past g.shown c.cells id v → Holds z c.stop g.past g.shown c.cells id (record v { known = record v.known { seen = txs; told = told } })

@@ -21,8 +21,8 @@ use Rattle.pgn_words.specs.Positions.{shown_as, word_of}
 use Rattle.pgn_words.specs.Told.{spent_view}
 use Rattle.pgn_words.specs.Closing.{taken_in}
 use Rattle.pgn_words.specs.ListenRule.{Placed, Marks, ShowsPosition, Walking, Bounds, LooksBy, Spared}
-use Rattle.pgn_words.specs.WakeRule.{IsHeard, Heeds, Signals, ended_in, raised_in, found_in, named_in, Raised, IsMost, IsMarkedBy, MarkedBy, Marked, IsTaken}
-use Rattle.pgn_words.specs.Rule.{World, Seated, Makes, Locks, Draws, KnowsStop, Holds, Fates, Law, Lawful}
+use Rattle.pgn_words.specs.WakeRule.{IsHeard, Heeds, Signals, ended_in, raised_in, found_in, named_in, Raised, IsMost, IsMarkedBy, MarkedBy, Marked, IsTaken, IsLast}
+use Rattle.pgn_words.specs.Rule.{World, Seated, Makes, Locks, Draws, KnowsStop, Holds, Fates, Law, Lawful, KnowsAll}
 use Rattle.pgn_words.proofs.EachLaws.{sum_set}
 use Rattle.pgn_words.proofs.NoteKept.{none_of_no}
 use Rattle.pgn_words.proofs.TakenLaws.{seat_moved, seat_stays, seat_goes, each_two, seen_at, someone_two, any_left, any_right, all_taken, has_mine, has_theirs}
@@ -76,6 +76,10 @@ takes_in z c g views id other v u h here there apart mine_positive positive free
         one_more = h.history.one_more;
         begins = h.history.begins;
         free = h.history.free;
+        whole = someone_two views id other v u w here there apart (KnowsAll g.past) mine_positive
+            (λ p. ⊎_elim (λ own. inl own) (λ joined. inr (any_left (λ k. k.seen ≡ g.past) (v.joined ++ u.joined) (u.known ∷ []) (any_left (λ k. k.seen ≡ g.past) v.joined u.joined joined))) p)
+            (λ p. ⊎_elim (λ own. inr (any_right (λ k. k.seen ≡ g.past) (v.joined ++ u.joined) (u.known ∷ []) (zero, u.known, omega arith, refl, own)))
+            (λ joined. inr (any_left (λ k. k.seen ≡ g.past) (v.joined ++ u.joined) (u.known ∷ []) (any_right (λ k. k.seen ≡ g.past) v.joined u.joined joined))) p) h.history.whole;
         sees = each_two views id other v u w here there apart (λ _ x. Begins x.known.seen g.past) (λ _ x. Begins x.known.seen g.past) h.history.sees (h.history.sees id v here) (begins-none g.past) (λ j x off off_other at p. p);
         own_seen = each_two views id other v u w here there apart (λ _ u. All (λ x. x < next_xid u.known.seen) u.known.own) (λ _ u. All (λ x. x < next_xid u.known.seen) u.known.own) h.history.own_seen (h.history.own_seen id v here) (All-nil (λ (x : ℕ). x < 3)) (λ j x off off_other at p. p);
         owns = each_two views id other v u w here there apart (λ _ x. x.known.own ≡ xids_of x.known.session g.past) (λ _ x. x.known.own ≡ xids_of x.known.session g.past) h.history.owns
@@ -146,18 +150,18 @@ takes_in z c g views id other v u h here there apart mine_positive positive free
             (λ j x off off_other at p. All-weaker (Raised views) (Raised (set (set views id w) other spent_view)) raised_on (found_in x) p);
       };
       named = record {
-        current = each_two views id other v u w here there apart (λ _ x. x.post.listen ≡ Registered → Contains x.known.marks x.post.mark) (λ _ x. x.post.listen ≡ Registered → Contains x.known.marks x.post.mark) h.named.current (h.named.current id v here) (λ registered. absurd (cc)) (λ j x off off_other at p. p);
+        current = each_two views id other v u w here there apart (λ _ x. x.post.listen ≡ Registered → IsLast x.known.marks x.post.mark) (λ _ x. x.post.listen ≡ Registered → IsLast x.known.marks x.post.mark) h.named.current (h.named.current id v here) (λ registered. absurd (cc)) (λ j x off off_other at p. p);
         named = each_two views id other v u w here there apart (λ _ x. All (Marked views) (named_in x)) (λ _ x. All (Marked (set (set views id w) other spent_view)) (named_in x)) h.named.named
             (All-weaker (Marked views) (Marked (set (set views id w) other spent_view)) marked_on (named_in w) (all_taken (Marked views) (λ k. k.named) v.known.named v.joined u.joined u.known (h.named.named id v here) (h.named.named other u there)))
             (All-nil (Marked (set (set views id w) other spent_view)))
             (λ j x off off_other at p. All-weaker (Marked views) (Marked (set (set views id w) other spent_view)) marked_on (named_in x) p);
       };
-      taken = each_two views id other v u w here there apart (λ j x. All (IsTaken z g.made c.fin g.seat g.past j x.known.session) x.joined) (λ j x. All (IsTaken z g.made c.fin (seat_moved other id g.seat) g.past j x.known.session) x.joined) h.taken
-          (all_joined (IsTaken z g.made c.fin (seat_moved other id g.seat) g.past id v.known.session) v.joined u.joined u.known
-          (All-weaker (IsTaken z g.made c.fin g.seat g.past id v.known.session) (IsTaken z g.made c.fin (seat_moved other id g.seat) g.past id v.known.session)
-          (λ k p. record { sits = stays k.session id p.sits (λ same. apart (sym same)); positive = p.positive; was_made = p.was_made; other = p.other; db_is = p.db_is; sees = p.sees; owns = p.owns; own_seen = p.own_seen; told = p.told }) v.joined (h.taken id v here))
-          (All-weaker (IsTaken z g.made c.fin g.seat g.past other u.known.session) (IsTaken z g.made c.fin (seat_moved other id g.seat) g.past id v.known.session)
-          (λ k p. record { sits = seat_goes other id g.seat k.session p.sits; positive = p.positive; was_made = p.was_made; other = λ same. apart (sym p.sits ∙ ap g.seat same ∙ seat.sits); db_is = p.db_is; sees = p.sees; owns = p.owns; own_seen = p.own_seen; told = p.told }) u.joined (h.taken other u there))
+      taken = each_two views id other v u w here there apart (λ j x. All (IsTaken z g.made c.fin g.undecided g.seat g.past j x.known.session) x.joined) (λ j x. All (IsTaken z g.made c.fin g.undecided (seat_moved other id g.seat) g.past j x.known.session) x.joined) h.taken
+          (all_joined (IsTaken z g.made c.fin g.undecided (seat_moved other id g.seat) g.past id v.known.session) v.joined u.joined u.known
+          (All-weaker (IsTaken z g.made c.fin g.undecided g.seat g.past id v.known.session) (IsTaken z g.made c.fin g.undecided (seat_moved other id g.seat) g.past id v.known.session)
+          (λ k p. record { sits = stays k.session id p.sits (λ same. apart (sym same)); positive = p.positive; was_made = p.was_made; other = p.other; db_is = p.db_is; sees = p.sees; owns = p.owns; own_seen = p.own_seen; heard = p.heard }) v.joined (h.taken id v here))
+          (All-weaker (IsTaken z g.made c.fin g.undecided g.seat g.past other u.known.session) (IsTaken z g.made c.fin g.undecided (seat_moved other id g.seat) g.past id v.known.session)
+          (λ k p. record { sits = seat_goes other id g.seat k.session p.sits; positive = p.positive; was_made = p.was_made; other = λ same. apart (sym p.sits ∙ ap g.seat same ∙ seat.sits); db_is = p.db_is; sees = p.sees; owns = p.owns; own_seen = p.own_seen; heard = p.heard }) u.joined (h.taken other u there))
           (record {
             sits = seat_goes other id g.seat u.known.session theirs.sits;
             positive = positive;
@@ -167,11 +171,11 @@ takes_in z c g views id other v u h here there apart mine_positive positive free
             sees = h.history.sees other u there;
             owns = h.history.owns other u there;
             own_seen = h.history.own_seen other u there;
-            told = (h.wakes.heard other u there).most;
+            heard = h.wakes.heard other u there;
           }))
-          (All-nil (IsTaken z g.made c.fin (seat_moved other id g.seat) g.past other 0))
-          (λ j x off off_other at all. All-weaker (IsTaken z g.made c.fin g.seat g.past j x.known.session) (IsTaken z g.made c.fin (seat_moved other id g.seat) g.past j x.known.session)
-          (λ k p. record { sits = stays k.session j p.sits off_other; positive = p.positive; was_made = p.was_made; other = p.other; db_is = p.db_is; sees = p.sees; owns = p.owns; own_seen = p.own_seen; told = p.told }) x.joined all);
+          (All-nil (IsTaken z g.made c.fin g.undecided (seat_moved other id g.seat) g.past other 0))
+          (λ j x off off_other at all. All-weaker (IsTaken z g.made c.fin g.undecided g.seat g.past j x.known.session) (IsTaken z g.made c.fin g.undecided (seat_moved other id g.seat) g.past j x.known.session)
+          (λ k p. record { sits = stays k.session j p.sits off_other; positive = p.positive; was_made = p.was_made; other = p.other; db_is = p.db_is; sees = p.sees; owns = p.owns; own_seen = p.own_seen; heard = p.heard }) x.joined all);
     }
 
 pub take_in_allowed : (z : Shape) (id other : ℕ) (v u : View) → 0 < v.known.session → 0 < u.known.session → u.phase ≡ Free → u.post.listen ≡ Out → Joins (Lawful z) id v other u (taken_in v u) spent_view

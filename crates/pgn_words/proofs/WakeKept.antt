@@ -1,6 +1,7 @@
 -- The steps on wakes keep the rule.
 use Rattle.std.proofs.Common.{◌≡◌, ◌≢◌, ◌⊎◌, inl, inr, ⊎_elim, ℕ, zero, suc, ◌+◌, ◌-◌, ◌/◌, ◌<◌, ◌≤◌, ◌==◌, ◌||◌, nat_le, not, Bool, true, false, cond, List, [], ◌∷◌, ◌++◌, length, drop, get_or, set, bit_or, Option, Some, All, sym, refl, ap, ◌∙◌, subst, arith, true≢false, length-set, get_or-set_other, get_or-set_same}
 use Rattle.std.proofs.lemmas.Bool.Decides.{nat_tests}
+use Rattle.std.proofs.lemmas.List.Elements.{All-weaker}
 use mathlib.Core.Option.{some, none}
 use lib.ListN.{get_elem?}
 use native.Mathlib.Decide.{ℕ_discrete}
@@ -27,7 +28,7 @@ use Rattle.pgn_words.specs.declared.view.Verdict.TheVariants.{Unseen, Needed, De
 use Rattle.pgn_words.specs.Views.{holds_lock, seat_of, is_open, is_walking}
 use Rattle.pgn_words.specs.Positions.{position_in, shown_as, place_or, is_placed}
 use Rattle.pgn_words.specs.Waking.{TellsTaken, verdict_on, verdict_of, needs_wake, wake_looked, HasLookedToWake, TellsWakeLook, wake_set, TellsWakeSet}
-use Rattle.pgn_words.specs.WakeRule.{served, IsHeard, IsHeeded, Heeds, waits_in, pending, Signals, ended_in}
+use Rattle.pgn_words.specs.WakeRule.{served, IsHeard, IsHeeded, Heeds, waits_in, pending, Signals, ended_in, IsTaken}
 use Rattle.pgn_words.specs.Rule.{World, KnowsStop, Holds, IsSignalling, Law, Lawful, Keeps}
 use Rattle.pgn_words.proofs.EachLaws.{each_turn, each_keep}
 use Rattle.pgn_words.proofs.Frames.{seats_keep, locking_keep, history_keep, numbers_keep, budget_keep, statuses_keep}
@@ -127,7 +128,7 @@ decides z c g views id v us ws h here signals long small fewer heeds =
       seats = seats_keep views id v w here z g.made g.seat h.seats refl refl refl refl;
       locking = locking_keep views id v w here c.lock g.holder h.locking refl refl;
       stored = h.stored;
-      history = history_keep views id v w here z c.lock c.fin g.made g.past g.shown h.history refl refl refl;
+      history = history_keep views id v w here z c.lock c.fin g.made g.past g.shown h.history refl refl refl refl;
       numbers = numbers_keep views id v w here c.lock c.fin c.xid h.numbers refl refl;
       holding = record {
         holds = each_keep (Holds z c.stop g.past g.shown c.cells) views id v w here h.holding.holds (λ x. x);
@@ -148,7 +149,9 @@ decides z c g views id v us ws h here signals long small fewer heeds =
       };
       flags = record { heard = λ f. heard (get_or c.flags f 0) (flags.heard f); told = flags.told; most = flags.most; source = flags.source; found = flags.found };
       named = named_keep views id v w here h.named refl refl refl refl refl;
-      taken = taken_keep views id v w here z g.made c.fin g.seat g.past h.taken refl refl;
+      taken = λ j u there. All-weaker (IsTaken z g.made c.fin g.undecided g.seat g.past j u.known.session) (IsTaken z g.made c.fin (waits_in us) g.seat g.past j u.known.session)
+          (λ k p. record { sits = p.sits; positive = p.positive; was_made = p.was_made; other = p.other; db_is = p.db_is; sees = p.sees; owns = p.owns; own_seen = p.own_seen; heard = heard k.told p.heard }) u.joined
+          (taken_keep views id v w here z g.made c.fin g.undecided g.seat g.past h.taken refl refl j u there);
     }
 
 -- a listener at another seat is served as before

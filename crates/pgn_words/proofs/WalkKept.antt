@@ -145,7 +145,7 @@ store_valid_allowed z slots id word x me own positive based value =
           refl
           (λ walks. absurd (cc)) (λ shown. absurd (cc))
           (λ registered. record { still = inr (inl refl); walked = λ walks. absurd (cc) })
-          (λ n x. has_still v.known.marks v.post.mark n x) (λ registered. has_last v.known.marks v.post.mark);
+          (λ n x. has_still v.known.marks v.post.mark n x) (λ registered. (v.known.marks, refl));
       told = record { slots = refl; view = refl };
     })
 
@@ -296,7 +296,7 @@ store_forward_allowed z slots id word x at me own positive shown place_is low va
           (ap (λ (l : Listen). marked (shown_as l v.walk.upto at)) (sym registered))
           (λ walks. absurd (cc)) (λ ends. absurd (cc))
           (λ _. let heeded = h.wakes.heeds id v here registered i number in record { still = ⊎_elim (λ set_now. inl set_now) (λ near. inr (inr near)) (heeded.walked (ap is_walking shown)); walked = λ walks. absurd (cc) })
-          (λ n y. has_still v.known.marks v.walk.upto n y) (λ _. has_last v.known.marks v.walk.upto);
+          (λ n y. has_still v.known.marks v.walk.upto n y) (λ _. (v.known.marks, refl));
       told = record { slots = refl; view = ap (λ n. forwarded n v) (sym part) };
     })
 

@@ -1,6 +1,6 @@
 -- The rule of the words, which holds before and after each step of each pass. It speaks of what the words hold, of what no word and
 -- no pass by itself has, and of the passes. Each group of clauses takes what it reads.
-use Rattle.std.specs.Prelude.{◌≡◌, ◌≢◌, ℕ, ◌+◌, ◌^◌, ◌<◌, ◌≤◌, Bool, true, List, [], ◌∷◌, ◌++◌, length, get_or, drop, Option, Some, All, AllPairs, sum_by}
+use Rattle.std.specs.Prelude.{◌≡◌, ◌≢◌, ◌⊎◌, ℕ, ◌+◌, ◌^◌, ◌<◌, ◌≤◌, Bool, true, List, [], ◌∷◌, ◌++◌, length, get_or, drop, Option, Some, All, Any, AllPairs, sum_by}
 use mathlib.Core.Option.{some}
 use lib.ListN.{get_elem?}
 use Rattle.atomic_table.specs.Table.{State}
@@ -19,6 +19,7 @@ use Rattle.pgn_words.specs.declared.view.Pen.{Pen}
 use Rattle.pgn_words.specs.declared.view.Phase.{Phase}
 use Rattle.pgn_words.specs.declared.view.Phase.TheVariants.{Free, Held, Headed, Ready, Open, Finished, Signalling}
 pub use Rattle.pgn_words.specs.Each.{Each, Keeps}
+use Rattle.pgn_words.specs.Each.{Someone}
 use Rattle.pgn_words.specs.ListenRule.{Posts, Walks, Looks}
 use Rattle.pgn_words.specs.WakeRule.{Wakes, Flags, Named, Taken}
 use Rattle.pgn_words.specs.Words.{Content, row, seats_of, status_words, room_of}
@@ -87,6 +88,10 @@ pub record Stored (z : Shape) (head stop : ℕ) (shown : List Tx) (cells : List 
 abbrev pub WasMade : Shape → ℕ → Tx → Type 0
 WasMade z made tx = (1 ≤ tx.session) × (tx.session ≤ made) × (tx.db ≡ (seat_of z tx.session).db)
 
+-- a pass knows the whole journal, or one that it took in did
+abbrev pub KnowsAll : List Tx → View → Type 0
+KnowsAll past v = (v.known.seen ≡ past) ⊎ Any (λ k. k.seen ≡ past) v.joined
+
 -- the journal, and what each pass knows of it
 pub record History (z : Shape) (lock fin made : ℕ) (past shown : List Tx) (views : List View) : Type 0 where
   pub counted : fin ≡ next_xid past
@@ -97,6 +102,7 @@ pub record History (z : Shape) (lock fin made : ℕ) (past shown : List Tx) (vie
   pub begins : Begins past shown
   pub free : lock ≡ 0 → shown ≡ past
   pub sees : Each (λ _ v. Begins v.known.seen past) views
+  pub whole : Someone (KnowsAll past) views
   pub owns : Each (λ _ v. v.known.own ≡ xids_of v.known.session past) views
   pub own_seen : Each (λ _ v. All (λ x. x < next_xid v.known.seen) v.known.own) views
 
@@ -207,7 +213,7 @@ pub record Law (z : Shape) (c : Content) (g : World) (views : List View) : Type 
   pub wakes : Wakes z.format c.lock c.fin g.past g.undecided c.wakes views
   pub flags : Flags c.fin g.undecided c.flags views
   pub named : Named views
-  pub taken : Taken z g.made c.fin g.seat g.past views
+  pub taken : Taken z g.made c.fin g.undecided g.seat g.past views
 
 -- the rule
 pub record Lawful (z : Shape) (s : State ℕ View) : Type 0 where

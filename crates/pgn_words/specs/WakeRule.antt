@@ -1,5 +1,5 @@
 -- The groups of the rule on wakes, flags, the marks that looks met, and the passes that were taken in at the end.
-use Rattle.std.specs.Prelude.{◌≡◌, ◌≢◌, ◌⊎◌, ℕ, ◌+◌, ◌-◌, ◌<◌, ◌≤◌, Bool, true, false, cond, List, ◌++◌, get_or, Option, None, Some, All, Any, Contains, flat_map}
+use Rattle.std.specs.Prelude.{◌≡◌, ◌≢◌, ◌⊎◌, ℕ, ◌+◌, ◌-◌, ◌<◌, ◌≤◌, Bool, true, false, cond, List, [], ◌∷◌, ◌++◌, get_or, Option, None, Some, All, Any, Contains, flat_map}
 use Rattle.pgn_base.specs.declared.format.Format.{Format}
 use Rattle.pgn_base.specs.declared.limits.TheConstants.{FIRST_XID}
 use Rattle.pgn_journal.specs.declared.tx.Tx.{Tx}
@@ -108,13 +108,17 @@ MarkedBy pair v = IsMarkedBy pair v.known ⊎ Any (IsMarkedBy pair) v.joined
 abbrev pub Marked : List View → ℕ × ℕ → Type 0
 Marked views pair = Someone (MarkedBy pair) views
 
--- each mark that a look met is one of its session
+-- it is the last one of a list
+abbrev pub IsLast : List ℕ → ℕ → Type 0
+IsLast marks mark = (before : List ℕ) × (marks ≡ before ++ mark ∷ [])
+
+-- a listener's mark is the last of its marks, and each mark that a look met is one of its session
 pub record Named (views : List View) : Type 0 where
-  pub current : Each (λ _ v. v.post.listen ≡ Registered → Contains v.known.marks v.post.mark) views
+  pub current : Each (λ _ v. v.post.listen ≡ Registered → IsLast v.known.marks v.post.mark) views
   pub named : Each (λ _ v. All (Marked views) (named_in v)) views
 
 -- a pass that was taken in is that of another session, it has its seat's database, and knows what a pass knows
-pub record IsTaken (z : Shape) (made fin : ℕ) (seat : ℕ → ℕ) (past : List Tx) (j session : ℕ) (k : Known) : Type 0 where
+pub record IsTaken (z : Shape) (made fin : ℕ) (undecided : ℕ → Bool) (seat : ℕ → ℕ) (past : List Tx) (j session : ℕ) (k : Known) : Type 0 where
   pub sits : seat k.session ≡ j
   pub positive : 0 < k.session
   pub was_made : k.session ≤ made
@@ -123,7 +127,7 @@ pub record IsTaken (z : Shape) (made fin : ℕ) (seat : ℕ → ℕ) (past : Lis
   pub sees : Begins k.seen past
   pub owns : k.own ≡ xids_of k.session past
   pub own_seen : All (λ x. x < next_xid k.seen) k.own
-  pub told : k.told ≤ fin
+  pub heard : IsHeard fin undecided k.told
 
-abbrev pub Taken : Shape → ℕ → ℕ → (ℕ → ℕ) → List Tx → List View → Type 0
-Taken z made fin seat past views = Each (λ j v. All (IsTaken z made fin seat past j v.known.session) v.joined) views
+abbrev pub Taken : Shape → ℕ → ℕ → (ℕ → Bool) → (ℕ → ℕ) → List Tx → List View → Type 0
+Taken z made fin undecided seat past views = Each (λ j v. All (IsTaken z made fin undecided seat past j v.known.session) v.joined) views

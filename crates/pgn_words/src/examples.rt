@@ -1,9 +1,11 @@
 ghost use Rattle.std.specs.Prelude.{◌≡◌, ◌≢◌, ℕ, ◌+◌, ◌≤◌, ◌<◌, true, false, [], ◌∷◌, Some};
 ghost use Rattle.pgn_base.specs.declared.format.Format.TheVariants.{One};
+ghost use Rattle.pgn_hub.specs.Examples.{two_seats, tx_3, published};
 ghost use Rattle.pgn_words.specs.Views.{no_eye};
-ghost use Rattle.pgn_words.specs.Rule.{Keeps, Locks, Draws};
+ghost use Rattle.pgn_words.specs.Rule.{Keeps, Locks, Draws, KnowsAll};
 ghost use Rattle.pgn_words.specs.ListenRule.{IsPlaced, ShowsPosition, Marks, Spared, IsSecond};
-ghost use Rattle.pgn_words.specs.WakeRule.{IsHeard, Signals, IsMost};
+ghost use Rattle.pgn_words.specs.WakeRule.{IsHeard, Signals, IsMost, IsLast, IsTaken};
+ghost use Rattle.pgn_words.specs.Each.{Someone};
 ghost use Rattle.pgn_words.specs.Examples.{listener, holder};
 
 /// What the rule refuses of the words and of a writer.
@@ -40,6 +42,12 @@ pub fn wakes()
     ensures heard_too_early { IsHeard 4 (λ i. true) 4 → ⊥ }
     // A seat is undecided while the holder does not signal.
     ensures undecided { Signals (λ i. true) 0 holder → ⊥ }
+    // A listener stands at an earlier mark than its last one.
+    ensures earlier_mark { IsLast (3 ∷ 4 ∷ []) 3 → ⊥ }
+    // No pass knows the whole journal.
+    ensures nobody_knows { Someone (KnowsAll (tx_3 ∷ [])) (listener ∷ []) → ⊥ }
+    // A pass that was taken in was told of a transaction after which some seat is undecided.
+    ensures taken_too_early { IsTaken two_seats 2 4 (λ i. true) (λ n. 0) (tx_3 ∷ []) 0 1 published → ⊥ }
     // A flag was raised with a greater number than its word holds.
     ensures greater { IsMost (3 ∷ []) (0, 4) → ⊥ }
 {}
