@@ -1,7 +1,8 @@
 -- The steps of an advance, one after another.
 use Rattle.std.proofs.Common.{◌≡◌, ℕ, ◌<◌, ◌≤◌, max, List, ◌++◌, length, Option, Some, None, IfSome, unwrap_or, All, Contains, sym, refl, ap, ◌∙◌, subst, arith}
 use Rattle.std.proofs.lemmas.List.{append_assoc}
-use Rattle.std.proofs.lemmas.List.Elements.{All-contains_itself}
+use Rattle.std.proofs.lemmas.List.Elements.{All-contains_itself, All-weaker}
+use Rattle.std.proofs.Math.Nat.{max-le, le-max_left, le-max_right}
 use Rattle.pgn_base.specs.declared.format.Format.{Format}
 use Rattle.pgn_base.specs.declared.format.Format.TheVariants.{One}
 use Rattle.pgn_hub.specs.declared.known.Advance.{Advance}
@@ -74,6 +75,9 @@ advances z v w x y u mark at mark1 at1 tail stop holder holder1 setup one some w
         all = ap (λ (q : View). q.eye.looked) i ∙ k.looked;
         kept = omega (arith, page, stop_is, target_is);
         floor_kept = omega (arith, page, stop_is, no_later, floor_at);
+        needed = subst (λ (a : Advance). All (λ pair. u.eye.target ≤ place One v.known.seen pair.1) (met_from 1 a.second)) (sym advance)
+            (subst (λ (n : ℕ). All (λ pair. n ≤ place One v.known.seen pair.1) (met_from 1 second)) (sym target_is)
+            (subst (λ (f : Format). All (λ pair. y.eye.target ≤ place f v.known.seen pair.1) (met_from 1 second)) format k.needed));
       },
     )
 
@@ -130,11 +134,20 @@ frees_to z v u mark at from to holder e adv greater stop =
       holder = holder;
       floor = subst (λ (txs : List Tx). IsFloor (next_xid txs) (met_by u.known.advance) mark holder) (sym seen) adv.floor;
       floor_kept = omega (arith, kept, there, stop);
+      no_more = All-weaker (λ (pair : ℕ × ℕ). u.eye.target ≤ place One v.known.seen pair.1) (λ (pair : ℕ × ℕ). to ≤ max from (page_of (place One u.known.seen pair.1)))
+          (λ pair p. up_to (place One u.known.seen pair.1) (let same : place One u.known.seen pair.1 ≡ place One v.known.seen pair.1 = ap (λ (txs : List Tx). place One txs pair.1) seen in omega (arith, p, same)))
+          (met_from 1 u.known.advance.second) adv.needed;
       second = adv.second;
       all = adv.all;
       greater = greater;
       stop = stop;
     }
+  where
+    up_to : (at : ℕ) → u.eye.target ≤ at → to ≤ max from (page_of at)
+    up_to at low =
+        let left = le-max_left from (page_of at) in
+        let right = le-max_right from (page_of at) in
+        let both : max from (page_of u.eye.target) ≤ max from (page_of at) = max-le left (omega (arith, low, right)) in omega (arith, greater, both)
 
 -- the same from the oldest kept page that was loaded
 pub tail_freed : (z : Shape) (v a b w t : View) (next : ℕ) (done : Freed) → a ≡ head_known v → b ≡ stop_known done.from a → HasHeard b next w → HasTried w t → IsFreedAs z w.known.named t done.from done.to done.joiner
@@ -159,6 +172,7 @@ still_freed z before t done h = record { from_is = h.from_is; did = by_joiner do
       holder = f.holder;
       floor = f.floor;
       floor_kept = f.floor_kept;
+      no_more = f.no_more;
       second = f.second;
       all = f.all;
       greater = f.greater;

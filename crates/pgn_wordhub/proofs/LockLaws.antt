@@ -1,5 +1,5 @@
 -- A pass that tries to take the lock again and again.
-use Rattle.std.proofs.Common.{◌≡◌, refl, subst}
+use Rattle.std.proofs.Common.{◌≡◌, subst}
 use Rattle.pgn_words.specs.declared.view.View.{View}
 use Rattle.pgn_words.specs.Told.{HasLocked}
 

@@ -1,17 +1,17 @@
 -- The two looks of an advance, from seat to seat.
 use Rattle.std.proofs.Common.{◌≡◌, ℕ, zero, suc, ◌+◌, ◌^◌, ◌<◌, ◌≤◌, ◌==◌, min, Bool, true, false, cond, List, [], ◌∷◌, ◌++◌, length, take, set, slice_get, Option, Some, None, IfSome, inl, inr, All, Contains, sym, refl, ap, ◌∙◌, subst, arith}
 use Rattle.std.proofs.lemmas.List.{append-nil, append_assoc, length-append}
-use Rattle.std.proofs.lemmas.List.Elements.{All-nil, All-cons, All-append, Contains-append_left, Contains-append_right, Contains-push}
+use Rattle.std.proofs.lemmas.List.Elements.{All-nil, All-cons, All-append, All-weaker, Contains-append_left, Contains-append_right, Contains-push}
 use Rattle.std.proofs.lemmas.Bool.Decides.{nat_tests}
 use Rattle.std.proofs.Math.Seq.{take-suc-set}
-use Rattle.std.proofs.Math.Nat.{min-eq_left, min-le_left, min_comm}
+use Rattle.std.proofs.Math.Nat.{min-eq_left, min-le_left, min-le_right, min_comm}
 use native.Mathlib.Decide.{ℕ_discrete}
 use Rattle.pgn_lanes.specs.Least.{least_with}
 use Rattle.pgn_lanes.proofs.LeastLaws.{least_with-append}
 use Rattle.pgn_base.specs.declared.format.Format.{Format}
 use Rattle.pgn_journal.specs.declared.tx.Tx.{Tx}
 use Rattle.pgn_journal.specs.Journal.{next_xid}
-use Rattle.pgn_journal.specs.Packing.{image}
+use Rattle.pgn_journal.specs.Packing.{place, image}
 use Rattle.pgn_journal.proofs.PackingLemmas.{last_place}
 use Rattle.pgn_hub.specs.Calls.{met_from}
 use Rattle.pgn_hub.specs.Passes.{no_advance}
@@ -180,6 +180,15 @@ counts seat words.Out w settled = refl
 counts seat words.Joining w settled = absurd (settled refl)
 counts seat (words.At mark at) w settled = refl
 
+-- the target is no later than a place that is met
+met_needed : (format : Format) (seen : List Tx) (seat target : ℕ) (found : PosWord) → IsPositionIn format seen found → All (λ pair. min (place_or target found) target ≤ place format seen pair.1) (met_at seat found)
+met_needed format seen seat target words.Out placed = All-nil (λ (pair : ℕ × ℕ). min target target ≤ place format seen pair.1)
+met_needed format seen seat target words.Joining placed = All-nil (λ (pair : ℕ × ℕ). min target target ≤ place format seen pair.1)
+met_needed format seen seat target (words.At mark at) placed =
+    All-cons (λ (pair : ℕ × ℕ). min at target ≤ place format seen pair.1) (seat + 1, mark) []
+    (let is = placed.at_is in let low = min-le_left at target in omega (arith, is, low))
+    (All-nil (λ (pair : ℕ × ℕ). min at target ≤ place format seen pair.1))
+
 pub second_goes_on : (v w x : View) (seat mark at mark2 at2 : ℕ) (holder holder2 : Option ℕ) (found : PosWord) → v.known.mark ≡ listens_at v.post → length (image v.setup.format v.known.seen) < 2 ^ 32 → (found ≡ words.Joining → ⊥)
     → HasSeenSecond v w seat mark at holder → HasLookedSecond w seat found x → Meets seat found mark at holder mark2 at2 holder2 → HasSeenSecond v x (seat + 1) mark2 at2 holder2
 second_goes_on v w x seat mark at mark2 at2 holder holder2 found listens small settled h looked meets =
@@ -190,6 +199,7 @@ second_goes_on v w x seat mark at mark2 at2 holder holder2 found listens small s
     let mine : seat + 1 ≡ v.known.session → marked found ≡ v.known.mark = λ is. ap marked (learns.1 is) ∙ sym listens in
     let next = met_next seat h.second found h.come.long in
     let second = h.second ++ marked found ∷ [] in
+    let target = min (place_or w.eye.target found) w.eye.target in
     let at_seat : x.eye.looked ≡ seat + 1 = ap (λ (y : View). y.eye.looked) e in record {
       second = second;
       view = e ∙ ap (λ E. record v { eye = E; known = record v.known { named = v.known.named ++ met_from 1 h.second ++ met_at seat found; advance = record v.known.advance { second = second } } }) (sym (ap (λ (y : View). y.eye) e))
@@ -203,6 +213,12 @@ second_goes_on v w x seat mark at mark2 at2 holder holder2 found listens small s
           (meets v.setup.format v.known.seen (met_from 1 first ++ met_from 1 h.second) w.eye.least small learns.0 h.floor));
       announced = λ none. absurd (omega (arith, none, at_seat));
       no_later = looked.floor;
+      needed = subst (λ (n : ℕ). All (λ pair. n ≤ place v.setup.format v.known.seen pair.1) (met_from 1 second)) (sym (ap (λ (y : View). y.eye.target) e))
+          (subst (λ (l : List (ℕ × ℕ)). All (λ pair. target ≤ place v.setup.format v.known.seen pair.1) l) (sym next)
+          (All-append (λ (pair : ℕ × ℕ). target ≤ place v.setup.format v.known.seen pair.1) (met_from 1 h.second) (met_at seat found)
+          (All-weaker (λ (pair : ℕ × ℕ). w.eye.target ≤ place v.setup.format v.known.seen pair.1) (λ (pair : ℕ × ℕ). target ≤ place v.setup.format v.known.seen pair.1)
+          (λ pair p. let low = min-le_right (place_or w.eye.target found) w.eye.target in omega (arith, p, low)) (met_from 1 h.second) h.needed)
+          (met_needed v.setup.format v.known.seen seat w.eye.target found learns.0)));
     }
 
 -- the first place that is needed is the least of the tail's and of those that are kept for the seats

@@ -1,11 +1,12 @@
 -- The definitions of this crate refuse the small cases.
-use Rattle.std.proofs.Common.{◌≡◌, ℕ, ◌≤◌, true, false, [], ◌∷◌, List, length, Option, Some, None, Contains, refl, ap, arith}
+use Rattle.std.proofs.Common.{◌≡◌, ℕ, ◌≤◌, max, [], ◌∷◌, List, length, Option, Some, None, Contains, refl, ap, arith}
 use Rattle.std.proofs.lemmas.List.Elements.{All-nil, All-head}
+use Rattle.std.proofs.Math.Nat.{max-le}
 use Rattle.pgn_base.specs.declared.format.Format.TheVariants.{One}
 use Rattle.pgn_base.specs.declared.note.Delivery.{Delivery}
 use Rattle.pgn_journal.specs.declared.tx.Tx.{Tx}
 use Rattle.pgn_hub.specs.declared.known.Known.{Known}
-use Rattle.pgn_journal.specs.Packing.{image, image_from}
+use Rattle.pgn_journal.specs.Packing.{page_of, place, image, image_from}
 use Rattle.pgn_journal.specs.Pieces.{Piece, AFiller, piece_bytes, number_of, IsNumbered}
 use Rattle.pgn_journal.proofs.BytesLemmas.{length-spelled}
 use Rattle.pgn_journal.proofs.PackingLemmas.{entry_whole, first_place}
@@ -23,7 +24,7 @@ use Rattle.pgn_wordhub.specs.Floors.{IsFloorOf}
 use Rattle.pgn_wordhub.specs.Looks.{HasCome, HasSeenFirst, HasSeenSecond, HasSeenSome}
 use Rattle.pgn_wordhub.specs.Advancing.{HasAdvancedTo, HasTried, HasFreedTo, HasGivenUp, IsFreed, HasTriedTail}
 use Rattle.pgn_wordhub.specs.Finishing.{HasCommitted, HasEnded}
-use Rattle.pgn_wordhub.specs.Examples.{first_pass, third_pass, told_of_3, with_mark, stored_one, writing, undecided_one, first_look, tail_is_late, one_seen, one_joins, both_seen, seen_once, none_freed, one_page, sender_3, other_db}
+use Rattle.pgn_wordhub.specs.Examples.{first_pass, third_pass, told_of_3, with_mark, stored_one, writing, undecided_one, first_look, tail_is_late, one_seen, one_joins, both_seen, seen_once, one_met, none_freed, one_page, sender_3, other_db}
 use Rattle.pgn_wordhub.proofs.WayLaws.{cell_of}
 
 pub no_holder : IsHubView two_seats holder → ⊥
@@ -164,6 +165,7 @@ frees_one =
       holder = None;
       floor = record { below = omega arith; least = All-nil (λ (pair : ℕ × ℕ). 3 ≤ pair.1); held = refl };
       floor_kept = omega (arith, first);
+      no_more = All-nil (λ (pair : ℕ × ℕ). 1 ≤ max 0 (page_of (place One [] pair.1)));
       second = refl;
       all = refl;
       greater = refl;
@@ -178,6 +180,12 @@ frees_after_all h = let all = h.all in omega (arith, all)
 
 pub frees_after_both : HasFreedTo two_seats [] seen_once 0 1 → ⊥
 frees_after_both h = let long = h.looked.second_look in omega (arith, long)
+
+pub frees_before_all : HasFreedTo two_seats [] one_met 0 1 → ⊥
+frees_before_all h =
+    let first = first_place One [] in
+    let low = All-head (λ (pair : ℕ × ℕ). 1 ≤ max 0 (page_of (place One [] pair.1))) (2, 3) [] h.no_more in
+    let none : max 0 (page_of (place One [] 3)) ≤ page_of (place One [] 3) = max-le (omega arith) (omega arith) in omega (arith, low, none, first)
 
 pub gives_up : HasGivenUp two_seats one_joins 0 2
 gives_up = record { second = refl; left = omega arith; joins = refl; there = refl; stop = refl }
@@ -223,6 +231,6 @@ pub ruleset refused_writers = (not_unshown, not_ahead, not_told, not_all, no_pag
 
 pub ruleset refused_looks = (not_past_the_number, own_seat_shows, own_seat_shows_none, no_seat_left_out, not_the_second, no_late_tail, not_the_first)
 
-pub ruleset refused_advances = (all_seats, no_page_kept, not_told_by_looks, frees_one, frees_none, frees_after_all, frees_after_both, gives_up, no_other_joiner, none_joins, none_left_to_join, freed_one, not_from_the_end, none_beside_a_joiner, no_mark_moved)
+pub ruleset refused_advances = (all_seats, no_page_kept, not_told_by_looks, frees_one, frees_none, frees_after_all, frees_after_both, frees_before_all, gives_up, no_other_joiner, none_joins, none_left_to_join, freed_one, not_from_the_end, none_beside_a_joiner, no_mark_moved)
 
 pub ruleset refused_wakes = (not_signalling, both_seats, at_the_head)

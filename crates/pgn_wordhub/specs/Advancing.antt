@@ -6,7 +6,7 @@ use Rattle.pgn_journal.specs.declared.tx.Tx.{Tx}
 use Rattle.pgn_journal.specs.Journal.{next_xid}
 use Rattle.pgn_journal.specs.Packing.{page_of, place}
 use Rattle.pgn_hub.specs.Shape.{Shape}
-use Rattle.pgn_hub.specs.Calls.{met_by, LooksTwice, IsFloor}
+use Rattle.pgn_hub.specs.Calls.{met_from, met_by, LooksTwice, IsFloor}
 use Rattle.pgn_words.specs.declared.view.View.{View}
 use Rattle.pgn_words.specs.declared.view.Look.TheVariants.{Second}
 use Rattle.pgn_wordhub.specs.declared.looks.Freed.{Freed}
@@ -27,6 +27,7 @@ pub record HasAdvancedTo (z : Shape) (v w : View) (mark at : ℕ) (holder : Opti
   pub all : w.eye.looked ≡ length z.seats
   pub kept : page_of w.eye.target ≤ w.stop
   pub floor_kept : page_of at ≤ w.stop
+  pub needed : All (λ pair. w.eye.target ≤ place One v.known.seen pair.1) (met_from 1 w.known.advance.second)
 
 -- an advance was tried, which may have given up at a joiner: of the pass it has changed the same
 pub record HasTried (v w : View) : Type 0 where
@@ -35,7 +36,7 @@ pub record HasTried (v w : View) : Type 0 where
 
 -- Each seat was looked at twice, and what the looks met is named beside what was named before. The oldest kept page is now the greater
 -- of what it was and the page of the first place that is still needed. It is no earlier than that of the floor, the least of the next
--- number and the marks that were met.
+-- number and the marks that were met. Where pages were freed it is no later than that of any mark that the second look met.
 pub record HasFreedTo (z : Shape) (before : List (ℕ × ℕ)) (w : View) (from to : ℕ) : Type 0 where
   pub named : List (ℕ × ℕ)
   pub named_is : w.known.named ≡ before ++ named
@@ -45,6 +46,7 @@ pub record HasFreedTo (z : Shape) (before : List (ℕ × ℕ)) (w : View) (from 
   pub holder : Option ℕ
   pub floor : IsFloor (next_xid w.known.seen) (met_by w.known.advance) mark holder
   pub floor_kept : page_of (place One w.known.seen mark) ≤ to
+  pub no_more : All (λ pair. to ≤ max from (page_of (place One w.known.seen pair.1))) (met_from 1 w.known.advance.second)
   pub second : w.eye.look ≡ Second
   pub all : w.eye.looked ≡ length z.seats
   pub greater : to ≡ max from (page_of w.eye.target)

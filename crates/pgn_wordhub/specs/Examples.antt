@@ -66,6 +66,10 @@ both_seen = record first_pass {
 abbrev pub seen_once : View
 seen_once = record both_seen { known = record (opened_pass 1 seat) { advance = record met_nobody { second = [] } } }
 
+-- the same, where the second look has met a listener that stands on the first page
+abbrev pub one_met : View
+one_met = record both_seen { known = record (opened_pass 1 seat) { named = (2, 3) ∷ []; advance = record met_nobody { second = None ∷ Some 3 ∷ [] } } }
+
 -- the same, with both pages kept
 abbrev pub none_freed : View
 none_freed = record both_seen { stop = 0 }

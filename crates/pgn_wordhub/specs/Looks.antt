@@ -1,5 +1,6 @@
 -- The two looks of an advance, seat by seat.
 use Rattle.std.specs.Prelude.{◌≡◌, ℕ, ◌<◌, ◌≤◌, ◌==◌, cond, List, ◌++◌, length, Option, Some, IfSome, All, Contains}
+use Rattle.pgn_journal.specs.Packing.{place}
 use Rattle.pgn_hub.specs.Calls.{met_from}
 use Rattle.pgn_hub.specs.Passes.{no_advance}
 use Rattle.pgn_words.specs.declared.view.View.{View}
@@ -37,6 +38,8 @@ pub record HasSeenSecond (v w : View) (seats mark at : ℕ) (holder : Option ℕ
   pub floor : IsFloorOf v.setup.format v.known.seen (met_from 1 v.known.advance.first ++ met_from 1 second) w.eye.least mark at holder
   pub announced : w.eye.looked ≡ 0 → mark_in w.eye.least ≤ mark_in w.eye.tail
   pub no_later : 0 < w.eye.looked → place_in w.eye.least ≤ w.eye.target
+  -- the first place that is needed is no later than any that this look has met
+  pub needed : All (λ pair. w.eye.target ≤ place v.setup.format v.known.seen pair.1) (met_from 1 second)
 
 -- The second look has come over some seats, and may have given up at a joiner. Of the pass it changes the same.
 pub record HasSeenSome (v w : View) : Type 0 where

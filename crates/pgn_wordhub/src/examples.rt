@@ -14,7 +14,7 @@ ghost use Rattle.pgn_wordhub.specs.Floors.{IsFloorOf};
 ghost use Rattle.pgn_wordhub.specs.Looks.{HasCome, HasSeenFirst, HasSeenSecond, HasSeenSome};
 ghost use Rattle.pgn_wordhub.specs.Advancing.{HasAdvancedTo, HasTried, HasFreedTo, HasGivenUp, IsFreed, HasTriedTail};
 ghost use Rattle.pgn_wordhub.specs.Finishing.{HasCommitted, HasEnded};
-ghost use Rattle.pgn_wordhub.specs.Examples.{first_pass, third_pass, told_of_3, with_mark, stored_one, writing, undecided_one, first_look, tail_is_late, one_seen, one_joins, both_seen, seen_once, none_freed, one_page, sender_3, other_db};
+ghost use Rattle.pgn_wordhub.specs.Examples.{first_pass, third_pass, told_of_3, with_mark, stored_one, writing, undecided_one, first_look, tail_is_late, one_seen, one_joins, both_seen, seen_once, one_met, none_freed, one_page, sender_3, other_db};
 
 /// What is no pass of a hub between calls.
 #[tactic(auto, using(crate::proofs::RefusedCases::refused_passes))]
@@ -105,6 +105,8 @@ pub fn advances()
     ensures frees_none { HasFreedTo two_seats [] none_freed 0 0 → ⊥ }
     ensures frees_after_one_seat { HasFreedTo two_seats [] one_seen 0 1 → ⊥ }
     ensures frees_after_one_look { HasFreedTo two_seats [] seen_once 0 1 → ⊥ }
+    // A page was freed on which a listener stands that the second look met.
+    ensures frees_before_all { HasFreedTo two_seats [] one_met 0 1 → ⊥ }
     ensures joiner { HasGivenUp two_seats one_joins 0 2 }
     ensures another_joiner { HasGivenUp two_seats one_joins 0 1 → ⊥ }
     // The look has found no session that joins at the seat to which it has come.
