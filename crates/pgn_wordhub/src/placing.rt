@@ -3,7 +3,7 @@ ghost use Rattle.std.specs.Int.{w32, from_le_bytes};
 ghost use Rattle.pgn_base.specs.declared.format.Format.TheVariants.{One};
 ghost use Rattle.pgn_base.specs.declared.limits.TheConstants.{PID_BASE};
 ghost use Rattle.pgn_journal.specs.Journal.{next_xid};
-ghost use Rattle.pgn_journal.specs.Bytes.{entry_length};
+ghost use Rattle.pgn_journal.specs.Bytes.{page_bytes, entry_length};
 ghost use Rattle.pgn_journal.specs.Packing.{page_of, page_start, cells_in, filled_cells, image, HasRoom};
 ghost use Rattle.pgn_layout.specs.Batches.{IsPlanned, entry_of, batch_cells};
 ghost use Rattle.pgn_words.specs.Passes.{IsPassOf, view_of, known_of};
@@ -80,11 +80,11 @@ impl WordHub {
         requires xid { xid ≡ next_xid (known_of pass.old).seen }
         requires pages { at + cells_in (entry_length One note.now) ≤ page_start ((view_of pass.old).stop + (hub_shape self.now).pages) }
         requires low { at ≤ 2 ^ 32 }
-        requires page { length page.old ≡ 8192 }
+        requires page { length page.old ≡ page_bytes }
         ensures own { IsPassOf self.now.queue pass.new }
         ensures view { view_of pass.new ≡ stored_more (entry_of One (writer_of (known_of pass.old)) note.now) (view_of pass.old) }
         ensures end { result ≡ at + length (entry_of One (writer_of (known_of pass.old)) note.now) }
-        ensures page { length page.new ≡ 8192 }
+        ensures page { length page.new ≡ page_bytes }
     {
         let len = entry_len(note) as usize;
         write_entry(note, pass.db(), xid, WordHub::pid(pass), &mut page[..len]);
@@ -110,10 +110,10 @@ impl WordHub {
         requires room { HasRoom One at }
         requires pages { page_of at < (view_of pass.old).stop + (hub_shape self.now).pages }
         requires low { at < 2 ^ 32 }
-        requires page { length page.old ≡ 8192 }
+        requires page { length page.old ≡ page_bytes }
         ensures own { IsPassOf self.now.queue pass.new }
         ensures view { view_of pass.new ≡ stored_more (batch_cells One (writer_of (known_of pass.old)) notes.now batch.now) (view_of pass.old) }
-        ensures page { length page.new ≡ 8192 }
+        ensures page { length page.new ≡ page_bytes }
     {
         let mut at = at;
         for note in &notes[..batch.fits] {
@@ -149,13 +149,13 @@ impl WordHub {
         requires left { placing.old.placed < length notes.now }
         requires stop { placing.old.stop ≡ (view_of pass.old).stop }
         requires pages { page_of placing.old.at < placing.old.stop + (hub_shape self.now).pages }
-        requires page { length page.old ≡ 8192 }
+        requires page { length page.old ≡ page_bytes }
         ensures own { IsPassOf self.now.queue pass.new }
         ensures view { view_of pass.new ≡ placed_view (view_of pass.new) (view_of pass.old) }
         ensures placing { IsPlacing (view_of pass.new) notes.now placing.new.placed placing.new.at }
         ensures within { placing.new.placed ≤ length notes.now }
         ensures stop { placing.new.stop ≡ placing.old.stop }
-        ensures page { length page.new ≡ 8192 }
+        ensures page { length page.new ≡ page_bytes }
     {
         let rest = &notes[placing.placed..];
         let batch = plan_batch(placing.at, rest);

@@ -4,7 +4,8 @@ ghost use Rattle.pgn_base.specs.declared.note.Note.{Note};
 ghost use Rattle.pgn_base.specs.declared.note.Delivery.{Delivery};
 ghost use Rattle.pgn_base.specs.Names.{has_name};
 ghost use Rattle.pgn_journal.specs.Journal.{next_xid};
-ghost use Rattle.pgn_journal.specs.Packing.{Sender, image, place};
+ghost use Rattle.pgn_journal.specs.Bytes.{page_bytes};
+ghost use Rattle.pgn_journal.specs.Packing.{Sender, page_cells, image, place};
 ghost use Rattle.pgn_journal.specs.Pieces.{Piece, AnEntry, piece_bytes, gives, committed_by, IsReadable};
 ghost use Rattle.pgn_hub.specs.Shape.{notes_of_seats};
 ghost use Rattle.pgn_hub.specs.Calls.{HasRead, HasLearned};
@@ -172,8 +173,8 @@ impl WordHub {
         requires from { (view_of pass.old).post.at ≤ at }
         requires low { at < 2 ^ 32 }
         requires reach { length (known_of pass.old).seen ≤ notes_of_seats (hub_shape self.now).seats }
-        requires words { length words.old ≡ 2048 }
-        requires page { length page.old ≡ 8192 }
+        requires words { length words.old ≡ page_cells }
+        requires page { length page.old ≡ page_bytes }
         requires entry { HasEntryAt (shown_cells (view_of pass.old)) at len (known_of pass.old).db (known_of pass.old).seen }
         ensures own { IsPassOf self.now.queue pass.new }
         ensures view { view_of pass.new ≡ view_of pass.old }
@@ -206,8 +207,8 @@ impl WordHub {
         requires low { length (shown_cells (view_of pass.old)) < 2 ^ 32 }
         requires fin { fin ≡ next_xid (known_of pass.old).seen }
         requires reach { length (known_of pass.old).seen ≤ notes_of_seats (hub_shape self.now).seats }
-        requires words { length words.old ≡ 2048 }
-        requires page { length page.old ≡ 8192 }
+        requires words { length words.old ≡ page_cells }
+        requires page { length page.old ≡ page_bytes }
         requires walks { IsWalking (shown_cells (view_of pass.old)) fin (known_of pass.old).db set.now.channels (known_of pass.old).seen at out.old.items }
         ensures own { IsPassOf self.now.queue pass.new }
         ensures view { view_of pass.new ≡ view_of pass.old }

@@ -46,9 +46,10 @@ abbrev pub NoWakeIsLost : Type 0
 NoWakeIsLost = (z : Shape) (c : Content) (g : World) (views : List View) (j i : ℕ) (v : View) → Law z c g views → get_elem? views j ≡ some v → v.post.listen ≡ Registered → v.known.session ≡ i + 1
     → get_or c.wakes i 0 ≢ 1 → v.known.owes ≡ false → Near z.format (is_committed_in v.known.db) g.past v.post.mark v.known.told
 
--- all wakes are set of the transactions below the number that a flag shows, and of those below what a pass was told
+-- all wakes are set of the transactions below the number that a flag shows
 abbrev pub FlagsAreHeard : Type 0
 FlagsAreHeard = (z : Shape) (c : Content) (g : World) (views : List View) (f : ℕ) → Law z c g views → IsHeard c.fin g.undecided (get_or c.flags f 0)
 
+-- and of those below what a pass was told
 abbrev pub ToldIsHeard : Type 0
 ToldIsHeard = (z : Shape) (c : Content) (g : World) (views : List View) (j : ℕ) (v : View) → Law z c g views → get_elem? views j ≡ some v → IsHeard c.fin g.undecided v.known.told

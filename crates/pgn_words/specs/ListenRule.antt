@@ -25,12 +25,15 @@ pub record IsPlaced (format : Format) (past : List Tx) (fin stop mark at : ℕ) 
   pub kept : stop ≤ page_of at
   pub low : at < 2 ^ 32
 
+-- a listener, or one that has loaded its base, has a session, and its mark stands with its place
 abbrev pub Placed : Format → List Tx → ℕ → ℕ → ℕ → View → Type 0
 Placed format past fin stop j v = is_placed v.post.listen ≡ true → (0 < v.known.session) × IsPlaced format past fin stop v.post.mark v.post.at
 
+-- what the pass shows as its mark is that of its position
 abbrev pub Marks : ℕ → View → Type 0
 Marks j v = v.known.mark ≡ listens_at v.post
 
+-- its session's word shows its position
 abbrev pub ShowsPosition : List ℕ → ℕ → View → Type 0
 ShowsPosition pos j v = (i : ℕ) → v.known.session ≡ i + 1 → get_or pos i 0 ≡ word_of (shown_as v.post.listen v.post.mark v.post.at)
 
@@ -75,11 +78,13 @@ pub record IsSecond (looked target tail : ℕ) (eye : Eye) : Type 0 where
   pub begins : looked ≡ 0 → target ≡ place_in tail
   pub floor : 0 < looked → place_in eye.least ≤ target
 
+-- what a look has found out so far, by which of the two it is
 abbrev pub LookIn : Look → Format → List Tx → ℕ → ℕ → ℕ → ℕ → Eye → Type 0
 LookIn Idle format past fin looked target tail eye = Unit {0}
 LookIn First format past fin looked target tail eye = IsLeast format past fin eye.least
 LookIn Second format past fin looked target tail eye = IsLeast format past fin eye.least × IsSecond looked target tail eye
 
+-- the same of the pass that holds the lock
 abbrev pub LooksBy : Format → List Tx → ℕ → ℕ → ℕ → ℕ → ℕ → View → Type 0
 LooksBy format past fin looked target tail j v = holds_lock v.phase ≡ true → LookIn v.eye.look format past fin looked target tail v.eye
 

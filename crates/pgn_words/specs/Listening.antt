@@ -18,6 +18,7 @@ use Rattle.pgn_words.specs.Told.{Mine}
 abbrev pub joining : View → View
 joining v = record v { post = record v.post { listen = Joining } }
 
+-- what the store of a word that says so tells
 pub record TellsJoining (s : Step ℕ) (v : Mine) (n : ℕ) (w : Mine) : Type 0 where
   pub slots : w.1 ≡ v.1
   pub view : w.0 ≡ joining v.0
@@ -28,6 +29,7 @@ pub record HasBase (v : View) (mark at : ℕ) (w : View) : Type 0 where
   pub view : w ≡ record v { known = record v.known { seen = v.known.seen ++ more }; post = record { listen = Based; mark = mark; at = at } }
   pub placed : IsPlacedIn w.setup.format w.known.seen mark at
 
+-- what the load of the tail by a joiner tells
 pub record TellsBase (s : Step ℕ) (v : Mine) (n : ℕ) (w : Mine) : Type 0 where
   pub slots : w.1 ≡ v.1
   pub base : HasBase v.0 (mark_in n) (place_in n) w.0
@@ -41,6 +43,7 @@ registered v = record v {
   walk = record v.walk { stage = Still };
 }
 
+-- what the store of its base as its position tells
 pub record TellsRegistered (s : Step ℕ) (v : Mine) (n : ℕ) (w : Mine) : Type 0 where
   pub slots : w.1 ≡ v.1
   pub view : w.0 ≡ registered v.0
@@ -56,6 +59,7 @@ pub record HasBegun (v : View) (n : ℕ) (w : View) : Type 0 where
   -- its mark belongs to what it knows
   pub placed : IsPlacedIn w.setup.format w.known.seen w.post.mark w.post.at
 
+-- what the load of the first unfinished number by a listener tells
 pub record TellsBegun (s : Step ℕ) (v : Mine) (n : ℕ) (w : Mine) : Type 0 where
   pub slots : w.1 ≡ v.1
   pub begun : HasBegun v.0 n w.0
@@ -72,6 +76,7 @@ pub record HasShown (v : View) (n : ℕ) (w : View) : Type 0 where
   pub head : n ≡ length (image v.setup.format shown)
   pub low : n < 2 ^ 32
 
+-- what the load of the head by a listener tells
 pub record TellsShown (s : Step ℕ) (v : Mine) (n : ℕ) (w : Mine) : Type 0 where
   pub slots : w.1 ≡ v.1
   pub shown : HasShown v.0 n w.0
@@ -93,6 +98,7 @@ forwarded at v = record v {
   walk = record v.walk { stage = Still };
 }
 
+-- what the store of its new position tells
 pub record TellsForwarded (s : Step ℕ) (v : Mine) (n : ℕ) (w : Mine) : Type 0 where
   pub slots : w.1 ≡ v.1
   pub view : w.0 ≡ forwarded (place_in s.first) v.0
@@ -105,6 +111,7 @@ left v = record v {
   walk = record v.walk { stage = Still };
 }
 
+-- what the store of 0 as its position tells
 pub record TellsLeft (s : Step ℕ) (v : Mine) (n : ℕ) (w : Mine) : Type 0 where
   pub slots : w.1 ≡ v.1
   pub view : w.0 ≡ left v.0

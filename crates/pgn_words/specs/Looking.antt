@@ -41,6 +41,7 @@ looked_first seat position v = record v {
   };
 }
 
+-- the same, where the look begins with the first seat
 abbrev pub first_looked : ℕ → PosWord → View → View
 first_looked seat position v = looked_first seat position (cond (seat == 0) (look_begun v) v)
 
@@ -59,6 +60,7 @@ pub record HasLookedFirst (v : View) (seat : ℕ) (found : PosWord) (w : View) :
   pub position : TellsPosition v seat found
   pub least : HasLeast w
 
+-- what the load of a position by the first look tells
 pub record TellsFirstLook (s : Step ℕ) (v : Mine) (n : ℕ) (w : Mine) : Type 0 where
   pub slots : w.1 ≡ v.1
   pub looked : (seat : ℕ) → s.word ≡ pos_at + seat → HasLookedFirst v.0 seat (position_in n) w.0
@@ -72,6 +74,7 @@ second_begun tail v = record v {
   known = record v.known { advance = record v.known.advance { tail = Some (mark_in tail) } };
 }
 
+-- what the load of the tail by the holder tells
 pub record TellsTail (s : Step ℕ) (v : Mine) (n : ℕ) (w : Mine) : Type 0 where
   pub slots : w.1 ≡ v.1
   pub view : w.0 ≡ second_begun n v.0
@@ -89,6 +92,7 @@ pub record MayAnnounce (v : View) (mark at : ℕ) : Type 0 where
 abbrev pub announced : View → View
 announced v = second_begun v.eye.least v
 
+-- what the store of the tail tells
 pub record TellsTailStore (s : Step ℕ) (v : Mine) (n : ℕ) (w : Mine) : Type 0 where
   pub slots : w.1 ≡ v.1
   pub view : w.0 ≡ announced v.0
@@ -130,6 +134,7 @@ pub record HasLookedSecond (v : View) (seat : ℕ) (found : PosWord) (w : View) 
   pub least : HasLeast w
   pub floor : HasFloor w
 
+-- what the load of a position by the second look tells
 pub record TellsSecondLook (s : Step ℕ) (v : Mine) (n : ℕ) (w : Mine) : Type 0 where
   pub slots : w.1 ≡ v.1
   pub looked : (seat : ℕ) → s.word ≡ pos_at + seat → HasLookedSecond v.0 seat (position_in n) w.0
@@ -147,6 +152,7 @@ pub record MayFree (v : View) (page : ℕ) : Type 0 where
 abbrev pub stopped : ℕ → View → View
 stopped page v = record v { stop = page }
 
+-- what the store of the oldest kept page tells
 pub record TellsStopStore (s : Step ℕ) (v : Mine) (n : ℕ) (w : Mine) : Type 0 where
   pub slots : w.1 ≡ v.1
   pub view : w.0 ≡ stopped s.first v.0

@@ -15,10 +15,11 @@ use Rattle.pgn_words.specs.declared.view.Post.{Post}
 abbrev pub packed : ℕ → ℕ → ℕ
 packed mark at = mark * 2 ^ 32 + at
 
--- the mark in a word, and the place in it
+-- the mark in a word
 abbrev pub mark_in : ℕ → ℕ
 mark_in word = word / 2 ^ 32
 
+-- the place in a word
 abbrev pub place_in : ℕ → ℕ
 place_in word = word % 2 ^ 32
 

@@ -59,6 +59,7 @@ pub record IsSeated (z : Shape) (made : ℕ) (seat : ℕ → ℕ) (j : ℕ) (v :
 abbrev pub Seated : Shape → ℕ → (ℕ → ℕ) → ℕ → View → Type 0
 Seated z made seat j v = 0 < v.known.session → IsSeated z made seat j v
 
+-- the pass that makes the others is that of session 1, and counts them
 abbrev pub Makes : ℕ → ℕ → View → Type 0
 Makes made j v = 0 < v.made → (v.known.session ≡ 1) × (v.made ≡ made)
 
@@ -68,6 +69,7 @@ pub record Seats (z : Shape) (made : ℕ) (seat : ℕ → ℕ) (views : List Vie
   pub seated : Each (Seated z made seat) views
   pub makes : Each (Makes made) views
 
+-- who holds the lock sits at the holder's seat, and the lock's word has its session's number
 abbrev pub Locks : ℕ → ℕ → ℕ → View → Type 0
 Locks lock holder j v = holds_lock v.phase ≡ true → (j ≡ holder) × (lock ≡ v.known.session) × (0 < v.known.session)
 
@@ -106,6 +108,7 @@ pub record History (z : Shape) (lock fin made : ℕ) (past shown : List Tx) (vie
   pub owns : Each (λ _ v. v.known.own ≡ xids_of v.known.session past) views
   pub own_seen : Each (λ _ v. All (λ x. x < next_xid v.known.seen) v.known.own) views
 
+-- the next number is the first unfinished one while the holder has drawn none, and else the one after it
 abbrev pub Draws : ℕ → ℕ → ℕ → View → Type 0
 Draws fin xid j v = holds_lock v.phase ≡ true → xid ≡ fin + drawn_by v.phase
 
@@ -114,6 +117,7 @@ pub record Numbers (lock fin xid : ℕ) (views : List View) : Type 0 where
   pub free : lock ≡ 0 → xid ≡ fin
   pub draws : Each (Draws fin xid) views
 
+-- a holder that has loaded the oldest kept page knows it
 abbrev pub KnowsStop : ℕ → ℕ → View → Type 0
 KnowsStop stop j v = knows_stop v.phase ≡ true → v.stop ≡ stop
 
@@ -156,6 +160,7 @@ pub record IsSignalling (past shown seen : List Tx) (db : ℕ) (pen : Pen) : Typ
   pub last : past ≡ before ++ pen.ending ∷ []
   pub db_is : pen.ending.db ≡ db
 
+-- the same by the phase
 abbrev pub HoldsIn : Phase → Format → (List (Option ℕ) → Type 0) → List Tx → List Tx → List Tx → ℕ → ℕ → Pen → Type 0
 HoldsIn Free format keeps past shown seen session db pen = Unit {0}
 HoldsIn Held format keeps past shown seen session db pen = IsIdle past shown seen
@@ -165,6 +170,7 @@ HoldsIn Open format keeps past shown seen session db pen = IsWriting format keep
 HoldsIn Finished format keeps past shown seen session db pen = IsEnding format past shown seen session db pen
 HoldsIn Signalling format keeps past shown seen session db pen = IsSignalling past shown seen db pen
 
+-- the same of a pass, by the cells from the oldest kept page on
 abbrev pub Holds : Shape → ℕ → List Tx → List Tx → List ℕ → ℕ → View → Type 0
 Holds z stop past shown cells j v = HoldsIn v.phase z.format (λ log. Keeps (room_of z) (page_start stop) log cells) past shown v.known.seen v.known.session v.known.db v.pen
 
@@ -177,6 +183,7 @@ pub record Holding (z : Shape) (stop : ℕ) (past shown : List Tx) (cells : List
 abbrev pub status_at : List ℕ → ℕ → ℕ
 status_at ss x = status_in (get_or ss (status_word x) 0) x
 
+-- the status of the first unfinished number is the fate that its holder has set, and none before that
 abbrev pub Fates : List Tx → List ℕ → ℕ → View → Type 0
 Fates past ss j v = holds_lock v.phase ≡ true → status_at ss (next_xid past) ≡ fated v.phase v.pen.ending.fate
 
@@ -197,6 +204,7 @@ notes_of txs = sum_by (λ tx. length tx.notes) txs
 abbrev pub Budget : Shape → ℕ → List Tx → List View → Type 0
 Budget z made past views = notes_of past + sum_by spent_by views + notes_of_seats (drop made z.seats) ≤ notes_of_seats z.seats
 
+-- all groups of clauses, for these words, this world and these passes
 pub record Law (z : Shape) (c : Content) (g : World) (views : List View) : Type 0 where
   pub laid : Laid z c.pos c.wakes c.flags c.statuses c.cells
   pub seats : Seats z g.made g.seat views

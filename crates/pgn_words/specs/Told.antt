@@ -59,6 +59,7 @@ pub record IsLocked (v : View) (by : ℕ) : Type 0 where
 abbrev pub refused : ℕ → View → View
 refused by v = record v { held_by = Some by }
 
+-- what a try for the lock tells
 pub record TellsLock (s : Step ℕ) (v : Mine) (n : ℕ) (w : Mine) : Type 0 where
   pub slots : w.1 ≡ v.1
   pub same : w.0.setup ≡ v.0.setup
@@ -69,6 +70,7 @@ pub record TellsLock (s : Step ℕ) (v : Mine) (n : ℕ) (w : Mine) : Type 0 whe
 abbrev pub freed : View → View
 freed v = record v { phase = Free; ended = None; verdicts = []; known = record v.known { told = unwrap_or v.ended v.known.told } }
 
+-- what the drop of the lock tells
 pub record TellsDrop (s : Step ℕ) (v : Mine) (n : ℕ) (w : Mine) : Type 0 where
   pub slots : w.1 ≡ v.1
   pub view : w.0 ≡ freed v.0
@@ -77,6 +79,7 @@ pub record TellsDrop (s : Step ℕ) (v : Mine) (n : ℕ) (w : Mine) : Type 0 whe
 abbrev pub head_known : View → View
 head_known v = record v { phase = Headed; pen = record v.pen { cells = image v.setup.format v.known.seen; batch = [] } }
 
+-- what the load of the head by the holder tells
 pub record TellsHead (s : Step ℕ) (v : Mine) (n : ℕ) (w : Mine) : Type 0 where
   pub slots : w.1 ≡ v.1
   pub view : w.0 ≡ head_known v.0
@@ -87,6 +90,7 @@ pub record TellsHead (s : Step ℕ) (v : Mine) (n : ℕ) (w : Mine) : Type 0 whe
 abbrev pub stop_known : ℕ → View → View
 stop_known n v = record v { phase = Ready; stop = n; loaded_stop = n }
 
+-- what the load of the oldest kept page tells
 pub record TellsStop (s : Step ℕ) (v : Mine) (n : ℕ) (w : Mine) : Type 0 where
   pub slots : w.1 ≡ v.1
   pub view : w.0 ≡ stop_known n v.0
@@ -102,6 +106,7 @@ drawn notes v = record v {
   pen = record v.pen { notes = notes; taken = length notes };
 }
 
+-- what the draw of a number for notifications tells
 pub record TellsDraw (notes : List Note) (s : Step ℕ) (v : Mine) (n : ℕ) (w : Mine) : Type 0 where
   pub slots : w.1 ≡ v.1
   pub view : w.0 ≡ drawn notes v.0
@@ -114,6 +119,7 @@ pub record TellsDraw (notes : List Note) (s : Step ℕ) (v : Mine) (n : ℕ) (w 
 abbrev pub cell_stored : ℕ → View → View
 cell_stored value v = record v { pen = record v.pen { batch = v.pen.batch ++ Some value ∷ [] } }
 
+-- what the store of a cell tells
 pub record TellsCellStore (s : Step ℕ) (v : Mine) (n : ℕ) (w : Mine) : Type 0 where
   pub slots : w.1 ≡ v.1
   pub view : w.0 ≡ cell_stored s.first v.0
@@ -149,6 +155,7 @@ head_stored to v = record v {
   known = record v.known { advance = no_advance };
 }
 
+-- what the store of the head tells
 pub record TellsHeadStore (s : Step ℕ) (v : Mine) (n : ℕ) (w : Mine) : Type 0 where
   pub slots : w.1 ≡ v.1
   pub view : w.0 ≡ head_stored s.first v.0
@@ -174,6 +181,7 @@ pub record MayEnd (v : View) (tx : Tx) : Type 0 where
 abbrev pub ended_by : Tx → View → View
 ended_by tx v = record v { phase = Finished; pen = record v.pen { ending = tx } }
 
+-- what the setting of the status of a transaction tells
 pub record TellsStatusSet (tx : Tx) (s : Step ℕ) (v : Mine) (n : ℕ) (w : Mine) : Type 0 where
   pub slots : w.1 ≡ v.1
   pub view : w.0 ≡ ended_by tx v.0
@@ -188,6 +196,7 @@ fin_stored v = record v {
   pen = record v.pen { taken = 0 };
 }
 
+-- what the store of the first unfinished number tells
 pub record TellsFinStore (s : Step ℕ) (v : Mine) (n : ℕ) (w : Mine) : Type 0 where
   pub slots : w.1 ≡ v.1
   pub view : w.0 ≡ fin_stored v.0
@@ -204,6 +213,7 @@ pub record HasHeard (v : View) (n : ℕ) (w : View) : Type 0 where
   -- the holder knew it all
   pub holder : holds_lock v.phase ≡ true → w ≡ v
 
+-- what the load of the first unfinished number tells
 pub record TellsFin (s : Step ℕ) (v : Mine) (n : ℕ) (w : Mine) : Type 0 where
   pub slots : w.1 ≡ v.1
   pub heard : HasHeard v.0 n w.0

@@ -179,7 +179,3 @@ stored_by v = v.pen.cells ++ v.pen.batch
 -- the notifications that the pass may still send, and those of its transaction
 abbrev pub spent_by : View → ℕ
 spent_by v = v.known.notes_left + v.pen.taken
-
--- the pass, once it has learned more of the journal
-abbrev pub learned : View → List Tx → View
-learned v more = record v { known = record v.known { seen = v.known.seen ++ more } }

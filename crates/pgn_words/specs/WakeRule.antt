@@ -31,6 +31,7 @@ pub record IsHeeded (format : Format) (past : List Tx) (upto : ℕ) (wake db mar
   pub still : (wake ≡ 1) ⊎ ((owes ≡ true) ⊎ Near format (is_committed_in db) past mark upto)
   pub walked : walks ≡ true → (wake ≡ 1) ⊎ Near format (is_committed_in db) past ends upto
 
+-- so is the pass of each listener
 abbrev pub Heeds : Format → List Tx → ℕ → (ℕ → Bool) → List ℕ → ℕ → View → Type 0
 Heeds format past fin undecided wakes j v = v.post.listen ≡ Registered → (i : ℕ) → v.known.session ≡ i + 1
     → IsHeeded format past (served undecided fin i) (get_or wakes i 0) v.known.db v.post.mark (is_walking v.walk.stage) v.walk.upto v.known.owes
@@ -49,6 +50,7 @@ pending Open waits i = false
 pending Finished waits i = false
 pending Signalling waits i = waits i
 
+-- of the holder the seats are undecided that are so by its phase and its list
 abbrev pub Signals : (ℕ → Bool) → ℕ → View → Type 0
 Signals undecided j v = holds_lock v.phase ≡ true → (i : ℕ) → undecided i ≡ pending v.phase (waits_in v.verdicts) i
 
@@ -71,13 +73,15 @@ pub record Wakes (format : Format) (lock fin : ℕ) (past : List Tx) (undecided 
   pub heard : Each (λ _ v. IsHeard fin undecided v.known.told) views
   pub ended : Each (λ _ v. v.ended ≡ ended_in v.phase fin) views
 
--- the flags that a pass raised, those that it found, and the marks that its looks met, each with those of the passes that it has taken in
+-- the flags that a pass raised, with those of the passes that it has taken in
 abbrev pub raised_in : View → List (ℕ × ℕ)
 raised_in v = v.known.raised ++ flat_map (λ k. k.raised) v.joined
 
+-- the flags that it found, with theirs
 abbrev pub found_in : View → List (ℕ × ℕ)
 found_in v = v.known.found ++ flat_map (λ k. k.found) v.joined
 
+-- the marks that its looks met, with theirs
 abbrev pub named_in : View → List (ℕ × ℕ)
 named_in v = v.known.named ++ flat_map (λ k. k.named) v.joined
 
@@ -105,6 +109,7 @@ IsMarkedBy pair k = (k.session ≡ pair.0) × Contains k.marks pair.1
 abbrev pub MarkedBy : ℕ × ℕ → View → Type 0
 MarkedBy pair v = IsMarkedBy pair v.known ⊎ Any (IsMarkedBy pair) v.joined
 
+-- the session's pass stood at the mark, or one that it took in did
 abbrev pub Marked : List View → ℕ × ℕ → Type 0
 Marked views pair = Someone (MarkedBy pair) views
 
@@ -129,5 +134,6 @@ pub record IsTaken (z : Shape) (made fin : ℕ) (undecided : ℕ → Bool) (seat
   pub own_seen : All (λ x. x < next_xid k.seen) k.own
   pub heard : IsHeard fin undecided k.told
 
+-- each pass that was taken in is so, at the seat of the pass that took it
 abbrev pub Taken : Shape → ℕ → ℕ → (ℕ → Bool) → (ℕ → ℕ) → List Tx → List View → Type 0
 Taken z made fin undecided seat past views = Each (λ j v. All (IsTaken z made fin undecided seat past j v.known.session) v.joined) views

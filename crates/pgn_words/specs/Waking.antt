@@ -28,6 +28,7 @@ pub record HasTaken (v : View) (was_set : Bool) (w : View) : Type 0 where
   }
   pub near : (was_set || v.known.owes) ≡ false → Near v.setup.format (is_committed_in v.known.db) w.known.seen v.post.mark v.known.told
 
+-- what the taking of a wake tells
 pub record TellsTaken (s : Step ℕ) (v : Mine) (n : ℕ) (w : Mine) : Type 0 where
   pub slots : w.1 ≡ v.1
   pub taken : HasTaken v.0 (not (n == 0)) w.0
@@ -56,6 +57,7 @@ pub record HasLookedToWake (v : View) (seat : ℕ) (found : PosWord) (w : View) 
   pub view : w ≡ wake_looked seat found v
   pub position : TellsPosition v seat found
 
+-- what the load of a position by a writer that signals tells
 pub record TellsWakeLook (s : Step ℕ) (v : Mine) (n : ℕ) (w : Mine) : Type 0 where
   pub slots : w.1 ≡ v.1
   pub looked : (seat : ℕ) → s.word ≡ pos_at + seat → HasLookedToWake v.0 seat (position_in n) w.0
@@ -66,6 +68,7 @@ pub record TellsWakeLook (s : Step ℕ) (v : Mine) (n : ℕ) (w : Mine) : Type 0
 abbrev pub wake_set : ℕ → View → View
 wake_set seat v = record v { verdicts = slice_set v.verdicts seat Decided }
 
+-- what the setting of a wake tells
 pub record TellsWakeSet (s : Step ℕ) (v : Mine) (n : ℕ) (w : Mine) : Type 0 where
   pub slots : w.1 ≡ v.1
   pub view : (seat : ℕ) → s.word ≡ wakes_at v.0.setup + seat → w.0 ≡ wake_set seat v.0
@@ -75,6 +78,7 @@ pub record TellsWakeSet (s : Step ℕ) (v : Mine) (n : ℕ) (w : Mine) : Type 0 
 abbrev pub raised : ℕ → View → View
 raised flag v = record v { known = record v.known { raised = v.known.raised ++ (flag, v.known.told) ∷ [] } }
 
+-- what the raise of a flag tells
 pub record TellsRaised (s : Step ℕ) (v : Mine) (n : ℕ) (w : Mine) : Type 0 where
   pub slots : w.1 ≡ v.1
   pub view : (flag : ℕ) → s.word ≡ flags_at v.0.setup + flag → w.0 ≡ raised flag v.0
@@ -109,6 +113,7 @@ abbrev pub HasLooked : View → ℕ → Option ℕ → View → Type 0
 HasLooked v flag None w = HasFoundNone v flag w
 HasLooked v flag (Some x) w = HasFound v flag x w
 
+-- what the load of a flag tells
 pub record TellsLooked (s : Step ℕ) (v : Mine) (n : ℕ) (w : Mine) : Type 0 where
   pub slots : w.1 ≡ v.1
   pub none : (flag : ℕ) → s.word ≡ flags_at v.0.setup + flag → n ≡ 0 → HasFoundNone v.0 flag w.0

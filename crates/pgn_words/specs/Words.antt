@@ -40,19 +40,23 @@ status_words z = max ((notes_of_seats z.seats + 31) / 32) 1
 abbrev pub room_of : Shape → ℕ
 room_of z = (z.pages + 1) * page_cells
 
--- where the positions, the wakes, the flags, the statuses and the cells begin
+-- where the positions begin
 abbrev pub pos_at : ℕ
 pos_at = 6
 
+-- where the wakes begin
 abbrev pub wakes_at : Shape → ℕ
 wakes_at z = pos_at + seats_of z
 
+-- where the flags begin
 abbrev pub flags_at : Shape → ℕ
 flags_at z = wakes_at z + seats_of z
 
+-- where the statuses begin
 abbrev pub statuses_at : Shape → ℕ
 statuses_at z = flags_at z + z.flags
 
+-- where the cells begin
 abbrev pub cells_at : Shape → ℕ
 cells_at z = statuses_at z + status_words z
 
