@@ -9,6 +9,7 @@ use crate::{PassView, Roll, Setup};
 use pgn_base::{Delivery, Enlisted, Full, ListenSet, Note, Usage, Xid};
 use std::alloc::{AllocError, Global};
 use std::sync::Wait;
+use std::time::Duration;
 
 /// The notification service, as its sessions see it.
 pub trait Hub: Sized {
@@ -88,6 +89,11 @@ pub trait Hub: Sized {
         requires flag { flag < (shape self.now).flags }
         ensures own { is_pass self.now pass.new }
         ensures looked { HasLooked (Self.Pass.known pass.old) (Self.Pass.known pass.new) flag result };
+
+    /// Sleeps until the flag is raised, for so long at most; at once it returns where the flag was raised before. It needs no pass and
+    /// does nothing to any. No clause sees that the thread sleeps, or how long: nothing that is proved says that time passes.
+    fn rest<R: Wait>(&self, rt: &R, flag: u32, time: Duration)
+        requires flag { flag < (shape self.now).flags };
 
     /// How many pages are in use, after the tail was advanced.
     fn usage<R: Wait>(&self, rt: &R, pass: &mut Self::Pass) -> Usage

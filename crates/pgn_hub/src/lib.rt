@@ -4,7 +4,8 @@
 //! to what is known of that pass, as an equation over `Known`: what the equation doesn't name stays as it was. So a session can be
 //! proved over any hub, and a hub by its calls alone.
 //!
-//! `publish` and `usage` may wait for the lock, and the others wait for nobody. Only `open` and `scan` take memory.
+//! `publish` and `usage` may wait for the lock, and `rest` sleeps until a flag is raised or the time is over. The others wait for
+//! nobody. Only `open` and `scan` take memory.
 //!
 //! Laws of what the calls say, and worked examples, stand on public functions with an empty body, in the modules that are named
 //! after them. `callers` has functions over any hub.

@@ -10,6 +10,7 @@ use pgn_hub::{Hub, Roll, SeatSetup, Setup};
 use pgn_words::{WordPass, WordQueue};
 use std::alloc::{AllocError, Global};
 use std::sync::Wait;
+use std::time::Duration;
 
 // The databases of seats.
 fn databases(alloc: Global, seats: &[SeatSetup]) -> Result<Vec<u32>, AllocError>
@@ -79,6 +80,10 @@ impl Hub for WordHub {
 
     fn look(&self, pass: &mut WordPass, flag: u32) -> Option<Xid> {
         self.queue.look_flag(pass, flag)
+    }
+
+    fn rest<R: Wait>(&self, rt: &R, flag: u32, time: Duration) {
+        self.queue.sleep_on_flag(rt, flag, time);
     }
 
     fn usage<R: Wait>(&self, rt: &R, pass: &mut WordPass) -> Usage {

@@ -7,6 +7,8 @@ use crate::notes::later_of;
 use crate::pass::{WordPass, WordQueue};
 use crate::plays::{LookFlag, RaiseFlag};
 use pgn_base::Xid;
+use std::sync::Wait;
+use std::time::Duration;
 
 impl WordQueue {
     // The word of a flag. Flags count from 0.
@@ -18,7 +20,7 @@ impl WordQueue {
         self.flags_at + flag as usize
     }
 
-    /// Raises a flag with what the pass was told, and answers it. The flag keeps the greatest number.
+    /// Raises a flag with what the pass was told, and answers it. The flag keeps the greatest number, and whoever sleeps on it wakes.
     ///
     /// - *flag*: a hub's `raise` asks its own caller for one of the flags that there are.
     pub fn raise_flag(&self, pass: &mut WordPass, flag: u32) -> Xid
@@ -33,6 +35,7 @@ impl WordQueue {
         self.table
             .shared
             .fetch_max::<RaiseFlag>(&mut pass.seat, word, told);
+        self.table.shared.wake_all(word);
         pass.told
     }
 
@@ -53,5 +56,16 @@ impl WordQueue {
         let found = Xid::new(found as u32);
         pass.told = later_of(pass.told, found);
         Some(found)
+    }
+
+    /// Sleeps until a flag is raised, for so long at most. It is no step, and needs no pass. A flag that was not raised is 0, and a
+    /// number is neither 0 nor above 32 bits, so no raise is slept over.
+    ///
+    /// - *flag*: a hub's `rest` asks its own caller for one of the flags that there are.
+    pub fn sleep_on_flag<R: Wait>(&self, rt: &R, flag: u32, time: Duration)
+        requires flag { flag < (shape_of self.now).flags }
+    {
+        let word = self.word_of_flag(flag);
+        self.table.shared.park_timeout(rt, word, 0, time);
     }
 }

@@ -20,7 +20,7 @@
 //!     let cell = queue.load_shown(pass, at);
 //!
 //! Each call asks for a pass of the queue (*own*): a hub has those that `open` has made, and every call keeps this. What a call asks for
-//! besides stands in its comment, with who meets it. Nobody waits in a step, and only `open` takes memory.
+//! besides stands in its comment, with who meets it. Nobody waits in a step, and only `open` takes memory. `sleep_on_flag` is no step.
 #![tactic(auto)]
 
 mod cells;

@@ -15,6 +15,7 @@ use std::sync::{Arc, Wait};
 use std::test::Fail;
 use std::thread;
 use std::thread::Threads;
+use std::time::Duration;
 
 // How many transactions have begun, how many of them waited for a second one in vain, and how often a session has looked whether it
 // was woken.
@@ -130,6 +131,10 @@ impl<const TURNS: u32> Hub for Gate<TURNS> {
 
     fn look(&self, pass: &mut Self::Pass, flag: u32) -> Option<Xid> {
         self.hub.look(pass, flag)
+    }
+
+    fn rest<R: Wait>(&self, rt: &R, flag: u32, time: Duration) {
+        self.hub.rest(rt, flag, time);
     }
 
     fn usage<R: Wait>(&self, rt: &R, pass: &mut Self::Pass) -> Usage {
