@@ -22,6 +22,8 @@ pub mod CommitSteps
 pub mod CommittedLaws
 -- of one that meets a full queue
 pub mod FullLaws
+-- a session that has slept
+pub mod SleepLaws
 -- the end of a script
 pub mod EndLaws
 -- what a step came to

@@ -6,6 +6,8 @@ pub mod Commits
 pub mod Standing
 -- what a step does
 pub mod Steps
+-- what a sleep counts
+pub mod Sleep
 -- the same of a whole session
 pub mod Whole
 -- data of examples

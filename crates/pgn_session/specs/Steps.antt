@@ -26,8 +26,8 @@ abbrev pub looked_step : ℕ → ℕ → Option ℕ → Step
 looked_step looks patience (Some value) = Did
 looked_step looks patience None = cond (nat_lt looks patience) Waiting Did
 
--- a turn of an await: one look at its flag, which is the line's look of this number. It is shown where it found the flag, and where
--- it found nothing and was the last that the patience allows
+-- a turn of an await: one look at its flag, which is the line's look of this number; those before it were made or slept over. It is shown
+-- where it found the flag, and where it found nothing and was the last that the patience allows
 pub record HasTurned (flag looks patience : ℕ) (old new : Known) (before after : List Item) (stands : Doing) (step : Step) : Type 0 where
   pub found : Option ℕ
   pub looked : HasLooked old new flag found
@@ -58,7 +58,7 @@ pub record HasLookedOn (plan : FlagPlan) (first reached : ℕ) (old new : Known)
 abbrev pub is_waiting_on : FlagPlan → ℕ → ℕ → ℕ → Bool
 is_waiting_on plan reached looks patience = nat_lt reached plan.sessions && nat_lt (looks + 1) patience
 
--- a turn of the end phase, where the end flags of the first sessions were found and so many looks gave nothing
+-- a turn of the end phase, where the end flags of the first sessions were found and so many looks gave nothing, made or slept over
 pub record HasWaited (plan : FlagPlan) (first looks patience : ℕ) (old new : Known) (stands : Doing) (step : Step) : Type 0 where
   pub reached : ℕ
   pub looked : HasLookedOn plan first reached old new
@@ -159,14 +159,14 @@ pub record LooksInVain (old new : Known) (flag : ℕ) : Type 0 where
   pub looked : old.looks < new.looks
   pub none : new.flag_look ≡ Some (flag, None)
 
--- the session waits: the last look gave nothing, and the patience is not spent
+-- the session waits: the last look gave nothing, and the patience is not spent by looks that were made or slept over
 abbrev pub Waits : FlagPlan → ℕ → Known → Known → Doing → Type 0
 Waits plan patience old new (doing.Awaiting flag looks) = LooksInVain old new flag × (looks < patience)
 Waits plan patience old new (doing.Ending first looks) = LooksInVain old new (plan.first_end + first) × (looks < patience) × (first < plan.sessions)
 Waits plan patience old new stands = ⊥
 
 -- the session is over, where it stood so at the call: it has quit or waited before; or by now all end flags are found; or so many looks
--- as the patience is gave nothing
+-- as the patience is, made or slept over, gave nothing
 abbrev pub Ends : FlagPlan → ℕ → Doing → Known → Type 0
 Ends plan patience doing.Over new = Unit {0}
 Ends plan patience (doing.Ending first looks) new = HaveEnded plan plan.sessions new.found ⊎ (patience ≤ looks + 1)

@@ -19,12 +19,12 @@ pub enum Doing {
         notes: Notes,
         tag: Tag,
     },
-    /// The last line awaits this flag, and so many looks gave nothing.
+    /// The last line awaits this flag, and so many looks gave nothing, made or slept over.
     Awaiting {
         flag: u32,
         looks: u64,
     },
-    /// The script is done. The end flags of the first `found` sessions were found, and so many looks gave nothing.
+    /// The script is done. The end flags of the first `found` sessions were found, and so many looks gave nothing, made or slept over.
     Ending {
         found: u32,
         looks: u64,

@@ -3,6 +3,7 @@
 ghost use Rattle.std.specs.Prelude.{◌≡◌, [], ◌∷◌, Some, None};
 ghost use Rattle.pgn_hub.specs.Examples.{both_notes, opened_2, published, listening, woken_1, found_0, found_none};
 ghost use Rattle.pgn_session.specs.Steps.{HasTurned, ShowsLine, AnswersLine, Waits, Ends, StandsStill};
+ghost use Rattle.pgn_session.specs.Sleep.{slept_doing};
 ghost use Rattle.pgn_session.specs.Examples.{two_sessions};
 
 use crate::{Doing, Step};
@@ -49,6 +50,18 @@ pub fn waiting()
     ensures patience_spent { Ends two_sessions 3 (Doing.Ending 1 2) found_0 }
     ensures one_flag_missing { Ends two_sessions 3 (Doing.Ending 1 1) found_0 → ⊥ }
     ensures between_lines { Ends two_sessions 3 Doing.Lines found_0 → ⊥ }
+{}
+
+/// What a sleep counts, with a patience of 100.
+pub fn slept()
+    ensures counts { slept_doing 100 50 (Doing.Awaiting 1 3) ≡ Doing.Awaiting 1 52 }
+    ensures at_the_end { slept_doing 100 50 (Doing.Ending 2 3) ≡ Doing.Ending 2 52 }
+    ensures leaves_a_look { slept_doing 100 200 (Doing.Awaiting 1 3) ≡ Doing.Awaiting 1 99 }
+    ensures no_time { slept_doing 100 0 (Doing.Awaiting 1 3) ≡ Doing.Awaiting 1 3 }
+    ensures between_lines { slept_doing 100 50 Doing.Lines ≡ Doing.Lines }
+    ensures counts_the_next_look { slept_doing 100 50 (Doing.Awaiting 1 3) ≡ Doing.Awaiting 1 53 → ⊥ }
+    ensures leaves_none { slept_doing 100 200 (Doing.Awaiting 1 3) ≡ Doing.Awaiting 1 100 → ⊥ }
+    ensures counts_nothing { slept_doing 100 50 (Doing.Awaiting 1 3) ≡ Doing.Awaiting 1 3 → ⊥ }
 {}
 
 /// Where a session stands after a step that was refused.

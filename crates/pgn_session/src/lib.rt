@@ -7,6 +7,7 @@
 //!
 //! `new` makes a session that has rested. `step` takes it from `HasRest` to `HasAnswer`, and only where it is over or the step was
 //! refused has it rested still; `idle` leads from `HasAnswer` to `HasRest`, so that a session that waits reads between its looks.
+//! Between `step` and `idle`, or behind `idle`, a session that waits may `rest`: it sleeps on its flag, which counts as looks.
 //! After a step that ended, `finish_read` reads once more and `into_log` gives the trace. A refused `step` may be made again, or the
 //! session calls `give_up`. `meet` lets another session hear what this one knows.
 //!
@@ -36,6 +37,7 @@ pub mod examples;
 mod line;
 mod reading;
 mod session;
+mod sleep;
 mod step;
 
 pub use doing::{Doing, FlagPlan, IdleDone, Step};

@@ -30,7 +30,7 @@ pub struct Session<P> {
     /// Its script.
     pub section: Section,
     pub plan: FlagPlan,
-    /// So many looks at a flag may give nothing.
+    /// So many looks at a flag may give nothing, made or slept over.
     pub patience: u64,
     /// So many lines of the script have begun.
     pub done: usize,

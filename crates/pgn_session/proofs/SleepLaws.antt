@@ -1,0 +1,66 @@
+-- A session that has slept stands where it stood.
+use Rattle.std.proofs.Common.{◌≡◌, ℕ, ◌<◌, sym, subst, arith}
+use Rattle.pgn_model.specs.Walk.{Terms, State}
+use Rattle.pgn_hub.specs.declared.known.Known.{Known}
+use Rattle.pgn_hub.specs.Shape.{Shape}
+use Rattle.pgn_block.specs.Views.{BlockView}
+use Rattle.pgn_session.specs.declared.session.Session.{Session}
+use Rattle.pgn_session.specs.declared.doing.FlagPlan.{FlagPlan}
+use Rattle.pgn_session.specs.declared.doing.Doing.{Doing}
+use Rattle.pgn_session.specs.declared.doing.Doing.TheVariants.{Lines, Committing, Awaiting, Ending, Over}
+use Rattle.pgn_session.specs.Standing.{terms_of, HasAnswered, HasRested, IsServedBy}
+use Rattle.pgn_session.specs.Sleep.{slept_looks, slept_doing, IsAwaitedBelow}
+use Rattle.pgn_session.specs.Whole.{HasAnswer, HasRest}
+use Rattle.pgn_session.proofs.AwaitLaws.{awaited-below}
+
+-- it leaves a look of the patience
+slept-below : (patience looks micros : ℕ) → looks < patience → slept_looks patience looks micros < patience
+slept-below patience looks micros few = omega (arith, few)
+
+slept-answered : (terms : Terms) (plan : FlagPlan) (block : BlockView) (k : Known) (s : State) (micros : ℕ) (doing : Doing) → HasAnswered terms plan block k s doing
+    → HasAnswered terms plan block k s (slept_doing terms.settings.patience micros doing)
+slept-answered terms plan block k s micros Lines h = h
+slept-answered terms plan block k s micros (Committing actions notes tag) h = h
+slept-answered terms plan block k s micros (Awaiting flag looks) h = (h.0, slept-below terms.settings.patience looks micros h.1, h.2)
+slept-answered terms plan block k s micros (Ending found looks) h = (h.0, slept-below terms.settings.patience looks micros h.1, h.2, h.3)
+slept-answered terms plan block k s micros Over h = h
+
+slept-rested : (terms : Terms) (plan : FlagPlan) (block : BlockView) (k : Known) (s : State) (micros : ℕ) (doing : Doing) → HasRested terms plan block k s doing
+    → HasRested terms plan block k s (slept_doing terms.settings.patience micros doing)
+slept-rested terms plan block k s micros Lines h = h
+slept-rested terms plan block k s micros (Committing actions notes tag) h = h
+slept-rested terms plan block k s micros (Awaiting flag looks) h = (slept-answered terms plan block k s micros (Awaiting flag looks) h.0, h.1)
+slept-rested terms plan block k s micros (Ending found looks) h = (slept-answered terms plan block k s micros (Ending found looks) h.0, h.1)
+slept-rested terms plan block k s micros Over h = h
+
+-- of a whole session
+pub answer-slept : {P : Type 0} (shape : Shape) (known : P → Known) (old new : Session P) (micros : ℕ) → new ≡ record old { doing = slept_doing old.patience micros old.doing } → HasAnswer shape known old → HasAnswer shape known new
+answer-slept {P} shape known old new micros same h =
+    subst (λ (s : Session P). HasAnswer shape known s) (sym same)
+    (record { state = h.state; stands = h.stands; rest = h.rest; channels = h.channels; here = slept-answered (terms_of shape old.section old.patience) old.plan old.block (known old.pass) h.state micros old.doing h.here })
+
+pub rest-slept : {P : Type 0} (shape : Shape) (known : P → Known) (old new : Session P) (micros : ℕ) → new ≡ record old { doing = slept_doing old.patience micros old.doing } → HasRest shape known old → HasRest shape known new
+rest-slept {P} shape known old new micros same h =
+    subst (λ (s : Session P). HasRest shape known s) (sym same)
+    (record { state = h.state; stands = h.stands; rest = h.rest; channels = h.channels; here = slept-rested (terms_of shape old.section old.patience) old.plan old.block (known old.pass) h.state micros old.doing h.here })
+
+-- the flag that it awaits is one of the hub's
+answered-below : (shape : Shape) (terms : Terms) (plan : FlagPlan) (block : BlockView) (k : Known) (s : State) (doing : Doing) → IsServedBy shape terms.section plan → HasAnswered terms plan block k s doing → IsAwaitedBelow shape.flags doing
+answered-below shape terms plan block k s Lines served h = tt
+answered-below shape terms plan block k s (Committing actions notes tag) served h = tt
+answered-below shape terms plan block k s (Awaiting flag looks) served h = awaited-below terms.section shape.flags flag served.acts h.2
+answered-below shape terms plan block k s (Ending found looks) served h = tt
+answered-below shape terms plan block k s Over served h = tt
+
+rested-below : (shape : Shape) (terms : Terms) (plan : FlagPlan) (block : BlockView) (k : Known) (s : State) (doing : Doing) → IsServedBy shape terms.section plan → HasRested terms plan block k s doing → IsAwaitedBelow shape.flags doing
+rested-below shape terms plan block k s Lines served h = tt
+rested-below shape terms plan block k s (Committing actions notes tag) served h = tt
+rested-below shape terms plan block k s (Awaiting flag looks) served h = awaited-below terms.section shape.flags flag served.acts h.0.2
+rested-below shape terms plan block k s (Ending found looks) served h = tt
+rested-below shape terms plan block k s Over served h = tt
+
+pub answer-below : {P : Type 0} (shape : Shape) (known : P → Known) (s : Session P) → IsServedBy shape s.section s.plan → HasAnswer shape known s → IsAwaitedBelow shape.flags s.doing
+answer-below shape known s served h = answered-below shape (terms_of shape s.section s.patience) s.plan s.block (known s.pass) h.state s.doing served h.here
+
+pub rest-below : {P : Type 0} (shape : Shape) (known : P → Known) (s : Session P) → IsServedBy shape s.section s.plan → HasRest shape known s → IsAwaitedBelow shape.flags s.doing
+rest-below shape known s served h = rested-below shape (terms_of shape s.section s.patience) s.plan s.block (known s.pass) h.state s.doing served h.here
