@@ -8,4 +8,5 @@ mod OpenLaws
 mod RunLaws
 mod RunningLaws
 mod ToldLaws
+mod TurnLaws
 mod WholeLaws

@@ -1,5 +1,5 @@
 -- What holds of whole sessions before they run and once they are over.
-use Rattle.std.specs.Prelude.{◌≡◌, ◌⊎◌, ℕ, List, map, All, Any, Contains, Result, OnOk, OnErr}
+use Rattle.std.specs.Prelude.{◌≡◌, ◌⊎◌, ℕ, List, map, All, Any, Contains, Option, Some, None, Result, OnOk, OnErr}
 use Rattle.pgn_hub.specs.declared.known.Known.{Known}
 use Rattle.pgn_language.specs.declared.scenario.Section.{Section}
 use Rattle.pgn_hub.specs.Shape.{Shape}
@@ -7,6 +7,7 @@ use Rattle.pgn_session.specs.declared.session.Session.{Session}
 use Rattle.pgn_session.specs.declared.doing.FlagPlan.{FlagPlan}
 use Rattle.pgn_session.specs.declared.doing.Doing.TheVariants.{Over}
 use Rattle.pgn_session.specs.Standing.{IsServedBy, end_flag}
+use Rattle.pgn_session.specs.Sleep.{slept_doing}
 use Rattle.pgn_session.specs.Whole.{HasRest}
 
 -- what a session was given to run
@@ -30,6 +31,15 @@ pub record IsOver {P : Type 0} (is_own : P → Type 0) (shape : Shape) (known : 
   pub over : s.doing ≡ Over
   pub rested : HasRest shape known s
 
+-- the session's pass is the hub's, which has each flag that the session may name: it can give up
+pub record IsHeld {P : Type 0} (is_own : P → Type 0) (shape : Shape) (s : Session P) : Type 0 where
+  pub own : is_own s.pass
+  pub served : IsServedBy shape s.section s.plan
+
+-- the session, once a sleep of so many microseconds was counted
+abbrev pub slept : {P : Type 0} → ℕ → Session P → Session P
+slept micros s = record s { doing = slept_doing s.patience micros s.doing }
+
 -- the session has raised its end flag with what it was told, so that no other waits for it
 abbrev pub HasGivenUp : {P : Type 0} → (P → Known) → Session P → Type 0
 HasGivenUp known s = Contains (known s.pass).raised (end_flag s.plan s.section.no, (known s.pass).told)
@@ -45,3 +55,8 @@ pub record HaveRun {P A E : Type 0} (is_own : P → Type 0) (shape : Shape) (kno
   pub scripts : map script_of new ≡ map script_of old
   pub stopped : All (HasStopped is_own shape known) new
   pub gave_up : OnErr r (Any (HasGivenUp known) new)
+
+-- sessions have run, where there is an answer, and are as they were where there is none
+abbrev pub MayHaveRun : {P A E : Type 0} → (P → Type 0) → Shape → (P → Known) → List (Session P) → List (Session P) → Option (Result A E) → Type 0
+MayHaveRun is_own shape known old new None = new ≡ old
+MayHaveRun is_own shape known old new (Some r) = HaveRun is_own shape known old new r

@@ -27,11 +27,14 @@
 #![tactic(auto)]
 
 mod draining;
+mod halves;
 pub mod laws;
 mod opening;
 mod running;
+mod turns;
 mod whole_run;
 
 pub use draining::drain;
-pub use running::run_sessions;
+pub use halves::run_sessions;
+pub use turns::run_in_turns;
 pub use whole_run::{Run, open_on_hub, run_on_hub};

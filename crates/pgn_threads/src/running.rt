@@ -1,71 +1,26 @@
-ghost use Rattle.std.specs.Prelude.{◌≡◌, ◌<◌, true, false, ◌++◌, map, length, Ok, OnOk, OnErr, All, Any};
-ghost use Rattle.std.specs.Thread.{IsSync, IsSend};
+ghost use Rattle.std.specs.Prelude.{◌≡◌, OnOk, OnErr};
 ghost use Rattle.pgn_session.specs.Standing.{IsServedBy};
-ghost use Rattle.pgn_threads.specs.Whole.{HasGivenUp, HasStopped, HaveRun, IsReady, IsOver, script_of};
+ghost use Rattle.pgn_session.specs.Whole.{HasAnswer};
+ghost use Rattle.pgn_threads.specs.Whole.{HasGivenUp, IsReady, IsOver, script_of};
 
 use pgn_hub::{Hub, PassView};
 use pgn_session::{Session, Step};
 use std::alloc::{AllocError, Global};
 use std::sync::Wait;
 use std::thread;
-use std::thread::{Threads, join_mut};
 
-/// Runs sessions until all are over: each has a thread of its own, while threads can be had; where one can't be started, the
-/// caller does that work itself. The error is that memory did not suffice for some session. Each is then over or has given up: it
-/// has raised its end flag, so that no other waits for it.
-#[cycle(halves)]
-pub fn run_sessions<P: PassView + Send + Drop, H: Hub<Pass = P> + Sync, R: Threads + Wait + Sync>(
-    rt: &R,
-    alloc: Global,
-    hub: &H,
-    sessions: &mut [Session<P>],
-) -> Result<(), AllocError>
-    requires ready { All (IsReady (H.is_pass hub.now) (H.shape hub.now) P.known) sessions.old }
-    ensures over { OnOk result (All (IsOver (H.is_pass hub.now) (H.shape hub.now) P.known) sessions.new) }
-    ensures scripts { map script_of sessions.new ≡ map script_of sessions.old }
-    ensures stopped { All (HasStopped (H.is_pass hub.now) (H.shape hub.now) P.known) sessions.new }
-    ensures gave_up { OnErr result (Any (HasGivenUp P.known) sessions.new) }
-{
-    if sessions.len() == 0 {
-        return Ok(());
-    }
-    if sessions.len() == 1 {
-        return run_session(rt, alloc, hub, &mut sessions[0]);
-    }
-    let (left, right) = sessions.split_at_mut(sessions.len() / 2);
-    run_halves(rt, alloc, hub, left, right)
-}
+// So many turns without a raise give way, and the ones behind them sleep.
+pub(crate) const TURNS_BEFORE_SLEEP: u32 = 64;
 
-// Runs two halves side by side.
-#[cycle(halves)]
-fn run_halves<P: PassView + Send + Drop, H: Hub<Pass = P> + Sync, R: Threads + Wait + Sync>(
-    rt: &R,
-    alloc: Global,
-    hub: &H,
-    left: &mut [Session<P>],
-    right: &mut [Session<P>],
-) -> Result<(), AllocError>
-    requires some { (0 < length left.old) × (0 < length right.old) }
-    requires left { All (IsReady (H.is_pass hub.now) (H.shape hub.now) P.known) left.old }
-    requires right { All (IsReady (H.is_pass hub.now) (H.shape hub.now) P.known) right.old }
-    ensures { HaveRun (H.is_pass hub.now) (H.shape hub.now) P.known (left.old ++ right.old) (left.new ++ right.new) result }
-{
-    let (first, second) = join_mut(
-        rt,
-        &mut || -> Result<(), AllocError>
-            requires { IsSync R.row × IsSync H.row × IsSend P.row × All (IsReady (H.is_pass hub.now) (H.shape hub.now) P.known) left.now }
-            ensures { HaveRun (H.is_pass hub.entry.now) (H.shape hub.entry.now) P.known left.entry.now left.exit.now result }
-        { run_sessions(rt, alloc, hub, left) },
-        &mut || -> Result<(), AllocError>
-            requires { IsSync R.row × IsSync H.row × IsSend P.row × All (IsReady (H.is_pass hub.now) (H.shape hub.now) P.known) right.now }
-            ensures { HaveRun (H.is_pass hub.entry.now) (H.shape hub.entry.now) P.known right.entry.now right.exit.now result }
-        { run_sessions(rt, alloc, hub, right) },
-    );
-    first.and(second)
-}
+// The first sleep, and the longest of a listener, who reads where it was woken meanwhile, and of others: microseconds.
+const FIRST_SLEEP: u64 = 50;
+
+const LISTENER_SLEEP: u64 = 1_000;
+
+const LONGEST_SLEEP: u64 = 16_000;
 
 // Runs one session until it is over. After a refusal it raises its end flag.
-fn run_session<P: PassView + Send + Drop, H: Hub<Pass = P>, R: Wait>(
+pub(crate) fn run_session<P: PassView + Send + Drop, H: Hub<Pass = P>, R: Wait>(
     rt: &R,
     alloc: Global,
     hub: &H,
@@ -84,7 +39,10 @@ fn run_session<P: PassView + Send + Drop, H: Hub<Pass = P>, R: Wait>(
 }
 
 // Raises the session's end flag, so that no other waits for it.
-fn give_up<P: PassView + Send + Drop, H: Hub<Pass = P>>(hub: &H, session: &mut Session<P>)
+pub(crate) fn give_up<P: PassView + Send + Drop, H: Hub<Pass = P>>(
+    hub: &H,
+    session: &mut Session<P>,
+)
     requires own { H.is_pass hub.now session.old.pass }
     requires served { IsServedBy (H.shape hub.now) session.old.section session.old.plan }
     ensures gave_up { HasGivenUp P.known session.new }
@@ -93,7 +51,7 @@ fn give_up<P: PassView + Send + Drop, H: Hub<Pass = P>>(hub: &H, session: &mut S
     session.give_up(hub);
 }
 
-// Takes step after step, and reads between them, until the session is over or is refused memory.
+// Takes step after step, sleeps where it waits, and reads between them, until the session is over or is refused memory.
 fn go_on<P: PassView + Send + Drop, H: Hub<Pass = P>, R: Wait>(
     rt: &R,
     alloc: Global,
@@ -105,32 +63,51 @@ fn go_on<P: PassView + Send + Drop, H: Hub<Pass = P>, R: Wait>(
     ensures script { script_of session.new ≡ script_of session.old }
     ensures over { OnOk result (IsOver (H.is_pass hub.now) (H.shape hub.now) P.known session.new) }
 {
+    let mut waits = 0;
     for _ in rt.forever() {
-        if turn(rt, alloc, hub, session)? {
+        let step = session.step(rt, alloc, hub)?;
+        if step == Step::Ended {
             return Ok(());
         }
+        waits = wait_after(rt, hub, session, step, waits);
+        let _done = session.idle(alloc, hub)?;
     }
     unreachable!()
 }
 
-// Takes a step, and reads where the session was woken, unless it is over: answers whether it is.
-fn turn<P: PassView + Send + Drop, H: Hub<Pass = P>, R: Wait>(
+// Waits after a step that gave nothing: it gives way behind the first such steps, and then it sleeps on the flag. `waits` of them came
+// before it in a row; answers how many there are with it.
+fn wait_after<P: PassView + Send + Drop, H: Hub<Pass = P>, R: Wait>(
     rt: &R,
-    alloc: Global,
     hub: &H,
     session: &mut Session<P>,
-) -> Result<bool, AllocError>
-    requires ready { IsReady (H.is_pass hub.now) (H.shape hub.now) P.known session.old }
-    ensures own { H.is_pass hub.now session.new.pass }
+    step: Step,
+    waits: u32,
+) -> u32
+    requires served { IsServedBy (H.shape hub.now) session.old.section session.old.plan }
+    requires answered { HasAnswer (H.shape hub.now) P.known session.old }
+    ensures answered { HasAnswer (H.shape hub.now) P.known session.new }
+    ensures pass { session.new.pass ≡ session.old.pass }
     ensures script { script_of session.new ≡ script_of session.old }
-    ensures over { result ≡ Ok true → IsOver (H.is_pass hub.now) (H.shape hub.now) P.known session.new }
-    ensures ready { result ≡ Ok false → IsReady (H.is_pass hub.now) (H.shape hub.now) P.known session.new }
 {
-    match session.step(rt, alloc, hub)? {
-        Step::Ended => return Ok(true),
-        Step::Waiting => thread::yield_now(),
-        Step::Did => {}
+    if step != Step::Waiting {
+        return 0;
     }
-    let _done = session.idle(alloc, hub)?;
-    Ok(false)
+    if waits < TURNS_BEFORE_SLEEP {
+        thread::yield_now();
+    } else {
+        let listens = session.pass.mark().is_some();
+        session.rest(rt, hub, sleep_of(listens, waits - TURNS_BEFORE_SLEEP));
+    }
+    waits.saturating_add(1)
+}
+
+// How long a sleep is that has so many before it in a row, in microseconds: twice as long as the one before, up to the longest.
+pub(crate) fn sleep_of(listens: bool, sleeps: u32) -> u64 {
+    let longest = if listens {
+        LISTENER_SLEEP
+    } else {
+        LONGEST_SLEEP
+    };
+    (FIRST_SLEEP << sleeps.min(9)).min(longest)
 }

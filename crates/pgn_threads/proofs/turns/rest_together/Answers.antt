@@ -1,0 +1,9 @@
+use Rattle.pgn_threads.proofs.TurnLaws.{all-slept, slept-scripts}
+use Rattle.pgn_threads.proofs.turns.rest_together.Goals as goal
+
+pub returns-clause-ready : goal.returns-clause-ready
+returns-clause-ready g c =
+    all-slept (g.H.Hub.is_pass c.args.hub.now) (g.H.Hub.shape c.args.hub.now) g.P.PassView.known _ c.args.sessions.now c.sleep_over_all.new.sessions c.sleep_over_all.ensures c.requires.ready
+
+pub returns-clause-scripts : goal.returns-clause-scripts
+returns-clause-scripts g c = slept-scripts _ c.args.sessions.now c.sleep_over_all.new.sessions c.sleep_over_all.ensures
