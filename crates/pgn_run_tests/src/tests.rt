@@ -15,6 +15,8 @@ mod job_table;
 mod listeners;
 mod over_hub;
 mod streams;
+mod turns;
+mod waits;
 
 const SELF_NOTIFY: &str = "\
 \\session a 1
