@@ -1,5 +1,5 @@
 -- What is left of a transaction's list after its savepoints, and without its repeats.
-use Rattle.std.specs.Prelude.{ℕ, Bool, true, false, cond, ◌&&◌, not, List, [], ◌∷◌, ◌++◌, Option, Some, None, bytes_eq, filter, filter_map}
+use Rattle.std.specs.Prelude.{ℕ, Bool, true, false, cond, ◌&&◌, not, List, [], ◌∷◌, ◌++◌, length, Option, Some, None, bytes_eq, filter, filter_map}
 use Rattle.std.specs.List.{list_any}
 use Rattle.pgn_base.specs.declared.note.Note.{Note}
 use Rattle.pgn_base.specs.declared.listen_set.Action.{Action}
@@ -75,6 +75,10 @@ acted_action change = None
 abbrev pub noted_note : Change → Option Note
 noted_note (Noted note) = Some note
 noted_note change = None
+
+-- how many notifications a list has, repeats and rolled back ones among them
+abbrev pub count_noted : List Change → ℕ
+count_noted changes = length (filter_map noted_note changes)
 
 -- the surviving actions of a transaction's list
 abbrev pub surviving_actions : List Change → List Action
