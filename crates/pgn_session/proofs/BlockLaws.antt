@@ -1,7 +1,7 @@
 -- A line that the block alone answers.
-use Rattle.std.proofs.Common.{◌≡◌, ℕ, ◌+◌, ◌≤◌, Bool, true, false, cond, List, [], ◌∷◌, ◌++◌, length, drop, None, All, sym, ap, ◌∙◌, refl, subst, arith, length-append}
+use Rattle.std.proofs.Common.{◌≡◌, ℕ, ◌+◌, ◌≤◌, Bool, true, false, cond, List, [], ◌∷◌, ◌++◌, length, drop, None, All, sym, ap, ◌∙◌, refl, subst, arith}
 use Rattle.std.proofs.lemmas.List.Sums.{sum_by-cons}
-use Rattle.std.proofs.lemmas.List.Elements.{All-push, filter_map-append}
+use Rattle.std.proofs.lemmas.List.Elements.{All-push}
 use Rattle.pgn_base.specs.declared.answers.Tag.TheVariants as tag
 use Rattle.pgn_base.specs.declared.answers.Refusal.TheVariants.{NeedsBlock, NoSavepoint}
 use Rattle.pgn_base.specs.declared.answers.Needs.TheVariants as needs
@@ -16,7 +16,8 @@ use Rattle.pgn_language.specs.declared.scenario.ScriptLine.{ScriptLine}
 use Rattle.pgn_model.specs.declared.item.Item.{Item}
 use Rattle.pgn_model.specs.declared.item.Item.TheVariants as item
 use Rattle.pgn_hub.specs.declared.known.Known.{Known}
-use Rattle.pgn_answers.specs.Savepoints.{Change, changes_of, live_names, noted_note}
+use Rattle.pgn_answers.specs.Savepoints.{Change, changes_of, live_names, count_noted}
+use Rattle.pgn_answers.proofs.NotedLemmas.{noted-after}
 use Rattle.pgn_language.specs.Inputs.{QuitsLast, note_lines_of, is_note_command, is_note_act}
 use Rattle.pgn_answers.specs.Answers.{Outcome, Commits, Replies, Refuses, Silent, GivesChannels, GivesUsage, answer, next_state, list_after, in_state, ignored}
 use Rattle.pgn_model.specs.Walk.{Terms, State, Nothing}
@@ -30,7 +31,7 @@ use Rattle.pgn_block.specs.declared.effect.Effect.{Effect}
 use Rattle.pgn_session.specs.declared.doing.FlagPlan.{FlagPlan}
 use Rattle.pgn_session.specs.declared.doing.Doing.TheVariants.{Lines}
 use Rattle.pgn_session.specs.Parts.{HasTaken, answered_items, IsToldByBlock}
-use Rattle.pgn_session.specs.Standing.{IsAnswered, IsRested, count_noted}
+use Rattle.pgn_session.specs.Standing.{IsAnswered, IsRested}
 
 -- a command puts a notification into the list where it notifies
 pub noted-one : (c : Command) → count_noted (changes_of c) ≡ cond (is_note_command c) 1 0
@@ -43,20 +44,6 @@ noted-one command.UnlistenAll = refl
 noted-one (command.Notify note) = refl
 noted-one (command.PgNotify note) = refl
 noted-one other = refl
-
-pub noted-append : (xs ys : List Change) → count_noted (xs ++ ys) ≡ count_noted xs + count_noted ys
-noted-append xs ys = ap (λ notes. length notes) (filter_map-append noted_note xs ys) ∙ length-append _ _
-
--- no outcome puts more into the list
-noted-after : (changes : List Change) (c : Command) (outcome : Outcome) → count_noted (list_after changes c outcome) ≤ count_noted changes + count_noted (changes_of c)
-noted-after changes c (Commits done) = omega arith
-noted-after changes c (Replies done warning Idle) = omega arith
-noted-after changes c (Replies done warning InBlock) = omega (arith, noted-append changes (changes_of c))
-noted-after changes c (Replies done warning Failed) = omega arith
-noted-after changes c (Refuses refusal next) = omega arith
-noted-after changes c Silent = omega arith
-noted-after changes c (GivesChannels names) = omega arith
-noted-after changes c GivesUsage = omega arith
 
 -- the notifications that may still come, as a line is done
 pub budget-line : (changes : List Change) (c : Command) (outcome : Outcome) (line : ScriptLine) (lines rest : List ScriptLine) (left : ℕ) → rest ≡ line ∷ lines → line.act ≡ Run c

@@ -1,5 +1,5 @@
 -- A commit: what the block hands out, and what comes of it.
-use Rattle.std.proofs.Common.{◌≡◌, ℕ, ◌+◌, ◌≤◌, Bool, true, false, not, cond, List, [], ◌∷◌, ◌++◌, length, drop, filter, sym, ap, ◌∙◌, subst, arith}
+use Rattle.std.proofs.Common.{◌≡◌, ℕ, ◌+◌, ◌≤◌, cond, List, [], ◌∷◌, ◌++◌, length, drop, sym, ap, ◌∙◌, subst, arith}
 use Rattle.std.proofs.lemmas.List.Sums.{sum_by-cons}
 use Rattle.pgn_base.specs.declared.note.Note.{Note}
 use Rattle.pgn_base.specs.declared.answers.Tag.{Tag}
@@ -12,8 +12,7 @@ use Rattle.pgn_language.specs.declared.scenario.Act.TheVariants.{Run}
 use Rattle.pgn_language.specs.declared.scenario.ScriptLine.{ScriptLine}
 use Rattle.pgn_model.specs.declared.item.Item.{Item}
 use Rattle.pgn_hub.specs.declared.known.Known.{Known}
-use Rattle.pgn_answers.specs.Savepoints.{Change, Saved, Acted, Noted, RolledBack, Released, changes_of, live_names, survivors_from, rolled_back, released, has_savepoint, is_savepoint, is_savepoint_of, surviving_actions, surviving_notes, firsts, firsts_after, same_note}
-use Rattle.std.specs.List.{list_any}
+use Rattle.pgn_answers.specs.Savepoints.{Change, changes_of, live_names, count_noted, surviving_actions, surviving_notes, firsts}
 use Rattle.pgn_language.specs.Inputs.{QuitsLast, note_lines_of, is_note_act}
 use Rattle.pgn_answers.specs.Answers.{Outcome, Commits, Replies, Refuses, Silent, GivesChannels, GivesUsage, answer, next_state, list_after}
 use Rattle.pgn_model.specs.Walk.{Terms, State}
@@ -24,66 +23,9 @@ use Rattle.pgn_block.specs.declared.effect.Effect.TheVariants as effect
 use Rattle.pgn_session.specs.declared.doing.FlagPlan.{FlagPlan}
 use Rattle.pgn_session.specs.declared.doing.Doing.TheVariants.{Lines, Committing}
 use Rattle.pgn_session.specs.Parts.{HasTaken}
-use Rattle.pgn_session.specs.Standing.{IsRested, count_noted}
-use Rattle.pgn_session.proofs.BlockLaws.{noted-one, noted-append, comes}
-
--- one more in front
-noted-cons : (x : Change) (xs : List Change) → count_noted (x ∷ xs) ≡ count_noted (x ∷ []) + count_noted xs
-noted-cons x xs = noted-append (x ∷ []) xs
-
--- fewer of the rest
-noted-less : (x : Change) (xs ys : List Change) → count_noted xs ≤ count_noted ys → count_noted (x ∷ xs) ≤ count_noted (x ∷ ys)
-noted-less x xs ys h = omega (arith, h, noted-cons x xs, noted-cons x ys)
-
--- a filter keeps no more
-noted-filter : (p : Change → Bool) (xs : List Change) → count_noted (filter p xs) ≤ count_noted xs
-noted-filter p [] = omega arith
-noted-filter p (x ∷ xs) = either (p x) (noted-filter p xs)
-  where
-    either : (b : Bool) → count_noted (filter p xs) ≤ count_noted xs → count_noted (cond b (x ∷ filter p xs) (filter p xs)) ≤ count_noted (x ∷ xs)
-    either true h = noted-less x (filter p xs) xs h
-    either false h = omega (arith, h, noted-cons x xs)
-
-noted-rolled : (name : List ℕ) (xs : List Change) → count_noted (rolled_back name xs) ≤ count_noted xs
-noted-rolled name [] = omega arith
-noted-rolled name (x ∷ xs) = either (has_savepoint name xs) (is_savepoint_of name x) (noted-rolled name xs)
-  where
-    either : (b c : Bool) → count_noted (rolled_back name xs) ≤ count_noted xs → count_noted (cond b (x ∷ rolled_back name xs) (cond c (x ∷ []) (x ∷ xs))) ≤ count_noted (x ∷ xs)
-    either true c h = noted-less x (rolled_back name xs) xs h
-    either false true h = omega (arith, noted-cons x xs)
-    either false false h = omega arith
-
-noted-released : (name : List ℕ) (xs : List Change) → count_noted (released name xs) ≤ count_noted xs
-noted-released name [] = omega arith
-noted-released name (x ∷ xs) = either (has_savepoint name xs) (is_savepoint_of name x) (noted-released name xs) (noted-filter (λ later. not (is_savepoint later)) xs)
-  where
-    either : (b c : Bool) → count_noted (released name xs) ≤ count_noted xs → count_noted (filter (λ later. not (is_savepoint later)) xs) ≤ count_noted xs
-        → count_noted (cond b (x ∷ released name xs) (cond c (filter (λ later. not (is_savepoint later)) xs) (x ∷ xs))) ≤ count_noted (x ∷ xs)
-    either true c h k = noted-less x (released name xs) xs h
-    either false true h k = omega (arith, k, noted-cons x xs)
-    either false false h k = omega arith
-
--- what is left of a list has no more notifications than the list
-noted-survive : (kept xs : List Change) → count_noted (survivors_from kept xs) ≤ count_noted kept + count_noted xs
-noted-survive kept [] = omega arith
-noted-survive kept (RolledBack name ∷ xs) = omega (arith, noted-survive (rolled_back name kept) xs, noted-rolled name kept)
-noted-survive kept (Released name ∷ xs) = omega (arith, noted-survive (released name kept) xs, noted-released name kept)
-noted-survive kept (Saved name ∷ xs) = omega (arith, noted-survive (kept ++ Saved name ∷ []) xs, noted-append kept (Saved name ∷ []))
-noted-survive kept (Acted action ∷ xs) = omega (arith, noted-survive (kept ++ Acted action ∷ []) xs, noted-append kept (Acted action ∷ []))
-noted-survive kept (Noted note ∷ xs) = omega (arith, noted-survive (kept ++ Noted note ∷ []) xs, noted-append kept (Noted note ∷ []), noted-cons (Noted note) xs)
-
--- nor have first occurrences
-firsts-fewer : (seen notes : List Note) → length (firsts_after seen notes) ≤ length notes
-firsts-fewer seen [] = omega arith
-firsts-fewer seen (note ∷ notes) = either (list_any (same_note note) seen) (firsts-fewer seen notes) (firsts-fewer (seen ++ note ∷ []) notes)
-  where
-    either : (b : Bool) → length (firsts_after seen notes) ≤ length notes → length (firsts_after (seen ++ note ∷ []) notes) ≤ length notes
-        → length (cond b (firsts_after seen notes) (note ∷ firsts_after (seen ++ note ∷ []) notes)) ≤ length (note ∷ notes)
-    either true h k = omega (arith, h)
-    either false h k = omega (arith, k)
-
-sent-fewer : (changes : List Change) → length (firsts (surviving_notes changes)) ≤ count_noted changes
-sent-fewer changes = omega (arith, firsts-fewer [] (surviving_notes changes), noted-survive [] changes)
+use Rattle.pgn_session.specs.Standing.{IsRested}
+use Rattle.pgn_answers.proofs.NotedLemmas.{noted-append, sent-fewer}
+use Rattle.pgn_session.proofs.BlockLaws.{noted-one, comes}
 
 -- what hands out is a commit
 hands-out : (changes : List Change) (outcome : Outcome) (actions : List Action) (notes : List Note) (done : Tag) → effect.Commit actions notes done ≡ effect_of changes outcome

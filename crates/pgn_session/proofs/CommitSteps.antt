@@ -22,7 +22,8 @@ use Rattle.pgn_pending.specs.Kept.{StandsFor}
 use Rattle.pgn_block.specs.Views.{BlockView}
 use Rattle.pgn_session.specs.declared.doing.FlagPlan.{FlagPlan}
 use Rattle.pgn_session.specs.declared.doing.Doing.TheVariants.{Lines}
-use Rattle.pgn_session.specs.Standing.{HaveSameMembers, IsAnswered, count_noted}
+use Rattle.pgn_answers.specs.Savepoints.{count_noted}
+use Rattle.pgn_session.specs.Standing.{HaveSameMembers, IsAnswered}
 use Rattle.pgn_session.proofs.KnownLaws.{members-push}
 use Rattle.pgn_session.specs.Commits.{HasJoined, HasSent, HasLeftIf, is_full, enlisted_items, sent_items}
 

@@ -1,5 +1,5 @@
 -- What holds of a session between its calls, said of its section, of what is known of its pass, of its items, its set and its block.
-use Rattle.std.specs.Prelude.{◌≡◌, ℕ, ◌+◌, ◌-◌, ◌<◌, ◌≤◌, List, [], ◌++◌, drop, IfSome, All, Contains, filter_map, length}
+use Rattle.std.specs.Prelude.{◌≡◌, ℕ, ◌+◌, ◌-◌, ◌<◌, ◌≤◌, List, [], ◌++◌, drop, IfSome, All, Contains, length}
 use Rattle.pgn_base.specs.declared.note.Note.{Note}
 use Rattle.pgn_base.specs.declared.answers.Tag.{Tag}
 use Rattle.pgn_base.specs.declared.listen_set.Action.{Action}
@@ -12,7 +12,7 @@ use Rattle.pgn_language.specs.declared.scenario.Section.{Section}
 use Rattle.pgn_model.specs.declared.item.Item.{Item}
 use Rattle.pgn_hub.specs.declared.known.Known.{Known}
 use Rattle.pgn_hub.specs.Shape.{Shape}
-use Rattle.pgn_answers.specs.Savepoints.{Change, noted_note}
+use Rattle.pgn_answers.specs.Savepoints.{count_noted}
 use Rattle.pgn_language.specs.Inputs.{QuitsLast, note_lines_of}
 use Rattle.pgn_model.specs.Walk.{Terms, State, Owed, Nothing}
 use Rattle.pgn_model.specs.Walk as walk
@@ -87,10 +87,6 @@ pub record TellsMore (plan : FlagPlan) (k : Known) (s : State) : Type 0 where
   pub told : s.told ≤ k.told
   pub raised : GoesOnByEnds plan s.raised k.raised
   pub found : GoesOnByEnds plan s.found k.found
-
--- how many notifications a list has, repeats and rolled back ones among them
-abbrev pub count_noted : List Change → ℕ
-count_noted changes = length (filter_map noted_note changes)
 
 -- the script goes on: the block is the walk's, and what the current line still has to show is this
 pub record IsInScript (block : BlockView) (k : Known) (s : State) (owed : Owed) : Type 0 where
