@@ -7,3 +7,4 @@ pub mod NameSteps
 pub mod ArgumentSteps
 pub mod CommandSteps
 pub mod CutLaws
+pub mod RepeatLaws

@@ -1,4 +1,5 @@
 ghost use Rattle.std.specs.Prelude.{◌≡◌, ◌+◌, ◌<◌, ◌≤◌, length, flat_map, IfSome};
+ghost use Rattle.pgn_base.specs.declared.limits.TheConstants.{LINE_BYTES_MAX};
 ghost use Rattle.pgn_language.specs.Quotes.{doubled_byte};
 ghost use Rattle.pgn_command.specs.Texts.{single};
 
@@ -12,7 +13,7 @@ pub struct Inside<'a> {
     /// How many quotes are written twice.
     pub doubled: usize,
     ghost ascii: { quote < 128 },
-    ghost short: { length raw.now ≤ 65536 },
+    ghost short: { length raw.now ≤ LINE_BYTES_MAX },
     ghost spelled: { raw.now ≡ flat_map (doubled_byte quote) (single quote raw.now) },
     ghost counted: { length (single quote raw.now) + doubled ≡ length raw.now },
 }

@@ -14,13 +14,13 @@ use crate::token::{Lexeme, Token};
 pub struct Lexer<'a> {
     pub rest: &'a str,
     pub at: usize,
-    ghost short: { at + length rest.now ≤ 65536 },
+    ghost short: { at + length rest.now ≤ LINE_BYTES_MAX },
 }
 
 impl<'a> Lexer<'a> {
     /// All of a line is left.
     pub fn new(line: &'a str) -> Lexer<'a>
-        requires { length line.now ≤ 65536 }
+        requires { length line.now ≤ LINE_BYTES_MAX }
         ensures rest { result.rest.now ≡ line.now }
         ensures at { result.at ≡ 0 }
     {

@@ -1,5 +1,6 @@
 ghost use Rattle.std.specs.Prelude.{◌≡◌, ◌<◌, ◌≤◌, length, drop, cond, MatchOption};
 ghost use Rattle.std.specs.Str.Parse.{IsNumeral, digits_value};
+ghost use Rattle.pgn_base.specs.declared.limits.TheConstants.{LINE_BYTES_MAX};
 ghost use Rattle.pgn_language.specs.Tokens.{tokens};
 ghost use Rattle.pgn_language.specs.Grammar.{Key, Name, Quote, Count, Punct, text_of, value_of};
 ghost use Rattle.pgn_command.specs.Texts.{single};
@@ -24,6 +25,7 @@ pub struct Parser<'a> {
 impl<'a> Model for Parser<'a> {
     ghost use Rattle.std.specs.Prelude.{ℕ, ◌+◌, ◌≤◌, length};
     ghost use Rattle.pgn_language.specs.Tokens.{tokens_from};
+    ghost use Rattle.pgn_base.specs.declared.limits.TheConstants.{LINE_BYTES_MAX};
     ghost use Rattle.pgn_command.specs.Lexing.{shown, EndsAt, HasDigits};
     ghost use Rattle.pgn_command.specs.Reading.{Ahead};
 
@@ -34,13 +36,13 @@ impl<'a> Model for Parser<'a> {
       end = p.lexer.at + length p.lexer.rest.now;
     } };
 
-    ghost invariant = { λ p. EndsAt p.token.lexeme p.token.at p.lexer.rest.now (p.lexer.at + length p.lexer.rest.now) × (p.token.at ≤ 65536) × HasDigits p.token.lexeme };
+    ghost invariant = { λ p. EndsAt p.token.lexeme p.token.at p.lexer.rest.now (p.lexer.at + length p.lexer.rest.now) × (p.token.at ≤ LINE_BYTES_MAX) × HasDigits p.token.lexeme };
 }
 
 impl<'a> Parser<'a> {
     /// All tokens of a line are ahead.
     pub fn new(line: &'a str) -> Parser<'a>
-        requires { length line.now ≤ 65536 }
+        requires { length line.now ≤ LINE_BYTES_MAX }
         ensures tokens { result.tokens ≡ tokens line.now }
         ensures end { result.end ≡ length line.now }
     {

@@ -1,4 +1,5 @@
 ghost use Rattle.std.specs.Prelude.{◌≡◌, ◌<◌, ◌≤◌, drop, length, IfOk, MatchOption, None, string_bytes};
+ghost use Rattle.pgn_base.specs.declared.limits.TheConstants.{LINE_BYTES_MAX};
 ghost use Rattle.pgn_language.specs.Tokens.{closed};
 ghost use Rattle.pgn_command.specs.Texts.{single, starts, FindsQuote, IsInside};
 
@@ -24,7 +25,7 @@ pub fn unquoted(alloc: Global, inside: Inside<'_>) -> Result<String, AllocError>
 /// What stands before the closing quote, in a text that follows an opening one.
 pub fn inside(text: &str, quote: u8) -> Option<Inside<'_>>
     requires ascii { quote < 128 }
-    requires short { length text.now ≤ 65536 }
+    requires short { length text.now ≤ LINE_BYTES_MAX }
     ensures { MatchOption result (closed quote text.now ≡ None) (λ inside. IsInside quote text.now inside.quote inside.raw.now) }
 {
     let bytes = text.as_bytes();

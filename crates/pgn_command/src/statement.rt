@@ -1,4 +1,5 @@
 ghost use Rattle.std.specs.Prelude.{◌≤◌};
+ghost use Rattle.pgn_base.specs.declared.limits.TheConstants.{LINE_BYTES_MAX};
 
 use crate::inside::Inside;
 
@@ -41,5 +42,5 @@ pub enum Statement<'a> {
 #[derive(Clone, Copy)]
 pub struct Stop {
     pub at: usize,
-    ghost within: { at ≤ 65536 },
+    ghost within: { at ≤ LINE_BYTES_MAX },
 }

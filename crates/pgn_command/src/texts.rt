@@ -1,4 +1,5 @@
 ghost use Rattle.std.specs.Prelude.{◌≡◌, ◌<◌, length, IfOk, IfSome, string_bytes};
+ghost use Rattle.std.specs.List.{repeat};
 ghost use Rattle.pgn_base.specs.Texts.{IsName, IsPayload};
 ghost use Rattle.pgn_language.specs.Grammar as grammar;
 ghost use Rattle.pgn_command.specs.Statements.{ident_name, text_bytes};
@@ -7,6 +8,9 @@ use crate::quotes::unquoted;
 use crate::statement::{Ident, Text};
 use pgn_base::{NAME_BYTES_MAX, Name, NameFault, Payload, PayloadFault};
 use std::alloc::{AllocError, Global};
+
+/// So many times a text is repeated one by one.
+const FEW: usize = 8;
 
 /// The name that a word or a quoted identifier is: a word is folded to lower case, and both are cut.
 pub fn name_of(alloc: Global, ident: Ident<'_>) -> Result<Name, AllocError>
@@ -95,9 +99,29 @@ fn built(alloc: Global, text: Text<'_>) -> Result<String, AllocError>
         Text::Null => Ok(String::new(alloc)),
         Text::Repeat(inside, count) => {
             let once = unquoted(alloc, inside)?;
-            once.as_str().repeat(alloc, count as usize)
+            repeated(alloc, once.as_str(), count as usize)
         }
     }
+}
+
+// A text so many times. It is doubled, so that few long pieces are copied and not many short ones.
+fn repeated(alloc: Global, once: &str, count: usize) -> Result<String, AllocError>
+    ensures { IfOk result (λ text. string_bytes text ≡ repeat count once.now) }
+{
+    if count <= FEW {
+        return once.repeat(alloc, count);
+    }
+    let Some(length) = once.len().checked_mul(count) else {
+        return Err(AllocError);
+    };
+    let half = repeated(alloc, once, count / 2)?;
+    let mut text = String::with_capacity(alloc, length)?;
+    text.push_str(half.as_str())?;
+    text.push_str(half.as_str())?;
+    if count % 2 == 1 {
+        text.push_str(once)?;
+    }
+    Ok(text)
 }
 
 // The longest prefix of whole characters that is short enough for a name.
