@@ -34,6 +34,7 @@
 mod call;
 mod pending;
 mod savepoint;
+mod savepoints;
 
 pub use call::{Call, finish_after};
 pub use pending::{NoSuch, Pending, each_has_a_history};

@@ -3,7 +3,8 @@ ghost use Rattle.pgn_base.specs.Names.{has_name};
 ghost use Rattle.pgn_answers.specs.Savepoints.{Change, Saved, Acted, Noted, RolledBack, Released, live_names, surviving_actions, surviving_notes, firsts};
 ghost use Rattle.pgn_pending.specs.Kept.{HasHistory, StandsFor, with_note};
 
-use crate::savepoint::{Savepoint, newest};
+use crate::savepoint::Savepoint;
+use crate::savepoints::Savepoints;
 use indexmap::IndexSet;
 use pgn_base::{Action, Actions, Name, Note, Notes};
 use std::alloc::{AllocError, Global};
@@ -14,7 +15,7 @@ use std::marker::Model;
 pub struct Pending {
     actions: Vec<Action>,
     notes: IndexSet<Note>,
-    savepoints: Vec<Savepoint>,
+    savepoints: Savepoints,
     // Empty, with room for all the notes: what `finish` puts them into.
     room: Vec<Note>,
 }
@@ -29,10 +30,10 @@ impl Model for Pending {
 
     ghost Value = { Kept };
 
-    ghost view = { λ p. kept p.actions.items p.notes.keys p.savepoints.items };
+    ghost view = { λ p. kept p.actions.items p.notes.keys p.savepoints };
 
     ghost invariant = { λ p. (p.room.items ≡ []) × (length p.notes.keys ≤ vec_capacity p.room)
-        × HasHistory (kept p.actions.items p.notes.keys p.savepoints.items) };
+        × HasHistory (kept p.actions.items p.notes.keys p.savepoints) };
 }
 
 impl Pending {
@@ -43,7 +44,7 @@ impl Pending {
         Pending {
             actions: Vec::new(alloc),
             notes: IndexSet::new(alloc),
-            savepoints: Vec::new(alloc),
+            savepoints: Savepoints::new(alloc),
             room: Vec::new(alloc),
         }
     }
@@ -88,10 +89,10 @@ impl Pending {
         ensures unchanged { OnErr result (self.new ≡ self.old) }
         ensures after { (changes : List Change) → StandsFor changes self.old → StandsFor (changes ++ RolledBack name.now ∷ []) self.new }
     {
-        let Some(at) = newest(&self.savepoints, name) else {
+        let Some(at) = self.savepoints.newest(name) else {
             return Err(NoSuch);
         };
-        let savepoint = &self.savepoints[at];
+        let savepoint = self.savepoints.at(at);
         self.notes.truncate(savepoint.notes);
         self.actions.truncate(savepoint.actions);
         self.savepoints.truncate(at + 1);
@@ -105,7 +106,7 @@ impl Pending {
         ensures unchanged { OnErr result (self.new ≡ self.old) }
         ensures after { (changes : List Change) → StandsFor changes self.old → StandsFor (changes ++ Released name.now ∷ []) self.new }
     {
-        let Some(from) = newest(&self.savepoints, name) else {
+        let Some(from) = self.savepoints.newest(name) else {
             return Err(NoSuch);
         };
         self.savepoints.truncate(from);
