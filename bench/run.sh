@@ -12,6 +12,15 @@
 #   4096-set    4,096 LISTENs, 1,000 and 10,000 lines, payloads of 1 byte
 #   listens     1,024, 2,048 and 4,096 LISTENs, 10,000 lines, payloads of 1 byte
 #
+# The next inputs are `\session a 1` and then lines that are told by a number n. A line in the tables is one of n.
+#
+#   repeat      LISTEN c, and n times a pg_notify of a text that is repeated 7,999 times: 200 and 400
+#   left        n LISTENs, and then an UNLISTEN of each: 1,024, 2,048 and 4,096
+#   left-block  the same in one block
+#   no-such     in a block n SAVEPOINTs, an error, and n times ROLLBACK TO a name that is not there: 1,024, 2,048 and 4,096
+#   come-go     in a block n SAVEPOINTs, and then n times SAVEPOINT, RELEASE of a name that is not there and ROLLBACK TO the
+#               last but one: 1,024, 2,048 and 4,096
+#
 # Then come sessions that wait:
 #
 #   await each other      two sessions, each of which awaits a flag that the other one raises behind its own await
@@ -236,4 +245,32 @@ load 200-byte 1 200 6000 60000
 load 7999-byte 1 7999 200 2000
 load 4096-set 4096 1 1000 10000
 listens listens 10000 1 1024 2048 4096
+
+# made NAME BODY N N ..: a row for each N, of the input that the body of an awk program prints with n = N
+made() {
+    name=$1 body=$2 before=
+    shift 2
+    for n in "$@"; do
+        { printf '\\session a 1\n' && awk -v n="$n" "BEGIN { $body }"; } >"$room/load"
+        times=$(timed load)
+        count=$(counted load)
+        printf '%s %s %s %s\n' "$name" "$n" "$times $count" "$before" | awk '{
+            printf "%-10s %5d lines %6.2f s %8.1f MB peak", $1, $2, $3, $4 / 1024
+            if ($5 > 0) printf " %14.0f instructions", $5
+            if (NF > 5 && $5 > 0) printf " %9.0f a line", ($5 - $7) / ($2 - $6)
+            printf "\n"
+        }'
+        before="$n $count"
+    done
+}
+
+many_channels='for (i = 0; i < n; i++) print "LISTEN c" i; for (i = 0; i < n; i++) print "UNLISTEN c" i'
+many_savepoints='print "BEGIN"; for (i = 0; i < n; i++) print "SAVEPOINT s" i'
+
+made repeat 'print "LISTEN c"; for (i = 0; i < n; i++) print "SELECT pg_notify(\047c\047, repeat(\047x\047, 7999))"' 200 400
+made left "$many_channels" 1024 2048 4096
+made left-block "print \"BEGIN\"; $many_channels; print \"COMMIT\"" 1024 2048 4096
+made no-such "$many_savepoints; print \"x\"; for (i = 0; i < n; i++) print \"ROLLBACK TO t\"" 1024 2048 4096
+made come-go "$many_savepoints; for (i = 0; i < n; i++) { print \"SAVEPOINT x\"; print \"RELEASE t\"; print \"ROLLBACK TO s\" (n - 1) }" 1024 2048 4096
+
 measure_waits

@@ -1,3 +1,4 @@
 pub mod StepLaws
 pub mod EffectLaws
 pub mod CallerLaws
+pub mod OnlyLaws

@@ -25,6 +25,16 @@ failed_state Failed = Failed
 abbrev pub failed_view : BlockView → BlockView
 failed_view view = viewed (failed_state view.state) view.kept
 
+-- a failed block goes on
+abbrev pub open_state : BlockState → BlockState
+open_state Idle = Idle
+open_state InBlock = InBlock
+open_state Failed = InBlock
+
+-- the same with its block going on, where one is open
+abbrev pub open_view : BlockView → BlockView
+open_view view = viewed (open_state view.state) view.kept
+
 -- the row of BEGIN and START TRANSACTION
 abbrev pub opens : Tag → BlockState → Outcome
 opens tag state = in_state state (Replies tag None InBlock) (Replies tag (Some AlreadyInBlock) InBlock) ignored

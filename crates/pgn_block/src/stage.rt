@@ -5,11 +5,13 @@ ghost use Rattle.pgn_answers.specs.laws.Answers.{is_in_block, is_failed};
 ghost use Rattle.pgn_pending.specs.Kept.{StandsFor};
 ghost use Rattle.pgn_block.specs.Views.{view_of, idle_view};
 ghost use Rattle.pgn_block.specs.Effects.{effect_of, takes_memory};
-ghost use Rattle.pgn_block.specs.Steps.{Steps, IsStep, failed_view, opens, sends, asks};
+ghost use Rattle.pgn_block.specs.Steps.{Steps, IsStep, failed_view, open_view, opens, sends, asks};
 
 use crate::{Effect, Kind};
 use pgn_answers::BlockState;
-use pgn_base::{Action, Command, Name, Needs, Note, Refusal, Tag, Warning, Which};
+use pgn_base::{
+    Action, Actions, Command, Name, Needs, Note, Notes, Refusal, Seq, Tag, Warning, Which,
+};
 use pgn_pending::{NoSuch, Pending};
 use std::alloc::{AllocError, Global};
 use std::mem;
@@ -120,20 +122,19 @@ impl Stage {
     fn rollback_to(&mut self, name: Name) -> Effect
         ensures { IsStep self.old (Command.RollbackTo name) result self.new }
     {
-        match self.take() {
+        match self {
             Stage::Idle { .. } => needs_block(Needs::RollbackTo),
-            Stage::InBlock { alloc, mut pending } | Stage::Failed { alloc, mut pending } => {
-                match pending.back_to(&name) {
-                    Ok(()) => {
-                        *self = Stage::InBlock { alloc, pending };
-                        done(Tag::Rollback)
-                    }
-                    Err(NoSuch) => {
-                        *self = Stage::Failed { alloc, pending };
-                        no_savepoint(name)
-                    }
+            Stage::InBlock { pending, .. } => match pending.back_to(&name) {
+                Ok(()) => done(Tag::Rollback),
+                Err(NoSuch) => self.refuse(Refusal::NoSavepoint { name }),
+            },
+            Stage::Failed { pending, .. } => match pending.back_to(&name) {
+                Ok(()) => {
+                    self.reopen();
+                    done(Tag::Rollback)
                 }
-            }
+                Err(NoSuch) => self.refuse(Refusal::NoSavepoint { name }),
+            },
         }
     }
 
@@ -159,9 +160,13 @@ impl Stage {
     {
         match self {
             Stage::Idle { alloc } => {
-                let mut pending = Pending::new(*alloc);
-                pending.action(action)?;
-                Ok(commit_of(pending, tag))
+                let actions = only(*alloc, action)?;
+                let notes = Notes::new(*alloc);
+                Ok(Effect::Commit {
+                    actions,
+                    notes,
+                    tag,
+                })
             }
             Stage::InBlock { pending, .. } => {
                 pending.action(action)?;
@@ -179,9 +184,13 @@ impl Stage {
     {
         match self {
             Stage::Idle { alloc } => {
-                let mut pending = Pending::new(*alloc);
-                pending.note(note)?;
-                Ok(commit_of(pending, tag))
+                let actions = Actions::new(*alloc);
+                let notes = only(*alloc, note)?;
+                Ok(Effect::Commit {
+                    actions,
+                    notes,
+                    tag,
+                })
             }
             Stage::InBlock { pending, .. } => {
                 pending.note(note)?;
@@ -255,6 +264,18 @@ impl Stage {
         Effect::Refuse { refusal }
     }
 
+    // A failed block goes on.
+    fn reopen(&mut self)
+        ensures { view_of self.new ≡ open_view (view_of self.old) }
+    {
+        match self.take() {
+            Stage::Idle { .. } => {}
+            Stage::InBlock { alloc, pending } | Stage::Failed { alloc, pending } => {
+                *self = Stage::InBlock { alloc, pending };
+            }
+        }
+    }
+
     // What the next block's memory is taken from.
     fn alloc(&self) -> Global {
         match self {
@@ -289,13 +310,13 @@ fn needs_block(what: Needs) -> Effect
     }
 }
 
-// No live savepoint has the name.
-fn no_savepoint(name: Name) -> Effect
-    ensures { result ≡ Effect.Refuse (Refusal.NoSavepoint name) }
+// A list of one, with room for no more.
+fn only<T: Drop>(alloc: Global, item: T) -> Result<Seq<T>, AllocError>
+    ensures { IfOk result (λ items. items ≡ item ∷ []) }
 {
-    Effect::Refuse {
-        refusal: Refusal::NoSavepoint { name },
-    }
+    let mut items = Vec::with_capacity(alloc, 1)?;
+    items.push(item)?;
+    Ok(Seq::from_items(items))
 }
 
 // A commit, which hands out what is left of these.
