@@ -1,5 +1,5 @@
 //! What every other crate speaks of: names and payloads, sessions, databases and transaction numbers, the lists and sets made
-//! of them, the enums of answers, and the outside as two traits.
+//! of them, the commands, the enums of answers, and the outside as two traits.
 //!
 //! A value is valid by its type: a `Name` has 1 to 63 bytes and an `Xid` is at least 3, and a layer above need not test it
 //! again. Contracts see a name or a payload as its bytes, a number type as its number, and a list as a list.

@@ -39,7 +39,8 @@ pub const HUB_FLAGS_MAX: u32 = 512;
 /// How many pages the queue has at most, where the command line sets nothing.
 pub const PAGES_DEFAULT: u32 = 256;
 
-/// How many looks an await takes before it times out, where the command line sets nothing.
+/// How many looks, made or slept over, an await takes before it times out, where the command line sets nothing. A microsecond of
+/// sleep counts as one.
 pub const PATIENCE_DEFAULT: u64 = 10_000_000;
 
 /// The bytes of a page of the queue. The longest entry has as many.

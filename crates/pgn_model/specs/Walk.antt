@@ -32,7 +32,8 @@ use Rattle.pgn_journal.specs.QueueUse.{IsFloorFor, ShowsUsage}
 use Rattle.pgn_answers.specs.Savepoints.{Change, live_names, surviving_actions, surviving_notes, firsts, is_listen, changes_of}
 use Rattle.pgn_answers.specs.Answers.{Outcome, Commits, Replies, Refuses, Silent, GivesChannels, GivesUsage, answer, next_state, list_after}
 
--- what the command line sets: the format of the queue's entries, the queue's limit in pages, and how many looks an await takes
+-- what the command line sets: the format of the queue's entries, the queue's limit in pages, and how many looks an await takes,
+-- made or slept over
 pub record Settings : Type 0 where
   pub format : Format
   pub limit : ℕ
@@ -343,7 +344,7 @@ FindsFlag s value = IsAwaiting s.owed (λ flag. IsGreatest s.raised flag value �
 abbrev pub IsUnknown : List (ℕ × ℕ) → ℕ → Type 0
 IsUnknown pairs flag = All (λ pair. pair.0 ≢ flag) pairs
 
--- an await times out after as many looks as the patience is, at a flag that the session has neither raised nor found
+-- an await times out after as many looks as the patience is, made or slept over, at a flag that the session has neither raised nor found
 pub record TimesOut (terms : Terms) (s : State) (looks : ℕ) : Type 0 where
   pub awaited : IsAwaiting s.owed (λ flag. IsUnknown s.raised flag × IsUnknown s.found flag)
   pub patient : looks ≡ terms.settings.patience

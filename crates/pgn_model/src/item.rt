@@ -24,7 +24,7 @@ pub enum Item {
     Raise { value: Xid },
     /// An awaited flag was found with this number.
     Found { value: Xid },
-    /// An awaited flag was not found in this many looks.
+    /// An awaited flag was not found in this many looks, made or slept over.
     TimedOut { looks: u64 },
     /// The mark moved from `from` to `to`, and these notifications were received.
     Read { from: Xid, to: Xid, got: Deliveries },
