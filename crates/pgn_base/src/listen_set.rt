@@ -1,8 +1,11 @@
-ghost use Rattle.std.specs.Prelude.{◌≡◌, ◌+◌, ◌≤◌, [], ◌∷◌, ◌++◌, length, max, IfOk, OnOk, OnErr};
+ghost use Rattle.std.specs.Prelude.{◌≡◌, ◌==◌, ℕ, ◌+◌, ◌≤◌, List, [], ◌∷◌, ◌++◌, Option, None, false, length, vec_capacity, max, IfOk, OnOk, OnErr};
+ghost use Rattle.std.specs.List.{list_any};
+ghost use Rattle.indexmap.specs.IndexMap.{spare};
+ghost use Rattle.pgn_base.specs.Listening.{listed, holds, AreOnce, AreThere};
 
 use crate::in_place::InPlace;
-use crate::{Copied, NAME_BYTES_MAX, Name, Seq};
-use indexmap::IndexSet;
+use crate::{Copied, NAME_BYTES_MAX, Name, Names, Seq};
+use indexmap::IndexMap;
 use std::alloc::{AllocError, Global};
 use std::marker::Model;
 
@@ -33,30 +36,32 @@ impl Copied for Action {
 }
 
 /// The channels that a session listens to, in order of listening. Contracts see them, and how many more may be put in without
-/// memory.
+/// memory. To listen and to unlisten take the same time, however many there are: places that were left are closed up once they
+/// are more than half.
 #[derive(Drop)]
 pub struct ListenSet {
-    channels: Vec<Name>,
-    // The same channels, to be found by their hash.
-    index: IndexSet<Key>,
+    // The channels in order. A place is empty where its channel was left.
+    places: Vec<Option<Name>>,
+    // Where each channel stands.
+    index: IndexMap<Key, usize>,
     room: usize,
 }
 
 type Key = InPlace<NAME_BYTES_MAX>;
 
-/// Up to so many channels are looked through, which is faster than a hash.
+/// Up to so many places are looked through, which is faster than a hash.
 const FEW: usize = 4;
 
 impl Model for ListenSet {
     ghost use Rattle.std.specs.Prelude.{vec_capacity};
-    ghost use Rattle.indexmap.specs.IndexSet.{spare};
-    ghost use Rattle.pgn_base.specs.Listening.{Listening, IsIndexed};
+    ghost use Rattle.indexmap.specs.IndexMap.{spare};
+    ghost use Rattle.pgn_base.specs.Listening.{Listening, IsIndexed, listed};
 
     ghost Value = { Listening };
 
-    ghost view = { λ set. record { channels = set.channels.items; room = set.room } };
+    ghost view = { λ set. record { channels = listed set.places.items; room = set.room } };
 
-    ghost invariant = { λ set. IsIndexed set.channels.items (vec_capacity set.channels) set.index.keys (spare set.index) set.room };
+    ghost invariant = { λ set. IsIndexed set.places.items (vec_capacity set.places) set.index.entries (spare set.index) set.room };
 }
 
 impl ListenSet {
@@ -68,8 +73,8 @@ impl ListenSet {
         ensures { result ≡ record { channels = []; room = 0 } }
     {
         ListenSet {
-            channels: Vec::new(alloc),
-            index: IndexSet::new(alloc),
+            places: Vec::new(alloc),
+            index: IndexMap::new(alloc),
             room: 0,
         }
     }
@@ -78,7 +83,7 @@ impl ListenSet {
     pub fn with(&self, actions: &Actions) -> Result<ListenSet, AllocError>
         ensures { IfOk result (λ set. set ≡ record { channels = applied self.now.channels actions.now; room = 0 }) }
     {
-        let alloc = *self.channels.allocator();
+        let alloc = *self.places.allocator();
         let mut set = self.copy(alloc)?;
         let actions = actions.copy(alloc)?;
         set.reserve(actions.as_slice().len())?;
@@ -96,7 +101,7 @@ impl ListenSet {
         if additional <= self.room {
             return Ok(());
         }
-        self.channels.reserve(additional)?;
+        self.places.reserve(additional)?;
         self.index.reserve(additional)?;
         self.room = additional;
         Ok(())
@@ -137,12 +142,14 @@ impl ListenSet {
 
     // Puts a channel at the end.
     fn add(&mut self, name: Name)
+        requires absent { has_name self.old.channels name ≡ false }
         requires room { 1 ≤ self.old.room }
         ensures channels { self.new.channels ≡ self.old.channels ++ name ∷ [] }
         ensures room { self.new.room + 1 ≡ self.old.room }
     {
-        self.index.insert(Key::new(name.as_bytes())).unwrap();
-        self.channels.push(name).unwrap();
+        let at = self.places.len();
+        self.index.insert(Key::new(name.as_bytes()), at).unwrap();
+        self.places.push(Some(name)).unwrap();
         self.room -= 1;
     }
 
@@ -150,8 +157,29 @@ impl ListenSet {
         ensures channels { self.new.channels ≡ after_action self.old.channels (Action.Unlisten name.now) }
         ensures room { self.old.room ≤ self.new.room + 1 }
     {
-        self.index.swap_remove(&Key::new(name.as_bytes()));
-        self.channels.retain(|other| name != other);
+        self.leave(name);
+        if self.index.len() < self.places.len() / 2 {
+            self.close_up();
+        }
+    }
+
+    // Takes a channel out, and leaves its place empty.
+    fn leave(&mut self, name: &Name)
+        ensures channels { self.new.channels ≡ after_action self.old.channels (Action.Unlisten name.now) }
+        ensures room { self.new.room ≡ self.old.room }
+    {
+        if let Some(at) = self.index.swap_remove(&Key::new(name.as_bytes())) {
+            empty(&mut self.places[at]);
+        }
+    }
+
+    // Closes the empty places up.
+    fn close_up(&mut self)
+        ensures { self.new ≡ self.old }
+    {
+        self.places.retain(|place| place.is_some());
+        self.index.clear();
+        put_all(&mut self.index, &self.places);
     }
 
     fn unlisten_all(&mut self)
@@ -159,32 +187,142 @@ impl ListenSet {
         ensures room { self.old.room ≤ self.new.room + 1 }
     {
         self.index.clear();
-        self.channels.clear();
+        self.places.clear();
     }
 
     pub fn contains(&self, channel: &[u8]) -> bool
         ensures { result ≡ has_name self.now.channels channel.now }
     {
-        if self.channels.len() > FEW && channel.len() <= NAME_BYTES_MAX {
-            return self.index.contains(&Key::new(channel));
+        if self.places.len() > FEW && channel.len() <= NAME_BYTES_MAX {
+            return self.index.contains_key(&Key::new(channel));
         }
-        self.channels.iter().any(|name| channel == name.as_bytes())
+        is_in(&self.places, channel)
     }
 
-    pub fn names(&self) -> &[Name]
-        ensures { result.now ≡ self.now.channels }
+    pub fn is_empty(&self) -> bool
+        ensures { result ≡ (length self.now.channels == 0) }
     {
-        self.channels.as_slice()
+        self.index.is_empty()
+    }
+
+    /// The channels in order, copied.
+    pub fn names(&self, alloc: Global) -> Result<Names, AllocError>
+        ensures { IfOk result (λ names. names ≡ self.now.channels) }
+    {
+        names_of(alloc, &self.places)
     }
 }
 
 impl Copied for ListenSet {
     fn copy(&self, alloc: Global) -> Result<Self, AllocError> {
-        let mut set = ListenSet::new(alloc);
-        set.reserve(self.channels.len() + self.room)?;
-        for name in self.channels.as_slice() {
-            set.add(name.copy(alloc)?);
+        let room = self.places.len() + self.room;
+        let places = copy_places(alloc, &self.places, room)?;
+        let mut index = IndexMap::new(alloc);
+        index.reserve(room)?;
+        put_all(&mut index, &places);
+        Ok(ListenSet {
+            places,
+            index,
+            room: self.room,
+        })
+    }
+}
+
+// Empties a place.
+fn empty(place: &mut Option<Name>)
+    ensures { place.new ≡ None }
+{
+    *place = None;
+}
+
+// Puts the channels of these places into an index that is empty and has room for them.
+fn put_all(index: &mut IndexMap<Key, usize>, places: &[Option<Name>])
+    requires empty { index.old.entries ≡ [] }
+    requires room { length places.now ≤ spare index.old }
+    requires once { AreOnce (listed places.now) }
+    ensures entries { AreThere places.now index.new.entries }
+    ensures room { spare index.old ≤ spare index.new + length places.now }
+{
+    for at in 0..places.len() {
+        put(index, &places[at], at);
+    }
+}
+
+// Puts the channel of one more place into the index of those before.
+fn put(index: &mut IndexMap<Key, usize>, place: &Option<Name>, at: usize)
+    requires { 1 ≤ spare index.old }
+    ensures entries { (places : List (Option (List ℕ))) → AreThere places index.old.entries → at ≡ length places → AreOnce (listed (places ++ place.now ∷ [])) → AreThere (places ++ place.now ∷ []) index.new.entries }
+    ensures room { spare index.old ≤ spare index.new + 1 }
+{
+    if let Some(name) = place {
+        index.insert(Key::new(name.as_bytes()), at).unwrap();
+    }
+}
+
+// The channel stands in one of these places.
+fn is_in(places: &[Option<Name>], channel: &[u8]) -> bool
+    ensures { result ≡ list_any (holds channel.now) places.now }
+{
+    places.iter().any(|place| holds(place, channel))
+}
+
+// The channel stands in this place.
+fn holds(place: &Option<Name>, channel: &[u8]) -> bool
+    ensures { result ≡ holds channel.now place.now }
+{
+    match place {
+        Some(name) => channel == name.as_bytes(),
+        None => false,
+    }
+}
+
+// The channels of places, copied.
+fn names_of(alloc: Global, places: &[Option<Name>]) -> Result<Names, AllocError>
+    ensures { IfOk result (λ names. names ≡ listed places.now) }
+{
+    let mut names = Names::new(alloc);
+    for place in places {
+        push_name(alloc, &mut names, place)?;
+    }
+    Ok(names)
+}
+
+fn push_name(alloc: Global, names: &mut Names, place: &Option<Name>) -> Result<(), AllocError>
+    ensures { OnOk result (names.new ≡ names.old ++ listed (place.now ∷ [])) }
+{
+    match place {
+        Some(name) => {
+            names.push(name.copy(alloc)?)?;
+            Ok(())
         }
-        Ok(set)
+        None => Ok(()),
+    }
+}
+
+// Places, copied, in a list with room for so many.
+fn copy_places(
+    alloc: Global,
+    places: &[Option<Name>],
+    room: usize,
+) -> Result<Vec<Option<Name>>, AllocError>
+    ensures items { IfOk result (λ copied. copied.items ≡ places.now) }
+    ensures room { IfOk result (λ copied. room ≤ vec_capacity copied) }
+{
+    let mut copied = Vec::with_capacity(alloc, room)?;
+    for place in places {
+        copied.push(copy_place(alloc, place)?)?;
+    }
+    Ok(copied)
+}
+
+fn copy_place(alloc: Global, place: &Option<Name>) -> Result<Option<Name>, AllocError>
+    ensures { IfOk result (λ copied. copied ≡ place.now) }
+{
+    match place {
+        Some(name) => {
+            let name = name.copy(alloc)?;
+            Ok(Some(name))
+        }
+        None => Ok(None),
     }
 }

@@ -1,19 +1,30 @@
-use Rattle.std.proofs.Common.{◌≡◌, ◌+◌, ◌∙◌, ap, sym, cond, true, Bool, List, ℕ, [], ◌∷◌, ◌++◌, bytes_eq, arith, length, length-append}
+use Rattle.std.proofs.Common.{◌≡◌, ◌+◌, ◌∙◌, ap, sym, subst, Option, Some, List, ℕ, [], ◌∷◌, ◌++◌, false, arith, length, length-append}
 use Rattle.pgn_base.specs.Names.{has_name}
-use Rattle.pgn_base.proofs.ListeningLaws.{has-one-more}
+use Rattle.pgn_base.specs.Listening.{Listening, AreThere, AreOnce, listed}
+use Rattle.pgn_base.proofs.ListeningLaws.{there-push, once-push, listed-append}
 use Rattle.pgn_base.proofs.listen_set.ListenSet.add.Goals as goal
 
 pub invariant_of-self : goal.invariant_of-self
 invariant_of-self c =
+    let places = c.self.inside.places.items in
     let put = rw c.unwrap.ensures at c.insert.ensures.updates in
     let here = rw (c.new.ensures, c.as_bytes.ensures.value) at put in
-    let longer : c.push.new.self.items ≡ c.self.inside.channels.items ++ c.args.name ∷ [] = rw c.unwrap-2.ensures at c.push.ensures.items in
-    let grown : length c.push.new.self.items ≡ length c.self.inside.channels.items + 1 = ap length longer ∙ length-append c.self.inside.channels.items (c.args.name ∷ []) in
+    let was = rw c.unwrap.ensures at c.insert.ensures.old in
+    let old = rw (c.new.ensures, c.as_bytes.ensures.value) at was in
+    let size = rw c.unwrap.ensures at c.insert.ensures.len in
+    let absent : has_name (listed places) c.args.name ≡ false = ap (λ (set : Listening). has_name set.channels c.args.name) c.self.view_is ∙ c.requires.absent in
+    let longer : c.push.new.self.items ≡ places ++ Some c.args.name ∷ [] = rw c.unwrap-2.ensures at c.push.ensures.items in
+    let grown : length c.push.new.self.items ≡ length places + 1 = ap length longer ∙ length-append places (Some c.args.name ∷ []) in
+    let there : AreThere (places ++ Some c.args.name ∷ []) c.insert.new.self.entries = there-push places c.args.name _ _ c.len-at.result _ c.self.invariant.there absent (c.len-at.ensures ∙ c.self.inside.places.ok.0) here.0 old size in
     record {
-      found = λ channel. here.0 channel
-          ∙ ap (λ (b : Bool). cond (bytes_eq c.args.name channel) true b) (c.self.invariant.found channel)
-          ∙ has-one-more c.args.name channel c.self.inside.channels.items
-          ∙ ap (λ (names : List (List ℕ)). has_name names channel) (sym longer);
-      listed = omega (arith, grown, c.push.ensures.capacity, c.self.invariant.listed, c.requires.room);
+      there = subst (λ (l : List (Option (List ℕ))). AreThere l c.insert.new.self.entries) (sym longer) there;
+      once = subst (λ (names : List (List ℕ)). AreOnce names) (sym (ap listed longer ∙ listed-append places (Some c.args.name ∷ []))) (once-push (listed places) c.args.name c.self.invariant.once absent);
+      fits = omega (arith, grown, c.push.ensures.capacity, c.self.invariant.fits, c.requires.room);
       indexed = omega (arith, c.insert.ensures.spare, c.self.invariant.indexed, c.requires.room);
     }
+
+pub returns-clause-channels : goal.returns-clause-channels
+returns-clause-channels c =
+    let places = c.self.inside.places.items in
+    let longer : c.push.new.self.items ≡ places ++ Some c.args.name ∷ [] = rw c.unwrap-2.ensures at c.push.ensures.items in
+    ap listed longer ∙ listed-append places (Some c.args.name ∷ []) ∙ ap (λ (set : Listening). set.channels ++ c.args.name ∷ []) c.self.view_is
