@@ -7,7 +7,7 @@ ghost use Rattle.pgn_session.specs.Whole.{HasRest, RestsAt, ComesWith, HasSteppe
 use crate::commit::commit;
 use crate::line::measure;
 use crate::{Doing, Session, Step};
-use pgn_base::{Actions, Command, Copied, Name, Names, Notes, Tag};
+use pgn_base::{Actions, Command, ListenSet, Names, Notes, Tag};
 use pgn_block::{Effect, Kind};
 use pgn_hub::{Hub, PassView};
 use pgn_model::Item;
@@ -35,7 +35,7 @@ impl<P: PassView + Send + Drop> Session<P> {
         ensures refused { OnErr result (HasRefused (H.shape hub.now) P.known self.old doing.Lines self.new) }
     {
         self.items.reserve(3)?;
-        let rows = rows_for(alloc, &command, self.set.names())?;
+        let rows = rows_for(alloc, &command, &self.set)?;
         let effect = self.block.step(command)?;
         match effect {
             Effect::Nothing => Ok(self.show_line(line)),
@@ -171,8 +171,8 @@ struct Rows {
 }
 
 // The rows that a command may ask for. More than a tag can count have no place in memory.
-fn rows_for(alloc: Global, command: &Command, names: &[Name]) -> Result<Rows, AllocError>
-    ensures names { IfOk result (λ rows. command.now ≡ Command.ListeningChannels → rows.names ≡ names.now) }
+fn rows_for(alloc: Global, command: &Command, set: &ListenSet) -> Result<Rows, AllocError>
+    ensures names { IfOk result (λ rows. command.now ≡ Command.ListeningChannels → rows.names ≡ set.now.channels) }
     ensures count { IfOk result (λ rows. rows.count ≡ length rows.names) }
 {
     let Command::ListeningChannels = command else {
@@ -181,10 +181,10 @@ fn rows_for(alloc: Global, command: &Command, names: &[Name]) -> Result<Rows, Al
             count: 0,
         });
     };
-    let Ok(count) = u32::try_from(names.len()) else {
+    let names = set.names(alloc)?;
+    let Ok(count) = u32::try_from(names.as_slice().len()) else {
         return Err(AllocError);
     };
-    let names = copy_names(alloc, names)?;
     Ok(Rows { names, count })
 }
 
@@ -202,15 +202,4 @@ fn show_channels(items: &mut Vec<Item>, line: u32, rows: Rows)
             warning: None,
         })
         .unwrap();
-}
-
-// Names, copied.
-fn copy_names(alloc: Global, names: &[Name]) -> Result<Names, AllocError>
-    ensures { IfOk result (λ copied. copied ≡ names.now) }
-{
-    let mut copied = Names::new(alloc);
-    for name in names {
-        copied.push(name.copy(alloc)?)?;
-    }
-    Ok(copied)
 }

@@ -120,7 +120,7 @@ fn leave_where_empty<P: PassView + Send + Drop, H: Hub<Pass = P>>(
     ensures result { result ≡ is_leaving (P.known pass.old).mark set.now.channels }
     ensures left { HasLeftIf (is_leaving (P.known pass.old).mark set.now.channels) (P.known pass.old) (P.known pass.new) }
 {
-    if pass.mark().is_none() || !set.names().is_empty() {
+    if pass.mark().is_none() || !set.is_empty() {
         return false;
     }
     hub.leave(pass);

@@ -50,7 +50,7 @@ fn all_listened(alloc: Global) -> Result<ListenSet, Fail> {
 fn channels_that_are_listened_to(rt: HostRuntime) -> Result<(), Fail> {
     let alloc = rt.alloc();
     let set = all_listened(alloc)?;
-    assert!(rt; set.names().len() == 6);
+    assert!(rt; set.names(alloc)?.as_slice().len() == 6);
     assert!(rt; found(alloc, &set, &LISTENED)? == 7);
     assert!(rt; found(alloc, &set, &OTHERS)? == 0);
     Ok(())
@@ -72,7 +72,8 @@ fn some_left(alloc: Global) -> Result<ListenSet, Fail> {
 fn channels_in_order_of_listening(rt: HostRuntime) -> Result<(), Fail> {
     let alloc = rt.alloc();
     let set = some_left(alloc)?;
-    let [e, c, _, b] = set.names() else {
+    let names = set.names(alloc)?;
+    let [e, c, _, b] = names.as_slice() else {
         return Err("four channels are left")?;
     };
     assert!(rt; e.as_bytes() == b"e".as_slice());
@@ -94,7 +95,7 @@ fn only_c(alloc: Global) -> Result<ListenSet, Fail> {
 fn channels_after_all_were_left(rt: HostRuntime) -> Result<(), Fail> {
     let alloc = rt.alloc();
     let set = only_c(alloc)?.copy(alloc)?;
-    assert!(rt; set.names().len() == 1);
+    assert!(rt; set.names(alloc)?.as_slice().len() == 1);
     assert!(rt; set.contains(b"c"));
     assert!(rt; found(alloc, &set, &LISTENED)? == 2);
     Ok(())
