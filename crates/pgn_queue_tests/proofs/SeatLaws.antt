@@ -1,5 +1,5 @@
 -- What a look at a seat decides, and where a transaction has moved the head.
-use Rattle.std.proofs.Common.{◌≡◌, ℕ, zero, suc, ◌+◌, ◌-◌, ◌/◌, ◌==◌, nat_le, not, Bool, true, cond, List, [], ◌∷◌, ◌++◌, length, replicate, map, set, get_or, slice_index_or, sym, refl, ap, ◌∙◌, subst, arith}
+use Rattle.std.proofs.Common.{◌≡◌, ℕ, zero, suc, ◌+◌, ◌-◌, ◌/◌, ◌==◌, nat_le, not, Bool, true, cond, List, [], ◌∷◌, length, replicate, map, set, get_or, slice_index_or, sym, refl, ap, ◌∙◌, subst, arith}
 use Rattle.std.proofs.lemmas.List.Elements.{All-nil, All-cons}
 use Rattle.std.proofs.lemmas.Bool.Decides.{nat_tests}
 use Rattle.pgn_hub.specs.declared.setup.SeatSetup.{SeatSetup}

@@ -1,11 +1,11 @@
-use Rattle.std.proofs.Common.{◌≡◌, ℕ, List, [], ◌∷◌, length, get_or, sym, ap, ◌∙◌}
+use Rattle.std.proofs.Common.{◌≡◌, List, length, get_or, sym, ap, ◌∙◌}
 use Rattle.pgn_journal.specs.declared.tx.Fate.TheVariants.{Committed}
 use Rattle.pgn_journal.specs.Packing.{image}
 use Rattle.pgn_journal.specs.Pieces.{draft}
 use Rattle.pgn_hub.specs.Shape.{Shape}
 use Rattle.pgn_words.specs.declared.view.View.{View}
 use Rattle.pgn_words.specs.declared.view.Verdict.{Verdict}
-use Rattle.pgn_words.specs.declared.view.Verdict.TheVariants.{Unseen, Decided}
+use Rattle.pgn_words.specs.declared.view.Verdict.TheVariants.{Decided}
 use Rattle.pgn_words.specs.Passes.{view_of, shape_of}
 use Rattle.pgn_words.specs.Told.{ended_by, fin_stored}
 use Rattle.pgn_queue_tests.proofs.SeatLaws.{dbs_at, stands_behind, db_here, none_seen, first_decided, both_decided}
