@@ -1,9 +1,9 @@
-//! All sessions of a scenario, each on a thread of its own, over one hub.
+//! All sessions of a scenario over one hub, each on a thread of its own, or in turns where threads are few.
 //!
-//! `run_sessions` runs sessions until all are over. `drain` then lets them hear from each other what each was told, and lets each
-//! that still listens read once more. `open_on_hub` opens a hub for a scenario and makes a session for each section. `run_on_hub`
-//! does all that a scenario takes: after that it runs and drains the sessions, gathers their passes and merges their traces. What it
-//! answers is a legal run of the scenario.
+//! `run_sessions` runs sessions until all are over, and `run_in_turns` does so on one thread. `drain` then lets them hear from each
+//! other what each was told, and lets each that still listens read once more. `open_on_hub` opens a hub for a scenario and makes a
+//! session for each section. `run_on_hub` does all that a scenario takes: after that it runs and drains the sessions, gathers their
+//! passes and merges their traces. What it answers is a legal run of the scenario.
 //!
 //! That the sessions run side by side is not said by a contract: a body that runs one after another on one thread meets it too,
 //! where no session awaits another. The law in `laws` leads from sessions that are over and gathered passes to a legal run.
