@@ -57,7 +57,7 @@ returns-in-Query-ListeningChannels-clause-stepped g c =
     subst (λ (e : Effect). HasTaken s.block c.args.command e c.step.new.self) asks (record { gives = c.in_ok-effect.ensures.effect; leads = c.in_ok-effect.ensures.state; leaves = c.in_ok-effect.ensures.list }) in
     let at = subst (λ (d : Doing). IsRested (terms_of shape s.section s.patience) s.plan s.done s.block s.set.channels d (known s.pass) s.items.items) c.requires.place c.requires.rested in
     let asked = channels-asked (terms_of shape s.section s.patience) s.plan s.done s.block c.step.new.self s.set.channels (known s.pass) s.items.items c.args.command at taken in
-    let names : c.in_ok-rows.rows.names ≡ s.set.channels = c.in_ok-rows.ensures.names asked ∙ c.names.ensures in
+    let names : c.in_ok-rows.rows.names ≡ s.set.channels = c.in_ok-rows.ensures.names asked in
     let count : c.in_ok-rows.rows.count ≡ length s.set.channels = c.in_ok-rows.ensures.count ∙ ap (λ (ns : List (List ℕ)). length ns) names in
     told-stepped shape known s c.show_rows.new.self c.args.line c.args.command c.step.new.self e c.show_rows.result c.requires.comes c.requires.place c.requires.rested taken tt
     c.show_rows.ensures.same
