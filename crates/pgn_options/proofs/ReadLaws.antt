@@ -1,0 +1,42 @@
+-- The number that is read of a word.
+use Rattle.std.proofs.Common.{◌≡◌, ◌∙◌, ℕ, ◌<◌, ◌≤◌, ◌&&◌, Bool, true, false, cond, List, Option, Some, None, Result, Ok, Err, is_some, refl, ap, sym, subst, arith}
+use Rattle.std.specs.Prelude.{MatchOption, nat_le}
+use Rattle.std.specs.Str.Parse.{ParsesUnsigned, digits_value, without_leading_plus}
+use Rattle.std.proofs.lemmas.Bool.{leb-true}
+use Rattle.clap.specs.Matches.{ReadsOne, one_text}
+use Rattle.clap.specs.Walk.{one_of, rows_of}
+use Rattle.clap.specs.declared.builder.value_parser.ValueParser.TheVariants.{Unsigned}
+use Rattle.clap.specs.declared.parser.matches.Found.{Found}
+use Rattle.clap.proofs.ValueTestLemmas.{accepts-Accepts}
+use Rattle.clap.proofs.WalkLemmas.{both, one_text-rows}
+use Rattle.pgn_options.specs.Parse.{IsFoundAs}
+use Rattle.pgn_options.specs.Words.{are_digits, number_in}
+use Rattle.pgn_options.proofs.NumberLaws.{accepted}
+
+-- a number is the one that its digits write, and in its range
+pub number-is : (least most : ℕ) (word : List ℕ) (n : ℕ) → number_in least most word ≡ Some n → (digits_value 10 (without_leading_plus word) ≡ n) × (n ≤ most)
+number-is least most word n e =
+    go (are_digits (without_leading_plus word)) (nat_le least (digits_value 10 (without_leading_plus word))) (nat_le (digits_value 10 (without_leading_plus word)) most) refl e
+  where
+    go : (a b c : Bool) → nat_le (digits_value 10 (without_leading_plus word)) most ≡ c
+        → cond (a && (b && c)) (Some (digits_value 10 (without_leading_plus word))) None ≡ Some n → (digits_value 10 (without_leading_plus word) ≡ n) × (n ≤ most)
+    go true true true within is =
+        let same : digits_value 10 (without_leading_plus word) ≡ n = cc in
+        (same, subst (λ (x : ℕ). x ≤ most) same (leb-true _ _ within))
+    go true true false within is = absurd (cc)
+    go true false c within is = absurd (cc)
+    go false b c within is = absurd (cc)
+
+reads : (E : Type 0) (G : List ℕ → Result ℕ E → Type 0) (least most : ℕ) (word : List ℕ) (n : ℕ) (r : Option ℕ) → most ≤ 18446744073709551615
+    → number_in least most word ≡ Some n → ReadsOne G word r → ((u : List ℕ) (x : Result ℕ E) → G u x → ParsesUnsigned 64 10 u x) → r ≡ Some n
+reads E G least most word n (Some v) fits is read only = ap Some ((only word (Ok v) read).1 ∙ (number-is least most word n is).0)
+reads E G least most word n None fits is read only =
+    let passes = accepts-Accepts false (Unsigned least most) word (accepted least most word fits ∙ ap is_some is) in
+    absurd (only word (Err read.0) read.1 (passes.0, passes.1))
+
+pub found-reads : (E : Type 0) (G : List ℕ → Result ℕ E → Type 0) (found : Found) (id : List ℕ) (r : Option ℕ)
+    → (one_text found id ≡ None → r ≡ None) → ((t : List ℕ) → one_text found id ≡ Some t → ReadsOne G t r)
+    → ((u : List ℕ) (x : Result ℕ E) → G u x → ParsesUnsigned 64 10 u x)
+    → (least most : ℕ) (number : Option ℕ) → most ≤ 18446744073709551615 → IsFoundAs least most id (rows_of found) number → r ≡ number
+found-reads E G found id r when_none when_some only least most None fits h = when_none (one_text-rows found id ∙ h)
+found-reads E G found id r when_none when_some only least most (Some n) fits h = reads E G least most h.0 n r fits h.2 (when_some h.0 (one_text-rows found id ∙ h.1)) only

@@ -1,0 +1,225 @@
+-- What `clap` makes of all words is what they ask for.
+use Rattle.std.proofs.Common.{◌≡◌, ◌∙◌, ℕ, ◌==◌, ◌||◌, Bool, true, false, cond, List, [], ◌∷◌, ◌++◌, Option, Some, None, Result, Ok, Err, IfOk, is_some, refl, sym, ap, subst, codes, append_assoc, ◌⊎◌, inl, inr}
+use Rattle.std.specs.Prelude.{fold, option_map, slice_get}
+use Rattle.std.specs.Str.{bytes_eq, chars}
+use Rattle.std.proofs.lemmas.Slice.Eq.{bytes_eq-Decides}
+use Rattle.clap.specs.Kinds.{HasKind, IsAmong, Kinds, or_else}
+use Rattle.clap.specs.Faults.{built_fault, check_fault, defaults_fault, entered_fault, fault_of, flags_fault, is_simple_and_free, settle_fault, turn_fault, walk_fault}
+use Rattle.clap.specs.Walk.{Held, Names, Row, Text, Walk, bundle_met, finished, nothing_held, settled, walk, walk_from, walked}
+use Rattle.clap.specs.Simple.{App, Shape, built, entered, is_simple, subcommand_of}
+use Rattle.clap.specs.Values.{kind_of}
+use Rattle.clap.specs.declared.error.Error.{Error}
+use Rattle.clap.specs.declared.error.kind.ErrorKind.{ErrorKind}
+use Rattle.clap.specs.declared.error.kind.ErrorKind.TheVariants.{MissingSubcommand, OutOfMemory, UnknownArgument, InvalidSubcommand}
+use Rattle.clap.proofs.FaultLemmas.{stopped_fault}
+use Rattle.pgn_options.specs.declared.asked.Asked.{Asked}
+use Rattle.pgn_options.specs.declared.asked.Asked.TheVariants.{Run, Drill}
+use Rattle.pgn_options.specs.declared.reading.WordsFault.{WordsFault}
+use Rattle.pgn_options.specs.declared.reading.WordsFault.TheVariants.{BadWords, Memory}
+use Rattle.pgn_options.specs.Parse.{Finds, FindsDrill, FindsNumbers, FindsOptions, FindsRun, program_app, program_shape}
+use Rattle.pgn_options.specs.Words.{AreNoCommand, AskFor, Options, Pages, Patience, asked_by, command_asked, drill_asked, drill_of, no_options, options_after, run_asked, run_with, without_dashes}
+use Rattle.pgn_options.proofs.TotalLaws.{Agrees, found, or-first, or-none, or-second, total}
+use Rattle.pgn_options.proofs.FormLaws.{Form, IsNoLong, dashes, form, long, plain, short}
+use Rattle.pgn_options.proofs.RunLaws.{IsUsed, Used, none, one, options_for, pages_first, patience_first, rows_for, run-agrees, run_built}
+use Rattle.pgn_options.proofs.DrillLaws.{IsDrill, drill-agrees, drill_built}
+
+abbrev program_built : Shape
+program_built = record program_shape { is_leaf = false; is_built = true }
+
+abbrev app : App
+app = record { top = program_built; subs = run_built ∷ drill_built ∷ [] }
+
+built-is : built program_app ≡ app
+built-is = refl
+
+abbrev names : Names
+names = (codes "run", []) ∷ (codes "drill", []) ∷ []
+
+abbrev start : Walk
+start = walk_from nothing_held
+
+-- no kinds where the words ask for something, which is found; else some
+abbrev pub Comes : Option Asked → Kinds → Option (Text × List Row) → Type 0
+Comes None kinds sub = kinds ≡ [] → ⊥
+Comes (Some asked) kinds sub = (kinds ≡ []) × Finds sub asked
+
+-- A command.
+
+append-nothing : (xs : List Text) → xs ++ [] ≡ xs
+append-nothing [] = refl
+append-nothing (x ∷ xs) = ap (λ (ys : List Text). x ∷ ys) (append-nothing xs)
+
+stopped-walk : (w : Walk) (name : Text) (seen words : List Text)
+    → fold (walked [] names) (record w { stopped = Some (name, seen) }) words ≡ record w { stopped = Some (name, seen ++ words) }
+unfolding walked
+stopped-walk w name seen [] = ap (λ (xs : List Text). record w { stopped = Some (name, xs) }) (sym (append-nothing seen))
+stopped-walk w name seen (word ∷ words) =
+    stopped-walk w name (seen ++ word ∷ []) words ∙ ap (λ (xs : List Text). record w { stopped = Some (name, xs) }) (append_assoc seen (word ∷ []) words)
+
+abbrev below : Kinds → Walk → Kinds
+below kinds w =
+    or_else kinds
+    (or_else (entered_fault app w.stopped)
+    (or_else (settle_fault [] false w.held)
+    (or_else (defaults_fault (settled [] w.held).rows []) (check_fault program_built (finished [] w.held) (is_some (entered app w.stopped))))))
+
+-- the words that follow the name of a command are those of its own
+command-fault : (name : Text) (words : List Text) (s : Shape)
+    → walked [] names start name ≡ record start { stopped = Some (name, []) }
+    → turn_fault program_built names start name ≡ []
+    → below [] (record start { stopped = Some (name, words) }) ≡ or_else (total s start words) []
+    → fault_of program_app (name ∷ words) ≡ total s start words
+unfolding walk_fault
+command-fault name words s comes fine is =
+    let fault : walk_fault program_built names start (name ∷ words) ≡ [] =
+    ap (λ (k : Kinds). or_else k (walk_fault program_built names (walked [] names start name) words)) fine
+    ∙ ap (λ (w : Walk). walk_fault program_built names w words) comes
+    ∙ stopped_fault program_built names start (name, []) words in
+    let there : fold (walked [] names) start (name ∷ words) ≡ record start { stopped = Some (name, words) } =
+    ap (λ (w : Walk). fold (walked [] names) w words) comes ∙ stopped-walk start name [] words in
+    ap (λ (k : Kinds). below k (fold (walked [] names) start (name ∷ words))) fault ∙ ap (λ (w : Walk). below [] w) there ∙ is ∙ or-none (total s start words)
+
+command-found : (name : Text) (words : List Text) → walked [] names start name ≡ record start { stopped = Some (name, []) }
+    → subcommand_of program_app (name ∷ words) ≡ entered app (Some (name, words))
+command-found name words comes =
+    ap (λ (w : Walk). entered app (fold (walked [] names) w words).stopped) comes ∙ ap (λ (w : Walk). entered app w.stopped) (stopped-walk start name [] words)
+
+run-fault : (words : List Text) → fault_of program_app (codes "run" ∷ words) ≡ total run_built start words
+unfolding walked walk_fault defaults_fault
+run-fault words = command-fault (codes "run") words run_built refl refl refl
+
+run-found : (words : List Text) → subcommand_of program_app (codes "run" ∷ words) ≡ Some (codes "run", found run_built start words)
+unfolding walked
+run-found words = command-found (codes "run") words refl
+
+drill-fault : (words : List Text) → fault_of program_app (codes "drill" ∷ words) ≡ total drill_built start words
+unfolding walked walk_fault defaults_fault
+drill-fault words = command-fault (codes "drill") words drill_built refl refl refl
+
+drill-found : (words : List Text) → subcommand_of program_app (codes "drill" ∷ words) ≡ Some (codes "drill", found drill_built start words)
+unfolding walked
+drill-found words = command-found (codes "drill") words refl
+
+-- What is found of it.
+
+options-found : (now : Used) → FindsOptions (rows_for now) (options_for now)
+options-found none = record { pages = refl; patience = refl }
+options-found (one Pages word n e) = record { pages = (word, refl, e); patience = refl }
+options-found (one Patience word n e) = record { pages = refl; patience = (word, refl, e) }
+options-found (pages_first a n e b m d) = record { pages = (a, refl, e); patience = (b, refl, d) }
+options-found (patience_first a n e b m d) = record { pages = (b, refl, d); patience = (a, refl, e) }
+
+run-comes : (words : List Text) → Comes (run_asked words) (fault_of program_app (codes "run" ∷ words)) (subcommand_of program_app (codes "run" ∷ words))
+run-comes words = go (options_after words no_options None) _ _ _ (run-fault words) (run-found words) (run-agrees words)
+  where
+    go : (o : Option Options) (kinds : Kinds) (sub : Option (Text × List Row)) (rows : List Row) → kinds ≡ total run_built start words → sub ≡ Some (codes "run", rows)
+        → Agrees IsUsed o (total run_built start words) rows → Comes (option_map run_with o) kinds sub
+    go None kinds sub rows k s h = λ e. h (sym k ∙ e)
+    go (Some given) kinds sub rows k s h =
+        let options : FindsOptions rows (options_for h.1.0) = subst (λ (r : List Row). FindsOptions r (options_for h.1.0)) (sym h.1.1) (options-found h.1.0) in
+        let given_options = subst (λ (g : Options). FindsOptions rows g) h.1.2 options in
+        (k ∙ h.0, subst (λ (x : Option (Text × List Row)). Finds x (run_with given)) (sym s) (FindsRun rows given given_options))
+
+drill-comes : (words : List Text) → Comes (drill_asked words) (fault_of program_app (codes "drill" ∷ words)) (subcommand_of program_app (codes "drill" ∷ words))
+drill-comes words = go (drill_of (without_dashes words)) _ _ _ (drill-fault words) (drill-found words) (drill-agrees words)
+  where
+    go : (o : Option Asked) (kinds : Kinds) (sub : Option (Text × List Row)) (rows : List Row) → kinds ≡ total drill_built start words → sub ≡ Some (codes "drill", rows)
+        → Agrees IsDrill o (total drill_built start words) rows → Comes o kinds sub
+    go None kinds sub rows k s h = λ e. h (sym k ∙ e)
+    go (Some (Run pages patience)) kinds sub rows k s h = absurd h.1
+    go (Some (Drill seed sessions notes)) kinds sub rows k s h =
+        let there : FindsNumbers rows seed sessions notes =
+        subst (λ (r : List Row). FindsNumbers r seed sessions notes) (sym h.1.3)
+        (record { first = (h.1.0, refl, h.1.4); second = (h.1.1, refl, h.1.5); third = (h.1.2, refl, h.1.6) }) in
+        (k ∙ h.0, subst (λ (x : Option (Text × List Row)). Finds x (Drill seed sessions notes)) (sym s) (FindsDrill rows seed sessions notes there))
+
+-- Other first words.
+
+nothing-fault : fault_of program_app [] ≡ MissingSubcommand ∷ []
+unfolding walk_fault defaults_fault
+nothing-fault = refl
+
+walk-first : (words : List Text) → fault_of program_app words ≡ [] → walk_fault program_built names start words ≡ []
+walk-first words e = or-first _ _ e
+
+walk-parts : (x : Walk) (w : Text) (words : List Text) → walk_fault program_built names x (w ∷ words) ≡ []
+    → (turn_fault program_built names x w ≡ []) × (walk_fault program_built names (walked [] names x w) words ≡ [])
+unfolding walk_fault
+walk-parts x w words e =
+    (or-first (turn_fault program_built names x w) (walk_fault program_built names (walked [] names x w) words) e,
+    or-second (turn_fault program_built names x w) (walk_fault program_built names (walked [] names x w) words) e)
+
+dashes-walk : walked [] names start (45 ∷ 45 ∷ []) ≡ record start { is_trailing = true }
+unfolding walked
+dashes-walk = refl
+
+dashes-fault : (words : List Text) → fault_of program_app ((45 ∷ 45 ∷ []) ∷ words) ≡ [] → ⊥
+unfolding walked walk_fault defaults_fault
+dashes-fault [] e = cc
+dashes-fault (word ∷ words) e =
+    let rest = (walk-parts start (45 ∷ 45 ∷ []) (word ∷ words) (walk-first ((45 ∷ 45 ∷ []) ∷ word ∷ words) e)).1 in
+    let there : walk_fault program_built names (record start { is_trailing = true }) (word ∷ words) ≡ [] = subst (λ (x : Walk). walk_fault program_built names x (word ∷ words) ≡ []) dashes-walk rest in
+    let turn : UnknownArgument ∷ InvalidSubcommand ∷ [] ≡ [] = (walk-parts (record start { is_trailing = true }) word words there).0 in
+    cc
+
+module _ (words : List Text) where
+  turn-wrong : (w : Text) → (turn_fault program_built names start w ≡ [] → ⊥) → fault_of program_app (w ∷ words) ≡ [] → ⊥
+  turn-wrong w wrong e = wrong (walk-parts start w words (walk-first (w ∷ words) e)).0
+
+  other-wrong : (w : Text) → Form w → bytes_eq (codes "run") w ≡ false → bytes_eq (codes "drill") w ≡ false → fault_of program_app (w ∷ words) ≡ [] → ⊥
+  unfolding flags_fault bundle_met
+  other-wrong _ (plain w apart s) run drill =
+      turn-wrong w (λ e. let is : turn_fault program_built names start w ≡ UnknownArgument ∷ InvalidSubcommand ∷ [] = rw (run, drill, apart.not_dashes, apart.no_long, s) refl in cc)
+  other-wrong _ (short y ys differs) run drill = turn-wrong (45 ∷ y ∷ ys) (go (slice_get (chars (y ∷ ys)) 0) refl)
+    where
+      go : (o : Option ℕ) → slice_get (chars (y ∷ ys)) 0 ≡ o → turn_fault program_built names start (45 ∷ y ∷ ys) ≡ [] → ⊥
+      go None c e = let is : turn_fault program_built names start (45 ∷ y ∷ ys) ≡ UnknownArgument ∷ InvalidSubcommand ∷ [] = rw (differs, differs, c) refl in cc
+      go (Some x) c e = let is : turn_fault program_built names start (45 ∷ y ∷ ys) ≡ UnknownArgument ∷ [] = rw (differs, differs, c) refl in cc
+  other-wrong _ dashes run drill = dashes-fault words
+  other-wrong _ (long z zs) run drill = turn-wrong (45 ∷ 45 ∷ z ∷ zs) (λ e. let bad : UnknownArgument ∷ [] ≡ [] = e in cc)
+
+words-come : (words : List Text) → Comes (asked_by words) (fault_of program_app words) (subcommand_of program_app words)
+words-come [] = λ e. let bad = sym nothing-fault ∙ e in cc
+words-come (w ∷ words) = go (bytes_eq (codes "run") w) (bytes_eq (codes "drill") w) refl refl
+  where
+    go : (a b : Bool) → bytes_eq (codes "run") w ≡ a → bytes_eq (codes "drill") w ≡ b
+        → Comes (cond a (run_asked words) (cond b (drill_asked words) None)) (fault_of program_app (w ∷ words)) (subcommand_of program_app (w ∷ words))
+    go true b e d =
+        subst (λ (x : Text). Comes (run_asked words) (fault_of program_app (x ∷ words)) (subcommand_of program_app (x ∷ words)))
+        ((bytes_eq-Decides (codes "run") w).0 e) (run-comes words)
+    go false true e d =
+        subst (λ (x : Text). Comes (drill_asked words) (fault_of program_app (x ∷ words)) (subcommand_of program_app (x ∷ words)))
+        ((bytes_eq-Decides (codes "drill") w).0 d) (drill-comes words)
+    go false false e d = other-wrong words w (form w) e d
+
+-- What a parse answers.
+
+came : (o : Option Asked) (kinds : Kinds) (sub : Option (Text × List Row)) (r : Result Asked WordsFault) → Comes o kinds sub → kinds ≡ []
+    → ((asked : Asked) → Finds sub asked → r ≡ Ok asked) → IfOk r (λ asked. o ≡ Some asked) × (r ≡ Err BadWords → o ≡ None)
+came None kinds sub r comes fine gives = absurd (comes fine)
+came (Some asked) kinds sub r comes fine gives =
+    let is = gives asked comes.1 in
+    (subst (λ (x : Result Asked WordsFault). IfOk x (λ a. Some asked ≡ Some a)) (sym is) refl, λ e. let bad : Ok asked ≡ Err BadWords = sym is ∙ e in absurd (cc))
+
+refuses : (o : Option Asked) (kinds : Kinds) (sub : Option (Text × List Row)) (k : ErrorKind) → Comes o kinds sub → IsAmong k kinds → o ≡ None
+refuses None kinds sub k comes among = refl
+refuses (Some asked) kinds sub k comes among = absurd (subst (λ (x : Kinds). IsAmong k x) comes.0 among)
+
+simple : is_simple_and_free program_app ≡ true
+simple = refl
+
+module _ (a : App) (is : a ≡ program_app) (words : List Text) where
+  pub parsed : (sub : Option (Text × List Row)) (r : Result Asked WordsFault) → (is_simple_and_free a ≡ true → fault_of a words ≡ [])
+      → (is_simple a ≡ true → sub ≡ subcommand_of a words)
+      → ((asked : Asked) → Finds sub asked → r ≡ Ok asked) → IfOk r (AskFor words) × (r ≡ Err BadWords → AreNoCommand words)
+  parsed sub r fine finds gives =
+      let none : fault_of program_app words ≡ [] = ap (λ (x : App). fault_of x words) (sym is) ∙ fine (ap is_simple_and_free is ∙ simple) in
+      let there : sub ≡ subcommand_of program_app words = finds (ap is_simple is) ∙ ap (λ (x : App). subcommand_of x words) is in
+      came (asked_by words) _ sub r (subst (λ (x : Option (Text × List Row)). Comes (asked_by words) (fault_of program_app words) x) (sym there) (words-come words)) none gives
+
+  pub unparsed : (e : Error) (w : WordsFault) → (is_simple_and_free a ≡ true → HasKind (fault_of a words) e) → (kind_of e ≡ OutOfMemory → w ≡ Memory)
+      → w ≡ BadWords → AreNoCommand words
+  unparsed e w fails memory bad = elim (fails (ap is_simple_and_free is ∙ simple)) [
+    | inl out ↦ let other : Memory ≡ BadWords = sym (memory out) ∙ bad in absurd (cc)
+    | inr among ↦ refuses (asked_by words) _ _ (kind_of e) (words-come words) (subst (λ (x : App). IsAmong (kind_of e) (fault_of x words)) is among)
+  ]

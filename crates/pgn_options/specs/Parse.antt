@@ -1,0 +1,71 @@
+-- The command that `clap` parses words with, and what is found of them.
+use Rattle.std.specs.Prelude.{◌≡◌, ℕ, Bool, true, false, List, [], ◌∷◌, Option, None, Some, MatchOption, codes}
+use Rattle.clap.specs.declared.builder.action.ArgAction.TheVariants.{Set}
+use Rattle.clap.specs.declared.builder.value_parser.ValueParser.{ValueParser}
+use Rattle.clap.specs.declared.builder.value_parser.ValueParser.TheVariants as parser
+use Rattle.clap.specs.Walk.{Row, Rule, Text, one_of}
+use Rattle.clap.specs.Simple.{App, Shape, new_app, new_rule, with_rule, with_subcommand}
+use Rattle.pgn_base.specs.declared.limits.TheConstants.{PAGES_MIN, PAGES_MAX}
+use Rattle.pgn_options.specs.declared.asked.Asked.{Asked}
+use Rattle.pgn_options.specs.declared.asked.Asked.TheVariants.{Run, Drill}
+use Rattle.pgn_options.specs.declared.limits.TheConstants.{DRILL_NOTES_MAX, DRILL_SESSIONS_MAX, PATIENCE_MAX}
+use Rattle.pgn_options.specs.Words.{Options, number_in, run_with}
+
+-- the greatest seed
+abbrev pub seed_max : ℕ
+seed_max = 18446744073709551615
+
+-- an option that takes a number
+abbrev pub option_rule : Text → ValueParser → Rule
+option_rule name numbers = record (new_rule name) { long = Some name; action = Some Set; parser = Some numbers }
+
+-- a word that has to be there, and is a number
+abbrev pub word_rule : Text → ValueParser → Rule
+word_rule name numbers = record (new_rule name) { action = Some Set; parser = Some numbers; required = true }
+
+-- `run`
+abbrev pub run_app : App
+run_app =
+    with_rule (with_rule (new_app (codes "run")) (option_rule (codes "pages") (parser.Unsigned PAGES_MIN PAGES_MAX)))
+    (option_rule (codes "patience") (parser.Unsigned 1 PATIENCE_MAX))
+
+-- `drill`
+abbrev pub drill_app : App
+drill_app =
+    with_rule (with_rule (with_rule (new_app (codes "drill")) (word_rule (codes "seed") (parser.Unsigned 0 seed_max)))
+    (word_rule (codes "sessions") (parser.Unsigned 1 DRILL_SESSIONS_MAX)))
+    (word_rule (codes "notes") (parser.Unsigned 1 DRILL_NOTES_MAX))
+
+-- the program: it has no words of its own, and one of these two has to follow
+abbrev pub program_shape : Shape
+program_shape = record (new_app (codes "pgnotify")).top {
+  no_binary_name = true;
+  disable_help_flag = true;
+  disable_help_subcommand = true;
+  subcommand_required = true;
+}
+
+-- the program with its commands
+abbrev pub program_app : App
+program_app = with_subcommand (with_subcommand (record { top = program_shape; subs = [] }) run_app.top) drill_app.top
+
+-- a number was found for an argument, or none was
+abbrev pub IsFoundAs : ℕ → ℕ → Text → List Row → Option ℕ → Type 0
+IsFoundAs least most name rows number =
+    MatchOption number (one_of name rows ≡ None) (λ n. (word : Text) × (one_of name rows ≡ Some word) × (number_in least most word ≡ Some n))
+
+-- the options of `run` that were found
+pub record FindsOptions (rows : List Row) (given : Options) : Type 0 where
+  pub pages : IsFoundAs PAGES_MIN PAGES_MAX (codes "pages") rows given.pages
+  pub patience : IsFoundAs 1 PATIENCE_MAX (codes "patience") rows given.patience
+
+-- the numbers of a drill that were found
+pub record FindsNumbers (rows : List Row) (seed sessions notes : ℕ) : Type 0 where
+  pub first : IsFoundAs 0 seed_max (codes "seed") rows (Some seed)
+  pub second : IsFoundAs 1 DRILL_SESSIONS_MAX (codes "sessions") rows (Some sessions)
+  pub third : IsFoundAs 1 DRILL_NOTES_MAX (codes "notes") rows (Some notes)
+
+-- a command was found, and asks for this
+pub data Finds : Option (Text × List Row) → Asked → Type 0 where
+  FindsRun : (rows : List Row) (given : Options) → FindsOptions rows given → Finds (Some (codes "run", rows)) (run_with given)
+  FindsDrill : (rows : List Row) (seed sessions notes : ℕ) → FindsNumbers rows seed sessions notes → Finds (Some (codes "drill", rows)) (Drill seed sessions notes)

@@ -1,0 +1,8 @@
+/// What the words of the command line ask for.
+#[derive(Clone, Copy, Debug, PartialEq, Eq)]
+pub enum Asked {
+    /// To run the scenario that is read: with so many pages at most, where an await takes so many looks.
+    Run { pages: u32, patience: u64 },
+    /// To run a scenario that is made from a seed: so many sessions, and so many notifications of each.
+    Drill { seed: u64, sessions: u32, notes: u32 },
+}

@@ -1,0 +1,103 @@
+ghost use Rattle.std.specs.Prelude.{◌≡◌, false, None, Some, IfOk, pos};
+ghost use Rattle.clap.specs.Simple.{app_of};
+ghost use Rattle.clap.specs.Walk.{rule_of};
+ghost use Rattle.clap.specs.declared.builder.command.Command.TheViews.{out-Command};
+ghost use Rattle.clap.specs.declared.builder.value_parser.ValueParser.TheVariants.{Unsigned};
+ghost use Rattle.pgn_options.specs.Parse.{drill_app, option_rule, program_app, run_app, seed_max, word_rule};
+ghost use Rattle.pgn_base.specs.declared.limits.TheConstants.{PAGES_MAX, PAGES_MIN};
+ghost use Rattle.pgn_options.specs.declared.limits.TheConstants.{DRILL_NOTES_MAX, DRILL_SESSIONS_MAX, PATIENCE_MAX};
+
+use crate::{DRILL_NOTES_MAX, DRILL_SESSIONS_MAX, PATIENCE_MAX};
+use clap::builder::ValueParser;
+use clap::{Arg, ArgAction, Command, value_parser};
+use pgn_base::{PAGES_MAX, PAGES_MIN};
+use std::alloc::{AllocError, Global};
+
+/// The command that words are parsed with.
+pub(crate) fn command<'a>(alloc: Global) -> Result<Command<'a>, AllocError>
+    ensures { IfOk result (λ command. app_of command ≡ program_app) }
+{
+    let run = run(alloc)?;
+    let drill = drill(alloc)?;
+    let command = Command::new(alloc, "pgnotify")
+        .no_binary_name(true)
+        .disable_help_flag(true)
+        .disable_help_subcommand(true)
+        .subcommand_required(true);
+    let command = command.subcommand(run)?;
+    let command = command.subcommand(drill)?;
+    Ok(command)
+}
+
+fn run<'a>(alloc: Global) -> Result<Command<'a>, AllocError>
+    ensures app { IfOk result (λ command. app_of command ≡ run_app) }
+    ensures local { IfOk result (λ command. (out-Command command).has_globals ≡ false) }
+{
+    let command = Command::new(alloc, "run");
+    let command = command.arg(option(alloc, "pages", pages()))?;
+    let command = command.arg(option(alloc, "patience", patience()))?;
+    Ok(command)
+}
+
+fn drill<'a>(alloc: Global) -> Result<Command<'a>, AllocError>
+    ensures app { IfOk result (λ command. app_of command ≡ drill_app) }
+    ensures local { IfOk result (λ command. (out-Command command).has_globals ≡ false) }
+{
+    let command = Command::new(alloc, "drill");
+    let command = command.arg(word(alloc, "seed", seed()))?;
+    let command = command.arg(word(alloc, "sessions", sessions()))?;
+    let command = command.arg(word(alloc, "notes", notes()))?;
+    Ok(command)
+}
+
+fn pages<'a>() -> ValueParser<'a>
+    ensures { result ≡ Unsigned PAGES_MIN PAGES_MAX }
+{
+    value_parser!(u64).range(PAGES_MIN as i64..=PAGES_MAX as i64)
+}
+
+fn patience<'a>() -> ValueParser<'a>
+    ensures { result ≡ Unsigned 1 PATIENCE_MAX }
+{
+    value_parser!(u64).range(1..=PATIENCE_MAX as i64)
+}
+
+fn seed<'a>() -> ValueParser<'a>
+    ensures { result ≡ Unsigned 0 seed_max }
+{
+    value_parser!(u64)
+}
+
+fn sessions<'a>() -> ValueParser<'a>
+    ensures { result ≡ Unsigned 1 DRILL_SESSIONS_MAX }
+{
+    value_parser!(u64).range(1..=DRILL_SESSIONS_MAX as i64)
+}
+
+fn notes<'a>() -> ValueParser<'a>
+    ensures { result ≡ Unsigned 1 DRILL_NOTES_MAX }
+{
+    value_parser!(u64).range(1..=DRILL_NOTES_MAX as i64)
+}
+
+// An option that takes a number.
+fn option<'a>(alloc: Global, name: &'a str, numbers: ValueParser<'a>) -> Arg<'a>
+    ensures rule { rule_of result ≡ option_rule name.now numbers.entry }
+    ensures local { result.global ≡ false }
+{
+    Arg::new(alloc, name)
+        .long(name)
+        .action(ArgAction::Set)
+        .value_parser(numbers)
+}
+
+// A word that has to be there, and is a number.
+fn word<'a>(alloc: Global, name: &'a str, numbers: ValueParser<'a>) -> Arg<'a>
+    ensures rule { rule_of result ≡ word_rule name.now numbers.entry }
+    ensures local { result.global ≡ false }
+{
+    Arg::new(alloc, name)
+        .required(true)
+        .action(ArgAction::Set)
+        .value_parser(numbers)
+}

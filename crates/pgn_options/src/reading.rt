@@ -1,0 +1,107 @@
+ghost use Rattle.std.specs.Prelude.{◌≡◌, ◌≢◌, ◌≤◌, ◌<◌, ℕ, List, Option, Ok, Some, None, Err, map, IfOk, option_map};
+ghost use Rattle.clap.specs.Matches.{found_of};
+ghost use Rattle.clap.specs.Walk.{one_of, rows_of};
+ghost use Rattle.clap.specs.Simple.{subcommand_rows_of};
+ghost use Rattle.clap.specs.declared.error.kind.ErrorKind.TheVariants.{OutOfMemory};
+ghost use Rattle.pgn_options.specs.declared.asked.Asked.{Asked};
+ghost use Rattle.pgn_options.specs.declared.asked.Asked.TheVariants.{Drill};
+ghost use Rattle.pgn_options.specs.Parse.{Finds, FindsNumbers, FindsOptions, IsFoundAs};
+ghost use Rattle.pgn_options.specs.Words.{AreNoCommand, AskFor, Options, number_in, run_with};
+
+use crate::Asked;
+use crate::command::command;
+use clap::ArgMatches;
+use clap::error::ErrorKind;
+use pgn_base::{PAGES_DEFAULT, PATIENCE_DEFAULT};
+use std::alloc::{AllocError, Global};
+
+/// Why words are not read.
+#[derive(Clone, Copy, Debug, PartialEq, Eq)]
+pub enum WordsFault {
+    /// They are no command.
+    BadWords,
+    Memory,
+}
+
+/// What words ask for, those after the program's name.
+pub fn read_words<'a>(alloc: Global, words: &'a [&'a str]) -> Result<Asked, WordsFault>
+    ensures asked { IfOk result (λ asked. AskFor (map (λ word. word.now) words.now) asked) }
+    ensures bad_words { result ≡ Err WordsFault.BadWords → AreNoCommand (map (λ word. word.now) words.now) }
+{
+    let command = match command(alloc) {
+        Ok(command) => command,
+        Err(AllocError) => return Err(WordsFault::Memory),
+    };
+    match command.try_get_matches_from(words) {
+        Ok(matches) => asked_of(&matches),
+        Err(error) => Err(fault_of(error.kind())),
+    }
+}
+
+// Why words were refused by this kind of error.
+fn fault_of(kind: ErrorKind) -> WordsFault
+    ensures { kind ≡ OutOfMemory → result ≡ WordsFault.Memory }
+{
+    match kind {
+        ErrorKind::OutOfMemory => WordsFault::Memory,
+        _ => WordsFault::BadWords,
+    }
+}
+
+// What a command that was found asks for.
+fn asked_of(matches: &ArgMatches<'_>) -> Result<Asked, WordsFault>
+    ensures { (asked : Asked) → Finds (subcommand_rows_of matches.now) asked → result ≡ Ok asked }
+{
+    let Some((name, found)) = matches.subcommand() else {
+        return Err(WordsFault::BadWords);
+    };
+    if name == "run" {
+        Ok(run_of(found))
+    } else {
+        drill_of(found)
+    }
+}
+
+fn run_of(found: &ArgMatches<'_>) -> Asked
+    ensures { (given : Options) → FindsOptions (rows_of (found_of found.now)) given → result ≡ run_with given }
+{
+    let pages = match number_of(found, "pages") {
+        Some(pages) => small(pages),
+        None => PAGES_DEFAULT,
+    };
+    let patience = number_of(found, "patience").unwrap_or(PATIENCE_DEFAULT);
+    Asked::Run { pages, patience }
+}
+
+fn drill_of(found: &ArgMatches<'_>) -> Result<Asked, WordsFault>
+    ensures { (seed sessions notes : ℕ) → FindsNumbers (rows_of (found_of found.now)) seed sessions notes → result ≡ Ok (Drill seed sessions notes) }
+{
+    let Some(seed) = number_of(found, "seed") else {
+        return Err(WordsFault::BadWords);
+    };
+    let Some(sessions) = number_of(found, "sessions") else {
+        return Err(WordsFault::BadWords);
+    };
+    let Some(notes) = number_of(found, "notes") else {
+        return Err(WordsFault::BadWords);
+    };
+    Ok(Asked::Drill {
+        seed,
+        sessions: small(sessions),
+        notes: small(notes),
+    })
+}
+
+// The number that was found for an argument, if one was.
+fn number_of(found: &ArgMatches<'_>, id: &str) -> Option<u64>
+    ensures { (least most : ℕ) (number : Option ℕ) → most ≤ 18446744073709551615 → IsFoundAs least most id.now (rows_of (found_of found.now)) number → result ≡ number }
+{
+    found.get_one::<u64>(id)
+}
+
+// A number of 32 bits, as it is.
+fn small(number: u64) -> u32
+    ensures { number ≤ 4294967295 → result ≡ number }
+{
+    u32::try_from(number).unwrap_or(u32::MAX)
+}
