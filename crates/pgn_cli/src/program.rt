@@ -1,9 +1,10 @@
-ghost use Rattle.std.specs.Prelude.{◌≡◌, ◌≢◌, ◌<◌, map, string_bytes, Err, IfOk, IfSome};
+ghost use Rattle.std.specs.Prelude.{◌≡◌, ◌≢◌, ◌<◌, map, string_bytes, Err, IfOk, IfSome, IsOkAnd};
 ghost use Rattle.std.specs.Io.KnownBytes.{Appends};
 ghost use Rattle.pgn_base.specs.Outside.{AppendsPrefix, Rose};
 ghost use Rattle.pgn_language.specs.declared.scenario.ScenarioFault.{ScenarioFault};
 ghost use Rattle.pgn_language.specs.Inputs.{ReadsAsScenario};
-ghost use Rattle.pgn_run.specs.Run.{Runs, run_words};
+ghost use Rattle.pgn_options.specs.Words.{AreNoCommand};
+ghost use Rattle.pgn_run.specs.Run.{Performs};
 ghost use Rattle.pgn_cli.specs.Program.{Ends, IsRefused, NamesFault};
 
 use crate::fault_line::fault_line;
@@ -25,18 +26,18 @@ pub fn program<S: Source, K: Sink, E: Sink, R: Threads + Wait + Sync>(
     errors: &mut E,
 ) -> u8
     ensures ends { Ends result (E.held errors.old) (E.held errors.new) (E.faults errors.old) (E.faults errors.new) }
-    ensures done { result ≡ 0 → IfSome (S.left source.old) (λ input. Runs input (Appends (K.held sink.old) (K.held sink.new))) }
+    ensures done { result ≡ 0 → IsOkAnd words (λ words. Performs (map string_bytes words.items) (S.left source.old) (Appends (K.held sink.old) (K.held sink.new))) }
     ensures bad_scenario { result ≡ 3 → IfSome (S.left source.old) (NamesFault (E.held errors.old) (E.held errors.new)) }
     ensures read_fault { result ≡ 4 → Rose (S.faults source.old) (S.faults source.new) }
     ensures read_fault_where_due { S.faults source.old < S.faults source.new → result ≡ 4 }
     ensures write_fault { result ≡ 5 → Rose (K.faults sink.old) (K.faults sink.new) }
     ensures write_fault_where_due { K.faults sink.old < K.faults sink.new → result ≡ 5 }
-    ensures write_fault_writes_a_prefix { result ≡ 5 → IfSome (S.left source.old) (λ input. Runs input (AppendsPrefix (K.held sink.old) (K.held sink.new))) }
+    ensures write_fault_writes_a_prefix { result ≡ 5 → IsOkAnd words (λ words. Performs (map string_bytes words.items) (S.left source.old) (AppendsPrefix (K.held sink.old) (K.held sink.new))) }
     ensures refused_writes_nothing { result ≢ 0 → result ≢ 5 → K.held sink.new ≡ K.held sink.old }
     ensures no_memory { words ≡ Err NoWords.Memory → result ≡ 6 }
     ensures not_text { words ≡ Err NoWords.NotText → result ≡ 2 }
-    ensures right_words { IfOk words (λ words. result ≡ 2 → map string_bytes words.items ≢ run_words) }
-    ensures other_words { IfOk words (λ words. map string_bytes words.items ≢ run_words → result ≢ 6 → result ≡ 2) }
+    ensures right_words { IfOk words (λ words. result ≡ 2 → AreNoCommand (map string_bytes words.items)) }
+    ensures other_words { IfOk words (λ words. AreNoCommand (map string_bytes words.items) → result ≢ 6 → result ≡ 2) }
 {
     let status = status_of(rt, alloc, words, source, sink);
     let _ = fault_line(errors, &status);
@@ -51,18 +52,18 @@ fn status_of<S: Source, K: Sink, R: Threads + Wait + Sync>(
     source: &mut S,
     sink: &mut K,
 ) -> Status
-    ensures done { result ≡ Status.Done → IfSome (S.left source.old) (λ input. Runs input (Appends (K.held sink.old) (K.held sink.new))) }
+    ensures done { result ≡ Status.Done → IsOkAnd words (λ words. Performs (map string_bytes words.items) (S.left source.old) (Appends (K.held sink.old) (K.held sink.new))) }
     ensures bad_scenario { (fault : ScenarioFault) → result ≡ Status.BadScenario fault → IfSome (S.left source.old) (λ input. ReadsAsScenario input (Err fault)) }
     ensures read_fault { result ≡ Status.ReadFault → Rose (S.faults source.old) (S.faults source.new) }
     ensures read_fault_where_due { S.faults source.old < S.faults source.new → result ≡ Status.ReadFault }
     ensures write_fault { result ≡ Status.WriteFault → Rose (K.faults sink.old) (K.faults sink.new) }
     ensures write_fault_where_due { K.faults sink.old < K.faults sink.new → result ≡ Status.WriteFault }
-    ensures write_fault_writes_a_prefix { result ≡ Status.WriteFault → IfSome (S.left source.old) (λ input. Runs input (AppendsPrefix (K.held sink.old) (K.held sink.new))) }
+    ensures write_fault_writes_a_prefix { result ≡ Status.WriteFault → IsOkAnd words (λ words. Performs (map string_bytes words.items) (S.left source.old) (AppendsPrefix (K.held sink.old) (K.held sink.new))) }
     ensures refused_writes_nothing { IsRefused result → K.held sink.new ≡ K.held sink.old }
     ensures no_memory { words ≡ Err NoWords.Memory → result ≡ Status.NoMemory }
     ensures not_text { words ≡ Err NoWords.NotText → result ≡ Status.BadWords }
-    ensures right_words { IfOk words (λ words. result ≡ Status.BadWords → map string_bytes words.items ≢ run_words) }
-    ensures other_words { IfOk words (λ words. map string_bytes words.items ≢ run_words → result ≢ Status.NoMemory → result ≡ Status.BadWords) }
+    ensures right_words { IfOk words (λ words. result ≡ Status.BadWords → AreNoCommand (map string_bytes words.items)) }
+    ensures other_words { IfOk words (λ words. AreNoCommand (map string_bytes words.items) → result ≢ Status.NoMemory → result ≡ Status.BadWords) }
 {
     let words = match words {
         Ok(words) => words,

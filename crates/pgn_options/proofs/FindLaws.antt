@@ -1,6 +1,6 @@
 -- What a command that was found asks for.
-use Rattle.std.proofs.Common.{◌≡◌, ◌∙◌, ℕ, Bool, true, false, List, Option, Some, None, Result, Ok, Err, refl, ap, sym, subst, codes}
-use Rattle.std.specs.Prelude.{Box, option_map}
+use Rattle.std.proofs.Common.{◌≡◌, ◌∙◌, ℕ, ◌≤◌, Bool, true, false, List, Option, Some, None, Result, Ok, Err, refl, ap, sym, subst, codes, arith}
+use Rattle.std.specs.Prelude.{Box, option_map, unwrap_or}
 use Rattle.std.specs.Box.{box_value}
 use Rattle.std.specs.Str.{bytes_eq}
 use Rattle.std.proofs.lemmas.Slice.Eq.{bytes_eq-Decides}
@@ -13,7 +13,9 @@ use Rattle.clap.specs.declared.parser.matches.SubCommand.{SubCommand}
 use Rattle.pgn_options.specs.declared.asked.Asked.{Asked}
 use Rattle.pgn_options.specs.declared.asked.Asked.TheVariants.{Drill}
 use Rattle.pgn_options.specs.declared.reading.WordsFault.{WordsFault}
-use Rattle.pgn_options.specs.Parse.{Finds, FindsDrill, FindsNumbers, FindsRun}
+use Rattle.pgn_options.specs.Parse.{Finds, FindsDrill, FindsNumbers, FindsRun, IsFoundAs}
+use Rattle.pgn_options.specs.Words.{IsWithin}
+use Rattle.pgn_options.proofs.ReadLaws.{number-is}
 
 -- the name of what was found
 pub name-of : (m : ArgMatches) → subcommand_name_of m ≡ option_map (λ p. p.0) (subcommand_rows_of m)
@@ -34,3 +36,21 @@ finds-drill _ _ name rows r (FindsRun there given f) named has other gives =
 finds-drill _ _ name rows r (FindsDrill there seed sessions notes f) named has other gives =
     let same : there ≡ rows = cc in
     gives seed sessions notes (subst (λ (x : List Row). FindsNumbers x seed sessions notes) same f)
+
+-- the numbers of what was found are those that a command may give
+pub finds-within : (s : Option (Text × List Row)) (asked : Asked) → Finds s asked → IsWithin asked
+finds-within _ _ (FindsRun rows given f) = run given.pages given.patience f.pages f.patience
+  where
+    run : (pages patience : Option ℕ) → IsFoundAs 2 1024 (codes "pages") rows pages → IsFoundAs 1 1000000000 (codes "patience") rows patience
+        → (2 ≤ unwrap_or pages 256) × (unwrap_or pages 256 ≤ 1024) × (1 ≤ unwrap_or patience 10000000) × (unwrap_or patience 10000000 ≤ 1000000000)
+    run None None h k = (omega arith, omega arith, omega arith, omega arith)
+    run (Some n) None h k = let a = number-is 2 1024 h.0 n h.2 in (a.2, a.1, omega arith, omega arith)
+    run None (Some m) h k = let b = number-is 1 1000000000 k.0 m k.2 in (omega arith, omega arith, b.2, b.1)
+    run (Some n) (Some m) h k =
+        let a = number-is 2 1024 h.0 n h.2 in
+        let b = number-is 1 1000000000 k.0 m k.2 in
+        (a.2, a.1, b.2, b.1)
+finds-within _ _ (FindsDrill rows seed sessions notes f) =
+    let a = number-is 1 32 f.second.0 sessions f.second.2 in
+    let b = number-is 1 1000 f.third.0 notes f.third.2 in
+    (a.2, a.1, b.2, b.1)

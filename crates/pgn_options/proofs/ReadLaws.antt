@@ -14,18 +14,18 @@ use Rattle.pgn_options.specs.Words.{are_digits, number_in}
 use Rattle.pgn_options.proofs.NumberLaws.{accepted}
 
 -- a number is the one that its digits write, and in its range
-pub number-is : (least most : ℕ) (word : List ℕ) (n : ℕ) → number_in least most word ≡ Some n → (digits_value 10 (without_leading_plus word) ≡ n) × (n ≤ most)
+pub number-is : (least most : ℕ) (word : List ℕ) (n : ℕ) → number_in least most word ≡ Some n → (digits_value 10 (without_leading_plus word) ≡ n) × (n ≤ most) × (least ≤ n)
 number-is least most word n e =
-    go (are_digits (without_leading_plus word)) (nat_le least (digits_value 10 (without_leading_plus word))) (nat_le (digits_value 10 (without_leading_plus word)) most) refl e
+    go (are_digits (without_leading_plus word)) (nat_le least (digits_value 10 (without_leading_plus word))) (nat_le (digits_value 10 (without_leading_plus word)) most) refl refl e
   where
-    go : (a b c : Bool) → nat_le (digits_value 10 (without_leading_plus word)) most ≡ c
-        → cond (a && (b && c)) (Some (digits_value 10 (without_leading_plus word))) None ≡ Some n → (digits_value 10 (without_leading_plus word) ≡ n) × (n ≤ most)
-    go true true true within is =
+    go : (a b c : Bool) → nat_le least (digits_value 10 (without_leading_plus word)) ≡ b → nat_le (digits_value 10 (without_leading_plus word)) most ≡ c
+        → cond (a && (b && c)) (Some (digits_value 10 (without_leading_plus word))) None ≡ Some n → (digits_value 10 (without_leading_plus word) ≡ n) × (n ≤ most) × (least ≤ n)
+    go true true true above within is =
         let same : digits_value 10 (without_leading_plus word) ≡ n = cc in
-        (same, subst (λ (x : ℕ). x ≤ most) same (leb-true _ _ within))
-    go true true false within is = absurd (cc)
-    go true false c within is = absurd (cc)
-    go false b c within is = absurd (cc)
+        (same, subst (λ (x : ℕ). x ≤ most) same (leb-true _ _ within), subst (λ (x : ℕ). least ≤ x) same (leb-true _ _ above))
+    go true true false above within is = absurd (cc)
+    go true false c above within is = absurd (cc)
+    go false b c above within is = absurd (cc)
 
 reads : (E : Type 0) (G : List ℕ → Result ℕ E → Type 0) (least most : ℕ) (word : List ℕ) (n : ℕ) (r : Option ℕ) → most ≤ 18446744073709551615
     → number_in least most word ≡ Some n → ReadsOne G word r → ((u : List ℕ) (x : Result ℕ E) → G u x → ParsesUnsigned 64 10 u x) → r ≡ Some n

@@ -17,10 +17,11 @@ use Rattle.pgn_options.specs.declared.asked.Asked.TheVariants.{Run, Drill}
 use Rattle.pgn_options.specs.declared.reading.WordsFault.{WordsFault}
 use Rattle.pgn_options.specs.declared.reading.WordsFault.TheVariants.{BadWords, Memory}
 use Rattle.pgn_options.specs.Parse.{Finds, FindsDrill, FindsNumbers, FindsOptions, FindsRun, program_app, program_shape}
-use Rattle.pgn_options.specs.Words.{AreNoCommand, AskFor, Options, Pages, Patience, asked_by, command_asked, drill_asked, drill_of, no_options, options_after, run_asked, run_with, without_dashes}
+use Rattle.pgn_options.specs.Words.{AreNoCommand, AskFor, IsWithin, Options, Pages, Patience, asked_by, command_asked, drill_asked, drill_of, no_options, options_after, run_asked, run_with, without_dashes}
 use Rattle.pgn_options.proofs.TotalLaws.{Agrees, found, or-first, or-none, or-second, total}
 use Rattle.pgn_options.proofs.FormLaws.{Form, IsNoLong, dashes, form, long, plain, short}
 use Rattle.pgn_options.proofs.RunLaws.{IsUsed, Used, none, one, options_for, pages_first, patience_first, rows_for, run-agrees, run_built}
+use Rattle.pgn_options.proofs.FindLaws.{finds-within}
 use Rattle.pgn_options.proofs.DrillLaws.{IsDrill, drill-agrees, drill_built}
 
 abbrev program_built : Shape
@@ -195,11 +196,11 @@ words-come (w ∷ words) = go (bytes_eq (codes "run") w) (bytes_eq (codes "drill
 -- What a parse answers.
 
 came : (o : Option Asked) (kinds : Kinds) (sub : Option (Text × List Row)) (r : Result Asked WordsFault) → Comes o kinds sub → kinds ≡ []
-    → ((asked : Asked) → Finds sub asked → r ≡ Ok asked) → IfOk r (λ asked. o ≡ Some asked) × (r ≡ Err BadWords → o ≡ None)
+    → ((asked : Asked) → Finds sub asked → r ≡ Ok asked) → IfOk r (λ asked. o ≡ Some asked) × (r ≡ Err BadWords → o ≡ None) × IfOk r IsWithin
 came None kinds sub r comes fine gives = absurd (comes fine)
 came (Some asked) kinds sub r comes fine gives =
     let is = gives asked comes.1 in
-    (subst (λ (x : Result Asked WordsFault). IfOk x (λ a. Some asked ≡ Some a)) (sym is) refl, λ e. let bad : Ok asked ≡ Err BadWords = sym is ∙ e in absurd (cc))
+    (subst (λ (x : Result Asked WordsFault). IfOk x (λ a. Some asked ≡ Some a)) (sym is) refl, λ e. let bad : Ok asked ≡ Err BadWords = sym is ∙ e in absurd (cc), subst (λ (x : Result Asked WordsFault). IfOk x IsWithin) (sym is) (finds-within sub asked comes.1))
 
 refuses : (o : Option Asked) (kinds : Kinds) (sub : Option (Text × List Row)) (k : ErrorKind) → Comes o kinds sub → IsAmong k kinds → o ≡ None
 refuses None kinds sub k comes among = refl
@@ -211,7 +212,7 @@ simple = refl
 module _ (a : App) (is : a ≡ program_app) (words : List Text) where
   pub parsed : (sub : Option (Text × List Row)) (r : Result Asked WordsFault) → (is_simple_and_free a ≡ true → fault_of a words ≡ [])
       → (is_simple a ≡ true → sub ≡ subcommand_of a words)
-      → ((asked : Asked) → Finds sub asked → r ≡ Ok asked) → IfOk r (AskFor words) × (r ≡ Err BadWords → AreNoCommand words)
+      → ((asked : Asked) → Finds sub asked → r ≡ Ok asked) → IfOk r (AskFor words) × (r ≡ Err BadWords → AreNoCommand words) × IfOk r IsWithin
   parsed sub r fine finds gives =
       let none : fault_of program_app words ≡ [] = ap (λ (x : App). fault_of x words) (sym is) ∙ fine (ap is_simple_and_free is ∙ simple) in
       let there : sub ≡ subcommand_of program_app words = finds (ap is_simple is) ∙ ap (λ (x : App). subcommand_of x words) is in

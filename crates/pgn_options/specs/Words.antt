@@ -1,5 +1,5 @@
 -- What the words of the command line ask for: one of the commands, with its numbers.
-use Rattle.std.specs.Prelude.{◌≡◌, ℕ, ◌==◌, ◌&&◌, Bool, true, false, cond, nat_le, nat_lt, List, [], ◌∷◌, length, take, drop, Option, None, Some, option_map, option_and_then, unwrap_or, is_some, codes}
+use Rattle.std.specs.Prelude.{◌≡◌, ◌≤◌, ℕ, ◌==◌, ◌&&◌, Bool, true, false, cond, nat_le, nat_lt, List, [], ◌∷◌, length, take, drop, Option, None, Some, option_map, option_and_then, unwrap_or, is_some, codes}
 use Rattle.std.specs.List.{before_first, after_first, list_all, list_any}
 use Rattle.std.specs.Char.{digit_value}
 use Rattle.std.specs.Str.{bytes_eq}
@@ -149,3 +149,8 @@ AskFor words asked = asked_by words ≡ Some asked
 -- the words are no command
 abbrev pub AreNoCommand : List (List ℕ) → Type 0
 AreNoCommand words = asked_by words ≡ None
+
+-- the numbers that a command may give
+abbrev pub IsWithin : Asked → Type 0
+IsWithin (Run pages patience) = (PAGES_MIN ≤ pages) × (pages ≤ PAGES_MAX) × (1 ≤ patience) × (patience ≤ PATIENCE_MAX)
+IsWithin (Drill seed sessions notes) = (1 ≤ sessions) × (sessions ≤ DRILL_SESSIONS_MAX) × (1 ≤ notes) × (notes ≤ DRILL_NOTES_MAX)

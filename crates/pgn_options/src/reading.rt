@@ -6,7 +6,7 @@ ghost use Rattle.clap.specs.declared.error.kind.ErrorKind.TheVariants.{OutOfMemo
 ghost use Rattle.pgn_options.specs.declared.asked.Asked.{Asked};
 ghost use Rattle.pgn_options.specs.declared.asked.Asked.TheVariants.{Drill};
 ghost use Rattle.pgn_options.specs.Parse.{Finds, FindsNumbers, FindsOptions, IsFoundAs};
-ghost use Rattle.pgn_options.specs.Words.{AreNoCommand, AskFor, Options, number_in, run_with};
+ghost use Rattle.pgn_options.specs.Words.{AreNoCommand, AskFor, IsWithin, Options, number_in, run_with};
 
 use crate::Asked;
 use crate::command::command;
@@ -26,6 +26,7 @@ pub enum WordsFault {
 /// What words ask for, those after the program's name.
 pub fn read_words<'a>(alloc: Global, words: &'a [&'a str]) -> Result<Asked, WordsFault>
     ensures asked { IfOk result (λ asked. AskFor (map (λ word. word.now) words.now) asked) }
+    ensures within { IfOk result IsWithin }
     ensures bad_words { result ≡ Err WordsFault.BadWords → AreNoCommand (map (λ word. word.now) words.now) }
 {
     let command = match command(alloc) {

@@ -8,6 +8,7 @@
 //! - `.lines`: each line of the input is a line of SQL, and the output has what it reads as, a line each;
 //! - `.faults`: the output has for each case of the input its fault, or the scenario that it reads as;
 //! - `.answers`: each line of the input is a line of SQL, and the output has its answers in each state of a transaction block;
+//! - `.asked`: each line of the input has the words of a command line, a space between two, and the output has what they ask for;
 //! - `.blocks`: the lines of a case are told to one block, one after another, and the output has the answer to each.
 //!
 //! After each case of an input a LF, `=====` and a LF follow, which are no part of it: a case that ends in a LF has an empty line
@@ -20,6 +21,7 @@
 
 mod answers;
 mod cases;
+mod command_lines;
 mod faults;
 mod lines;
 mod printer;

@@ -1,6 +1,7 @@
 ghost use Rattle.std.specs.Prelude.{◌≡◌, ◌++◌, IfOk, codes};
 
 use crate::answers::{answers_row, blocks_row};
+use crate::command_lines::command_lines_row;
 use crate::faults::faults_row;
 use crate::lines::lines_row;
 use crate::row::{Outcome, Row, read_row};
@@ -76,6 +77,7 @@ fn outcome<R: Threads + Wait + Sync>(
         "faults" => faults_row(alloc, &input)?,
         "answers" => answers_row(alloc, &input)?,
         "blocks" => blocks_row(alloc, &input)?,
+        "asked" => command_lines_row(alloc, &input)?,
         _ => Vec::from_slice(alloc, b"no kind of row")?,
     };
     Ok(Outcome { output, status: 0 })

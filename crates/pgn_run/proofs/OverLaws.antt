@@ -8,22 +8,22 @@ use Rattle.pgn_language.specs.declared.scenario.ScenarioFault.{ScenarioFault}
 use Rattle.pgn_model.specs.declared.trace.Trace.{Trace}
 use Rattle.pgn_language.specs.Inputs.{ReadsAsScenario}
 use Rattle.pgn_model.specs.Legal.{Legal}
-use Rattle.pgn_model.specs.Text.{text}
-use Rattle.pgn_model.specs.Walk.{Settings, default_settings}
+use Rattle.pgn_model.specs.Walk.{Settings}
 use Rattle.pgn_run.specs.declared.status.Status.{Status}
 use Rattle.pgn_run.specs.declared.status.Status.TheVariants.{Done, BadWords, BadScenario, ReadFault, WriteFault, NoMemory}
-use Rattle.pgn_run.specs.Run.{Runs, RunsOver, HasWritten, Answers}
+use Rattle.pgn_run.specs.Run.{Runs, RunsOver, HasWritten, Answers, printed}
+use Rattle.pgn_run.specs.declared.print.Print.{Print}
 
-module _ (scenario : Scenario) (settings : Settings) (journal : List Tx) (traces : List Trace) (old new : Option (List ℕ)) (before now : ℕ) (status : Status)
-    (legal : Legal scenario settings journal traces) (written : HasWritten (text scenario journal traces) old new before now status) where
+module _ (print : Print) (scenario : Scenario) (settings : Settings) (journal : List Tx) (traces : List Trace) (old new : Option (List ℕ)) (before now : ℕ) (status : Status)
+    (legal : Legal scenario settings journal traces) (written : HasWritten (printed print scenario journal traces) old new before now status) where
   -- what was written where the outcome is known
-  outcome : (other : Status) → status ≡ other → HasWritten (text scenario journal traces) old new before now other
-  outcome other e = subst (λ (s : Status). HasWritten (text scenario journal traces) old new before now s) e written
+  outcome : (other : Status) → status ≡ other → HasWritten (printed print scenario journal traces) old new before now other
+  outcome other e = subst (λ (s : Status). HasWritten (printed print scenario journal traces) old new before now s) e written
 
-  pub done-over : status ≡ Done → RunsOver scenario settings (Appends old new)
+  pub done-over : status ≡ Done → RunsOver print scenario settings (Appends old new)
   done-over e = record { journal = journal; traces = traces; legal = legal; output = outcome Done e }
 
-  pub prefix-over : status ≡ WriteFault → RunsOver scenario settings (AppendsPrefix old new)
+  pub prefix-over : status ≡ WriteFault → RunsOver print scenario settings (AppendsPrefix old new)
   prefix-over e = record { journal = journal; traces = traces; legal = legal; output = (outcome WriteFault e).0 }
 
 -- a write fault has its cause
@@ -32,7 +32,7 @@ fault-over all old new before now status written e = let known : HasWritten all 
 
 -- a run that was written took no want of memory for its outcome
 pub memory-over : (all : List ℕ) (old new : Option (List ℕ)) (before now : ℕ) (status : Status) → HasWritten all old new before now status → status ≡ NoMemory → new ≡ old
-memory-over all old new before now status written e = let known : HasWritten all old new before now NoMemory = subst (λ (s : Status). HasWritten all old new before now s) e written in absurd known
+memory-over all old new before now status written e = let known : HasWritten all old new before now NoMemory = subst (λ (s : Status). HasWritten all old new before now s) e written in known
 
 -- the outcomes of a run that was written
 pub only-over : (all : List ℕ) (old new : Option (List ℕ)) (before now : ℕ) (status : Status) → HasWritten all old new before now status
@@ -42,23 +42,23 @@ only-over all old new before now BadWords written = absurd written
 only-over all old new before now (BadScenario fault) written = absurd written
 only-over all old new before now ReadFault written = absurd written
 only-over all old new before now WriteFault written = inr (inl refl)
-only-over all old new before now NoMemory written = absurd written
+only-over all old new before now NoMemory written = inr (inr refl)
 
 -- a run of the scenario that an input reads as
-runs-of : (input : List ℕ) (scenario : Scenario) (P : List ℕ → Type 0) → ReadsAsScenario input (Ok scenario) → RunsOver scenario default_settings P → Runs input P
-runs-of input scenario P reads run = record { scenario = scenario; journal = run.journal; traces = run.traces; reads = reads; legal = run.legal; output = run.output }
+runs-of : (print : Print) (settings : Settings) (input : List ℕ) (scenario : Scenario) (P : List ℕ → Type 0) → ReadsAsScenario input (Ok scenario) → RunsOver print scenario settings P → Runs print settings input P
+runs-of print settings input scenario P reads run = record { scenario = scenario; journal = run.journal; traces = run.traces; reads = reads; legal = run.legal; output = run.output }
 
 -- what a run answers is what is answered to its input
-pub answers-over : (input : List ℕ) (scenario : Scenario) (old new : Option (List ℕ)) (before now : ℕ) (status : Status) → ReadsAsScenario input (Ok scenario)
-    → (status ≡ Done → RunsOver scenario default_settings (Appends old new)) → (status ≡ WriteFault → Rose before now)
-    → (status ≡ WriteFault → RunsOver scenario default_settings (AppendsPrefix old new)) → (status ≡ NoMemory → new ≡ old)
-    → (status ≡ Done) ⊎ (status ≡ WriteFault) ⊎ (status ≡ NoMemory) → Answers input old new before now status
-answers-over input scenario old new before now Done reads done rose prefix memory only = runs-of input scenario (Appends old new) reads (done refl)
-answers-over input scenario old new before now WriteFault reads done rose prefix memory only = (runs-of input scenario (AppendsPrefix old new) reads (prefix refl), rose refl)
-answers-over input scenario old new before now NoMemory reads done rose prefix memory only = memory refl
-answers-over input scenario old new before now BadWords reads done rose prefix memory only = absurd (elim only [ inl e ↦ cc | inr other ↦ elim other [ inl e ↦ cc | inr f ↦ cc ] ])
-answers-over input scenario old new before now (BadScenario fault) reads done rose prefix memory only = absurd (elim only [ inl e ↦ cc | inr other ↦ elim other [ inl e ↦ cc | inr f ↦ cc ] ])
-answers-over input scenario old new before now ReadFault reads done rose prefix memory only = absurd (elim only [ inl e ↦ cc | inr other ↦ elim other [ inl e ↦ cc | inr f ↦ cc ] ])
+pub answers-over : (print : Print) (settings : Settings) (input : List ℕ) (scenario : Scenario) (old new : Option (List ℕ)) (before now : ℕ) (status : Status) → ReadsAsScenario input (Ok scenario)
+    → (status ≡ Done → RunsOver print scenario settings (Appends old new)) → (status ≡ WriteFault → Rose before now)
+    → (status ≡ WriteFault → RunsOver print scenario settings (AppendsPrefix old new)) → (status ≡ NoMemory → new ≡ old)
+    → (status ≡ Done) ⊎ (status ≡ WriteFault) ⊎ (status ≡ NoMemory) → Answers print settings input old new before now status
+answers-over print settings input scenario old new before now Done reads done rose prefix memory only = runs-of print settings input scenario (Appends old new) reads (done refl)
+answers-over print settings input scenario old new before now WriteFault reads done rose prefix memory only = (runs-of print settings input scenario (AppendsPrefix old new) reads (prefix refl), rose refl)
+answers-over print settings input scenario old new before now NoMemory reads done rose prefix memory only = memory refl
+answers-over print settings input scenario old new before now BadWords reads done rose prefix memory only = absurd (elim only [ inl e ↦ cc | inr other ↦ elim other [ inl e ↦ cc | inr f ↦ cc ] ])
+answers-over print settings input scenario old new before now (BadScenario fault) reads done rose prefix memory only = absurd (elim only [ inl e ↦ cc | inr other ↦ elim other [ inl e ↦ cc | inr f ↦ cc ] ])
+answers-over print settings input scenario old new before now ReadFault reads done rose prefix memory only = absurd (elim only [ inl e ↦ cc | inr other ↦ elim other [ inl e ↦ cc | inr f ↦ cc ] ])
 
 -- a reading of the same bytes
 pub reads-same : (a b : List ℕ) (r s : Result Scenario ScenarioFault) → a ≡ b → r ≡ s → ReadsAsScenario a r → ReadsAsScenario b s

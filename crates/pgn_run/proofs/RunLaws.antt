@@ -12,16 +12,9 @@ use Rattle.pgn_language.specs.Inputs.{ReadsAsScenario, Large}
 use Rattle.pgn_language.proofs.InputLaws.{reads-input}
 use Rattle.pgn_run.specs.declared.status.Status.{Status}
 use Rattle.pgn_run.specs.declared.status.Status.TheVariants.{Done, BadWords, BadScenario, ReadFault, WriteFault, NoMemory}
-use Rattle.pgn_run.specs.Run.{Runs, Answers, run_words}
-
--- the only word of a list of one
-pub one-word : (words : List (Bor (List ℕ))) (d : Bor (List ℕ)) (r : Bool) → 1 ≤ length words → length words < 2 → r ≡ bytes_eq (get_or words 0 d).now (codes "run")
-    → (IsTrue r → map (λ w. w.now) words ≡ run_words) × (map (λ w. w.now) words ≡ run_words → IsTrue r)
-one-word [] d r some few e = absurd (omega arith)
-one-word (word ∷ []) d r some few e =
-    let says = bytes_eq-Decides word.now (codes "run") in
-    (λ t. ap (λ (bytes : List ℕ). bytes ∷ []) (says.0 (sym e ∙ t)), λ same. let spelled : word.now ≡ codes "run" = cc in e ∙ says.1 spelled)
-one-word (word ∷ other ∷ words) d r some few e = absurd (omega arith)
+use Rattle.pgn_run.specs.Run.{Runs, Answers}
+use Rattle.pgn_run.specs.declared.print.Print.{Print}
+use Rattle.pgn_model.specs.Walk.{Settings}
 
 -- a prefix that is no longer than a shorter limit is the whole
 whole : (n : ℕ) (xs : List ℕ) → length (take (n + 1) xs) ≤ n → take (n + 1) xs ≡ xs
@@ -63,25 +56,25 @@ one-fault : (input : List ℕ) (a b : ScenarioFault) → ReadsAsScenario input (
 one-fault input a b h k = let same : Err a ≡ Err b = one-reading input (Err a) (Err b) h k in cc
 
 -- an input's run is that of what was read of it
-runs-whole : (xs input : List ℕ) (P : List ℕ → Type 0) → input ≡ take 16777217 xs → Runs input P → Runs xs P
-runs-whole xs input P e h = record { scenario = h.scenario; journal = h.journal; traces = h.traces; reads = reads-whole xs input (Ok h.scenario) e h.reads; legal = h.legal; output = h.output }
+runs-whole : (print : Print) (settings : Settings) (xs input : List ℕ) (P : List ℕ → Type 0) → input ≡ take 16777217 xs → Runs print settings input P → Runs print settings xs P
+runs-whole print settings xs input P e h = record { scenario = h.scenario; journal = h.journal; traces = h.traces; reads = reads-whole xs input (Ok h.scenario) e h.reads; legal = h.legal; output = h.output }
 
 -- what follows of known bytes
 if-some : (known : Option (List ℕ)) (A B : List ℕ → Type 0) → ((xs : List ℕ) → A xs → B xs) → IfSome known A → IfSome known B
 if-some None A B f h = h
 if-some (Some xs) A B f h = f xs h
 
-module _ (left : Option (List ℕ)) (input : List ℕ) (old new : Option (List ℕ)) (before now : ℕ) (status : Status)
-    (bytes : IfSome left (λ xs. input ≡ take 16777217 xs)) (answers : Answers input old new before now status) where
+module _ (print : Print) (settings : Settings) (left : Option (List ℕ)) (input : List ℕ) (old new : Option (List ℕ)) (before now : ℕ) (status : Status)
+    (bytes : IfSome left (λ xs. input ≡ take 16777217 xs)) (answers : Answers print settings input old new before now status) where
   -- the answer where it is known
-  answered : (other : Status) → status ≡ other → Answers input old new before now other
-  answered other e = subst (λ (s : Status). Answers input old new before now s) e answers
+  answered : (other : Status) → status ≡ other → Answers print settings input old new before now other
+  answered other e = subst (λ (s : Status). Answers print settings input old new before now s) e answers
 
-  pub done-runs : status ≡ Done → IfSome left (λ xs. Runs xs (Appends old new))
-  done-runs e = if-some left (λ xs. input ≡ take 16777217 xs) (λ xs. Runs xs (Appends old new)) (λ xs b. runs-whole xs input (Appends old new) b (answered Done e)) bytes
+  pub done-runs : status ≡ Done → IfSome left (λ xs. Runs print settings xs (Appends old new))
+  done-runs e = if-some left (λ xs. input ≡ take 16777217 xs) (λ xs. Runs print settings xs (Appends old new)) (λ xs b. runs-whole print settings xs input (Appends old new) b (answered Done e)) bytes
 
-  pub write-fault-runs : status ≡ WriteFault → IfSome left (λ xs. Runs xs (AppendsPrefix old new))
-  write-fault-runs e = if-some left (λ xs. input ≡ take 16777217 xs) (λ xs. Runs xs (AppendsPrefix old new)) (λ xs b. runs-whole xs input (AppendsPrefix old new) b (answered WriteFault e).0) bytes
+  pub write-fault-runs : status ≡ WriteFault → IfSome left (λ xs. Runs print settings xs (AppendsPrefix old new))
+  write-fault-runs e = if-some left (λ xs. input ≡ take 16777217 xs) (λ xs. Runs print settings xs (AppendsPrefix old new)) (λ xs b. runs-whole print settings xs input (AppendsPrefix old new) b (answered WriteFault e).0) bytes
 
   pub bad-scenario-reads : (fault : ScenarioFault) → status ≡ BadScenario fault → IfSome left (λ xs. ReadsAsScenario xs (Err fault))
   bad-scenario-reads fault e = if-some left (λ xs. input ≡ take 16777217 xs) (λ xs. ReadsAsScenario xs (Err fault)) (λ xs b. reads-whole xs input (Err fault) b (answered (BadScenario fault) e).0) bytes
@@ -93,7 +86,7 @@ module _ (left : Option (List ℕ)) (input : List ℕ) (old new : Option (List �
       with None r b h = b
       with (Some xs) None b h = absurd h
       with (Some xs) (Some ys) b h =
-          let run : Runs input (Appends old new) = answered Done e in
+          let run : Runs print settings input (Appends old new) = answered Done e in
           let all : input ≡ xs = within-is-whole xs input b (scenario-within input run.scenario run.reads) in
           let none : length ys ≡ 0 = omega (arith, ap length all, ap length h, length-append input ys) in
           empty ys none
@@ -103,25 +96,25 @@ module _ (left : Option (List ℕ)) (input : List ℕ) (old new : Option (List �
           empty (z ∷ zs) n = absurd (omega arith)
 
 -- what comes of an input that reads as a scenario, where no write failed
-pub reads-done : (left : Option (List ℕ)) (input : List ℕ) (old new : Option (List ℕ)) (before now : ℕ) (status : Status) (scenario : Scenario)
-    → IfSome left (λ xs. input ≡ take 16777217 xs) → Answers input old new before now status
+pub reads-done : (print : Print) (settings : Settings) (left : Option (List ℕ)) (input : List ℕ) (old new : Option (List ℕ)) (before now : ℕ) (status : Status) (scenario : Scenario)
+    → IfSome left (λ xs. input ≡ take 16777217 xs) → Answers print settings input old new before now status
     → IsSomeAnd left (λ xs. ReadsAsScenario xs (Ok scenario)) → ¬ Rose before now → (status ≡ Done) ⊎ (status ≡ NoMemory)
-reads-done None input old new before now status scenario bytes answers reads rose = absurd reads
-reads-done (Some xs) input old new before now Done scenario bytes answers reads rose = inl refl
-reads-done (Some xs) input old new before now BadWords scenario bytes answers reads rose = absurd answers
-reads-done (Some xs) input old new before now (BadScenario fault) scenario bytes answers reads rose = absurd (no-fault xs scenario fault reads (reads-whole xs input (Err fault) bytes answers.0))
-reads-done (Some xs) input old new before now ReadFault scenario bytes answers reads rose = absurd answers
-reads-done (Some xs) input old new before now WriteFault scenario bytes answers reads rose = absurd (rose answers.1)
-reads-done (Some xs) input old new before now NoMemory scenario bytes answers reads rose = inr refl
+reads-done print settings None input old new before now status scenario bytes answers reads rose = absurd reads
+reads-done print settings (Some xs) input old new before now Done scenario bytes answers reads rose = inl refl
+reads-done print settings (Some xs) input old new before now BadWords scenario bytes answers reads rose = absurd answers
+reads-done print settings (Some xs) input old new before now (BadScenario fault) scenario bytes answers reads rose = absurd (no-fault xs scenario fault reads (reads-whole xs input (Err fault) bytes answers.0))
+reads-done print settings (Some xs) input old new before now ReadFault scenario bytes answers reads rose = absurd answers
+reads-done print settings (Some xs) input old new before now WriteFault scenario bytes answers reads rose = absurd (rose answers.1)
+reads-done print settings (Some xs) input old new before now NoMemory scenario bytes answers reads rose = inr refl
 
 -- what comes of an input with a fault
-pub faulty-refused : (left : Option (List ℕ)) (input : List ℕ) (old new : Option (List ℕ)) (before now : ℕ) (status : Status) (fault : ScenarioFault)
-    → IfSome left (λ xs. input ≡ take 16777217 xs) → Answers input old new before now status
+pub faulty-refused : (print : Print) (settings : Settings) (left : Option (List ℕ)) (input : List ℕ) (old new : Option (List ℕ)) (before now : ℕ) (status : Status) (fault : ScenarioFault)
+    → IfSome left (λ xs. input ≡ take 16777217 xs) → Answers print settings input old new before now status
     → IsSomeAnd left (λ xs. ReadsAsScenario xs (Err fault)) → (status ≡ BadScenario fault) ⊎ (status ≡ NoMemory)
-faulty-refused None input old new before now status fault bytes answers reads = absurd reads
-faulty-refused (Some xs) input old new before now Done fault bytes answers reads = absurd (no-fault xs answers.scenario fault (reads-whole xs input (Ok answers.scenario) bytes answers.reads) reads)
-faulty-refused (Some xs) input old new before now BadWords fault bytes answers reads = absurd answers
-faulty-refused (Some xs) input old new before now (BadScenario other) fault bytes answers reads = inl (ap BadScenario (one-fault xs other fault (reads-whole xs input (Err other) bytes answers.0) reads))
-faulty-refused (Some xs) input old new before now ReadFault fault bytes answers reads = absurd answers
-faulty-refused (Some xs) input old new before now WriteFault fault bytes answers reads = absurd (no-fault xs answers.0.scenario fault (reads-whole xs input (Ok answers.0.scenario) bytes answers.0.reads) reads)
-faulty-refused (Some xs) input old new before now NoMemory fault bytes answers reads = inr refl
+faulty-refused print settings None input old new before now status fault bytes answers reads = absurd reads
+faulty-refused print settings (Some xs) input old new before now Done fault bytes answers reads = absurd (no-fault xs answers.scenario fault (reads-whole xs input (Ok answers.scenario) bytes answers.reads) reads)
+faulty-refused print settings (Some xs) input old new before now BadWords fault bytes answers reads = absurd answers
+faulty-refused print settings (Some xs) input old new before now (BadScenario other) fault bytes answers reads = inl (ap BadScenario (one-fault xs other fault (reads-whole xs input (Err other) bytes answers.0) reads))
+faulty-refused print settings (Some xs) input old new before now ReadFault fault bytes answers reads = absurd answers
+faulty-refused print settings (Some xs) input old new before now WriteFault fault bytes answers reads = absurd (no-fault xs answers.0.scenario fault (reads-whole xs input (Ok answers.0.scenario) bytes answers.0.reads) reads)
+faulty-refused print settings (Some xs) input old new before now NoMemory fault bytes answers reads = inr refl

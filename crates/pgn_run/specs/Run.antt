@@ -1,14 +1,23 @@
 -- What the call of the program says of its input and its output.
-use Rattle.std.specs.Prelude.{◌≡◌, ℕ, List, [], ◌∷◌, Option, Ok, Err, codes}
+use Rattle.std.specs.Prelude.{◌≡◌, ℕ, List, Option, Ok, Err, IfSome}
 use Rattle.std.specs.Io.KnownBytes.{Appends}
 use Rattle.pgn_base.specs.Outside.{AppendsPrefix, Rose}
 use Rattle.pgn_journal.specs.declared.tx.Tx.{Tx}
 use Rattle.pgn_language.specs.declared.scenario.Scenario.{Scenario}
 use Rattle.pgn_model.specs.declared.trace.Trace.{Trace}
 use Rattle.pgn_language.specs.Inputs.{ReadsAsScenario}
-use Rattle.pgn_model.specs.Walk.{Settings, default_settings}
+use Rattle.pgn_model.specs.Walk.{Settings}
 use Rattle.pgn_model.specs.Legal.{Legal}
-use Rattle.pgn_model.specs.Text.{text}
+use Rattle.pgn_model.specs.Text.{brief, text}
+use Rattle.pgn_base.specs.declared.format.Format.TheVariants.{One}
+use Rattle.pgn_base.specs.declared.limits.TheConstants.{PAGES_MAX}
+use Rattle.pgn_options.specs.declared.asked.Asked.{Asked}
+use Rattle.pgn_options.specs.declared.asked.Asked.TheVariants.{Run, Drill}
+use Rattle.pgn_options.specs.declared.limits.TheConstants.{PATIENCE_MAX}
+use Rattle.pgn_options.specs.Words.{AskFor}
+use Rattle.pgn_drill.specs.Drill.{drill}
+use Rattle.pgn_run.specs.declared.print.Print.{Print}
+use Rattle.pgn_run.specs.declared.print.Print.TheVariants.{Text, Summary}
 use Rattle.pgn_run.specs.declared.status.Status.{Status}
 use Rattle.pgn_run.specs.declared.status.Status.TheVariants.{Done, BadWords, BadScenario, ReadFault, WriteFault, NoMemory}
 
@@ -21,39 +30,73 @@ code_of ReadFault = 4
 code_of WriteFault = 5
 code_of NoMemory = 6
 
--- the words of the one command
-abbrev pub run_words : List (List ℕ)
-run_words = codes "run" ∷ []
+-- the terms of a run with a limit of so many pages, where an await takes so many looks
+abbrev pub settings_with : ℕ → ℕ → Settings
+settings_with pages patience = record { format = One; limit = pages; patience = patience }
 
--- P holds of the output text of a legal run of the scenario, with these settings
-pub record RunsOver (scenario : Scenario) (settings : Settings) (P : List ℕ → Type 0) : Type 0 where
+-- the terms of a drill
+abbrev pub drill_settings : Settings
+drill_settings = settings_with PAGES_MAX PATIENCE_MAX
+
+-- what is written of a run
+abbrev pub printed : Print → Scenario → List Tx → List Trace → List ℕ
+printed Text scenario journal traces = text scenario journal traces
+printed (Summary seed notes) scenario journal traces = brief seed notes journal traces
+
+-- P holds of what is written of a legal run of the scenario, with these settings
+pub record RunsOver (print : Print) (scenario : Scenario) (settings : Settings) (P : List ℕ → Type 0) : Type 0 where
   pub journal : List Tx
   pub traces : List Trace
   pub legal : Legal scenario settings journal traces
-  pub output : P (text scenario journal traces)
+  pub output : P (printed print scenario journal traces)
 
--- the input reads as a scenario, and P holds of the output text of a legal run of it
-pub record Runs (input : List ℕ) (P : List ℕ → Type 0) : Type 0 where
+-- the input reads as a scenario, and P holds of what is written of a legal run of it, with these settings
+pub record Runs (print : Print) (settings : Settings) (input : List ℕ) (P : List ℕ → Type 0) : Type 0 where
   pub scenario : Scenario
   pub journal : List Tx
   pub traces : List Trace
   pub reads : ReadsAsScenario input (Ok scenario)
-  pub legal : Legal scenario default_settings journal traces
-  pub output : P (text scenario journal traces)
+  pub legal : Legal scenario settings journal traces
+  pub output : P (printed print scenario journal traces)
+
+-- what was asked for was run: what is left of the source, or the scenario of a drill; and P holds of what is written of it
+abbrev pub Fulfils : Asked → Option (List ℕ) → (List ℕ → Type 0) → Type 0
+Fulfils (Run pages patience) left P = IfSome left (λ input. Runs Text (settings_with pages patience) input P)
+Fulfils (Drill seed sessions notes) left P = Runs (Summary seed notes) drill_settings (drill seed sessions notes) P
+
+-- the words ask for something, and that was run
+pub record Performs (words : List (List ℕ)) (left : Option (List ℕ)) (P : List ℕ → Type 0) : Type 0 where
+  pub asked : Asked
+  pub asks : AskFor words asked
+  pub done : Fulfils asked left P
+
+-- the words ask to run what is read
+pub record AskToRun (words : List (List ℕ)) : Type 0 where
+  pub pages : ℕ
+  pub patience : ℕ
+  pub asks : AskFor words (Run pages patience)
+
+-- the words ask for a drill
+pub record AskToDrill (words : List (List ℕ)) : Type 0 where
+  pub seed : ℕ
+  pub sessions : ℕ
+  pub notes : ℕ
+  pub asks : AskFor words (Drill seed sessions notes)
 
 -- what each outcome says of a text that was to be written: of what the sink holds and of its count of faults
 abbrev pub HasWritten : List ℕ → Option (List ℕ) → Option (List ℕ) → ℕ → ℕ → Status → Type 0
 HasWritten text old new before now Done = Appends old new text
 HasWritten text old new before now WriteFault = AppendsPrefix old new text × Rose before now
+HasWritten text old new before now NoMemory = new ≡ old
 HasWritten text old new before now status = ⊥
 
 -- what each outcome says of an input that was read, of what the sink holds and of its count of faults
-abbrev pub Answers : List ℕ → Option (List ℕ) → Option (List ℕ) → ℕ → ℕ → Status → Type 0
-Answers input old new before now Done = Runs input (Appends old new)
-Answers input old new before now WriteFault = Runs input (AppendsPrefix old new) × Rose before now
-Answers input old new before now NoMemory = new ≡ old
-Answers input old new before now (BadScenario fault) = ReadsAsScenario input (Err fault) × (new ≡ old)
-Answers input old new before now status = ⊥
+abbrev pub Answers : Print → Settings → List ℕ → Option (List ℕ) → Option (List ℕ) → ℕ → ℕ → Status → Type 0
+Answers print settings input old new before now Done = Runs print settings input (Appends old new)
+Answers print settings input old new before now WriteFault = Runs print settings input (AppendsPrefix old new) × Rose before now
+Answers print settings input old new before now NoMemory = new ≡ old
+Answers print settings input old new before now (BadScenario fault) = ReadsAsScenario input (Err fault) × (new ≡ old)
+Answers print settings input old new before now status = ⊥
 
 -- the outcomes after which the whole input was read
 abbrev pub HasRead : Status → Type 0

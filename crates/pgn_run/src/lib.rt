@@ -1,10 +1,10 @@
 //! All that the program does, in one call: it reads the input, runs its sessions over one shared queue and writes the text.
 //!
-//! `run_notify` carries the headline. Where it answers `Done`, what was left in the source reads as a scenario, and what was
+//! `run_notify` carries the headline. Where it answers `Done` to `run`, what was left in the source reads as a scenario, and what was
 //! written is the output text of a journal and of traces that are a legal run of it: what is due to each listener, of its
-//! database, on a channel of its set and from its mark on, reaches it once and in commit order. Every other answer has its cause
-//! in the contract, and says what was read and written. Sessions may wait for one another, so that no contract promises that the
-//! call returns.
+//! database, on a channel of its set and from its mark on, reaches it once and in commit order. Where it answers `Done` to `drill`,
+//! what was written is the summary of a legal run of the drill's scenario. Every other answer has its cause in the contract, and says
+//! what was read and written. Sessions may wait for one another, so that no contract promises that the call returns.
 //!
 //! `run_scenario` is all of it behind the reading, over a hub of the type that its caller names.
 //!
@@ -24,11 +24,13 @@
 
 mod input;
 mod line_cursor;
+mod print;
 mod render;
 mod run;
 mod scenario_run;
 mod status;
 
+pub use print::Print;
 pub use run::run_notify;
 pub use scenario_run::run_scenario;
 pub use status::Status;

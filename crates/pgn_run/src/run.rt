@@ -1,15 +1,21 @@
-ghost use Rattle.std.specs.Prelude.{◌≡◌, ◌≢◌, ◌⊎◌, ◌↔◌, ◌<◌, ◌≤◌, ◌+◌, map, take, Ok, Err, IfSome, OnSome, IsSomeAnd, IsTrue};
+ghost use Rattle.std.specs.Prelude.{◌≡◌, ◌≢◌, ◌⊎◌, ◌<◌, ◌≤◌, ◌+◌, map, take, Ok, Err, IfSome, OnSome, IsSomeAnd};
 ghost use Rattle.std.specs.Io.KnownBytes.{Appends, Consumes, IsAtEnd};
 ghost use Rattle.pgn_base.specs.Outside.{AppendsPrefix, Rose};
+ghost use Rattle.pgn_base.specs.declared.limits.TheConstants.{PAGES_MAX, PAGES_MIN};
 ghost use Rattle.pgn_language.specs.declared.scenario.Scenario.{Scenario};
 ghost use Rattle.pgn_language.specs.declared.scenario.ScenarioFault.{ScenarioFault};
 ghost use Rattle.pgn_language.specs.Inputs.{ReadsAsScenario};
-ghost use Rattle.pgn_run.specs.Run.{Runs, Answers, HasRead, run_words};
+ghost use Rattle.pgn_options.specs.Words.{AreNoCommand};
+ghost use Rattle.pgn_drill.specs.Drill.{drill};
+ghost use Rattle.pgn_run.specs.declared.print.Print.TheVariants.{Summary, Text};
+ghost use Rattle.pgn_run.specs.Run.{Answers, AskToDrill, AskToRun, HasRead, Performs, Runs, drill_settings, settings_with};
 
 use crate::input::{Unread, read_input};
-use crate::{Status, run_scenario};
-use pgn_base::{INPUT_BYTES_MAX, PAGES_DEFAULT, PATIENCE_DEFAULT, Sink, Source};
+use crate::{Print, Status, run_scenario};
+use pgn_base::{INPUT_BYTES_MAX, PAGES_MAX, Sink, Source};
+use pgn_drill::drill_text;
 use pgn_hub::Hub;
+use pgn_options::{Asked, PATIENCE_MAX, WordsFault, read_words};
 use pgn_scenario::read_scenario;
 use pgn_wordhub::WordHub;
 use std::alloc::{AllocError, Global};
@@ -19,73 +25,145 @@ use std::thread::Threads;
 // How many bytes of an input are read at most: one more than an input may have.
 const READ_LIMIT: usize = INPUT_BYTES_MAX + 1;
 
-/// Does all that the program does. `words` are those after the program's name; the one command is `run`: it reads a scenario
-/// from the source, runs every session of it on a thread of its own, and writes the journal and what each session was answered
-/// and received to the sink. Sessions may wait for one another, so that it is not promised that the call returns; what stands here
-/// holds where it does.
-pub fn run_notify<S: Source, K: Sink, R: Threads + Wait + Sync>(
+/// Does all that the program does. `words` are those after the program's name. `run` reads a scenario from the source, runs every
+/// session of it on a thread of its own, and writes the journal and what each session was answered and received to the sink. `drill`
+/// reads nothing: it makes a scenario, runs it the same way, and writes the summary. Sessions may wait for one another, so that it is
+/// not promised that the call returns; what stands here holds where it does.
+pub fn run_notify<'a, S: Source, K: Sink, R: Threads + Wait + Sync>(
     rt: &R,
     alloc: Global,
-    words: &[&str],
+    words: &'a [&'a str],
     source: &mut S,
     sink: &mut K,
 ) -> Status
-    // The headline: what was left reads as a scenario, and the text of a legal run of it was written.
-    ensures done { result ≡ Status.Done → IfSome (S.left source.old) (λ input.
-        Runs input (Appends (K.held sink.old) (K.held sink.new))) }
-    ensures done_reads_all { result ≡ Status.Done → OnSome (S.left source.old) (IsAtEnd (S.left source.new)) }
+    // The headline: what was left reads as a scenario, and the text of a legal run of it was written; or the summary of a drill.
+    ensures done { result ≡ Status.Done → Performs (map (λ word. word.now) words.now) (S.left source.old) (Appends (K.held sink.old) (K.held sink.new)) }
+    ensures done_reads_all { AskToRun (map (λ word. word.now) words.now) → result ≡ Status.Done → OnSome (S.left source.old) (IsAtEnd (S.left source.new)) }
 
-    ensures bad_words { (result ≡ Status.BadWords) ↔ (map (λ word. word.now) words.now ≢ run_words) }
-    ensures bad_words_read_nothing { result ≡ Status.BadWords → source.new ≡ source.old }
-    ensures bad_words_write_nothing { result ≡ Status.BadWords → sink.new ≡ sink.old }
+    ensures bad_words { result ≡ Status.BadWords → AreNoCommand (map (λ word. word.now) words.now) }
+    ensures bad_words_where_due { AreNoCommand (map (λ word. word.now) words.now) → (result ≡ Status.BadWords) ⊎ (result ≡ Status.NoMemory) }
+    ensures bad_words_read_nothing { AreNoCommand (map (λ word. word.now) words.now) → source.new ≡ source.old }
+    ensures bad_words_write_nothing { AreNoCommand (map (λ word. word.now) words.now) → sink.new ≡ sink.old }
 
     ensures bad_scenario { (fault : ScenarioFault) → result ≡ Status.BadScenario fault
-        → IfSome (S.left source.old) (λ input. ReadsAsScenario input (Err fault)) }
-    ensures bad_scenario_where_due { (fault : ScenarioFault) → map (λ word. word.now) words.now ≡ run_words
+        → AskToRun (map (λ word. word.now) words.now) × IfSome (S.left source.old) (λ input. ReadsAsScenario input (Err fault)) }
+    ensures bad_scenario_where_due { (fault : ScenarioFault) → AskToRun (map (λ word. word.now) words.now)
         → IsSomeAnd (S.left source.old) (λ input. ReadsAsScenario input (Err fault))
         → ¬ Rose (S.faults source.old) (S.faults source.new)
         → (result ≡ Status.BadScenario fault) ⊎ (result ≡ Status.NoMemory) }
     ensures bad_scenario_writes_nothing { (fault : ScenarioFault) → result ≡ Status.BadScenario fault
         → K.held sink.new ≡ K.held sink.old }
 
-    ensures read_fault { result ≡ Status.ReadFault → Rose (S.faults source.old) (S.faults source.new) }
+    ensures read_fault { result ≡ Status.ReadFault → AskToRun (map (λ word. word.now) words.now) × Rose (S.faults source.old) (S.faults source.new) }
     ensures read_fault_where_due { S.faults source.old < S.faults source.new → result ≡ Status.ReadFault }
     ensures read_fault_writes_nothing { result ≡ Status.ReadFault → K.held sink.new ≡ K.held sink.old }
 
     ensures write_fault { result ≡ Status.WriteFault → Rose (K.faults sink.old) (K.faults sink.new) }
     ensures write_fault_where_due { K.faults sink.old < K.faults sink.new → result ≡ Status.WriteFault }
-    ensures write_fault_writes_a_prefix { result ≡ Status.WriteFault → IfSome (S.left source.old) (λ input.
-        Runs input (AppendsPrefix (K.held sink.old) (K.held sink.new))) }
+    ensures write_fault_writes_a_prefix { result ≡ Status.WriteFault
+        → Performs (map (λ word. word.now) words.now) (S.left source.old) (AppendsPrefix (K.held sink.old) (K.held sink.new)) }
 
     ensures no_memory_writes_nothing { result ≡ Status.NoMemory → K.held sink.new ≡ K.held sink.old }
 
     // What was left is what was read and then what is left now; all of it was read, or its first 16,777,217 bytes.
+    ensures what_was_read { AskToRun (map (λ word. word.now) words.now) → HasRead result → IfSome (S.left source.old) (λ left.
+        Consumes (S.left source.old) (S.left source.new) (take (INPUT_BYTES_MAX + 1) left)) }
+    ensures drill_reads_nothing { AskToDrill (map (λ word. word.now) words.now) → source.new ≡ source.old }
+
+    ensures complete { (scenario : Scenario) → AskToRun (map (λ word. word.now) words.now)
+        → IsSomeAnd (S.left source.old) (λ input. ReadsAsScenario input (Ok scenario))
+        → ¬ Rose (S.faults source.old) (S.faults source.new)
+        → ¬ Rose (K.faults sink.old) (K.faults sink.new)
+        → (result ≡ Status.Done) ⊎ (result ≡ Status.NoMemory) }
+    ensures drill_complete { AskToDrill (map (λ word. word.now) words.now) → ¬ Rose (K.faults sink.old) (K.faults sink.new)
+        → (result ≡ Status.Done) ⊎ (result ≡ Status.NoMemory) }
+{
+    match read_words(alloc, words) {
+        Ok(Asked::Run { pages, patience }) => {
+            run::<S, K, R>(rt, alloc, pages, patience, source, sink)
+        }
+        Ok(Asked::Drill {
+            seed,
+            sessions,
+            notes,
+        }) => drill::<K, R>(rt, alloc, seed, sessions, notes, sink),
+        Err(WordsFault::BadWords) => Status::BadWords,
+        Err(WordsFault::Memory) => Status::NoMemory,
+    }
+}
+
+// Reads a scenario and runs it.
+fn run<S: Source, K: Sink, R: Threads + Wait + Sync>(
+    rt: &R,
+    alloc: Global,
+    pages: u32,
+    patience: u64,
+    source: &mut S,
+    sink: &mut K,
+) -> Status
+    requires some_pages { PAGES_MIN ≤ pages }
+    requires few_pages { pages ≤ PAGES_MAX }
+    requires patient { 1 ≤ patience }
+    ensures done { result ≡ Status.Done → IfSome (S.left source.old) (λ input.
+        Runs Text (settings_with pages patience) input (Appends (K.held sink.old) (K.held sink.new))) }
+    ensures done_reads_all { result ≡ Status.Done → OnSome (S.left source.old) (IsAtEnd (S.left source.new)) }
+    ensures right_words { result ≢ Status.BadWords }
+    ensures bad_scenario { (fault : ScenarioFault) → result ≡ Status.BadScenario fault
+        → IfSome (S.left source.old) (λ input. ReadsAsScenario input (Err fault)) }
+    ensures bad_scenario_where_due { (fault : ScenarioFault)
+        → IsSomeAnd (S.left source.old) (λ input. ReadsAsScenario input (Err fault))
+        → ¬ Rose (S.faults source.old) (S.faults source.new)
+        → (result ≡ Status.BadScenario fault) ⊎ (result ≡ Status.NoMemory) }
+    ensures bad_scenario_writes_nothing { (fault : ScenarioFault) → result ≡ Status.BadScenario fault
+        → K.held sink.new ≡ K.held sink.old }
+    ensures read_fault { result ≡ Status.ReadFault → Rose (S.faults source.old) (S.faults source.new) }
+    ensures read_fault_where_due { S.faults source.old < S.faults source.new → result ≡ Status.ReadFault }
+    ensures read_fault_writes_nothing { result ≡ Status.ReadFault → K.held sink.new ≡ K.held sink.old }
+    ensures write_fault { result ≡ Status.WriteFault → Rose (K.faults sink.old) (K.faults sink.new) }
+    ensures write_fault_where_due { K.faults sink.old < K.faults sink.new → result ≡ Status.WriteFault }
+    ensures write_fault_writes_a_prefix { result ≡ Status.WriteFault → IfSome (S.left source.old) (λ input.
+        Runs Text (settings_with pages patience) input (AppendsPrefix (K.held sink.old) (K.held sink.new))) }
+    ensures no_memory_writes_nothing { result ≡ Status.NoMemory → K.held sink.new ≡ K.held sink.old }
     ensures what_was_read { HasRead result → IfSome (S.left source.old) (λ left.
         Consumes (S.left source.old) (S.left source.new) (take (INPUT_BYTES_MAX + 1) left)) }
-
-    ensures complete { (scenario : Scenario) → map (λ word. word.now) words.now ≡ run_words
+    ensures complete { (scenario : Scenario)
         → IsSomeAnd (S.left source.old) (λ input. ReadsAsScenario input (Ok scenario))
         → ¬ Rose (S.faults source.old) (S.faults source.new)
         → ¬ Rose (K.faults sink.old) (K.faults sink.new)
         → (result ≡ Status.Done) ⊎ (result ≡ Status.NoMemory) }
 {
-    if !is_run(words) {
-        return Status::BadWords;
-    }
     match read_input(alloc, source, READ_LIMIT) {
-        Ok(input) => answer::<WordHub, K, R>(rt, alloc, input, sink),
+        Ok(input) => answer::<WordHub, K, R>(rt, alloc, input, pages, patience, Print::Text, sink),
         Err(Unread::Failed) => Status::ReadFault,
         Err(Unread::Memory) => Status::NoMemory,
     }
 }
 
-// Whether the words are the one command.
-fn is_run(words: &[&str]) -> bool
-    ensures { IsTrue result ↔ (map (λ word. word.now) words.now ≡ run_words) }
+// Makes the scenario of a drill and runs it. It reads as a scenario, which tests show; were it none, the answer would be want of memory.
+fn drill<K: Sink, R: Threads + Wait + Sync>(
+    rt: &R,
+    alloc: Global,
+    seed: u64,
+    sessions: u32,
+    notes: u32,
+    sink: &mut K,
+) -> Status
+    ensures done { result ≡ Status.Done
+        → Runs (Summary seed notes) drill_settings (drill seed sessions notes) (Appends (K.held sink.old) (K.held sink.new)) }
+    ensures write_fault { result ≡ Status.WriteFault → Rose (K.faults sink.old) (K.faults sink.new) }
+    ensures write_fault_where_due { K.faults sink.old < K.faults sink.new → result ≡ Status.WriteFault }
+    ensures write_fault_writes_a_prefix { result ≡ Status.WriteFault
+        → Runs (Summary seed notes) drill_settings (drill seed sessions notes) (AppendsPrefix (K.held sink.old) (K.held sink.new)) }
+    ensures no_memory_writes_nothing { result ≡ Status.NoMemory → K.held sink.new ≡ K.held sink.old }
+    ensures only { (result ≡ Status.Done) ⊎ (result ≡ Status.WriteFault) ⊎ (result ≡ Status.NoMemory) }
 {
-    match words {
-        [word] => *word == "run",
-        _ => false,
+    let Ok(input) = drill_text(alloc, seed, sessions, notes) else {
+        return Status::NoMemory;
+    };
+    let print = Print::Summary { seed, notes };
+    match answer::<WordHub, K, R>(rt, alloc, input, PAGES_MAX, PATIENCE_MAX, print, sink) {
+        Status::BadScenario(_) => Status::NoMemory,
+        status => status,
     }
 }
 
@@ -94,9 +172,15 @@ fn answer<H: Hub + Sync + Drop, K: Sink, R: Threads + Wait + Sync>(
     rt: &R,
     alloc: Global,
     input: Vec<u8>,
+    pages: u32,
+    patience: u64,
+    print: Print,
     sink: &mut K,
 ) -> Status
-    ensures answers { Answers input.items (K.held sink.old) (K.held sink.new) (K.faults sink.old) (K.faults sink.new) result }
+    requires some_pages { PAGES_MIN ≤ pages }
+    requires few_pages { pages ≤ PAGES_MAX }
+    requires patient { 1 ≤ patience }
+    ensures answers { Answers print (settings_with pages patience) input.items (K.held sink.old) (K.held sink.new) (K.faults sink.old) (K.faults sink.new) result }
     ensures later { K.faults sink.old ≤ K.faults sink.new }
     ensures rose { K.faults sink.old < K.faults sink.new → result ≡ Status.WriteFault }
 {
@@ -104,12 +188,7 @@ fn answer<H: Hub + Sync + Drop, K: Sink, R: Threads + Wait + Sync>(
     drop(input);
     match reading {
         Ok(Ok(scenario)) => run_scenario::<H, K, R>(
-            rt,
-            alloc,
-            &scenario,
-            PAGES_DEFAULT,
-            PATIENCE_DEFAULT,
-            sink,
+            rt, alloc, &scenario, pages, patience, print, sink,
         ),
         Ok(Err(fault)) => Status::BadScenario(fault),
         Err(AllocError) => Status::NoMemory,

@@ -1,15 +1,15 @@
 ghost use Rattle.std.specs.Prelude.{◌≡◌, ◌⊎◌, ◌<◌, ◌≤◌};
 ghost use Rattle.std.specs.Io.KnownBytes.{Appends};
-ghost use Rattle.pgn_base.specs.declared.format.Format.TheVariants.{One};
 ghost use Rattle.pgn_base.specs.declared.limits.TheConstants.{PAGES_MIN, PAGES_MAX};
 ghost use Rattle.pgn_base.specs.Outside.{AppendsPrefix, HasCause, Rose};
 ghost use Rattle.pgn_language.specs.Inputs.{IsSound};
-ghost use Rattle.pgn_model.specs.Text.{text};
-ghost use Rattle.pgn_run.specs.Run.{RunsOver, HasWritten};
+ghost use Rattle.pgn_model.specs.Text.{brief, text};
+ghost use Rattle.pgn_run.specs.Run.{RunsOver, HasWritten, printed, settings_with};
 
-use crate::Status;
 use crate::render::render;
+use crate::{Print, Status};
 use pgn_base::Sink;
+use pgn_drill::{received, summary};
 use pgn_hub::Hub;
 use pgn_language::Scenario;
 use pgn_threads::{Run, run_on_hub};
@@ -17,7 +17,7 @@ use std::alloc::Global;
 use std::sync::Wait;
 use std::thread::Threads;
 
-/// Runs a scenario over a hub of this type, with a limit of so many pages, and writes the journal and the traces to the sink: every
+/// Runs a scenario over a hub of this type, with a limit of so many pages, and writes what is asked for of the run to the sink: every
 /// session on a thread of its own, where an await takes so many looks.
 pub fn run_scenario<H: Hub + Sync + Drop, K: Sink, R: Threads + Wait + Sync>(
     rt: &R,
@@ -25,34 +25,63 @@ pub fn run_scenario<H: Hub + Sync + Drop, K: Sink, R: Threads + Wait + Sync>(
     scenario: &Scenario,
     pages: u32,
     patience: u64,
+    print: Print,
     sink: &mut K,
 ) -> Status
     requires sound { IsSound scenario.now }
     requires some_pages { PAGES_MIN ≤ pages }
     requires few_pages { pages ≤ PAGES_MAX }
     requires patient { 1 ≤ patience }
-    ensures done { result ≡ Status.Done → RunsOver scenario.now (record { format = One; limit = pages; patience = patience }) (Appends (K.held sink.old) (K.held sink.new)) }
+    ensures done { result ≡ Status.Done → RunsOver print scenario.now (settings_with pages patience) (Appends (K.held sink.old) (K.held sink.new)) }
     ensures write_fault { result ≡ Status.WriteFault → Rose (K.faults sink.old) (K.faults sink.new) }
     ensures write_fault_where_due { K.faults sink.old < K.faults sink.new → result ≡ Status.WriteFault }
-    ensures write_fault_writes_a_prefix { result ≡ Status.WriteFault → RunsOver scenario.now (record { format = One; limit = pages; patience = patience }) (AppendsPrefix (K.held sink.old) (K.held sink.new)) }
+    ensures write_fault_writes_a_prefix { result ≡ Status.WriteFault → RunsOver print scenario.now (settings_with pages patience) (AppendsPrefix (K.held sink.old) (K.held sink.new)) }
     ensures no_memory_writes_nothing { result ≡ Status.NoMemory → K.held sink.new ≡ K.held sink.old }
     ensures only { (result ≡ Status.Done) ⊎ (result ≡ Status.WriteFault) ⊎ (result ≡ Status.NoMemory) }
     ensures later { K.faults sink.old ≤ K.faults sink.new }
 {
     match run_on_hub::<H, R>(rt, alloc, scenario, pages, patience) {
-        Ok(played) => write_run(scenario, &played, sink),
+        Ok(played) => write_run(scenario, print, &played, sink),
         Err(_) => Status::NoMemory,
     }
 }
 
+// Writes what is asked for of a run.
+fn write_run<K: Sink>(scenario: &Scenario, print: Print, run: &Run, sink: &mut K) -> Status
+    ensures written { HasWritten (printed print scenario.now run.now.journal.items run.now.traces.items) (K.held sink.old) (K.held sink.new) (K.faults sink.old) (K.faults sink.new) result }
+    ensures later { K.faults sink.old ≤ K.faults sink.new }
+    ensures rose { K.faults sink.old < K.faults sink.new → result ≡ Status.WriteFault }
+{
+    match print {
+        Print::Text => write_text(scenario, run, sink),
+        Print::Summary { seed, notes } => write_summary(seed, notes, run, sink),
+    }
+}
+
 // Writes the text of a run.
-fn write_run<K: Sink>(scenario: &Scenario, run: &Run, sink: &mut K) -> Status
+fn write_text<K: Sink>(scenario: &Scenario, run: &Run, sink: &mut K) -> Status
     ensures written { HasWritten (text scenario.now run.now.journal.items run.now.traces.items) (K.held sink.old) (K.held sink.new) (K.faults sink.old) (K.faults sink.new) result }
     ensures later { K.faults sink.old ≤ K.faults sink.new }
     ensures rose { K.faults sink.old < K.faults sink.new → result ≡ Status.WriteFault }
 {
     let journal = run.journal.as_slice();
     match render(sink, scenario, journal, run.traces.as_slice()) {
+        Ok(()) => Status::Done,
+        Err(_) => Status::WriteFault,
+    }
+}
+
+// Writes the summary of a run. More deliveries than the summary can count no memory can hold.
+fn write_summary<K: Sink>(seed: u64, notes: u32, run: &Run, sink: &mut K) -> Status
+    ensures written { HasWritten (brief seed notes run.now.journal.items run.now.traces.items) (K.held sink.old) (K.held sink.new) (K.faults sink.old) (K.faults sink.new) result }
+    ensures later { K.faults sink.old ≤ K.faults sink.new }
+    ensures rose { K.faults sink.old < K.faults sink.new → result ≡ Status.WriteFault }
+{
+    let traces = run.traces.as_slice();
+    if received(traces).is_none() {
+        return Status::NoMemory;
+    }
+    match summary(sink, seed, notes, run.journal.as_slice(), traces) {
         Ok(()) => Status::Done,
         Err(_) => Status::WriteFault,
     }

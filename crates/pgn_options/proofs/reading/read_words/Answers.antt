@@ -12,6 +12,11 @@ returns-in-Ok-try_get_matches_from-clause-bad_words c =
     let matches = c.in-Ok-try_get_matches_from.ensures in
     (parsed _ c.in-Ok.ensures (map (λ word. word.now) c.args.words.now) _ c.asked_of.result matches.kinds (λ simple. (matches.matches simple).1) c.asked_of.ensures).1
 
+pub returns-in-Ok-try_get_matches_from-clause-within : goal.returns-in-Ok-try_get_matches_from-clause-within
+returns-in-Ok-try_get_matches_from-clause-within c =
+    let matches = c.in-Ok-try_get_matches_from.ensures in
+    (parsed _ c.in-Ok.ensures (map (λ word. word.now) c.args.words.now) _ c.asked_of.result matches.kinds (λ simple. (matches.matches simple).1) c.asked_of.ensures).2
+
 pub returns-in-Err-try_get_matches_from-clause-bad_words : goal.returns-in-Err-try_get_matches_from-clause-bad_words
 returns-in-Err-try_get_matches_from-clause-bad_words c = λ bad.
     unparsed _ c.in-Ok.ensures (map (λ word. word.now) c.args.words.now) c.in-Err-try_get_matches_from.error c.fault_of.result c.in-Err-try_get_matches_from.ensures.kinds (λ out. c.fault_of.ensures (c.kind.ensures ∙ out)) (cc)

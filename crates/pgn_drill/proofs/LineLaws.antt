@@ -1,0 +1,77 @@
+-- Lines that are put at the end of a text, one after another.
+use Rattle.std.proofs.Common.{◌≡◌, ◌∙◌, ℕ, ◌+◌, ◌*◌, ◌-◌, ◌%◌, List, [], ◌∷◌, ◌++◌, refl, ap, sym, subst, append_assoc, append-nil, add-one, arith, suc}
+use Rattle.std.specs.Prelude.{flat_map}
+use Rattle.pgn_model.specs.Text.{joined}
+use Rattle.std.proofs.Math.Nat.{suc-mul}
+use Rattle.pgn_drill.specs.Drill.{AddsLines, next_state, opening_lines, sent_lines, session_lines, state_after, up_to}
+
+joined-append : (xs ys : List (List ℕ)) → joined (xs ++ ys) ≡ joined xs ++ joined ys
+joined-append [] ys = refl
+joined-append (x ∷ xs) ys = ap (λ (t : List ℕ). (x ++ 10 ∷ []) ++ t) (joined-append xs ys) ∙ sym (append_assoc (x ++ 10 ∷ []) (joined xs) (joined ys))
+
+-- lines and then more lines
+pub AddsLines-then : {a b c : List ℕ} {xs ys : List (List ℕ)} → AddsLines a b xs → AddsLines b c ys → AddsLines a c (xs ++ ys)
+AddsLines-then {a} {b} {c} {xs} {ys} h k = record {
+  bytes = k.bytes ∙ ap (λ (t : List ℕ). t ++ joined ys) h.bytes ∙ append_assoc a (joined xs) (joined ys) ∙ ap (λ (t : List ℕ). a ++ t) (sym (joined-append xs ys));
+}
+
+-- no line
+pub AddsLines-none : (a : List ℕ) → AddsLines a a []
+AddsLines-none a = record { bytes = sym (append-nil a) }
+
+-- one line
+pub AddsLines-one : (a b l : List ℕ) → b ≡ a ++ (l ++ 10 ∷ []) → AddsLines a b (l ∷ [])
+AddsLines-one a b l e = record { bytes = e ∙ ap (λ (t : List ℕ). a ++ t) (sym (append-nil (l ++ 10 ∷ []))) }
+
+pub up_to-none : (f : ℕ → List (List ℕ)) → up_to f 0 ≡ []
+unfolding up_to
+up_to-none f = refl
+
+pub up_to-more : (f : ℕ → List (List ℕ)) (n : ℕ) → up_to f (n + 1) ≡ up_to f n ++ f (n + 1)
+unfolding up_to
+up_to-more f n = rw add-one refl
+
+pub state_after-none : (seed : ℕ) → state_after seed 0 ≡ seed
+unfolding state_after
+state_after-none seed = refl
+
+pub state_after-more : (seed n : ℕ) → state_after seed (n + 1) ≡ next_state (state_after seed n)
+unfolding state_after
+state_after-more seed n = rw add-one refl
+
+-- no lines yet
+pub AddsLines-start : (a : List ℕ) (f : ℕ → List (List ℕ)) → AddsLines a a (up_to f 0)
+AddsLines-start a f = subst (λ (lines : List (List ℕ)). AddsLines a a lines) (sym (up_to-none f)) (AddsLines-none a)
+
+-- the lines of one more
+pub AddsLines-more : (a b c : List ℕ) (f : ℕ → List (List ℕ)) (n : ℕ) → AddsLines a b (up_to f n) → AddsLines b c (f (n + 1)) → AddsLines a c (up_to f (n + 1))
+AddsLines-more a b c f n h k = subst (λ (lines : List (List ℕ)). AddsLines a c lines) (sym (up_to-more f n)) (AddsLines-then h k)
+
+-- The draws of a session.
+
+pub state-step : (seed drawn k before now : ℕ) → before ≡ state_after seed (drawn + k) → now ≡ next_state before → now ≡ state_after seed (drawn + (k + 1))
+state-step seed drawn k before now is moved =
+    let more : drawn + k + 1 ≡ drawn + (k + 1) = omega arith in
+    moved ∙ ap next_state is ∙ sym (state_after-more seed (drawn + k)) ∙ ap (state_after seed) more
+
+pub state-start : (seed drawn state : ℕ) → state ≡ state_after seed drawn → state ≡ state_after seed (drawn + 0)
+state-start seed drawn state is =
+    let same : drawn ≡ drawn + 0 = omega arith in
+    is ∙ ap (state_after seed) same
+
+pub state-first : (seed notes : ℕ) → seed ≡ state_after seed (0 * notes)
+state-first seed notes =
+    let same : 0 ≡ 0 * notes = omega arith in
+    sym (state_after-none seed) ∙ ap (state_after seed) same
+
+-- one more session
+pub session-step : (seed sessions notes i state after : ℕ) (a b d : List ℕ) → state ≡ state_after seed (i * notes)
+    → AddsLines [] a (up_to (session_lines seed sessions notes) i) → AddsLines a b (opening_lines sessions (i + 1))
+    → ((start drawn : ℕ) → state ≡ state_after start drawn → (after ≡ state_after start (drawn + notes)) × AddsLines b d (up_to (sent_lines start drawn) notes))
+    → (after ≡ state_after seed ((i + 1) * notes)) × AddsLines [] d (up_to (session_lines seed sessions notes) (i + 1))
+session-step seed sessions notes i state after a b d is so_far opens sends =
+    let sent = sends seed (i * notes) is in
+    let drawn : i * notes + notes ≡ (i + 1) * notes = rw add-one (sym (suc-mul i notes)) in
+    let before : i ≡ (i + 1) - 1 = omega arith in
+    let here = subst (λ (n : ℕ). AddsLines a d (opening_lines sessions (i + 1) ++ up_to (sent_lines seed (n * notes)) notes)) before (AddsLines-then opens sent.1) in
+    (sent.0 ∙ ap (state_after seed) drawn, AddsLines-more [] a d (session_lines seed sessions notes) i so_far here)

@@ -1,0 +1,2 @@
+-- the scenario of a drill
+pub mod Drill

@@ -1,0 +1,49 @@
+use crate::cases::lines;
+use pgn_options::{Asked, WordsFault, read_words};
+use std::alloc::{AllocError, Global};
+
+/// What the words of each line of the input ask for, a line each. A space stands between two words; a `.` alone on its line stands for
+/// no word.
+pub fn command_lines_row(alloc: Global, input: &[u8]) -> Result<Vec<u8>, AllocError> {
+    let mut text = Vec::new(alloc);
+    for line in lines(alloc, input)? {
+        put_asked(&mut text, alloc, line)?;
+        text.push(b'\n')?;
+    }
+    Ok(text)
+}
+
+fn put_asked(text: &mut Vec<u8>, alloc: Global, line: &[u8]) -> Result<(), AllocError> {
+    let Ok(line) = str::from_utf8(line) else {
+        return text.extend_from_slice(b"no line");
+    };
+    let words = words_of(alloc, line)?;
+    match read_words(alloc, words.as_slice()) {
+        Ok(asked) => put_numbers(text, alloc, asked),
+        Err(WordsFault::BadWords) => text.extend_from_slice(b"no command"),
+        Err(WordsFault::Memory) => text.extend_from_slice(b"no memory"),
+    }
+}
+
+fn words_of(alloc: Global, line: &str) -> Result<Vec<&str>, AllocError> {
+    let mut words = Vec::new(alloc);
+    if line == "." {
+        return Ok(words);
+    }
+    for word in line.split(' ') {
+        words.push(word)?;
+    }
+    Ok(words)
+}
+
+fn put_numbers(text: &mut Vec<u8>, alloc: Global, asked: Asked) -> Result<(), AllocError> {
+    let line = match asked {
+        Asked::Run { pages, patience } => format!(in alloc; "run {pages} {patience}")?,
+        Asked::Drill {
+            seed,
+            sessions,
+            notes,
+        } => format!(in alloc; "drill {seed} {sessions} {notes}")?,
+    };
+    text.extend_from_slice(line.as_bytes())
+}
