@@ -29,6 +29,10 @@
 #   a flag after a while  a session that sends 4,000 lines and raises a flag, alone; then beside one that awaits the flag
 #   256 on one processor  255 sessions await a flag that the other one raises after 10,000 lines, all on one processor
 #
+# Then come drills, which have a scenario of their own: 8 sessions that send 200 and 1,000 notifications each, and 32 that send 200.
+# Beside each stand the milliseconds of a plain program on the same scenario, with one lock round its queue, on 4 processors. A drill
+# is run ten times, and its summary has to be the one that its words say; the mean is given.
+#
 # With --hostile only these are run, by a user that may start no thread (where root measures, by the user 65534):
 #
 #   crossing flags        the example of that name, of which the text is compared
@@ -272,5 +276,35 @@ made left "$many_channels" 1024 2048 4096
 made left-block "print \"BEGIN\"; $many_channels; print \"COMMIT\"" 1024 2048 4096
 made no-such "$many_savepoints; print \"x\"; for (i = 0; i < n; i++) print \"ROLLBACK TO t\"" 1024 2048 4096
 made come-go "$many_savepoints; for (i = 0; i < n; i++) { print \"SAVEPOINT x\"; print \"RELEASE t\"; print \"ROLLBACK TO s\" (n - 1) }" 1024 2048 4096
+
+# drill PLAIN SEED SESSIONS NOTES: the processor and wall milliseconds of a run of this drill, and those of the plain program
+drill() {
+    plain=$1
+    shift
+    awk -v seed="$1" -v sessions="$2" -v notes="$3" 'BEGIN {
+        for (i = 1; i <= sessions; i++) for (k = 1; k <= notes; k++) if (k % 4 == i % 4) received += sessions
+        print "drill seed " seed " sessions " sessions " notes " notes
+        print "journal " sessions * notes
+        print "committed " sessions * notes
+        print "aborted 0"
+        print "received " received
+    }' >"$room/wanted"
+    for _ in 1 2 3 4 5 6 7 8 9 10; do
+        env time -q -a -o "$room/times" -f '%U %S %e' "$program" drill "$@" >"$room/output" 2>"$room/errors" || refused "drill $*" $?
+        cmp -s -- "$room/output" "$room/wanted" || {
+            printf 'bench: the drill %s printed\n' "$*" >&2
+            cat -- "$room/output" >&2
+            exit 1
+        }
+    done
+    awk -v words="$*" -v plain="$plain" '{ cpu += $1 + $2; wall += $3 } END {
+        printf "drill %-10s %8.1f ms of processor %8.1f ms of clock    plain program %5.1f ms\n", words, cpu * 1000 / NR, wall * 1000 / NR, plain
+    }' "$room/times"
+    rm -f -- "$room/times"
+}
+
+drill 4.5 7 8 200
+drill 12.8 7 8 1000
+drill 17.2 7 32 200
 
 measure_waits

@@ -58,7 +58,13 @@ fn counts<K: Sink>(sink: &mut K, journal: &[Tx], received: u64) -> Result<(), Fa
         ++ (codes "received " ++ decimal received ++ codes "\n"))) }
     ensures cause { HasCause (K.faults sink.old) (K.faults sink.new) result }
 {
-    match both(sink, b"journal ", journal.len() as u64, b"committed ", committed(journal)) {
+    match both(
+        sink,
+        b"journal ",
+        journal.len() as u64,
+        b"committed ",
+        committed(journal),
+    ) {
         Ok(()) => both(sink, b"aborted ", aborted(journal), b"received ", received),
         Err(failed) => Err(failed),
     }

@@ -13,3 +13,5 @@ pub mod FullQueue
 pub mod RefusedRuns
 pub mod Walks
 pub mod WholeRuns
+-- command lines and a drill
+pub mod CommandLines

@@ -6,6 +6,7 @@
 
 pub mod answers;
 pub mod blocks;
+pub mod command_lines;
 pub mod due;
 pub mod flags;
 pub mod full_queue;

@@ -187,8 +187,8 @@ drill-end (p3 a n e b m d c) t =
     go None x = λ is. refused 1 1000 c _ (omega arith) refl x (or-first _ _ (sym (total-nil drill_built (at (p3 a n e b m d c) t)) ∙ is))
     go (Some k) x = (
       total-nil drill_built (at (p3 a n e b m d c) t)
-      ∙ ap (λ (kinds : Kinds). or_else kinds (or_else (defaults_fault (settled rules (held_at (p3 a n e b m d c))).rows rules) [])) (passed 1 1000 c k _ (omega arith) refl x)
-      ∙ ap (λ (kinds : Kinds). or_else kinds []) (defaults-none (settled rules (held_at (p3 a n e b m d c))).rows),
+          ∙ ap (λ (kinds : Kinds). or_else kinds (or_else (defaults_fault (settled rules (held_at (p3 a n e b m d c))).rows rules) [])) (passed 1 1000 c k _ (omega arith) refl x)
+          ∙ ap (λ (kinds : Kinds). or_else kinds []) (defaults-none (settled rules (held_at (p3 a n e b m d c))).rows),
       (a, b, c, refl, e, d, x),
     )
 

@@ -263,18 +263,20 @@ module _ (rows : List Row) (pending : Option (Text × List Text)) (z : ℕ) (zs 
   long-opens : (key : Key) → key_named (long_name z zs) ≡ Some key → long_value z zs ≡ None
       → (turn_fault run_built [] (at rows pending) the_word ≡ or_else (settle_fault rules false (held rows pending)) [])
       × (walked rules [] (at rows pending) the_word ≡ waits_at (settled rules (held rows pending)).rows key)
-  long-opens key e v =
-      (long-turn ∙ ap (λ (o : Option Key). long_turn (option_map rule o) (long_value z zs)) e ∙ ap (λ (t : Option Text). long_turn (Some (rule key)) t) v,
-      long-walk ∙ ap (λ (o : Option Key). long_walk (option_map rule o) (long_value z zs)) e ∙ ap (λ (t : Option Text). long_walk (Some (rule key)) t) v)
+  long-opens key e v = (
+    long-turn ∙ ap (λ (o : Option Key). long_turn (option_map rule o) (long_value z zs)) e ∙ ap (λ (t : Option Text). long_turn (Some (rule key)) t) v,
+    long-walk ∙ ap (λ (o : Option Key). long_walk (option_map rule o) (long_value z zs)) e ∙ ap (λ (t : Option Text). long_walk (Some (rule key)) t) v,
+  )
 
   -- an option with its value
   long-sets : (key : Key) (value : Text) → key_named (long_name z zs) ≡ Some key → long_value z zs ≡ Some value
       → (turn_fault run_built [] (at rows pending) the_word
       ≡ or_else (or_else (settle_fault rules false (held rows pending)) (use_fault false (rule key) (value ∷ []) (settled rules (held rows pending)).rows)) [])
       × (walked rules [] (at rows pending) the_word ≡ at (used (rule key) (value ∷ []) (settled rules (held rows pending)).rows) None)
-  long-sets key value e v =
-      (long-turn ∙ ap (λ (o : Option Key). long_turn (option_map rule o) (long_value z zs)) e ∙ ap (λ (t : Option Text). long_turn (Some (rule key)) t) v,
-      long-walk ∙ ap (λ (o : Option Key). long_walk (option_map rule o) (long_value z zs)) e ∙ ap (λ (t : Option Text). long_walk (Some (rule key)) t) v)
+  long-sets key value e v = (
+    long-turn ∙ ap (λ (o : Option Key). long_turn (option_map rule o) (long_value z zs)) e ∙ ap (λ (t : Option Text). long_turn (Some (rule key)) t) v,
+    long-walk ∙ ap (λ (o : Option Key). long_walk (option_map rule o) (long_value z zs)) e ∙ ap (λ (t : Option Text). long_walk (Some (rule key)) t) v,
+  )
 
 -- What is pending is at fault: so are the words, whatever follows.
 

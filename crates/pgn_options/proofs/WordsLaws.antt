@@ -146,9 +146,10 @@ walk-first words e = or-first _ _ e
 walk-parts : (x : Walk) (w : Text) (words : List Text) → walk_fault program_built names x (w ∷ words) ≡ []
     → (turn_fault program_built names x w ≡ []) × (walk_fault program_built names (walked [] names x w) words ≡ [])
 unfolding walk_fault
-walk-parts x w words e =
-    (or-first (turn_fault program_built names x w) (walk_fault program_built names (walked [] names x w) words) e,
-    or-second (turn_fault program_built names x w) (walk_fault program_built names (walked [] names x w) words) e)
+walk-parts x w words e = (
+  or-first (turn_fault program_built names x w) (walk_fault program_built names (walked [] names x w) words) e,
+  or-second (turn_fault program_built names x w) (walk_fault program_built names (walked [] names x w) words) e,
+)
 
 dashes-walk : walked [] names start (45 ∷ 45 ∷ []) ≡ record start { is_trailing = true }
 unfolding walked

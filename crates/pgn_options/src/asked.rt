@@ -2,7 +2,14 @@
 #[derive(Clone, Copy, Debug, PartialEq, Eq)]
 pub enum Asked {
     /// To run the scenario that is read: with so many pages at most, where an await takes so many looks.
-    Run { pages: u32, patience: u64 },
+    Run {
+        pages: u32,
+        patience: u64,
+    },
     /// To run a scenario that is made from a seed: so many sessions, and so many notifications of each.
-    Drill { seed: u64, sessions: u32, notes: u32 },
+    Drill {
+        seed: u64,
+        sessions: u32,
+        notes: u32,
+    },
 }

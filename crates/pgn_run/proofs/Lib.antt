@@ -3,3 +3,4 @@ pub mod OverLaws
 pub mod PutsLaws
 pub mod LineLaws
 pub mod DoublingLaws
+pub mod AskedLaws

@@ -63,3 +63,21 @@ answers-over print settings input scenario old new before now ReadFault reads do
 -- a reading of the same bytes
 pub reads-same : (a b : List ℕ) (r s : Result Scenario ScenarioFault) → a ≡ b → r ≡ s → ReadsAsScenario a r → ReadsAsScenario b s
 reads-same a b r s e f h = subst (λ (bytes : List ℕ). ReadsAsScenario bytes s) e (subst (λ (read : Result Scenario ScenarioFault). ReadsAsScenario a read) f h)
+
+-- without a fault it is done, or memory did not suffice
+pub drill-completes : (status : Status) (Fault : Type 0) → (status ≡ Done) ⊎ (status ≡ WriteFault) ⊎ (status ≡ NoMemory) → (status ≡ WriteFault → Fault) → ¬ Fault
+    → (status ≡ Done) ⊎ (status ≡ NoMemory)
+drill-completes status Fault only rose none = elim only [
+  | inl done ↦ inl done
+  | inr other ↦ elim other [ inl fault ↦ absurd (none (rose fault)) | inr memory ↦ inr memory ]
+]
+
+-- a drill has no other answer
+pub not-bad-words : (status : Status) → (status ≡ Done) ⊎ (status ≡ WriteFault) ⊎ (status ≡ NoMemory) → status ≡ BadWords → ⊥
+not-bad-words status only e = elim only [ inl d ↦ cc | inr other ↦ elim other [ inl f ↦ cc | inr m ↦ cc ] ]
+
+pub not-bad-scenario : (status : Status) (fault : ScenarioFault) → (status ≡ Done) ⊎ (status ≡ WriteFault) ⊎ (status ≡ NoMemory) → status ≡ BadScenario fault → ⊥
+not-bad-scenario status fault only e = elim only [ inl d ↦ cc | inr other ↦ elim other [ inl f ↦ cc | inr m ↦ cc ] ]
+
+pub not-read-fault : (status : Status) → (status ≡ Done) ⊎ (status ≡ WriteFault) ⊎ (status ≡ NoMemory) → status ≡ ReadFault → ⊥
+not-read-fault status only e = elim only [ inl d ↦ cc | inr other ↦ elim other [ inl f ↦ cc | inr m ↦ cc ] ]

@@ -82,11 +82,13 @@ pub fn run_notify<'a, S: Source, K: Sink, R: Threads + Wait + Sync>(
         Ok(Asked::Run { pages, patience }) => {
             run::<S, K, R>(rt, alloc, pages, patience, source, sink)
         }
-        Ok(Asked::Drill {
-            seed,
-            sessions,
-            notes,
-        }) => drill::<K, R>(rt, alloc, seed, sessions, notes, sink),
+        Ok(
+            Asked::Drill {
+                seed,
+                sessions,
+                notes,
+            },
+        ) => drill::<K, R>(rt, alloc, seed, sessions, notes, sink),
         Err(WordsFault::BadWords) => Status::BadWords,
         Err(WordsFault::Memory) => Status::NoMemory,
     }

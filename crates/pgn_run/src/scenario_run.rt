@@ -8,7 +8,7 @@ ghost use Rattle.pgn_run.specs.Run.{RunsOver, HasWritten, printed, settings_with
 
 use crate::render::render;
 use crate::{Print, Status};
-use pgn_base::Sink;
+use pgn_base::{Failed, Sink};
 use pgn_drill::{received, summary};
 use pgn_hub::Hub;
 use pgn_language::Scenario;
@@ -83,6 +83,6 @@ fn write_summary<K: Sink>(seed: u64, notes: u32, run: &Run, sink: &mut K) -> Sta
     }
     match summary(sink, seed, notes, run.journal.as_slice(), traces) {
         Ok(()) => Status::Done,
-        Err(_) => Status::WriteFault,
+        Err(Failed) => Status::WriteFault,
     }
 }

@@ -5,8 +5,9 @@ use super::{SELF_NOTIFY, scenario_of, told};
 use pgn_base::{
     Delivery, Enlisted, Full, ListenSet, MemSink, Note, PAGES_DEFAULT, PATIENCE_DEFAULT, Usage, Xid,
 };
+use pgn_drill::drill_text;
 use pgn_hub::{Hub, PassView, Roll, Setup};
-use pgn_run::run_scenario;
+use pgn_run::{Print, run_scenario};
 use pgn_threads::{open_on_hub, run_sessions};
 use pgn_wordhub::WordHub;
 use std::alloc::{AllocError, Global};
@@ -183,6 +184,7 @@ fn shown_over<H: Hub + Sync + Drop, R: Threads + Wait + Sync>(
     rt: &R,
     alloc: Global,
     input: &str,
+    print: Print,
 ) -> Result<String, Fail> {
     let scenario = scenario_of(alloc, input)?;
     let mut sink = MemSink::new(alloc, 1 << 16, Vec::new(alloc), 1 << 20)?;
@@ -192,6 +194,7 @@ fn shown_over<H: Hub + Sync + Drop, R: Threads + Wait + Sync>(
         &scenario,
         PAGES_DEFAULT,
         PATIENCE_DEFAULT,
+        print,
         &mut sink,
     );
     told(alloc, status, sink.held())
@@ -208,7 +211,8 @@ NOTIFY c
 
 #[test]
 fn a_run_takes_its_sessions_side_by_side(rt: HostRuntime) -> Result<(), Fail> {
-    let text = shown_over::<Gate<10_000_000>, HostRuntime>(&rt, rt.alloc(), TWO_LISTENERS)?;
+    let alloc = rt.alloc();
+    let text = shown_over::<Gate<10_000_000>, HostRuntime>(&rt, alloc, TWO_LISTENERS, Print::Text)?;
     assert!(rt; text.as_str().starts_with("journal 2\n"));
     Ok(())
 }
@@ -216,7 +220,19 @@ fn a_run_takes_its_sessions_side_by_side(rt: HostRuntime) -> Result<(), Fail> {
 // A text that is made without the hub needs no memory of its reads.
 #[test]
 fn a_run_is_over_its_hub(rt: HostRuntime) -> Result<(), Fail> {
-    let text = shown_over::<Gate<0>, HostRuntime>(&rt, rt.alloc(), SELF_NOTIFY)?;
+    let alloc = rt.alloc();
+    let text = shown_over::<Gate<0>, HostRuntime>(&rt, alloc, SELF_NOTIFY, Print::Text)?;
+    assert_eq!(rt; text.as_str(), "NoMemory: ");
+    Ok(())
+}
+
+// Nor does a summary that is reckoned without a run.
+#[test]
+fn a_drill_is_over_its_hub(rt: HostRuntime) -> Result<(), Fail> {
+    let alloc = rt.alloc();
+    let input = drill_text(alloc, 0, 1, 1)?;
+    let print = Print::Summary { seed: 0, notes: 1 };
+    let text = shown_over::<Gate<0>, HostRuntime>(&rt, alloc, str::from_utf8(&input)?, print)?;
     assert_eq!(rt; text.as_str(), "NoMemory: ");
     Ok(())
 }

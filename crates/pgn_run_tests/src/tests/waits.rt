@@ -4,7 +4,7 @@ ghost use Rattle.std.specs.List.{range_with_len};
 use super::{scenario_of, told};
 use pgn_base::{Delivery, Enlisted, Full, ListenSet, MemSink, Note, PAGES_DEFAULT, Usage, Xid};
 use pgn_hub::{Hub, PassView, Roll, Setup};
-use pgn_run::run_scenario;
+use pgn_run::{Print, run_scenario};
 use pgn_threads::{open_on_hub, run_sessions};
 use pgn_wordhub::WordHub;
 use std::alloc::{AllocError, Global};
@@ -185,6 +185,7 @@ fn shown_with<R: Threads + Wait + Sync>(
         &scenario,
         PAGES_DEFAULT,
         patience,
+        Print::Text,
         &mut sink,
     );
     told(alloc, status, sink.held())

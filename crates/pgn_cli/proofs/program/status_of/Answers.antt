@@ -1,11 +1,35 @@
-use Rattle.std.proofs.Common.{ap}
+use Rattle.std.proofs.Common.{ap, inl, inr}
 use Rattle.pgn_cli.proofs.EndLaws.{refused-keeps}
 use Rattle.pgn_cli.proofs.program.status_of.Goals as goal
 
+pub returns-in-Ok-borrowed-clause-done : goal.returns-in-Ok-borrowed-clause-done
+returns-in-Ok-borrowed-clause-done g c =
+    let done = rw (c.as_slice-in-Ok-borrowed.ensures.value, c.in-Ok-borrowed.ensures, c.as_slice.ensures.value) at c.run_notify.ensures.done in
+    rw c.in-Ok.is done
+
+pub returns-in-Ok-borrowed-clause-write_fault_writes_a_prefix : goal.returns-in-Ok-borrowed-clause-write_fault_writes_a_prefix
+returns-in-Ok-borrowed-clause-write_fault_writes_a_prefix g c =
+    let prefix = rw (c.as_slice-in-Ok-borrowed.ensures.value, c.in-Ok-borrowed.ensures, c.as_slice.ensures.value) at c.run_notify.ensures.write_fault_writes_a_prefix in
+    rw c.in-Ok.is prefix
+
+pub returns-in-Ok-borrowed-clause-right_words : goal.returns-in-Ok-borrowed-clause-right_words
+returns-in-Ok-borrowed-clause-right_words g c =
+    let bad = rw (c.as_slice-in-Ok-borrowed.ensures.value, c.in-Ok-borrowed.ensures, c.as_slice.ensures.value) at c.run_notify.ensures.bad_words in
+    rw c.in-Ok.is bad
+
 pub returns-in-Ok-borrowed-clause-other_words : goal.returns-in-Ok-borrowed-clause-other_words
 returns-in-Ok-borrowed-clause-other_words g c =
-    let bad = rw (c.as_slice-in-Ok-borrowed.ensures.value, c.in-Ok-borrowed.ensures, c.as_slice.ensures.value) at c.run_notify.ensures.bad_words in
-    rw c.in-Ok.is (λ other memory. bad.1 other)
+    let due = rw (c.as_slice-in-Ok-borrowed.ensures.value, c.in-Ok-borrowed.ensures, c.as_slice.ensures.value) at c.run_notify.ensures.bad_words_where_due in
+    rw c.in-Ok.is (λ other memory. elim (due other) [ inl bad ↦ bad | inr short ↦ absurd (memory short) ])
+
+pub returns-in-Ok-borrowed-clause-bad_scenario : goal.returns-in-Ok-borrowed-clause-bad_scenario
+returns-in-Ok-borrowed-clause-bad_scenario g c = λ fault e. (c.run_notify.ensures.bad_scenario fault e).1
+
+pub returns-in-Ok-borrowed-clause-read_fault : goal.returns-in-Ok-borrowed-clause-read_fault
+returns-in-Ok-borrowed-clause-read_fault g c = λ e. (c.run_notify.ensures.read_fault e).1
 
 pub returns-in-Ok-borrowed-clause-refused_writes_nothing : goal.returns-in-Ok-borrowed-clause-refused_writes_nothing
-returns-in-Ok-borrowed-clause-refused_writes_nothing g c = refused-keeps (g.K.Sink.held c.args.sink.now) (g.K.Sink.held c.run_notify.new.sink) c.run_notify.result (λ e. ap g.K.Sink.held (c.run_notify.ensures.bad_words_write_nothing e)) c.run_notify.ensures.bad_scenario_writes_nothing c.run_notify.ensures.read_fault_writes_nothing c.run_notify.ensures.no_memory_writes_nothing
+returns-in-Ok-borrowed-clause-refused_writes_nothing g c =
+    refused-keeps (g.K.Sink.held c.args.sink.now) (g.K.Sink.held c.run_notify.new.sink) c.run_notify.result
+    (λ e. ap g.K.Sink.held (c.run_notify.ensures.bad_words_write_nothing (c.run_notify.ensures.bad_words e))) c.run_notify.ensures.bad_scenario_writes_nothing c.run_notify.ensures.read_fault_writes_nothing
+    c.run_notify.ensures.no_memory_writes_nothing

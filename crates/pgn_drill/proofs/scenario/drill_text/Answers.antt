@@ -7,7 +7,7 @@ pub loop-i-init : goal.loop-i-init
 loop-i-init c = (
   state-first c.args.seed c.args.notes,
   subst (λ (t : List ℕ). AddsLines [] t (up_to (session_lines c.args.seed c.args.sessions c.args.notes) 0)) (sym c.new-text.ensures.items)
-  (AddsLines-start [] (session_lines c.args.seed c.args.sessions c.args.notes)),
+      (AddsLines-start [] (session_lines c.args.seed c.args.sessions c.args.notes)),
 )
 
 pub loop-i-preserved : goal.loop-i-preserved

@@ -1,0 +1,103 @@
+-- Command lines, and what they ask for.
+use Rattle.std.specs.Prelude.{ℕ, List, [], ◌∷◌, Option, None, Some, codes}
+use Rattle.pgn_options.specs.declared.asked.Asked.{Asked}
+use Rattle.pgn_options.specs.declared.asked.Asked.TheVariants.{Run, Drill}
+
+abbrev pub Line : Type 0
+Line = List (List ℕ)
+
+-- the words of `run` with limits of its own, in each way in which they may be given
+abbrev pub runs_with_limits : List Line
+runs_with_limits =
+    (codes "run" ∷ [])
+    ∷ (codes "run" ∷ codes "--pages" ∷ codes "2" ∷ [])
+    ∷ (codes "run" ∷ codes "--pages=2" ∷ [])
+    ∷ (codes "run" ∷ codes "--pages" ∷ codes "+2" ∷ [])
+    ∷ (codes "run" ∷ codes "--pages" ∷ codes "00000000000000000002" ∷ [])
+    ∷ (codes "run" ∷ codes "--pages=1024" ∷ codes "--patience" ∷ codes "1" ∷ [])
+    ∷ (codes "run" ∷ codes "--patience" ∷ codes "1000000000" ∷ codes "--pages" ∷ codes "1024" ∷ [])
+    ∷ (codes "run" ∷ codes "--" ∷ [])
+    ∷ (codes "run" ∷ codes "--patience=5" ∷ codes "--" ∷ [])
+    ∷ []
+
+abbrev pub limits_of_runs : List (Option Asked)
+limits_of_runs =
+    Some (Run 256 10000000)
+    ∷ Some (Run 2 10000000)
+    ∷ Some (Run 2 10000000)
+    ∷ Some (Run 2 10000000)
+    ∷ Some (Run 2 10000000)
+    ∷ Some (Run 1024 1)
+    ∷ Some (Run 1024 1000000000)
+    ∷ Some (Run 256 10000000)
+    ∷ Some (Run 256 5)
+    ∷ []
+
+-- the words of `drill`, with and without `--`
+abbrev pub drills : List Line
+drills =
+    (codes "drill" ∷ codes "7" ∷ codes "8" ∷ codes "200" ∷ [])
+    ∷ (codes "drill" ∷ codes "--" ∷ codes "0" ∷ codes "1" ∷ codes "1" ∷ [])
+    ∷ (codes "drill" ∷ codes "0" ∷ codes "--" ∷ codes "1" ∷ codes "1" ∷ [])
+    ∷ (codes "drill" ∷ codes "0" ∷ codes "1" ∷ codes "1" ∷ codes "--" ∷ [])
+    ∷ (codes "drill" ∷ codes "18446744073709551615" ∷ codes "32" ∷ codes "1000" ∷ [])
+    ∷ []
+
+abbrev pub numbers_of_drills : List (Option Asked)
+numbers_of_drills =
+    Some (Drill 7 8 200)
+    ∷ Some (Drill 0 1 1)
+    ∷ Some (Drill 0 1 1)
+    ∷ Some (Drill 0 1 1)
+    ∷ Some (Drill 18446744073709551615 32 1000)
+    ∷ []
+
+-- words of which one number is out of its range, or none
+abbrev pub wrong_numbers : List Line
+wrong_numbers =
+    (codes "run" ∷ codes "--pages" ∷ codes "1" ∷ [])
+    ∷ (codes "run" ∷ codes "--pages" ∷ codes "1025" ∷ [])
+    ∷ (codes "run" ∷ codes "--pages" ∷ codes "99999999999999999999" ∷ [])
+    ∷ (codes "run" ∷ codes "--pages" ∷ codes "two" ∷ [])
+    ∷ (codes "run" ∷ codes "--pages" ∷ codes "+" ∷ [])
+    ∷ (codes "run" ∷ codes "--pages" ∷ codes "-2" ∷ [])
+    ∷ (codes "run" ∷ codes "--pages=-2" ∷ [])
+    ∷ (codes "run" ∷ codes "--pages=" ∷ [])
+    ∷ (codes "run" ∷ codes "--patience" ∷ codes "0" ∷ [])
+    ∷ (codes "run" ∷ codes "--patience" ∷ codes "1000000001" ∷ [])
+    ∷ (codes "drill" ∷ codes "0" ∷ codes "0" ∷ codes "1" ∷ [])
+    ∷ (codes "drill" ∷ codes "0" ∷ codes "33" ∷ codes "1" ∷ [])
+    ∷ (codes "drill" ∷ codes "0" ∷ codes "1" ∷ codes "0" ∷ [])
+    ∷ (codes "drill" ∷ codes "0" ∷ codes "1" ∷ codes "1001" ∷ [])
+    ∷ (codes "drill" ∷ codes "18446744073709551616" ∷ codes "1" ∷ codes "1" ∷ [])
+    ∷ (codes "drill" ∷ codes "-0" ∷ codes "1" ∷ codes "1" ∷ [])
+    ∷ []
+
+-- words of which one is too many, too few, or in a wrong place
+abbrev pub wrong_words : List Line
+wrong_words =
+    []
+    ∷ ([] ∷ [])
+    ∷ (codes "--help" ∷ [])
+    ∷ (codes "help" ∷ [])
+    ∷ (codes "walk" ∷ [])
+    ∷ (codes "Run" ∷ [])
+    ∷ (codes "--" ∷ codes "run" ∷ [])
+    ∷ (codes "run" ∷ codes "run" ∷ [])
+    ∷ (codes "run" ∷ codes "--help" ∷ [])
+    ∷ (codes "run" ∷ codes "--page" ∷ codes "2" ∷ [])
+    ∷ (codes "run" ∷ codes "--pages" ∷ [])
+    ∷ (codes "run" ∷ codes "--pages" ∷ codes "--patience" ∷ codes "5" ∷ [])
+    ∷ (codes "run" ∷ codes "--pages" ∷ codes "2" ∷ codes "--pages" ∷ codes "3" ∷ [])
+    ∷ (codes "run" ∷ codes "--pages=2" ∷ codes "--pages=2" ∷ [])
+    ∷ (codes "run" ∷ codes "--" ∷ codes "--" ∷ [])
+    ∷ (codes "run" ∷ codes "--" ∷ codes "--pages" ∷ codes "2" ∷ [])
+    ∷ (codes "drill" ∷ codes "1" ∷ codes "2" ∷ [])
+    ∷ (codes "drill" ∷ codes "1" ∷ codes "2" ∷ codes "3" ∷ codes "4" ∷ [])
+    ∷ (codes "drill" ∷ codes "--" ∷ codes "0" ∷ codes "--" ∷ codes "1" ∷ codes "1" ∷ [])
+    ∷ (codes "drill" ∷ codes "--pages" ∷ codes "2" ∷ codes "0" ∷ codes "1" ∷ codes "1" ∷ [])
+    ∷ []
+
+-- the scenario of the least drill
+abbrev pub least_drill : List ℕ
+least_drill = codes "\\session d1 1\nLISTEN c1\nBEGIN\n\\signal up1\n\\await up1\nCOMMIT\nBEGIN\nSAVEPOINT s\nNOTIFY gone\nROLLBACK TO s\nNOTIFY c1, '167951807'\nCOMMIT\n"

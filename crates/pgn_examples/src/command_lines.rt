@@ -1,0 +1,22 @@
+ghost use Rattle.std.specs.Prelude.{◌≡◌, true, map, not, is_some};
+ghost use Rattle.std.specs.List.{list_all};
+ghost use Rattle.pgn_options.specs.Words.{asked_by};
+ghost use Rattle.pgn_drill.specs.Drill.{drill};
+ghost use Rattle.pgn_examples.specs.CommandLines.{runs_with_limits, limits_of_runs, drills, numbers_of_drills, wrong_numbers, wrong_words, least_drill};
+
+/// Words that are a command, and what they ask for.
+pub fn commands()
+    ensures runs { map asked_by runs_with_limits ≡ limits_of_runs }
+    ensures drills { map asked_by drills ≡ numbers_of_drills }
+{}
+
+/// Words that are none.
+pub fn no_commands()
+    ensures numbers { list_all (λ words. not (is_some (asked_by words))) wrong_numbers ≡ true }
+    ensures words { list_all (λ words. not (is_some (asked_by words))) wrong_words ≡ true }
+{}
+
+/// The scenario of a drill.
+pub fn drill_of_one()
+    ensures { drill 0 1 1 ≡ least_drill }
+{}
