@@ -6,3 +6,4 @@ pub mod HeadLaws
 pub mod BeginsLaws
 pub mod AnswerLaws
 pub mod PieceReads
+pub mod CellLaws

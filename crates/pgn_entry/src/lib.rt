@@ -33,6 +33,7 @@
 //! ```
 #![tactic(auto)]
 
+mod cells;
 mod entry_fault;
 mod entry_view;
 mod format;
@@ -44,6 +45,7 @@ mod reading;
 mod texts;
 mod writing;
 
+pub use cells::{entry_cell, filler_cell};
 pub use entry_fault::EntryFault;
 pub use entry_view::EntryView;
 pub use laws::{one_answer, reads_back};

@@ -54,6 +54,11 @@ next_at v w bytes k at e below is =
     let all = length-filled_cells bytes in
     let part = length-take k (filled_cells bytes) in omega (arith, long, all, part, below, is)
 
+-- the bytes of an entry, by what a writer says of itself
+pub spelled_by : (w : Sender) (note : Note) (db xid pid : ℕ) → db ≡ w.db → xid ≡ w.xid → pid ≡ w.pid → spelled One note db xid pid ≡ spelled One note w.db w.xid w.pid
+spelled_by w note db xid pid a b c =
+    ap (λ (n : ℕ). spelled One note n xid pid) a ∙ ap (λ (n : ℕ). spelled One note w.db n pid) b ∙ ap (λ (n : ℕ). spelled One note w.db w.xid n) c
+
 -- the entry of a notification takes as many cells as its length says
 pub entry_long : (sender : Sender) (note : Note) → length (entry_of One sender note) ≡ entry_length One note / 4
 entry_long sender note = length-filled_cells (spelled One note sender.db sender.xid sender.pid) ∙ ap (λ n. n / 4) (length-spelled One note sender.db sender.xid sender.pid)

@@ -1,9 +1,8 @@
 ghost use Rattle.std.specs.Prelude.{◌≡◌, ◌≢◌, ◌⊎◌, ℕ, ◌+◌, ◌*◌, ◌%◌, ◌^◌, ◌<◌, ◌≤◌, length, drop, true, false, None, IfSome};
-ghost use Rattle.std.specs.Int.{w32, from_le_bytes};
 ghost use Rattle.pgn_base.specs.declared.format.Format.TheVariants.{One};
 ghost use Rattle.pgn_base.specs.declared.limits.TheConstants.{PID_BASE};
 ghost use Rattle.pgn_journal.specs.Journal.{next_xid};
-ghost use Rattle.pgn_journal.specs.Bytes.{page_bytes, entry_length};
+ghost use Rattle.pgn_journal.specs.Bytes.{entry_length, filler, IsEntryLength};
 ghost use Rattle.pgn_journal.specs.Packing.{page_of, page_start, cells_in, filled_cells, image, HasRoom};
 ghost use Rattle.pgn_layout.specs.Batches.{IsPlanned, entry_of, batch_cells};
 ghost use Rattle.pgn_words.specs.Passes.{IsPassOf, view_of, known_of};
@@ -15,9 +14,8 @@ ghost use Rattle.pgn_wordhub.specs.Placing.{stored_more, writer_of, IsPlacing, H
 
 use crate::WordHub;
 use crate::floor::Floor;
-use byteorder::{ByteOrder, LittleEndian};
-use pgn_base::{CELL_BYTES, Note, PAGE_BYTES, PID_BASE, Xid};
-use pgn_entry::{entry_len, write_entry, write_filler};
+use pgn_base::{CELL_BYTES, Note, PID_BASE, Xid};
+use pgn_entry::{entry_cell, entry_len, filler_cell};
 use pgn_hub::PassView;
 use pgn_layout::{Batch, Pos, plan_batch};
 use pgn_words::WordPass;
@@ -31,14 +29,6 @@ pub(crate) struct Placing {
     pub placed: usize,
 }
 
-// The cell that holds four of these bytes.
-fn cell_in(bytes: &[u8], k: usize) -> u32
-    requires { 4 * k + 4 ≤ length bytes.now }
-    ensures { result ≡ from_le_bytes w32 (drop (4 * k) bytes.now) }
-{
-    LittleEndian::read_u32(&bytes[CELL_BYTES * k..])
-}
-
 impl WordHub {
     // The process number of a pass's session.
     fn pid(pass: &WordPass) -> u32
@@ -47,61 +37,51 @@ impl WordHub {
         PID_BASE + pass.session().get()
     }
 
-    // Stores the cells of bytes, from a place on.
-    fn store_bytes(&self, pass: &mut WordPass, at: Pos, bytes: &[u8])
-        requires own { IsPassOf self.now.queue pass.old }
-        requires phase { (view_of pass.old).phase ≡ phases.Open }
-        requires next { at ≡ length (stored_by (view_of pass.old)) }
-        requires pages { at + cells_in (length bytes.now) ≤ page_start ((view_of pass.old).stop + (hub_shape self.now).pages) }
-        requires low { at + cells_in (length bytes.now) < 2 ^ 64 }
-        requires whole { length bytes.now % 4 ≡ 0 }
-        ensures own { IsPassOf self.now.queue pass.new }
-        ensures view { view_of pass.new ≡ stored_more (filled_cells bytes.now) (view_of pass.old) }
-    {
-        for k in 0..bytes.len() / CELL_BYTES {
-            let cell = cell_in(bytes, k);
-            self.queue
-                .store_cell(pass, Pos::new(at.get() + k as u64), cell);
-        }
-    }
-
-    // Stores the entry of a notification, and answers the place behind its bytes.
-    fn write_note(
-        &self,
-        pass: &mut WordPass,
-        at: Pos,
-        note: &Note,
-        xid: Xid,
-        page: &mut [u8],
-    ) -> Pos
+    // Stores the entry of a notification, and answers the place behind it.
+    fn write_note(&self, pass: &mut WordPass, at: Pos, note: &Note, xid: Xid) -> Pos
         requires own { IsPassOf self.now.queue pass.old }
         requires phase { (view_of pass.old).phase ≡ phases.Open }
         requires next { at ≡ length (stored_by (view_of pass.old)) }
         requires xid { xid ≡ next_xid (known_of pass.old).seen }
         requires pages { at + cells_in (entry_length One note.now) ≤ page_start ((view_of pass.old).stop + (hub_shape self.now).pages) }
         requires low { at ≤ 2 ^ 32 }
-        requires page { length page.old ≡ page_bytes }
         ensures own { IsPassOf self.now.queue pass.new }
         ensures view { view_of pass.new ≡ stored_more (entry_of One (writer_of (known_of pass.old)) note.now) (view_of pass.old) }
         ensures end { result ≡ at + length (entry_of One (writer_of (known_of pass.old)) note.now) }
-        ensures page { length page.new ≡ page_bytes }
     {
-        let len = entry_len(note) as usize;
-        write_entry(note, pass.db(), xid, WordHub::pid(pass), &mut page[..len]);
-        self.store_bytes(pass, at, &page[..len]);
-        Pos::new(at.get() + (len / CELL_BYTES) as u64)
+        let db = pass.db();
+        let pid = WordHub::pid(pass);
+        let cells = entry_len(note) as usize / CELL_BYTES;
+        for k in 0..cells {
+            let cell = entry_cell(note, db, xid, pid, k);
+            self.queue
+                .store_cell(pass, Pos::new(at.get() + k as u64), cell);
+        }
+        Pos::new(at.get() + cells as u64)
+    }
+
+    // Stores a filler of so many bytes.
+    fn write_filler(&self, pass: &mut WordPass, at: Pos, xid: Xid, len: u32)
+        requires own { IsPassOf self.now.queue pass.old }
+        requires phase { (view_of pass.old).phase ≡ phases.Open }
+        requires next { at ≡ length (stored_by (view_of pass.old)) }
+        requires long { IsEntryLength One len }
+        requires pages { at + cells_in len ≤ page_start ((view_of pass.old).stop + (hub_shape self.now).pages) }
+        requires low { at ≤ 2 ^ 32 }
+        ensures own { IsPassOf self.now.queue pass.new }
+        ensures view { view_of pass.new ≡ stored_more (filled_cells (filler One len xid (PID_BASE + (known_of pass.old).session))) (view_of pass.old) }
+    {
+        let pid = WordHub::pid(pass);
+        let cells = len as usize / CELL_BYTES;
+        for k in 0..cells {
+            let cell = filler_cell(len, xid, pid, k);
+            self.queue
+                .store_cell(pass, Pos::new(at.get() + k as u64), cell);
+        }
     }
 
     // Stores a batch of notifications, from a place on.
-    fn write_batch(
-        &self,
-        pass: &mut WordPass,
-        at: Pos,
-        notes: &[Note],
-        batch: &Batch,
-        xid: Xid,
-        page: &mut [u8],
-    )
+    fn write_batch(&self, pass: &mut WordPass, at: Pos, notes: &[Note], batch: &Batch, xid: Xid)
         requires own { IsPassOf self.now.queue pass.old }
         requires phase { (view_of pass.old).phase ≡ phases.Open }
         requires next { at ≡ length (stored_by (view_of pass.old)) }
@@ -110,19 +90,15 @@ impl WordHub {
         requires room { HasRoom One at }
         requires pages { page_of at < (view_of pass.old).stop + (hub_shape self.now).pages }
         requires low { at < 2 ^ 32 }
-        requires page { length page.old ≡ page_bytes }
         ensures own { IsPassOf self.now.queue pass.new }
         ensures view { view_of pass.new ≡ stored_more (batch_cells One (writer_of (known_of pass.old)) notes.now batch.now) (view_of pass.old) }
-        ensures page { length page.new ≡ page_bytes }
     {
         let mut at = at;
         for note in &notes[..batch.fits] {
-            at = self.write_note(pass, at, note, xid, page);
+            at = self.write_note(pass, at, note, xid);
         }
         if batch.filler > 0 {
-            let len = batch.filler as usize;
-            write_filler(xid, WordHub::pid(pass), &mut page[..len]);
-            self.store_bytes(pass, at, &page[..len]);
+            self.write_filler(pass, at, xid, batch.filler);
         }
     }
 
@@ -135,31 +111,22 @@ impl WordHub {
     }
 
     // Writes the next batch of the notifications that are left.
-    fn place_batch(
-        &self,
-        pass: &mut WordPass,
-        notes: &[Note],
-        xid: Xid,
-        placing: &mut Placing,
-        page: &mut [u8],
-    )
+    fn place_batch(&self, pass: &mut WordPass, notes: &[Note], xid: Xid, placing: &mut Placing)
         requires own { IsPassOf self.now.queue pass.old }
         requires xid { xid ≡ next_xid (known_of pass.old).seen }
         requires placing { IsPlacing (view_of pass.old) notes.now placing.old.placed placing.old.at }
         requires left { placing.old.placed < length notes.now }
         requires stop { placing.old.stop ≡ (view_of pass.old).stop }
         requires pages { page_of placing.old.at < placing.old.stop + (hub_shape self.now).pages }
-        requires page { length page.old ≡ page_bytes }
         ensures own { IsPassOf self.now.queue pass.new }
         ensures view { view_of pass.new ≡ placed_view (view_of pass.new) (view_of pass.old) }
         ensures placing { IsPlacing (view_of pass.new) notes.now placing.new.placed placing.new.at }
         ensures within { placing.new.placed ≤ length notes.now }
         ensures stop { placing.new.stop ≡ placing.old.stop }
-        ensures page { length page.new ≡ page_bytes }
     {
         let rest = &notes[placing.placed..];
         let batch = plan_batch(placing.at, rest);
-        self.write_batch(pass, placing.at, rest, &batch, xid, page);
+        self.write_batch(pass, placing.at, rest, &batch, xid);
         self.queue.store_head(pass, batch.next);
         placing.at = batch.next;
         placing.placed += batch.fits;
@@ -190,7 +157,6 @@ impl WordHub {
         ensures all { result ≡ None → placing.new.placed ≡ length notes.now }
         ensures full { IfSome result (λ floor. IsHeldUp (hub_shape self.now) (view_of pass.old) (view_of pass.new) (length notes.now) placing.new.placed placing.new.at floor.mark floor.at floor.holder) }
     {
-        let mut page = [0; PAGE_BYTES];
         let start = placing.at;
         'batches: for _ in rt.forever() {
             if placing.placed >= notes.len() {
@@ -203,7 +169,7 @@ impl WordHub {
                     return Some(floor);
                 }
             }
-            self.place_batch(pass, notes, xid, placing, &mut page);
+            self.place_batch(pass, notes, xid, placing);
         }
         None
     }

@@ -17,15 +17,15 @@ ghost use Rattle.pgn_wordhub.specs.Walks.{StandsAt, IsCell, IsDueEntry, HasDueEn
 use crate::WordHub;
 use crate::parts::{delivery_of, entry_parts};
 use byteorder::{ByteOrder, LittleEndian};
-use pgn_base::{CELL_BYTES, Delivery, ListenSet, PAGE_BYTES, Xid};
+use pgn_base::{CELL_BYTES, Delivery, ListenSet, Xid};
 use pgn_hub::PassView;
 use pgn_journal::Fate;
 use pgn_layout::{Pos, advance};
 use pgn_words::WordPass;
 use std::alloc::{AllocError, Global};
 
-/// The cells of a page.
-const PAGE_CELLS: usize = PAGE_BYTES / CELL_BYTES;
+/// An entry of so many bytes or fewer is put together on the stack.
+const SHORT_BYTES: usize = 256;
 
 /// The first three numbers of an entry or a filler.
 #[derive(Clone, Copy)]
@@ -33,6 +33,15 @@ pub(crate) struct HeadCells {
     pub len: u32,
     pub db: u32,
     pub xid: u32,
+}
+
+// What a read asks for: what is due on these channels of what the hub shows, from numbers below `fin`.
+#[derive(Clone, Copy)]
+struct Reader<'a> {
+    hub: &'a WordHub,
+    alloc: Global,
+    fin: Xid,
+    set: &'a ListenSet,
 }
 
 impl WordHub {
@@ -97,48 +106,6 @@ impl WordHub {
         }
     }
 
-    // Whether an entry of a finished transaction on a channel is received.
-    fn is_due(&self, pass: &mut WordPass, xid: Xid, channel: &[u8], set: &ListenSet) -> bool
-        requires own { IsPassOf self.now.queue pass.old }
-        requires reach { length (known_of pass.old).seen ≤ notes_of_seats (hub_shape self.now).seats }
-        requires below { xid < next_xid (known_of pass.old).seen }
-        ensures own { IsPassOf self.now.queue pass.new }
-        ensures view { view_of pass.new ≡ view_of pass.old }
-        ensures due { result ≡ (has_name set.now.channels channel.now && committed_by (known_of pass.old).seen xid) }
-    {
-        if !set.contains(channel) {
-            return false;
-        }
-        self.committed(pass, xid)
-    }
-
-    // Puts the entry that these bytes are behind `out`, if its channel is in the set and its transaction committed.
-    fn deliver(
-        &self,
-        alloc: Global,
-        pass: &mut WordPass,
-        bytes: &[u8],
-        set: &ListenSet,
-        out: &mut Vec<Delivery>,
-    ) -> Result<(), AllocError>
-        requires own { IsPassOf self.now.queue pass.old }
-        requires reach { length (known_of pass.old).seen ≤ notes_of_seats (hub_shape self.now).seats }
-        requires entry { HasDueEntry (known_of pass.old).db (known_of pass.old).seen bytes.now }
-        ensures own { IsPassOf self.now.queue pass.new }
-        ensures view { view_of pass.new ≡ view_of pass.old }
-        ensures delivered { OnOk result ((note : Note) (sender : Sender) → IsDueEntry (known_of pass.old).db (known_of pass.old).seen bytes.now note sender
-            → out.new.items ≡ out.old.items ++ gives (known_of pass.old).db set.now.channels (committed_by (known_of pass.old).seen) (AnEntry note sender)) }
-        ensures refused { OnErr result (out.new.items ≡ out.old.items) }
-    {
-        let parts = entry_parts(bytes);
-        let xid = Xid::new(parts.xid);
-        if self.is_due(pass, xid, parts.channel, set) {
-            let delivery = delivery_of(alloc, xid, parts.pid, parts.channel, parts.payload)?;
-            out.push(delivery)?;
-        }
-        Ok(())
-    }
-
     // Loads the bytes of the entry at a place.
     fn load_bytes(&self, pass: &mut WordPass, at: Pos, words: &mut [u32], page: &mut [u8])
         requires own { IsPassOf self.now.queue pass.old }
@@ -154,150 +121,6 @@ impl WordHub {
     {
         self.load_cells(pass, at, words);
         LittleEndian::write_u32_into(words, page);
-    }
-
-    // Loads the entry of so many bytes at a place, and puts it behind `out` if it is due.
-    fn take(
-        &self,
-        alloc: Global,
-        pass: &mut WordPass,
-        at: Pos,
-        len: usize,
-        set: &ListenSet,
-        words: &mut [u32],
-        page: &mut [u8],
-        out: &mut Vec<Delivery>,
-    ) -> Result<(), AllocError>
-        requires own { IsPassOf self.now.queue pass.old }
-        requires shown { (view_of pass.old).walk.stage ≡ stages.Shown }
-        requires from { (view_of pass.old).post.at ≤ at }
-        requires low { at < 2 ^ 32 }
-        requires reach { length (known_of pass.old).seen ≤ notes_of_seats (hub_shape self.now).seats }
-        requires words { length words.old ≡ page_cells }
-        requires page { length page.old ≡ page_bytes }
-        requires entry { HasEntryAt (shown_cells (view_of pass.old)) at len (known_of pass.old).db (known_of pass.old).seen }
-        ensures own { IsPassOf self.now.queue pass.new }
-        ensures view { view_of pass.new ≡ view_of pass.old }
-        ensures words { length words.new ≡ length words.old }
-        ensures page { length page.new ≡ length page.old }
-        ensures taken { OnOk result ((note : Note) (sender : Sender) → IsEntryAt (shown_cells (view_of pass.old)) at len (known_of pass.old).db (known_of pass.old).seen note sender
-            → out.new.items ≡ out.old.items ++ gives (known_of pass.old).db set.now.channels (committed_by (known_of pass.old).seen) (AnEntry note sender)) }
-        ensures refused { OnErr result (out.new.items ≡ out.old.items) }
-    {
-        self.load_bytes(pass, at, &mut words[..len / CELL_BYTES], &mut page[..len]);
-        self.deliver(alloc, pass, &page[..len], set, out)
-    }
-
-    // Reads the entry or the filler at a place, and answers the place of the next one; or none, if its number is not below `fin`.
-    fn turn(
-        &self,
-        alloc: Global,
-        pass: &mut WordPass,
-        at: Pos,
-        fin: Xid,
-        set: &ListenSet,
-        words: &mut [u32],
-        page: &mut [u8],
-        out: &mut Vec<Delivery>,
-    ) -> Result<Option<Pos>, AllocError>
-        requires own { IsPassOf self.now.queue pass.old }
-        requires shown { (view_of pass.old).walk.stage ≡ stages.Shown }
-        requires from { (view_of pass.old).post.at ≤ at }
-        requires before { at < length (shown_cells (view_of pass.old)) }
-        requires low { length (shown_cells (view_of pass.old)) < 2 ^ 32 }
-        requires fin { fin ≡ next_xid (known_of pass.old).seen }
-        requires reach { length (known_of pass.old).seen ≤ notes_of_seats (hub_shape self.now).seats }
-        requires words { length words.old ≡ page_cells }
-        requires page { length page.old ≡ page_bytes }
-        requires walks { IsWalking (shown_cells (view_of pass.old)) fin (known_of pass.old).db set.now.channels (known_of pass.old).seen at out.old.items }
-        ensures own { IsPassOf self.now.queue pass.new }
-        ensures view { view_of pass.new ≡ view_of pass.old }
-        ensures words { length words.new ≡ length words.old }
-        ensures page { length page.new ≡ length page.old }
-        ensures turned { IfOk result (HasTurned (shown_cells (view_of pass.old)) fin (known_of pass.old).db set.now.channels (known_of pass.old).seen at out.old.items out.new.items) }
-        ensures refused { OnErr result (out.new.items ≡ out.old.items) }
-    {
-        let head = self.head_at(pass, at);
-        let end = fin.get();
-        if head.xid >= end {
-            return Ok(None);
-        }
-        let own = pass.db().get();
-        if head.db != own {
-            return Ok(Some(advance(at, head.len)));
-        }
-        self.take(alloc, pass, at, head.len as usize, set, words, page, out)?;
-        Ok(Some(advance(at, head.len)))
-    }
-
-    // What `walk` does, by two buffers of a page each.
-    fn walk_cells(
-        &self,
-        alloc: Global,
-        pass: &mut WordPass,
-        from: Pos,
-        head: Pos,
-        fin: Xid,
-        set: &ListenSet,
-        out: &mut Vec<Delivery>,
-    ) -> Result<Pos, AllocError>
-        requires own { IsPassOf self.now.queue pass.old }
-        requires shown { (view_of pass.old).walk.stage ≡ stages.Shown }
-        requires from { (view_of pass.old).post.at ≤ from }
-        requires head { head ≡ length (shown_cells (view_of pass.old)) }
-        requires low { head < 2 ^ 32 }
-        requires fin { fin ≡ next_xid (known_of pass.old).seen }
-        requires reach { length (known_of pass.old).seen ≤ notes_of_seats (hub_shape self.now).seats }
-        requires walks { IsWalking (shown_cells (view_of pass.old)) fin (known_of pass.old).db set.now.channels (known_of pass.old).seen from out.old.items }
-        ensures own { IsPassOf self.now.queue pass.new }
-        ensures view { view_of pass.new ≡ view_of pass.old }
-        ensures walked { IfOk result (λ at. (end : ℕ) (owed : List Delivery) → Walks (shown_cells (view_of pass.old)) fin (known_of pass.old).db set.now.channels (known_of pass.old).seen from end out.old.items owed
-            → (at ≡ end) × (out.new.items ≡ owed)) }
-        ensures front { take (vec_len out.old) out.new.items ≡ out.old.items }
-    {
-        let mut words = [0; PAGE_CELLS];
-        let mut page = [0; PAGE_BYTES];
-        let mut at = from;
-        let last = head.get();
-        while at.get() < last {
-            match self.turn(alloc, pass, at, fin, set, &mut words, &mut page, out)? {
-                Some(next) => at = next,
-                None => return Ok(at),
-            }
-        }
-        Ok(at)
-    }
-
-    // Goes from a place on up to the first entry whose number is not below `fin`, or to the head, and puts what is due behind `out`.
-    // Where the place is at the head there is nothing to load, and no buffer is cleared.
-    fn walk(
-        &self,
-        alloc: Global,
-        pass: &mut WordPass,
-        from: Pos,
-        head: Pos,
-        fin: Xid,
-        set: &ListenSet,
-        out: &mut Vec<Delivery>,
-    ) -> Result<Pos, AllocError>
-        requires own { IsPassOf self.now.queue pass.old }
-        requires shown { (view_of pass.old).walk.stage ≡ stages.Shown }
-        requires from { (view_of pass.old).post.at ≤ from }
-        requires head { head ≡ length (shown_cells (view_of pass.old)) }
-        requires low { head < 2 ^ 32 }
-        requires fin { fin ≡ next_xid (known_of pass.old).seen }
-        requires reach { length (known_of pass.old).seen ≤ notes_of_seats (hub_shape self.now).seats }
-        requires walks { IsWalking (shown_cells (view_of pass.old)) fin (known_of pass.old).db set.now.channels (known_of pass.old).seen from out.old.items }
-        ensures own { IsPassOf self.now.queue pass.new }
-        ensures view { view_of pass.new ≡ view_of pass.old }
-        ensures walked { IfOk result (λ at. (end : ℕ) (owed : List Delivery) → Walks (shown_cells (view_of pass.old)) fin (known_of pass.old).db set.now.channels (known_of pass.old).seen from end out.old.items owed
-            → (at ≡ end) × (out.new.items ≡ owed)) }
-        ensures front { take (vec_len out.old) out.new.items ≡ out.old.items }
-    {
-        if from.get() >= head.get() {
-            return Ok(from);
-        }
-        self.walk_cells(alloc, pass, from, head, fin, set, out)
     }
 
     // Reads from the mark up to the first unfinished number.
@@ -318,7 +141,13 @@ impl WordHub {
         let fin = self.queue.begin_walk(pass);
         let head = self.queue.show_head(pass);
         let before = out.len();
-        match self.walk(alloc, pass, pass.place(), head, fin, set, out) {
+        let reader = Reader {
+            hub: self,
+            alloc,
+            fin,
+            set,
+        };
+        match reader.walk(pass, pass.place(), head, out) {
             Ok(at) => {
                 self.queue.store_forward(pass, fin, at);
                 Ok(fin)
@@ -328,5 +157,170 @@ impl WordHub {
                 Err(AllocError)
             }
         }
+    }
+}
+
+impl Reader<'_> {
+    // Whether an entry of a finished transaction on a channel is received.
+    fn is_due(&self, pass: &mut WordPass, xid: Xid, channel: &[u8]) -> bool
+        requires own { IsPassOf self.now.hub.now.queue pass.old }
+        requires reach { length (known_of pass.old).seen ≤ notes_of_seats (hub_shape self.now.hub.now).seats }
+        requires below { xid < next_xid (known_of pass.old).seen }
+        ensures own { IsPassOf self.now.hub.now.queue pass.new }
+        ensures view { view_of pass.new ≡ view_of pass.old }
+        ensures due { result ≡ (has_name self.now.set.now.channels channel.now && committed_by (known_of pass.old).seen xid) }
+    {
+        if !self.set.contains(channel) {
+            return false;
+        }
+        self.hub.committed(pass, xid)
+    }
+
+    // Puts the entry that these bytes are behind `out`, if its channel is in the set and its transaction committed.
+    fn deliver(
+        &self,
+        pass: &mut WordPass,
+        bytes: &[u8],
+        out: &mut Vec<Delivery>,
+    ) -> Result<(), AllocError>
+        requires own { IsPassOf self.now.hub.now.queue pass.old }
+        requires reach { length (known_of pass.old).seen ≤ notes_of_seats (hub_shape self.now.hub.now).seats }
+        requires entry { HasDueEntry (known_of pass.old).db (known_of pass.old).seen bytes.now }
+        ensures own { IsPassOf self.now.hub.now.queue pass.new }
+        ensures view { view_of pass.new ≡ view_of pass.old }
+        ensures delivered { OnOk result ((note : Note) (sender : Sender) → IsDueEntry (known_of pass.old).db (known_of pass.old).seen bytes.now note sender
+            → out.new.items ≡ out.old.items ++ gives (known_of pass.old).db self.now.set.now.channels (committed_by (known_of pass.old).seen) (AnEntry note sender)) }
+        ensures refused { OnErr result (out.new.items ≡ out.old.items) }
+    {
+        let parts = entry_parts(bytes);
+        let xid = Xid::new(parts.xid);
+        if self.is_due(pass, xid, parts.channel) {
+            let delivery = delivery_of(self.alloc, xid, parts.pid, parts.channel, parts.payload)?;
+            out.push(delivery)?;
+        }
+        Ok(())
+    }
+
+    // Loads the entry that takes all of `bytes`, and puts it behind `out` if it is due.
+    fn take_by(
+        &self,
+        pass: &mut WordPass,
+        at: Pos,
+        words: &mut [u32],
+        bytes: &mut [u8],
+        out: &mut Vec<Delivery>,
+    ) -> Result<(), AllocError>
+        requires own { IsPassOf self.now.hub.now.queue pass.old }
+        requires shown { (view_of pass.old).walk.stage ≡ stages.Shown }
+        requires from { (view_of pass.old).post.at ≤ at }
+        requires low { at < 2 ^ 32 }
+        requires reach { length (known_of pass.old).seen ≤ notes_of_seats (hub_shape self.now.hub.now).seats }
+        requires words { length bytes.old ≡ 4 * length words.old }
+        requires entry { HasEntryAt (shown_cells (view_of pass.old)) at (length bytes.old) (known_of pass.old).db (known_of pass.old).seen }
+        ensures own { IsPassOf self.now.hub.now.queue pass.new }
+        ensures view { view_of pass.new ≡ view_of pass.old }
+        ensures taken { OnOk result ((note : Note) (sender : Sender) → IsEntryAt (shown_cells (view_of pass.old)) at (length bytes.old) (known_of pass.old).db (known_of pass.old).seen note sender
+            → out.new.items ≡ out.old.items ++ gives (known_of pass.old).db self.now.set.now.channels (committed_by (known_of pass.old).seen) (AnEntry note sender)) }
+        ensures refused { OnErr result (out.new.items ≡ out.old.items) }
+    {
+        self.hub.load_bytes(pass, at, words, bytes);
+        self.deliver(pass, bytes, out)
+    }
+
+    // The same of an entry of so many bytes. A long one is put together on the heap, in no more memory than it has.
+    fn take(
+        &self,
+        pass: &mut WordPass,
+        at: Pos,
+        len: usize,
+        out: &mut Vec<Delivery>,
+    ) -> Result<(), AllocError>
+        requires own { IsPassOf self.now.hub.now.queue pass.old }
+        requires shown { (view_of pass.old).walk.stage ≡ stages.Shown }
+        requires from { (view_of pass.old).post.at ≤ at }
+        requires low { at < 2 ^ 32 }
+        requires reach { length (known_of pass.old).seen ≤ notes_of_seats (hub_shape self.now.hub.now).seats }
+        requires entry { HasEntryAt (shown_cells (view_of pass.old)) at len (known_of pass.old).db (known_of pass.old).seen }
+        ensures own { IsPassOf self.now.hub.now.queue pass.new }
+        ensures view { view_of pass.new ≡ view_of pass.old }
+        ensures taken { OnOk result ((note : Note) (sender : Sender) → IsEntryAt (shown_cells (view_of pass.old)) at len (known_of pass.old).db (known_of pass.old).seen note sender
+            → out.new.items ≡ out.old.items ++ gives (known_of pass.old).db self.now.set.now.channels (committed_by (known_of pass.old).seen) (AnEntry note sender)) }
+        ensures refused { OnErr result (out.new.items ≡ out.old.items) }
+    {
+        if len <= SHORT_BYTES {
+            let mut words = [0; SHORT_BYTES / CELL_BYTES];
+            let mut bytes = [0; SHORT_BYTES];
+            let words = &mut words[..len / CELL_BYTES];
+            return self.take_by(pass, at, words, &mut bytes[..len], out);
+        }
+        let mut words = vec![in self.alloc; 0; len / CELL_BYTES]?;
+        let mut bytes = vec![in self.alloc; 0; len]?;
+        self.take_by(pass, at, &mut words, &mut bytes, out)
+    }
+
+    // Reads the entry or the filler at a place, and answers the place of the next one; or none, if its number is not below `fin`.
+    fn turn(
+        &self,
+        pass: &mut WordPass,
+        at: Pos,
+        out: &mut Vec<Delivery>,
+    ) -> Result<Option<Pos>, AllocError>
+        requires own { IsPassOf self.now.hub.now.queue pass.old }
+        requires shown { (view_of pass.old).walk.stage ≡ stages.Shown }
+        requires from { (view_of pass.old).post.at ≤ at }
+        requires before { at < length (shown_cells (view_of pass.old)) }
+        requires low { length (shown_cells (view_of pass.old)) < 2 ^ 32 }
+        requires fin { self.now.fin ≡ next_xid (known_of pass.old).seen }
+        requires reach { length (known_of pass.old).seen ≤ notes_of_seats (hub_shape self.now.hub.now).seats }
+        requires walks { IsWalking (shown_cells (view_of pass.old)) self.now.fin (known_of pass.old).db self.now.set.now.channels (known_of pass.old).seen at out.old.items }
+        ensures own { IsPassOf self.now.hub.now.queue pass.new }
+        ensures view { view_of pass.new ≡ view_of pass.old }
+        ensures turned { IfOk result (HasTurned (shown_cells (view_of pass.old)) self.now.fin (known_of pass.old).db self.now.set.now.channels (known_of pass.old).seen at out.old.items out.new.items) }
+        ensures refused { OnErr result (out.new.items ≡ out.old.items) }
+    {
+        let head = self.hub.head_at(pass, at);
+        let end = self.fin.get();
+        if head.xid >= end {
+            return Ok(None);
+        }
+        let own = pass.db().get();
+        if head.db != own {
+            return Ok(Some(advance(at, head.len)));
+        }
+        self.take(pass, at, head.len as usize, out)?;
+        Ok(Some(advance(at, head.len)))
+    }
+
+    // Goes from a place on up to the first entry whose number is not below `fin`, or to the head, and puts what is due behind `out`.
+    fn walk(
+        &self,
+        pass: &mut WordPass,
+        from: Pos,
+        head: Pos,
+        out: &mut Vec<Delivery>,
+    ) -> Result<Pos, AllocError>
+        requires own { IsPassOf self.now.hub.now.queue pass.old }
+        requires shown { (view_of pass.old).walk.stage ≡ stages.Shown }
+        requires from { (view_of pass.old).post.at ≤ from }
+        requires head { head ≡ length (shown_cells (view_of pass.old)) }
+        requires low { head < 2 ^ 32 }
+        requires fin { self.now.fin ≡ next_xid (known_of pass.old).seen }
+        requires reach { length (known_of pass.old).seen ≤ notes_of_seats (hub_shape self.now.hub.now).seats }
+        requires walks { IsWalking (shown_cells (view_of pass.old)) self.now.fin (known_of pass.old).db self.now.set.now.channels (known_of pass.old).seen from out.old.items }
+        ensures own { IsPassOf self.now.hub.now.queue pass.new }
+        ensures view { view_of pass.new ≡ view_of pass.old }
+        ensures walked { IfOk result (λ at. (end : ℕ) (owed : List Delivery) → Walks (shown_cells (view_of pass.old)) self.now.fin (known_of pass.old).db self.now.set.now.channels (known_of pass.old).seen from end out.old.items owed
+            → (at ≡ end) × (out.new.items ≡ owed)) }
+        ensures front { take (vec_len out.old) out.new.items ≡ out.old.items }
+    {
+        let mut at = from;
+        let last = head.get();
+        while at.get() < last {
+            match self.turn(pass, at, out)? {
+                Some(next) => at = next,
+                None => return Ok(at),
+            }
+        }
+        Ok(at)
     }
 }

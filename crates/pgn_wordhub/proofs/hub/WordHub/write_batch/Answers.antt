@@ -1,16 +1,13 @@
-use Rattle.std.proofs.Common.{◌≡◌, ℕ, ◌+◌, ◌/◌, ◌++◌, ◌≤◌, List, length, take, drop, sym, refl, ap, ◌∙◌, subst, arith}
+use Rattle.std.proofs.Common.{◌≡◌, ℕ, ◌+◌, ◌/◌, List, length, take, refl, ap, arith}
 use Rattle.std.proofs.lemmas.List.{take_all, length-take-le}
 use Rattle.std.proofs.lemmas.Option.{slice_get_read}
 use Rattle.pgn_base.specs.declared.format.Format.TheVariants.{One}
 use Rattle.pgn_base.specs.declared.note.Note.{Note}
-use Rattle.pgn_journal.specs.Bytes.{IsEntryLength}
-use Rattle.pgn_journal.proofs.BytesLemmas.{length-filler}
 use Rattle.pgn_words.specs.declared.view.View.{View}
 use Rattle.pgn_words.specs.Passes.{view_of, known_of}
 use Rattle.pgn_wordhub.specs.Passes.{hub_shape}
 use Rattle.pgn_wordhub.specs.Placing.{writer_of}
 use Rattle.pgn_layout.specs.Batches.{entries_of}
-use Rattle.pgn_wordhub.proofs.ReadingLaws.{firsts}
 use Rattle.pgn_wordhub.proofs.StoringLaws.{entry_long, entries_within, filler_within}
 use Rattle.pgn_wordhub.proofs.hub.WordHub.write_batch.Goals as goal
 
@@ -22,8 +19,8 @@ write_note-at-requires-clause-pages c =
     let end = v.stop + (hub_shape c.args.self.now).pages in
     let fits = entries_within (writer_of v.known) c.args.at c.args.notes.now c.args.batch.now end c.loop-note.note-index c.note-item.result c.requires.room c.requires.planned c.requires.pages there in
     let long = entry_long (writer_of v.known) c.note-item.result in
-    let at = c.loop-note.invariant.3 in
-    let stop : (view_of c.loop-note.pass).stop ≡ v.stop = ap (λ (u : View). u.stop) c.loop-note.invariant.2 in omega (arith, fits, long, at, stop)
+    let at = c.loop-note.invariant.2 in
+    let stop : (view_of c.loop-note.pass).stop ≡ v.stop = ap (λ (u : View). u.stop) c.loop-note.invariant.1 in omega (arith, fits, long, at, stop)
 
 pub write_note-at-requires-clause-low : goal.write_note-at-requires-clause-low
 write_note-at-requires-clause-low c =
@@ -33,55 +30,36 @@ write_note-at-requires-clause-low c =
     let own = c.args.at / 2048 + 1 in
     let fits = entries_within (writer_of v.known) c.args.at c.args.notes.now c.args.batch.now own c.loop-note.note-index c.note-item.result c.requires.room c.requires.planned (omega arith) there in
     let long = entry_long (writer_of v.known) c.note-item.result in
-    let at = c.loop-note.invariant.3 in
+    let at = c.loop-note.invariant.2 in
     let low = c.requires.low in
     omega (arith, fits, long, at, low)
 
-pub write_filler-requires : goal.write_filler-requires
-write_filler-requires c =
+pub write_filler-requires-clause-long : goal.write_filler-requires-clause-long
+write_filler-requires-clause-long c =
     let some = c.if-batch-gt0.true in
-    let fill = filler_within (writer_of (known_of c.args.pass.now)) c.args.at c.args.notes.now c.args.batch.now (c.args.at / 2048 + 1) c.requires.room c.requires.planned (omega arith) (omega (arith, some)) in
-    let fits = fill.0.fits in
-    let page = c.loop-note.invariant.1 in
-    subst (λ (n : ℕ). IsEntryLength One n) (sym (length-take-le c.args.batch.now.filler c.loop-note.page (omega (arith, fits, page)))) fill.0
+    (filler_within (writer_of (known_of c.args.pass.now)) c.args.at c.args.notes.now c.args.batch.now (c.args.at / 2048 + 1) c.requires.room c.requires.planned (omega arith) (omega (arith, some))).0
 
--- the bytes of the filler are as many as it says
-filler_bytes : (filler : ℕ) (page out : List ℕ) → length page ≡ 8192 → filler ≤ 8192 → length out ≡ length (take filler page) → length (take filler (out ++ drop filler page)) ≡ filler
-filler_bytes filler page out long fits is =
-    let short : length (take filler page) ≡ filler = length-take-le filler page (omega (arith, long, fits)) in
-    ap length (firsts filler out (drop filler page) (is ∙ short)) ∙ is ∙ short
-
-pub store_bytes-requires-clause-pages : goal.store_bytes-requires-clause-pages
-store_bytes-requires-clause-pages c =
+pub write_filler-requires-clause-pages : goal.write_filler-requires-clause-pages
+write_filler-requires-clause-pages c =
     let v = view_of c.args.pass.now in
     let some = c.if-batch-gt0.true in
     let run = take c.args.batch.now.fits c.args.notes.now in
     let end = v.stop + (hub_shape c.args.self.now).pages in
-    let fill = filler_within (writer_of v.known) c.args.at c.args.notes.now c.args.batch.now end c.requires.room c.requires.planned c.requires.pages (omega (arith, some)) in
-    let fits = fill.0.fits in
-    let least = fill.0.least in
-    let within = fill.1 in
-    let long : length c.write_filler.new.out ≡ length (take c.args.batch.now.filler c.loop-note.page) = ap length c.write_filler.ensures ∙ length-filler One (length (take c.args.batch.now.filler c.loop-note.page)) _ _ (let short = length-take-le c.args.batch.now.filler c.loop-note.page (let page = c.loop-note.invariant.1 in omega (arith, fits, page)) in omega (arith, short, least)) in
-    let bytes = filler_bytes c.args.batch.now.filler c.loop-note.page c.write_filler.new.out c.loop-note.invariant.1 (omega (arith, fits)) long in
+    let within = (filler_within (writer_of v.known) c.args.at c.args.notes.now c.args.batch.now end c.requires.room c.requires.planned c.requires.pages (omega (arith, some))).1 in
     let test = c.loop-note-test.false in
     let all : take c.loop-note.note-index run ≡ run = take_all c.loop-note.note-index run (omega (arith, test)) in
     let size = ap (λ (notes : List Note). length (entries_of One (writer_of v.known) notes)) all in
-    let at = c.loop-note.invariant.3 in
-    let stop : (view_of c.loop-note.pass).stop ≡ v.stop = ap (λ (u : View). u.stop) c.loop-note.invariant.2 in omega (arith, within, bytes, size, at, stop)
+    let at = c.loop-note.invariant.2 in
+    let stop : (view_of c.loop-note.pass).stop ≡ v.stop = ap (λ (u : View). u.stop) c.loop-note.invariant.1 in omega (arith, within, size, at, stop)
 
-pub store_bytes-requires-clause-low : goal.store_bytes-requires-clause-low
-store_bytes-requires-clause-low c =
+pub write_filler-requires-clause-low : goal.write_filler-requires-clause-low
+write_filler-requires-clause-low c =
     let v = view_of c.args.pass.now in
     let some = c.if-batch-gt0.true in
     let run = take c.args.batch.now.fits c.args.notes.now in
-    let fill = filler_within (writer_of v.known) c.args.at c.args.notes.now c.args.batch.now (c.args.at / 2048 + 1) c.requires.room c.requires.planned (omega arith) (omega (arith, some)) in
-    let fits = fill.0.fits in
-    let least = fill.0.least in
-    let within = fill.1 in
-    let long : length c.write_filler.new.out ≡ length (take c.args.batch.now.filler c.loop-note.page) = ap length c.write_filler.ensures ∙ length-filler One (length (take c.args.batch.now.filler c.loop-note.page)) _ _ (let short = length-take-le c.args.batch.now.filler c.loop-note.page (let page = c.loop-note.invariant.1 in omega (arith, fits, page)) in omega (arith, short, least)) in
-    let bytes = filler_bytes c.args.batch.now.filler c.loop-note.page c.write_filler.new.out c.loop-note.invariant.1 (omega (arith, fits)) long in
+    let within = (filler_within (writer_of v.known) c.args.at c.args.notes.now c.args.batch.now (c.args.at / 2048 + 1) c.requires.room c.requires.planned (omega arith) (omega (arith, some))).1 in
     let test = c.loop-note-test.false in
     let all : take c.loop-note.note-index run ≡ run = take_all c.loop-note.note-index run (omega (arith, test)) in
     let size = ap (λ (notes : List Note). length (entries_of One (writer_of v.known) notes)) all in
-    let at = c.loop-note.invariant.3 in
-    let low = c.requires.low in omega (arith, within, bytes, size, at, low)
+    let at = c.loop-note.invariant.2 in
+    let low = c.requires.low in omega (arith, within, size, at, low)

@@ -8,14 +8,14 @@ use Rattle.pgn_words.specs.declared.view.View.{View}
 use Rattle.pgn_words.specs.Passes.{view_of}
 use Rattle.pgn_wordhub.specs.Walks.{IsEntryAt, HasEntryAt, HasTurned, IsWalking, shown_cells}
 use Rattle.pgn_wordhub.proofs.WayLaws.{turn_stops, turn_long, turn_entry, turn_passes, turn_takes, goes_here}
-use Rattle.pgn_wordhub.proofs.hub.WordHub.turn.Goals as goal
+use Rattle.pgn_wordhub.proofs.reading.Reader.turn.Goals as goal
 
 pub returns-then-head-end-clause-turned : goal.returns-then-head-end-clause-turned
 returns-then-head-end-clause-turned c =
     let v = view_of c.args.pass.now in
     let past = c.if-head-end.true in
     let fin = c.get-end.ensures.value in
-    turn_stops (shown_cells v) c.args.fin v.known.db c.args.at c.head_at-head.result.xid c.args.set.now.channels v.known.seen c.args.out.now.items c.requires.before c.head_at-head.ensures.xid (omega (arith, past, fin))
+    turn_stops (shown_cells v) c.args.self.now.fin v.known.db c.args.at c.head_at-head.result.xid c.args.self.now.set.now.channels v.known.seen c.args.out.now.items c.requires.before c.head_at-head.ensures.xid (omega (arith, past, fin))
 
 pub advance-requires-clause-least : goal.advance-requires-clause-least
 advance-requires-clause-least c =
@@ -23,8 +23,8 @@ advance-requires-clause-least c =
     let w = c.requires.walks in
     let below = c.if-head-end.false in
     let fin = c.get-end.ensures.value in
-    let long = turn_long (shown_cells v) c.args.fin c.args.at w.end c.head_at-head.result.len w.walks.todo w.walks.later
-    (goes_here (shown_cells v) c.args.fin c.args.at w.end w.walks.todo w.walks.later w.walks.way c.requires.before c.head_at-head.result.xid c.head_at-head.result.len
+    let long = turn_long (shown_cells v) c.args.self.now.fin c.args.at w.end c.head_at-head.result.len w.walks.todo w.walks.later
+    (goes_here (shown_cells v) c.args.self.now.fin c.args.at w.end w.walks.todo w.walks.later w.walks.way c.requires.before c.head_at-head.result.xid c.head_at-head.result.len
     c.head_at-head.ensures.xid c.head_at-head.ensures.len (omega (arith, below, fin))) in
     long.least
 
@@ -35,14 +35,14 @@ returns-then-head-own-clause-turned c =
     let fin = c.get-end.ensures.value in
     let no = c.if-head-own.true in
     let own : c.get-own.result ≡ v.known.db = c.get-own.ensures.value ∙ c.db.ensures ∙ ap (λ (u : View). u.known.db) c.head_at-head.ensures.view in
-    subst (λ (n : ℕ). HasTurned (shown_cells v) c.args.fin v.known.db c.args.set.now.channels v.known.seen c.args.at c.args.out.now.items c.args.out.now.items (Some n)) (sym c.advance.ensures.value)
-    (turn_passes (shown_cells v) c.args.fin v.known.db c.args.at c.head_at-head.result.db c.head_at-head.result.xid c.head_at-head.result.len c.args.set.now.channels v.known.seen c.args.out.now.items
+    subst (λ (n : ℕ). HasTurned (shown_cells v) c.args.self.now.fin v.known.db c.args.self.now.set.now.channels v.known.seen c.args.at c.args.out.now.items c.args.out.now.items (Some n)) (sym c.advance.ensures.value)
+    (turn_passes (shown_cells v) c.args.self.now.fin v.known.db c.args.at c.head_at-head.result.db c.head_at-head.result.xid c.head_at-head.result.len c.args.self.now.set.now.channels v.known.seen c.args.out.now.items
     c.requires.before c.head_at-head.ensures.xid c.head_at-head.ensures.db c.head_at-head.ensures.len (omega (arith, below, fin)) (λ same. no (same ∙ sym own)))
 
 pub take-requires-clause-entry : goal.take-requires-clause-entry
 take-requires-clause-entry c =
     let v = view_of c.args.pass.now in
-    let w = subst (λ (f : ℕ). IsWalking (shown_cells v) f v.known.db c.args.set.now.channels v.known.seen c.args.at c.args.out.now.items) c.requires.fin c.requires.walks in
+    let w = subst (λ (f : ℕ). IsWalking (shown_cells v) f v.known.db c.args.self.now.set.now.channels v.known.seen c.args.at c.args.out.now.items) c.requires.fin c.requires.walks in
     let below = c.if-head-end.false in
     let fin = c.get-end.ensures.value in
     let end = c.requires.fin in
@@ -62,8 +62,8 @@ advance-requires-2-clause-least c =
     let w = c.requires.walks in
     let below = c.if-head-end.false in
     let fin = c.get-end.ensures.value in
-    let long = turn_long (shown_cells v) c.args.fin c.args.at w.end c.head_at-head.result.len w.walks.todo w.walks.later
-    (goes_here (shown_cells v) c.args.fin c.args.at w.end w.walks.todo w.walks.later w.walks.way c.requires.before c.head_at-head.result.xid c.head_at-head.result.len
+    let long = turn_long (shown_cells v) c.args.self.now.fin c.args.at w.end c.head_at-head.result.len w.walks.todo w.walks.later
+    (goes_here (shown_cells v) c.args.self.now.fin c.args.at w.end w.walks.todo w.walks.later w.walks.way c.requires.before c.head_at-head.result.xid c.head_at-head.result.len
     c.head_at-head.ensures.xid c.head_at-head.ensures.len (omega (arith, below, fin))) in
     long.least
 
@@ -77,10 +77,10 @@ returns-clause-turned c =
     let own : c.get-own.result ≡ v.known.db = c.get-own.ensures.value ∙ c.db.ensures ∙ ap (λ (u : View). u.known.db) c.head_at-head.ensures.view in
     let positive = c.get-own.ensures.positive in
     let value = c.get-own.ensures.value in
-    let walking = subst (λ (f : ℕ). IsWalking (shown_cells v) f v.known.db c.args.set.now.channels v.known.seen c.args.at c.args.out.now.items) c.requires.fin c.requires.walks in
+    let walking = subst (λ (f : ℕ). IsWalking (shown_cells v) f v.known.db c.args.self.now.set.now.channels v.known.seen c.args.at c.args.out.now.items) c.requires.fin c.requires.walks in
     let taken = subst (λ (u : View). (note : Note) (sender : Sender) → IsEntryAt (shown_cells u) c.args.at c.head_at-head.result.len u.known.db u.known.seen note sender
-    → c.take.new.out.items ≡ c.args.out.now.items ++ gives u.known.db c.args.set.now.channels (committed_by u.known.seen) (AnEntry note sender)) c.head_at-head.ensures.view c.in_ok-take.ensures.taken in
-    subst (λ (n : ℕ). HasTurned (shown_cells v) c.args.fin v.known.db c.args.set.now.channels v.known.seen c.args.at c.args.out.now.items c.take.new.out.items (Some n)) (sym c.advance-2.ensures.value)
-    (subst (λ (f : ℕ). HasTurned (shown_cells v) f v.known.db c.args.set.now.channels v.known.seen c.args.at c.args.out.now.items c.take.new.out.items (Some (after_bytes One c.args.at c.head_at-head.result.len))) (sym c.requires.fin)
-    (turn_takes (shown_cells v) v.known.db c.args.at c.head_at-head.result.db c.head_at-head.result.xid c.head_at-head.result.len c.args.set.now.channels v.known.seen c.args.out.now.items c.take.new.out.items
+    → c.take.new.out.items ≡ c.args.out.now.items ++ gives u.known.db c.args.self.now.set.now.channels (committed_by u.known.seen) (AnEntry note sender)) c.head_at-head.ensures.view c.in_ok-take.ensures.taken in
+    subst (λ (n : ℕ). HasTurned (shown_cells v) c.args.self.now.fin v.known.db c.args.self.now.set.now.channels v.known.seen c.args.at c.args.out.now.items c.take.new.out.items (Some n)) (sym c.advance-2.ensures.value)
+    (subst (λ (f : ℕ). HasTurned (shown_cells v) f v.known.db c.args.self.now.set.now.channels v.known.seen c.args.at c.args.out.now.items c.take.new.out.items (Some (after_bytes One c.args.at c.head_at-head.result.len))) (sym c.requires.fin)
+    (turn_takes (shown_cells v) v.known.db c.args.at c.head_at-head.result.db c.head_at-head.result.xid c.head_at-head.result.len c.args.self.now.set.now.channels v.known.seen c.args.out.now.items c.take.new.out.items
     c.requires.before c.head_at-head.ensures.xid c.head_at-head.ensures.db c.head_at-head.ensures.len (omega (arith, below, fin, end)) (omega (arith, same, own)) (omega (arith, positive, value, own)) walking taken))

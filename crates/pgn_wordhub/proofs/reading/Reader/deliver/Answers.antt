@@ -1,5 +1,5 @@
 use Rattle.std.proofs.Common.{arith}
-use Rattle.pgn_wordhub.proofs.hub.WordHub.deliver.Goals as goal
+use Rattle.pgn_wordhub.proofs.reading.Reader.deliver.Goals as goal
 
 pub entry_parts-parts-requires : goal.entry_parts-parts-requires
 entry_parts-parts-requires c = let e = c.requires.entry in record { note = e.note; sender = e.sender; readable = e.due.readable; spelling = e.due.spelling }

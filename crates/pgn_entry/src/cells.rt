@@ -1,0 +1,78 @@
+ghost use Rattle.std.specs.Prelude.{◌≡◌, ◌+◌, ◌*◌, ◌^◌, ◌<◌, ◌≤◌, [], ◌∷◌, ◌++◌, drop, get_or};
+ghost use Rattle.std.specs.Int.{w32, from_le_bytes};
+ghost use Rattle.pgn_base.specs.declared.format.Format.TheVariants.{One};
+ghost use Rattle.pgn_journal.specs.Bytes.{entry_length, spelled, filler, IsEntryLength};
+
+use crate::format::HEADER_BYTES;
+use crate::length::entry_len;
+use byteorder::{ByteOrder, LittleEndian};
+use pgn_base::{CELL_BYTES, DbOid, Note, Xid};
+
+// A byte of two texts that stand one after the other, with a zero byte between them. Past them it is zero.
+fn text_byte(channel: &[u8], payload: &[u8], at: usize) -> u8
+    ensures { result ≡ get_or ((channel.now ++ 0 ∷ []) ++ payload.now) at 0 }
+{
+    if at < channel.len() {
+        return channel[at];
+    }
+    if at == channel.len() {
+        return 0;
+    }
+    let past = at - channel.len() - 1;
+    if past < payload.len() {
+        payload[past]
+    } else {
+        0
+    }
+}
+
+// The cell that holds four of these bytes. Most lie in the payload, where they are read together.
+fn text_cell(channel: &[u8], payload: &[u8], at: usize) -> u32
+    requires { at < 2 ^ 32 }
+    ensures { result ≡ from_le_bytes w32 (drop at ((channel.now ++ 0 ∷ []) ++ payload.now)) }
+{
+    if at > channel.len() {
+        let past = at - channel.len() - 1;
+        if past + CELL_BYTES <= payload.len() {
+            return LittleEndian::read_u32(&payload[past..]);
+        }
+    }
+    u32::from_le_bytes([
+        text_byte(channel, payload, at),
+        text_byte(channel, payload, at + 1),
+        text_byte(channel, payload, at + 2),
+        text_byte(channel, payload, at + 3),
+    ])
+}
+
+/// The cell of this number of a notification's entry: four of its bytes, the lowest first.
+pub fn entry_cell(note: &Note, db: DbOid, xid: Xid, pid: u32, number: usize) -> u32
+    requires { 4 * number < entry_length One note.now }
+    ensures { result ≡ from_le_bytes w32 (drop (4 * number) (spelled One note.now db xid pid)) }
+{
+    match number {
+        0 => entry_len(note),
+        1 => db.get(),
+        2 => xid.get(),
+        3 => pid,
+        _ => text_cell(
+            note.channel.as_bytes(),
+            note.payload.as_bytes(),
+            CELL_BYTES * number - HEADER_BYTES,
+        ),
+    }
+}
+
+/// The cell of this number of a filler of so many bytes. A filler says nothing, and stands where the next entry does not fit.
+pub fn filler_cell(len: u32, xid: Xid, pid: u32, number: usize) -> u32
+    requires long { IsEntryLength One len }
+    requires within { 4 * number < len }
+    ensures { result ≡ from_le_bytes w32 (drop (4 * number) (filler One len xid pid)) }
+{
+    match number {
+        0 => len,
+        2 => xid.get(),
+        3 => pid,
+        _ => 0,
+    }
+}
