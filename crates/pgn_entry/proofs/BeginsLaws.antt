@@ -10,9 +10,13 @@ use Rattle.pgn_journal.specs.Bytes.{header, entry_length, spelled, filler, IsHea
 use Rattle.pgn_journal.proofs.BytesLemmas.{length-header, entry_lengths}
 use Rattle.pgn_entry.specs.Reading.{is_zero, number_at, body, IsAllZero, note_of, padding_of, HasHead, BeginsEntry, BeginsFiller}
 use Rattle.pgn_entry.specs.Parts.{IsWhole}
-use Rattle.pgn_entry.proofs.WrittenLaws.{entry_has_room}
 use Rattle.pgn_entry.proofs.BodyLaws.{body_parts, before_zero, after_zero, count_zero, zeros_are, are_zeros}
 use Rattle.pgn_entry.proofs.HeadLaws.{AreBytes, header_back, parts_back, States, head_states, body_after, length-body}
+
+-- an entry has room for its head and its texts, each with a zero byte
+entry_has_room : (note : Note) → 16 + (length note.channel + 1) + (length note.payload + 1) ≤ entry_length One note
+unfolding entry_length
+entry_has_room note = omega arith
 
 -- how many zero bytes fill an entry up
 abbrev pub fill : Note → ℕ

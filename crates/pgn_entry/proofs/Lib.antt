@@ -1,5 +1,4 @@
 pub mod NumberLaws
-pub mod WrittenLaws
 pub mod SplitLaws
 pub mod BodyLaws
 pub mod HeadLaws

@@ -1,6 +1,6 @@
 ghost use Rattle.std.specs.Prelude.{◌≡◌, ◌≤◌, length};
 ghost use Rattle.pgn_base.specs.declared.format.Format.TheVariants.{One};
-ghost use Rattle.pgn_journal.specs.Bytes.{header, header_bytes};
+ghost use Rattle.pgn_journal.specs.Bytes.{header_bytes};
 ghost use Rattle.pgn_entry.specs.Reading.{stated_length, stated_db, stated_xid, stated_pid};
 
 use byteorder::{ByteOrder, LittleEndian};
@@ -29,13 +29,5 @@ impl Head {
             xid: LittleEndian::read_u32(&bytes[8..]),
             pid: LittleEndian::read_u32(&bytes[12..]),
         }
-    }
-
-    /// Writes the numbers, over all of `out`.
-    pub fn write(self, out: &mut [u8])
-        requires { length out.old ≡ header_bytes One }
-        ensures { out.new ≡ header One self.len self.db self.xid self.pid }
-    {
-        LittleEndian::write_u32_into(&[self.len, self.db, self.xid, self.pid], out);
     }
 }

@@ -15,7 +15,7 @@ pub fn length_of(channel_len: usize, payload_len: usize) -> usize
     (HEADER_BYTES + (channel_len + 1) + (payload_len + 1)).div_ceil(ALIGNMENT) * ALIGNMENT
 }
 
-/// How many bytes `write_entry` writes.
+/// How many bytes the entry of a notification has.
 pub fn entry_len(note: &Note) -> u32
     ensures value { result ≡ entry_length One note.now }
     ensures fits { IsEntryLength One result }

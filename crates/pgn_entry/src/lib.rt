@@ -1,9 +1,9 @@
 //! The queue's entries and fillers as bytes.
 //!
-//! Everything that a listener receives has been these bytes on a page. `write_entry` and `write_filler` write the one spelling of
-//! an entry and of a filler, for the whole slice that they are given. `read_entry` accepts these spellings and nothing else: it
-//! gives the fields back where the bytes begin with a spelling, and else the first fault that they have. `read_piece` reads bytes
-//! of which the caller knows that they are an entry or a filler, and answers with its fields.
+//! Everything that a listener receives has been these bytes on a page. `entry_cell` and `filler_cell` give the one spelling of an
+//! entry and of a filler, four bytes at a time as the queue's cells hold them, the lowest first. `read_entry` accepts these
+//! spellings and nothing else: it gives the fields back where the bytes begin with a spelling, and else the first fault that they
+//! have. `read_piece` reads bytes of which the caller knows that they are an entry or a filler, and answers with its fields.
 //!
 //! An entry is its length, its database, its transaction and the process number of its sender, four bytes each with the lowest
 //! first, then the channel and the payload, each with a zero byte after it, and zero bytes up to its length. A filler is such a
@@ -19,8 +19,11 @@
 //!     channel: Name::new(alloc, "c")?,
 //!     payload: Payload::new(alloc, "")?,
 //! };
-//! let mut bytes = vec![in alloc; 0; entry_len(&note) as usize]?;
-//! write_entry(&note, DbOid::new(7), Xid::new(4), 1003, &mut bytes);
+//! let mut bytes = Vec::new(alloc);
+//! for number in 0..entry_len(&note) as usize / CELL_BYTES {
+//!     let cell = entry_cell(&note, DbOid::new(7), Xid::new(4), 1003, number);
+//!     bytes.extend_from_slice(&cell.to_le_bytes())?;
+//! }
 //! let entry = EntryView::Entry {
 //!     len: 20,
 //!     db: 7,
@@ -43,7 +46,6 @@ mod length;
 mod piece;
 mod reading;
 mod texts;
-mod writing;
 
 pub use cells::{entry_cell, filler_cell};
 pub use entry_fault::EntryFault;
@@ -52,4 +54,3 @@ pub use laws::{one_answer, reads_back};
 pub use length::entry_len;
 pub use piece::read_piece;
 pub use reading::read_entry;
-pub use writing::{write_entry, write_filler};

@@ -1,9 +1,11 @@
 ghost use Rattle.std.specs.Prelude.{◌<◌, ◌≤◌};
+ghost use Rattle.pgn_base.specs.declared.format.Format.TheVariants.{One};
+ghost use Rattle.pgn_journal.specs.Bytes.{IsEntryLength};
 
 use super::{note, repeated};
-use pgn_base::{DbOid, Note, Xid};
+use pgn_base::{CELL_BYTES, DbOid, Note, Xid};
 use pgn_entry::{
-    EntryFault, EntryView, entry_len, read_entry, read_piece, write_entry, write_filler,
+    EntryFault, EntryView, entry_cell, entry_len, filler_cell, read_entry, read_piece,
 };
 use std::alloc::{AllocError, Global};
 use std::process::Abort;
@@ -45,7 +47,7 @@ const FILLER_VIEW: EntryView<'static> = EntryView::Filler {
 // What bytes begin with, or the fault that they have.
 type Read<'a> = Result<EntryView<'a>, EntryFault>;
 
-// The bytes of an entry, written over bytes that are not zero.
+// The bytes of an entry, cell after cell.
 fn written(
     alloc: Global,
     note: &Note,
@@ -53,8 +55,23 @@ fn written(
     xid: Xid,
     pid: u32,
 ) -> Result<Vec<u8>, AllocError> {
-    let mut out = vec![in alloc; 0xaa; entry_len(note) as usize]?;
-    write_entry(note, db, xid, pid, &mut out);
+    let mut out = Vec::new(alloc);
+    for number in 0..entry_len(note) as usize / CELL_BYTES {
+        let cell = entry_cell(note, db, xid, pid, number);
+        out.extend_from_slice(&cell.to_le_bytes())?;
+    }
+    Ok(out)
+}
+
+// The bytes of a filler of so many bytes, likewise.
+fn filled(alloc: Global, len: u32, xid: Xid, pid: u32) -> Result<Vec<u8>, AllocError>
+    requires { IsEntryLength One len }
+{
+    let mut out = Vec::new(alloc);
+    for number in 0..len as usize / CELL_BYTES {
+        let cell = filler_cell(len, xid, pid, number);
+        out.extend_from_slice(&cell.to_le_bytes())?;
+    }
     Ok(out)
 }
 
@@ -110,11 +127,11 @@ fn a_short_entry(rt: HostRuntime) -> Result<(), Fail> {
 }
 
 #[test]
-fn a_filler(rt: HostRuntime) {
-    let mut bytes = [0xaa; 20];
-    write_filler(Xid::new(5), 1002, &mut bytes);
-    assert!(rt; bytes == FILLER);
+fn a_filler(rt: HostRuntime) -> Result<(), Fail> {
+    let bytes = filled(rt.alloc(), 20, Xid::new(5), 1002)?;
+    assert!(rt; bytes.as_slice() == FILLER.as_slice());
     assert!(rt; read_entry(&FILLER) == Ok(FILLER_VIEW));
+    Ok(())
 }
 
 #[test]
@@ -177,15 +194,15 @@ fn the_largest_entry(rt: HostRuntime) -> Result<(), Fail> {
 }
 
 #[test]
-fn the_largest_filler(rt: HostRuntime) {
-    let mut bytes = [0xaa; 8192];
-    write_filler(Xid::new(u32::MAX), u32::MAX, &mut bytes);
+fn the_largest_filler(rt: HostRuntime) -> Result<(), Fail> {
+    let bytes = filled(rt.alloc(), 8192, Xid::new(u32::MAX), u32::MAX)?;
     let filler = EntryView::Filler {
         len: 8192,
         xid: u32::MAX,
         pid: u32::MAX,
     };
     assert!(rt; read_entry(&bytes) == Ok(filler));
+    Ok(())
 }
 
 // The two entries in a row.
