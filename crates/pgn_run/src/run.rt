@@ -25,10 +25,10 @@ use std::thread::Threads;
 // How many bytes of an input are read at most: one more than an input may have.
 const READ_LIMIT: usize = INPUT_BYTES_MAX + 1;
 
-/// Does all that the program does. `words` are those after the program's name. `run` reads a scenario from the source, runs every
-/// session of it on a thread of its own, and writes the journal and what each session was answered and received to the sink. `drill`
-/// reads nothing: it makes a scenario, runs it the same way, and writes the summary. Sessions may wait for one another, so that it is
-/// not promised that the call returns; what stands here holds where it does.
+/// Does all that the program does. `words` are those after the program's name. `run` reads a scenario from the source, runs its
+/// sessions side by side, and writes the journal and what each session was answered and received to the sink. `drill` reads nothing:
+/// it makes a scenario, runs it the same way, and writes the summary. Sessions may wait for one another, so that it is not promised
+/// that the call returns; what stands here holds where it does.
 pub fn run_notify<'a, S: Source, K: Sink, R: Threads + Wait + Sync>(
     rt: &R,
     alloc: Global,

@@ -17,8 +17,8 @@ use std::alloc::Global;
 use std::sync::Wait;
 use std::thread::Threads;
 
-/// Runs a scenario over a hub of this type, with a limit of so many pages, and writes what is asked for of the run to the sink: every
-/// session on a thread of its own, where an await takes so many looks.
+/// Runs a scenario over a hub of this type, with a limit of so many pages, its sessions side by side, where an await takes so many
+/// looks, made or slept over. Writes what is asked for of the run to the sink.
 pub fn run_scenario<H: Hub + Sync + Drop, K: Sink, R: Threads + Wait + Sync>(
     rt: &R,
     alloc: Global,
