@@ -1,0 +1,4 @@
+-- bytes behind bytes
+pub mod BytesLaws
+-- how messages grow
+mod GrowLaws

@@ -1,0 +1,7 @@
+use Rattle.std.proofs.Common.{refl}
+use Rattle.std.specs.Fmt.{digits}
+use Rattle.pgn_messages.proofs.examples.worked_rows.Goals as goal
+
+pub returns-clause-second : goal.returns-clause-second
+unfolding digits
+returns-clause-second c = refl

@@ -1,0 +1,50 @@
+-- Two conversations.
+use Rattle.std.specs.Prelude.{ℕ, List, [], ◌∷◌, ◌++◌, None, codes}
+use Rattle.pgn_base.specs.declared.note.Note.{Note}
+use Rattle.pgn_base.specs.declared.answers.Tag.TheVariants as tag
+use Rattle.pgn_base.specs.declared.answers.Refusal.TheVariants as refused
+use Rattle.pgn_base.specs.declared.command.Command.TheVariants as command
+use Rattle.pgn_language.specs.declared.scenario.Act.TheVariants.{Run, Quit}
+use Rattle.pgn_language.specs.declared.scenario.ScriptLine.{ScriptLine}
+use Rattle.pgn_language.specs.declared.scenario.Section.{Section}
+use Rattle.pgn_model.specs.declared.item.Item.{Item}
+use Rattle.pgn_model.specs.declared.item.Item.TheVariants.{Line, Enlist, Publish, Leave, Reply, Refuse, Read}
+
+-- the notification `NOTIFY c, 'x'`
+abbrev pub sent : Note
+sent = record { channel = codes "c"; payload = codes "x" }
+
+-- the line that ends the script of a conversation
+abbrev pub quits : ScriptLine
+quits = record { line = 4294967295; text = codes "\\quit"; act = Quit }
+
+-- a conversation of these queries
+abbrev pub conversation : List ScriptLine → Section
+conversation queries = record { no = 1; name = codes "wire"; db = 1; lines = queries ++ quits ∷ []; note_lines = 65536 }
+
+-- `LISTEN c` and `NOTIFY c, 'x'`
+abbrev pub first_section : Section
+first_section = conversation (record { line = 1; text = codes "LISTEN c"; act = Run (command.Listen (codes "c")) } ∷ record { line = 2; text = codes "NOTIFY c, 'x'"; act = Run (command.Notify sent) } ∷ [])
+
+-- what the session did: it became a listener, sent the notification, received it, and left
+abbrev pub first_items : List Item
+first_items =
+    Line 1 ∷ Enlist 3 3 ∷ Reply tag.Listen None ∷ Line 2 ∷ Publish 3 (sent ∷ []) ∷ Reply tag.Notify None ∷ Read 3 4 (record { xid = 3; pid = 1001; note = sent } ∷ []) ∷ Line 4294967295 ∷ Leave ∷ []
+
+-- C `LISTEN`, Z, C `NOTIFY`, A with 1001, `c` and `x`, Z
+abbrev pub first_bytes : List ℕ
+first_bytes =
+    67 ∷ 0 ∷ 0 ∷ 0 ∷ 11 ∷ 76 ∷ 73 ∷ 83 ∷ 84 ∷ 69 ∷ 78 ∷ 0 ∷ 90 ∷ 0 ∷ 0 ∷ 0 ∷ 5 ∷ 73
+    ∷ 67 ∷ 0 ∷ 0 ∷ 0 ∷ 11 ∷ 78 ∷ 79 ∷ 84 ∷ 73 ∷ 70 ∷ 89 ∷ 0 ∷ 65 ∷ 0 ∷ 0 ∷ 0 ∷ 12 ∷ 0 ∷ 0 ∷ 3 ∷ 233 ∷ 99 ∷ 0 ∷ 120 ∷ 0 ∷ 90 ∷ 0 ∷ 0 ∷ 0 ∷ 5 ∷ 73 ∷ []
+
+-- `LISTEN` without a channel
+abbrev pub second_section : Section
+second_section = conversation (record { line = 1; text = codes "LISTEN"; act = Run (command.Bad 6) } ∷ [])
+
+abbrev pub second_items : List Item
+second_items = Line 1 ∷ Refuse (refused.Syntax 6) ∷ Line 4294967295 ∷ []
+
+-- E with the length 0x32, its fields, and Z
+abbrev pub second_bytes : List ℕ
+second_bytes =
+    69 ∷ 0 ∷ 0 ∷ 0 ∷ 50 ∷ (codes "SERROR" ++ 0 ∷ [] ++ codes "VERROR" ++ 0 ∷ [] ++ codes "C42601" ++ 0 ∷ [] ++ codes "Msyntax error at byte 6" ++ 0 ∷ 0 ∷ 90 ∷ 0 ∷ 0 ∷ 0 ∷ 5 ∷ 73 ∷ [])

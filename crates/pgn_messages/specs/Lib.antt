@@ -1,0 +1,8 @@
+-- the messages of a server
+pub mod Server
+-- a session's trace as messages
+pub mod Messages
+-- how they grow
+pub mod Laws
+-- two conversations
+pub mod Examples

@@ -1,0 +1,80 @@
+-- The messages of a server, byte by byte.
+use Rattle.std.specs.Prelude.{ℕ, ◌+◌, List, [], ◌∷◌, ◌++◌, length, codes, decimal}
+use Rattle.std.specs.Int.{w16, w32, to_be_bytes}
+use Rattle.pgn_base.specs.declared.answers.Tag.{Tag}
+use Rattle.pgn_base.specs.declared.answers.Warning.{Warning}
+use Rattle.pgn_base.specs.declared.answers.Refusal.{Refusal}
+use Rattle.pgn_base.specs.declared.queue_answers.Usage.{Usage}
+use Rattle.pgn_base.specs.declared.note.Delivery.{Delivery}
+use Rattle.pgn_answers.specs.declared.block_state.BlockState.{BlockState}
+use Rattle.pgn_answers.specs.declared.block_state.BlockState.TheVariants.{Idle, InBlock, Failed}
+use Rattle.pgn_answers.specs.Refusals.{tag_text, warning_code, warning_message, refusal_code, refusal_message}
+
+-- a number in four bytes and in two, the most significant first
+abbrev pub four : ℕ → List ℕ
+four n = to_be_bytes w32 n
+
+abbrev pub two : ℕ → List ℕ
+two n = to_be_bytes w16 n
+
+-- a message: its letter, its length, which counts itself and not the letter, and its body
+abbrev pub message : ℕ → List ℕ → List ℕ
+message letter body = letter ∷ (four (4 + length body) ++ body)
+
+-- a text, and the zero byte that ends it
+abbrev pub ended : List ℕ → List ℕ
+ended text = text ++ 0 ∷ []
+
+-- a field of a notice or an error: its letter and its text
+abbrev pub field : ℕ → List ℕ → List ℕ
+field letter text = letter ∷ ended text
+
+-- the fields S and V with the severity, C with the code and M with the text, and the end of the fields
+abbrev pub fields : List ℕ → List ℕ → List ℕ → List ℕ
+fields severity code text = field 83 severity ++ field 86 severity ++ field 67 code ++ field 77 text ++ 0 ∷ []
+
+-- N: NoticeResponse
+abbrev pub notice : Warning → List ℕ
+notice warning = message 78 (fields (codes "WARNING") (warning_code warning) (warning_message warning))
+
+-- E: ErrorResponse
+abbrev pub error : Refusal → List ℕ
+error refusal = message 69 (fields (codes "ERROR") (refusal_code refusal) (refusal_message refusal))
+
+-- what is said of a column behind its name: no table and no place in one, the type text with its size and modifier, and the format
+abbrev pub column : List ℕ
+column = four 0 ++ two 0 ++ four 25 ++ two 65535 ++ four 4294967295 ++ two 0
+
+-- T: RowDescription of one column with this name
+abbrev pub columns : List ℕ → List ℕ
+columns name = message 84 (two 1 ++ ended name ++ column)
+
+-- D: DataRow with one text
+abbrev pub row : List ℕ → List ℕ
+row text = message 68 (two 1 ++ four (length text) ++ text)
+
+-- C: CommandComplete
+abbrev pub complete : Tag → List ℕ
+complete tag = message 67 (ended (tag_text tag))
+
+-- A: NotificationResponse
+abbrev pub notification : Delivery → List ℕ
+notification delivery = message 65 (four delivery.pid ++ ended delivery.note.channel ++ ended delivery.note.payload)
+
+-- I: EmptyQueryResponse
+abbrev pub empty_query : List ℕ
+empty_query = message 73 []
+
+-- the letter of a block's state
+abbrev pub state_letter : BlockState → ℕ
+state_letter Idle = 73
+state_letter InBlock = 84
+state_letter Failed = 69
+
+-- Z: ReadyForQuery
+abbrev pub ready : BlockState → List ℕ
+ready state = message 90 (state_letter state ∷ [])
+
+-- the occupied pages of the limit
+abbrev pub share : Usage → List ℕ
+share usage = decimal usage.occupied ++ codes "/" ++ decimal usage.limit
