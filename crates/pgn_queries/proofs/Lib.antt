@@ -1,0 +1,6 @@
+-- what comes next of a client's bytes, as it is read
+pub mod ClientLaws
+-- what a reader of queries gives
+pub mod QueryLaws
+-- bytes have one reading
+mod OneLaws

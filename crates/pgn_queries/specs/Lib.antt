@@ -1,0 +1,6 @@
+-- what a client sends, and what comes next of it
+pub mod Client
+-- all queries of a client
+pub mod Queries
+-- they have one reading
+pub mod Laws

@@ -1,0 +1,77 @@
+-- All queries of a client.
+use Rattle.std.specs.Prelude.{◌≡◌, ℕ, ◌+◌, ◌*◌, ◌<◌, ◌≤◌, ◌⊎◌, Bool, cond, List, [], ◌∷◌, ◌++◌, length, Option, None, Some}
+use Rattle.pgn_base.specs.declared.limits.TheConstants.{NOTE_LINES_MAX}
+use Rattle.pgn_base.specs.declared.command.Command.{Command}
+use Rattle.pgn_base.specs.declared.command.Command.TheVariants.{Bad}
+use Rattle.pgn_language.specs.declared.scenario.Act.{Act}
+use Rattle.pgn_language.specs.declared.scenario.Act.TheVariants.{Run}
+use Rattle.pgn_language.specs.declared.scenario.ScriptLine.{ScriptLine}
+use Rattle.pgn_language.specs.Grammar.{ReadsAs}
+use Rattle.pgn_language.specs.Inputs.{is_note_act, IsOneLine}
+use Rattle.pgn_queries.specs.declared.limits.TheConstants.{QUERIES_MAX}
+use Rattle.pgn_queries.specs.declared.wire_fault.WireFault.{WireFault}
+use Rattle.pgn_queries.specs.declared.wire_fault.WireFault.TheVariants.{TooMany}
+use Rattle.pgn_queries.specs.declared.coming.Coming.TheVariants.{End, Query, Fault}
+use Rattle.pgn_queries.specs.Client.{NextIs}
+
+-- the script line of a query with this number: its text and the command that this reads as. A text with an LF is no line: it is bad
+-- at its first LF, and the line's text is empty
+pub data IsLineOf (number : ℕ) : List ℕ → ScriptLine → Type 0 where
+  OneLine : (text : List ℕ) (command : Command) → IsOneLine text → ReadsAs text command → IsLineOf number text (record { line = number; text = text; act = Run command })
+  Lines : (text before rest : List ℕ) → text ≡ before ++ 10 ∷ rest → IsOneLine before → IsLineOf number text (record { line = number; text = []; act = Run (Bad (length before)) })
+
+-- where a reader stands in a client's bytes
+pub record Place : Type 0 where
+  -- the offset of the next message's first byte
+  pub at : ℕ
+  -- how many queries there were
+  pub queries : ℕ
+  -- how many of them had the command NOTIFY or a call of pg_notify
+  pub notes : ℕ
+
+-- before the first byte
+abbrev pub first_place : Place
+first_place = record { at = 0; queries = 0; notes = 0 }
+
+-- how many notifying commands an act is
+abbrev pub note_of : Act → ℕ
+note_of act = cond (is_note_act act) 1 0
+
+-- after a query with a text of so many bytes, whose line does this
+abbrev pub after_query : Place → ℕ → Act → Place
+after_query place size act = record { at = place.at + (size + 6); queries = place.queries + 1; notes = place.notes + note_of act }
+
+-- there were more queries, or more of them that notify, than a client may ask
+abbrev pub AreTooMany : Place → Type 0
+AreTooMany place = (QUERIES_MAX < place.queries) ⊎ (NOTE_LINES_MAX < place.notes)
+
+-- a place that a reader can come to: each query so far took at most 65,542 bytes
+pub record IsPlace (place : Place) : Type 0 where
+  pub few : place.queries ≤ QUERIES_MAX
+  pub few_notes : place.notes ≤ NOTE_LINES_MAX
+  pub near : place.at ≤ place.queries * 65542
+
+-- the queries of a client's bytes from a place on, as the lines of a script that are numbered from there, and the fault that ends
+-- them, where one does
+pub data QueriesAre : Place → List ℕ → List ScriptLine → Option WireFault → Type 0 where
+  -- there are no more
+  Ends : (place : Place) (bytes text rest : List ℕ) → NextIs place.at End text bytes rest → QueriesAre place bytes [] None
+  -- what comes next is none
+  Fails : (place : Place) (bytes text rest : List ℕ) (fault : WireFault) → NextIs place.at (Fault fault) text bytes rest → QueriesAre place bytes [] (Some fault)
+  -- with the next there are too many
+  Exceeds : (place : Place) (bytes text rest : List ℕ) (line : ScriptLine) → NextIs place.at Query text bytes rest → IsLineOf (place.queries + 1) text line
+      → AreTooMany (after_query place (length text) line.act) → QueriesAre place bytes [] (Some (TooMany place.at))
+  -- the next, and then the others
+  Goes : (place : Place) (bytes text rest : List ℕ) (line : ScriptLine) (lines : List ScriptLine) (fault : Option WireFault) → NextIs place.at Query text bytes rest
+      → IsLineOf (place.queries + 1) text line → (AreTooMany (after_query place (length text) line.act) → ⊥) → QueriesAre (after_query place (length text) line.act) rest lines fault
+      → QueriesAre place bytes (line ∷ lines) fault
+
+-- what a reader gives next: a query's line, so that the queries from here on are that one and then those from where it stands now on;
+-- or that there are no more
+abbrev pub Gives : Place → Place → Option ScriptLine → List ℕ → List ℕ → Type 0
+Gives old new None bytes rest = QueriesAre old bytes [] None
+Gives old new (Some line) bytes rest = (lines : List ScriptLine) (fault : Option WireFault) → QueriesAre new rest lines fault → QueriesAre old bytes (line ∷ lines) fault
+
+-- a client's bytes have these queries, and this fault
+abbrev pub queries : List ℕ → List ScriptLine → Option WireFault → Type 0
+queries bytes lines fault = QueriesAre first_place bytes lines fault

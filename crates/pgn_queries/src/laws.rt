@@ -1,0 +1,7 @@
+ghost use Rattle.pgn_queries.specs.Laws.{OneReading};
+
+/// A client's bytes read as one list of queries, with one fault or none, and as no other: what the reader gives is exactly that, however
+/// the reads cut the bytes.
+pub fn one_reading()
+    ensures { OneReading }
+{}
