@@ -7,13 +7,13 @@ use Rattle.pgn_run.proofs.OverLaws.{drill-completes, not-bad-scenario, not-bad-w
 use Rattle.pgn_run.proofs.run.run_notify.Goals as goal
 
 pub run-requires-clause-some_pages : goal.run-requires-clause-some_pages
-run-requires-clause-some_pages g c = (subst IsWithin c.in-Ok-Run.field-0-is c.in-Ok-Run.ensures.within).0
+run-requires-clause-some_pages g c κs within = (subst IsWithin c.in-Ok-Run.field-0-is c.in-Ok-Run.ensures.within).0
 
 pub run-requires-clause-few_pages : goal.run-requires-clause-few_pages
-run-requires-clause-few_pages g c = (subst IsWithin c.in-Ok-Run.field-0-is c.in-Ok-Run.ensures.within).1
+run-requires-clause-few_pages g c κs within = (subst IsWithin c.in-Ok-Run.field-0-is c.in-Ok-Run.ensures.within).1
 
 pub run-requires-clause-patient : goal.run-requires-clause-patient
-run-requires-clause-patient g c = (subst IsWithin c.in-Ok-Run.field-0-is c.in-Ok-Run.ensures.within).2
+run-requires-clause-patient g c κs within = (subst IsWithin c.in-Ok-Run.field-0-is c.in-Ok-Run.ensures.within).2
 
 pub returns-in-Ok-Run-clause-done : goal.returns-in-Ok-Run-clause-done
 returns-in-Ok-Run-clause-done g c = λ e. record {
