@@ -18,7 +18,11 @@ fn put_asked(text: &mut Vec<u8>, alloc: Global, line: &[u8]) -> Result<(), Alloc
         return text.extend_from_slice(b"no line");
     };
     let words = words_of(alloc, line)?;
-    match read_words(alloc, words.as_slice()) {
+    put_reading(text, alloc, words.as_slice())
+}
+
+fn put_reading(text: &mut Vec<u8>, alloc: Global, words: &[&str]) -> Result<(), AllocError> {
+    match read_words(alloc, words) {
         Ok(asked) => put_numbers(text, alloc, asked),
         Err(WordsFault::BadWords) => text.extend_from_slice(b"no command"),
         Err(WordsFault::Memory) => text.extend_from_slice(b"no memory"),

@@ -1,6 +1,6 @@
 use crate::row::Outcome;
 use pgn_base::{MemSink, MemSource};
-use pgn_run::run_notify;
+use pgn_run::{Status, run_notify};
 use std::alloc::{AllocError, Global};
 use std::sync::Wait;
 use std::thread::Threads;
@@ -16,9 +16,8 @@ pub fn run_row<R: Threads + Wait + Sync>(
     input: Vec<u8>,
 ) -> Result<Outcome, AllocError> {
     let words = borrowed(alloc, words)?;
-    let mut source = MemSource::new(input, Vec::new(alloc), ROOM);
     let mut sink = MemSink::new(alloc, ROOM, Vec::new(alloc), ROOM)?;
-    let status = run_notify(rt, alloc, words.as_slice(), &mut source, &mut sink);
+    let status = status_of(rt, alloc, words.as_slice(), input, &mut sink);
     let output = Vec::from_slice(alloc, sink.held())?;
     Ok(Outcome {
         output,
@@ -32,4 +31,16 @@ fn borrowed(alloc: Global, words: &[String]) -> Result<Vec<&str>, AllocError> {
         texts.push(word.as_str())?;
     }
     Ok(texts)
+}
+
+// How a run ends.
+fn status_of<R: Threads + Wait + Sync>(
+    rt: &R,
+    alloc: Global,
+    words: &[&str],
+    input: Vec<u8>,
+    sink: &mut MemSink,
+) -> Status {
+    let mut source = MemSource::new(input, Vec::new(alloc), ROOM);
+    run_notify(rt, alloc, words, &mut source, sink)
 }
