@@ -73,6 +73,24 @@ impl Name {
         }
     }
 
+    /// The name of a text that is one. It fails for want of memory only.
+    pub fn of_valid(alloc: Global, text: &str) -> Result<Name, AllocError>
+        requires { IsName text.now }
+        ensures { IfOk result (λ name. name ≡ text.now) }
+    {
+        let text = Text::new(alloc, text)?;
+        Ok(Name { text })
+    }
+
+    /// The name of a string that is one, whose memory it keeps as `from_string` does. It fails for want of memory only.
+    pub fn of_valid_string(text: String) -> Result<Name, AllocError>
+        requires { IsName (string_bytes text) }
+        ensures { IfOk result (λ name. name ≡ string_bytes text) }
+    {
+        let text = Text::from_string(text)?;
+        Ok(Name { text })
+    }
+
     pub fn as_bytes(&self) -> &[u8]
         ensures value { result.now ≡ self.now }
         ensures valid { IsName self.now }

@@ -67,6 +67,24 @@ impl Payload {
         }
     }
 
+    /// The payload of a text that is one. It fails for want of memory only.
+    pub fn of_valid(alloc: Global, text: &str) -> Result<Payload, AllocError>
+        requires { IsPayload text.now }
+        ensures { IfOk result (λ name. name ≡ text.now) }
+    {
+        let text = Text::new(alloc, text)?;
+        Ok(Payload { text })
+    }
+
+    /// The payload of a string that is one, whose memory it keeps as `from_string` does. It fails for want of memory only.
+    pub fn of_valid_string(text: String) -> Result<Payload, AllocError>
+        requires { IsPayload (string_bytes text) }
+        ensures { IfOk result (λ name. name ≡ string_bytes text) }
+    {
+        let text = Text::from_string(text)?;
+        Ok(Payload { text })
+    }
+
     pub fn as_bytes(&self) -> &[u8]
         ensures value { result.now ≡ self.now }
         ensures valid { IsPayload self.now }

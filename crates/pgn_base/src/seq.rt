@@ -1,4 +1,5 @@
-ghost use Rattle.std.specs.Prelude.{◌≡◌, [], ◌∷◌, ◌++◌, IfOk, OnOk, OnErr};
+ghost use Rattle.std.specs.Prelude.{◌≡◌, ◌≤◌, [], ◌∷◌, ◌++◌, length, OnOk, OnErr};
+ghost use Rattle.std.specs.List.{insert};
 
 use crate::Copied;
 use std::alloc::{AllocError, Global};
@@ -26,15 +27,6 @@ impl<T> Seq<T> {
         Seq {
             items: Vec::new(alloc),
         }
-    }
-
-    /// The empty list. Memory for `n` items is taken at once, so that a list of known length is not moved while it grows; no
-    /// clause says that a push needs no more.
-    pub fn with_capacity(alloc: Global, n: usize) -> Result<Self, AllocError>
-        ensures { IfOk result (λ list. list ≡ []) }
-    {
-        let items = Vec::with_capacity(alloc, n)?;
-        Ok(Seq { items })
     }
 
     /// The list of these items. It takes no memory.
@@ -66,6 +58,17 @@ impl<T: Drop> Seq<T> {
         ensures err { OnErr result (self.new ≡ self.old) }
     {
         self.items.push(item)?;
+        Ok(())
+    }
+
+    /// Puts an item in before the one that stands at this place, which counts from 0; at the list's length it is the last. A refusal
+    /// changes nothing.
+    pub fn insert(&mut self, place: usize, item: T) -> Result<(), AllocError>
+        requires { place ≤ length self.old }
+        ensures ok { OnOk result (self.new ≡ insert self.old place item) }
+        ensures err { OnErr result (self.new ≡ self.old) }
+    {
+        self.items.insert(place, item)?;
         Ok(())
     }
 }

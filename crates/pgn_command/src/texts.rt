@@ -6,7 +6,7 @@ ghost use Rattle.pgn_command.specs.Statements.{ident_name, text_bytes};
 
 use crate::quotes::unquoted;
 use crate::statement::{Ident, Text};
-use pgn_base::{NAME_BYTES_MAX, Name, NameFault, Payload, PayloadFault};
+use pgn_base::{NAME_BYTES_MAX, Name, Payload};
 use std::alloc::{AllocError, Global};
 
 /// So many times a text is repeated one by one.
@@ -20,10 +20,10 @@ pub fn name_of(alloc: Global, ident: Ident<'_>) -> Result<Name, AllocError>
     match ident {
         Ident::Word(word) => {
             let folded = cut(word).to_ascii_lowercase(alloc)?;
-            keep_name(folded)
+            Name::of_valid_string(folded)
         }
         Ident::Quoted(inside) => match inside.plain() {
-            Some(text) => make_name(alloc, cut(text)),
+            Some(text) => Name::of_valid(alloc, cut(text)),
             None => cut_name(alloc, unquoted(alloc, inside)?),
         },
     }
@@ -35,10 +35,10 @@ fn cut_name(alloc: Global, text: String) -> Result<Name, AllocError>
     ensures { IfOk result (λ name. name ≡ grammar.cut NAME_BYTES_MAX (string_bytes text)) }
 {
     if text.len() <= NAME_BYTES_MAX {
-        return keep_name(text);
+        return Name::of_valid_string(text);
     }
     // A copy, so that the name does not keep the memory of the whole text.
-    make_name(alloc, cut(text.as_str()))
+    Name::of_valid(alloc, cut(text.as_str()))
 }
 
 /// The name that the text of an argument is.
@@ -47,10 +47,10 @@ pub fn channel_of(alloc: Global, text: Text<'_>) -> Result<Name, AllocError>
     ensures { IfOk result (λ name. name ≡ text_bytes text.entry) }
 {
     match plain(text) {
-        Some(text) => make_name(alloc, text),
+        Some(text) => Name::of_valid(alloc, text),
         None => {
             let text = built(alloc, text)?;
-            keep_name(text)
+            Name::of_valid_string(text)
         }
     }
 }
@@ -61,10 +61,10 @@ pub fn payload_of(alloc: Global, text: Text<'_>) -> Result<Payload, AllocError>
     ensures { IfOk result (λ payload. payload ≡ text_bytes text.entry) }
 {
     match plain(text) {
-        Some(text) => make_payload(alloc, text),
+        Some(text) => Payload::of_valid(alloc, text),
         None => {
             let text = built(alloc, text)?;
-            keep_payload(text)
+            Payload::of_valid_string(text)
         }
     }
 }
@@ -130,50 +130,4 @@ fn cut(text: &str) -> &str
 {
     let end = text.floor_char_boundary(NAME_BYTES_MAX);
     &text[..end]
-}
-
-fn make_name(alloc: Global, text: &str) -> Result<Name, AllocError>
-    requires { IsName text.now }
-    ensures { IfOk result (λ name. name ≡ text.now) }
-{
-    match Name::new(alloc, text) {
-        Ok(name) => Ok(name),
-        Err(NameFault::Memory) => Err(AllocError),
-        Err(_) => unreachable!(),
-    }
-}
-
-// The name of a string that was built for it.
-fn keep_name(text: String) -> Result<Name, AllocError>
-    requires { IsName (string_bytes text) }
-    ensures { IfOk result (λ name. name ≡ string_bytes text) }
-{
-    match Name::from_string(text) {
-        Ok(name) => Ok(name),
-        Err(NameFault::Memory) => Err(AllocError),
-        Err(_) => unreachable!(),
-    }
-}
-
-// The payload of a string that was built for it.
-fn keep_payload(text: String) -> Result<Payload, AllocError>
-    requires { IsPayload (string_bytes text) }
-    ensures { IfOk result (λ payload. payload ≡ string_bytes text) }
-{
-    match Payload::from_string(text) {
-        Ok(payload) => Ok(payload),
-        Err(PayloadFault::Memory) => Err(AllocError),
-        Err(_) => unreachable!(),
-    }
-}
-
-fn make_payload(alloc: Global, text: &str) -> Result<Payload, AllocError>
-    requires { IsPayload text.now }
-    ensures { IfOk result (λ payload. payload ≡ text.now) }
-{
-    match Payload::new(alloc, text) {
-        Ok(payload) => Ok(payload),
-        Err(PayloadFault::Memory) => Err(AllocError),
-        Err(_) => unreachable!(),
-    }
 }

@@ -4,7 +4,7 @@ ghost use Rattle.std.specs.Char.{is_ascii_digit};
 ghost use Rattle.std.specs.Str.Parse.{IsNumeral, digits_value};
 ghost use Rattle.pgn_language.specs.Lines.{is_label, is_label_byte, is_database};
 
-use pgn_base::{DbOid, NAME_BYTES_MAX, Name, NameFault};
+use pgn_base::{DbOid, NAME_BYTES_MAX, Name};
 use std::alloc::{AllocError, Global};
 
 /// Whether a part may be the name of a section or of a flag.
@@ -31,11 +31,7 @@ pub fn name_of(alloc: Global, label: &str) -> Result<Name, AllocError>
     requires { is_label label.now ≡ true }
     ensures { IfOk result (λ name. name ≡ label.now) }
 {
-    match Name::new(alloc, label) {
-        Ok(name) => Ok(name),
-        Err(NameFault::Memory) => Err(AllocError),
-        Err(_) => unreachable!(),
-    }
+    Name::of_valid(alloc, label)
 }
 
 /// The database whose number a part is.

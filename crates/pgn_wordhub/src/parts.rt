@@ -6,7 +6,7 @@ ghost use Rattle.pgn_journal.specs.Packing.{Sender};
 ghost use Rattle.pgn_journal.specs.Pieces.{AnEntry, piece_bytes, IsReadable};
 ghost use Rattle.pgn_wordhub.specs.Walks.{HasEntry, ArePartsOf};
 
-use pgn_base::{Delivery, Name, NameFault, Note, Payload, PayloadFault, Xid};
+use pgn_base::{Delivery, Name, Note, Payload, Xid};
 use pgn_entry::{EntryView, read_piece};
 use std::alloc::{AllocError, Global};
 use std::str;
@@ -19,11 +19,7 @@ fn name_of(alloc: Global, bytes: &[u8]) -> Result<Name, AllocError>
     let Ok(text) = str::from_utf8(bytes) else {
         unreachable!()
     };
-    match Name::new(alloc, text) {
-        Ok(name) => Ok(name),
-        Err(NameFault::Memory) => Err(AllocError),
-        Err(_) => unreachable!(),
-    }
+    Name::of_valid(alloc, text)
 }
 
 // The payload of these bytes.
@@ -34,11 +30,7 @@ fn payload_of(alloc: Global, bytes: &[u8]) -> Result<Payload, AllocError>
     let Ok(text) = str::from_utf8(bytes) else {
         unreachable!()
     };
-    match Payload::new(alloc, text) {
-        Ok(payload) => Ok(payload),
-        Err(PayloadFault::Memory) => Err(AllocError),
-        Err(_) => unreachable!(),
-    }
+    Payload::of_valid(alloc, text)
 }
 
 // What a reader needs of an entry.

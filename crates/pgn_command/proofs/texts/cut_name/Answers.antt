@@ -4,12 +4,12 @@ use Rattle.pgn_base.specs.Texts.{IsName}
 use Rattle.pgn_command.proofs.CutLaws.{cut-short}
 use Rattle.pgn_command.proofs.texts.cut_name.Goals as goal
 
-pub keep_name-requires : goal.keep_name-requires
-keep_name-requires c =
+pub of_valid_string-requires : goal.of_valid_string-requires
+of_valid_string-requires c =
     let short : length (string_bytes c.args.text) ≤ 63 = omega (arith, c.len.ensures, c.if-len-le-NAME_BYTES_MAX.true) in
     subst (λ (l : List ℕ). IsName l) (cut-short 63 (string_bytes c.args.text) (IsUtf8-string_bytes c.args.text) short) c.requires
 
 pub returns-then-len-le-NAME_BYTES_MAX : goal.returns-then-len-le-NAME_BYTES_MAX
 returns-then-len-le-NAME_BYTES_MAX c =
     let short : length (string_bytes c.args.text) ≤ 63 = omega (arith, c.len.ensures, c.if-len-le-NAME_BYTES_MAX.true) in
-    subst (λ (l : List ℕ). IfOk c.keep_name.result (λ name. name ≡ l)) (sym (cut-short 63 (string_bytes c.args.text) (IsUtf8-string_bytes c.args.text) short)) c.keep_name.ensures
+    subst (λ (l : List ℕ). IfOk c.of_valid_string.result (λ name. name ≡ l)) (sym (cut-short 63 (string_bytes c.args.text) (IsUtf8-string_bytes c.args.text) short)) c.of_valid_string.ensures
