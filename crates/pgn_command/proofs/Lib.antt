@@ -1,5 +1,4 @@
 pub mod GapLaws
-pub mod QuoteLaws
 pub mod TokenSteps
 pub mod FormSteps
 pub mod CloseSteps

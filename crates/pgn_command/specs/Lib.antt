@@ -1,4 +1,3 @@
-pub mod Texts
 pub mod Lexing
 pub mod Statements
 pub mod Reading

@@ -1,14 +1,14 @@
 ghost use Rattle.std.specs.Prelude.{◌≡◌, codes, MatchResult};
 ghost use Rattle.pgn_language.specs.Grammar.{Key, Quote, Count, Punct, fits_slot, text_of, value_of};
-ghost use Rattle.pgn_command.specs.Texts.{single};
+ghost use Rattle.pgn_quotes.specs.Texts.{single};
 ghost use Rattle.pgn_command.specs.Reading as told;
 ghost use Rattle.pgn_command.specs.Statements.{Gives, GivesText, IsNamed, IsUnnamed, meant, ident_lexeme};
 ghost use Rattle.pgn_command.specs.declared.verb.Verb.TheVariants as verb;
 
-use crate::inside::Inside;
 use crate::parser::Parser;
 use crate::statement::{Ident, Statement, Stop, Text};
 use crate::verb::{Verb, is_word};
+use pgn_quotes::Enclosed;
 
 impl<'a> Parser<'a> {
     /// The statement that the tokens ahead are, to the end of the line, or where they go wrong.
@@ -219,7 +219,7 @@ impl<'a> Parser<'a> {
         }
     }
 
-    fn literal(&mut self) -> Result<Inside<'a>, Stop>
+    fn literal(&mut self) -> Result<Enclosed<'a>, Stop>
         ensures { MatchResult result (λ inside. told.IsTaken Quote self.old self.new × (text_of (told.front_lexeme self.old.tokens) ≡ single inside.quote inside.raw.now)) (λ stop. told.IsRefused Quote self.old stop.at) }
     {
         match self.takes_literal() {

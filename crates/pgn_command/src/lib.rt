@@ -15,10 +15,8 @@
 mod bytes;
 mod commands;
 mod grammar;
-mod inside;
 mod lexer;
 mod parser;
-mod quotes;
 mod reading;
 mod statement;
 mod texts;

@@ -1,21 +1,21 @@
 ghost use Rattle.std.specs.Prelude.{◌≤◌};
 ghost use Rattle.pgn_base.specs.declared.limits.TheConstants.{LINE_BYTES_MAX};
 
-use crate::inside::Inside;
+use pgn_quotes::Enclosed;
 
 /// A name as the line has it: a word, or a quoted identifier. It is neither folded nor cut.
 #[derive(Clone, Copy)]
 pub enum Ident<'a> {
     Word(&'a str),
-    Quoted(Inside<'a>),
+    Quoted(Enclosed<'a>),
 }
 
 /// A text that is not yet built: a literal, none, or a literal so many times.
 #[derive(Clone, Copy)]
 pub enum Text<'a> {
-    Literal(Inside<'a>),
+    Literal(Enclosed<'a>),
     Null,
-    Repeat(Inside<'a>, u32),
+    Repeat(Enclosed<'a>, u32),
 }
 
 /// A command whose names and texts are still parts of the line. Its limits have not been tested.

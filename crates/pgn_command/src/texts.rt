@@ -4,9 +4,9 @@ ghost use Rattle.pgn_base.specs.Texts.{IsName, IsPayload};
 ghost use Rattle.pgn_language.specs.Grammar as grammar;
 ghost use Rattle.pgn_command.specs.Statements.{ident_name, text_bytes};
 
-use crate::quotes::unquoted;
 use crate::statement::{Ident, Text};
 use pgn_base::{NAME_BYTES_MAX, Name, Payload};
+use pgn_quotes::unquoted;
 use std::alloc::{AllocError, Global};
 
 /// So many times a text is repeated one by one.

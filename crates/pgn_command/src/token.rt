@@ -1,11 +1,11 @@
-use crate::inside::Inside;
+use pgn_quotes::Enclosed;
 
 /// What a token is, as the line has it, or the end of the line.
 #[derive(Clone, Copy)]
 pub enum Lexeme<'a> {
     Word(&'a str),
-    Quoted(Inside<'a>),
-    Literal(Inside<'a>),
+    Quoted(Enclosed<'a>),
+    Literal(Enclosed<'a>),
     Number(&'a str),
     Sign(u8),
     Wrong,

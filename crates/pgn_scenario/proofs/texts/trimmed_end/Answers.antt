@@ -1,7 +1,7 @@
 use Rattle.std.proofs.Common.{◌≡◌, ℕ, ◌+◌, List, length, reverse, sym, ◌∙◌, subst}
 use Rattle.std.specs.List.{prefix_len}
 use Rattle.pgn_language.specs.Tokens.{is_blank}
-use Rattle.pgn_command.proofs.QuoteLaws.{from_start}
+use Rattle.pgn_quotes.proofs.QuoteLaws.{from_start}
 use Rattle.pgn_scenario.proofs.ByteLaws.{trimmed_to}
 use Rattle.pgn_scenario.proofs.texts.trimmed_end.Goals as goal
 

@@ -1,9 +1,9 @@
 use Rattle.std.proofs.Common.{◌≡◌, ℕ, ◌+◌, List, length, take, flat_map, None, sym, ap, ◌∙◌, subst, arith}
 use Rattle.pgn_language.specs.Quotes.{doubled_byte}
 use Rattle.pgn_language.specs.Tokens.{closed}
-use Rattle.pgn_command.specs.Texts.{single, IsInside}
-use Rattle.pgn_command.proofs.QuoteLaws.{Written, written-next, written-spelled, written-counted, written-closed, written-twice, written-open, from_start}
-use Rattle.pgn_command.proofs.quotes.inside.Goals as goal
+use Rattle.pgn_quotes.specs.Texts.{single, IsInside}
+use Rattle.pgn_quotes.proofs.QuoteLaws.{Written, written-next, written-spelled, written-counted, written-closed, written-twice, written-open, from_start}
+use Rattle.pgn_quotes.proofs.quotes.inside.Goals as goal
 
 pub invariant_of-result-clause-spelled : goal.invariant_of-result-clause-spelled
 invariant_of-result-clause-spelled c =

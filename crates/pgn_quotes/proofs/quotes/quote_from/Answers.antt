@@ -1,9 +1,9 @@
 use Rattle.std.proofs.Common.{ℕ, List, drop, Option, None, Some, sym, subst}
 use Rattle.std.proofs.lemmas.List.{take_rest}
 use Rattle.memchr.specs.Find.{IsFirstByte, is_byte}
-use Rattle.pgn_command.specs.Texts.{FindsQuote}
-use Rattle.pgn_command.proofs.QuoteLaws.{finds-quote}
-use Rattle.pgn_command.proofs.quotes.quote_from.Goals as goal
+use Rattle.pgn_quotes.specs.Texts.{FindsQuote}
+use Rattle.pgn_quotes.proofs.QuoteLaws.{finds-quote}
+use Rattle.pgn_quotes.proofs.quotes.quote_from.Goals as goal
 
 pub returns : goal.returns
 returns c =

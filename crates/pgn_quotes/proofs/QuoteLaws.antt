@@ -9,7 +9,7 @@ use Rattle.pgn_language.specs.Tokens.{Inside, closed, preceded}
 use Rattle.pgn_language.specs.laws.Tokens.{IsClosed}
 use Rattle.pgn_language.proofs.TokenLaws.{quotes-tell}
 use Rattle.memchr.specs.Find.{IsFirstByte, is_byte}
-use Rattle.pgn_command.specs.Texts.{single, starts, NoneAmong, IsQuoteAt, FindsQuote, IsInside, IsTwice}
+use Rattle.pgn_quotes.specs.Texts.{single, starts, NoneAmong, IsQuoteAt, FindsQuote, IsInside, IsTwice}
 
 -- a byte other than the quote stands for itself
 pub other-once : (quote b : ℕ) (bytes : List ℕ) → (b == quote) ≡ false → single quote (b ∷ bytes) ≡ b ∷ single quote bytes

@@ -1,6 +1,6 @@
 use Rattle.std.proofs.Common.{sym, arith}
-use Rattle.pgn_command.proofs.QuoteLaws.{no-shorter}
-use Rattle.pgn_command.proofs.inside.Inside.plain.Goals as goal
+use Rattle.pgn_quotes.proofs.QuoteLaws.{no-shorter}
+use Rattle.pgn_quotes.proofs.enclosed.Enclosed.plain.Goals as goal
 
 pub returns-then-self-eq0 : goal.returns-then-self-eq0
 returns-then-self-eq0 c =

@@ -1,8 +1,8 @@
 use Rattle.std.proofs.Common.{◌≡◌, ◌<◌, ◌++◌, length, string_bytes}
 use denote.Shadow.{shadow}
 use denote.Text.{Utf8}
-use Rattle.pgn_command.specs.Texts.{single, IsTwice}
-use Rattle.pgn_command.proofs.quotes.unquoted.Given as goal
+use Rattle.pgn_quotes.specs.Texts.{single, IsTwice}
+use Rattle.pgn_quotes.proofs.quotes.unquoted.Given as goal
 
 abbrev pub invariant-loop-at : goal.invariant-loop-at
 invariant-loop-at l = record {

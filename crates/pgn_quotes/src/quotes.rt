@@ -1,14 +1,14 @@
 ghost use Rattle.std.specs.Prelude.{◌≡◌, ◌<◌, ◌≤◌, drop, length, IfOk, MatchOption, None, string_bytes};
 ghost use Rattle.pgn_base.specs.declared.limits.TheConstants.{LINE_BYTES_MAX};
 ghost use Rattle.pgn_language.specs.Tokens.{closed};
-ghost use Rattle.pgn_command.specs.Texts.{single, starts, FindsQuote, IsInside};
+ghost use Rattle.pgn_quotes.specs.Texts.{single, starts, FindsQuote, IsInside};
 
-use crate::inside::Inside;
+use crate::enclosed::Enclosed;
 use memchr::memchr;
 use std::alloc::{AllocError, Global};
 
 /// The text of what stands between two quotes, each quote in it once. Its length is known before it is built.
-pub fn unquoted(alloc: Global, inside: Inside<'_>) -> Result<String, AllocError>
+pub fn unquoted(alloc: Global, inside: Enclosed<'_>) -> Result<String, AllocError>
     ensures { IfOk result (λ text. string_bytes text ≡ single inside.entry.quote inside.entry.raw.now) }
 {
     let quote = inside.quote;
@@ -23,7 +23,7 @@ pub fn unquoted(alloc: Global, inside: Inside<'_>) -> Result<String, AllocError>
 }
 
 /// What stands before the closing quote, in a text that follows an opening one.
-pub fn inside(text: &str, quote: u8) -> Option<Inside<'_>>
+pub fn inside(text: &str, quote: u8) -> Option<Enclosed<'_>>
     requires ascii { quote < 128 }
     requires short { length text.now ≤ LINE_BYTES_MAX }
     ensures { MatchOption result (closed quote text.now ≡ None) (λ inside. IsInside quote text.now inside.quote inside.raw.now) }
@@ -34,7 +34,7 @@ pub fn inside(text: &str, quote: u8) -> Option<Inside<'_>>
     while let Some(at) = quote_from(bytes, end, quote) {
         if !is_quote(bytes, at + 1, quote) {
             let raw = &text[..at];
-            return Some(Inside {
+            return Some(Enclosed {
                 quote,
                 raw,
                 doubled,

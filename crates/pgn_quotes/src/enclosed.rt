@@ -1,11 +1,11 @@
 ghost use Rattle.std.specs.Prelude.{◌≡◌, ◌+◌, ◌<◌, ◌≤◌, length, flat_map, IfSome};
 ghost use Rattle.pgn_base.specs.declared.limits.TheConstants.{LINE_BYTES_MAX};
 ghost use Rattle.pgn_language.specs.Quotes.{doubled_byte};
-ghost use Rattle.pgn_command.specs.Texts.{single};
+ghost use Rattle.pgn_quotes.specs.Texts.{single};
 
 /// What stands between two quotes, as it is written: each quote in it twice.
 #[derive(Clone, Copy)]
-pub struct Inside<'a> {
+pub struct Enclosed<'a> {
     /// The quote, `"` or `'`.
     pub quote: u8,
     /// What stands between the two.
@@ -18,7 +18,7 @@ pub struct Inside<'a> {
     ghost counted: { length (single quote raw.now) + doubled ≡ length raw.now },
 }
 
-impl<'a> Inside<'a> {
+impl<'a> Enclosed<'a> {
     /// How many bytes the text has, each quote in it once.
     pub fn len(&self) -> usize
         ensures { result ≡ length (single self.now.quote self.now.raw.now) }

@@ -1,7 +1,7 @@
 use Rattle.std.proofs.Common.{◌≡◌, ℕ, List, ◌++◌, length, string_bytes, sym, ap, ◌∙◌, subst, IsUtf8}
-use Rattle.pgn_command.specs.Texts.{single, IsQuoteAt, NoneAmong}
-use Rattle.pgn_command.proofs.QuoteLaws.{quote-boundary, pair-boundary, written-step, no-quote-once}
-use Rattle.pgn_command.proofs.quotes.unquoted.Goals as goal
+use Rattle.pgn_quotes.specs.Texts.{single, IsQuoteAt, NoneAmong}
+use Rattle.pgn_quotes.proofs.QuoteLaws.{quote-boundary, pair-boundary, written-step, no-quote-once}
+use Rattle.pgn_quotes.proofs.quotes.unquoted.Goals as goal
 
 pub range-requires-clause-end_boundary : goal.range-requires-clause-end_boundary
 range-requires-clause-end_boundary c =
