@@ -48,7 +48,8 @@ pub fn is_comment(bytes: &[u8]) -> bool
 
 /// How many bytes at the front are blanks.
 pub fn blanks(bytes: &[u8]) -> usize
-    ensures { result ≡ prefix_len is_blank bytes.now }
+    ensures value { result ≡ prefix_len is_blank bytes.now }
+    ensures within { result ≤ length bytes.now }
 {
     let groups = blank_groups(bytes);
     groups + single_blanks(&bytes[groups..])
@@ -113,8 +114,8 @@ pub fn digits(bytes: &[u8]) -> usize
     bytes.len()
 }
 
-// Space, tab, CR, form feed and vertical tab.
-fn is_blank(byte: u8) -> bool
+/// Whether a byte is a blank: a space, a tab, CR, a form feed or a vertical tab.
+pub fn is_blank(byte: u8) -> bool
     ensures { result ≡ is_blank byte }
 {
     byte == b' ' || byte == b'\t' || byte == b'\r' || byte == 12 || byte == 11

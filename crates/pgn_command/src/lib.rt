@@ -5,8 +5,8 @@
 //! first byte at which no form of the table goes on, and `Invalid` the first limit that a notification goes past. Only want of
 //! memory is refused.
 //!
-//! The text is gone through once, by three layers: `Lexer` gives tokens as parts of the line, `Parser` has the next of them
-//! ahead and reads a `Statement`, whose names and texts are still parts of the line, and `command_of` builds these. A text
+//! A line is read by three layers: `Lexer` gives tokens as parts of the line, `Parser` has the next of them ahead and reads a
+//! `Statement`, whose names and texts are still parts of the line, and `command_of` builds these. A text
 //! between quotes and a text that is repeated are measured before they are built.
 //!
 //! A session asks `parse_line(alloc, "NOTIFY c, 'it''s'")` for `Notify` with the channel `c` and the payload `it's`.
@@ -23,4 +23,5 @@ mod texts;
 mod token;
 mod verb;
 
+pub use bytes::{blanks, is_blank};
 pub use reading::parse_line;

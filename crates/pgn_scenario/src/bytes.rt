@@ -3,18 +3,7 @@ ghost use Rattle.std.specs.List.{prefix_len};
 ghost use Rattle.pgn_language.specs.Tokens.{is_blank};
 ghost use Rattle.pgn_language.specs.Lines.{is_gap};
 
-/// How many bytes at the front are blanks.
-pub fn blanks_before(bytes: &[u8]) -> usize
-    ensures value { result ≡ prefix_len is_blank bytes.now }
-    ensures within { result ≤ length bytes.now }
-{
-    for (at, byte) in bytes.iter().enumerate() {
-        if !is_blank(*byte) {
-            return at;
-        }
-    }
-    bytes.len()
-}
+use pgn_command::is_blank;
 
 /// Where the blanks at the end begin.
 pub fn blanks_after(bytes: &[u8]) -> usize
@@ -52,13 +41,6 @@ pub fn part_bytes(bytes: &[u8]) -> usize
         }
     }
     bytes.len()
-}
-
-// Space, tab, CR, form feed and vertical tab.
-fn is_blank(byte: u8) -> bool
-    ensures { result ≡ is_blank byte }
-{
-    byte == b' ' || byte == b'\t' || byte == b'\r' || byte == 12 || byte == 11
 }
 
 // A space or a tab.

@@ -4,7 +4,7 @@
 //! layer above may rely on it both ways: a scenario or a fault is given exactly where the input reads so, and every scenario is
 //! sound (`IsSound`). Only want of memory is refused, and it may come at any point.
 //!
-//! The bytes are gone through once, a line at a time: `first_line` finds the line's end, `said_of` tells what the line says, and
+//! The bytes are taken a line at a time: `first_line` finds the line's end, `said_of` tells what the line says, and
 //! `SoFar` has what the lines so far make, to which each line adds or in which it is at fault. Names of sections and of flags are
 //! found by their hash. A line's text is copied once.
 //!

@@ -1,7 +1,8 @@
 ghost use Rattle.std.specs.Prelude.{◌≡◌};
 ghost use Rattle.pgn_language.specs.Lines.{trimmed, trimmed_start, trimmed_end};
 
-use crate::bytes::{blanks_after, blanks_before};
+use crate::bytes::blanks_after;
+use pgn_command::blanks;
 
 /// The text of a line: the line without the blanks at both ends.
 pub fn trimmed(line: &str) -> &str
@@ -13,7 +14,7 @@ pub fn trimmed(line: &str) -> &str
 fn trimmed_start(line: &str) -> &str
     ensures { result.now ≡ trimmed_start line.now }
 {
-    let start = blanks_before(line.as_bytes());
+    let start = blanks(line.as_bytes());
     &line[start..]
 }
 

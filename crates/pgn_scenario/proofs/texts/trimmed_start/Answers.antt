@@ -6,4 +6,4 @@ use Rattle.pgn_scenario.proofs.texts.trimmed_start.Goals as goal
 
 pub range_from-requires : goal.range_from-requires
 range_from-requires c = λ _.
-    rw c.blanks_before-start.ensures.value (subst (λ (l : List ℕ). IsCharBoundary l (prefix_len is_blank c.as_bytes.result.now)) c.as_bytes.ensures.value (blanks-boundary c.as_bytes.result.now c.as_bytes.ensures.utf8))
+    rw c.blanks-start.ensures.value (subst (λ (l : List ℕ). IsCharBoundary l (prefix_len is_blank c.as_bytes.result.now)) c.as_bytes.ensures.value (blanks-boundary c.as_bytes.result.now c.as_bytes.ensures.utf8))
