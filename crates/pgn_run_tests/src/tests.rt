@@ -14,6 +14,7 @@ mod gate;
 mod job_table;
 mod listeners;
 mod over_hub;
+mod slept;
 mod streams;
 mod turns;
 mod waits;

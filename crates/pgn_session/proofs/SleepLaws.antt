@@ -1,5 +1,5 @@
 -- A session that has slept stands where it stood.
-use Rattle.std.proofs.Common.{◌≡◌, ℕ, ◌<◌, sym, subst, arith}
+use Rattle.std.proofs.Common.{◌≡◌, ℕ, ◌-◌, ◌<◌, ◌≤◌, min, Bool, true, false, cond, nat_lt, sym, subst, arith}
 use Rattle.pgn_model.specs.Walk.{Terms, State}
 use Rattle.pgn_hub.specs.declared.known.Known.{Known}
 use Rattle.pgn_hub.specs.Shape.{Shape}
@@ -9,7 +9,7 @@ use Rattle.pgn_session.specs.declared.doing.FlagPlan.{FlagPlan}
 use Rattle.pgn_session.specs.declared.doing.Doing.{Doing}
 use Rattle.pgn_session.specs.declared.doing.Doing.TheVariants.{Lines, Committing, Awaiting, Ending, Over}
 use Rattle.pgn_session.specs.Standing.{terms_of, HasAnswered, HasRested, IsServedBy}
-use Rattle.pgn_session.specs.Sleep.{slept_looks, slept_doing, IsAwaitedBelow}
+use Rattle.pgn_session.specs.Sleep.{slept_looks, slept_doing, slept_for, IsAwaitedBelow}
 use Rattle.pgn_session.specs.Whole.{HasAnswer, HasRest}
 use Rattle.pgn_session.proofs.AwaitLaws.{awaited-below}
 
@@ -32,6 +32,18 @@ slept-rested terms plan block k s micros (Committing actions notes tag) h = h
 slept-rested terms plan block k s micros (Awaiting flag looks) h = (slept-answered terms plan block k s micros (Awaiting flag looks) h.0, h.1)
 slept-rested terms plan block k s micros (Ending found looks) h = (slept-answered terms plan block k s micros (Ending found looks) h.0, h.1)
 slept-rested terms plan block k s micros Over h = h
+
+-- it does not sleep longer than it was asked to
+pub slept-within : (plan : FlagPlan) (patience micros : ℕ) (doing : Doing) → slept_for plan patience micros doing ≤ micros
+slept-within plan patience micros Lines = omega arith
+slept-within plan patience micros (Committing actions notes tag) = omega arith
+slept-within plan patience micros (Awaiting flag looks) = omega arith
+slept-within plan patience micros (Ending first looks) = either (nat_lt first plan.sessions)
+  where
+    either : (waits : Bool) → cond waits (min micros (patience - looks)) 0 ≤ micros
+    either true = omega arith
+    either false = omega arith
+slept-within plan patience micros Over = omega arith
 
 -- of a whole session
 pub answer-slept : {P : Type 0} (shape : Shape) (known : P → Known) (old new : Session P) (micros : ℕ) → new ≡ record old { doing = slept_doing old.patience micros old.doing } → HasAnswer shape known old → HasAnswer shape known new

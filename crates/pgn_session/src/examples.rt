@@ -3,7 +3,7 @@
 ghost use Rattle.std.specs.Prelude.{◌≡◌, [], ◌∷◌, Some, None};
 ghost use Rattle.pgn_hub.specs.Examples.{both_notes, opened_2, published, listening, woken_1, found_0, found_none};
 ghost use Rattle.pgn_session.specs.Steps.{HasTurned, ShowsLine, AnswersLine, Waits, Ends, StandsStill};
-ghost use Rattle.pgn_session.specs.Sleep.{slept_doing};
+ghost use Rattle.pgn_session.specs.Sleep.{slept_doing, slept_for};
 ghost use Rattle.pgn_session.specs.Examples.{two_sessions};
 
 use crate::{Doing, Step};
@@ -62,6 +62,19 @@ pub fn slept()
     ensures counts_the_next_look { slept_doing 100 50 (Doing.Awaiting 1 3) ≡ Doing.Awaiting 1 53 → ⊥ }
     ensures leaves_none { slept_doing 100 200 (Doing.Awaiting 1 3) ≡ Doing.Awaiting 1 100 → ⊥ }
     ensures counts_nothing { slept_doing 100 50 (Doing.Awaiting 1 3) ≡ Doing.Awaiting 1 3 → ⊥ }
+{}
+
+/// For how long a session sleeps, with a patience of 100. There are two sessions.
+pub fn sleeping()
+    ensures as_asked { slept_for two_sessions 100 50 (Doing.Awaiting 1 3) ≡ 50 }
+    ensures as_patience_is_left { slept_for two_sessions 100 200 (Doing.Awaiting 1 3) ≡ 97 }
+    ensures at_the_end { slept_for two_sessions 100 50 (Doing.Ending 1 3) ≡ 50 }
+    ensures all_found { slept_for two_sessions 100 50 (Doing.Ending 2 3) ≡ 0 }
+    ensures between_lines { slept_for two_sessions 100 50 Doing.Lines ≡ 0 }
+    ensures over { slept_for two_sessions 100 50 Doing.Over ≡ 0 }
+    ensures longer { slept_for two_sessions 100 50 (Doing.Awaiting 1 3) ≡ 51 → ⊥ }
+    ensures past_patience { slept_for two_sessions 100 200 (Doing.Awaiting 1 3) ≡ 98 → ⊥ }
+    ensures at_no_flag { slept_for two_sessions 100 50 Doing.Lines ≡ 50 → ⊥ }
 {}
 
 /// Where a session stands after a step that was refused.

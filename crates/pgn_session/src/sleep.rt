@@ -1,7 +1,7 @@
-ghost use Rattle.std.specs.Prelude.{◌≡◌, ◌+◌, ◌<◌, ◌≤◌};
+ghost use Rattle.std.specs.Prelude.{◌≡◌, ◌+◌, ◌-◌, ◌<◌, ◌≤◌, min};
 ghost use Rattle.pgn_hub.specs.Shape.{Shape};
 ghost use Rattle.pgn_session.specs.Standing.{IsServedBy};
-ghost use Rattle.pgn_session.specs.Sleep.{slept_looks, slept_doing, IsAwaitedBelow};
+ghost use Rattle.pgn_session.specs.Sleep.{slept_looks, slept_doing, slept_for, IsAwaitedBelow};
 ghost use Rattle.pgn_session.specs.Whole.{HasAnswer, HasRest};
 
 use crate::{Doing, Session};
@@ -30,6 +30,8 @@ impl<P: PassView + Send + Drop> Session<P> {
     pub fn sleep<H: Hub<Pass = P>, R: Wait>(&self, rt: &R, hub: &H, micros: u64) -> u64
         requires served { IsServedBy (H.shape hub.now) self.now.section self.now.plan }
         requires rested { HasRest (H.shape hub.now) P.known self.now }
+        ensures slept { result ≡ slept_for self.now.plan self.now.patience micros self.now.doing }
+        ensures within { result ≤ micros }
     {
         self.sleep_on_flag(rt, hub, micros)
     }
@@ -38,6 +40,7 @@ impl<P: PassView + Send + Drop> Session<P> {
     fn sleep_on_flag<H: Hub<Pass = P>, R: Wait>(&self, rt: &R, hub: &H, micros: u64) -> u64
         requires ends { self.now.plan.first_end + self.now.plan.sessions ≤ (H.shape hub.now).flags }
         requires awaited { IsAwaitedBelow (H.shape hub.now).flags self.now.doing }
+        ensures { result ≡ slept_for self.now.plan self.now.patience micros self.now.doing }
     {
         match self.doing {
             Doing::Awaiting { flag, looks } => self.sleep_on(rt, hub, flag, micros, looks),
@@ -58,10 +61,11 @@ impl<P: PassView + Send + Drop> Session<P> {
         looks: u64,
     ) -> u64
         requires { flag < (H.shape hub.now).flags }
+        ensures { result ≡ min micros (self.now.patience - looks) }
     {
-        let micros = micros.min(self.patience.saturating_sub(looks));
-        hub.rest(rt, flag, Duration::from_micros(micros));
-        micros
+        let longest = micros.min(self.patience.saturating_sub(looks));
+        hub.rest(rt, flag, Duration::from_micros(longest));
+        longest
     }
 
     /// Counts a sleep of so many microseconds. Only who has slept so long on a flag since the session's last look may call this: on its

@@ -172,6 +172,7 @@ fn sleep_on_one<P: PassView + Send + Drop, H: Hub<Pass = P>, R: Wait>(
     micros: u64,
 ) -> u64
     requires { All (IsReady (H.is_pass hub.now) (H.shape hub.now) P.known) sessions.now }
+    ensures { result ≤ micros }
 {
     for session in sessions {
         let micros = session.sleep(rt, hub, micros);

@@ -22,7 +22,7 @@ fn await_line(alloc: Global, item: &Item) -> Result<String, AllocError> {
 }
 
 // What the awaits of a session came to.
-fn awaits_of<P: PassView + Send + Drop>(
+pub(super) fn awaits_of<P: PassView + Send + Drop>(
     alloc: Global,
     session: &Session<P>,
 ) -> Result<String, AllocError> {

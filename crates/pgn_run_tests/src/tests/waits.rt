@@ -15,16 +15,17 @@ use std::thread;
 use std::thread::Threads;
 use std::time::Duration;
 
-// How often a session has slept and has read, and how often somebody waited for one of these in vain.
+// How many transactions were begun, how often a session has slept and has read, and how often somebody waited for one of these in vain.
 #[derive(Drop)]
 struct Counts {
+    begun: AtomicU64,
     rests: AtomicU64,
     reads: AtomicU64,
     spent: AtomicU64,
 }
 
-// A word hub whose transactions wait, at most so many turns, until a session has slept, and whose flag of the second name in the script is
-// not raised until one has read.
+// A word hub whose transactions wait, at most so many turns, until sessions have slept as often as transactions were begun, and whose flag
+// of the second name in the script is not raised until one has read.
 #[derive(Drop)]
 pub(super) struct Watch<const TURNS: u32> {
     hub: WordHub,
@@ -32,9 +33,9 @@ pub(super) struct Watch<const TURNS: u32> {
 }
 
 impl<const TURNS: u32> Watch<TURNS> {
-    fn wait_for(&self, count: &AtomicU64) {
+    fn wait_for(&self, count: &AtomicU64, least: u64) {
         for _ in 0..TURNS {
-            if count.load(Ordering::SeqCst) > 0 {
+            if count.load(Ordering::SeqCst) >= least {
                 return;
             }
             thread::yield_now();
@@ -46,7 +47,7 @@ impl<const TURNS: u32> Watch<TURNS> {
         self.counts.rests.load(Ordering::SeqCst)
     }
 
-    fn is_spent(&self) -> bool {
+    pub(super) fn is_spent(&self) -> bool {
         self.counts.spent.load(Ordering::SeqCst) != 0
     }
 }
@@ -69,6 +70,7 @@ impl<const TURNS: u32> Hub for Watch<TURNS> {
 
     fn open(alloc: Global, setup: Setup) -> Result<(Self, Vec<Self::Pass>), AllocError> {
         let counts = Counts {
+            begun: AtomicU64::new(0),
             rests: AtomicU64::new(0),
             reads: AtomicU64::new(0),
             spent: AtomicU64::new(0),
@@ -79,7 +81,8 @@ impl<const TURNS: u32> Hub for Watch<TURNS> {
     }
 
     fn publish<R: Wait>(&self, rt: &R, pass: &mut Self::Pass, notes: &[Note]) -> Result<Xid, Full> {
-        self.wait_for(&self.counts.rests);
+        let before = self.counts.begun.fetch_add(1, Ordering::SeqCst);
+        self.wait_for(&self.counts.rests, before.saturating_add(1));
         self.hub.publish(rt, pass, notes)
     }
 
@@ -108,7 +111,7 @@ impl<const TURNS: u32> Hub for Watch<TURNS> {
 
     fn raise(&self, pass: &mut Self::Pass, flag: u32) -> Xid {
         if flag == 1 {
-            self.wait_for(&self.counts.reads);
+            self.wait_for(&self.counts.reads, 1);
         }
         self.hub.raise(pass, flag)
     }
