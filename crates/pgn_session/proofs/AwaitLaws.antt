@@ -25,7 +25,7 @@ use Rattle.pgn_session.specs.declared.doing.Doing.{Doing}
 use Rattle.pgn_session.specs.declared.doing.Doing.TheVariants.{Lines, Awaiting}
 use Rattle.pgn_session.specs.declared.doing.Step.{Step}
 use Rattle.pgn_session.specs.declared.doing.Step.TheVariants.{Did, Waiting}
-use Rattle.pgn_session.specs.Standing.{StandsAt, IsInScript, IsAnswered, IsRested, IsFlagBelow, IsAwaitedIn, IsLookingFor}
+use Rattle.pgn_session.specs.Standing.{StandsAt, IsInScript, IsAnswered, IsRested, IsFlagBelow, IsAwaitedIn, IsLookingFor, spare_of}
 use Rattle.pgn_session.specs.Parts.{looked_items}
 use Rattle.pgn_session.specs.Steps.{HasTurned, looked_doing, looked_step}
 use Rattle.pgn_session.proofs.FlagLaws.{budget-less}
@@ -36,7 +36,7 @@ use Rattle.pgn_session.proofs.BlockLaws.{comes}
 
 -- a look that found the flag
 found-answered : (terms : Terms) (plan : FlagPlan) (done : ℕ) (block : BlockView) (set : List (List ℕ)) (k q : Known) (items : List Item) (s : State) (flag value : ℕ)
-    → StandsAt terms k items s → s.rest ≡ drop done terms.section.lines → s.set ≡ set → IsInScript block k s (walk.Awaiting flag) → HasFound k q flag value → value ≤ next_xid q.seen
+    → StandsAt terms k items s → s.rest ≡ drop done terms.section.lines → s.set ≡ set → IsInScript (spare_of terms.section) block k s (walk.Awaiting flag) → HasFound k q flag value → value ≤ next_xid q.seen
     → IsAnswered terms plan done block set Lines q (items ++ Found value ∷ [])
 found-answered terms plan done block set k q items s flag value h rest channels here r within =
     let seen : List Tx = k.seen ++ r.more in
@@ -83,7 +83,7 @@ found-answered terms plan done block set k q items s flag value h rest channels 
 
 -- the last look that the patience allows, which found nothing
 timed_out-answered : (terms : Terms) (plan : FlagPlan) (done : ℕ) (block : BlockView) (set : List (List ℕ)) (k q : Known) (items : List Item) (s : State) (flag : ℕ)
-    → StandsAt terms k items s → s.rest ≡ drop done terms.section.lines → s.set ≡ set → IsInScript block k s (walk.Awaiting flag) → HasFoundNone k q flag
+    → StandsAt terms k items s → s.rest ≡ drop done terms.section.lines → s.set ≡ set → IsInScript (spare_of terms.section) block k s (walk.Awaiting flag) → HasFoundNone k q flag
     → IsAnswered terms plan done block set Lines q (items ++ TimedOut terms.settings.patience ∷ [])
 timed_out-answered terms plan done block set k q items s flag h rest channels here r =
     let seen : List Tx = k.seen ++ r.more in
@@ -119,7 +119,7 @@ timed_out-answered terms plan done block set k q items s flag h rest channels he
 
 -- a look that found nothing, and is not the last
 waiting-rested : (terms : Terms) (plan : FlagPlan) (done : ℕ) (block : BlockView) (set : List (List ℕ)) (k q : Known) (items : List Item) (s : State) (flag looks : ℕ)
-    → StandsAt terms k items s → s.rest ≡ drop done terms.section.lines → s.set ≡ set → IsInScript block k s (walk.Awaiting flag) → (s.block ≡ Idle → IsUpToDate terms k.seen s) → IsAwaitedIn terms.section flag
+    → StandsAt terms k items s → s.rest ≡ drop done terms.section.lines → s.set ≡ set → IsInScript (spare_of terms.section) block k s (walk.Awaiting flag) → (s.block ≡ Idle → IsUpToDate terms k.seen s) → IsAwaitedIn terms.section flag
     → looks < terms.settings.patience → HasFoundNone k q flag → IsRested terms plan done block set (Awaiting flag looks) q items
 waiting-rested terms plan done block set k q items s flag looks h rest channels here up awaited few r =
     let seen : List Tx = k.seen ++ r.more in

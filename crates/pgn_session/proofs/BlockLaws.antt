@@ -31,7 +31,7 @@ use Rattle.pgn_block.specs.declared.effect.Effect.{Effect}
 use Rattle.pgn_session.specs.declared.doing.FlagPlan.{FlagPlan}
 use Rattle.pgn_session.specs.declared.doing.Doing.TheVariants.{Lines}
 use Rattle.pgn_session.specs.Parts.{HasTaken, answered_items, IsToldByBlock}
-use Rattle.pgn_session.specs.Standing.{IsAnswered, IsRested}
+use Rattle.pgn_session.specs.Standing.{IsAnswered, IsRested, spare_of}
 
 -- a command puts a notification into the list where it notifies
 pub noted-one : (c : Command) → count_noted (changes_of c) ≡ cond (is_note_command c) 1 0
@@ -46,9 +46,9 @@ noted-one (command.PgNotify note) = refl
 noted-one other = refl
 
 -- the notifications that may still come, as a line is done
-pub budget-line : (changes : List Change) (c : Command) (outcome : Outcome) (line : ScriptLine) (lines rest : List ScriptLine) (left : ℕ) → rest ≡ line ∷ lines → line.act ≡ Run c
-    → count_noted changes + note_lines_of rest ≤ left → count_noted (list_after changes c outcome) + note_lines_of lines ≤ left
-budget-line changes c outcome line lines rest left e does h =
+pub budget-line : (spare : ℕ) (changes : List Change) (c : Command) (outcome : Outcome) (line : ScriptLine) (lines rest : List ScriptLine) (left : ℕ) → rest ≡ line ∷ lines → line.act ≡ Run c
+    → spare + count_noted changes + note_lines_of rest ≤ left → spare + count_noted (list_after changes c outcome) + note_lines_of lines ≤ left
+budget-line spare changes c outcome line lines rest left e does h =
     let all : note_lines_of rest ≡ cond (is_note_act line.act) 1 0 + note_lines_of lines = ap note_lines_of e ∙ sum_by-cons (λ (l : ScriptLine). cond (is_note_act l.act) 1 0) line lines in
     let one : cond (is_note_act line.act) 1 0 ≡ count_noted (changes_of c) = ap (λ (a : Act). cond (is_note_act a) 1 0) does ∙ sym (noted-one c) in
     omega (arith, noted-after changes c outcome)
@@ -88,7 +88,7 @@ after-block terms plan done block next set k items after line lines c outcome h 
         block_state = ap (λ (b : BlockState). next_state b outcome) h.here.0.block_state ∙ sym leads;
         list = leaves;
         tells = record { told = h.here.0.tells.told; raised = h.here.0.tells.raised; found = h.here.0.tells.found };
-        budget = budget-line s.changes c outcome line lines s.rest k.notes_left rest does h.here.0.budget;
+        budget = budget-line (spare_of terms.section) s.changes c outcome line lines s.rest k.notes_left rest does h.here.0.budget;
         quits_last = (subst QuitsLast rest h.here.0.quits_last).1;
       };
     }

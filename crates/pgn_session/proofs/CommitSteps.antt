@@ -23,7 +23,7 @@ use Rattle.pgn_block.specs.Views.{BlockView}
 use Rattle.pgn_session.specs.declared.doing.FlagPlan.{FlagPlan}
 use Rattle.pgn_session.specs.declared.doing.Doing.TheVariants.{Lines}
 use Rattle.pgn_answers.specs.Savepoints.{count_noted}
-use Rattle.pgn_session.specs.Standing.{HaveSameMembers, IsAnswered}
+use Rattle.pgn_session.specs.Standing.{HaveSameMembers, IsAnswered, spare_of}
 use Rattle.pgn_session.proofs.KnownLaws.{members-push}
 use Rattle.pgn_session.specs.Commits.{HasJoined, HasSent, HasLeftIf, is_full, enlisted_items, sent_items}
 
@@ -232,7 +232,7 @@ pub left-answered : (terms : Terms) (plan : FlagPlan) (done : ℕ) (block : Bloc
     → 1 ≤ terms.settings.patience → HasLeftIf b f q → StandsFresh terms f.seen after t → All (IsFullThere terms.settings f.seen) after → All (λ pair. pair.1 ≤ next_xid f.seen) t.found
     → f.session ≡ terms.section.no → f.db ≡ terms.section.db → finished_xids after ≡ f.own → t.mark ≡ cond b None f.mark → HaveSameMembers t.marks f.marks → IfSome f.mark (Contains f.marks)
     → All (Contains f.named) t.named → t.rest ≡ drop (done + 1) terms.section.lines → t.set ≡ channels → t.owed ≡ Nothing → t.block ≡ block.state → StandsFor t.changes block.kept
-    → t.told ≡ f.told → t.raised ≡ f.raised → t.found ≡ f.found → count_noted t.changes + note_lines_of t.rest ≤ f.notes_left → QuitsLast t.rest
+    → t.told ≡ f.told → t.raised ≡ f.raised → t.found ≡ f.found → spare_of terms.section + count_noted t.changes + note_lines_of t.rest ≤ f.notes_left → QuitsLast t.rest
     → IsAnswered terms plan (done + 1) block channels Lines q after
 left-answered terms plan done block channels f q b after t enough leave shown full found session database own mark marks stood named rest is_set owes state list told raised found_is budget quits =
     let l = leads-left f q b leave in

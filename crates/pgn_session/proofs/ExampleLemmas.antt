@@ -1,5 +1,11 @@
 -- Examples of steps: one that finds its flag, and why others are refused.
-use Rattle.std.proofs.Common.{◌≡◌, ℕ, ◌≤◌, Bool, true, false, List, [], ◌∷◌, Option, Some, None, All, ap, arith, refl, subst}
+use Rattle.pgn_base.specs.declared.command.Command.TheVariants as command
+use Rattle.pgn_language.specs.declared.scenario.Act.{Act}
+use Rattle.pgn_language.specs.declared.scenario.Act.TheVariants.{Run, Quit}
+use Rattle.pgn_language.specs.declared.scenario.ScriptLine.{ScriptLine}
+use Rattle.pgn_session.specs.Feed.{EndsByQuit, fed}
+use Rattle.pgn_session.specs.Examples.{begin_line, quit_line, quits}
+use Rattle.std.proofs.Common.{◌≡◌, ℕ, ◌≤◌, Bool, true, false, List, [], ◌∷◌, ◌++◌, Option, Some, None, All, ap, arith, refl, subst, sym, ◌∙◌}
 use Rattle.std.proofs.lemmas.List.Elements.{All-nil, All-cons, All-head, All-contains}
 use Rattle.pgn_base.specs.declared.answers.Tag.TheVariants.{Begin, Notify}
 use Rattle.pgn_model.specs.declared.item.Item.{Item}
@@ -9,7 +15,7 @@ use Rattle.pgn_hub.specs.Calls.{HasLooked}
 use Rattle.pgn_hub.specs.Examples.{both_notes, tx_3, opened_2, published, listening, woken_1, found_0, found_none}
 use Rattle.pgn_session.specs.Parts.{looked_items}
 use Rattle.pgn_session.specs.Standing.{HaveEnded}
-use Rattle.pgn_session.specs.Steps.{LooksInVain, IsWithoutHub, ShowsLine, HasTurned}
+use Rattle.pgn_session.specs.Steps.{LooksInVain, IsWithoutHub, IsNoLine, ShowsLine, HasTurned}
 use Rattle.pgn_session.specs.declared.doing.Doing.TheVariants.{Lines}
 use Rattle.pgn_session.specs.declared.doing.Step.TheVariants.{Did}
 use Rattle.pgn_session.specs.Examples.{two_sessions}
@@ -62,15 +68,16 @@ begun-alone : All IsWithoutHub begun
 begun-alone = All-cons IsWithoutHub (Reply Begin None) [] tt (All-nil IsWithoutHub)
 
 pub shows-answer : ShowsLine 2 listening listening [] (Line 2 ∷ Reply Begin None ∷ [])
-shows-answer = record { more = begun; shown = refl; untouched = λ all. refl }
+shows-answer = record { more = begun; shown = refl; one_line = All-cons IsNoLine (Reply Begin None) [] tt (All-nil IsNoLine); untouched = λ all. refl }
 
 pub shows-nothing : ShowsLine 2 listening listening [] (Line 2 ∷ [])
-shows-nothing = record { more = []; shown = refl; untouched = λ all. refl }
+shows-nothing = record { more = []; shown = refl; one_line = All-nil IsNoLine; untouched = λ all. refl }
 
 pub shows-sent : ShowsLine 2 opened_2 published [] (Line 2 ∷ Publish 3 both_notes ∷ Reply Notify None ∷ [])
 shows-sent = record {
   more = Publish 3 both_notes ∷ Reply Notify None ∷ [];
   shown = refl;
+  one_line = All-cons IsNoLine (Publish 3 both_notes) (Reply Notify None ∷ []) tt (All-cons IsNoLine (Reply Notify None) [] tt (All-nil IsNoLine));
   untouched = λ all. absurd (All-head IsWithoutHub (Publish 3 both_notes) (Reply Notify None ∷ []) all);
 }
 
@@ -86,3 +93,24 @@ takes-at-empty s = let same : [] ≡ s.more = cc (s.shown) in has-looked (s.unto
 
 pub other-line : ShowsLine 2 listening listening [] (Line 3 ∷ Reply Begin None ∷ []) → ⊥
 other-line s = let same : ◌≡◌ {A = ℕ} 3 2 = cc (s.shown) in omega (arith, same)
+
+pub two-lines : ShowsLine 2 listening listening [] (Line 2 ∷ Line 3 ∷ []) → ⊥
+two-lines s = let same : Line 3 ∷ [] ≡ s.more = cc (s.shown) in All-head IsNoLine (Line 3) [] (subst (λ (items : List Item). All IsNoLine items) (sym same) s.one_line)
+
+pub ends-quits : EndsByQuit quits.lines
+ends-quits = record { front = []; last = quit_line; split = refl; quits = refl }
+
+none-ends : (front : List ScriptLine) (last : ScriptLine) → [] ≡ front ++ last ∷ [] → ⊥
+none-ends [] last e = let no : ⊥ = cc in no
+none-ends (line ∷ front) last e = let no : ⊥ = cc in no
+
+pub no-line_ends : EndsByQuit [] → ⊥
+no-line_ends e = none-ends e.front e.last e.split
+
+pub goes_on-ends : EndsByQuit (quit_line ∷ begin_line ∷ []) → ⊥
+goes_on-ends e = by-front e.front e.last e.split e.quits
+  where
+    by-front : (front : List ScriptLine) (last : ScriptLine) → quit_line ∷ begin_line ∷ [] ≡ front ++ last ∷ [] → last.act ≡ Quit → ⊥
+    by-front [] last e quits = let no : ⊥ = cc in no
+    by-front (line ∷ []) last e quits = let is : begin_line ≡ last = cc in let act : ◌≡◌ {A = Act} (Run command.Begin) Quit = ap (λ (l : ScriptLine). l.act) is ∙ quits in let no : ⊥ = cc in no
+    by-front (line ∷ next ∷ front) last e quits = let none : [] ≡ front ++ last ∷ [] = cc in none-ends front last none

@@ -1,7 +1,7 @@
 -- What comes of a commit that meets a full queue, and of any commit.
 use Rattle.std.proofs.Common.{◌≡◌, ◌≢◌, ℕ, ◌+◌, ◌<◌, ◌≤◌, Bool, true, false, cond, List, [], ◌∷◌, ◌++◌, length, drop, Option, Some, None, Result, Ok, Err, IfSome, All, Contains, sym, ap, ◌∙◌, refl, subst, arith, length-append, append_assoc}
 use Rattle.std.proofs.lemmas.Option.{IfSome_then}
-use Rattle.std.proofs.lemmas.List.Elements.{All-head, All-weaker, Contains-append_left}
+use Rattle.std.proofs.lemmas.List.Elements.{All-nil, All-cons, All-append, All-head, All-weaker, Contains-append_left}
 use Rattle.pgn_base.specs.declared.note.Note.{Note}
 use Rattle.pgn_base.specs.declared.answers.Tag.{Tag}
 use Rattle.pgn_base.specs.declared.answers.Refusal.TheVariants as refused
@@ -11,7 +11,7 @@ use Rattle.pgn_base.specs.declared.listen_set.Action.{Action}
 use Rattle.pgn_journal.specs.declared.tx.Tx.{Tx}
 use Rattle.pgn_journal.specs.declared.tx.Fate.TheVariants.{Aborted}
 use Rattle.pgn_model.specs.declared.item.Item.{Item}
-use Rattle.pgn_model.specs.declared.item.Item.TheVariants.{Line, Enlist, Publish, QueueFull, Leave, Refuse}
+use Rattle.pgn_model.specs.declared.item.Item.TheVariants.{Line, Enlist, Publish, QueueFull, Leave, Refuse, Reply}
 use Rattle.pgn_hub.specs.declared.known.Known.{Known}
 use Rattle.pgn_journal.specs.Journal.{next_xid}
 use Rattle.pgn_hub.specs.Shape.{Shape}
@@ -29,7 +29,7 @@ use Rattle.pgn_block.specs.Views.{BlockView}
 use Rattle.pgn_session.specs.declared.doing.FlagPlan.{FlagPlan}
 use Rattle.pgn_session.specs.declared.doing.Doing.TheVariants.{Lines, Committing}
 use Rattle.pgn_session.specs.Standing.{terms_of, HaveSameMembers, IsCommitting, IsAnswered, IsRested, IsAt}
-use Rattle.pgn_session.specs.Steps.{ShowsLine, ShowsNext, IsWithoutHub}
+use Rattle.pgn_session.specs.Steps.{ShowsLine, ShowsNext, IsWithoutHub, IsNoLine}
 use Rattle.pgn_session.proofs.CommittedLaws.{committed-answered}
 use Rattle.pgn_language.specs.declared.scenario.Section.{Section}
 use Rattle.pgn_language.specs.declared.scenario.ScriptLine.{ScriptLine}
@@ -152,6 +152,30 @@ left-untouched : (b : Bool) (f q : Known) (rest : List Item) → HasLeftIf b f q
 left-untouched true f q rest h all = absurd (All-head IsWithoutHub Leave rest all)
 left-untouched false f q rest h all = h
 
+-- no item of a commit begins a line
+one-item : (shown : Item) → IsNoLine shown → All IsNoLine (shown ∷ [])
+one-item shown none = All-cons IsNoLine shown [] none (All-nil IsNoLine)
+
+commit-one_line : (enlisted : Option Enlisted) (sent : Option (Result ℕ Full)) (notes : List Note) (left : Bool) (tag : Tag) → All IsNoLine (enlisted_items enlisted ++ (sent_items sent notes ++ (left_items left ++ ending_item sent tag ∷ [])))
+commit-one_line enlisted sent notes left tag =
+    All-append IsNoLine (enlisted_items enlisted) (sent_items sent notes ++ (left_items left ++ ending_item sent tag ∷ [])) (of_enlisted enlisted)
+    (All-append IsNoLine (sent_items sent notes) (left_items left ++ ending_item sent tag ∷ []) (of_sent sent) (All-append IsNoLine (left_items left) (ending_item sent tag ∷ []) (of_left left) (of_ending sent)))
+  where
+    of_enlisted : (enlisted : Option Enlisted) → All IsNoLine (enlisted_items enlisted)
+    of_enlisted None = All-nil IsNoLine
+    of_enlisted (Some got) = one-item (Enlist got.base got.point) tt
+    of_sent : (sent : Option (Result ℕ Full)) → All IsNoLine (sent_items sent notes)
+    of_sent None = All-nil IsNoLine
+    of_sent (Some (Ok x)) = one-item (Publish x notes) tt
+    of_sent (Some (Err full)) = one-item (QueueFull full notes) tt
+    of_left : (left : Bool) → All IsNoLine (left_items left)
+    of_left true = one-item Leave tt
+    of_left false = All-nil IsNoLine
+    of_ending : (sent : Option (Result ℕ Full)) → All IsNoLine (ending_item sent tag ∷ [])
+    of_ending None = one-item (Reply tag None) tt
+    of_ending (Some (Ok x)) = one-item (Reply tag None) tt
+    of_ending (Some (Err full)) = one-item (Refuse refused.QueueFull) tt
+
 -- the line that comes next, by its place
 pub next-line : (lines : List ScriptLine) (done : ℕ) (line : ScriptLine) (rest : List ScriptLine) (d : ScriptLine) → drop done lines ≡ line ∷ rest → (rest ≡ drop (done + 1) lines) × (get_or lines done d ≡ line)
 next-line lines done line rest d e =
@@ -177,6 +201,7 @@ commit-answered shape section patience plan done set channels k q items after ac
     let shows : ShowsLine h.here.line.line k q items after = record {
       more = enlisted_items d.enlisted ++ (sent_items d.sent notes ++ (left_items left ++ ending));
       shown = d.shown ∙ regroup begun (enlisted_items d.enlisted) (sent_items d.sent notes) (left_items left) ending;
+      one_line = commit-one_line d.enlisted d.sent notes left tag;
       untouched = λ all.
           let joined = joined-untouched (is_enlisting actions k.mark) k d.joined d.enlisted (sent_items d.sent notes ++ (left_items left ++ ending)) d.has_joined all in
           let sent = sent-untouched shape d.joined d.finished notes d.sent (left_items left ++ ending) d.has_sent joined.1 in

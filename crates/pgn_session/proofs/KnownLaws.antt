@@ -13,7 +13,7 @@ use Rattle.pgn_block.specs.Views.{BlockView}
 use Rattle.pgn_session.specs.declared.doing.FlagPlan.{FlagPlan}
 use Rattle.pgn_session.specs.declared.doing.Doing.{Doing}
 use Rattle.pgn_session.specs.declared.doing.Doing.TheVariants.{Lines, Committing, Awaiting, Ending, Over}
-use Rattle.pgn_session.specs.Standing.{StandsAt, HaveSameMembers, TellsAll, TellsMore, GoesOnByEnds, IsInScript, IsPastScript, WasFound, HasAnswered, HasRested}
+use Rattle.pgn_session.specs.Standing.{StandsAt, HaveSameMembers, TellsAll, TellsMore, GoesOnByEnds, IsInScript, IsPastScript, WasFound, HasAnswered, HasRested, spare_of}
 
 -- the journal may grow
 pub stands-grows : (terms : Terms) (k : Known) (more : List Tx) (items : List Item) (s : State) → StandsAt terms k items s → StandsAt terms (record k { seen = k.seen ++ more }) items s
@@ -49,8 +49,8 @@ tells_more-same plan k q s same h = record {
   found = subst (λ (pairs : List (ℕ × ℕ)). GoesOnByEnds plan s.found pairs) (sym same.found) h.found;
 }
 
-in_script-same : (block : BlockView) (k q : Known) (s : State) (owed : Owed) → IsSameTold k q → IsInScript block k s owed → IsInScript block q s owed
-in_script-same block k q s owed same h = record {
+in_script-same : (spare : ℕ) (block : BlockView) (k q : Known) (s : State) (owed : Owed) → IsSameTold k q → IsInScript spare block k s owed → IsInScript spare block q s owed
+in_script-same spare block k q s owed same h = record {
   owes = h.owes;
   block_state = h.block_state;
   list = h.list;
@@ -63,9 +63,9 @@ past_script-same : (plan : FlagPlan) (block : BlockView) (k q : Known) (s : Stat
 past_script-same plan block k q s same h = record { owes = h.owes; done = h.done; dropped = h.dropped; tells = tells_more-same plan k q s same h.tells }
 
 pub answered-same : (terms : Terms) (plan : FlagPlan) (block : BlockView) (k q : Known) (s : State) (doing : Doing) → IsSameTold k q → HasAnswered terms plan block k s doing → HasAnswered terms plan block q s doing
-answered-same terms plan block k q s Lines same h = in_script-same block k q s _ same h
+answered-same terms plan block k q s Lines same h = in_script-same (spare_of terms.section) block k q s _ same h
 answered-same terms plan block k q s (Committing actions notes tag) same h = h
-answered-same terms plan block k q s (Awaiting flag looks) same h = (in_script-same block k q s _ same h.0, h.1, h.2)
+answered-same terms plan block k q s (Awaiting flag looks) same h = (in_script-same (spare_of terms.section) block k q s _ same h.0, h.1, h.2)
 answered-same terms plan block k q s (Ending found looks) same h = (past_script-same plan block k q s same h.0, h.1, h.2, λ i lt. subst (λ (pairs : List (ℕ × ℕ)). WasFound pairs (plan.first_end + i)) (sym same.found) (h.3 i lt))
 answered-same terms plan block k q s Over same h = past_script-same plan block k q s same h
 

@@ -32,5 +32,11 @@ pub mod StepLaws
 pub mod WholeLaws
 -- a step by a command
 pub mod RunLaws
+-- items that only come behind others
+pub mod GrowthLaws
+-- a walk over a script that has grown
+pub mod FeedWalkLaws
+-- a session whose script has grown
+pub mod FeedLaws
 -- why examples are refused
 mod ExampleLemmas

@@ -1,6 +1,6 @@
 -- A step of a whole session by a command: what the block answers at once, what the hub shows, and a commit that was handed out.
-use Rattle.std.proofs.Common.{◌≡◌, ℕ, ◌+◌, List, [], ◌∷◌, ◌++◌, length, drop, None, sym, ap, ◌∙◌, refl, subst, append-nil, append_assoc}
-use Rattle.std.proofs.lemmas.List.Elements.{All-head}
+use Rattle.std.proofs.Common.{◌≡◌, ℕ, ◌+◌, List, [], ◌∷◌, ◌++◌, length, drop, None, All, sym, ap, ◌∙◌, refl, subst, append-nil, append_assoc}
+use Rattle.std.proofs.lemmas.List.Elements.{All-nil, All-cons, All-head}
 use Rattle.pgn_base.specs.declared.note.Note.{Note}
 use Rattle.pgn_base.specs.declared.answers.Tag.{Tag}
 use Rattle.pgn_base.specs.declared.answers.Tag.TheVariants as tag
@@ -23,22 +23,26 @@ use Rattle.pgn_session.specs.declared.doing.Doing.{Doing}
 use Rattle.pgn_session.specs.declared.doing.Doing.TheVariants.{Lines, Committing}
 use Rattle.pgn_session.specs.Parts.{HasTaken, HasShownUsage, answered_items, IsToldByBlock}
 use Rattle.pgn_session.specs.Standing.{terms_of, IsAnswered, IsRested}
-use Rattle.pgn_session.specs.Steps.{ShowsLine, IsWithoutHub}
+use Rattle.pgn_session.specs.Steps.{ShowsLine, IsWithoutHub, IsNoLine}
 use Rattle.pgn_session.specs.Whole.{ComesWith, HasAnswer, HasRest, HasStepped}
 use Rattle.pgn_session.proofs.BlockLaws.{block-answered}
 use Rattle.pgn_session.proofs.UsageLaws.{usage-answered}
 use Rattle.pgn_session.proofs.CommitLaws.{handed-out}
 use Rattle.pgn_session.proofs.WholeLaws.{line-did}
 
+one : (shown : Item) → IsNoLine shown → All IsNoLine (shown ∷ [])
+one shown none = All-cons IsNoLine shown [] none (All-nil IsNoLine)
+
 -- what the block answers shows its line, and leaves the pass as it was
 told-shows : (k q : Known) (items : List Item) (line : ℕ) (set : List (List ℕ)) (e : Effect) → IsToldByBlock e → q ≡ k → ShowsLine line k q items (answered_items items line set e)
-told-shows k q items line set effect.Nothing h is = record { more = []; shown = sym (append-nil _); untouched = λ all. is }
-told-shows k q items line set (effect.Reply done warning) h is = record { more = item.Reply done warning ∷ []; shown = refl; untouched = λ all. is }
-told-shows k q items line set (effect.Refuse refusal) h is = record { more = item.Refuse refusal ∷ []; shown = refl; untouched = λ all. is }
+told-shows k q items line set effect.Nothing h is = record { more = []; shown = sym (append-nil _); one_line = All-nil IsNoLine; untouched = λ all. is }
+told-shows k q items line set (effect.Reply done warning) h is = record { more = item.Reply done warning ∷ []; shown = refl; one_line = one (item.Reply done warning) tt; untouched = λ all. is }
+told-shows k q items line set (effect.Refuse refusal) h is = record { more = item.Refuse refusal ∷ []; shown = refl; one_line = one (item.Refuse refusal) tt; untouched = λ all. is }
 told-shows k q items line set (effect.Query ListeningChannels) h is =
     record {
       more = item.Channels set ∷ [] ++ item.Reply (tag.Select (length set)) None ∷ [];
       shown = append_assoc (items ++ item.Line line ∷ []) (item.Channels set ∷ []) (item.Reply (tag.Select (length set)) None ∷ []);
+      one_line = All-cons IsNoLine (item.Channels set) (item.Reply (tag.Select (length set)) None ∷ []) tt (one (item.Reply (tag.Select (length set)) None) tt);
       untouched = λ all. is;
     }
 told-shows k q items line set (effect.Query QueueUsage) h is = absurd h
@@ -87,6 +91,7 @@ usage-stepped {P} shape known s n line command next step comes between rested ta
       record {
         more = item.Used used.usage ∷ [] ++ item.Reply (tag.Select 1) None ∷ [];
         shown = used.shown ∙ append_assoc (s.items.items ++ item.Line line ∷ []) (item.Used used.usage ∷ []) (item.Reply (tag.Select 1) None ∷ []);
+        one_line = All-cons IsNoLine (item.Used used.usage) (item.Reply (tag.Select 1) None ∷ []) tt (one (item.Reply (tag.Select 1) None) tt);
         untouched = λ all. absurd (All-head IsWithoutHub (item.Used used.usage) (item.Reply (tag.Select 1) None ∷ []) all);
       },
       ap (λ (x : Session P). x.doing) same ∙ between,

@@ -39,7 +39,7 @@ use Rattle.pgn_block.specs.declared.effect.Effect.TheVariants as effect
 use Rattle.pgn_session.specs.declared.doing.FlagPlan.{FlagPlan}
 use Rattle.pgn_session.specs.declared.doing.Doing.TheVariants.{Lines}
 use Rattle.pgn_session.specs.Parts.{HasTaken, HasShownUsage}
-use Rattle.pgn_session.specs.Standing.{StandsAt, HaveSameMembers, IsAnswered, IsRested}
+use Rattle.pgn_session.specs.Standing.{StandsAt, HaveSameMembers, IsAnswered, IsRested, spare_of}
 use Rattle.pgn_session.proofs.KnownLaws.{stands-grows, named-holder}
 use Rattle.pgn_session.proofs.BlockLaws.{comes, budget-line}
 
@@ -172,7 +172,7 @@ usage-answered shape terms plan done block next set k q items after line lines c
           raised = h.here.0.tells.raised ∙ sym (ap (λ (p : Known). p.raised) r.known);
           found = h.here.0.tells.found ∙ sym (ap (λ (p : Known). p.found) r.known);
         };
-        budget = omega (arith, budget-line s.changes c GivesUsage line lines s.rest k.notes_left rest does h.here.0.budget, ap (λ (p : Known). p.notes_left) r.known);
+        budget = omega (arith, budget-line (spare_of terms.section) s.changes c GivesUsage line lines s.rest k.notes_left rest does h.here.0.budget, ap (λ (p : Known). p.notes_left) r.known);
         quits_last = (subst QuitsLast rest h.here.0.quits_last).1;
       };
     })

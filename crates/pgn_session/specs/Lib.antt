@@ -12,3 +12,5 @@ pub mod Sleep
 pub mod Whole
 -- data of examples
 pub mod Examples
+-- a script that grows
+pub mod Feed

@@ -21,6 +21,11 @@ use Rattle.pgn_session.specs.declared.doing.IdleDone.{IdleDone}
 use Rattle.pgn_session.specs.declared.doing.IdleDone.TheVariants.{InBlock, NotListening, Quiet, Read}
 use Rattle.pgn_hub.specs.Calls.{HasRead, HasWoken, HasLeft, HasMeasured}
 
+-- the second items begin with the first
+pub record Begins (front whole : List Item) : Type 0 where
+  pub more : List Item
+  pub split : whole ≡ front ++ more
+
 -- the items after a read from one mark to another: it is shown where the mark has moved
 abbrev pub with_read : List Item → ℕ → ℕ → List Delivery → List Item
 with_read items from to got = cond (nat_lt from to) (items ++ item.Read from to got ∷ []) items

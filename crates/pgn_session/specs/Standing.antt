@@ -88,13 +88,17 @@ pub record TellsMore (plan : FlagPlan) (k : Known) (s : State) : Type 0 where
   pub raised : GoesOnByEnds plan s.raised k.raised
   pub found : GoesOnByEnds plan s.found k.found
 
--- the script goes on: the block is the walk's, and what the current line still has to show is this
-pub record IsInScript (block : BlockView) (k : Known) (s : State) (owed : Owed) : Type 0 where
+-- so many notifications may be sent beyond those of the lines that the script has: for lines that are put into it later
+abbrev pub spare_of : Section → ℕ
+spare_of section = section.note_lines - note_lines_of section.lines
+
+-- the script goes on, and so many notifications are to be kept back: the block is the walk's, and what the current line still has to show is this
+pub record IsInScript (spare : ℕ) (block : BlockView) (k : Known) (s : State) (owed : Owed) : Type 0 where
   pub owes : s.owed ≡ owed
   pub block_state : s.block ≡ block.state
   pub list : StandsFor s.changes block.kept
   pub tells : TellsAll k s
-  pub budget : count_noted s.changes + note_lines_of s.rest ≤ k.notes_left
+  pub budget : spare + count_noted s.changes + note_lines_of s.rest ≤ k.notes_left
   pub quits_last : QuitsLast s.rest
 
 -- the script is done, and what was open is dropped
@@ -112,7 +116,7 @@ pub record IsCommitting (terms : Terms) (block : BlockView) (k : Known) (s : Sta
   pub next : CommitsNext terms k.seen s line lines command tag actions notes
   pub handed_out : block ≡ idle_view
   pub tells : TellsAll k s
-  pub budget : length notes + note_lines_of lines ≤ k.notes_left
+  pub budget : spare_of terms.section + length notes + note_lines_of lines ≤ k.notes_left
   pub quits_last : QuitsLast lines
 
 -- a line of the section awaits the flag
@@ -132,9 +136,9 @@ HaveEnded plan count found = (i : ℕ) → i < count → WasFound found (plan.fi
 -- where the session stands in its script: each line so far has its whole answer, but that the last may be an await that has found
 -- nothing yet
 abbrev pub HasAnswered : Terms → FlagPlan → BlockView → Known → State → Doing → Type 0
-HasAnswered terms plan block k s Lines = IsInScript block k s Nothing
+HasAnswered terms plan block k s Lines = IsInScript (spare_of terms.section) block k s Nothing
 HasAnswered terms plan block k s (Committing actions notes tag) = ⊥
-HasAnswered terms plan block k s (Awaiting flag looks) = IsInScript block k s (walk.Awaiting flag) × (looks < terms.settings.patience) × IsAwaitedIn terms.section flag
+HasAnswered terms plan block k s (Awaiting flag looks) = IsInScript (spare_of terms.section) block k s (walk.Awaiting flag) × (looks < terms.settings.patience) × IsAwaitedIn terms.section flag
 HasAnswered terms plan block k s (Ending found looks) = IsPastScript plan block k s × (looks < terms.settings.patience) × (found ≤ plan.sessions) × HaveEnded plan found k.found
 HasAnswered terms plan block k s Over = IsPastScript plan block k s
 
@@ -169,4 +173,4 @@ IsRested terms plan done block set doing k items = IsAt terms done set k items (
 
 -- the last line that began awaits this flag, which is to be looked for
 abbrev pub IsLookingFor : Terms → ℕ → BlockView → List (List ℕ) → ℕ → Known → List Item → Type 0
-IsLookingFor terms done block set flag k items = IsAt terms done set k items (λ s. IsInScript block k s (walk.Awaiting flag) × (s.block ≡ Idle → IsUpToDate terms k.seen s) × IsAwaitedIn terms.section flag)
+IsLookingFor terms done block set flag k items = IsAt terms done set k items (λ s. IsInScript (spare_of terms.section) block k s (walk.Awaiting flag) × (s.block ≡ Idle → IsUpToDate terms k.seen s) × IsAwaitedIn terms.section flag)

@@ -84,10 +84,16 @@ IsWithoutHub (item.Refuse refusal) = Unit {0}
 IsWithoutHub (item.Channels names) = Unit {0}
 IsWithoutHub shown = ⊥
 
--- a line was begun, and shows more; where the hub has no part in any of that, the pass is untouched
+-- the item begins no line
+abbrev pub IsNoLine : Item → Type 0
+IsNoLine (item.Line line) = ⊥
+IsNoLine shown = Unit {0}
+
+-- a line was begun, and shows more, in which no other line begins; where the hub has no part in any of that, the pass is untouched
 pub record ShowsLine (line : ℕ) (old new : Known) (before after : List Item) : Type 0 where
   pub more : List Item
   pub shown : after ≡ before ++ item.Line line ∷ [] ++ more
+  pub one_line : All IsNoLine more
   pub untouched : All IsWithoutHub more → new ≡ old
 
 -- a line with this act: what was done, where the session stands then, and what the step came to

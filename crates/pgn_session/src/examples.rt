@@ -4,7 +4,8 @@ ghost use Rattle.std.specs.Prelude.{◌≡◌, [], ◌∷◌, Some, None};
 ghost use Rattle.pgn_hub.specs.Examples.{both_notes, opened_2, published, listening, woken_1, found_0, found_none};
 ghost use Rattle.pgn_session.specs.Steps.{HasTurned, ShowsLine, AnswersLine, Waits, Ends, StandsStill};
 ghost use Rattle.pgn_session.specs.Sleep.{slept_doing, slept_for};
-ghost use Rattle.pgn_session.specs.Examples.{two_sessions};
+ghost use Rattle.pgn_session.specs.Feed.{EndsByQuit, fed};
+ghost use Rattle.pgn_session.specs.Examples.{two_sessions, begin_line, commit_line, quit_line, quits};
 
 use crate::{Doing, Step};
 use pgn_base::Tag;
@@ -29,6 +30,7 @@ pub fn line_shown()
     ensures takes_its_wake { ShowsLine 2 listening woken_1 [] (Item.Line 2 ∷ Item.Reply Tag.Begin None ∷ []) → ⊥ }
     ensures takes_it_at_an_empty_line { ShowsLine 2 listening woken_1 [] (Item.Line 2 ∷ []) → ⊥ }
     ensures another_line { ShowsLine 2 listening listening [] (Item.Line 3 ∷ Item.Reply Tag.Begin None ∷ []) → ⊥ }
+    ensures two_lines { ShowsLine 2 listening listening [] (Item.Line 2 ∷ Item.Line 3 ∷ []) → ⊥ }
 {}
 
 /// Whether a line got its whole answer, where so many lines have begun before and after.
@@ -62,6 +64,17 @@ pub fn slept()
     ensures counts_the_next_look { slept_doing 100 50 (Doing.Awaiting 1 3) ≡ Doing.Awaiting 1 53 → ⊥ }
     ensures leaves_none { slept_doing 100 200 (Doing.Awaiting 1 3) ≡ Doing.Awaiting 1 100 → ⊥ }
     ensures counts_nothing { slept_doing 100 50 (Doing.Awaiting 1 3) ≡ Doing.Awaiting 1 3 → ⊥ }
+{}
+
+/// A script that quits at once, and what it is once lines were put in.
+pub fn fed_script()
+    ensures ends { EndsByQuit quits.lines }
+    ensures before_the_quit { (fed quits begin_line).lines ≡ begin_line ∷ quit_line ∷ [] }
+    ensures in_order { (fed (fed quits begin_line) commit_line).lines ≡ begin_line ∷ commit_line ∷ quit_line ∷ [] }
+    ensures may_notify_as_often { (fed quits begin_line).note_lines ≡ 1 }
+    ensures behind_the_quit { (fed quits begin_line).lines ≡ quit_line ∷ begin_line ∷ [] → ⊥ }
+    ensures no_line { EndsByQuit [] → ⊥ }
+    ensures goes_on_behind_it { EndsByQuit (quit_line ∷ begin_line ∷ []) → ⊥ }
 {}
 
 /// For how long a session sleeps, with a patience of 100. There are two sessions.

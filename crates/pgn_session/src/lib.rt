@@ -34,6 +34,7 @@ mod command;
 mod commit;
 mod doing;
 pub mod examples;
+mod feeding;
 mod line;
 mod reading;
 mod session;

@@ -7,7 +7,7 @@ ghost use Rattle.pgn_hub.specs.Passes.{opened_pass};
 ghost use Rattle.pgn_hub.specs.Calls.{HasLearned, HasHeard, HasRaised, HasWoken};
 ghost use Rattle.pgn_session.specs.Standing.{terms_of, IsServedBy, end_flag};
 ghost use Rattle.pgn_session.specs.Whole.{HasAnswer, HasRest};
-ghost use Rattle.pgn_session.specs.Parts.{HasIdled, HasFinished};
+ghost use Rattle.pgn_session.specs.Parts.{Begins, HasIdled, HasFinished};
 
 use crate::reading::read_on;
 use crate::{Doing, FlagPlan, IdleDone};
@@ -82,6 +82,7 @@ impl<P: PassView + Send + Drop> Session<P> {
         ensures in_block { (result ≡ Ok IdleDone.InBlock) ↔ (self.old.block.state ≢ Idle) }
         ensures no_listener { (result ≡ Ok IdleDone.NotListening) ↔ (self.old.block.state ≡ Idle) × ((P.known self.old.pass).mark ≡ None) }
         ensures idled { IfOk result (λ done. HasIdled (H.shape hub.now).format (P.known self.old.pass) (P.known self.new.pass) self.old.set.channels self.old.items.items self.new.items.items done) }
+        ensures grows { Begins self.old.items.items self.new.items.items }
         ensures owed { OnErr result (HasWoken (H.shape hub.now).format (P.known self.old.pass) (P.known self.new.pass) true) }
         ensures unread { OnErr result ((P.known self.new.pass).mark ≡ (P.known self.old.pass).mark) }
         ensures unshown { OnErr result (self.new.items.items ≡ self.old.items.items) }

@@ -2,6 +2,7 @@ ghost use Rattle.std.specs.Prelude.{◌≡◌, ◌↔◌, ◌⊎◌, ◌+◌, �
 ghost use Rattle.pgn_language.specs.declared.scenario.Act.TheVariants as act;
 ghost use Rattle.pgn_session.specs.declared.doing.Doing.TheVariants as doing;
 ghost use Rattle.pgn_session.specs.Standing.{IsServedBy};
+ghost use Rattle.pgn_session.specs.Parts.{Begins};
 ghost use Rattle.pgn_session.specs.Steps.{AnswersLine, BeginsEnd, Waits, Ends, HasMoved, HasTurned, HasWaited, StandsStill};
 ghost use Rattle.pgn_session.specs.Whole.{HasAnswer, HasRest, RestsAt, ComesWith, IsSameScript, HasStepped, HasRefused};
 
@@ -41,6 +42,7 @@ impl<P: PassView + Send + Drop> Session<P> {
         ensures waiting { result ≡ Ok Step.Waiting → Waits self.old.plan self.old.patience (P.known self.old.pass) (P.known self.new.pass) self.new.doing }
         ensures ended { (result ≡ Ok Step.Ended) ↔ Ends self.old.plan self.old.patience self.old.doing (P.known self.new.pass) }
         ensures over { result ≡ Ok Step.Ended → self.new.doing ≡ Doing.Over }
+        ensures grows { Begins self.old.items.items self.new.items.items }
         ensures pass_kept { OnErr result (self.new.pass ≡ self.old.pass) }
         ensures unshown { OnErr result (self.new.items.items ≡ self.old.items.items) }
         ensures uncounted { OnErr result (self.new.done ≡ self.old.done) }

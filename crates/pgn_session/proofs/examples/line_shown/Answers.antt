@@ -1,4 +1,4 @@
-use Rattle.pgn_session.proofs.ExampleLemmas.{shows-answer, shows-nothing, shows-sent, takes-wake, takes-at-empty, other-line}
+use Rattle.pgn_session.proofs.ExampleLemmas.{shows-answer, shows-nothing, shows-sent, takes-wake, takes-at-empty, other-line, two-lines}
 use Rattle.pgn_session.proofs.examples.line_shown.Goals as goal
 
 pub returns-clause-answered : goal.returns-clause-answered
@@ -18,3 +18,6 @@ returns-clause-takes_it_at_an_empty_line c s = takes-at-empty s
 
 pub returns-clause-another_line : goal.returns-clause-another_line
 returns-clause-another_line c s = other-line s
+
+pub returns-clause-two_lines : goal.returns-clause-two_lines
+returns-clause-two_lines c s = two-lines s
