@@ -3,7 +3,7 @@ use Rattle.pgn_base.specs.declared.command.Command.TheVariants as command
 use Rattle.pgn_language.specs.declared.scenario.Act.{Act}
 use Rattle.pgn_language.specs.declared.scenario.Act.TheVariants.{Run, Quit}
 use Rattle.pgn_language.specs.declared.scenario.ScriptLine.{ScriptLine}
-use Rattle.pgn_session.specs.Feed.{EndsByQuit, fed}
+use Rattle.pgn_session.specs.Feed.{EndsByQuit}
 use Rattle.pgn_session.specs.Examples.{begin_line, quit_line, quits}
 use Rattle.std.proofs.Common.{◌≡◌, ℕ, ◌≤◌, Bool, true, false, List, [], ◌∷◌, ◌++◌, Option, Some, None, All, ap, arith, refl, subst, sym, ◌∙◌}
 use Rattle.std.proofs.lemmas.List.Elements.{All-nil, All-cons, All-head, All-contains}

@@ -1,9 +1,8 @@
 -- A session whose script has got a line more, before its last one.
-use Rattle.std.proofs.Common.{◌≡◌, ◌≢◌, ℕ, ◌+◌, ◌-◌, ◌<◌, ◌≤◌, cond, List, [], ◌∷◌, ◌++◌, length, drop, take, fold, insert, All, sym, ap, ◌∙◌, refl, subst, arith, length-append, length-drop, append_assoc, take_all}
+use Rattle.std.proofs.Common.{◌≡◌, ◌≢◌, ℕ, ◌+◌, ◌-◌, ◌<◌, ◌≤◌, cond, List, [], ◌∷◌, ◌++◌, length, drop, take, fold, insert, All, sym, ap, ◌∙◌, subst, arith, length-append, length-drop, append_assoc, take_all}
 use Rattle.std.proofs.lemmas.List.{take-append-le, drop-append-le, drop_all}
 use Rattle.std.proofs.lemmas.List.Sums.{sum_by-append}
 use Rattle.std.proofs.lemmas.List.Elements.{All-head, All-tail, All-cons}
-use Rattle.pgn_language.specs.declared.scenario.Act.{Act}
 use Rattle.pgn_language.specs.declared.scenario.Act.TheVariants.{Quit}
 use Rattle.pgn_language.specs.declared.scenario.ScriptLine.{ScriptLine}
 use Rattle.pgn_language.specs.declared.scenario.Section.{Section}
@@ -53,8 +52,7 @@ pub fed-comes : (section : Section) (line : ScriptLine) (done : ℕ) → (e : En
     → (drop done section.lines ≡ drop done e.front ++ e.last ∷ []) × (drop done (fed section line).lines ≡ drop done e.front ++ line ∷ e.last ∷ [])
 fed-comes section line done e before =
     let long : length section.lines ≡ length (e.front ++ e.last ∷ []) = ap (λ (ls : List ScriptLine). length ls) e.split in
-    let few : done ≤ length e.front = omega (arith, long, length-append e.front (e.last ∷ [])) in
-    (
+    let few : done ≤ length e.front = omega (arith, long, length-append e.front (e.last ∷ [])) in (
       ap (λ (ls : List ScriptLine). drop done ls) e.split ∙ drop-append-le done e.front (e.last ∷ []) few,
       ap (λ (ls : List ScriptLine). drop done ls) (fed-split section line e) ∙ drop-append-le done e.front (line ∷ e.last ∷ []) few,
     )

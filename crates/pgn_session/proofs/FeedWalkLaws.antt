@@ -16,7 +16,7 @@ use Rattle.pgn_language.specs.declared.scenario.Section.{Section}
 use Rattle.pgn_model.specs.declared.item.Item.{Item}
 use Rattle.pgn_model.specs.declared.item.Item.TheVariants.{Line, Enlist, Publish, QueueFull, Leave, Reply, Refuse, Channels, Used, Raise, Found, TimedOut, Read}
 use Rattle.pgn_model.specs.Along.{Along}
-use Rattle.pgn_model.specs.Walk.{Terms, State, Owed, Nothing, Enlisting, Queueing, Leaving, Answering, Listing, Measuring, Raising, Awaiting, Quitting, Barred, Ending, Replied, Refused, is_empty_set, leaving_or_answering, queueing_or_settled, committing, owing, quitting, at_act, at_enlist, at_publish, at_full, at_leave, at_rows, at_raise, at_found, holder_at, after_item, Allowed, MayRead, IsCommittedBy, IsAbortedBy}
+use Rattle.pgn_model.specs.Walk.{Terms, State, Owed, Nothing, Enlisting, Queueing, Leaving, Answering, Listing, Measuring, Raising, Awaiting, Quitting, Barred, Ending, Replied, Refused, is_empty_set, leaving_or_answering, queueing_or_settled, committing, owing, at_act, at_enlist, at_publish, at_full, at_leave, at_rows, at_raise, at_found, holder_at, after_item, Allowed, MayRead, IsCommittedBy, IsAbortedBy}
 use Rattle.pgn_model.specs.Trace.{IsFreshAt}
 use Rattle.pgn_session.specs.Steps.{IsNoLine}
 
@@ -222,14 +222,14 @@ fed-lawful terms lines journal (Line line ∷ items) s [] last more few h = absu
 fed-lawful terms lines journal (Line line ∷ items) s (next ∷ front) last more few h = (
   record { answered = h.0.answered; next = h.0.next },
   subst (λ (t : State). Along after_item (Allowed (with_lines lines terms) journal) t items) (sym (act-rest (front ++ more) s next.act))
-  (fed-lawful terms lines journal items (at_act s next.act) front last more (omega (arith, few))
-  (subst (λ (t : State). Along after_item (Allowed terms journal) t items) (act-rest (front ++ last ∷ []) s next.act) h.1)),
+      (fed-lawful terms lines journal items (at_act s next.act) front last more (omega (arith, few))
+      (subst (λ (t : State). Along after_item (Allowed terms journal) t items) (act-rest (front ++ last ∷ []) s next.act) h.1)),
 )
 fed-lawful terms lines journal (item ∷ items) s front last more few h = (
   allowed-rest terms lines journal (front ++ last ∷ []) (front ++ more) s item tt (some-rest front last) h.0,
   subst (λ (t : State). Along after_item (Allowed (with_lines lines terms) journal) t items) (sym (after-rest (front ++ more) s item tt))
-  (fed-lawful terms lines journal items (after_item s item) front last more few
-  (subst (λ (t : State). Along after_item (Allowed terms journal) t items) (after-rest (front ++ last ∷ []) s item tt) h.1)),
+      (fed-lawful terms lines journal items (after_item s item) front last more few
+      (subst (λ (t : State). Along after_item (Allowed terms journal) t items) (after-rest (front ++ last ∷ []) s item tt) h.1)),
 )
 
 -- and left no read out
@@ -240,12 +240,12 @@ fed-fresh terms lines journal (Line line ∷ items) s [] tail more few h = absur
 fed-fresh terms lines journal (Line line ∷ items) s (next ∷ front) tail more few h = (
   h.0,
   subst (λ (t : State). Along after_item (IsFreshAt (with_lines lines terms) journal) t items) (sym (act-rest (front ++ more) s next.act))
-  (fed-fresh terms lines journal items (at_act s next.act) front tail more (omega (arith, few))
-  (subst (λ (t : State). Along after_item (IsFreshAt terms journal) t items) (act-rest (front ++ tail) s next.act) h.1)),
+      (fed-fresh terms lines journal items (at_act s next.act) front tail more (omega (arith, few))
+      (subst (λ (t : State). Along after_item (IsFreshAt terms journal) t items) (act-rest (front ++ tail) s next.act) h.1)),
 )
 fed-fresh terms lines journal (item ∷ items) s front tail more few h = (
   h.0,
   subst (λ (t : State). Along after_item (IsFreshAt (with_lines lines terms) journal) t items) (sym (after-rest (front ++ more) s item tt))
-  (fed-fresh terms lines journal items (after_item s item) front tail more few
-  (subst (λ (t : State). Along after_item (IsFreshAt terms journal) t items) (after-rest (front ++ tail) s item tt) h.1)),
+      (fed-fresh terms lines journal items (after_item s item) front tail more few
+      (subst (λ (t : State). Along after_item (IsFreshAt terms journal) t items) (after-rest (front ++ tail) s item tt) h.1)),
 )

@@ -164,13 +164,16 @@ commit-one_line enlisted sent notes left tag =
     of_enlisted : (enlisted : Option Enlisted) → All IsNoLine (enlisted_items enlisted)
     of_enlisted None = All-nil IsNoLine
     of_enlisted (Some got) = one-item (Enlist got.base got.point) tt
+
     of_sent : (sent : Option (Result ℕ Full)) → All IsNoLine (sent_items sent notes)
     of_sent None = All-nil IsNoLine
     of_sent (Some (Ok x)) = one-item (Publish x notes) tt
     of_sent (Some (Err full)) = one-item (QueueFull full notes) tt
+
     of_left : (left : Bool) → All IsNoLine (left_items left)
     of_left true = one-item Leave tt
     of_left false = All-nil IsNoLine
+
     of_ending : (sent : Option (Result ℕ Full)) → All IsNoLine (ending_item sent tag ∷ [])
     of_ending None = one-item (Reply tag None) tt
     of_ending (Some (Ok x)) = one-item (Reply tag None) tt

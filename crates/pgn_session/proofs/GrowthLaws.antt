@@ -15,7 +15,7 @@ use Rattle.pgn_session.specs.declared.doing.Doing.{Doing}
 use Rattle.pgn_session.specs.declared.doing.Doing.TheVariants.{Lines, Committing, Awaiting, Ending, Over}
 use Rattle.pgn_session.specs.declared.doing.Step.{Step}
 use Rattle.pgn_session.specs.Parts.{Begins, with_read, looked_items}
-use Rattle.pgn_session.specs.Steps.{HasBegun, HasGoneOn, HasMoved, ShowsLine, ShowsNext}
+use Rattle.pgn_session.specs.Steps.{HasBegun, HasGoneOn, HasMoved, ShowsNext}
 use Rattle.pgn_session.proofs.WholeLaws.{Came}
 
 pub none-more : (before after : List Item) → after ≡ before → Begins before after

@@ -1,5 +1,5 @@
 -- A script that grows before its last line.
-use Rattle.std.specs.Prelude.{◌≡◌, ℕ, ◌-◌, List, [], ◌∷◌, ◌++◌, length}
+use Rattle.std.specs.Prelude.{◌≡◌, ◌-◌, List, [], ◌∷◌, ◌++◌, length}
 use Rattle.std.specs.List.{insert}
 use Rattle.pgn_language.specs.declared.scenario.Act.TheVariants.{Quit}
 use Rattle.pgn_language.specs.declared.scenario.ScriptLine.{ScriptLine}

@@ -1,6 +1,6 @@
 use Rattle.std.proofs.Common.{◌≡◌, ◌≤◌, false, [], ◌∷◌, ◌++◌, length, vec_capacity, sym, ap, ◌∙◌, arith, length-take}
 use Rattle.pgn_answers.specs.Savepoints.{RolledBack}
-use Rattle.pgn_pending.specs.Kept.{Kept, is_saved}
+use Rattle.pgn_pending.specs.Kept.{is_saved}
 use Rattle.pgn_pending.proofs.KeptLemmas.{IsNewest, none-saved, newest-saved, refused, granted, live-is_saved, after-rolled_back_none, after-rolled_back}
 use Rattle.pgn_pending.proofs.pending.Pending.back_to.Goals as goal
 

@@ -1,6 +1,6 @@
-use Rattle.std.proofs.Common.{◌≡◌, false, [], ◌∷◌, ◌++◌, sym, ap, ◌∙◌}
+use Rattle.std.proofs.Common.{◌≡◌, false, [], ◌∷◌, ◌++◌, sym, ◌∙◌}
 use Rattle.pgn_answers.specs.Savepoints.{Released}
-use Rattle.pgn_pending.specs.Kept.{Kept, is_saved}
+use Rattle.pgn_pending.specs.Kept.{is_saved}
 use Rattle.pgn_pending.proofs.KeptLemmas.{IsNewest, none-saved, newest-saved, refused, granted, live-is_saved, after-released_none, after-released}
 use Rattle.pgn_pending.proofs.pending.Pending.release.Goals as goal
 

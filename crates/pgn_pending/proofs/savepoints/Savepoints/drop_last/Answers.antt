@@ -1,4 +1,4 @@
-use Rattle.std.proofs.Common.{◌≡◌, ◌≤◌, ◌<◌, sym, ◌∙◌, arith, length}
+use Rattle.std.proofs.Common.{◌≤◌, ◌<◌, arith, length}
 use Rattle.pgn_pending.proofs.CountLaws.{counted-less, counted-few}
 use Rattle.pgn_pending.proofs.savepoints.Savepoints.drop_last.Goals as goal
 
