@@ -20,7 +20,7 @@ from-line s current (item ∷ items) more n =
     ∙ sym (append_assoc (step_messages s current item) (messages_from (after_item s item) (current_command s current item) items) (messages_from (fold after_item s (item ∷ items)) None (Line n ∷ more)))
 
 -- an item that begins no line stands within one
-within : (s : State) (current : Option Command) (item : Item) → begins_line item ≡ false → (step_messages s current item ≡ within_line current item) × (current_command s current item ≡ current)
+pub within : (s : State) (current : Option Command) (item : Item) → begins_line item ≡ false → (step_messages s current item ≡ within_line current item) × (current_command s current item ≡ current)
 within s current (Line n) h = absurd (cc)
 within s current (Enlist base point) h = (refl, refl)
 within s current (Publish xid notes) h = (refl, refl)
@@ -36,7 +36,7 @@ within s current (TimedOut looks) h = (refl, refl)
 within s current (Read from to got) h = (refl, refl)
 
 -- the first of these does not hold, nor any other
-first_false : (a b : Bool) → (a || b) ≡ false → (a ≡ false) × (b ≡ false)
+pub first_false : (a b : Bool) → (a || b) ≡ false → (a ≡ false) × (b ≡ false)
 first_false true b h = absurd (cc)
 first_false false b h = (refl, h)
 

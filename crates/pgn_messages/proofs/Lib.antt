@@ -2,3 +2,5 @@
 pub mod BytesLaws
 -- how messages grow
 mod GrowLaws
+-- the lines that are still to come
+pub mod RestLaws

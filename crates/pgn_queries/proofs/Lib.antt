@@ -4,3 +4,9 @@ pub mod ClientLaws
 pub mod QueryLaws
 -- bytes have one reading
 mod OneLaws
+-- each list of bytes has a reading
+mod EachLaws
+-- readings of bytes that are known
+mod ExampleLaws
+-- what the bytes of the examples read as
+mod ExampleReadings

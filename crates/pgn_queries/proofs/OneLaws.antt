@@ -1,18 +1,17 @@
 -- Bytes have one reading.
-use Rattle.std.proofs.Common.{◌≡◌, ℕ, suc, ◌+◌, ◌<◌, List, [], ◌∷◌, ◌++◌, length, take, drop, get_or, Contains, Option, Some, None, sym, ap, ◌∙◌, subst, refl, arith}
+use Rattle.std.proofs.Common.{◌≡◌, ℕ, suc, ◌+◌, ◌<◌, List, [], ◌∷◌, ◌++◌, length, take, drop, get_or, Contains, Option, Some, sym, ap, ◌∙◌, subst, refl, arith}
 use Rattle.std.specs.Int.{w32, from_be_bytes}
 use lib.Seq.{take-append_seam, drop-append_seam}
 use Rattle.std.proofs.lemmas.List.{length-append, append_cancel_right}
 use Rattle.std.proofs.lemmas.List.Elements.{Contains-append_right}
 use Rattle.pgn_base.specs.declared.command.Command.{Command}
 use Rattle.pgn_base.specs.declared.command.Command.TheVariants.{Bad}
-use Rattle.pgn_language.specs.declared.scenario.Act.{Act}
 use Rattle.pgn_language.specs.declared.scenario.Act.TheVariants.{Run}
 use Rattle.pgn_language.specs.declared.scenario.ScriptLine.{ScriptLine}
 use Rattle.pgn_language.specs.Inputs.{IsOneLine}
 use Rattle.pgn_language.proofs.GrammarLaws.{reads-computes}
 use Rattle.pgn_queries.specs.declared.wire_fault.WireFault.{WireFault}
-use Rattle.pgn_queries.specs.declared.wire_fault.WireFault.TheVariants.{BadType, BadLength, Truncated, BadText, TooMany}
+use Rattle.pgn_queries.specs.declared.wire_fault.WireFault.TheVariants.{BadType, BadLength, Truncated, BadText}
 use Rattle.pgn_queries.specs.declared.coming.Coming.{Coming}
 use Rattle.pgn_queries.specs.declared.coming.Coming.TheVariants.{End, Query, Fault}
 use Rattle.pgn_queries.specs.Client as client
@@ -22,7 +21,7 @@ use Rattle.pgn_queries.specs.Queries.{Place, IsLineOf, AreTooMany, QueriesAre, a
 use Rattle.pgn_queries.specs.Laws.{OneReading}
 
 -- fronts of one length are the same, and so is what is behind them
-fronts : (front other behind more : List ℕ) → length front ≡ length other → front ++ behind ≡ other ++ more → (front ≡ other) × (behind ≡ more)
+pub fronts : (front other behind more : List ℕ) → length front ≡ length other → front ++ behind ≡ other ++ more → (front ≡ other) × (behind ≡ more)
 fronts front other behind more len e = (
   sym (take-append_seam front behind) ∙ ap (λ (xs : List ℕ). take (length front) xs) e ∙ ap (λ (n : ℕ). take n (other ++ more)) len ∙ take-append_seam other more,
   sym (drop-append_seam front behind) ∙ ap (λ (xs : List ℕ). drop (length front) xs) e ∙ ap (λ (n : ℕ). drop n (other ++ more)) len ∙ drop-append_seam other more,
@@ -47,7 +46,7 @@ record Same (coming other : Coming) (text words rest more : List ℕ) : Type 0 w
   texts : coming ≡ Query → text ≡ words
   rests : coming ≡ Query → rest ≡ more
 
-not_query : (fault : WireFault) → Fault fault ≡ Query → ⊥
+pub not_query : (fault : WireFault) → Fault fault ≡ Query → ⊥
 not_query fault e = cc
 
 faulty : (fault : WireFault) (text words rest more : List ℕ) → Same (Fault fault) (Fault fault) text words rest more
@@ -66,7 +65,7 @@ terminate_one at _ _ bytes _ _ (client.TerminateIs.Whole _ head r e tells) (clie
     absurd (bad (lengths bytes front head after r size 4 f e told tells).0)
 terminate_one at _ _ bytes _ _ (client.TerminateIs.Whole _ head r e tells) (client.TerminateIs.Whole _ front s f told) = refl
 
-terminate_asks_nothing : (at : ℕ) (coming : Coming) (bytes rest : List ℕ) → TerminateIs at coming bytes rest → coming ≡ Query → ⊥
+pub terminate_asks_nothing : (at : ℕ) (coming : Coming) (bytes rest : List ℕ) → TerminateIs at coming bytes rest → coming ≡ Query → ⊥
 terminate_asks_nothing at _ bytes _ (client.TerminateIs.CutHead _ r few) e = cc
 terminate_asks_nothing at _ bytes _ (client.TerminateIs.BadHead _ head behind r len f tells wrong) e = cc
 terminate_asks_nothing at _ bytes _ (client.TerminateIs.Whole _ head r f tells) e = cc

@@ -1,5 +1,5 @@
 -- What a reader of queries gives.
-use Rattle.std.proofs.Common.{◌≡◌, ℕ, zero, suc, ◌+◌, ◌<◌, ◌≤◌, ◌==◌, get_or, eqb-true, take-append-drop, length-take-le, List, [], ◌∷◌, ◌++◌, length, take, drop, Option, Some, None, IfSome, sym, ap, ◌∙◌, subst, refl, arith}
+use Rattle.std.proofs.Common.{◌≡◌, ℕ, zero, suc, ◌+◌, ◌<◌, ◌==◌, get_or, eqb-true, take-append-drop, length-take-le, List, [], ◌∷◌, ◌++◌, length, take, drop, Option, Some, None, IfSome, sym, ap, ◌∙◌, subst, refl, arith}
 use Rattle.std.proofs.lemmas.List.{drop_more, get_or-take}
 use Rattle.memchr.specs.Find.{NoneBefore, Passes, is_byte}
 use Rattle.pgn_base.specs.declared.command.Command.{Command}

@@ -1,5 +1,5 @@
 -- What a client sends, and what comes next of it.
-use Rattle.std.specs.Prelude.{◌≡◌, ◌≢◌, ℕ, ◌+◌, ◌<◌, ◌≤◌, ◌⊎◌, List, [], ◌∷◌, ◌++◌, length, Option, None, Some, Contains, IsUtf8}
+use Rattle.std.specs.Prelude.{◌≡◌, ◌≢◌, ℕ, ◌+◌, ◌<◌, ◌≤◌, List, [], ◌∷◌, ◌++◌, length, Option, None, Some, Contains, IsUtf8}
 use Rattle.std.specs.Int.{w32, from_be_bytes}
 use Rattle.pgn_base.specs.declared.limits.TheConstants.{LINE_BYTES_MAX}
 use Rattle.pgn_queries.specs.declared.limits.TheConstants.{QUERY_LENGTH_MIN, QUERY_LENGTH_MAX, TERMINATE_LENGTH}

@@ -4,3 +4,5 @@ pub mod Client
 pub mod Queries
 -- they have one reading
 pub mod Laws
+-- what clients send, for examples
+pub mod Examples

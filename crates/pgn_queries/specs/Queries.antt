@@ -1,5 +1,5 @@
 -- All queries of a client.
-use Rattle.std.specs.Prelude.{◌≡◌, ℕ, ◌+◌, ◌*◌, ◌<◌, ◌≤◌, ◌⊎◌, Bool, cond, List, [], ◌∷◌, ◌++◌, length, Option, None, Some}
+use Rattle.std.specs.Prelude.{◌≡◌, ℕ, ◌+◌, ◌*◌, ◌<◌, ◌≤◌, ◌⊎◌, cond, List, [], ◌∷◌, ◌++◌, length, Option, None, Some}
 use Rattle.pgn_base.specs.declared.limits.TheConstants.{NOTE_LINES_MAX}
 use Rattle.pgn_base.specs.declared.command.Command.{Command}
 use Rattle.pgn_base.specs.declared.command.Command.TheVariants.{Bad}
@@ -12,7 +12,7 @@ use Rattle.pgn_queries.specs.declared.limits.TheConstants.{QUERIES_MAX}
 use Rattle.pgn_queries.specs.declared.wire_fault.WireFault.{WireFault}
 use Rattle.pgn_queries.specs.declared.wire_fault.WireFault.TheVariants.{TooMany}
 use Rattle.pgn_queries.specs.declared.coming.Coming.TheVariants.{End, Query, Fault}
-use Rattle.pgn_queries.specs.Client.{NextIs}
+use Rattle.pgn_queries.specs.Client.{IsQueryText, NextIs}
 
 -- the script line of a query with this number: its text and the command that this reads as. A text with an LF is no line: it is bad
 -- at its first LF, and the line's text is empty
@@ -71,6 +71,14 @@ pub data QueriesAre : Place → List ℕ → List ScriptLine → Option WireFaul
 abbrev pub Gives : Place → Place → Option ScriptLine → List ℕ → List ℕ → Type 0
 Gives old new None bytes rest = QueriesAre old bytes [] None
 Gives old new (Some line) bytes rest = (lines : List ScriptLine) (fault : Option WireFault) → QueriesAre new rest lines fault → QueriesAre old bytes (line ∷ lines) fault
+
+-- a reader went from one place to another by a query with this line, with which there are not too many
+pub record HasPassed (old new : Place) (line : ScriptLine) : Type 0 where
+  pub text : List ℕ
+  pub sound : IsQueryText text
+  pub is : IsLineOf (old.queries + 1) text line
+  pub after : new ≡ after_query old (length text) line.act
+  pub few : AreTooMany new → ⊥
 
 -- a client's bytes have these queries, and this fault
 abbrev pub queries : List ℕ → List ScriptLine → Option WireFault → Type 0

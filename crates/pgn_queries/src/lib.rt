@@ -17,6 +17,7 @@
 #![tactic(auto)]
 
 mod coming;
+pub mod examples;
 mod full_read;
 pub mod laws;
 mod limits;

@@ -6,7 +6,7 @@ ghost use Rattle.pgn_language.specs.declared.scenario.Act.TheVariants.{Run};
 ghost use Rattle.pgn_language.specs.Inputs.{IsOneLine, is_note_act};
 ghost use Rattle.pgn_queries.specs.declared.wire_fault.WireFault.{WireFault};
 ghost use Rattle.pgn_queries.specs.Client.{IsQueryText, OfKnown};
-ghost use Rattle.pgn_queries.specs.Queries.{AreTooMany, Gives, IsLineOf, QueriesAre, after_query, first_place};
+ghost use Rattle.pgn_queries.specs.Queries.{AreTooMany, Gives, HasPassed, IsLineOf, QueriesAre, after_query, first_place};
 
 use crate::WireFault;
 use crate::coming::Coming;
@@ -71,6 +71,7 @@ impl Queries {
         source: &mut S,
     ) -> Result<Option<ScriptLine>, NoQuery>
         ensures next { IfOk result (λ next. OfKnown (Gives self.old self.new next) (S.left source.old) (S.left source.new)) }
+        ensures passed { IfOk result (λ next. IfSome next (HasPassed self.old self.new)) }
         ensures fault { (fault : WireFault) → result ≡ Err (NoQuery.Fault fault) → IfSome (S.left source.old) (λ bytes. QueriesAre self.old bytes [] (Some fault)) }
         ensures later { S.faults source.old ≤ S.faults source.new }
         ensures failed { result ≡ Err NoQuery.Failed → Rose (S.faults source.old) (S.faults source.new) }

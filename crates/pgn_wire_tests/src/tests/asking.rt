@@ -54,12 +54,13 @@ fn cut_by_the_reads_in_any_way(rt: HostRuntime) -> Result<(), Fail> {
 }
 
 // Bytes, how many queries they have, and the fault behind these.
-const FAULTS: [(&[u8], usize, WireFault); 14] = [
+const FAULTS: [(&[u8], usize, WireFault); 15] = [
     (b"P\0\0\0\x04", 0, WireFault::BadType { at: 0 }),
     (b"X\0\0\0\x05", 0, WireFault::BadLength { at: 0 }),
     (b"Q\0\0\0\x04", 0, WireFault::BadLength { at: 0 }),
     (b"Q\0\x01\0\x06", 0, WireFault::BadLength { at: 0 }),
     (b"Q\x80\0\0\0", 0, WireFault::BadLength { at: 0 }),
+    (b"Q\xff\xff\xff\xff", 0, WireFault::BadLength { at: 0 }),
     (b"Q\0\x01\0\x05", 0, WireFault::Truncated { at: 0 }),
     (b"Q\0\0\0\x12NO", 0, WireFault::Truncated { at: 0 }),
     (b"Q\0\0\0", 0, WireFault::Truncated { at: 0 }),
@@ -122,6 +123,99 @@ fn a_source_that_fails_at_each_of_its_calls(rt: HostRuntime) -> Result<(), Fail>
         let (lines, end) = asked(alloc, &mut source)?;
         assert!(rt; lines.len() == count);
         assert!(rt; end == Some(NoQuery::Failed));
+    }
+    Ok(())
+}
+
+#[test]
+fn a_message_cut_after_each_of_its_bytes(rt: HostRuntime) -> Result<(), Fail> {
+    let alloc = rt.alloc();
+    for cut in 0..14 {
+        let bytes = Vec::from_slice(alloc, &TALK[..cut])?;
+        let mut source = MemSource::new(bytes, Vec::new(alloc), 3);
+        let (lines, end) = asked(alloc, &mut source)?;
+        let truncated = Some(NoQuery::Fault(WireFault::Truncated { at: 0 }));
+        assert!(rt; lines.is_empty());
+        assert!(rt; end == if cut == 0 { None } else { truncated });
+    }
+    Ok(())
+}
+
+#[test]
+fn a_terminate_cut_after_each_of_its_bytes(rt: HostRuntime) -> Result<(), Fail> {
+    let alloc = rt.alloc();
+    for cut in 34..38 {
+        let bytes = Vec::from_slice(alloc, &TALK[..cut])?;
+        let mut source = MemSource::new(bytes, Vec::new(alloc), 64);
+        let (lines, end) = asked(alloc, &mut source)?;
+        assert!(rt; is_script(lines.as_slice()));
+        assert!(rt; end == Some(NoQuery::Fault(WireFault::Truncated { at: 33 })));
+    }
+    Ok(())
+}
+
+#[test]
+fn the_longest_query(rt: HostRuntime) -> Result<(), Fail> {
+    let alloc = rt.alloc();
+    let mut bytes = Vec::from_slice(alloc, b"Q\0\x01\0\x05")?;
+    bytes.resize(5 + 65_536, b'-')?;
+    bytes.extend_from_slice(b"\0X\0\0\0\x04")?;
+    let mut source = MemSource::new(bytes, Vec::new(alloc), 4_096);
+    let (lines, end) = asked(alloc, &mut source)?;
+    assert!(rt; end.is_none());
+    assert!(rt; lines.len() == 1);
+    assert!(rt; lines[0].text.as_bytes().len() == 65_536);
+    assert!(rt; matches!(lines[0].act, Act::Run(Command::Empty)));
+    Ok(())
+}
+
+#[test]
+fn bytes_behind_a_terminate(rt: HostRuntime) -> Result<(), Fail> {
+    let alloc = rt.alloc();
+    let bytes = Vec::from_slice(alloc, b"X\0\0\0\x04Q\0\0\0\x05\0")?;
+    let mut source = MemSource::new(bytes, Vec::new(alloc), 64);
+    let (lines, end) = asked(alloc, &mut source)?;
+    assert!(rt; lines.is_empty());
+    assert!(rt; end.is_none());
+    Ok(())
+}
+
+#[test]
+fn a_line_feed_alone(rt: HostRuntime) -> Result<(), Fail> {
+    let alloc = rt.alloc();
+    let bytes = Vec::from_slice(alloc, b"Q\0\0\0\x06\n\0")?;
+    let mut source = MemSource::new(bytes, Vec::new(alloc), 64);
+    let (lines, end) = asked(alloc, &mut source)?;
+    assert!(rt; end.is_none());
+    assert!(rt; lines.len() == 1);
+    assert!(rt; lines[0].text.as_bytes().is_empty());
+    assert!(rt; matches!(lines[0].act, Act::Run(Command::Bad { at: 0 })));
+    Ok(())
+}
+
+// The talk takes 38 reads of one byte: a read more is asked for by nothing.
+#[test]
+fn a_source_of_single_bytes_that_fails(rt: HostRuntime) -> Result<(), Fail> {
+    let alloc = rt.alloc();
+    for call in 1..40 {
+        let bytes = Vec::from_slice(alloc, TALK)?;
+        let mut source = MemSource::new(bytes, vec![in alloc; call]?, 1);
+        let (lines, end) = asked(alloc, &mut source)?;
+        let count = if call <= 14 {
+            0
+        } else if call <= 33 {
+            1
+        } else {
+            2
+        };
+        assert!(rt; lines.len() == count);
+        assert!(rt;
+            end == if call == 39 {
+                None
+            } else {
+                Some(NoQuery::Failed)
+            }
+        );
     }
     Ok(())
 }

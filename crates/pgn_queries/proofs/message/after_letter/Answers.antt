@@ -1,4 +1,3 @@
-use Rattle.std.proofs.Common.{refl}
 use Rattle.pgn_queries.proofs.ClientLaws.{Letter-query, Letter-terminate}
 use Rattle.pgn_queries.proofs.message.after_letter.Goals as goal
 

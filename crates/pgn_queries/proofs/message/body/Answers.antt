@@ -1,4 +1,4 @@
-use Rattle.std.proofs.Common.{rules, arith, refl}
+use Rattle.std.proofs.Common.{rules, arith}
 use Rattle.pgn_queries.proofs.ClientLaws.{Body-bad, Body-whole}
 use Rattle.pgn_queries.proofs.message.body.Goals as goal
 
