@@ -2,24 +2,36 @@
 # Measures the program on long scenarios and on sessions that wait: bench/run.sh [--hostile] [PROGRAM]
 #
 # PROGRAM is run with the word `run`; without it the program is the one that ./pgnotify starts, built first where need be.
-# Each long input is `\session a 1`, then as many lines `LISTEN cN`, and then lines `NOTIFY c0, 'p'` with a payload of so many
-# bytes. A line in the tables is such a NOTIFY line, and in the last one a LISTEN line.
+# Each long input is `\session a 1` and then lines that are told by a number n, at three sizes. A line in the tables is one of n.
 #
-#   listener    one LISTEN, 800, 8,000 and 64,000 lines, payloads of 1 byte
-#   alone       no LISTEN, 8,000 and 64,000 lines, payloads of 1 byte
-#   200-byte    one LISTEN, 6,000 and 60,000 lines, payloads of 200 bytes
-#   7999-byte   one LISTEN, 200 and 2,000 lines, payloads of 7,999 bytes
-#   4096-set    4,096 LISTENs, 1,000 and 10,000 lines, payloads of 1 byte
-#   listens     1,024, 2,048 and 4,096 LISTENs, 10,000 lines, payloads of 1 byte
+#   self-notify  LISTEN c, and n times NOTIFY c with a payload of 1 byte
+#   no-listener  the same without the LISTEN
+#   200-byte     LISTEN c, and n times NOTIFY c with a payload of 200 bytes
+#   7999-byte    likewise with 7,999 bytes
+#   repeat       LISTEN c, and n times a pg_notify of a text that is repeated 7,999 times
+#   blocks       LISTEN c, and n NOTIFYs of payloads that differ, in blocks of 100
+#   savepoints   LISTEN c, and blocks of 20 times SAVEPOINT, NOTIFY, and after each third ROLLBACK TO that savepoint: n NOTIFYs
+#   4096-set     4,096 LISTENs, and n times NOTIFY c0 with a payload of 1 byte
+#   listens      n LISTENs, and 10,000 times NOTIFY c0 with a payload of 1 byte
+#   left         n LISTENs, and then an UNLISTEN of each
+#   left-block   the same in one block
+#   no-such      in a block n SAVEPOINTs, an error, and n times ROLLBACK TO a name that is not there
+#   come-go      in a block n SAVEPOINTs, and then n times SAVEPOINT, RELEASE of a name that is not there and ROLLBACK TO the
+#                last but one
 #
-# The next inputs are `\session a 1` and then lines that are told by a number n. A line in the tables is one of n.
+# Beside each stand the instructions that a line more takes, those that a byte more of input and output takes, and the memory of a
+# line more. Where a byte more takes a quarter more instructions between the larger two sizes than between the smaller two, the load
+# grows faster than its input and output, and the row says so.
 #
-#   repeat      LISTEN c, and n times a pg_notify of a text that is repeated 7,999 times: 200 and 400
-#   left        n LISTENs, and then an UNLISTEN of each: 1,024, 2,048 and 4,096
-#   left-block  the same in one block
-#   no-such     in a block n SAVEPOINTs, an error, and n times ROLLBACK TO a name that is not there: 1,024, 2,048 and 4,096
-#   come-go     in a block n SAVEPOINTs, and then n times SAVEPOINT, RELEASE of a name that is not there and ROLLBACK TO the
-#               last but one: 1,024, 2,048 and 4,096
+#   start        LISTEN c and NOTIFY c, with 256 and with 1,024 pages: the instructions of the whole run
+#
+# Then come several sessions, at three sizes each:
+#
+#   8 that listen    each listens on c and sends n notifications of 1 byte
+#   32 that listen   likewise
+#   64 listeners     they listen on c, and one session sends n notifications
+#   16 writers       each sends n notifications, and none listens
+#   255 idle         they listen in another database, and one session sends n notifications
 #
 # Then come sessions that wait:
 #
@@ -33,17 +45,11 @@
 # Beside each stand the milliseconds of a plain program on the same scenario, with one lock round its queue, on 4 processors. A drill
 # is run ten times, and its summary has to be the one that its words say; the mean is given.
 #
-# With --hostile only these are run, by a user that may start no thread (where root measures, by the user 65534):
+# With --hostile only bench/hostile.sh is run, whose head says what that is.
 #
-#   crossing flags        the example of that name, of which the text is compared
-#   8, 256 plain          sessions that each send a line
-#   ring of 16            sessions of which each raises its own flag and awaits the next one's
-#
-# Seconds are those of the processor, the least of three runs, and depend on the machine's load. Instructions do not: those
-# of a line are the difference of two sizes divided by the difference of their lines, and so is the memory of a line.
-# Wall time is the least of three runs too, but of one where two sessions wait for each other in vain.
-# Needs GNU time, awk, taskset, for --hostile setpriv and prlimit, and valgrind for the instructions (without it those are
-# left out).
+# Seconds are those of the processor, the least of three runs, and depend on the machine's load. Instructions do not. Wall time is
+# the least of three runs too, but of one where two sessions wait for each other in vain. Needs GNU time, awk, Python, taskset, and
+# valgrind for the instructions (without it those are left out).
 set -eu
 
 hostile=
@@ -64,16 +70,6 @@ else
     printf '\\session a 1\n' | "$root/pgnotify" run >"$room/output"
 fi
 
-# input FILE LISTENS LINES BYTES
-input() {
-    awk -v listens="$2" -v lines="$3" -v bytes="$4" 'BEGIN {
-        for (i = 0; i < bytes; i++) payload = payload "p"
-        print "\\session a 1"
-        for (i = 0; i < listens; i++) print "LISTEN c" i
-        for (i = 0; i < lines; i++) print "NOTIFY c0, \047" payload "\047"
-    }' >"$room/$1"
-}
-
 # refused FILE STATUS: a run that did not end well measures nothing
 refused() {
     printf 'bench: %s ended with status %s on input %s\n' "$program" "$2" "$1" >&2
@@ -81,61 +77,100 @@ refused() {
     exit 1
 }
 
-# timed FILE: the least processor seconds of three runs, and the peak memory in KB
+# timed FILE WORD ..: the least processor seconds of three runs with these words, and the peak memory in KB
 timed() {
+    file=$1
+    shift
     for _ in 1 2 3; do
-        env time -q -a -o "$room/times" -f '%U %S %M' "$program" run <"$room/$1" >"$room/output" 2>"$room/errors" || refused "$1" $?
+        env time -q -a -o "$room/times" -f '%U %S %M' "$program" run "$@" <"$room/$file" >"$room/output" 2>"$room/errors" || refused "$file" $?
     done
     awk 'NR == 1 || $1 + $2 < best { best = $1 + $2 } { peak = $3 } END { printf "%.2f %d", best, peak }' "$room/times"
     rm -f -- "$room/times"
 }
 
-# counted FILE: how many instructions a run takes, or 0 without valgrind
+# counted FILE WORD ..: how many instructions a run with these words takes, or 0 without valgrind
 counted() {
     if ! command -v valgrind >/dev/null; then
         echo 0
         return
     fi
+    file=$1
+    shift
     valgrind --tool=callgrind --callgrind-out-file=/dev/null --log-file="$room/log" \
-        "$program" run <"$room/$1" >"$room/output" 2>"$room/errors" || refused "$1" $?
+        "$program" run "$@" <"$room/$file" >"$room/output" 2>"$room/errors" || refused "$file" $?
     awk '$2 == "Collected" { print $4 }' "$room/log"
 }
 
-# row NAME LISTENS BYTES LINES COUNT: a run of this input, and the difference to the row before, whose lines are told apart by COUNT
-row() {
-    input load "$2" "$4" "$3"
-    times=$(timed load)
-    count=$(counted load)
-    printf '%s %s %s %s %s %s\n' "$1" "$2" "$4" "$5" "$times $count" "$before" | awk '{
-        printf "%-10s %5d listens %7d lines %6.2f s %8.1f MB peak", $1, $2, $3, $5, $6 / 1024
-        if ($7 > 0) printf " %14.0f instructions", $7
-        if (NF > 7) {
-            more = $4 - $8
-            if ($7 > 0) printf " %9.0f a line", ($7 - $10) / more
-            printf " %8.0f bytes a line", ($6 - $9) * 1024 / more
-        }
-        printf "\n"
-    }'
-    before="$5 ${times#* } $count"
+# moved FILE: how many bytes that input and the last output have
+moved() {
+    cat -- "$room/$1" "$room/output" | wc -c
 }
 
-# load NAME LISTENS BYTES LINES LINES ..: a row for each number of NOTIFY lines
+# made FILE BODY N: the input that the body of an awk program prints with n = N, after the line that begins a session
+made() {
+    { printf '\\session a 1\n' && awk -v n="$3" "$letters BEGIN { $2 }"; } >"$room/$1"
+}
+
+# so many letters p, for the bodies
+letters='function p(count,   text) { while (length(text) < count) text = text "p"; return text }'
+
+# load NAME BODY N N ..: a row for each N, with the difference to the row before
 load() {
-    name=$1 listens=$2 bytes=$3 before=
-    shift 3
-    for lines in "$@"; do
-        row "$name" "$listens" "$bytes" "$lines" "$lines"
+    name=$1 body=$2 before=
+    shift 2
+    for n in "$@"; do
+        made load "$body" "$n"
+        times=$(timed load)
+        count=$(counted load)
+        now="$n $count $(moved load) ${times#* }"
+        grown=$(printf '%s %s\n' "$now" "$before" | awk 'NF > 4 && $2 > 0 { printf "%.3f", ($2 - $6) / ($3 - $7) }')
+        printf '%s %s %s\n' "$name" "$times $now ${grown:-0}" "$before" | awk '{
+            printf "%-11s %6d lines %6.2f s %7.1f MB peak", $1, $4, $2, $3 / 1024
+            if ($5 > 0) printf " %13.0f instructions", $5
+            if (NF > 8) {
+                more = $4 - $9
+                if ($5 > 0) printf " %8.0f a line %7.1f a byte", ($5 - $10) / more, $8
+                printf " %8.0f bytes a line", ($7 - $12) * 1024 / more
+                if ($13 > 0 && $8 > $13 * 1.25) printf "   GROWS FASTER THAN ITS INPUT AND OUTPUT"
+            }
+            printf "\n"
+        }'
+        before="$now ${grown:-0}"
     done
 }
 
-# listens NAME LINES BYTES LISTENS LISTENS ..: a row for each number of LISTEN lines
-listens() {
-    name=$1 lines=$2 bytes=$3 before=
-    shift 3
-    for listens in "$@"; do
-        row "$name" "$listens" "$bytes" "$lines" "$listens"
+# start WORD ..: a row of a run of three lines with these words
+start() {
+    made load 'print "LISTEN c"; print "NOTIFY c"' 0
+    times=$(timed load "$@")
+    count=$(counted load "$@")
+    wall=$("$root/bench/timed" 20 "$room/load" "$room/output" "$room/errors" "$program" run "$@") || refused load $?
+    printf '%s\n' "$times $count $wall $*" | awk '{
+        printf "start %-12s %5.1f ms of processor time %5.1f ms of wall time %5.1f MB peak %11.0f instructions\n", $6 " " $7, $4, $5, $2 / 1024, $3
+    }'
+}
+
+# several NAME BODY N N ..: a row for each N, of the sections that the body of an awk program prints with n = N
+several() {
+    name=$1 body=$2
+    shift 2
+    for n in "$@"; do
+        awk -v n="$n" "$sections BEGIN { $body }" >"$room/load"
+        times=$("$root/bench/timed" 10 "$room/load" "$room/output" "$room/errors" "$program" run) || refused load $?
+        printf '%s %s\n' "$n" "$times $(moved load)" | awk -v name="$name" '{
+            printf "%-16s %6d lines %8.1f ms of processor time %8.1f ms of wall time %6.1f ns of processor time a byte\n", name, $1, $2, $3, $2 * 1000000 / $4
+        }'
     done
 }
+
+# sections for the bodies: from one number to another, in this database, with a LISTEN where that is 1, that each send so many lines
+sections='function sections(from, to, database, listen, lines,   k, i) {
+    for (k = from; k <= to; k++) {
+        print "\\session s" k " " database
+        if (listen) print "LISTEN c"
+        for (i = 0; i < lines; i++) print "NOTIFY c, \047p\047"
+    }
+}'
 
 # sessions FILE LISTENS COUNT LINE ..: so many sections of these lines, in which # stands for the section's number and @ for that of
 # the next one, which is 1 after the last. A line LISTEN comes first where LISTENS is 1
@@ -189,31 +224,6 @@ in_time() {
     ! grep -q '^+timeout' "$room/output" || { printf 'bench: an await timed out: %s\n' "$name" >&2; exit 1; }
 }
 
-# What a user that may start no thread sees.
-measure_hostile() {
-    as_user=
-    if [ "$(id -u)" -eq 0 ]; then as_user='setpriv --reuid=65534 --regid=65534 --clear-groups'; fi
-    chmod 755 "$room"
-    cp -- "$program" "$room/program"
-    chmod 755 "$room/program"
-    program=$room/program
-    set -- $as_user prlimit --nproc=1
-    if "$@" sh -c '(exit 0)' 2>/dev/null; then
-        printf 'bench: this user may start threads\n' >&2
-        exit 1
-    fi
-    cp -- "$root/examples/crossing-flags.scenario" "$room/crossing"
-    waits 'crossing flags' crossing 3 "$@"
-    cmp -- "$root/examples/crossing-flags.output" "$room/output"
-    sessions plain8 0 8 'NOTIFY c'
-    waits '8 plain' plain8 3 "$@"
-    sessions plain256 0 256 'NOTIFY c'
-    waits '256 plain' plain256 3 "$@"
-    sessions ring 0 16 '\signal f#' '\await f@'
-    waits 'ring of 16' ring 3 "$@"
-    in_time
-}
-
 # What sessions that wait cost.
 measure_waits() {
     sessions each 0 2 '\await f#' '\signal f@'
@@ -237,45 +247,6 @@ measure_waits() {
     waits '256 on one processor' one 3 taskset -c 0
     in_time
 }
-
-printf '%s, %s processors, %s\n' "$(date -u +%Y-%m-%d)" "$(nproc)" "$program"
-if [ -n "$hostile" ]; then
-    measure_hostile
-    exit
-fi
-load listener 1 1 800 8000 64000
-load alone 0 1 8000 64000
-load 200-byte 1 200 6000 60000
-load 7999-byte 1 7999 200 2000
-load 4096-set 4096 1 1000 10000
-listens listens 10000 1 1024 2048 4096
-
-# made NAME BODY N N ..: a row for each N, of the input that the body of an awk program prints with n = N
-made() {
-    name=$1 body=$2 before=
-    shift 2
-    for n in "$@"; do
-        { printf '\\session a 1\n' && awk -v n="$n" "BEGIN { $body }"; } >"$room/load"
-        times=$(timed load)
-        count=$(counted load)
-        printf '%s %s %s %s\n' "$name" "$n" "$times $count" "$before" | awk '{
-            printf "%-10s %5d lines %6.2f s %8.1f MB peak", $1, $2, $3, $4 / 1024
-            if ($5 > 0) printf " %14.0f instructions", $5
-            if (NF > 5 && $5 > 0) printf " %9.0f a line", ($5 - $7) / ($2 - $6)
-            printf "\n"
-        }'
-        before="$n $count"
-    done
-}
-
-many_channels='for (i = 0; i < n; i++) print "LISTEN c" i; for (i = 0; i < n; i++) print "UNLISTEN c" i'
-many_savepoints='print "BEGIN"; for (i = 0; i < n; i++) print "SAVEPOINT s" i'
-
-made repeat 'print "LISTEN c"; for (i = 0; i < n; i++) print "SELECT pg_notify(\047c\047, repeat(\047x\047, 7999))"' 200 400
-made left "$many_channels" 1024 2048 4096
-made left-block "print \"BEGIN\"; $many_channels; print \"COMMIT\"" 1024 2048 4096
-made no-such "$many_savepoints; print \"x\"; for (i = 0; i < n; i++) print \"ROLLBACK TO t\"" 1024 2048 4096
-made come-go "$many_savepoints; for (i = 0; i < n; i++) { print \"SAVEPOINT x\"; print \"RELEASE t\"; print \"ROLLBACK TO s\" (n - 1) }" 1024 2048 4096
 
 # drill PLAIN SEED SESSIONS NOTES: the processor and wall milliseconds of a run of this drill, and those of the plain program
 drill() {
@@ -303,8 +274,65 @@ drill() {
     rm -f -- "$room/times"
 }
 
+# What long scripts of one session cost.
+measure_lines() {
+    load self-notify 'print "LISTEN c"; for (i = 0; i < n; i++) print "NOTIFY c, \047p\047"' 2000 4000 60000
+    load no-listener 'for (i = 0; i < n; i++) print "NOTIFY c, \047p\047"' 2000 4000 60000
+    load 200-byte 'print "LISTEN c"; q = p(200); for (i = 0; i < n; i++) print "NOTIFY c, \047" q "\047"' 2000 4000 60000
+    load 7999-byte 'print "LISTEN c"; q = p(7999); for (i = 0; i < n; i++) print "NOTIFY c, \047" q "\047"' 200 400 2000
+    load repeat 'print "LISTEN c"; for (i = 0; i < n; i++) print "SELECT pg_notify(\047c\047, repeat(\047x\047, 7999))"' 200 400 2000
+    load blocks 'print "LISTEN c"
+        for (i = 0; i < n; i++) {
+            if (i % 100 == 0) print "BEGIN"
+            print "NOTIFY c, \047" i % 100 "\047"
+            if (i % 100 == 99) print "COMMIT"
+        }' 2000 4000 60000
+    load savepoints 'print "LISTEN c"
+        for (i = 0; i < n; i++) {
+            k = i % 20
+            if (k == 0) print "BEGIN"
+            print "SAVEPOINT s" k
+            print "NOTIFY c, \047" k "\047"
+            if (k % 3 == 0) print "ROLLBACK TO s" k
+            if (k == 19) print "COMMIT"
+        }' 2000 4000 60000
+}
+
+listens='for (i = 0; i < m; i++) print "LISTEN c" i; for (i = 0; i < k; i++) print "NOTIFY c0, \047p\047"'
+many_channels='for (i = 0; i < n; i++) print "LISTEN c" i; for (i = 0; i < n; i++) print "UNLISTEN c" i'
+many_savepoints='print "BEGIN"; for (i = 0; i < n; i++) print "SAVEPOINT s" i'
+
+# What sets of many channels and lists of many savepoints cost.
+measure_many() {
+    load 4096-set "m = 4096; k = n; $listens" 1000 2000 10000
+    load listens "m = n; k = 10000; $listens" 1024 2048 4096
+    load left "$many_channels" 1024 2048 4096
+    load left-block "print \"BEGIN\"; $many_channels; print \"COMMIT\"" 1024 2048 4096
+    load no-such "$many_savepoints; print \"x\"; for (i = 0; i < n; i++) print \"ROLLBACK TO t\"" 1024 2048 4096
+    load come-go "$many_savepoints; for (i = 0; i < n; i++) { print \"SAVEPOINT x\"; print \"RELEASE t\"; print \"ROLLBACK TO s\" (n - 1) }" 1024 2048 4096
+}
+
+# What several sessions cost.
+measure_several() {
+    several '8 that listen' 'sections(1, 8, 1, 1, n)' 500 1000 2000
+    several '32 that listen' 'sections(1, 32, 1, 1, n)' 50 100 200
+    several '64 listeners' 'sections(1, 64, 1, 1, 0); sections(65, 65, 1, 0, n)' 250 500 1000
+    several '16 writers' 'sections(1, 16, 1, 0, n)' 500 1000 2000
+    several '255 idle' 'sections(1, 255, 2, 1, 0); sections(256, 256, 1, 0, n)' 15000 30000 60000
+}
+
+printf '%s, %s processors, %s\n' "$(date -u +%Y-%m-%d)" "$(nproc)" "$program"
+if [ -n "$hostile" ]; then
+    . "$root/bench/hostile.sh"
+    measure_hostile
+    exit
+fi
+measure_lines
+measure_many
+start
+start --pages 1024
+measure_several
 drill 4.5 7 8 200
 drill 12.8 7 8 1000
 drill 17.2 7 32 200
-
 measure_waits
