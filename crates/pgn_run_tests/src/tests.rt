@@ -12,9 +12,11 @@ use std::thread::Threads;
 
 mod gate;
 mod job_table;
+mod large_commits;
 mod listeners;
 mod over_hub;
 mod slept;
+mod slow_listener;
 mod streams;
 mod turns;
 mod waits;
@@ -23,6 +25,28 @@ const SELF_NOTIFY: &str = "\
 \\session a 1
 LISTEN c
 NOTIFY c, 'x'
+";
+
+// Each session waits for the other one.
+const CROSSING_FLAGS: &str = "\
+\\session a 1
+LISTEN c
+BEGIN
+\\await b1
+NOTIFY c, 'from a'
+COMMIT
+BEGIN
+\\signal a2
+\\await b2
+COMMIT
+\\session b 1
+LISTEN c
+BEGIN
+\\signal b1
+\\await a2
+COMMIT
+NOTIFY c, 'from b'
+\\signal b2
 ";
 
 // A source's and a sink's faults: which calls fail, how many bytes a call moves at most, and the sink's room.

@@ -1,6 +1,7 @@
-ghost use Rattle.std.specs.Prelude.{◌≡◌, map, length, All};
+ghost use Rattle.std.specs.Prelude.{◌≡◌, ◌≤◌, map, length, All};
 ghost use Rattle.std.specs.List.{range_with_len};
 
+use super::turns::awaits_of;
 use super::{SELF_NOTIFY, scenario_of, told};
 use pgn_base::{
     Delivery, Enlisted, Full, ListenSet, MemSink, Note, PAGES_DEFAULT, PATIENCE_DEFAULT, Usage, Xid,
@@ -61,6 +62,10 @@ impl<const TURNS: u32> Gate<TURNS> {
 
     fn is_spent(&self) -> bool {
         self.counts.spent.load(Ordering::SeqCst) != 0
+    }
+
+    fn begun(&self) -> u64 {
+        self.counts.begun.load(Ordering::SeqCst)
     }
 
     fn wake_looks(&self) -> u64 {
@@ -179,13 +184,16 @@ fn sessions_run_side_by_side(rt: HostRuntime) -> Result<(), Fail> {
     Ok(())
 }
 
-// What comes of this input over a hub of this type.
+// What comes of this input over a hub of this type, with so much patience.
 fn shown_over<H: Hub + Sync + Drop, R: Threads + Wait + Sync>(
     rt: &R,
     alloc: Global,
     input: &str,
+    patience: u64,
     print: Print,
-) -> Result<String, Fail> {
+) -> Result<String, Fail>
+    requires { 1 ≤ patience }
+{
     let scenario = scenario_of(alloc, input)?;
     let mut sink = MemSink::new(alloc, 1 << 16, Vec::new(alloc), 1 << 20)?;
     let status = run_scenario::<H, MemSink, R>(
@@ -193,7 +201,7 @@ fn shown_over<H: Hub + Sync + Drop, R: Threads + Wait + Sync>(
         alloc,
         &scenario,
         PAGES_DEFAULT,
-        PATIENCE_DEFAULT,
+        patience,
         print,
         &mut sink,
     );
@@ -212,7 +220,13 @@ NOTIFY c
 #[test]
 fn a_run_takes_its_sessions_side_by_side(rt: HostRuntime) -> Result<(), Fail> {
     let alloc = rt.alloc();
-    let text = shown_over::<Gate<10_000_000>, HostRuntime>(&rt, alloc, TWO_LISTENERS, Print::Text)?;
+    let text = shown_over::<Gate<10_000_000>, HostRuntime>(
+        &rt,
+        alloc,
+        TWO_LISTENERS,
+        PATIENCE_DEFAULT,
+        Print::Text,
+    )?;
     assert!(rt; text.as_str().starts_with("journal 2\n"));
     Ok(())
 }
@@ -221,7 +235,13 @@ fn a_run_takes_its_sessions_side_by_side(rt: HostRuntime) -> Result<(), Fail> {
 #[test]
 fn a_run_is_over_its_hub(rt: HostRuntime) -> Result<(), Fail> {
     let alloc = rt.alloc();
-    let text = shown_over::<Gate<0>, HostRuntime>(&rt, alloc, SELF_NOTIFY, Print::Text)?;
+    let text = shown_over::<Gate<0>, HostRuntime>(
+        &rt,
+        alloc,
+        SELF_NOTIFY,
+        PATIENCE_DEFAULT,
+        Print::Text,
+    )?;
     assert_eq!(rt; text.as_str(), "NoMemory: ");
     Ok(())
 }
@@ -232,7 +252,56 @@ fn a_drill_is_over_its_hub(rt: HostRuntime) -> Result<(), Fail> {
     let alloc = rt.alloc();
     let input = drill_text(alloc, 0, 1, 1)?;
     let print = Print::Summary { seed: 0, notes: 1 };
-    let text = shown_over::<Gate<0>, HostRuntime>(&rt, alloc, str::from_utf8(&input)?, print)?;
+    let text = shown_over::<Gate<0>, HostRuntime>(
+        &rt,
+        alloc,
+        str::from_utf8(&input)?,
+        PATIENCE_DEFAULT,
+        print,
+    )?;
+    assert_eq!(rt; text.as_str(), "NoMemory: ");
+    Ok(())
+}
+
+// The first transaction spends the turns, so that the read of session a after its second one finds no memory, and it raises its
+// second flag never. Session b awaits this in vain, and sends then.
+const ONE_IS_REFUSED: &str = "\
+\\session a 1
+NOTIFY d
+\\signal f
+LISTEN c
+NOTIFY c
+\\signal g
+\\session b 1
+\\await f
+\\await g
+NOTIFY d
+";
+
+#[test]
+fn where_a_session_is_refused_memory_the_others_end(rt: HostRuntime) -> Result<(), Fail> {
+    let alloc = rt.alloc();
+    let scenario = scenario_of(alloc, ONE_IS_REFUSED)?;
+    let (hub, mut sessions) = open_on_hub::<Gate<0>>(alloc, &scenario, PAGES_DEFAULT, 100_000)?;
+    let ended = run_sessions(&rt, alloc, &hub, sessions.as_mut_slice());
+    assert!(rt; ended.is_err());
+    assert_eq!(rt; hub.begun(), 3);
+    let second = sessions.last().ok_or("no session")?;
+    let awaits = awaits_of(alloc, second)?;
+    assert_eq!(rt; awaits.as_str(), "+await 4\n+timeout 100000\n");
+    Ok(())
+}
+
+// Nothing is written then, of the others neither.
+#[test]
+fn where_a_session_is_refused_memory_nothing_is_written(rt: HostRuntime) -> Result<(), Fail> {
+    let text = shown_over::<Gate<0>, HostRuntime>(
+        &rt,
+        rt.alloc(),
+        ONE_IS_REFUSED,
+        1000,
+        Print::Text,
+    )?;
     assert_eq!(rt; text.as_str(), "NoMemory: ");
     Ok(())
 }

@@ -91,7 +91,7 @@ fn due_of(alloc: Global, entries: &str) -> Result<String, Fail> {
 }
 
 // The lines of the deliveries in a session's part of the text.
-fn received_in(alloc: Global, part: &str) -> Result<String, AllocError> {
+pub(super) fn received_in(alloc: Global, part: &str) -> Result<String, AllocError> {
     let mut lines = String::new(alloc);
     for line in part.split('\n') {
         if line.starts_with("  ") {

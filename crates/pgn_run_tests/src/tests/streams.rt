@@ -1,4 +1,4 @@
-use super::{AMPLE, Outside, SELF_NOTIFY, comes_of};
+use super::{AMPLE, CROSSING_FLAGS, Outside, SELF_NOTIFY, comes_of};
 use pgn_base::INPUT_BYTES_MAX;
 use std::alloc::{AllocError, Global};
 use std::test::Fail;
@@ -70,6 +70,110 @@ fn names_the_side_that_failed(rt: HostRuntime) -> Result<(), Fail> {
     for (outside, want) in table {
         let found = comes_of(&rt, rt.alloc(), SELF_NOTIFY.as_bytes(), &outside)?;
         assert_eq!(rt; found.as_str(), want);
+    }
+    Ok(())
+}
+
+const CROSSING_FLAGS_OUTPUT: &str = "\
+journal 2
+xid 3 session 1 commit 1
+  \"c\", 'from a'
+xid 4 session 2 commit 1
+  \"c\", 'from b'
+session 1 a db 1 pid 1001
+> LISTEN c
++enlist 3 3
+LISTEN
+> BEGIN
+BEGIN
+> \\await b1
++await 3
+> NOTIFY c, 'from a'
+NOTIFY
+> COMMIT
++publish 3
+COMMIT
++read 3 4
+  3 1001 \"c\", 'from a'
+> BEGIN
+BEGIN
+> \\signal a2
++signal 4
+> \\await b2
++await 5
+> COMMIT
+COMMIT
++read 4 5
+  4 1002 \"c\", 'from b'
+end mark 5
+session 2 b db 1 pid 1002
+> LISTEN c
++enlist 3 3
+LISTEN
+> BEGIN
+BEGIN
+> \\signal b1
++signal 3
+> \\await a2
++await 4
+> COMMIT
+COMMIT
++read 3 4
+  3 1001 \"c\", 'from a'
+> NOTIFY c, 'from b'
++publish 4
+NOTIFY
++read 4 5
+  4 1002 \"c\", 'from b'
+> \\signal b2
++signal 5
+end mark 5
+";
+
+// A source gives a byte at a time, and its call of this number fails. A call for each byte is followed by one that finds the end.
+#[test]
+fn each_read_fails_in_turn(rt: HostRuntime) -> Result<(), Fail> {
+    let reads = CROSSING_FLAGS.len() as u64 + 1;
+    for call in 1..=reads + 1 {
+        let outside = Outside {
+            read_fails: &[call],
+            most: 1,
+            ..AMPLE
+        };
+        let found = comes_of(&rt, rt.alloc(), CROSSING_FLAGS.as_bytes(), &outside)?;
+        let want = if call <= reads {
+            "ReadFault: "
+        } else {
+            CROSSING_FLAGS_OUTPUT
+        };
+        assert_eq!(rt; found.as_str(), want);
+    }
+    Ok(())
+}
+
+// What comes of a sink that takes seven bytes at a time, where so many calls do not fail and the next one, if there is one, does.
+fn written_before(alloc: Global, calls: usize) -> Result<String, Fail> {
+    let bytes = calls.saturating_mul(7);
+    if bytes >= CROSSING_FLAGS_OUTPUT.len() {
+        return Ok(String::from_str(alloc, CROSSING_FLAGS_OUTPUT)?);
+    }
+    let written = CROSSING_FLAGS_OUTPUT.get(..bytes).ok_or("no ASCII")?;
+    Ok(format!(in alloc; "WriteFault: {written}")?)
+}
+
+#[test]
+fn each_write_fails_in_turn(rt: HostRuntime) -> Result<(), Fail> {
+    let alloc = rt.alloc();
+    let writes = CROSSING_FLAGS_OUTPUT.len() / 7 + 1;
+    for calls in 0..=writes {
+        let outside = Outside {
+            write_fails: &[calls as u64 + 1],
+            most: 7,
+            ..AMPLE
+        };
+        let found = comes_of(&rt, alloc, CROSSING_FLAGS.as_bytes(), &outside)?;
+        let want = written_before(alloc, calls)?;
+        assert_eq!(rt; found.as_str(), want.as_str());
     }
     Ok(())
 }
