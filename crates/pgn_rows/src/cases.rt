@@ -1,4 +1,6 @@
-use bstr::ByteSlice;
+ghost use Rattle.std.specs.Prelude.{◌<◌, length};
+
+use memchr::memmem;
 use pgn_base::LINE_BYTES_MAX;
 use std::alloc::{AllocError, Global};
 
@@ -10,28 +12,37 @@ const MANY: &[u8] = b"\xe2\x80\xa6";
 
 /// The cases of an input.
 pub fn cases(alloc: Global, input: &[u8]) -> Result<Vec<&[u8]>, AllocError> {
-    let mut cases = Vec::new(alloc);
-    let front = input.strip_suffix(END_OF_CASE).unwrap_or(input);
-    for case in front.split_str(END_OF_CASE) {
-        cases.push(case)?;
-    }
-    Ok(cases)
+    parts(
+        alloc,
+        input.strip_suffix(END_OF_CASE).unwrap_or(input),
+        END_OF_CASE,
+    )
 }
 
 /// The lines of a text. The LF of the last one may be left out.
 pub fn lines(alloc: Global, text: &[u8]) -> Result<Vec<&[u8]>, AllocError> {
-    let mut lines = Vec::new(alloc);
-    let front = text.strip_suffix(b"\n").unwrap_or(text);
-    for line in front.split_str(b"\n") {
-        lines.push(line)?;
+    parts(alloc, text.strip_suffix(b"\n").unwrap_or(text), b"\n")
+}
+
+// The parts of a text between which this mark stands.
+fn parts<'a>(alloc: Global, text: &'a [u8], mark: &[u8]) -> Result<Vec<&'a [u8]>, AllocError>
+    requires { 0 < length mark.now }
+{
+    let mut parts = Vec::new(alloc);
+    let mut rest = text;
+    while let Some(at) = memmem::find(rest, mark) {
+        let (part, behind) = rest.split_at(at);
+        parts.push(part)?;
+        rest = &behind[mark.len()..];
     }
-    Ok(lines)
+    parts.push(rest)?;
+    Ok(parts)
 }
 
 /// The text with what `…` stands for.
 pub fn written_out(alloc: Global, text: &[u8]) -> Result<Vec<u8>, AllocError> {
     let mut whole = Vec::new(alloc);
-    for (count, part) in text.split_str(MANY).enumerate() {
+    for (count, part) in parts(alloc, text, MANY)?.into_iter().enumerate() {
         if count != 0 {
             put_many(&mut whole, part)?;
         }

@@ -1,5 +1,5 @@
 use crate::row::Outcome;
-use pgn_base::{MemSink, MemSource};
+use pgn_base::{MemSink, MemSource, Sink, Source};
 use pgn_run::{Status, run_notify};
 use std::alloc::{AllocError, Global};
 use std::sync::Wait;
@@ -17,7 +17,8 @@ pub fn run_row<R: Threads + Wait + Sync>(
 ) -> Result<Outcome, AllocError> {
     let words = borrowed(alloc, words)?;
     let mut sink = MemSink::new(alloc, ROOM, Vec::new(alloc), ROOM)?;
-    let status = status_of(rt, alloc, words.as_slice(), input, &mut sink);
+    let mut source = MemSource::new(input, Vec::new(alloc), ROOM);
+    let status = status_of(rt, alloc, words.as_slice(), &mut source, &mut sink);
     let output = Vec::from_slice(alloc, sink.held())?;
     Ok(Outcome {
         output,
@@ -33,14 +34,13 @@ fn borrowed(alloc: Global, words: &[String]) -> Result<Vec<&str>, AllocError> {
     Ok(texts)
 }
 
-// How a run ends.
-fn status_of<R: Threads + Wait + Sync>(
+// How a run ends, over any source and sink: so no clause of the call has to be computed for those in memory.
+fn status_of<S: Source, K: Sink, R: Threads + Wait + Sync>(
     rt: &R,
     alloc: Global,
     words: &[&str],
-    input: Vec<u8>,
-    sink: &mut MemSink,
+    source: &mut S,
+    sink: &mut K,
 ) -> Status {
-    let mut source = MemSource::new(input, Vec::new(alloc), ROOM);
-    run_notify(rt, alloc, words, &mut source, sink)
+    run_notify(rt, alloc, words, source, sink)
 }
