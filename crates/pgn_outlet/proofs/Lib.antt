@@ -1,0 +1,4 @@
+pub mod CameLaws
+mod EachLaws
+mod KeptLaws
+mod ExampleLaws

@@ -1,0 +1,8 @@
+-- what a queue carries, by session
+pub mod Cames
+-- the rule that every step keeps
+pub mod Rule
+-- what a pass knows
+pub mod Passes
+-- examples
+pub mod Examples
