@@ -1,0 +1,3 @@
+pub mod SeenLaws
+pub mod ComesLaws
+pub mod ShownLaws
