@@ -1,3 +1,4 @@
 pub mod SeenLaws
 pub mod ComesLaws
 pub mod ShownLaws
+pub mod ExampleLaws

@@ -10,3 +10,5 @@ pub mod Blame
 pub mod WalkLaws
 -- laws of what items show
 pub mod ShownLaws
+-- data of the examples
+pub mod Examples

@@ -3,4 +3,5 @@
 //! All stand on public functions with an empty body, in `laws` and `examples`.
 #![tactic(auto)]
 
+pub mod examples;
 pub mod laws;
