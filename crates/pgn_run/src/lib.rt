@@ -23,9 +23,7 @@
 #![tactic(auto)]
 
 mod input;
-mod line_cursor;
 mod print;
-mod render;
 mod run;
 mod scenario_run;
 mod status;

@@ -6,12 +6,12 @@ ghost use Rattle.pgn_language.specs.Inputs.{IsSound};
 ghost use Rattle.pgn_model.specs.Text.{brief, text};
 ghost use Rattle.pgn_run.specs.Run.{RunsOver, HasWritten, printed, settings_with};
 
-use crate::render::render;
 use crate::{Print, Status};
 use pgn_base::{Failed, Sink};
 use pgn_drill::{received, summary};
 use pgn_hub::Hub;
 use pgn_language::Scenario;
+use pgn_text::render;
 use pgn_threads::{Run, run_on_hub};
 use std::alloc::Global;
 use std::sync::Wait;

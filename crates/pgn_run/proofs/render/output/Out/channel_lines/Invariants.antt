@@ -1,7 +1,0 @@
-use Rattle.std.proofs.Common.{drop, map}
-use Rattle.pgn_model.specs.Text.{channel_line, joined}
-use Rattle.pgn_run.proofs.PutsLaws.{Toward}
-use Rattle.pgn_run.proofs.render.output.Out.channel_lines.Given as goal
-
-abbrev pub invariant-loop-name : goal.invariant-loop-name
-invariant-loop-name g l = Toward g.K.Sink.held g.K.Sink.faults l.fn.sink l.fn.self l.sink l.self (joined (map channel_line (drop l.name-index l.names))) (joined (map channel_line l.fn.names))

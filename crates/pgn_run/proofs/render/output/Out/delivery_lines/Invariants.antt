@@ -1,7 +1,0 @@
-use Rattle.std.proofs.Common.{drop, map}
-use Rattle.pgn_model.specs.Text.{delivery_line, joined}
-use Rattle.pgn_run.proofs.PutsLaws.{Toward}
-use Rattle.pgn_run.proofs.render.output.Out.delivery_lines.Given as goal
-
-abbrev pub invariant-loop-delivery : goal.invariant-loop-delivery
-invariant-loop-delivery g l = Toward g.K.Sink.held g.K.Sink.faults l.fn.sink l.fn.self l.sink l.self (joined (map delivery_line (drop l.delivery-index l.got))) (joined (map delivery_line l.fn.got))

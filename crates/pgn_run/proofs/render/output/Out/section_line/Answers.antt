@@ -1,5 +1,0 @@
-use Rattle.pgn_run.proofs.PutsLaws.{Puts-trans}
-use Rattle.pgn_run.proofs.render.output.Out.section_line.Goals as goal
-
-pub returns : goal.returns
-returns g c = Puts-trans c.text.ensures (Puts-trans (Puts-trans (Puts-trans c.place.ensures c.text-2.ensures) c.pid.ensures) c.text-3.ensures)

@@ -1,0 +1,3 @@
+pub mod PutsLaws
+pub mod LineLaws
+pub mod DoublingLaws
