@@ -52,10 +52,11 @@ impl WordHub {
         let db = pass.db();
         let pid = WordHub::pid(pass);
         let cells = entry_len(note) as usize / CELL_BYTES;
+        let mut word = self.queue.word_of_cell(at);
         for k in 0..cells {
             let cell = entry_cell(note, db, xid, pid, k);
-            self.queue
-                .store_cell(pass, Pos::new(at.get() + k as u64), cell);
+            self.queue.store_cell(pass, word, cell);
+            word = self.queue.next_word(word);
         }
         Pos::new(at.get() + cells as u64)
     }
@@ -73,10 +74,11 @@ impl WordHub {
     {
         let pid = WordHub::pid(pass);
         let cells = len as usize / CELL_BYTES;
+        let mut word = self.queue.word_of_cell(at);
         for k in 0..cells {
             let cell = filler_cell(len, xid, pid, k);
-            self.queue
-                .store_cell(pass, Pos::new(at.get() + k as u64), cell);
+            self.queue.store_cell(pass, word, cell);
+            word = self.queue.next_word(word);
         }
     }
 

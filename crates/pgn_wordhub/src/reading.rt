@@ -8,6 +8,7 @@ ghost use Rattle.pgn_journal.specs.Packing.{Sender, image, place};
 ghost use Rattle.pgn_journal.specs.Pieces.{Piece, AnEntry, piece_bytes, gives, committed_by, IsReadable};
 ghost use Rattle.pgn_hub.specs.Shape.{notes_of_seats};
 ghost use Rattle.pgn_hub.specs.Calls.{HasRead, HasLearned};
+ghost use Rattle.pgn_words.specs.Words.{cell_word, IsCellWord};
 ghost use Rattle.pgn_words.specs.Passes.{IsPassOf, view_of, known_of, shape_of};
 ghost use Rattle.pgn_words.specs.declared.view.Stage.TheVariants as stages;
 ghost use Rattle.pgn_wordhub.specs.Passes.{IsHubPass, hub_shape};
@@ -44,16 +45,16 @@ struct Reader<'a> {
 }
 
 impl WordHub {
-    // One cell behind a place.
-    pub(crate) fn cell(&self, pass: &mut WordPass, at: Pos, offset: u64) -> u32
+    // One cell, by the number of its word.
+    pub(crate) fn cell(&self, pass: &mut WordPass, word: usize) -> u32
         requires own { IsPassOf self.now.queue pass.old }
         requires shown { (view_of pass.old).walk.stage ≡ stages.Shown }
-        requires low { at + offset < 2 ^ 64 }
+        requires word { IsCellWord (hub_shape self.now) word }
         ensures own { IsPassOf self.now.queue pass.new }
         ensures view { view_of pass.new ≡ view_of pass.old }
-        ensures value { (x : ℕ) → (view_of pass.old).post.at ≤ at → slice_get (shown_cells (view_of pass.old)) (at + offset) ≡ Some (Some x) → result ≡ x }
+        ensures value { (at x : ℕ) → word ≡ cell_word (hub_shape self.now) at → (view_of pass.old).post.at ≤ at → slice_get (shown_cells (view_of pass.old)) at ≡ Some (Some x) → result ≡ x }
     {
-        self.queue.load_shown(pass, Pos::new(at.get() + offset))
+        self.queue.load_shown(pass, word)
     }
 
     // The numbers at the head of the entry or the filler at a place.
@@ -68,9 +69,12 @@ impl WordHub {
         ensures db { IsCell (shown_cells (view_of pass.old)) (at + 1) result.db }
         ensures xid { IsCell (shown_cells (view_of pass.old)) (at + 2) result.xid }
     {
-        let len = self.cell(pass, at, 0);
-        let db = self.cell(pass, at, 1);
-        let xid = self.cell(pass, at, 2);
+        let first = self.queue.word_of_cell(at);
+        let second = self.queue.next_word(first);
+        let third = self.queue.next_word(second);
+        let len = self.cell(pass, first);
+        let db = self.cell(pass, second);
+        let xid = self.cell(pass, third);
         HeadCells { len, db, xid }
     }
 
@@ -85,8 +89,10 @@ impl WordHub {
         ensures long { length words.new ≡ length words.old }
         ensures cells { (k x : ℕ) → k < length words.new → slice_get (shown_cells (view_of pass.old)) (at + k) ≡ Some (Some x) → slice_index words.new k ≡ x }
     {
+        let mut word = self.queue.word_of_cell(at);
         for k in 0..words.len() {
-            words[k] = self.cell(pass, at, k as u64);
+            words[k] = self.cell(pass, word);
+            word = self.queue.next_word(word);
         }
     }
 

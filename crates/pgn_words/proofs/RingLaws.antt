@@ -5,6 +5,9 @@ use Rattle.std.proofs.lemmas.Option.{none-some, same_Some, slice_get_within}
 use native.Mathlib.Decide.{ℕ_discrete}
 use Rattle.atomic_table.proofs.Lists.{one_turn}
 use Rattle.pgn_layout.specs.Batches.{padded_to}
+use Rattle.std.proofs.Math.Nat.{suc-mod, mod-eq_of_lt, mod_self}
+use Rattle.pgn_hub.specs.Shape.{Shape}
+use Rattle.pgn_words.specs.Words.{cells_at, room_of, word_count, cell_word, IsCellWord}
 use Rattle.pgn_words.specs.Rule.{Keeps}
 
 -- an item of a list that is one item longer
@@ -59,3 +62,36 @@ small_set cells i x within low all k = by_place (ℕ_discrete k i)
     by_place : Dec (k ≡ i) → get_or (set cells i x) k 0 < 2 ^ 32
     by_place (yes e) = let same : get_or (set cells i x) k 0 ≡ x = ap (λ n. get_or (set cells i x) n 0) e ∙ get_or-set_same cells i x 0 within in omega (arith, same, low)
     by_place (no ne) = let same = get_or-set_other cells i k x 0 ne in let was = all k in omega (arith, same, was)
+
+-- the number of the next cell's word: the next number, or that of the first cell's word where there is none
+pub next_inside : (z : Shape) (at next : ℕ) → next ≡ cell_word z at + 1 → next < word_count z → next ≡ cell_word z (at + 1)
+next_inside z at next is inside =
+    let more : at + 1 ≡ suc at = omega arith in
+    let turns = suc-mod at (room_of z) in
+    let same : suc (at % room_of z) % room_of z ≡ suc (at % room_of z) = mod-eq_of_lt (omega (arith, is, inside)) in
+    let there : (at + 1) % room_of z ≡ suc (at % room_of z) = ap (λ n. n % room_of z) more ∙ turns ∙ same in
+    is ∙ omega (arith, there)
+
+pub next_around : (z : Shape) (at : ℕ) → word_count z ≤ cell_word z at + 1 → cells_at z ≡ cell_word z (at + 1)
+next_around z at past =
+    let more : at + 1 ≡ suc at = omega arith in
+    let turns = suc-mod at (room_of z) in
+    let below : at % room_of z < room_of z = mod-lt at (omega arith) in
+    let full : suc (at % room_of z) ≡ room_of z = omega (arith, past, below) in
+    let there : (at + 1) % room_of z ≡ 0 = ap (λ n. n % room_of z) more ∙ turns ∙ ap (λ n. n % room_of z) full ∙ mod_self (room_of z) in
+    omega (arith, there)
+
+-- a cell's word is one of the words
+pub word_within : (z : Shape) (word at : ℕ) → word ≡ cell_word z at → word < word_count z
+word_within z word at is = let below : at % room_of z < room_of z = mod-lt at (omega arith) in omega (arith, is, below)
+
+-- the number of a cell's word is that of the word of some cell
+pub cell_there : (z : Shape) (word : ℕ) → IsCellWord z word → word ≡ cell_word z (word - cells_at z)
+cell_there z word is =
+    let from = is.from in
+    let within = is.within in
+    let same : (word - cells_at z) % room_of z ≡ word - cells_at z = mod-eq_of_lt (omega (arith, from, within)) in
+    omega (arith, from, same)
+
+pub cell_words : (z : Shape) (word at : ℕ) → word ≡ cell_word z at → IsCellWord z word
+cell_words z word at is = record { from = omega (arith, is); within = word_within z word at is }

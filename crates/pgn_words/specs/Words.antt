@@ -1,5 +1,5 @@
 -- The words of the queue, by name, and where each stands among the words.
-use Rattle.std.specs.Prelude.{ℕ, ◌+◌, ◌*◌, ◌/◌, ◌^◌, max, List, ◌∷◌, ◌++◌, length, replicate}
+use Rattle.std.specs.Prelude.{ℕ, ◌+◌, ◌*◌, ◌/◌, ◌%◌, ◌^◌, ◌<◌, ◌≤◌, max, List, ◌∷◌, ◌++◌, length, replicate}
 use Rattle.pgn_base.specs.declared.limits.TheConstants.{FIRST_XID}
 use Rattle.pgn_hub.specs.Shape.{Shape, notes_of_seats}
 use Rattle.pgn_journal.specs.Packing.{page_cells}
@@ -60,9 +60,18 @@ statuses_at z = flags_at z + z.flags
 abbrev pub cells_at : Shape → ℕ
 cells_at z = statuses_at z + status_words z
 
+-- the number of a cell's word: the words of the cells are used again and again
+abbrev pub cell_word : Shape → ℕ → ℕ
+cell_word z at = cells_at z + at % room_of z
+
 -- how many words there are
 abbrev pub word_count : Shape → ℕ
 word_count z = cells_at z + room_of z
+
+-- a number is that of a cell's word
+pub record IsCellWord (z : Shape) (word : ℕ) : Type 0 where
+  pub from : cells_at z ≤ word
+  pub within : word < word_count z
 
 -- what the words of an empty queue hold: the first unfinished and the next number are the first one, and so is the tail's mark
 abbrev pub first_content : Shape → Content

@@ -1,6 +1,6 @@
-ghost use Rattle.std.specs.Prelude.{◌≡◌, ℕ, ◌+◌, ◌%◌, ◌^◌, ◌<◌, ◌≤◌, true, length, slice_get, Some};
+ghost use Rattle.std.specs.Prelude.{◌≡◌, ℕ, ◌+◌, ◌^◌, ◌<◌, ◌≤◌, true, length, slice_get, Some};
 ghost use Rattle.pgn_journal.specs.Packing.{page_of, page_start, image};
-ghost use Rattle.pgn_words.specs.Words.{cells_at, room_of, word_count};
+ghost use Rattle.pgn_words.specs.Words.{cell_word, IsCellWord};
 ghost use Rattle.pgn_words.specs.Passes.{IsPassOf, view_of, known_of, shape_of};
 ghost use Rattle.pgn_words.specs.Views.{knows_cells, stored_by};
 ghost use Rattle.pgn_words.specs.Told.{head_known, stop_known, cell_stored, head_stored, MayShow};
@@ -9,19 +9,25 @@ ghost use Rattle.pgn_words.specs.declared.view.Phase.TheVariants as phases;
 use crate::pass::{WordPass, WordQueue};
 use crate::plays::{LoadCell, LoadHead, LoadStop, StoreCell, StoreHead};
 use crate::words::{HEAD, STOP};
-use pgn_base::{CELL_BYTES, PAGE_BYTES};
 use pgn_layout::Pos;
 
-/// The cells of a page.
-const PAGE_CELLS: u64 = PAGE_BYTES as u64 / CELL_BYTES as u64;
-
 impl WordQueue {
-    // The word of a cell. There is one page of them more than the limit, and they are used again and again.
-    pub(crate) fn word_of_cell(&self, at: Pos) -> usize
-        ensures value { result ≡ cells_at (shape_of self.now) + at % room_of (shape_of self.now) }
-        ensures within { result < word_count (shape_of self.now) }
+    /// The number of a cell's word. There is one page of such words more than the limit, and they are used again and again.
+    pub fn word_of_cell(&self, at: Pos) -> usize
+        ensures value { result ≡ cell_word (shape_of self.now) at }
+        ensures word { IsCellWord (shape_of self.now) result }
     {
-        self.cells_at + (at.get() % ((self.pages + 1) * PAGE_CELLS)) as usize
+        self.cells_at + (at.get() % self.room) as usize
+    }
+
+    /// The number of the next cell's word, from that of a cell. So who goes from cell to cell divides once.
+    pub fn next_word(&self, word: usize) -> usize
+        requires { IsCellWord (shape_of self.now) word }
+        ensures value { (at : ℕ) → word ≡ cell_word (shape_of self.now) at → result ≡ cell_word (shape_of self.now) (at + 1) }
+        ensures word { IsCellWord (shape_of self.now) result }
+    {
+        let next = word + 1;
+        if next < self.end { next } else { self.cells_at }
     }
 
     /// The place after the last written cell, behind the whole journal. The holder knows it from then on.
@@ -54,18 +60,17 @@ impl WordQueue {
     /// Stores the next cell past the head. It is seen by nobody until the head moves past it.
     ///
     /// - *phase*: a writer stores cells after `draw_xid` and before `set_status`.
-    /// - *next*: it goes from the head that it knows cell by cell.
+    /// - *next*: it goes from the word of the head that it knows word by word.
     /// - *page*: it begins a batch only where the head's page is less than the limit past the oldest kept one, and a batch stays on its
     ///   page.
-    pub fn store_cell(&self, pass: &mut WordPass, at: Pos, value: u32)
+    pub fn store_cell(&self, pass: &mut WordPass, word: usize, value: u32)
         requires own { IsPassOf self.now pass.old }
         requires phase { (view_of pass.old).phase ≡ phases.Open }
-        requires next { at ≡ length (stored_by (view_of pass.old)) }
-        requires page { page_of at < (view_of pass.old).stop + (shape_of self.now).pages }
+        requires next { word ≡ cell_word (shape_of self.now) (length (stored_by (view_of pass.old))) }
+        requires page { page_of (length (stored_by (view_of pass.old))) < (view_of pass.old).stop + (shape_of self.now).pages }
         ensures own { IsPassOf self.now pass.new }
         ensures view { view_of pass.new ≡ cell_stored value (view_of pass.old) }
     {
-        let word = self.word_of_cell(at);
         self.table
             .shared
             .store::<StoreCell>(&mut pass.seat, word, u64::from(value));

@@ -11,13 +11,13 @@
 //!     let head = queue.load_head(pass);
 //!     let stop = queue.load_stop(pass);
 //!     let xid = queue.draw_xid(pass, notes);
-//!     queue.store_cell(pass, head, cell);
+//!     queue.store_cell(pass, queue.word_of_cell(head), cell);
 //!
 //! A listener, from its mark's place on:
 //!
 //!     let upto = queue.begin_walk(pass);
 //!     let head = queue.show_head(pass);
-//!     let cell = queue.load_shown(pass, at);
+//!     let cell = queue.load_shown(pass, queue.word_of_cell(at));
 //!
 //! Each call asks for a pass of the queue (*own*): a hub has those that `open` has made, and every call keeps this. What a call asks for
 //! besides stands in its comment, with who meets it. Nobody waits in a step, and only `open` takes memory. `sleep_on_flag` is no step.

@@ -1,8 +1,8 @@
 ghost use Rattle.std.specs.Prelude.{◌≡◌, ◌+◌, ◌<◌, ◌≤◌, map, length, All, IfOk};
 ghost use Rattle.pgn_base.specs.declared.limits.TheConstants.{NOTE_LINES_MAX};
-ghost use Rattle.pgn_hub.specs.Shape.{notes_of_seats};
+ghost use Rattle.pgn_hub.specs.Shape.{notes_of_seats, IsShape};
 ghost use Rattle.pgn_hub.specs.Passes.{opened_passes};
-ghost use Rattle.pgn_words.specs.Words.{cells_at, statuses_at, status_words, row, first_content};
+ghost use Rattle.pgn_words.specs.Words.{cells_at, statuses_at, status_words, room_of, row, first_content};
 ghost use Rattle.pgn_words.specs.Views.{seat_of, first_view};
 ghost use Rattle.pgn_words.specs.Passes.{IsPassOf, IsFresh, shape_of, view_of, known_of};
 ghost use Rattle.pgn_words.specs.Told.{after_making, made_by};
@@ -46,13 +46,20 @@ fn status_word_count(setup: &Setup) -> usize
     needed.max(1)
 }
 
+// How many words the cells have.
+fn cell_count(setup: &Setup) -> usize
+    ensures value { result ≡ room_of setup.now }
+    ensures is_shape { IsShape setup.now }
+{
+    (setup.pages() as usize + 1) * (PAGE_BYTES / CELL_BYTES)
+}
+
 // The words of an empty queue.
 fn first_words(alloc: Global, setup: &Setup, first_cell: usize) -> Result<Vec<u64>, AllocError>
     requires { first_cell ≡ cells_at setup.now }
     ensures { IfOk result (λ words. words.items ≡ row (first_content setup.now)) }
 {
-    let cells = (setup.pages() as usize + 1) * (PAGE_BYTES / CELL_BYTES);
-    let mut words = Vec::from_elem(alloc, 0u64, first_cell + cells)?;
+    let mut words = Vec::from_elem(alloc, 0u64, first_cell + cell_count(setup))?;
     words[FIN] = u64::from(FIRST_XID);
     words[TAIL] = u64::from(FIRST_XID) << 32;
     words[XID] = u64::from(FIRST_XID);
@@ -66,12 +73,12 @@ impl WordQueue {
         ensures own { IfOk result (λ made. IsPassOf made.0 made.1) }
         ensures view { IfOk result (λ made. view_of made.1 ≡ first_view setup.now) }
     {
-        let pages = u64::from(setup.pages());
         let seat_count = setup.seats().len();
         let wakes_at = POSITIONS + seat_count;
         let flags_at = wakes_at + seat_count;
         let statuses_at = first_status_word(setup);
         let cells_at = statuses_at + status_word_count(setup);
+        let room = cell_count(setup);
         let words = first_words(alloc, setup, cells_at)?;
         let seats = setup.seats();
         let first = seats[0];
@@ -79,11 +86,12 @@ impl WordQueue {
         let (table, seat) = Table::of_words(alloc, words.as_slice(), setup)?;
         let queue = WordQueue {
             table,
-            pages,
             wakes_at,
             flags_at,
             statuses_at,
             cells_at,
+            room: room as u64,
+            end: cells_at + room,
         };
         let pass = WordPass {
             seat,

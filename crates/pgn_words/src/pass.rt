@@ -1,6 +1,6 @@
 ghost use Rattle.std.specs.Prelude.{◌≡◌};
 ghost use Rattle.pgn_hub.specs.Shape.{IsShape};
-ghost use Rattle.pgn_words.specs.Words.{word_count, cells_at as first_cell, wakes_at as first_wake, flags_at as first_flag, statuses_at as first_status};
+ghost use Rattle.pgn_words.specs.Words.{word_count, room_of, cells_at as first_cell, wakes_at as first_wake, flags_at as first_flag, statuses_at as first_status};
 
 use crate::view::View;
 use atomic_table::{Seat, Table, TableRule};
@@ -25,19 +25,22 @@ impl TableRule<u8, View, Setup> for Rule {
 #[derive(Drop)]
 pub struct WordQueue {
     pub(crate) table: Table<u8, View, Setup, Rule, Global>,
-    pub(crate) pages: u64,
     pub(crate) wakes_at: usize,
     pub(crate) flags_at: usize,
     pub(crate) statuses_at: usize,
     pub(crate) cells_at: usize,
+    // How many words the cells have, and the number after the last one.
+    pub(crate) room: u64,
+    pub(crate) end: usize,
     ghost shaped: { IsShape table.shared.key },
     ghost slotless: { table.shared.table_id.slots ≡ 0 },
     ghost counted: { table.shared.table_id.words ≡ word_count table.shared.key },
-    ghost limited: { pages ≡ table.shared.key.pages },
     ghost wakes_begin: { wakes_at ≡ first_wake table.shared.key },
     ghost flags_begin: { flags_at ≡ first_flag table.shared.key },
     ghost statuses_begin: { statuses_at ≡ first_status table.shared.key },
     ghost begins: { cells_at ≡ first_cell table.shared.key },
+    ghost roomy: { room ≡ room_of table.shared.key },
+    ghost ends: { end ≡ word_count table.shared.key },
 }
 
 /// A session's right to step on the words, and what it knows of itself.

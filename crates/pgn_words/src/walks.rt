@@ -1,5 +1,6 @@
 ghost use Rattle.std.specs.Prelude.{◌≡◌, ℕ, ◌≤◌, true, slice_get, Some};
 ghost use Rattle.pgn_journal.specs.Packing.{image};
+ghost use Rattle.pgn_words.specs.Words.{cell_word, IsCellWord};
 ghost use Rattle.pgn_words.specs.Views.{is_walking};
 ghost use Rattle.pgn_words.specs.Passes.{IsPassOf, view_of, shape_of};
 ghost use Rattle.pgn_words.specs.Listening.{HasBegun, HasShown};
@@ -42,17 +43,18 @@ impl WordQueue {
         Pos::new(self.table.shared.load::<ShowHead>(&mut pass.seat, HEAD))
     }
 
-    /// A cell that the loaded head shows.
+    /// A cell that the loaded head shows, by the number of its word.
     ///
     /// - *shown*: a hub's `scan` and `enlist` ask for cells after `show_head`, from the listener's mark up to the head.
-    pub fn load_shown(&self, pass: &mut WordPass, at: Pos) -> u32
+    /// - *word*: they have the number from `word_of_cell` and `next_word`.
+    pub fn load_shown(&self, pass: &mut WordPass, word: usize) -> u32
         requires own { IsPassOf self.now pass.old }
         requires shown { (view_of pass.old).walk.stage ≡ stages.Shown }
+        requires word { IsCellWord (shape_of self.now) word }
         ensures own { IsPassOf self.now pass.new }
         ensures view { view_of pass.new ≡ view_of pass.old }
-        ensures value { (x : ℕ) → (view_of pass.old).post.at ≤ at → slice_get (image (shape_of self.now).format (view_of pass.old).walk.shown) at ≡ Some (Some x) → result ≡ x }
+        ensures value { (at x : ℕ) → word ≡ cell_word (shape_of self.now) at → (view_of pass.old).post.at ≤ at → slice_get (image (shape_of self.now).format (view_of pass.old).walk.shown) at ≡ Some (Some x) → result ≡ x }
     {
-        let word = self.word_of_cell(at);
         self.table.shared.load::<LoadShown>(&mut pass.seat, word) as u32
     }
 }

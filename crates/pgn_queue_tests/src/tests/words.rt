@@ -189,7 +189,8 @@ fn a_writer_reads_what_it_stored(rt: HostRuntime) -> Result<(), Fail> {
     if head.page() >= stop + 2 {
         return Err(Fail::from("no page"));
     }
-    queue.store_cell(&mut first, head, 0x0102_0304);
+    let word = queue.word_of_cell(head);
+    queue.store_cell(&mut first, word, 0x0102_0304);
     assert_eq!(rt; queue.load_cell(&mut first, head), 0x0102_0304);
     assert!(rt; queue.try_lock(&mut second).is_err());
     Ok(())

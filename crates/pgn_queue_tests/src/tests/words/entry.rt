@@ -91,7 +91,8 @@ fn store_cells(queue: &WordQueue, pass: &mut WordPass, at: u64, cells: &[u32])
     ensures view { view_of pass.new ≡ record (view_of pass.old) { pen = record (view_of pass.old).pen { batch = map (λ n. Some n) cells.now } } }
 {
     for k in 0..cells.len() {
-        queue.store_cell(pass, Pos::new(at + k as u64), cells[k]);
+        let word = queue.word_of_cell(Pos::new(at + k as u64));
+        queue.store_cell(pass, word, cells[k]);
     }
 }
 
@@ -248,7 +249,8 @@ pub(crate) fn shows_entry(queue: &WordQueue, pass: &mut WordPass) -> bool
     ensures view { view_of pass.new ≡ view_of pass.old }
 {
     for k in 0..ENTRY.len() {
-        if queue.load_shown(pass, Pos::new(k as u64)) != ENTRY[k] {
+        let word = queue.word_of_cell(Pos::new(k as u64));
+        if queue.load_shown(pass, word) != ENTRY[k] {
             return false;
         }
     }

@@ -1,9 +1,12 @@
-use Rattle.std.proofs.Common.{◌≡◌, ℕ, ◌+◌, ◌*◌, List, length, drop, ap, ◌∙◌, arith}
+use Rattle.std.proofs.Common.{◌≡◌, ℕ, ◌+◌, ◌*◌, List, drop, ap, ◌∙◌, arith}
 use Rattle.std.specs.Int.{w32, from_le_bytes}
 use Rattle.pgn_base.specs.declared.format.Format.TheVariants.{One}
 use Rattle.pgn_journal.specs.Bytes.{spelled}
 use Rattle.pgn_journal.proofs.BytesLemmas.{length-spelled}
+use Rattle.pgn_words.specs.declared.view.View.{View}
+use Rattle.pgn_words.specs.Words.{cell_word}
 use Rattle.pgn_words.specs.Passes.{view_of, known_of}
+use Rattle.pgn_wordhub.specs.Passes.{hub_shape}
 use Rattle.pgn_wordhub.specs.Placing.{writer_of}
 use Rattle.pgn_wordhub.proofs.StoringLaws.{next_at, stores_next, stores_all, spelled_by, entry_long}
 use Rattle.pgn_wordhub.proofs.hub.WordHub.write_note.Goals as goal
@@ -15,19 +18,32 @@ store_cell-requires-clause-next c =
     let len = c.entry_len.ensures.value in
     let long = length-spelled One c.args.note.now by.db by.xid by.pid in
     let there = next_at (view_of c.args.pass.now) (view_of c.loop-k.pass) (spelled One c.args.note.now by.db by.xid by.pid) c.loop-k.k c.args.at c.loop-k.invariant.1 (omega (arith, test, len, long)) c.requires.next in
-    let value = c.get.ensures.value in
-    let new = c.new.ensures in omega (arith, there, new, value)
+    c.loop-k.invariant.2 ∙ ap (cell_word (hub_shape c.args.self.now)) there
+
+pub store_cell-requires-clause-page : goal.store_cell-requires-clause-page
+store_cell-requires-clause-page c =
+    let by = writer_of (known_of c.args.pass.now) in
+    let test = c.loop-k-test.true in
+    let len = c.entry_len.ensures.value in
+    let long = length-spelled One c.args.note.now by.db by.xid by.pid in
+    let there = next_at (view_of c.args.pass.now) (view_of c.loop-k.pass) (spelled One c.args.note.now by.db by.xid by.pid) c.loop-k.k c.args.at c.loop-k.invariant.1 (omega (arith, test, len, long)) c.requires.next in
+    let pages = c.requires.pages in
+    let stop : (view_of c.loop-k.pass).stop ≡ (view_of c.args.pass.now).stop = ap (λ (u : View). u.stop) c.loop-k.invariant.1 in omega (arith, there, test, len, pages, stop)
 
 pub loop-k-preserved : goal.loop-k-preserved
 loop-k-preserved c =
+    let z = hub_shape c.args.self.now in
     let by = writer_of (known_of c.args.pass.now) in
     let bytes : List ℕ = spelled One c.args.note.now by.db by.xid by.pid in
     let test = c.loop-k-test.true in
     let len = c.entry_len.ensures.value in
-    let long = length-spelled One c.args.note.now by.db by.xid by.pid in (
+    let long = length-spelled One c.args.note.now by.db by.xid by.pid in
+    let more : c.args.at + c.loop-k.k + 1 ≡ c.args.at + (c.loop-k.k + 1) = omega arith in (
       c.store_cell.ensures.own,
       stores_next (view_of c.args.pass.now) (view_of c.loop-k.pass) (view_of c.store_cell.new.pass) bytes c.loop-k.k c.entry_cell-cell.result c.loop-k.invariant.1 (omega (arith, test, len, long))
           (c.entry_cell-cell.ensures ∙ ap (λ (xs : List ℕ). from_le_bytes w32 (drop (4 * c.loop-k.k) xs)) (spelled_by by c.args.note.now c.db-db.result c.args.xid c.pid-pid.result c.db-db.ensures c.requires.xid c.pid-pid.ensures)) c.store_cell.ensures.view,
+      c.next_word-word.ensures.value (c.args.at + c.loop-k.k) c.loop-k.invariant.2 ∙ ap (cell_word z) more,
+      c.next_word-word.ensures.word,
     )
 
 pub returns-clause-view : goal.returns-clause-view
@@ -42,5 +58,5 @@ pub returns-clause-end : goal.returns-clause-end
 returns-clause-end c =
     let long = entry_long (writer_of (known_of c.args.pass.now)) c.args.note.now in
     let len = c.entry_len.ensures.value in
-    let at = c.get-2.ensures.value in
-    let new = c.new-2.ensures in omega (arith, long, len, at, new)
+    let at = c.get.ensures.value in
+    let new = c.new.ensures in omega (arith, long, len, at, new)

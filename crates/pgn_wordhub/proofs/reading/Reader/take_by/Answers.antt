@@ -1,8 +1,7 @@
-use Rattle.std.proofs.Common.{◌≡◌, ℕ, ◌++◌, List, length, OnOk, sym, ap, ◌∙◌, subst}
-use Rattle.pgn_base.specs.declared.format.Format.TheVariants.{One}
+use Rattle.std.proofs.Common.{◌≡◌, ℕ, ◌++◌, List, length, OnOk, sym, subst}
 use Rattle.pgn_base.specs.declared.note.Note.{Note}
 use Rattle.pgn_journal.specs.Packing.{Sender}
-use Rattle.pgn_journal.specs.Pieces.{AnEntry, piece_bytes, gives, committed_by}
+use Rattle.pgn_journal.specs.Pieces.{AnEntry, gives, committed_by}
 use Rattle.pgn_words.specs.declared.view.View.{View}
 use Rattle.pgn_words.specs.Passes.{view_of}
 use Rattle.pgn_wordhub.specs.Walks.{IsEntryAt, IsDueEntry, HasDueEntry, shown_cells}

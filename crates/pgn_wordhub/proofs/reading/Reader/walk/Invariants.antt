@@ -1,4 +1,4 @@
-use Rattle.std.proofs.Common.{◌≡◌, ℕ, ◌-◌, ◌≤◌, List, length, take, vec_len}
+use Rattle.std.proofs.Common.{◌≡◌, ℕ, ◌-◌, ◌≤◌, List, take, vec_len}
 use Rattle.pgn_base.specs.declared.note.Delivery.{Delivery}
 use Rattle.pgn_words.specs.Passes.{IsPassOf, view_of, known_of}
 use Rattle.pgn_wordhub.specs.Walks.{Walks, IsWalking, shown_cells}

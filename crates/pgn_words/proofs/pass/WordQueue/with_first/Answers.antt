@@ -11,7 +11,7 @@ first_seat (s ∷ seats) x some e = e
 pub of_words-requires : goal.of_words-requires
 of_words-requires c =
     let z = c.args.setup.now in
-    let shape = c.pages.ensures.is_shape in
+    let shape = c.seats-seats.ensures.is_shape in
     let some = c.get-db.ensures.positive in
     let fits = c.get-db.ensures.within in
     let x = c.index-seats-0.result in
