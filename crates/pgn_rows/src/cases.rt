@@ -44,19 +44,19 @@ pub fn written_out(alloc: Global, text: &[u8]) -> Result<Vec<u8>, AllocError> {
     let mut whole = Vec::new(alloc);
     for (count, part) in parts(alloc, text, MANY)?.into_iter().enumerate() {
         if count != 0 {
-            put_many(&mut whole, part)?;
+            put_many(&mut whole, part, LINE_BYTES_MAX)?;
         }
         whole.extend_from_slice(part)?;
     }
     Ok(whole)
 }
 
-// As many of the first byte as make a longest line with the one that follows.
-fn put_many(whole: &mut Vec<u8>, part: &[u8]) -> Result<(), AllocError> {
+// As many of the first byte as make so many with the one that follows.
+fn put_many(whole: &mut Vec<u8>, part: &[u8], most: usize) -> Result<(), AllocError> {
     let Some(byte) = part.first() else {
         return Ok(());
     };
-    for _ in 1..LINE_BYTES_MAX {
+    for _ in 1..most {
         whole.push(*byte)?;
     }
     Ok(())

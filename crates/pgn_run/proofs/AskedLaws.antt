@@ -1,8 +1,8 @@
 -- What words ask for, once they are read.
-use Rattle.std.proofs.Common.{◌≡◌, ◌∙◌, ℕ, List, Option, Some, None, sym}
+use Rattle.std.proofs.Common.{◌≡◌, ◌∙◌, ℕ, List, Some, None, sym}
 use Rattle.pgn_options.specs.declared.asked.Asked.{Asked}
 use Rattle.pgn_options.specs.declared.asked.Asked.TheVariants.{Run, Drill}
-use Rattle.pgn_options.specs.Words.{AreNoCommand, AskFor, asked_by}
+use Rattle.pgn_options.specs.Words.{AreNoCommand, AskFor}
 use Rattle.pgn_run.specs.Run.{AskToDrill, AskToRun}
 
 -- words that ask for something are a command

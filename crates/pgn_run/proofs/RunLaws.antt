@@ -1,7 +1,6 @@
 -- From what was read and answered to what the program's call says.
-use Rattle.std.proofs.Common.{◌≡◌, ℕ, ◌+◌, ◌<◌, ◌≤◌, ◌⊎◌, Bool, bytes_eq, codes, map, List, [], ◌∷◌, length, take, get_or, Option, Some, None, Result, Ok, Err, IfSome, OnSome, IsSomeAnd, IsTrue, sym, ap, ◌∙◌, refl, subst, inl, inr, arith, length-take, length-append, take_all, Bor}
+use Rattle.std.proofs.Common.{◌≡◌, ℕ, ◌+◌, ◌<◌, ◌≤◌, ◌⊎◌, List, [], ◌∷◌, length, take, Option, Some, None, Result, Ok, Err, IfSome, OnSome, IsSomeAnd, sym, ap, ◌∙◌, refl, subst, inl, inr, arith, length-take, length-append, take_all}
 use Rattle.std.proofs.lemmas.Bool.{cases_lt}
-use Rattle.std.proofs.lemmas.Slice.Eq.{bytes_eq-Decides}
 use Rattle.std.specs.Io.KnownBytes.{Appends, Consumes, IsAtEnd}
 use Rattle.pgn_base.specs.declared.limits.TheConstants.{INPUT_BYTES_MAX}
 use Rattle.pgn_base.specs.Outside.{AppendsPrefix, Rose}

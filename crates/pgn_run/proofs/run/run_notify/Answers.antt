@@ -1,7 +1,6 @@
-use Rattle.std.proofs.Common.{◌≡◌, ◌∙◌, ℕ, List, Some, Err, ap, map, refl, inl, inr, subst}
-use Rattle.pgn_options.specs.declared.asked.Asked.{Asked}
+use Rattle.std.proofs.Common.{◌∙◌, Some, Err, ap, map, subst}
 use Rattle.pgn_options.specs.declared.asked.Asked.TheVariants.{Run, Drill}
-use Rattle.pgn_options.specs.Words.{AskFor, IsWithin}
+use Rattle.pgn_options.specs.Words.{IsWithin}
 use Rattle.pgn_run.proofs.AskedLaws.{no-drill, no-other, no-run, none-drills, none-runs}
 use Rattle.pgn_run.proofs.OverLaws.{drill-completes, not-bad-scenario, not-bad-words, not-read-fault}
 use Rattle.pgn_run.proofs.run.run_notify.Goals as goal
