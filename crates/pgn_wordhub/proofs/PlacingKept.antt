@@ -138,3 +138,7 @@ held_up z v w x count placed at mark floor holder written adv left none =
 -- a writer that is a listener stays one
 pub writes_on : (v w : View) → HasWritten v w → v.known.mark ≡ listens_at v.post → w.known.mark ≡ listens_at w.post
 writes_on v w h listens = ap (λ (u : View). u.known.mark) h.view ∙ listens ∙ sym (ap (λ (u : View). listens_at u.post) h.view)
+
+-- a writer that has placed nothing has changed nothing
+pub nothing_written : (v : View) → HasWritten v v
+nothing_written v = record { more = []; view = ap (λ (n : List (ℕ × ℕ)). let y : View = record v { known = record v.known { named = n } } in y) (sym (append-nil v.known.named)) }

@@ -44,6 +44,7 @@ impl WordHub {
         requires next { at ≡ length (stored_by (view_of pass.old)) }
         requires xid { xid ≡ next_xid (known_of pass.old).seen }
         requires pages { at + cells_in (entry_length One note.now) ≤ page_start ((view_of pass.old).stop + (hub_shape self.now).pages) }
+        requires stays { at + cells_in (entry_length One note.now) ≤ page_start (page_of (length (view_of pass.old).pen.cells) + 1) }
         requires low { at ≤ 2 ^ 32 }
         ensures own { IsPassOf self.now.queue pass.new }
         ensures view { view_of pass.new ≡ stored_more (entry_of One (writer_of (known_of pass.old)) note.now) (view_of pass.old) }
@@ -68,6 +69,7 @@ impl WordHub {
         requires next { at ≡ length (stored_by (view_of pass.old)) }
         requires long { IsEntryLength One len }
         requires pages { at + cells_in len ≤ page_start ((view_of pass.old).stop + (hub_shape self.now).pages) }
+        requires stays { at + cells_in len ≤ page_start (page_of (length (view_of pass.old).pen.cells) + 1) }
         requires low { at ≤ 2 ^ 32 }
         ensures own { IsPassOf self.now.queue pass.new }
         ensures view { view_of pass.new ≡ stored_more (filled_cells (filler One len xid (PID_BASE + (known_of pass.old).session))) (view_of pass.old) }
@@ -88,6 +90,7 @@ impl WordHub {
         requires phase { (view_of pass.old).phase ≡ phases.Open }
         requires next { at ≡ length (stored_by (view_of pass.old)) }
         requires xid { xid ≡ next_xid (known_of pass.old).seen }
+        requires begins { at ≡ length (view_of pass.old).pen.cells }
         requires planned { IsPlanned One at notes.now batch.now }
         requires room { HasRoom One at }
         requires pages { page_of at < (view_of pass.old).stop + (hub_shape self.now).pages }

@@ -1,5 +1,5 @@
 -- The steps on cells and the store of the head keep the rule.
-use Rattle.std.proofs.Common.{◌≡◌, ◌≢◌, ℕ, ◌+◌, ◌%◌, ◌^◌, ◌<◌, ◌≤◌, true, List, [], ◌∷◌, ◌++◌, length, get_or, set, Option, Some, All, sym, refl, ap, ◌∙◌, subst, arith, append_assoc, mod-lt, length-set}
+use Rattle.std.proofs.Common.{◌≡◌, ◌≢◌, ℕ, ◌+◌, ◌*◌, ◌%◌, ◌^◌, ◌<◌, ◌≤◌, true, List, [], ◌∷◌, ◌++◌, length, get_or, set, Option, Some, All, sym, refl, ap, ◌∙◌, subst, arith, append_assoc, mod-lt, length-set}
 use Rattle.std.proofs.lemmas.List.{append-nil, length-append}
 use mathlib.Core.Option.{some, none}
 use lib.ListN.{get_elem?}
@@ -11,7 +11,7 @@ use Rattle.pgn_journal.specs.Journal.{next_xid}
 use Rattle.pgn_journal.proofs.BeginsLaws.{begins-continued}
 use Rattle.pgn_journal.specs.Packing.{page_of, page_start, image}
 use Rattle.pgn_journal.specs.Pieces.{draft, IsWritten}
-use Rattle.pgn_hub.specs.Shape.{Shape, IsShape}
+use Rattle.pgn_hub.specs.Shape.{Shape, IsShape, notes_of_seats}
 use Rattle.pgn_journal.proofs.DraftLaws.{drafts_are_written}
 use Rattle.std.proofs.lemmas.List.Elements.{All-push}
 use Rattle.pgn_layout.specs.Batches.{padded_to}
@@ -30,15 +30,15 @@ use Rattle.pgn_words.proofs.EachLaws.{each_turn, each_keep}
 use Rattle.pgn_words.proofs.Frames.{seats_keep, locking_keep, history_keep, numbers_keep, budget_keep, statuses_keep}
 use Rattle.pgn_words.proofs.MoreFrames.{posts_keep, looks_keep, wakes_keep, flags_keep, named_keep, taken_keep, someone_keep}
 use Rattle.pgn_words.proofs.LockKept.{held_setup, alone, others_hold, has_left}
-use Rattle.pgn_words.proofs.ImageLaws.{shown_low, written_part}
+use Rattle.pgn_words.proofs.ImageLaws.{shown_bound, shown_low, written_part}
 use Rattle.pgn_words.proofs.HeadKept.{phase_holds}
 use Rattle.pgn_words.proofs.RowLaws.{set_cell, get_cell}
 use Rattle.pgn_words.proofs.RingLaws.{keeps_below, keeps_more, keeps_padded, length-padded, small_set}
 use Rattle.pgn_words.proofs.Meets.{allowed}
 
--- a place less than the limit of pages from the oldest kept page is less than a turn from that page's beginning
-near_enough : (z : Shape) (stop at : ℕ) → page_of at < stop + z.pages → at < page_start stop + room_of z
-near_enough z stop at page = omega (arith, page)
+-- a place on the head's page, less than the limit of pages from the oldest kept page, is less than a turn from that page's beginning
+near_enough : (z : Shape) (stop head at : ℕ) → page_of at < stop + z.pages → page_of at ≡ page_of head → head ≤ 4096 * notes_of_seats z.seats + 2048 → at < page_start stop + room_of z
+near_enough z stop head at page stays reach = omega (arith, page, stays, reach)
 
 some_room : (z : Shape) → 0 < room_of z
 some_room z = omega arith
@@ -54,17 +54,17 @@ readable z c g views j u at x h there bounded head near kept within =
     keeps_below (room_of z) u.post.at at x (image z.format u.walk.shown) c.cells (omega (arith, head, within)) (omega (arith, near, from)) kept
 
 stores : (z : Shape) (c : Content) (g : World) (views : List View) (id : ℕ) (v : View) (at x : ℕ) → Law z c g views → get_elem? views id ≡ some v → v.phase ≡ Open
-    → at ≡ length (stored_by v) → page_of at < v.stop + z.pages → x < 2 ^ 32
+    → at ≡ length (stored_by v) → page_of at < v.stop + z.pages → page_of at ≡ page_of (length v.pen.cells) → x < 2 ^ 32
     → Law z (record c { cells = set c.cells (at % room_of z) x }) g (set views id (cell_stored x v))
-stores z c g views id v at x h here opened next page low =
+stores z c g views id v at x h here opened next page stays low =
     let w : View = cell_stored x v in
     let held : holds_lock v.phase ≡ true = ap holds_lock opened in
     let was : IsWriting z.format (λ log. Keeps (room_of z) (page_start c.stop) log c.cells) g.past g.shown v.known.seen v.pen = phase_holds Open z c.stop g.past g.shown c.cells id v opened (h.holding.holds id v here) in
     let stop : v.stop ≡ c.stop = h.holding.stops id v here (ap knows_stop opened) in
-    let near : at < page_start c.stop + room_of z = near_enough z c.stop at (omega (arith, page, stop)) in
+    let shown : length (image z.format g.shown) ≡ length v.pen.cells = ap length (sym was.cells_are) in
+    let near : at < page_start c.stop + room_of z = near_enough z c.stop (length v.pen.cells) at (omega (arith, page, stop)) stays (let headed = h.stored.headed in let reach = h.stored.reach in omega (arith, shown, headed, reach)) in
     let long = h.laid.cells_long in
     let within : at % room_of z < length c.cells = let m : at % room_of z < room_of z = mod-lt at (some_room z) in omega (arith, m, long) in
-    let shown : length (image z.format g.shown) ≡ length v.pen.cells = ap length (sym was.cells_are) in
     let past : length (image z.format g.shown) ≤ at = omega (arith, shown, next, length-append v.pen.cells v.pen.batch) in
     let head : c.head ≤ at = let headed = h.stored.headed in omega (arith, headed, past) in
     let bounds_stay : (j : ℕ) (u : View) → get_elem? views j ≡ some u → Bounds z.format (room_of z) c.head c.cells j u → Bounds z.format (room_of z) c.head (set c.cells (at % room_of z) x) j u =
@@ -83,6 +83,7 @@ stores z c g views id v at x h here opened next page low =
         headed = h.stored.headed;
         kept = keeps_below (room_of z) (page_start c.stop) at x (image z.format g.shown) c.cells past near h.stored.kept;
         ahead = h.stored.ahead;
+        reach = h.stored.reach;
         small = small_set c.cells (at % room_of z) x within low h.stored.small;
         low = h.stored.low;
       };
@@ -122,15 +123,15 @@ stores z c g views id v at x h here opened next page low =
         → IsWriting z.format (λ log. Keeps (room_of z) (page_start stop) log cells) past shown w.known.seen w.pen → Holds z stop past shown cells j w
     in_open z stop past shown cells j w e h = subst (λ (q : Phase). HoldsIn q z.format (λ log. Keeps (room_of z) (page_start stop) log cells) past shown w.known.seen w.known.session w.known.db w.pen) (sym e) h
 
-pub store_cell_allowed : (z : Shape) (slots id word at x : ℕ) (me : Me ℕ View) → word ≡ cells_at z + at % room_of z → me.0.phase ≡ Open → at ≡ length (stored_by me.0) → page_of at < me.0.stop + z.pages → x < 2 ^ 32
+pub store_cell_allowed : (z : Shape) (slots id word at x : ℕ) (me : Me ℕ View) → word ≡ cells_at z + at % room_of z → me.0.phase ≡ Open → at ≡ length (stored_by me.0) → page_of at < me.0.stop + z.pages → page_of at ≡ page_of (length me.0.pen.cells) → x < 2 ^ 32
     → Allows (Lawful z) slots id me word (λ _. x) (λ _. TellsCellStore (step slots word x 0 none) me x)
-store_cell_allowed z slots id word at x me there opened next page low =
+store_cell_allowed z slots id word at x me there opened next page stays low =
     allowed z slots id word me (λ _. x) (λ _. TellsCellStore (step slots word x 0 none) me x) (λ shape c g views h here. record {
       w = cell_stored x me.0;
       content = record c { cells = set c.cells (at % room_of z) x };
       world = g;
       moves = ap (λ n. set (row c) n x) there ∙ set_cell z c (at % room_of z) x h.laid;
-      law = stores z c g views id me.0 at x h here opened next page low;
+      law = stores z c g views id me.0 at x h here opened next page stays low;
       told = record { slots = refl; view = refl };
     })
 
@@ -218,6 +219,8 @@ shows z c g views id v to shape h here opened may =
         kept = subst (λ (log : List (Option ℕ)). Keeps (room_of z) (page_start c.stop) log c.cells) (sym image_is) kept;
         ahead = subst (λ (n : ℕ). to ≤ page_start (n + z.pages)) stop (subst (λ (y : Shape). to ≤ page_start (v.stop + y.pages)) setup may.within);
         small = h.stored.small;
+        reach = subst (λ (n : ℕ). n ≤ 4096 * notes_of_seats z.seats + 2048) (ap length image_is ∙ length-padded to (stored_by v) may.up)
+            (shown_bound z g.past v.known.session v.known.db v.pen.notes may.queued may.fate (notes_of_seats z.seats) h.history.finished was.valid (let taken = was.taken_is in let left = has_left views id v here in let budget = h.budget in omega (arith, taken, left, budget)));
         low = subst (λ (n : ℕ). n < 2 ^ 32) (ap length image_is ∙ length-padded to (stored_by v) may.up)
             (shown_low z g.past v.known.session v.known.db v.pen.notes may.queued may.fate h.history.finished was.valid (let all = shape.few_notes in let taken = was.taken_is in let left = has_left views id v here in let budget = h.budget in omega (arith, all, taken, left, budget)));
       };

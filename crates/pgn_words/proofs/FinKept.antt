@@ -80,6 +80,7 @@ finishes z c g views id v shape h here ended =
         headed = h.stored.headed ∙ ap length (sym was.shows);
         kept = subst (λ (log : List (Option ℕ)). Keeps (room_of z) (page_start c.stop) log c.cells) (sym was.shows) h.stored.kept;
         ahead = h.stored.ahead;
+        reach = h.stored.reach;
         small = h.stored.small;
         low = h.stored.low;
       };

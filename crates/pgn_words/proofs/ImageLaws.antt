@@ -45,12 +45,16 @@ pub image_bound : (format : Format) (past : List Tx) → All IsFinished past →
 image_bound format past finished = let last = last_place format past (next_xid past) (omega arith) in let low = place_bound format past (next_xid past) finished in omega (arith, last, low)
 
 -- and with a transaction that is not finished
-pub shown_low : (z : Shape) (past : List Tx) (session db : ℕ) (notes : List Note) (queued : ℕ) (fate : Fate) → All IsFinished past → All IsNote notes → notes_of past + length notes ≤ 65536
-    → length (image z.format (past ++ draft session db notes queued fate ∷ [])) < 2 ^ 32
-shown_low z past session db notes queued fate finished valid few =
+pub shown_bound : (z : Shape) (past : List Tx) (session db : ℕ) (notes : List Note) (queued : ℕ) (fate : Fate) (all : ℕ) → All IsFinished past → All IsNote notes → notes_of past + length notes ≤ all
+    → length (image z.format (past ++ draft session db notes queued fate ∷ [])) ≤ 4096 * all + 2048
+shown_bound z past session db notes queued fate all finished valid few =
     let long = one_more_image.ends z.format past (draft session db notes queued fate) in
     let here = image_bound z.format past finished in
     let more = after_bound z.format (length (image z.format past)) session db notes queued fate valid in omega (arith, long, here, more, few)
+
+pub shown_low : (z : Shape) (past : List Tx) (session db : ℕ) (notes : List Note) (queued : ℕ) (fate : Fate) → All IsFinished past → All IsNote notes → notes_of past + length notes ≤ 65536
+    → length (image z.format (past ++ draft session db notes queued fate ∷ [])) < 2 ^ 32
+shown_low z past session db notes queued fate finished valid few = let bound = shown_bound z past session db notes queued fate 65536 finished valid few in omega (arith, bound)
 
 -- the places of a journal stay where it grows
 pub placed_grows : (format : Format) (past more : List Tx) (fin fin' stop mark at : ℕ) → fin ≡ next_xid past → fin ≤ fin' → IsPlaced format past fin stop mark at → IsPlaced format (past ++ more) fin' stop mark at

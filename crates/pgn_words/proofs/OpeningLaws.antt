@@ -82,6 +82,7 @@ opens_law z shape some_db db_fits = record {
     headed = empty_image z;
     kept = λ i x low there. absurd (none-some (Some x) (subst (λ (log : List (Rattle.std.proofs.Common.Option ℕ)). Rattle.std.proofs.Common.slice_get log i ≡ Some (Some x)) (nothing_shown z) there));
     ahead = omega arith;
+    reach = omega arith;
     small = zero_there (room_of z);
     low = omega arith;
   };

@@ -1,19 +1,25 @@
 -- Proofs of what follows from the rule.
-use Rattle.std.proofs.Common.{◌≡◌, ⊎_elim, true≢false, sym, ap, ◌∙◌, arith}
+use Rattle.std.proofs.Common.{◌≡◌, length, ⊎_elim, true≢false, sym, ap, ◌∙◌, arith}
 use Rattle.pgn_journal.proofs.NearLaws.{near-shrinks}
 use Rattle.pgn_journal.specs.Journal.{is_committed_in}
 use Rattle.pgn_words.specs.Views.{knows_stop}
 use Rattle.pgn_words.specs.WakeRule.{served}
 use Rattle.pgn_words.specs.Laws.{WalksReadTheJournal, PagesAreSpared, NoWakeIsLost, FlagsAreHeard, ToldIsHeard}
+use Rattle.pgn_words.specs.declared.view.Phase.TheVariants.{Open}
+use Rattle.pgn_words.proofs.HeadKept.{phase_holds}
 use Rattle.pgn_words.proofs.WakeKept.{heard_served}
 
 pub walks_read : WalksReadTheJournal
 walks_read z c g views j v h there shown at x from is = (h.walks.bounds j v there shown).0 at x from is
 
 pub pages_spared : PagesAreSpared
-pages_spared z c g views id v h here opened at old page turn j u there has =
+pages_spared z c g views id v h here opened at old page stays turn j u there has =
+    let was = phase_holds Open z c.stop g.past g.shown c.cells id v opened (h.holding.holds id v here) in
+    let long = ap length was.cells_are in
+    let headed = h.stored.headed in
+    let reach = h.stored.reach in
     let stop : v.stop ≡ c.stop = h.holding.stops id v here (ap knows_stop opened) in
-    let kept = (h.posts.placed j u there has).1.kept in omega (arith, page, turn, stop, kept)
+    let kept = (h.posts.placed j u there has).1.kept in omega (arith, page, stays, turn, stop, kept, long, headed, reach)
 
 pub no_wake_lost : NoWakeIsLost
 no_wake_lost z c g views j i v h there registered number unset nothing_owed =

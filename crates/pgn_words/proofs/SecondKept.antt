@@ -236,6 +236,7 @@ frees z c g views id v page h here held may =
         headed = h.stored.headed;
         kept = λ i x low there. h.stored.kept i x (omega (arith, low, further)) there;
         ahead = let ahead = h.stored.ahead in omega (arith, ahead, further);
+        reach = h.stored.reach;
         small = h.stored.small;
         low = h.stored.low;
       };

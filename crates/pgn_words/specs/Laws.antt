@@ -11,7 +11,7 @@ use Rattle.pgn_words.specs.declared.view.View.{View}
 use Rattle.pgn_words.specs.declared.view.Listen.TheVariants.{Registered}
 use Rattle.pgn_words.specs.declared.view.Phase.TheVariants.{Open}
 use Rattle.pgn_words.specs.declared.view.Stage.TheVariants.{Shown}
-use Rattle.pgn_words.specs.Words.{Content, room_of}
+use Rattle.pgn_words.specs.Words.{Content, room_of, ring_pages}
 use Rattle.pgn_words.specs.Views.{is_walking}
 use Rattle.pgn_words.specs.Positions.{is_placed}
 use Rattle.pgn_words.specs.WakeRule.{IsHeard}
@@ -38,7 +38,7 @@ WalksEndInTime = (z : Shape) (c : Content) (g : World) (views : List View) (j : 
 -- tail that a joiner has loaded
 abbrev pub PagesAreSpared : Type 0
 PagesAreSpared = (z : Shape) (c : Content) (g : World) (views : List View) (id : ℕ) (v : View) → Law z c g views → get_elem? views id ≡ some v → v.phase ≡ Open
-    → (at old : ℕ) → page_of at < v.stop + z.pages → old + z.pages + 1 ≡ page_of at
+    → (at old : ℕ) → page_of at < v.stop + z.pages → page_of at ≡ page_of (length v.pen.cells) → old + ring_pages z ≡ page_of at
     → (j : ℕ) (u : View) → get_elem? views j ≡ some u → is_placed u.post.listen ≡ true → old < page_of u.post.at
 
 -- a listener whose wake is not set, and that owes no read, need not read up to what it was told

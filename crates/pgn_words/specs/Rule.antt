@@ -1,6 +1,6 @@
 -- The rule of the words, which holds before and after each step of each pass. It speaks of what the words hold, of what no word and
 -- no pass by itself has, and of the passes. Each group of clauses takes what it reads.
-use Rattle.std.specs.Prelude.{◌≡◌, ◌≢◌, ◌⊎◌, ℕ, ◌+◌, ◌^◌, ◌<◌, ◌≤◌, Bool, true, List, [], ◌∷◌, ◌++◌, length, get_or, drop, Option, Some, All, Any, AllPairs, sum_by}
+use Rattle.std.specs.Prelude.{◌≡◌, ◌≢◌, ◌⊎◌, ℕ, ◌+◌, ◌*◌, ◌^◌, ◌<◌, ◌≤◌, Bool, true, List, [], ◌∷◌, ◌++◌, length, get_or, drop, Option, Some, All, Any, AllPairs, sum_by}
 use mathlib.Core.Option.{some}
 use lib.ListN.{get_elem?}
 use Rattle.atomic_table.specs.Table.{State}
@@ -83,6 +83,8 @@ pub record Stored (z : Shape) (head stop : ℕ) (shown : List Tx) (cells : List 
   pub headed : head ≡ length (image z.format shown)
   pub kept : Keeps (room_of z) (page_start stop) (image z.format shown) cells
   pub ahead : head ≤ page_start (stop + z.pages)
+  -- it is no further than the notifications of all seats can bring it
+  pub reach : head ≤ 4096 * notes_of_seats z.seats + 2048
   pub small : (k : ℕ) → get_or cells k 0 < 2 ^ 32
   pub low : head < 2 ^ 32
 

@@ -1,5 +1,5 @@
 -- The words of the queue, by name, and where each stands among the words.
-use Rattle.std.specs.Prelude.{ℕ, ◌+◌, ◌*◌, ◌/◌, ◌%◌, ◌^◌, ◌<◌, ◌≤◌, max, List, ◌∷◌, ◌++◌, length, replicate}
+use Rattle.std.specs.Prelude.{ℕ, ◌+◌, ◌*◌, ◌/◌, ◌%◌, ◌^◌, ◌<◌, ◌≤◌, max, min, List, ◌∷◌, ◌++◌, length, replicate}
 use Rattle.pgn_base.specs.declared.limits.TheConstants.{FIRST_XID}
 use Rattle.pgn_hub.specs.Shape.{Shape, notes_of_seats}
 use Rattle.pgn_journal.specs.Packing.{page_cells}
@@ -36,9 +36,14 @@ seats_of z = length z.seats
 abbrev pub status_words : Shape → ℕ
 status_words z = max ((notes_of_seats z.seats + 31) / 32) 1
 
--- as many cells as there are on one page more than the limit
+-- how many pages of cells there are: one more than the limit, but no more than the notifications of all seats can fill, of which
+-- each takes two at most
+abbrev pub ring_pages : Shape → ℕ
+ring_pages z = min (z.pages + 1) (2 * notes_of_seats z.seats + 2)
+
+-- as many cells as there are on these pages
 abbrev pub room_of : Shape → ℕ
-room_of z = (z.pages + 1) * page_cells
+room_of z = ring_pages z * page_cells
 
 -- where the positions begin
 abbrev pub pos_at : ℕ

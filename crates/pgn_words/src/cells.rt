@@ -12,7 +12,8 @@ use crate::words::{HEAD, STOP};
 use pgn_layout::Pos;
 
 impl WordQueue {
-    /// The number of a cell's word. There is one page of such words more than the limit, and they are used again and again.
+    /// The number of a cell's word. There is one page of such words more than the limit, or as many as can be
+    /// filled where these are fewer, and they are used again and again.
     pub fn word_of_cell(&self, at: Pos) -> usize
         ensures value { result ≡ cell_word (shape_of self.now) at }
         ensures word { IsCellWord (shape_of self.now) result }
@@ -61,13 +62,14 @@ impl WordQueue {
     ///
     /// - *phase*: a writer stores cells after `draw_xid` and before `set_status`.
     /// - *next*: it goes from the word of the head that it knows word by word.
-    /// - *page*: it begins a batch only where the head's page is less than the limit past the oldest kept one, and a batch stays on its
-    ///   page.
+    /// - *page*: it begins a batch only where the head's page is less than the limit past the oldest kept one.
+    /// - *stays*: a batch stays on its page.
     pub fn store_cell(&self, pass: &mut WordPass, word: usize, value: u32)
         requires own { IsPassOf self.now pass.old }
         requires phase { (view_of pass.old).phase ≡ phases.Open }
         requires next { word ≡ cell_word (shape_of self.now) (length (stored_by (view_of pass.old))) }
         requires page { page_of (length (stored_by (view_of pass.old))) < (view_of pass.old).stop + (shape_of self.now).pages }
+        requires stays { page_of (length (stored_by (view_of pass.old))) ≡ page_of (length (view_of pass.old).pen.cells) }
         ensures own { IsPassOf self.now pass.new }
         ensures view { view_of pass.new ≡ cell_stored value (view_of pass.old) }
     {

@@ -51,7 +51,9 @@ fn cell_count(setup: &Setup) -> usize
     ensures value { result ≡ room_of setup.now }
     ensures is_shape { IsShape setup.now }
 {
-    (setup.pages() as usize + 1) * (PAGE_BYTES / CELL_BYTES)
+    let most = setup.pages() as usize + 1;
+    let needed = 2 * notes_of_all(setup.seats()) + 2;
+    most.min(needed) * (PAGE_BYTES / CELL_BYTES)
 }
 
 // The words of an empty queue.

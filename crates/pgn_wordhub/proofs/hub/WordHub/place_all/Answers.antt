@@ -1,7 +1,7 @@
 use Rattle.std.proofs.Common.{arith}
 use Rattle.pgn_words.specs.Passes.{view_of}
 use Rattle.pgn_wordhub.specs.Passes.{hub_shape}
-use Rattle.pgn_wordhub.proofs.PlacingKept.{held_up, writes_on}
+use Rattle.pgn_wordhub.proofs.PlacingKept.{held_up, writes_on, nothing_written}
 use Rattle.pgn_wordhub.proofs.hub.WordHub.place_all.Goals as goal
 
 pub returns-then-not-has_page-2-clause-full : goal.returns-then-not-has_page-2-clause-full
@@ -14,3 +14,6 @@ returns-then-not-has_page-2-clause-full g c =
 
 pub advance-floor-requires-clause-listens : goal.advance-floor-requires-clause-listens
 advance-floor-requires-clause-listens g c = writes_on (view_of c.args.pass.now) (view_of c.batches.pass) c.batches.invariant.3 c.requires.listens
+
+pub batches-init : goal.batches-init
+batches-init g c = (tt, tt, c.requires.own, nothing_written (view_of c.args.pass.now), c.requires.placing, c.requires.within, c.requires.stop)

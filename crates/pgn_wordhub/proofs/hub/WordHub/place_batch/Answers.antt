@@ -30,3 +30,6 @@ returns-clause-placing c =
     let page = c.requires.pages in
     places_on v (view_of c.write_batch.new.pass) (view_of c.store_head.new.pass) c.args.notes.now c.args.placing.now.placed c.args.placing.now.at c.plan_batch-batch.result c.requires.placing (subst (λ (ns : List Note). IsPlanned One c.args.placing.now.at ns c.plan_batch-batch.result) (rest_is c.args.placing.now.placed c.args.notes.now) c.plan_batch-batch.ensures.planned)
     (omega (arith, page, stop, pages)) (subst (λ (ns : List Note). view_of c.write_batch.new.pass ≡ stored_more (batch_cells One (writer_of v.known) ns c.plan_batch-batch.result) v) (rest_is c.args.placing.now.placed c.args.notes.now) c.write_batch.ensures.view) c.store_head.ensures.view c.store_head.ensures.low
+
+pub write_batch-requires-clause-begins : goal.write_batch-requires-clause-begins
+write_batch-requires-clause-begins c = c.requires.placing.end

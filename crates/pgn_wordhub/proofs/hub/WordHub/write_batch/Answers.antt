@@ -63,3 +63,28 @@ write_filler-requires-clause-low c =
     let size = ap (λ (notes : List Note). length (entries_of One (writer_of v.known) notes)) all in
     let at = c.loop-note.invariant.2 in
     let low = c.requires.low in omega (arith, within, size, at, low)
+
+pub write_note-at-requires-clause-stays : goal.write_note-at-requires-clause-stays
+write_note-at-requires-clause-stays c =
+    let v = view_of c.args.pass.now in
+    let run = take c.args.batch.now.fits c.args.notes.now in
+    let there = slice_get_read run (length run) c.loop-note.note-index c.note-item.result refl c.loop-note-test.true c.note-item.is in
+    let own = c.args.at / 2048 + 1 in
+    let fits = entries_within (writer_of v.known) c.args.at c.args.notes.now c.args.batch.now own c.loop-note.note-index c.note-item.result c.requires.room c.requires.planned (omega arith) there in
+    let long = entry_long (writer_of v.known) c.note-item.result in
+    let at = c.loop-note.invariant.2 in
+    let begins = c.requires.begins in
+    let cells : length (view_of c.loop-note.pass).pen.cells ≡ length v.pen.cells = ap (λ (u : View). length u.pen.cells) c.loop-note.invariant.1 in omega (arith, fits, long, at, begins, cells)
+
+pub write_filler-requires-clause-stays : goal.write_filler-requires-clause-stays
+write_filler-requires-clause-stays c =
+    let v = view_of c.args.pass.now in
+    let some = c.if-batch-gt0.true in
+    let run = take c.args.batch.now.fits c.args.notes.now in
+    let within = (filler_within (writer_of v.known) c.args.at c.args.notes.now c.args.batch.now (c.args.at / 2048 + 1) c.requires.room c.requires.planned (omega arith) (omega (arith, some))).1 in
+    let test = c.loop-note-test.false in
+    let all : take c.loop-note.note-index run ≡ run = take_all c.loop-note.note-index run (omega (arith, test)) in
+    let size = ap (λ (notes : List Note). length (entries_of One (writer_of v.known) notes)) all in
+    let at = c.loop-note.invariant.2 in
+    let begins = c.requires.begins in
+    let cells : length (view_of c.loop-note.pass).pen.cells ≡ length v.pen.cells = ap (λ (u : View). length u.pen.cells) c.loop-note.invariant.1 in omega (arith, within, size, at, begins, cells)

@@ -1,4 +1,4 @@
-use Rattle.std.proofs.Common.{◌≡◌, ℕ, ◌+◌, ◌*◌, drop, ap, ◌∙◌, arith}
+use Rattle.std.proofs.Common.{◌≡◌, ℕ, ◌+◌, ◌*◌, drop, ap, ◌∙◌, arith, length, length-append}
 use Rattle.std.specs.Int.{w32, from_le_bytes}
 use Rattle.pgn_base.specs.declared.format.Format.TheVariants.{One}
 use Rattle.pgn_base.specs.declared.limits.TheConstants.{PID_BASE}
@@ -29,6 +29,19 @@ store_cell-requires-clause-page c =
     let there = next_at (view_of c.args.pass.now) (view_of c.loop-k.pass) (filler One c.args.len c.args.xid pid) c.loop-k.k c.args.at c.loop-k.invariant.1 (omega (arith, test, long)) c.requires.next in
     let pages = c.requires.pages in
     let stop : (view_of c.loop-k.pass).stop ≡ (view_of c.args.pass.now).stop = ap (λ (u : View). u.stop) c.loop-k.invariant.1 in omega (arith, there, test, pages, stop)
+
+pub store_cell-requires-clause-stays : goal.store_cell-requires-clause-stays
+store_cell-requires-clause-stays c =
+    let v = view_of c.args.pass.now in
+    let pid = PID_BASE + (known_of c.args.pass.now).session in
+    let test = c.loop-k-test.true in
+    let least = c.requires.long.least in
+    let long = length-filler One c.args.len c.args.xid pid (omega (arith, least)) in
+    let there = next_at v (view_of c.loop-k.pass) (filler One c.args.len c.args.xid pid) c.loop-k.k c.args.at c.loop-k.invariant.1 (omega (arith, test, long)) c.requires.next in
+    let stays = c.requires.stays in
+    let next = c.requires.next in
+    let parts = length-append v.pen.cells v.pen.batch in
+    let cells : length (view_of c.loop-k.pass).pen.cells ≡ length v.pen.cells = ap (λ (u : View). length u.pen.cells) c.loop-k.invariant.1 in omega (arith, there, test, stays, next, parts, cells)
 
 pub loop-k-preserved : goal.loop-k-preserved
 loop-k-preserved c =

@@ -12,5 +12,5 @@ store-requires c =
     let low = c.ranges.value.fits in (
       c.requires.own.table,
       omega (arith, counted, within),
-      store_cell_allowed z _ _ _ _ _ _ c.requires.next c.requires.phase refl c.requires.page (omega (arith, value, low)),
+      store_cell_allowed z _ _ _ _ _ _ c.requires.next c.requires.phase refl c.requires.page c.requires.stays (omega (arith, value, low)),
     )
