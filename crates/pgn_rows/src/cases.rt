@@ -44,20 +44,17 @@ pub fn written_out(alloc: Global, text: &[u8]) -> Result<Vec<u8>, AllocError> {
     let mut whole = Vec::new(alloc);
     for (count, part) in parts(alloc, text, MANY)?.into_iter().enumerate() {
         if count != 0 {
-            put_many(&mut whole, part, LINE_BYTES_MAX)?;
+            put_many(&mut whole, part, LINE_BYTES_MAX - 1)?;
         }
         whole.extend_from_slice(part)?;
     }
     Ok(whole)
 }
 
-// As many of the first byte as make so many with the one that follows.
-fn put_many(whole: &mut Vec<u8>, part: &[u8], most: usize) -> Result<(), AllocError> {
-    let Some(byte) = part.first() else {
-        return Ok(());
-    };
-    for _ in 1..most {
-        whole.push(*byte)?;
+// So many more of the first byte.
+fn put_many(whole: &mut Vec<u8>, part: &[u8], more: usize) -> Result<(), AllocError> {
+    match part.first() {
+        Some(byte) => whole.resize(whole.len().saturating_add(more), *byte),
+        None => Ok(()),
     }
-    Ok(())
 }

@@ -28,8 +28,8 @@ pub struct Run {
     pub traces: Vec<Trace>,
 }
 
-/// Runs a scenario over a hub of this type, which it opens with a limit of so many pages: every session on a thread of its own,
-/// where an await takes so many looks. The error is that memory did not suffice.
+/// Runs a scenario over a hub of this type, which it opens with a limit of so many pages: its sessions run side by side, as
+/// `run_sessions` has it, and an await takes so many looks, made or slept over. The error is that memory did not suffice.
 pub fn run_on_hub<H: Hub + Sync + Drop, R: Threads + Wait + Sync>(
     rt: &R,
     alloc: Global,
