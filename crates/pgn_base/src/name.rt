@@ -1,4 +1,4 @@
-ghost use Rattle.std.specs.Prelude.{◌≡◌, ◌<◌, ◌≤◌, ◌↔◌, [], ◌∷◌, length, Contains, IfOk, OnOk, IsErrOf, bytes_eq, string_bytes};
+ghost use Rattle.std.specs.Prelude.{◌≡◌, ◌<◌, ◌≤◌, ◌↔◌, [], ◌∷◌, length, Contains, IfOk, OnErr, OnOk, IsErrOf, bytes_eq, string_bytes};
 ghost use Rattle.std.proofs.Common.{rules};
 ghost use Rattle.std.specs.Cmp.{partial_equiv_from_equiv};
 ghost use Rattle.std.specs.Cmp.Lexicographic.{nat_list_eq_equiv};
@@ -73,10 +73,11 @@ impl Name {
         }
     }
 
-    /// The name of a text that is one. It fails for want of memory only.
+    /// The name of a text that is one. It fails for want of memory only, which a text of at most 22 bytes does not take.
     pub fn of_valid(alloc: Global, text: &str) -> Result<Name, AllocError>
         requires { IsName text.now }
-        ensures { IfOk result (λ name. name ≡ text.now) }
+        ensures ok { IfOk result (λ name. name ≡ text.now) }
+        ensures memory { OnErr result (TEXT_BYTES_IN_PLACE < length text.now) }
     {
         let text = Text::new(alloc, text)?;
         Ok(Name { text })
@@ -85,7 +86,8 @@ impl Name {
     /// The name of a string that is one, whose memory it keeps as `from_string` does. It fails for want of memory only.
     pub fn of_valid_string(text: String) -> Result<Name, AllocError>
         requires { IsName (string_bytes text) }
-        ensures { IfOk result (λ name. name ≡ string_bytes text) }
+        ensures ok { IfOk result (λ name. name ≡ string_bytes text) }
+        ensures memory { OnErr result (TEXT_BYTES_IN_PLACE < length (string_bytes text)) }
     {
         let text = Text::from_string(text)?;
         Ok(Name { text })

@@ -1,4 +1,4 @@
-ghost use Rattle.std.specs.Prelude.{◌≡◌, ◌<◌, ◌≤◌, ◌↔◌, [], ◌∷◌, length, Contains, IfOk, OnOk, IsErrOf, bytes_eq, string_bytes};
+ghost use Rattle.std.specs.Prelude.{◌≡◌, ◌<◌, ◌≤◌, ◌↔◌, [], ◌∷◌, length, Contains, IfOk, OnErr, OnOk, IsErrOf, bytes_eq, string_bytes};
 ghost use Rattle.std.proofs.Common.{rules};
 ghost use Rattle.std.specs.Cmp.{partial_equiv_from_equiv};
 ghost use Rattle.std.specs.Cmp.Lexicographic.{nat_list_eq_equiv};
@@ -67,10 +67,11 @@ impl Payload {
         }
     }
 
-    /// The payload of a text that is one. It fails for want of memory only.
+    /// The payload of a text that is one. It fails for want of memory only, which a text of at most 22 bytes does not take.
     pub fn of_valid(alloc: Global, text: &str) -> Result<Payload, AllocError>
         requires { IsPayload text.now }
-        ensures { IfOk result (λ name. name ≡ text.now) }
+        ensures ok { IfOk result (λ payload. payload ≡ text.now) }
+        ensures memory { OnErr result (TEXT_BYTES_IN_PLACE < length text.now) }
     {
         let text = Text::new(alloc, text)?;
         Ok(Payload { text })
@@ -79,7 +80,8 @@ impl Payload {
     /// The payload of a string that is one, whose memory it keeps as `from_string` does. It fails for want of memory only.
     pub fn of_valid_string(text: String) -> Result<Payload, AllocError>
         requires { IsPayload (string_bytes text) }
-        ensures { IfOk result (λ name. name ≡ string_bytes text) }
+        ensures ok { IfOk result (λ payload. payload ≡ string_bytes text) }
+        ensures memory { OnErr result (TEXT_BYTES_IN_PLACE < length (string_bytes text)) }
     {
         let text = Text::from_string(text)?;
         Ok(Payload { text })
