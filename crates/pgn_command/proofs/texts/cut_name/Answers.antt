@@ -12,4 +12,4 @@ of_valid_string-requires c =
 pub returns-then-len-le-NAME_BYTES_MAX : goal.returns-then-len-le-NAME_BYTES_MAX
 returns-then-len-le-NAME_BYTES_MAX c =
     let short : length (string_bytes c.args.text) ≤ 63 = omega (arith, c.len.ensures, c.if-len-le-NAME_BYTES_MAX.true) in
-    subst (λ (l : List ℕ). IfOk c.of_valid_string.result (λ name. name ≡ l)) (sym (cut-short 63 (string_bytes c.args.text) (IsUtf8-string_bytes c.args.text) short)) c.of_valid_string.ensures
+    subst (λ (l : List ℕ). IfOk c.of_valid_string.result (λ name. name ≡ l)) (sym (cut-short 63 (string_bytes c.args.text) (IsUtf8-string_bytes c.args.text) short)) c.of_valid_string.ensures.ok

@@ -16,4 +16,4 @@ pub returns-in_ok-folded-in-Word : goal.returns-in_ok-folded-in-Word
 returns-in_ok-folded-in-Word c =
     let same : string_bytes c.in_ok-folded-in-Word.folded ≡ ident_name c.args.ident = c.in_ok-folded-in-Word.ensures.ok ∙ ap str_to_ascii_lowercase c.cut.ensures ∙ sym (cut-folded 63 c.in-Word.word.now)
     ∙ ap (λ (i : Ident). ident_name i) (sym c.in-Word.is) in
-    subst (λ (l : List ℕ). IfOk c.of_valid_string.result (λ name. name ≡ l)) same c.of_valid_string.ensures
+    subst (λ (l : List ℕ). IfOk c.of_valid_string.result (λ name. name ≡ l)) same c.of_valid_string.ensures.ok
