@@ -15,6 +15,7 @@ mod job_table;
 mod large_commits;
 mod listeners;
 mod over_hub;
+mod probe;
 mod slept;
 mod slow_listener;
 mod streams;

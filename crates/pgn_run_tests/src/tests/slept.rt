@@ -2,9 +2,9 @@ ghost use Rattle.std.specs.Prelude.{All};
 ghost use Rattle.std.specs.Thread.{IsSync, IsSend};
 ghost use Rattle.pgn_threads.specs.Whole.{IsReady};
 
+use super::probe::{Probe, Watch};
 use super::scenario_of;
 use super::turns::awaits_of;
-use super::waits::Watch;
 use pgn_base::PAGES_DEFAULT;
 use pgn_hub::{Hub, PassView};
 use pgn_session::Session;
@@ -83,7 +83,7 @@ NOTIFY c
 fn sessions_that_take_turns_count_no_more_than_they_sleep(rt: HostRuntime) -> Result<(), Fail> {
     let alloc = rt.alloc();
     let scenario = scenario_of(alloc, RAISED_LATE)?;
-    let (hub, mut sessions) = open_on_hub::<Watch<1_000_000>>(
+    let (hub, mut sessions) = open_on_hub::<Probe<Watch<1_000_000>>>(
         alloc,
         &scenario,
         PAGES_DEFAULT,

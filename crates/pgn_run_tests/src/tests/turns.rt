@@ -1,4 +1,4 @@
-use super::waits::Watch;
+use super::probe::{Probe, Watch};
 use super::{CROSSING_FLAGS, scenario_of};
 use pgn_base::PAGES_DEFAULT;
 use pgn_hub::PassView;
@@ -36,7 +36,12 @@ pub(super) fn awaits_of<P: PassView + Send + Drop>(
 // What the awaits of all sessions came to, where these take turns on one thread, and how often they slept.
 fn awaits_in_turns<R: Wait>(rt: &R, alloc: Global, input: &str) -> Result<(String, u64), Fail> {
     let scenario = scenario_of(alloc, input)?;
-    let (hub, mut sessions) = open_on_hub::<Watch<0>>(alloc, &scenario, PAGES_DEFAULT, 1_000_000)?;
+    let (hub, mut sessions) = open_on_hub::<Probe<Watch<0>>>(
+        alloc,
+        &scenario,
+        PAGES_DEFAULT,
+        1_000_000,
+    )?;
     run_in_turns(rt, alloc, &hub, sessions.as_mut_slice())?;
     let mut lines = String::new(alloc);
     for session in &sessions {
