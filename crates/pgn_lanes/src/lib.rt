@@ -15,11 +15,11 @@
 mod examples;
 mod laws;
 mod wakes;
-mod words;
+mod minimum;
 mod zeros;
 
 pub use examples::{behind_examples, least_examples, zero_examples};
 pub use laws::{behind_laws, least_laws};
 pub use wakes::behind;
-pub use words::least;
+pub use minimum::least;
 pub use zeros::first_zero;

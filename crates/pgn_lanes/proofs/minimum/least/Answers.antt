@@ -1,7 +1,7 @@
 use Rattle.std.proofs.Common.{◌*◌, ◌/◌, length, ap, ◌∙◌}
 use Rattle.pgn_lanes.specs.Least.{least_with}
 use Rattle.pgn_lanes.proofs.LeastLaws.{plain_least-parts}
-use Rattle.pgn_lanes.proofs.words.least.Goals as goal
+use Rattle.pgn_lanes.proofs.minimum.least.Goals as goal
 
 pub returns : goal.returns
 returns c =

@@ -3,7 +3,7 @@ use Rattle.std.specs.Simd.Lanes.{zip2, sel_l, chunk}
 use Rattle.std.proofs.lemmas.Simd.{tops_compared, length-chunk, length-zip2, length-sel_l}
 use Rattle.pgn_lanes.specs.Least.{least_with}
 use Rattle.pgn_lanes.proofs.LeastLaws.{least_with-block}
-use Rattle.pgn_lanes.proofs.words.least_lanes.Goals as goal
+use Rattle.pgn_lanes.proofs.minimum.least_lanes.Goals as goal
 
 pub loop-block-preserved : goal.loop-block-preserved
 loop-block-preserved c =
