@@ -10,8 +10,8 @@ use Rattle.pgn_run.specs.declared.status.Status.{Status}
 use Rattle.pgn_run.specs.declared.status.Status.TheVariants.{Done, WriteFault}
 use Rattle.pgn_run.specs.Run.{code_of}
 use Rattle.pgn_cli.specs.FaultLine.{fault_text, scenario_fault_text}
-use Rattle.pgn_cli.specs.declared.words.NoWords.{NoWords}
-use Rattle.pgn_cli.specs.declared.words.NoWords.TheVariants.{Memory, NotText}
+use Rattle.pgn_cli.specs.declared.arguments.NoWords.{NoWords}
+use Rattle.pgn_cli.specs.declared.arguments.NoWords.TheVariants.{Memory, NotText}
 
 -- why words are not there that were refused by this kind of error
 abbrev pub refused_for : ErrorKind → NoWords

@@ -5,16 +5,16 @@
 #![tactic(auto)]
 
 mod adapters;
+mod arguments;
 mod fault_line;
 mod program;
 #[cfg(test)]
 mod tests;
-mod words;
 
 use adapters::{Input, Output};
+use arguments::words;
 use program::program;
 use std::process::ExitCode;
-use words::words;
 
 fn main(rt: HostRuntime) -> ExitCode {
     ExitCode::from(program(

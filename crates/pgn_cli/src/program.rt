@@ -7,8 +7,8 @@ ghost use Rattle.pgn_options.specs.Words.{AreNoCommand};
 ghost use Rattle.pgn_run.specs.Run.{Performs};
 ghost use Rattle.pgn_cli.specs.Program.{Ends, IsRefused, NamesFault};
 
+use crate::arguments::NoWords;
 use crate::fault_line::fault_line;
-use crate::words::NoWords;
 use pgn_base::{Sink, Source};
 use pgn_run::{Status, run_notify};
 use std::alloc::{AllocError, Global};

@@ -1,7 +1,7 @@
 use crate::adapters::{Input, Output};
+use crate::arguments::NoWords;
 use crate::fault_line::fault_line;
 use crate::program::program;
-use crate::words::NoWords;
 use pgn_base::{Failed, MemSink, MemSource, Sink, Source, write_all};
 use pgn_language::ScenarioFault;
 use pgn_run::Status;

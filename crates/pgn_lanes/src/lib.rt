@@ -14,12 +14,12 @@
 
 mod examples;
 mod laws;
-mod wakes;
 mod minimum;
+mod wakes;
 mod zeros;
 
 pub use examples::{behind_examples, least_examples, zero_examples};
 pub use laws::{behind_laws, least_laws};
-pub use wakes::behind;
 pub use minimum::least;
+pub use wakes::behind;
 pub use zeros::first_zero;
