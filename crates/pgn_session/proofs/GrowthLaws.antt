@@ -21,7 +21,7 @@ use Rattle.pgn_session.proofs.WholeLaws.{Came}
 pub none-more : (before after : List Item) → after ≡ before → Begins before after
 none-more before after is = record { more = []; split = is ∙ sym (append-nil before) }
 
-begins-then : (before between after : List Item) → Begins before between → Begins between after → Begins before after
+pub begins-then : (before between after : List Item) → Begins before between → Begins between after → Begins before after
 begins-then before between after h k = record { more = h.more ++ k.more; split = k.split ∙ ap (λ (is : List Item). is ++ k.more) h.split ∙ append_assoc before h.more k.more }
 
 -- after two lists more

@@ -24,6 +24,10 @@ pub mod CommittedLaws
 pub mod FullLaws
 -- a session that has slept
 pub mod SleepLaws
+-- sessions that sleep together
+pub mod TogetherLaws
+-- a session that has given up
+pub mod GiveUpLaws
 -- the end of a script
 pub mod EndLaws
 -- what a step came to
@@ -34,6 +38,8 @@ pub mod WholeLaws
 pub mod RunLaws
 -- items that only come behind others
 pub mod GrowthLaws
+-- a trace that is lawful so far
+pub mod LawfulLaws
 -- a walk over a script that has grown
 pub mod FeedWalkLaws
 -- a session whose script has grown

@@ -10,6 +10,8 @@ pub mod Steps
 pub mod Sleep
 -- the same of a whole session
 pub mod Whole
+-- what holds of a session before it runs and once it has run
+pub mod Runs
 -- data of examples
 pub mod Examples
 -- a script that grows

@@ -7,7 +7,8 @@
 //!
 //! `new` makes a session that has rested. `step` takes it from `HasRest` to `HasAnswer`, and only where it is over or the step was
 //! refused has it rested still; `idle` leads from `HasAnswer` to `HasRest`, so that a session that waits reads between its looks.
-//! Between `step` and `idle`, or behind `idle`, a session that waits may `rest`: it sleeps on its flag, which counts as looks.
+//! Between `step` and `idle`, or behind `idle`, a session that waits may `rest`: it sleeps on its flag, which counts as looks. `turn` is a
+//! step with a read behind it, and `wait_after` a wait that becomes longer.
 //! After a step that ended, `finish_read` reads once more and `into_log` gives the trace. A refused `step` may be made again, or the
 //! session calls `give_up`. `meet` lets another session hear what this one knows.
 //!
@@ -36,10 +37,16 @@ mod doing;
 pub mod examples;
 mod feeding;
 mod line;
+mod meeting;
 mod reading;
 mod session;
 mod sleep;
 mod step;
+mod together;
+mod turn;
 
 pub use doing::{Doing, FlagPlan, IdleDone, Step};
+pub use meeting::Meeting;
 pub use session::Session;
+pub use together::{give_up_all, wait_together};
+pub use turn::both_steps;

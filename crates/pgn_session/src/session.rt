@@ -8,6 +8,7 @@ ghost use Rattle.pgn_hub.specs.Calls.{HasLearned, HasHeard, HasRaised, HasWoken}
 ghost use Rattle.pgn_session.specs.Standing.{terms_of, IsServedBy, end_flag};
 ghost use Rattle.pgn_session.specs.Whole.{HasAnswer, HasRest};
 ghost use Rattle.pgn_session.specs.Parts.{Begins, HasIdled, HasFinished};
+ghost use Rattle.pgn_session.specs.Runs.{HasGivenUp};
 
 use crate::reading::read_on;
 use crate::{Doing, FlagPlan, IdleDone};
@@ -147,6 +148,7 @@ impl<P: PassView + Send + Drop> Session<P> {
         requires served { IsServedBy (H.shape hub.now) self.old.section self.old.plan }
         ensures own { H.is_pass hub.now self.new.pass }
         ensures raised { HasRaised (P.known self.old.pass) (P.known self.new.pass) (end_flag self.old.plan self.old.section.no) (P.known self.old.pass).told }
+        ensures gave_up { HasGivenUp P.known self.new }
         ensures same { self.new ≡ record self.old { pass = self.new.pass } }
     {
         raise_end(hub, &mut self.pass, self.section.no, self.plan);

@@ -6,7 +6,7 @@ use Rattle.pgn_hub.specs.declared.known.Known.{Known}
 use Rattle.pgn_hub.specs.Shape.{Shape}
 use Rattle.pgn_session.specs.declared.session.Session.{Session}
 use Rattle.pgn_threads.specs.Parts.{HasReadAll}
-use Rattle.pgn_threads.specs.Whole.{IsOver, Script, script_of}
+use Rattle.pgn_session.specs.Runs.{IsOver, Script, script_of}
 use Rattle.pgn_threads.specs.Drain.{passes_of, tolds_of, heard_up, heard_down, Rises, AreTop, HasReadOwn, AreOver, HaveHeardUp, HaveHeardDown, HaveRead}
 use Rattle.pgn_threads.proofs.ToldLaws.{rises-first, rises-on, rises-top, tops-on}
 use Rattle.pgn_threads.proofs.LastReadLaws.{all-read}

@@ -11,7 +11,7 @@ use Rattle.pgn_session.specs.declared.session.Session.{Session}
 use Rattle.pgn_session.specs.Parts.{HasFinished, HasFinishedFrom}
 use Rattle.pgn_session.specs.Whole.{HasRest}
 use Rattle.pgn_threads.specs.Parts.{HasReadAll}
-use Rattle.pgn_threads.specs.Whole.{IsOver, script_of}
+use Rattle.pgn_session.specs.Runs.{IsOver, script_of}
 use Rattle.pgn_threads.specs.Drain.{passes_of, tolds_of, told_at, AreTop, HasReadOwn}
 
 -- what a session was told is as it was, and it has read up to that

@@ -1,6 +1,5 @@
 mod DrainLaws
 mod FlagWalkLaws
-mod GiveUpLaws
 mod LastReadLaws
 mod ListLemmas
 mod MeetLaws

@@ -10,7 +10,7 @@ use Rattle.pgn_session.specs.declared.session.Session.{Session}
 use Rattle.pgn_session.specs.Standing.{terms_of}
 use Rattle.pgn_session.specs.Whole.{HasRest}
 use Rattle.pgn_session.proofs.OverLaws.{learned-at_end}
-use Rattle.pgn_threads.specs.Whole.{IsOver, script_of}
+use Rattle.pgn_session.specs.Runs.{IsOver, script_of}
 use Rattle.pgn_threads.specs.Drain.{tolds_of, told_at, heard_up, heard_down}
 
 -- two neighbours are put anew, one in each half

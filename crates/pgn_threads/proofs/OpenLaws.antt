@@ -18,7 +18,7 @@ use Rattle.pgn_session.specs.declared.session.Session.{Session}
 use Rattle.pgn_session.specs.Whole.{HasRest}
 use Rattle.pgn_session.specs.Standing.{IsFlagBelow, IsServedBy}
 use Rattle.pgn_threads.specs.Laws.{NamesFlagsBelow}
-use Rattle.pgn_threads.specs.Whole.{Script, script_of}
+use Rattle.pgn_session.specs.Runs.{Script, script_of}
 use Rattle.pgn_threads.specs.Opened.{seat_for, opened_for, script_for, IsFit, HaveOpened}
 
 -- the passes as they are opened are those of the sections

@@ -7,7 +7,8 @@ use Rattle.std.proofs.lemmas.List.Quantifiers.{any-set}
 use Rattle.pgn_hub.specs.declared.known.Known.{Known}
 use Rattle.pgn_hub.specs.Shape.{Shape}
 use Rattle.pgn_session.specs.declared.session.Session.{Session}
-use Rattle.pgn_threads.specs.Whole.{Script, script_of, IsOver, HasGivenUp, HasStopped, HaveRun}
+use Rattle.pgn_session.specs.Runs.{Script, script_of, IsOver, HasGivenUp, HasStopped}
+use Rattle.pgn_threads.specs.Whole.{HaveRun}
 
 -- one of a front, or of what follows it
 any-front : {X : Type 0} (Q : X → Type 0) (xs ys : List X) → Any Q xs → Any Q (xs ++ ys)

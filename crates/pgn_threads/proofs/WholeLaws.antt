@@ -22,7 +22,7 @@ use Rattle.pgn_session.specs.declared.doing.Doing.TheVariants.{Over}
 use Rattle.pgn_session.specs.Standing.{terms_of, IsRested, IsServedBy}
 use Rattle.pgn_session.specs.Whole.{HasRest}
 use Rattle.pgn_threads.specs.Parts.{Part, part_of, settings_of, trace_of, HasRunOut, HasReadAll}
-use Rattle.pgn_threads.specs.Whole.{IsOver, IsReady, Script, script_of}
+use Rattle.pgn_session.specs.Runs.{IsOver, IsReady, Script, script_of}
 use Rattle.pgn_threads.specs.Drain.{passes_of}
 use Rattle.pgn_threads.specs.Opened.{script_for}
 use Rattle.pgn_threads.specs.Laws.{NamesFlagsBelow}

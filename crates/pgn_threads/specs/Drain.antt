@@ -3,7 +3,7 @@ use Rattle.std.specs.Prelude.{◌≡◌, ℕ, ◌-◌, ◌<◌, ◌≤◌, max, 
 use Rattle.pgn_hub.specs.declared.known.Known.{Known}
 use Rattle.pgn_hub.specs.Shape.{Shape}
 use Rattle.pgn_session.specs.declared.session.Session.{Session}
-use Rattle.pgn_threads.specs.Whole.{IsOver, script_of}
+use Rattle.pgn_session.specs.Runs.{IsOver, script_of}
 
 -- what is known of each pass
 abbrev pub passes_of : {P : Type 0} → (P → Known) → List (Session P) → List Known

@@ -11,7 +11,7 @@ use Rattle.pgn_hub.specs.Passes.{opened_pass}
 use Rattle.pgn_session.specs.declared.doing.FlagPlan.{FlagPlan}
 use Rattle.pgn_session.specs.declared.session.Session.{Session}
 use Rattle.pgn_session.specs.Whole.{HasRest}
-use Rattle.pgn_threads.specs.Whole.{Script, script_of}
+use Rattle.pgn_session.specs.Runs.{Script, script_of}
 
 -- the seat of a section
 abbrev pub seat_for : Section → SeatSetup

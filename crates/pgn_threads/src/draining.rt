@@ -1,6 +1,6 @@
 ghost use Rattle.std.specs.Prelude.{◌≡◌, ◌<◌, ◌+◌, map, take, length, OnOk, All};
 ghost use Rattle.pgn_threads.specs.Parts.{HasReadAll};
-ghost use Rattle.pgn_threads.specs.Whole.{IsOver, script_of};
+ghost use Rattle.pgn_session.specs.Runs.{IsOver, script_of};
 ghost use Rattle.pgn_threads.specs.Drain.{passes_of, tolds_of, heard_up, heard_down, HasReadOwn};
 
 use pgn_hub::{Hub, PassView};

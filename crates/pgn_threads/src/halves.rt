@@ -1,31 +1,16 @@
 ghost use Rattle.std.specs.Prelude.{◌≡◌, ◌<◌, ◌≤◌, List, ◌++◌, map, length, IfNone, OnOk, OnErr, All, Any};
 ghost use Rattle.std.specs.Thread.{IsSync, IsSend};
 ghost use Rattle.pgn_session.specs.declared.session.Session.{Session};
-ghost use Rattle.pgn_threads.specs.Whole.{HasGivenUp, HasStopped, HaveRun, MayHaveRun, IsReady, IsOver, script_of};
+ghost use Rattle.pgn_session.specs.Runs.{HasGivenUp, HasStopped, IsReady, IsOver, script_of};
+ghost use Rattle.pgn_threads.specs.Whole.{HaveRun, MayHaveRun};
 
 use crate::run_in_turns;
 use crate::running::run_session;
 use pgn_hub::{Hub, PassView};
-use pgn_session::Session;
+use pgn_session::{Meeting, Session};
 use std::alloc::{AllocError, Global};
 use std::sync::Wait;
-use std::sync::atomic::{AtomicU64, Ordering};
-use std::thread;
 use std::thread::{Threads, join_mut};
-use std::time::Duration;
-
-// Two halves meet on a word before either begins: the one on a new thread puts HERE into it, unless the caller was first and has put GONE.
-const NOBODY: u64 = 0;
-
-const HERE: u64 = 1;
-
-const GONE: u64 = 2;
-
-// How often the caller looks for the new thread: it gives way behind the first looks, and sleeps behind the others until the word changes
-// or a millisecond is over.
-const LOOKS_TO_MEET: u32 = 200;
-
-const LOOKS_BEFORE_SLEEP: u32 = 16;
 
 /// Runs sessions until all are over: each has a thread of its own, while threads can be had; sessions for which no thread can be started
 /// take turns on the one that they share. The error is that memory did not suffice for some session. Each is then over or has given
@@ -128,17 +113,17 @@ fn join_halves<P: PassView + Send + Drop, H: Hub<Pass = P> + Sync, R: Threads + 
     ensures left { MayHaveRun (H.is_pass hub.now) (H.shape hub.now) P.known left.old left.new result.0 }
     ensures right { MayHaveRun (H.is_pass hub.now) (H.shape hub.now) P.known right.old right.new result.1 }
 {
-    let word = AtomicU64::new(NOBODY);
+    let meeting = Meeting::new();
     join_mut(
         rt,
         &mut || -> Option<Result<(), AllocError>>
             requires { IsSync R.row × IsSync H.row × IsSend P.row × All (IsReady (H.is_pass hub.now) (H.shape hub.now) P.known) left.now }
             ensures { MayHaveRun (H.is_pass hub.entry.now) (H.shape hub.entry.now) P.known left.entry.now left.exit.now result }
-        { arrive(rt, alloc, hub, &word, left) },
+        { arrive(rt, alloc, hub, &meeting, left) },
         &mut || -> Option<Result<(), AllocError>>
             requires { IsSync R.row × IsSync H.row × IsSend P.row × All (IsReady (H.is_pass hub.now) (H.shape hub.now) P.known) right.now }
             ensures { MayHaveRun (H.is_pass hub.entry.now) (H.shape hub.entry.now) P.known right.entry.now right.exit.now result }
-        { expect(rt, alloc, hub, &word, right) },
+        { expect(rt, alloc, hub, &meeting, right) },
     )
 }
 
@@ -148,13 +133,13 @@ fn arrive<P: PassView + Send + Drop, H: Hub<Pass = P> + Sync, R: Threads + Wait 
     rt: &R,
     alloc: Global,
     hub: &H,
-    word: &AtomicU64,
+    meeting: &Meeting,
     sessions: &mut [Session<P>],
 ) -> Option<Result<(), AllocError>>
     requires ready { All (IsReady (H.is_pass hub.now) (H.shape hub.now) P.known) sessions.old }
     ensures { MayHaveRun (H.is_pass hub.now) (H.shape hub.now) P.known sessions.old sessions.new result }
 {
-    if !takes(word, HERE) {
+    if !meeting.comes() {
         return None;
     }
     Some(run_sessions(rt, alloc, hub, sessions))
@@ -166,36 +151,14 @@ fn expect<P: PassView + Send + Drop, H: Hub<Pass = P> + Sync, R: Threads + Wait 
     rt: &R,
     alloc: Global,
     hub: &H,
-    word: &AtomicU64,
+    meeting: &Meeting,
     sessions: &mut [Session<P>],
 ) -> Option<Result<(), AllocError>>
     requires ready { All (IsReady (H.is_pass hub.now) (H.shape hub.now) P.known) sessions.old }
     ensures { MayHaveRun (H.is_pass hub.now) (H.shape hub.now) P.known sessions.old sessions.new result }
 {
-    if !is_met(rt, word) && takes(word, GONE) {
+    if !meeting.expects(rt) {
         return None;
     }
     Some(run_sessions(rt, alloc, hub, sessions))
-}
-
-// Whether the other half comes in time.
-fn is_met<R: Wait>(rt: &R, word: &AtomicU64) -> bool {
-    for looks in 0..LOOKS_TO_MEET {
-        if word.load(Ordering::SeqCst) != NOBODY {
-            return true;
-        }
-        if looks < LOOKS_BEFORE_SLEEP {
-            thread::yield_now();
-        } else {
-            word.park_timeout(rt, NOBODY as u32, Duration::from_millis(1));
-        }
-    }
-    false
-}
-
-// Puts this into the word, where nothing is in it yet, and wakes who sleeps on it.
-fn takes(word: &AtomicU64, who: u64) -> bool {
-    let taken = word.compare_exchange(NOBODY, who, Ordering::SeqCst, Ordering::SeqCst);
-    word.wake_all();
-    taken.is_ok()
 }

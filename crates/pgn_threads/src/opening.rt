@@ -2,7 +2,7 @@ ghost use Rattle.std.specs.Prelude.{◌≡◌, ◌≤◌, map, IfOk, All};
 ghost use Rattle.pgn_hub.specs.Shape.{Shape};
 ghost use Rattle.pgn_session.specs.Whole.{HasRest};
 ghost use Rattle.pgn_threads.specs.Parts.{part_of, trace_of};
-ghost use Rattle.pgn_threads.specs.Whole.{script_of};
+ghost use Rattle.pgn_session.specs.Runs.{script_of};
 ghost use Rattle.pgn_threads.specs.Opened.{opened_for, script_for, seat_for, IsFit};
 
 use pgn_base::Copied;

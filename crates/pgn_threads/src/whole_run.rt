@@ -5,7 +5,7 @@ ghost use Rattle.pgn_language.specs.Inputs.{IsSound};
 ghost use Rattle.pgn_model.specs.Legal.{Legal};
 ghost use Rattle.pgn_hub.specs.Passes.{IsWithin};
 ghost use Rattle.pgn_threads.specs.Parts.{HasReadAll};
-ghost use Rattle.pgn_threads.specs.Whole.{IsReady, IsOver, script_of};
+ghost use Rattle.pgn_session.specs.Runs.{IsReady, IsOver, script_of};
 ghost use Rattle.pgn_threads.specs.Drain.{passes_of};
 ghost use Rattle.pgn_threads.specs.Opened.{plan_for, script_for, shape_for};
 

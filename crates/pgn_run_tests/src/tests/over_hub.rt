@@ -1,6 +1,6 @@
 ghost use Rattle.std.specs.Prelude.{◌≡◌, ◌≤◌, Ok, length, IfOk, OnOk, All};
 ghost use Rattle.std.specs.Thread.{IsSync, IsSend};
-ghost use Rattle.pgn_threads.specs.Whole.{IsReady, IsOver};
+ghost use Rattle.pgn_session.specs.Runs.{IsReady, IsOver};
 ghost use Rattle.pgn_session.specs.declared.doing.Doing.TheVariants.{Over};
 
 use super::scenario_of;

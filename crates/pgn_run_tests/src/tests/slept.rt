@@ -1,6 +1,6 @@
 ghost use Rattle.std.specs.Prelude.{All};
 ghost use Rattle.std.specs.Thread.{IsSync, IsSend};
-ghost use Rattle.pgn_threads.specs.Whole.{IsReady};
+ghost use Rattle.pgn_session.specs.Runs.{IsReady};
 
 use super::probe::{Probe, Watch};
 use super::scenario_of;

@@ -1,5 +1,5 @@
 use Rattle.std.proofs.Common.{◌≡◌}
-use Rattle.pgn_threads.specs.Whole.{IsReady, script_of}
+use Rattle.pgn_session.specs.Runs.{IsReady, script_of}
 use Rattle.pgn_threads.proofs.running.go_on.Given as goal
 
 abbrev pub invariant-loop : goal.invariant-loop

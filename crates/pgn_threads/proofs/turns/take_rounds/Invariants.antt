@@ -1,5 +1,5 @@
 use Rattle.std.proofs.Common.{◌≡◌, map, All}
-use Rattle.pgn_threads.specs.Whole.{IsReady, script_of}
+use Rattle.pgn_session.specs.Runs.{IsReady, script_of}
 use Rattle.pgn_threads.proofs.turns.take_rounds.Given as goal
 
 abbrev pub invariant-loop : goal.invariant-loop

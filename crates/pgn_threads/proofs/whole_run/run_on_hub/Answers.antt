@@ -8,7 +8,7 @@ use Rattle.std.proofs.lemmas.List.Elements.{All-map, All-same}
 use Rattle.pgn_hub.specs.Shape.{Shape}
 use Rattle.pgn_hub.specs.Passes.{IsWithin}
 use Rattle.pgn_session.specs.declared.session.Session.{Session}
-use Rattle.pgn_threads.specs.Whole.{IsReady, script_of}
+use Rattle.pgn_session.specs.Runs.{IsReady, script_of}
 use Rattle.pgn_threads.specs.Opened.{plan_for, seat_for}
 use Rattle.pgn_threads.specs.Parts.{part_of, settings_of, trace_of}
 use Rattle.pgn_threads.proofs.ListLemmas.{written-back, same-count}

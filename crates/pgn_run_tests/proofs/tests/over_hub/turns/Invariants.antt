@@ -1,4 +1,4 @@
-use Rattle.pgn_threads.specs.Whole.{IsReady}
+use Rattle.pgn_session.specs.Runs.{IsReady}
 use Rattle.pgn_run_tests.proofs.tests.over_hub.turns.Given as goal
 
 abbrev pub invariant-loop : goal.invariant-loop

@@ -1,5 +1,5 @@
-use Rattle.pgn_threads.proofs.TurnLaws.{all-slept, slept-scripts}
-use Rattle.pgn_threads.proofs.turns.rest_together.Goals as goal
+use Rattle.pgn_session.proofs.TogetherLaws.{all-slept, slept-scripts, slept-shown}
+use Rattle.pgn_session.proofs.together.rest_together.Goals as goal
 
 pub returns-clause-ready : goal.returns-clause-ready
 returns-clause-ready g c =
@@ -7,3 +7,6 @@ returns-clause-ready g c =
 
 pub returns-clause-scripts : goal.returns-clause-scripts
 returns-clause-scripts g c = slept-scripts _ c.args.sessions.now c.sleep_over_all.new.sessions c.sleep_over_all.ensures
+
+pub returns-clause-shown : goal.returns-clause-shown
+returns-clause-shown g c = slept-shown _ c.args.sessions.now c.sleep_over_all.new.sessions c.sleep_over_all.ensures

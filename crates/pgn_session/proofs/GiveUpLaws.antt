@@ -6,7 +6,7 @@ use Rattle.pgn_hub.specs.declared.known.Known.{Known}
 use Rattle.pgn_hub.specs.Calls.{HasRaised}
 use Rattle.pgn_session.specs.declared.session.Session.{Session}
 use Rattle.pgn_session.specs.Standing.{end_flag}
-use Rattle.pgn_threads.specs.Whole.{HasGivenUp}
+use Rattle.pgn_session.specs.Runs.{HasGivenUp}
 
 pub given-up : {P : Type 0} (known : P → Known) (old new : Session P) (x : ℕ) → HasRaised (known old.pass) (known new.pass) (end_flag old.plan old.section.no) x → new ≡ record old { pass = new.pass } → HasGivenUp known new
 given-up {P} known old new x raised same =

@@ -1,0 +1,29 @@
+-- Sessions for which a sleep was counted.
+use Rattle.std.proofs.Common.{◌≡◌, ℕ, List, [], ◌∷◌, map, All, sym, ap, ◌∙◌, refl, subst}
+use Rattle.std.proofs.lemmas.List.Elements.{All-map, All-weaker}
+use Rattle.pgn_hub.specs.declared.known.Known.{Known}
+use Rattle.pgn_hub.specs.Shape.{Shape}
+use Rattle.pgn_session.specs.declared.session.Session.{Session}
+use Rattle.pgn_session.specs.Runs.{script_of, shown_of, slept, IsReady}
+use Rattle.pgn_session.proofs.SleepLaws.{rest-slept}
+
+-- what a sleep does not change
+slept-same : {P X : Type 0} (f : Session P → X) (micros : ℕ) → ((s : Session P) → f (slept micros s) ≡ f s) → (xs : List (Session P)) → map f (map (slept micros) xs) ≡ map f xs
+slept-same f micros same [] = refl
+slept-same {P} {X} f micros same (x ∷ xs) = ap (λ (y : X). y ∷ map f (map (slept micros) xs)) (same x) ∙ ap (λ (ys : List X). f x ∷ ys) (slept-same f micros same xs)
+
+module _ {P : Type 0} (micros : ℕ) (xs ys : List (Session P)) (same : ys ≡ map (slept micros) xs) where
+  pub slept-scripts : map script_of ys ≡ map script_of xs
+  slept-scripts = ap (λ (zs : List (Session P)). map script_of zs) same ∙ slept-same (λ (s : Session P). script_of s) micros (λ s. refl) xs
+
+  pub slept-shown : map shown_of ys ≡ map shown_of xs
+  slept-shown = ap (λ (zs : List (Session P)). map shown_of zs) same ∙ slept-same (λ (s : Session P). shown_of s) micros (λ s. refl) xs
+
+module _ {P : Type 0} (is_own : P → Type 0) (shape : Shape) (known : P → Known) where
+  slept-ready : (micros : ℕ) (s : Session P) → IsReady is_own shape known s → IsReady is_own shape known (slept micros s)
+  slept-ready micros s h = record { own = h.own; served = h.served; rested = rest-slept shape known s (slept micros s) micros refl h.rested }
+
+  pub all-slept : (micros : ℕ) (xs ys : List (Session P)) → ys ≡ map (slept micros) xs → All (IsReady is_own shape known) xs → All (IsReady is_own shape known) ys
+  all-slept micros xs ys same all =
+      subst (λ (zs : List (Session P)). All (IsReady is_own shape known) zs) (sym same)
+      (All-map (IsReady is_own shape known) (slept micros) xs (All-weaker (IsReady is_own shape known) (λ s. IsReady is_own shape known (slept micros s)) (slept-ready micros) xs all))

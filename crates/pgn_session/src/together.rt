@@ -1,0 +1,133 @@
+ghost use Rattle.std.specs.Prelude.{◌≡◌, ◌≤◌, map, All};
+ghost use Rattle.pgn_session.specs.Runs.{HasGivenUp, IsHeld, IsReady, script_of, shown_of, slept};
+ghost use Rattle.pgn_session.specs.Standing.{IsServedBy};
+
+use crate::turn::{TURNS_BEFORE_SLEEP, sleep_of};
+use crate::{Session, Step};
+use pgn_hub::{Hub, PassView};
+use std::sync::Wait;
+use std::thread;
+
+/// Waits after a round of turns of all these sessions on one thread, in which none did more than wait: it gives way behind the first such
+/// rounds, and then it sleeps. `waits` of them came before it in a row; answers how many there are with it, and 0 where the round gave
+/// something.
+pub fn wait_together<P: PassView + Send + Drop, H: Hub<Pass = P>, R: Wait>(
+    rt: &R,
+    hub: &H,
+    sessions: &mut [Session<P>],
+    step: Step,
+    waits: u32,
+) -> u32
+    requires ready { All (IsReady (H.is_pass hub.now) (H.shape hub.now) P.known) sessions.old }
+    ensures ready { All (IsReady (H.is_pass hub.now) (H.shape hub.now) P.known) sessions.new }
+    ensures scripts { map script_of sessions.new ≡ map script_of sessions.old }
+    ensures shown { map shown_of sessions.new ≡ map shown_of sessions.old }
+{
+    if step != Step::Waiting {
+        return 0;
+    }
+    if waits < TURNS_BEFORE_SLEEP {
+        thread::yield_now();
+    } else {
+        let micros = sleep_of(must_look(sessions), waits - TURNS_BEFORE_SLEEP);
+        rest_together(rt, hub, sessions, micros);
+    }
+    waits.saturating_add(1)
+}
+
+// Whether a sleep has to be short: more than one session shares the thread, or the only one listens.
+fn must_look<P: PassView + Send + Drop>(sessions: &[Session<P>]) -> bool {
+    sessions.len() != 1 || sessions[0].pass.mark().is_some()
+}
+
+// Sleeps on the flag of one session, and counts the sleep for each: no flag falls, so no look of any of them would have found more than
+// the one behind the sleep.
+fn rest_together<P: PassView + Send + Drop, H: Hub<Pass = P>, R: Wait>(
+    rt: &R,
+    hub: &H,
+    sessions: &mut [Session<P>],
+    micros: u64,
+)
+    requires ready { All (IsReady (H.is_pass hub.now) (H.shape hub.now) P.known) sessions.old }
+    ensures ready { All (IsReady (H.is_pass hub.now) (H.shape hub.now) P.known) sessions.new }
+    ensures scripts { map script_of sessions.new ≡ map script_of sessions.old }
+    ensures shown { map shown_of sessions.new ≡ map shown_of sessions.old }
+{
+    let micros = sleep_on_one(rt, hub, sessions, micros);
+    sleep_over_all(sessions, micros);
+}
+
+// Sleeps on the flag of the first session that waits for one: answers for how many microseconds at most.
+fn sleep_on_one<P: PassView + Send + Drop, H: Hub<Pass = P>, R: Wait>(
+    rt: &R,
+    hub: &H,
+    sessions: &[Session<P>],
+    micros: u64,
+) -> u64
+    requires { All (IsReady (H.is_pass hub.now) (H.shape hub.now) P.known) sessions.now }
+    ensures { result ≤ micros }
+{
+    for session in sessions {
+        let micros = session.sleep(rt, hub, micros);
+        if micros > 0 {
+            return micros;
+        }
+    }
+    0
+}
+
+// Counts a sleep for each session.
+fn sleep_over_all<P: PassView + Send + Drop>(sessions: &mut [Session<P>], micros: u64)
+    ensures { sessions.new ≡ map (slept micros) sessions.old }
+{
+    if sessions.len() == 0 {
+        return;
+    }
+    if sessions.len() == 1 {
+        sleep_over_one(&mut sessions[0], micros);
+        return;
+    }
+    let (left, right) = sessions.split_at_mut(sessions.len() / 2);
+    sleep_over_all(left, micros);
+    sleep_over_all(right, micros);
+}
+
+// Counts a sleep for one.
+fn sleep_over_one<P: PassView + Send + Drop>(session: &mut Session<P>, micros: u64)
+    ensures { session.new ≡ slept micros session.old }
+{
+    session.sleep_over(micros);
+}
+
+/// Raises the end flag of each session after a refusal, so that no other waits for it.
+pub fn give_up_all<P: PassView + Send + Drop, H: Hub<Pass = P>>(
+    hub: &H,
+    sessions: &mut [Session<P>],
+)
+    requires held { All (IsHeld (H.is_pass hub.now) (H.shape hub.now)) sessions.old }
+    ensures gave_up { All (HasGivenUp P.known) sessions.new }
+    ensures scripts { map script_of sessions.new ≡ map script_of sessions.old }
+    ensures shown { map shown_of sessions.new ≡ map shown_of sessions.old }
+{
+    if sessions.len() == 0 {
+        return;
+    }
+    if sessions.len() == 1 {
+        give_up_one(hub, &mut sessions[0]);
+        return;
+    }
+    let (left, right) = sessions.split_at_mut(sessions.len() / 2);
+    give_up_all(hub, left);
+    give_up_all(hub, right);
+}
+
+// Raises the end flag of one.
+fn give_up_one<P: PassView + Send + Drop, H: Hub<Pass = P>>(hub: &H, session: &mut Session<P>)
+    requires own { H.is_pass hub.now session.old.pass }
+    requires served { IsServedBy (H.shape hub.now) session.old.section session.old.plan }
+    ensures gave_up { HasGivenUp P.known session.new }
+    ensures script { script_of session.new ≡ script_of session.old }
+    ensures shown { shown_of session.new ≡ shown_of session.old }
+{
+    session.give_up(hub);
+}

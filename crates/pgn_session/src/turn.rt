@@ -1,0 +1,96 @@
+ghost use Rattle.std.specs.Prelude.{◌≡◌, Ok, OnOk};
+ghost use Rattle.pgn_session.specs.Parts.{Begins};
+ghost use Rattle.pgn_session.specs.Runs.{IsHeld, IsLawful, IsOver, IsReady, script_of};
+ghost use Rattle.pgn_session.specs.Standing.{IsServedBy};
+ghost use Rattle.pgn_session.specs.Whole.{HasAnswer};
+
+use crate::{Session, Step};
+use pgn_hub::{Hub, PassView};
+use std::alloc::{AllocError, Global};
+use std::sync::Wait;
+use std::thread;
+
+// So many turns in a row that did no more than wait give way, and the ones behind them sleep.
+pub(crate) const TURNS_BEFORE_SLEEP: u32 = 64;
+
+// The first sleep, and the longest of a listener, who reads where it was woken meanwhile, and of others: microseconds.
+const FIRST_SLEEP: u64 = 50;
+
+const LISTENER_SLEEP: u64 = 1_000;
+
+const LONGEST_SLEEP: u64 = 16_000;
+
+impl<P: PassView + Send + Drop> Session<P> {
+    /// A step, and a read where the session was woken, unless it is over. The error is that memory did not suffice for either.
+    #[tactic(auto, using(crate::proofs::LawfulLaws::turn_laws))]
+    pub fn turn<H: Hub<Pass = P>, R: Wait>(
+        &mut self,
+        rt: &R,
+        alloc: Global,
+        hub: &H,
+    ) -> Result<Step, AllocError>
+        requires ready { IsReady (H.is_pass hub.now) (H.shape hub.now) P.known self.old }
+        ensures held { IsHeld (H.is_pass hub.now) (H.shape hub.now) self.new }
+        ensures ready { OnOk result (IsReady (H.is_pass hub.now) (H.shape hub.now) P.known self.new) }
+        ensures over { result ≡ Ok Step.Ended → IsOver (H.is_pass hub.now) (H.shape hub.now) P.known self.new }
+        ensures script { script_of self.new ≡ script_of self.old }
+        ensures grows { Begins self.old.items.items self.new.items.items }
+        ensures lawful { IsLawful (H.shape hub.now) self.new }
+    {
+        let step = self.step(rt, alloc, hub)?;
+        if step == Step::Ended {
+            return Ok(Step::Ended);
+        }
+        let _done = self.idle(alloc, hub)?;
+        Ok(step)
+    }
+
+    /// Waits behind a step that gave nothing: it gives way behind the first such steps, and then it sleeps on the flag. `waits` of them
+    /// came before it in a row; answers how many there are with it, and 0 where the step gave something.
+    pub fn wait_after<H: Hub<Pass = P>, R: Wait>(
+        &mut self,
+        rt: &R,
+        hub: &H,
+        step: Step,
+        waits: u32,
+    ) -> u32
+        requires served { IsServedBy (H.shape hub.now) self.old.section self.old.plan }
+        requires answered { HasAnswer (H.shape hub.now) P.known self.old }
+        ensures answered { HasAnswer (H.shape hub.now) P.known self.new }
+        ensures same { self.new ≡ record self.old { doing = self.new.doing } }
+    {
+        if step != Step::Waiting {
+            return 0;
+        }
+        if waits < TURNS_BEFORE_SLEEP {
+            thread::yield_now();
+        } else {
+            let listens = self.pass.mark().is_some();
+            self.rest(rt, hub, sleep_of(listens, waits - TURNS_BEFORE_SLEEP));
+        }
+        waits.saturating_add(1)
+    }
+}
+
+// How long a sleep is that has so many before it in a row, in microseconds: twice as long as the one before, up to the longest, which is
+// shorter for a listener, since it has to read meanwhile.
+pub(crate) fn sleep_of(listens: bool, sleeps: u32) -> u64 {
+    let longest = if listens {
+        LISTENER_SLEEP
+    } else {
+        LONGEST_SLEEP
+    };
+    (FIRST_SLEEP << sleeps.min(9)).min(longest)
+}
+
+/// What two parts of a round of turns come to: Ended where both are over, and Waiting where neither did more than wait.
+pub fn both_steps(first: Step, second: Step) -> Step
+    ensures first { result ≡ Step.Ended → first ≡ Step.Ended }
+    ensures second { result ≡ Step.Ended → second ≡ Step.Ended }
+{
+    match (first, second) {
+        (Step::Did, _) | (_, Step::Did) => Step::Did,
+        (Step::Waiting, _) | (_, Step::Waiting) => Step::Waiting,
+        (Step::Ended, Step::Ended) => Step::Ended,
+    }
+}
