@@ -2,17 +2,19 @@
 use Rattle.std.proofs.Common.{◌≡◌, ℕ, ◌+◌, ◌<◌, ◌≤◌, suc, min, false, true, List, [], ◌∷◌, ◌++◌, length, drop, get_or, map, Option, None, Some, Result, Ok, Err, is_err, OnOk, sym, ap, ◌∙◌, subst, refl, inl, inr, arith, append_assoc, append-nil, add-one, drop-cons}
 use Rattle.std.specs.Prelude.{flat_map}
 use Rattle.std.specs.Io.KnownBytes.{Appends}
-use Rattle.std.proofs.lemmas.List.{drop_all}
+use Rattle.std.proofs.lemmas.List.{drop_all, map-id}
 use Rattle.std.proofs.lemmas.Bool.{cases_lt}
 use Rattle.pgn_base.specs.declared.source.Failed.{Failed}
 use Rattle.pgn_base.specs.declared.limits.TheConstants.{FIRST_XID}
 use Rattle.pgn_base.specs.Outside.{AppendsPrefix, Writes, HasCause}
 use Rattle.pgn_journal.specs.declared.tx.Tx.{Tx}
+use Rattle.pgn_language.specs.declared.scenario.ScriptLine.{ScriptLine}
 use Rattle.pgn_language.specs.declared.scenario.Section.{Section}
+use Rattle.pgn_model.specs.declared.item.Item.{Item}
 use Rattle.pgn_model.specs.declared.trace.Trace.{Trace}
-use Rattle.pgn_model.specs.Text.{entries_lines, entry_lines, joined, trace_lines, traces_lines}
+use Rattle.pgn_model.specs.Text.{entries_lines, entry_lines, item_lines, joined, trace_lines, traces_lines}
 use Rattle.pgn_text.specs.declared.out.Out.{Out}
-use Rattle.pgn_text.specs.Rendering.{GrewBut, IsOut, Puts}
+use Rattle.pgn_text.specs.Rendering.{GrewBut, IsOut, Puts, mark_of, marked, marked_items}
 
 -- a prefix of a text is a prefix of a longer one
 AppendsPrefix-more : (start held : Option (List ℕ)) (before text : List ℕ) → AppendsPrefix start held before → AppendsPrefix start held (before ++ text)
@@ -68,6 +70,19 @@ joined-append (line ∷ lines) second = ap (λ t. line ++ 10 ∷ [] ++ t) (joine
 
 pub Puts-lines : {S : Type 0} {held : S → Option (List ℕ)} {faults : S → ℕ} {s₀ s₁ s₂ : S} {o₀ o₁ o₂ : Out} (first second : List (List ℕ)) → Puts held faults s₀ o₀ s₁ o₁ (joined first) → Puts held faults s₁ o₁ s₂ o₂ (joined second) → Puts held faults s₀ o₀ s₂ o₂ (joined (first ++ second))
 Puts-lines first second a b = Puts-same (sym (joined-append first second)) (Puts-trans a b)
+
+-- a line behind a mark
+pub Puts-behind : {S : Type 0} {held : S → Option (List ℕ)} {faults : S → ℕ} {s₀ s₁ s₂ : S} {o₀ o₁ o₂ : Out} {mark : List ℕ} (line : List ℕ) → Puts held faults s₀ o₀ s₁ o₁ mark → Puts held faults s₁ o₁ s₂ o₂ (line ++ 10 ∷ []) → Puts held faults s₀ o₀ s₂ o₂ (mark ++ line ++ 10 ∷ [])
+Puts-behind {mark = mark} line a b = Puts-same (sym (append_assoc mark line (10 ∷ []))) (Puts-trans a b)
+
+-- one line
+pub Puts-one : {S : Type 0} {held : S → Option (List ℕ)} {faults : S → ℕ} {s₀ s₁ : S} {o₀ o₁ : Out} (line : List ℕ) → Puts held faults s₀ o₀ s₁ o₁ (line ++ 10 ∷ []) → Puts held faults s₀ o₀ s₁ o₁ (joined (line ∷ []))
+Puts-one line a = Puts-same (sym (append-nil (line ++ 10 ∷ []))) a
+
+-- without a mark the lines of items are as they are
+pub marked_items-none : (lines : List ScriptLine) (items : List Item) → marked_items None lines items ≡ flat_map (item_lines lines) items
+marked_items-none lines [] = refl
+marked_items-none lines (item ∷ items) = ap (λ t. t ++ marked_items None lines items) (map-id (item_lines lines item)) ∙ ap (λ t. item_lines lines item ++ t) (marked_items-none lines items)
 
 -- after a failure any text is as good as given out, whatever is kept back
 pub Puts-failed : {S : Type 0} (held : S → Option (List ℕ)) (faults : S → ℕ) (sink : S) (kept now : List ℕ) (so_far : Result Unit Failed) (text : List ℕ) → is_err so_far ≡ true
@@ -157,6 +172,12 @@ pub Toward-lines : {S A : Type 0} {held : S → Option (List ℕ)} {faults : S �
 Toward-lines f xs i x t e h p =
     Toward-more t p (next (λ ys. joined (flat_map f ys)) xs i x h e ∙ joined-append (f x) (flat_map f (drop (i + 1) xs)))
 
+-- the line of an item of a list is given out behind its mark
+pub Toward-marked : {S A : Type 0} {held : S → Option (List ℕ)} {faults : S → ℕ} {s₀ s₁ s₂ : S} {o₀ o₁ o₂ : Out} {whole : List ℕ} (mark : Option ℕ) (f : A → List ℕ) (xs : List A) (i : ℕ) (x : A)
+    → Toward held faults s₀ o₀ s₁ o₁ (joined (marked mark (map f (drop i xs)))) whole → x ≡ get_or xs i x → i < length xs → Puts held faults s₁ o₁ s₂ o₂ (mark_of mark ++ f x ++ 10 ∷ [])
+    → Toward held faults s₀ o₀ s₂ o₂ (joined (marked mark (map f (drop (i + 1) xs)))) whole
+Toward-marked mark f xs i x t e h p = Toward-more t p (next (λ ys. joined (marked mark (map f ys))) xs i x h e)
+
 -- the lines of the next transaction are given out
 pub Toward-entry : {S : Type 0} {held : S → Option (List ℕ)} {faults : S → ℕ} {s₀ s₁ s₂ : S} {o₀ o₁ o₂ : Out} {whole : List ℕ} (journal : List Tx) (k : ℕ) (tx : Tx)
     → Toward held faults s₀ o₀ s₁ o₁ (joined (entries_lines (FIRST_XID + k) (drop k journal))) whole → tx ≡ get_or journal k tx → k < length journal → Puts held faults s₁ o₁ s₂ o₂ (joined (entry_lines (FIRST_XID + k) tx))
@@ -206,6 +227,6 @@ pub ruleset out_laws = (Puts-failed, Puts-kept, Puts-written)
 
 pub ruleset send_laws = (Puts-none, Puts-failed, Puts-sent)
 
-pub ruleset put_laws = (Puts-trans, Puts-none, Puts-lines)
+pub ruleset put_laws = (Puts-trans, Puts-none, Puts-behind)
 
-pub ruleset loop_laws = (Toward-none, Toward-line, Toward-lines, Toward-entry, Toward-section, Toward-all, Toward-last)
+pub ruleset loop_laws = (Toward-none, Toward-line, Toward-lines, Toward-marked, Toward-entry, Toward-section, Toward-all, Toward-last)

@@ -1,9 +1,11 @@
 -- What is given out to a sink through a buffer.
-use Rattle.std.specs.Prelude.{◌≡◌, ℕ, ◌<◌, ◌≤◌, List, [], ◌∷◌, ◌++◌, codes, flat_map, length, drop, Option, None, Some, MatchResult}
+use Rattle.std.specs.Prelude.{◌≡◌, ℕ, ◌<◌, ◌≤◌, ◌==◌, Bool, cond, List, [], ◌∷◌, ◌++◌, codes, decimal, flat_map, length, drop, map, Option, None, Some, MatchResult}
 use Rattle.pgn_base.specs.Outside.{AppendsPrefix, HasCause}
 use Rattle.pgn_language.specs.declared.scenario.ScriptLine.{ScriptLine}
 use Rattle.pgn_base.specs.declared.note.Note.{Note}
-use Rattle.pgn_model.specs.Text.{line_text}
+use Rattle.pgn_language.specs.declared.scenario.Section.{Section}
+use Rattle.pgn_model.specs.declared.item.Item.{Item}
+use Rattle.pgn_model.specs.Text.{item_lines, line_text}
 use Rattle.pgn_language.specs.Quotes.{doubled_byte, quoted}
 use Rattle.pgn_text.specs.declared.line_cursor.LineCursor.{LineCursor}
 use Rattle.pgn_text.specs.declared.out.Out.{Out}
@@ -11,6 +13,24 @@ use Rattle.pgn_text.specs.declared.out.Out.{Out}
 -- a line with its LF
 abbrev pub ended : List ℕ → List ℕ
 ended line = line ++ 10 ∷ []
+
+-- what stands before each line where lines of several sessions are mixed: the session's number and a bar
+abbrev pub mark_of : Option ℕ → List ℕ
+mark_of None = []
+mark_of (Some n) = decimal n ++ codes "| "
+
+-- lines, each behind the mark
+abbrev pub marked : Option ℕ → List (List ℕ) → List (List ℕ)
+marked mark lines = map (λ line. mark_of mark ++ line) lines
+
+-- the lines of items of a trace of these script lines, each behind the mark
+abbrev pub marked_items : Option ℕ → List ScriptLine → List Item → List (List ℕ)
+marked_items mark lines items = flat_map (λ item. marked mark (item_lines lines item)) items
+
+-- the script lines of the section of a number
+abbrev pub lines_of : ℕ → List Section → List ScriptLine
+lines_of n [] = []
+lines_of n (section ∷ sections) = cond (section.no == n) section.lines (lines_of n sections)
 
 -- a notification behind its first quote
 abbrev pub note_behind : Note → List ℕ

@@ -10,12 +10,17 @@
 
 mod item;
 mod journal;
+mod line;
 mod line_cursor;
 mod note;
+mod one_item;
 mod out;
+mod queue_line;
+mod refusal;
 mod section;
 mod text;
 
 pub use line_cursor::LineCursor;
+pub use one_item::{lines_of, write_item};
 pub use out::Out;
 pub use text::render;

@@ -3,7 +3,7 @@
 ghost use Rattle.std.specs.Prelude.{◌++◌, codes, decimal, flat_map, map};
 ghost use Rattle.pgn_model.specs.Text.{channel_line, delivery_line, joined, note_line};
 ghost use Rattle.pgn_language.specs.Quotes.{doubled_byte};
-ghost use Rattle.pgn_text.specs.Rendering.{Puts, ended, note_behind};
+ghost use Rattle.pgn_text.specs.Rendering.{Puts, ended, mark_of, marked, note_behind};
 
 use crate::Out;
 use memchr::memchr;
@@ -76,39 +76,46 @@ impl Out {
     }
 
     // The line of a notification that was received.
-    fn delivery_line<K: Sink>(&mut self, sink: &mut K, delivery: &Delivery)
-        ensures { Puts K.held K.faults sink.old self.old sink.new self.new (ended (delivery_line delivery.now)) }
+    fn delivery_line<K: Sink>(&mut self, sink: &mut K, mark: Option<u32>, delivery: &Delivery)
+        ensures { Puts K.held K.faults sink.old self.old sink.new self.new (ended (mark_of mark ++ delivery_line delivery.now)) }
     {
+        self.mark(sink, mark);
         self.sender(sink, delivery);
         self.note(sink, &delivery.note);
     }
 
-    /// The lines of the notifications that a read received.
+    // The lines of the notifications that a read received.
     #[tactic(auto, using(crate::proofs::PutsLaws::loop_laws))]
-    pub fn delivery_lines<K: Sink>(&mut self, sink: &mut K, got: &[Delivery])
-        ensures { Puts K.held K.faults sink.old self.old sink.new self.new (joined (map delivery_line got.now)) }
+    pub(crate) fn delivery_lines<K: Sink>(
+        &mut self,
+        sink: &mut K,
+        mark: Option<u32>,
+        got: &[Delivery],
+    )
+        ensures { Puts K.held K.faults sink.old self.old sink.new self.new (joined (marked mark (map delivery_line got.now))) }
     {
         for delivery in got {
-            self.delivery_line(sink, delivery);
+            self.delivery_line(sink, mark, delivery);
         }
     }
 
     // The row of a channel.
-    fn channel_line<K: Sink>(&mut self, sink: &mut K, name: &Name)
-        ensures { Puts K.held K.faults sink.old self.old sink.new self.new (ended (channel_line name.now)) }
+    fn channel_line<K: Sink>(&mut self, sink: &mut K, mark: Option<u32>, name: &Name)
+        ensures { Puts K.held K.faults sink.old self.old sink.new self.new (ended (mark_of mark ++ channel_line name.now)) }
     {
+        self.mark(sink, mark);
         self.text(sink, b"  \"");
         self.doubled(sink, b'"', name.as_bytes());
         self.text(sink, b"\"\n");
     }
 
-    /// The rows of the channels that a session listens to.
+    // The rows of the channels that a session listens to.
     #[tactic(auto, using(crate::proofs::PutsLaws::loop_laws))]
-    pub fn channel_lines<K: Sink>(&mut self, sink: &mut K, names: &[Name])
-        ensures { Puts K.held K.faults sink.old self.old sink.new self.new (joined (map channel_line names.now)) }
+    pub(crate) fn channel_lines<K: Sink>(&mut self, sink: &mut K, mark: Option<u32>, names: &[Name])
+        ensures { Puts K.held K.faults sink.old self.old sink.new self.new (joined (marked mark (map channel_line names.now))) }
     {
         for name in names {
-            self.channel_line(sink, name);
+            self.channel_line(sink, mark, name);
         }
     }
 }

@@ -5,7 +5,7 @@ ghost use Rattle.pgn_base.specs.declared.limits.TheConstants.{PID_BASE};
 ghost use Rattle.pgn_model.specs.Text.{end_line, joined, section_line, trace_lines, traces_lines};
 ghost use Rattle.pgn_text.specs.Rendering.{Puts, ended};
 
-use crate::Out;
+use crate::{LineCursor, Out};
 use pgn_base::{PID_BASE, SessionNo, Sink, Xid};
 use pgn_language::Section;
 use pgn_model::Trace;
@@ -59,7 +59,14 @@ impl Out {
         ensures { Puts K.held K.faults sink.old self.old sink.new self.new (joined (trace_lines section.now trace.now)) }
     {
         self.section_line(sink, section);
-        self.items(sink, section.lines.as_slice(), trace.items.as_slice());
+        let mut cursor = LineCursor::new();
+        self.items(
+            sink,
+            section.lines.as_slice(),
+            &mut cursor,
+            None,
+            trace.items.as_slice(),
+        );
         self.end(sink, &trace.last);
     }
 

@@ -1,0 +1,5 @@
+use Rattle.pgn_text.proofs.PutsLaws.{Puts-behind}
+use Rattle.pgn_text.proofs.out.Out.number_line.Goals as goal
+
+pub returns : goal.returns
+returns g c = Puts-behind _ c.mark.ensures c.number_end.ensures

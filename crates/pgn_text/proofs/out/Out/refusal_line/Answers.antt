@@ -1,0 +1,5 @@
+use Rattle.pgn_text.proofs.PutsLaws.{Puts-behind, Puts-trans}
+use Rattle.pgn_text.proofs.out.Out.refusal_line.Goals as goal
+
+pub returns : goal.returns
+returns g c = Puts-behind _ c.mark.ensures (Puts-trans (Puts-trans c.text.ensures c.refusal.ensures) c.text-2.ensures)
