@@ -1,5 +1,5 @@
 -- What is given out to a sink through a buffer.
-use Rattle.std.specs.Prelude.{◌≡◌, ℕ, ◌<◌, ◌≤◌, ◌==◌, Bool, cond, List, [], ◌∷◌, ◌++◌, codes, decimal, flat_map, length, drop, map, Option, None, Some, MatchResult}
+use Rattle.std.specs.Prelude.{◌≡◌, ℕ, ◌<◌, ◌≤◌, ◌==◌, cond, List, [], ◌∷◌, ◌++◌, codes, decimal, flat_map, length, drop, map, Option, None, Some, MatchResult}
 use Rattle.pgn_base.specs.Outside.{AppendsPrefix, HasCause}
 use Rattle.pgn_language.specs.declared.scenario.ScriptLine.{ScriptLine}
 use Rattle.pgn_base.specs.declared.note.Note.{Note}
