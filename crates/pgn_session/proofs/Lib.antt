@@ -4,6 +4,8 @@ pub mod KnownLaws
 pub mod ReadLaws
 -- a session that is over, and one that begins
 pub mod OverLaws
+-- a read between two lines
+pub mod FirstReadLaws
 -- a line that the block answers
 pub mod BlockLaws
 -- a commit

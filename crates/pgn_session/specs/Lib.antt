@@ -16,3 +16,5 @@ pub mod Runs
 pub mod Examples
 -- a script that grows
 pub mod Feed
+-- before which lines a session reads
+pub mod FirstRead

@@ -7,8 +7,9 @@
 //!
 //! `new` makes a session that has rested. `step` takes it from `HasRest` to `HasAnswer`, and only where it is over or the step was
 //! refused has it rested still; `idle` leads from `HasAnswer` to `HasRest`, so that a session that waits reads between its looks.
-//! Between `step` and `idle`, or behind `idle`, a session that waits may `rest`: it sleeps on its flag, which counts as looks. `turn` is a
-//! step with a read behind it, and `wait_after` a wait that becomes longer.
+//! Before a `step`, `read_before_line` reads with the set as it is, where the next line may add a channel.
+//! Between `step` and `idle`, or behind `idle`, a session that waits may `rest`: it sleeps on its flag, which counts as looks. `turn` is
+//! a step with both reads, and `wait_after` a wait that becomes longer.
 //! After a step that ended, `finish_read` reads once more and `into_log` gives the trace. A refused `step` may be made again, or the
 //! session calls `give_up`. `meet` lets another session hear what this one knows.
 //!
@@ -36,6 +37,7 @@ mod commit;
 mod doing;
 pub mod examples;
 mod feeding;
+mod first_read;
 mod line;
 mod meeting;
 mod reading;

@@ -21,7 +21,8 @@ const LISTENER_SLEEP: u64 = 1_000;
 const LONGEST_SLEEP: u64 = 16_000;
 
 impl<P: PassView + Send + Drop> Session<P> {
-    /// A step, and a read where the session was woken, unless it is over. The error is that memory did not suffice for either.
+    /// A step, with a read before it where the next line asks for one, and a read behind it where the session was woken, unless it is over.
+    /// The error is that memory did not suffice for one of them.
     #[tactic(auto, using(crate::proofs::LawfulLaws::turn_laws))]
     pub fn turn<H: Hub<Pass = P>, R: Wait>(
         &mut self,
@@ -37,6 +38,7 @@ impl<P: PassView + Send + Drop> Session<P> {
         ensures grows { Begins self.old.items.items self.new.items.items }
         ensures lawful { IsLawful (H.shape hub.now) self.new }
     {
+        self.read_before_line(alloc, hub)?;
         let step = self.step(rt, alloc, hub)?;
         if step == Step::Ended {
             return Ok(Step::Ended);

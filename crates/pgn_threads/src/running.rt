@@ -36,7 +36,7 @@ fn give_up<P: PassView + Send + Drop, H: Hub<Pass = P>>(hub: &H, session: &mut S
     session.give_up(hub);
 }
 
-// Takes step after step, sleeps where it waits, and reads between them, until the session is over or is refused memory.
+// Takes step after step, sleeps where it waits, and reads before and between them, until the session is over or is refused memory.
 fn go_on<P: PassView + Send + Drop, H: Hub<Pass = P>, R: Wait>(
     rt: &R,
     alloc: Global,
@@ -50,6 +50,7 @@ fn go_on<P: PassView + Send + Drop, H: Hub<Pass = P>, R: Wait>(
 {
     let mut waits = 0;
     for _ in rt.forever() {
+        session.read_before_line(alloc, hub)?;
         let step = session.step(rt, alloc, hub)?;
         if step == Step::Ended {
             return Ok(());

@@ -1,0 +1,16 @@
+use Rattle.std.proofs.Common.{sym}
+use Rattle.pgn_session.specs.Standing.{terms_of}
+use Rattle.pgn_session.proofs.FirstReadLaws.{learned-between, read-between}
+use Rattle.pgn_session.proofs.session.Session.read_first.Goals as goal
+
+pub returns-in_err-_to-clause-rested : goal.returns-in_err-_to-clause-rested
+returns-in_err-_to-clause-rested g c =
+    let s = c.args.self.now in
+    learned-between (terms_of (g.H.Hub.shape c.args.hub.now) s.section s.patience) s.plan s.done s.block s.set.channels s.doing (g.P.PassView.known s.pass) (g.P.PassView.known c.read_on.new.pass) s.items.items c.read_on.new.items.items
+    c.requires.between c.in_err-_to.ensures.refused c.in_err-_to.ensures.refused_shows_nothing c.requires.rested
+
+pub returns-clause-rested : goal.returns-clause-rested
+returns-clause-rested g c =
+    let s = c.args.self.now in
+    read-between (terms_of (g.H.Hub.shape c.args.hub.now) s.section s.patience) s.plan s.done s.block s.set.channels s.doing (g.P.PassView.known s.pass) (g.P.PassView.known c.read_on.new.pass) s.items.items c.read_on.new.items.items c.in-Some.from c.in_ok-_to._to
+    c.requires.between c.requires.outside c.in_ok-_to.ensures.read (sym c.in-Some.ensures) c.requires.rested
