@@ -1,0 +1,4 @@
+pub mod FieldLaws
+pub mod LineLaws
+pub mod AnswerLaws
+pub mod QuotedLaws

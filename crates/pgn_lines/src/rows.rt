@@ -1,0 +1,41 @@
+ghost use Rattle.std.specs.Prelude.{◌≡◌, ℕ, MatchOption, IfOk};
+ghost use Rattle.pgn_base.specs.declared.note.Note.{Note};
+ghost use Rattle.pgn_lines.specs.Shown.{Shows, Unshown};
+ghost use Rattle.pgn_lines.specs.declared.shown.Shown.TheVariants as show;
+
+use crate::numbers::{after, long, parted, short};
+use crate::quoted::note_of;
+use crate::shown::Shown;
+use std::alloc::{AllocError, Global};
+
+/// The row of a usage.
+pub fn pages(line: &str) -> Option<Shown>
+    ensures { MatchOption result ((occupied limit : ℕ) → Unshown line.now (show.Pages occupied limit)) (Shows line.now) }
+{
+    let Some(row) = after(line, "  ") else {
+        return None;
+    };
+    let Some((in_use, last)) = parted(row, '/') else {
+        return None;
+    };
+    let Some(occupied) = long(in_use) else {
+        return None;
+    };
+    let Some(limit) = short(last) else {
+        return None;
+    };
+    Some(Shown::Pages { occupied, limit })
+}
+
+/// A notification of the journal.
+pub fn sent(alloc: Global, line: &str) -> Result<Option<Shown>, AllocError>
+    ensures { IfOk result (λ read. MatchOption read ((note : Note) → Unshown line.now (show.Sent note)) (Shows line.now)) }
+{
+    let Some(text) = after(line, "  ") else {
+        return Ok(None);
+    };
+    let Some(note) = note_of(alloc, text)? else {
+        return Ok(None);
+    };
+    Ok(Some(Shown::Sent { note }))
+}
