@@ -7,11 +7,11 @@ use Rattle.std.proofs.lemmas.Str.Pattern.{IsSplitOnceResult, split_after, split_
 use Rattle.pgn_lines.specs.Fields.{NotParted, IsParted}
 
 -- digits
-abbrev AreDigits : List ℕ → Type 0
+abbrev pub AreDigits : List ℕ → Type 0
 AreDigits [] = Unit {0}
 AreDigits (b ∷ bytes) = IsInRange 48 57 b × AreDigits bytes
 
-are-digits : IsDigitsTest AreDigits
+pub are-digits : IsDigitsTest AreDigits
 are-digits = record { empty = tt; parts = λ b bytes h. h; more = λ b bytes h k. (h, k) }
 
 no-mark-among : (mark : ℕ) (digits : List ℕ) → mark < 48 → AreDigits digits → (i : ℕ) → i < length digits → get_or digits i 0 ≢ mark

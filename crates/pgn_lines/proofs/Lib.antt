@@ -2,3 +2,8 @@ pub mod FieldLaws
 pub mod LineLaws
 pub mod AnswerLaws
 pub mod QuotedLaws
+pub mod FamilyLaws
+pub mod PartLaws
+pub mod AnswerParts
+pub mod OnceLaws
+pub mod ExampleLaws

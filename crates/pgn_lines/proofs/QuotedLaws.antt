@@ -2,7 +2,7 @@
 use Rattle.std.proofs.Common.{◌≡◌, ◌≢◌, ℕ, ◌+◌, ◌*◌, ◌<◌, ◌≤◌, ◌==◌, inl, inr, List, [], ◌∷◌, ◌++◌, Option, None, Some, length, drop, flat_map, slice_get, sym, ap, ◌∙◌, refl, subst, arith, append_assoc, length-append}
 use Rattle.std.proofs.lemmas.List.{drop_at}
 use Rattle.std.proofs.lemmas.Bool.{cases_Bool}
-use Rattle.pgn_language.specs.Quotes.{doubled_byte}
+use Rattle.pgn_language.specs.Quotes.{doubled_byte, quoted}
 use Rattle.pgn_language.specs.Tokens.{Inside, closed}
 use Rattle.pgn_language.specs.laws.Tokens.{IsClosed}
 use Rattle.pgn_language.proofs.TokenLaws.{quotes-tell}
@@ -57,6 +57,16 @@ is_enclosed quote text raw rest by h r =
           (ap text_of both, r ∙ ap (λ (n : ℕ). drop n text) (sym sizes) ∙ dropped quote text other more e);
     }
 
+-- a text between quotes ends at the first quote that no other follows
+pub quoted_parts : (quote : ℕ) (inner other rest more : List ℕ) → EndsQuote quote rest → EndsQuote quote more → flat_map (doubled_byte quote) inner ++ quote ∷ rest ≡ flat_map (doubled_byte quote) other ++ quote ∷ more
+    → (inner ≡ other) × (rest ≡ more)
+unfolding text_of size_of
+quoted_parts quote inner other rest more ends ends_too e =
+    let text : List ℕ = flat_map (doubled_byte quote) inner ++ quote ∷ rest in
+    let both = sym (spelled_closed quote text inner rest ends refl) ∙ spelled_closed quote text other more ends_too e in
+    let sizes : length (flat_map (doubled_byte quote) inner) + 1 ≡ length (flat_map (doubled_byte quote) other) + 1 = ap size_of both in
+    (ap text_of both, sym (dropped quote text inner rest refl) ∙ ap (λ (n : ℕ). drop n text) sizes ∙ dropped quote text other more e)
+
 -- a text has at most twice as many bytes with its quotes written twice
 doubled_short : (quote : ℕ) (text : List ℕ) → length (flat_map (doubled_byte quote) text) ≤ 2 * length text
 doubled_short quote [] = omega arith
@@ -72,3 +82,10 @@ pair_short text channel payload a b e long =
     let second : List ℕ = flat_map (doubled_byte 39) payload in
     let whole : length (34 ∷ (first ++ 34 ∷ [] ++ 44 ∷ 32 ∷ [] ++ 39 ∷ (second ++ 39 ∷ []))) ≡ length text = ap length e in
     omega (arith, whole, doubled_short 34 channel, doubled_short 39 payload, length-append (first ++ 34 ∷ [] ++ 44 ∷ 32 ∷ []) (39 ∷ (second ++ 39 ∷ [])), length-append (first ++ 34 ∷ []) (44 ∷ 32 ∷ []), length-append first (34 ∷ []), length-append second (39 ∷ []))
+
+-- as is a name between its quotes
+pub name_short : (text name : List ℕ) → length name ≤ 63 → quoted 34 name ≡ text → 65536 < length text → ⊥
+name_short text name a e long =
+    let inner : List ℕ = flat_map (doubled_byte 34) name in
+    let whole : length (34 ∷ (inner ++ 34 ∷ [])) ≡ length text = ap length e in
+    omega (arith, whole, doubled_short 34 name, length-append inner (34 ∷ []))

@@ -92,3 +92,8 @@ pair_text channel payload = quoted 34 channel ++ codes ", " ++ quoted 39 payload
 pub record IsPair (text channel payload : List ℕ) : Type 0 where
   pub spelled : pair_text channel payload ≡ text
   pub alone : (a b : List ℕ) → pair_text a b ≡ text → (a ≡ channel) × (b ≡ payload)
+
+-- a text is a name between double quotes, and no other
+pub record IsAlone (text name : List ℕ) : Type 0 where
+  pub spelled : quoted 34 name ≡ text
+  pub alone : (other : List ℕ) → quoted 34 other ≡ text → other ≡ name

@@ -106,3 +106,48 @@ Unshown line shown = IsHeld shown → shown_text shown ≡ line → ⊥
 -- what a line shows is read, and nothing exactly where it shows nothing
 abbrev pub Reads : List ℕ → Option Shown → Type 0
 Reads line read = MatchOption read ((shown : Shown) → Unshown line shown) (Shows line)
+
+-- The families of lines.
+
+-- which part of an output a line belongs to, or what it tells of
+pub data Family : Type 0 where
+  Entries : Family
+  Events : Family
+  Answers : Family
+  Rows : Family
+
+-- the head of a journal and the first lines of its entries; what a session did; what it was answered, and the last line of its
+-- section; rows, which belong to the line before them
+abbrev pub family_of : Shown → Family
+family_of (Journal entries) = Entries
+family_of (Committed xid session notes) = Entries
+family_of (Aborted xid session queued notes) = Entries
+family_of (Sent note) = Rows
+family_of (Enlist base point) = Events
+family_of (Publish xid) = Events
+family_of (QueueFull full) = Events
+family_of Leave = Events
+family_of (Warn warning) = Answers
+family_of (Tagged done) = Answers
+family_of (Refuse refusal) = Answers
+family_of (Channel name) = Rows
+family_of (Measured at floor_mark holder) = Events
+family_of (Pages occupied limit) = Rows
+family_of (Raise value) = Events
+family_of (Found value) = Events
+family_of (TimedOut looks) = Events
+family_of (Read from to) = Events
+family_of (Received delivery) = Rows
+family_of (End mark) = Answers
+
+-- a line shows nothing of a family
+abbrev pub ShowsNo : Family → List ℕ → Type 0
+ShowsNo family line = (shown : Shown) → family_of shown ≡ family → Unshown line shown
+
+-- what a line shows is read, and nothing only where it shows nothing of a family
+abbrev pub ReadsOf : Family → List ℕ → Option Shown → Type 0
+ReadsOf family line read = MatchOption read (ShowsNo family line) (Shows line)
+
+-- a line shows one thing at most
+abbrev pub ShownOnce : Type 0
+ShownOnce = (line : List ℕ) (a b : Shown) → Shows line a → Shows line b → a ≡ b

@@ -17,7 +17,7 @@ use crate::shown::Shown;
 use pgn_base::{Needs, Refusal, Tag, Warning, Which};
 use std::alloc::{AllocError, Global};
 
-/// A warning.
+// A warning.
 #[tactic(auto, using(crate::proofs::AnswerLaws::no_warning))]
 pub fn warning(line: &str) -> Option<Shown>
     ensures { MatchOption result ((warning : Warning) → Unshown line.now (show.Warn warning)) (Shows line.now) }

@@ -1,24 +1,25 @@
-//! What a line of an output shows: one function for each kind of line, each exact in both directions.
+//! What a line of an output shows, exact in both directions.
 //!
-//! Each takes a line without its LF. It gives what the line shows (`Shown`), such that the text of this is the line and its
-//! numbers, names and notifications are such as their types hold; and nothing exactly where the line shows nothing of this kind.
-//! The lines that are known beforehand, a section's head and the lines of its script, are compared and not read.
+//! `read_line` takes a line without its LF. It gives what the line shows (`Shown`), such that the text of this is the line and its
+//! numbers, names and notifications are such as their types hold; and nothing exactly where the line shows nothing. A line shows
+//! one thing at most. The lines that are known beforehand, a section's head and the lines of its script, are compared and not
+//! read.
 //!
-//! `publish("+publish 3")` gives `Shown::Publish` with the transaction number 3, and `publish("+publish 03")` nothing.
+//! `read_line(alloc, "+publish 3")` gives `Shown::Publish` with the transaction number 3, and `read_line(alloc, "+publish 03")`
+//! nothing. There is a function for each kind of line, and one for each family of kinds.
 #![tactic(auto)]
 
 mod answers;
 mod entries;
 mod events;
+pub mod examples;
 mod fields;
+pub mod laws;
+mod line;
 mod numbers;
 mod quoted;
 mod rows;
 mod shown;
 
-pub use answers::{end, no_savepoint, refused, tagged, warning};
-pub use entries::{aborted, committed, journal};
-pub use events::{enlist, found, leave, measured, publish, queue_full, raise, read, timed_out};
-pub use quoted::note_of;
-pub use rows::{pages, sent};
+pub use line::read_line;
 pub use shown::Shown;

@@ -1,8 +1,9 @@
 ghost use Rattle.std.specs.Prelude.{◌≡◌, ℕ, List, ◌<◌, ◌≤◌, length, MatchOption, IfOk, string_bytes};
 ghost use Rattle.pgn_base.specs.declared.limits.TheConstants.{LINE_BYTES_MAX};
 ghost use Rattle.pgn_base.specs.Texts.{IsName, IsPayload};
+ghost use Rattle.pgn_language.specs.Quotes.{quoted};
 ghost use Rattle.pgn_quotes.specs.Texts.{single};
-ghost use Rattle.pgn_lines.specs.Fields.{IsEnclosed, IsPair, NotEnclosed, pair_text};
+ghost use Rattle.pgn_lines.specs.Fields.{IsAlone, IsEnclosed, IsPair, NotEnclosed, pair_text};
 ghost use Rattle.pgn_base.specs.Notes.{IsNote};
 ghost use Rattle.pgn_base.specs.declared.note.Note.{Note};
 ghost use Rattle.pgn_model.specs.Text.{note_text};
@@ -85,6 +86,39 @@ pub fn note_of(alloc: Global, text: &str) -> Result<Option<Note>, AllocError>
         return Ok(None);
     };
     Ok(Some(Note { channel, payload }))
+}
+
+/// What stands between the double quotes of a text, as it is written.
+pub fn alone_of(text: &str) -> Option<Enclosed<'_>>
+    requires short { length text.now ≤ LINE_BYTES_MAX }
+    ensures { MatchOption result ((name : List ℕ) → quoted 34 name ≡ text.now → ⊥) (λ inner. IsAlone text.now (single inner.quote inner.raw.now)) }
+{
+    let Some(start) = after(text, "\"") else {
+        return None;
+    };
+    let Some(front) = enclosed(start, b'"') else {
+        return None;
+    };
+    if !front.rest.is_empty() {
+        return None;
+    }
+    Some(front.inside)
+}
+
+/// The name that a text is, between double quotes.
+pub fn quoted_name(alloc: Global, text: &str) -> Result<Option<Name>, AllocError>
+    ensures { IfOk result (λ read. MatchOption read ((name : List ℕ) → IsName name → quoted 34 name ≡ text.now → ⊥) (λ name. IsName name × (quoted 34 name ≡ text.now))) }
+{
+    if text.len() > LINE_BYTES_MAX {
+        return Ok(None);
+    }
+    let Some(inner) = alone_of(text) else {
+        return Ok(None);
+    };
+    let Some(name) = name_of(unquoted(alloc, inner)?)? else {
+        return Ok(None);
+    };
+    Ok(Some(name))
 }
 
 /// The name of this text, if it is one.

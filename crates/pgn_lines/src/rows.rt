@@ -1,11 +1,13 @@
-ghost use Rattle.std.specs.Prelude.{◌≡◌, ℕ, MatchOption, IfOk};
+ghost use Rattle.std.specs.Prelude.{◌≡◌, ℕ, List, MatchOption, IfOk};
+ghost use Rattle.pgn_base.specs.declared.note.Delivery.{Delivery};
 ghost use Rattle.pgn_base.specs.declared.note.Note.{Note};
 ghost use Rattle.pgn_lines.specs.Shown.{Shows, Unshown};
 ghost use Rattle.pgn_lines.specs.declared.shown.Shown.TheVariants as show;
 
-use crate::numbers::{after, long, parted, short};
-use crate::quoted::note_of;
+use crate::numbers::{after, long, parted, short, short_then, xid_then};
+use crate::quoted::{note_of, quoted_name};
 use crate::shown::Shown;
+use pgn_base::Delivery;
 use std::alloc::{AllocError, Global};
 
 /// The row of a usage.
@@ -38,4 +40,37 @@ pub fn sent(alloc: Global, line: &str) -> Result<Option<Shown>, AllocError>
         return Ok(None);
     };
     Ok(Some(Shown::Sent { note }))
+}
+
+/// The row of a channel.
+pub fn channel(alloc: Global, line: &str) -> Result<Option<Shown>, AllocError>
+    ensures { IfOk result (λ read. MatchOption read ((name : List ℕ) → Unshown line.now (show.Channel name)) (Shows line.now)) }
+{
+    let Some(text) = after(line, "  ") else {
+        return Ok(None);
+    };
+    let Some(name) = quoted_name(alloc, text)? else {
+        return Ok(None);
+    };
+    Ok(Some(Shown::Channel { name }))
+}
+
+/// A notification that was received.
+pub fn received(alloc: Global, line: &str) -> Result<Option<Shown>, AllocError>
+    ensures { IfOk result (λ read. MatchOption read ((delivery : Delivery) → Unshown line.now (show.Received delivery)) (Shows line.now)) }
+{
+    let Some(row) = after(line, "  ") else {
+        return Ok(None);
+    };
+    let Some((xid, at_pid)) = xid_then(row, "") else {
+        return Ok(None);
+    };
+    let Some((pid, text)) = short_then(at_pid, "") else {
+        return Ok(None);
+    };
+    let Some(note) = note_of(alloc, text)? else {
+        return Ok(None);
+    };
+    let delivery = Delivery { xid, pid, note };
+    Ok(Some(Shown::Received { delivery }))
 }
