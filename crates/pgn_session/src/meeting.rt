@@ -18,6 +18,7 @@ const LOOKS_BEFORE_SLEEP: u32 = 16;
 
 /// A word on which two halves of some work meet before either begins: the one on a new thread, and the caller's. Where no thread could be
 /// had they don't meet, and neither begins. No contract knows who was first at the word.
+#[derive(Drop)]
 pub struct Meeting {
     word: AtomicU64,
 }
