@@ -199,6 +199,13 @@ impl ListenSet {
         is_in(&self.places, channel)
     }
 
+    /// The channels in order, each in its place. A place is empty where its channel was left.
+    pub fn places(&self) -> &[Option<Name>]
+        ensures { listed result.now ≡ self.now.channels }
+    {
+        &self.places
+    }
+
     pub fn is_empty(&self) -> bool
         ensures { result ≡ (length self.now.channels == 0) }
     {
