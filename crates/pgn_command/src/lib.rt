@@ -16,12 +16,12 @@ mod bytes;
 mod commands;
 mod grammar;
 mod lexer;
+mod line_parsing;
 mod parser;
-mod reading;
 mod statement;
 mod texts;
 mod token;
 mod verb;
 
 pub use bytes::{blanks, is_blank};
-pub use reading::parse_line;
+pub use line_parsing::parse_line;

@@ -18,9 +18,9 @@ mod labels;
 mod lines;
 mod meta;
 mod parts;
-mod reading;
 mod said;
+mod scenario_reading;
 mod so_far;
 mod texts;
 
-pub use reading::read_scenario;
+pub use scenario_reading::read_scenario;

@@ -1,6 +1,6 @@
 use Rattle.std.proofs.Common.{sym, ◌∙◌}
 use Rattle.pgn_scenario.proofs.ReadingLaws.{reads-large, reads-faulty, finish-reads, read-sound}
-use Rattle.pgn_scenario.proofs.reading.read_scenario.Goals as goal
+use Rattle.pgn_scenario.proofs.scenario_reading.read_scenario.Goals as goal
 
 pub returns-then-bytes-gt-INPUT_BYTES_MAX-clause-reads : goal.returns-then-bytes-gt-INPUT_BYTES_MAX-clause-reads
 returns-then-bytes-gt-INPUT_BYTES_MAX-clause-reads c = reads-large c.args.bytes.now c.if-bytes-gt-INPUT_BYTES_MAX.true

@@ -7,7 +7,7 @@ use Rattle.pgn_language.proofs.ValidForms.{readings-valid}
 use Rattle.pgn_command.specs.Reading.{stated, outcome}
 use Rattle.pgn_command.specs.Statements.{meant}
 use Rattle.pgn_command.proofs.CommandSteps.{stated-reads}
-use Rattle.pgn_command.proofs.reading.parse_line.Goals as goal
+use Rattle.pgn_command.proofs.line_parsing.parse_line.Goals as goal
 
 -- what is told is what the line reads as
 told : (line : List ℕ) (end : ℕ) (some : List Token) (result : Result Command ℕ) → some ≡ tokens line → end ≡ length line → stated end some ≡ result → ReadsAs line (outcome result)

@@ -2,7 +2,7 @@ use Rattle.std.proofs.Common.{◌≡◌, ◌+◌, ◌<◌, ◌≤◌, length}
 use Rattle.pgn_base.specs.declared.limits.TheConstants.{INPUT_BYTES_MAX}
 use Rattle.pgn_language.specs.Lines.{lines_of}
 use Rattle.pgn_scenario.specs.Steps.{at_start, steps}
-use Rattle.pgn_scenario.proofs.reading.read_lines.Given as goal
+use Rattle.pgn_scenario.proofs.scenario_reading.read_lines.Given as goal
 
 abbrev pub invariant-loop-rest : goal.invariant-loop-rest
 invariant-loop-rest l = record {
