@@ -1,18 +1,21 @@
 -- Sessions that read once more, and then have read up to what every one was told.
-use Rattle.std.proofs.Common.{◌≡◌, ℕ, zero, suc, ◌+◌, ◌<◌, ◌≤◌, List, [], ◌∷◌, length, set, get_or, map, take, Option, None, Some, IfSome, All, sym, ap, ◌∙◌, refl, subst, arith}
+use Rattle.std.proofs.Common.{◌≡◌, inl, inr, Bool, true, false, cond, ◌++◌, ℕ, zero, suc, ◌+◌, ◌<◌, ◌≤◌, List, [], ◌∷◌, length, set, get_or, map, take, Option, None, Some, IfSome, All, sym, ap, ◌∙◌, refl, subst, arith}
 use Rattle.std.proofs.lemmas.Option.{IfSome_then}
-use Rattle.std.proofs.lemmas.List.{take_all}
+use Rattle.std.specs.Prelude.{nat_lt}
+use Rattle.std.proofs.lemmas.List.{get_or-map, map-set, take_all}
 use Rattle.std.proofs.Math.Seq.{map-set_same}
 use Rattle.std.proofs.lemmas.List.Elements.{All-set, All-more}
+use Rattle.pgn_base.specs.declared.note.Delivery.{Delivery}
 use Rattle.pgn_model.specs.declared.item.Item.{Item}
+use Rattle.pgn_model.specs.declared.item.Item.TheVariants.{Read}
 use Rattle.pgn_hub.specs.declared.known.Known.{Known}
 use Rattle.pgn_hub.specs.Shape.{Shape}
 use Rattle.pgn_session.specs.declared.session.Session.{Session}
 use Rattle.pgn_session.specs.Parts.{HasFinished, HasFinishedFrom}
 use Rattle.pgn_session.specs.Whole.{HasRest}
 use Rattle.pgn_threads.specs.Parts.{HasReadAll}
-use Rattle.pgn_session.specs.Runs.{IsOver, script_of}
-use Rattle.pgn_threads.specs.Drain.{passes_of, tolds_of, told_at, AreTop, HasReadOwn}
+use Rattle.pgn_session.specs.Runs.{IsOver, script_of, shown_of}
+use Rattle.pgn_threads.specs.Drain.{passes_of, tolds_of, told_at, AreTop, HasReadOwn, MayEndWithRead, MayReadAt}
 
 -- what a session was told is as it was, and it has read up to that
 record HasReadUp (old new : Known) : Type 0 where
@@ -32,6 +35,18 @@ finished-up old new set before after h = by old.mark refl h
           read = subst (λ (mark : Option ℕ). IfSome mark (λ m. new.told ≤ m)) (sym (ap (λ (k : Known). k.mark) read.known)) (omega (arith, told, read.after_told));
         }
 
+-- the items are as they were, or a read has come behind them
+finished-shown : (old new : Known) (set : List (List ℕ)) (before after : List Item) → HasFinished old new set before after → MayEndWithRead before after
+finished-shown old new set before after h = by old.mark h
+  where
+    moved : (from to : ℕ) (got : List Delivery) (b : Bool) → after ≡ cond b (before ++ Read from to got ∷ []) before → MayEndWithRead before after
+    moved from to got true e = inr (record { from = from; to = to; got = got; shown = e })
+    moved from to got false e = inl e
+
+    by : (mark : Option ℕ) → HasFinishedFrom mark old new set before after → MayEndWithRead before after
+    by None e = inl e.1
+    by (Some from) e = moved from e.0 e.1.got (nat_lt from e.0) e.1.shown
+
 module _ {P : Type 0} (is_own : P → Type 0) (shape : Shape) (known : P → Known) (sessions : List (Session P)) (i : ℕ) (d s : Session P) (lt : i < length sessions) (own : is_own s.pass) (rested : HasRest shape known s)
     (same : s ≡ record (get_or sessions i d) { pass = s.pass; items = s.items }) (finished : HasFinished (known (get_or sessions i d).pass) (known s.pass) (get_or sessions i d).set.channels (get_or sessions i d).items.items s.items.items) where
   pub read-over : All (IsOver is_own shape known) sessions → All (IsOver is_own shape known) (set sessions i s)
@@ -44,6 +59,14 @@ module _ {P : Type 0} (is_own : P → Type 0) (shape : Shape) (known : P → Kno
 
   pub read-told : tolds_of known (set sessions i s) ≡ tolds_of known sessions
   read-told = map-set_same (λ (t : Session P). (known t.pass).told) sessions i s d (finished-up (known (get_or sessions i d).pass) (known s.pass) (get_or sessions i d).set.channels (get_or sessions i d).items.items s.items.items finished).same
+
+  pub read-shown : MayReadAt i (map shown_of sessions) (map shown_of (set sessions i s))
+  read-shown = record {
+    items = s.items.items;
+    one = subst (λ (before : List Item). MayEndWithRead before s.items.items) (sym (get_or-map (λ (t : Session P). shown_of t) sessions i d [] lt))
+        (finished-shown (known (get_or sessions i d).pass) (known s.pass) (get_or sessions i d).set.channels (get_or sessions i d).items.items s.items.items finished);
+    rest = map-set (λ (t : Session P). shown_of t) sessions i s;
+  }
 
   -- one more has read
   pub read-more : All HasReadOwn (take i (passes_of known sessions)) → All HasReadOwn (take (i + 1) (passes_of known (set sessions i s)))

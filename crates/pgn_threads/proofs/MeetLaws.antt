@@ -10,7 +10,7 @@ use Rattle.pgn_session.specs.declared.session.Session.{Session}
 use Rattle.pgn_session.specs.Standing.{terms_of}
 use Rattle.pgn_session.specs.Whole.{HasRest}
 use Rattle.pgn_session.proofs.OverLaws.{learned-at_end}
-use Rattle.pgn_session.specs.Runs.{IsOver, script_of}
+use Rattle.pgn_session.specs.Runs.{IsOver, script_of, shown_of}
 use Rattle.pgn_threads.specs.Drain.{tolds_of, told_at, heard_up, heard_down}
 
 -- two neighbours are put anew, one in each half
@@ -67,6 +67,12 @@ module _ {P : Type 0} (is_own : P → Type 0) (shape : Shape) (known : P → Kno
   into-script : (from from_new into into_new : Session P) → HaveMet is_own shape known from from_new into into_new → script_of into_new ≡ script_of into
   into-script from from_new into into_new m = ap (λ (s : Session P). script_of s) m.into_same
 
+  from-shown : (from from_new into into_new : Session P) → HaveMet is_own shape known from from_new into into_new → shown_of from_new ≡ shown_of from
+  from-shown from from_new into into_new m = ap (λ (s : Session P). shown_of s) m.from_same
+
+  into-shown : (from from_new into into_new : Session P) → HaveMet is_own shape known from from_new into into_new → shown_of into_new ≡ shown_of into
+  into-shown from from_new into into_new m = ap (λ (s : Session P). shown_of s) m.into_same
+
   -- two neighbours that met, in a list, by a number that each shows
   neighbours : {X : Type 0} (f : Session P → X) (sessions : List (Session P)) (p : ℕ) (a b : Session P) → suc p < length sessions
       → map f (set (take (suc p) sessions) p a ++ set (drop (suc p) sessions) 0 b) ≡ set (set (map f sessions) p (f a)) (suc p) (f b)
@@ -107,6 +113,10 @@ module _ {P : Type 0} (is_own : P → Type 0) (shape : Shape) (known : P → Kno
       up-scripts =
           neighbours-same (λ (s : Session P). script_of s) sessions p a b d lt (from-script (get_or sessions p d) a (get_or sessions (suc p) d) b m) (into-script (get_or sessions p d) a (get_or sessions (suc p) d) b m)
 
+      pub up-shown : map shown_of (set (take (suc p) sessions) p a ++ set (drop (suc p) sessions) 0 b) ≡ map shown_of sessions
+      up-shown =
+          neighbours-same (λ (s : Session P). shown_of s) sessions p a b d lt (from-shown (get_or sessions p d) a (get_or sessions (suc p) d) b m) (into-shown (get_or sessions p d) a (get_or sessions (suc p) d) b m)
+
       pub up-told : tolds_of known (set (take (suc p) sessions) p a ++ set (drop (suc p) sessions) 0 b) ≡ heard_up (tolds_of known sessions) (suc p)
       up-told =
           let ts : List ℕ = tolds_of known sessions in
@@ -130,6 +140,10 @@ module _ {P : Type 0} (is_own : P → Type 0) (shape : Shape) (known : P → Kno
       pub down-scripts : map script_of (set (take (suc p) sessions) p a ++ set (drop (suc p) sessions) 0 b) ≡ map script_of sessions
       down-scripts =
           neighbours-same (λ (s : Session P). script_of s) sessions p a b d lt (into-script (get_or sessions (suc p) d) b (get_or sessions p d) a m) (from-script (get_or sessions (suc p) d) b (get_or sessions p d) a m)
+
+      pub down-shown : map shown_of (set (take (suc p) sessions) p a ++ set (drop (suc p) sessions) 0 b) ≡ map shown_of sessions
+      down-shown =
+          neighbours-same (λ (s : Session P). shown_of s) sessions p a b d lt (into-shown (get_or sessions (suc p) d) b (get_or sessions p d) a m) (from-shown (get_or sessions (suc p) d) b (get_or sessions p d) a m)
 
       pub down-told : tolds_of known (set (take (suc p) sessions) p a ++ set (drop (suc p) sessions) 0 b) ≡ heard_down (tolds_of known sessions) (suc p)
       down-told =
@@ -156,6 +170,7 @@ pub record HaveGoneOn {P : Type 0} (is_own : P → Type 0) (shape : Shape) (know
   pub over : All (IsOver is_own shape known) new
   pub scripts : map script_of new ≡ map script_of old
   pub told : tolds_of known new ≡ tolds
+  pub shown : map shown_of new ≡ map shown_of old
 
 module _ {P : Type 0} (is_own : P → Type 0) (shape : Shape) (known : P → Known) (sessions : List (Session P)) (d e a b : Session P) where
   -- the halves at a place, and the two neighbours there
@@ -174,7 +189,7 @@ module _ {P : Type 0} (is_own : P → Type 0) (shape : Shape) (known : P → Kno
       subst (λ (s : Session P). HaveMet is_own shape known s a (get_or sessions (suc p) d) b) (ap (λ (n : ℕ). get_or (take (suc p) sessions) n d) place ∙ front-at p lt)
       (subst (λ (s : Session P). HaveMet is_own shape known (get_or (take (suc p) sessions) (suc p - 1) d) a s b) (back-at p lt) m) in
       subst (λ (n : ℕ). HaveGoneOn is_own shape known sessions (set (take (suc p) sessions) n a ++ set (drop (suc p) sessions) 0 b) (heard_up (tolds_of known sessions) (suc p))) (sym place)
-      (record { over = up-over is_own shape known sessions p d a b lt met h; scripts = up-scripts is_own shape known sessions p d a b lt met; told = up-told is_own shape known sessions p d a b lt met })
+      (record { over = up-over is_own shape known sessions p d a b lt met h; scripts = up-scripts is_own shape known sessions p d a b lt met; told = up-told is_own shape known sessions p d a b lt met; shown = up-shown is_own shape known sessions p d a b lt met })
 
   down-at : (i : ℕ) → 0 < i → i < length sessions → HaveMet is_own shape known (get_or (drop i sessions) 0 e) b (get_or (take i sessions) (i - 1) d) a → All (IsOver is_own shape known) sessions
       → HaveGoneOn is_own shape known sessions (set (take i sessions) (i - 1) a ++ set (drop i sessions) 0 b) (heard_down (tolds_of known sessions) i)
@@ -185,7 +200,7 @@ module _ {P : Type 0} (is_own : P → Type 0) (shape : Shape) (known : P → Kno
       subst (λ (s : Session P). HaveMet is_own shape known (get_or sessions (suc p) d) b s a) (ap (λ (n : ℕ). get_or (take (suc p) sessions) n d) place ∙ front-at p lt)
       (subst (λ (s : Session P). HaveMet is_own shape known s b (get_or (take (suc p) sessions) (suc p - 1) d) a) (back-at p lt) m) in
       subst (λ (n : ℕ). HaveGoneOn is_own shape known sessions (set (take (suc p) sessions) n a ++ set (drop (suc p) sessions) 0 b) (heard_down (tolds_of known sessions) (suc p))) (sym place)
-      (record { over = down-over is_own shape known sessions p d a b lt met h; scripts = down-scripts is_own shape known sessions p d a b lt met; told = down-told is_own shape known sessions p d a b lt met })
+      (record { over = down-over is_own shape known sessions p d a b lt met h; scripts = down-scripts is_own shape known sessions p d a b lt met; told = down-told is_own shape known sessions p d a b lt met; shown = down-shown is_own shape known sessions p d a b lt met })
 
   pub up-all : (front back : List (Session P)) (i : ℕ) → front ≡ take i sessions → back ≡ drop i sessions → 0 < i → i < length sessions
       → HaveMet is_own shape known (get_or front (i - 1) d) a (get_or back 0 e) b → All (IsOver is_own shape known) sessions

@@ -1,5 +1,5 @@
 -- From whole sessions that are over to a legal run.
-use Rattle.std.proofs.Common.{◌≡◌, ℕ, suc, ◌+◌, List, [], ◌∷◌, length, map, get_or, All, sym, ap, ◌∙◌, refl, subst, arith}
+use Rattle.std.proofs.Common.{◌≡◌, ℕ, suc, ◌+◌, List, [], ◌∷◌, length, map, get_or, All, Result, Ok, Err, IfOk, sym, ap, ◌∙◌, refl, subst, arith}
 use Rattle.std.specs.List.{range_with_len}
 use Rattle.std.proofs.lemmas.List.Elements.{All-map, All-same}
 use Rattle.pgn_journal.specs.declared.tx.Tx.{Tx}
@@ -110,16 +110,32 @@ same-numbers {P} known (s ∷ sessions) h =
     ap (λ (n : ℕ). n ∷ map (λ (t : Session P). (known t.pass).session) sessions) (h 0 s (omega arith))
     ∙ ap (λ (ns : List ℕ). s.section.no ∷ ns) (same-numbers known sessions (λ k d lt. h (suc k) d (omega (arith, lt))))
 
--- so the passes of sessions that are over are in the order in which they can be gathered
-pub passes-in_order : {P : Type 0} (is_own : P → Type 0) (shape : Shape) (known : P → Known) (scenario : Scenario) (plan : FlagPlan) (patience : ℕ) (sessions : List (Session P)) (passes : List P)
-    → IsSound scenario → map script_of sessions ≡ map (script_for plan patience) scenario.sections → All (IsOver is_own shape known) sessions → passes ≡ map (λ s. s.pass) sessions
-    → map (λ pass. (known pass).session) passes ≡ range_with_len 1 (length scenario.sections)
-passes-in_order {P} is_own shape known scenario plan patience sessions passes sound scripts over is =
-    ap (λ (ps : List P). map (λ (pass : P). (known pass).session) ps) is ∙ map-twice (λ (pass : P). (known pass).session) (λ (s : Session P). s.pass) sessions
-    ∙ same-numbers known sessions (λ k d lt. (over k d lt).rested.stands.session)
-    ∙ sym (map-twice (λ (section : Section). section.no) (λ (s : Session P). s.section) sessions)
+-- what follows of a value, if there is one
+pub if-ok : {T E : Type 0} (r : Result T E) (A B : T → Type 0) → ((x : T) → A x → B x) → IfOk r A → IfOk r B
+if-ok (Ok x) A B f h = f x h
+if-ok (Err e) A B f h = tt
+
+-- the numbers of sessions with these scripts
+pub numbers-same : {P : Type 0} (sessions others : List (Session P)) → map script_of sessions ≡ map script_of others → map (λ s. s.section.no) sessions ≡ map (λ s. s.section.no) others
+numbers-same {P} sessions others e =
+    sym (map-twice (λ (script : Script). script.section.no) (λ (s : Session P). script_of s) sessions)
+    ∙ ap (λ (scripts : List Script). map (λ (script : Script). script.section.no) scripts) e
+    ∙ map-twice (λ (script : Script). script.section.no) (λ (s : Session P). script_of s) others
+
+-- the sessions of a scenario have its numbers
+pub numbers-opened : {P : Type 0} (scenario : Scenario) (plan : FlagPlan) (patience : ℕ) (sessions : List (Session P)) → IsSound scenario → map script_of sessions ≡ map (script_for plan patience) scenario.sections
+    → map (λ s. s.section.no) sessions ≡ range_with_len 1 (length scenario.sections)
+numbers-opened {P} scenario plan patience sessions sound scripts =
+    sym (map-twice (λ (section : Section). section.no) (λ (s : Session P). s.section) sessions)
     ∙ ap (λ (all : List Section). map (λ (section : Section). section.no) all) (sym (sections-are plan patience scenario.sections sessions scripts))
     ∙ numbers-of 1 scenario.sections sound.numbered
+
+-- so the passes of sessions that are over are in the order in which they can be gathered
+pub passes-in_order : {P : Type 0} (is_own : P → Type 0) (shape : Shape) (known : P → Known) (sessions : List (Session P)) (passes : List P) (numbers : List ℕ)
+    → map (λ s. s.section.no) sessions ≡ numbers → All (IsOver is_own shape known) sessions → passes ≡ map (λ s. s.pass) sessions → map (λ pass. (known pass).session) passes ≡ numbers
+passes-in_order {P} is_own shape known sessions passes numbers are over is =
+    ap (λ (ps : List P). map (λ (pass : P). (known pass).session) ps) is ∙ map-twice (λ (pass : P). (known pass).session) (λ (s : Session P). s.pass) sessions
+    ∙ same-numbers known sessions (λ k d lt. (over k d lt).rested.stands.session) ∙ are
 
 pub all-own : {P : Type 0} (is_own : P → Type 0) (shape : Shape) (known : P → Known) (sessions : List (Session P)) (passes : List P) → All (IsOver is_own shape known) sessions → passes ≡ map (λ s. s.pass) sessions → All is_own passes
 all-own {P} is_own shape known sessions passes over is = All-same is_own passes (map (λ (s : Session P). s.pass) sessions) is (All-map is_own (λ (s : Session P). s.pass) sessions (λ k d lt. (over k d lt).own))

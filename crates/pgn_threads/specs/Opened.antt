@@ -6,7 +6,7 @@ use Rattle.pgn_language.specs.declared.scenario.Scenario.{Scenario}
 use Rattle.pgn_language.specs.declared.scenario.Section.{Section}
 use Rattle.pgn_hub.specs.declared.setup.SeatSetup.{SeatSetup}
 use Rattle.pgn_hub.specs.Shape.{Shape}
-use Rattle.pgn_language.specs.Inputs.{QuitsLast, note_lines_of}
+use Rattle.pgn_language.specs.Inputs.{IsSound, QuitsLast, note_lines_of}
 use Rattle.pgn_hub.specs.Passes.{opened_pass}
 use Rattle.pgn_session.specs.declared.doing.FlagPlan.{FlagPlan}
 use Rattle.pgn_session.specs.declared.session.Session.{Session}
@@ -44,3 +44,9 @@ plan_for scenario = record { first_end = length scenario.flags; sessions = lengt
 -- what the hub is opened for: a seat for each section, and these flags
 abbrev pub shape_for : Scenario → ℕ → Shape
 shape_for scenario pages = record { format = One; pages = pages; flags = length scenario.flags + length scenario.sections; seats = map seat_for scenario.sections }
+
+-- the hub was opened for the scenario, and the sessions are those of its sections
+pub record AreOpenedFor {P : Type 0} (scenario : Scenario) (pages patience : ℕ) (shape : Shape) (sessions : List (Session P)) : Type 0 where
+  pub sound : IsSound scenario
+  pub opened : shape ≡ shape_for scenario pages
+  pub scripts : map script_of sessions ≡ map (script_for (plan_for scenario) patience) scenario.sections

@@ -1,7 +1,7 @@
 ghost use Rattle.std.specs.Prelude.{◌≡◌, ◌<◌, ◌+◌, map, take, length, OnOk, All};
 ghost use Rattle.pgn_threads.specs.Parts.{HasReadAll};
-ghost use Rattle.pgn_session.specs.Runs.{IsOver, script_of};
-ghost use Rattle.pgn_threads.specs.Drain.{passes_of, tolds_of, heard_up, heard_down, HasReadOwn};
+ghost use Rattle.pgn_session.specs.Runs.{IsOver, script_of, shown_of};
+ghost use Rattle.pgn_threads.specs.Drain.{passes_of, tolds_of, heard_up, heard_down, EachMayEndWithRead, HasReadOwn, MayReadAt};
 
 use pgn_hub::{Hub, PassView};
 use pgn_session::Session;
@@ -18,6 +18,7 @@ pub fn drain<P: PassView + Send + Drop, H: Hub<Pass = P>>(
     ensures over { OnOk result (All (IsOver (H.is_pass hub.now) (H.shape hub.now) P.known) sessions.new) }
     ensures scripts { OnOk result (map script_of sessions.new ≡ map script_of sessions.old) }
     ensures read { OnOk result (All (HasReadAll (passes_of P.known sessions.new)) (passes_of P.known sessions.new)) }
+    ensures shown { OnOk result (EachMayEndWithRead (map shown_of sessions.old) (map shown_of sessions.new)) }
 {
     let count = sessions.len();
     for i in 1..count {
@@ -43,6 +44,7 @@ fn hear_up<P: PassView + Send + Drop, H: Hub<Pass = P>>(
     ensures over { All (IsOver (H.is_pass hub.now) (H.shape hub.now) P.known) sessions.new }
     ensures scripts { map script_of sessions.new ≡ map script_of sessions.old }
     ensures told { tolds_of P.known sessions.new ≡ heard_up (tolds_of P.known sessions.old) i }
+    ensures shown { map shown_of sessions.new ≡ map shown_of sessions.old }
 {
     let (front, back) = sessions.split_at_mut(i);
     front[i - 1].meet(hub, &mut back[0]);
@@ -59,6 +61,7 @@ fn hear_down<P: PassView + Send + Drop, H: Hub<Pass = P>>(
     ensures over { All (IsOver (H.is_pass hub.now) (H.shape hub.now) P.known) sessions.new }
     ensures scripts { map script_of sessions.new ≡ map script_of sessions.old }
     ensures told { tolds_of P.known sessions.new ≡ heard_down (tolds_of P.known sessions.old) i }
+    ensures shown { map shown_of sessions.new ≡ map shown_of sessions.old }
 {
     let (front, back) = sessions.split_at_mut(i);
     let into = &mut front[i - 1];
@@ -79,6 +82,7 @@ fn read_last<P: PassView + Send + Drop, H: Hub<Pass = P>>(
     ensures scripts { OnOk result (map script_of sessions.new ≡ map script_of sessions.old) }
     ensures told { OnOk result (tolds_of P.known sessions.new ≡ tolds_of P.known sessions.old) }
     ensures read { OnOk result (All HasReadOwn (take (i + 1) (passes_of P.known sessions.new))) }
+    ensures shown { OnOk result (MayReadAt i (map shown_of sessions.old) (map shown_of sessions.new)) }
 {
     sessions[i].finish_read(alloc, hub)?;
     Ok(())

@@ -2,8 +2,8 @@
 //!
 //! `run_sessions` runs sessions until all are over, and `run_in_turns` does so on one thread. `drain` then lets them hear from each
 //! other what each was told, and lets each that still listens read once more. `open_on_hub` opens a hub for a scenario and makes a
-//! session for each section. `run_on_hub` does all that a scenario takes: after that it runs and drains the sessions, gathers their
-//! passes and merges their traces. What it answers is a legal run of the scenario.
+//! session for each section, and `finish_run` drains sessions that are over, gathers their passes and merges their traces. `run_on_hub`
+//! does all that a scenario takes. What it answers is a legal run of the scenario.
 //!
 //! That the sessions run side by side is not said by a contract: a body that runs one after another on one thread meets it too,
 //! where no session awaits another. The law in `laws` leads from sessions that are over and gathered passes to a legal run.
@@ -37,4 +37,4 @@ mod whole_run;
 pub use draining::drain;
 pub use halves::run_sessions;
 pub use turns::run_in_turns;
-pub use whole_run::{Run, open_on_hub, run_on_hub};
+pub use whole_run::{Run, finish_run, open_on_hub, run_on_hub};

@@ -1,17 +1,18 @@
-ghost use Rattle.std.specs.Prelude.{◌≡◌, ◌+◌, ◌≤◌, map, length, OnOk, IfOk, All};
+ghost use Rattle.std.specs.Prelude.{◌≡◌, ◌+◌, ◌≤◌, ℕ, map, length, IfOk, All};
+ghost use Rattle.std.specs.List.{range_with_len};
 ghost use Rattle.pgn_base.specs.declared.limits.TheConstants.{PAGES_MIN, PAGES_MAX};
 ghost use Rattle.pgn_base.specs.declared.format.Format.TheVariants.{One};
+ghost use Rattle.pgn_language.specs.declared.scenario.Scenario.{Scenario};
 ghost use Rattle.pgn_language.specs.Inputs.{IsSound};
 ghost use Rattle.pgn_model.specs.Legal.{Legal};
 ghost use Rattle.pgn_hub.specs.Passes.{IsWithin};
-ghost use Rattle.pgn_threads.specs.Parts.{HasReadAll};
-ghost use Rattle.pgn_session.specs.Runs.{IsReady, IsOver, script_of};
-ghost use Rattle.pgn_threads.specs.Drain.{passes_of};
-ghost use Rattle.pgn_threads.specs.Opened.{plan_for, script_for, shape_for};
+ghost use Rattle.pgn_session.specs.Runs.{IsReady, IsOver, script_of, shown_of};
+ghost use Rattle.pgn_threads.specs.Drain.{EachMayEndWithRead};
+ghost use Rattle.pgn_threads.specs.Opened.{AreOpenedFor, plan_for, script_for, shape_for};
 
 use crate::opening::{logs, open_sessions, seats_for};
 use crate::{drain, run_sessions};
-use pgn_hub::{Hub, PassView, Setup};
+use pgn_hub::{Hub, Setup};
 use pgn_journal::Tx;
 use pgn_language::Scenario;
 use pgn_merge::merge;
@@ -44,12 +45,8 @@ pub fn run_on_hub<H: Hub + Sync + Drop, R: Threads + Wait + Sync>(
     ensures legal { IfOk result (λ run. Legal scenario.now (record { format = One; limit = pages; patience = patience }) run.journal.items run.traces.items) }
 {
     let (hub, mut sessions) = open_on_hub::<H>(alloc, scenario, pages, patience)?;
-    settle(rt, alloc, &hub, sessions.as_mut_slice())?;
-    let (passes, traces) = logs(alloc, sessions)?;
-    are_within(&hub, passes.as_slice());
-    let _roll = hub.gather(passes);
-    let journal = merge(alloc, traces.as_slice())?;
-    Ok(Run { journal, traces })
+    run_sessions(rt, alloc, &hub, sessions.as_mut_slice())?;
+    finish_run(alloc, hub, sessions)
 }
 
 /// Opens a hub of this type for a scenario, with a limit of so many pages, and makes a session for each section, ready to run, where
@@ -80,21 +77,26 @@ pub fn open_on_hub<H: Hub + Drop>(
     Ok((hub, sessions))
 }
 
-// Runs sessions until all are over, and drains them.
-fn settle<P: PassView + Send + Drop, H: Hub<Pass = P> + Sync, R: Threads + Wait + Sync>(
-    rt: &R,
+/// What sessions that are over have come to: they are drained, their passes are gathered and their traces merged. The sessions are all
+/// those of the hub, in order. The error is that memory did not suffice.
+pub fn finish_run<H: Hub + Drop>(
     alloc: Global,
-    hub: &H,
-    sessions: &mut [Session<P>],
-) -> Result<(), AllocError>
-    requires ready { All (IsReady (H.is_pass hub.now) (H.shape hub.now) P.known) sessions.old }
-    ensures over { OnOk result (All (IsOver (H.is_pass hub.now) (H.shape hub.now) P.known) sessions.new) }
-    ensures scripts { OnOk result (map script_of sessions.new ≡ map script_of sessions.old) }
-    ensures read { OnOk result (All (HasReadAll (passes_of P.known sessions.new)) (passes_of P.known sessions.new)) }
+    hub: H,
+    mut sessions: Vec<Session<H::Pass>>,
+) -> Result<Run, AllocError>
+    requires over { All (IsOver (H.is_pass hub) (H.shape hub) H.Pass.known) sessions.items }
+    requires all { map (λ s. s.section.no) sessions.items ≡ range_with_len 1 (length (H.shape hub).seats) }
+    ensures legal { IfOk result (λ run. (scenario : Scenario) (pages patience : ℕ) → AreOpenedFor scenario pages patience (H.shape hub) sessions.items
+        → Legal scenario (record { format = One; limit = pages; patience = patience }) run.journal.items run.traces.items) }
+    ensures sessions { IfOk result (λ run. map (λ trace. trace.session) run.traces.items ≡ map (λ s. s.section.no) sessions.items) }
+    ensures shown { IfOk result (λ run. EachMayEndWithRead (map shown_of sessions.items) (map (λ trace. trace.items) run.traces.items)) }
 {
-    run_sessions(rt, alloc, hub, sessions)?;
-    drain(alloc, hub, sessions)?;
-    Ok(())
+    drain(alloc, &hub, sessions.as_mut_slice())?;
+    let (passes, traces) = logs(alloc, sessions)?;
+    are_within(&hub, passes.as_slice());
+    let _roll = hub.gather(passes);
+    let journal = merge(alloc, traces.as_slice())?;
+    Ok(Run { journal, traces })
 }
 
 // What holds of each pass of a hub between calls.

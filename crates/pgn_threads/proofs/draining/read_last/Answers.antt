@@ -1,4 +1,4 @@
-use Rattle.pgn_threads.proofs.LastReadLaws.{read-over, read-scripts, read-told, read-more}
+use Rattle.pgn_threads.proofs.LastReadLaws.{read-over, read-scripts, read-told, read-more, read-shown}
 use Rattle.pgn_threads.proofs.draining.read_last.Goals as goal
 
 pub returns-clause-over : goal.returns-clause-over
@@ -20,3 +20,8 @@ pub returns-clause-read : goal.returns-clause-read
 returns-clause-read g c =
     read-more (g.H.Hub.is_pass c.args.hub.now) (g.H.Hub.shape c.args.hub.now) g.P.PassView.known c.args.sessions.now c.args.i c.index-sessions-i.result c.finish_read.new.self c.requires.place
     c.finish_read.ensures.own c.finish_read.ensures.rested c.finish_read.ensures.same c.in_ok-finish_read.ensures.finished c.requires.before
+
+pub returns-clause-shown : goal.returns-clause-shown
+returns-clause-shown g c =
+    read-shown (g.H.Hub.is_pass c.args.hub.now) (g.H.Hub.shape c.args.hub.now) g.P.PassView.known c.args.sessions.now c.args.i c.index-sessions-i.result c.finish_read.new.self c.requires.place
+    c.finish_read.ensures.own c.finish_read.ensures.rested c.finish_read.ensures.same c.in_ok-finish_read.ensures.finished
