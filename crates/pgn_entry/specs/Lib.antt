@@ -1,4 +1,5 @@
-pub mod Reading
-pub mod Parts
+pub mod Cells
 pub mod Laws
+pub mod Parts
 pub mod Pieces
+pub mod Reading

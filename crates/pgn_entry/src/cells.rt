@@ -1,7 +1,9 @@
-ghost use Rattle.std.specs.Prelude.{◌≡◌, ◌+◌, ◌*◌, ◌^◌, ◌<◌, ◌≤◌, [], ◌∷◌, ◌++◌, drop, get_or};
+ghost use Rattle.std.specs.Prelude.{◌≡◌, ℕ, ◌+◌, ◌*◌, ◌^◌, ◌<◌, ◌≤◌, [], ◌∷◌, ◌++◌, drop, get_or};
 ghost use Rattle.std.specs.Int.{w32, from_le_bytes};
 ghost use Rattle.pgn_base.specs.declared.format.Format.TheVariants.{One};
-ghost use Rattle.pgn_journal.specs.Bytes.{entry_length, spelled, filler, IsEntryLength};
+ghost use Rattle.pgn_base.specs.declared.note.Note.{Note};
+ghost use Rattle.pgn_journal.specs.Bytes.{spelled, filler, IsEntryLength};
+ghost use Rattle.pgn_entry.specs.Cells.{AreCellsOf};
 
 use crate::format::HEADER_BYTES;
 use crate::length::entry_len;
@@ -45,21 +47,55 @@ fn text_cell(channel: &[u8], payload: &[u8], at: usize) -> u32
     ])
 }
 
-/// The cell of this number of a notification's entry: four of its bytes, the lowest first.
-pub fn entry_cell(note: &Note, db: DbOid, xid: Xid, pid: u32, number: usize) -> u32
-    requires { 4 * number < entry_length One note.now }
-    ensures { result ≡ from_le_bytes w32 (drop (4 * number) (spelled One note.now db xid pid)) }
-{
-    match number {
-        0 => entry_len(note),
-        1 => db.get(),
-        2 => xid.get(),
-        3 => pid,
-        _ => text_cell(
-            note.channel.as_bytes(),
-            note.payload.as_bytes(),
-            CELL_BYTES * number - HEADER_BYTES,
-        ),
+/// What the cells of an entry are made of: the numbers of its head, and its two texts. Who goes from cell to cell looks for them
+/// once.
+#[derive(Clone, Copy)]
+pub struct EntryCells<'a> {
+    /// How many bytes the entry has.
+    pub len: u32,
+    /// The sender's database.
+    pub db: u32,
+    /// The sender's transaction.
+    pub xid: u32,
+    /// The sender's process number.
+    pub pid: u32,
+    pub channel: &'a [u8],
+    pub payload: &'a [u8],
+}
+
+impl<'a> EntryCells<'a> {
+    /// Those of a notification's entry.
+    pub fn of(note: &'a Note, db: DbOid, xid: Xid, pid: u32) -> EntryCells<'a>
+        ensures entry { AreCellsOf note.now db xid pid result }
+        ensures long { IsEntryLength One result.len }
+    {
+        EntryCells {
+            len: entry_len(note),
+            db: db.get(),
+            xid: xid.get(),
+            pid,
+            channel: note.channel.as_bytes(),
+            payload: note.payload.as_bytes(),
+        }
+    }
+
+    /// The cell of this number: four of the entry's bytes, the lowest first.
+    pub fn cell(&self, number: usize) -> u32
+        requires long { IsEntryLength One self.now.len }
+        requires within { 4 * number < self.now.len }
+        ensures { (note : Note) (db xid pid : ℕ) → AreCellsOf note db xid pid self.now → result ≡ from_le_bytes w32 (drop (4 * number) (spelled One note db xid pid)) }
+    {
+        match number {
+            0 => self.len,
+            1 => self.db,
+            2 => self.xid,
+            3 => self.pid,
+            _ => text_cell(
+                self.channel,
+                self.payload,
+                CELL_BYTES * number - HEADER_BYTES,
+            ),
+        }
     }
 }
 

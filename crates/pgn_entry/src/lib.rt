@@ -1,6 +1,6 @@
 //! The queue's entries and fillers as bytes.
 //!
-//! Everything that a listener receives has been these bytes on a page. `entry_cell` and `filler_cell` give the one spelling of an
+//! Everything that a listener receives has been these bytes on a page. `EntryCells` and `filler_cell` give the one spelling of an
 //! entry and of a filler, four bytes at a time as the queue's cells hold them, the lowest first. `read_entry` accepts these
 //! spellings and nothing else: it gives the fields back where the bytes begin with a spelling, and else the first fault that they
 //! have. `read_piece` reads bytes of which the caller knows that they are an entry or a filler, and answers with its fields.
@@ -19,10 +19,10 @@
 //!     channel: Name::new(alloc, "c")?,
 //!     payload: Payload::new(alloc, "")?,
 //! };
+//! let cells = EntryCells::of(&note, DbOid::new(7), Xid::new(4), 1003);
 //! let mut bytes = Vec::new(alloc);
-//! for number in 0..entry_len(&note) as usize / CELL_BYTES {
-//!     let cell = entry_cell(&note, DbOid::new(7), Xid::new(4), 1003, number);
-//!     bytes.extend_from_slice(&cell.to_le_bytes())?;
+//! for number in 0..cells.len as usize / CELL_BYTES {
+//!     bytes.extend_from_slice(&cells.cell(number).to_le_bytes())?;
 //! }
 //! let entry = EntryView::Entry {
 //!     len: 20,
@@ -47,7 +47,7 @@ mod piece;
 mod reading;
 mod texts;
 
-pub use cells::{entry_cell, filler_cell};
+pub use cells::{EntryCells, filler_cell};
 pub use entry_fault::EntryFault;
 pub use entry_view::EntryView;
 pub use laws::{one_answer, reads_back};

@@ -15,7 +15,7 @@ ghost use Rattle.pgn_wordhub.specs.Placing.{stored_more, writer_of, IsPlacing, H
 use crate::WordHub;
 use crate::floor::Floor;
 use pgn_base::{CELL_BYTES, Note, PID_BASE, Xid};
-use pgn_entry::{entry_cell, entry_len, filler_cell};
+use pgn_entry::{EntryCells, filler_cell};
 use pgn_hub::PassView;
 use pgn_layout::{Batch, Pos, plan_batch};
 use pgn_words::WordPass;
@@ -52,10 +52,11 @@ impl WordHub {
     {
         let db = pass.db();
         let pid = WordHub::pid(pass);
-        let cells = entry_len(note) as usize / CELL_BYTES;
+        let entry = EntryCells::of(note, db, xid, pid);
+        let cells = entry.len as usize / CELL_BYTES;
         let mut word = self.queue.word_of_cell(at);
         for k in 0..cells {
-            let cell = entry_cell(note, db, xid, pid, k);
+            let cell = entry.cell(k);
             self.queue.store_cell(pass, word, cell);
             word = self.queue.next_word(word);
         }

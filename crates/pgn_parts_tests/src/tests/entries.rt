@@ -5,7 +5,7 @@ ghost use Rattle.pgn_journal.specs.Bytes.{IsEntryLength};
 use super::{note, repeated};
 use pgn_base::{CELL_BYTES, DbOid, Note, Xid};
 use pgn_entry::{
-    EntryFault, EntryView, entry_cell, entry_len, filler_cell, read_entry, read_piece,
+    EntryCells, EntryFault, EntryView, entry_len, filler_cell, read_entry, read_piece,
 };
 use std::alloc::{AllocError, Global};
 use std::process::Abort;
@@ -55,9 +55,10 @@ fn written(
     xid: Xid,
     pid: u32,
 ) -> Result<Vec<u8>, AllocError> {
+    let cells = EntryCells::of(note, db, xid, pid);
     let mut out = Vec::new(alloc);
-    for number in 0..entry_len(note) as usize / CELL_BYTES {
-        let cell = entry_cell(note, db, xid, pid, number);
+    for number in 0..cells.len as usize / CELL_BYTES {
+        let cell = cells.cell(number);
         out.extend_from_slice(&cell.to_le_bytes())?;
     }
     Ok(out)

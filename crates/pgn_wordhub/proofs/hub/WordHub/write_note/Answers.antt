@@ -15,7 +15,7 @@ pub store_cell-requires-clause-next : goal.store_cell-requires-clause-next
 store_cell-requires-clause-next c =
     let by = writer_of (known_of c.args.pass.now) in
     let test = c.loop-k-test.true in
-    let len = c.entry_len.ensures.value in
+    let len = c.of-entry.ensures.entry.len in
     let long = length-spelled One c.args.note.now by.db by.xid by.pid in
     let there = next_at (view_of c.args.pass.now) (view_of c.loop-k.pass) (spelled One c.args.note.now by.db by.xid by.pid) c.loop-k.k c.args.at c.loop-k.invariant.1 (omega (arith, test, len, long)) c.requires.next in
     c.loop-k.invariant.2 ∙ ap (cell_word (hub_shape c.args.self.now)) there
@@ -24,7 +24,7 @@ pub store_cell-requires-clause-page : goal.store_cell-requires-clause-page
 store_cell-requires-clause-page c =
     let by = writer_of (known_of c.args.pass.now) in
     let test = c.loop-k-test.true in
-    let len = c.entry_len.ensures.value in
+    let len = c.of-entry.ensures.entry.len in
     let long = length-spelled One c.args.note.now by.db by.xid by.pid in
     let there = next_at (view_of c.args.pass.now) (view_of c.loop-k.pass) (spelled One c.args.note.now by.db by.xid by.pid) c.loop-k.k c.args.at c.loop-k.invariant.1 (omega (arith, test, len, long)) c.requires.next in
     let pages = c.requires.pages in
@@ -35,7 +35,7 @@ store_cell-requires-clause-stays c =
     let v = view_of c.args.pass.now in
     let by = writer_of (known_of c.args.pass.now) in
     let test = c.loop-k-test.true in
-    let len = c.entry_len.ensures.value in
+    let len = c.of-entry.ensures.entry.len in
     let long = length-spelled One c.args.note.now by.db by.xid by.pid in
     let there = next_at v (view_of c.loop-k.pass) (spelled One c.args.note.now by.db by.xid by.pid) c.loop-k.k c.args.at c.loop-k.invariant.1 (omega (arith, test, len, long)) c.requires.next in
     let stays = c.requires.stays in
@@ -49,12 +49,12 @@ loop-k-preserved c =
     let by = writer_of (known_of c.args.pass.now) in
     let bytes : List ℕ = spelled One c.args.note.now by.db by.xid by.pid in
     let test = c.loop-k-test.true in
-    let len = c.entry_len.ensures.value in
+    let len = c.of-entry.ensures.entry.len in
     let long = length-spelled One c.args.note.now by.db by.xid by.pid in
     let more : c.args.at + c.loop-k.k + 1 ≡ c.args.at + (c.loop-k.k + 1) = omega arith in (
       c.store_cell.ensures.own,
-      stores_next (view_of c.args.pass.now) (view_of c.loop-k.pass) (view_of c.store_cell.new.pass) bytes c.loop-k.k c.entry_cell-cell.result c.loop-k.invariant.1 (omega (arith, test, len, long))
-          (c.entry_cell-cell.ensures ∙ ap (λ (xs : List ℕ). from_le_bytes w32 (drop (4 * c.loop-k.k) xs)) (spelled_by by c.args.note.now c.db-db.result c.args.xid c.pid-pid.result c.db-db.ensures c.requires.xid c.pid-pid.ensures)) c.store_cell.ensures.view,
+      stores_next (view_of c.args.pass.now) (view_of c.loop-k.pass) (view_of c.store_cell.new.pass) bytes c.loop-k.k c.cell-cell.result c.loop-k.invariant.1 (omega (arith, test, len, long))
+          (c.cell-cell.ensures c.args.note.now c.db-db.result c.args.xid c.pid-pid.result c.of-entry.ensures.entry ∙ ap (λ (xs : List ℕ). from_le_bytes w32 (drop (4 * c.loop-k.k) xs)) (spelled_by by c.args.note.now c.db-db.result c.args.xid c.pid-pid.result c.db-db.ensures c.requires.xid c.pid-pid.ensures)) c.store_cell.ensures.view,
       c.next_word-word.ensures.value (c.args.at + c.loop-k.k) c.loop-k.invariant.2 ∙ ap (cell_word z) more,
       c.next_word-word.ensures.word,
     )
@@ -63,13 +63,13 @@ pub returns-clause-view : goal.returns-clause-view
 returns-clause-view c =
     let by = writer_of (known_of c.args.pass.now) in
     let test = c.loop-k-test.false in
-    let len = c.entry_len.ensures.value in
+    let len = c.of-entry.ensures.entry.len in
     let long = length-spelled One c.args.note.now by.db by.xid by.pid in
     stores_all (view_of c.args.pass.now) (view_of c.loop-k.pass) (spelled One c.args.note.now by.db by.xid by.pid) c.loop-k.k c.loop-k.invariant.1 (omega (arith, test, len, long))
 
 pub returns-clause-end : goal.returns-clause-end
 returns-clause-end c =
     let long = entry_long (writer_of (known_of c.args.pass.now)) c.args.note.now in
-    let len = c.entry_len.ensures.value in
+    let len = c.of-entry.ensures.entry.len in
     let at = c.get.ensures.value in
     let new = c.new.ensures in omega (arith, long, len, at, new)
