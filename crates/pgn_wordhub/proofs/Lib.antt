@@ -1,5 +1,6 @@
 mod LockLaws
 mod WayLaws
+mod LoadLaws
 mod ReadingLaws
 mod ReadLaws
 mod ListenLaws
