@@ -132,7 +132,7 @@ fresh-comes terms journal trace s h so_far end =
     }
 
 -- what is seen of a lawful trace, completed, is the trace
-seen-whole : (terms : Terms) (journal : List Tx) (trace : Trace) → TraceOk terms trace journal → completed (start terms.section) (seen trace.items) ≡ trace.items
+pub seen-whole : (terms : Terms) (journal : List Tx) (trace : Trace) → TraceOk terms trace journal → completed (start terms.section) (seen trace.items) ≡ trace.items
 seen-whole terms journal trace ok = read-is_completed terms journal (start terms.section) trace.items ok.lawful ok.ended.answered
 
 pub lawful-is_not_refused : LawfulIsNotRefused

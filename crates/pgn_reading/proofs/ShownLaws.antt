@@ -1,5 +1,5 @@
 -- What the walk collects is what the items show.
-use Rattle.std.proofs.Common.{◌≡◌, ℕ, ◌+◌, max, Bool, true, false, ◌&&◌, if◌then◌else◌, is_some, is_none, List, [], ◌∷◌, ◌++◌, fold, Option, None, Some, sym, ap, ◌∙◌, refl, subst, append_assoc, append-nil}
+use Rattle.std.proofs.Common.{◌≡◌, ℕ, ◌+◌, max, Bool, true, false, ◌&&◌, if◌then◌else◌, is_some, is_none, List, [], ◌∷◌, ◌++◌, drop, fold, Option, None, Some, sym, ap, ◌∙◌, refl, subst, append_assoc, append-nil}
 use Rattle.std.specs.Prelude.{All, Contains, flat_map}
 use Rattle.std.specs.List.{list_any}
 use Rattle.std.proofs.lemmas.List.Elements.{All-nil, All-cons, All-head, All-tail, All-append}
@@ -17,6 +17,7 @@ use Rattle.pgn_model.specs.declared.item.Item.TheVariants.{Line, Enlist, Publish
 use Rattle.pgn_model.specs.Along.{Along}
 use Rattle.pgn_model.specs.Walk.{Terms, State, Owed, Ending, Nothing, Enlisting, Queueing, Leaving, Answering, Listing, Measuring, Raising, Awaiting, Quitting, is_empty_set, leaving_or_answering, queueing_or_settled, committing, owing, at_act, at_line, at_enlist, at_publish, at_full, at_leave, at_rows, at_raise, at_found, holder_at, start, after_item, Allowed, IsNext, IsEnlisting, IsQueueing, IsListing, IsMeasuring, IsRaising, IsAwaiting}
 use Rattle.pgn_reading.specs.Completed.{without_line, whole, stepped, completed}
+use Rattle.pgn_reading.specs.Form.{lines_left}
 use Rattle.pgn_reading.specs.Shown.{marks_shown, named_shown, flag_of, next_flag, flag_at, lines_behind, raised_from, found_shown}
 use Rattle.pgn_reading.specs.ShownLaws.{MarksAreShown, NamedAreShown, RaisedAreShown, FoundAreShown, MarksAreRead, NamedAreRead, RaisedAreRead}
 
@@ -120,18 +121,16 @@ adds s t u item h marks named found none = record {
 }
 
 -- no flag is found but by the item that finds one
-finds_flag : Item → Bool
+abbrev pub finds_flag : Item → Bool
 finds_flag (Found value) = true
 finds_flag item = false
 
-finds-none : (owed : Owed) (item : Item) → finds_flag item ≡ false → found_shown owed item ≡ []
-unfolding finds_flag
+pub finds-none : (owed : Owed) (item : Item) → finds_flag item ≡ false → found_shown owed item ≡ []
 finds-none (Awaiting flag) (Found value) h = absurd (let none : ⊥ = cc in none)
 finds-none (Awaiting flag) item h = refl
 finds-none owed item h = refl
 
 item-adds : (s : State) (item : Item) → Adds s item (after_item s item)
-unfolding finds_flag
 item-adds s (Line n) = adds s (record s { rest = (at_line s s.rest).rest }) (at_line s s.rest) (Line n) (keeps-line s s.rest) (sym (append-nil s.marks)) (sym (append-nil s.named)) refl (finds-none s.owed (Line n) refl)
 item-adds s (Enlist base point) =
     let t : State = record s { mark = Some point; marks = s.marks ++ base ∷ [] ++ point ∷ [] } in
@@ -178,7 +177,7 @@ named-are_shown s (item ∷ items) =
     named-are_shown (after_item s item) items ∙ ap (λ (xs : List (ℕ × ℕ)). xs ++ flat_map named_shown items) (item-adds s item).named
     ∙ append_assoc s.named (named_shown item) (flat_map named_shown items)
 
-all-parts : (P : ℕ × ℕ → Type 0) (xs ys : List (ℕ × ℕ)) → All P (xs ++ ys) → All P xs × All P ys
+pub all-parts : (P : ℕ × ℕ → Type 0) (xs ys : List (ℕ × ℕ)) → All P (xs ++ ys) → All P xs × All P ys
 all-parts P [] ys h = (All-nil P, h)
 all-parts P (x ∷ xs) ys h =
     let tail = all-parts P xs ys (All-tail P x (xs ++ ys) h) in
@@ -376,6 +375,31 @@ module _ (terms : Terms) (journal : List Tx) where
 pub raised-are_shown : RaisedAreShown
 unfolding FlagIs
 raised-are_shown terms journal items h = raised terms journal None (start terms.section) items tt h
+
+-- The rest of the script.
+
+line-rest : (s : State) (lines : List ScriptLine) → s.rest ≡ lines → (at_line s lines).rest ≡ drop 1 lines
+line-rest s [] e = e
+line-rest s (line ∷ lines) e = (keeps-act (record s { rest = lines }) line.act).rest
+
+rest-raised : (value : ℕ) (s : State) (owed : Owed) → (at_raise value s owed).rest ≡ s.rest
+rest-raised value s (Raising flag) = refl
+rest-raised value s owed = refl
+
+pub item-rest : (s : State) (item : Item) → (after_item s item).rest ≡ lines_left s.rest item
+item-rest s (Line n) = line-rest s s.rest refl
+item-rest s (Enlist base point) = (keeps-enlist (record s { mark = Some point; marks = s.marks ++ base ∷ [] ++ point ∷ [] }) s.owed).rest
+item-rest s (Publish xid notes) = (keeps-publish (record s { told = max s.told (xid + 1) }) s.owed).rest
+item-rest s (QueueFull full notes) = (keeps-full (record s { told = max s.told (full.xid + 1); named = s.named ++ holder_at full.holder full.floor_mark }) s.owed).rest
+item-rest s Leave = (keeps-leave (record s { mark = None }) s.owed).rest
+item-rest s (Reply done warning) = refl
+item-rest s (Refuse refusal) = refl
+item-rest s (Channels names) = (keeps-rows s s.owed).rest
+item-rest s (Used usage) = (keeps-rows (record s { named = s.named ++ holder_at usage.holder usage.floor_mark }) s.owed).rest
+item-rest s (Raise value) = rest-raised value s s.owed
+item-rest s (Found value) = keeps-found value s s.owed
+item-rest s (TimedOut looks) = refl
+item-rest s (Read from to got) = refl
 
 -- What was read and what the walk makes of it show the same.
 

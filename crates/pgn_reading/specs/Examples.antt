@@ -73,6 +73,14 @@ changed_text = codes "journal 1\nxid 3 session 1 commit 1\n  \"c\", 'y'\nsession
 abbrev pub unread_text : List ℕ
 unread_text = codes "journal 1\nxid 3 session 1 commit 1\n  \"c\", 'x'\nsession 1 a db 1 pid 1001\n> LISTEN c\n+enlist 3 3\nLISTEN\n> NOTIFY c, 'x'\n+publish 3\nNOTIFY\nend mark 4\n"
 
+-- without its last LF
+abbrev pub unended_text : List ℕ
+unended_text = codes "journal 1\nxid 3 session 1 commit 1\n  \"c\", 'x'\nsession 1 a db 1 pid 1001\n> LISTEN c\n+enlist 3 3\nLISTEN\n> NOTIFY c, 'x'\n+publish 3\nNOTIFY\n+read 3 4\n  3 1001 \"c\", 'x'\nend mark 4"
+
+-- a first line with a zero too many
+abbrev pub zero_text : List ℕ
+zero_text = codes "journal 00\n"
+
 -- its first line
 abbrev pub one_line_text : List ℕ
 one_line_text = codes "journal 1\n"

@@ -10,5 +10,13 @@ pub mod Blame
 pub mod WalkLaws
 -- laws of what items show
 pub mod ShownLaws
+-- laws of what is read
+pub mod ReadableLaws
+-- laws of blame
+pub mod BlameLaws
+-- laws of what begins an output
+pub mod GoesOnLaws
+-- laws of all sections together
+pub mod WholeLaws
 -- data of the examples
 pub mod Examples

@@ -27,22 +27,15 @@ use Rattle.pgn_model.specs.Trace.{TraceOk, IsLawful}
 use Rattle.pgn_model.specs.Walk.{default_settings}
 use Rattle.pgn_model.proofs.WalkLaws.{lawful-prefix}
 use Rattle.pgn_unique.proofs.JournalLines.{joined-append, joined-cons, in-four, journal-unique}
-use Rattle.pgn_unique.proofs.ItemKinds.{kind, at-end, ended}
-use Rattle.pgn_unique.proofs.ItemLines.{IsKnown, field, known, line-feed}
+use Rattle.pgn_unique.proofs.ItemKinds.{at-end, ended}
+use Rattle.pgn_unique.proofs.ItemLines.{IsKnown, known}
+use Rattle.pgn_reading.proofs.FieldLaws.{field, line-feed}
+use Rattle.pgn_reading.proofs.LineLaws.{kind}
+use Rattle.pgn_reading.proofs.OneLineLaws.{one-line}
 use Rattle.pgn_unique.proofs.TraceLines.{spelled, lines-apart, front-same, Along-back, trace-spelled}
 use Rattle.pgn_unique.proofs.ShortLaws.{legal-has_journal}
 use Rattle.pgn_unique.proofs.TextLaws.{legal-known, text-unique, no_text-begins}
 use Rattle.pgn_unique.specs.Examples.{cut_in_a_trace, cut_before_the_end, missed_text, sent, listener, sender, side_by_side, one_sent, listens_from, received_items, receives, misses, sends, received_text, changed_text, IsTextOfNone}
-
--- no LF stands in a text, by a test that computes
-one-line : (bytes : List ℕ) → list_any (λ b. nat_eq b 10) bytes ≡ false → IsOneLine bytes
-one-line [] h there = absurd (omega (arith, there.1))
-one-line (b ∷ bytes) h (zero, lt, is) = absurd (let yes : nat_eq b 10 ≡ true = eq-eqb b 10 is in let none : true ≡ false = sym (ap (λ (t : Bool). t || list_any (λ c. nat_eq c 10) bytes) yes) ∙ h in let never : ⊥ = cc in never)
-one-line (b ∷ bytes) h (suc k, lt, is) = one-line bytes (later (nat_eq b 10) (list_any (λ c. nat_eq c 10) bytes) h) (k, omega (arith, lt), is)
-  where
-    later : (t u : Bool) → (t || u) ≡ false → u ≡ false
-    later true u h = absurd (let none : ⊥ = cc in none)
-    later false u h = h
 
 -- a script of one line
 only : (line : ScriptLine) (lines : List ScriptLine) → lines ≡ line ∷ [] → IsOneLine line.text → IsOneLineAct line.act → All (λ l. IsOneLine l.text × IsOneLineAct l.act) lines

@@ -9,22 +9,7 @@ use Rattle.pgn_model.specs.declared.item.Item.TheVariants.{Line, Enlist, Publish
 use Rattle.pgn_model.specs.Walk.{Terms, State, Owed, Nothing, Enlisting, Queueing, Leaving, Listing, Measuring, Raising, Awaiting, Quitting, Allowed, IsNext, IsEnlisting, IsQueueing, IsLeaving, IsListing, IsMeasuring, IsRaising, IsAwaiting, MayRead}
 use Rattle.pgn_model.specs.Trace.{IsEnd}
 use Rattle.pgn_model.specs.Text.{joined, item_lines, end_line}
-
--- a number for each kind
-abbrev pub kind : Item → ℕ
-kind (Line n) = 62
-kind (Enlist base point) = 1101
-kind (Publish xid notes) = 1112
-kind (QueueFull full notes) = 1102
-kind Leave = 1108
-kind (Reply done warning) = 0
-kind (Refuse refusal) = 69
-kind (Channels names) = 1
-kind (Used usage) = 1117
-kind (Raise value) = 1115
-kind (Found value) = 1097
-kind (TimedOut looks) = 1116
-kind (Read from to got) = 1114
+use Rattle.pgn_reading.proofs.LineLaws.{kind}
 
 -- what the first two bytes tell: an event of the queue begins with a plus sign, and its second byte tells which
 abbrev sign : List ℕ → ℕ
@@ -168,3 +153,4 @@ not-ended terms journal lines s item mark last rest more end h e =
     let read : kind item ≡ 1114 = at-end terms journal s item end.answered end.done h in
     let same : kind item ≡ 0 = sym (sign-tells lines item rest none) ∙ ap sign e ∙ ended-sign last more in
     omega (arith, read, same)
+

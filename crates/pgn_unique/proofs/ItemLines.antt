@@ -17,9 +17,10 @@ use Rattle.pgn_journal.specs.Packing.{page_of, place}
 use Rattle.pgn_model.specs.Walk.{Terms, State, Owed, Queueing, Listing, Allowed, IsNext, IsQueueing, IsListing, IsAbortedBy}
 use Rattle.pgn_model.specs.Legal.{IsShownWithin, IsFullThere}
 use Rattle.pgn_model.specs.Text.{joined, item_lines, holder_text, full_line, delivery_line}
-use Rattle.pgn_unique.proofs.FieldLaws.{EndsNumber, number-ends, IsHeld, holder-ends}
+use Rattle.pgn_reading.proofs.FieldLaws.{IsHeld, holder-ends, field, blank, line-feed, same-full, same-usage}
+use Rattle.pgn_reading.proofs.LineLaws.{kind}
 use Rattle.pgn_unique.proofs.JournalLines.{joined-cons, in-two, in-four}
-use Rattle.pgn_unique.proofs.ItemKinds.{kind, same-kind}
+use Rattle.pgn_unique.proofs.ItemKinds.{same-kind}
 
 -- the holder that an item names
 abbrev pub holder_of : Item → Option ℕ
@@ -31,21 +32,10 @@ holder_of item = None
 in-six : (a b c d e f rest : List ℕ) → (a ++ b ++ c ++ d ++ e ++ f) ++ rest ≡ a ++ (b ++ (c ++ (d ++ (e ++ (f ++ rest)))))
 in-six a b c d e f rest = simp append_assoc
 
--- a number after a start that both have
-pub field : (start : List ℕ) (m n : ℕ) (rest more : List ℕ) → m < 2 ^ 64 → n < 2 ^ 64 → EndsNumber rest → EndsNumber more → start ++ (decimal m ++ rest) ≡ start ++ (decimal n ++ more) → (m ≡ n) × (rest ≡ more)
-field start m n rest more hm hn hr hs e = number-ends m n rest more hm hn hr hs (append_cancel_left start (decimal m ++ rest) (decimal n ++ more) e)
-
 -- a number that is the same for another reason
 pub known : (start : List ℕ) (m n : ℕ) (rest more : List ℕ) → m ≡ n → start ++ (decimal m ++ rest) ≡ start ++ (decimal n ++ more) → rest ≡ more
 known start m n rest more same e =
     append_cancel_left (decimal m) rest more (append_cancel_left start (decimal m ++ rest) (decimal n ++ more) e ∙ ap (λ (k : ℕ). decimal k ++ more) (sym same))
-
--- a blank, LF and what follows are no digits
-blank : (rest : List ℕ) → EndsNumber (32 ∷ rest)
-blank rest = omega arith
-
-pub line-feed : (rest : List ℕ) → EndsNumber (10 ∷ rest)
-line-feed rest = omega arith
 
 -- the state tells the same line, the same notifications and the same channels
 same-next : (n m : ℕ) (lines : List ScriptLine) → IsNext n lines → IsNext m lines → n ≡ m
@@ -65,23 +55,6 @@ same-queued : (terms : Terms) (notes others : List Note) (q q' : ℕ) (o o' : Op
 same-queued terms notes others q q' None o' e h k = absurd h
 same-queued terms notes others q q' (Some tx) None e h k = absurd k
 same-queued terms notes others q q' (Some tx) (Some tx') e h k = sym h.some ∙ ap (λ (t : Tx). t.queued) (same_Some tx tx' e) ∙ k.some
-
-same-full : (a b : Full) → a.xid ≡ b.xid → a.queued ≡ b.queued → a.head_page ≡ b.head_page → a.floor_mark ≡ b.floor_mark → a.floor_page ≡ b.floor_page → a.holder ≡ b.holder → a ≡ b
-same-full a b e1 e2 e3 e4 e5 e6 =
-    ap (λ (n : ℕ). let f : Full = record { xid = n; queued = a.queued; head_page = a.head_page; floor_mark = a.floor_mark; floor_page = a.floor_page; holder = a.holder } in f) e1
-    ∙ ap (λ (n : ℕ). let f : Full = record { xid = b.xid; queued = n; head_page = a.head_page; floor_mark = a.floor_mark; floor_page = a.floor_page; holder = a.holder } in f) e2
-    ∙ ap (λ (n : ℕ). let f : Full = record { xid = b.xid; queued = b.queued; head_page = n; floor_mark = a.floor_mark; floor_page = a.floor_page; holder = a.holder } in f) e3
-    ∙ ap (λ (n : ℕ). let f : Full = record { xid = b.xid; queued = b.queued; head_page = b.head_page; floor_mark = n; floor_page = a.floor_page; holder = a.holder } in f) e4
-    ∙ ap (λ (n : ℕ). let f : Full = record { xid = b.xid; queued = b.queued; head_page = b.head_page; floor_mark = b.floor_mark; floor_page = n; holder = a.holder } in f) e5
-    ∙ ap (λ (o : Option ℕ). let f : Full = record { xid = b.xid; queued = b.queued; head_page = b.head_page; floor_mark = b.floor_mark; floor_page = b.floor_page; holder = o } in f) e6
-
-same-usage : (a b : Usage) → a.at ≡ b.at → a.occupied ≡ b.occupied → a.limit ≡ b.limit → a.floor_mark ≡ b.floor_mark → a.holder ≡ b.holder → a ≡ b
-same-usage a b e1 e2 e3 e4 e5 =
-    ap (λ (n : ℕ). let u : Usage = record { at = n; occupied = a.occupied; limit = a.limit; floor_mark = a.floor_mark; holder = a.holder } in u) e1
-    ∙ ap (λ (n : ℕ). let u : Usage = record { at = b.at; occupied = n; limit = a.limit; floor_mark = a.floor_mark; holder = a.holder } in u) e2
-    ∙ ap (λ (n : ℕ). let u : Usage = record { at = b.at; occupied = b.occupied; limit = n; floor_mark = a.floor_mark; holder = a.holder } in u) e3
-    ∙ ap (λ (n : ℕ). let u : Usage = record { at = b.at; occupied = b.occupied; limit = b.limit; floor_mark = n; holder = a.holder } in u) e4
-    ∙ ap (λ (o : Option ℕ). let u : Usage = record { at = b.at; occupied = b.occupied; limit = b.limit; floor_mark = b.floor_mark; holder = o } in u) e5
 
 in-twelve : (a b c d e f g h i j k l rest : List ℕ)
     → (a ++ b ++ c ++ d ++ e ++ f ++ g ++ h ++ i ++ j ++ k ++ l) ++ rest ≡ a ++ (b ++ (c ++ (d ++ (e ++ (f ++ (g ++ (h ++ (i ++ (j ++ (k ++ (l ++ rest)))))))))))
@@ -228,3 +201,4 @@ module _ (terms : Terms) (journal : List Tx) (few : next_xid journal < 2 ^ 64) (
   -- two items that are allowed in a state, with the same lines, whatever follows them
   pub same-item : (s : State) (item other : Item) → Same s item other
   same-item s item other rest more h k known_of known_too e = of-one-kind s item other (same-kind terms journal lines s item other rest more h k e) rest more h k known_of known_too e
+

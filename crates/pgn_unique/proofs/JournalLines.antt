@@ -14,7 +14,8 @@ use Rattle.pgn_language.specs.Inputs.{AreNumbered}
 use Rattle.pgn_journal.specs.Journal.{IsFinished, IsQueued}
 use Rattle.pgn_model.specs.Text.{joined, note_line, fate_text, entry_lines, entries_lines, journal_lines}
 use Rattle.pgn_unique.specs.Laws.{IsOf, IsJournalOf, JournalIsUnique}
-use Rattle.pgn_unique.proofs.FieldLaws.{EndsNumber, number-ends, doubled, quoted-ends}
+use Rattle.pgn_reading.proofs.NumberLaws.{number-at}
+use Rattle.pgn_reading.proofs.FieldLaws.{EndsNumber, number-ends, line-feed, note-ends}
 
 -- lines one after another
 pub joined-append : (lines more : List (List ℕ)) → joined (lines ++ more) ≡ joined lines ++ joined more
@@ -23,31 +24,6 @@ joined-append lines more = flat_map-append (λ (line : List ℕ). line ++ 10 ∷
 -- a line, those that follow it, and whatever follows them
 pub joined-cons : (line : List ℕ) (lines : List (List ℕ)) (rest : List ℕ) → joined (line ∷ lines) ++ rest ≡ line ++ 10 ∷ (joined lines ++ rest)
 joined-cons line lines rest = append_assoc (line ++ 10 ∷ []) (joined lines) rest ∙ append_assoc line (10 ∷ []) (joined lines ++ rest)
-
--- the line of a notification, and what follows it
-two-texts : (channel payload rest : List ℕ)
-    → (34 ∷ (channel ++ 34 ∷ []) ++ 44 ∷ 32 ∷ [] ++ 39 ∷ (payload ++ 39 ∷ [])) ++ rest ≡ 34 ∷ (channel ++ 34 ∷ 44 ∷ 32 ∷ 39 ∷ (payload ++ 39 ∷ rest))
-two-texts channel payload rest = simp append_assoc
-
-note-spelled : (note : Note) (rest : List ℕ) → note_line note ++ 10 ∷ rest ≡ 32 ∷ 32 ∷ 34 ∷ (doubled 34 note.channel ++ 34 ∷ 44 ∷ 32 ∷ 39 ∷ (doubled 39 note.payload ++ 39 ∷ 10 ∷ rest))
-note-spelled note rest = ap (λ (bytes : List ℕ). 32 ∷ 32 ∷ bytes) (two-texts (doubled 34 note.channel) (doubled 39 note.payload) (10 ∷ rest))
-
-same-note : (a b : Note) → a.channel ≡ b.channel → a.payload ≡ b.payload → a ≡ b
-same-note a b e1 e2 =
-    ap (λ (text : List ℕ). let n : Note = record { channel = text; payload = a.payload } in n) e1
-    ∙ ap (λ (text : List ℕ). let n : Note = record { channel = b.channel; payload = text } in n) e2
-
-note-ends : (note other : Note) (rest more : List ℕ) → note_line note ++ 10 ∷ rest ≡ note_line other ++ 10 ∷ more → (note ≡ other) × (rest ≡ more)
-note-ends note other rest more e =
-    let behind : List ℕ = 44 ∷ 32 ∷ 39 ∷ (doubled 39 note.payload ++ 39 ∷ 10 ∷ rest) in
-    let after : List ℕ = 44 ∷ 32 ∷ 39 ∷ (doubled 39 other.payload ++ 39 ∷ 10 ∷ more) in
-    let spelled : 32 ∷ 32 ∷ 34 ∷ (doubled 34 note.channel ++ 34 ∷ behind) ≡ 32 ∷ 32 ∷ 34 ∷ (doubled 34 other.channel ++ 34 ∷ after) = sym (note-spelled note rest) ∙ e ∙ note-spelled other more in
-    let comma : (44 ≡ 34) → ⊥ = λ h. omega (arith, h) in
-    let line_feed : (10 ≡ 39) → ⊥ = λ h. omega (arith, h) in
-    let channels = quoted-ends 34 note.channel other.channel behind after comma comma (append_cancel_left (32 ∷ 32 ∷ 34 ∷ []) (doubled 34 note.channel ++ 34 ∷ behind) (doubled 34 other.channel ++ 34 ∷ after) spelled) in
-    let payloads = quoted-ends 39 note.payload other.payload (10 ∷ rest) (10 ∷ more) line_feed line_feed
-    (append_cancel_left (44 ∷ 32 ∷ 39 ∷ []) (doubled 39 note.payload ++ 39 ∷ 10 ∷ rest) (doubled 39 other.payload ++ 39 ∷ 10 ∷ more) channels.1) in
-    (same-note note other channels.0 payloads.0, append_cancel_left (10 ∷ []) rest more payloads.1)
 
 -- the lines of as many notifications
 notes-end : (notes others : List Note) (rest more : List ℕ) → length notes ≡ length others → joined (map note_line notes) ++ rest ≡ joined (map note_line others) ++ more → (notes ≡ others) × (rest ≡ more)
@@ -89,9 +65,6 @@ record SameFate (fate other : Fate) (queued queued' count count' : ℕ) (rest mo
   as_many : count ≡ count'
   as_queued : fate ≡ Aborted → queued ≡ queued'
   follows : rest ≡ more
-
-line-feed : (rest : List ℕ) → EndsNumber (10 ∷ rest)
-line-feed rest = omega arith
 
 fates-end : (fate other : Fate) (queued queued' count count' : ℕ) (rest more : List ℕ) → FateFits queued count → FateFits queued' count' → fate_text fate queued count ++ 10 ∷ rest ≡ fate_text other queued' count' ++ 10 ∷ more
     → SameFate fate other queued queued' count count' rest more
@@ -200,12 +173,6 @@ journal-ends database journal other rest more one h k few few' e =
 abbrev Names : List Section → ℕ → ℕ → Type 0
 Names sections session db = Any (λ section. (section.no ≡ session) × (section.db ≡ db)) sections
 
--- sections are numbered by their places
-pub number-at : (n : ℕ) (sections : List Section) (k : ℕ) (d : Section) → AreNumbered n sections → k < length sections → (get_or sections k d).no ≡ n + k
-number-at n [] k d h lt = absurd (omega (arith, lt))
-number-at n (section ∷ sections) zero d h lt = omega (arith, h.0)
-number-at n (section ∷ sections) (suc k) d h lt = let rest : (get_or sections k d).no ≡ n + 1 + k = number-at (n + 1) sections k d h.1 (omega (arith, lt)) in omega (arith, rest)
-
 one-database : (sections : List Section) → AreNumbered 1 sections → IsOneEach (Names sections)
 one-database sections numbered session db db' (i, a, within, is, same) (j, b, within', is', same') =
     let first : (get_or sections i a).no ≡ 1 + i = number-at 1 sections i a numbered within in
@@ -231,3 +198,4 @@ pub journal-unique : JournalIsUnique
 journal-unique scenario journal other rest more sound h k e =
     journal-ends (Names scenario.sections) journal other rest more (one-database scenario.sections sound.numbered) (all-told scenario.sections journal sound.numbered sound.few h) (all-told scenario.sections other sound.numbered sound.few k)
     (omega (arith, h.short.few)) (omega (arith, k.short.few)) e
+

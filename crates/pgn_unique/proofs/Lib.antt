@@ -1,4 +1,3 @@
-pub mod FieldLaws
 pub mod JournalLines
 pub mod ItemKinds
 pub mod ItemLines

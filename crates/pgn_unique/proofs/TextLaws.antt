@@ -15,8 +15,9 @@ use Rattle.pgn_model.specs.Trace.{TraceOk, state_after}
 use Rattle.pgn_model.specs.Legal.{EachTrace, IsShownWithin, IsFullThere, End, ends, StoodAt, Legal}
 use Rattle.pgn_model.specs.Text.{joined, journal_lines, traces_lines, text}
 use Rattle.pgn_unique.specs.Laws.{TextIsUnique, NoTextBegins}
-use Rattle.pgn_unique.proofs.FieldLaws.{IsHeld}
-use Rattle.pgn_unique.proofs.JournalLines.{number-at, journal-unique}
+use Rattle.pgn_reading.proofs.FieldLaws.{IsHeld}
+use Rattle.pgn_reading.proofs.NumberLaws.{number-at}
+use Rattle.pgn_unique.proofs.JournalLines.{journal-unique}
 use Rattle.pgn_unique.proofs.ItemLines.{holder_of}
 use Rattle.pgn_unique.proofs.TraceLines.{lines-apart, AllKnown, traces-same}
 use Rattle.pgn_unique.proofs.SpentLaws.{named_by, names-shown}

@@ -1,22 +1,25 @@
--- Fields of a line: a number, a text between quotes and a holder end where what follows them shows.
-use Rattle.std.proofs.Common.{◌≡◌, ◌≢◌, ℕ, ◌^◌, ◌<◌, ◌==◌, Bool, true, false, cond, List, [], ◌∷◌, ◌++◌, Option, None, Some, IfSome, codes, decimal, sym, ap, ◌∙◌, refl, arith, eqb-true, eq-eqb}
+-- Fields of a line: a number, a text between quotes, a holder and a notification end where what follows them shows.
+use Rattle.std.proofs.Common.{◌≡◌, ◌≢◌, ℕ, ◌^◌, ◌<◌, ◌==◌, Bool, true, false, cond, List, [], ◌∷◌, ◌++◌, Option, None, Some, IfSome, codes, decimal, sym, ap, ◌∙◌, refl, arith, append_assoc, eqb-true, eq-eqb}
 use Rattle.std.specs.Prelude.{flat_map}
 use Rattle.std.specs.Int.{IsInRange}
 use Rattle.std.proofs.lemmas.Fmt.{digits_decimal, decimal_injective}
 use Rattle.std.proofs.lemmas.List.{append_cancel_left}
 use Rattle.std.proofs.lemmas.Str.Parse.{IsDigitsTest, numerals_by_value}
+use Rattle.pgn_base.specs.declared.note.Note.{Note}
+use Rattle.pgn_base.specs.declared.queue_answers.Full.{Full}
+use Rattle.pgn_base.specs.declared.queue_answers.Usage.{Usage}
 use Rattle.pgn_language.specs.Quotes.{doubled_byte}
-use Rattle.pgn_model.specs.Text.{holder_text}
+use Rattle.pgn_model.specs.Text.{holder_text, note_line}
 
 -- digits
-abbrev AreDigits : List ℕ → Type 0
+abbrev pub AreDigits : List ℕ → Type 0
 AreDigits [] = Unit {0}
 AreDigits (b ∷ bytes) = IsInRange 48 57 b × AreDigits bytes
 
 are-digits : IsDigitsTest AreDigits
 are-digits = record { empty = tt; parts = λ b bytes h. h; more = λ b bytes h k. (h, k) }
 
-digits-decimal : (n : ℕ) → n < 2 ^ 64 → AreDigits (decimal n)
+pub digits-decimal : (n : ℕ) → n < 2 ^ 64 → AreDigits (decimal n)
 digits-decimal n h = digits_decimal (numerals_by_value AreDigits are-digits) n h
 
 -- a byte below the digits follows
@@ -115,3 +118,69 @@ quoted-ends quote (x ∷ xs) (y ∷ ys) rest more hr hm e = by (x == quote) (y =
         let got = later tail in
         let others : xs ≡ ys = got.0 in
         (cc, got.1)
+
+-- a number after a start that both have
+pub field : (start : List ℕ) (m n : ℕ) (rest more : List ℕ) → m < 2 ^ 64 → n < 2 ^ 64 → EndsNumber rest → EndsNumber more → start ++ (decimal m ++ rest) ≡ start ++ (decimal n ++ more) → (m ≡ n) × (rest ≡ more)
+field start m n rest more hm hn hr hs e = number-ends m n rest more hm hn hr hs (append_cancel_left start (decimal m ++ rest) (decimal n ++ more) e)
+
+-- a blank, LF and what follows are no digits
+pub blank : (rest : List ℕ) → EndsNumber (32 ∷ rest)
+blank rest = omega arith
+
+pub line-feed : (rest : List ℕ) → EndsNumber (10 ∷ rest)
+line-feed rest = omega arith
+
+-- the line of a notification, and what follows it
+two-texts : (channel payload rest : List ℕ)
+    → (34 ∷ (channel ++ 34 ∷ []) ++ 44 ∷ 32 ∷ [] ++ 39 ∷ (payload ++ 39 ∷ [])) ++ rest ≡ 34 ∷ (channel ++ 34 ∷ 44 ∷ 32 ∷ 39 ∷ (payload ++ 39 ∷ rest))
+two-texts channel payload rest = simp append_assoc
+
+pub note-spelled : (note : Note) (rest : List ℕ) → note_line note ++ 10 ∷ rest ≡ 32 ∷ 32 ∷ 34 ∷ (doubled 34 note.channel ++ 34 ∷ 44 ∷ 32 ∷ 39 ∷ (doubled 39 note.payload ++ 39 ∷ 10 ∷ rest))
+note-spelled note rest = ap (λ (bytes : List ℕ). 32 ∷ 32 ∷ bytes) (two-texts (doubled 34 note.channel) (doubled 39 note.payload) (10 ∷ rest))
+
+pub same-note : (a b : Note) → a.channel ≡ b.channel → a.payload ≡ b.payload → a ≡ b
+same-note a b e1 e2 =
+    ap (λ (text : List ℕ). let n : Note = record { channel = text; payload = a.payload } in n) e1
+    ∙ ap (λ (text : List ℕ). let n : Note = record { channel = b.channel; payload = text } in n) e2
+
+pub note-ends : (note other : Note) (rest more : List ℕ) → note_line note ++ 10 ∷ rest ≡ note_line other ++ 10 ∷ more → (note ≡ other) × (rest ≡ more)
+note-ends note other rest more e =
+    let behind : List ℕ = 44 ∷ 32 ∷ 39 ∷ (doubled 39 note.payload ++ 39 ∷ 10 ∷ rest) in
+    let after : List ℕ = 44 ∷ 32 ∷ 39 ∷ (doubled 39 other.payload ++ 39 ∷ 10 ∷ more) in
+    let spelled : 32 ∷ 32 ∷ 34 ∷ (doubled 34 note.channel ++ 34 ∷ behind) ≡ 32 ∷ 32 ∷ 34 ∷ (doubled 34 other.channel ++ 34 ∷ after) = sym (note-spelled note rest) ∙ e ∙ note-spelled other more in
+    let comma : (44 ≡ 34) → ⊥ = λ h. omega (arith, h) in
+    let line_feed : (10 ≡ 39) → ⊥ = λ h. omega (arith, h) in
+    let channels = quoted-ends 34 note.channel other.channel behind after comma comma (append_cancel_left (32 ∷ 32 ∷ 34 ∷ []) (doubled 34 note.channel ++ 34 ∷ behind) (doubled 34 other.channel ++ 34 ∷ after) spelled) in
+    let payloads = quoted-ends 39 note.payload other.payload (10 ∷ rest) (10 ∷ more) line_feed line_feed
+    (append_cancel_left (44 ∷ 32 ∷ 39 ∷ []) (doubled 39 note.payload ++ 39 ∷ 10 ∷ rest) (doubled 39 other.payload ++ 39 ∷ 10 ∷ more) channels.1) in
+    (same-note note other channels.0 payloads.0, append_cancel_left (10 ∷ []) rest more payloads.1)
+
+pub same-full : (a b : Full) → a.xid ≡ b.xid → a.queued ≡ b.queued → a.head_page ≡ b.head_page → a.floor_mark ≡ b.floor_mark → a.floor_page ≡ b.floor_page → a.holder ≡ b.holder → a ≡ b
+same-full a b e1 e2 e3 e4 e5 e6 =
+    ap (λ (n : ℕ). let f : Full = record { xid = n; queued = a.queued; head_page = a.head_page; floor_mark = a.floor_mark; floor_page = a.floor_page; holder = a.holder } in f) e1
+    ∙ ap (λ (n : ℕ). let f : Full = record { xid = b.xid; queued = n; head_page = a.head_page; floor_mark = a.floor_mark; floor_page = a.floor_page; holder = a.holder } in f) e2
+    ∙ ap (λ (n : ℕ). let f : Full = record { xid = b.xid; queued = b.queued; head_page = n; floor_mark = a.floor_mark; floor_page = a.floor_page; holder = a.holder } in f) e3
+    ∙ ap (λ (n : ℕ). let f : Full = record { xid = b.xid; queued = b.queued; head_page = b.head_page; floor_mark = n; floor_page = a.floor_page; holder = a.holder } in f) e4
+    ∙ ap (λ (n : ℕ). let f : Full = record { xid = b.xid; queued = b.queued; head_page = b.head_page; floor_mark = b.floor_mark; floor_page = n; holder = a.holder } in f) e5
+    ∙ ap (λ (o : Option ℕ). let f : Full = record { xid = b.xid; queued = b.queued; head_page = b.head_page; floor_mark = b.floor_mark; floor_page = b.floor_page; holder = o } in f) e6
+
+pub same-usage : (a b : Usage) → a.at ≡ b.at → a.occupied ≡ b.occupied → a.limit ≡ b.limit → a.floor_mark ≡ b.floor_mark → a.holder ≡ b.holder → a ≡ b
+same-usage a b e1 e2 e3 e4 e5 =
+    ap (λ (n : ℕ). let u : Usage = record { at = n; occupied = a.occupied; limit = a.limit; floor_mark = a.floor_mark; holder = a.holder } in u) e1
+    ∙ ap (λ (n : ℕ). let u : Usage = record { at = b.at; occupied = n; limit = a.limit; floor_mark = a.floor_mark; holder = a.holder } in u) e2
+    ∙ ap (λ (n : ℕ). let u : Usage = record { at = b.at; occupied = b.occupied; limit = n; floor_mark = a.floor_mark; holder = a.holder } in u) e3
+    ∙ ap (λ (n : ℕ). let u : Usage = record { at = b.at; occupied = b.occupied; limit = b.limit; floor_mark = n; holder = a.holder } in u) e4
+    ∙ ap (λ (o : Option ℕ). let u : Usage = record { at = b.at; occupied = b.occupied; limit = b.limit; floor_mark = b.floor_mark; holder = o } in u) e5
+
+-- pieces of a line, one after another
+pub four-apart : (a b c d : List ℕ) → a ++ b ++ c ++ d ≡ a ++ (b ++ (c ++ d))
+four-apart a b c d = simp append_assoc
+
+pub five-apart : (a b c d e : List ℕ) → a ++ b ++ c ++ d ++ e ≡ a ++ (b ++ (c ++ (d ++ e)))
+five-apart a b c d e = simp append_assoc
+
+pub six-apart : (a b c d e f : List ℕ) → a ++ b ++ c ++ d ++ e ++ f ≡ a ++ (b ++ (c ++ (d ++ (e ++ f))))
+six-apart a b c d e f = simp append_assoc
+
+pub twelve-apart : (a b c d e f g h i j k l : List ℕ) → a ++ b ++ c ++ d ++ e ++ f ++ g ++ h ++ i ++ j ++ k ++ l ≡ a ++ (b ++ (c ++ (d ++ (e ++ (f ++ (g ++ (h ++ (i ++ (j ++ (k ++ l))))))))))
+twelve-apart a b c d e f g h i j k l = simp append_assoc

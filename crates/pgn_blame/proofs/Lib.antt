@@ -1,0 +1,3 @@
+pub mod FineLaws
+pub mod LegalLaws
+pub mod UnblamedLaws

@@ -1,0 +1,2 @@
+-- laws of what is seen of a legal run
+pub mod Laws
