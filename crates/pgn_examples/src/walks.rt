@@ -14,6 +14,7 @@ ghost use Rattle.pgn_journal.specs.declared.tx.Fate.TheVariants.{Committed, Abor
 ghost use Rattle.pgn_language.specs.declared.scenario.Scenario.{Scenario};
 ghost use Rattle.pgn_model.specs.declared.trace.Trace.{Trace};
 ghost use Rattle.pgn_journal.specs.Journal.{IsFinished, is_committed_in};
+ghost use Rattle.pgn_journal.specs.Due.{is_due_to};
 ghost use Rattle.pgn_journal.specs.Near.{Near};
 ghost use Rattle.pgn_model.specs.Legal.{Legal, IsShownWithin, finished_xids};
 ghost use Rattle.pgn_examples.specs.Walks.{on_c, on_d, x_note, c_name, walker, its_terms, its_trace, IsTraceOf, IsRefused, IsFresh, sent_by, own_tx, other_tx, delivered, answered, enlisted, published, listen_notify, notify_alone, notify_listen, listen_alone, listen_again, listen_again_items, never_listens, never_listens_items, block_lines, block_front, block_items, block_journal, joining_lines, joining_front, joining_items, joining_journal, left_open, held_back, other_journal, own_journal, mixed_journal, mixed_due, mixed_front, aborted_journal, own_front, own_read, listen_then, listen_await_begin, listen_then_nothing, listener_again, behind_in_block, begin_twice, empty_line, listen_unlisten, listen_twice, notify_twice, listen_notify_begin, roll_back, y_note, y_journal, two_own_journal, repeats, repeats_journal, repeats_due, listen_notify_listen, sender, listener_trace, one_delivery, sender_trace, silent_trace, IsRun, alone, two_sent, pages_journal, settings_of_two, full_at, usage_at, two_blocks, two_blocks_items, two_blocks_journal, listen_in_block, listen_in_block_front, unlisten_one, unlisten_one_front, both_journal, pg_notify_alone};
@@ -218,6 +219,8 @@ pub fn how_near()
     ensures something_is_due { Near One (is_committed_in 7) own_journal 3 4 → ⊥ }
     ensures of_the_last { Near One (is_committed_in 7) (own_tx (x_note ∷ []) ∷ own_tx (x_note ∷ []) ∷ []) 4 5 → ⊥ }
     ensures at_the_end_of_what_is_due { Near One (is_committed_in 7) own_journal 4 4 }
+    ensures on_its_channel { Near One (is_due_to 7 (c_name ∷ [])) own_journal 3 4 → ⊥ }
+    ensures on_another_channel { list_any (is_due_to 7 (codes "d" ∷ [])) own_journal ≡ false }
     ensures of_another_database { list_any (is_committed_in 7) (sent_by 8 5 (x_note ∷ []) ∷ aborted_journal) ≡ false }
-    ensures by_its_format { (journal : List Tx) → IsUpToDate (record (its_terms []) { settings = settings_of_two }) journal behind_in_block → Near Two (is_committed_in 7) journal 3 4 }
+    ensures by_its_format { (journal : List Tx) → IsUpToDate (record (its_terms []) { settings = settings_of_two }) journal behind_in_block → Near Two (is_due_to 7 []) journal 3 4 }
 {}

@@ -3,8 +3,8 @@ use Rattle.std.proofs.Common.{◌≡◌, ℕ, ◌≤◌, List, ◌++◌, length,
 use Rattle.std.proofs.lemmas.Option.{IfSome_then}
 use Rattle.std.proofs.lemmas.List.Elements.{All-contains, Contains-append_right}
 use Rattle.pgn_hub.specs.declared.known.Known.{Known}
-use Rattle.pgn_journal.specs.Journal.{next_xid, is_committed_in}
-use Rattle.pgn_journal.specs.Due.{due}
+use Rattle.pgn_journal.specs.Journal.{next_xid}
+use Rattle.pgn_journal.specs.Due.{due, is_due_to}
 use Rattle.pgn_journal.proofs.DueLaws.{due-grows}
 use Rattle.pgn_journal.proofs.NearLaws.{near-grows}
 use Rattle.pgn_journal.proofs.QueueUseLaws.{no_page-grows, usage-grows}
@@ -21,7 +21,7 @@ pub woken-grows : WokenGrows
 woken-grows format old new woken more within h unset =
     let seen : length new.seen ≡ length (old.seen ++ h.more) = ap (λ (k : Known). length k.seen) h.known in
     let told : old.told ≤ next_xid new.seen = omega (arith, within.told, seen, length-append old.seen h.more) in
-    IfSome_then old.mark (h.near unset) (λ mark near. near-grows format (is_committed_in old.db) new.seen more mark old.told told near)
+    IfSome_then old.mark (h.near unset) (λ mark near. near-grows format (is_due_to old.db old.set) new.seen more mark old.told told near)
 
 pub full-grows : FullGrows
 full-grows shape old new notes full more h = no_page-grows shape.format shape.pages new.seen more full h.no_page

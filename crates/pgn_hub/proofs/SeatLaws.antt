@@ -16,6 +16,10 @@ pub opened-marks : (n : ℕ) (seats : List SeatSetup) → All (λ k. k.mark ≡ 
 opened-marks n [] = All-nil (λ (k : Known). k.mark ≡ None)
 opened-marks n (seat ∷ seats) = All-cons (λ (k : Known). k.mark ≡ None) (opened_pass n seat) (opened_passes (n + 1) seats) refl (opened-marks (n + 1) seats)
 
+pub opened-sets : (n : ℕ) (seats : List SeatSetup) → All (λ k. k.set ≡ []) (opened_passes n seats)
+opened-sets n [] = All-nil (λ (k : Known). k.set ≡ [])
+opened-sets n (seat ∷ seats) = All-cons (λ (k : Known). k.set ≡ []) (opened_pass n seat) (opened_passes (n + 1) seats) refl (opened-sets (n + 1) seats)
+
 one-within : (n : ℕ) (seat : SeatSetup) → IsWithin (opened_pass n seat)
 one-within n seat = record {
   mark = tt;

@@ -95,6 +95,8 @@ calls-keep_within = record {
         raised = l.raised;
         found = l.found;
       });
+  interested = λ old new set h w.
+      subst IsWithin (sym h) (record { mark = w.mark; marks = w.marks; first_told = w.first_told; told = w.told; own = w.own; raised = w.raised; found = w.found });
   read = λ old new set to before after h w.
       let l = learned-more old h.more w in
       let seen : length new.seen ≡ length (old.seen ++ h.more) = ap (λ (k : Known). length k.seen) h.known in

@@ -1,6 +1,6 @@
 -- What each call does to what is known of its pass. Of what is known, a call changes what the equation of its record names, and
 -- nothing else; what the pass learns of the journal besides is `more`.
-use Rattle.std.specs.Prelude.{◌≡◌, ◌≢◌, ℕ, ◌+◌, ◌-◌, ◌<◌, ◌≤◌, max, Bool, false, ◌||◌, List, [], ◌∷◌, ◌++◌, length, drop, Option, Some, None, All, Contains, IfSome}
+use Rattle.std.specs.Prelude.{true, ◌≡◌, ◌≢◌, ℕ, ◌+◌, ◌-◌, ◌<◌, ◌≤◌, max, Bool, false, ◌||◌, List, [], ◌∷◌, ◌++◌, length, drop, Option, Some, None, All, Contains, IfSome}
 use Rattle.pgn_base.specs.declared.limits.TheConstants.{FIRST_XID}
 use Rattle.pgn_base.specs.declared.format.Format.{Format}
 use Rattle.pgn_base.specs.declared.note.Note.{Note}
@@ -13,8 +13,8 @@ use Rattle.pgn_journal.specs.declared.tx.Fate.{Fate}
 use Rattle.pgn_journal.specs.declared.tx.Fate.TheVariants.{Committed, Aborted}
 use Rattle.pgn_hub.specs.declared.known.Known.{Known}
 use Rattle.pgn_hub.specs.declared.known.Advance.{Advance}
-use Rattle.pgn_journal.specs.Journal.{next_xid, is_committed_in}
-use Rattle.pgn_journal.specs.Due.{due}
+use Rattle.pgn_journal.specs.Journal.{next_xid}
+use Rattle.pgn_journal.specs.Due.{due, is_due_to}
 use Rattle.pgn_journal.specs.Near.{Near}
 use Rattle.pgn_journal.specs.QueueUse.{NoPage, ShowsUsage}
 use Rattle.pgn_hub.specs.Shape.{Shape}
@@ -93,12 +93,13 @@ pub record HasMetFull (shape : Shape) (old new : Known) (notes : List Note) (ful
   pub floor : IsFloor full.xid (met_by new.advance) full.floor_mark full.holder
   pub met : All (Contains named) (met_by new.advance)
 
--- `enlist`: the session is a listener from the point on; its mark is the point, and no read is owed
+-- `enlist`: the session is a listener from the point on; its mark is the point, it has told no set, and no read is owed
 pub record HasEnlisted (old new : Known) (got : Enlisted) : Type 0 where
   pub more : List Tx
   pub known : new ≡ record old {
     seen = old.seen ++ more;
     mark = Some got.point;
+    set = [];
     marks = old.marks ++ got.base ∷ [] ++ got.point ∷ [];
     owes = false;
   }
@@ -108,6 +109,10 @@ pub record HasEnlisted (old new : Known) (got : Enlisted) : Type 0 where
   pub after_marks : All (λ mark. mark ≤ got.point) old.marks
   pub after_seen : next_xid old.seen ≤ got.point
   pub in_seen : got.point ≤ next_xid new.seen
+
+-- `interest`: the listener has told this set, and owes a read
+abbrev pub HasInterest : Known → Known → List (List ℕ) → Type 0
+HasInterest old new set = new ≡ record old { set = set; owes = true }
 
 -- `scan` answers a number: what was due from the mark up to it is put behind what was there, it is the new mark, and no read is owed
 pub record HasRead (old new : Known) (set : List (List ℕ)) (to : ℕ) (before after : List Delivery) : Type 0 where
@@ -132,13 +137,13 @@ pub record HasLeft (old new : Known) : Type 0 where
   pub known : new ≡ record old { seen = old.seen ++ more; mark = None }
 
 -- `woken` answers whether its own look found the wake set, or a read was owed; a read is then owed. Where it answers that neither was
--- so, the session need not read up to what it was told of
+-- so, the session need not read up to what it was told of, as far as its database and the set that it has told go
 pub record HasWoken (format : Format) (old new : Known) (woken : Bool) : Type 0 where
   pub more : List Tx
   pub was_set : Bool
   pub known : new ≡ record old { seen = old.seen ++ more; owes = woken; wake_look = Some (was_set, old.owes) }
   pub cause : woken ≡ (was_set || old.owes)
-  pub near : woken ≡ false → IfSome old.mark (λ mark. Near format (is_committed_in old.db) new.seen mark old.told)
+  pub near : woken ≡ false → IfSome old.mark (λ mark. Near format (is_due_to old.db old.set) new.seen mark old.told)
 
 -- `raise` answers what the pass was told
 pub record HasRaised (old new : Known) (flag x : ℕ) : Type 0 where

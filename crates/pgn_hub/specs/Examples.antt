@@ -50,8 +50,16 @@ tx_3 = record { session = 2; db = 1; notes = both_notes; queued = 2; fate = Comm
 abbrev pub first_point : Enlisted
 first_point = record { base = 3; point = 3 }
 
+abbrev pub enlisted : Known
+enlisted = record opened_1 { mark = Some 3; marks = 3 ∷ 3 ∷ [] }
+
+-- it tells that it listens on the channel
+abbrev pub interested : Known
+interested = record enlisted { set = codes "c" ∷ []; owes = true }
+
+-- it listens on the channel and owes no read. What it has read so far is left out here
 abbrev pub listening : Known
-listening = record opened_1 { mark = Some 3; marks = 3 ∷ 3 ∷ [] }
+listening = record enlisted { set = codes "c" ∷ [] }
 
 -- it isn't woken
 abbrev pub quiet : Known
@@ -165,11 +173,12 @@ after_full = record before_full {
 
 -- session 2 listens too, and stands at the same mark
 abbrev pub both_before_full : Known
-both_before_full = record before_full { mark = Some 3; marks = 3 ∷ 3 ∷ [] }
+both_before_full = record before_full { mark = Some 3; set = codes "c" ∷ []; marks = 3 ∷ 3 ∷ [] }
 
 abbrev pub both_after_full : Known
 both_after_full = record after_full {
   mark = Some 3;
+  set = codes "c" ∷ [];
   marks = 3 ∷ 3 ∷ [];
   named = (1, 3) ∷ (2, 3) ∷ (1, 3) ∷ (2, 3) ∷ [];
   advance = met_both;

@@ -1,5 +1,5 @@
 -- Laws of what the calls say: what a clause says over as much of the journal as is known stays so as more of it becomes known.
-use Rattle.std.specs.Prelude.{◌≡◌, ℕ, ◌+◌, ◌≤◌, false, Bool, List, ◌++◌, length, map, Some, None, All, Contains, IfSome, IsSome}
+use Rattle.std.specs.Prelude.{◌≡◌, ℕ, ◌+◌, ◌≤◌, false, Bool, List, [], ◌++◌, length, map, Some, None, All, Contains, IfSome, IsSome}
 use Rattle.std.specs.List.{range_with_len}
 use Rattle.pgn_base.specs.declared.limits.TheConstants.{FIRST_XID}
 use Rattle.pgn_base.specs.declared.queue_answers.Enlisted.{Enlisted}
@@ -13,12 +13,12 @@ use Rattle.pgn_base.specs.declared.queue_answers.Full.{Full}
 use Rattle.pgn_base.specs.declared.queue_answers.Usage.{Usage}
 use Rattle.pgn_journal.specs.declared.tx.Tx.{Tx}
 use Rattle.pgn_hub.specs.declared.known.Known.{Known}
-use Rattle.pgn_journal.specs.Journal.{next_xid, entry, is_committed_in}
-use Rattle.pgn_journal.specs.Due.{due}
+use Rattle.pgn_journal.specs.Journal.{next_xid, entry}
+use Rattle.pgn_journal.specs.Due.{due, is_due_to}
 use Rattle.pgn_journal.specs.Near.{Near}
 use Rattle.pgn_hub.specs.Shape.{Shape}
 use Rattle.pgn_hub.specs.Passes.{IsWithin, opened_passes}
-use Rattle.pgn_hub.specs.Calls.{HasPublished, HasEnlisted, HasHeard, HasLearned, HasLeft, HasFound, HasFoundNone, HasMetFull, HasRaised, HasRead, HasMeasured, HasWoken, tx_of}
+use Rattle.pgn_hub.specs.Calls.{HasPublished, HasEnlisted, HasHeard, HasLearned, HasLeft, HasFound, HasFoundNone, HasInterest, HasMetFull, HasRaised, HasRead, HasMeasured, HasWoken, tx_of}
 use Rattle.pgn_hub.specs.Gathered.{Gathered}
 
 -- what a read has delivered is due over a longer journal too
@@ -29,7 +29,7 @@ ReadGrows = (old new : Known) (set : List (List ℕ)) (to : ℕ) (before after :
 -- who was not woken need not read up to what it was told of, over a longer journal too
 abbrev pub WokenGrows : Type 0
 WokenGrows = (format : Format) (old new : Known) (woken : Bool) (more : List Tx) → IsWithin old → HasWoken format old new woken → woken ≡ false
-    → IfSome old.mark (λ mark. Near format (is_committed_in old.db) (new.seen ++ more) mark old.told)
+    → IfSome old.mark (λ mark. Near format (is_due_to old.db old.set) (new.seen ++ more) mark old.told)
 
 -- why the queue was full stays so over a longer journal
 abbrev pub FullGrows : Type 0
@@ -55,6 +55,7 @@ pub record CallsKeepWithin : Type 0 where
   pub published : (old new : Known) (notes : List Note) (x : ℕ) → HasPublished old new notes x → IsWithin old → IsWithin new
   pub met_full : (shape : Shape) (old new : Known) (notes : List Note) (full : Full) → HasMetFull shape old new notes full → IsWithin old → IsWithin new
   pub enlisted : (old new : Known) (got : Enlisted) → HasEnlisted old new got → IsWithin old → IsWithin new
+  pub interested : (old new : Known) (set : List (List ℕ)) → HasInterest old new set → IsWithin old → IsWithin new
   pub read : (old new : Known) (set : List (List ℕ)) (to : ℕ) (before after : List Delivery) → HasRead old new set to before after → IsWithin old → IsWithin new
   pub learned : (old new : Known) → HasLearned old new → IsWithin old → IsWithin new
   pub left : (old new : Known) → HasLeft old new → IsWithin old → IsWithin new
@@ -76,6 +77,7 @@ pub record SeatsStay : Type 0 where
   pub published : (old new : Known) (notes : List Note) (x : ℕ) → HasPublished old new notes x → KeepsSeat old new
   pub met_full : (shape : Shape) (old new : Known) (notes : List Note) (full : Full) → HasMetFull shape old new notes full → KeepsSeat old new
   pub enlisted : (old new : Known) (got : Enlisted) → HasEnlisted old new got → KeepsSeat old new
+  pub interested : (old new : Known) (set : List (List ℕ)) → HasInterest old new set → KeepsSeat old new
   pub read : (old new : Known) (set : List (List ℕ)) (to : ℕ) (before after : List Delivery) → HasRead old new set to before after → KeepsSeat old new
   pub learned : (old new : Known) → HasLearned old new → KeepsSeat old new
   pub left : (old new : Known) → HasLeft old new → KeepsSeat old new
@@ -86,11 +88,12 @@ pub record SeatsStay : Type 0 where
   pub measured : (shape : Shape) (old new : Known) (usage : Usage) → HasMeasured shape old new usage → KeepsSeat old new
   pub heard : (from old new : Known) → HasHeard from old new → KeepsSeat old new
 
--- whether the session listens after a call: a pass that is opened may enlist, a listener may read, look at its wake and leave, and
--- then enlist again
+-- whether the session listens after a call: a pass that is opened may enlist, a listener may tell its channels, read, look at its wake
+-- and leave, and then enlist again
 pub record MarksFollow : Type 0 where
   pub opened : (n : ℕ) (seats : List SeatSetup) → All (λ k. k.mark ≡ None) (opened_passes n seats)
   pub enlisted : (old new : Known) (got : Enlisted) → HasEnlisted old new got → IsSome new.mark
+  pub interested : (old new : Known) (set : List (List ℕ)) → HasInterest old new set → new.mark ≡ old.mark
   pub read : (old new : Known) (set : List (List ℕ)) (to : ℕ) (before after : List Delivery) → HasRead old new set to before after → IsSome new.mark
   pub left : (old new : Known) → HasLeft old new → new.mark ≡ None
   pub learned : (old new : Known) → HasLearned old new → new.mark ≡ old.mark
@@ -102,6 +105,22 @@ pub record MarksFollow : Type 0 where
   pub found : (old new : Known) (flag x : ℕ) → HasFound old new flag x → new.mark ≡ old.mark
   pub measured : (shape : Shape) (old new : Known) (usage : Usage) → HasMeasured shape old new usage → new.mark ≡ old.mark
   pub heard : (from old new : Known) → HasHeard from old new → new.mark ≡ old.mark
+
+-- the set that a listener has told is the one that it reads by, until it tells another or is none any more: no other call changes it
+pub record SetsFollow : Type 0 where
+  pub opened : (n : ℕ) (seats : List SeatSetup) → All (λ k. k.set ≡ []) (opened_passes n seats)
+  pub enlisted : (old new : Known) (got : Enlisted) → HasEnlisted old new got → new.set ≡ []
+  pub interested : (old new : Known) (set : List (List ℕ)) → HasInterest old new set → new.set ≡ set
+  pub read : (old new : Known) (set : List (List ℕ)) (to : ℕ) (before after : List Delivery) → HasRead old new set to before after → new.set ≡ old.set
+  pub learned : (old new : Known) → HasLearned old new → new.set ≡ old.set
+  pub published : (old new : Known) (notes : List Note) (x : ℕ) → HasPublished old new notes x → new.set ≡ old.set
+  pub met_full : (shape : Shape) (old new : Known) (notes : List Note) (full : Full) → HasMetFull shape old new notes full → new.set ≡ old.set
+  pub woken : (format : Format) (old new : Known) (woken : Bool) → HasWoken format old new woken → new.set ≡ old.set
+  pub raised : (old new : Known) (flag x : ℕ) → HasRaised old new flag x → new.set ≡ old.set
+  pub found_none : (old new : Known) (flag : ℕ) → HasFoundNone old new flag → new.set ≡ old.set
+  pub found : (old new : Known) (flag x : ℕ) → HasFound old new flag x → new.set ≡ old.set
+  pub measured : (shape : Shape) (old new : Known) (usage : Usage) → HasMeasured shape old new usage → new.set ≡ old.set
+  pub heard : (from old new : Known) → HasHeard from old new → new.set ≡ old.set
 
 -- a transaction takes its notifications from those that are left, whether it commits or not
 pub record NotesFollow : Type 0 where

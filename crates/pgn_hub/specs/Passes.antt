@@ -20,6 +20,7 @@ opened_pass session seat = record {
   own = [];
   marks = [];
   mark = None;
+  set = [];
   told = FIRST_XID;
   notes_left = seat.notes;
   owes = false;

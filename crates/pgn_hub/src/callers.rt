@@ -19,6 +19,7 @@ pub fn hear_and_read<H: Hub>(
     requires from { H.is_pass hub.now from.old }
     requires into { H.is_pass hub.now into.old }
     requires listens { IsSome (H.Pass.known into.old).mark }
+    requires interested { (H.Pass.known into.old).set ≡ set.now.channels }
     ensures from { H.is_pass hub.now from.new }
     ensures into { H.is_pass hub.now into.new }
     ensures told { IfOk result (λ to. (H.Pass.known from.old).told ≤ to) }
@@ -28,7 +29,7 @@ pub fn hear_and_read<H: Hub>(
     hub.scan(alloc, into, set, out)
 }
 
-/// A session that is no listener listens, sends, reads, and leaves: it has read past its own transaction.
+/// A session that is no listener listens, tells its channels, sends, reads, and leaves: it has read past its own transaction.
 pub fn listen_send_leave<H: Hub, R: Wait>(
     hub: &H,
     rt: &R,
@@ -49,6 +50,7 @@ pub fn listen_send_leave<H: Hub, R: Wait>(
     ensures seat { KeepsSeat (H.Pass.known pass.old) (H.Pass.known pass.new) }
 {
     let _point = hub.enlist(pass);
+    hub.interest(pass, set);
     let _sent = hub.publish(rt, pass, notes);
     let read = hub.scan(alloc, pass, set, out);
     hub.leave(pass);

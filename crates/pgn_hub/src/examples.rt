@@ -6,9 +6,9 @@ ghost use Rattle.pgn_base.specs.declared.format.Format.TheVariants.{One};
 ghost use Rattle.pgn_journal.specs.declared.tx.Fate.TheVariants.{Committed, Aborted};
 ghost use Rattle.pgn_hub.specs.Shape.{IsShape};
 ghost use Rattle.pgn_hub.specs.Passes.{IsSeated, IsWithin, no_advance, opened_passes};
-ghost use Rattle.pgn_hub.specs.Calls.{HasPublished, HasEnlisted, HasHeard, HasLearned, HasLeft, HasLooked, HasMetFull, HasRaised, HasRead, HasMeasured, HasWoken};
+ghost use Rattle.pgn_hub.specs.Calls.{HasPublished, HasEnlisted, HasHeard, HasInterest, HasLearned, HasLeft, HasLooked, HasMetFull, HasRaised, HasRead, HasMeasured, HasWoken};
 ghost use Rattle.pgn_hub.specs.Gathered.{Gathered};
-ghost use Rattle.pgn_hub.specs.Examples.{two_seats, opened_1, opened_2, note_a, both_notes, tx_3, first_point, listening, quiet, published, woken_1, got_a, got_b, has_read, has_left, raised_0, found_0, found_none, met_one, met_nobody, met_both, met_reader, usage_4, measured, measured_reader, measured_joiner, heard, long_note, long_3, long_5, before_full, full_5, after_full, both_before_full, both_after_full, three_notes, full_3, larger_full, also_published, last_1, last_2};
+ghost use Rattle.pgn_hub.specs.Examples.{two_seats, opened_1, opened_2, note_a, both_notes, tx_3, first_point, enlisted, interested, listening, quiet, published, woken_1, got_a, got_b, has_read, has_left, raised_0, found_0, found_none, met_one, met_nobody, met_both, met_reader, usage_4, measured, measured_reader, measured_joiner, heard, long_note, long_3, long_5, before_full, full_5, after_full, both_before_full, both_after_full, three_notes, full_3, larger_full, also_published, last_1, last_2};
 
 /// Two passes are opened.
 pub fn open()
@@ -22,12 +22,12 @@ pub fn open()
 
 /// What holds of each pass between calls, and the conditions of the calls, where each comes after the one before it.
 pub fn between_calls()
-    ensures within { All IsWithin (listening ∷ quiet ∷ published ∷ woken_1 ∷ has_read ∷ has_left ∷ raised_0 ∷ found_0 ∷ found_none ∷ measured ∷ heard ∷ last_1 ∷ last_2 ∷ []) }
+    ensures within { All IsWithin (enlisted ∷ interested ∷ listening ∷ quiet ∷ published ∷ woken_1 ∷ has_read ∷ has_left ∷ raised_0 ∷ found_0 ∷ found_none ∷ measured ∷ heard ∷ last_1 ∷ last_2 ∷ []) }
     ensures within_at_full_queue { All IsWithin (before_full ∷ after_full ∷ both_before_full ∷ both_after_full ∷ []) }
     // It has seen the transaction 3, and wasn't told of it.
     ensures raised_past_told { IsWithin (record woken_1 { raised = (0, 4) ∷ [] }) → ⊥ }
     ensures may_enlist { All (λ k. k.mark ≡ None) (opened_1 ∷ opened_2 ∷ has_left ∷ []) }
-    ensures may_read { All (λ k. IsSome k.mark) (listening ∷ quiet ∷ woken_1 ∷ has_read ∷ found_0 ∷ found_none ∷ heard ∷ []) }
+    ensures may_read { All (λ k. IsSome k.mark) (enlisted ∷ interested ∷ listening ∷ quiet ∷ woken_1 ∷ has_read ∷ found_0 ∷ found_none ∷ heard ∷ []) }
     ensures some_notes { both_notes ≢ [] }
     ensures different_notes { AllPairs (λ a b. a ≢ b) both_notes }
     ensures few_notes { All (λ k. length both_notes ≤ k.notes_left) (opened_2 ∷ published ∷ []) }
@@ -56,20 +56,34 @@ pub fn publish()
 
 /// Session 1 becomes a listener.
 pub fn enlist()
-    ensures met { HasEnlisted opened_1 listening first_point }
-    ensures still_owes { HasEnlisted opened_1 (record listening { owes = true }) first_point → ⊥ }
-    ensures no_mark { HasEnlisted opened_1 (record listening { mark = None }) first_point → ⊥ }
-    ensures base_not_kept { HasEnlisted opened_1 (record listening { marks = 3 ∷ [] }) first_point → ⊥ }
-    ensures base_too_early { HasEnlisted opened_1 (record listening { marks = 2 ∷ 3 ∷ [] }) (record first_point { base = 2 }) → ⊥ }
-    ensures base_after_point { HasEnlisted opened_1 (record listening { marks = 4 ∷ 3 ∷ [] }) (record first_point { base = 4 }) → ⊥ }
-    ensures past_the_journal { HasEnlisted opened_1 (record listening { mark = Some 4; marks = 3 ∷ 4 ∷ [] }) (record first_point { point = 4 }) → ⊥ }
+    ensures met { HasEnlisted opened_1 enlisted first_point }
+    ensures still_owes { HasEnlisted opened_1 (record enlisted { owes = true }) first_point → ⊥ }
+    // The session has told no channel in this call.
+    ensures told_a_set { HasEnlisted opened_1 (record enlisted { set = codes "c" ∷ [] }) first_point → ⊥ }
+    // It had listened on the channel, and left.
+    ensures keeps_its_set { HasEnlisted has_left (record has_left { mark = Some 4; marks = 3 ∷ 3 ∷ 4 ∷ 3 ∷ 4 ∷ [] }) (record first_point { point = 4 }) → ⊥ }
+    ensures no_mark { HasEnlisted opened_1 (record enlisted { mark = None }) first_point → ⊥ }
+    ensures base_not_kept { HasEnlisted opened_1 (record enlisted { marks = 3 ∷ [] }) first_point → ⊥ }
+    ensures base_too_early { HasEnlisted opened_1 (record enlisted { marks = 2 ∷ 3 ∷ [] }) (record first_point { base = 2 }) → ⊥ }
+    ensures base_after_point { HasEnlisted opened_1 (record enlisted { marks = 4 ∷ 3 ∷ [] }) (record first_point { base = 4 }) → ⊥ }
+    ensures past_the_journal { HasEnlisted opened_1 (record enlisted { mark = Some 4; marks = 3 ∷ 4 ∷ [] }) (record first_point { point = 4 }) → ⊥ }
     // The session was told of the first transaction.
-    ensures below_told { HasEnlisted (record opened_1 { seen = tx_3 ∷ []; told = 4 }) (record listening { seen = tx_3 ∷ []; told = 4 }) first_point → ⊥ }
+    ensures below_told { HasEnlisted (record opened_1 { seen = tx_3 ∷ []; told = 4 }) (record enlisted { seen = tx_3 ∷ []; told = 4 }) first_point → ⊥ }
     // It had seen the first transaction, and wasn't told of it.
-    ensures below_seen { HasEnlisted (record opened_1 { seen = tx_3 ∷ [] }) (record listening { seen = tx_3 ∷ [] }) first_point → ⊥ }
+    ensures below_seen { HasEnlisted (record opened_1 { seen = tx_3 ∷ [] }) (record enlisted { seen = tx_3 ∷ [] }) first_point → ⊥ }
     // It had read the first transaction, and left.
-    ensures again { HasEnlisted has_left (record has_left { mark = Some 4; marks = 3 ∷ 3 ∷ 4 ∷ 3 ∷ 4 ∷ [] }) (record first_point { point = 4 }) }
-    ensures below_a_mark { HasEnlisted has_left (record has_left { mark = Some 3; marks = 3 ∷ 3 ∷ 4 ∷ 3 ∷ 3 ∷ [] }) first_point → ⊥ }
+    ensures again { HasEnlisted has_left (record has_left { mark = Some 4; set = []; marks = 3 ∷ 3 ∷ 4 ∷ 3 ∷ 4 ∷ [] }) (record first_point { point = 4 }) }
+    ensures below_a_mark { HasEnlisted has_left (record has_left { mark = Some 3; set = []; marks = 3 ∷ 3 ∷ 4 ∷ 3 ∷ 3 ∷ [] }) first_point → ⊥ }
+{}
+
+/// Session 1 tells that it listens on the channel.
+pub fn interest()
+    ensures met { HasInterest enlisted interested (codes "c" ∷ []) }
+    ensures owes_nothing { HasInterest enlisted (record interested { owes = false }) (codes "c" ∷ []) → ⊥ }
+    ensures another_channel { HasInterest enlisted interested (codes "d" ∷ []) → ⊥ }
+    ensures keeps_the_old { HasInterest interested interested (codes "d" ∷ []) → ⊥ }
+    ensures has_both { HasInterest interested (record interested { set = codes "c" ∷ codes "d" ∷ [] }) (codes "d" ∷ []) → ⊥ }
+    ensures mark_moved { HasInterest enlisted (record interested { mark = Some 4 }) (codes "c" ∷ []) → ⊥ }
 {}
 
 /// Session 1 reads the first transaction.
@@ -113,7 +127,7 @@ pub fn woken()
     ensures unset_and_true { HasWoken One listening (record woken_1 { wake_look = Some (false, false) }) true → ⊥ }
     ensures true_and_not_owed { HasWoken One listening (record woken_1 { owes = false }) true → ⊥ }
     ensures not_shown { HasWoken One listening (record woken_1 { wake_look = None }) true → ⊥ }
-    // It was told of a transaction of its database that it hasn't read.
+    // It was told of a transaction of its database that it hasn't read, on its channel.
     ensures due_and_false { HasWoken One heard (record heard { wake_look = Some (false, false) }) false → ⊥ }
 {}
 

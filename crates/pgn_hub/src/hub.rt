@@ -2,7 +2,7 @@ ghost use Rattle.std.specs.Prelude.{◌≡◌, ◌≢◌, ◌<◌, ◌≤◌, []
 ghost use Rattle.std.specs.List.{range_with_len};
 ghost use Rattle.pgn_hub.specs.Shape.{Shape, IsShape};
 ghost use Rattle.pgn_hub.specs.Passes.{IsSeated, IsWithin, opened_passes};
-ghost use Rattle.pgn_hub.specs.Calls.{HasPublished, HasEnlisted, HasHeard, HasLearned, HasLeft, HasLooked, HasMetFull, HasRaised, HasRead, HasMeasured, HasWoken};
+ghost use Rattle.pgn_hub.specs.Calls.{HasPublished, HasEnlisted, HasHeard, HasInterest, HasLearned, HasLeft, HasLooked, HasMetFull, HasRaised, HasRead, HasMeasured, HasWoken};
 ghost use Rattle.pgn_hub.specs.Gathered.{Gathered};
 
 use crate::{PassView, Roll, Setup};
@@ -38,15 +38,22 @@ pub trait Hub: Sized {
         ensures committed { IfOk result (λ x. HasPublished (Self.Pass.known pass.old) (Self.Pass.known pass.new) notes.now x) }
         ensures full { IfErr result (λ full. HasMetFull (shape self.now) (Self.Pass.known pass.old) (Self.Pass.known pass.new) notes.now full) };
 
-    /// Makes the session, which is no listener, one: it receives from the point on.
+    /// Makes the session, which is no listener, one: it receives from the point on, once it has told its channels.
     fn enlist(&self, pass: &mut Self::Pass) -> Enlisted
         requires own { is_pass self.now pass.old }
         requires out { (Self.Pass.known pass.old).mark ≡ None }
         ensures own { is_pass self.now pass.new }
         ensures enlisted { HasEnlisted (Self.Pass.known pass.old) (Self.Pass.known pass.new) result };
 
+    /// Tells the channels that the listener listens to: it is then woken for these alone, and owes a read. It takes no memory.
+    fn interest(&self, pass: &mut Self::Pass, set: &ListenSet)
+        requires own { is_pass self.now pass.old }
+        requires listens { IsSome (Self.Pass.known pass.old).mark }
+        ensures own { is_pass self.now pass.new }
+        ensures interested { HasInterest (Self.Pass.known pass.old) (Self.Pass.known pass.new) set.now.channels };
+
     /// Reads from the mark to the first unfinished transaction, which it answers as the new mark, and puts what is due on the
-    /// channels of the set behind `out`. The error is that memory did not suffice; then `out` and the mark stay, and a read that was
+    /// channels of the set, which is the one that the listener has told, behind `out`. The error is that memory did not suffice; then `out` and the mark stay, and a read that was
     /// owed is still owed.
     fn scan(
         &self,
@@ -57,6 +64,7 @@ pub trait Hub: Sized {
     ) -> Result<Xid, AllocError>
         requires own { is_pass self.now pass.old }
         requires listens { IsSome (Self.Pass.known pass.old).mark }
+        requires interested { (Self.Pass.known pass.old).set ≡ set.now.channels }
         ensures own { is_pass self.now pass.new }
         ensures read { IfOk result (λ to. HasRead (Self.Pass.known pass.old) (Self.Pass.known pass.new) set.now.channels to out.old.items out.new.items) }
         ensures refused { OnErr result (HasLearned (Self.Pass.known pass.old) (Self.Pass.known pass.new)) }

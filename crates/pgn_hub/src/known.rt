@@ -1,3 +1,4 @@
+use pgn_base::Name;
 use pgn_journal::Tx;
 use std::collections::LinkedList;
 
@@ -14,11 +15,13 @@ pub struct Known {
     pub marks: LinkedList<u64>,
     /// A listener has read everything below this number.
     pub mark: Option<u64>,
+    /// The channels that a listener has told as its set; none before it has told any.
+    pub set: LinkedList<Name>,
     /// Every transaction below this number is finished, and its wakes have been set.
     pub told: u64,
     /// How many notifications the pass may still send.
     pub notes_left: u64,
-    /// A wake was taken, and no read has followed it.
+    /// A wake was taken or a set was told, and no read has followed it.
     pub owes: bool,
     /// Each flag that the pass raised, and each that it found, with the number.
     pub raised: LinkedList<(u64, u64)>,

@@ -1,4 +1,4 @@
-ghost use Rattle.pgn_hub.specs.Laws.{ReadGrows, WokenGrows, FullGrows, MeasuredGrows, CallsKeepWithin, SeatsStay, MarksFollow, NotesFollow, TransactionsFollow, HoldersAreNamed, OwnFloors, LastReads};
+ghost use Rattle.pgn_hub.specs.Laws.{ReadGrows, WokenGrows, FullGrows, MeasuredGrows, CallsKeepWithin, SeatsStay, MarksFollow, SetsFollow, NotesFollow, TransactionsFollow, HoldersAreNamed, OwnFloors, LastReads};
 
 /// What a clause says over as much of the journal as is known stays so as more of it becomes known.
 pub fn more_of_the_journal()
@@ -23,6 +23,8 @@ pub fn conditions()
     ensures seats { SeatsStay }
     // After each call it is known whether the session listens.
     ensures marks { MarksFollow }
+    // After each call it is known which channels the listener has told.
+    ensures sets { SetsFollow }
     // A transaction takes its notifications from those that are left.
     ensures notes { NotesFollow }
 {}

@@ -1,6 +1,7 @@
 pub mod BeginsLaws
 pub mod JournalLaws
 pub mod DueLaws
+pub mod InterestLaws
 pub mod TextBytes
 pub mod BytesLemmas
 pub mod PackingLemmas

@@ -30,7 +30,7 @@ none-take p (suc k) [] h = refl
 none-take p (suc k) (x ∷ xs) h = ap (λ b. b || list_any p (take k xs)) (first_no (p x) (list_any p xs) h) ∙ none-take p k xs (rest_no (p x) (list_any p xs) h)
 
 -- none of a part of a list, none of a part within it
-none-within : (p : Tx → Bool) (xs : List Tx) (a b c d : ℕ) → a ≤ c → d ≤ b → list_any p (drop a (take b xs)) ≡ false → list_any p (drop c (take d xs)) ≡ false
+pub none-within : (p : Tx → Bool) (xs : List Tx) (a b c d : ℕ) → a ≤ c → d ≤ b → list_any p (drop a (take b xs)) ≡ false → list_any p (drop c (take d xs)) ≡ false
 none-within p xs a b c d from to h = elim (cases_lt c d) as (λ _. list_any p (drop c (take d xs)) ≡ false) [
   | inl lt ↦
       let ys = take b xs in

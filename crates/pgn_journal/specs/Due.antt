@@ -1,5 +1,6 @@
 -- What a reader is owed.
-use Rattle.std.specs.Prelude.{ℕ, ◌+◌, Bool, cond, List, [], ◌∷◌, ◌++◌, map, filter}
+use Rattle.std.specs.Prelude.{ℕ, ◌+◌, ◌&&◌, Bool, cond, List, [], ◌∷◌, ◌++◌, map, filter}
+use Rattle.std.specs.List.{list_any}
 use Rattle.pgn_base.specs.declared.limits.TheConstants.{PID_BASE}
 use Rattle.pgn_base.specs.Names.{has_name}
 use Rattle.pgn_base.specs.declared.note.Note.{Note}
@@ -10,6 +11,10 @@ use Rattle.pgn_journal.specs.Journal.{entries_between, is_committed_in}
 -- the notification goes to a channel of the set
 abbrev pub listens : List (List ℕ) → Note → Bool
 listens channels note = has_name channels note.channel
+
+-- the transaction gives something to a reader in this database that listens on these channels
+abbrev pub is_due_to : ℕ → List (List ℕ) → Tx → Bool
+is_due_to db channels tx = is_committed_in db tx && list_any (listens channels) tx.notes
 
 -- a notification as it is received, with its transaction and the process number of its sender
 abbrev pub delivery : ℕ → ℕ → Note → Delivery

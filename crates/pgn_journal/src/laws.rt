@@ -2,6 +2,7 @@ ghost use Rattle.pgn_journal.specs.laws.Begins.{BeginsAll, BeginsOn, BeginsConti
 ghost use Rattle.pgn_journal.specs.laws.Bytes.{AreBytes, SpelledLength, FillerLength, EntryLengths, SpellingReadsBack, NoSpellingBegins, NoSpellingIsFiller, FillerReadsBack};
 ghost use Rattle.pgn_journal.specs.laws.Packing.{CellsGiveBytes, FirstPlace, NextPlace, LastPlace, IsPacked, PlaceFolds, LeavesRoom, PutTakes, PagesHold, NoteMoves, PlaceRises, PlaceBound, NotesInTurn, PlaceGrows, AbortedEnds, PlacesAgree, ImagesAgree, CellsOfEach, CellsApart};
 ghost use Rattle.pgn_journal.specs.laws.Due.{DueSplits, DueGrows};
+ghost use Rattle.pgn_journal.specs.laws.Interest.{InterestCovers, NothingInCommon};
 ghost use Rattle.pgn_journal.specs.laws.Near.{NearShrinks, NearItself, NearGrows};
 ghost use Rattle.pgn_journal.specs.laws.QueueUse.{NoPageGrows, UsageGrows};
 ghost use Rattle.pgn_journal.specs.laws.Pieces.{PiecesInTurn, ImageIsLaid, TransactionsArePacked, PiecesSplit, ImageDrops, JournalIsCut, PiecesGiveDue, PiecesGiveAllDue, FinishedQueueAll, JournalTellsFates, PiecesAreNumbered, NumbersRise, PiecesAreReadable, PieceAdvances, PieceHasBytes, PieceReadsBack, FirstCells, NextCells, NumbersGiveBytes, CellsHoldNumbers, FinishedAreWritten, OneMoreImage, DraftAtPageStart, FinishedAreDrafts, DraftsFinish, DraftsAreWritten, LongerAgrees, XidsGoOn};
@@ -35,6 +36,14 @@ pub fn due()
     ensures splits { DueSplits }
     // A longer journal changes nothing of what is due before its new part.
     ensures grows { DueGrows }
+{}
+
+/// Which channels a reader may care for, as one number.
+pub fn interests()
+    // The interest of channels has the bit of each.
+    ensures covers { InterestCovers }
+    // Who has the bit of each of its channels, and no bit in common with a transaction's, listens to none of its notifications.
+    ensures apart { NothingInCommon }
 {}
 
 /// How far a reader is behind.

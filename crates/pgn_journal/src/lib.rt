@@ -27,7 +27,9 @@
 //! ```
 #![tactic(auto)]
 
+mod channel_bits;
 pub mod laws;
 mod tx;
 
+pub use channel_bits::{interest, interest_of_notes};
 pub use tx::{Fate, Tx};

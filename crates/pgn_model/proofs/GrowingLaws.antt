@@ -4,7 +4,8 @@ use Rattle.std.proofs.lemmas.List.Elements.{All-nil, All-head, All-tail, All-pus
 use Rattle.pgn_journal.specs.declared.tx.Tx.{Tx}
 use Rattle.pgn_model.specs.declared.item.Item.{Item}
 use Rattle.pgn_model.specs.declared.item.Item.TheVariants.{Line, Enlist, Publish, QueueFull, Leave, Reply, Refuse, Channels, Used, Raise, Found, TimedOut, Read}
-use Rattle.pgn_journal.specs.Journal.{next_xid, is_committed_in}
+use Rattle.pgn_journal.specs.Journal.{next_xid}
+use Rattle.pgn_journal.specs.Due.{is_due_to}
 use Rattle.pgn_journal.specs.Near.{Near}
 use Rattle.pgn_model.specs.Along.{Along}
 use Rattle.pgn_model.specs.Walk.{Settings, Terms, State, Owed, Awaiting, start, after_item, Allowed, IsCommittedBy, IsAbortedBy, at_line, at_enlist, at_publish, at_full, at_leave, at_rows, at_raise, at_found, IsAwaiting, holder_at, IsGreatest}
@@ -266,10 +267,10 @@ lawful-shows terms journal items s h full found =
 pub up_to_date-grows : UpToDateGrows
 up_to_date-grows terms journal more s within h = grown s.mark h
   where
-    grown : (mark : Option ℕ) → IfSome mark (λ m. Near terms.settings.format (is_committed_in terms.section.db) journal m s.told)
-        → IfSome mark (λ m. Near terms.settings.format (is_committed_in terms.section.db) (journal ++ more) m s.told)
+    grown : (mark : Option ℕ) → IfSome mark (λ m. Near terms.settings.format (is_due_to terms.section.db s.set) journal m s.told)
+        → IfSome mark (λ m. Near terms.settings.format (is_due_to terms.section.db s.set) (journal ++ more) m s.told)
     grown None h = h
-    grown (Some m) h = near-grows terms.settings.format (is_committed_in terms.section.db) journal more m s.told within h
+    grown (Some m) h = near-grows terms.settings.format (is_due_to terms.section.db s.set) journal more m s.told within h
 
 fresh_at-grows : (terms : Terms) (journal more : List Tx) (s : State) (item : Item) → s.told ≤ next_xid journal → IsFreshAt terms journal s item → IsFreshAt terms (journal ++ more) s item
 fresh_at-grows terms journal more s (Line line) within h = λ idle. up_to_date-grows terms journal more s within (h idle)

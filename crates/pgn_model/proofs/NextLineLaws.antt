@@ -14,8 +14,8 @@ use Rattle.pgn_language.specs.declared.scenario.Act.TheVariants.{Run, Signal, Aw
 use Rattle.pgn_language.specs.declared.scenario.ScriptLine.{ScriptLine}
 use Rattle.pgn_model.specs.declared.item.Item.{Item}
 use Rattle.pgn_model.specs.declared.item.Item.TheVariants.{Line, Enlist, Publish, QueueFull, Leave, Reply, Refuse, Channels, Used, Raise, Found, TimedOut, Read}
-use Rattle.pgn_journal.specs.Journal.{is_committed_in, next_xid, entry}
-use Rattle.pgn_journal.specs.Due.{due}
+use Rattle.pgn_journal.specs.Journal.{next_xid, entry}
+use Rattle.pgn_journal.specs.Due.{due, is_due_to}
 use Rattle.pgn_journal.specs.Near.{Near}
 use Rattle.pgn_answers.specs.Savepoints.{surviving_notes, firsts, changes_of, live_names, Change, surviving_actions}
 use Rattle.pgn_answers.specs.Answers.{Outcome, Commits, Replies, Refuses, Silent, GivesChannels, GivesUsage, answer, next_state, list_after}
@@ -524,19 +524,19 @@ pub end-reads : EndReads
 end-reads terms journal items s from to h answered done may = reads terms journal items s from to h (subst (MayRead s) (sym answered) (inr done)) may
 
 pub no_listener-is_up_to_date : NoListenerIsUpToDate
-no_listener-is_up_to_date terms journal s e = subst (λ (mark : Option ℕ). IfSome mark (λ m. Near terms.settings.format (is_committed_in terms.section.db) journal m s.told)) (sym e) tt
+no_listener-is_up_to_date terms journal s e = subst (λ (mark : Option ℕ). IfSome mark (λ m. Near terms.settings.format (is_due_to terms.section.db s.set) journal m s.told)) (sym e) tt
 
 pub reader-is_up_to_date : ReaderIsUpToDate
-reader-is_up_to_date terms journal s mark e told = subst (λ (mark : Option ℕ). IfSome mark (λ m. Near terms.settings.format (is_committed_in terms.section.db) journal m s.told)) (sym e)
-    (near-itself terms.settings.format (is_committed_in terms.section.db) journal mark s.told told)
+reader-is_up_to_date terms journal s mark e told = subst (λ (mark : Option ℕ). IfSome mark (λ m. Near terms.settings.format (is_due_to terms.section.db s.set) journal m s.told)) (sym e)
+    (near-itself terms.settings.format (is_due_to terms.section.db s.set) journal mark s.told told)
 
 pub quiet-is_up_to_date : QuietIsUpToDate
 quiet-is_up_to_date terms journal s told below near = lower s.mark near
   where
-    lower : (mark : Option ℕ) → IfSome mark (λ m. Near terms.settings.format (is_committed_in terms.section.db) journal m told)
-        → IfSome mark (λ m. Near terms.settings.format (is_committed_in terms.section.db) journal m s.told)
+    lower : (mark : Option ℕ) → IfSome mark (λ m. Near terms.settings.format (is_due_to terms.section.db s.set) journal m told)
+        → IfSome mark (λ m. Near terms.settings.format (is_due_to terms.section.db s.set) journal m s.told)
     lower None h = h
-    lower (Some m) h = near-shrinks terms.settings.format (is_committed_in terms.section.db) journal m m told s.told below (omega arith) h
+    lower (Some m) h = near-shrinks terms.settings.format (is_due_to terms.section.db s.set) journal m m told s.told below (omega arith) h
 
 pub end-is_lawful : EndIsLawful
 end-is_lawful terms journal trace s h closes = record {

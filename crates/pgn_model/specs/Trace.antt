@@ -5,7 +5,7 @@ use Rattle.pgn_answers.specs.declared.block_state.BlockState.TheVariants.{Idle}
 use Rattle.pgn_model.specs.declared.item.Item.{Item}
 use Rattle.pgn_model.specs.declared.item.Item.TheVariants.{Line}
 use Rattle.pgn_model.specs.declared.trace.Trace.{Trace}
-use Rattle.pgn_journal.specs.Journal.{is_committed_in}
+use Rattle.pgn_journal.specs.Due.{is_due_to}
 use Rattle.pgn_journal.specs.Near.{Near}
 use Rattle.pgn_model.specs.Along.{Along}
 use Rattle.pgn_model.specs.Walk.{Terms, State, Nothing, start, after_item, Allowed}
@@ -31,9 +31,9 @@ pub record TraceOk (terms : Terms) (trace : Trace) (journal : List Tx) : Type 0 
   pub lawful : IsLawful terms journal trace.items
   pub ended : IsEnd (state_after terms trace.items) trace.last
 
--- a listener need not read up to what it was told of, as far as its database goes
+-- a listener need not read up to what it was told of, as far as its database and its channels go
 abbrev pub IsUpToDate : Terms → List Tx → State → Type 0
-IsUpToDate terms journal s = IfSome s.mark (λ mark. Near terms.settings.format (is_committed_in terms.section.db) journal mark s.told)
+IsUpToDate terms journal s = IfSome s.mark (λ mark. Near terms.settings.format (is_due_to terms.section.db s.set) journal mark s.told)
 
 -- where a line begins, the one before it left no read out, unless a block is open
 abbrev pub IsFreshAt : Terms → List Tx → State → Item → Type 0

@@ -1,10 +1,11 @@
 -- A run given back from what is seen of it, and two outputs with a line to blame.
-use Rattle.std.proofs.Common.{◌≡◌, false, inl, List, [], ◌∷◌, get_or, None, refl, ap, arith, rules}
+use Rattle.std.proofs.Common.{◌≡◌, false, inl, List, [], ◌∷◌, get_or, None, codes, refl, ap, arith, rules}
 use Rattle.std.specs.Fmt.{digits}
 use Rattle.std.specs.List.{list_any}
 use Rattle.pgn_base.specs.declared.note.Note.{Note}
 use Rattle.pgn_base.specs.declared.answers.Tag.TheVariants as tag
-use Rattle.pgn_journal.specs.Journal.{is_committed_in, entries_between}
+use Rattle.pgn_journal.specs.Journal.{entries_between}
+use Rattle.pgn_journal.specs.Due.{is_due_to}
 use Rattle.pgn_model.specs.declared.item.Item.TheVariants.{Publish, Reply}
 use Rattle.pgn_model.specs.Walk.{start, Allowed}
 use Rattle.pgn_model.specs.Trace.{IsLawful, IsUpToDate}
@@ -49,5 +50,5 @@ pub read-is_missing : ItsReadIsMissing
 unfolding digits
 read-is_missing =
     let late : IsUpToDate terms (sent codes_x) (walked (start self) run_unread.items) → ⊥ =
-    λ h. let due : list_any (is_committed_in 1) (entries_between (sent codes_x) 3 4) ≡ false = h.nothing_due in let none : ⊥ = cc in none in
+    λ h. let due : list_any (is_due_to 1 (codes "c" ∷ [])) (entries_between (sent codes_x) 3 4) ≡ false = h.nothing_due in let none : ⊥ = cc in none in
     LeftOutLast (walked (start self) run_unread.items) comes-to_unread_end (inl refl) late

@@ -11,6 +11,7 @@ use std::test::Fail;
 use std::thread::Threads;
 
 mod gate;
+mod interest;
 mod job_table;
 mod large_commits;
 mod listeners;

@@ -63,6 +63,7 @@ found-answered terms plan done block set k q items s flag value h rest channels 
         marks = g.marks;
         stood = g.stood;
         named = g.named;
+        interested = g.interested;
         patient = g.patient;
       };
       rest = rest;
@@ -103,6 +104,7 @@ timed_out-answered terms plan done block set k q items s flag h rest channels he
         marks = g.marks;
         stood = g.stood;
         named = g.named;
+        interested = g.interested;
         patient = g.patient;
       };
       rest = rest;
@@ -127,7 +129,7 @@ waiting-rested terms plan done block set k q items s flag looks h rest channels 
     subst (λ (p : Known). IsRested terms plan done block set (Awaiting flag looks) p items) (sym r.known)
     (record {
       state = s;
-      stands = record { holds = g.holds; session = g.session; database = g.database; own = g.own; mark = g.mark; marks = g.marks; stood = g.stood; named = g.named; patient = g.patient };
+      stands = record { holds = g.holds; session = g.session; database = g.database; own = g.own; mark = g.mark; marks = g.marks; stood = g.stood; named = g.named; interested = g.interested; patient = g.patient };
       rest = rest;
       channels = channels;
       here = (
@@ -181,6 +183,7 @@ await-begins terms plan done block set k items line lines flag h e behind does =
         marks = h.stands.marks;
         stood = h.stands.stood;
         named = h.stands.named;
+        interested = h.stands.interested;
         patient = h.stands.patient;
       };
       rest = behind;

@@ -79,6 +79,7 @@ after-block terms plan done block next set k items after line lines c outcome h 
         marks = h.stands.marks;
         stood = h.stands.stood;
         named = h.stands.named;
+        interested = h.stands.interested;
         patient = h.stands.patient;
       };
       rest = behind;

@@ -5,6 +5,7 @@ use Rattle.std.proofs.lemmas.List.Elements.{All-weaker, All-contains, Contains-p
 use Rattle.pgn_base.specs.declared.note.Note.{Note}
 use Rattle.pgn_base.specs.declared.queue_answers.Full.{Full}
 use Rattle.pgn_base.specs.declared.queue_answers.Enlisted.{Enlisted}
+use Rattle.pgn_base.specs.declared.listen_set.Action.{Action}
 use Rattle.pgn_journal.specs.declared.tx.Tx.{Tx}
 use Rattle.pgn_journal.specs.declared.tx.Fate.TheVariants.{Committed, Aborted}
 use Rattle.pgn_model.specs.declared.item.Item.{Item}
@@ -13,7 +14,7 @@ use Rattle.pgn_hub.specs.declared.known.Known.{Known}
 use Rattle.pgn_journal.specs.Journal.{next_xid}
 use Rattle.pgn_hub.specs.Shape.{Shape}
 use Rattle.pgn_model.specs.Walk.{Terms, State, Nothing}
-use Rattle.pgn_model.specs.laws.NextLine.{MayEnlist, MayPublish, publish_items, published_xids, published_told, HoldsSoFar, StandsFresh}
+use Rattle.pgn_model.specs.laws.NextLine.{is_enlisting, MayEnlist, MayPublish, publish_items, published_xids, published_told, HoldsSoFar, StandsFresh}
 use Rattle.pgn_model.proofs.NextLineLaws.{last-is_published, holds-grows}
 use Rattle.pgn_hub.specs.Calls.{HasPublished, HasMetFull, tx_of}
 use Rattle.pgn_language.specs.Inputs.{QuitsLast, note_lines_of}
@@ -25,7 +26,7 @@ use Rattle.pgn_session.specs.declared.doing.Doing.TheVariants.{Lines}
 use Rattle.pgn_answers.specs.Savepoints.{count_noted}
 use Rattle.pgn_session.specs.Standing.{HaveSameMembers, IsAnswered, spare_of}
 use Rattle.pgn_session.proofs.KnownLaws.{members-push}
-use Rattle.pgn_session.specs.Commits.{HasJoined, HasSent, HasLeftIf, is_full, enlisted_items, sent_items}
+use Rattle.pgn_session.specs.Commits.{HasJoined, HasSent, HasLeftOr, is_telling, is_full, set_after, enlisted_items, sent_items}
 
 -- the base and the point of a session that has become a listener
 abbrev pub base_of : Option Enlisted → ℕ
@@ -125,8 +126,8 @@ leads-full shape j f notes full h = record {
   named_is = ap (λ (p : Known). p.named) h.known;
 }
 
-pub leads-left : (f q : Known) (b : Bool) → HasLeftIf b f q → Leads f q (cond b None f.mark) f.marks f.own f.told f.notes_left
-leads-left f q true h = record {
+pub leads-left : (f q : Known) (b telling : Bool) (channels : List (List ℕ)) → HasLeftOr b telling channels f q → Leads f q (cond b None f.mark) f.marks f.own f.told f.notes_left
+leads-left f q true telling channels h = record {
   more = h.more;
   seen_is = ap (λ (p : Known). p.seen) h.known;
   session_is = ap (λ (p : Known). p.session) h.known;
@@ -141,7 +142,71 @@ leads-left f q true h = record {
   names = [];
   named_is = ap (λ (p : Known). p.named) h.known ∙ sym (append-nil f.named);
 }
-leads-left f q false h = leads-same f q h
+leads-left f q false true channels h = record {
+  more = [];
+  seen_is = ap (λ (p : Known). p.seen) h ∙ sym (append-nil f.seen);
+  session_is = ap (λ (p : Known). p.session) h;
+  database_is = ap (λ (p : Known). p.db) h;
+  mark_is = ap (λ (p : Known). p.mark) h;
+  marks_are = ap (λ (p : Known). p.marks) h;
+  own_is = ap (λ (p : Known). p.own) h;
+  told_is = ap (λ (p : Known). p.told) h;
+  left_is = ap (λ (p : Known). p.notes_left) h;
+  raised_is = ap (λ (p : Known). p.raised) h;
+  found_is = ap (λ (p : Known). p.found) h;
+  names = [];
+  named_is = ap (λ (p : Known). p.named) h ∙ sym (append-nil f.named);
+}
+leads-left f q false false channels h = leads-same f q h
+
+-- to send changes neither the set nor the mark
+sent-set : (shape : Shape) (j f : Known) (notes : List Note) (sent : Option (Result ℕ Full)) → HasSent shape j f notes sent → f.set ≡ j.set
+sent-set shape j f notes None h = ap (λ (p : Known). p.set) h.1
+sent-set shape j f notes (Some (Ok x)) h = ap (λ (p : Known). p.set) h.1.known
+sent-set shape j f notes (Some (Err full)) h = ap (λ (p : Known). p.set) h.1.known
+
+sent-mark : (shape : Shape) (j f : Known) (notes : List Note) (sent : Option (Result ℕ Full)) → HasSent shape j f notes sent → f.mark ≡ j.mark
+sent-mark shape j f notes None h = ap (λ (p : Known). p.mark) h.1
+sent-mark shape j f notes (Some (Ok x)) h = ap (λ (p : Known). p.mark) h.1.known
+sent-mark shape j f notes (Some (Err full)) h = ap (λ (p : Known). p.mark) h.1.known
+
+-- what a session that was not to tell its channels has told is its set
+untold : (k j f : Known) (shape : Shape) (set channels : List (List ℕ)) (actions : List Action) (notes : List Note) (enlisted : Option Enlisted) (sent : Option (Result ℕ Full))
+    → IfSome k.mark (λ _. k.set ≡ set) → HasJoined (is_enlisting actions k.mark) k j enlisted → HasSent shape j f notes sent → channels ≡ set_after sent set actions → is_telling f.mark actions ≡ false
+    → IfSome f.mark (λ _. f.set ≡ channels)
+untold k j f shape set channels [] notes enlisted sent told joined has_sent is e =
+    let same : j ≡ k = not_joined enlisted joined in
+    let set_f : f.set ≡ k.set = sent-set shape j f notes sent has_sent ∙ ap (λ (p : Known). p.set) same in
+    let mark_f : f.mark ≡ k.mark = sent-mark shape j f notes sent has_sent ∙ ap (λ (p : Known). p.mark) same in
+    let kept : channels ≡ set = is ∙ none_done (is_full sent) in
+    subst (λ (mark : Option ℕ). IfSome mark (λ _. f.set ≡ channels)) (sym mark_f) (IfSome_then k.mark told (λ m t. set_f ∙ t ∙ sym kept))
+  where
+    not_joined : (got : Option Enlisted) → HasJoined false k j got → j ≡ k
+    not_joined None h = h
+    not_joined (Some got) h = absurd h
+
+    none_done : (b : Bool) → cond b set set ≡ set
+    none_done true = refl
+    none_done false = refl
+untold k j f shape set channels (action ∷ actions) notes enlisted sent told joined has_sent is e = by_mark f.mark e
+  where
+    by_mark : (mark : Option ℕ) → is_telling mark (action ∷ actions) ≡ false → IfSome mark (λ _. f.set ≡ channels)
+    by_mark None e = tt
+    by_mark (Some m) e = absurd (let no : ⊥ = cc in no)
+
+-- what a listener has told after a commit is its set
+pub told-after : (k j f q : Known) (shape : Shape) (set channels : List (List ℕ)) (actions : List Action) (notes : List Note) (enlisted : Option Enlisted) (sent : Option (Result ℕ Full)) (b telling : Bool)
+    → IfSome k.mark (λ _. k.set ≡ set) → HasJoined (is_enlisting actions k.mark) k j enlisted → HasSent shape j f notes sent → channels ≡ set_after sent set actions → is_telling f.mark actions ≡ telling
+    → HasLeftOr b telling channels f q → IfSome q.mark (λ _. q.set ≡ channels)
+told-after k j f q shape set channels actions notes enlisted sent true telling told joined has_sent is e h =
+    subst (λ (mark : Option ℕ). IfSome mark (λ _. q.set ≡ channels)) (sym (ap (λ (p : Known). p.mark) h.known)) tt
+told-after k j f q shape set channels actions notes enlisted sent false true told joined has_sent is e h = whatever q.mark (ap (λ (p : Known). p.set) h)
+  where
+    whatever : (mark : Option ℕ) → q.set ≡ channels → IfSome mark (λ _. q.set ≡ channels)
+    whatever None same = tt
+    whatever (Some m) same = same
+told-after k j f q shape set channels actions notes enlisted sent false false told joined has_sent is e h =
+    subst (λ (p : Known). IfSome p.mark (λ _. p.set ≡ channels)) (sym h) (untold k j f shape set channels actions notes enlisted sent told joined has_sent is e)
 
 -- the session may become a listener over any longer journal
 pub may-enlist : (k j : Known) (b : Bool) (got : Option Enlisted) (told : ℕ) (marks : List ℕ) (more : List Tx) → HasJoined b k j got → told ≡ k.told → All (Contains k.marks) marks → b ≡ true
@@ -228,14 +293,14 @@ stood-left true mark marks h = tt
 stood-left false mark marks h = h
 
 -- what holds over what was known before the session left, where it did, holds after it
-pub left-answered : (terms : Terms) (plan : FlagPlan) (done : ℕ) (block : BlockView) (channels : List (List ℕ)) (f q : Known) (b : Bool) (after : List Item) (t : State)
-    → 1 ≤ terms.settings.patience → HasLeftIf b f q → StandsFresh terms f.seen after t → All (IsFullThere terms.settings f.seen) after → All (λ pair. pair.1 ≤ next_xid f.seen) t.found
+pub left-answered : (terms : Terms) (plan : FlagPlan) (done : ℕ) (block : BlockView) (channels : List (List ℕ)) (f q : Known) (b telling : Bool) (after : List Item) (t : State)
+    → 1 ≤ terms.settings.patience → HasLeftOr b telling channels f q → IfSome q.mark (λ _. q.set ≡ channels) → StandsFresh terms f.seen after t → All (IsFullThere terms.settings f.seen) after → All (λ pair. pair.1 ≤ next_xid f.seen) t.found
     → f.session ≡ terms.section.no → f.db ≡ terms.section.db → finished_xids after ≡ f.own → t.mark ≡ cond b None f.mark → HaveSameMembers t.marks f.marks → IfSome f.mark (Contains f.marks)
     → All (Contains f.named) t.named → t.rest ≡ drop (done + 1) terms.section.lines → t.set ≡ channels → t.owed ≡ Nothing → t.block ≡ block.state → StandsFor t.changes block.kept
     → t.told ≡ f.told → t.raised ≡ f.raised → t.found ≡ f.found → spare_of terms.section + count_noted t.changes + note_lines_of t.rest ≤ f.notes_left → QuitsLast t.rest
     → IsAnswered terms plan (done + 1) block channels Lines q after
-left-answered terms plan done block channels f q b after t enough leave shown full found session database own mark marks stood named rest is_set owes state list told raised found_is budget quits =
-    let l = leads-left f q b leave in
+left-answered terms plan done block channels f q b telling after t enough leave interested shown full found session database own mark marks stood named rest is_set owes state list told raised found_is budget quits =
+    let l = leads-left f q b telling channels leave in
     let holds : HoldsSoFar terms (f.seen ++ l.more) after t = holds-grows terms f.seen l.more after t (record { stands_fresh = shown; full = full; found = found }) in
     record {
       state = t;
@@ -248,6 +313,7 @@ left-answered terms plan done block channels f q b after t enough leave shown fu
         marks = subst (λ (ys : List ℕ). HaveSameMembers t.marks ys) (sym l.marks_are) marks;
         stood = subst (λ (m : Option ℕ). IfSome m (Contains q.marks)) (sym l.mark_is) (subst (λ (ys : List ℕ). IfSome (cond b None f.mark) (Contains ys)) (sym l.marks_are) (stood-left b f.mark f.marks stood));
         named = subst (λ (pairs : List (ℕ × ℕ)). All (Contains pairs) t.named) (sym l.named_is) (All-weaker (Contains f.named) (Contains (f.named ++ l.names)) (λ pair there. Contains-append_left f.named l.names pair there) t.named named);
+        interested = subst (λ (set : List (List ℕ)). IfSome q.mark (λ _. q.set ≡ set)) (sym is_set) interested;
         patient = enough;
       };
       rest = rest;

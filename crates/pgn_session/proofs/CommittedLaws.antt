@@ -21,8 +21,8 @@ use Rattle.pgn_block.specs.Views.{BlockView}
 use Rattle.pgn_session.specs.declared.doing.FlagPlan.{FlagPlan}
 use Rattle.pgn_session.specs.declared.doing.Doing.TheVariants.{Lines}
 use Rattle.pgn_session.specs.Standing.{HaveSameMembers, IsCommitting, IsAnswered, IsAt}
-use Rattle.pgn_session.specs.Commits.{HasCommitted, is_full, enlisted_items, sent_items, left_items}
-use Rattle.pgn_session.proofs.CommitSteps.{base_of, point_of, leads-joined, may-enlist, same-enlist, x_of, leads-sent, same-sent, may-publish, members-joined, stood-joined, left-answered, at-joined}
+use Rattle.pgn_session.specs.Commits.{HasCommitted, is_telling, is_full, enlisted_items, sent_items, left_items}
+use Rattle.pgn_session.proofs.CommitSteps.{base_of, point_of, leads-joined, may-enlist, same-enlist, x_of, leads-sent, same-sent, may-publish, members-joined, stood-joined, told-after, left-answered, at-joined}
 
 -- a commit that was not refused
 pub committed-answered : (shape : Shape) (terms : Terms) (plan : FlagPlan) (done : ℕ) (set channels : List (List ℕ)) (k q : Known) (items after : List Item) (actions : List Action) (notes : List Note) (tag : Tag) (block : BlockView)
@@ -75,7 +75,9 @@ committed-answered shape terms plan done set channels k q items after actions no
     ∙ ap (λ (full : Bool). begun ++ enlisted_items c.enlisted ++ sent_items c.sent notes ++ left_items (is_leaving f.mark channels) ++ cond full (Refuse refused.QueueFull) (Reply tag None) ∷ []) (sym unfull)
     ∙ sym c.shown in
     let marks_f : cond b (k.marks ++ base ∷ [] ++ point ∷ []) k.marks ≡ f.marks = sym one.marks_are ∙ sym two.marks_are in
-    left-answered terms plan done block channels f q (is_leaving f.mark channels) after t h.stands.patient c.has_left
+    left-answered terms plan done block channels f q (is_leaving f.mark channels) (is_telling f.mark actions) after t h.stands.patient c.has_left
+    (told-after k j f q shape set channels actions notes c.enlisted c.sent (is_leaving f.mark channels) (is_telling f.mark actions)
+    (subst (λ (channels : List (List ℕ)). IfSome k.mark (λ _. k.set ≡ channels)) h.channels h.stands.interested) c.has_joined c.has_sent c.channels_are refl c.has_left)
     (subst (λ (is : List Item). StandsFresh terms f.seen is t) whole law)
     (subst (λ (is : List Item). All (IsFullThere terms.settings f.seen) is) whole (commit-keeps_full terms.settings f.seen items line actions notes s.mark em (applied s.set actions) tag base point x g.full))
     g.found

@@ -34,7 +34,7 @@ end-answered terms plan done block set k q items h e first last r =
     subst (λ (p : Known). IsAnswered terms plan done idle_view set (Ending 0 0) p items) (sym r.known)
     (record {
       state = s;
-      stands = record { holds = g.holds; session = g.session; database = g.database; own = g.own; mark = g.mark; marks = g.marks; stood = g.stood; named = g.named; patient = g.patient };
+      stands = record { holds = g.holds; session = g.session; database = g.database; own = g.own; mark = g.mark; marks = g.marks; stood = g.stood; named = g.named; interested = g.interested; patient = g.patient };
       rest = h.rest;
       channels = h.channels;
       here = (
@@ -72,7 +72,7 @@ past-found terms plan done block set k q items flag value first last r h =
     subst (λ (p : Known). IsPast terms plan done block set p items) (sym r.known)
     (record {
       state = s;
-      stands = record { holds = g.holds; session = g.session; database = g.database; own = g.own; mark = g.mark; marks = g.marks; stood = g.stood; named = g.named; patient = g.patient };
+      stands = record { holds = g.holds; session = g.session; database = g.database; own = g.own; mark = g.mark; marks = g.marks; stood = g.stood; named = g.named; interested = g.interested; patient = g.patient };
       rest = h.rest;
       channels = h.channels;
       here = (
@@ -103,7 +103,7 @@ past-none terms plan done block set k q items flag r h =
     subst (λ (p : Known). IsPast terms plan done block set p items) (sym r.known)
     (record {
       state = s;
-      stands = record { holds = g.holds; session = g.session; database = g.database; own = g.own; mark = g.mark; marks = g.marks; stood = g.stood; named = g.named; patient = g.patient };
+      stands = record { holds = g.holds; session = g.session; database = g.database; own = g.own; mark = g.mark; marks = g.marks; stood = g.stood; named = g.named; interested = g.interested; patient = g.patient };
       rest = h.rest;
       channels = h.channels;
       here = (

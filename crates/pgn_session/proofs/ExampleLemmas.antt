@@ -5,7 +5,7 @@ use Rattle.pgn_language.specs.declared.scenario.Act.TheVariants.{Run, Quit}
 use Rattle.pgn_language.specs.declared.scenario.ScriptLine.{ScriptLine}
 use Rattle.pgn_session.specs.Feed.{EndsByQuit}
 use Rattle.pgn_session.specs.Examples.{begin_line, quit_line, quits}
-use Rattle.std.proofs.Common.{◌≡◌, ℕ, ◌≤◌, Bool, true, false, List, [], ◌∷◌, ◌++◌, Option, Some, None, All, ap, arith, refl, subst, sym, ◌∙◌}
+use Rattle.std.proofs.Common.{◌≡◌, inl, ⊎_elim, ℕ, ◌≤◌, Bool, true, false, List, [], ◌∷◌, ◌++◌, Option, Some, None, All, ap, arith, refl, subst, sym, ◌∙◌}
 use Rattle.std.proofs.lemmas.List.Elements.{All-nil, All-cons, All-head, All-contains}
 use Rattle.pgn_base.specs.declared.answers.Tag.TheVariants.{Begin, Notify}
 use Rattle.pgn_model.specs.declared.item.Item.{Item}
@@ -15,7 +15,7 @@ use Rattle.pgn_hub.specs.Calls.{HasLooked}
 use Rattle.pgn_hub.specs.Examples.{both_notes, tx_3, opened_2, published, listening, woken_1, found_0, found_none}
 use Rattle.pgn_session.specs.Parts.{looked_items}
 use Rattle.pgn_session.specs.Standing.{HaveEnded}
-use Rattle.pgn_session.specs.Steps.{LooksInVain, IsWithoutHub, IsNoLine, ShowsLine, HasTurned}
+use Rattle.pgn_session.specs.Steps.{LooksInVain, HasToldAtMost, IsWithoutHub, IsNoLine, ShowsLine, HasTurned}
 use Rattle.pgn_session.specs.declared.doing.Doing.TheVariants.{Lines}
 use Rattle.pgn_session.specs.declared.doing.Step.TheVariants.{Did}
 use Rattle.pgn_session.specs.Examples.{two_sessions}
@@ -68,10 +68,10 @@ begun-alone : All IsWithoutHub begun
 begun-alone = All-cons IsWithoutHub (Reply Begin None) [] tt (All-nil IsWithoutHub)
 
 pub shows-answer : ShowsLine 2 listening listening [] (Line 2 ∷ Reply Begin None ∷ [])
-shows-answer = record { more = begun; shown = refl; one_line = All-cons IsNoLine (Reply Begin None) [] tt (All-nil IsNoLine); untouched = λ all. refl }
+shows-answer = record { more = begun; shown = refl; one_line = All-cons IsNoLine (Reply Begin None) [] tt (All-nil IsNoLine); untouched = λ all. inl refl }
 
 pub shows-nothing : ShowsLine 2 listening listening [] (Line 2 ∷ [])
-shows-nothing = record { more = []; shown = refl; one_line = All-nil IsNoLine; untouched = λ all. refl }
+shows-nothing = record { more = []; shown = refl; one_line = All-nil IsNoLine; untouched = λ all. inl refl }
 
 pub shows-sent : ShowsLine 2 opened_2 published [] (Line 2 ∷ Publish 3 both_notes ∷ Reply Notify None ∷ [])
 shows-sent = record {
@@ -85,11 +85,15 @@ shows-sent = record {
 has-looked : woken_1 ≡ listening → ⊥
 has-looked e = let looks : ◌≡◌ {A = Option (Bool × Bool)} (Some (true, false)) None = ap (λ (k : Known). k.wake_look) e in cc
 
+-- nor has it told its channels alone
+not-told : HasToldAtMost listening woken_1 → ⊥
+not-told h = ⊎_elim has-looked (λ told. let looks : ◌≡◌ {A = Option (Bool × Bool)} (Some (true, false)) None = ap (λ (k : Known). k.wake_look) told.1 in cc) h
+
 pub takes-wake : ShowsLine 2 listening woken_1 [] (Line 2 ∷ Reply Begin None ∷ []) → ⊥
-takes-wake s = let same : begun ≡ s.more = cc (s.shown) in has-looked (s.untouched (subst (λ (items : List Item). All IsWithoutHub items) same begun-alone))
+takes-wake s = let same : begun ≡ s.more = cc (s.shown) in not-told (s.untouched (subst (λ (items : List Item). All IsWithoutHub items) same begun-alone))
 
 pub takes-at-empty : ShowsLine 2 listening woken_1 [] (Line 2 ∷ []) → ⊥
-takes-at-empty s = let same : [] ≡ s.more = cc (s.shown) in has-looked (s.untouched (subst (λ (items : List Item). All IsWithoutHub items) same (All-nil IsWithoutHub)))
+takes-at-empty s = let same : [] ≡ s.more = cc (s.shown) in not-told (s.untouched (subst (λ (items : List Item). All IsWithoutHub items) same (All-nil IsWithoutHub)))
 
 pub other-line : ShowsLine 2 listening listening [] (Line 3 ∷ Reply Begin None ∷ []) → ⊥
 other-line s = let same : ◌≡◌ {A = ℕ} 3 2 = cc (s.shown) in omega (arith, same)

@@ -141,6 +141,7 @@ fed-rested terms lines plan done block set k items front last line split is befo
         marks = h.stands.marks;
         stood = h.stands.stood;
         named = h.stands.named;
+        interested = h.stands.interested;
         patient = h.stands.patient;
       };
       rest = sym (ap (λ (ls : List ScriptLine). drop done ls) is ∙ drop-append-le done front more done_few);

@@ -60,6 +60,7 @@ signal-answered terms plan done block set k q items line lines flag h e behind d
         marks = g.marks;
         stood = g.stood;
         named = g.named;
+        interested = g.interested;
         patient = g.patient;
       };
       rest = behind;

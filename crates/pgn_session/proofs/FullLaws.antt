@@ -1,5 +1,5 @@
 -- What comes of a commit that meets a full queue, and of any commit.
-use Rattle.std.proofs.Common.{◌≡◌, ◌≢◌, ℕ, ◌+◌, ◌<◌, ◌≤◌, Bool, true, false, cond, List, [], ◌∷◌, ◌++◌, length, drop, Option, Some, None, Result, Ok, Err, IfSome, All, Contains, sym, ap, ◌∙◌, refl, subst, arith, length-append, append_assoc}
+use Rattle.std.proofs.Common.{◌≡◌, ◌≢◌, inl, inr, ℕ, ◌+◌, ◌<◌, ◌≤◌, Bool, true, false, cond, List, [], ◌∷◌, ◌++◌, length, drop, Option, Some, None, Result, Ok, Err, IfSome, All, Contains, sym, ap, ◌∙◌, refl, subst, arith, length-append, append_assoc}
 use Rattle.std.proofs.lemmas.Option.{IfSome_then}
 use Rattle.std.proofs.lemmas.List.Elements.{All-nil, All-cons, All-append, All-head, All-weaker, Contains-append_left}
 use Rattle.pgn_base.specs.declared.note.Note.{Note}
@@ -29,14 +29,14 @@ use Rattle.pgn_block.specs.Views.{BlockView}
 use Rattle.pgn_session.specs.declared.doing.FlagPlan.{FlagPlan}
 use Rattle.pgn_session.specs.declared.doing.Doing.TheVariants.{Lines, Committing}
 use Rattle.pgn_session.specs.Standing.{terms_of, HaveSameMembers, IsCommitting, IsAnswered, IsRested, IsAt}
-use Rattle.pgn_session.specs.Steps.{ShowsLine, ShowsNext, IsWithoutHub, IsNoLine}
+use Rattle.pgn_session.specs.Steps.{ShowsLine, ShowsNext, HasToldAtMost, IsWithoutHub, IsNoLine}
 use Rattle.pgn_session.proofs.CommittedLaws.{committed-answered}
 use Rattle.pgn_language.specs.declared.scenario.Section.{Section}
 use Rattle.pgn_language.specs.declared.scenario.ScriptLine.{ScriptLine}
 use Rattle.std.proofs.lemmas.List.{drop_more, length-drop}
 use Rattle.std.proofs.Math.ListN.{get_or}
-use Rattle.pgn_session.specs.Commits.{HasJoined, HasSent, HasLeftIf, HasCommitted, is_full, set_after, enlisted_items, sent_items, left_items, ending_item}
-use Rattle.pgn_session.proofs.CommitSteps.{base_of, point_of, leads-joined, leads-full, may-enlist, same-enlist, members-joined, stood-joined, left-answered, at-joined}
+use Rattle.pgn_session.specs.Commits.{HasJoined, HasSent, HasLeftOr, HasCommitted, is_telling, is_full, set_after, enlisted_items, sent_items, left_items, ending_item}
+use Rattle.pgn_session.proofs.CommitSteps.{base_of, point_of, leads-joined, leads-full, may-enlist, same-enlist, members-joined, stood-joined, told-after, left-answered, at-joined}
 use Rattle.pgn_session.proofs.KnownLaws.{named-holder}
 
 -- what met a full queue stands there, aborted
@@ -105,7 +105,9 @@ full-answered shape terms plan done set channels k q items after actions notes t
     ∙ sym c.shown in
     let marks_f : cond b (k.marks ++ base ∷ [] ++ point ∷ []) k.marks ≡ f.marks = sym one.marks_are ∙ sym two.marks_are in
     let after_told : s.told ≤ full.xid = meets.after_told in
-    left-answered terms plan done block channels f q (is_leaving f.mark channels) after t h.stands.patient c.has_left
+    left-answered terms plan done block channels f q (is_leaving f.mark channels) (is_telling f.mark actions) after t h.stands.patient c.has_left
+    (told-after k j f q shape set channels actions notes c.enlisted c.sent (is_leaving f.mark channels) (is_telling f.mark actions)
+    (subst (λ (channels : List (List ℕ)). IfSome k.mark (λ _. k.set ≡ channels)) h.channels h.stands.interested) c.has_joined c.has_sent c.channels_are refl c.has_left)
     (subst (λ (is : List Item). StandsFresh terms f.seen is t) whole law)
     (subst (λ (is : List Item). All (IsFullThere terms.settings f.seen) is) whole (full-keeps_full terms.settings f.seen items line actions notes s.mark em s.set base point full g.full no_page))
     g.found
@@ -148,9 +150,10 @@ sent-untouched shape j f notes None rest h all = (h.1, all)
 sent-untouched shape j f notes (Some (Ok x)) rest h all = absurd (All-head IsWithoutHub (Publish x notes) rest all)
 sent-untouched shape j f notes (Some (Err full)) rest h all = absurd (All-head IsWithoutHub (QueueFull full notes) rest all)
 
-left-untouched : (b : Bool) (f q : Known) (rest : List Item) → HasLeftIf b f q → All IsWithoutHub (left_items b ++ rest) → q ≡ f
-left-untouched true f q rest h all = absurd (All-head IsWithoutHub Leave rest all)
-left-untouched false f q rest h all = h
+left-untouched : (b telling : Bool) (channels : List (List ℕ)) (f q : Known) (rest : List Item) → HasLeftOr b telling channels f q → All IsWithoutHub (left_items b ++ rest) → HasToldAtMost f q
+left-untouched true telling channels f q rest h all = absurd (All-head IsWithoutHub Leave rest all)
+left-untouched false true channels f q rest h all = inr (channels, h)
+left-untouched false false channels f q rest h all = inl h
 
 -- no item of a commit begins a line
 one-item : (shown : Item) → IsNoLine shown → All IsNoLine (shown ∷ [])
@@ -208,7 +211,7 @@ commit-answered shape section patience plan done set channels k q items after ac
       untouched = λ all.
           let joined = joined-untouched (is_enlisting actions k.mark) k d.joined d.enlisted (sent_items d.sent notes ++ (left_items left ++ ending)) d.has_joined all in
           let sent = sent-untouched shape d.joined d.finished notes d.sent (left_items left ++ ending) d.has_sent joined.1 in
-          left-untouched left d.finished q ending d.has_left sent.1 ∙ sent.0 ∙ joined.0;
+          subst (λ (p : Known). HasToldAtMost p q) (sent.0 ∙ joined.0) (left-untouched left (is_telling d.finished.mark actions) channels d.finished q ending d.has_left sent.1);
     } in
     (either behind d d.sent refl, subst (λ (ls : List ScriptLine). ShowsNext ls k q items after) (sym at) shows)
   where

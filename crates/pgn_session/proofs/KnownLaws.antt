@@ -13,7 +13,7 @@ use Rattle.pgn_block.specs.Views.{BlockView}
 use Rattle.pgn_session.specs.declared.doing.FlagPlan.{FlagPlan}
 use Rattle.pgn_session.specs.declared.doing.Doing.{Doing}
 use Rattle.pgn_session.specs.declared.doing.Doing.TheVariants.{Lines, Committing, Awaiting, Ending, Over}
-use Rattle.pgn_session.specs.Standing.{StandsAt, HaveSameMembers, TellsAll, TellsMore, GoesOnByEnds, IsInScript, IsPastScript, WasFound, HasAnswered, HasRested, spare_of}
+use Rattle.pgn_session.specs.Standing.{StandsAt, IsAt, HaveSameMembers, TellsAll, TellsMore, GoesOnByEnds, IsInScript, IsPastScript, WasFound, HasAnswered, HasRested, spare_of}
 
 -- the journal may grow
 pub stands-grows : (terms : Terms) (k : Known) (more : List Tx) (items : List Item) (s : State) → StandsAt terms k items s → StandsAt terms (record k { seen = k.seen ++ more }) items s
@@ -26,11 +26,16 @@ stands-grows terms k more items s h = record {
   marks = h.marks;
   stood = h.stood;
   named = h.named;
+  interested = h.interested;
   patient = h.patient;
 }
 
 pub stands-learned : (terms : Terms) (k q : Known) (items : List Item) (s : State) → HasLearned k q → StandsAt terms k items s → StandsAt terms q items s
 stands-learned terms k q items s learned h = subst (λ (p : Known). StandsAt terms p items s) (sym learned.known) (stands-grows terms k learned.more items s h)
+
+-- what a listener has told is its set
+pub told-set : (terms : Terms) (done : ℕ) (set : List (List ℕ)) (k : Known) (items : List Item) (P : State → Type 0) (from : ℕ) → k.mark ≡ Some from → IsAt terms done set k items P → k.set ≡ set
+told-set terms done set k items P from is h = subst (λ (mark : Option ℕ). IfSome mark (λ _. k.set ≡ h.state.set)) is h.stands.interested ∙ h.channels
 
 -- what the pass was told, has raised and found and may still send is as it was
 pub record IsSameTold (k q : Known) : Type 0 where

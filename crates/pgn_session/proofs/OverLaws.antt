@@ -32,7 +32,7 @@ over-more terms plan done block set k items more told later h =
     let g : StandsAt terms (record k { seen = k.seen ++ more }) items s = stands-grows terms k more items s h.stands in
     record {
       state = s;
-      stands = record { holds = g.holds; session = g.session; database = g.database; own = g.own; mark = g.mark; marks = g.marks; stood = g.stood; named = g.named; patient = g.patient };
+      stands = record { holds = g.holds; session = g.session; database = g.database; own = g.own; mark = g.mark; marks = g.marks; stood = g.stood; named = g.named; interested = g.interested; patient = g.patient };
       rest = h.rest;
       channels = h.channels;
       here = (
@@ -83,6 +83,7 @@ opened-rested shape section plan patience k e counted quits enough =
         marks = record { of_left = All-nil (Contains []); of_right = All-nil (Contains []) };
         stood = tt;
         named = All-nil (Contains []);
+        interested = tt;
         patient = enough;
       };
       rest = refl;

@@ -91,6 +91,7 @@ quit-rested terms plan done block set k q items after line lines h e behind does
         marks = g.marks;
         stood = tt;
         named = g.named;
+        interested = tt;
         patient = g.patient;
       };
       rest = behind;

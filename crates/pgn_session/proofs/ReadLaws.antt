@@ -8,8 +8,8 @@ use Rattle.pgn_answers.specs.declared.block_state.BlockState.TheVariants.{Idle}
 use Rattle.pgn_model.specs.declared.item.Item.{Item}
 use Rattle.pgn_model.specs.declared.item.Item.TheVariants.{Read}
 use Rattle.pgn_hub.specs.declared.known.Known.{Known}
-use Rattle.pgn_journal.specs.Journal.{next_xid, is_committed_in}
-use Rattle.pgn_journal.specs.Due.{due}
+use Rattle.pgn_journal.specs.Journal.{next_xid}
+use Rattle.pgn_journal.specs.Due.{due, is_due_to}
 use Rattle.pgn_journal.specs.Near.{Near}
 use Rattle.pgn_model.specs.Walk.{Terms, State}
 use Rattle.pgn_model.specs.Legal.{IsFullThere}
@@ -29,7 +29,7 @@ pub stands-woken : (terms : Terms) (k q : Known) (items : List Item) (s : State)
 stands-woken terms k q items s woken w h =
     let g = stands-grows terms k w.more items s h in
     subst (λ (p : Known). StandsAt terms p items s) (sym w.known)
-    (record { holds = g.holds; session = g.session; database = g.database; own = g.own; mark = g.mark; marks = g.marks; stood = g.stood; named = g.named; patient = g.patient })
+    (record { holds = g.holds; session = g.session; database = g.database; own = g.own; mark = g.mark; marks = g.marks; stood = g.stood; named = g.named; interested = g.interested; patient = g.patient })
 
 same-woken : (terms : Terms) (k q : Known) (woken : Bool) → HasWoken terms.settings.format k q woken → IsSameTold k q
 same-woken terms k q woken w = record {
@@ -81,13 +81,20 @@ learned-answered terms plan done block set doing k q items l h = record {
   here = answered-same terms plan block k q h.state doing (same-learned k q l) h.here;
 }
 
+-- a listener that is near by what it has told is near by its own database and set
+near-told : (mark : Option ℕ) (format : Format) (d db : ℕ) (told set : List (List ℕ)) (seen : List Tx) (upto : ℕ) → d ≡ db → IfSome mark (λ _. told ≡ set)
+    → IfSome mark (λ m. Near format (is_due_to d told) seen m upto) → IfSome mark (λ m. Near format (is_due_to db set) seen m upto)
+near-told None format d db told set seen upto same is near = tt
+near-told (Some m) format d db told set seen upto same is near =
+    subst (λ (n : ℕ). Near format (is_due_to n set) seen m upto) same (subst (λ (channels : List (List ℕ)). Near format (is_due_to d channels) seen m upto) is near)
+
 -- a session that was not woken has rested
 pub quiet-rested : (terms : Terms) (plan : FlagPlan) (done : ℕ) (block : BlockView) (set : List (List ℕ)) (doing : Doing) (k q : Known) (items : List Item)
     → HasWoken terms.settings.format k q false → IsAnswered terms plan done block set doing k items → IsRested terms plan done block set doing q items
 quiet-rested terms plan done block set doing k q items w h =
-    let near : IfSome h.state.mark (λ mark. Near terms.settings.format (is_committed_in terms.section.db) q.seen mark k.told) =
-    subst (λ (db : ℕ). IfSome h.state.mark (λ mark. Near terms.settings.format (is_committed_in db) q.seen mark k.told)) h.stands.database
-    (subst (λ (own : Option ℕ). IfSome own (λ mark. Near terms.settings.format (is_committed_in k.db) q.seen mark k.told)) (sym h.stands.mark) (w.near refl)) in
+    let near : IfSome h.state.mark (λ mark. Near terms.settings.format (is_due_to terms.section.db h.state.set) q.seen mark k.told) =
+    subst (λ (mark : Option ℕ). IfSome mark (λ m. Near terms.settings.format (is_due_to terms.section.db h.state.set) q.seen m k.told)) (sym h.stands.mark)
+    (near-told k.mark terms.settings.format k.db terms.section.db k.set h.state.set q.seen k.told h.stands.database h.stands.interested (w.near refl)) in
     record {
       state = h.state;
       stands = stands-woken terms k q items h.state false w h.stands;
@@ -153,6 +160,7 @@ reads terms plan done block set doing k more items from to true e is_from forwar
     let q : Known = record k { seen = seen; mark = Some to; marks = k.marks ++ to ∷ []; owes = false } in
     let g : StandsAt terms (record k { seen = seen }) items s = stands-grows terms k more items s h.stands in
     let below : s.told ≤ k.told = told-below terms plan block k s doing h.here in
+    let told : k.set ≡ s.set = subst (λ (mark : Option ℕ). IfSome mark (λ _. k.set ≡ s.set)) is_from h.stands.interested in
     let shown : StandsFresh terms seen (items ++ Read from to (due seen from to terms.section.db s.set) ∷ []) after =
     read-shown terms plan block k seen items s doing from to g.holds.stands_fresh idle h.here
     (record { from_mark = h.stands.mark ∙ is_from; forward = ltb-true from to e; after_told = omega (arith, below, after_told); in_journal = within }) in
@@ -178,6 +186,7 @@ reads terms plan done block set doing k more items from to true e is_from forwar
         marks = members-push s.marks k.marks to h.stands.marks;
         stood = Contains-push k.marks to;
         named = h.stands.named;
+        interested = told;
         patient = h.stands.patient;
       };
       rest = h.rest;
@@ -190,6 +199,7 @@ reads terms plan done block set doing k more items from to false e is_from forwa
     let q : Known = record k { seen = seen; mark = Some to; marks = k.marks ++ to ∷ []; owes = false } in
     let g : StandsAt terms (record k { seen = seen }) items s = stands-grows terms k more items s h.stands in
     let below : s.told ≤ k.told = told-below terms plan block k s doing h.here in
+    let told : k.set ≡ s.set = subst (λ (mark : Option ℕ). IfSome mark (λ _. k.set ≡ s.set)) is_from h.stands.interested in
     let back : to ≤ from = ltb-false from to e in
     let still : from ≡ to = omega (arith, back, forward) in
     let at : s.mark ≡ Some to = h.stands.mark ∙ is_from ∙ ap Some still in
@@ -205,6 +215,7 @@ reads terms plan done block set doing k more items from to false e is_from forwa
         marks = members-again s.marks k.marks to (All-contains (Contains s.marks) k.marks to h.stands.marks.of_right stood) h.stands.marks;
         stood = Contains-push k.marks to;
         named = h.stands.named;
+        interested = told;
         patient = h.stands.patient;
       };
       rest = h.rest;

@@ -1,5 +1,5 @@
 -- A step of a whole session by a command: what the block answers at once, what the hub shows, and a commit that was handed out.
-use Rattle.std.proofs.Common.{◌≡◌, ℕ, ◌+◌, List, [], ◌∷◌, ◌++◌, length, drop, None, All, sym, ap, ◌∙◌, refl, subst, append-nil, append_assoc}
+use Rattle.std.proofs.Common.{◌≡◌, inl, ℕ, ◌+◌, List, [], ◌∷◌, ◌++◌, length, drop, None, All, sym, ap, ◌∙◌, refl, subst, append-nil, append_assoc}
 use Rattle.std.proofs.lemmas.List.Elements.{All-nil, All-cons, All-head}
 use Rattle.pgn_base.specs.declared.note.Note.{Note}
 use Rattle.pgn_base.specs.declared.answers.Tag.{Tag}
@@ -35,15 +35,15 @@ one shown none = All-cons IsNoLine shown [] none (All-nil IsNoLine)
 
 -- what the block answers shows its line, and leaves the pass as it was
 told-shows : (k q : Known) (items : List Item) (line : ℕ) (set : List (List ℕ)) (e : Effect) → IsToldByBlock e → q ≡ k → ShowsLine line k q items (answered_items items line set e)
-told-shows k q items line set effect.Nothing h is = record { more = []; shown = sym (append-nil _); one_line = All-nil IsNoLine; untouched = λ all. is }
-told-shows k q items line set (effect.Reply done warning) h is = record { more = item.Reply done warning ∷ []; shown = refl; one_line = one (item.Reply done warning) tt; untouched = λ all. is }
-told-shows k q items line set (effect.Refuse refusal) h is = record { more = item.Refuse refusal ∷ []; shown = refl; one_line = one (item.Refuse refusal) tt; untouched = λ all. is }
+told-shows k q items line set effect.Nothing h is = record { more = []; shown = sym (append-nil _); one_line = All-nil IsNoLine; untouched = λ all. inl is }
+told-shows k q items line set (effect.Reply done warning) h is = record { more = item.Reply done warning ∷ []; shown = refl; one_line = one (item.Reply done warning) tt; untouched = λ all. inl is }
+told-shows k q items line set (effect.Refuse refusal) h is = record { more = item.Refuse refusal ∷ []; shown = refl; one_line = one (item.Refuse refusal) tt; untouched = λ all. inl is }
 told-shows k q items line set (effect.Query ListeningChannels) h is =
     record {
       more = item.Channels set ∷ [] ++ item.Reply (tag.Select (length set)) None ∷ [];
       shown = append_assoc (items ++ item.Line line ∷ []) (item.Channels set ∷ []) (item.Reply (tag.Select (length set)) None ∷ []);
       one_line = All-cons IsNoLine (item.Channels set) (item.Reply (tag.Select (length set)) None ∷ []) tt (one (item.Reply (tag.Select (length set)) None) tt);
-      untouched = λ all. is;
+      untouched = λ all. inl is;
     }
 told-shows k q items line set (effect.Query QueueUsage) h is = absurd h
 told-shows k q items line set (effect.Commit actions notes done) h is = absurd h

@@ -1,5 +1,5 @@
 -- What a commit does to what is known of the pass, to the set and to the items, step by step.
-use Rattle.std.specs.Prelude.{◌≡◌, ◌≢◌, ℕ, Bool, true, false, cond, List, [], ◌∷◌, ◌++◌, Option, Some, None, Result, Ok, Err}
+use Rattle.std.specs.Prelude.{◌≡◌, ◌≢◌, ℕ, ◌==◌, ◌&&◌, Bool, true, false, not, cond, is_some, length, List, [], ◌∷◌, ◌++◌, Option, Some, None, Result, Ok, Err}
 use Rattle.pgn_base.specs.declared.note.Note.{Note}
 use Rattle.pgn_base.specs.declared.answers.Tag.{Tag}
 use Rattle.pgn_base.specs.declared.answers.Refusal.TheVariants as refused
@@ -12,7 +12,7 @@ use Rattle.pgn_model.specs.declared.item.Item.{Item}
 use Rattle.pgn_model.specs.declared.item.Item.TheVariants.{Line, Enlist, Publish, QueueFull, Leave, Reply, Refuse}
 use Rattle.pgn_hub.specs.Shape.{Shape}
 use Rattle.pgn_model.specs.laws.NextLine.{is_enlisting, is_leaving}
-use Rattle.pgn_hub.specs.Calls.{HasEnlisted, HasPublished, HasMetFull, HasLeft}
+use Rattle.pgn_hub.specs.Calls.{HasEnlisted, HasInterest, HasPublished, HasMetFull, HasLeft}
 
 -- the session has become a listener, where it was to
 abbrev pub HasJoined : Bool → Known → Known → Option Enlisted → Type 0
@@ -37,10 +37,19 @@ is_full (Some (Err full)) = true
 abbrev pub set_after : Option (Result ℕ Full) → List (List ℕ) → List Action → List (List ℕ)
 set_after sent set actions = cond (is_full sent) set (applied set actions)
 
--- the session is no listener any more, where it was to leave
-abbrev pub HasLeftIf : Bool → Known → Known → Type 0
-HasLeftIf true old new = HasLeft old new
-HasLeftIf false old new = new ≡ old
+-- the transaction had actions
+abbrev pub has_actions : List Action → Bool
+has_actions actions = not (length actions == 0)
+
+-- a listener is to tell its channels: the transaction had actions
+abbrev pub is_telling : Option ℕ → List Action → Bool
+is_telling mark actions = is_some mark && has_actions actions
+
+-- the session is no listener any more, where it was to leave; else it has told its channels, where it was to
+abbrev pub HasLeftOr : Bool → Bool → List (List ℕ) → Known → Known → Type 0
+HasLeftOr true telling channels old new = HasLeft old new
+HasLeftOr false true channels old new = HasInterest old new channels
+HasLeftOr false false channels old new = new ≡ old
 
 -- what each step shows
 abbrev pub enlisted_items : Option Enlisted → List Item
@@ -71,5 +80,5 @@ pub record HasCommitted (shape : Shape) (old new : Known) (set channels : List (
   pub has_joined : HasJoined (is_enlisting actions old.mark) old joined enlisted
   pub has_sent : HasSent shape joined finished notes sent
   pub channels_are : channels ≡ set_after sent set actions
-  pub has_left : HasLeftIf (is_leaving finished.mark channels) finished new
+  pub has_left : HasLeftOr (is_leaving finished.mark channels) (is_telling finished.mark actions) channels finished new
   pub shown : after ≡ commit_items before line enlisted sent notes (is_leaving finished.mark channels) tag

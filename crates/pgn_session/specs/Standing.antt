@@ -58,6 +58,8 @@ pub record StandsAt (terms : Terms) (k : Known) (items : List Item) (s : State) 
   -- the transactions that the trace shows as finished are the pass's own
   pub own : finished_xids items ≡ k.own
   pub mark : s.mark ≡ k.mark
+  -- a listener has told the hub the set that it reads by
+  pub interested : IfSome k.mark (λ _. k.set ≡ s.set)
   -- a read that moved nothing puts its end into the pass's list once more, and shows nothing
   pub marks : HaveSameMembers s.marks k.marks
   pub stood : IfSome k.mark (Contains k.marks)

@@ -7,7 +7,7 @@ use Rattle.pgn_model.specs.declared.item.Item.{Item}
 use Rattle.pgn_model.specs.declared.item.Item.TheVariants as item
 use Rattle.pgn_hub.specs.declared.known.Known.{Known}
 use Rattle.pgn_model.specs.laws.NextLine.{quit_items}
-use Rattle.pgn_hub.specs.Calls.{HasFound, HasFoundNone, HasLooked, HasRaised}
+use Rattle.pgn_hub.specs.Calls.{HasFound, HasFoundNone, HasInterest, HasLooked, HasRaised}
 use Rattle.pgn_session.specs.declared.doing.FlagPlan.{FlagPlan}
 use Rattle.pgn_session.specs.declared.doing.Step.{Step}
 use Rattle.pgn_session.specs.declared.doing.Step.TheVariants.{Did, Waiting, Ended}
@@ -89,12 +89,17 @@ abbrev pub IsNoLine : Item → Type 0
 IsNoLine (item.Line line) = ⊥
 IsNoLine shown = Unit {0}
 
--- a line was begun, and shows more, in which no other line begins; where the hub has no part in any of that, the pass is untouched
+-- the pass is as it was, but that it may have told its channels
+abbrev pub HasToldAtMost : Known → Known → Type 0
+HasToldAtMost old new = (new ≡ old) ⊎ ((channels : List (List ℕ)) × HasInterest old new channels)
+
+-- a line was begun, and shows more, in which no other line begins; where the hub has no part in any of that, the pass is untouched, but
+-- that a commit may have told its channels
 pub record ShowsLine (line : ℕ) (old new : Known) (before after : List Item) : Type 0 where
   pub more : List Item
   pub shown : after ≡ before ++ item.Line line ∷ [] ++ more
   pub one_line : All IsNoLine more
-  pub untouched : All IsWithoutHub more → new ≡ old
+  pub untouched : All IsWithoutHub more → HasToldAtMost old new
 
 -- a line with this act: what was done, where the session stands then, and what the step came to
 abbrev pub HasBegun : FlagPlan → ℕ → ℕ → ℕ → Act → Known → Known → List Item → List Item → Doing → Step → Type 0

@@ -1,9 +1,9 @@
-ghost use Rattle.std.specs.Prelude.{◌≡◌, ◌≢◌, ◌+◌, ◌≤◌, [], ◌∷◌, ◌++◌, length, Option, Some, None, Ok, Err, AllPairs, IsTrue, vec_len, vec_capacity};
+ghost use Rattle.std.specs.Prelude.{◌≡◌, ◌≢◌, ◌&&◌, is_some, ◌+◌, ◌≤◌, [], ◌∷◌, ◌++◌, length, Option, Some, None, Ok, Err, AllPairs, IsTrue, vec_len, vec_capacity};
 ghost use Rattle.std.specs.List.{list_any};
 ghost use Rattle.pgn_base.specs.Channels.{applied};
 ghost use Rattle.pgn_answers.specs.Savepoints.{is_listen};
 ghost use Rattle.pgn_model.specs.laws.NextLine.{is_enlisting, is_leaving};
-ghost use Rattle.pgn_session.specs.Commits.{HasJoined, HasSent, HasLeftIf, HasCommitted, set_after, enlisted_items, sent_items, left_items, ending_item, commit_items};
+ghost use Rattle.pgn_session.specs.Commits.{HasJoined, HasSent, HasLeftOr, HasCommitted, has_actions, set_after, enlisted_items, sent_items, left_items, ending_item, commit_items};
 
 use pgn_base::{Action, Actions, Enlisted, Full, ListenSet, Note, Notes, Refusal, Tag, Xid};
 use pgn_hub::{Hub, PassView};
@@ -11,7 +11,8 @@ use pgn_model::Item;
 use std::sync::Wait;
 
 /// Commits a transaction, and records its line: the session becomes a listener, where an action listens; the notifications are
-/// sent; the actions take effect, unless the queue was full; a listener whose set is then empty leaves. It takes no memory.
+/// sent; the actions take effect, unless the queue was full; a listener whose set is then empty leaves, and another one tells its
+/// channels, where there were actions. It takes no memory.
 pub(crate) fn commit<P: PassView + Send + Drop, H: Hub<Pass = P>, R: Wait>(
     rt: &R,
     hub: &H,
@@ -33,8 +34,9 @@ pub(crate) fn commit<P: PassView + Send + Drop, H: Hub<Pass = P>, R: Wait>(
 {
     let enlisted = enlist_where_it_listens(hub, pass, actions.as_slice());
     let sent = send(rt, hub, pass, notes.as_slice());
+    let acted = has_actions(actions.as_slice());
     settle(set, actions, &sent);
-    let left = leave_where_empty(hub, pass, set);
+    let left = leave_or_tell(hub, pass, set, acted);
     show_commit(items, line, enlisted, sent, notes, left, tag);
 }
 
@@ -109,22 +111,37 @@ fn settle(set: &mut ListenSet, actions: Actions, sent: &Option<Result<Xid, Full>
     set.apply(actions);
 }
 
-// A listener whose set is empty leaves.
-fn leave_where_empty<P: PassView + Send + Drop, H: Hub<Pass = P>>(
+// There are actions.
+fn has_actions(actions: &[Action]) -> bool
+    ensures { result ≡ has_actions actions.now }
+{
+    !actions.is_empty()
+}
+
+// A listener whose set is empty leaves; another one tells its channels, where the transaction had actions. Answers whether it has left.
+fn leave_or_tell<P: PassView + Send + Drop, H: Hub<Pass = P>>(
     hub: &H,
     pass: &mut P,
     set: &ListenSet,
+    acted: bool,
 ) -> bool
     requires own { H.is_pass hub.now pass.old }
     ensures own { H.is_pass hub.now pass.new }
     ensures result { result ≡ is_leaving (P.known pass.old).mark set.now.channels }
-    ensures left { HasLeftIf (is_leaving (P.known pass.old).mark set.now.channels) (P.known pass.old) (P.known pass.new) }
+    ensures left { HasLeftOr (is_leaving (P.known pass.old).mark set.now.channels) (is_some (P.known pass.old).mark && acted) set.now.channels (P.known pass.old) (P.known pass.new) }
 {
-    if pass.mark().is_none() || !set.is_empty() {
+    if pass.mark().is_none() {
         return false;
     }
-    hub.leave(pass);
-    true
+    if set.is_empty() {
+        hub.leave(pass);
+        return true;
+    }
+    if !acted {
+        return false;
+    }
+    hub.interest(pass, set);
+    false
 }
 
 // Records a commit.

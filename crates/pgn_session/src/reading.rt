@@ -18,6 +18,7 @@ pub(crate) fn read_on<P: PassView + Send + Drop, H: Hub<Pass = P>>(
 ) -> Result<Xid, AllocError>
     requires own { H.is_pass hub.now pass.old }
     requires mark { (P.known pass.old).mark ≡ Some from }
+    requires interested { (P.known pass.old).set ≡ set.now.channels }
     ensures own { H.is_pass hub.now pass.new }
     ensures read { IfOk result (λ to. HasReadOn (P.known pass.old) (P.known pass.new) set.now.channels from to items.old.items items.new.items) }
     ensures refused { OnErr result (HasLearned (P.known pass.old) (P.known pass.new)) }

@@ -10,8 +10,8 @@ use Rattle.pgn_base.specs.Notes.{IsNote}
 use Rattle.pgn_base.specs.declared.answers.Tag.TheVariants as tag
 use Rattle.pgn_base.specs.declared.note.Delivery.{Delivery}
 use Rattle.pgn_journal.specs.declared.tx.Tx.{Tx}
-use Rattle.pgn_journal.specs.Journal.{next_xid, is_committed_in}
-use Rattle.pgn_journal.specs.Due.{due}
+use Rattle.pgn_journal.specs.Journal.{next_xid}
+use Rattle.pgn_journal.specs.Due.{due, is_due_to}
 use Rattle.pgn_journal.specs.Near.{Near}
 use Rattle.pgn_journal.proofs.PlainNotes.{plain-note}
 use Rattle.pgn_journal.proofs.NearLaws.{near-itself}
@@ -77,19 +77,19 @@ sent-valid : All IsNote (sent ∷ [])
 sent-valid = All-cons IsNote sent [] (plain-note sent refl refl (omega arith) (omega arith) (omega arith)) (All-nil IsNote)
 
 -- the listener has read everything below 4, and was told of nothing from there on
-none-left : (settings : Settings) → Near settings.format (is_committed_in listener.db) one_sent 4 3
-none-left settings = near-itself settings.format (is_committed_in listener.db) one_sent 4 3 (omega arith)
+none-left : (settings : Settings) → Near settings.format (is_due_to listener.db (codes "c" ∷ [])) one_sent 4 3
+none-left settings = near-itself settings.format (is_due_to listener.db (codes "c" ∷ [])) one_sent 4 3 (omega arith)
 
 pub received-legal : (settings : Settings) → Legal side_by_side settings one_sent (receives ∷ sends ∷ [])
 received-legal settings =
     let valid : All IsNote (sent ∷ []) = sent-valid in
-    let near : Near settings.format (is_committed_in listener.db) one_sent 4 3 = none-left settings in
+    let near : Near settings.format (is_due_to listener.db (codes "c" ∷ [])) one_sent 4 3 = none-left settings in
     search rules
 
 pub missed-legal : (settings : Settings) → Legal side_by_side settings one_sent (misses ∷ sends ∷ [])
 missed-legal settings =
     let valid : All IsNote (sent ∷ []) = sent-valid in
-    let near : Near settings.format (is_committed_in listener.db) one_sent 4 3 = none-left settings in
+    let near : Near settings.format (is_due_to listener.db (codes "c" ∷ [])) one_sent 4 3 = none-left settings in
     search rules
 
 pub received-shown : text side_by_side one_sent (receives ∷ sends ∷ []) ≡ received_text

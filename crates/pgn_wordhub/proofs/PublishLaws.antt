@@ -1,5 +1,5 @@
 -- A transaction from its number to its end, as the pass knows it.
-use Rattle.std.proofs.Common.{◌≡◌, ◌≢◌, ◌↔◌, ℕ, ◌+◌, ◌-◌, ◌^◌, ◌<◌, ◌≤◌, true, List, [], ◌∷◌, ◌++◌, length, slice_get, Option, Some, None, All, AllPairs, Contains, IsSomeAnd, sym, refl, ap, ◌∙◌, subst, arith}
+use Rattle.std.proofs.Common.{Bool, ◌≡◌, ◌≢◌, ◌↔◌, ℕ, ◌+◌, ◌-◌, ◌^◌, ◌<◌, ◌≤◌, true, List, [], ◌∷◌, ◌++◌, length, slice_get, Option, Some, None, All, AllPairs, Contains, IsSomeAnd, sym, refl, ap, ◌∙◌, subst, arith}
 use Rattle.std.proofs.lemmas.List.{append-nil, append_assoc, length-append}
 use Rattle.std.proofs.lemmas.Bool.Decides.{nat_tests}
 use Rattle.pgn_base.specs.declared.format.Format.{Format}
@@ -124,10 +124,10 @@ has_written : (v d e : View) (notes : List Note) (stop : ℕ) → d ≡ begun_vi
 has_written v d e notes stop begun w =
     w.view ∙ ap (λ (y : View). let u : View = record y { stop = e.stop; eye = e.eye; pen = record y.pen { cells = e.pen.cells; batch = e.pen.batch }; known = record y.known { named = y.known.named ++ w.more; advance = e.known.advance } } in u) begun
 
-finished_known : (fate : Fate) (v e : View) (notes : List Note) (stop placed x : ℕ) (more : List (ℕ × ℕ)) (verdicts : List Verdict) → e ≡ written_view v e notes stop more → x ≡ next_xid v.known.seen
-    → (freed (finished_view (own_tx e placed fate) verdicts e)).known ≡ ended_known v.known notes placed fate x more e.known.advance
-finished_known fate v e notes stop placed x more verdicts written number =
-    ap (λ (y : View). (freed (finished_view (own_tx y placed fate) verdicts y)).known) written ∙ ap (λ n. ended_known v.known notes placed fate n more e.known.advance) (sym number)
+finished_known : (fate : Fate) (v e : View) (notes : List Note) (stop placed x : ℕ) (more : List (ℕ × ℕ)) (verdicts : List Verdict) (concerned : List Bool) → e ≡ written_view v e notes stop more → x ≡ next_xid v.known.seen
+    → (freed (finished_view (own_tx e placed fate) verdicts concerned e)).known ≡ ended_known v.known notes placed fate x more e.known.advance
+finished_known fate v e notes stop placed x more verdicts concerned written number =
+    ap (λ (y : View). (freed (finished_view (own_tx y placed fate) verdicts concerned y)).known) written ∙ ap (λ n. ended_known v.known notes placed fate n more e.known.advance) (sym number)
 
 -- a transaction that committed is published
 pub publishes : (v d e g : View) (notes : List Note) (stop placed x : ℕ) → d ≡ begun_view notes stop v → HasWritten d e → placed ≡ length notes → HasCommitted e g (own_tx e placed Committed) → x ≡ next_xid v.known.seen
@@ -135,8 +135,8 @@ pub publishes : (v d e g : View) (notes : List Note) (stop placed x : ℕ) → d
 publishes v d e g notes stop placed x begun written all done number =
     let k = v.known in
     let advance = g.known.advance in
-    let F : View = finished_view (own_tx e placed Committed) g.verdicts e in
-    let known : (freed F).known ≡ ended_known k notes placed Committed x written.more e.known.advance = finished_known Committed v e notes stop placed x written.more g.verdicts (has_written v d e notes stop begun written) number in record {
+    let F : View = finished_view (own_tx e placed Committed) g.verdicts g.concerned e in
+    let known : (freed F).known ≡ ended_known k notes placed Committed x written.more e.known.advance = finished_known Committed v e notes stop placed x written.more g.verdicts g.concerned (has_written v d e notes stop begun written) number in record {
       more = [];
       named = written.more ++ done.named;
       advance = advance;
@@ -190,10 +190,10 @@ renamed d e more named w = record {
 }
 
 -- a transaction that was aborted has met a full queue
-pub meets_full : (z : Shape) (v d e g : View) (notes : List Note) (stop placed at mark floor x : ℕ) (holder : Option ℕ) (verdicts : List Verdict) → v.setup ≡ z → z.format ≡ One → d ≡ begun_view notes stop v → HasWritten d e
-    → IsPlacing e notes placed at → IsHeldUp z d e (length notes) placed at mark floor holder → g ≡ finished_view (own_tx e placed Aborted) verdicts e → x ≡ next_xid v.known.seen
+pub meets_full : (z : Shape) (v d e g : View) (notes : List Note) (stop placed at mark floor x : ℕ) (holder : Option ℕ) (verdicts : List Verdict) (concerned : List Bool) → v.setup ≡ z → z.format ≡ One → d ≡ begun_view notes stop v → HasWritten d e
+    → IsPlacing e notes placed at → IsHeldUp z d e (length notes) placed at mark floor holder → g ≡ finished_view (own_tx e placed Aborted) verdicts concerned e → x ≡ next_xid v.known.seen
     → HasMetFull z v.known (freed g).known notes (record { xid = x; queued = placed; head_page = page_of at; floor_mark = mark; floor_page = page_of floor; holder = holder })
-meets_full z v d e g notes stop placed at mark floor x holder verdicts setup one begun written h held done number =
+meets_full z v d e g notes stop placed at mark floor x holder verdicts concerned setup one begun written h held done number =
     let k = v.known in
     let D : View = begun_view notes stop v in
     let u : IsHeldUp z D e (length notes) placed at mark floor holder = subst (λ (y : View). IsHeldUp z y e (length notes) placed at mark floor holder) begun held in
@@ -206,7 +206,7 @@ meets_full z v d e g notes stop placed at mark floor x holder verdicts setup one
     let pages : e.setup.pages ≡ z.pages = ap (λ (q : Shape). q.pages) here in
     let full : Full = record { xid = x; queued = placed; head_page = page_of at; floor_mark = mark; floor_page = page_of floor; holder = holder } in
     let known : (freed g).known ≡ ended_known k notes placed Aborted x u.more e.known.advance =
-    ap (λ (y : View). (freed y).known) done ∙ finished_known Aborted v e notes stop placed x u.more verdicts is number in
+    ap (λ (y : View). (freed y).known) done ∙ finished_known Aborted v e notes stop placed x u.more verdicts concerned is number in
     let advance : (freed g).known.advance ≡ e.known.advance = ap (λ (y : Known). y.advance) known in
     let journal : (freed g).known.seen ≡ k.seen ++ tx_of k notes placed Aborted ∷ [] = ap (λ (y : Known). y.seen) known in
     let lies : IsPlaced One (writer_of k) (image One k.seen) notes placed at e.pen.cells =

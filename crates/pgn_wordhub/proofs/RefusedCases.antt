@@ -1,5 +1,5 @@
 -- The definitions of this crate refuse the small cases.
-use Rattle.std.proofs.Common.{◌≡◌, ℕ, ◌≤◌, max, [], ◌∷◌, List, length, Option, Some, None, Contains, refl, ap, arith}
+use Rattle.std.proofs.Common.{◌≡◌, ℕ, ◌≤◌, max, Bool, true, false, get_or, [], ◌∷◌, List, length, Option, Some, None, Contains, refl, ap, arith}
 use Rattle.std.proofs.lemmas.List.Elements.{All-nil, All-head}
 use Rattle.std.proofs.Math.Nat.{max-le}
 use Rattle.pgn_base.specs.declared.format.Format.TheVariants.{One}
@@ -18,13 +18,13 @@ use Rattle.pgn_words.specs.declared.view.Verdict.TheVariants.{Unseen, Decided}
 use Rattle.pgn_words.specs.Examples.{listener, holder}
 use Rattle.pgn_wordhub.specs.Passes.{IsHubView}
 use Rattle.pgn_wordhub.specs.Walks.{StandsAt, IsCell, IsOnWay, Leads, HasWay, Walks, IsWalking, Turns, HasTurned, HasEntry, ArePartsOf, IsDueEntry, HasDueEntry, IsEntryAt, HasEntryAt}
-use Rattle.pgn_wordhub.specs.Wakes.{IsWaiting, IsAtHead}
+use Rattle.pgn_wordhub.specs.Wakes.{IsWaiting, AreConcerned, IsAtHead}
 use Rattle.pgn_wordhub.specs.Placing.{IsPlacing, HasWritten, IsHeldUp}
 use Rattle.pgn_wordhub.specs.Floors.{IsFloorOf}
 use Rattle.pgn_wordhub.specs.Looks.{HasCome, HasSeenFirst, HasSeenSecond, HasSeenSome}
 use Rattle.pgn_wordhub.specs.Advancing.{HasAdvancedTo, HasTried, HasFreedTo, HasGivenUp, IsFreed, HasTriedTail}
 use Rattle.pgn_wordhub.specs.Finishing.{HasCommitted, HasEnded}
-use Rattle.pgn_wordhub.specs.Examples.{first_pass, third_pass, told_of_3, with_mark, stored_one, writing, undecided_one, first_look, tail_is_late, one_seen, one_joins, both_seen, seen_once, one_met, none_freed, one_page, sender_3, other_db}
+use Rattle.pgn_wordhub.specs.Examples.{first_pass, third_pass, told_of_3, with_mark, stored_one, writing, undecided_one, loaded_one, aborted_one, first_look, tail_is_late, one_seen, one_joins, both_seen, seen_once, one_met, none_freed, one_page, sender_3, other_db}
 use Rattle.pgn_wordhub.proofs.WayLaws.{cell_of}
 
 pub no_holder : IsHubView two_seats holder → ⊥
@@ -217,6 +217,15 @@ not_signalling h = let phase = h.phase in absurd (cc)
 pub both_seats : IsWaiting two_seats undecided_one → ⊥
 both_seats h = let all = ap length h.all in omega (arith, all)
 
+pub not_loaded : IsWaiting two_seats loaded_one → ⊥
+not_loaded h = let may : ◌≡◌ {A = Bool} false true = ap (λ (l : List Bool). get_or l 0 true) h.may in absurd (cc)
+
+pub not_by_its_own : AreConcerned loaded_one (1 ∷ []) → ⊥
+not_by_its_own h = let own = h 0 (omega arith) in omega (arith, own)
+
+pub not_by_none : AreConcerned aborted_one (0 ∷ []) → ⊥
+not_by_none h = let own = h 0 (omega arith) in omega (arith, own)
+
 pub at_the_head : IsAtHead two_seats first_pass 1 → ⊥
 unfolding image image_from
 at_the_head h = omega (arith, h)
@@ -233,4 +242,4 @@ pub ruleset refused_looks = (not_past_the_number, own_seat_shows, own_seat_shows
 
 pub ruleset refused_advances = (all_seats, no_page_kept, not_told_by_looks, frees_one, frees_none, frees_after_all, frees_after_both, frees_before_all, gives_up, no_other_joiner, none_joins, none_left_to_join, freed_one, not_from_the_end, none_beside_a_joiner, no_mark_moved)
 
-pub ruleset refused_wakes = (not_signalling, both_seats, at_the_head)
+pub ruleset refused_wakes = (not_signalling, both_seats, not_loaded, not_by_its_own, not_by_none, at_the_head)

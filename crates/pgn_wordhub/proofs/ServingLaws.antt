@@ -102,7 +102,7 @@ still_seated z k l h seated =
 -- once it has given the lock up, it is one of the hub's again
 pub gives_up : (z : Shape) (v l m w : View) → IsHubView z v → HasLocked v l → HasEnded l m → w ≡ freed m → HasSent v.known w.known → IsHubView z w
 gives_up z v l m w h lock done free sent =
-    let after : View → View = λ y. freed (record y { phase = m.phase; ended = m.ended; stop = m.stop; loaded_stop = m.loaded_stop; pen = m.pen; eye = m.eye; verdicts = m.verdicts; known = m.known }) in
+    let after : View → View = λ y. freed (record y { phase = m.phase; ended = m.ended; stop = m.stop; loaded_stop = m.loaded_stop; pen = m.pen; eye = m.eye; verdicts = m.verdicts; concerned = m.concerned; known = m.known }) in
     let is : w ≡ after (locked (v.known.seen ++ lock.more) v) = free ∙ ap freed done.view ∙ ap after lock.view in
     let post : w.post ≡ v.post = ap (λ (y : View). y.post) is in record {
       rest = record {

@@ -1,21 +1,20 @@
 -- A writer that decides about the seats one after another.
-use Rattle.std.proofs.Common.{◌≡◌, ℕ, zero, suc, ◌-◌, ◌<◌, ◌≤◌, Bool, false, List, [], ◌∷◌, ◌++◌, length, take, replicate, map, set, get_or, slice_index_or, All, sym, refl, ap, ◌∙◌, subst, arith}
+use Rattle.std.proofs.Common.{◌≡◌, ℕ, zero, suc, ◌+◌, ◌-◌, ◌<◌, ◌≤◌, not, Bool, false, List, [], ◌∷◌, ◌++◌, length, take, replicate, map, set, get_or, slice_index_or, All, sym, refl, ap, ◌∙◌, subst, arith}
 use Rattle.std.proofs.lemmas.List.{length-take-le, length-map, take-append-le, take_all}
 use Rattle.std.proofs.Math.Seq.{take-suc, take-suc-set, set-append_seam, get_or-append_seam}
 use Rattle.std.proofs.lemmas.List.Elements.{All-push}
 use Rattle.pgn_base.specs.declared.format.Format.{Format}
 use Rattle.pgn_journal.specs.declared.tx.Tx.{Tx}
-use Rattle.pgn_hub.specs.declared.setup.SeatSetup.{SeatSetup}
 use Rattle.pgn_journal.specs.Packing.{image}
 use Rattle.pgn_words.specs.declared.pos_word.PosWord.{PosWord}
 use Rattle.pgn_words.specs.declared.pos_word.PosWord.TheVariants as words
-use Rattle.pgn_words.specs.Views.{no_seat}
 use Rattle.pgn_words.specs.Positions.{place_or, IsPositionIn}
 use Rattle.pgn_words.specs.declared.view.Verdict.{Verdict}
 use Rattle.pgn_words.specs.declared.view.Verdict.TheVariants.{Unseen, Decided}
+use Rattle.pgn_words.specs.declared.view.View.{View}
 use Rattle.pgn_words.specs.Waking.{verdict_of}
 use Rattle.pgn_lanes.specs.Behind.{Marks, is_woken, plain_behind}
-use Rattle.pgn_wordhub.specs.Wakes.{Names}
+use Rattle.pgn_wordhub.specs.Wakes.{decided_as, deemed_as, signalled_as, Names}
 
 -- of listeners, and then of others
 behind_append : (head db : ℕ) (ps qs os rs : List ℕ) → length ps ≡ length os → plain_behind head db (ps ++ qs) (os ++ rs) ≡ plain_behind head db ps os ++ plain_behind head db qs rs
@@ -106,13 +105,19 @@ pub places_within : (head seat place : ℕ) (places : List ℕ) → seat < lengt
 places_within head seat place places below all le =
     subst (λ (l : List ℕ). All (λ p. p ≤ head) l) (sym (take-suc-set places seat place below)) (All-push (λ p. p ≤ head) (take seat places) place all le)
 
--- the database of a seat among all of them
-pub db_of_seat : (seats : List SeatSetup) (dbs : List ℕ) (seat : ℕ) → dbs ≡ map (λ (s : SeatSetup). s.db) seats → seat < length seats → (slice_index_or seats seat no_seat).db ≡ get_or dbs seat (slice_index_or seats seat no_seat).db
-db_of_seat seats dbs seat is below =
-    let d = (slice_index_or seats seat no_seat).db in
-    sym (ap (λ l. get_or l seat d) is ∙ get_or_mapped seats seat d below)
-  where
-    get_or_mapped : (seats : List SeatSetup) (seat d : ℕ) → seat < length seats → get_or (map (λ (s : SeatSetup). s.db) seats) seat d ≡ (slice_index_or seats seat no_seat).db
-    get_or_mapped [] seat d below = absurd (omega (arith, below))
-    get_or_mapped (s ∷ seats) zero d below = refl
-    get_or_mapped (s ∷ seats) (suc seat) d below = get_or_mapped seats seat d (omega (arith, below))
+-- a list of databases has what it has, whatever stands past its end
+pub owned_there : (owns : List ℕ) (seat d : ℕ) → seat < length owns → get_or owns seat d ≡ get_or owns seat 0
+owned_there [] seat d below = absurd (omega (arith, below))
+owned_there (o ∷ owns) zero d below = refl
+owned_there (o ∷ owns) (suc seat) d below = owned_there owns seat d (omega (arith, below))
+
+-- a pass that has loaded interests and then looked at each seat
+pub decided : (v m w : View) (verdicts : List Verdict) → m ≡ deemed_as m.concerned v → w ≡ decided_as verdicts m → w ≡ signalled_as w.verdicts w.concerned v
+decided v m w verdicts first second =
+    second ∙ ap (decided_as verdicts) first
+    ∙ ap (λ l. signalled_as l m.concerned v) (sym (ap (λ (u : View). u.verdicts) second)) ∙ ap (λ l. signalled_as w.verdicts l v) (sym (ap (λ (u : View). u.concerned) second))
+
+-- and then set the wakes
+pub signalled : (v m w : View) → m ≡ signalled_as m.verdicts m.concerned v → w ≡ decided_as w.verdicts m → w ≡ signalled_as w.verdicts w.concerned v
+signalled v m w first second =
+    second ∙ ap (decided_as w.verdicts) first ∙ ap (λ l. signalled_as w.verdicts l v) (sym (ap (λ (u : View). u.concerned) second))

@@ -1,13 +1,14 @@
 -- Small cases that the definitions of this crate refuse, and a few that they meet.
-use Rattle.std.specs.Prelude.{◌*◌, ◌^◌, [], ◌∷◌, Some, None}
+use Rattle.std.specs.Prelude.{true, false, ◌*◌, ◌^◌, [], ◌∷◌, Some, None}
 use Rattle.pgn_journal.specs.Packing.{Sender}
+use Rattle.pgn_journal.specs.declared.tx.Fate.TheVariants.{Aborted}
 use Rattle.pgn_hub.specs.Passes.{opened_pass}
 use Rattle.pgn_hub.specs.Examples.{seat, two_seats, met_nobody}
 use Rattle.pgn_words.specs.declared.view.View.{View}
 use Rattle.pgn_words.specs.declared.view.Phase.TheVariants.{Open, Signalling}
 use Rattle.pgn_words.specs.declared.view.Verdict.TheVariants.{Unseen}
 use Rattle.pgn_words.specs.declared.view.Look.TheVariants.{First, Second}
-use Rattle.pgn_words.specs.Views.{opened_view, no_eye}
+use Rattle.pgn_words.specs.Views.{opened_view, no_tx, no_eye}
 use Rattle.pgn_wordhub.specs.declared.looks.Freed.{Freed}
 
 -- the first session's pass as it is opened
@@ -36,7 +37,15 @@ writing = record first_pass { phase = Open }
 
 -- it has ended a transaction, and does not know of the first seat whether it needs a wake
 abbrev pub undecided_one : View
-undecided_one = record first_pass { phase = Signalling; verdicts = Unseen ∷ [] }
+undecided_one = record first_pass { phase = Signalling; verdicts = Unseen ∷ []; concerned = true ∷ [] }
+
+-- it has ended a transaction in which it knows that the first seat listens to nothing, and it has looked at no seat
+abbrev pub loaded_one : View
+loaded_one = record first_pass { phase = Signalling; verdicts = Unseen ∷ Unseen ∷ []; concerned = false ∷ true ∷ [] }
+
+-- the same, where the transaction was aborted
+abbrev pub aborted_one : View
+aborted_one = record loaded_one { pen = record first_pass.pen { ending = record no_tx { fate = Aborted } } }
 
 -- its first look has come to no seat yet
 abbrev pub first_look : View

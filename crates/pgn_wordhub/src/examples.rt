@@ -8,13 +8,13 @@ ghost use Rattle.pgn_hub.specs.Examples.{two_seats, note_a, tx_3, got_a};
 ghost use Rattle.pgn_words.specs.Examples.{listener, holder};
 ghost use Rattle.pgn_wordhub.specs.Passes.{IsHubView};
 ghost use Rattle.pgn_wordhub.specs.Walks.{StandsAt, IsCell, IsOnWay, Leads, HasWay, Walks, IsWalking, Turns, HasTurned, HasEntry, ArePartsOf, IsDueEntry, HasDueEntry, IsEntryAt, HasEntryAt};
-ghost use Rattle.pgn_wordhub.specs.Wakes.{IsWaiting, IsAtHead};
+ghost use Rattle.pgn_wordhub.specs.Wakes.{IsWaiting, AreConcerned, IsAtHead};
 ghost use Rattle.pgn_wordhub.specs.Placing.{IsPlacing, HasWritten, IsHeldUp};
 ghost use Rattle.pgn_wordhub.specs.Floors.{IsFloorOf};
 ghost use Rattle.pgn_wordhub.specs.Looks.{HasCome, HasSeenFirst, HasSeenSecond, HasSeenSome};
 ghost use Rattle.pgn_wordhub.specs.Advancing.{HasAdvancedTo, HasTried, HasFreedTo, HasGivenUp, IsFreed, HasTriedTail};
 ghost use Rattle.pgn_wordhub.specs.Finishing.{HasCommitted, HasEnded};
-ghost use Rattle.pgn_wordhub.specs.Examples.{first_pass, third_pass, told_of_3, with_mark, stored_one, writing, undecided_one, first_look, tail_is_late, one_seen, one_joins, both_seen, seen_once, one_met, none_freed, one_page, sender_3, other_db};
+ghost use Rattle.pgn_wordhub.specs.Examples.{first_pass, third_pass, told_of_3, with_mark, stored_one, writing, undecided_one, loaded_one, aborted_one, first_look, tail_is_late, one_seen, one_joins, both_seen, seen_once, one_met, none_freed, one_page, sender_3, other_db};
 
 /// What is no pass of a hub between calls.
 #[tactic(auto, using(crate::proofs::RefusedCases::refused_passes))]
@@ -127,5 +127,11 @@ pub fn wakes()
     ensures not_signalling { IsWaiting two_seats holder → ⊥ }
     // One seat of two is asked about.
     ensures seat_left_out { IsWaiting two_seats undecided_one → ⊥ }
+    // Of a seat it is known already that the transaction does not concern it.
+    ensures loaded { IsWaiting two_seats loaded_one → ⊥ }
+    // A listener of its database that the transaction does not concern is to be tested by that database.
+    ensures unconcerned { AreConcerned loaded_one (1 ∷ []) → ⊥ }
+    // After one that was aborted it is not to be tested by the writer's.
+    ensures none_after_aborted { AreConcerned aborted_one (0 ∷ []) → ⊥ }
     ensures past_the_journal { IsAtHead two_seats first_pass 1 → ⊥ }
 {}

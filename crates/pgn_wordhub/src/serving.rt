@@ -7,6 +7,7 @@ ghost use Rattle.pgn_wordhub.specs.Passes.{IsHubPass, hub_shape};
 use crate::WordHub;
 use pgn_base::{Delivery, Enlisted, Full, ListenSet, Note, Usage, Xid, are_notes};
 use pgn_hub::{Hub, Roll, SeatSetup, Setup};
+use pgn_journal::interest_of_notes;
 use pgn_words::{WordPass, WordQueue};
 use std::alloc::{AllocError, Global};
 use std::sync::Wait;
@@ -45,14 +46,19 @@ impl Hub for WordHub {
 
     fn publish<R: Wait>(&self, rt: &R, pass: &mut WordPass, notes: &[Note]) -> Result<Xid, Full> {
         are_notes(notes);
+        let sent = interest_of_notes(notes);
         self.lock(rt, pass);
-        let published = self.publish_locked(rt, pass, notes);
+        let published = self.publish_locked(rt, pass, notes, sent);
         self.queue.drop_lock(pass);
         published
     }
 
     fn enlist(&self, pass: &mut WordPass) -> Enlisted {
         self.join(pass)
+    }
+
+    fn interest(&self, pass: &mut WordPass, set: &ListenSet) {
+        self.queue.store_interest(pass, set);
     }
 
     fn scan(

@@ -1,17 +1,20 @@
-ghost use Rattle.std.specs.Prelude.{◌≡◌, ℕ, ◌*◌, ◌^◌, ◌<◌, ◌≤◌, length, map, All};
+ghost use Rattle.std.specs.Prelude.{◌≡◌, ◌≢◌, ℕ, ◌*◌, ◌^◌, ◌<◌, ◌≤◌, true, length, map, replicate, All};
 ghost use Rattle.pgn_lanes.specs.Behind.{mask_bit, plain_behind};
+ghost use Rattle.pgn_journal.specs.Journal.{is_committed};
 ghost use Rattle.pgn_journal.specs.Packing.{image};
 ghost use Rattle.pgn_words.specs.Passes.{IsPassOf, view_of, known_of};
 ghost use Rattle.pgn_words.specs.Positions.{place_or};
 ghost use Rattle.pgn_words.specs.Views.{AreDecided};
-ghost use Rattle.pgn_words.specs.Waking.{verdict_on, verdict_of, wake_set};
+ghost use Rattle.pgn_words.specs.Waking.{verdict_on, verdict_of, is_concerned, concerned_db, wake_set};
 ghost use Rattle.pgn_words.specs.declared.view.Phase.TheVariants as phases;
 ghost use Rattle.pgn_wordhub.specs.Passes.{hub_shape};
-ghost use Rattle.pgn_wordhub.specs.Wakes.{decided_as, Names, IsWaiting, IsAtHead};
+ghost use Rattle.pgn_wordhub.specs.Wakes.{decided_as, deemed_as, signalled_as, AreConcerned, IsSent, Names, IsWaiting, IsAtHead};
+ghost use Rattle.pgn_words.specs.declared.view.Verdict.TheVariants.{Unseen};
 
 use crate::WordHub;
 use pgn_base::SECTIONS_MAX;
 use pgn_hub::PassView;
+use pgn_journal::Fate;
 use pgn_lanes::behind;
 use pgn_layout::Pos;
 use pgn_words::{PosWord, WordPass};
@@ -33,14 +36,78 @@ fn place_of(position: PosWord, head: Pos) -> u64
 }
 
 impl WordHub {
-    // Looks at each seat: the place where its listener stands, and the head where nobody listens there.
-    fn look_to_wake(&self, pass: &mut WordPass, head: Pos, places: &mut [u64])
+    // By which database the listener of a seat is tested after a commit: by its own, but by none where it is the writer's and the
+    // listener listens to nothing that was sent. Of another database no interest is loaded: the test goes by pages alone there.
+    fn database_to_test(&self, pass: &mut WordPass, seat: u32, sent: u64) -> u32
+        requires own { IsPassOf self.now.queue pass.old }
+        requires phase { (view_of pass.old).phase ≡ phases.Signalling }
+        requires seat { seat < length (hub_shape self.now).seats }
+        requires sent { IsSent (view_of pass.old) sent }
+        requires committed { is_committed (view_of pass.old).pen.ending.fate ≡ true }
+        requires may { is_concerned (view_of pass.old) seat ≡ true }
+        ensures own { IsPassOf self.now.queue pass.new }
+        ensures view { view_of pass.new ≡ deemed_as (view_of pass.new).concerned (view_of pass.old) }
+        ensures others { (i : ℕ) → i ≢ seat → is_concerned (view_of pass.new) i ≡ is_concerned (view_of pass.old) i }
+        ensures database { result ≡ concerned_db (view_of pass.new) seat }
+    {
+        let db = self.dbs[seat as usize];
+        if db != pass.db().get() {
+            return db;
+        }
+        let interest = self.queue.load_interest(pass, seat);
+        if interest & sent == 0 {
+            return 0;
+        }
+        db
+    }
+
+    // The same of each seat in turn.
+    fn load_interests(&self, pass: &mut WordPass, sent: u64, owns: &mut [u32])
         requires own { IsPassOf self.now.queue pass.old }
         requires waits { IsWaiting (hub_shape self.now) (view_of pass.old) }
+        requires sent { IsSent (view_of pass.old) sent }
+        requires committed { is_committed (view_of pass.old).pen.ending.fate ≡ true }
+        requires long { length owns.old ≡ length (hub_shape self.now).seats }
+        ensures own { IsPassOf self.now.queue pass.new }
+        ensures view { view_of pass.new ≡ deemed_as (view_of pass.new).concerned (view_of pass.old) }
+        ensures concerned { AreConcerned (view_of pass.new) owns.new }
+        ensures same_length { length owns.new ≡ length owns.old }
+    {
+        for seat in 0..self.seats() {
+            owns[seat as usize] = self.database_to_test(pass, seat, sent);
+        }
+    }
+
+    // By which database the listener of each seat is tested. After a transaction that was aborted, for which the queue was full, each is
+    // tested by the writer's, so that everybody who is behind is woken and frees what it holds.
+    fn databases_to_test(&self, pass: &mut WordPass, sent: u64, fate: Fate, owns: &mut [u32])
+        requires own { IsPassOf self.now.queue pass.old }
+        requires waits { IsWaiting (hub_shape self.now) (view_of pass.old) }
+        requires sent { IsSent (view_of pass.old) sent }
+        requires fate { fate ≡ (view_of pass.old).pen.ending.fate }
+        requires long { length owns.old ≡ length (hub_shape self.now).seats }
+        ensures own { IsPassOf self.now.queue pass.new }
+        ensures view { view_of pass.new ≡ deemed_as (view_of pass.new).concerned (view_of pass.old) }
+        ensures concerned { AreConcerned (view_of pass.new) owns.new }
+        ensures same_length { length owns.new ≡ length owns.old }
+    {
+        match fate {
+            Fate::Committed => self.load_interests(pass, sent, owns),
+            Fate::Aborted => owns.fill(pass.db().get()),
+        }
+    }
+
+    // Looks at each seat: the place where its listener stands, and the head where nobody listens there.
+    fn look_to_wake(&self, pass: &mut WordPass, head: Pos, owns: &[u32], places: &mut [u64])
+        requires own { IsPassOf self.now.queue pass.old }
+        requires phase { (view_of pass.old).phase ≡ phases.Signalling }
+        requires unseen { (view_of pass.old).verdicts ≡ replicate (length (hub_shape self.now).seats) Unseen }
+        requires concerned { AreConcerned (view_of pass.old) owns.now }
+        requires each { length owns.now ≡ length (hub_shape self.now).seats }
         requires head { IsAtHead (hub_shape self.now) (view_of pass.old) head }
         requires long { length places.old ≡ length (hub_shape self.now).seats }
         ensures own { IsPassOf self.now.queue pass.new }
-        ensures view { view_of pass.new ≡ decided_as (map verdict_of (plain_behind head (known_of pass.old).db places.new self.now.dbs.items)) (view_of pass.old) }
+        ensures view { view_of pass.new ≡ decided_as (map verdict_of (plain_behind head (known_of pass.old).db places.new owns.now)) (view_of pass.old) }
         ensures not_past { All (λ place. place ≤ head) places.new }
         ensures same_length { length places.new ≡ length places.old }
         ensures long { length (view_of pass.new).verdicts ≡ length (hub_shape self.now).seats }
@@ -90,21 +157,53 @@ impl WordHub {
         }
     }
 
-    // Wakes the listeners that a transaction concerns which has moved the head to a place.
-    pub(crate) fn wake(&self, pass: &mut WordPass, head: Pos)
+    // Decides about each seat: the mask names those whose listener needs a wake. Each is tested by a database of `owns`, which it writes.
+    fn decide(
+        &self,
+        pass: &mut WordPass,
+        head: Pos,
+        sent: u64,
+        fate: Fate,
+        owns: &mut [u32],
+        mask: &mut [u64],
+    )
         requires own { IsPassOf self.now.queue pass.old }
         requires waits { IsWaiting (hub_shape self.now) (view_of pass.old) }
         requires head { IsAtHead (hub_shape self.now) (view_of pass.old) head }
+        requires sent { IsSent (view_of pass.old) sent }
+        requires fate { fate ≡ (view_of pass.old).pen.ending.fate }
+        requires long { length owns.old ≡ length (hub_shape self.now).seats }
+        requires room { length (hub_shape self.now).seats ≤ 64 * length mask.old }
+        requires clear { All (λ word. word ≡ 0) mask.old }
         ensures own { IsPassOf self.now.queue pass.new }
-        ensures view { view_of pass.new ≡ decided_as (view_of pass.new).verdicts (view_of pass.old) }
+        ensures view { view_of pass.new ≡ signalled_as (view_of pass.new).verdicts (view_of pass.new).concerned (view_of pass.old) }
+        ensures named { Names mask.new (view_of pass.new).verdicts }
+        ensures each { length (view_of pass.new).verdicts ≡ length (hub_shape self.now).seats }
+    {
+        self.databases_to_test(pass, sent, fate, owns);
+        let mut places = [0; SEATS];
+        let seats = self.dbs.len();
+        self.look_to_wake(pass, head, owns, &mut places[..seats]);
+        let db = pass.db().get();
+        behind(&places[..seats], owns, head.get(), db, mask);
+    }
+
+    // Wakes the listeners that a transaction concerns which has moved the head to a place, has ended so, and has sent on the channels of
+    // these bits.
+    pub(crate) fn wake(&self, pass: &mut WordPass, head: Pos, sent: u64, fate: Fate)
+        requires own { IsPassOf self.now.queue pass.old }
+        requires waits { IsWaiting (hub_shape self.now) (view_of pass.old) }
+        requires head { IsAtHead (hub_shape self.now) (view_of pass.old) head }
+        requires sent { IsSent (view_of pass.old) sent }
+        requires fate { fate ≡ (view_of pass.old).pen.ending.fate }
+        ensures own { IsPassOf self.now.queue pass.new }
+        ensures view { view_of pass.new ≡ signalled_as (view_of pass.new).verdicts (view_of pass.new).concerned (view_of pass.old) }
         ensures decided { AreDecided (view_of pass.new).verdicts }
     {
-        let mut places = [0; SEATS];
+        let mut owns = [0; SEATS];
         let mut mask = [0; SEATS / MASK_BITS];
         let seats = self.dbs.len();
-        self.look_to_wake(pass, head, &mut places[..seats]);
-        let db = pass.db().get();
-        behind(&places[..seats], &self.dbs, head.get(), db, &mut mask);
+        self.decide(pass, head, sent, fate, &mut owns[..seats], &mut mask);
         self.set_wakes(pass, &mask);
     }
 }

@@ -2,6 +2,7 @@ ghost use Rattle.std.specs.Prelude.{◌≡◌, ◌≢◌, ◌+◌, ◌++◌, ◌
 ghost use Rattle.pgn_base.specs.Notes.{IsNote};
 ghost use Rattle.pgn_journal.specs.Journal.{next_xid};
 ghost use Rattle.pgn_base.specs.declared.format.Format.TheVariants.{One};
+ghost use Rattle.pgn_journal.specs.Interest.{interest, channels_of};
 ghost use Rattle.pgn_journal.specs.Packing.{page_of, image};
 ghost use Rattle.pgn_hub.specs.Shape.{notes_of_seats};
 ghost use Rattle.pgn_journal.specs.declared.tx.Fate.TheVariants as fates;
@@ -28,7 +29,15 @@ use std::sync::Wait;
 
 impl WordHub {
     // Ends the transaction with a fate, and wakes those that it concerns.
-    fn finish(&self, pass: &mut WordPass, xid: Xid, fate: Fate, queued: usize, head: Pos)
+    fn finish(
+        &self,
+        pass: &mut WordPass,
+        xid: Xid,
+        fate: Fate,
+        queued: usize,
+        head: Pos,
+        sent: u64,
+    )
         requires own { IsPassOf self.now.queue pass.old }
         requires phase { (view_of pass.old).phase ≡ phases.Open }
         requires xid { xid ≡ next_xid (known_of pass.old).seen }
@@ -36,13 +45,14 @@ impl WordHub {
         requires low { queued < 2 ^ 32 }
         requires ends { MayEnd (view_of pass.old) (own_tx (view_of pass.old) queued fate) }
         requires head { head ≡ length (image (hub_shape self.now).format ((known_of pass.old).seen ++ own_tx (view_of pass.old) queued fate ∷ [])) }
+        requires sent { sent ≡ interest (channels_of (view_of pass.old).pen.notes) }
         ensures own { IsPassOf self.now.queue pass.new }
-        ensures view { view_of pass.new ≡ finished_view (own_tx (view_of pass.old) queued fate) (view_of pass.new).verdicts (view_of pass.old) }
+        ensures view { view_of pass.new ≡ finished_view (own_tx (view_of pass.old) queued fate) (view_of pass.new).verdicts (view_of pass.new).concerned (view_of pass.old) }
         ensures decided { AreDecided (view_of pass.new).verdicts }
     {
         self.queue.set_status(pass, xid, fate, queued as u32);
         self.queue.store_fin(pass, xid);
-        self.wake(pass, head);
+        self.wake(pass, head, sent, fate);
     }
 
     // After a commit, advances the tail once in a while: where the head has entered a page whose number is a multiple of four.
@@ -115,7 +125,7 @@ impl WordHub {
     }
 
     // Ends a transaction of which all notifications are placed.
-    fn commit(&self, pass: &mut WordPass, xid: Xid, from: Pos, placing: &Placing)
+    fn commit(&self, pass: &mut WordPass, xid: Xid, from: Pos, placing: &Placing, sent: u64)
         requires own { IsPassOf self.now.queue pass.old }
         requires phase { (view_of pass.old).phase ≡ phases.Open }
         requires xid { xid ≡ next_xid (known_of pass.old).seen }
@@ -126,21 +136,31 @@ impl WordHub {
         requires low { placing.now.at < 2 ^ 32 }
         requires stop { placing.now.stop ≡ (view_of pass.old).stop }
         requires listens { (known_of pass.old).mark ≡ listens_at (view_of pass.old).post }
+        requires sent { sent ≡ interest (channels_of (view_of pass.old).pen.notes) }
         ensures own { IsPassOf self.now.queue pass.new }
         ensures committed { HasCommitted (view_of pass.old) (view_of pass.new) (own_tx (view_of pass.old) placing.now.placed fates.Committed) }
     {
-        self.finish(pass, xid, Fate::Committed, placing.placed, placing.at);
+        self.finish(
+            pass,
+            xid,
+            Fate::Committed,
+            placing.placed,
+            placing.at,
+            sent,
+        );
         self.clean_up(pass, xid, from, placing);
     }
 
-    // Publishes a transaction under the lock. The pass is told of it once it gives the lock up.
+    // Publishes a transaction under the lock, which sends on the channels of these bits. The pass is told of it once it gives the lock up.
     pub(crate) fn publish_locked<R: Wait>(
         &self,
         rt: &R,
         pass: &mut WordPass,
         notes: &[Note],
+        sent: u64,
     ) -> Result<Xid, Full>
         requires own { IsPassOf self.now.queue pass.old }
+        requires sent { sent ≡ interest (channels_of notes.now) }
         requires phase { (view_of pass.old).phase ≡ phases.Held }
         requires decided { AreDecided (view_of pass.old).verdicts }
         requires listens { (known_of pass.old).mark ≡ listens_at (view_of pass.old).post }
@@ -158,11 +178,18 @@ impl WordHub {
         let from = placing.at;
         match self.place_all(rt, pass, notes, xid, &mut placing) {
             None => {
-                self.commit(pass, xid, from, &placing);
+                self.commit(pass, xid, from, &placing, sent);
                 Ok(xid)
             }
             Some(floor) => {
-                self.finish(pass, xid, Fate::Aborted, placing.placed, placing.at);
+                self.finish(
+                    pass,
+                    xid,
+                    Fate::Aborted,
+                    placing.placed,
+                    placing.at,
+                    sent,
+                );
                 Err(WordHub::full_of(xid, &placing, &floor))
             }
         }

@@ -28,7 +28,7 @@ use Rattle.pgn_words.specs.Rule.{World, KnowsStop, HoldsIn, Holds, IsWriting, La
 use Rattle.pgn_words.specs.Told.{TellsCellStore, TellsCell, TellsHeadStore, MayShow, cell_stored, head_stored}
 use Rattle.pgn_words.proofs.EachLaws.{each_turn, each_keep}
 use Rattle.pgn_words.proofs.Frames.{seats_keep, locking_keep, history_keep, numbers_keep, budget_keep, statuses_keep}
-use Rattle.pgn_words.proofs.MoreFrames.{posts_keep, looks_keep, wakes_keep, flags_keep, named_keep, taken_keep, someone_keep}
+use Rattle.pgn_words.proofs.MoreFrames.{posts_keep, looks_keep, wakes_keep, interests_keep, flags_keep, named_keep, taken_keep, someone_keep}
 use Rattle.pgn_words.proofs.LockKept.{held_setup, alone, others_hold, has_left}
 use Rattle.pgn_words.proofs.ImageLaws.{shown_bound, shown_low, written_part}
 use Rattle.pgn_words.proofs.HeadKept.{phase_holds}
@@ -72,7 +72,7 @@ stores z c g views id v at x h here opened next page stays low =
     let gone : (j : ℕ) (u : View) → j ≢ id → get_elem? views j ≡ some u → holds_lock u.phase ≡ true → ⊥ = alone c.lock g.holder views id v h.locking here held in record {
       laid = record {
         pos_long = h.laid.pos_long;
-        wakes_long = h.laid.wakes_long;
+        wakes_long = h.laid.wakes_long; interests_long = h.laid.interests_long;
         flags_long = h.laid.flags_long;
         statuses_long = h.laid.statuses_long;
         cells_long = length-set c.cells (at % room_of z) x ∙ h.laid.cells_long;
@@ -113,7 +113,8 @@ stores z c g views id v at x h here opened next page stays low =
             (bounds_stay id v here (h.walks.bounds id v here)) (λ j u other there p. bounds_stay j u there p);
       };
       looks = looks_keep views id v w here z.format g.past c.fin c.stop g.looked g.target c.tail h.looks refl refl refl refl;
-      wakes = wakes_keep views id v w here z.format c.lock c.fin g.past g.undecided c.wakes h.wakes refl refl refl refl refl refl refl (λ i. refl) refl refl;
+      wakes = wakes_keep views id v w here z.format c.lock c.fin g.past g.undecided g.concerned c.wakes h.wakes refl refl refl refl refl refl refl (λ i. refl) refl refl;
+      interests = interests_keep views id v w here g.concerned c.interests h.interests refl refl refl (λ x. x);
       flags = flags_keep views id v w here c.fin g.undecided c.flags h.flags refl (h.flags.told id v here) refl refl;
       named = named_keep views id v w here h.named refl refl refl refl refl;
       taken = taken_keep views id v w here z g.made c.fin g.undecided g.seat g.past h.taken refl refl;
@@ -269,7 +270,8 @@ shows z c g views id v to shape h here opened may =
         aims = h.looks.aims;
         above = h.looks.above;
       };
-      wakes = wakes_keep views id v w here z.format c.lock c.fin g.past g.undecided c.wakes h.wakes refl refl refl refl refl refl refl (λ i. refl) refl refl;
+      wakes = wakes_keep views id v w here z.format c.lock c.fin g.past g.undecided g.concerned c.wakes h.wakes refl refl refl refl refl refl refl (λ i. refl) refl refl;
+      interests = interests_keep views id v w here g.concerned c.interests h.interests refl refl refl (λ x. x);
       flags = flags_keep views id v w here c.fin g.undecided c.flags h.flags refl (h.flags.told id v here) refl refl;
       named = named_keep views id v w here h.named refl refl refl refl refl;
       taken = taken_keep views id v w here z g.made c.fin g.undecided g.seat g.past h.taken refl refl;

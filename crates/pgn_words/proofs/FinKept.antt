@@ -10,6 +10,7 @@ use Rattle.pgn_journal.specs.declared.tx.Tx.{Tx}
 use Rattle.pgn_journal.specs.Begins.{Begins}
 use Rattle.pgn_journal.proofs.BeginsLaws.{begins-continued, begins-itself, begins-on}
 use Rattle.pgn_journal.specs.Journal.{next_xid, xids_of, IsFinished}
+use Rattle.pgn_journal.specs.Due.{is_due_to}
 use Rattle.pgn_base.specs.declared.format.Format.{Format}
 use Rattle.pgn_hub.specs.declared.known.Known.{Known}
 use Rattle.pgn_journal.specs.Pieces.{IsWritten}
@@ -18,6 +19,7 @@ use Rattle.pgn_journal.specs.Packing.{page_start}
 use Rattle.pgn_hub.specs.Shape.{Shape, IsShape}
 use Rattle.pgn_layout.specs.Status.{status_code}
 use Rattle.pgn_words.specs.declared.view.View.{View}
+use Rattle.pgn_words.specs.declared.view.Phase.{Phase}
 use Rattle.pgn_words.specs.declared.view.Phase.TheVariants.{Finished}
 use Rattle.pgn_words.specs.Words.{Content, row, seats_of, room_of}
 use Rattle.pgn_words.specs.Views.{holds_lock, knows_stop, drawn_by, spent_by, fated, is_walking, seat_of}
@@ -27,7 +29,7 @@ use Rattle.pgn_words.specs.declared.view.Look.TheVariants.{Idle, First, Second}
 use Rattle.pgn_words.specs.Positions.{mark_in, place_in}
 use Rattle.pgn_words.specs.ListenRule.{Placed, Marks, ShowsPosition, LookIn, LooksBy, Spared}
 use Rattle.pgn_words.specs.declared.view.Verdict.TheVariants.{Unseen}
-use Rattle.pgn_words.specs.WakeRule.{served, IsHeard, IsHeeded, Heeds, Signals, ended_in, pending, waits_in, raised_in, found_in, Raised, IsMost, IsTaken}
+use Rattle.pgn_words.specs.WakeRule.{served, passed, Covered, Deems, IsHeard, IsHeeded, Heeds, Signals, ended_in, pending, waits_in, raised_in, found_in, Raised, IsMost, IsTaken}
 use Rattle.pgn_words.specs.Rule.{World, KnowsStop, Draws, Holds, IsEnding, WasMade, Fates, Law, Lawful, Keeps, Budget, notes_of, status_at}
 use Rattle.pgn_words.specs.Told.{TellsFinStore, fin_stored}
 use Rattle.pgn_words.proofs.EachLaws.{each_turn, each_keep, changed_at, sum_set, own_further}
@@ -39,9 +41,9 @@ use Rattle.pgn_words.proofs.LockKept.{held_setup, alone, free_holds, others_hold
 use Rattle.pgn_words.proofs.HeadKept.{phase_holds}
 use Rattle.pgn_words.proofs.Meets.{allowed}
 
--- the journal grows by the transaction that has ended, and no seat is decided yet
+-- the journal grows by the transaction that has ended, no seat is decided yet, and it may concern each
 abbrev pub after_ending : View → Shape → World → World
-after_ending v z g = record g { past = g.past ++ v.pen.ending ∷ []; shown = g.past ++ v.pen.ending ∷ []; undecided = waits_in (replicate (seats_of z) Unseen) }
+after_ending v z g = record g { past = g.past ++ v.pen.ending ∷ []; shown = g.past ++ v.pen.ending ∷ []; undecided = waits_in (replicate (seats_of z) Unseen); concerned = λ i. get_or (replicate (seats_of z) true) i false }
 
 finishes : (z : Shape) (c : Content) (g : World) (views : List View) (id : ℕ) (v : View) → IsShape z → Law z c g views → get_elem? views id ≡ some v → v.phase ≡ Finished
     → Law z (record c { fin = c.fin + 1 }) (after_ending v z g) (set views id (fin_stored v))
@@ -65,13 +67,14 @@ finishes z c g views id v shape h here ended =
     ) in
     let calm : (i : ℕ) → g.undecided i ≡ false = λ i. h.wakes.signals id v here held i ∙ ap (λ p. pending p (waits_in v.verdicts) i) ended in
     let all : ℕ → Bool = waits_in (replicate (seats_of z) Unseen) in
+    let may : ℕ → Bool = λ i. get_or (replicate (seats_of z) true) i false in
     let heard_still : (n : ℕ) → IsHeard c.fin g.undecided n → IsHeard (c.fin + 1) all n = λ n p. record { most = let most = p.most in omega (arith, most); decided = λ i waits. let most = p.most in omega (arith, most) } in
     let setup : v.setup ≡ z = held_setup z c g views id v h here held in
-    let heeds_still : (j : ℕ) (u : View) → get_elem? views j ≡ some u → Heeds z.format g.past c.fin g.undecided c.wakes j u → Heeds z.format now (c.fin + 1) all c.wakes j u =
+    let heeds_still : (j : ℕ) (u : View) → get_elem? views j ≡ some u → Heeds z.format g.past c.fin g.undecided g.concerned c.wakes j u → Heeds z.format now (c.fin + 1) all may c.wakes j u =
     λ j u there p registered i number.
-    let before : IsHeeded z.format g.past (served g.undecided c.fin i) (get_or c.wakes i 0) u.known.db u.post.mark (is_walking u.walk.stage) u.walk.upto u.known.owes = p registered i number in
+    let before : IsHeeded z.format (is_due_to u.known.db u.known.set) g.past (passed g.undecided g.concerned c.fin i) (served g.undecided c.fin i) (get_or c.wakes i 0) u.post.mark (is_walking u.walk.stage) u.walk.upto u.known.owes = p registered i number in
     let within : i < seats_of z = let seat = h.seats.seated j u there (omega (arith, number)) in let made = seat.was_made in let few = h.seats.few in omega (arith, number, made, few) in
-    heeded_later z.format g.past tx c.fin g.undecided all i (get_or c.wakes i 0) u.known.db u.post.mark (is_walking u.walk.stage) u.walk.upto u.known.owes counted (calm i) (all_wait (seats_of z) i within) before in
+    heeded_later z.format (is_due_to u.known.db u.known.set) g.past tx c.fin g.undecided all g.concerned may i (get_or c.wakes i 0) u.post.mark (is_walking u.walk.stage) u.walk.upto u.known.owes counted (calm i) (all_wait (seats_of z) i within) (all_may (seats_of z) i within) before in
     let set_one : status_at c.statuses (next_xid g.past) ≡ status_code tx.fate = h.statuses.fates id v here held ∙ ap (λ p. fated p tx.fate) ended in record {
       laid = h.laid;
       seats = seats_keep views id v w here z g.made g.seat h.seats refl refl refl refl;
@@ -152,7 +155,7 @@ finishes z c g views id v shape h here ended =
       };
       wakes = record {
         small = h.wakes.small;
-        heeds = each_turn (Heeds z.format g.past c.fin g.undecided c.wakes) (Heeds z.format now (c.fin + 1) all c.wakes) views id w h.wakes.heeds
+        heeds = each_turn (Heeds z.format g.past c.fin g.undecided g.concerned c.wakes) (Heeds z.format now (c.fin + 1) all may c.wakes) views id w h.wakes.heeds
             (heeds_still id v here (h.wakes.heeds id v here)) (λ j u other there p. heeds_still j u there p);
         signals = each_turn (Signals g.undecided) (Signals all) views id w h.wakes.signals (λ _ i. ap (λ (y : Shape). waits_in (replicate (seats_of y) Unseen) i) (sym setup)) (λ j u other there p also. absurd (gone j u other there also));
         calm = λ nobody. let is = locked.1 in let positive = locked.2 in absurd (omega (arith, nobody, is, positive));
@@ -161,6 +164,12 @@ finishes z c g views id v shape h here ended =
         ended = each_turn (λ _ u. u.ended ≡ ended_in u.phase c.fin) (λ _ u. u.ended ≡ ended_in u.phase (c.fin + 1)) views id w h.wakes.ended
             (let long : length v.known.seen ≡ length g.past = ap length was.seen_is in let next : next_xid v.known.seen + 1 ≡ c.fin + 1 = omega (arith, long, counted) in ap (λ (n : ℕ). Some n) next)
             (λ j u other there p. p ∙ ap (λ q. ended_in q c.fin) (free_holds u.phase (gone j u other there)) ∙ sym (ap (λ q. ended_in q (c.fin + 1)) (free_holds u.phase (gone j u other there))));
+      };
+      interests = record {
+        covered = each_keep (Covered c.interests) views id v w here h.interests.covered (λ p. p);
+        deems = each_turn (λ _ u. Deems u.phase g.concerned u.concerned) (λ _ u. Deems u.phase may u.concerned) views id w h.interests.deems
+            (λ i. ap (λ (y : Shape). get_or (replicate (seats_of y) true) i false) (sym setup))
+            (λ j u other there p. subst (λ (q : Phase). Deems q may u.concerned) (sym (free_holds u.phase (gone j u other there))) tt);
       };
       flags = record {
         heard = λ f. heard_still (get_or c.flags f 0) (h.flags.heard f);
@@ -188,6 +197,11 @@ finishes z c g views id v shape h here ended =
     all_wait zero i within = absurd (omega (arith, within))
     all_wait (suc n) zero within = refl
     all_wait (suc n) (suc i) within = all_wait n i (omega (arith, within))
+
+    all_may : (n i : ℕ) → i < n → get_or (replicate n true) i false ≡ true
+    all_may zero i within = absurd (omega (arith, within))
+    all_may (suc n) zero within = refl
+    all_may (suc n) (suc i) within = all_may n i (omega (arith, within))
 
     sum_one : (tx : Tx) → sum_by (λ (t : Tx). length t.notes) (tx ∷ []) ≡ length tx.notes
     sum_one tx = let all = sum_by-cons (λ (t : Tx). length t.notes) tx [] in omega (arith, all)

@@ -20,7 +20,7 @@ use Rattle.pgn_words.specs.WakeRule.{IsHeard, Signals, ended_in, raised_in, foun
 use Rattle.pgn_words.specs.Rule.{World, HoldsIn, KnowsStop, Holds, Law, Lawful, Keeps, KnowsAll}
 use Rattle.pgn_words.proofs.EachLaws.{each_turn, each_keep, changed_at, own_further}
 use Rattle.pgn_words.proofs.Frames.{seats_keep, locking_keep, numbers_keep, budget_keep, statuses_keep, history_keep}
-use Rattle.pgn_words.proofs.MoreFrames.{someone_keep, posts_keep, walks_keep, looks_keep, heeds_keep, wakes_keep, named_keep, taken_keep}
+use Rattle.pgn_words.proofs.MoreFrames.{someone_keep, posts_keep, walks_keep, looks_keep, heeds_keep, wakes_keep, interests_keep, named_keep, taken_keep}
 use Rattle.pgn_words.proofs.LockKept.{setup_of, few_left, others_hold}
 use Rattle.pgn_words.proofs.StatusKept.{holder_sees}
 use Rattle.pgn_words.proofs.RowLaws.{set_flag_word, get_flag_word}
@@ -69,7 +69,7 @@ raises z c g views id v f x h here positive within is =
     let mine : Raised (set views id w) (f, told) = (id, w, changed_at views id v w here, positive, contains_this v.known.raised rest (f, told)) in
     let grown : (pair : ℕ × ℕ) → IsMost c.flags pair → IsMost (set c.flags f x) pair = λ pair p. (p.0, let low = p.1 in let more = flag_grows c.flags f pair.0 x within up in omega (arith, low, more)) in
     let top : IsMost (set c.flags f x) (f, told) = (first, let now = get_or-set_same c.flags f x 0 within in omega (arith, now, is)) in record {
-      laid = record { pos_long = h.laid.pos_long; wakes_long = h.laid.wakes_long; flags_long = length-set c.flags f x ∙ h.laid.flags_long; statuses_long = h.laid.statuses_long; cells_long = h.laid.cells_long };
+      laid = record { pos_long = h.laid.pos_long; wakes_long = h.laid.wakes_long; interests_long = h.laid.interests_long; flags_long = length-set c.flags f x ∙ h.laid.flags_long; statuses_long = h.laid.statuses_long; cells_long = h.laid.cells_long };
       seats = seats_keep views id v w here z g.made g.seat h.seats refl refl refl refl;
       locking = locking_keep views id v w here c.lock g.holder h.locking refl refl;
       stored = h.stored;
@@ -84,7 +84,8 @@ raises z c g views id v f x h here positive within is =
       posts = posts_keep views id v w here z.format g.past c.fin c.stop g.made c.tail c.pos h.posts refl refl refl;
       walks = walks_keep views id v w here z.format (room_of z) c.head c.cells h.walks refl refl (omega arith);
       looks = looks_keep views id v w here z.format g.past c.fin c.stop g.looked g.target c.tail h.looks refl refl refl refl;
-      wakes = wakes_keep views id v w here z.format c.lock c.fin g.past g.undecided c.wakes h.wakes refl refl refl refl refl refl refl (λ i. refl) refl refl;
+      wakes = wakes_keep views id v w here z.format c.lock c.fin g.past g.undecided g.concerned c.wakes h.wakes refl refl refl refl refl refl refl (λ i. refl) refl refl;
+      interests = interests_keep views id v w here g.concerned c.interests h.interests refl refl refl (λ x. x);
       flags = record {
         heard = λ e. flag_at c.flags f e x within (ℕ_discrete e f) (λ y. IsHeard c.fin g.undecided y) (λ _. heard_x) (λ _. h.flags.heard e);
         told = each_keep (λ _ u. 3 ≤ u.known.told) views id v w here h.flags.told (λ y. y);
@@ -173,12 +174,13 @@ looks_at z c g views id v told found look h here heard first raised_all =
       looks = looks_keep views id v w here z.format g.past c.fin c.stop g.looked g.target c.tail h.looks refl refl refl refl;
       wakes = record {
         small = h.wakes.small;
-        heeds = heeds_keep views id v w here z.format g.past c.fin g.undecided c.wakes h.wakes.heeds refl refl refl refl refl;
+        heeds = heeds_keep views id v w here z.format g.past c.fin g.undecided g.concerned c.wakes h.wakes.heeds refl refl refl refl refl;
         signals = each_keep (Signals g.undecided) views id v w here h.wakes.signals (λ y. y);
         calm = h.wakes.calm;
         heard = each_keep (λ _ u. IsHeard c.fin g.undecided u.known.told) views id v w here h.wakes.heard (λ _. heard);
         ended = each_keep (λ _ u. u.ended ≡ ended_in u.phase c.fin) views id v w here h.wakes.ended (λ y. y);
       };
+      interests = interests_keep views id v w here g.concerned c.interests h.interests refl refl refl (λ x. x);
       flags = record {
         heard = h.flags.heard;
         told = each_keep (λ _ u. 3 ≤ u.known.told) views id v w here h.flags.told (λ _. first);

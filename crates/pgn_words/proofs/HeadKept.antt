@@ -16,7 +16,7 @@ use Rattle.pgn_words.specs.Rule.{World, KnowsStop, HoldsIn, Holds, IsHeaded, IsI
 use Rattle.pgn_words.specs.Told.{TellsHead, TellsStop, head_known, stop_known}
 use Rattle.pgn_words.proofs.EachLaws.{each_turn}
 use Rattle.pgn_words.proofs.Frames.{seats_keep, locking_keep, history_keep, numbers_keep, budget_keep, statuses_keep}
-use Rattle.pgn_words.proofs.MoreFrames.{posts_keep, walks_keep, looks_keep, wakes_keep, flags_keep, named_keep, taken_keep}
+use Rattle.pgn_words.proofs.MoreFrames.{posts_keep, walks_keep, looks_keep, wakes_keep, interests_keep, flags_keep, named_keep, taken_keep}
 use Rattle.pgn_words.proofs.LockKept.{held_setup}
 use Rattle.pgn_words.proofs.Meets.{allowed}
 
@@ -46,7 +46,8 @@ heads z c g views id v h here held =
       posts = posts_keep views id v w here z.format g.past c.fin c.stop g.made c.tail c.pos h.posts refl refl refl;
       walks = walks_keep views id v w here z.format (room_of z) c.head c.cells h.walks refl refl (omega arith);
       looks = looks_keep views id v w here z.format g.past c.fin c.stop g.looked g.target c.tail h.looks refl refl holds refl;
-      wakes = wakes_keep views id v w here z.format c.lock c.fin g.past g.undecided c.wakes h.wakes refl refl refl refl refl refl holds (λ i. sym (ap (λ p. pending p (waits_in v.verdicts) i) held)) refl (sym (ap (λ p. ended_in p c.fin) held));
+      wakes = wakes_keep views id v w here z.format c.lock c.fin g.past g.undecided g.concerned c.wakes h.wakes refl refl refl refl refl refl holds (λ i. sym (ap (λ p. pending p (waits_in v.verdicts) i) held)) refl (sym (ap (λ p. ended_in p c.fin) held));
+      interests = interests_keep views id v w here g.concerned c.interests h.interests refl refl refl (λ _. tt);
       flags = flags_keep views id v w here c.fin g.undecided c.flags h.flags refl (h.flags.told id v here) refl refl;
       named = named_keep views id v w here h.named refl refl refl refl refl;
       taken = taken_keep views id v w here z g.made c.fin g.undecided g.seat g.past h.taken refl refl;
@@ -89,7 +90,8 @@ readies z c g views id v h here headed =
       posts = posts_keep views id v w here z.format g.past c.fin c.stop g.made c.tail c.pos h.posts refl refl refl;
       walks = walks_keep views id v w here z.format (room_of z) c.head c.cells h.walks refl refl (omega arith);
       looks = looks_keep views id v w here z.format g.past c.fin c.stop g.looked g.target c.tail h.looks refl refl holds refl;
-      wakes = wakes_keep views id v w here z.format c.lock c.fin g.past g.undecided c.wakes h.wakes refl refl refl refl refl refl holds (λ i. sym (ap (λ p. pending p (waits_in v.verdicts) i) headed)) refl (sym (ap (λ p. ended_in p c.fin) headed));
+      wakes = wakes_keep views id v w here z.format c.lock c.fin g.past g.undecided g.concerned c.wakes h.wakes refl refl refl refl refl refl holds (λ i. sym (ap (λ p. pending p (waits_in v.verdicts) i) headed)) refl (sym (ap (λ p. ended_in p c.fin) headed));
+      interests = interests_keep views id v w here g.concerned c.interests h.interests refl refl refl (λ _. tt);
       flags = flags_keep views id v w here c.fin g.undecided c.flags h.flags refl (h.flags.told id v here) refl refl;
       named = named_keep views id v w here h.named refl refl refl refl refl;
       taken = taken_keep views id v w here z g.made c.fin g.undecided g.seat g.past h.taken refl refl;

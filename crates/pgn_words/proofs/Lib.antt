@@ -17,6 +17,7 @@ pub mod MetLaws
 pub mod LookKept
 pub mod SecondKept
 pub mod WakeKept
+pub mod InterestKept
 pub mod FlagKept
 pub mod PassKept
 pub mod OpeningLaws

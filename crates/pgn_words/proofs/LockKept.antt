@@ -28,7 +28,7 @@ use Rattle.pgn_words.specs.Rule.{World, Locks, Locking, Draws, KnowsStop, HoldsI
 use Rattle.pgn_words.specs.Told.{HasLocked, IsLocked, TellsLock, TellsDrop, locked, refused, freed}
 use Rattle.pgn_words.proofs.EachLaws.{each_turn, each_keep, changed_at, own_further}
 use Rattle.pgn_words.proofs.Frames.{seats_keep, locking_keep, history_keep, numbers_keep, budget_keep, statuses_keep}
-use Rattle.pgn_words.proofs.MoreFrames.{posts_keep, walks_keep, looks_keep, heeds_keep, wakes_keep, flags_keep, named_keep, taken_keep, someone_keep}
+use Rattle.pgn_words.proofs.MoreFrames.{posts_keep, walks_keep, looks_keep, heeds_keep, wakes_keep, interests_keep, flags_keep, named_keep, taken_keep, someone_keep}
 use Rattle.pgn_words.proofs.Meets.{Goes, allowed}
 
 -- nobody holds the lock while its word is 0
@@ -163,12 +163,13 @@ takes z c g views id v h here free positive nothing =
       };
       wakes = record {
         small = h.wakes.small;
-        heeds = heeds_keep views id v w here z.format g.past c.fin g.undecided c.wakes h.wakes.heeds refl refl refl refl refl;
+        heeds = heeds_keep views id v w here z.format g.past c.fin g.undecided g.concerned c.wakes h.wakes.heeds refl refl refl refl refl;
         signals = each_turn (Signals g.undecided) (Signals g.undecided) views id w h.wakes.signals (λ held i. h.wakes.calm nothing i) (λ j u other there p. p);
         calm = λ nobody. absurd (omega (arith, nobody, positive));
         heard = each_keep (λ _ u. IsHeard c.fin g.undecided u.known.told) views id v w here h.wakes.heard (λ p. p);
         ended = each_keep (λ _ u. u.ended ≡ ended_in u.phase c.fin) views id v w here h.wakes.ended (λ p. p ∙ ap (λ q. ended_in q c.fin) free);
       };
+      interests = interests_keep views id v w here g.concerned c.interests h.interests refl refl refl (λ _. tt);
       flags = flags_keep views id v w here c.fin g.undecided c.flags h.flags refl (h.flags.told id v here) refl refl;
       named = named_keep views id v w here h.named refl refl refl refl refl;
       taken = taken_keep views id v w here z g.made c.fin g.undecided g.seat g.past h.taken refl refl;
@@ -254,13 +255,14 @@ drops z c g views id v h here held nothing even settled =
       };
       wakes = record {
         small = h.wakes.small;
-        heeds = heeds_keep views id v w here z.format g.past c.fin g.undecided c.wakes h.wakes.heeds refl refl refl refl refl;
+        heeds = heeds_keep views id v w here z.format g.past c.fin g.undecided g.concerned c.wakes h.wakes.heeds refl refl refl refl refl;
         signals = each_turn (Signals g.undecided) (Signals g.undecided) views id w h.wakes.signals (λ held. absurd (cc)) (λ j u other there p. p);
         calm = λ _. settled;
         heard = each_keep (λ _ u. IsHeard c.fin g.undecided u.known.told) views id v w here h.wakes.heard (λ p.
             subst (λ (e : Option ℕ). IsHeard c.fin g.undecided (unwrap_or e v.known.told)) (sym (h.wakes.ended id v here)) (told_then v.phase c.fin g.undecided v.known.told settled p));
         ended = each_turn (λ _ u. u.ended ≡ ended_in u.phase c.fin) (λ _ u. u.ended ≡ ended_in u.phase c.fin) views id w h.wakes.ended refl (λ j u other there p. p);
       };
+      interests = interests_keep views id v w here g.concerned c.interests h.interests refl refl refl (λ _. tt);
       flags = flags_keep views id v w here c.fin g.undecided c.flags h.flags refl
           (subst (λ (e : Option ℕ). FIRST_XID ≤ unwrap_or e v.known.told) (sym (h.wakes.ended id v here)) (first_then v.phase c.fin v.known.told (let counted = h.history.counted in omega (arith, counted)) (h.flags.told id v here))) refl refl;
       named = named_keep views id v w here h.named refl refl refl refl refl;
@@ -354,7 +356,8 @@ refuses z c g views id v by h here =
       posts = posts_keep views id v w here z.format g.past c.fin c.stop g.made c.tail c.pos h.posts refl refl refl;
       walks = walks_keep views id v w here z.format (room_of z) c.head c.cells h.walks refl refl (omega arith);
       looks = looks_keep views id v w here z.format g.past c.fin c.stop g.looked g.target c.tail h.looks refl refl refl refl;
-      wakes = wakes_keep views id v w here z.format c.lock c.fin g.past g.undecided c.wakes h.wakes refl refl refl refl refl refl refl (λ i. refl) refl refl;
+      wakes = wakes_keep views id v w here z.format c.lock c.fin g.past g.undecided g.concerned c.wakes h.wakes refl refl refl refl refl refl refl (λ i. refl) refl refl;
+      interests = interests_keep views id v w here g.concerned c.interests h.interests refl refl refl (λ x. x);
       flags = flags_keep views id v w here c.fin g.undecided c.flags h.flags refl (h.flags.told id v here) refl refl;
       named = named_keep views id v w here h.named refl refl refl refl refl;
       taken = taken_keep views id v w here z g.made c.fin g.undecided g.seat g.past h.taken refl refl;

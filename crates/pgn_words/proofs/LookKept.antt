@@ -31,7 +31,7 @@ use Rattle.pgn_words.specs.WakeRule.{named_in, Marked, MarkedBy, IsLast}
 use Rattle.pgn_words.specs.Rule.{World, KnowsStop, Holds, Law, Lawful, Keeps}
 use Rattle.pgn_words.proofs.EachLaws.{each_turn, each_keep}
 use Rattle.pgn_words.proofs.Frames.{seats_keep, locking_keep, history_keep, numbers_keep, budget_keep, statuses_keep}
-use Rattle.pgn_words.proofs.MoreFrames.{someone_keep, posts_keep, walks_keep, wakes_keep, flags_keep, taken_keep}
+use Rattle.pgn_words.proofs.MoreFrames.{someone_keep, posts_keep, walks_keep, wakes_keep, interests_keep, flags_keep, taken_keep}
 use Rattle.pgn_words.proofs.LockKept.{held_setup, alone, few_left}
 use Rattle.pgn_words.proofs.StatusKept.{holder_sees}
 use Rattle.pgn_words.proofs.RowLaws.{get_pos}
@@ -86,7 +86,8 @@ gazes z c g views id v e ns a tail l y h here held placed looks spares aims abov
         aims = aims;
         above = above;
       };
-      wakes = wakes_keep views id v w here z.format c.lock c.fin g.past g.undecided c.wakes h.wakes refl refl refl refl refl refl refl (λ i. refl) refl refl;
+      wakes = wakes_keep views id v w here z.format c.lock c.fin g.past g.undecided g.concerned c.wakes h.wakes refl refl refl refl refl refl refl (λ i. refl) refl refl;
+      interests = interests_keep views id v w here g.concerned c.interests h.interests refl refl refl (λ x. x);
       flags = flags_keep views id v w here c.fin g.undecided c.flags h.flags refl (h.flags.told id v here) refl refl;
       named = record {
         current = each_keep (λ _ u. u.post.listen ≡ Registered → IsLast u.known.marks u.post.mark) views id v w here h.named.current (λ x. x);

@@ -10,6 +10,8 @@ use Rattle.pgn_base.specs.declared.format.Format.{Format}
 use Rattle.pgn_base.specs.declared.limits.TheConstants.{FIRST_XID}
 use Rattle.pgn_journal.specs.declared.tx.Tx.{Tx}
 use Rattle.pgn_hub.specs.declared.known.Known.{Known}
+use Rattle.pgn_journal.specs.Due.{is_due_to}
+use Rattle.pgn_journal.specs.Interest.{Covers}
 use Rattle.pgn_journal.specs.Packing.{image}
 use Rattle.pgn_hub.specs.Shape.{Shape}
 use Rattle.pgn_words.specs.declared.view.View.{View}
@@ -22,7 +24,7 @@ use Rattle.pgn_words.specs.Views.{holds_lock, is_walking}
 use Rattle.pgn_words.specs.Positions.{shown_as, word_of, listens_at, is_placed}
 use Rattle.pgn_words.specs.Each.{Each, Someone, Keeps}
 use Rattle.pgn_words.specs.ListenRule.{IsPlaced, Placed, Marks, ShowsPosition, Posts, Walking, Bounds, Walks, LookIn, LooksBy, Spared, Looks}
-use Rattle.pgn_words.specs.WakeRule.{served, waits_in, pending, ended_in, IsHeard, IsHeeded, Heeds, Signals, Wakes, raised_in, found_in, named_in, Raised, IsMost, Flags, IsMarkedBy, MarkedBy, Marked, IsLast, Named, IsTaken, Taken}
+use Rattle.pgn_words.specs.WakeRule.{served, passed, waits_in, pending, ended_in, IsHeard, IsHeeded, Heeds, Signals, Wakes, Covered, Deems, Interests, raised_in, found_in, named_in, Raised, IsMost, Flags, IsMarkedBy, MarkedBy, Marked, IsLast, Named, IsTaken, Taken}
 use Rattle.pgn_words.proofs.EachLaws.{each_keep, changed_at}
 
 module _ (views : List View) (id : ℕ) (v w : View) (here : get_elem? views id ≡ some v) where
@@ -77,25 +79,35 @@ module _ (views : List View) (id : ℕ) (v w : View) (here : get_elem? views id 
     above = h.above;
   }
 
-  pub heeds_keep : (format : Format) (past : List Tx) (fin : ℕ) (undecided : ℕ → Bool) (wakes : List ℕ) → Each (Heeds format past fin undecided wakes) views
-      → w.known.session ≡ v.known.session → w.post ≡ v.post → w.walk ≡ v.walk → w.known.db ≡ v.known.db → w.known.owes ≡ v.known.owes → Each (Heeds format past fin undecided wakes) (set views id w)
-  heeds_keep format past fin undecided wakes h session post walk db owes =
-      each_keep (Heeds format past fin undecided wakes) views id v w here h (λ p.
+  pub heeds_keep : (format : Format) (past : List Tx) (fin : ℕ) (undecided concerned : ℕ → Bool) (wakes : List ℕ) → Each (Heeds format past fin undecided concerned wakes) views
+      → w.known.session ≡ v.known.session → w.post ≡ v.post → w.walk ≡ v.walk → is_due_to w.known.db w.known.set ≡ is_due_to v.known.db v.known.set → w.known.owes ≡ v.known.owes
+      → Each (Heeds format past fin undecided concerned wakes) (set views id w)
+  heeds_keep format past fin undecided concerned wakes h session post walk due owes =
+      each_keep (Heeds format past fin undecided concerned wakes) views id v w here h (λ p.
       subst (λ (q : Post). q.listen ≡ Registered → (i : ℕ) → w.known.session ≡ i + 1
-      → IsHeeded format past (served undecided fin i) (get_or wakes i 0) w.known.db q.mark (is_walking w.walk.stage) w.walk.upto w.known.owes) (sym post)
+      → IsHeeded format (is_due_to w.known.db w.known.set) past (passed undecided concerned fin i) (served undecided fin i) (get_or wakes i 0) q.mark (is_walking w.walk.stage) w.walk.upto w.known.owes) (sym post)
       (λ registered i number.
-      subst (λ (k : Walk). IsHeeded format past (served undecided fin i) (get_or wakes i 0) w.known.db v.post.mark (is_walking k.stage) k.upto w.known.owes) (sym walk)
-      (subst (λ (o : Bool). IsHeeded format past (served undecided fin i) (get_or wakes i 0) w.known.db v.post.mark (is_walking v.walk.stage) v.walk.upto o) (sym owes)
-      (subst (λ (d : ℕ). IsHeeded format past (served undecided fin i) (get_or wakes i 0) d v.post.mark (is_walking v.walk.stage) v.walk.upto v.known.owes) (sym db)
+      subst (λ (k : Walk). IsHeeded format (is_due_to w.known.db w.known.set) past (passed undecided concerned fin i) (served undecided fin i) (get_or wakes i 0) v.post.mark (is_walking k.stage) k.upto w.known.owes) (sym walk)
+      (subst (λ (o : Bool). IsHeeded format (is_due_to w.known.db w.known.set) past (passed undecided concerned fin i) (served undecided fin i) (get_or wakes i 0) v.post.mark (is_walking v.walk.stage) v.walk.upto o) (sym owes)
+      (subst (λ (matters : Tx → Bool). IsHeeded format matters past (passed undecided concerned fin i) (served undecided fin i) (get_or wakes i 0) v.post.mark (is_walking v.walk.stage) v.walk.upto v.known.owes) (sym due)
       (p registered i (sym session ∙ number))))))
 
-  pub wakes_keep : (format : Format) (lock fin : ℕ) (past : List Tx) (undecided : ℕ → Bool) (wakes : List ℕ) → Wakes format lock fin past undecided wakes views
-      → w.known.session ≡ v.known.session → w.post ≡ v.post → w.walk ≡ v.walk → w.known.db ≡ v.known.db → w.known.owes ≡ v.known.owes → w.known.told ≡ v.known.told
+  pub interests_keep : (concerned : ℕ → Bool) (interests : List ℕ) → Interests concerned interests views → w.known.session ≡ v.known.session → w.post ≡ v.post → w.known.set ≡ v.known.set
+      → (Deems v.phase concerned v.concerned → Deems w.phase concerned w.concerned) → Interests concerned interests (set views id w)
+  interests_keep concerned interests h session post set_is deems = record {
+    covered = each_keep (Covered interests) views id v w here h.covered (λ p.
+        subst (λ (q : Post). q.listen ≡ Registered → (i : ℕ) → w.known.session ≡ i + 1 → Covers (get_or interests i 0) w.known.set) (sym post)
+        (λ registered i number. subst (λ (channels : List (List ℕ)). Covers (get_or interests i 0) channels) (sym set_is) (p registered i (sym session ∙ number))));
+    deems = each_keep (λ _ u. Deems u.phase concerned u.concerned) views id v w here h.deems deems;
+  }
+
+  pub wakes_keep : (format : Format) (lock fin : ℕ) (past : List Tx) (undecided concerned : ℕ → Bool) (wakes : List ℕ) → Wakes format lock fin past undecided concerned wakes views
+      → w.known.session ≡ v.known.session → w.post ≡ v.post → w.walk ≡ v.walk → is_due_to w.known.db w.known.set ≡ is_due_to v.known.db v.known.set → w.known.owes ≡ v.known.owes → w.known.told ≡ v.known.told
       → holds_lock w.phase ≡ holds_lock v.phase → ((i : ℕ) → pending w.phase (waits_in w.verdicts) i ≡ pending v.phase (waits_in v.verdicts) i)
-      → w.ended ≡ v.ended → ended_in w.phase fin ≡ ended_in v.phase fin → Wakes format lock fin past undecided wakes (set views id w)
-  wakes_keep format lock fin past undecided wakes h session post walk db owes told holds waits ended ends = record {
+      → w.ended ≡ v.ended → ended_in w.phase fin ≡ ended_in v.phase fin → Wakes format lock fin past undecided concerned wakes (set views id w)
+  wakes_keep format lock fin past undecided concerned wakes h session post walk due owes told holds waits ended ends = record {
     small = h.small;
-    heeds = heeds_keep format past fin undecided wakes h.heeds session post walk db owes;
+    heeds = heeds_keep format past fin undecided concerned wakes h.heeds session post walk due owes;
     signals = each_keep (Signals undecided) views id v w here h.signals (λ p held i. p (sym holds ∙ held) i ∙ sym (waits i));
     calm = h.calm;
     heard = each_keep (λ _ u. IsHeard fin undecided u.known.told) views id v w here h.heard (λ p. subst (λ (n : ℕ). IsHeard fin undecided n) (sym told) p);

@@ -10,35 +10,73 @@ use Rattle.pgn_base.specs.declared.format.Format.{Format}
 use Rattle.pgn_journal.specs.declared.tx.Tx.{Tx}
 use Rattle.pgn_journal.specs.declared.tx.Fate.{Fate}
 use Rattle.pgn_journal.specs.declared.tx.Fate.TheVariants.{Committed, Aborted}
-use Rattle.pgn_journal.specs.Journal.{next_xid, is_committed, is_committed_in, IsQueued, IsFinished}
-use Rattle.pgn_journal.specs.Packing.{page_of, place}
+use Rattle.pgn_journal.specs.Journal.{next_xid, entries_between, is_committed, is_committed_in, IsQueued, IsFinished}
+use Rattle.pgn_journal.specs.Due.{is_due_to, listens}
+use Rattle.pgn_journal.specs.Packing.{place}
 use Rattle.pgn_journal.specs.Near.{Near}
 use Rattle.pgn_journal.proofs.PackingLemmas.{place_grows, place_rises}
-use Rattle.pgn_journal.proofs.NearLaws.{near-grows, near-itself}
-use Rattle.pgn_words.specs.WakeRule.{served, IsHeeded}
+use Rattle.pgn_journal.proofs.NearLaws.{none-within, near-grows, near-itself}
+use Rattle.pgn_words.specs.WakeRule.{served, passed, IsServed, IsHeeded}
 use Rattle.pgn_words.proofs.LockKept.{some_of}
 
+-- who need not read as far as two numbers need not read as far as smaller ones, nor from a greater mark
+pub served_shrinks : (format : Format) (matters : Tx → Bool) (past : List Tx) (m n by upto by' upto' : ℕ) → by' ≤ by → upto' ≤ upto → m ≤ n → IsServed format matters past m by upto → IsServed format matters past n by' upto'
+served_shrinks format matters past m n by upto by' upto' less down up h = record {
+  nothing_due = none-within matters past (m - 3) (by - 3) (n - 3) (by' - 3) (omega (arith, up)) (omega (arith, less)) h.nothing_due;
+  few_pages = let few = h.few_pages in omega (arith, few, place_grows format past upto' upto down, place_grows format past m n up);
+}
+
+-- and is near each number that is no greater than both
+pub served_near : (format : Format) (matters : Tx → Bool) (past : List Tx) (m by upto x : ℕ) → x ≤ by → x ≤ upto → IsServed format matters past m by upto → Near format matters past m x
+served_near format matters past m by upto x low down h =
+    let s = served_shrinks format matters past m m by upto x x low down (omega arith) h in record { nothing_due = s.nothing_due; few_pages = s.few_pages }
+
+-- how far a listener was passed by and served is no further than the journal
+pub passed_most : (undecided concerned : ℕ → Bool) (fin i : ℕ) → passed undecided concerned fin i ≤ fin
+passed_most undecided concerned fin i = by_test (undecided i && concerned i)
+  where
+    by_test : (b : Bool) → cond b (fin - 1) fin ≤ fin
+    by_test true = omega arith
+    by_test false = omega arith
+
+pub served_most : (undecided : ℕ → Bool) (fin i : ℕ) → served undecided fin i ≤ fin
+served_most undecided fin i = by_test (undecided i)
+  where
+    by_test : (b : Bool) → cond b (fin - 1) fin ≤ fin
+    by_test true = omega arith
+    by_test false = omega arith
+
+-- it was passed by of all but the last transaction
+pub passed_least : (undecided concerned : ℕ → Bool) (fin i : ℕ) → fin - 1 ≤ passed undecided concerned fin i
+passed_least undecided concerned fin i = by_test (undecided i && concerned i)
+  where
+    by_test : (b : Bool) → fin - 1 ≤ cond b (fin - 1) fin
+    by_test true = omega arith
+    by_test false = omega arith
+
 -- where the journal has grown by a transaction and the seat is not decided, the listener is heeded as before
-pub heeded_later : (format : Format) (past : List Tx) (tx : Tx) (fin : ℕ) (before after : ℕ → Bool) (i wake db mark : ℕ) (walks : Bool) (ends : ℕ) (owes : Bool) → fin ≡ next_xid past → before i ≡ false → after i ≡ true
-    → IsHeeded format past (served before fin i) wake db mark walks ends owes → IsHeeded format (past ++ tx ∷ []) (served after (fin + 1) i) wake db mark walks ends owes
-heeded_later format past tx fin before after i wake db mark walks ends owes counted calm waits h =
+pub heeded_later : (format : Format) (matters : Tx → Bool) (past : List Tx) (tx : Tx) (fin : ℕ) (before after old new : ℕ → Bool) (i wake mark : ℕ) (walks : Bool) (ends : ℕ) (owes : Bool) → fin ≡ next_xid past → before i ≡ false → after i ≡ true → new i ≡ true
+    → IsHeeded format matters past (passed before old fin i) (served before fin i) wake mark walks ends owes → IsHeeded format matters (past ++ tx ∷ []) (passed after new (fin + 1) i) (served after (fin + 1) i) wake mark walks ends owes
+heeded_later format matters past tx fin before after old new i wake mark walks ends owes counted calm waits may h =
     let was : served before fin i ≡ fin = ap (λ b. cond b (fin - 1) fin) calm in
+    let went : passed before old fin i ≡ fin = ap (λ b. cond (b && old i) (fin - 1) fin) calm in
     let last : fin + 1 - 1 ≡ fin = omega arith in
     let is : served after (fin + 1) i ≡ fin = ap (λ b. cond b (fin + 1 - 1) (fin + 1)) waits ∙ last in
-    let near : (m : ℕ) → Near format (is_committed_in db) past m (served before fin i) → Near format (is_committed_in db) (past ++ tx ∷ []) m (served after (fin + 1) i) =
-    λ m n. subst (λ (x : ℕ). Near format (is_committed_in db) (past ++ tx ∷ []) m x) (sym is)
-    (near-grows format (is_committed_in db) past (tx ∷ []) m fin (omega (arith, counted)) (subst (λ (x : ℕ). Near format (is_committed_in db) past m x) was n)) in record {
+    let goes : passed after new (fin + 1) i ≡ fin = ap (λ b. cond (b && new i) (fin + 1 - 1) (fin + 1)) waits ∙ ap (λ b. cond b (fin + 1 - 1) (fin + 1)) may ∙ last in
+    let near : (m : ℕ) → IsServed format matters past m (passed before old fin i) (served before fin i) → IsServed format matters (past ++ tx ∷ []) m (passed after new (fin + 1) i) (served after (fin + 1) i) =
+    λ m n. subst (λ (x : ℕ). IsServed format matters (past ++ tx ∷ []) m x (served after (fin + 1) i)) (sym goes)
+    (subst (λ (x : ℕ). IsServed format matters (past ++ tx ∷ []) m fin x) (sym is)
+    (let now = near-grows format matters past (tx ∷ []) m fin (omega (arith, counted)) (served_near format matters past m (passed before old fin i) (served before fin i) fin (omega (arith, went)) (omega (arith, was)) n) in
+    record { nothing_due = now.nothing_due; few_pages = now.few_pages })) in record {
       still = ⊎_elim (λ set. inl set) (λ r. ⊎_elim (λ o. inr (inl o)) (λ n. inr (inr (near mark n))) r) h.still;
       walked = λ walk. ⊎_elim (λ set. inl set) (λ n. inr (near ends n)) (h.walked walk);
     }
 
 -- nobody need read up to its own mark
-pub near_itself_served : (format : Format) (db : ℕ) (past : List Tx) (undecided : ℕ → Bool) (fin i m : ℕ) → fin ≤ m → Near format (is_committed_in db) past m (served undecided fin i)
-near_itself_served format db past undecided fin i m low = near-itself format (is_committed_in db) past m (served undecided fin i) (let least = served_low (undecided i) fin in omega (arith, least, low))
-  where
-    served_low : (b : Bool) (n : ℕ) → cond b (n - 1) n ≤ n
-    served_low true n = omega arith
-    served_low false n = omega arith
+pub near_itself_served : (format : Format) (matters : Tx → Bool) (past : List Tx) (undecided concerned : ℕ → Bool) (fin i m : ℕ) → fin ≤ m → IsServed format matters past m (passed undecided concerned fin i) (served undecided fin i)
+near_itself_served format matters past undecided concerned fin i m low =
+    let near = near-itself format matters past m fin low in
+    served_shrinks format matters past m m fin fin (passed undecided concerned fin i) (served undecided fin i) (passed_most undecided concerned fin i) (served_most undecided fin i) (omega arith) (record { nothing_due = near.nothing_due; few_pages = near.few_pages })
 
 -- none of a part of a list
 abbrev NoneIn : (Tx → Bool) → List Tx → ℕ → ℕ → Type 0
@@ -89,13 +127,13 @@ no_commit format db past k tx finished there flat = by_fate tx.fate refl
         absurd (omega (arith, rises, flat))
 
 -- between two marks at one place nothing was committed
-pub none_between : (format : Format) (db : ℕ) (past : List Tx) (m x : ℕ) → All IsFinished past → 3 ≤ m → place format past m ≡ place format past x → Near format (is_committed_in db) past m x
-none_between format db past m x finished first flat = record {
-  nothing_due = any_none (is_committed_in db) past (m - 3) (x - 3) (λ k tx low within there.
+pub none_between : (format : Format) (db : ℕ) (set : List (List ℕ)) (past : List Tx) (m x : ℕ) → All IsFinished past → 3 ≤ m → place format past m ≡ place format past x → Near format (is_due_to db set) past m x
+none_between format db set past m x finished first flat = record {
+  nothing_due = any_none (is_due_to db set) past (m - 3) (x - 3) (λ k tx low within there.
       let before = place_grows format past m (3 + k) (omega (arith, low, first)) in
       let step = place_grows format past (3 + k) (3 + k + 1) (omega arith) in
       let after = place_grows format past (3 + k + 1) x (omega (arith, within)) in
-      no_commit format db past k tx (All_at past k tx finished there) there (omega (arith, before, step, after, flat)));
+      ap (λ b. b && list_any (listens set) tx.notes) (no_commit format db past k tx (All_at past k tx finished there) there (omega (arith, before, step, after, flat))));
   few_pages = omega (arith, flat);
 }
   where
@@ -104,13 +142,10 @@ none_between format db past m x finished first flat = record {
     All_at (t ∷ txs) zero tx all there = subst (λ (y : Tx). IsFinished y) (same_Some t tx there) (All-head IsFinished t txs all)
     All_at (t ∷ txs) (suc k) tx all there = All_at txs k tx (All-tail IsFinished t txs all) there
 
--- a listener that was near before the last transaction, which is of another database, is near where the pages are
-pub near_other : (format : Format) (db : ℕ) (past before : List Tx) (last : Tx) (m fin : ℕ) → fin ≡ next_xid past → past ≡ before ++ last ∷ [] → last.db ≢ db → 3 ≤ m
-    → Near format (is_committed_in db) past m (fin - 1) → page_of (place format past fin) < page_of (place format past m) + 4 → Near format (is_committed_in db) past m fin
-near_other format db past before last m fin counted ends other first near pages = record {
-  nothing_due = any_none (is_committed_in db) past (m - 3) (fin - 3) (λ k tx low within there. by_place k tx low within there (ℕ_discrete k (length before)));
-  few_pages = pages;
-}
+-- what was not due before the last transaction is not due with it, where that one does not matter
+pub nothing_more : (matters : Tx → Bool) (past before : List Tx) (last : Tx) (m fin : ℕ) → fin ≡ next_xid past → past ≡ before ++ last ∷ [] → matters last ≡ false
+    → list_any matters (entries_between past m (fin - 1)) ≡ false → list_any matters (entries_between past m fin) ≡ false
+nothing_more matters past before last m fin counted ends none_last none = any_none matters past (m - 3) (fin - 3) (λ k tx low within there. by_place k tx low within there (ℕ_discrete k (length before)))
   where
     size : length past ≡ length before + 1
     size = ap length ends ∙ length-append before (last ∷ [])
@@ -119,13 +154,22 @@ near_other format db past before last m fin counted ends other first near pages 
     last_one [] tx e = same_Some last tx e
     last_one (t ∷ txs) tx e = last_one txs tx e
 
-    and_no : (b : Bool) → (b && false) ≡ false
-    and_no true = refl
-    and_no false = refl
-
-    by_place : (k : ℕ) (tx : Tx) → m - 3 ≤ k → k < fin - 3 → slice_get past k ≡ Some tx → Dec (k ≡ length before) → is_committed_in db tx ≡ false
+    by_place : (k : ℕ) (tx : Tx) → m - 3 ≤ k → k < fin - 3 → slice_get past k ≡ Some tx → Dec (k ≡ length before) → matters tx ≡ false
     by_place k tx low within there (yes e) =
         let is : last ≡ tx = last_one before tx (ap (λ txs. slice_get txs (length before)) (sym ends) ∙ ap (slice_get past) (sym e) ∙ there) in
-        let differs : tx.db == db ≡ false = subst (λ (t : Tx). t.db == db ≡ false) is (let no_db : last.db == db ≡ false = grind (arith, nat_tests, other) in no_db) in
-        ap (λ b. is_committed tx.fate && b) differs ∙ and_no (is_committed tx.fate)
-    by_place k tx low within there (no ne) = none_in (is_committed_in db) past (m - 3) (fin - 1 - 3) near.nothing_due k tx low (omega (arith, within, counted, size, ne)) there
+        subst (λ (t : Tx). matters t ≡ false) is none_last
+    by_place k tx low within there (no ne) = none_in matters past (m - 3) (fin - 1 - 3) none k tx low (omega (arith, within, counted, size, ne)) there
+
+and_no : (b : Bool) → (b && false) ≡ false
+and_no true = refl
+and_no false = refl
+
+-- a transaction of another database is due to nobody
+pub not_due_elsewhere : (db : ℕ) (set : List (List ℕ)) (tx : Tx) → tx.db ≢ db → is_due_to db set tx ≡ false
+not_due_elsewhere db set tx other =
+    let differs : tx.db == db ≡ false = grind (arith, nat_tests, other) in
+    ap (λ b. (is_committed tx.fate && b) && list_any (listens set) tx.notes) differs ∙ ap (λ b. b && list_any (listens set) tx.notes) (and_no (is_committed tx.fate))
+
+-- nor is one with no notification that it listens to
+pub not_due_unheard : (db : ℕ) (set : List (List ℕ)) (tx : Tx) → list_any (listens set) tx.notes ≡ false → is_due_to db set tx ≡ false
+not_due_unheard db set tx none = ap (λ b. is_committed_in db tx && b) none ∙ and_no (is_committed_in db tx)

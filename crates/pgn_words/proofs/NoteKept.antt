@@ -20,7 +20,7 @@ use Rattle.pgn_words.specs.Views.{holds_lock, spent_by}
 use Rattle.pgn_words.specs.declared.view.Listen.TheVariants.{Registered}
 use Rattle.pgn_words.specs.Each.{Someone}
 use Rattle.pgn_words.specs.ListenRule.{Placed, Marks, ShowsPosition, Walking, Bounds, LooksBy, Spared}
-use Rattle.pgn_words.specs.WakeRule.{IsHeard, Heeds, Signals, ended_in, raised_in, found_in, named_in, Raised, IsMost, MarkedBy, Marked, IsTaken, IsLast}
+use Rattle.pgn_words.specs.WakeRule.{IsHeard, Heeds, Covered, Deems, Signals, ended_in, raised_in, found_in, named_in, Raised, IsMost, MarkedBy, Marked, IsTaken, IsLast}
 use Rattle.pgn_words.specs.Rule.{World, Seated, Makes, Locks, WasMade, Draws, KnowsStop, Holds, Fates, Law, Lawful, KnowsAll}
 use Rattle.pgn_words.specs.Told.{noted, joined, longer, spent_view}
 use Rattle.pgn_words.proofs.EachLaws.{each_turn, each_made, sum_set, sum_made}
@@ -105,12 +105,13 @@ notes z c g views id v h here =
       };
       wakes = record {
         small = h.wakes.small;
-        heeds = each_made (Heeds z.format g.past c.fin g.undecided c.wakes) views w h.wakes.heeds (λ registered. absurd (cc));
+        heeds = each_made (Heeds z.format g.past c.fin g.undecided g.concerned c.wakes) views w h.wakes.heeds (λ registered. absurd (cc));
         signals = each_made (Signals g.undecided) views w h.wakes.signals (λ held. absurd (cc));
         calm = h.wakes.calm;
         heard = each_made (λ _ u. IsHeard c.fin g.undecided u.known.told) views w h.wakes.heard (h.wakes.heard id v here);
         ended = each_made (λ _ u. u.ended ≡ ended_in u.phase c.fin) views w h.wakes.ended refl;
       };
+      interests = record { covered = each_made (Covered c.interests) views w h.interests.covered (λ registered. absurd (cc)); deems = each_made (λ _ u. Deems u.phase g.concerned u.concerned) views w h.interests.deems tt };
       flags = flags_more views w c.fin g.undecided c.flags h.flags (h.flags.told id v here) refl refl;
       named = named_more views w h.named (λ registered. absurd (cc)) refl;
       taken = each_made (λ j u. All (IsTaken z g.made c.fin g.undecided g.seat g.past j u.known.session) u.joined) views w h.taken (All-nil (IsTaken z g.made c.fin g.undecided g.seat g.past (length views) 0));
@@ -196,11 +197,15 @@ spends z c g views id v h here number =
       };
       wakes = record {
         small = h.wakes.small;
-        heeds = each_turn (Heeds z.format g.past c.fin g.undecided c.wakes) (Heeds z.format g.past c.fin g.undecided c.wakes) views id w h.wakes.heeds (λ registered. absurd (cc)) (λ j u other there p. p);
+        heeds = each_turn (Heeds z.format g.past c.fin g.undecided g.concerned c.wakes) (Heeds z.format g.past c.fin g.undecided g.concerned c.wakes) views id w h.wakes.heeds (λ registered. absurd (cc)) (λ j u other there p. p);
         signals = each_turn (Signals g.undecided) (Signals g.undecided) views id w h.wakes.signals (λ held. absurd (cc)) (λ j u other there p. p);
         calm = h.wakes.calm;
         heard = each_turn (λ _ u. IsHeard c.fin g.undecided u.known.told) (λ _ u. IsHeard c.fin g.undecided u.known.told) views id w h.wakes.heard heard_first (λ j u other there p. p);
         ended = each_turn (λ _ u. u.ended ≡ ended_in u.phase c.fin) (λ _ u. u.ended ≡ ended_in u.phase c.fin) views id w h.wakes.ended refl (λ j u other there p. p);
+      };
+      interests = record {
+        covered = each_turn (Covered c.interests) (Covered c.interests) views id w h.interests.covered (λ registered. absurd (cc)) (λ j u other there p. p);
+        deems = each_turn (λ _ u. Deems u.phase g.concerned u.concerned) (λ _ u. Deems u.phase g.concerned u.concerned) views id w h.interests.deems tt (λ j u other there p. p);
       };
       flags = record {
         heard = h.flags.heard;

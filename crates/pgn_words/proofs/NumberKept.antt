@@ -19,7 +19,7 @@ use Rattle.pgn_words.specs.Rule.{World, Draws, KnowsStop, Holds, IsHeaded, Law, 
 use Rattle.pgn_words.specs.Told.{TellsDraw, drawn}
 use Rattle.pgn_words.proofs.EachLaws.{each_turn, each_keep}
 use Rattle.pgn_words.proofs.Frames.{seats_keep, locking_keep, history_keep, budget_keep, statuses_keep}
-use Rattle.pgn_words.proofs.MoreFrames.{posts_keep, walks_keep, wakes_keep, flags_keep, named_keep, taken_keep}
+use Rattle.pgn_words.proofs.MoreFrames.{posts_keep, walks_keep, wakes_keep, interests_keep, flags_keep, named_keep, taken_keep}
 use Rattle.pgn_words.proofs.LockKept.{held_setup, alone, few_left, some_of}
 use Rattle.pgn_words.proofs.HeadKept.{phase_holds}
 use Rattle.pgn_words.proofs.Meets.{allowed}
@@ -67,7 +67,8 @@ draws z c g views id v notes h here ready filled valid different few =
         aims = h.looks.aims;
         above = h.looks.above;
       };
-      wakes = wakes_keep views id v w here z.format c.lock c.fin g.past g.undecided c.wakes h.wakes refl refl refl refl refl refl (sym held) (λ i. sym (ap (λ p. pending p (waits_in v.verdicts) i) ready)) refl (sym (ap (λ p. ended_in p c.fin) ready));
+      wakes = wakes_keep views id v w here z.format c.lock c.fin g.past g.undecided g.concerned c.wakes h.wakes refl refl refl refl refl refl (sym held) (λ i. sym (ap (λ p. pending p (waits_in v.verdicts) i) ready)) refl (sym (ap (λ p. ended_in p c.fin) ready));
+      interests = interests_keep views id v w here g.concerned c.interests h.interests refl refl refl (λ _. tt);
       flags = flags_keep views id v w here c.fin g.undecided c.flags h.flags refl (h.flags.told id v here) refl refl;
       named = named_keep views id v w here h.named refl refl refl refl refl;
       taken = taken_keep views id v w here z g.made c.fin g.undecided g.seat g.past h.taken refl refl;

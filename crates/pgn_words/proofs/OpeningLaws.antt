@@ -16,7 +16,7 @@ use Rattle.pgn_words.specs.Words.{row, seats_of, status_words, room_of, word_cou
 use Rattle.pgn_words.specs.Views.{first_view, seat_of, spent_by}
 use Rattle.pgn_words.specs.declared.view.Listen.TheVariants.{Registered}
 use Rattle.pgn_words.specs.ListenRule.{Placed, Marks, ShowsPosition, Walking, Bounds, LooksBy, Spared}
-use Rattle.pgn_words.specs.WakeRule.{IsHeard, Heeds, Signals, ended_in, raised_in, found_in, named_in, Raised, IsMost, Marked, IsTaken, IsLast}
+use Rattle.pgn_words.specs.WakeRule.{IsHeard, Heeds, Covered, Deems, Signals, ended_in, raised_in, found_in, named_in, Raised, IsMost, Marked, IsTaken, IsLast}
 use Rattle.pgn_words.specs.Rule.{World, Seated, Makes, Locks, WasMade, Draws, KnowsStop, Holds, Law, Lawful, Fates, status_at}
 use Rattle.pgn_layout.specs.Status.{status_word, status_in}
 use Rattle.pgn_layout.proofs.StatusLaws.{none_is_set}
@@ -46,9 +46,9 @@ first_row z count e =
     let f = z.flags in
     let s = status_words z in
     let r = room_of z in
-    let long : count ≡ suc (suc (suc (suc (suc (suc (n + (n + (f + (s + r))))))))) = omega (arith, e) in
-    let regions : replicate {A = ℕ} (n + (n + (f + (s + r)))) 0 ≡ replicate n 0 ++ (replicate n 0 ++ (replicate f 0 ++ (replicate s 0 ++ replicate r 0)))
-    = zeros n (n + (f + (s + r))) ∙ ap (λ l. replicate n 0 ++ l) (zeros n (f + (s + r)) ∙ ap (λ l. replicate n 0 ++ l) (zeros f (s + r) ∙ ap (λ l. replicate f 0 ++ l) (zeros s r))) in
+    let long : count ≡ suc (suc (suc (suc (suc (suc (n + (n + (n + (f + (s + r)))))))))) = omega (arith, e) in
+    let regions : replicate {A = ℕ} (n + (n + (n + (f + (s + r))))) 0 ≡ replicate n 0 ++ (replicate n 0 ++ (replicate n 0 ++ (replicate f 0 ++ (replicate s 0 ++ replicate r 0))))
+    = zeros n (n + (n + (f + (s + r)))) ∙ ap (λ l. replicate n 0 ++ l) (zeros n (n + (f + (s + r))) ∙ ap (λ l. replicate n 0 ++ l) (zeros n (f + (s + r)) ∙ ap (λ l. replicate n 0 ++ l) (zeros f (s + r) ∙ ap (λ l. replicate f 0 ++ l) (zeros s r)))) in
     ap (λ m. set (set (set (replicate {A = ℕ} m 0) 2 3) 3 (3 * 2 ^ 32)) 5 3) long
     ∙ ap (λ l. 0 ∷ 0 ∷ 3 ∷ (3 * 2 ^ 32) ∷ 0 ∷ 3 ∷ l) regions
 
@@ -61,13 +61,14 @@ unfolding image image_from
 nothing_shown z = refl
 
 abbrev first_world : World
-first_world = record { past = []; shown = []; holder = 0; made = 1; seat = λ n. 0; looked = 0; target = 0; undecided = λ i. false }
+first_world = record { past = []; shown = []; holder = 0; made = 1; seat = λ n. 0; looked = 0; target = 0; undecided = λ i. false; concerned = λ i. false }
 
 opens_law : (z : Shape) → IsShape z → 0 < (seat_of z 1).db → (seat_of z 1).db < 2 ^ 32 → Law z (first_content z) first_world (first_view z ∷ [])
 opens_law z shape some_db db_fits = record {
   laid = record {
     pos_long = length-replicate {A = ℕ} (seats_of z) 0;
     wakes_long = length-replicate {A = ℕ} (seats_of z) 0;
+    interests_long = length-replicate {A = ℕ} (seats_of z) 0;
     flags_long = length-replicate {A = ℕ} z.flags 0;
     statuses_long = length-replicate {A = ℕ} (status_words z) 0;
     cells_long = length-replicate {A = ℕ} (room_of z) 0;
@@ -127,11 +128,15 @@ opens_law z shape some_db db_fits = record {
   };
   wakes = record {
     small = λ i. let none = zero_is (seats_of z) i in omega (arith, none);
-    heeds = each_one (Heeds z.format [] 3 (λ i. false) (replicate (seats_of z) 0)) (first_view z) (λ registered. absurd (cc));
+    heeds = each_one (Heeds z.format [] 3 (λ i. false) (λ i. false) (replicate (seats_of z) 0)) (first_view z) (λ registered. absurd (cc));
     signals = each_one (Signals (λ i. false)) (first_view z) (λ held. absurd (cc));
     calm = λ _ i. refl;
     heard = each_one (λ _ u. IsHeard 3 (λ i. false) u.known.told) (first_view z) (record { most = omega arith; decided = λ i waits. absurd (cc) });
     ended = each_one (λ _ u. u.ended ≡ ended_in u.phase 3) (first_view z) refl;
+  };
+  interests = record {
+    covered = each_one (Covered (replicate (seats_of z) 0)) (first_view z) (λ registered. absurd (cc));
+    deems = each_one (λ _ u. Deems u.phase (λ i. false) u.concerned) (first_view z) tt;
   };
   flags = record {
     heard = λ f. let none = zero_is z.flags f in record { most = omega (arith, none); decided = λ i waits. absurd (cc) };

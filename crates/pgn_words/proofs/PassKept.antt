@@ -18,7 +18,7 @@ use Rattle.pgn_words.specs.declared.view.View.{View}
 use Rattle.pgn_words.specs.Words.{Content, seats_of, room_of}
 use Rattle.pgn_words.specs.Views.{seat_of, no_seat, opened_view, spent_by}
 use Rattle.pgn_words.specs.ListenRule.{Placed, Marks, ShowsPosition, Walking, Bounds, LooksBy, Spared}
-use Rattle.pgn_words.specs.WakeRule.{IsHeard, Heeds, Signals, ended_in, IsTaken}
+use Rattle.pgn_words.specs.WakeRule.{IsHeard, Heeds, Covered, Deems, Signals, ended_in, IsTaken}
 use Rattle.pgn_words.specs.Rule.{World, IsSeated, Seated, Makes, Locks, Locking, WasMade, Draws, KnowsStop, Holds, Law, Lawful, Fates, KnowsAll}
 use Rattle.pgn_words.specs.Told.{after_making, made_by}
 use Rattle.pgn_words.proofs.EachLaws.{each_turn, each_keep, each_made, sum_set, sum_made}
@@ -141,11 +141,15 @@ makes z c g views id v h here mine room some_db db_fits =
       };
       wakes = record {
         small = h.wakes.small;
-        heeds = each_made (Heeds z.format g.past c.fin g.undecided c.wakes) (set views id left) right (each_keep (Heeds z.format g.past c.fin g.undecided c.wakes) views id v left here h.wakes.heeds (λ p. p)) (λ registered. absurd (cc));
+        heeds = each_made (Heeds z.format g.past c.fin g.undecided g.concerned c.wakes) (set views id left) right (each_keep (Heeds z.format g.past c.fin g.undecided g.concerned c.wakes) views id v left here h.wakes.heeds (λ p. p)) (λ registered. absurd (cc));
         signals = each_made (Signals g.undecided) (set views id left) right (each_keep (Signals g.undecided) views id v left here h.wakes.signals (λ p. p)) (λ held. absurd (cc));
         calm = h.wakes.calm;
         heard = each_made (λ _ u. IsHeard c.fin g.undecided u.known.told) (set views id left) right (each_keep (λ _ u. IsHeard c.fin g.undecided u.known.told) views id v left here h.wakes.heard (λ p. p)) heard_first;
         ended = each_made (λ _ u. u.ended ≡ ended_in u.phase c.fin) (set views id left) right (each_keep (λ _ u. u.ended ≡ ended_in u.phase c.fin) views id v left here h.wakes.ended (λ p. p)) refl;
+      };
+      interests = record {
+        covered = each_made (Covered c.interests) (set views id left) right (each_keep (Covered c.interests) views id v left here h.interests.covered (λ p. p)) (λ registered. absurd (cc));
+        deems = each_made (λ _ u. Deems u.phase g.concerned u.concerned) (set views id left) right (each_keep (λ _ u. Deems u.phase g.concerned u.concerned) views id v left here h.interests.deems (λ p. p)) tt;
       };
       flags = flags_more (set views id left) right c.fin g.undecided c.flags (flags_keep views id v left here c.fin g.undecided c.flags h.flags refl (h.flags.told id v here) refl refl) (omega arith) refl refl;
       named = named_more (set views id left) right (named_keep views id v left here h.named refl refl refl refl refl) (λ registered. absurd (cc)) refl;

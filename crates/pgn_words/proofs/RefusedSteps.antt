@@ -1,14 +1,18 @@
 -- The rule refuses the small cases.
-use Rattle.std.proofs.Common.{◌≡◌, ⊎_elim, ℕ, zero, suc, true, List, [], ◌∷◌, ◌++◌, length, get_or, Some, sym, refl, ap, subst, arith, length-append}
+use Rattle.std.proofs.Common.{◌≡◌, ⊎_elim, ℕ, zero, suc, ◌^◌, true, false, List, [], ◌∷◌, ◌++◌, length, get_or, Some, sym, refl, ap, subst, arith, length-append, codes}
+use Rattle.std.specs.Int.{bit_at}
+use Rattle.std.proofs.lemmas.List.Elements.{All-head}
+use Rattle.pgn_journal.specs.Interest.{channel_bit}
 use mathlib.Core.Option.{some-injective, some-ne-none}
 use Rattle.pgn_base.specs.declared.format.Format.TheVariants.{One}
 use Rattle.pgn_hub.specs.Examples.{two_seats, tx_3, published}
 use Rattle.pgn_words.specs.Views.{no_eye}
 use Rattle.pgn_words.specs.Rule.{Keeps, Locks, Draws, KnowsAll}
 use Rattle.pgn_words.specs.ListenRule.{IsPlaced, ShowsPosition, Marks, Spared, IsSecond}
-use Rattle.pgn_words.specs.WakeRule.{IsHeard, Signals, IsMost, IsLast, IsTaken}
+use Rattle.pgn_words.specs.WakeRule.{IsHeard, Signals, Covered, Deems, IsMost, IsLast, IsTaken}
 use Rattle.pgn_words.specs.Each.{Someone}
-use Rattle.pgn_words.specs.Examples.{listener, holder}
+use Rattle.pgn_words.specs.Examples.{listener, listens_on_c, holder}
+use Rattle.pgn_words.specs.declared.view.Phase.TheVariants.{Signalling}
 
 pub no_other_cell : Keeps 2048 0 (Some 44 ∷ []) (45 ∷ []) → ⊥
 no_other_cell h = let same = h 0 44 (omega arith) refl in omega (arith, same)
@@ -43,6 +47,12 @@ not_heard_too_early h = let low = h.decided 0 refl in omega (arith, low)
 pub not_undecided : Signals (λ i. true) 0 holder → ⊥
 not_undecided h = let waits = h refl 0 in absurd (cc)
 
+pub not_uncovered : Covered (2 ^ 36 ∷ []) 0 listens_on_c → ⊥
+not_uncovered h = let bit : bit_at (2 ^ 36) 35 ≡ 1 = All-head (λ (channel : List ℕ). bit_at (2 ^ 36) (channel_bit channel) ≡ 1) (codes "c") [] (h refl 0 refl) in absurd (cc)
+
+pub not_deemed : Deems Signalling (λ i. true) (true ∷ false ∷ []) → ⊥
+not_deemed h = let may = h 1 in absurd (cc)
+
 pub no_greater : IsMost (3 ∷ []) (0, 4) → ⊥
 no_greater h = let low = h.1 in omega (arith, low)
 
@@ -66,4 +76,4 @@ pub ruleset refused_writers = (no_other_cell, no_other_holder, not_drawn_twice)
 
 pub ruleset refused_listeners = (not_too_late, no_page_gone, not_hidden, not_without_mark, not_before_target, no_other_target)
 
-pub ruleset refused_wakes = (not_heard_too_early, not_undecided, no_earlier_mark, nobody_knows, not_taken_too_early, no_greater)
+pub ruleset refused_wakes = (not_heard_too_early, not_undecided, not_uncovered, not_deemed, no_earlier_mark, nobody_knows, not_taken_too_early, no_greater)

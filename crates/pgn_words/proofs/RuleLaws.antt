@@ -1,13 +1,13 @@
 -- Proofs of what follows from the rule.
 use Rattle.std.proofs.Common.{◌≡◌, length, ⊎_elim, true≢false, sym, ap, ◌∙◌, arith}
-use Rattle.pgn_journal.proofs.NearLaws.{near-shrinks}
-use Rattle.pgn_journal.specs.Journal.{is_committed_in}
+use Rattle.pgn_journal.specs.Due.{is_due_to}
 use Rattle.pgn_words.specs.Views.{knows_stop}
-use Rattle.pgn_words.specs.WakeRule.{served}
+use Rattle.pgn_words.specs.WakeRule.{served, passed}
 use Rattle.pgn_words.specs.Laws.{WalksReadTheJournal, PagesAreSpared, NoWakeIsLost, FlagsAreHeard, ToldIsHeard}
 use Rattle.pgn_words.specs.declared.view.Phase.TheVariants.{Open}
 use Rattle.pgn_words.proofs.HeadKept.{phase_holds}
-use Rattle.pgn_words.proofs.WakeKept.{heard_served}
+use Rattle.pgn_words.proofs.NearSteps.{served_near}
+use Rattle.pgn_words.proofs.WakeKept.{heard_served, heard_passed}
 
 pub walks_read : WalksReadTheJournal
 walks_read z c g views j v h there shown at x from is = (h.walks.bounds j v there shown).0 at x from is
@@ -27,7 +27,8 @@ no_wake_lost z c g views j i v h there registered number unset nothing_owed =
     (λ set_now. absurd (unset set_now))
     (λ r. ⊎_elim
     (λ owed. absurd (true≢false (sym owed ∙ nothing_owed)))
-    (λ near. near-shrinks z.format (is_committed_in v.known.db) g.past v.post.mark v.post.mark (served g.undecided c.fin i) v.known.told (heard_served c.fin g.undecided i v.known.told (h.wakes.heard j v there)) (omega arith) near)
+    (λ near. served_near z.format (is_due_to v.known.db v.known.set) g.past v.post.mark (passed g.undecided g.concerned c.fin i) (served g.undecided c.fin i) v.known.told
+    (heard_passed c.fin g.undecided g.concerned i v.known.told (h.wakes.heard j v there)) (heard_served c.fin g.undecided i v.known.told (h.wakes.heard j v there)) near)
     r)
     (h.wakes.heeds j v there registered i number).still
 

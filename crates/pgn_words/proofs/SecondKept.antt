@@ -27,7 +27,7 @@ use Rattle.pgn_words.specs.ListenRule.{IsPlaced, Placed, IsLeast, IsSecond, Spar
 use Rattle.pgn_words.specs.Rule.{World, KnowsStop, HoldsIn, Holds, Law, Lawful, Keeps}
 use Rattle.pgn_words.proofs.EachLaws.{each_turn}
 use Rattle.pgn_words.proofs.Frames.{seats_keep, locking_keep, history_keep, numbers_keep, budget_keep, statuses_keep}
-use Rattle.pgn_words.proofs.MoreFrames.{posts_keep, walks_keep, looks_keep, wakes_keep, flags_keep, named_keep, taken_keep}
+use Rattle.pgn_words.proofs.MoreFrames.{posts_keep, walks_keep, looks_keep, wakes_keep, interests_keep, flags_keep, named_keep, taken_keep}
 use Rattle.pgn_words.proofs.LockKept.{held_setup, alone, others_hold, others_stop}
 use Rattle.pgn_words.proofs.StatusKept.{holder_sees}
 use Rattle.pgn_words.proofs.RowLaws.{get_pos}
@@ -261,7 +261,8 @@ frees z c g views id v page h here held may =
       };
       walks = walks_keep views id v w here z.format (room_of z) c.head c.cells h.walks refl refl (omega arith);
       looks = let looks = looks_keep views id v w here z.format g.past c.fin c.stop g.looked g.target c.tail h.looks refl refl refl refl in record { looking = looks.looking; spared = looks.spared; aims = h.looks.aims; above = omega (arith, page_is) };
-      wakes = wakes_keep views id v w here z.format c.lock c.fin g.past g.undecided c.wakes h.wakes refl refl refl refl refl refl refl (λ i. refl) refl refl;
+      wakes = wakes_keep views id v w here z.format c.lock c.fin g.past g.undecided g.concerned c.wakes h.wakes refl refl refl refl refl refl refl (λ i. refl) refl refl;
+      interests = interests_keep views id v w here g.concerned c.interests h.interests refl refl refl (λ x. x);
       flags = flags_keep views id v w here c.fin g.undecided c.flags h.flags refl (h.flags.told id v here) refl refl;
       named = named_keep views id v w here h.named refl refl refl refl refl;
       taken = taken_keep views id v w here z g.made c.fin g.undecided g.seat g.past h.taken refl refl;

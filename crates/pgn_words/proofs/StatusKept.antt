@@ -26,7 +26,7 @@ use Rattle.pgn_words.specs.Rule.{World, KnowsStop, HoldsIn, Holds, IsWriting, Fa
 use Rattle.pgn_words.specs.Told.{TellsStatusSet, TellsFin, TellsStatus, MayEnd, ended_by}
 use Rattle.pgn_words.proofs.EachLaws.{each_turn, each_keep, own_further}
 use Rattle.pgn_words.proofs.Frames.{seats_keep, locking_keep, history_keep, numbers_keep, budget_keep, statuses_keep, whole_keep}
-use Rattle.pgn_words.proofs.MoreFrames.{posts_keep, walks_keep, looks_keep, heeds_keep, wakes_keep, flags_keep, named_keep, taken_keep}
+use Rattle.pgn_words.proofs.MoreFrames.{posts_keep, walks_keep, looks_keep, heeds_keep, wakes_keep, interests_keep, flags_keep, named_keep, taken_keep}
 use Rattle.pgn_words.proofs.LockKept.{held_setup, setup_of, alone, others_hold, few_left, few_txs}
 use Rattle.pgn_words.proofs.HeadKept.{phase_holds}
 use Rattle.pgn_words.proofs.RowLaws.{set_status_word, get_status_word}
@@ -67,7 +67,7 @@ ends z c g views id v tx x h here opened may notes session db number within =
     let fresh : status_at c.statuses x ≡ 0 = ap (status_at c.statuses) number ∙ h.statuses.fates id v here held ∙ ap (λ p. fated p v.pen.ending.fate) opened in record {
       laid = record {
         pos_long = h.laid.pos_long;
-        wakes_long = h.laid.wakes_long;
+        wakes_long = h.laid.wakes_long; interests_long = h.laid.interests_long;
         flags_long = h.laid.flags_long;
         statuses_long = length-set c.statuses (status_word x) (bit_or (get_or c.statuses (status_word x) 0) (status_set x tx.fate)) ∙ h.laid.statuses_long;
         cells_long = h.laid.cells_long;
@@ -100,7 +100,8 @@ ends z c g views id v tx x h here opened may notes session db number within =
       posts = posts_keep views id v w here z.format g.past c.fin c.stop g.made c.tail c.pos h.posts refl refl refl;
       walks = walks_keep views id v w here z.format (room_of z) c.head c.cells h.walks refl refl (omega arith);
       looks = looks_keep views id v w here z.format g.past c.fin c.stop g.looked g.target c.tail h.looks refl refl (sym held) refl;
-      wakes = wakes_keep views id v w here z.format c.lock c.fin g.past g.undecided c.wakes h.wakes refl refl refl refl refl refl (sym held) (λ i. sym (ap (λ p. pending p (waits_in v.verdicts) i) opened)) refl (sym (ap (λ p. ended_in p c.fin) opened));
+      wakes = wakes_keep views id v w here z.format c.lock c.fin g.past g.undecided g.concerned c.wakes h.wakes refl refl refl refl refl refl (sym held) (λ i. sym (ap (λ p. pending p (waits_in v.verdicts) i) opened)) refl (sym (ap (λ p. ended_in p c.fin) opened));
+      interests = interests_keep views id v w here g.concerned c.interests h.interests refl refl refl (λ _. tt);
       flags = flags_keep views id v w here c.fin g.undecided c.flags h.flags refl (h.flags.told id v here) refl refl;
       named = named_keep views id v w here h.named refl refl refl refl refl;
       taken = taken_keep views id v w here z g.made c.fin g.undecided g.seat g.past h.taken refl refl;
@@ -181,12 +182,13 @@ hears z c g views id v txs told h here begins longer same heard first =
       looks = looks_keep views id v w here z.format g.past c.fin c.stop g.looked g.target c.tail h.looks refl refl refl refl;
       wakes = record {
         small = h.wakes.small;
-        heeds = heeds_keep views id v w here z.format g.past c.fin g.undecided c.wakes h.wakes.heeds refl refl refl refl refl;
+        heeds = heeds_keep views id v w here z.format g.past c.fin g.undecided g.concerned c.wakes h.wakes.heeds refl refl refl refl refl;
         signals = each_keep (Signals g.undecided) views id v w here h.wakes.signals (λ p. p);
         calm = h.wakes.calm;
         heard = each_keep (λ _ u. IsHeard c.fin g.undecided u.known.told) views id v w here h.wakes.heard (λ p. heard);
         ended = each_keep (λ _ u. u.ended ≡ ended_in u.phase c.fin) views id v w here h.wakes.ended (λ p. p);
       };
+      interests = interests_keep views id v w here g.concerned c.interests h.interests refl refl refl (λ x. x);
       flags = flags_keep views id v w here c.fin g.undecided c.flags h.flags refl first refl refl;
       named = named_keep views id v w here h.named refl refl refl refl refl;
       taken = taken_keep views id v w here z g.made c.fin g.undecided g.seat g.past h.taken refl refl;

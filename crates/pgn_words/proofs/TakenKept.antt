@@ -21,7 +21,7 @@ use Rattle.pgn_words.specs.Positions.{shown_as, word_of}
 use Rattle.pgn_words.specs.Told.{spent_view}
 use Rattle.pgn_words.specs.Closing.{taken_in}
 use Rattle.pgn_words.specs.ListenRule.{Placed, Marks, ShowsPosition, Walking, Bounds, LooksBy, Spared}
-use Rattle.pgn_words.specs.WakeRule.{IsHeard, Heeds, Signals, ended_in, raised_in, found_in, named_in, Raised, IsMost, IsMarkedBy, MarkedBy, Marked, IsTaken, IsLast}
+use Rattle.pgn_words.specs.WakeRule.{IsHeard, Heeds, Covered, Deems, Signals, ended_in, raised_in, found_in, named_in, Raised, IsMost, IsMarkedBy, MarkedBy, Marked, IsTaken, IsLast}
 use Rattle.pgn_words.specs.Rule.{World, Seated, Makes, Locks, Draws, KnowsStop, Holds, Fates, Law, Lawful, KnowsAll}
 use Rattle.pgn_words.proofs.EachLaws.{sum_set}
 use Rattle.pgn_words.proofs.NoteKept.{none_of_no}
@@ -132,11 +132,15 @@ takes_in z c g views id other v u h here there apart mine_positive positive free
       };
       wakes = record {
         small = h.wakes.small;
-        heeds = each_two views id other v u w here there apart (Heeds z.format g.past c.fin g.undecided c.wakes) (Heeds z.format g.past c.fin g.undecided c.wakes) h.wakes.heeds (h.wakes.heeds id v here) (λ registered. absurd (cc)) (λ j x off off_other at p. p);
+        heeds = each_two views id other v u w here there apart (Heeds z.format g.past c.fin g.undecided g.concerned c.wakes) (Heeds z.format g.past c.fin g.undecided g.concerned c.wakes) h.wakes.heeds (h.wakes.heeds id v here) (λ registered. absurd (cc)) (λ j x off off_other at p. p);
         signals = each_two views id other v u w here there apart (Signals g.undecided) (Signals g.undecided) h.wakes.signals (h.wakes.signals id v here) (λ held. absurd (cc)) (λ j x off off_other at p. p);
         calm = h.wakes.calm;
         heard = each_two views id other v u w here there apart (λ _ x. IsHeard c.fin g.undecided x.known.told) (λ _ x. IsHeard c.fin g.undecided x.known.told) h.wakes.heard (h.wakes.heard id v here) heard_first (λ j x off off_other at p. p);
         ended = each_two views id other v u w here there apart (λ _ x. x.ended ≡ ended_in x.phase c.fin) (λ _ x. x.ended ≡ ended_in x.phase c.fin) h.wakes.ended (h.wakes.ended id v here) refl (λ j x off off_other at p. p);
+      };
+      interests = record {
+        covered = each_two views id other v u w here there apart (Covered c.interests) (Covered c.interests) h.interests.covered (h.interests.covered id v here) (λ registered. absurd (cc)) (λ j x off off_other at p. p);
+        deems = each_two views id other v u w here there apart (λ _ x. Deems x.phase g.concerned x.concerned) (λ _ x. Deems x.phase g.concerned x.concerned) h.interests.deems (h.interests.deems id v here) tt (λ j x off off_other at p. p);
       };
       flags = record {
         heard = h.flags.heard;

@@ -1,5 +1,6 @@
 -- The steps on wakes keep the rule.
-use Rattle.std.proofs.Common.{◌≡◌, ◌≢◌, ◌⊎◌, inl, inr, ⊎_elim, ℕ, zero, suc, ◌+◌, ◌-◌, ◌/◌, ◌<◌, ◌≤◌, ◌==◌, ◌||◌, nat_le, not, Bool, true, false, cond, List, [], ◌∷◌, ◌++◌, length, drop, get_or, set, bit_or, Option, Some, All, sym, refl, ap, ◌∙◌, subst, arith, true≢false, length-set, get_or-set_other, get_or-set_same}
+use Rattle.std.proofs.Common.{◌≡◌, ◌≢◌, ◌⊎◌, inl, inr, ⊎_elim, ℕ, zero, suc, ◌+◌, ◌-◌, ◌/◌, ◌<◌, ◌≤◌, ◌==◌, ◌&&◌, ◌||◌, nat_le, not, Bool, true, false, cond, List, [], ◌∷◌, ◌++◌, length, drop, get_or, set, bit_or, Option, Some, All, sym, refl, ap, ◌∙◌, subst, arith, true≢false, length-set, get_or-set_other, get_or-set_same}
+use Rattle.std.specs.List.{list_any}
 use Rattle.std.proofs.lemmas.Bool.Decides.{nat_tests}
 use Rattle.std.proofs.lemmas.List.Elements.{All-weaker}
 use mathlib.Core.Option.{some, none}
@@ -10,9 +11,10 @@ use Rattle.pgn_base.specs.declared.format.Format.{Format}
 use Rattle.pgn_lanes.specs.Behind.{is_woken}
 use Rattle.pgn_journal.specs.declared.tx.Tx.{Tx}
 use Rattle.pgn_journal.proofs.BeginsLaws.{begins-itself, begins-shorter}
-use Rattle.pgn_journal.specs.Journal.{next_xid, is_committed_in, IsFinished}
+use Rattle.pgn_journal.specs.Journal.{next_xid, entries_between, is_committed, IsFinished}
+use Rattle.pgn_journal.specs.Due.{is_due_to}
 use Rattle.pgn_journal.specs.Near.{Near}
-use Rattle.pgn_journal.proofs.NearLaws.{near-shrinks}
+use Rattle.pgn_journal.proofs.NearLaws.{near-shrinks, none-within}
 use Rattle.pgn_journal.specs.Packing.{page_start, place, image}
 use Rattle.pgn_hub.specs.Shape.{Shape}
 use Rattle.pgn_journal.proofs.PackingLemmas.{place_grows, last_place}
@@ -20,6 +22,7 @@ use Rattle.pgn_words.specs.declared.pos_word.PosWord.{PosWord}
 use Rattle.pgn_words.specs.declared.view.View.{View}
 use Rattle.pgn_words.specs.declared.view.Listen.{Listen}
 use Rattle.pgn_words.specs.declared.view.Listen.TheVariants.{Registered}
+use Rattle.pgn_words.specs.declared.view.Phase.{Phase}
 use Rattle.pgn_words.specs.declared.view.Phase.TheVariants.{Signalling}
 use Rattle.pgn_words.specs.declared.view.Stage.TheVariants.{Still}
 use Rattle.pgn_words.specs.Words.{Content, row, room_of, seats_of, pos_at, wakes_at}
@@ -27,16 +30,16 @@ use Rattle.pgn_words.specs.declared.view.Verdict.{Verdict}
 use Rattle.pgn_words.specs.declared.view.Verdict.TheVariants.{Unseen, Needed, Decided}
 use Rattle.pgn_words.specs.Views.{holds_lock, seat_of, is_open, is_walking}
 use Rattle.pgn_words.specs.Positions.{position_in, shown_as, place_or, is_placed}
-use Rattle.pgn_words.specs.Waking.{TellsTaken, verdict_on, verdict_of, needs_wake, wake_looked, HasLookedToWake, TellsWakeLook, wake_set, TellsWakeSet}
-use Rattle.pgn_words.specs.WakeRule.{served, IsHeard, IsHeeded, Heeds, waits_in, pending, Signals, ended_in, IsTaken}
+use Rattle.pgn_words.specs.Waking.{TellsTaken, verdict_on, verdict_of, is_concerned, concerned_db, needs_wake, wake_looked, HasLookedToWake, TellsWakeLook, wake_set, TellsWakeSet}
+use Rattle.pgn_words.specs.WakeRule.{served, passed, IsServed, Deems, IsHeard, IsHeeded, Heeds, waits_in, pending, Signals, ended_in, IsTaken}
 use Rattle.pgn_words.specs.Rule.{World, KnowsStop, Holds, IsSignalling, Law, Lawful, Keeps}
 use Rattle.pgn_words.proofs.EachLaws.{each_turn, each_keep}
 use Rattle.pgn_words.proofs.Frames.{seats_keep, locking_keep, history_keep, numbers_keep, budget_keep, statuses_keep}
-use Rattle.pgn_words.proofs.MoreFrames.{posts_keep, walks_keep, looks_keep, flags_keep, named_keep, taken_keep}
+use Rattle.pgn_words.proofs.MoreFrames.{posts_keep, walks_keep, looks_keep, interests_keep, flags_keep, named_keep, taken_keep}
 use Rattle.pgn_words.proofs.LockKept.{setup_of, held_setup, alone}
 use Rattle.pgn_words.proofs.HeadKept.{phase_holds}
 use Rattle.pgn_words.proofs.StatusKept.{holder_sees}
-use Rattle.pgn_words.proofs.NearSteps.{none_between, near_other}
+use Rattle.pgn_words.proofs.NearSteps.{served_near, passed_least, none_between, nothing_more, not_due_elsewhere}
 use Rattle.pgn_words.proofs.RowLaws.{get_pos, set_wake_word, get_wake_word}
 use Rattle.pgn_words.proofs.PostKept.{turned, turns}
 use Rattle.pgn_words.proofs.WalkKept.{seat_within, learned_more}
@@ -51,6 +54,16 @@ heard_served fin undecided i n h = by_seat (undecided i) refl
     by_seat : (b : Bool) → undecided i ≡ b → n ≤ cond b (fin - 1) fin
     by_seat true e = let low = h.decided i e in omega (arith, low)
     by_seat false e = h.most
+
+-- and at most what it was passed by
+pub heard_passed : (fin : ℕ) (undecided concerned : ℕ → Bool) (i n : ℕ) → IsHeard fin undecided n → n ≤ passed undecided concerned fin i
+heard_passed fin undecided concerned i n h =
+    let low = heard_served fin undecided i n h in by_seats (undecided i) (concerned i) low
+  where
+    by_seats : (a b : Bool) → n ≤ cond a (fin - 1) fin → n ≤ cond (a && b) (fin - 1) fin
+    by_seats true true low = low
+    by_seats true false low = omega (arith, low)
+    by_seats false b low = low
 
 -- after a wake was taken a read is owed, or the listener is near
 after_taking : (wake : ℕ) (owes : Bool) (N : Type 0) → wake ≤ 1 → (wake ≡ 1) ⊎ ((owes ≡ true) ⊎ N) → ((not (wake == 0) || owes) ≡ true) ⊎ N
@@ -77,16 +90,16 @@ take_wake_allowed z slots id word me there positive registered =
     let owes : Bool = not (n == 0) || v.known.owes in
     let look : Option (Bool × Bool) = Some (not (n == 0), v.known.owes) in
     let k : Rattle.pgn_words.specs.declared.view.Walk.Walk = record v.walk { stage = Still } in
-    let w : View = turned g.past v.known.mark v.known.marks owes look v.post k v in
+    let w : View = turned g.past v.known.mark v.known.marks owes look v.known.set v.post k v in
     let setup : v.setup ≡ z = setup_of z c g views id v h here positive in
     let has : is_placed v.post.listen ≡ true = ap is_placed registered in
     let heeded = h.wakes.heeds id v here registered i number in
-    let rest = after_taking n v.known.owes (Near z.format (is_committed_in v.known.db) g.past v.post.mark (served g.undecided c.fin i)) (h.wakes.small i) heeded.still in record {
+    let rest = after_taking n v.known.owes (IsServed z.format (is_due_to v.known.db v.known.set) g.past v.post.mark (passed g.undecided g.concerned c.fin i) (served g.undecided c.fin i)) (h.wakes.small i) heeded.still in record {
       w = w;
       content = record c { wakes = set c.wakes i 0 };
       world = g;
       moves = ap (λ e. set (row c) e 0) there ∙ set_wake_word z c i 0 h.laid within;
-      law = turns z c g views id v i g.past v.known.mark v.known.marks owes look v.post k c.pos (set c.wakes i 0) h here number
+      law = turns z c g views id v i g.past v.known.mark v.known.marks owes look v.known.set v.post k c.pos (set c.wakes i 0) c.interests h here number
           (begins-itself g.past) (begins-shorter v.known.seen g.past (h.history.sees id v here))
           (λ held. sym (holder_sees v.phase z (λ log. Keeps (room_of z) (page_start c.stop) log c.cells) g.past g.shown v.known.seen v.known.session v.known.db v.pen held (h.holding.holds id v here)))
           refl (λ j other. refl) (h.posts.shows id v here i number)
@@ -94,18 +107,20 @@ take_wake_allowed z slots id word me there positive registered =
           (h.posts.marks id v here)
           (λ walks. absurd (cc)) (λ shown. absurd (cc))
           (length-set c.wakes i 0) (λ j other. get_or-set_other c.wakes i j 0 0 other) (let none_now = get_or-set_same c.wakes i 0 0 within in omega (arith, none_now))
+          refl (λ j other. refl) (λ _. h.interests.covered id v here registered i number)
           (λ _. record { still = inr rest; walked = λ walks. absurd (cc) })
           (λ m x. x) (h.named.current id v here);
       told = subst (λ (e : ℕ). TellsTaken (step slots word 0 0 none) me e (w, me.1)) (sym found) (record {
         slots = refl;
         taken = record {
           more = drop (length v.known.seen) g.past;
-          view = ap (λ (xs : List Tx). turned xs v.known.mark v.known.marks owes look v.post k v) (learned_more z c g views id v h here);
+          view = ap (λ (xs : List Tx). turned xs v.known.mark v.known.marks owes look v.known.set v.post k v) (learned_more z c g views id v h here);
           near = λ none_owed.
-              subst (λ (y : Shape). Near y.format (is_committed_in v.known.db) g.past v.post.mark v.known.told) (sym setup)
+              subst (λ (y : Shape). Near y.format (is_due_to v.known.db v.known.set) g.past v.post.mark v.known.told) (sym setup)
               (⊎_elim
               (λ some_owed. absurd (true≢false (sym some_owed ∙ none_owed)))
-              (λ near. near-shrinks z.format (is_committed_in v.known.db) g.past v.post.mark v.post.mark (served g.undecided c.fin i) v.known.told (heard_served c.fin g.undecided i v.known.told (h.wakes.heard id v here)) (omega arith) near)
+              (λ near. served_near z.format (is_due_to v.known.db v.known.set) g.past v.post.mark (passed g.undecided g.concerned c.fin i) (served g.undecided c.fin i) v.known.told
+              (heard_passed c.fin g.undecided g.concerned i v.known.told (h.wakes.heard id v here)) (heard_served c.fin g.undecided i v.known.told (h.wakes.heard id v here)) near)
               rest);
         };
         kept = (refl, refl);
@@ -115,7 +130,7 @@ take_wake_allowed z slots id word me there positive registered =
 -- the holder has decided on a seat: fewer are undecided, and every listener is heeded
 decides : (z : Shape) (c : Content) (g : World) (views : List View) (id : ℕ) (v : View) (us : List Verdict) (ws : List ℕ) → Law z c g views → get_elem? views id ≡ some v → v.phase ≡ Signalling
     → length ws ≡ length c.wakes → ((i : ℕ) → get_or ws i 0 ≤ 1) → ((i : ℕ) → waits_in us i ≡ true → g.undecided i ≡ true)
-    → ((j : ℕ) (u : View) → get_elem? views j ≡ some u → Heeds z.format g.past c.fin g.undecided c.wakes j u → Heeds z.format g.past c.fin (waits_in us) ws j u)
+    → ((j : ℕ) (u : View) → get_elem? views j ≡ some u → Heeds z.format g.past c.fin g.undecided g.concerned c.wakes j u → Heeds z.format g.past c.fin (waits_in us) g.concerned ws j u)
     → Law z (record c { wakes = ws }) (record g { undecided = waits_in us }) (set views id (record v { verdicts = us }))
 decides z c g views id v us ws h here signals long small fewer heeds =
     let w : View = record v { verdicts = us } in
@@ -124,7 +139,7 @@ decides z c g views id v us ws h here signals long small fewer heeds =
     let gone : (j : ℕ) (u : View) → j ≢ id → get_elem? views j ≡ some u → holds_lock u.phase ≡ true → ⊥ = alone c.lock g.holder views id v h.locking here held in
     let heard : (n : ℕ) → IsHeard c.fin g.undecided n → IsHeard c.fin (waits_in us) n = λ n p. record { most = p.most; decided = λ i waits. p.decided i (fewer i waits) } in
     let flags = flags_keep views id v w here c.fin g.undecided c.flags h.flags refl (h.flags.told id v here) refl refl in record {
-      laid = record { pos_long = h.laid.pos_long; wakes_long = long ∙ h.laid.wakes_long; flags_long = h.laid.flags_long; statuses_long = h.laid.statuses_long; cells_long = h.laid.cells_long };
+      laid = record { pos_long = h.laid.pos_long; wakes_long = long ∙ h.laid.wakes_long; interests_long = h.laid.interests_long; flags_long = h.laid.flags_long; statuses_long = h.laid.statuses_long; cells_long = h.laid.cells_long };
       seats = seats_keep views id v w here z g.made g.seat h.seats refl refl refl refl;
       locking = locking_keep views id v w here c.lock g.holder h.locking refl refl;
       stored = h.stored;
@@ -141,12 +156,13 @@ decides z c g views id v us ws h here signals long small fewer heeds =
       looks = looks_keep views id v w here z.format g.past c.fin c.stop g.looked g.target c.tail h.looks refl refl refl refl;
       wakes = record {
         small = small;
-        heeds = each_turn (Heeds z.format g.past c.fin g.undecided c.wakes) (Heeds z.format g.past c.fin (waits_in us) ws) views id w h.wakes.heeds (heeds id v here (h.wakes.heeds id v here)) (λ j u other there x. heeds j u there x);
+        heeds = each_turn (Heeds z.format g.past c.fin g.undecided g.concerned c.wakes) (Heeds z.format g.past c.fin (waits_in us) g.concerned ws) views id w h.wakes.heeds (heeds id v here (h.wakes.heeds id v here)) (λ j u other there x. heeds j u there x);
         signals = each_turn (Signals g.undecided) (Signals (waits_in us)) views id w h.wakes.signals (λ _ i. sym (ap (λ p. pending p (waits_in us) i) signals)) (λ j u other there x also. absurd (gone j u other there also));
         calm = λ nobody. let is = locked.1 in let positive = locked.2 in absurd (omega (arith, nobody, is, positive));
         heard = each_turn (λ _ u. IsHeard c.fin g.undecided u.known.told) (λ _ u. IsHeard c.fin (waits_in us) u.known.told) views id w h.wakes.heard (heard v.known.told (h.wakes.heard id v here)) (λ j u other there p. heard u.known.told p);
         ended = each_keep (λ _ u. u.ended ≡ ended_in u.phase c.fin) views id v w here h.wakes.ended (λ x. x);
       };
+      interests = interests_keep views id v w here g.concerned c.interests h.interests refl refl refl (λ x. x);
       flags = record { heard = λ f. heard (get_or c.flags f 0) (flags.heard f); told = flags.told; most = flags.most; source = flags.source; found = flags.found };
       named = named_keep views id v w here h.named refl refl refl refl refl;
       taken = λ j u there. All-weaker (IsTaken z g.made c.fin g.undecided g.seat g.past j u.known.session) (IsTaken z g.made c.fin (waits_in us) g.seat g.past j u.known.session)
@@ -158,10 +174,15 @@ decides z c g views id v us ws h here signals long small fewer heeds =
 served_same : (before after : ℕ → Bool) (fin i : ℕ) → after i ≡ before i → served after fin i ≡ served before fin i
 served_same before after fin i e = ap (λ b. cond b (fin - 1) fin) e
 
-same_heeded : (format : Format) (past : List Tx) (upto upto' wake wake' db mark : ℕ) (walks : Bool) (ends : ℕ) (owes : Bool) → upto' ≡ upto → wake' ≡ wake
-    → IsHeeded format past upto wake db mark walks ends owes → IsHeeded format past upto' wake' db mark walks ends owes
-same_heeded format past upto upto' wake wake' db mark walks ends owes u w h =
-    subst (λ (n : ℕ). IsHeeded format past n wake' db mark walks ends owes) (sym u) (subst (λ (n : ℕ). IsHeeded format past upto n db mark walks ends owes) (sym w) h)
+same_heeded : (format : Format) (matters : Tx → Bool) (past : List Tx) (by by' upto upto' wake wake' mark : ℕ) (walks : Bool) (ends : ℕ) (owes : Bool) → by' ≡ by → upto' ≡ upto → wake' ≡ wake
+    → IsHeeded format matters past by upto wake mark walks ends owes → IsHeeded format matters past by' upto' wake' mark walks ends owes
+same_heeded format matters past by by' upto upto' wake wake' mark walks ends owes b u w h =
+    subst (λ (p : ℕ). IsHeeded format matters past p upto' wake' mark walks ends owes) (sym b)
+    (subst (λ (n : ℕ). IsHeeded format matters past by n wake' mark walks ends owes) (sym u) (subst (λ (n : ℕ). IsHeeded format matters past by upto n mark walks ends owes) (sym w) h))
+
+-- and so is passed by
+passed_same : (before after concerned : ℕ → Bool) (fin i : ℕ) → after i ≡ before i → passed after concerned fin i ≡ passed before concerned fin i
+passed_same before after concerned fin i e = ap (λ b. cond (b && concerned i) (fin - 1) fin) e
 
 bit_set : (n : ℕ) → n ≤ 1 → bit_or n 1 ≡ 1
 bit_set zero low = refl
@@ -204,7 +225,7 @@ set_wake_allowed z slots id word seat me there room signals needed =
           (λ i. small_at c.wakes seat i within h.wakes.small (ℕ_discrete i seat))
           (λ i still. before i ∙ fewer v.verdicts seat i still (ℕ_discrete i seat))
           (λ j u their x registered i number.
-          heeds_at z.format g.past c.fin g.undecided c.wakes v.verdicts seat i u.known.db u.post.mark (is_walking u.walk.stage) u.walk.upto u.known.owes before set_now (x registered i number) (ℕ_discrete i seat));
+          heeds_at z.format (is_due_to u.known.db u.known.set) g.past c.fin g.undecided g.concerned c.wakes v.verdicts seat i u.post.mark (is_walking u.walk.stage) u.walk.upto u.known.owes before set_now (x registered i number) (ℕ_discrete i seat));
       told = record {
         slots = refl;
         view = λ other is. let same : seat ≡ other = let e : wakes_at v.setup ≡ wakes_at z = ap wakes_at setup in omega (arith, there, is, e) in ap (λ s. wake_set s v) same;
@@ -225,37 +246,64 @@ set_wake_allowed z slots id word seat me there room signals needed =
         none_here (b ∷ bs) (suc k) = none_here bs k
     fewer us seat i still (no ne) = sym (decided_other us seat i Decided ne) ∙ still
 
-    heeds_at : (format : Format) (past : List Tx) (fin : ℕ) (undecided : ℕ → Bool) (wakes : List ℕ) (us : List Verdict) (seat i db mark : ℕ) (walks : Bool) (ends : ℕ) (owes : Bool)
-        → ((k : ℕ) → undecided k ≡ waits_in us k) → get_or (set wakes seat 1) seat 0 ≡ 1 → IsHeeded format past (served undecided fin i) (get_or wakes i 0) db mark walks ends owes → Dec (i ≡ seat)
-        → IsHeeded format past (served (waits_in (set us seat Decided)) fin i) (get_or (set wakes seat 1) i 0) db mark walks ends owes
-    heeds_at format past fin undecided wakes us seat i db mark walks ends owes before set_now x (yes e) =
+    heeds_at : (format : Format) (matters : Tx → Bool) (past : List Tx) (fin : ℕ) (undecided concerned : ℕ → Bool) (wakes : List ℕ) (us : List Verdict) (seat i mark : ℕ) (walks : Bool) (ends : ℕ) (owes : Bool)
+        → ((k : ℕ) → undecided k ≡ waits_in us k) → get_or (set wakes seat 1) seat 0 ≡ 1 → IsHeeded format matters past (passed undecided concerned fin i) (served undecided fin i) (get_or wakes i 0) mark walks ends owes → Dec (i ≡ seat)
+        → IsHeeded format matters past (passed (waits_in (set us seat Decided)) concerned fin i) (served (waits_in (set us seat Decided)) fin i) (get_or (set wakes seat 1) i 0) mark walks ends owes
+    heeds_at format matters past fin undecided concerned wakes us seat i mark walks ends owes before set_now x (yes e) =
         let is : get_or (set wakes seat 1) i 0 ≡ 1 = ap (λ k. get_or (set wakes seat 1) k 0) e ∙ set_now in record { still = inl is; walked = λ _. inl is }
-    heeds_at format past fin undecided wakes us seat i db mark walks ends owes before set_now x (no ne) =
-        same_heeded format past (served undecided fin i) (served (waits_in (set us seat Decided)) fin i) (get_or wakes i 0) (get_or (set wakes seat 1) i 0) db mark walks ends owes
-        (served_same undecided (waits_in (set us seat Decided)) fin i (decided_other us seat i Decided ne ∙ sym (before i))) (get_or-set_other wakes seat i 1 0 ne) x
+    heeds_at format matters past fin undecided concerned wakes us seat i mark walks ends owes before set_now x (no ne) =
+        let as_before : waits_in (set us seat Decided) i ≡ undecided i = decided_other us seat i Decided ne ∙ sym (before i) in
+        same_heeded format matters past (passed undecided concerned fin i) (passed (waits_in (set us seat Decided)) concerned fin i) (served undecided fin i) (served (waits_in (set us seat Decided)) fin i) (get_or wakes i 0) (get_or (set wakes seat 1) i 0) mark walks ends owes
+        (passed_same undecided (waits_in (set us seat Decided)) concerned fin i as_before) (served_same undecided (waits_in (set us seat Decided)) fin i as_before) (get_or-set_other wakes seat i 1 0 ne) x
 
--- a listener whose position needs no wake is near the journal's end, by the two cases of the test
-near_from : (format : Format) (past before : List Tx) (last : Tx) (fin head db at own mark m : ℕ) → All IsFinished past → fin ≡ next_xid past → past ≡ before ++ last ∷ [] → last.db ≡ db → 3 ≤ mark → head ≡ length (image format past)
-    → at ≡ place format past mark → is_woken head db at own ≡ false → mark ≤ m → Near format (is_committed_in own) past m (fin - 1) → Near format (is_committed_in own) past m fin
-near_from format past before last fin head db at own mark m finished counted ends by first head_is at_is quiet forth near = by_db (own == db) refl
+-- a listener whose position needs no wake is served up to the journal's end, by the two cases of the test
+served_from : (format : Format) (past before : List Tx) (last : Tx) (fin head db at d own mark m far upto : ℕ) (set : List (List ℕ)) → All IsFinished past → fin ≡ next_xid past → past ≡ before ++ last ∷ [] → last.db ≡ db → 3 ≤ mark → head ≡ length (image format past)
+    → at ≡ place format past mark → is_woken head db at d ≡ false → mark ≤ m → fin - 1 ≤ far → (far ≡ fin) ⊎ ((d ≡ db) ⊎ (d ≡ own)) → IsServed format (is_due_to own set) past m far upto → IsServed format (is_due_to own set) past m fin fin
+served_from format past before last fin head db at d own mark m far upto set finished counted ends theirs first head_is at_is quiet forth least how near = by_db (d == db) refl
   where
     end : place format past fin ≡ head
     end = last_place format past fin (omega (arith, counted)) ∙ sym head_is
 
-    by_db : (b : Bool) → own == db ≡ b → Near format (is_committed_in own) past m fin
+    by_db : (b : Bool) → d == db ≡ b → IsServed format (is_due_to own set) past m fin fin
     by_db true e =
         let same_place : not (at == head) ≡ false = ap (λ b. cond b (not (at == head)) (nat_le (at / 2048 + 4) (head / 2048))) (sym e) ∙ quiet in
         let there : at ≡ head = by_test (at == head) refl same_place in
-        near-shrinks format (is_committed_in own) past mark m fin fin (omega arith) forth (none_between format own past mark fin finished first (sym at_is ∙ there ∙ sym end))
+        let still = near-shrinks format (is_due_to own set) past mark m fin fin (omega arith) forth (none_between format own set past mark fin finished first (sym at_is ∙ there ∙ sym end)) in
+        record { nothing_due = still.nothing_due; few_pages = still.few_pages }
       where
         by_test : (b : Bool) → at == head ≡ b → not b ≡ false → at ≡ head
         by_test true e none_there = grind (arith, nat_tests)
         by_test false e none_there = absurd (true≢false none_there)
-    by_db false e =
-        let few : nat_le (at / 2048 + 4) (head / 2048) ≡ false = ap (λ b. cond b (not (at == head)) (nat_le (at / 2048 + 4) (head / 2048))) (sym e) ∙ quiet in
-        let close : head / 2048 < at / 2048 + 4 = grind (arith, nat_tests) in
-        let other : last.db ≢ own = λ same. let is : own == db ≡ true = let eq : own ≡ db = sym same ∙ by in grind (arith, nat_tests) in true≢false (sym is ∙ e) in
-        near_other format own past before last m fin counted ends other (omega (arith, first, forth)) near (let up = place_grows format past mark m forth in omega (arith, close, end, at_is, up))
+    by_db false e = record {
+      nothing_due = ⊎_elim
+          (λ all. subst (λ (n : ℕ). list_any (is_due_to own set) (entries_between past m n) ≡ false) all near.nothing_due)
+          (λ r. ⊎_elim
+          (λ mine. absurd (let is : d == db ≡ true = grind (arith, nat_tests) in true≢false (sym is ∙ e)))
+          (λ is_own.
+          let other : last.db ≢ own = λ same. let is : d == db ≡ true = let eq : d ≡ db = is_own ∙ sym same ∙ theirs in grind (arith, nat_tests) in true≢false (sym is ∙ e) in
+          nothing_more (is_due_to own set) past before last m fin counted ends (not_due_elsewhere own set last other)
+          (none-within (is_due_to own set) past (m - 3) (far - 3) (m - 3) (fin - 1 - 3) (omega arith) (omega (arith, least)) near.nothing_due))
+          r)
+          how;
+      few_pages =
+          let few : nat_le (at / 2048 + 4) (head / 2048) ≡ false = ap (λ b. cond b (not (at == head)) (nat_le (at / 2048 + 4) (head / 2048))) (sym e) ∙ quiet in
+          let close : head / 2048 < at / 2048 + 4 = grind (arith, nat_tests) in
+          let up = place_grows format past mark m forth in omega (arith, close, end, at_is, up);
+    }
+
+-- by which database the test is made
+tested : (committed concerned : Bool) (mine theirs : ℕ) → (concerned ≡ false) ⊎ ((cond committed (cond concerned theirs 0) mine ≡ mine) ⊎ (cond committed (cond concerned theirs 0) mine ≡ theirs))
+tested false concerned mine theirs = inr (inl refl)
+tested true true mine theirs = inr (inr refl)
+tested true false mine theirs = inl refl
+
+-- whom the transaction does not concern is passed by of all of the journal
+unconcerned : (undecided concerned : ℕ → Bool) (fin i : ℕ) → concerned i ≡ false → passed undecided concerned fin i ≡ fin
+unconcerned undecided concerned fin i e = ap (λ b. cond (undecided i && b) (fin - 1) fin) e ∙ by_seat (undecided i)
+  where
+    by_seat : (b : Bool) → cond (b && false) (fin - 1) fin ≡ fin
+    by_seat true = refl
+    by_seat false = refl
 
 pub wake_look_allowed : (z : Shape) (slots id word seat : ℕ) (me : Me ℕ View) → word ≡ pos_at + seat → seat < seats_of z → me.0.phase ≡ Signalling → verdict_on me.0 seat ≡ Unseen
     → Allows (Lawful z) slots id me word (λ n. n) (TellsWakeLook (step slots word 0 0 none) me)
@@ -276,18 +324,23 @@ wake_look_allowed z slots id word seat me there room signals unseen =
     let before : (i : ℕ) → g.undecided i ≡ waits_in v.verdicts i = λ i. h.wakes.signals id v here held i ∙ ap (λ q. pending q (waits_in v.verdicts) i) signals in
     let head : ℕ = length (image v.setup.format v.known.seen) in
     let head_is : head ≡ length (image z.format g.past) = ap (λ (y : Shape). length (image y.format v.known.seen)) setup ∙ ap (λ (txs : List Tx). length (image z.format txs)) seen in
-    let heeds : (j : ℕ) (u : View) → get_elem? views j ≡ some u → Heeds z.format g.past c.fin g.undecided c.wakes j u → Heeds z.format g.past c.fin (waits_in us) c.wakes j u = λ j u their x registered i number.
-    let old : IsHeeded z.format g.past (served g.undecided c.fin i) (get_or c.wakes i 0) u.known.db u.post.mark (is_walking u.walk.stage) u.walk.upto u.known.owes = x registered i number in
-    let here_again : i ≡ seat → needs ≡ false → (m : ℕ) → u.post.mark ≤ m → Near z.format (is_committed_in u.known.db) g.past m (served g.undecided c.fin i) → Near z.format (is_committed_in u.known.db) g.past m c.fin = λ same quiet m forth near.
+    let deems : (i : ℕ) → g.concerned i ≡ get_or v.concerned i false = subst (λ (q : Phase). Deems q g.concerned v.concerned) signals (h.interests.deems id v here) in
+    let d : ℕ = concerned_db v seat in
+    let heeds : (j : ℕ) (u : View) → get_elem? views j ≡ some u → Heeds z.format g.past c.fin g.undecided g.concerned c.wakes j u → Heeds z.format g.past c.fin (waits_in us) g.concerned c.wakes j u = λ j u their x registered i number.
+    let old : IsHeeded z.format (is_due_to u.known.db u.known.set) g.past (passed g.undecided g.concerned c.fin i) (served g.undecided c.fin i) (get_or c.wakes i 0) u.post.mark (is_walking u.walk.stage) u.walk.upto u.known.owes = x registered i number in
+    let here_again : i ≡ seat → needs ≡ false → (m : ℕ) → u.post.mark ≤ m → IsServed z.format (is_due_to u.known.db u.known.set) g.past m (passed g.undecided g.concerned c.fin i) (served g.undecided c.fin i) → IsServed z.format (is_due_to u.known.db u.known.set) g.past m c.fin c.fin = λ same quiet m forth near.
     let place_there = (h.posts.placed j u their (ap is_placed registered)).1 in
-    let undecided_there : g.undecided i ≡ true = before i ∙ ap (waits_in v.verdicts) same ∙ waits in
-    let last_but : served g.undecided c.fin i ≡ c.fin - 1 = ap (λ b. cond b (c.fin - 1) c.fin) undecided_there in
     let shows : p ≡ shown_as u.post.listen u.post.mark u.post.at = seat_shows z c g views seat j u h their (omega (arith, number, same)) in
     let at_is : place_or head p ≡ u.post.at = ap (place_or head) (shows ∙ ap (λ (l : Listen). shown_as l u.post.mark u.post.at) registered) in
     let seat_db : (seat_of v.setup (seat + 1)).db ≡ u.known.db = ap (λ (y : Shape). (seat_of y (seat + 1)).db) setup ∙ ap (λ k. (seat_of z k).db) (let e : seat + 1 ≡ u.known.session = omega (arith, number, same) in e) ∙ sym (h.seats.seated j u their (omega (arith, number))).db_is in
-    let asleep : is_woken head v.known.db u.post.at u.known.db ≡ false = ap (λ a. is_woken head v.known.db a u.known.db) (sym at_is) ∙ ap (λ d. is_woken head v.known.db (place_or head p) d) (sym seat_db) ∙ quiet in
-    near_from z.format g.past was.before v.pen.ending c.fin head v.known.db u.post.at u.known.db u.post.mark m h.history.finished h.history.counted was.last was.db_is place_there.least head_is place_there.at_is asleep forth (subst (λ (e : ℕ). Near z.format (is_committed_in u.known.db) g.past m e) last_but near) in
-    heeds_at z.format g.past c.fin g.undecided c.wakes v.verdicts seat i needs u.known.db u.post.mark (is_walking u.walk.stage) u.walk.upto u.known.owes before waits old
+    let asleep : is_woken head v.known.db u.post.at d ≡ false = ap (λ a. is_woken head v.known.db a d) (sym at_is) ∙ quiet in
+    let how : (passed g.undecided g.concerned c.fin i ≡ c.fin) ⊎ ((d ≡ v.known.db) ⊎ (d ≡ u.known.db)) =
+    ⊎_elim (λ none. inl (unconcerned g.undecided g.concerned c.fin i (deems i ∙ ap (λ k. get_or v.concerned k false) same ∙ none)))
+    (λ r. ⊎_elim (λ mine. inr (inl mine)) (λ theirs. inr (inr (theirs ∙ seat_db))) r)
+    (tested (is_committed v.pen.ending.fate) (is_concerned v seat) v.known.db (seat_of v.setup (seat + 1)).db) in
+    served_from z.format g.past was.before v.pen.ending c.fin head v.known.db u.post.at d u.known.db u.post.mark m (passed g.undecided g.concerned c.fin i) (served g.undecided c.fin i) u.known.set
+    h.history.finished h.history.counted was.last was.db_is place_there.least head_is place_there.at_is asleep forth (passed_least g.undecided g.concerned c.fin i) how near in
+    heeds_at z.format (is_due_to u.known.db u.known.set) g.past c.fin g.undecided g.concerned c.wakes v.verdicts seat i needs u.post.mark (is_walking u.walk.stage) u.walk.upto u.known.owes before waits old
     (λ same quiet. here_again same quiet u.post.mark (omega arith))
     (λ same quiet walks. here_again same quiet u.walk.upto (h.walks.walking j u their walks).1)
     (ℕ_discrete i seat) needs refl in record {
@@ -310,21 +363,25 @@ wake_look_allowed z slots id word seat me there room signals unseen =
     fewer us seat i b waits still (yes e) = ap (waits_in us) e ∙ waits
     fewer us seat i b waits still (no ne) = sym (decided_other us seat i b ne) ∙ still
 
-    heeds_at : (format : Format) (past : List Tx) (fin : ℕ) (undecided : ℕ → Bool) (wakes : List ℕ) (us : List Verdict) (seat i : ℕ) (needs : Bool) (db mark : ℕ) (walks : Bool) (ends : ℕ) (owes : Bool)
-        → ((k : ℕ) → undecided k ≡ waits_in us k) → waits_in us seat ≡ true → IsHeeded format past (served undecided fin i) (get_or wakes i 0) db mark walks ends owes
-        → (i ≡ seat → needs ≡ false → Near format (is_committed_in db) past mark (served undecided fin i) → Near format (is_committed_in db) past mark fin)
-        → (i ≡ seat → needs ≡ false → walks ≡ true → Near format (is_committed_in db) past ends (served undecided fin i) → Near format (is_committed_in db) past ends fin)
-        → Dec (i ≡ seat) → (b : Bool) → needs ≡ b → IsHeeded format past (served (waits_in (set us seat (verdict_of needs))) fin i) (get_or wakes i 0) db mark walks ends owes
-    heeds_at format past fin undecided wakes us seat i needs db mark walks ends owes before waits x near_mark near_end (no ne) b e =
-        same_heeded format past (served undecided fin i) (served (waits_in (set us seat (verdict_of needs))) fin i) (get_or wakes i 0) (get_or wakes i 0) db mark walks ends owes
-        (served_same undecided (waits_in (set us seat (verdict_of needs))) fin i (decided_other us seat i (verdict_of needs) ne ∙ sym (before i))) refl x
-    heeds_at format past fin undecided wakes us seat i needs db mark walks ends owes before waits x near_mark near_end (yes e) true needs_it =
+    heeds_at : (format : Format) (matters : Tx → Bool) (past : List Tx) (fin : ℕ) (undecided concerned : ℕ → Bool) (wakes : List ℕ) (us : List Verdict) (seat i : ℕ) (needs : Bool) (mark : ℕ) (walks : Bool) (ends : ℕ) (owes : Bool)
+        → ((k : ℕ) → undecided k ≡ waits_in us k) → waits_in us seat ≡ true → IsHeeded format matters past (passed undecided concerned fin i) (served undecided fin i) (get_or wakes i 0) mark walks ends owes
+        → (i ≡ seat → needs ≡ false → IsServed format matters past mark (passed undecided concerned fin i) (served undecided fin i) → IsServed format matters past mark fin fin)
+        → (i ≡ seat → needs ≡ false → walks ≡ true → IsServed format matters past ends (passed undecided concerned fin i) (served undecided fin i) → IsServed format matters past ends fin fin)
+        → Dec (i ≡ seat) → (b : Bool) → needs ≡ b → IsHeeded format matters past (passed (waits_in (set us seat (verdict_of needs))) concerned fin i) (served (waits_in (set us seat (verdict_of needs))) fin i) (get_or wakes i 0) mark walks ends owes
+    heeds_at format matters past fin undecided concerned wakes us seat i needs mark walks ends owes before waits x near_mark near_end (no ne) b e =
+        let as_before : waits_in (set us seat (verdict_of needs)) i ≡ undecided i = decided_other us seat i (verdict_of needs) ne ∙ sym (before i) in
+        same_heeded format matters past (passed undecided concerned fin i) (passed (waits_in (set us seat (verdict_of needs))) concerned fin i) (served undecided fin i) (served (waits_in (set us seat (verdict_of needs))) fin i) (get_or wakes i 0) (get_or wakes i 0) mark walks ends owes
+        (passed_same undecided (waits_in (set us seat (verdict_of needs))) concerned fin i as_before) (served_same undecided (waits_in (set us seat (verdict_of needs))) fin i as_before) refl x
+    heeds_at format matters past fin undecided concerned wakes us seat i needs mark walks ends owes before waits x near_mark near_end (yes e) true needs_it =
         let is : waits_in (set us seat (verdict_of needs)) i ≡ undecided i = ap (waits_in (set us seat (verdict_of needs))) e ∙ decided_here us seat (verdict_of needs) waits ∙ still_open needs ∙ needs_it ∙ sym waits ∙ sym (ap (waits_in us) e) ∙ sym (before i) in
-        same_heeded format past (served undecided fin i) (served (waits_in (set us seat (verdict_of needs))) fin i) (get_or wakes i 0) (get_or wakes i 0) db mark walks ends owes
-        (served_same undecided (waits_in (set us seat (verdict_of needs))) fin i is) refl x
-    heeds_at format past fin undecided wakes us seat i needs db mark walks ends owes before waits x near_mark near_end (yes e) false quiet =
-        let now : served (waits_in (set us seat (verdict_of needs))) fin i ≡ fin = ap (λ b. cond b (fin - 1) fin) (ap (waits_in (set us seat (verdict_of needs))) e ∙ decided_here us seat (verdict_of needs) waits ∙ still_open needs ∙ quiet) in
-        subst (λ (n : ℕ). IsHeeded format past n (get_or wakes i 0) db mark walks ends owes) (sym now) (record {
+        same_heeded format matters past (passed undecided concerned fin i) (passed (waits_in (set us seat (verdict_of needs))) concerned fin i) (served undecided fin i) (served (waits_in (set us seat (verdict_of needs))) fin i) (get_or wakes i 0) (get_or wakes i 0) mark walks ends owes
+        (passed_same undecided (waits_in (set us seat (verdict_of needs))) concerned fin i is) (served_same undecided (waits_in (set us seat (verdict_of needs))) fin i is) refl x
+    heeds_at format matters past fin undecided concerned wakes us seat i needs mark walks ends owes before waits x near_mark near_end (yes e) false quiet =
+        let decided : waits_in (set us seat (verdict_of needs)) i ≡ false = ap (waits_in (set us seat (verdict_of needs))) e ∙ decided_here us seat (verdict_of needs) waits ∙ still_open needs ∙ quiet in
+        let now : served (waits_in (set us seat (verdict_of needs))) fin i ≡ fin = ap (λ b. cond b (fin - 1) fin) decided in
+        let by_now : passed (waits_in (set us seat (verdict_of needs))) concerned fin i ≡ fin = ap (λ b. cond (b && concerned i) (fin - 1) fin) decided in
+        subst (λ (far : ℕ). IsHeeded format matters past far (served (waits_in (set us seat (verdict_of needs))) fin i) (get_or wakes i 0) mark walks ends owes) (sym by_now)
+        (subst (λ (n : ℕ). IsHeeded format matters past fin n (get_or wakes i 0) mark walks ends owes) (sym now) (record {
           still = ⊎_elim (λ set_now. inl set_now) (λ r. ⊎_elim (λ o. inr (inl o)) (λ near. inr (inr (near_mark e quiet near))) r) x.still;
           walked = λ walk. ⊎_elim (λ set_now. inl set_now) (λ near. inr (near_end e quiet walk near)) (x.walked walk);
-        })
+        }))

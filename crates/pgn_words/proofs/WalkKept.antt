@@ -1,6 +1,8 @@
 -- The steps of a listener keep the rule: joining, its walks through the cells, and leaving.
 use Rattle.std.specs.Prelude.{Contains}
 use Rattle.std.proofs.Common.{◌≡◌, ℕ, ◌+◌, ◌-◌, ◌%◌, ◌^◌, ◌<◌, ◌≤◌, true, false, List, [], ◌∷◌, ◌++◌, length, drop, get_or, set, Some, None, slice_get, sym, refl, ap, ◌∙◌, subst, arith, ⊎_elim, inl, inr, true≢false, length-set, get_or-set_other, get_or-set_same}
+use Rattle.std.specs.Int.{bit_at}
+use Rattle.std.proofs.lemmas.List.Elements.{All-nil}
 use Rattle.std.proofs.lemmas.Grind.{common_steps}
 use mathlib.Core.Option.{some, none}
 use lib.ListN.{get_elem?}
@@ -10,6 +12,8 @@ use Rattle.pgn_base.specs.declared.format.Format.{Format}
 use Rattle.pgn_journal.specs.declared.tx.Tx.{Tx}
 use Rattle.pgn_journal.proofs.BeginsLaws.{begins-itself, begins-on, begins-rest, begins-shorter}
 use Rattle.pgn_journal.specs.Journal.{next_xid}
+use Rattle.pgn_journal.specs.Due.{is_due_to}
+use Rattle.pgn_journal.specs.Interest.{channel_bit}
 use Rattle.pgn_journal.specs.Packing.{page_start, place, image}
 use Rattle.pgn_hub.specs.Shape.{Shape, IsShape, notes_of_seats}
 use Rattle.pgn_journal.proofs.PackingLemmas.{place_grows, last_place}
@@ -61,13 +65,13 @@ mark_joining_allowed z slots id word me own positive out =
       content = record c { pos = set c.pos i 1 };
       world = g;
       moves = ap (λ n. set (row c) n 1) there ∙ set_pos z c i 1 within;
-      law = moves z c g views id v i v.known.seen v.known.mark v.known.marks v.known.owes (record v.post { listen = Joining }) v.walk (set c.pos i 1) h here number
+      law = moves z c g views id v i v.known.seen v.known.mark v.known.marks v.known.owes v.known.set (record v.post { listen = Joining }) v.walk (set c.pos i 1) h here number
           (h.history.sees id v here) (omega arith) (λ _. refl)
           (length-set c.pos i 1) (λ j other. get_or-set_other c.pos i j 1 0 other) (get_or-set_same c.pos i 1 0 within)
           (λ has. absurd (cc)) (λ has. absurd (cc))
           (h.posts.marks id v here ∙ ap (λ (l : Listen). marked (shown_as l v.post.mark v.post.at)) out)
           (λ walks. absurd (none_walks walks)) (λ shown. absurd (none_walks (ap is_walking shown)))
-          (λ registered. absurd (cc)) (λ n x. x) (λ registered. absurd (cc));
+          (λ registered. absurd (cc)) (λ registered. absurd (cc)) (λ n x. x) (λ registered. absurd (cc));
       told = record { slots = refl; view = refl };
     })
 
@@ -94,23 +98,23 @@ load_base_allowed z slots id me positive joins =
     let setup : v.setup ≡ z = setup_of z c g views id v h here positive in
     let tail = h.posts.tail_placed in
     let none_walks : is_walking v.walk.stage ≡ true → ⊥ = still z c g views id v Joining h here joins refl in record {
-      w = moved g.past v.known.mark v.known.marks v.known.owes q v.walk v;
+      w = moved g.past v.known.mark v.known.marks v.known.owes v.known.set q v.walk v;
       content = c;
       world = g;
       moves = refl;
-      law = moves z c g views id v i g.past v.known.mark v.known.marks v.known.owes q v.walk c.pos h here number
+      law = moves z c g views id v i g.past v.known.mark v.known.marks v.known.owes v.known.set q v.walk c.pos h here number
           (begins-itself g.past) (begins-shorter v.known.seen g.past (h.history.sees id v here))
           (λ held. sym (holder_sees v.phase z (λ log. Keeps (room_of z) (page_start c.stop) log c.cells) g.past g.shown v.known.seen v.known.session v.known.db v.pen held (h.holding.holds id v here)))
           refl (λ j other. refl) (h.posts.shows id v here i number ∙ ap (λ (l : Listen). word_of (shown_as l v.post.mark v.post.at)) joins)
           (λ has. tail) (λ has low. h.looks.aims)
           (h.posts.marks id v here ∙ ap (λ (l : Listen). marked (shown_as l v.post.mark v.post.at)) joins)
           (λ walks. absurd (none_walks walks)) (λ shown. absurd (none_walks (ap is_walking shown)))
-          (λ registered. absurd (cc)) (λ n x. x) (λ registered. absurd (cc));
+          (λ registered. absurd (cc)) (λ registered. absurd (cc)) (λ n x. x) (λ registered. absurd (cc));
       told = record {
         slots = refl;
         base = record {
           more = drop (length v.known.seen) g.past;
-          view = ap (λ (xs : List Tx). moved xs v.known.mark v.known.marks v.known.owes q v.walk v) (learned_more z c g views id v h here);
+          view = ap (λ (xs : List Tx). moved xs v.known.mark v.known.marks v.known.owes v.known.set q v.walk v) (learned_more z c g views id v h here);
           placed = subst (λ (y : Shape). IsPlacedIn y.format g.past (mark_in c.tail) (place_in c.tail)) (sym setup) (placed_in z.format g.past c.fin (mark_in c.tail) (place_in c.tail) h.history.counted tail.at_is tail.least tail.most);
         };
         kept = (refl, refl);
@@ -138,12 +142,13 @@ store_valid_allowed z slots id word x me own positive based value =
       content = record c { pos = set c.pos i x };
       world = g;
       moves = ap (λ n. set (row c) n x) there ∙ set_pos z c i x within;
-      law = moves z c g views id v i v.known.seen (Some v.post.mark) (v.known.marks ++ v.post.mark ∷ []) true (record v.post { listen = Registered }) (record v.walk { stage = Still }) (set c.pos i x) h here number
+      law = moves z c g views id v i v.known.seen (Some v.post.mark) (v.known.marks ++ v.post.mark ∷ []) true [] (record v.post { listen = Registered }) (record v.walk { stage = Still }) (set c.pos i x) h here number
           (h.history.sees id v here) (omega arith) (λ _. refl)
           (length-set c.pos i x) (λ j other. get_or-set_other c.pos i j x 0 other) (get_or-set_same c.pos i x 0 within ∙ value)
           (λ _. (h.posts.placed id v here has).1) (λ _ low. h.looks.spared id v here has low)
           refl
           (λ walks. absurd (cc)) (λ shown. absurd (cc))
+          (λ registered. All-nil (λ (channel : List ℕ). bit_at (get_or c.interests i 0) (channel_bit channel) ≡ 1))
           (λ registered. record { still = inr (inl refl); walked = λ walks. absurd (cc) })
           (λ n x. has_still v.known.marks v.post.mark n x) (λ registered. (v.known.marks, refl));
       told = record { slots = refl; view = refl };
@@ -162,24 +167,25 @@ begin_walk_allowed z slots id me positive free registered =
     let counted = h.history.counted in
     let left = few_left z g.made g.past views id v h.budget here h.history.finished setup in
     let all : notes_of_seats v.setup.seats ≤ 65536 = let most = shape.few_notes in subst (λ (y : Shape). notes_of_seats y.seats ≤ 65536) (sym setup) most in record {
-      w = moved g.past v.known.mark v.known.marks v.known.owes v.post k v;
+      w = moved g.past v.known.mark v.known.marks v.known.owes v.known.set v.post k v;
       content = c;
       world = g;
       moves = refl;
-      law = moves z c g views id v i g.past v.known.mark v.known.marks v.known.owes v.post k c.pos h here number
+      law = moves z c g views id v i g.past v.known.mark v.known.marks v.known.owes v.known.set v.post k c.pos h here number
           (begins-itself g.past) (begins-shorter v.known.seen g.past (h.history.sees id v here))
           (λ held. absurd (true≢false (sym held ∙ ap holds_lock free)))
           refl (λ j other. refl) (h.posts.shows id v here i number)
           (λ _. mine) (λ _ low. h.looks.spared id v here has low)
           (h.posts.marks id v here)
           (λ walks. (registered, mine.most, omega (arith, counted))) (λ shown. absurd (cc))
-          (λ _. record { still = (h.wakes.heeds id v here registered i number).still; walked = λ walks. inr (near_itself_served z.format v.known.db g.past g.undecided c.fin i c.fin (omega arith)) })
+          (λ _. h.interests.covered id v here registered i number)
+          (λ _. record { still = (h.wakes.heeds id v here registered i number).still; walked = λ walks. inr (near_itself_served z.format (is_due_to v.known.db v.known.set) g.past g.undecided g.concerned c.fin i c.fin (omega arith)) })
           (λ n x. x) (h.named.current id v here);
       told = record {
         slots = refl;
         begun = record {
           more = drop (length v.known.seen) g.past;
-          view = ap (λ (xs : List Tx). moved xs v.known.mark v.known.marks v.known.owes v.post k v) (learned_more z c g views id v h here);
+          view = ap (λ (xs : List Tx). moved xs v.known.mark v.known.marks v.known.owes v.known.set v.post k v) (learned_more z c g views id v h here);
           number = counted;
           finished = h.history.finished;
           few = omega (arith, left);
@@ -210,16 +216,17 @@ show_head_allowed z slots id me positive walks =
     let mine = (h.posts.placed id v here has).1 in
     let from : page_start c.stop ≤ v.post.at = let kept = mine.kept in omega (arith, kept) in
     let headed = h.stored.headed in record {
-      w = moved v.known.seen v.known.mark v.known.marks v.known.owes v.post k v;
+      w = moved v.known.seen v.known.mark v.known.marks v.known.owes v.known.set v.post k v;
       content = c;
       world = g;
       moves = refl;
-      law = moves z c g views id v i v.known.seen v.known.mark v.known.marks v.known.owes v.post k c.pos h here number
+      law = moves z c g views id v i v.known.seen v.known.mark v.known.marks v.known.owes v.known.set v.post k c.pos h here number
           (h.history.sees id v here) (omega arith) (λ _. refl)
           refl (λ j other. refl) (h.posts.shows id v here i number)
           (λ _. mine) (λ _ low. h.looks.spared id v here has low)
           (h.posts.marks id v here)
           (λ _. way) (λ shown. (λ at y low is. h.stored.kept at y (omega (arith, from, low)) is, omega (arith, headed)))
+          (λ _. h.interests.covered id v here way.0 i number)
           (λ _. let heeded = h.wakes.heeds id v here way.0 i number in record { still = heeded.still; walked = λ _. heeded.walked walks })
           (λ n x. x) (h.named.current id v here);
       told = record {
@@ -287,7 +294,7 @@ store_forward_allowed z slots id word x at me own positive shown place_is low va
       content = record c { pos = set c.pos i x };
       world = g;
       moves = ap (λ n. set (row c) n x) there ∙ set_pos z c i x within;
-      law = moves z c g views id v i v.known.seen (Some v.walk.upto) (v.known.marks ++ v.walk.upto ∷ []) false q (record v.walk { stage = Still }) (set c.pos i x) h here number
+      law = moves z c g views id v i v.known.seen (Some v.walk.upto) (v.known.marks ++ v.walk.upto ∷ []) false v.known.set q (record v.walk { stage = Still }) (set c.pos i x) h here number
           sees (omega arith) (λ _. refl)
           (length-set c.pos i x) (λ j other. get_or-set_other c.pos i j x 0 other)
           (get_or-set_same c.pos i x 0 within ∙ value ∙ ap (λ (l : Listen). word_of (shown_as l v.walk.upto at)) (sym registered))
@@ -295,6 +302,7 @@ store_forward_allowed z slots id word x at me own positive shown place_is low va
           (λ _ looked. let least = h.looks.spared id v here has looked in omega (arith, least, up))
           (ap (λ (l : Listen). marked (shown_as l v.walk.upto at)) (sym registered))
           (λ walks. absurd (cc)) (λ ends. absurd (cc))
+          (λ _. h.interests.covered id v here registered i number)
           (λ _. let heeded = h.wakes.heeds id v here registered i number in record { still = ⊎_elim (λ set_now. inl set_now) (λ near. inr (inr near)) (heeded.walked (ap is_walking shown)); walked = λ walks. absurd (cc) })
           (λ n y. has_still v.known.marks v.walk.upto n y) (λ _. (v.known.marks, refl));
       told = record { slots = refl; view = ap (λ n. forwarded n v) (sym part) };
@@ -313,12 +321,12 @@ store_out_allowed z slots id word me own positive =
       content = record c { pos = set c.pos i 0 };
       world = g;
       moves = ap (λ n. set (row c) n 0) there ∙ set_pos z c i 0 within;
-      law = moves z c g views id v i v.known.seen None v.known.marks v.known.owes (record v.post { listen = Out }) (record v.walk { stage = Still }) (set c.pos i 0) h here number
+      law = moves z c g views id v i v.known.seen None v.known.marks v.known.owes v.known.set (record v.post { listen = Out }) (record v.walk { stage = Still }) (set c.pos i 0) h here number
           (h.history.sees id v here) (omega arith) (λ _. refl)
           (length-set c.pos i 0) (λ j other. get_or-set_other c.pos i j 0 0 other) (get_or-set_same c.pos i 0 0 within)
           (λ has. absurd (cc)) (λ has. absurd (cc))
           refl
           (λ walks. absurd (cc)) (λ shown. absurd (cc))
-          (λ registered. absurd (cc)) (λ n x. x) (λ registered. absurd (cc));
+          (λ registered. absurd (cc)) (λ registered. absurd (cc)) (λ n x. x) (λ registered. absurd (cc));
       told = record { slots = refl; view = refl };
     })

@@ -3,7 +3,7 @@ use Rattle.std.specs.Prelude.{◌≡◌, ◌≢◌, ℕ, ◌+◌, ◌%◌, ◌<�
 use mathlib.Core.Option.{some}
 use lib.ListN.{get_elem?}
 use Rattle.pgn_base.specs.declared.format.Format.TheVariants.{One}
-use Rattle.pgn_journal.specs.Journal.{is_committed_in}
+use Rattle.pgn_journal.specs.Due.{is_due_to}
 use Rattle.pgn_journal.specs.Near.{Near}
 use Rattle.pgn_journal.specs.Packing.{page_of, place, image}
 use Rattle.pgn_hub.specs.Shape.{Shape, IsShape}
@@ -41,10 +41,10 @@ PagesAreSpared = (z : Shape) (c : Content) (g : World) (views : List View) (id :
     → (at old : ℕ) → page_of at < v.stop + z.pages → page_of at ≡ page_of (length v.pen.cells) → old + ring_pages z ≡ page_of at
     → (j : ℕ) (u : View) → get_elem? views j ≡ some u → is_placed u.post.listen ≡ true → old < page_of u.post.at
 
--- a listener whose wake is not set, and that owes no read, need not read up to what it was told
+-- a listener whose wake is not set, and that owes no read, need not read up to what it was told, as far as its channels go
 abbrev pub NoWakeIsLost : Type 0
 NoWakeIsLost = (z : Shape) (c : Content) (g : World) (views : List View) (j i : ℕ) (v : View) → Law z c g views → get_elem? views j ≡ some v → v.post.listen ≡ Registered → v.known.session ≡ i + 1
-    → get_or c.wakes i 0 ≢ 1 → v.known.owes ≡ false → Near z.format (is_committed_in v.known.db) g.past v.post.mark v.known.told
+    → get_or c.wakes i 0 ≢ 1 → v.known.owes ≡ false → Near z.format (is_due_to v.known.db v.known.set) g.past v.post.mark v.known.told
 
 -- all wakes are set of the transactions below the number that a flag shows
 abbrev pub FlagsAreHeard : Type 0

@@ -9,6 +9,7 @@ pub mod Told
 pub mod Listening
 pub mod Looking
 pub mod Waking
+pub mod Interests
 pub mod Passes
 pub mod Closing
 pub mod Laws

@@ -35,10 +35,10 @@ pub record TellsBase (s : Step ℕ) (v : Mine) (n : ℕ) (w : Mine) : Type 0 whe
   pub base : HasBase v.0 (mark_in n) (place_in n) w.0
   pub kept : (w.0.setup ≡ v.0.setup) × (w.0.ended ≡ v.0.ended)
 
--- it is a listener from its base on, and owes a read
+-- it is a listener from its base on, which has told no channel yet, and owes a read
 abbrev pub registered : View → View
 registered v = record v {
-  known = record v.known { mark = Some v.post.mark; marks = v.known.marks ++ v.post.mark ∷ []; owes = true };
+  known = record v.known { mark = Some v.post.mark; set = []; marks = v.known.marks ++ v.post.mark ∷ []; owes = true };
   post = record v.post { listen = Registered };
   walk = record v.walk { stage = Still };
 }

@@ -21,13 +21,14 @@ use Rattle.pgn_words.specs.declared.view.Phase.TheVariants.{Free, Held, Headed, 
 pub use Rattle.pgn_words.specs.Each.{Each, Keeps}
 use Rattle.pgn_words.specs.Each.{Someone}
 use Rattle.pgn_words.specs.ListenRule.{Posts, Walks, Looks}
-use Rattle.pgn_words.specs.WakeRule.{Wakes, Flags, Named, Taken}
+use Rattle.pgn_words.specs.WakeRule.{Wakes, Interests, Flags, Named, Taken}
 use Rattle.pgn_words.specs.Words.{Content, row, seats_of, status_words, room_of}
 use Rattle.pgn_words.specs.Views.{holds_lock, fated, knows_stop, drawn_by, seat_of, spent_by}
 
 -- What no word and no pass by itself has: the finished transactions; these and what the head shows of the open one; the seat among the
 -- table's seats that holds the lock; how many passes were made; where the pass of each session sits; at how many seats the
--- last second look has looked, and its target; and the seats that are not decided after the last transaction.
+-- last second look has looked, and its target; and the seats that are not decided after the last transaction, and those whose listener it
+-- may concern.
 pub record World : Type 0 where
   pub past : List Tx
   pub shown : List Tx
@@ -37,11 +38,13 @@ pub record World : Type 0 where
   pub looked : ℕ
   pub target : ℕ
   pub undecided : ℕ → Bool
+  pub concerned : ℕ → Bool
 
 -- there are as many words of each kind as the queue was opened for
-pub record Laid (z : Shape) (pos wakes flags statuses cells : List ℕ) : Type 0 where
+pub record Laid (z : Shape) (pos wakes interests flags statuses cells : List ℕ) : Type 0 where
   pub pos_long : length pos ≡ seats_of z
   pub wakes_long : length wakes ≡ seats_of z
+  pub interests_long : length interests ≡ seats_of z
   pub flags_long : length flags ≡ z.flags
   pub statuses_long : length statuses ≡ status_words z
   pub cells_long : length cells ≡ room_of z
@@ -208,7 +211,7 @@ Budget z made past views = notes_of past + sum_by spent_by views + notes_of_seat
 
 -- all groups of clauses, for these words, this world and these passes
 pub record Law (z : Shape) (c : Content) (g : World) (views : List View) : Type 0 where
-  pub laid : Laid z c.pos c.wakes c.flags c.statuses c.cells
+  pub laid : Laid z c.pos c.wakes c.interests c.flags c.statuses c.cells
   pub seats : Seats z g.made g.seat views
   pub locking : Locking c.lock g.holder views
   pub stored : Stored z c.head c.stop g.shown c.cells
@@ -220,7 +223,8 @@ pub record Law (z : Shape) (c : Content) (g : World) (views : List View) : Type 
   pub posts : Posts z.format g.past c.fin c.stop g.made c.tail c.pos views
   pub walks : Walks z.format (room_of z) c.head c.cells views
   pub looks : Looks z.format g.past c.fin c.stop g.looked g.target c.tail views
-  pub wakes : Wakes z.format c.lock c.fin g.past g.undecided c.wakes views
+  pub wakes : Wakes z.format c.lock c.fin g.past g.undecided g.concerned c.wakes views
+  pub interests : Interests g.concerned c.interests views
   pub flags : Flags c.fin g.undecided c.flags views
   pub named : Named views
   pub taken : Taken z g.made c.fin g.undecided g.seat g.past views

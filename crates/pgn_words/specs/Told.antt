@@ -68,7 +68,7 @@ pub record TellsLock (s : Step ℕ) (v : Mine) (n : ℕ) (w : Mine) : Type 0 whe
 
 -- the pass gives the lock up; where it has finished a transaction, it is told of it
 abbrev pub freed : View → View
-freed v = record v { phase = Free; ended = None; verdicts = []; known = record v.known { told = unwrap_or v.ended v.known.told } }
+freed v = record v { phase = Free; ended = None; verdicts = []; concerned = []; known = record v.known { told = unwrap_or v.ended v.known.told } }
 
 -- what the drop of the lock tells
 pub record TellsDrop (s : Step ℕ) (v : Mine) (n : ℕ) (w : Mine) : Type 0 where
@@ -191,6 +191,7 @@ abbrev pub fin_stored : View → View
 fin_stored v = record v {
   phase = Signalling;
   verdicts = replicate (seats_of v.setup) Unseen;
+  concerned = replicate (seats_of v.setup) true;
   ended = Some (next_xid v.known.seen + 1);
   known = record v.known { seen = v.known.seen ++ v.pen.ending ∷ []; own = v.known.own ++ next_xid v.known.seen ∷ [] };
   pen = record v.pen { taken = 0 };

@@ -166,6 +166,7 @@ opened_view z session = record {
   walk = no_walk;
   eye = no_eye;
   verdicts = [];
+  concerned = [];
 }
 
 -- the first pass, which makes the others

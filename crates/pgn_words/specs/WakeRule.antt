@@ -1,12 +1,15 @@
 -- The groups of the rule on wakes, flags, the marks that looks met, and the passes that were taken in at the end.
-use Rattle.std.specs.Prelude.{◌≡◌, ◌≢◌, ◌⊎◌, ℕ, ◌+◌, ◌-◌, ◌<◌, ◌≤◌, Bool, true, false, cond, List, [], ◌∷◌, ◌++◌, get_or, Option, None, Some, All, Any, Contains, flat_map}
+use Rattle.std.specs.Prelude.{◌≡◌, ◌≢◌, ◌⊎◌, ℕ, ◌+◌, ◌-◌, ◌<◌, ◌≤◌, ◌&&◌, Bool, true, false, cond, List, [], ◌∷◌, ◌++◌, get_or, Option, None, Some, All, Any, Contains, flat_map}
+use Rattle.std.specs.List.{list_any}
 use Rattle.pgn_base.specs.declared.format.Format.{Format}
-use Rattle.pgn_base.specs.declared.limits.TheConstants.{FIRST_XID}
+use Rattle.pgn_base.specs.declared.limits.TheConstants.{FIRST_XID, CLEANUP_DELAY_PAGES}
 use Rattle.pgn_journal.specs.declared.tx.Tx.{Tx}
 use Rattle.pgn_hub.specs.declared.known.Known.{Known}
 use Rattle.pgn_journal.specs.Begins.{Begins}
-use Rattle.pgn_journal.specs.Journal.{next_xid, is_committed_in, xids_of}
-use Rattle.pgn_journal.specs.Near.{Near}
+use Rattle.pgn_journal.specs.Journal.{next_xid, xids_of, entries_between}
+use Rattle.pgn_journal.specs.Due.{is_due_to}
+use Rattle.pgn_journal.specs.Interest.{Covers}
+use Rattle.pgn_journal.specs.Packing.{page_of, place}
 use Rattle.pgn_hub.specs.Shape.{Shape}
 use Rattle.pgn_words.specs.declared.view.View.{View}
 use Rattle.pgn_words.specs.declared.view.Phase.{Phase}
@@ -17,24 +20,35 @@ use Rattle.pgn_words.specs.declared.view.Listen.TheVariants.{Registered}
 use Rattle.pgn_words.specs.Views.{holds_lock, is_open, is_walking, seat_of}
 use Rattle.pgn_words.specs.Each.{Each, Someone}
 
--- how far the listener at a seat was served: of the last transaction only once its seat was decided
+-- how far the listener at a seat was served as to its pages: of the last transaction only once its seat was decided
 abbrev pub served : (ℕ → Bool) → ℕ → ℕ → ℕ
 served undecided fin i = cond (undecided i) (fin - 1) fin
+
+-- how far it was passed by as to its channels: of the last transaction once its seat was decided, or once it is known that the
+-- transaction does not concern it
+abbrev pub passed : (ℕ → Bool) → (ℕ → Bool) → ℕ → ℕ → ℕ
+passed undecided concerned fin i = cond (undecided i && concerned i) (fin - 1) fin
+
+-- a listener at the mark need not read: nothing for it stands before the one number, and the other begins less than four pages on
+pub record IsServed (format : Format) (matters : Tx → Bool) (past : List Tx) (mark by upto : ℕ) : Type 0 where
+  pub nothing_due : list_any matters (entries_between past mark by) ≡ false
+  pub few_pages : page_of (place format past upto) < page_of (place format past mark) + CLEANUP_DELAY_PAGES
 
 -- the wakes of each transaction below the number were set
 pub record IsHeard (fin : ℕ) (undecided : ℕ → Bool) (n : ℕ) : Type 0 where
   pub most : n ≤ fin
   pub decided : (i : ℕ) → undecided i ≡ true → n + 1 ≤ fin
 
--- a listener at a seat is woken, or owes a read, or need not read up to what it was served of; the same from the end of its walk on
-pub record IsHeeded (format : Format) (past : List Tx) (upto : ℕ) (wake db mark : ℕ) (walks : Bool) (ends : ℕ) (owes : Bool) : Type 0 where
-  pub still : (wake ≡ 1) ⊎ ((owes ≡ true) ⊎ Near format (is_committed_in db) past mark upto)
-  pub walked : walks ≡ true → (wake ≡ 1) ⊎ Near format (is_committed_in db) past ends upto
+-- a listener at a seat is woken, or owes a read, or need not read as far as it was passed by and served; the same from the end of its
+-- walk on
+pub record IsHeeded (format : Format) (matters : Tx → Bool) (past : List Tx) (by upto : ℕ) (wake mark : ℕ) (walks : Bool) (ends : ℕ) (owes : Bool) : Type 0 where
+  pub still : (wake ≡ 1) ⊎ ((owes ≡ true) ⊎ IsServed format matters past mark by upto)
+  pub walked : walks ≡ true → (wake ≡ 1) ⊎ IsServed format matters past ends by upto
 
 -- so is the pass of each listener
-abbrev pub Heeds : Format → List Tx → ℕ → (ℕ → Bool) → List ℕ → ℕ → View → Type 0
-Heeds format past fin undecided wakes j v = v.post.listen ≡ Registered → (i : ℕ) → v.known.session ≡ i + 1
-    → IsHeeded format past (served undecided fin i) (get_or wakes i 0) v.known.db v.post.mark (is_walking v.walk.stage) v.walk.upto v.known.owes
+abbrev pub Heeds : Format → List Tx → ℕ → (ℕ → Bool) → (ℕ → Bool) → List ℕ → ℕ → View → Type 0
+Heeds format past fin undecided concerned wakes j v = v.post.listen ≡ Registered → (i : ℕ) → v.known.session ≡ i + 1
+    → IsHeeded format (is_due_to v.known.db v.known.set) past (passed undecided concerned fin i) (served undecided fin i) (get_or wakes i 0) v.post.mark (is_walking v.walk.stage) v.walk.upto v.known.owes
 
 -- in a list of verdicts, whether there is still to decide on a seat
 abbrev pub waits_in : List Verdict → ℕ → Bool
@@ -65,13 +79,32 @@ ended_in Finished fin = None
 ended_in Signalling fin = Some fin
 
 -- no wake is lost
-pub record Wakes (format : Format) (lock fin : ℕ) (past : List Tx) (undecided : ℕ → Bool) (wakes : List ℕ) (views : List View) : Type 0 where
+pub record Wakes (format : Format) (lock fin : ℕ) (past : List Tx) (undecided concerned : ℕ → Bool) (wakes : List ℕ) (views : List View) : Type 0 where
   pub small : (i : ℕ) → get_or wakes i 0 ≤ 1
-  pub heeds : Each (Heeds format past fin undecided wakes) views
+  pub heeds : Each (Heeds format past fin undecided concerned wakes) views
   pub signals : Each (Signals undecided) views
   pub calm : lock ≡ 0 → (i : ℕ) → undecided i ≡ false
   pub heard : Each (λ _ v. IsHeard fin undecided v.known.told) views
   pub ended : Each (λ _ v. v.ended ≡ ended_in v.phase fin) views
+
+-- the word of a listener's seat has the bit of each channel that it has told
+abbrev pub Covered : List ℕ → ℕ → View → Type 0
+Covered interests j v = v.post.listen ≡ Registered → (i : ℕ) → v.known.session ≡ i + 1 → Covers (get_or interests i 0) v.known.set
+
+-- whom the last transaction may concern, by the list of the holder while it signals
+abbrev pub Deems : Phase → (ℕ → Bool) → List Bool → Type 0
+Deems Free concerned deemed = Unit {0}
+Deems Held concerned deemed = Unit {0}
+Deems Headed concerned deemed = Unit {0}
+Deems Ready concerned deemed = Unit {0}
+Deems Open concerned deemed = Unit {0}
+Deems Finished concerned deemed = Unit {0}
+Deems Signalling concerned deemed = (i : ℕ) → concerned i ≡ get_or deemed i false
+
+-- what listeners have told of their channels, and whom the last transaction may concern
+pub record Interests (concerned : ℕ → Bool) (interests : List ℕ) (views : List View) : Type 0 where
+  pub covered : Each (Covered interests) views
+  pub deems : Each (λ _ v. Deems v.phase concerned v.concerned) views
 
 -- the flags that a pass raised, with those of the passes that it has taken in
 abbrev pub raised_in : View → List (ℕ × ℕ)

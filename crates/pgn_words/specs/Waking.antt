@@ -4,7 +4,8 @@ use Rattle.atomic_table.specs.Table.{Step}
 use Rattle.pgn_base.specs.declared.limits.TheConstants.{FIRST_XID}
 use Rattle.pgn_lanes.specs.Behind.{is_woken}
 use Rattle.pgn_journal.specs.declared.tx.Tx.{Tx}
-use Rattle.pgn_journal.specs.Journal.{next_xid, is_committed_in}
+use Rattle.pgn_journal.specs.Journal.{next_xid, is_committed}
+use Rattle.pgn_journal.specs.Due.{is_due_to}
 use Rattle.pgn_journal.specs.Near.{Near}
 use Rattle.pgn_journal.specs.Packing.{image}
 use Rattle.pgn_words.specs.declared.pos_word.PosWord.{PosWord}
@@ -19,14 +20,14 @@ use Rattle.pgn_words.specs.Looking.{TellsPosition}
 use Rattle.pgn_words.specs.Told.{Mine, IsSamePass}
 
 -- The pass has taken its wake. It owes a read where the wake was set or a read was owed; and where neither was so, the journal has
--- nothing that it need read, up to what it was told.
+-- nothing for its channels that it need read, up to what it was told.
 pub record HasTaken (v : View) (was_set : Bool) (w : View) : Type 0 where
   pub more : List Tx
   pub view : w ≡ record v {
     known = record v.known { seen = v.known.seen ++ more; owes = was_set || v.known.owes; wake_look = Some (was_set, v.known.owes) };
     walk = record v.walk { stage = Still };
   }
-  pub near : (was_set || v.known.owes) ≡ false → Near v.setup.format (is_committed_in v.known.db) w.known.seen v.post.mark v.known.told
+  pub near : (was_set || v.known.owes) ≡ false → Near v.setup.format (is_due_to v.known.db v.known.set) w.known.seen v.post.mark v.known.told
 
 -- what the taking of a wake tells
 pub record TellsTaken (s : Step ℕ) (v : Mine) (n : ℕ) (w : Mine) : Type 0 where
@@ -42,11 +43,20 @@ verdict_on v seat = get_or v.verdicts seat Decided
 abbrev pub verdict_of : Bool → Verdict
 verdict_of needs = cond needs Needed Decided
 
--- a listener at this position, of the session of this seat, needs a wake by what the pass has committed: nobody who is out or joins does
+-- the transaction may concern the listener at a seat, as far as the pass knows
+abbrev pub is_concerned : View → ℕ → Bool
+is_concerned v seat = get_or v.concerned seat false
+
+-- The database by which the listener at a seat is tested: its own, and none where it is known to listen to nothing of the transaction.
+-- After one that was aborted, for which the queue was full, each is tested by the pass's own database, so that nobody is left behind.
+abbrev pub concerned_db : View → ℕ → ℕ
+concerned_db v seat = cond (is_committed v.pen.ending.fate) (cond (is_concerned v seat) (seat_of v.setup (seat + 1)).db 0) v.known.db
+
+-- a listener at this position, of the session of this seat, needs a wake by what the pass has finished: nobody who is out or joins does
 abbrev pub needs_wake : View → ℕ → PosWord → Bool
 needs_wake v seat position =
     let head = length (image v.setup.format v.known.seen) in
-    is_woken head v.known.db (place_or head position) (seat_of v.setup (seat + 1)).db
+    is_woken head v.known.db (place_or head position) (concerned_db v seat)
 
 -- the pass has looked at the position of a seat
 abbrev pub wake_looked : ℕ → PosWord → View → View

@@ -4,7 +4,7 @@ use Rattle.pgn_base.specs.declared.limits.TheConstants.{FIRST_XID}
 use Rattle.pgn_hub.specs.Shape.{Shape, notes_of_seats}
 use Rattle.pgn_journal.specs.Packing.{page_cells}
 
--- what the words hold. Positions and wakes have a word for each seat
+-- what the words hold. Positions, wakes and interests have a word for each seat
 pub record Content : Type 0 where
   -- 0, or the number of the session that holds the lock
   pub lock : ℕ
@@ -20,13 +20,15 @@ pub record Content : Type 0 where
   pub xid : ℕ
   pub pos : List ℕ
   pub wakes : List ℕ
+  -- for each seat the bits of the channels that its listener has told
+  pub interests : List ℕ
   pub flags : List ℕ
   pub statuses : List ℕ
   pub cells : List ℕ
 
 -- the words, in their order
 abbrev pub row : Content → List ℕ
-row c = c.lock ∷ c.head ∷ c.fin ∷ c.tail ∷ c.stop ∷ c.xid ∷ (c.pos ++ (c.wakes ++ (c.flags ++ (c.statuses ++ c.cells))))
+row c = c.lock ∷ c.head ∷ c.fin ∷ c.tail ∷ c.stop ∷ c.xid ∷ (c.pos ++ (c.wakes ++ (c.interests ++ (c.flags ++ (c.statuses ++ c.cells)))))
 
 -- how many seats there are
 abbrev pub seats_of : Shape → ℕ
@@ -53,9 +55,13 @@ pos_at = 6
 abbrev pub wakes_at : Shape → ℕ
 wakes_at z = pos_at + seats_of z
 
+-- where the interests begin
+abbrev pub interests_at : Shape → ℕ
+interests_at z = wakes_at z + seats_of z
+
 -- where the flags begin
 abbrev pub flags_at : Shape → ℕ
-flags_at z = wakes_at z + seats_of z
+flags_at z = interests_at z + seats_of z
 
 -- where the statuses begin
 abbrev pub statuses_at : Shape → ℕ
@@ -89,6 +95,7 @@ first_content z = record {
   xid = FIRST_XID;
   pos = replicate (seats_of z) 0;
   wakes = replicate (seats_of z) 0;
+  interests = replicate (seats_of z) 0;
   flags = replicate z.flags 0;
   statuses = replicate (status_words z) 0;
   cells = replicate (room_of z) 0;

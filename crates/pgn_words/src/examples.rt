@@ -1,12 +1,13 @@
-ghost use Rattle.std.specs.Prelude.{◌≡◌, ◌≢◌, ℕ, ◌+◌, ◌≤◌, ◌<◌, true, false, [], ◌∷◌, Some};
+ghost use Rattle.std.specs.Prelude.{◌≡◌, ◌≢◌, ℕ, ◌+◌, ◌^◌, ◌≤◌, ◌<◌, true, false, [], ◌∷◌, Some};
 ghost use Rattle.pgn_base.specs.declared.format.Format.TheVariants.{One};
 ghost use Rattle.pgn_hub.specs.Examples.{two_seats, tx_3, published};
 ghost use Rattle.pgn_words.specs.Views.{no_eye};
 ghost use Rattle.pgn_words.specs.Rule.{Keeps, Locks, Draws, KnowsAll};
 ghost use Rattle.pgn_words.specs.ListenRule.{IsPlaced, ShowsPosition, Marks, Spared, IsSecond};
-ghost use Rattle.pgn_words.specs.WakeRule.{IsHeard, Signals, IsMost, IsLast, IsTaken};
+ghost use Rattle.pgn_words.specs.WakeRule.{IsHeard, Signals, Covered, Deems, IsMost, IsLast, IsTaken};
 ghost use Rattle.pgn_words.specs.Each.{Someone};
-ghost use Rattle.pgn_words.specs.Examples.{listener, holder};
+ghost use Rattle.pgn_words.specs.Examples.{listener, listens_on_c, holder};
+ghost use Rattle.pgn_words.specs.declared.view.Phase.TheVariants.{Signalling};
 
 /// What the rule refuses of the words and of a writer.
 #[tactic(auto, using(crate::proofs::RefusedSteps::refused_writers))]
@@ -42,6 +43,10 @@ pub fn wakes()
     ensures heard_too_early { IsHeard 4 (λ i. true) 4 → ⊥ }
     // A seat is undecided while the holder does not signal.
     ensures undecided { Signals (λ i. true) 0 holder → ⊥ }
+    // The word of a listener's seat lacks the bit of the channel that it has told.
+    ensures uncovered { Covered (2 ^ 36 ∷ []) 0 listens_on_c → ⊥ }
+    // The transaction is taken to concern a listener of whom the holder knows that it does not.
+    ensures deemed { Deems Signalling (λ i. true) (true ∷ false ∷ []) → ⊥ }
     // A listener stands at an earlier mark than its last one.
     ensures earlier_mark { IsLast (3 ∷ 4 ∷ []) 3 → ⊥ }
     // No pass knows the whole journal.

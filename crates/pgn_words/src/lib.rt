@@ -27,6 +27,7 @@ mod cells;
 mod closing;
 pub mod examples;
 mod flags;
+mod interests;
 pub mod laws;
 mod listening;
 mod lock;

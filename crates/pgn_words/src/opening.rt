@@ -34,7 +34,7 @@ fn first_status_word(setup: &Setup) -> usize
 {
     let flags = setup.flags() as usize;
     let seats = setup.seats();
-    POSITIONS + seats.len() + seats.len() + flags
+    POSITIONS + seats.len() + seats.len() + seats.len() + flags
 }
 
 // How many status words there are.
@@ -77,7 +77,8 @@ impl WordQueue {
     {
         let seat_count = setup.seats().len();
         let wakes_at = POSITIONS + seat_count;
-        let flags_at = wakes_at + seat_count;
+        let interests_at = wakes_at + seat_count;
+        let flags_at = interests_at + seat_count;
         let statuses_at = first_status_word(setup);
         let cells_at = statuses_at + status_word_count(setup);
         let room = cell_count(setup);
@@ -89,6 +90,7 @@ impl WordQueue {
         let queue = WordQueue {
             table,
             wakes_at,
+            interests_at,
             flags_at,
             statuses_at,
             cells_at,

@@ -1,6 +1,6 @@
 ghost use Rattle.std.specs.Prelude.{◌≡◌};
 ghost use Rattle.pgn_hub.specs.Shape.{IsShape};
-ghost use Rattle.pgn_words.specs.Words.{word_count, room_of, cells_at as first_cell, wakes_at as first_wake, flags_at as first_flag, statuses_at as first_status};
+ghost use Rattle.pgn_words.specs.Words.{word_count, room_of, cells_at as first_cell, wakes_at as first_wake, interests_at as first_interest, flags_at as first_flag, statuses_at as first_status};
 
 use crate::view::View;
 use atomic_table::{Seat, Table, TableRule};
@@ -26,6 +26,7 @@ impl TableRule<u8, View, Setup> for Rule {
 pub struct WordQueue {
     pub(crate) table: Table<u8, View, Setup, Rule, Global>,
     pub(crate) wakes_at: usize,
+    pub(crate) interests_at: usize,
     pub(crate) flags_at: usize,
     pub(crate) statuses_at: usize,
     pub(crate) cells_at: usize,
@@ -36,6 +37,7 @@ pub struct WordQueue {
     ghost slotless: { table.shared.table_id.slots ≡ 0 },
     ghost counted: { table.shared.table_id.words ≡ word_count table.shared.key },
     ghost wakes_begin: { wakes_at ≡ first_wake table.shared.key },
+    ghost interests_begin: { interests_at ≡ first_interest table.shared.key },
     ghost flags_begin: { flags_at ≡ first_flag table.shared.key },
     ghost statuses_begin: { statuses_at ≡ first_status table.shared.key },
     ghost begins: { cells_at ≡ first_cell table.shared.key },

@@ -3,6 +3,7 @@ ghost use Rattle.pgn_words.specs.Told.{TellsLock, TellsDrop, TellsHead, TellsSto
 ghost use Rattle.pgn_words.specs.Listening.{TellsJoining, TellsBase, TellsRegistered, TellsBegun, TellsShown, TellsShownCell, TellsForwarded, TellsLeft};
 ghost use Rattle.pgn_words.specs.Looking.{TellsFirstLook, TellsTail, TellsTailStore, TellsSecondLook, TellsStopStore};
 ghost use Rattle.pgn_words.specs.Waking.{TellsTaken, TellsWakeLook, TellsWakeSet, TellsRaised, TellsLooked};
+ghost use Rattle.pgn_words.specs.Interests.{TellsInterested, TellsInterest};
 ghost use Rattle.pgn_words.specs.Closing.{taken_in};
 
 use crate::view::View;
@@ -230,6 +231,33 @@ pub(crate) struct SetWake;
 
 impl Play<u8, View> for SetWake {
     ghost then = { TellsWakeSet };
+}
+
+// The channels of a listener. They are no operand of the step, so the caller gives them to the proof.
+pub(crate) trait Channels {
+    ghost use Rattle.std.specs.Prelude.{List, ℕ};
+
+    ghost channels: { List (List ℕ) };
+}
+
+impl Channels for Brand {
+    ghost use Rattle.std.specs.Prelude.{[]};
+
+    ghost channels = { [] };
+}
+
+pub(crate) struct StoreInterest<G> {
+    told: PhantomData<G>,
+}
+
+impl<G: Channels> Play<u8, View> for StoreInterest<G> {
+    ghost then = { TellsInterested G.channels };
+}
+
+pub(crate) struct LoadInterest;
+
+impl Play<u8, View> for LoadInterest {
+    ghost then = { TellsInterest };
 }
 
 pub(crate) struct RaiseFlag;

@@ -130,4 +130,7 @@ pub struct View {
     pub eye: Eye,
     /// While it signals, what it has found out about each seat.
     pub verdicts: LinkedList<Verdict>,
+    /// While it signals, for each seat whether its transaction may concern the listener there. It may until an interest was loaded
+    /// that has no bit in common with it.
+    pub concerned: LinkedList<bool>,
 }

@@ -26,8 +26,8 @@ use Rattle.pgn_language.specs.declared.scenario.ScriptLine.{ScriptLine}
 use Rattle.pgn_model.specs.declared.item.Item.{Item}
 use Rattle.pgn_model.specs.declared.item.Item.TheVariants.{Line, Enlist, Publish, QueueFull, Leave, Reply, Refuse, Channels, Used, Raise, Found, TimedOut, Read}
 use Rattle.pgn_model.specs.declared.trace.Trace.{Trace}
-use Rattle.pgn_journal.specs.Journal.{entry, next_xid, is_committed_in}
-use Rattle.pgn_journal.specs.Due.{due}
+use Rattle.pgn_journal.specs.Journal.{entry, next_xid}
+use Rattle.pgn_journal.specs.Due.{due, is_due_to}
 use Rattle.pgn_journal.specs.QueueUse.{ShowsUsage, NoPage, IsFloorFor}
 use Rattle.pgn_answers.specs.Savepoints.{live_names, surviving_actions, surviving_notes, firsts, is_listen, changes_of}
 use Rattle.pgn_answers.specs.Answers.{Outcome, Commits, Replies, Refuses, Silent, GivesChannels, GivesUsage, answer, list_after}
@@ -398,7 +398,7 @@ ReaderIsUpToDate = (terms : Terms) (journal : List Tx) (s : State) (mark : ℕ) 
 -- nor has who need not read up to a number that is no less than what it was told of: in idle, where it answers that nothing woke it
 abbrev pub QuietIsUpToDate : Type 0
 QuietIsUpToDate = (terms : Terms) (journal : List Tx) (s : State) (told : ℕ) → s.told ≤ told
-    → IfSome s.mark (λ mark. Near terms.settings.format (is_committed_in terms.section.db) journal mark told) → IsUpToDate terms journal s
+    → IfSome s.mark (λ mark. Near terms.settings.format (is_due_to terms.section.db s.set) journal mark told) → IsUpToDate terms journal s
 
 -- the script's end: the trace is lawful: after the last step, and after finish_read
 abbrev pub EndIsLawful : Type 0

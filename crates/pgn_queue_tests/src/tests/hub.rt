@@ -3,7 +3,7 @@ ghost use Rattle.std.specs.Prelude.{◌≡◌, ◌≤◌, ◌<◌, length, None,
 ghost use Rattle.pgn_words.specs.Passes.{known_of};
 ghost use Rattle.pgn_wordhub.specs.Passes.{IsHubPass, hub_shape};
 
-use pgn_base::{Action, Actions, DbOid, Delivery, ListenSet, Name, Note, Payload, SessionNo, Xid};
+use pgn_base::{Action, Actions, DbOid, Delivery, Enlisted, ListenSet, Name, Note, Payload, SessionNo, Xid};
 use pgn_hub::{Hub, PassView, SeatSetup, Setup};
 use pgn_wordhub::WordHub;
 use pgn_words::WordPass;
@@ -14,6 +14,7 @@ use std::test::Fail;
 
 mod calls;
 mod full;
+mod interest;
 mod sharing;
 mod tail;
 
@@ -27,9 +28,16 @@ const NOTES: u32 = 4000;
 fn note(alloc: Global, letters: usize) -> Result<Note, Fail>
     ensures { IfOk result (λ note. length note.payload ≡ letters) }
 {
+    note_on(alloc, "c", letters)
+}
+
+// The same on another channel.
+fn note_on(alloc: Global, channel: &str, letters: usize) -> Result<Note, Fail>
+    ensures { IfOk result (λ note. length note.payload ≡ letters) }
+{
     let payload = vec![in alloc; b'x'; letters]?;
     Ok(Note {
-        channel: Name::new(alloc, "c")?,
+        channel: Name::new(alloc, channel)?,
         payload: Payload::new(alloc, str::from_utf8(&payload)?)?,
     })
 }
@@ -155,7 +163,7 @@ fn send_four<R: Wait>(rt: &R, hub: &WordHub, pass: &mut WordPass, notes: &[Note;
     send(rt, hub, pass, notes);
 }
 
-// Reads on: the new mark, and what was received is put behind `got`.
+// Tells that the session listens on the channel `c`, and reads on: the new mark, and what was received is put behind `got`.
 fn read(
     alloc: Global,
     hub: &WordHub,
@@ -169,6 +177,7 @@ fn read(
     ensures session { (known_of pass.new).session ≡ (known_of pass.old).session }
 {
     let set = set_of_c(alloc)?;
+    hub.interest(pass, &set);
     Ok(hub.scan(alloc, pass, &set, got)?.get())
 }
 
@@ -183,6 +192,19 @@ fn receive(alloc: Global, hub: &WordHub, pass: &mut WordPass) -> Result<(u32, us
     let mut got = Vec::new(alloc);
     let to = read(alloc, hub, pass, &mut got)?;
     Ok((to, got.len()))
+}
+
+// A session listens on the channel `c` from here on, and owes no read.
+fn listen(alloc: Global, hub: &WordHub, pass: &mut WordPass) -> Result<Enlisted, Fail>
+    requires own { IsHubPass hub.now pass.old }
+    requires out { (known_of pass.old).mark ≡ None }
+    ensures own { IsHubPass hub.now pass.new }
+    ensures listens { IfOk result (λ _. IsSome (known_of pass.new).mark) }
+    ensures session { (known_of pass.new).session ≡ (known_of pass.old).session }
+{
+    let enlisted = hub.enlist(pass);
+    receive(alloc, hub, pass)?;
+    Ok(enlisted)
 }
 
 // What an advance did: the oldest kept page before it and after it, and the session that joined.

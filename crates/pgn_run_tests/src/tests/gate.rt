@@ -180,3 +180,32 @@ fn a_session_that_waits_looks_whether_it_was_woken(rt: HostRuntime) -> Result<()
     assert_eq!(rt; hub.wake_looks(), 13);
     Ok(())
 }
+
+const LISTENS_AND_UNLISTENS: &str = "\
+\\session a 1
+LISTEN c
+BEGIN
+COMMIT
+NOTIFY c
+LISTEN d
+SELECT pg_listening_channels()
+UNLISTEN c
+NOTIFY d
+UNLISTEN d
+";
+
+// A session tells its channels where its transaction had actions and it listens afterwards, and at no other line: after the first three.
+#[test]
+fn a_session_tells_its_channels_where_it_has_acted(rt: HostRuntime) -> Result<(), Fail> {
+    let alloc = rt.alloc();
+    let scenario = scenario_of(alloc, LISTENS_AND_UNLISTENS)?;
+    let (hub, mut sessions) = open_on_hub::<Probe<Gate<0>>>(
+        alloc,
+        &scenario,
+        PAGES_DEFAULT,
+        10,
+    )?;
+    run_sessions(&rt, alloc, &hub, sessions.as_mut_slice())?;
+    assert_eq!(rt; hub.interests(), 3);
+    Ok(())
+}

@@ -11,12 +11,13 @@ use std::sync::{Arc, Wait};
 use std::thread;
 use std::time::Duration;
 
-// What has come to pass over a hub: how many transactions have begun, how often sessions have looked whether they were woken, have slept
-// and have read, and how often somebody waited for others in vain.
+// What has come to pass over a hub: how many transactions have begun, how often sessions have looked whether they were woken, have told
+// their channels, have slept and have read, and how often somebody waited for others in vain.
 #[derive(Drop)]
 pub(super) struct Counts {
     begun: AtomicU64,
     wake_looks: AtomicU64,
+    interests: AtomicU64,
     rests: AtomicU64,
     reads: AtomicU64,
     spent: AtomicU64,
@@ -27,6 +28,7 @@ impl Counts {
         Counts {
             begun: AtomicU64::new(0),
             wake_looks: AtomicU64::new(0),
+            interests: AtomicU64::new(0),
             rests: AtomicU64::new(0),
             reads: AtomicU64::new(0),
             spent: AtomicU64::new(0),
@@ -119,6 +121,10 @@ impl<P: Pace> Probe<P> {
         self.counts.wake_looks.load(Ordering::SeqCst)
     }
 
+    pub(super) fn interests(&self) -> u64 {
+        self.counts.interests.load(Ordering::SeqCst)
+    }
+
     pub(super) fn rests(&self) -> u64 {
         self.counts.rests.load(Ordering::SeqCst)
     }
@@ -163,6 +169,11 @@ impl<P: Pace> Hub for Probe<P> {
 
     fn enlist(&self, pass: &mut Self::Pass) -> Enlisted {
         self.hub.enlist(pass)
+    }
+
+    fn interest(&self, pass: &mut Self::Pass, set: &ListenSet) {
+        self.counts.interests.fetch_add(1, Ordering::SeqCst);
+        self.hub.interest(pass, set);
     }
 
     fn scan(

@@ -7,12 +7,13 @@ use Rattle.pgn_journal.specs.declared.tx.Tx.{Tx}
 use Rattle.pgn_journal.specs.declared.tx.Fate.TheVariants.{Committed}
 use Rattle.pgn_model.specs.declared.trace.Trace.{Trace}
 use Rattle.pgn_base.specs.Notes.{IsNote}
-use Rattle.pgn_journal.specs.Journal.{IsFinished, is_committed_in}
+use Rattle.pgn_journal.specs.Journal.{IsFinished}
+use Rattle.pgn_journal.specs.Due.{is_due_to}
 use Rattle.pgn_model.specs.Legal.{names_section}
 use Rattle.pgn_base.specs.declared.format.Format.TheVariants.{One}
 use Rattle.pgn_journal.specs.Near.{Near}
 use Rattle.pgn_journal.proofs.NearLaws.{near-itself}
-use Rattle.pgn_examples.specs.Walks.{other_journal, x_note, its_trace, enlisted, sender_trace, pair, sent_by, other_tx, two_sent}
+use Rattle.pgn_examples.specs.Walks.{other_journal, c_name, x_note, its_trace, enlisted, sender_trace, pair, sent_by, other_tx, two_sent}
 use Rattle.pgn_examples.proofs.walks.runs_of_two.Goals as goal
 
 -- one byte that is not zero
@@ -27,7 +28,7 @@ x_valid = record {
 }
 
 pub returns-clause-lawful : goal.returns-clause-lawful
-returns-clause-lawful c = let valid : All IsNote (x_note ∷ []) = All-cons IsNote x_note [] x_valid (All-nil IsNote) in let near : Near One (is_committed_in 7) other_journal 4 3 = near-itself One (is_committed_in 7) other_journal 4 3 (omega arith) in search rules
+returns-clause-lawful c = let valid : All IsNote (x_note ∷ []) = All-cons IsNote x_note [] x_valid (All-nil IsNote) in let near : Near One (is_due_to 7 (c_name ∷ [])) other_journal 4 3 = near-itself One (is_due_to 7 (c_name ∷ [])) other_journal 4 3 (omega arith) in search rules
 
 pub returns-clause-a_trace_is_missing : goal.returns-clause-a_trace_is_missing
 returns-clause-a_trace_is_missing c = λ h. h.lawful.1

@@ -1,6 +1,6 @@
 use Rattle.std.proofs.Common.{ap, is_some}
 use Rattle.pgn_hub.specs.declared.known.Known.{Known}
-use Rattle.pgn_hub.proofs.SeatLaws.{opened-seats, opened-marks}
+use Rattle.pgn_hub.proofs.SeatLaws.{opened-seats, opened-marks, opened-sets}
 use Rattle.pgn_hub.proofs.laws.conditions.Goals as goal
 
 pub returns-clause-seats : goal.returns-clause-seats
@@ -9,6 +9,7 @@ returns-clause-seats c = record {
   published = λ old new notes x h. record { session = ap (λ (k : Known). k.session) h.known; database = ap (λ (k : Known). k.db) h.known };
   met_full = λ shape old new notes full h. record { session = ap (λ (k : Known). k.session) h.known; database = ap (λ (k : Known). k.db) h.known };
   enlisted = λ old new got h. record { session = ap (λ (k : Known). k.session) h.known; database = ap (λ (k : Known). k.db) h.known };
+  interested = λ old new set h. record { session = ap (λ (k : Known). k.session) h; database = ap (λ (k : Known). k.db) h };
   read = λ old new set to before after h. record { session = ap (λ (k : Known). k.session) h.known; database = ap (λ (k : Known). k.db) h.known };
   learned = λ old new h. record { session = ap (λ (k : Known). k.session) h.known; database = ap (λ (k : Known). k.db) h.known };
   left = λ old new h. record { session = ap (λ (k : Known). k.session) h.known; database = ap (λ (k : Known). k.db) h.known };
@@ -24,6 +25,7 @@ pub returns-clause-marks : goal.returns-clause-marks
 returns-clause-marks c = record {
   opened = opened-marks;
   enlisted = λ old new got h. ap (λ (k : Known). is_some k.mark) h.known;
+  interested = λ old new set h. ap (λ (k : Known). k.mark) h;
   read = λ old new set to before after h. ap (λ (k : Known). is_some k.mark) h.known;
   left = λ old new h. ap (λ (k : Known). k.mark) h.known;
   learned = λ old new h. ap (λ (k : Known). k.mark) h.known;
@@ -35,4 +37,21 @@ returns-clause-marks c = record {
   found = λ old new flag x h. ap (λ (k : Known). k.mark) h.known;
   measured = λ shape old new usage h. ap (λ (k : Known). k.mark) h.known;
   heard = λ from old new h. ap (λ (k : Known). k.mark) h.known;
+}
+
+pub returns-clause-sets : goal.returns-clause-sets
+returns-clause-sets c = record {
+  opened = opened-sets;
+  enlisted = λ old new got h. ap (λ (k : Known). k.set) h.known;
+  interested = λ old new set h. ap (λ (k : Known). k.set) h;
+  read = λ old new set to before after h. ap (λ (k : Known). k.set) h.known;
+  learned = λ old new h. ap (λ (k : Known). k.set) h.known;
+  published = λ old new notes x h. ap (λ (k : Known). k.set) h.known;
+  met_full = λ shape old new notes full h. ap (λ (k : Known). k.set) h.known;
+  woken = λ format old new woken h. ap (λ (k : Known). k.set) h.known;
+  raised = λ old new flag x h. ap (λ (k : Known). k.set) h.known;
+  found_none = λ old new flag h. ap (λ (k : Known). k.set) h.known;
+  found = λ old new flag x h. ap (λ (k : Known). k.set) h.known;
+  measured = λ shape old new usage h. ap (λ (k : Known). k.set) h.known;
+  heard = λ from old new h. ap (λ (k : Known). k.set) h.known;
 }

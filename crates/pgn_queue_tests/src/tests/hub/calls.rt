@@ -20,7 +20,7 @@ fn listen_and_read<R: Wait>(
     ensures session { (known_of pass.new).session ≡ (known_of pass.old).session }
 {
     let notes = [note(alloc, 1)?];
-    let _enlisted = hub.enlist(pass);
+    listen(alloc, hub, pass)?;
     let _sent = send(rt, hub, pass, &notes);
     let woken = hub.woken(pass);
     let (to, got) = receive(alloc, hub, pass)?;
@@ -58,7 +58,7 @@ fn one_pass_through_every_call(rt: HostRuntime) -> Result<(), Fail> {
 #[test]
 fn a_listener_reads_what_it_sent(rt: HostRuntime) -> Result<(), Fail> {
     let (hub, mut first, _second) = open_two(rt.alloc())?;
-    let enlisted = hub.enlist(&mut first);
+    let enlisted = listen(rt.alloc(), &hub, &mut first)?;
     assert_eq!(rt; (enlisted.base.get(), enlisted.point.get()), (3, 3));
     assert_eq!(rt;
         send(&rt, &hub, &mut first, &[note(rt.alloc(), 1)?]),
@@ -147,8 +147,8 @@ fn the_end_counts_the_journal(rt: HostRuntime) -> Result<(), Fail> {
 #[test]
 fn two_databases(rt: HostRuntime) -> Result<(), Fail> {
     let (hub, mut first, mut second) = open_pages(rt.alloc(), 2, 2)?;
-    hub.enlist(&mut first);
-    hub.enlist(&mut second);
+    listen(rt.alloc(), &hub, &mut first)?;
+    listen(rt.alloc(), &hub, &mut second)?;
     send(&rt, &hub, &mut second, &[note(rt.alloc(), 1)?]);
     assert!(rt; !hub.woken(&mut first));
     assert!(rt; hub.woken(&mut second));

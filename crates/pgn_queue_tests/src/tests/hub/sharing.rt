@@ -30,6 +30,7 @@ fn send_and_read<R: Wait>(
 {
     let sent = publish_one(rt, hub, writer, notes);
     let mut got = Vec::new(alloc);
+    hub.interest(reader, set);
     hub.scan(alloc, reader, set, &mut got)?;
     Ok(sent.is_some() && got.len() == 1)
 }
@@ -102,6 +103,7 @@ fn try_once<R: Wait>(
     if let Some(xid) = publish_one(rt, hub, pass, notes) {
         log.sent.push(xid)?;
     }
+    hub.interest(pass, set);
     hub.scan(alloc, pass, set, &mut log.got)?;
     Ok(())
 }
@@ -179,6 +181,7 @@ fn read_rest(
     ensures other_session { (known_of other.new).session ≡ (known_of other.old).session }
 {
     hub.meet(other, pass);
+    hub.interest(pass, set);
     hub.scan(alloc, pass, set, &mut log.got)?;
     Ok(())
 }

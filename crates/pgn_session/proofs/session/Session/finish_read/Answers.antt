@@ -1,5 +1,6 @@
 use Rattle.std.proofs.Common.{sym}
 use Rattle.pgn_session.specs.Standing.{terms_of}
+use Rattle.pgn_session.proofs.KnownLaws.{told-set}
 use Rattle.pgn_session.proofs.OverLaws.{learned-at_end, read-at_end}
 use Rattle.pgn_session.proofs.session.Session.finish_read.Goals as goal
 
@@ -14,3 +15,8 @@ returns-clause-rested g c =
     let s = c.args.self.now in
     read-at_end (terms_of (g.H.Hub.shape c.args.hub.now) s.section s.patience) s.plan s.done s.block s.set.channels s.doing (g.P.PassView.known s.pass) (g.P.PassView.known c.read_on.new.pass) s.items.items c.read_on.new.items.items c.in-Some.from c.in_ok-_to._to
     c.requires.over c.in_ok-_to.ensures.read (sym c.in-Some.ensures) c.requires.rested
+
+pub read_on-_to-requires-clause-interested : goal.read_on-_to-requires-clause-interested
+read_on-_to-requires-clause-interested g c =
+    let s = c.args.self.now in
+    told-set (terms_of (g.H.Hub.shape c.args.hub.now) s.section s.patience) s.done s.set.channels (g.P.PassView.known s.pass) s.items.items _ c.in-Some.from (sym c.in-Some.ensures) c.requires.rested

@@ -4,7 +4,7 @@ use Rattle.pgn_hub.specs.declared.known.Known.{Known}
 use Rattle.pgn_hub.specs.Calls.{HasWoken}
 use Rattle.pgn_session.specs.Standing.{terms_of, IsAnswered}
 use Rattle.pgn_session.proofs.ReadLaws.{quiet-rested, owed-still, woken-answered, learned-answered, read-rested}
-use Rattle.pgn_session.proofs.KnownLaws.{on-err}
+use Rattle.pgn_session.proofs.KnownLaws.{on-err, told-set}
 use Rattle.pgn_session.proofs.session.Session.idle.Goals as goal
 
 pub returns-then-not-woken-clause-rested : goal.returns-then-not-woken-clause-rested
@@ -37,3 +37,11 @@ returns-clause-rested g c =
     let woken = woken-answered terms s.plan s.done s.block s.set.channels s.doing (g.P.PassView.known s.pass) (g.P.PassView.known c.woken.new.pass) s.items.items _ c.woken.ensures.woken c.requires.answered in
     read-rested terms s.plan s.done s.block s.set.channels s.doing (g.P.PassView.known c.woken.new.pass) (g.P.PassView.known c.read_on.new.pass) s.items.items c.read_on.new.items.items c.in-Some.from c.in_ok-to.to
     c.in_ok-to.ensures.read (search rules) (ap (λ (k : Known). k.mark) c.woken.ensures.woken.known ∙ sym c.in-Some.ensures) woken
+
+pub read_on-to-requires-clause-interested : goal.read_on-to-requires-clause-interested
+read_on-to-requires-clause-interested g c =
+    let s = c.args.self.now in
+    let k : Known = g.P.PassView.known s.pass in
+    let terms = terms_of (g.H.Hub.shape c.args.hub.now) s.section s.patience in
+    ap (λ (q : Known). q.set) c.woken.ensures.woken.known
+    ∙ told-set terms s.done s.set.channels k s.items.items _ c.in-Some.from (sym c.in-Some.ensures) c.requires.answered

@@ -10,18 +10,18 @@ use Rattle.pgn_words.specs.Views.{no_seat}
 use Rattle.pgn_words.specs.Positions.{place_or}
 use Rattle.pgn_words.specs.declared.view.Verdict.{Verdict}
 use Rattle.pgn_words.specs.declared.view.Verdict.TheVariants.{Unseen, Decided}
-use Rattle.pgn_words.specs.Waking.{needs_wake, verdict_of, wake_looked}
+use Rattle.pgn_words.specs.Waking.{needs_wake, concerned_db, verdict_of, wake_looked}
 use Rattle.pgn_words.specs.Passes.{view_of, known_of}
 use Rattle.pgn_wordhub.specs.Passes.{hub_shape}
 use Rattle.pgn_wordhub.specs.Wakes.{decided_as}
-use Rattle.pgn_wordhub.proofs.WakeLaws.{decides_next, unseen_next, place_within, places_within, db_of_seat, behind_long}
+use Rattle.pgn_wordhub.proofs.WakeLaws.{decides_next, unseen_next, place_within, places_within, owned_there, behind_long}
 use Rattle.pgn_wordhub.proofs.hub.WordHub.look_to_wake.Goals as goal
 
 pub wake_look-position-requires-clause-unseen : goal.wake_look-position-requires-clause-unseen
 wake_look-position-requires-clause-unseen c =
     let inv = c.loop-seat.invariant in
-    let dbs = c.args.self.now.dbs.items in
-    let all : length dbs ≡ length (hub_shape c.args.self.now).seats = ap length c.args.self.now.databases ∙ length-map (hub_shape c.args.self.now).seats (λ (s : SeatSetup). s.db) in
+    let dbs = c.args.owns.now in
+    let all : length dbs ≡ length (hub_shape c.args.self.now).seats = c.requires.each in
     let test = c.loop-seat-test.true in
     let end = c.seats-seat-end.ensures in
     let places = inv.1 in
@@ -35,10 +35,10 @@ loop-seat-preserved c =
     let v = view_of c.args.pass.now in
     let w = view_of c.loop-seat.pass in
     let z = hub_shape c.args.self.now in
-    let dbs = c.args.self.now.dbs.items in
+    let dbs = c.args.owns.now in
     let seat = c.loop-seat.seat in
     let found = c.wake_look-position.result in
-    let all : length dbs ≡ length z.seats = ap length c.args.self.now.databases ∙ length-map z.seats (λ (s : SeatSetup). s.db) in
+    let all : length dbs ≡ length z.seats = c.requires.each in
     let test = c.loop-seat-test.true in
     let end = c.seats-seat-end.ensures in
     let places = inv.1 in
@@ -52,14 +52,12 @@ loop-seat-preserved c =
     c.requires.head ∙ ap (λ (f : Format). length (image f v.known.seen)) (sym (ap (λ (y : Shape). y.format) setup)) ∙ ap (λ txs. length (image w.setup.format txs)) (sym seen) in
     let within = place_within w.setup.format w.known.seen c.args.head found head looked.position.placed in
     let place = c.place_of.ensures in
-    let own = (slice_index_or z.seats seat no_seat).db in
-    let is_own : own ≡ get_or dbs seat own = db_of_seat z.seats dbs seat c.args.self.now.databases (omega (arith, below, all)) in
+    let own = concerned_db w seat in
+    let is_own : own ≡ get_or dbs seat own = ap (λ (u : View). concerned_db u seat) inv.3 ∙ sym (c.requires.concerned seat below) ∙ sym (owned_there dbs seat own below) in
     let first : needs_wake w seat found ≡ is_woken c.args.head v.known.db c.place_of.result own =
-    ap (λ h. is_woken h w.known.db (place_or h found) (Rattle.pgn_words.specs.Views.seat_of w.setup (seat + 1)).db) (sym head)
-    ∙ ap (λ d. is_woken c.args.head d (place_or c.args.head found) (Rattle.pgn_words.specs.Views.seat_of w.setup (seat + 1)).db) (ap (λ (u : View). u.known.db) inv.3)
-    ∙ ap (λ p. is_woken c.args.head v.known.db p (Rattle.pgn_words.specs.Views.seat_of w.setup (seat + 1)).db) (sym place)
-    ∙ ap (λ (y : Shape). is_woken c.args.head v.known.db c.place_of.result (Rattle.pgn_words.specs.Views.seat_of y (seat + 1)).db) setup
-    ∙ ap (λ k. is_woken c.args.head v.known.db c.place_of.result (slice_index_or z.seats k no_seat).db) (omega arith) in
+    ap (λ h. is_woken h w.known.db (place_or h found) own) (sym head)
+    ∙ ap (λ d. is_woken c.args.head d (place_or c.args.head found) own) (ap (λ (u : View). u.known.db) inv.3)
+    ∙ ap (λ p. is_woken c.args.head v.known.db p own) (sym place) in
     let more : seat + 1 ≡ suc seat = omega arith in (
       c.wake_look-position.ensures.own,
       Rattle.std.proofs.lemmas.List.length-set c.loop-seat.places seat c.place_of.result ∙ inv.1,
@@ -75,9 +73,9 @@ pub returns-clause-long : goal.returns-clause-long
 returns-clause-long c =
     let inv = c.loop-seat.invariant in
     let v = view_of c.args.pass.now in
-    let dbs = c.args.self.now.dbs.items in
+    let dbs = c.args.owns.now in
     let seat = c.loop-seat.seat in
-    let all : length dbs ≡ length (hub_shape c.args.self.now).seats = ap length c.args.self.now.databases ∙ length-map (hub_shape c.args.self.now).seats (λ (s : SeatSetup). s.db) in
+    let all : length dbs ≡ length (hub_shape c.args.self.now).seats = c.requires.each in
     let test = c.loop-seat-test.false in
     let end = c.seats-seat-end.ensures in
     let places = inv.1 in

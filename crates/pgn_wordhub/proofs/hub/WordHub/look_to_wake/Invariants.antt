@@ -8,4 +8,4 @@ use Rattle.pgn_wordhub.proofs.hub.WordHub.look_to_wake.Given as goal
 
 abbrev pub invariant-loop-seat : goal.invariant-loop-seat
 invariant-loop-seat l = IsPassOf l.self.queue l.pass × (length l.places ≡ length l.fn.places) × All (λ place. place ≤ l.fn.head) (take l.seat l.places)
-    × (view_of l.pass ≡ decided_as (map verdict_of (plain_behind l.fn.head (known_of l.fn.pass).db (take l.seat l.places) (take l.seat l.self.dbs.items)) ++ replicate (length l.self.dbs.items - l.seat) Unseen) (view_of l.fn.pass))
+    × (view_of l.pass ≡ decided_as (map verdict_of (plain_behind l.fn.head (known_of l.fn.pass).db (take l.seat l.places) (take l.seat l.owns)) ++ replicate (length l.owns - l.seat) Unseen) (view_of l.fn.pass))

@@ -39,4 +39,4 @@ returns-in-Some-clause-full g c =
     let w = view_of c.finish.new.pass in
     subst (λ (full : Full). HasMetFull z v.known (freed w).known c.args.notes.now full) (sym c.full_of.ensures)
     (meets_full z v (view_of c.begin.new.pass) (view_of c.place_all.new.pass) w c.args.notes.now c.begin.result.1.stop c.place_all.new.placing.placed c.place_all.new.placing.at c.in-Some.floor.mark c.in-Some.floor.at c.begin.result.0
-    c.in-Some.floor.holder w.verdicts c.requires.own.setup c.args.self.now.formatted c.begin.ensures.view c.place_all.ensures.writes c.place_all.ensures.placing c.in-Some.ensures.full c.finish.ensures.view c.begin.ensures.number)
+    c.in-Some.floor.holder w.verdicts w.concerned c.requires.own.setup c.args.self.now.formatted c.begin.ensures.view c.place_all.ensures.writes c.place_all.ensures.placing c.in-Some.ensures.full c.finish.ensures.view c.begin.ensures.number)

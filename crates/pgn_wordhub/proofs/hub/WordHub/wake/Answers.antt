@@ -1,22 +1,6 @@
-use Rattle.std.proofs.Common.{rules, ◌≡◌, List, length, sym, ap, ◌∙◌, subst, arith}
-use Rattle.std.proofs.lemmas.List.{length-take-le, length-map}
-use Rattle.pgn_lanes.specs.Behind.{Marks, plain_behind}
-use Rattle.pgn_hub.specs.declared.setup.SeatSetup.{SeatSetup}
-use Rattle.pgn_words.specs.declared.view.View.{View}
-use Rattle.pgn_words.specs.declared.view.Verdict.{Verdict}
-use Rattle.pgn_words.specs.Passes.{known_of}
-use Rattle.pgn_wordhub.specs.Passes.{hub_shape}
-use Rattle.pgn_wordhub.specs.Wakes.{Names}
-use Rattle.pgn_wordhub.proofs.WakeLaws.{first_part, marks_on, names_from}
+use Rattle.pgn_words.specs.Passes.{view_of}
+use Rattle.pgn_wordhub.proofs.WakeLaws.{signalled}
 use Rattle.pgn_wordhub.proofs.hub.WordHub.wake.Goals as goal
 
-pub set_wakes-requires-clause-named : goal.set_wakes-requires-clause-named
-set_wakes-requires-clause-named c =
-    let all : length c.args.self.now.dbs.items ≡ length (hub_shape c.args.self.now).seats = ap length c.args.self.now.databases ∙ length-map (hub_shape c.args.self.now).seats (λ (s : SeatSetup). s.db) in
-    let few = c.args.self.now.shaped.few_seats in
-    let n = c.len-seats.ensures in
-    let answers = plain_behind c.args.head (known_of c.args.pass.now).db c.look_to_wake.new.places c.args.self.now.dbs.items in
-    let marks : Marks c.behind.new.mask answers =
-    marks_on c.behind.new.mask _ c.args.head _ (known_of c.args.pass.now).db _ c.look_to_wake.new.places _ c.args.self.now.dbs.items c.behind.ensures (search rules) (search rules)
-    (first_part c.len-seats.result c.look_to_wake.new.places _ (c.look_to_wake.ensures.same_length ∙ length-take-le c.len-seats.result _ (omega (arith, few, n, all)))) (search rules) in
-    subst (λ (l : List Verdict). Names c.behind.new.mask l) (sym (ap (λ (u : View). u.verdicts) c.look_to_wake.ensures.view)) (names_from c.behind.new.mask answers marks)
+pub returns-clause-view : goal.returns-clause-view
+returns-clause-view c = signalled (view_of c.args.pass.now) (view_of c.decide.new.pass) (view_of c.set_wakes.new.pass) c.decide.ensures.view c.set_wakes.ensures.view

@@ -1,0 +1,105 @@
+use super::{in_order, shown};
+use pgn_base::{MemSink, MemSource};
+use pgn_run::{Status, run_notify};
+use std::alloc::Global;
+use std::str;
+use std::sync::Wait;
+use std::test::Fail;
+use std::thread::Threads;
+
+// A listener waits while another session notifies on a channel to which it does not listen, and then on its own.
+const ONE_CHANNEL: &str = "\
+\\session l 1
+LISTEN c
+\\signal up
+\\await s1
+\\signal go
+\\await s2
+\\session s 1
+\\await up
+NOTIFY d, 'x'
+\\signal s1
+\\await go
+NOTIFY c, 'y'
+\\signal s2
+";
+
+// The text has this one once, or not at all.
+fn times(text: &str, part: &str) -> usize {
+    text.split(part).count() - 1
+}
+
+// Where the listener reads is free, but not before the second notification.
+#[test]
+fn a_listener_is_woken_by_its_channel_alone(rt: HostRuntime) -> Result<(), Fail> {
+    let text = shown(&rt, rt.alloc(), ONE_CHANNEL)?;
+    let reads = [
+        "> \\signal go\n",
+        "+read 3 5\n  4 1002 \"c\", 'y'\n",
+        "end mark 5\n",
+    ];
+    assert!(rt; in_order(text.as_str(), &reads));
+    assert_eq!(rt; times(text.as_str(), "+read "), 1);
+    Ok(())
+}
+
+// Two listeners of a channel, one of another database, wait while notifications on another channel fill two pages.
+const FULL: &str = "\
+\\session l 1
+LISTEN c
+\\signal l1
+\\await full
+\\signal l2
+\\session o 2
+LISTEN c
+\\signal o1
+\\await full
+\\signal o2
+\\session s 1
+\\await l1
+\\await o1
+SELECT pg_notify('d', repeat('x', 7999))
+SELECT pg_notify('d', repeat('x', 7999))
+SELECT pg_notify('d', repeat('x', 7999))
+\\signal full
+\\await l2
+\\await o2
+SELECT pg_notify('d', repeat('x', 7999))
+";
+
+// What the run writes, with two pages.
+fn in_two_pages<R: Threads + Wait + Sync>(
+    rt: &R,
+    alloc: Global,
+    input: &str,
+) -> Result<MemSink, Fail> {
+    let bytes = Vec::from_slice(alloc, input.as_bytes())?;
+    let mut source = MemSource::new(bytes, Vec::new(alloc), 1 << 20);
+    let mut sink = MemSink::new(alloc, 1 << 20, Vec::new(alloc), 1 << 20)?;
+    let words = ["run", "--pages", "2"];
+    match run_notify(rt, alloc, &words, &mut source, &mut sink) {
+        Status::Done => Ok(sink),
+        _ => Err(Fail::from("not done")),
+    }
+}
+
+// The third notification meets a full queue, and wakes both listeners: they read while they wait, and receive nothing.
+#[test]
+fn a_full_queue_wakes_all(rt: HostRuntime) -> Result<(), Fail> {
+    let sink = in_two_pages(&rt, rt.alloc(), FULL)?;
+    let text = str::from_utf8(sink.held())?;
+    let parts = [
+        "> \\await full\n",
+        "+read 3 6\n",
+        "> \\signal l2\n",
+        "> \\await full\n",
+        "+read 3 6\n",
+        "> \\signal o2\n",
+        "+full 5 queued 0 head 2 floor 3 page 0 holder 1\n",
+        "+publish 6\n",
+    ];
+    assert!(rt; in_order(text, &parts));
+    assert_eq!(rt; times(text, "+read 3 6\n"), 2);
+    assert_eq!(rt; times(text, "+read 3 6\n  "), 0);
+    Ok(())
+}
