@@ -1,6 +1,5 @@
 mod LockLaws
 mod WayLaws
-mod LoadLaws
 mod ReadingLaws
 mod ReadLaws
 mod ListenLaws

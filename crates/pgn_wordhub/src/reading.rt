@@ -1,4 +1,4 @@
-ghost use Rattle.std.specs.Prelude.{◌≡◌, ◌≢◌, ℕ, ◌+◌, ◌*◌, ◌^◌, ◌<◌, ◌≤◌, [], ◌∷◌, ◌++◌, ◌&&◌, length, take, slice_get, slice_index, vec_len, Some, IsSome, List, IfOk, IfSome, OnOk, OnErr};
+ghost use Rattle.std.specs.Prelude.{◌≡◌, ◌≢◌, ℕ, ◌+◌, ◌*◌, ◌^◌, ◌<◌, ◌≤◌, ◌++◌, ◌&&◌, length, take, slice_get, slice_index, vec_len, Some, IsSome, List, IfOk, IfSome, OnOk, OnErr};
 ghost use Rattle.pgn_base.specs.declared.format.Format.TheVariants.{One};
 ghost use Rattle.pgn_base.specs.declared.note.Note.{Note};
 ghost use Rattle.pgn_base.specs.declared.note.Delivery.{Delivery};
@@ -128,31 +128,6 @@ impl WordHub {
         LittleEndian::write_u32_into(words, page);
     }
 
-    // The bytes of the entry at a place, on the heap, in no more memory than it has.
-    fn long_bytes(
-        &self,
-        alloc: Global,
-        pass: &mut WordPass,
-        at: Pos,
-        len: usize,
-    ) -> Result<Vec<u8>, AllocError>
-        requires own { IsPassOf self.now.queue pass.old }
-        requires shown { (view_of pass.old).walk.stage ≡ stages.Shown }
-        requires from { (view_of pass.old).post.at ≤ at }
-        ensures own { IsPassOf self.now.queue pass.new }
-        ensures view { view_of pass.new ≡ view_of pass.old }
-        ensures bytes { IfOk result (λ bytes. (piece : Piece) → StandsAt (shown_cells (view_of pass.old)) at piece → len ≡ length (piece_bytes One piece) → bytes.items ≡ piece_bytes One piece) }
-    {
-        let mut bytes = Vec::with_capacity(alloc, len)?;
-        let mut word = self.queue.word_of_cell(at);
-        for k in 0..len / CELL_BYTES {
-            let cell = self.cell(pass, word);
-            bytes.extend_from_slice(&cell.to_le_bytes())?;
-            word = self.queue.next_word(word);
-        }
-        Ok(bytes)
-    }
-
     // Reads from the mark up to the first unfinished number.
     pub(crate) fn read(
         &self,
@@ -188,18 +163,6 @@ impl WordHub {
             }
         }
     }
-}
-
-// Puts a delivery behind the others. A list that is empty gets room for this one alone, since most stay so.
-fn add(out: &mut Vec<Delivery>, delivery: Delivery) -> Result<(), AllocError>
-    ensures added { OnOk result (out.new.items ≡ out.old.items ++ delivery ∷ []) }
-    ensures refused { OnErr result (out.new.items ≡ out.old.items) }
-{
-    if out.is_empty() {
-        out.reserve_exact(1)?;
-    }
-    out.push(delivery)?;
-    Ok(())
 }
 
 impl Reader<'_> {
@@ -238,7 +201,7 @@ impl Reader<'_> {
         let xid = Xid::new(parts.xid);
         if self.is_due(pass, xid, parts.channel) {
             let delivery = delivery_of(self.alloc, xid, parts.pid, parts.channel, parts.payload)?;
-            add(out, delivery)?;
+            out.push(delivery)?;
         }
         Ok(())
     }
@@ -269,31 +232,7 @@ impl Reader<'_> {
         self.deliver(pass, bytes, out)
     }
 
-    // The same of a long entry, of so many bytes.
-    fn take_long(
-        &self,
-        pass: &mut WordPass,
-        at: Pos,
-        len: usize,
-        out: &mut Vec<Delivery>,
-    ) -> Result<(), AllocError>
-        requires own { IsPassOf self.now.hub.now.queue pass.old }
-        requires shown { (view_of pass.old).walk.stage ≡ stages.Shown }
-        requires from { (view_of pass.old).post.at ≤ at }
-        requires low { at < 2 ^ 32 }
-        requires reach { length (known_of pass.old).seen ≤ notes_of_seats (hub_shape self.now.hub.now).seats }
-        requires entry { HasEntryAt (shown_cells (view_of pass.old)) at len (known_of pass.old).db (known_of pass.old).seen }
-        ensures own { IsPassOf self.now.hub.now.queue pass.new }
-        ensures view { view_of pass.new ≡ view_of pass.old }
-        ensures taken { OnOk result ((note : Note) (sender : Sender) → IsEntryAt (shown_cells (view_of pass.old)) at len (known_of pass.old).db (known_of pass.old).seen note sender
-            → out.new.items ≡ out.old.items ++ gives (known_of pass.old).db self.now.set.now.channels (committed_by (known_of pass.old).seen) (AnEntry note sender)) }
-        ensures refused { OnErr result (out.new.items ≡ out.old.items) }
-    {
-        let bytes = self.hub.long_bytes(self.alloc, pass, at, len)?;
-        self.deliver(pass, &bytes, out)
-    }
-
-    // The same of an entry of so many bytes, which is put together on the stack where it is short.
+    // The same of an entry of so many bytes. A long one is put together on the heap, in no more memory than it has.
     fn take(
         &self,
         pass: &mut WordPass,
@@ -313,13 +252,15 @@ impl Reader<'_> {
             → out.new.items ≡ out.old.items ++ gives (known_of pass.old).db self.now.set.now.channels (committed_by (known_of pass.old).seen) (AnEntry note sender)) }
         ensures refused { OnErr result (out.new.items ≡ out.old.items) }
     {
-        if len > SHORT_BYTES {
-            return self.take_long(pass, at, len, out);
+        if len <= SHORT_BYTES {
+            let mut words = [0; SHORT_BYTES / CELL_BYTES];
+            let mut bytes = [0; SHORT_BYTES];
+            let words = &mut words[..len / CELL_BYTES];
+            return self.take_by(pass, at, words, &mut bytes[..len], out);
         }
-        let mut words = [0; SHORT_BYTES / CELL_BYTES];
-        let mut bytes = [0; SHORT_BYTES];
-        let words = &mut words[..len / CELL_BYTES];
-        self.take_by(pass, at, words, &mut bytes[..len], out)
+        let mut words = vec![in self.alloc; 0; len / CELL_BYTES]?;
+        let mut bytes = vec![in self.alloc; 0; len]?;
+        self.take_by(pass, at, &mut words, &mut bytes, out)
     }
 
     // Reads the entry or the filler at a place, and answers the place of the next one; or none, if its number is not below `fin`.
