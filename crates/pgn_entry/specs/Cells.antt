@@ -2,7 +2,6 @@
 use Rattle.std.specs.Prelude.{◌≡◌, ℕ}
 use Rattle.pgn_base.specs.declared.format.Format.TheVariants.{One}
 use Rattle.pgn_base.specs.declared.note.Note.{Note}
-use Rattle.pgn_base.specs.Notes.{IsNote}
 use Rattle.pgn_journal.specs.Bytes.{entry_length}
 use Rattle.pgn_entry.specs.declared.cells.EntryCells.{EntryCells}
 

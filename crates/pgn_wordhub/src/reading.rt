@@ -1,4 +1,4 @@
-ghost use Rattle.std.specs.Prelude.{◌≡◌, ◌≢◌, ℕ, ◌+◌, ◌*◌, ◌^◌, ◌<◌, ◌≤◌, ◌++◌, ◌&&◌, length, take, slice_get, slice_index, vec_len, Some, IsSome, List, IfOk, IfSome, OnOk, OnErr};
+ghost use Rattle.std.specs.Prelude.{◌≡◌, ◌≢◌, ℕ, ◌+◌, ◌*◌, ◌^◌, ◌<◌, ◌≤◌, [], ◌∷◌, ◌++◌, ◌&&◌, length, take, slice_get, slice_index, vec_len, Some, IsSome, List, IfOk, IfSome, OnOk, OnErr};
 ghost use Rattle.pgn_base.specs.declared.format.Format.TheVariants.{One};
 ghost use Rattle.pgn_base.specs.declared.note.Note.{Note};
 ghost use Rattle.pgn_base.specs.declared.note.Delivery.{Delivery};
@@ -165,6 +165,18 @@ impl WordHub {
     }
 }
 
+// Puts a delivery behind the others. A list that is empty gets room for this one alone, since most stay so.
+fn add(out: &mut Vec<Delivery>, delivery: Delivery) -> Result<(), AllocError>
+    ensures added { OnOk result (out.new.items ≡ out.old.items ++ delivery ∷ []) }
+    ensures refused { OnErr result (out.new.items ≡ out.old.items) }
+{
+    if out.is_empty() {
+        out.reserve_exact(1)?;
+    }
+    out.push(delivery)?;
+    Ok(())
+}
+
 impl Reader<'_> {
     // Whether an entry of a finished transaction on a channel is received.
     fn is_due(&self, pass: &mut WordPass, xid: Xid, channel: &[u8]) -> bool
@@ -201,7 +213,7 @@ impl Reader<'_> {
         let xid = Xid::new(parts.xid);
         if self.is_due(pass, xid, parts.channel) {
             let delivery = delivery_of(self.alloc, xid, parts.pid, parts.channel, parts.payload)?;
-            out.push(delivery)?;
+            add(out, delivery)?;
         }
         Ok(())
     }
