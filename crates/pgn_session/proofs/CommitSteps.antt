@@ -1,5 +1,6 @@
 -- What each step of a commit leaves.
-use Rattle.std.proofs.Common.{◌≡◌, ◌≢◌, ℕ, ◌+◌, ◌-◌, ◌≤◌, Bool, true, false, cond, List, [], ◌∷◌, ◌++◌, length, drop, Option, Some, None, Result, Ok, Err, IfSome, All, Contains, sym, ap, ◌∙◌, refl, subst, arith, length-append, append-nil, append_assoc}
+use Rattle.std.proofs.Common.{◌≡◌, ◌≢◌, ℕ, ◌+◌, ◌-◌, ◌≤◌, ◌==◌, ◌&&◌, not, Bool, true, false, true≢false, cond, List, [], ◌∷◌, ◌++◌, length, drop, Option, Some, None, Result, Ok, Err, IfSome, All, Contains, sym, ap, ◌∙◌, refl, subst, arith, length-append, append-nil, append_assoc}
+use Rattle.std.proofs.lemmas.Bool.Decides.{nat_tests}
 use Rattle.std.proofs.lemmas.Option.{IfSome_then}
 use Rattle.std.proofs.lemmas.List.Elements.{All-weaker, All-contains, Contains-push, Contains-append_left}
 use Rattle.pgn_base.specs.declared.note.Note.{Note}
@@ -192,7 +193,9 @@ untold k j f shape set channels (action ∷ actions) notes enlisted sent told jo
   where
     by_mark : (mark : Option ℕ) → is_telling mark (action ∷ actions) ≡ false → IfSome mark (λ _. f.set ≡ channels)
     by_mark None e = tt
-    by_mark (Some m) e = absurd (let no : ⊥ = cc in no)
+    by_mark (Some m) e =
+        let some : length (action ∷ actions) == 0 ≡ false = grind (arith, nat_tests) in
+        absurd (true≢false (sym (ap (λ (b : Bool). true && not b) some) ∙ e))
 
 -- what a listener has told after a commit is its set
 pub told-after : (k j f q : Known) (shape : Shape) (set channels : List (List ℕ)) (actions : List Action) (notes : List Note) (enlisted : Option Enlisted) (sent : Option (Result ℕ Full)) (b telling : Bool)

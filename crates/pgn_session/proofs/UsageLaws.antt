@@ -159,7 +159,7 @@ usage-answered shape terms plan done block next set k q items after line lines c
         named = named-holder q.named usage.holder usage.floor_mark s.named (holders-are_named.of_usage shape k q usage r)
             (subst (λ (pairs : List (ℕ × ℕ)). All (Contains pairs) s.named) (sym named_is)
             (All-weaker (Contains k.named) (Contains (k.named ++ r.named)) (λ pair there. Contains-append_left k.named r.named pair there) s.named h.stands.named));
-        interested = h.stands.interested;
+        interested = subst (λ (p : Known). IfSome p.mark (λ _. p.set ≡ s.set)) (sym r.known) h.stands.interested;
         patient = h.stands.patient;
       };
       rest = behind;

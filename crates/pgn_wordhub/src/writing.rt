@@ -29,15 +29,7 @@ use std::sync::Wait;
 
 impl WordHub {
     // Ends the transaction with a fate, and wakes those that it concerns.
-    fn finish(
-        &self,
-        pass: &mut WordPass,
-        xid: Xid,
-        fate: Fate,
-        queued: usize,
-        head: Pos,
-        sent: u64,
-    )
+    fn finish(&self, pass: &mut WordPass, xid: Xid, fate: Fate, queued: usize, head: Pos, sent: u64)
         requires own { IsPassOf self.now.queue pass.old }
         requires phase { (view_of pass.old).phase ≡ phases.Open }
         requires xid { xid ≡ next_xid (known_of pass.old).seen }
@@ -140,14 +132,7 @@ impl WordHub {
         ensures own { IsPassOf self.now.queue pass.new }
         ensures committed { HasCommitted (view_of pass.old) (view_of pass.new) (own_tx (view_of pass.old) placing.now.placed fates.Committed) }
     {
-        self.finish(
-            pass,
-            xid,
-            Fate::Committed,
-            placing.placed,
-            placing.at,
-            sent,
-        );
+        self.finish(pass, xid, Fate::Committed, placing.placed, placing.at, sent);
         self.clean_up(pass, xid, from, placing);
     }
 
@@ -182,14 +167,7 @@ impl WordHub {
                 Ok(xid)
             }
             Some(floor) => {
-                self.finish(
-                    pass,
-                    xid,
-                    Fate::Aborted,
-                    placing.placed,
-                    placing.at,
-                    sent,
-                );
+                self.finish(pass, xid, Fate::Aborted, placing.placed, placing.at, sent);
                 Err(WordHub::full_of(xid, &placing, &floor))
             }
         }

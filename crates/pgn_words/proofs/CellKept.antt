@@ -72,7 +72,8 @@ stores z c g views id v at x h here opened next page stays low =
     let gone : (j : ℕ) (u : View) → j ≢ id → get_elem? views j ≡ some u → holds_lock u.phase ≡ true → ⊥ = alone c.lock g.holder views id v h.locking here held in record {
       laid = record {
         pos_long = h.laid.pos_long;
-        wakes_long = h.laid.wakes_long; interests_long = h.laid.interests_long;
+        wakes_long = h.laid.wakes_long;
+        interests_long = h.laid.interests_long;
         flags_long = h.laid.flags_long;
         statuses_long = h.laid.statuses_long;
         cells_long = length-set c.cells (at % room_of z) x ∙ h.laid.cells_long;

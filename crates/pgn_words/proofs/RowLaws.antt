@@ -11,8 +11,18 @@ middle c = c.pos ++ (c.wakes ++ (c.interests ++ (c.flags ++ c.statuses)))
 
 length-middle : (z : Shape) (c : Content) → Laid z c.pos c.wakes c.interests c.flags c.statuses c.cells → 6 + length (middle c) ≡ cells_at z
 length-middle z c laid =
-    omega (arith, length-append c.pos (c.wakes ++ (c.interests ++ (c.flags ++ c.statuses))), length-append c.wakes (c.interests ++ (c.flags ++ c.statuses)), length-append c.interests (c.flags ++ c.statuses), length-append c.flags c.statuses,
-    laid.pos_long, laid.wakes_long, laid.interests_long, laid.flags_long, laid.statuses_long)
+    omega (
+      arith,
+      length-append c.pos (c.wakes ++ (c.interests ++ (c.flags ++ c.statuses))),
+      length-append c.wakes (c.interests ++ (c.flags ++ c.statuses)),
+      length-append c.interests (c.flags ++ c.statuses),
+      length-append c.flags c.statuses,
+      laid.pos_long,
+      laid.wakes_long,
+      laid.interests_long,
+      laid.flags_long,
+      laid.statuses_long,
+    )
 
 set_right : (xs ys : List ℕ) (k x : ℕ) → set (xs ++ ys) (length xs + k) x ≡ xs ++ set ys k x
 set_right xs ys k x = let there : length xs + k - length xs ≡ k = omega arith in

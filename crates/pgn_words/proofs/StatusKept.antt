@@ -67,7 +67,8 @@ ends z c g views id v tx x h here opened may notes session db number within =
     let fresh : status_at c.statuses x ≡ 0 = ap (status_at c.statuses) number ∙ h.statuses.fates id v here held ∙ ap (λ p. fated p v.pen.ending.fate) opened in record {
       laid = record {
         pos_long = h.laid.pos_long;
-        wakes_long = h.laid.wakes_long; interests_long = h.laid.interests_long;
+        wakes_long = h.laid.wakes_long;
+        interests_long = h.laid.interests_long;
         flags_long = h.laid.flags_long;
         statuses_long = length-set c.statuses (status_word x) (bit_or (get_or c.statuses (status_word x) 0) (status_set x tx.fate)) ∙ h.laid.statuses_long;
         cells_long = h.laid.cells_long;

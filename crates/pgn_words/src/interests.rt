@@ -62,8 +62,6 @@ impl WordQueue {
         ensures view { view_of pass.new ≡ interest_loaded seat result (view_of pass.old) }
     {
         let word = self.word_of_interest(seat);
-        self.table
-            .shared
-            .load::<LoadInterest>(&mut pass.seat, word)
+        self.table.shared.load::<LoadInterest>(&mut pass.seat, word)
     }
 }

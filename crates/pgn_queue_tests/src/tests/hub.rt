@@ -3,7 +3,9 @@ ghost use Rattle.std.specs.Prelude.{◌≡◌, ◌≤◌, ◌<◌, length, None,
 ghost use Rattle.pgn_words.specs.Passes.{known_of};
 ghost use Rattle.pgn_wordhub.specs.Passes.{IsHubPass, hub_shape};
 
-use pgn_base::{Action, Actions, DbOid, Delivery, Enlisted, ListenSet, Name, Note, Payload, SessionNo, Xid};
+use pgn_base::{
+    Action, Actions, DbOid, Delivery, Enlisted, ListenSet, Name, Note, Payload, SessionNo, Xid,
+};
 use pgn_hub::{Hub, PassView, SeatSetup, Setup};
 use pgn_wordhub::WordHub;
 use pgn_words::WordPass;

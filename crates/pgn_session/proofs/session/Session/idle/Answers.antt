@@ -38,8 +38,8 @@ returns-clause-rested g c =
     read-rested terms s.plan s.done s.block s.set.channels s.doing (g.P.PassView.known c.woken.new.pass) (g.P.PassView.known c.read_on.new.pass) s.items.items c.read_on.new.items.items c.in-Some.from c.in_ok-to.to
     c.in_ok-to.ensures.read (search rules) (ap (λ (k : Known). k.mark) c.woken.ensures.woken.known ∙ sym c.in-Some.ensures) woken
 
-pub read_on-to-requires-clause-interested : goal.read_on-to-requires-clause-interested
-read_on-to-requires-clause-interested g c =
+pub read_on-requires-clause-interested : goal.read_on-requires-clause-interested
+read_on-requires-clause-interested g c κs within =
     let s = c.args.self.now in
     let k : Known = g.P.PassView.known s.pass in
     let terms = terms_of (g.H.Hub.shape c.args.hub.now) s.section s.patience in

@@ -16,7 +16,7 @@ returns-clause-rested g c =
     read-between (terms_of (g.H.Hub.shape c.args.hub.now) s.section s.patience) s.plan s.done s.block s.set.channels s.doing (g.P.PassView.known s.pass) (g.P.PassView.known c.read_on.new.pass) s.items.items c.read_on.new.items.items c.in-Some.from c.in_ok-_to._to
     c.requires.between c.requires.outside c.in_ok-_to.ensures.read (sym c.in-Some.ensures) c.requires.rested
 
-pub read_on-_to-requires-clause-interested : goal.read_on-_to-requires-clause-interested
-read_on-_to-requires-clause-interested g c =
+pub read_on-requires-clause-interested : goal.read_on-requires-clause-interested
+read_on-requires-clause-interested g c κs within =
     let s = c.args.self.now in
     told-set (terms_of (g.H.Hub.shape c.args.hub.now) s.section s.patience) s.done s.set.channels (g.P.PassView.known s.pass) s.items.items _ c.in-Some.from (sym c.in-Some.ensures) c.requires.rested
