@@ -1,5 +1,5 @@
 -- Where the lines lie that are to blame, and why the first blame that is met is the least.
-use Rattle.std.proofs.Common.{◌≡◌, ℕ, ◌+◌, ◌<◌, ◌≤◌, ◌⊎◌, inl, inr, List, [], ◌∷◌, ◌++◌, length, get_or, None, Some, sym, ap, ◌∙◌, refl, subst, arith, append_assoc, append-nil}
+use Rattle.std.proofs.Common.{◌≡◌, ℕ, ◌+◌, ◌<◌, ◌≤◌, ◌⊎◌, inl, inr, List, [], ◌∷◌, ◌++◌, length, None, Some, sym, ap, ◌∙◌, refl, subst, arith, append_assoc, append-nil}
 use Rattle.std.specs.Prelude.{All, flat_map}
 use Rattle.std.proofs.Math.Seq.{get_or-append_seam}
 use Rattle.std.proofs.lemmas.List.{append_cancel_left, length-append, length-map}
@@ -10,15 +10,15 @@ use Rattle.pgn_language.specs.declared.scenario.ScriptLine.{ScriptLine}
 use Rattle.pgn_language.specs.declared.scenario.Section.{Section}
 use Rattle.pgn_language.specs.declared.scenario.Scenario.{Scenario}
 use Rattle.pgn_model.specs.declared.item.Item.{Item}
-use Rattle.pgn_model.specs.declared.item.Item.TheVariants.{Line, Enlist, Publish, QueueFull, Leave, Reply, Refuse, Channels, Used, Raise, Found, TimedOut, Read}
+use Rattle.pgn_model.specs.declared.item.Item.TheVariants.{Line, Reply, Channels}
 use Rattle.pgn_model.specs.declared.trace.Trace.{Trace}
 use Rattle.pgn_model.specs.Along.{Along}
 use Rattle.pgn_model.specs.Walk.{Settings, Terms, State, start, after_item, Allowed}
 use Rattle.pgn_model.specs.Trace.{IsUpToDate, IsFreshAt}
 use Rattle.pgn_model.specs.Text.{note_line, entry_lines, entries_lines, journal_lines, item_lines, end_line, trace_lines, traces_lines, text_lines}
 use Rattle.pgn_reading.specs.Completed.{ready, whole, walked, completed}
-use Rattle.pgn_reading.specs.Form.{IsReadItem, IsReadTrace, EachSection, BeginOutput, Broken, Short, BreaksForm, IsReading, whole_lines}
-use Rattle.pgn_reading.specs.Blame.{IsGoodTx, BlamesEntry, BadEntry, Comes, line_after, last_line, IsAtRest, IsWhole, BlamesTrace, Refused, LeftOut, NotNext, Unfounded, LeftOutLast, Unfinished, BlamesTraces, Blames, InForm, InEntry, InTrace, IsLeastBlamed}
+use Rattle.pgn_reading.specs.Form.{IsReadItem, IsReadTrace, EachSection, BeginOutput, Broken, Short, BreaksForm, whole_lines}
+use Rattle.pgn_reading.specs.Blame.{IsGoodTx, BlamesEntry, BadEntry, Comes, line_after, last_line, IsAtRest, IsWhole, BlamesTrace, Refused, LeftOut, NotNext, Unfounded, LeftOutLast, Unfinished, BlamesTraces, Blames, InForm, InEntry, InTrace}
 use Rattle.pgn_reading.specs.BlameLaws.{IsSpotless, AreSpotless, SpotlessFirst, SpotlessOn, BlamedWithin, BlamedFromBefore, BlamedFromItem, BlamedFromLast, BlamedFromEnd, NothingBlamed, BlamedBehind, LeastInFirst, BlamedApart, BlamedLater, EntryWithin, EntryFrom, NoEntryBlamed, ReadingHasForm, LeastInForm, LeastInJournal, LeastInTraces}
 use Rattle.pgn_reading.proofs.ComesLaws.{along-read}
 use Rattle.pgn_reading.proofs.GoesOnLaws.{begins-shorter}

@@ -17,7 +17,6 @@ use Rattle.pgn_journal.proofs.PlainNotes.{plain-note}
 use Rattle.pgn_journal.proofs.NearLaws.{near-itself}
 use Rattle.pgn_language.specs.declared.scenario.Act.TheVariants.{Run}
 use Rattle.pgn_language.specs.declared.scenario.ScriptLine.{ScriptLine}
-use Rattle.pgn_language.specs.declared.scenario.Section.{Section}
 use Rattle.pgn_language.specs.Inputs.{IsOneLine, IsOneLineAct, IsSoundSection, IsSound}
 use Rattle.pgn_model.specs.declared.trace.Trace.{Trace}
 use Rattle.pgn_model.specs.Walk.{default_settings}
@@ -29,7 +28,6 @@ use Rattle.pgn_reading.specs.Examples.{self, self_notify, sent, note, run, run_s
 use Rattle.pgn_reading.proofs.OneLineLaws.{one-line}
 use Rattle.pgn_reading.proofs.GoesOnLaws.{begins-shorter, begins-whole, journal-goes_on}
 use Rattle.pgn_reading.proofs.BlameLaws.{least-in_form}
-use Rattle.pgn_reading.proofs.ExampleLaws.{run-shown}
 
 -- The scenario is sound.
 

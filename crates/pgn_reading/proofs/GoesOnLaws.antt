@@ -1,22 +1,19 @@
 -- From each place in an output some output goes on: with transactions that have no notifications, and sections without items.
-use Rattle.std.proofs.Common.{◌≡◌, ℕ, zero, suc, ◌+◌, ◌-◌, ◌^◌, ◌<◌, ◌≤◌, List, [], ◌∷◌, ◌++◌, length, map, replicate, None, codes, decimal, sym, ap, ◌∙◌, refl, subst, arith, append_assoc, append-nil}
-use Rattle.std.specs.Prelude.{All, flat_map}
+use Rattle.std.proofs.Common.{◌≡◌, ℕ, zero, suc, ◌+◌, ◌-◌, List, [], ◌∷◌, ◌++◌, length, map, replicate, None, codes, decimal, sym, ap, ◌∙◌, refl, subst, arith, append_assoc, append-nil}
+use Rattle.std.specs.Prelude.{flat_map}
 use Rattle.std.proofs.lemmas.List.{length-append, length-replicate, map-append}
 use Rattle.std.proofs.lemmas.List.Elements.{All-nil, All-cons, All-append, All-replicate}
 use Rattle.pgn_base.specs.declared.limits.TheConstants.{FIRST_XID}
 use Rattle.pgn_base.specs.declared.note.Note.{Note}
 use Rattle.pgn_journal.specs.declared.tx.Tx.{Tx}
-use Rattle.pgn_journal.specs.declared.tx.Fate.{Fate}
-use Rattle.pgn_journal.specs.declared.tx.Fate.TheVariants.{Committed, Aborted}
+use Rattle.pgn_journal.specs.declared.tx.Fate.TheVariants.{Committed}
 use Rattle.pgn_journal.specs.Journal.{next_xid}
 use Rattle.pgn_journal.proofs.PlainNotes.{plain-note}
 use Rattle.pgn_language.specs.declared.scenario.Section.{Section}
-use Rattle.pgn_language.specs.declared.scenario.Scenario.{Scenario}
 use Rattle.pgn_language.specs.Inputs.{IsOneLine}
-use Rattle.pgn_model.specs.declared.item.Item.{Item}
 use Rattle.pgn_model.specs.declared.trace.Trace.{Trace}
-use Rattle.pgn_model.specs.Text.{note_line, fate_text, entry_lines, entries_lines, journal_lines, item_lines, end_line, section_line, trace_lines, traces_lines, text_lines}
-use Rattle.pgn_reading.specs.Form.{IsSession, IsLineNote, IsReadItem, IsReadTrace, database_of, IsReadQueued, IsReadTx, EachSection, IsReadable, BeginOutput}
+use Rattle.pgn_model.specs.Text.{note_line, entry_lines, entries_lines, journal_lines, item_lines, end_line, section_line, trace_lines, traces_lines, text_lines}
+use Rattle.pgn_reading.specs.Form.{IsLineNote, IsReadItem, IsReadTrace, database_of, IsReadQueued, IsReadTx, EachSection, BeginOutput}
 use Rattle.pgn_reading.specs.GoesOnLaws.{BeginsShorter, BeginsWhole, JournalGoesOn, EntryGoesOn, SectionGoesOn, entry_head}
 
 -- A trace without items.

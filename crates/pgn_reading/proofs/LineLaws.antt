@@ -1,5 +1,5 @@
 -- What a line tells of what it shows.
-use Rattle.std.proofs.Common.{◌≡◌, ◌≢◌, ℕ, ◌+◌, ◌*◌, ◌^◌, ◌<◌, ◌≤◌, Bool, true, false, cond, nat_eq, List, [], ◌∷◌, ◌++◌, length, map, get_or, Option, None, Some, IfSome, codes, decimal, sym, ap, ◌∙◌, refl, arith, eqb-true}
+use Rattle.std.proofs.Common.{◌≡◌, ◌≢◌, ℕ, ◌+◌, ◌*◌, ◌^◌, ◌<◌, Bool, true, false, cond, nat_eq, List, [], ◌∷◌, ◌++◌, length, map, get_or, Option, None, Some, IfSome, codes, decimal, sym, ap, ◌∙◌, refl, arith, eqb-true}
 use Rattle.std.specs.Prelude.{All}
 use Rattle.std.specs.Int.{IsInRange}
 use Rattle.std.proofs.lemmas.List.{append_cancel_left, append_cancel_right}
@@ -25,7 +25,7 @@ use Rattle.pgn_model.specs.declared.item.Item.{Item}
 use Rattle.pgn_model.specs.declared.item.Item.TheVariants.{Line, Enlist, Publish, QueueFull, Leave, Reply, Refuse, Channels, Used, Raise, Found, TimedOut, Read}
 use Rattle.pgn_model.specs.Text.{note_text, note_line, delivery_line, channel_line, holder_text, full_line, usage_lines, item_lines, end_line}
 use Rattle.pgn_reading.specs.Form.{IsXid, IsSession, IsLineName, IsLineNote, IsLineDelivery, IsLineTag, IsLineRefusal, IsLineFull, IsLineUsage, IsReadItem}
-use Rattle.pgn_reading.proofs.FieldLaws.{EndsNumber, AreDigits, digits-decimal, doubled, quoted-ends, holder-ends, IsHeld, field, blank, line-feed, four-apart, six-apart, twelve-apart, note-ends, same-full, same-usage}
+use Rattle.pgn_reading.proofs.FieldLaws.{AreDigits, digits-decimal, doubled, quoted-ends, holder-ends, IsHeld, field, blank, line-feed, four-apart, six-apart, twelve-apart, note-ends, same-full, same-usage}
 
 -- Of which kind a line is.
 

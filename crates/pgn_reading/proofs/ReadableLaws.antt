@@ -1,5 +1,5 @@
 -- The lines of a journal and traces that are readable give these back.
-use Rattle.std.proofs.Common.{◌≡◌, ◌≢◌, ℕ, ◌+◌, ◌^◌, ◌<◌, ◌==◌, Bool, true, false, cond, ◌&&◌, List, [], ◌∷◌, ◌++◌, length, map, drop, get_or, Option, None, Some, IfSome, codes, decimal, sym, ap, ◌∙◌, refl, subst, arith, append_assoc}
+use Rattle.std.proofs.Common.{◌≡◌, ◌≢◌, ℕ, ◌+◌, ◌^◌, ◌<◌, ◌==◌, Bool, true, false, cond, ◌&&◌, List, [], ◌∷◌, ◌++◌, length, map, get_or, Option, IfSome, codes, decimal, sym, ap, ◌∙◌, refl, subst, arith, append_assoc}
 use Rattle.std.specs.Prelude.{All, flat_map}
 use Rattle.std.specs.List.{onto_first}
 use Rattle.std.proofs.lemmas.List.{append_cancel_left}
@@ -18,7 +18,6 @@ use Rattle.pgn_journal.specs.declared.tx.Fate.{Fate}
 use Rattle.pgn_journal.specs.declared.tx.Fate.TheVariants.{Committed, Aborted}
 use Rattle.pgn_language.specs.declared.scenario.ScriptLine.{ScriptLine}
 use Rattle.pgn_language.specs.declared.scenario.Section.{Section}
-use Rattle.pgn_language.specs.declared.scenario.Scenario.{Scenario}
 use Rattle.pgn_language.specs.Lines.{lines_of}
 use Rattle.pgn_model.specs.declared.item.Item.{Item}
 use Rattle.pgn_model.specs.declared.item.Item.TheVariants.{Line, Enlist, Publish, QueueFull, Leave, Reply, Refuse, Channels, Used, Raise, Found, TimedOut, Read}
@@ -27,11 +26,11 @@ use Rattle.pgn_model.specs.Along.{Along}
 use Rattle.pgn_model.specs.Walk.{IsNext}
 use Rattle.pgn_model.specs.laws.Text.{IsOneLineItem}
 use Rattle.pgn_model.proofs.TextLines.{text-has_lines}
-use Rattle.pgn_model.specs.Text.{joined, note_line, fate_text, entry_lines, entries_lines, journal_lines, line_text, delivery_line, channel_line, full_line, item_lines, end_line, section_line, trace_lines, traces_lines, text_lines}
-use Rattle.pgn_reading.specs.Form.{IsXid, IsLineName, IsLineNote, IsLineDelivery, IsReadItem, is_rows, begins_rows, AreApart, lines_left, IsNextLine, IsReadTrace, database_of, IsReadQueued, IsReadTx, EachSection, IsReadable, onto_line, whole_lines}
+use Rattle.pgn_model.specs.Text.{joined, note_line, fate_text, entry_lines, entries_lines, line_text, delivery_line, channel_line, full_line, item_lines, end_line, section_line, trace_lines, traces_lines, text_lines}
+use Rattle.pgn_reading.specs.Form.{IsXid, IsLineName, IsLineNote, IsLineDelivery, IsReadItem, is_rows, begins_rows, AreApart, lines_left, IsNextLine, IsReadTrace, database_of, IsReadQueued, IsReadTx, EachSection, onto_line, whole_lines}
 use Rattle.pgn_reading.specs.ReadableLaws.{LinesAreOne, ReadableHasLines, ReadableIsOne}
 use Rattle.pgn_reading.proofs.FieldLaws.{EndsNumber, field, four-apart, five-apart}
-use Rattle.pgn_reading.proofs.LineLaws.{kind, sign, first_sign, item-sign, end-sign, note-sign, channel-sign, delivery-sign, cons-same, last-number, two-numbers, rows-same, note-same, delivery-same, channel-same, reply-same, refusal-same, full-same, usage-same, end-same}
+use Rattle.pgn_reading.proofs.LineLaws.{kind, first_sign, item-sign, end-sign, note-sign, channel-sign, delivery-sign, cons-same, last-number, two-numbers, rows-same, note-same, delivery-same, channel-same, reply-same, refusal-same, full-same, usage-same, end-same}
 
 -- The items of a trace.
 

@@ -1,33 +1,31 @@
 -- What all traces bear out, and the run that is given back from what was read.
-use Rattle.std.proofs.Common.{◌≡◌, ◌↔◌, ℕ, zero, suc, ◌+◌, ◌<◌, ◌≤◌, ◌⊎◌, inl, inr, List, [], ◌∷◌, ◌++◌, length, take, get_or, fold, slice_get, Option, Some, None, IfSome, sym, ap, ◌∙◌, refl, subst, arith, append_assoc, append-nil}
-use Rattle.std.specs.Prelude.{All, Any, Contains, flat_map}
+use Rattle.std.proofs.Common.{◌≡◌, ℕ, zero, suc, inr, List, [], ◌∷◌, ◌++◌, length, take, slice_get, Option, Some, None, IfSome, sym, ap, ◌∙◌, refl, subst, arith, append_assoc, append-nil}
+use Rattle.std.specs.Prelude.{All, Contains, flat_map}
 use Rattle.std.specs.List.{cons_option}
-use Rattle.std.proofs.lemmas.List.{length-append, take_all}
+use Rattle.std.proofs.lemmas.List.{take_all}
 use Rattle.std.proofs.lemmas.List.Elements.{All-nil, All-cons, All-head, All-tail, All-append, filter_map-append}
 use Rattle.std.proofs.lemmas.Option.{same_Some}
-use Rattle.pgn_base.specs.declared.note.Note.{Note}
 use Rattle.pgn_journal.specs.declared.tx.Tx.{Tx}
 use Rattle.pgn_journal.specs.Journal.{next_xid, xids_of}
 use Rattle.pgn_language.specs.declared.scenario.ScriptLine.{ScriptLine}
 use Rattle.pgn_language.specs.declared.scenario.Section.{Section}
 use Rattle.pgn_model.specs.declared.item.Item.{Item}
-use Rattle.pgn_model.specs.declared.item.Item.TheVariants.{Line, Publish, QueueFull, Channels, Found}
+use Rattle.pgn_model.specs.declared.item.Item.TheVariants.{Publish, QueueFull, Channels}
 use Rattle.pgn_model.specs.declared.trace.Trace.{Trace}
 use Rattle.pgn_model.specs.Along.{Along}
 use Rattle.pgn_model.specs.Walk.{Settings, Terms, State, Owed, Listing, start, after_item, Allowed}
-use Rattle.pgn_model.specs.Trace.{TraceOk, Fresh, IsUpToDate, IsFreshAt, state_after}
-use Rattle.pgn_model.specs.Legal.{EachTrace, End, ends, StoodAt, WasRaised, IsShownWithin, IsFullThere, finished_xid, finished_xids}
+use Rattle.pgn_model.specs.Trace.{TraceOk, Fresh, IsFreshAt, state_after}
+use Rattle.pgn_model.specs.Legal.{EachTrace, End, ends, StoodAt, IsShownWithin, IsFullThere, finished_xid, finished_xids}
 use Rattle.pgn_model.specs.Text.{item_lines, end_line, section_line, trace_lines, traces_lines, journal_lines, joined}
 use Rattle.pgn_reading.specs.Completed.{without_line, ready, whole, stepped, walked, completed}
 use Rattle.pgn_reading.specs.Form.{IsReadTrace, EachSection}
 use Rattle.pgn_reading.specs.Shown.{marks_shown, named_shown, raised_from, raised_in, found_shown, ShowsMark}
-use Rattle.pgn_reading.specs.Blame.{Comes, IsNextOwn, IsGoodTx}
-use Rattle.pgn_reading.specs.WalkLaws.{completed_trace, IsFreshSoFar}
-use Rattle.pgn_reading.specs.BlameLaws.{AreSpotless, IsSpotless}
+use Rattle.pgn_reading.specs.Blame.{Comes, IsNextOwn}
+use Rattle.pgn_reading.specs.WalkLaws.{completed_trace}
 use Rattle.pgn_reading.specs.WholeLaws.{RaisedInAll, StoodInAll, FoundInAll, NamedInAll, CompletedShowsSame, completed_traces, IsWalked, WalkedIsLegal, WalkedIsLegalText}
 use Rattle.pgn_model.proofs.WalkLaws.{fold-push}
 use Rattle.pgn_reading.proofs.ComesLaws.{completed-both, along-completed, comes-to_end, fresh-comes, own-is_read}
-use Rattle.pgn_reading.proofs.ShownLaws.{marks-are_shown, named-are_shown, raised-are_shown, found-are_shown, marks-are_read, raised-are_read, all-parts, finds_flag, finds-none}
+use Rattle.pgn_reading.proofs.ShownLaws.{marks-are_shown, named-are_shown, raised-are_shown, found-are_shown, marks-are_read, raised-are_read, all-parts, finds-none}
 
 -- What all traces bear out.
 

@@ -7,11 +7,11 @@ use Rattle.pgn_language.specs.declared.scenario.Scenario.{Scenario}
 use Rattle.pgn_language.specs.Inputs.{IsSound}
 use Rattle.pgn_model.specs.declared.item.Item.{Item}
 use Rattle.pgn_model.specs.declared.trace.Trace.{Trace}
-use Rattle.pgn_model.specs.Walk.{Settings, Terms, State, Allowed}
+use Rattle.pgn_model.specs.Walk.{Settings, Terms, State}
 use Rattle.pgn_model.specs.Trace.{IsUpToDate, IsFreshAt}
 use Rattle.pgn_model.specs.Text.{journal_lines, entries_lines, trace_lines, traces_lines}
-use Rattle.pgn_reading.specs.Completed.{ready, whole}
-use Rattle.pgn_reading.specs.Form.{IsReadItem, IsReadTrace, EachSection, IsReading, BreaksForm}
+use Rattle.pgn_reading.specs.Completed.{ready}
+use Rattle.pgn_reading.specs.Form.{IsReadTrace, EachSection, IsReading, BreaksForm}
 use Rattle.pgn_reading.specs.Blame.{IsGoodTx, BlamesEntry, Comes, IsNextOwn, IsBorneOut, line_after, last_line, IsAtRest, IsWhole, BlamesTrace, BlamesTraces, IsLeastBlamed}
 
 -- An item that is allowed.

@@ -148,9 +148,9 @@ pub record IsReadTrace (section : Section) (trace : Trace) : Type 0 where
 
 -- The journal.
 
--- the database of the section with this number, 0 where there is none
+-- the database of the section with this number; where there is none it is 1, since a transaction has some database
 abbrev pub database_of : List Section → ℕ → ℕ
-database_of [] session = 0
+database_of [] session = 1
 database_of (section ∷ sections) session = cond (section.no == session) section.db (database_of sections session)
 
 -- how many were queued, as a transaction's line shows it: of a committed one all
