@@ -220,14 +220,17 @@ module _ (terms : Terms) (journal : List Tx) (known : IsKnownJournal terms.setti
       let low : FIRST_XID ≤ f.xid = omega (arith, h.told, k.after_told) in
       let cut = some-cut journal (IsCutShort terms.settings.format (place terms.settings.format journal f.xid) f.queued) (λ tx. length tx.notes ≤ checked_bytes) f.xid (few-notes checked_bytes journal known.few_notes) full.cut_short in
       let head : f.head_page < 2 ^ 64 = subst (λ (n : ℕ). n < 2 ^ 64) (sym full.head) (page (f.xid + 1)) in
-      single (QueueFull f []) (record {
-        xid = xid f.xid low (omega (arith, shown.0));
-        queued = omega (arith, cut.1.not_all, cut.2);
-        head_page = head;
-        floor_mark = xid f.floor_mark (low-floor f.holder f.floor_mark f.xid named full.holder.0 low) (omega (arith, shown.1));
-        floor_page = omega (arith, full.no_page, head);
-        holder = good-holder f.holder f.floor_mark named;
-      }, refl)
+      single (QueueFull f []) (
+        record {
+          xid = xid f.xid low (omega (arith, shown.0));
+          queued = omega (arith, cut.1.not_all, cut.2);
+          head_page = head;
+          floor_mark = xid f.floor_mark (low-floor f.holder f.floor_mark f.xid named full.holder.0 low) (omega (arith, shown.1));
+          floor_page = omega (arith, full.no_page, head);
+          holder = good-holder f.holder f.floor_mark named;
+        },
+        refl,
+      )
   item-read s Leave k h shown full named found = single Leave tt
   item-read s (Reply done warning) k h shown full named found = single (Reply done warning) (answered-tag s.owed (Replied done warning) h.owed k)
   item-read s (Refuse refusal) k h shown full named found = single (Refuse refusal) (answered-tag s.owed (Refused refusal) h.owed k)
@@ -250,8 +253,11 @@ module _ (terms : Terms) (journal : List Tx) (known : IsKnownJournal terms.setti
       let between : List Tx = entries_between journal from to in
       let lines : All IsLineTx between = All-drop IsLineTx (from - FIRST_XID) (take (to - FIRST_XID) journal) (All-take IsLineTx (to - FIRST_XID) journal known.lines) in
       let many : length between ≤ length journal - (from - FIRST_XID) = omega (arith, length-drop (from - FIRST_XID) (take (to - FIRST_XID) journal), length-take (to - FIRST_XID) journal) in
-      single (Read from to got) (xid from low (omega (arith, shown.0)), xid to (omega (arith, low, k.forward)) (omega (arith, shown.1)),
-      subst (λ (ds : List Delivery). All IsLineDelivery ds) (sym k.received) (due-lines terms.section.db s.set from between low (omega (arith, many, shown.0, low, known.few)) lines))
+      single (Read from to got) (
+        xid from low (omega (arith, shown.0)),
+        xid to (omega (arith, low, k.forward)) (omega (arith, shown.1)),
+        subst (λ (ds : List Delivery). All IsLineDelivery ds) (sym k.received) (due-lines terms.section.db s.set from between low (omega (arith, many, shown.0, low, known.few)) lines),
+      )
     where
       low_from : (mark : Option ℕ) → IfSome mark (λ n. FIRST_XID ≤ n) → mark ≡ Some from → FIRST_XID ≤ from
       low_from None m is = absurd (let none : ⊥ = cc in none)
@@ -531,16 +537,18 @@ module _ (scenario : Scenario) (settings : Settings) (journal : List Tx) (traces
       let Shown : Trace → Type 0 = λ t. All (IsShownWithin (next_xid journal)) t.items in
       let Fulls : Trace → Type 0 = λ t. All (IsFullThere settings journal) t.items in
       let Named : Trace → Type 0 = λ t. All (λ item. All IsGoodHolder (named_shown item)) t.items in
-      let Whole : Trace → Type 0 = λ t. IfSome t.last (λ mark. mark ≡ next_xid journal) in
-      (record {
-        session = ok.0.session;
-        database = ok.0.database;
-        in_order = seen-order terms journal section.lines (start section) trace.items refl ok.0.lawful;
-        items = items-read terms journal known-journal (start section) trace.items ok.0.lawful walks.0.along (All-head Shown trace those shown) (All-head Fulls trace those full) (All-head Named trace those named)
-            (low-along (start section) trace.items found.0);
-        apart = seen-apart terms journal (start section) trace.items ok.0.lawful;
-        last = last-read trace.last (fold after_item (start section) trace.items).mark ok.0.ended.mark walks.0.end.mark (All-head Whole trace those ends_read);
-      }, traces-read parts those ok.1 walks.1 (All-tail Shown trace those shown) (All-tail Fulls trace those full) (All-tail Named trace those named) found.1 (All-tail Whole trace those ends_read))
+      let Whole : Trace → Type 0 = λ t. IfSome t.last (λ mark. mark ≡ next_xid journal) in (
+        record {
+          session = ok.0.session;
+          database = ok.0.database;
+          in_order = seen-order terms journal section.lines (start section) trace.items refl ok.0.lawful;
+          items = items-read terms journal known-journal (start section) trace.items ok.0.lawful walks.0.along (All-head Shown trace those shown) (All-head Fulls trace those full) (All-head Named trace those named)
+              (low-along (start section) trace.items found.0);
+          apart = seen-apart terms journal (start section) trace.items ok.0.lawful;
+          last = last-read trace.last (fold after_item (start section) trace.items).mark ok.0.ended.mark walks.0.end.mark (All-head Whole trace those ends_read);
+        },
+        traces-read parts those ok.1 walks.1 (All-tail Shown trace those shown) (All-tail Fulls trace those full) (All-tail Named trace those named) found.1 (All-tail Whole trace those ends_read),
+      )
 
   readable : IsReadable scenario journal (map seen_trace traces)
   readable = record {

@@ -79,9 +79,11 @@ module _ (lines : List ScriptLine) where
       (ap (λ (n : ℕ). let i : Item = Enlist n point in i) both.0 ∙ ap (λ (n : ℕ). let i : Item = Enlist base' n in i) both.1, line.1)
   of-one-kind left (Enlist base point) other rest more t h k next after a b e = absurd (omega (arith, t))
   of-one-kind left (Publish xid notes) (Publish xid' others) rest more t h k next after a b e =
-      let line = cons-same (codes "+publish " ++ decimal xid) (codes "+publish " ++ decimal xid') rest more e in
-      (ap (λ (n : ℕ). let i : Item = Publish n notes in i) (last-number (codes "+publish ") xid xid' (omega (arith, h.0.1)) (omega (arith, k.0.1)) line.0)
-      ∙ ap (λ (ns : List Note). let i : Item = Publish xid' ns in i) (h.1 ∙ sym k.1), line.1)
+      let line = cons-same (codes "+publish " ++ decimal xid) (codes "+publish " ++ decimal xid') rest more e in (
+        ap (λ (n : ℕ). let i : Item = Publish n notes in i) (last-number (codes "+publish ") xid xid' (omega (arith, h.0.1)) (omega (arith, k.0.1)) line.0)
+            ∙ ap (λ (ns : List Note). let i : Item = Publish xid' ns in i) (h.1 ∙ sym k.1),
+        line.1,
+      )
   of-one-kind left (Publish xid notes) other rest more t h k next after a b e = absurd (omega (arith, t))
   of-one-kind left (QueueFull full notes) (QueueFull full' others) rest more t h k next after a b e =
       let line = cons-same (full_line full) (full_line full') rest more e in

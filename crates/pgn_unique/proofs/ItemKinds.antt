@@ -153,4 +153,3 @@ not-ended terms journal lines s item mark last rest more end h e =
     let read : kind item ≡ 1114 = at-end terms journal s item end.answered end.done h in
     let same : kind item ≡ 0 = sym (sign-tells lines item rest none) ∙ ap sign e ∙ ended-sign last more in
     omega (arith, read, same)
-

@@ -201,4 +201,3 @@ module _ (terms : Terms) (journal : List Tx) (few : next_xid journal < 2 ^ 64) (
   -- two items that are allowed in a state, with the same lines, whatever follows them
   pub same-item : (s : State) (item other : Item) → Same s item other
   same-item s item other rest more h k known_of known_too e = of-one-kind s item other (same-kind terms journal lines s item other rest more h k e) rest more h k known_of known_too e
-

@@ -198,4 +198,3 @@ pub journal-unique : JournalIsUnique
 journal-unique scenario journal other rest more sound h k e =
     journal-ends (Names scenario.sections) journal other rest more (one-database scenario.sections sound.numbered) (all-told scenario.sections journal sound.numbered sound.few h) (all-told scenario.sections other sound.numbered sound.few k)
     (omega (arith, h.short.few)) (omega (arith, k.short.few)) e
-
