@@ -199,12 +199,7 @@ UNLISTEN d
 fn a_session_tells_its_channels_where_it_has_acted(rt: HostRuntime) -> Result<(), Fail> {
     let alloc = rt.alloc();
     let scenario = scenario_of(alloc, LISTENS_AND_UNLISTENS)?;
-    let (hub, mut sessions) = open_on_hub::<Probe<Gate<0>>>(
-        alloc,
-        &scenario,
-        PAGES_DEFAULT,
-        10,
-    )?;
+    let (hub, mut sessions) = open_on_hub::<Probe<Gate<0>>>(alloc, &scenario, PAGES_DEFAULT, 10)?;
     run_sessions(&rt, alloc, &hub, sessions.as_mut_slice())?;
     assert_eq!(rt; hub.interests(), 3);
     Ok(())
