@@ -32,6 +32,7 @@
 #   64 listeners     they listen on c, and one session sends n notifications
 #   16 writers       each sends n notifications, and none listens
 #   255 idle         they listen in another database, and one session sends n notifications
+#   255 elsewhere    they listen in its database, on another channel
 #
 # Then come sessions that wait:
 #
@@ -163,11 +164,12 @@ several() {
     done
 }
 
-# sections for the bodies: from one number to another, in this database, with a LISTEN where that is 1, that each send so many lines
+# sections for the bodies: from one number to another, in this database, with a LISTEN of c where that is 1 and of d where it is 2, that each
+# send so many lines on c
 sections='function sections(from, to, database, listen, lines,   k, i) {
     for (k = from; k <= to; k++) {
         print "\\session s" k " " database
-        if (listen) print "LISTEN c"
+        if (listen) print "LISTEN " (listen == 1 ? "c" : "d")
         for (i = 0; i < lines; i++) print "NOTIFY c, \047p\047"
     }
 }'
@@ -319,6 +321,7 @@ measure_several() {
     several '64 listeners' 'sections(1, 64, 1, 1, 0); sections(65, 65, 1, 0, n)' 250 500 1000
     several '16 writers' 'sections(1, 16, 1, 0, n)' 500 1000 2000
     several '255 idle' 'sections(1, 255, 2, 1, 0); sections(256, 256, 1, 0, n)' 15000 30000 60000
+    several '255 elsewhere' 'sections(1, 255, 1, 2, 0); sections(256, 256, 1, 0, n)' 15000 30000 60000
 }
 
 printf '%s, %s processors, %s\n' "$(date -u +%Y-%m-%d)" "$(nproc)" "$program"
