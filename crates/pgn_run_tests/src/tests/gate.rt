@@ -1,6 +1,6 @@
 ghost use Rattle.std.specs.Prelude.{◌≤◌};
 
-use super::probe::{Gate, Probe};
+use super::probe::{Gate, Probe, Watch};
 use super::turns::awaits_of;
 use super::{SELF_NOTIFY, scenario_of, told};
 use pgn_base::{MemSink, PAGES_DEFAULT, PATIENCE_DEFAULT};
@@ -114,8 +114,8 @@ fn a_drill_is_over_its_hub(rt: HostRuntime) -> Result<(), Fail> {
     Ok(())
 }
 
-// The first transaction spends the turns, so that the read of session a after its second one finds no memory, and it raises its
-// second flag never. Session b awaits this in vain, and sends then.
+// The first transaction spends the turns, so that the read of session a after its LISTEN finds no memory: it does not send again, and it
+// raises its second flag never. Session b awaits this in vain, and sends then.
 const ONE_IS_REFUSED: &str = "\
 \\session a 1
 NOTIFY d
@@ -141,7 +141,7 @@ fn where_a_session_is_refused_memory_the_others_end(rt: HostRuntime) -> Result<(
     )?;
     let ended = run_sessions(&rt, alloc, &hub, sessions.as_mut_slice());
     assert!(rt; ended.is_err());
-    assert_eq!(rt; hub.begun(), 3);
+    assert_eq!(rt; hub.begun(), 2);
     let second = sessions.last().ok_or("no session")?;
     let awaits = awaits_of(alloc, second)?;
     assert_eq!(rt; awaits.as_str(), "+await 4\n+timeout 100000\n");
@@ -199,7 +199,7 @@ UNLISTEN d
 fn a_session_tells_its_channels_where_it_has_acted(rt: HostRuntime) -> Result<(), Fail> {
     let alloc = rt.alloc();
     let scenario = scenario_of(alloc, LISTENS_AND_UNLISTENS)?;
-    let (hub, mut sessions) = open_on_hub::<Probe<Gate<0>>>(alloc, &scenario, PAGES_DEFAULT, 10)?;
+    let (hub, mut sessions) = open_on_hub::<Probe<Watch<0>>>(alloc, &scenario, PAGES_DEFAULT, 10)?;
     run_sessions(&rt, alloc, &hub, sessions.as_mut_slice())?;
     assert_eq!(rt; hub.interests(), 3);
     Ok(())
