@@ -1,11 +1,12 @@
 -- What a look at a seat decides, and where a transaction has moved the head.
-use Rattle.std.proofs.Common.{◌≡◌, ℕ, zero, suc, ◌+◌, ◌-◌, ◌/◌, ◌==◌, nat_le, not, Bool, true, cond, List, [], ◌∷◌, length, replicate, map, set, get_or, slice_index_or, sym, refl, ap, ◌∙◌, subst, arith}
+use Rattle.std.proofs.Common.{◌≡◌, ℕ, zero, suc, ◌+◌, ◌-◌, ◌/◌, ◌==◌, nat_le, not, Bool, true, false, cond, List, [], ◌∷◌, length, replicate, map, set, get_or, slice_index_or, sym, refl, ap, ◌∙◌, subst, arith}
 use Rattle.std.proofs.lemmas.List.Elements.{All-nil, All-cons}
 use Rattle.std.proofs.lemmas.Bool.Decides.{nat_tests}
 use Rattle.pgn_hub.specs.declared.setup.SeatSetup.{SeatSetup}
 use Rattle.pgn_hub.specs.Shape.{Shape}
 use Rattle.pgn_journal.specs.declared.tx.Tx.{Tx}
 use Rattle.pgn_journal.specs.declared.tx.Fate.TheVariants.{Committed}
+use Rattle.pgn_journal.specs.Journal.{is_committed}
 use Rattle.pgn_journal.specs.Packing.{image}
 use Rattle.pgn_journal.specs.Pieces.{draft}
 use Rattle.pgn_words.specs.declared.pos_word.PosWord.{PosWord}
@@ -15,7 +16,7 @@ use Rattle.pgn_words.specs.declared.view.Verdict.TheVariants.{Unseen, Decided}
 use Rattle.pgn_words.specs.Views.{seat_of, no_seat, AreDecided}
 use Rattle.pgn_words.specs.Positions.{place_or}
 use Rattle.pgn_words.specs.Told.{ended_by, fin_stored}
-use Rattle.pgn_words.specs.Waking.{needs_wake, verdict_on, verdict_of, wake_looked, wake_set}
+use Rattle.pgn_words.specs.Waking.{concerned_db, is_concerned, needs_wake, verdict_on, verdict_of, wake_looked, wake_set}
 use Rattle.pgn_queue_tests.specs.Writers.{IsShowing}
 
 set_twice : (l : List Verdict) (i : ℕ) (x y : Verdict) → set (set l i x) i y ≡ set l i y
@@ -33,11 +34,11 @@ set_here [] i x e = absurd (cc)
 set_here (z ∷ l) zero x e = refl
 set_here (z ∷ l) (suc i) x e = set_here l i x e
 
--- a look at a seat of the writer's database decides by whether its listener stands at the head
-pub decided_by : (v w : View) (seat head : ℕ) (found : PosWord) (needs : Bool) → verdict_on v seat ≡ Unseen → head ≡ length (image v.setup.format v.known.seen) → (seat_of v.setup (seat + 1)).db ≡ v.known.db
+-- a look at a seat that is tested by the writer's database decides by whether its listener stands at the head
+pub decided_by : (v w : View) (seat head : ℕ) (found : PosWord) (needs : Bool) → verdict_on v seat ≡ Unseen → head ≡ length (image v.setup.format v.known.seen) → concerned_db v seat ≡ v.known.db
     → needs ≡ not (place_or head found == head) → w ≡ wake_looked seat found v → verdict_on w seat ≡ verdict_of needs
 decided_by v w seat head found needs unseen end db is looked =
-    let own = (seat_of v.setup (seat + 1)).db in
+    let own = concerned_db v seat in
     let same : own == v.known.db ≡ true = grind (arith, nat_tests) in
     let stop = length (image v.setup.format v.known.seen) in
     let answer : needs_wake v seat found ≡ needs =
@@ -61,6 +62,19 @@ pub db_here : (z : Shape) (v : View) (seat : ℕ) → v.setup ≡ z → v.known.
 db_here z v seat same own is =
     let at : seat + 1 - 1 ≡ seat = omega arith in
     ap (λ (y : Shape). (seat_of y (seat + 1)).db) same ∙ ap (λ k. (slice_index_or z.seats k no_seat).db) at ∙ is ∙ sym own
+
+tested_by : (committed concerned : Bool) (own other : ℕ) → concerned ≡ true → own ≡ other → cond committed (cond concerned own 0) other ≡ other
+tested_by true true own other h e = e
+tested_by true false own other h e = absurd (cc)
+tested_by false concerned own other h e = refl
+
+-- a seat of the writer's database is tested by that, as long as the transaction may concern its listener
+pub tested_here : (f : View) (seat : ℕ) → is_concerned f seat ≡ true → (seat_of f.setup (seat + 1)).db ≡ f.known.db → concerned_db f seat ≡ f.known.db
+tested_here f seat concerned same = tested_by (is_committed f.pen.ending.fate) (is_concerned f seat) (seat_of f.setup (seat + 1)).db f.known.db concerned same
+
+-- the transaction may concern both of two seats, once it is one of the journal
+pub both_concerned : (v e f : View) (tx : Tx) → length v.setup.seats ≡ 2 → e ≡ ended_by tx v → f ≡ fin_stored e → f.concerned ≡ true ∷ true ∷ []
+both_concerned v e f tx two ended stored = ap (λ (y : View). y.concerned) (stored ∙ ap fin_stored ended) ∙ ap (λ n. replicate n true) two
 
 -- what it has found out of two seats: nothing, once the transaction is one of the journal
 pub none_seen : (v e f : View) (tx : Tx) → length v.setup.seats ≡ 2 → e ≡ ended_by tx v → f ≡ fin_stored e → f.verdicts ≡ Unseen ∷ Unseen ∷ []

@@ -4,9 +4,9 @@ ghost use Rattle.pgn_base.specs.declared.format.Format.TheVariants.{One};
 ghost use Rattle.pgn_hub.specs.Shape.{notes_of_seats};
 ghost use Rattle.pgn_journal.specs.examples.Packing.{virtual_note, virtual_cells};
 ghost use Rattle.pgn_journal.specs.Packing.{image};
-ghost use Rattle.pgn_words.specs.Views.{is_settled, seat_of};
+ghost use Rattle.pgn_words.specs.Views.{is_settled};
 ghost use Rattle.pgn_words.specs.Positions.{place_or};
-ghost use Rattle.pgn_words.specs.Waking.{verdict_on, verdict_of, wake_set};
+ghost use Rattle.pgn_words.specs.Waking.{concerned_db, verdict_on, verdict_of, wake_set};
 ghost use Rattle.pgn_words.specs.Passes.{IsPassOf, view_of, known_of, shape_of};
 ghost use Rattle.pgn_queue_tests.specs.Writers.{IsOpenAt, IsShowing};
 ghost use Rattle.pgn_words.specs.declared.view.Phase.TheVariants as phases;
@@ -159,7 +159,7 @@ fn set_wake_of(queue: &WordQueue, pass: &mut WordPass, seat: u32, needs: bool)
     }
 }
 
-// It looks at a seat of its own database, and wakes a listener that does not stand at the head.
+// It looks at a seat that is tested by its own database, and wakes a listener that does not stand at the head.
 fn wake(queue: &WordQueue, pass: &mut WordPass, seat: u32, head: Pos)
     requires own { IsPassOf queue.now pass.old }
     requires phase { (view_of pass.old).phase ≡ phases.Signalling }
@@ -167,7 +167,7 @@ fn wake(queue: &WordQueue, pass: &mut WordPass, seat: u32, head: Pos)
     requires unseen { verdict_on (view_of pass.old) seat ≡ verdicts.Unseen }
     requires long { length (view_of pass.old).verdicts ≡ length (shape_of queue.now).seats }
     requires head { head ≡ length (image (view_of pass.old).setup.format (known_of pass.old).seen) }
-    requires db { (seat_of (view_of pass.old).setup (seat + 1)).db ≡ (known_of pass.old).db }
+    requires tested { concerned_db (view_of pass.old) seat ≡ (known_of pass.old).db }
     ensures own { IsPassOf queue.now pass.new }
     ensures view { view_of pass.new ≡ wake_set seat (view_of pass.old) }
 {

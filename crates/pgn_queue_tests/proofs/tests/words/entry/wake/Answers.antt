@@ -5,7 +5,7 @@ use Rattle.pgn_queue_tests.proofs.tests.words.entry.wake.Goals as goal
 pub set_wake_of-requires-clause-verdict : goal.set_wake_of-requires-clause-verdict
 set_wake_of-requires-clause-verdict c =
     decided_by (view_of c.args.pass.now) (view_of c.wake_look-position.new.pass) c.args.seat c.args.head c.wake_look-position.result c.is_behind.result
-    c.requires.unseen c.requires.head c.requires.db c.is_behind.ensures c.wake_look-position.ensures.looked.view
+    c.requires.unseen c.requires.head c.requires.tested c.is_behind.ensures c.wake_look-position.ensures.looked.view
 
 pub returns-clause-view : goal.returns-clause-view
 returns-clause-view c =
