@@ -24,9 +24,9 @@ NOTIFY c, 'y'
 \\signal s2
 ";
 
-// The text has this one once, or not at all.
+// How often a text has a part.
 fn times(text: &str, part: &str) -> usize {
-    text.split(part).count() - 1
+    text.split(part).count().saturating_sub(1)
 }
 
 // Where the listener reads is free, but not before the second notification.
