@@ -1,2 +1,3 @@
 pub mod ListeningLaws
+pub mod BitsLaws
 pub mod OutsideLaws

@@ -22,11 +22,11 @@ differs : (a b other : List ℕ) → bytes_eq a b ≡ true → bytes_eq other b 
 differs a b other same apart = swapped other a ∙ nat_list_eq_equiv.congr a b other same ∙ swapped b other ∙ apart
 
 -- neither is among two where it is not among both
-first-false : (a b : Bool) → a || b ≡ false → a ≡ false
+pub first-false : (a b : Bool) → a || b ≡ false → a ≡ false
 first-false true b e = absurd (true≢false e)
 first-false false b e = refl
 
-second-false : (a b : Bool) → a || b ≡ false → b ≡ false
+pub second-false : (a b : Bool) → a || b ≡ false → b ≡ false
 second-false true b e = absurd (true≢false e)
 second-false false b e = e
 
@@ -51,13 +51,19 @@ none-less name (x ∷ xs) absent =
     ∙ ap (λ (names : List (List ℕ)). x ∷ names) (none-less name xs rest)
 
 -- a text is not among texts where an equal one is not
-absent-like : (name other : List ℕ) (names : List (List ℕ)) → bytes_eq name other ≡ true → has_name names other ≡ false → has_name names name ≡ false
+pub absent-like : (name other : List ℕ) (names : List (List ℕ)) → bytes_eq name other ≡ true → has_name names other ≡ false → has_name names name ≡ false
 absent-like name other names same absent = ap (has_name names) ((bytes_eq-Decides name other).0 same) ∙ absent
 
 -- a set after actions and one more
 pub applied-push : (set : List (List ℕ)) (actions : List Action) (action : Action) → applied set (actions ++ action ∷ []) ≡ after_action (applied set actions) action
 applied-push set [] action = refl
 applied-push set (first ∷ actions) action = applied-push (after_action set first) actions action
+
+-- there are no more channels than places
+pub listed-le : (places : List (Option (List ℕ))) → length (listed places) ≤ length places
+listed-le [] = omega arith
+listed-le (None ∷ places) = let rest : length (listed places) ≤ length places = listed-le places in omega (arith, rest)
+listed-le (Some channel ∷ places) = let rest : length (listed places) ≤ length places = listed-le places in omega (arith, rest)
 
 -- the channels of places and more places
 pub listed-append : (places more : List (Option (List ℕ))) → listed (places ++ more) ≡ listed places ++ listed more
@@ -264,6 +270,10 @@ pub once-take : (n : ℕ) (places : List (Option (List ℕ))) → AreOnce (liste
 once-take n places once =
     let parts : listed places ≡ listed (take n places) ++ listed (drop n places) = ap listed (sym (take-append-drop n places)) ∙ listed-append (take n places) (drop n places) in
     once-front (listed (take n places)) (listed (drop n places)) (subst (λ (names : List (List ℕ)). AreOnce names) parts once)
+
+-- a channel that has a place is there
+pub has-placed : (channel : List ℕ) (at : ℕ) (places : List (Option (List ℕ))) → place_from 0 channel places ≡ Some at → has_name (listed places) channel ≡ true
+has-placed channel at places place = sym (is_some-place 0 channel places) ∙ ap is_some place
 
 -- the entries after one more channel that is not listed
 pub there-push : (places : List (Option (List ℕ))) (name : List ℕ) (before after : List (List ℕ × ℕ)) (at : ℕ) (old : Option ℕ) → AreThere places before → has_name (listed places) name ≡ false → at ≡ length places

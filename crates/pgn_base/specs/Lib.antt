@@ -4,5 +4,6 @@ pub mod Names
 pub mod Notes
 pub mod Channels
 pub mod Listening
+pub mod Interest
 pub mod Outside
 pub mod Memory

@@ -23,6 +23,7 @@
 #![tactic(auto)]
 
 mod answers;
+mod channel_bits;
 mod command;
 mod copied;
 mod format;
@@ -42,6 +43,7 @@ mod source;
 mod text;
 
 pub use answers::{Needs, Refusal, Tag, Warning, Which};
+pub use channel_bits::channel_bit;
 pub use command::Command;
 pub use copied::Copied;
 pub use format::Format;

@@ -3,6 +3,7 @@ ghost use Rattle.std.specs.List.{list_any};
 ghost use Rattle.indexmap.specs.IndexMap.{spare};
 ghost use Rattle.pgn_base.specs.Listening.{listed, holds, AreOnce, AreThere};
 
+use crate::channel_bits::ChannelBits;
 use crate::in_place::InPlace;
 use crate::{Copied, NAME_BYTES_MAX, Name, Names, Seq};
 use indexmap::IndexMap;
@@ -44,6 +45,7 @@ pub struct ListenSet {
     places: Vec<Option<Name>>,
     // Where each channel stands.
     index: IndexMap<Key, usize>,
+    bits: ChannelBits,
     room: usize,
 }
 
@@ -56,17 +58,19 @@ impl Model for ListenSet {
     ghost use Rattle.std.specs.Prelude.{vec_capacity};
     ghost use Rattle.indexmap.specs.IndexMap.{spare};
     ghost use Rattle.pgn_base.specs.Listening.{Listening, IsIndexed, listed};
+    ghost use Rattle.pgn_base.specs.Interest.{AreBits};
 
     ghost Value = { Listening };
 
     ghost view = { λ set. record { channels = listed set.places.items; room = set.room } };
 
-    ghost invariant = { λ set. IsIndexed set.places.items (vec_capacity set.places) set.index.entries (spare set.index) set.room };
+    ghost invariant = { λ set. IsIndexed set.places.items (vec_capacity set.places) set.index.entries (spare set.index) set.room × AreBits (listed set.places.items) set.bits };
 }
 
 impl ListenSet {
     ghost use Rattle.pgn_base.specs.Names.{has_name};
     ghost use Rattle.pgn_base.specs.Channels.{applied, after_action};
+    ghost use Rattle.pgn_base.specs.Interest.{interest};
 
     /// The empty set. It takes no memory.
     pub fn new(alloc: Global) -> ListenSet
@@ -75,6 +79,7 @@ impl ListenSet {
         ListenSet {
             places: Vec::new(alloc),
             index: IndexMap::new(alloc),
+            bits: ChannelBits::new(),
             room: 0,
         }
     }
@@ -149,6 +154,7 @@ impl ListenSet {
     {
         let at = self.places.len();
         self.index.insert(Key::new(name.as_bytes()), at).unwrap();
+        self.bits.put(name.as_bytes());
         self.places.push(Some(name)).unwrap();
         self.room -= 1;
     }
@@ -170,6 +176,7 @@ impl ListenSet {
     {
         if let Some(at) = self.index.swap_remove(&Key::new(name.as_bytes())) {
             empty(&mut self.places[at]);
+            self.bits.take_out(name.as_bytes());
         }
     }
 
@@ -188,6 +195,7 @@ impl ListenSet {
     {
         self.index.clear();
         self.places.clear();
+        self.bits = ChannelBits::new();
     }
 
     pub fn contains(&self, channel: &[u8]) -> bool
@@ -199,11 +207,11 @@ impl ListenSet {
         is_in(&self.places, channel)
     }
 
-    /// The channels in order, each in its place. A place is empty where its channel was left.
-    pub fn places(&self) -> &[Option<Name>]
-        ensures { listed result.now ≡ self.now.channels }
+    /// Which channels there are: a bit for each of them. It costs the same however many there are, and takes no memory.
+    pub fn interest(&self) -> u64
+        ensures { result ≡ interest self.now.channels }
     {
-        &self.places
+        self.bits.word()
     }
 
     pub fn is_empty(&self) -> bool
@@ -230,6 +238,7 @@ impl Copied for ListenSet {
         Ok(ListenSet {
             places,
             index,
+            bits: self.bits,
             room: self.room,
         })
     }

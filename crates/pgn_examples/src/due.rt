@@ -1,6 +1,7 @@
 ghost use Rattle.std.specs.Prelude.{◌≡◌, ◌+◌, ◌^◌, true, false, [], ◌∷◌, codes, map, Some, None};
 ghost use Rattle.pgn_journal.specs.Due.{is_due_to};
-ghost use Rattle.pgn_journal.specs.Interest.{interest, channels_of, meets, Covers};
+ghost use Rattle.pgn_base.specs.Interest.{interest};
+ghost use Rattle.pgn_journal.specs.Interest.{channels_of, meets, Covers};
 ghost use Rattle.pgn_journal.specs.Journal.{IsFinished, next_xid, entry, entries_between, xids_of};
 ghost use Rattle.pgn_examples.specs.Due.{c_name, d_name, on, mixed_journal, first_tx, second_tx, third_tx, fourth_tx, fifth_tx, sixth_tx, owed_table, due_by};
 

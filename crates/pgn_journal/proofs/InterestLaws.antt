@@ -1,17 +1,17 @@
 -- Laws of which channels a reader may care for.
-use Rattle.std.proofs.Common.{◌≡◌, ℕ, ◌%◌, ◌^◌, ◌<◌, ◌==◌, Bool, true, false, ◌||◌, not, max, min, List, [], ◌∷◌, ◌++◌, fold, Option, Some, None, All, sym, ap, ◌∙◌, refl, subst, arith, true≢false, bytes_eq}
+use Rattle.std.proofs.Common.{◌≡◌, ℕ, ◌^◌, ◌==◌, Bool, true, false, ◌||◌, not, List, [], ◌∷◌, fold, sym, ap, ◌∙◌, refl, arith, true≢false, bytes_eq}
 use Rattle.std.specs.List.{list_any}
 use Rattle.std.specs.Int.{bit_at}
-use Rattle.std.specs.Int.RustNames.{bit_and, bit_or}
+use Rattle.std.specs.Int.RustNames.{bit_and}
 use Rattle.std.proofs.lemmas.Slice.Eq.{bytes_eq-Decides}
 use Rattle.std.proofs.lemmas.Nat.Bits.{bit_at_or, bit_at_and, bit_at-lt, bit_at-zero, bit_at-pow_same}
 use Rattle.std.proofs.lemmas.Bool.Decides.{nat_tests}
 use Rattle.std.proofs.lemmas.List.Elements.{All-nil, All-cons, All-head, All-tail}
-use Rattle.pgn_base.specs.Listening.{listed}
 use Rattle.pgn_base.specs.Names.{has_name}
 use Rattle.pgn_base.specs.declared.note.Note.{Note}
 use Rattle.pgn_journal.specs.Due.{listens}
-use Rattle.pgn_journal.specs.Interest.{channel_bit, with_channel, interest, channels_of, meets, Covers}
+use Rattle.pgn_base.specs.Interest.{channel_bit, with_channel, interest}
+use Rattle.pgn_journal.specs.Interest.{channels_of, Covers}
 use Rattle.pgn_journal.specs.laws.Interest.{InterestCovers, NothingInCommon}
 
 -- a bit that is set stays so

@@ -31,5 +31,5 @@ mod channel_bits;
 pub mod laws;
 mod tx;
 
-pub use channel_bits::{interest, interest_of_notes};
+pub use channel_bits::interest_of_notes;
 pub use tx::{Fate, Tx};

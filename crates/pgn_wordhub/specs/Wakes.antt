@@ -1,7 +1,8 @@
 -- A writer that wakes listeners.
 use Rattle.std.specs.Prelude.{◌≡◌, ℕ, ◌<◌, Bool, true, List, length, get_or, replicate}
 use Rattle.pgn_lanes.specs.Behind.{mask_bit}
-use Rattle.pgn_journal.specs.Interest.{interest, channels_of}
+use Rattle.pgn_base.specs.Interest.{interest}
+use Rattle.pgn_journal.specs.Interest.{channels_of}
 use Rattle.pgn_journal.specs.Packing.{image}
 use Rattle.pgn_hub.specs.Shape.{Shape}
 use Rattle.pgn_words.specs.declared.view.View.{View}

@@ -2,7 +2,8 @@ ghost use Rattle.std.specs.Prelude.{◌≡◌, ◌≢◌, ◌+◌, ◌++◌, ◌
 ghost use Rattle.pgn_base.specs.Notes.{IsNote};
 ghost use Rattle.pgn_journal.specs.Journal.{next_xid};
 ghost use Rattle.pgn_base.specs.declared.format.Format.TheVariants.{One};
-ghost use Rattle.pgn_journal.specs.Interest.{interest, channels_of};
+ghost use Rattle.pgn_base.specs.Interest.{interest};
+ghost use Rattle.pgn_journal.specs.Interest.{channels_of};
 ghost use Rattle.pgn_journal.specs.Packing.{page_of, image};
 ghost use Rattle.pgn_hub.specs.Shape.{notes_of_seats};
 ghost use Rattle.pgn_journal.specs.declared.tx.Fate.TheVariants as fates;

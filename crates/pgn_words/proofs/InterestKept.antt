@@ -9,7 +9,8 @@ use Rattle.pgn_base.specs.declared.format.Format.{Format}
 use Rattle.pgn_journal.specs.declared.tx.Tx.{Tx}
 use Rattle.pgn_journal.specs.Journal.{next_xid, entries_between}
 use Rattle.pgn_journal.specs.Due.{is_due_to, listens}
-use Rattle.pgn_journal.specs.Interest.{interest, channels_of, meets, Covers}
+use Rattle.pgn_base.specs.Interest.{interest}
+use Rattle.pgn_journal.specs.Interest.{channels_of, meets, Covers}
 use Rattle.pgn_journal.proofs.InterestLaws.{interest-covers, nothing-in_common}
 use Rattle.pgn_journal.proofs.NearLaws.{none-within}
 use Rattle.pgn_hub.specs.Shape.{Shape}

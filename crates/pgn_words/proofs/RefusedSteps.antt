@@ -2,7 +2,7 @@
 use Rattle.std.proofs.Common.{◌≡◌, ⊎_elim, ℕ, zero, suc, ◌^◌, true, false, List, [], ◌∷◌, ◌++◌, length, get_or, Some, sym, refl, ap, subst, arith, length-append, codes}
 use Rattle.std.specs.Int.{bit_at}
 use Rattle.std.proofs.lemmas.List.Elements.{All-head}
-use Rattle.pgn_journal.specs.Interest.{channel_bit}
+use Rattle.pgn_base.specs.Interest.{channel_bit}
 use mathlib.Core.Option.{some-injective, some-ne-none}
 use Rattle.pgn_base.specs.declared.format.Format.TheVariants.{One}
 use Rattle.pgn_hub.specs.Examples.{two_seats, tx_3, published}

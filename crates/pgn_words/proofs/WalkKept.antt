@@ -13,7 +13,7 @@ use Rattle.pgn_journal.specs.declared.tx.Tx.{Tx}
 use Rattle.pgn_journal.proofs.BeginsLaws.{begins-itself, begins-on, begins-rest, begins-shorter}
 use Rattle.pgn_journal.specs.Journal.{next_xid}
 use Rattle.pgn_journal.specs.Due.{is_due_to}
-use Rattle.pgn_journal.specs.Interest.{channel_bit}
+use Rattle.pgn_base.specs.Interest.{channel_bit}
 use Rattle.pgn_journal.specs.Packing.{page_start, place, image}
 use Rattle.pgn_hub.specs.Shape.{Shape, IsShape, notes_of_seats}
 use Rattle.pgn_journal.proofs.PackingLemmas.{place_grows, last_place}

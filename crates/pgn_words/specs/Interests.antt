@@ -1,7 +1,8 @@
 -- Interests: what a listener tells of its channels, and what a writer loads of it.
 use Rattle.std.specs.Prelude.{◌≡◌, ℕ, ◌+◌, List, slice_set, true}
 use Rattle.atomic_table.specs.Table.{Step}
-use Rattle.pgn_journal.specs.Interest.{interest, channels_of, meets}
+use Rattle.pgn_base.specs.Interest.{interest}
+use Rattle.pgn_journal.specs.Interest.{channels_of, meets}
 use Rattle.pgn_words.specs.declared.view.View.{View}
 use Rattle.pgn_words.specs.declared.view.Stage.TheVariants.{Still}
 use Rattle.pgn_words.specs.Words.{interests_at}

@@ -8,7 +8,6 @@ ghost use Rattle.pgn_words.specs.declared.view.Phase.TheVariants as phases;
 use crate::pass::{WordPass, WordQueue};
 use crate::plays::{Channels, LoadInterest, StoreInterest};
 use pgn_base::ListenSet;
-use pgn_journal::interest;
 use std::marker::Brand;
 
 impl WordQueue {
@@ -43,7 +42,7 @@ impl WordQueue {
         ensures view { view_of pass.new ≡ interested set.now.channels (view_of pass.old) }
     {
         let word = self.word_of_interest(pass.session.get() - 1);
-        let bits = interest(set);
+        let bits = set.interest();
         self.table
             .shared
             .store::<StoreInterest<G>>(&mut pass.seat, word, bits);

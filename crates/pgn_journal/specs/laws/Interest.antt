@@ -3,7 +3,8 @@ use Rattle.std.specs.Prelude.{◌≡◌, ℕ, false, List}
 use Rattle.std.specs.List.{list_any}
 use Rattle.pgn_base.specs.declared.note.Note.{Note}
 use Rattle.pgn_journal.specs.Due.{listens}
-use Rattle.pgn_journal.specs.Interest.{interest, channels_of, meets, Covers}
+use Rattle.pgn_base.specs.Interest.{interest}
+use Rattle.pgn_journal.specs.Interest.{channels_of, meets, Covers}
 
 -- the bits of channels have the bit of each
 abbrev pub InterestCovers : Type 0

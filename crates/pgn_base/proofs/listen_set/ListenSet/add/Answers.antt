@@ -1,7 +1,9 @@
-use Rattle.std.proofs.Common.{◌≡◌, ◌+◌, ◌∙◌, ap, sym, subst, Option, Some, List, ℕ, [], ◌∷◌, ◌++◌, false, arith, length, length-append}
+use Rattle.std.proofs.Common.{◌≡◌, ◌+◌, ◌∙◌, ap, sym, subst, Option, Some, List, ℕ, [], ◌∷◌, ◌++◌, false, arith, get_or, length, length-append}
 use Rattle.pgn_base.specs.Names.{has_name}
 use Rattle.pgn_base.specs.Listening.{Listening, AreThere, AreOnce, listed}
-use Rattle.pgn_base.proofs.ListeningLaws.{there-push, once-push, listed-append}
+use Rattle.pgn_base.specs.Interest.{channel_bit, with_bit, AreBits}
+use Rattle.pgn_base.proofs.ListeningLaws.{there-push, once-push, listed-append, listed-le}
+use Rattle.pgn_base.proofs.BitsLaws.{with_bit-le, bit-within}
 use Rattle.pgn_base.proofs.listen_set.ListenSet.add.Goals as goal
 
 pub invariant_of-self : goal.invariant_of-self
@@ -15,13 +17,24 @@ invariant_of-self c =
     let absent : has_name (listed places) c.args.name ≡ false = ap (λ (set : Listening). has_name set.channels c.args.name) c.self.view_is ∙ c.requires.absent in
     let longer : c.push.new.self.items ≡ places ++ Some c.args.name ∷ [] = rw c.unwrap-2.ensures at c.push.ensures.items in
     let grown : length c.push.new.self.items ≡ length places + 1 = ap length longer ∙ length-append places (Some c.args.name ∷ []) in
-    let there : AreThere (places ++ Some c.args.name ∷ []) c.insert.new.self.entries = there-push places c.args.name _ _ c.len-at.result _ c.self.invariant.there absent (c.len-at.ensures ∙ c.self.inside.places.ok.0) here.0 old size in
-    record {
-      there = subst (λ (l : List (Option (List ℕ))). AreThere l c.insert.new.self.entries) (sym longer) there;
-      once = subst (λ (names : List (List ℕ)). AreOnce names) (sym (ap listed longer ∙ listed-append places (Some c.args.name ∷ []))) (once-push (listed places) c.args.name c.self.invariant.once absent);
-      fits = omega (arith, grown, c.push.ensures.capacity, c.self.invariant.fits, c.requires.room);
-      indexed = omega (arith, c.insert.ensures.spare, c.self.invariant.indexed, c.requires.room);
-    }
+    let there : AreThere (places ++ Some c.args.name ∷ []) c.insert.new.self.entries = there-push places c.args.name _ _ c.len-at.result _ c.self.invariant.0.there absent (c.len-at.ensures ∙ c.self.inside.places.ok.0) here.0 old size in
+    let bits : AreBits (listed places ++ c.args.name ∷ []) c.put.new.self = rw c.as_bytes-2.ensures.value at (c.put.ensures (listed places) c.self.invariant.1) in
+    let all : listed c.push.new.self.items ≡ listed places ++ c.args.name ∷ [] = ap listed longer ∙ listed-append places (Some c.args.name ∷ []) in (
+      record {
+        there = subst (λ (l : List (Option (List ℕ))). AreThere l c.insert.new.self.entries) (sym longer) there;
+        once = subst (λ (names : List (List ℕ)). AreOnce names) (sym (ap listed longer ∙ listed-append places (Some c.args.name ∷ []))) (once-push (listed places) c.args.name c.self.invariant.0.once absent);
+        fits = omega (arith, grown, c.push.ensures.capacity, c.self.invariant.0.fits, c.requires.room);
+        indexed = omega (arith, c.insert.ensures.spare, c.self.invariant.0.indexed, c.requires.room);
+      },
+      subst (λ (names : List (List ℕ)). AreBits names c.put.new.self) (sym all) bits,
+    )
+
+pub put-requires : goal.put-requires
+put-requires c =
+    let places = c.self.inside.places.items in
+    let bit : ℕ = channel_bit c.as_bytes-2.result.now in
+    let is : get_or c.self.inside.bits.counts bit 0 ≡ with_bit bit (listed places) = c.self.invariant.1.counted bit (bit-within c.as_bytes-2.result.now) in
+    omega (arith, is, with_bit-le bit (listed places), listed-le places, c.self.inside.places.ok.0, c.len-at.ensures)
 
 pub returns-clause-channels : goal.returns-clause-channels
 returns-clause-channels c =

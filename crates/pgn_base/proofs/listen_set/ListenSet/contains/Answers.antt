@@ -7,7 +7,7 @@ use Rattle.pgn_base.proofs.listen_set.ListenSet.contains.Goals as goal
 pub returns-then-channel-le-NAME_BYTES_MAX : goal.returns-then-channel-le-NAME_BYTES_MAX
 returns-then-channel-le-NAME_BYTES_MAX c =
     let found = rw c.new.ensures at c.contains_key.ensures in
-    found ∙ ap is_some (c.self.invariant.there.found c.args.channel.now) ∙ is_some-place 0 c.args.channel.now c.self.inside.places.items
+    found ∙ ap is_some (c.self.invariant.0.there.found c.args.channel.now) ∙ is_some-place 0 c.args.channel.now c.self.inside.places.items
     ∙ ap (λ (set : Listening). has_name set.channels c.args.channel.now) c.self.view_is
 
 pub returns : goal.returns

@@ -1,5 +1,5 @@
 use Rattle.std.proofs.Common.{arith, ap, sym, ◌∙◌}
-use Rattle.pgn_journal.specs.Interest.{interest}
+use Rattle.pgn_base.specs.Interest.{interest}
 use Rattle.pgn_words.proofs.InterestKept.{store_interest_allowed}
 use Rattle.pgn_words.proofs.pass.WordQueue.store_interest_as.Goals as goal
 
