@@ -36,6 +36,7 @@
 //! ```
 #![tactic(auto)]
 
+mod any_bytes;
 mod cells;
 mod entry_fault;
 mod entry_view;
@@ -44,13 +45,12 @@ mod head;
 mod laws;
 mod length;
 mod piece;
-mod reading;
 mod texts;
 
+pub use any_bytes::read_entry;
 pub use cells::{EntryCells, filler_cell};
 pub use entry_fault::EntryFault;
 pub use entry_view::EntryView;
 pub use laws::{one_answer, reads_back};
 pub use length::entry_len;
 pub use piece::read_piece;
-pub use reading::read_entry;

@@ -3,7 +3,7 @@ ghost use Rattle.pgn_words.specs.Words.{flags_at as first_flag, word_count};
 ghost use Rattle.pgn_words.specs.Passes.{IsPassOf, view_of, known_of, shape_of};
 ghost use Rattle.pgn_words.specs.Waking.{raised, HasLooked};
 
-use crate::notes::later_of;
+use crate::meeting::later_of;
 use crate::pass::{WordPass, WordQueue};
 use crate::plays::{LookFlag, RaiseFlag};
 use pgn_base::Xid;

@@ -32,7 +32,7 @@ pub mod laws;
 mod listening;
 mod lock;
 mod looks;
-mod notes;
+mod meeting;
 mod numbers;
 mod opening;
 mod pass;

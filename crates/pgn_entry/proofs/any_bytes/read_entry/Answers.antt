@@ -2,7 +2,7 @@ use Rattle.std.proofs.Common.{rules, arith}
 use Rattle.pgn_entry.specs.declared.entry_fault.EntryFault.TheVariants.{Short, BadLength, NoNul, BadText, BadPad}
 use Rattle.pgn_entry.specs.Reading.{ReadsAs, told}
 use Rattle.pgn_entry.proofs.AnswerLaws.{body_reads, filler_body_reads, exact}
-use Rattle.pgn_entry.proofs.reading.read_entry.Goals as goal
+use Rattle.pgn_entry.proofs.any_bytes.read_entry.Goals as goal
 
 pub returns-in_err-head : goal.returns-in_err-head
 returns-in_err-head c =
