@@ -46,7 +46,7 @@ impl<'a> Parser<'a> {
         }
     }
 
-    // The same after WORK or TRANSACTION, or neither.
+    // The end of a statement in which WORK or TRANSACTION may stand before it.
     fn close_work(&mut self, statement: Statement<'a>) -> Result<Statement<'a>, Stop>
         ensures { Gives result (told.closing self.old.end (meant statement.entry) (told.past_work self.old.tokens)) }
     {

@@ -99,7 +99,7 @@ impl<'a> Lexer<'a> {
         Lexeme::Word(self.take(word_bytes(text.as_bytes())))
     }
 
-    // So is a number.
+    // A number is as long as it can be.
     fn number(&mut self) -> Lexeme<'a>
         requires { Starts start.Number self.old.rest.now }
         ensures { IsRead result self.old.at self.old.rest.now self.new.at self.new.rest.now }

@@ -9,7 +9,7 @@ use pgn_base::{NAME_BYTES_MAX, Name, Payload};
 use pgn_quotes::unquoted;
 use std::alloc::{AllocError, Global};
 
-/// So many times a text is repeated one by one.
+/// Up to so many times a text is repeated one by one; more often by doubling what is there.
 const FEW: usize = 8;
 
 /// The name that a word or a quoted identifier is: a word is folded to lower case, and both are cut.

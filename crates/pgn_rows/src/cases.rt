@@ -51,7 +51,7 @@ pub fn written_out(alloc: Global, text: &[u8]) -> Result<Vec<u8>, AllocError> {
     Ok(whole)
 }
 
-// So many more of the first byte.
+// Puts the first byte of a part at the end of the whole, this often.
 fn put_many(whole: &mut Vec<u8>, part: &[u8], more: usize) -> Result<(), AllocError> {
     match part.first() {
         Some(byte) => whole.resize(whole.len().saturating_add(more), *byte),
