@@ -66,7 +66,7 @@ its_trace items last = record { session = 5; db = 7; items = items; last = last 
 abbrev pub IsTraceOf : List ScriptLine → List Tx → List Item → Option ℕ → Type 0
 IsTraceOf lines journal items last = TraceOk (its_terms lines) (its_trace items last) journal
 
--- it is none
+-- over a journal this is no lawful trace of its lines
 abbrev pub IsRefused : List ScriptLine → List Tx → List Item → Option ℕ → Type 0
 IsRefused lines journal items last = IsTraceOf lines journal items last → ⊥
 
