@@ -29,13 +29,13 @@ all-still : (sections : List Section) → EachSection IsReadTrace sections (map 
 all-still [] = tt
 all-still (section ∷ sections) = (still-read section, all-still sections)
 
-each-append : (front back : List Section) (done left : List Trace) → EachSection IsReadTrace front done → EachSection IsReadTrace back left → EachSection IsReadTrace (front ++ back) (done ++ left)
+pub each-append : (front back : List Section) (done left : List Trace) → EachSection IsReadTrace front done → EachSection IsReadTrace back left → EachSection IsReadTrace (front ++ back) (done ++ left)
 each-append [] back [] left h k = k
 each-append [] back (trace ∷ done) left h k = absurd h
 each-append (section ∷ front) back [] left h k = absurd h
 each-append (section ∷ front) back (trace ∷ done) left h k = (h.0, each-append front back done left h.1 k)
 
-traces-append : (front back : List Section) (done left : List Trace) → EachSection IsReadTrace front done → traces_lines (front ++ back) (done ++ left) ≡ traces_lines front done ++ traces_lines back left
+pub traces-append : (front back : List Section) (done left : List Trace) → EachSection IsReadTrace front done → traces_lines (front ++ back) (done ++ left) ≡ traces_lines front done ++ traces_lines back left
 traces-append [] back [] left h = refl
 traces-append [] back (trace ∷ done) left h = absurd h
 traces-append (section ∷ front) back [] left h = absurd h
@@ -65,7 +65,7 @@ filler-read : (sections : List Section) → IsReadTx sections (filler sections)
 unfolding filler
 filler-read sections = record { session = (omega arith, omega arith); database = refl; queueing = refl; few = omega arith; notes = All-nil IsLineNote }
 
-entries-append : (x : ℕ) (front back : List Tx) → entries_lines x (front ++ back) ≡ entries_lines x front ++ entries_lines (x + length front) back
+pub entries-append : (x : ℕ) (front back : List Tx) → entries_lines x (front ++ back) ≡ entries_lines x front ++ entries_lines (x + length front) back
 entries-append x [] back = ap (λ (n : ℕ). entries_lines n back) (omega arith)
 entries-append x (tx ∷ front) back =
     ap (λ (lines : List (List ℕ)). entry_lines x tx ++ lines) (entries-append (x + 1) front back)

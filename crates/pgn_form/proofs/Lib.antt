@@ -1,0 +1,9 @@
+pub mod StepLaws
+pub mod CutLaws
+pub mod CleanLaws
+pub mod Utf8Laws
+pub mod LeadLaws
+pub mod ForwardLaws
+pub mod StandLaws
+pub mod SectionLaws
+pub mod ReaderLaws

@@ -1,0 +1,237 @@
+ghost use Rattle.std.specs.Prelude.{◌≡◌, OnOk, Some};
+ghost use Rattle.pgn_form.specs.Drafts.{begun, ended, first_draft, noted, paged, received, rowed, tagged, with_entry, with_item};
+ghost use Rattle.pgn_reading.specs.Form.{database_of};
+ghost use Rattle.pgn_form.specs.declared.draft.Part.TheVariants.{Nothing};
+
+use pgn_base::{
+    DbOid, Deliveries, Delivery, Name, Names, Note, Notes, Seq, SessionNo, Tag, Usage, Warning, Xid,
+};
+use pgn_journal::{Fate, Tx};
+use pgn_language::Section;
+use pgn_model::{Item, Items, Trace};
+use std::alloc::{AllocError, Global};
+use std::mem;
+
+/// What has been read of an output: transactions and traces that are whole, items of the next trace that are whole, and what has
+/// begun and may go on.
+#[derive(Drop)]
+pub struct Draft {
+    pub journal: Seq<Tx>,
+    pub traces: Seq<Trace>,
+    pub items: Items,
+    pub part: Part,
+}
+
+/// What has begun and is not whole, or may go on.
+#[derive(Drop)]
+pub enum Part {
+    Nothing,
+    /// A transaction with notifications, of which these were read.
+    Entry {
+        session: SessionNo,
+        queued: u32,
+        fate: Fate,
+        notes: Notes,
+    },
+    /// Rows of channels.
+    Rows {
+        names: Names,
+    },
+    /// A warning, whose tag follows.
+    Warned {
+        warning: Warning,
+    },
+    /// Where a usage was measured: its pages follow.
+    Measured {
+        at: Xid,
+        floor_mark: Xid,
+        holder: Option<SessionNo>,
+    },
+    /// A read with the notifications that it received.
+    Reads {
+        from: Xid,
+        to: Xid,
+        got: Deliveries,
+    },
+}
+
+impl Draft {
+    /// Before the first line.
+    pub fn new(alloc: Global) -> Draft
+        ensures { result ≡ first_draft }
+    {
+        Draft {
+            journal: Seq::new(alloc),
+            traces: Seq::new(alloc),
+            items: Seq::new(alloc),
+            part: Part::Nothing,
+        }
+    }
+
+    /// What has begun is whole, if it is an item.
+    pub fn close(&mut self) -> Result<(), AllocError>
+        ensures { OnOk result (self.new ≡ begun self.old Nothing) }
+    {
+        match mem::replace(&mut self.part, Part::Nothing) {
+            Part::Rows { names } => self.items.push(Item::Channels { names }),
+            Part::Reads { from, to, got } => self.items.push(Item::Read { from, to, got }),
+            _ => Ok(()),
+        }
+    }
+
+    /// Something begins.
+    pub fn begin(&mut self, part: Part) -> Result<(), AllocError>
+        ensures { OnOk result (self.new ≡ begun self.old part) }
+    {
+        self.close()?;
+        self.part = part;
+        Ok(())
+    }
+
+    /// An item stands in one line.
+    pub fn push(&mut self, item: Item) -> Result<(), AllocError>
+        ensures { OnOk result (self.new ≡ with_item self.old item) }
+    {
+        self.close()?;
+        self.items.push(item)
+    }
+
+    /// The row of a channel: rows one after another are one item.
+    pub fn row(&mut self, alloc: Global, name: Name) -> Result<(), AllocError>
+        ensures { OnOk result (self.new ≡ rowed self.old self.old.part name) }
+    {
+        if let Part::Rows { names } = &mut self.part {
+            return names.push(name);
+        }
+        let mut names = Seq::new(alloc);
+        names.push(name)?;
+        self.begin(Part::Rows { names })
+    }
+
+    /// A tag, with the warning before it.
+    pub fn tag(&mut self, tag: Tag) -> Result<(), AllocError>
+        ensures { OnOk result (self.new ≡ tagged self.old self.old.part tag) }
+    {
+        let warning = match &self.part {
+            Part::Warned { warning } => Some(*warning),
+            _ => None,
+        };
+        self.push(Item::Reply { tag, warning })
+    }
+
+    /// The pages of a usage.
+    pub fn pages(&mut self, occupied: u64, limit: u32) -> Result<(), AllocError>
+        ensures { OnOk result (self.new ≡ paged self.old self.old.part occupied limit) }
+    {
+        if let Part::Measured {
+            at,
+            floor_mark,
+            holder,
+        } = &self.part
+        {
+            let usage = Usage {
+                at: *at,
+                occupied,
+                limit,
+                floor_mark: *floor_mark,
+                holder: *holder,
+            };
+            return self.push(Item::Used { usage });
+        }
+        Ok(())
+    }
+
+    /// A notification that was received.
+    pub fn receive(&mut self, delivery: Delivery) -> Result<(), AllocError>
+        ensures { OnOk result (self.new ≡ received self.old self.old.part delivery) }
+    {
+        if let Part::Reads { got, .. } = &mut self.part {
+            return got.push(delivery);
+        }
+        Ok(())
+    }
+
+    /// These notifications of a transaction were read, and so many are left.
+    pub fn entry(
+        &mut self,
+        sections: &[Section],
+        left: u32,
+        session: SessionNo,
+        queued: u32,
+        fate: Fate,
+        notes: Notes,
+    ) -> Result<(), AllocError>
+        ensures { OnOk result (self.new ≡ with_entry sections.now left session queued fate notes self.old) }
+    {
+        if left > 0 {
+            self.part = Part::Entry {
+                session,
+                queued,
+                fate,
+                notes,
+            };
+            return Ok(());
+        }
+        self.part = Part::Nothing;
+        let db = database_of(sections, session);
+        self.journal.push(Tx {
+            session,
+            db,
+            notes,
+            queued,
+            fate,
+        })
+    }
+
+    /// One notification more of a transaction, and so many are left.
+    pub fn note(&mut self, sections: &[Section], left: u32, note: Note) -> Result<(), AllocError>
+        ensures { OnOk result (self.new ≡ noted sections.now left self.old self.old.part note) }
+    {
+        match mem::replace(&mut self.part, Part::Nothing) {
+            Part::Entry {
+                session,
+                queued,
+                fate,
+                mut notes,
+            } => {
+                notes.push(note)?;
+                self.entry(sections, left, session, queued, fate, notes)
+            }
+            other => {
+                self.part = other;
+                Ok(())
+            }
+        }
+    }
+
+    /// The section ends.
+    pub fn end(
+        &mut self,
+        alloc: Global,
+        section: &Section,
+        mark: Option<Xid>,
+    ) -> Result<(), AllocError>
+        ensures { OnOk result (self.new ≡ ended self.old mark (Some section.now)) }
+    {
+        self.close()?;
+        let items = mem::replace(&mut self.items, Seq::new(alloc));
+        self.traces.push(Trace {
+            session: section.no,
+            db: section.db,
+            items,
+            last: mark,
+        })
+    }
+}
+
+// The database of the section with this number, or 1 where none has it.
+fn database_of(sections: &[Section], session: SessionNo) -> DbOid
+    ensures { result ≡ database_of sections.now session }
+{
+    for section in sections {
+        if section.no == session {
+            return section.db;
+        }
+    }
+    DbOid::new(1)
+}

@@ -1,0 +1,119 @@
+ghost use Rattle.std.specs.Prelude.{◌≡◌, ◌^◌, ◌<◌, ◌++◌, length, codes, IfOk, IfSome, bytes_eq};
+ghost use Rattle.pgn_model.specs.Text.{section_line};
+ghost use Rattle.pgn_form.specs.Places.{Fits, told};
+ghost use Rattle.pgn_form.specs.declared.place.Place.TheVariants as at;
+ghost use Rattle.pgn_form.specs.declared.place.Within.TheVariants as within;
+
+use crate::{Place, Within};
+use itoa::Buffer;
+use pgn_base::PID_BASE;
+use pgn_language::{Scenario, ScriptLine, Section};
+use std::alloc::{AllocError, Global};
+
+/// Where a line leads to that is known beforehand: the head of a section, or the next line of its script.
+pub fn told(
+    alloc: Global,
+    scenario: &Scenario,
+    place: Place,
+    line: &[u8],
+) -> Result<Option<Place>, AllocError>
+    requires few { length scenario.now.sections < 2 ^ 32 }
+    ensures value { IfOk result (λ next. next ≡ told scenario.now place line.now) }
+    ensures fits { IfOk result (λ next. IfSome next Fits) }
+{
+    match place {
+        Place::Sections { section } => opened(alloc, scenario, section, line),
+        Place::Inside {
+            section,
+            begun,
+            within: Within::Free,
+        } => Ok(went_on(scenario, section, begun, line)),
+        Place::Inside {
+            section,
+            begun,
+            within: Within::Receiving,
+        } => Ok(went_on(scenario, section, begun, line)),
+        _ => Ok(None),
+    }
+}
+
+// The head of the section in this place leads into it.
+fn opened(
+    alloc: Global,
+    scenario: &Scenario,
+    section: usize,
+    line: &[u8],
+) -> Result<Option<Place>, AllocError>
+    requires few { length scenario.now.sections < 2 ^ 32 }
+    ensures value { IfOk result (λ next. next ≡ told scenario.now (at.Sections section) line.now) }
+    ensures fits { IfOk result (λ next. IfSome next Fits) }
+{
+    let Some(part) = scenario.sections.as_slice().get(section) else {
+        return Ok(None);
+    };
+    if !is_head(alloc, part, line)? {
+        return Ok(None);
+    }
+    Ok(Some(Place::Inside {
+        section,
+        begun: 0,
+        within: Within::Free,
+    }))
+}
+
+// The next line of its script leads on.
+fn went_on(scenario: &Scenario, section: usize, begun: usize, line: &[u8]) -> Option<Place>
+    requires few { length scenario.now.sections < 2 ^ 32 }
+    ensures value { result ≡ told scenario.now (at.Inside section begun within.Free) line.now }
+    ensures fits { IfSome result Fits }
+{
+    let Some(part) = scenario.sections.as_slice().get(section) else {
+        return None;
+    };
+    let Some(script) = part.lines.as_slice().get(begun) else {
+        return None;
+    };
+    if !is_script(script, line) {
+        return None;
+    }
+    Some(Place::Inside {
+        section,
+        begun: begun + 1,
+        within: Within::Free,
+    })
+}
+
+// A line is the head of a section.
+fn is_head(alloc: Global, section: &Section, line: &[u8]) -> Result<bool, AllocError>
+    ensures { IfOk result (λ same. same ≡ bytes_eq (section_line section.now) line.now) }
+{
+    let head = head(alloc, section)?;
+    Ok(head.as_slice() == line)
+}
+
+// The head of a section: its number, its name, its database and its process number.
+fn head(alloc: Global, section: &Section) -> Result<Vec<u8>, AllocError>
+    ensures { IfOk result (λ bytes. bytes.items ≡ section_line section.now) }
+{
+    let mut bytes = Vec::new(alloc);
+    let mut buffer = Buffer::new();
+    bytes.extend_from_slice(b"session ")?;
+    bytes.extend_from_slice(buffer.format(section.no.get()).as_bytes())?;
+    bytes.extend_from_slice(b" ")?;
+    bytes.extend_from_slice(section.name.as_bytes())?;
+    bytes.extend_from_slice(b" db ")?;
+    bytes.extend_from_slice(buffer.format(section.db.get()).as_bytes())?;
+    bytes.extend_from_slice(b" pid ")?;
+    bytes.extend_from_slice(buffer.format(PID_BASE + section.no.get()).as_bytes())?;
+    Ok(bytes)
+}
+
+// A line shows a line of a script.
+fn is_script(script: &ScriptLine, line: &[u8]) -> bool
+    ensures { result ≡ bytes_eq (codes "> " ++ script.now.text) line.now }
+{
+    match line {
+        [b'>', b' ', text @ ..] => script.text.as_bytes() == text,
+        _ => false,
+    }
+}
