@@ -1,0 +1,34 @@
+ghost use Rattle.std.specs.Prelude.{IfOk, MatchResult};
+ghost use Rattle.pgn_language.specs.Inputs.{IsSound};
+ghost use Rattle.pgn_check.specs.Entries.{IsBlamedFirst, IsReadSoFar};
+
+use crate::entries::first_bad;
+use pgn_form::{Reading, read_output};
+use pgn_language::Scenario;
+use std::alloc::{AllocError, Global};
+
+/// What a text shows as an output of the scenario, where each transaction of its journal is finished and some section's; or the
+/// number of the first line that is to blame, from 1, whatever the settings of the run.
+#[tactic(auto, using(crate::proofs::EntryLaws::read_so_far, crate::proofs::EntryLaws::blamed_in_form, crate::proofs::EntryLaws::blamed_in_journal, crate::proofs::EntryLaws::lines_fit))]
+pub fn read_journal(
+    alloc: Global,
+    scenario: &Scenario,
+    out: &[u8],
+) -> Result<Result<Reading, usize>, AllocError>
+    requires sound { IsSound scenario.now }
+    ensures { IfOk result (λ read. MatchResult read (λ reading. IsReadSoFar scenario.now out.now reading.journal reading.traces) (IsBlamedFirst scenario.now out.now)) }
+{
+    let reading = match read_output(alloc, scenario, out)? {
+        Ok(reading) => reading,
+        Err(number) => return Ok(Err(number)),
+    };
+    let bad = first_bad(
+        alloc,
+        scenario.sections.as_slice(),
+        reading.journal.as_slice(),
+    )?;
+    match bad {
+        Some(number) => Ok(Err(number)),
+        None => Ok(Ok(reading)),
+    }
+}
