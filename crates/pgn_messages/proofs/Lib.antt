@@ -1,6 +1,6 @@
 -- bytes behind bytes
 pub mod BytesLaws
 -- how messages grow
-mod GrowLaws
+pub mod GrowLaws
 -- the lines that are still to come
 pub mod RestLaws

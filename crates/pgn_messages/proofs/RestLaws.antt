@@ -186,14 +186,14 @@ after-rest rest s (item.TimedOut looks) h = refl
 after-rest rest s (item.Read from to got) h = refl
 
 -- so it leaves them
-rest-kept : (s : State) (shown : Item) → begins_line shown ≡ false → (after_item s shown).rest ≡ s.rest
+pub rest-kept : (s : State) (shown : Item) → begins_line shown ≡ false → (after_item s shown).rest ≡ s.rest
 rest-kept s shown h = ap (λ (t : State). t.rest) (after-rest s.rest s shown h)
 
 -- a line takes the first
 line-takes : (s : State) (lines : List ScriptLine) (line : ScriptLine) → (at_line s (line ∷ lines)).rest ≡ lines
 line-takes s lines line = ap (λ (t : State). t.rest) (act-rest lines (record s { rest = lines }) line.act)
 
-line-leaves : (s : State) (all lines : List ScriptLine) (line : ScriptLine) → all ≡ line ∷ lines → (at_line s all).rest ≡ lines
+pub line-leaves : (s : State) (all lines : List ScriptLine) (line : ScriptLine) → all ≡ line ∷ lines → (at_line s all).rest ≡ lines
 line-leaves s all lines line e = ap (λ (ls : List ScriptLine). (at_line s ls).rest) e ∙ line-takes s lines line
 
 -- an item begins a line, or not

@@ -5,7 +5,7 @@ pub mod QueryLaws
 -- bytes have one reading
 mod OneLaws
 -- each list of bytes has a reading
-mod EachLaws
+pub mod EachLaws
 -- readings of bytes that are known
 mod ExampleLaws
 -- what the bytes of the examples read as
