@@ -1,0 +1,23 @@
+-- The messages of a run tell what its client saw, and what the journal has.
+use Rattle.std.specs.Prelude.{◌≡◌, ◌≤◌, List, [], ◌∷◌, map}
+use Rattle.pgn_base.specs.declared.limits.TheConstants.{NOTE_LINES_MAX}
+use Rattle.pgn_journal.specs.declared.tx.Tx.{Tx}
+use Rattle.pgn_language.specs.declared.scenario.Section.{Section}
+use Rattle.pgn_language.specs.declared.scenario.Scenario.{Scenario}
+use Rattle.pgn_language.specs.Inputs.{note_lines_of}
+use Rattle.pgn_model.specs.declared.trace.Trace.{Trace}
+use Rattle.pgn_model.specs.Walk.{Settings}
+use Rattle.pgn_model.specs.Legal.{Legal}
+use Rattle.pgn_messages.specs.Messages.{messages}
+use Rattle.pgn_told.specs.Told.{AsksThenQuits, but_queued, seen}
+
+-- the scenario of one section, without flags
+abbrev pub alone : Section → Scenario
+alone section = record { sections = section ∷ []; flags = [] }
+
+-- two legal runs of a client's queries with the same messages: what the client sees of them is the same, and so are the journals but for
+-- how many notifications of an aborted transaction were queued
+abbrev pub MessagesTell : Type 0
+MessagesTell = (section : Section) (settings : Settings) (journal other : List Tx) (a b : Trace) → AsksThenQuits section → note_lines_of section.lines ≤ NOTE_LINES_MAX
+    → Legal (alone section) settings journal (a ∷ []) → Legal (alone section) settings other (b ∷ []) → messages section a.items ≡ messages section b.items
+    → (seen a.items ≡ seen b.items) × (map but_queued journal ≡ map but_queued other)
