@@ -1,6 +1,8 @@
 -- A writer that decides about the seats one after another.
-use Rattle.std.proofs.Common.{◌≡◌, ℕ, zero, suc, ◌+◌, ◌-◌, ◌<◌, ◌≤◌, not, Bool, false, List, [], ◌∷◌, ◌++◌, length, take, replicate, map, set, get_or, slice_index_or, All, sym, refl, ap, ◌∙◌, subst, arith}
-use Rattle.std.proofs.lemmas.List.{length-take-le, length-map, take-append-le, take_all}
+use Rattle.std.proofs.Common.{◌≡◌, ℕ, zero, suc, ◌+◌, ◌-◌, ◌*◌, ◌/◌, ◌%◌, ◌==◌, ◌<◌, ◌≤◌, not, slice_index, Bool, false, List, [], ◌∷◌, ◌++◌, length, take, replicate, map, set, get_or, slice_index_or, All, sym, refl, ap, ◌∙◌, subst, arith}
+use Rattle.std.proofs.lemmas.List.{length-take-le, length-map}
+use Rattle.std.proofs.lemmas.Nat.Bits.{bit_at-zero}
+use Rattle.std.specs.Int.{bit_at}
 use Rattle.std.proofs.Math.Seq.{take-suc, take-suc-set, set-append_seam, get_or-append_seam}
 use Rattle.std.proofs.lemmas.List.Elements.{All-push}
 use Rattle.pgn_base.specs.declared.format.Format.{Format}
@@ -14,7 +16,7 @@ use Rattle.pgn_words.specs.declared.view.Verdict.TheVariants.{Unseen, Decided}
 use Rattle.pgn_words.specs.declared.view.View.{View}
 use Rattle.pgn_words.specs.Waking.{verdict_of}
 use Rattle.pgn_lanes.specs.Behind.{Marks, is_woken, plain_behind}
-use Rattle.pgn_wordhub.specs.Wakes.{decided_as, deemed_as, signalled_as, Names}
+use Rattle.pgn_wordhub.specs.Wakes.{decided_as, deemed_as, signalled_as, Names, NamesFrom}
 
 -- of listeners, and then of others
 behind_append : (head db : ℕ) (ps qs os rs : List ℕ) → length ps ≡ length os → plain_behind head db (ps ++ qs) (os ++ rs) ≡ plain_behind head db ps os ++ plain_behind head db qs rs
@@ -75,10 +77,6 @@ unseen_next head db n seat places dbs below long_places long_dbs =
     ap (λ k. get_or (done ++ replicate k Unseen) seat Decided) left ∙ ap (λ k. get_or (done ++ Unseen ∷ replicate (n - suc seat) Unseen) k Decided) (sym size)
     ∙ get_or-append_seam done Unseen (replicate (n - suc seat) Unseen) Decided
 
--- the first part of a list that was put together
-pub first_part : (n : ℕ) (xs ys : List ℕ) → length xs ≡ n → take n (xs ++ ys) ≡ xs
-first_part n xs ys long = take-append-le n xs ys (omega (arith, long)) ∙ take_all n xs (omega (arith, long))
-
 -- a mask of answers, by other names for what they are about
 pub marks_on : (mask : List ℕ) (h head d db : ℕ) (ps places os dbs : List ℕ) → Marks mask (plain_behind h d ps os) → h ≡ head → d ≡ db → ps ≡ places → os ≡ dbs → Marks mask (plain_behind head db places dbs)
 marks_on mask h head d db ps places os dbs marks at of there theirs =
@@ -93,6 +91,12 @@ names_from mask answers marks i = mapped answers i ∙ ap verdict_of (sym (marks
     mapped [] k = refl
     mapped (b ∷ bs) zero = refl
     mapped (b ∷ bs) (suc k) = mapped bs k
+
+-- a word of a mask that is zero names no seat
+pub none_named : (mask : List ℕ) (verdicts : List Verdict) (word i : ℕ) → slice_index mask word ≡ 0 → NamesFrom mask verdicts (64 * word) → 64 * word ≤ i → i < 64 * (word + 1) → get_or verdicts i Decided ≡ Decided
+none_named mask verdicts word i none named low high =
+    let here : i / 64 ≡ word = omega (arith, low, high) in
+    named i low ∙ ap (λ (n : ℕ). verdict_of (bit_at n (i % 64) == 1)) (ap (λ (k : ℕ). slice_index mask k) here ∙ none) ∙ ap (λ (n : ℕ). verdict_of (n == 1)) (bit_at-zero (i % 64))
 
 -- the place of a position is no later than the head
 pub place_within : (format : Format) (seen : List Tx) (head : ℕ) (found : PosWord) → head ≡ length (image format seen) → IsPositionIn format seen found → place_or head found ≤ head

@@ -1,5 +1,5 @@
 -- A writer that wakes listeners.
-use Rattle.std.specs.Prelude.{◌≡◌, ℕ, ◌<◌, Bool, true, List, length, get_or, replicate}
+use Rattle.std.specs.Prelude.{◌≡◌, ℕ, ◌<◌, ◌≤◌, Bool, true, List, length, get_or, replicate}
 use Rattle.pgn_lanes.specs.Behind.{mask_bit}
 use Rattle.pgn_base.specs.Interest.{interest}
 use Rattle.pgn_journal.specs.Interest.{channels_of}
@@ -34,6 +34,10 @@ IsSent v sent = sent ≡ interest (channels_of v.pen.ending.notes)
 -- a mask names the seats that need a wake, and the others need none
 abbrev pub Names : List ℕ → List Verdict → Type 0
 Names mask verdicts = (i : ℕ) → get_or verdicts i Decided ≡ verdict_of (mask_bit mask i)
+
+-- the same of the seats from one on
+abbrev pub NamesFrom : List ℕ → List Verdict → ℕ → Type 0
+NamesFrom mask verdicts from = (i : ℕ) → from ≤ i → get_or verdicts i Decided ≡ verdict_of (mask_bit mask i)
 
 -- it has looked at no seat yet, and loaded no interest
 pub record IsWaiting (z : Shape) (v : View) : Type 0 where

@@ -1,15 +1,16 @@
-ghost use Rattle.std.specs.Prelude.{◌≡◌, ◌≢◌, ℕ, ◌*◌, ◌^◌, ◌<◌, ◌≤◌, true, length, map, replicate, All};
+ghost use Rattle.std.specs.Prelude.{◌≡◌, ◌≢◌, ℕ, ◌+◌, ◌*◌, ◌^◌, ◌<◌, ◌≤◌, true, length, map, replicate, All};
 ghost use Rattle.pgn_lanes.specs.Behind.{mask_bit, plain_behind};
 ghost use Rattle.pgn_journal.specs.Journal.{is_committed};
 ghost use Rattle.pgn_journal.specs.Packing.{image};
 ghost use Rattle.pgn_words.specs.Passes.{IsPassOf, view_of, known_of};
 ghost use Rattle.pgn_words.specs.Positions.{place_or};
-ghost use Rattle.pgn_words.specs.Views.{AreDecided};
+ghost use Rattle.pgn_words.specs.Views.{AreDecided, seat_of};
+ghost use Rattle.pgn_wordhub.specs.declared.wakes.TheConstants.{FEW, MASK_BITS};
 ghost use Rattle.pgn_words.specs.Waking.{verdict_on, verdict_of, is_concerned, concerned_db, wake_set};
 ghost use Rattle.pgn_words.specs.declared.view.Phase.TheVariants as phases;
 ghost use Rattle.pgn_wordhub.specs.Passes.{hub_shape};
-ghost use Rattle.pgn_wordhub.specs.Wakes.{decided_as, deemed_as, signalled_as, AreConcerned, IsSent, Names, IsWaiting, IsAtHead};
-ghost use Rattle.pgn_words.specs.declared.view.Verdict.TheVariants.{Unseen};
+ghost use Rattle.pgn_wordhub.specs.Wakes.{decided_as, deemed_as, signalled_as, AreConcerned, IsSent, Names, NamesFrom, IsWaiting, IsAtHead};
+ghost use Rattle.pgn_words.specs.declared.view.Verdict.TheVariants.{Unseen, Decided};
 
 use crate::WordHub;
 use pgn_base::SECTIONS_MAX;
@@ -21,6 +22,9 @@ use pgn_words::{PosWord, WordPass};
 
 /// A place for each seat.
 const SEATS: usize = SECTIONS_MAX as usize;
+
+/// So many seats or fewer are decided on by small arrays.
+const FEW: usize = 8;
 
 /// The seats that one word of a mask has.
 const MASK_BITS: usize = 64;
@@ -36,12 +40,15 @@ fn place_of(position: PosWord, head: Pos) -> u64
 }
 
 impl WordHub {
-    // By which database the listener of a seat is tested after a commit: by its own, but by none where it is the writer's and the
-    // listener listens to nothing that was sent. Of another database no interest is loaded: the test goes by pages alone there.
-    fn database_to_test(&self, pass: &mut WordPass, seat: u32, sent: u64) -> u32
+    // By which database the listener of a seat is tested after a commit of the database `db`: by its own, but by none where it is that
+    // one and the listener listens to nothing that was sent. Of another database no interest is loaded: the test goes by pages alone
+    // there.
+    fn database_to_test(&self, pass: &mut WordPass, seat: u32, own: u32, db: u32, sent: u64) -> u32
         requires own { IsPassOf self.now.queue pass.old }
         requires phase { (view_of pass.old).phase ≡ phases.Signalling }
         requires seat { seat < length (hub_shape self.now).seats }
+        requires of_seat { own ≡ (seat_of (hub_shape self.now) (seat + 1)).db }
+        requires db { db ≡ (known_of pass.old).db }
         requires sent { IsSent (view_of pass.old) sent }
         requires committed { is_committed (view_of pass.old).pen.ending.fate ≡ true }
         requires may { is_concerned (view_of pass.old) seat ≡ true }
@@ -50,15 +57,11 @@ impl WordHub {
         ensures others { (i : ℕ) → i ≢ seat → is_concerned (view_of pass.new) i ≡ is_concerned (view_of pass.old) i }
         ensures database { result ≡ concerned_db (view_of pass.new) seat }
     {
-        let db = self.dbs[seat as usize];
-        if db != pass.db().get() {
-            return db;
+        if own != db {
+            return own;
         }
         let interest = self.queue.load_interest(pass, seat);
-        if interest & sent == 0 {
-            return 0;
-        }
-        db
+        if interest & sent == 0 { 0 } else { own }
     }
 
     // The same of each seat in turn.
@@ -73,8 +76,11 @@ impl WordHub {
         ensures concerned { AreConcerned (view_of pass.new) owns.new }
         ensures same_length { length owns.new ≡ length owns.old }
     {
+        let db = pass.db().get();
+        let dbs = self.dbs.as_slice();
         for seat in 0..self.seats() {
-            owns[seat as usize] = self.database_to_test(pass, seat, sent);
+            let own = dbs[seat as usize];
+            owns[seat as usize] = self.database_to_test(pass, seat, own, db, sent);
         }
     }
 
@@ -141,23 +147,49 @@ impl WordHub {
         (mask[seat as usize / MASK_BITS] >> (seat as usize % MASK_BITS)) & 1 == 1
     }
 
+    // Sets the wakes of the seats that one word of a mask names. Most words name none.
+    fn set_wakes_of(&self, pass: &mut WordPass, mask: &[u64], word: u32)
+        requires own { IsPassOf self.now.queue pass.old }
+        requires phase { (view_of pass.old).phase ≡ phases.Signalling }
+        requires word { MASK_BITS * word < length (hub_shape self.now).seats }
+        requires named { NamesFrom mask.now (view_of pass.old).verdicts (MASK_BITS * word) }
+        requires long { length (view_of pass.old).verdicts ≡ length (hub_shape self.now).seats }
+        requires room { length (hub_shape self.now).seats ≤ MASK_BITS * length mask.now }
+        ensures own { IsPassOf self.now.queue pass.new }
+        ensures view { view_of pass.new ≡ decided_as (view_of pass.new).verdicts (view_of pass.old) }
+        ensures long { length (view_of pass.new).verdicts ≡ length (view_of pass.old).verdicts }
+        ensures decided { (i : ℕ) → MASK_BITS * word ≤ i → i < MASK_BITS * (word + 1) → verdict_on (view_of pass.new) i ≡ Decided }
+        ensures before { (i : ℕ) → i < MASK_BITS * word → verdict_on (view_of pass.new) i ≡ verdict_on (view_of pass.old) i }
+        ensures behind { (i : ℕ) → MASK_BITS * (word + 1) ≤ i → verdict_on (view_of pass.new) i ≡ verdict_on (view_of pass.old) i }
+    {
+        if mask[word as usize] == 0 {
+            return;
+        }
+        let from = word * MASK_BITS as u32;
+        let to = self.seats().min(from + MASK_BITS as u32);
+        for seat in from..to {
+            self.set_wake_of(pass, seat, WordHub::names(mask, seat));
+        }
+    }
+
     // Sets the wakes of the seats that a mask names.
     fn set_wakes(&self, pass: &mut WordPass, mask: &[u64])
         requires own { IsPassOf self.now.queue pass.old }
         requires phase { (view_of pass.old).phase ≡ phases.Signalling }
         requires named { Names mask.now (view_of pass.old).verdicts }
         requires long { length (view_of pass.old).verdicts ≡ length (hub_shape self.now).seats }
-        requires room { length (hub_shape self.now).seats ≤ 64 * length mask.now }
+        requires room { length (hub_shape self.now).seats ≤ MASK_BITS * length mask.now }
         ensures own { IsPassOf self.now.queue pass.new }
         ensures view { view_of pass.new ≡ decided_as (view_of pass.new).verdicts (view_of pass.old) }
         ensures decided { AreDecided (view_of pass.new).verdicts }
     {
-        for seat in 0..self.seats() {
-            self.set_wake_of(pass, seat, WordHub::names(mask, seat));
+        for word in 0..self.seats().div_ceil(MASK_BITS as u32) {
+            self.set_wakes_of(pass, mask, word);
         }
     }
 
-    // Decides about each seat: the mask names those whose listener needs a wake. Each is tested by a database of `owns`, which it writes.
+    // Decides about each seat: the mask names those whose listener needs a wake. Each is tested by a database of `owns` and at a place of
+    // `places`, which it writes.
     fn decide(
         &self,
         pass: &mut WordPass,
@@ -165,6 +197,7 @@ impl WordHub {
         sent: u64,
         fate: Fate,
         owns: &mut [u32],
+        places: &mut [u64],
         mask: &mut [u64],
     )
         requires own { IsPassOf self.now.queue pass.old }
@@ -172,20 +205,101 @@ impl WordHub {
         requires head { IsAtHead (hub_shape self.now) (view_of pass.old) head }
         requires sent { IsSent (view_of pass.old) sent }
         requires fate { fate ≡ (view_of pass.old).pen.ending.fate }
-        requires long { length owns.old ≡ length (hub_shape self.now).seats }
+        requires each { length owns.old ≡ length (hub_shape self.now).seats }
+        requires long { length places.old ≡ length (hub_shape self.now).seats }
         requires room { length (hub_shape self.now).seats ≤ 64 * length mask.old }
         requires clear { All (λ word. word ≡ 0) mask.old }
         ensures own { IsPassOf self.now.queue pass.new }
         ensures view { view_of pass.new ≡ signalled_as (view_of pass.new).verdicts (view_of pass.new).concerned (view_of pass.old) }
         ensures named { Names mask.new (view_of pass.new).verdicts }
+        ensures same_length { length mask.new ≡ length mask.old }
         ensures each { length (view_of pass.new).verdicts ≡ length (hub_shape self.now).seats }
     {
         self.databases_to_test(pass, sent, fate, owns);
-        let mut places = [0; SEATS];
-        let seats = self.dbs.len();
-        self.look_to_wake(pass, head, owns, &mut places[..seats]);
+        self.look_to_wake(pass, head, owns, places);
         let db = pass.db().get();
-        behind(&places[..seats], owns, head.get(), db, mask);
+        behind(places, owns, head.get(), db, mask);
+    }
+
+    // Decides about each seat and sets the wakes, by arrays of a place for each seat.
+    fn wake_by(
+        &self,
+        pass: &mut WordPass,
+        head: Pos,
+        sent: u64,
+        fate: Fate,
+        owns: &mut [u32],
+        places: &mut [u64],
+        mask: &mut [u64],
+    )
+        requires own { IsPassOf self.now.queue pass.old }
+        requires waits { IsWaiting (hub_shape self.now) (view_of pass.old) }
+        requires head { IsAtHead (hub_shape self.now) (view_of pass.old) head }
+        requires sent { IsSent (view_of pass.old) sent }
+        requires fate { fate ≡ (view_of pass.old).pen.ending.fate }
+        requires each { length owns.old ≡ length (hub_shape self.now).seats }
+        requires long { length places.old ≡ length (hub_shape self.now).seats }
+        requires room { length (hub_shape self.now).seats ≤ 64 * length mask.old }
+        requires clear { All (λ word. word ≡ 0) mask.old }
+        ensures own { IsPassOf self.now.queue pass.new }
+        ensures view { view_of pass.new ≡ signalled_as (view_of pass.new).verdicts (view_of pass.new).concerned (view_of pass.old) }
+        ensures decided { AreDecided (view_of pass.new).verdicts }
+    {
+        self.decide(pass, head, sent, fate, owns, places, mask);
+        self.set_wakes(pass, mask);
+    }
+
+    // The same of few seats, with small arrays: to clear large ones for each commit costs as much as a tenth of a short line.
+    fn wake_few(&self, pass: &mut WordPass, head: Pos, sent: u64, fate: Fate)
+        requires own { IsPassOf self.now.queue pass.old }
+        requires waits { IsWaiting (hub_shape self.now) (view_of pass.old) }
+        requires head { IsAtHead (hub_shape self.now) (view_of pass.old) head }
+        requires sent { IsSent (view_of pass.old) sent }
+        requires fate { fate ≡ (view_of pass.old).pen.ending.fate }
+        requires few { length (hub_shape self.now).seats ≤ FEW }
+        ensures own { IsPassOf self.now.queue pass.new }
+        ensures view { view_of pass.new ≡ signalled_as (view_of pass.new).verdicts (view_of pass.new).concerned (view_of pass.old) }
+        ensures decided { AreDecided (view_of pass.new).verdicts }
+    {
+        let mut owns = [0; FEW];
+        let mut places = [0; FEW];
+        let mut mask = [0];
+        let seats = self.dbs.len();
+        self.wake_by(
+            pass,
+            head,
+            sent,
+            fate,
+            &mut owns[..seats],
+            &mut places[..seats],
+            &mut mask,
+        );
+    }
+
+    // The same of as many seats as there may be.
+    fn wake_many(&self, pass: &mut WordPass, head: Pos, sent: u64, fate: Fate)
+        requires own { IsPassOf self.now.queue pass.old }
+        requires waits { IsWaiting (hub_shape self.now) (view_of pass.old) }
+        requires head { IsAtHead (hub_shape self.now) (view_of pass.old) head }
+        requires sent { IsSent (view_of pass.old) sent }
+        requires fate { fate ≡ (view_of pass.old).pen.ending.fate }
+        ensures own { IsPassOf self.now.queue pass.new }
+        ensures view { view_of pass.new ≡ signalled_as (view_of pass.new).verdicts (view_of pass.new).concerned (view_of pass.old) }
+        ensures decided { AreDecided (view_of pass.new).verdicts }
+    {
+        let mut owns = [0; SEATS];
+        let mut places = [0; SEATS];
+        let mut mask = [0; SEATS / MASK_BITS];
+        let seats = self.dbs.len();
+        self.wake_by(
+            pass,
+            head,
+            sent,
+            fate,
+            &mut owns[..seats],
+            &mut places[..seats],
+            &mut mask,
+        );
     }
 
     // Wakes the listeners that a transaction concerns which has moved the head to a place, has ended so, and has sent on the channels of
@@ -200,10 +314,10 @@ impl WordHub {
         ensures view { view_of pass.new ≡ signalled_as (view_of pass.new).verdicts (view_of pass.new).concerned (view_of pass.old) }
         ensures decided { AreDecided (view_of pass.new).verdicts }
     {
-        let mut owns = [0; SEATS];
-        let mut mask = [0; SEATS / MASK_BITS];
-        let seats = self.dbs.len();
-        self.decide(pass, head, sent, fate, &mut owns[..seats], &mut mask);
-        self.set_wakes(pass, &mask);
+        if self.dbs.len() <= FEW {
+            self.wake_few(pass, head, sent, fate);
+        } else {
+            self.wake_many(pass, head, sent, fate);
+        }
     }
 }

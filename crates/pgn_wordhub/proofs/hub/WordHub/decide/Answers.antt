@@ -1,13 +1,10 @@
-use Rattle.std.proofs.Common.{rules, ◌≡◌, List, length, sym, ap, ◌∙◌, subst, arith}
-use Rattle.std.proofs.lemmas.List.{length-take-le, length-map}
-use Rattle.pgn_hub.specs.declared.setup.SeatSetup.{SeatSetup}
+use Rattle.std.proofs.Common.{rules, List, sym, ap, subst}
 use Rattle.pgn_lanes.specs.Behind.{Marks, plain_behind}
 use Rattle.pgn_words.specs.declared.view.View.{View}
 use Rattle.pgn_words.specs.declared.view.Verdict.{Verdict}
 use Rattle.pgn_words.specs.Passes.{view_of, known_of}
-use Rattle.pgn_wordhub.specs.Passes.{hub_shape}
 use Rattle.pgn_wordhub.specs.Wakes.{Names}
-use Rattle.pgn_wordhub.proofs.WakeLaws.{first_part, marks_on, names_from, decided}
+use Rattle.pgn_wordhub.proofs.WakeLaws.{marks_on, names_from, decided}
 use Rattle.pgn_wordhub.proofs.hub.WordHub.decide.Goals as goal
 
 pub returns-clause-view : goal.returns-clause-view
@@ -15,11 +12,7 @@ returns-clause-view c = decided (view_of c.args.pass.now) (view_of c.databases_t
 
 pub returns-clause-named : goal.returns-clause-named
 returns-clause-named c =
-    let all : length c.args.self.now.dbs.items ≡ length (hub_shape c.args.self.now).seats = ap length c.args.self.now.databases ∙ length-map (hub_shape c.args.self.now).seats (λ (s : SeatSetup). s.db) in
-    let few = c.args.self.now.shaped.few_seats in
-    let n = c.len-seats.ensures in
     let answers = plain_behind c.args.head (known_of c.databases_to_test.new.pass).db c.look_to_wake.new.places c.databases_to_test.new.owns in
     let marks : Marks c.behind.new.mask answers =
-    marks_on c.behind.new.mask _ c.args.head _ (known_of c.databases_to_test.new.pass).db _ c.look_to_wake.new.places _ c.databases_to_test.new.owns c.behind.ensures (search rules) (search rules)
-    (first_part c.len-seats.result c.look_to_wake.new.places _ (c.look_to_wake.ensures.same_length ∙ length-take-le c.len-seats.result _ (omega (arith, few, n, all)))) (search rules) in
+    marks_on c.behind.new.mask _ c.args.head _ (known_of c.databases_to_test.new.pass).db _ c.look_to_wake.new.places _ c.databases_to_test.new.owns c.behind.ensures (search rules) (search rules) (search rules) (search rules) in
     subst (λ (l : List Verdict). Names c.behind.new.mask l) (sym (ap (λ (u : View). u.verdicts) c.look_to_wake.ensures.view)) (names_from c.behind.new.mask answers marks)
