@@ -5,6 +5,7 @@ mod ReadLaws
 mod ListenLaws
 mod StoringLaws
 mod PlacingKept
+mod PassingLaws
 mod WakeLaws
 mod OpenedLaws
 mod LookLaws

@@ -2,12 +2,13 @@
 use Rattle.std.proofs.Common.{◌≡◌, ℕ, ◌+◌, ◌<◌, ◌==◌, ◌&&◌, Bool, true, false, cond, List, [], ◌∷◌, ◌++◌, length, take, slice_get, slice_index, Option, Some, Result, Ok, Err, OnOk, sym, refl, ap, ◌∙◌, arith}
 use Rattle.std.proofs.lemmas.Bool.Decides.{nat_tests}
 use Rattle.std.proofs.lemmas.Option.{slice_get_cases}
-use Rattle.std.proofs.lemmas.List.{length-take, take-append-le}
+use Rattle.std.proofs.lemmas.List.{append-nil, length-take, take-append-le}
 use Rattle.std.proofs.Math.Seq.{take-append_seam}
 use Rattle.std.specs.List.{flat_map}
 use Rattle.pgn_base.specs.Names.{has_name}
 use Rattle.pgn_base.specs.declared.format.Format.TheVariants.{One}
 use Rattle.pgn_base.specs.declared.note.Note.{Note}
+use Rattle.pgn_base.specs.declared.note.Delivery.{Delivery}
 use Rattle.pgn_journal.specs.declared.tx.Tx.{Tx}
 use Rattle.pgn_journal.specs.Journal.{entry}
 use Rattle.pgn_journal.specs.Bytes.{four_bytes}
@@ -30,6 +31,12 @@ gives_when db channels committed note sender b of_db due =
     both true false = refl
     both false true = refl
     both false false = refl
+
+-- an entry on another channel adds nothing
+pub adds_nothing : (db : ℕ) (channels : List (List ℕ)) (committed : ℕ → Bool) (got : List Delivery) (note : Note) (sender : Sender) → sender.db ≡ db → has_name channels note.channel ≡ false
+    → got ≡ got ++ gives db channels committed (AnEntry note sender)
+adds_nothing db channels committed got note sender of_db other =
+    sym (append-nil got) ∙ ap (λ l. got ++ l) (sym (gives_when db channels committed note sender false of_db (sym (ap (λ b. b && committed sender.xid) other))))
 
 -- cells that were loaded give the bytes of the piece
 pub loaded_bytes : (cells : List (Option ℕ)) (at : ℕ) (piece : Piece) (numbers : List ℕ) → StandsAt cells at piece → length numbers ≡ cells_in (length (piece_bytes One piece))

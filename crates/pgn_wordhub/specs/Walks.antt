@@ -1,5 +1,5 @@
 -- A reader's way over the pieces that the head shows.
-use Rattle.std.specs.Prelude.{◌≡◌, ℕ, ◌+◌, ◌<◌, ◌≤◌, List, ◌++◌, length, drop, Option, Some, None, slice_get, All}
+use Rattle.std.specs.Prelude.{◌≡◌, ℕ, ◌+◌, ◌<◌, ◌≤◌, ◌==◌, cond, List, [], ◌∷◌, ◌++◌, length, drop, Option, Some, None, slice_get, All}
 use Rattle.pgn_base.specs.declared.limits.TheConstants.{FIRST_XID}
 use Rattle.pgn_base.specs.declared.format.Format.TheVariants.{One}
 use Rattle.pgn_base.specs.declared.note.Note.{Note}
@@ -68,6 +68,11 @@ pub record HasTurned (cells : List (Option ℕ)) (fin db : ℕ) (channels : List
 -- the cells that the head shows to a reader
 abbrev pub shown_cells : View → List (Option ℕ)
 shown_cells v = image One v.walk.shown
+
+-- the sum of the bytes before the first zero byte
+abbrev pub sum_to_zero : List ℕ → ℕ
+sum_to_zero [] = 0
+sum_to_zero (byte ∷ bytes) = cond (byte == 0) 0 (byte + sum_to_zero bytes)
 
 -- bytes are those of an entry
 pub record HasEntry (bytes : List ℕ) : Type 0 where

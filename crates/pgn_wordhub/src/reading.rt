@@ -1,8 +1,12 @@
-ghost use Rattle.std.specs.Prelude.{◌≡◌, ◌≢◌, ℕ, ◌+◌, ◌*◌, ◌^◌, ◌<◌, ◌≤◌, [], ◌∷◌, ◌++◌, ◌&&◌, length, take, slice_get, slice_index, vec_len, Some, IsSome, List, IfOk, IfSome, OnOk, OnErr};
+ghost use Rattle.std.specs.Int.{bit_at};
+ghost use Rattle.std.specs.Prelude.{◌==◌, true, false, cond, ◌≡◌, ◌≢◌, ℕ, ◌+◌, ◌*◌, ◌^◌, ◌<◌, ◌≤◌, [], ◌∷◌, ◌++◌, ◌&&◌, length, take, slice_get, slice_index, vec_len, Some, IsSome, List, IfOk, IfSome, OnOk, OnErr};
 ghost use Rattle.pgn_base.specs.declared.format.Format.TheVariants.{One};
 ghost use Rattle.pgn_base.specs.declared.note.Note.{Note};
 ghost use Rattle.pgn_base.specs.declared.note.Delivery.{Delivery};
 ghost use Rattle.pgn_base.specs.Names.{has_name};
+ghost use Rattle.pgn_base.specs.Interest.{channel_bit, interest as interest_of};
+ghost use Rattle.pgn_journal.specs.Bytes.{four_bytes};
+ghost use Rattle.pgn_wordhub.specs.declared.reading.TheConstants.{BITS};
 ghost use Rattle.pgn_journal.specs.Journal.{next_xid};
 ghost use Rattle.pgn_journal.specs.Packing.{Sender, image, place};
 ghost use Rattle.pgn_journal.specs.Pieces.{Piece, AnEntry, piece_bytes, gives, committed_by, IsReadable};
@@ -12,7 +16,7 @@ ghost use Rattle.pgn_words.specs.Words.{cell_word, IsCellWord};
 ghost use Rattle.pgn_words.specs.Passes.{IsPassOf, view_of, known_of, shape_of};
 ghost use Rattle.pgn_words.specs.declared.view.Stage.TheVariants as stages;
 ghost use Rattle.pgn_wordhub.specs.Passes.{IsHubPass, hub_shape};
-ghost use Rattle.pgn_wordhub.specs.Walks.{StandsAt, IsCell, IsDueEntry, HasDueEntry, IsEntryAt, HasEntryAt, Walks, IsWalking, HasTurned, shown_cells};
+ghost use Rattle.pgn_wordhub.specs.Walks.{StandsAt, IsCell, IsDueEntry, HasDueEntry, IsEntryAt, HasEntryAt, Walks, IsWalking, HasTurned, sum_to_zero, shown_cells};
 
 use crate::WordHub;
 use crate::parts::{delivery_of, entry_parts};
@@ -27,12 +31,20 @@ use std::alloc::{AllocError, Global};
 /// An entry of so many bytes or fewer is put together on the stack.
 const SHORT_BYTES: usize = 256;
 
+/// So many cells stand before the channel of an entry.
+const HEAD_CELLS: usize = 4;
+
+/// So many bits tell channels apart.
+const BITS: u64 = 64;
+
 /// The first three numbers of an entry or a filler.
 #[derive(Clone, Copy)]
 pub(crate) struct HeadCells {
     pub len: u32,
     pub db: u32,
     pub xid: u32,
+    /// The number of the third one's word, from which a reader goes on.
+    pub word: usize,
 }
 
 // What a read asks for: what is due on these channels of what the hub shows, from numbers below `fin`.
@@ -42,6 +54,9 @@ struct Reader<'a> {
     alloc: Global,
     fin: Xid,
     set: &'a ListenSet,
+    // The bits of the channels of the set.
+    interest: u64,
+    ghost bits: { interest ≡ interest_of set.now.channels },
 }
 
 impl WordHub {
@@ -68,6 +83,8 @@ impl WordHub {
         ensures len { IsCell (shown_cells (view_of pass.old)) (at + 0) result.len }
         ensures db { IsCell (shown_cells (view_of pass.old)) (at + 1) result.db }
         ensures xid { IsCell (shown_cells (view_of pass.old)) (at + 2) result.xid }
+        ensures third { result.word ≡ cell_word (hub_shape self.now) (at + 2) }
+        ensures word { IsCellWord (hub_shape self.now) result.word }
     {
         let first = self.queue.word_of_cell(at);
         let second = self.queue.next_word(first);
@@ -75,7 +92,39 @@ impl WordHub {
         let len = self.cell(pass, first);
         let db = self.cell(pass, second);
         let xid = self.cell(pass, third);
-        HeadCells { len, db, xid }
+        HeadCells {
+            len,
+            db,
+            xid,
+            word: third,
+        }
+    }
+
+    // The bit of the channel of an entry of so many cells, from the number of its third cell's word.
+    fn channel_bit_at(&self, pass: &mut WordPass, at: Pos, third: usize, cells: usize) -> u64
+        requires own { IsPassOf self.now.queue pass.old }
+        requires shown { (view_of pass.old).walk.stage ≡ stages.Shown }
+        requires from { (view_of pass.old).post.at ≤ at }
+        requires third { third ≡ cell_word (hub_shape self.now) (at + 2) }
+        requires word { IsCellWord (hub_shape self.now) third }
+        ensures own { IsPassOf self.now.queue pass.new }
+        ensures view { view_of pass.new ≡ view_of pass.old }
+        ensures bit { (note : Note) (sender : Sender) → StandsAt (shown_cells (view_of pass.old)) at (AnEntry note sender) → length (piece_bytes One (AnEntry note sender)) ≡ 4 * cells → result ≡ channel_bit note.channel }
+        ensures within { result < BITS }
+    {
+        let fourth = self.queue.next_word(third);
+        let mut word = self.queue.next_word(fourth);
+        let mut sum = 0;
+        for k in HEAD_CELLS..cells {
+            let cell = self.cell(pass, word);
+            let (more, ended) = sum_of_cell(cell);
+            sum = (sum + more) % BITS;
+            if ended {
+                return sum;
+            }
+            word = self.queue.next_word(word);
+        }
+        sum
     }
 
     // The cells from a place on.
@@ -151,6 +200,7 @@ impl WordHub {
             alloc,
             fin,
             set,
+            interest: set.interest(),
         };
         match reader.walk(pass, pass.place(), head, out) {
             Ok(at) => {
@@ -163,6 +213,35 @@ impl WordHub {
             }
         }
     }
+}
+
+// The sum of the bytes of a cell before the first zero byte, and whether there is one.
+fn sum_of_cell(cell: u32) -> (u64, bool)
+    ensures sum { (rest : List ℕ) → sum_to_zero (four_bytes cell ++ rest) ≡ result.0 + cond result.1 0 (sum_to_zero rest) }
+    ensures low { result.0 < 1024 }
+{
+    let first = cell % 256;
+    if first == 0 {
+        return (0, true);
+    }
+    let second = cell / 256 % 256;
+    if second == 0 {
+        return (u64::from(first), true);
+    }
+    let third = cell / 65536 % 256;
+    if third == 0 {
+        return (u64::from(first + second), true);
+    }
+    let fourth = cell / 16777216 % 256;
+    (u64::from(first + second + third + fourth), fourth == 0)
+}
+
+// Whether a number has a bit.
+fn has_bit(word: u64, bit: u64) -> bool
+    requires { bit < BITS }
+    ensures { result ≡ (bit_at word bit == 1) }
+{
+    (word >> bit) & 1 == 1
 }
 
 // Puts a delivery behind the others. A list that is empty gets room for this one alone, since most stay so.
@@ -245,7 +324,7 @@ impl Reader<'_> {
     }
 
     // The same of an entry of so many bytes. A long one is put together on the heap, in no more memory than it has.
-    fn take(
+    fn take_whole(
         &self,
         pass: &mut WordPass,
         at: Pos,
@@ -273,6 +352,52 @@ impl Reader<'_> {
         let mut words = vec![in self.alloc; 0; len / CELL_BYTES]?;
         let mut bytes = vec![in self.alloc; 0; len]?;
         self.take_by(pass, at, &mut words, &mut bytes, out)
+    }
+
+    // Whether the set has no channel with the bit of that of an entry of so many cells. Then the entry is on none of them.
+    fn is_apart(&self, pass: &mut WordPass, at: Pos, third: usize, cells: usize) -> bool
+        requires own { IsPassOf self.now.hub.now.queue pass.old }
+        requires shown { (view_of pass.old).walk.stage ≡ stages.Shown }
+        requires from { (view_of pass.old).post.at ≤ at }
+        requires third { third ≡ cell_word (hub_shape self.now.hub.now) (at + 2) }
+        requires word { IsCellWord (hub_shape self.now.hub.now) third }
+        ensures own { IsPassOf self.now.hub.now.queue pass.new }
+        ensures view { view_of pass.new ≡ view_of pass.old }
+        ensures apart { result ≡ true → (note : Note) (sender : Sender) → StandsAt (shown_cells (view_of pass.old)) at (AnEntry note sender) → length (piece_bytes One (AnEntry note sender)) ≡ 4 * cells
+            → has_name self.now.set.now.channels note.channel ≡ false }
+    {
+        let bit = self.hub.channel_bit_at(pass, at, third, cells);
+        !has_bit(self.interest, bit)
+    }
+
+    // The same, but an entry on a channel whose bit no channel of the set has is passed by: most of the entries that a listener passes
+    // on its way were not sent to it, and to put them together costs ten times as much.
+    fn take(
+        &self,
+        pass: &mut WordPass,
+        at: Pos,
+        third: usize,
+        len: usize,
+        out: &mut Vec<Delivery>,
+    ) -> Result<(), AllocError>
+        requires own { IsPassOf self.now.hub.now.queue pass.old }
+        requires shown { (view_of pass.old).walk.stage ≡ stages.Shown }
+        requires from { (view_of pass.old).post.at ≤ at }
+        requires low { at < 2 ^ 32 }
+        requires third { third ≡ cell_word (hub_shape self.now.hub.now) (at + 2) }
+        requires word { IsCellWord (hub_shape self.now.hub.now) third }
+        requires reach { length (known_of pass.old).seen ≤ notes_of_seats (hub_shape self.now.hub.now).seats }
+        requires entry { HasEntryAt (shown_cells (view_of pass.old)) at len (known_of pass.old).db (known_of pass.old).seen }
+        ensures own { IsPassOf self.now.hub.now.queue pass.new }
+        ensures view { view_of pass.new ≡ view_of pass.old }
+        ensures taken { OnOk result ((note : Note) (sender : Sender) → IsEntryAt (shown_cells (view_of pass.old)) at len (known_of pass.old).db (known_of pass.old).seen note sender
+            → out.new.items ≡ out.old.items ++ gives (known_of pass.old).db self.now.set.now.channels (committed_by (known_of pass.old).seen) (AnEntry note sender)) }
+        ensures refused { OnErr result (out.new.items ≡ out.old.items) }
+    {
+        if self.is_apart(pass, at, third, len / CELL_BYTES) {
+            return Ok(());
+        }
+        self.take_whole(pass, at, len, out)
     }
 
     // Reads the entry or the filler at a place, and answers the place of the next one; or none, if its number is not below `fin`.
@@ -304,7 +429,7 @@ impl Reader<'_> {
         if head.db != own {
             return Ok(Some(advance(at, head.len)));
         }
-        self.take(pass, at, head.len as usize, out)?;
+        self.take(pass, at, head.word, head.len as usize, out)?;
         Ok(Some(advance(at, head.len)))
     }
 

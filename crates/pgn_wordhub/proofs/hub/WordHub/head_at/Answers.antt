@@ -23,3 +23,8 @@ returns-clause-xid c n is =
     let there : c.args.at + 1 + 1 ≡ c.args.at + 2 = omega arith in
     subst (λ (u : View). u.post.at ≤ c.args.at + 2 → slice_get (shown_cells u) (c.args.at + 2) ≡ Some (Some n) → c.cell-xid.result ≡ n) (c.cell-db.ensures.view ∙ c.cell-len.ensures.view)
     (c.cell-xid.ensures.value (c.args.at + 2) n (c.next_word-third.ensures.value (c.args.at + 1) (c.next_word-second.ensures.value c.args.at c.word_of_cell-first.ensures.value) ∙ ap (cell_word (hub_shape c.args.self.now)) there)) (omega (arith, from)) is
+
+pub returns-clause-third : goal.returns-clause-third
+returns-clause-third c =
+    let there : c.args.at + 1 + 1 ≡ c.args.at + 2 = omega arith in
+    c.next_word-third.ensures.value (c.args.at + 1) (c.next_word-second.ensures.value c.args.at c.word_of_cell-first.ensures.value) ∙ ap (cell_word (hub_shape c.args.self.now)) there
