@@ -1,8 +1,9 @@
-ghost use Rattle.std.specs.Prelude.{◌≡◌, ℕ, ◌+◌, ◌*◌, ◌^◌, ◌<◌, ◌≤◌, [], ◌∷◌, ◌++◌, drop, get_or};
+ghost use Rattle.std.specs.Prelude.{◌≡◌, ℕ, ◌+◌, ◌*◌, ◌^◌, ◌<◌, ◌≤◌, [], ◌∷◌, ◌++◌, List, length, drop, get_or};
 ghost use Rattle.std.specs.Int.{w32, from_le_bytes};
 ghost use Rattle.pgn_base.specs.declared.format.Format.TheVariants.{One};
 ghost use Rattle.pgn_base.specs.declared.note.Note.{Note};
 ghost use Rattle.pgn_journal.specs.Bytes.{spelled, filler, IsEntryLength};
+ghost use Rattle.pgn_base.specs.declared.limits.TheConstants.{CELL_BYTES};
 ghost use Rattle.pgn_entry.specs.Cells.{AreCellsOf};
 
 use crate::format::HEADER_BYTES;
@@ -28,23 +29,25 @@ fn text_byte(channel: &[u8], payload: &[u8], at: usize) -> u8
     }
 }
 
-// The cell that holds four of these bytes. Most lie in the payload, where they are read together.
+// The cell that holds four of these bytes.
 fn text_cell(channel: &[u8], payload: &[u8], at: usize) -> u32
     requires { at < 2 ^ 32 }
     ensures { result ≡ from_le_bytes w32 (drop at ((channel.now ++ 0 ∷ []) ++ payload.now)) }
 {
-    if at > channel.len() {
-        let past = at - channel.len() - 1;
-        if past + CELL_BYTES <= payload.len() {
-            return LittleEndian::read_u32(&payload[past..]);
-        }
-    }
     u32::from_le_bytes([
         text_byte(channel, payload, at),
         text_byte(channel, payload, at + 1),
         text_byte(channel, payload, at + 2),
         text_byte(channel, payload, at + 3),
     ])
+}
+
+// The cell that holds four bytes of the payload, which are read together.
+fn payload_cell(payload: &[u8], past: usize) -> u32
+    requires { past + CELL_BYTES ≤ length payload.now }
+    ensures { (channel : List ℕ) → result ≡ from_le_bytes w32 (drop (length channel + 1 + past) ((channel ++ 0 ∷ []) ++ payload.now)) }
+{
+    LittleEndian::read_u32(&payload[past..])
 }
 
 /// What the cells of an entry are made of: the numbers of its head, and its two texts. Who goes from cell to cell looks for them
@@ -85,6 +88,12 @@ impl<'a> EntryCells<'a> {
         requires within { 4 * number < self.now.len }
         ensures { (note : Note) (db xid pid : ℕ) → AreCellsOf note db xid pid self.now → result ≡ from_le_bytes w32 (drop (4 * number) (spelled One note db xid pid)) }
     {
+        // Most cells lie in the payload of a long entry, so that these are told first.
+        let at = CELL_BYTES * number;
+        let start = HEADER_BYTES + self.channel.len() + 1;
+        if at >= start && at - start + CELL_BYTES <= self.payload.len() {
+            return payload_cell(self.payload, at - start);
+        }
         match number {
             0 => self.len,
             1 => self.db,

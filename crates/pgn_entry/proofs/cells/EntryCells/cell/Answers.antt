@@ -1,8 +1,17 @@
-use Rattle.std.proofs.Common.{◌≡◌, ℕ, ◌+◌, ◌-◌, ◌*◌, List, [], ◌∷◌, ◌++◌, drop, ap, ◌∙◌, arith}
+use Rattle.std.proofs.Common.{◌≡◌, ℕ, ◌+◌, ◌-◌, ◌*◌, List, [], ◌∷◌, ◌++◌, length, drop, ap, ◌∙◌, arith}
 use Rattle.std.specs.Int.{w32, from_le_bytes}
 use Rattle.pgn_base.specs.declared.format.Format.TheVariants.{One}
 use Rattle.pgn_entry.proofs.CellLaws.{entry_cell_0, entry_cell_1, entry_cell_2, entry_cell_3, entry_cell_text}
 use Rattle.pgn_entry.proofs.cells.EntryCells.cell.Goals as goal
+
+pub returns-then-at-start-2 : goal.returns-then-at-start-2
+returns-then-at-start-2 c note db xid pid cells =
+    let at : ℕ = length c.args.self.now.channel.now + 1 + (4 * c.args.number - (16 + length c.args.self.now.channel.now + 1)) in
+    let from = c.if-at-start.true in
+    let there : 4 * c.args.number ≡ 16 + at = omega (arith, from) in
+    c.payload_cell.ensures c.args.self.now.channel.now
+    ∙ ap (λ (xs : List ℕ). from_le_bytes w32 (drop at ((xs ++ 0 ∷ []) ++ c.args.self.now.payload.now))) cells.channel
+    ∙ ap (λ (xs : List ℕ). from_le_bytes w32 (drop at ((note.channel ++ 0 ∷ []) ++ xs))) cells.payload ∙ entry_cell_text note db xid pid c.args.number at there
 
 pub returns-in-0 : goal.returns-in-0
 returns-in-0 c note db xid pid cells =
