@@ -1,0 +1,302 @@
+-- A client that is served, a query at a time.
+use Rattle.std.proofs.Common.{◌≡◌, ℕ, ◌+◌, ◌<◌, ◌≤◌, ◌⊎◌, inl, inr, Bool, true, false, cond, List, [], ◌∷◌, ◌++◌, length, Option, Some, None, IfSome, Result, Ok, Err, sym, ap, ◌∙◌, subst, refl, arith, append_assoc, append-nil}
+use Rattle.std.proofs.lemmas.Bool.{cases_lt}
+use Rattle.std.proofs.lemmas.List.{length-append}
+use Rattle.std.proofs.lemmas.List.Sums.{sum_by-append}
+use Rattle.std.specs.Io.KnownBytes.{Appends}
+use Rattle.pgn_base.specs.declared.limits.TheConstants.{NOTE_LINES_MAX}
+use Rattle.pgn_base.specs.declared.command.Command.TheVariants.{Bad as BadCommand}
+use Rattle.pgn_language.specs.declared.scenario.Act.{Act}
+use Rattle.pgn_language.specs.declared.scenario.Act.TheVariants.{Run}
+use Rattle.pgn_language.specs.declared.scenario.ScriptLine.{ScriptLine}
+use Rattle.pgn_language.specs.declared.scenario.Section.{Section}
+use Rattle.pgn_language.specs.Inputs.{is_note_act, note_lines_of}
+use Rattle.pgn_model.specs.declared.item.Item.{Item}
+use Rattle.pgn_hub.specs.Shape.{Shape}
+use Rattle.pgn_session.specs.declared.session.Session.{Session}
+use Rattle.pgn_session.specs.declared.doing.FlagPlan.{FlagPlan}
+use Rattle.pgn_session.specs.Standing.{IsFlagBelow, IsServedBy}
+use Rattle.pgn_session.specs.Feed.{EndsByQuit, fed}
+use Rattle.pgn_session.specs.Whole.{IsSameScript}
+use Rattle.pgn_session.proofs.FeedLaws.{fed-split, fed-served}
+use Rattle.pgn_messages.specs.Messages.{messages}
+use Rattle.pgn_queries.specs.declared.limits.TheConstants.{QUERIES_MAX}
+use Rattle.pgn_queries.specs.declared.wire_fault.WireFault.{WireFault}
+use Rattle.pgn_queries.specs.Client.{OfKnown}
+use Rattle.pgn_queries.specs.Queries as queries
+use Rattle.pgn_queries.specs.Queries.{AreTooMany, Gives, HasPassed, IsLineOf, Place, QueriesAre, after_query, first_place, note_of}
+use Rattle.pgn_queries.proofs.EachLaws.{each_has_reading}
+use Rattle.pgn_wire.specs.declared.wire_end.WireEnd.{WireEnd}
+use Rattle.pgn_wire.specs.declared.wire_end.WireEnd.TheVariants.{Bad, Read, Write, Memory}
+use Rattle.pgn_wire.specs.Serving.{AsksAll, AsksFirst, BeginsEmpty, HasAsked, HasEnded, HasTaken, HasWritten, IsFedOrNot, IsOpen, IsSameClient, IsServing, RunsCommand, TurnsInto}
+
+-- a query's line runs a command
+runs : (number : ℕ) (text : List ℕ) (line : ScriptLine) → IsLineOf number text line → RunsCommand line
+runs number text _ (queries.IsLineOf.OneLine _ command one reads) = (command, refl)
+runs number text _ (queries.IsLineOf.Lines _ before rest split one) = (BadCommand (length before), refl)
+
+pub passed-runs : (old new : Place) (line : ScriptLine) → HasPassed old new line → RunsCommand line
+passed-runs old new line h = runs (old.queries + 1) h.text line h.is
+
+-- so no flag stands in it
+runs-flagless : (flags : ℕ) (line : ScriptLine) → RunsCommand line → IsFlagBelow flags line.act
+runs-flagless flags line h = subst (λ (act : Act). IsFlagBelow flags act) (sym h.1) tt
+
+pub taken-served : {P : Type 0} (shape : Shape) (old new : Session P) (line : ScriptLine) → IsOpen old → RunsCommand line → HasTaken old line new → IsSameClient old new
+    → IsServedBy shape old.section old.plan → IsServedBy shape new.section new.plan
+taken-served shape old new line is_open h taken same served =
+    subst (λ (plan : FlagPlan). IsServedBy shape new.section plan) (sym same.plan)
+    (subst (λ (section : Section). IsServedBy shape section old.plan) (sym taken.section)
+    (fed-served shape old.section old.plan line is_open.ends (runs-flagless shape.flags line h) served))
+
+-- how many of the lines notify
+pub notes-append : (xs ys : List ScriptLine) → note_lines_of (xs ++ ys) ≡ note_lines_of xs + note_lines_of ys
+notes-append xs ys = sum_by-append (λ (l : ScriptLine). cond (is_note_act l.act) 1 0) xs ys
+
+-- with one more
+notes-fed : (section : Section) (line : ScriptLine) → EndsByQuit section.lines → note_lines_of (fed section line).lines ≡ note_lines_of section.lines + note_of line.act
+notes-fed section line ends =
+    let new : note_lines_of (fed section line).lines ≡ note_lines_of ends.front + note_lines_of (line ∷ ends.last ∷ []) = ap note_lines_of (fed-split section line ends) ∙ notes-append ends.front (line ∷ ends.last ∷ []) in
+    let old : note_lines_of section.lines ≡ note_lines_of ends.front + note_lines_of (ends.last ∷ []) = ap note_lines_of ends.split ∙ notes-append ends.front (ends.last ∷ []) in
+    let more : note_lines_of (line ∷ ends.last ∷ []) ≡ note_lines_of (line ∷ []) + note_lines_of (ends.last ∷ []) = notes-append (line ∷ []) (ends.last ∷ []) in
+    let one : note_lines_of (line ∷ []) ≡ note_of line.act = omega arith in
+    omega (arith, new, old, more, one)
+
+-- they are no more than the session may have
+pub passed-few : (old new : Place) (line : ScriptLine) (lines : List ScriptLine) (most : ℕ) → HasPassed old new line → note_lines_of lines ≡ old.notes → most ≡ NOTE_LINES_MAX
+    → note_lines_of (line ∷ []) + note_lines_of lines ≤ most
+passed-few old new line lines most h notes e =
+    let after : new.notes ≡ old.notes + note_of line.act = ap (λ (p : Place). p.notes) h.after in
+    let one : note_lines_of (line ∷ []) ≡ note_of line.act = omega arith in
+    elim (cases_lt NOTE_LINES_MAX new.notes) [
+      | inl many ↦ absurd (h.few (inr many))
+      | inr few ↦ omega (arith, few, after, one, notes, e)
+    ]
+
+-- the same client, over two calls
+pub same-client : {P : Type 0} (a b c : Session P) → IsSameClient a b → IsSameClient b c → IsSameClient a c
+same-client a b c h k = record {
+  section = k.section ∙ ap (λ (s : Section). record s { lines = c.section.lines }) h.section;
+  plan = k.plan ∙ h.plan;
+  patience = k.patience ∙ h.patience;
+}
+
+-- a session that has taken a query is open again
+abbrev pub taken-open : {P : Type 0} (old new : Session P) (line : ScriptLine) → IsOpen old → HasTaken old line new → IsOpen new
+taken-open old new line is_open taken = record {
+  ends = record {
+    front = is_open.ends.front ++ line ∷ [];
+    last = is_open.ends.last;
+    split = ap (λ (s : Section). s.lines) taken.section ∙ fed-split old.section line is_open.ends ∙ sym (append_assoc is_open.ends.front (line ∷ []) (is_open.ends.last ∷ []));
+    quits = is_open.ends.quits;
+  };
+  begun = taken.counted ∙ ap (λ (n : ℕ). n + 1) is_open.begun ∙ sym (length-append is_open.ends.front (line ∷ []));
+  between = taken.between;
+}
+
+-- what was asked first, with one query more
+asks-more : (place next : Place) (front : List ScriptLine) (line : ScriptLine) (bytes left rest : Option (List ℕ)) → OfKnown (Gives place next (Some line)) left rest → OfKnown (AsksFirst place front) bytes left
+    → OfKnown (AsksFirst next (front ++ line ∷ [])) bytes rest
+asks-more place next front line None left rest gives asked = tt
+asks-more place next front line (Some all) None rest gives asked = absurd asked
+asks-more place next front line (Some all) (Some now) None gives asked = absurd gives
+asks-more place next front line (Some all) (Some now) (Some later) gives asked =
+    λ lines fault more. subst (λ (ls : List ScriptLine). QueriesAre first_place all ls fault) (sym (append_assoc front (line ∷ []) lines)) (asked (line ∷ lines) fault (gives lines fault more))
+
+-- a query was answered
+pub serving-goes : {P : Type 0} (start old new : Session P) (line : ScriptLine) (place next : Place) (bytes left rest held before now : Option (List ℕ)) → HasPassed place next line
+    → OfKnown (Gives place next (Some line)) left rest → HasTaken old line new → IsSameClient old new
+    → ((from : Option (List ℕ)) → Appends from before (messages old.section old.items.items) → Appends from now (messages new.section new.items.items))
+    → IsServing start old place bytes left held before → IsServing start new next bytes rest held now
+serving-goes start old new line place next bytes left rest held before now passed gives taken same written h = record {
+  same = same-client start old new h.same same;
+  is_open = taken-open old new line h.is_open taken;
+  begun = h.begun;
+  notes = ap (λ (s : Section). note_lines_of s.lines) taken.section ∙ notes-fed old.section line h.is_open.ends ∙ ap (λ (n : ℕ). n + note_of line.act) h.notes ∙ sym (ap (λ (p : Place). p.notes) passed.after);
+  most = ap (λ (s : Section). s.note_lines) taken.section ∙ h.most;
+  asked = asks-more place next h.is_open.ends.front line bytes left rest gives h.asked;
+  wrote = written held h.wrote;
+}
+
+-- the line that ends the script is the one that was there first
+same-last : (lines : List ScriptLine) (front : List ScriptLine) (last first : ScriptLine) → lines ≡ front ++ last ∷ [] → last ∷ [] ≡ first ∷ [] → lines ≡ front ++ first ∷ []
+same-last lines front last first e same = e ∙ ap (λ (ls : List ScriptLine). front ++ ls) same
+
+-- there was no query more
+asks-all : (place next : Place) (section : Section) (front : List ScriptLine) (last : ScriptLine) (bytes left rest : Option (List ℕ)) → section.lines ≡ front ++ last ∷ []
+    → OfKnown (Gives place next None) left rest → OfKnown (AsksFirst place front) bytes left → IfSome bytes (λ all. AsksAll all None last section)
+asks-all place next section front last None left rest split gives asked = tt
+asks-all place next section front last (Some all) None rest split gives asked = absurd asked
+asks-all place next section front last (Some all) (Some now) None split gives asked = absurd gives
+asks-all place next section front last (Some all) (Some now) (Some later) split gives asked =
+    record { lines = front; split = split; reads = subst (λ (ls : List ScriptLine). QueriesAre first_place all ls None) (append-nil front) (asked [] None gives) }
+
+pub serving-ends : {P T : Type 0} (x : T) (start s : Session P) (place next : Place) (bytes left rest held now : Option (List ℕ)) → OfKnown (Gives place next None) left rest
+    → IsServing start s place bytes left held now → HasEnded {P = P} {T = T} (Ok x) start s bytes held now
+serving-ends x start s place next bytes left rest held now gives h =
+    let ends = h.is_open.ends in
+    record {
+      same = h.same;
+      written = h.wrote;
+      asked = λ first e. asks-all place next s.section ends.front first bytes left rest (same-last s.section.lines ends.front ends.last first ends.split (sym h.begun ∙ e)) gives h.asked;
+    }
+
+-- a fault came next
+asks-to_fault : (place : Place) (fault : WireFault) (section : Section) (front : List ScriptLine) (last : ScriptLine) (bytes left : Option (List ℕ)) → section.lines ≡ front ++ last ∷ []
+    → IfSome left (λ now. QueriesAre place now [] (Some fault)) → OfKnown (AsksFirst place front) bytes left → IfSome bytes (λ all. AsksAll all (Some fault) last section)
+asks-to_fault place fault section front last None left split found asked = tt
+asks-to_fault place fault section front last (Some all) None split found asked = absurd asked
+asks-to_fault place fault section front last (Some all) (Some now) split found asked =
+    record { lines = front; split = split; reads = subst (λ (ls : List ScriptLine). QueriesAre first_place all ls (Some fault)) (append-nil front) (asked [] (Some fault) found) }
+
+-- more was to be asked
+asks-so_far : (place : Place) (section : Section) (front : List ScriptLine) (last : ScriptLine) (bytes left : Option (List ℕ)) → section.lines ≡ front ++ last ∷ []
+    → OfKnown (AsksFirst place front) bytes left → IfSome bytes (λ all. HasAsked all last section)
+asks-so_far place section front last None left split asked = tt
+asks-so_far place section front last (Some all) None split asked = absurd asked
+asks-so_far place section front last (Some all) (Some now) split asked =
+    let more = each_has_reading place now in
+    record { lines = front; split = split; more = more.0; fault = more.1; reads = asked more.0 more.1 more.2 }
+
+-- all that was shown is written
+all-written : (section : Section) (items : List Item) (held now : Option (List ℕ)) → Appends held now (messages section items) → HasWritten {T = Unit {0}} (Err Memory) held now section items
+all-written section items held now h = record { written = messages section items; whole = record { front = items; behind = []; split = sym (append-nil items); line = tt; are = refl }; wrote = h }
+
+-- a failed call, whatever it would have given
+abbrev failed : (T : Type 0) → WireEnd → Result T WireEnd
+failed T end = Err end
+
+-- no query came
+pub serving-fails : {P T : Type 0} (end : WireEnd) (start s : Session P) (place : Place) (bytes left held now : Option (List ℕ)) → (failed (Option ScriptLine) end ≡ Err Write → ⊥)
+    → ((fault : WireFault) → failed (Option ScriptLine) end ≡ Err (Bad fault) → IfSome left (λ rest. QueriesAre place rest [] (Some fault))) → IsServing start s place bytes left held now → HasEnded {P = P} {T = T} (Err end) start s bytes held now
+serving-fails (Bad fault) start s place bytes left held now other found h =
+    let ends = h.is_open.ends in
+    record {
+      same = h.same;
+      written = h.wrote;
+      asked = λ first e. asks-to_fault place fault s.section ends.front first bytes left (same-last s.section.lines ends.front ends.last first ends.split (sym h.begun ∙ e)) (found fault refl) h.asked;
+    }
+serving-fails Read start s place bytes left held now other found h =
+    let ends = h.is_open.ends in
+    record {
+      same = h.same;
+      written = h.wrote;
+      asked = λ first e. asks-so_far place s.section ends.front first bytes left (same-last s.section.lines ends.front ends.last first ends.split (sym h.begun ∙ e)) h.asked;
+    }
+serving-fails Write start s place bytes left held now other found h = absurd (other refl)
+serving-fails Memory start s place bytes left held now other found h =
+    let ends = h.is_open.ends in
+    record {
+      same = h.same;
+      written = all-written s.section s.items.items held now h.wrote;
+      asked = λ first e. asks-so_far place s.section ends.front first bytes left (same-last s.section.lines ends.front ends.last first ends.split (sym h.begun ∙ e)) h.asked;
+    }
+
+-- a query was not answered: it is in the script, or is not
+asks-half : (place next : Place) (old new : Section) (line : ScriptLine) (ends : EndsByQuit old.lines) (first : ScriptLine) (bytes left rest : Option (List ℕ)) → ends.last ∷ [] ≡ first ∷ []
+    → OfKnown (Gives place next (Some line)) left rest → IsFedOrNot old line new → OfKnown (AsksFirst place ends.front) bytes left → IfSome bytes (λ all. HasAsked all first new)
+asks-half place next old new line ends first bytes left rest same gives (inl e) asked =
+    subst (λ (s : Section). IfSome bytes (λ all. HasAsked all first s)) (sym e) (asks-so_far place old ends.front first bytes left (same-last old.lines ends.front ends.last first ends.split same) asked)
+asks-half place next old new line ends first bytes left rest same gives (inr e) asked =
+    subst (λ (s : Section). IfSome bytes (λ all. HasAsked all first s)) (sym e)
+    (asks-so_far next (fed old line) (ends.front ++ line ∷ []) first bytes rest
+    (same-last (fed old line).lines (ends.front ++ line ∷ []) ends.last first (fed-split old line ends ∙ sym (append_assoc ends.front (line ∷ []) (ends.last ∷ []))) same)
+    (asks-more place next ends.front line bytes left rest gives asked))
+
+pub answer-fails : {P T : Type 0} (end : WireEnd) (start old new : Session P) (line : ScriptLine) (place next : Place) (bytes left rest held before now : Option (List ℕ))
+    → (failed (Unit {0}) end ≡ Err Write) ⊎ (failed (Unit {0}) end ≡ Err Memory) → OfKnown (Gives place next (Some line)) left rest → IsFedOrNot old.section line new.section → IsSameClient old new
+    → ((from : Option (List ℕ)) → Appends from before (messages old.section old.items.items) → HasWritten {T = Unit {0}} (Err end) from now new.section new.items.items)
+    → IsServing start old place bytes left held before → HasEnded {P = P} {T = T} (Err end) start new bytes held now
+answer-fails (Bad fault) start old new line place next bytes left rest held before now is gives script same written h = absurd (elim is [ inl e ↦ cc | inr e ↦ cc ])
+answer-fails Read start old new line place next bytes left rest held before now is gives script same written h = absurd (elim is [ inl e ↦ cc | inr e ↦ cc ])
+answer-fails Write start old new line place next bytes left rest held before now is gives script same written h = record {
+  same = same-client start old new h.same same;
+  written = written held h.wrote;
+  asked = λ first e. asks-half place next old.section new.section line h.is_open.ends first bytes left rest (sym h.begun ∙ e) gives script h.asked;
+}
+answer-fails Memory start old new line place next bytes left rest held before now is gives script same written h = record {
+  same = same-client start old new h.same same;
+  written = written held h.wrote;
+  asked = λ first e. asks-half place next old.section new.section line h.is_open.ends first bytes left rest (sym h.begun ∙ e) gives script h.asked;
+}
+
+-- it is the end of the whole conversation
+pub ended-as : {P T U : Type 0} (x : T) (y : U) (start s : Session P) (bytes held now : Option (List ℕ)) → HasEnded {P = P} {T = T} (Ok x) start s bytes held now → HasEnded {P = P} {T = U} (Ok y) start s bytes held now
+ended-as x y start s bytes held now h = record { same = h.same; written = h.written; asked = h.asked }
+
+pub failed-as : {P T U : Type 0} (end : WireEnd) (start s : Session P) (bytes held now : Option (List ℕ)) → HasEnded {P = P} {T = T} (Err end) start s bytes held now → HasEnded {P = P} {T = U} (Err end) start s bytes held now
+failed-as (Bad fault) start s bytes held now h = record { same = h.same; written = h.written; asked = h.asked }
+failed-as Read start s bytes held now h = record { same = h.same; written = h.written; asked = h.asked }
+failed-as Write start s bytes held now h = record { same = h.same; written = h.written; asked = h.asked }
+failed-as Memory start s bytes held now h = record { same = h.same; written = h.written; asked = h.asked }
+
+-- nothing was asked so far
+asks-none : (front : List ScriptLine) (bytes : Option (List ℕ)) → front ≡ [] → OfKnown (AsksFirst first_place front) bytes bytes
+asks-none front None e = tt
+asks-none front (Some all) e = λ lines fault h. subst (λ (ls : List ScriptLine). QueriesAre first_place all (ls ++ lines) fault) (sym e) h
+
+writes-none : (held : Option (List ℕ)) (text : List ℕ) → text ≡ [] → Appends held held text
+writes-none None text e = tt
+writes-none (Some xs) text e = sym (ap (λ (l : List ℕ). xs ++ l) e ∙ append-nil xs)
+
+abbrev pub begins-open : {P : Type 0} (s : Session P) → BeginsEmpty s → IsOpen s
+begins-open s h = record { ends = record { front = []; last = h.last; split = h.lines; quits = h.quits }; begun = h.begun; between = h.between }
+
+pub serving-begins : {P : Type 0} (s : Session P) (bytes held : Option (List ℕ)) → BeginsEmpty s → IsServing s s first_place bytes bytes held held
+serving-begins {P} s bytes held h =
+    let one : note_lines_of (h.last ∷ []) ≡ note_of h.last.act = omega arith in
+    let none : note_of h.last.act ≡ 0 = ap note_of h.quits in
+    record {
+      same = record { section = refl; plan = refl; patience = refl };
+      is_open = begins-open s h;
+      begun = h.lines;
+      notes = ap note_lines_of h.lines ∙ one ∙ none;
+      most = h.notes;
+      asked = asks-none [] bytes refl;
+      wrote = writes-none held (messages s.section s.items.items) (ap (λ (is : List Item). messages s.section is) h.shown);
+    }
+
+-- what is known of a query that was read
+pub some-passed : (old new : Place) (next : Option ScriptLine) (line : ScriptLine) → next ≡ Some line → IfSome next (HasPassed old new) → HasPassed old new line
+some-passed old new next line e h = subst (λ (n : Option ScriptLine). IfSome n (HasPassed old new)) e h
+
+pub some-gives : (old new : Place) (next given : Option ScriptLine) (left rest : Option (List ℕ)) → next ≡ given → OfKnown (Gives old new next) left rest → OfKnown (Gives old new given) left rest
+some-gives old new next given left rest e h = subst (λ (n : Option ScriptLine). OfKnown (Gives old new n) left rest) e h
+
+-- a count that did not rise
+pub unrisen : (before now : ℕ) (P : Type 0) → before ≤ now → (before < now → P) → (P → ⊥) → now ≡ before
+unrisen before now P later rose none = elim (cases_lt before now) [ inl less ↦ absurd (none (rose less)) | inr same ↦ omega (arith, later, same) ]
+
+-- after the `\quit` it is the same client, and as much was asked
+pub quit-same : {P : Type 0} (a b c : Session P) → IsSameClient a b → IsSameScript b c → IsSameClient a c
+quit-same a b c h k = record {
+  section = k.section ∙ h.section ∙ ap (λ (s : Section). record a.section { lines = s.lines }) (sym k.section);
+  plan = k.plan ∙ h.plan;
+  patience = k.patience ∙ h.patience;
+}
+
+pub quit-asked : (first mid new : Section) (bytes : Option (List ℕ)) → new ≡ mid → ((last : ScriptLine) → first.lines ≡ last ∷ [] → IfSome bytes (λ all. AsksAll all None last mid))
+    → (last : ScriptLine) → first.lines ≡ last ∷ [] → IfSome bytes (λ all. AsksAll all None last new)
+quit-asked first mid new bytes e h last is = subst (λ (s : Section). IfSome bytes (λ all. AsksAll all None last s)) (sym e) (h last is)
+
+-- all of it was asked, but memory did not suffice for the `\quit`
+all-asked : (section : Section) (bytes : Option (List ℕ)) (last : ScriptLine) → IfSome bytes (λ all. AsksAll all None last section) → IfSome bytes (λ all. HasAsked all last section)
+all-asked section None last h = tt
+all-asked section (Some all) last h =
+    record { lines = h.lines; split = h.split; more = []; fault = None; reads = subst (λ (ls : List ScriptLine). QueriesAre first_place all ls None) (sym (append-nil h.lines)) h.reads }
+
+pub quit-unasked : (first mid new : Section) (bytes : Option (List ℕ)) → new ≡ mid → ((last : ScriptLine) → first.lines ≡ last ∷ [] → IfSome bytes (λ all. AsksAll all None last mid))
+    → (last : ScriptLine) → first.lines ≡ last ∷ [] → IfSome bytes (λ all. HasAsked all last new)
+quit-unasked first mid new bytes e h last is = all-asked new bytes last (quit-asked first mid new bytes e h last is)
+
+-- what a turn came to, once it is known
+pub went-on : {P : Type 0} (b : Bool) (start s : Session P) (place : Place) (bytes left held now : Option (List ℕ)) → b ≡ true → TurnsInto (Ok b) start s place bytes left held now → IsServing start s place bytes left held now
+went-on b start s place bytes left held now e h = subst (λ (x : Bool). TurnsInto (Ok x) start s place bytes left held now) e h
+
+pub was-last : {P : Type 0} (b : Bool) (start s : Session P) (place : Place) (bytes left held now : Option (List ℕ)) → b ≡ false → TurnsInto (Ok b) start s place bytes left held now
+    → HasEnded {P = P} {T = Unit {0}} (Ok tt) start s bytes held now
+was-last b start s place bytes left held now e h = ended-as false tt start s bytes held now (subst (λ (x : Bool). TurnsInto (Ok x) start s place bytes left held now) e h)
+
+-- the queries so far are no more than there may be
+pub passed-most : (old new : Place) (line : ScriptLine) → HasPassed old new line → new.queries ≤ 4294967294
+passed-most old new line h = elim (cases_lt QUERIES_MAX new.queries) [ inl many ↦ absurd (h.few (inl many)) | inr few ↦ few ]

@@ -1,0 +1,69 @@
+use Rattle.std.proofs.Common.{Some, None, ap}
+use Rattle.pgn_queries.specs.Queries.{Place}
+use Rattle.pgn_wire.proofs.ServingLaws.{answer-fails, passed-few, passed-most, passed-runs, serving-ends, serving-fails, serving-goes, some-gives, some-passed, taken-open, taken-served}
+use Rattle.pgn_wire.proofs.TakenLaws.{stood-rest}
+use Rattle.pgn_wire.proofs.turn.take_turn.Goals as goal
+
+pub one_query-requires-clause-runs : goal.one_query-requires-clause-runs
+one_query-requires-clause-runs g c κs within =
+    passed-runs c.args.queries.now c.next_query.new.queries c.in-Ok-Some.line (some-passed c.args.queries.now c.next_query.new.queries c.in-Ok-Some.field-0 c.in-Ok-Some.line c.in-Ok-Some.field-0-is c.in-Ok-Some.ensures.passed)
+
+pub one_query-requires-clause-few : goal.one_query-requires-clause-few
+one_query-requires-clause-few g c κs within =
+    passed-few c.args.queries.now c.next_query.new.queries c.in-Ok-Some.line c.args.session.now.section.lines c.args.session.now.section.note_lines
+    (some-passed c.args.queries.now c.next_query.new.queries c.in-Ok-Some.field-0 c.in-Ok-Some.line c.in-Ok-Some.field-0-is c.in-Ok-Some.ensures.passed) c.requires.notes c.requires.most
+
+pub returns-in-Ok-clause-between : goal.returns-in-Ok-clause-between
+returns-in-Ok-clause-between g c = taken-open c.args.session.now c.one_query.new.session c.in-Ok-Some.line c.requires.between c.in-Ok.ensures.taken
+
+pub returns-in-Ok-clause-served : goal.returns-in-Ok-clause-served
+returns-in-Ok-clause-served g c =
+    let passed = some-passed c.args.queries.now c.next_query.new.queries c.in-Ok-Some.field-0 c.in-Ok-Some.line c.in-Ok-Some.field-0-is c.in-Ok-Some.ensures.passed in
+    taken-served (g.H.Hub.shape c.args.hub.now) c.args.session.now c.one_query.new.session c.in-Ok-Some.line c.requires.between (passed-runs c.args.queries.now c.next_query.new.queries c.in-Ok-Some.line passed) c.in-Ok.ensures.taken
+    c.one_query.ensures.same c.requires.served
+
+pub returns-in-Ok-clause-counted : goal.returns-in-Ok-clause-counted
+returns-in-Ok-clause-counted g c =
+    let passed = some-passed c.args.queries.now c.next_query.new.queries c.in-Ok-Some.field-0 c.in-Ok-Some.line c.in-Ok-Some.field-0-is c.in-Ok-Some.ensures.passed in
+    λ e. ap (λ (p : Place). p.queries) passed.after
+
+pub returns-in-Ok-clause-few : goal.returns-in-Ok-clause-few
+returns-in-Ok-clause-few g c =
+    let passed = some-passed c.args.queries.now c.next_query.new.queries c.in-Ok-Some.field-0 c.in-Ok-Some.line c.in-Ok-Some.field-0-is c.in-Ok-Some.ensures.passed in
+    λ e. passed-most c.args.queries.now c.next_query.new.queries c.in-Ok-Some.line passed
+
+pub returns-in-Ok-clause-turned : goal.returns-in-Ok-clause-turned
+returns-in-Ok-clause-turned g c =
+    let place = c.args.queries.now in
+    let next = c.next_query.new.queries in
+    let left = g.S.Source.left c.args.source.now in
+    let rest = g.S.Source.left c.next_query.new.source in
+    λ start bytes held h. serving-goes start c.args.session.now c.one_query.new.session c.in-Ok-Some.line place next bytes left rest held (g.K.Sink.held c.args.sink.now) (g.K.Sink.held c.one_query.new.sink)
+    (some-passed place next c.in-Ok-Some.field-0 c.in-Ok-Some.line c.in-Ok-Some.field-0-is c.in-Ok-Some.ensures.passed)
+    (some-gives place next c.in-Ok-Some.field-0 (Some c.in-Ok-Some.line) left rest c.in-Ok-Some.field-0-is c.in-Ok-Some.ensures.next) c.in-Ok.ensures.taken c.one_query.ensures.same c.in-Ok.ensures.written h
+
+pub returns-in-Err-one_query-clause-turned : goal.returns-in-Err-one_query-clause-turned
+returns-in-Err-one_query-clause-turned g c =
+    let place = c.args.queries.now in
+    let next = c.next_query.new.queries in
+    let left = g.S.Source.left c.args.source.now in
+    let rest = g.S.Source.left c.next_query.new.source in
+    λ start bytes held h. answer-fails c.in-Err-one_query.end start c.args.session.now c.one_query.new.session c.in-Ok-Some.line place next bytes left rest held (g.K.Sink.held c.args.sink.now) (g.K.Sink.held c.one_query.new.sink)
+    c.in-Err-one_query.ensures.ends (some-gives place next c.in-Ok-Some.field-0 (Some c.in-Ok-Some.line) left rest c.in-Ok-Some.field-0-is c.in-Ok-Some.ensures.next) c.in-Err-one_query.ensures.script
+    c.one_query.ensures.same c.in-Err-one_query.ensures.written h
+
+pub returns-in-Ok-None-clause-stood : goal.returns-in-Ok-None-clause-stood
+returns-in-Ok-None-clause-stood g c = stood-rest (g.H.Hub.shape c.args.hub.now) g.P.PassView.known c.args.session.now c.requires.rested
+
+pub returns-in-Ok-None-clause-turned : goal.returns-in-Ok-None-clause-turned
+returns-in-Ok-None-clause-turned g c =
+    let place = c.args.queries.now in
+    let next = c.next_query.new.queries in
+    let left = g.S.Source.left c.args.source.now in
+    let rest = g.S.Source.left c.next_query.new.source in
+    λ start bytes held h. serving-ends _ start c.args.session.now place next bytes left rest held (g.K.Sink.held c.args.sink.now)
+    (some-gives place next c.in-Ok-None.field-0 None left rest c.in-Ok-None.field-0-is c.in-Ok-None.ensures.next) h
+
+pub returns-in-Err-clause-turned : goal.returns-in-Err-clause-turned
+returns-in-Err-clause-turned g c =
+    λ start bytes held h. serving-fails c.in-Err.end start c.args.session.now c.args.queries.now bytes (g.S.Source.left c.args.source.now) held (g.K.Sink.held c.args.sink.now) c.in-Err.ensures.other c.in-Err.ensures.fault h

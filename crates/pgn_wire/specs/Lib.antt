@@ -1,0 +1,2 @@
+-- what holds of a session that serves a client
+pub mod Serving

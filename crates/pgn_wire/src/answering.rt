@@ -1,0 +1,78 @@
+ghost use Rattle.std.specs.Prelude.{◌≡◌, ◌≢◌, ◌+◌, ◌<◌, ◌≤◌, ◌⊎◌, [], ◌∷◌, List, ℕ, Option, Err, drop, length, IfOk, OnOk, OnErr};
+ghost use Rattle.std.specs.Io.KnownBytes.{Appends};
+ghost use Rattle.pgn_base.specs.Outside.{Rose};
+ghost use Rattle.pgn_language.specs.Inputs.{note_lines_of};
+ghost use Rattle.pgn_messages.specs.Messages.{answer_messages, messages};
+ghost use Rattle.pgn_session.specs.Standing.{IsServedBy};
+ghost use Rattle.pgn_session.specs.Whole.{HasRest};
+ghost use Rattle.pgn_wire.specs.Serving.{HasStood, HasTaken, HasWritten, IsFedOrNot, IsOpen, IsSameClient, RunsCommand};
+
+use crate::WireEnd;
+use crate::taking::take_query;
+use pgn_base::{Command, Copied, Sink, write_all};
+use pgn_hub::{Hub, PassView};
+use pgn_language::{Act, ScriptLine};
+use pgn_messages::{Bytes, answer_query};
+use pgn_session::Session;
+use std::alloc::{AllocError, Global};
+use std::sync::Wait;
+
+// Takes a query, and sends its whole answer. Where memory does not suffice, nothing of the answer is sent.
+pub(crate) fn one_query<P: PassView + Send + Drop, H: Hub<Pass = P>, R: Wait, K: Sink>(
+    rt: &R,
+    alloc: Global,
+    hub: &H,
+    session: &mut Session<P>,
+    line: ScriptLine,
+    sink: &mut K,
+) -> Result<(), WireEnd>
+    requires own { H.is_pass hub.now session.old.pass }
+    requires served { IsServedBy (H.shape hub.now) session.old.section session.old.plan }
+    requires rested { HasRest (H.shape hub.now) P.known session.old }
+    requires between { IsOpen session.old }
+    requires runs { RunsCommand line }
+    requires few { note_lines_of (line ∷ []) + note_lines_of session.old.section.lines ≤ session.old.section.note_lines }
+    ensures own { H.is_pass hub.now session.new.pass }
+    ensures same { IsSameClient session.old session.new }
+    ensures taken { OnOk result (HasTaken session.old line session.new) }
+    ensures rested { OnOk result (HasRest (H.shape hub.now) P.known session.new) }
+    ensures stood { HasStood (H.shape hub.now) P.known session.new }
+    ensures script { OnErr result (IsFedOrNot session.old.section line session.new.section) }
+    ensures written { (held : Option (List ℕ)) → Appends held (K.held sink.old) (messages session.old.section session.old.items.items) → HasWritten result held (K.held sink.new) session.new.section session.new.items.items }
+    ensures ends { OnErr result ((result ≡ Err WireEnd.Write) ⊎ (result ≡ Err WireEnd.Memory)) }
+    ensures later { K.faults sink.old ≤ K.faults sink.new }
+    ensures failed { result ≡ Err WireEnd.Write → Rose (K.faults sink.old) (K.faults sink.new) }
+    ensures rose { K.faults sink.old < K.faults sink.new → result ≡ Err WireEnd.Write }
+{
+    let from = session.items.len();
+    let Act::Run(command) = &line.act else {
+        unreachable!()
+    };
+    let Ok(command) = command.copy(alloc) else {
+        return Err(WireEnd::Memory);
+    };
+    let Ok(()) = take_query(rt, alloc, hub, session, line) else {
+        return Err(WireEnd::Memory);
+    };
+    let Ok(bytes) = answer_behind(alloc, session, from, &command) else {
+        return Err(WireEnd::Memory);
+    };
+    match write_all(sink, bytes.as_slice()) {
+        Ok(()) => Ok(()),
+        Err(_) => Err(WireEnd::Write),
+    }
+}
+
+// The answer to a query with this command, whose line is the session's item of this place.
+fn answer_behind<P>(
+    alloc: Global,
+    session: &Session<P>,
+    from: usize,
+    command: &Command,
+) -> Result<Bytes, AllocError>
+    requires { from < length session.now.items.items }
+    ensures { IfOk result (λ bytes. bytes ≡ answer_messages command.now (drop (from + 1) session.now.items.items) session.now.block.state) }
+{
+    let items = session.items.as_slice();
+    answer_query(alloc, command, &items[from + 1..], session.block.state())
+}
