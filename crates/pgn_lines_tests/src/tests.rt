@@ -2,7 +2,14 @@ mod kinds;
 mod sizes;
 
 use pgn_base::Refusal;
-use pgn_lines::Shown;
+use pgn_lines::{Shown, read_line};
+use std::alloc::{AllocError, Global};
+
+// The letter of what a line shows.
+fn read(alloc: Global, line: &str) -> Result<char, AllocError> {
+    let shown = read_line(alloc, line)?;
+    Ok(letter(&shown))
+}
 
 // A letter for each kind of thing that a line may show, and `-` for nothing.
 fn letter(shown: &Option<Shown>) -> char {

@@ -1,5 +1,4 @@
-use super::letter;
-use pgn_lines::read_line;
+use super::read;
 use std::process::Abort;
 use std::test::Fail;
 
@@ -73,8 +72,8 @@ const ANSWERS: [(&str, char); 17] = [
 fn lines_of_the_journal(rt: HostRuntime) -> Result<(), Fail> {
     let alloc = rt.alloc();
     for (line, want) in JOURNAL {
-        let shown = read_line(alloc, line)?;
-        assert_eq!(rt; letter(&shown), want, "at {line}");
+        let found = read(alloc, line)?;
+        assert_eq!(rt; found, want, "at {line}");
     }
     Ok(())
 }
@@ -83,8 +82,8 @@ fn lines_of_the_journal(rt: HostRuntime) -> Result<(), Fail> {
 fn lines_of_what_happened(rt: HostRuntime) -> Result<(), Fail> {
     let alloc = rt.alloc();
     for (line, want) in EVENTS {
-        let shown = read_line(alloc, line)?;
-        assert_eq!(rt; letter(&shown), want, "at {line}");
+        let found = read(alloc, line)?;
+        assert_eq!(rt; found, want, "at {line}");
     }
     Ok(())
 }
@@ -93,8 +92,8 @@ fn lines_of_what_happened(rt: HostRuntime) -> Result<(), Fail> {
 fn lines_of_answers(rt: HostRuntime) -> Result<(), Fail> {
     let alloc = rt.alloc();
     for (line, want) in ANSWERS {
-        let shown = read_line(alloc, line)?;
-        assert_eq!(rt; letter(&shown), want, "at {line}");
+        let found = read(alloc, line)?;
+        assert_eq!(rt; found, want, "at {line}");
     }
     Ok(())
 }

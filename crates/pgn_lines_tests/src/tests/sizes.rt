@@ -1,5 +1,4 @@
-use super::letter;
-use pgn_lines::read_line;
+use super::read;
 use std::alloc::{AllocError, Global};
 use std::process::Abort;
 use std::test::Fail;
@@ -37,8 +36,8 @@ fn lines_of_each_size(rt: HostRuntime) -> Result<(), Fail> {
     let alloc = rt.alloc();
     for (start, piece, times, end, want) in LONG {
         let text = line(alloc, start, piece, times, end)?;
-        let shown = read_line(alloc, &text)?;
-        assert_eq!(rt; letter(&shown), want, "at {start}");
+        let found = read(alloc, &text)?;
+        assert_eq!(rt; found, want, "at {start}");
     }
     Ok(())
 }
