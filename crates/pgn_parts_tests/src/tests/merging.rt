@@ -42,10 +42,10 @@ fn full(alloc: Global, xid: u32, queued: u32, payloads: &str) -> Result<Item, Fa
     })
 }
 
-fn trace(alloc: Global, session: u32, db: u32) -> Trace {
+fn trace(alloc: Global, session: SessionNo, db: DbOid) -> Trace {
     Trace {
-        session: SessionNo::new(session.clamp(1, 256)),
-        db: DbOid::new(db.max(1)),
+        session,
+        db,
         items: Items::new(alloc),
         last: None,
     }
@@ -53,10 +53,10 @@ fn trace(alloc: Global, session: u32, db: u32) -> Trace {
 
 // Two sessions of two databases that commit in turns.
 fn in_turns(alloc: Global) -> Result<Vec<Trace>, Fail> {
-    let mut first = trace(alloc, 1, 7);
+    let mut first = trace(alloc, SessionNo::new(1), DbOid::new(7));
     first.items.push(Item::Line { line: 2 })?;
     first.items.push(publish(alloc, 4, "b")?)?;
-    let mut second = trace(alloc, 2, 8);
+    let mut second = trace(alloc, SessionNo::new(2), DbOid::new(8));
     second.items.push(publish(alloc, 3, "a")?)?;
     second.items.push(publish(alloc, 5, "c d")?)?;
     let mut traces = Vec::new(alloc);
@@ -67,7 +67,7 @@ fn in_turns(alloc: Global) -> Result<Vec<Trace>, Fail> {
 
 // One session that meets a full queue twice, and then commits.
 fn aborted(alloc: Global) -> Result<Vec<Trace>, Fail> {
-    let mut only = trace(alloc, 256, 4294967295);
+    let mut only = trace(alloc, SessionNo::new(256), DbOid::new(u32::MAX));
     only.items.push(full(alloc, 3, 0, "a")?)?;
     only.items.push(full(alloc, 4, 1, "b c")?)?;
     only.items.push(publish(alloc, 5, "d")?)?;
@@ -131,7 +131,7 @@ fn of_nothing(rt: HostRuntime) -> Result<(), AllocError> {
     let alloc = rt.alloc();
     let mut traces = Vec::new(alloc);
     assert!(rt; merge(alloc, traces.as_slice())?.is_empty());
-    traces.push(trace(alloc, 1, 1))?;
+    traces.push(trace(alloc, SessionNo::new(1), DbOid::new(1)))?;
     assert!(rt; merge(alloc, traces.as_slice())?.is_empty());
     Ok(())
 }

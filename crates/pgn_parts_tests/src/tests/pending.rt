@@ -1,5 +1,5 @@
 use super::note;
-use pgn_base::{Action, Actions, Name, Notes};
+use pgn_base::{Action, Actions, Name, Note, Notes};
 use pgn_pending::{Call, NoSuch, Pending, finish_after};
 use std::alloc::{AllocError, Global};
 use std::process::Abort;
@@ -27,18 +27,14 @@ LISTEN c; SAVEPOINT s; NOTIFY c a; RELEASE s; NOTIFY c b; ROLLBACK s => 1: LISTE
 LISTEN c; SAVEPOINT s; LISTEN d; UNLISTEN *; ROLLBACK s; UNLISTEN e => 0: LISTEN c; UNLISTEN e
 LISTEN c; SAVEPOINT s; NOTIFY c a; UNLISTEN *; RELEASE s; LISTEN c => 0: LISTEN c; UNLISTEN *; LISTEN c; NOTIFY c a";
 
-fn call(alloc: Global, command: &str) -> Result<Call, Fail> {
-    let Some((verb, words)) = command.split_once(' ') else {
-        return Err("a verb and its words")?;
-    };
-    if verb == "NOTIFY" {
-        let (channel, payload) = words.split_once(' ').ok_or("a channel and a payload")?;
-        return Ok(Call::Note(note(alloc, channel, payload)?));
-    }
-    let name = Name::new(alloc, words)?;
+fn note_call(alloc: Global, words: &str) -> Result<Call, Fail> {
+    let (channel, payload) = words.split_once(' ').ok_or("a channel and a payload")?;
+    Ok(Call::Note(note(alloc, channel, payload)?))
+}
+
+fn name_call(verb: &str, name: Name) -> Result<Call, Fail> {
     match verb {
         "LISTEN" => Ok(Call::Action(Action::Listen(name))),
-        "UNLISTEN" if words == "*" => Ok(Call::Action(Action::UnlistenAll)),
         "UNLISTEN" => Ok(Call::Action(Action::Unlisten(name))),
         "SAVEPOINT" => Ok(Call::Savepoint(name)),
         "ROLLBACK" => Ok(Call::BackTo(name)),
@@ -47,16 +43,49 @@ fn call(alloc: Global, command: &str) -> Result<Call, Fail> {
     }
 }
 
+fn call(alloc: Global, command: &str) -> Result<Call, Fail> {
+    let (verb, words) = command.split_once(' ').ok_or("a verb and its words")?;
+    if verb == "NOTIFY" {
+        return note_call(alloc, words);
+    }
+    if command == "UNLISTEN *" {
+        return Ok(Call::Action(Action::UnlistenAll));
+    }
+    name_call(verb, Name::new(alloc, words)?)
+}
+
+fn tell_note(pending: &mut Pending, note: Note) -> Result<bool, AllocError> {
+    pending.note(note)?;
+    Ok(true)
+}
+
+fn tell_action(pending: &mut Pending, action: Action) -> Result<bool, AllocError> {
+    pending.action(action)?;
+    Ok(true)
+}
+
+fn tell_savepoint(pending: &mut Pending, name: Name) -> Result<bool, AllocError> {
+    pending.mark(name)?;
+    Ok(true)
+}
+
+fn goes_back(pending: &mut Pending, name: &Name) -> bool {
+    pending.back_to(name) == Ok(())
+}
+
+fn releases(pending: &mut Pending, name: &Name) -> bool {
+    pending.release(name) == Ok(())
+}
+
 // Whether there was such a savepoint.
 fn tell(pending: &mut Pending, call: Call) -> Result<bool, AllocError> {
     match call {
-        Call::Note(note) => pending.note(note)?,
-        Call::Action(action) => pending.action(action)?,
-        Call::Savepoint(name) => pending.mark(name)?,
-        Call::BackTo(name) => return Ok(pending.back_to(&name) != Err(NoSuch)),
-        Call::Release(name) => return Ok(pending.release(&name) != Err(NoSuch)),
+        Call::Note(note) => tell_note(pending, note),
+        Call::Action(action) => tell_action(pending, action),
+        Call::Savepoint(name) => tell_savepoint(pending, name),
+        Call::BackTo(name) => Ok(goes_back(pending, &name)),
+        Call::Release(name) => Ok(releases(pending, &name)),
     }
-    Ok(true)
 }
 
 // What these commands leave, and how often there was no such savepoint.
@@ -152,13 +181,19 @@ fn what_is_left_after_calls(rt: HostRuntime) -> Result<(), Fail> {
     Ok(())
 }
 
+// A savepoint, and in it a notification with its number.
+fn push_level(pending: &mut Pending, alloc: Global, level: u32) -> Result<(), Fail> {
+    tell_savepoint(pending, Name::new(alloc, "s")?)?;
+    let payload = format!(in alloc; "{level}")?;
+    tell_note(pending, note(alloc, "c", &payload)?)?;
+    Ok(())
+}
+
 // Each of 300 levels sends its number.
 fn levels(alloc: Global) -> Result<Pending, Fail> {
     let mut pending = Pending::new(alloc);
     for level in 0..300u32 {
-        pending.mark(Name::new(alloc, "s")?)?;
-        let payload = format!(in alloc; "{level}")?;
-        pending.note(note(alloc, "c", &payload)?)?;
+        push_level(&mut pending, alloc, level)?;
     }
     Ok(pending)
 }
@@ -167,9 +202,9 @@ fn levels(alloc: Global) -> Result<Pending, Fail> {
 fn end_levels(rt: &impl Abort, pending: &mut Pending, name: &Name) {
     for level in 0..300u32 {
         if level < 150 {
-            assert!(rt; pending.back_to(name) == Ok(()));
+            assert!(rt; goes_back(pending, name));
         }
-        assert!(rt; pending.release(name) == Ok(()));
+        assert!(rt; releases(pending, name));
     }
     assert!(rt; pending.release(name) == Err(NoSuch));
     assert!(rt; pending.back_to(name) == Err(NoSuch));

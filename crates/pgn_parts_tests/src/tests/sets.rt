@@ -4,33 +4,29 @@ use pgn_base::{Action, Actions, Copied, ListenSet, Name};
 use std::alloc::{AllocError, Global};
 use std::test::Fail;
 
-// Channels by their length and their last letter.
+// Channels by how many letters `c` come before their last one, and that letter: of 1, 22, 23 and 63 bytes.
 const LISTENED: [(usize, &str); 7] = [
-    (1, "e"),
-    (1, "c"),
-    (1, "d"),
-    (1, "c"),
+    (0, "e"),
+    (0, "c"),
+    (0, "d"),
+    (0, "c"),
+    (21, "a"),
     (22, "a"),
-    (23, "a"),
-    (63, "b"),
+    (62, "b"),
 ];
 
-const OTHERS: [(usize, &str); 5] = [(1, "a"), (21, "a"), (22, "b"), (63, "a"), (64, "b")];
+const OTHERS: [(usize, &str); 5] = [(0, "a"), (20, "a"), (21, "b"), (62, "a"), (63, "b")];
 
-fn channel_text(alloc: Global, length: usize, letter: &str) -> Result<String, AllocError> {
-    repeated(alloc, "c", length.saturating_sub(1), letter)
-}
-
-fn channel(alloc: Global, length: usize, letter: &str) -> Result<Name, Fail> {
-    let text = channel_text(alloc, length, letter)?;
+fn channel(alloc: Global, before: usize, letter: &str) -> Result<Name, Fail> {
+    let text = repeated(alloc, "c", before, letter)?;
     Ok(Name::new(alloc, &text)?)
 }
 
 // How many of these channels are in a set.
 fn found(alloc: Global, set: &ListenSet, names: &[(usize, &str)]) -> Result<u32, AllocError> {
     let mut found = 0u32;
-    for (length, letter) in names {
-        let text = channel_text(alloc, *length, *letter)?;
+    for (before, letter) in names {
+        let text = repeated(alloc, "c", *before, *letter)?;
         if set.contains(text.as_bytes()) {
             found = found.saturating_add(1);
         }
@@ -40,28 +36,51 @@ fn found(alloc: Global, set: &ListenSet, names: &[(usize, &str)]) -> Result<u32,
 
 fn all_listened(alloc: Global) -> Result<ListenSet, Fail> {
     let mut actions = Actions::new(alloc);
-    for (length, letter) in LISTENED {
-        actions.push(Action::Listen(channel(alloc, length, letter)?))?;
+    for (before, letter) in LISTENED {
+        actions.push(Action::Listen(channel(alloc, before, letter)?))?;
     }
     Ok(ListenSet::new(alloc).with(&actions)?)
+}
+
+// How many channels a set has, and how many it has of those and of the others.
+fn counts(alloc: Global, set: &ListenSet) -> Result<(usize, u32, u32), AllocError> {
+    let names = set.names(alloc)?.as_slice().len();
+    let listened = found(alloc, set, &LISTENED)?;
+    let others = found(alloc, set, &OTHERS)?;
+    Ok((names, listened, others))
 }
 
 #[test]
 fn channels_that_are_listened_to(rt: HostRuntime) -> Result<(), Fail> {
     let alloc = rt.alloc();
     let set = all_listened(alloc)?;
-    assert!(rt; set.names(alloc)?.as_slice().len() == 6);
-    assert!(rt; found(alloc, &set, &LISTENED)? == 7);
-    assert!(rt; found(alloc, &set, &OTHERS)? == 0);
+    assert_eq!(rt; counts(alloc, &set)?, (6, 7, 0));
     Ok(())
 }
 
-// Two of the channels are left, and one that is not among them.
-fn some_left(alloc: Global) -> Result<ListenSet, Fail> {
+// Two of the channels, and one that is not among them.
+const LEFT: [(usize, &str); 3] = [(0, "d"), (22, "a"), (8, "x")];
+
+// A push of its own, so that no list of known actions has to be computed.
+fn put(actions: &mut Actions, action: Action) -> Result<(), AllocError> {
+    actions.push(action)?;
+    Ok(())
+}
+
+// That channels are left.
+fn leave(alloc: Global, names: &[(usize, &str)]) -> Result<Actions, Fail> {
     let mut actions = Actions::new(alloc);
-    for (length, letter) in [(1, "d"), (23, "a"), (9, "x")] {
-        actions.push(Action::Unlisten(channel(alloc, length, letter)?))?;
+    for (before, letter) in names {
+        put(
+            &mut actions,
+            Action::Unlisten(channel(alloc, *before, *letter)?),
+        )?;
     }
+    Ok(actions)
+}
+
+fn some_left(alloc: Global) -> Result<ListenSet, Fail> {
+    let actions = leave(alloc, &LEFT)?;
     let mut set = all_listened(alloc)?;
     set.reserve(actions.as_slice().len())?;
     set.apply(actions);
@@ -84,10 +103,16 @@ fn channels_in_order_of_listening(rt: HostRuntime) -> Result<(), Fail> {
 }
 
 // All channels are left, and then one is listened to.
-fn only_c(alloc: Global) -> Result<ListenSet, Fail> {
+fn leave_all_but_c(alloc: Global) -> Result<Actions, Fail> {
+    let c = channel(alloc, 0, "c")?;
     let mut actions = Actions::new(alloc);
-    actions.push(Action::UnlistenAll)?;
-    actions.push(Action::Listen(channel(alloc, 1, "c")?))?;
+    put(&mut actions, Action::UnlistenAll)?;
+    put(&mut actions, Action::Listen(c))?;
+    Ok(actions)
+}
+
+fn only_c(alloc: Global) -> Result<ListenSet, Fail> {
+    let actions = leave_all_but_c(alloc)?;
     Ok(all_listened(alloc)?.with(&actions)?)
 }
 
