@@ -1,9 +1,10 @@
-ghost use Rattle.std.specs.Prelude.{IfOk};
+ghost use Rattle.std.specs.Prelude.{IfOk, ◌≤◌};
 ghost use Rattle.pgn_language.specs.Inputs.{IsSound};
 
-use pgn_base::{MemSink, MemSource};
+use pgn_base::{MemSink, MemSource, PAGES_DEFAULT, Sink, Source};
+use pgn_hub::Hub;
 use pgn_language::{Scenario, ScenarioFault};
-use pgn_run::{Status, run_notify};
+use pgn_run::{Print, Status, run_notify, run_scenario};
 use pgn_scenario::read_scenario;
 use std::alloc::Global;
 use std::sync::Wait;
@@ -86,6 +87,17 @@ fn ending_of(status: Status) -> &'static str {
     }
 }
 
+// How a run ends, over any source and sink: so no clause of the call has to be computed for those in memory.
+fn status_of<S: Source, K: Sink, R: Threads + Wait + Sync>(
+    rt: &R,
+    alloc: Global,
+    words: &[&str],
+    source: &mut S,
+    sink: &mut K,
+) -> Status {
+    run_notify(rt, alloc, words, source, sink)
+}
+
 // What comes of this input.
 fn comes_of<R: Threads + Wait + Sync>(
     rt: &R,
@@ -98,13 +110,60 @@ fn comes_of<R: Threads + Wait + Sync>(
     let mut source = MemSource::new(bytes, Vec::from_slice(alloc, outside.read_fails)?, most);
     let fails = Vec::from_slice(alloc, outside.write_fails)?;
     let mut sink = MemSink::new(alloc, outside.room, fails, most)?;
-    let status = run_notify(rt, alloc, &["run"], &mut source, &mut sink);
+    let status = status_of(rt, alloc, &["run"], &mut source, &mut sink);
     told(alloc, status, sink.held())
 }
 
 // What comes of this input where nothing fails.
 fn shown<R: Threads + Wait + Sync>(rt: &R, alloc: Global, input: &str) -> Result<String, Fail> {
     comes_of(rt, alloc, input.as_bytes(), &AMPLE)
+}
+
+// What a run that is done writes with two pages, into a sink that has room for so many bytes.
+fn in_two_pages<R: Threads + Wait + Sync>(
+    rt: &R,
+    alloc: Global,
+    input: &str,
+    room: usize,
+) -> Result<MemSink, Fail> {
+    let bytes = Vec::from_slice(alloc, input.as_bytes())?;
+    let mut source = MemSource::new(bytes, Vec::new(alloc), 1 << 20);
+    let mut sink = MemSink::new(alloc, room, Vec::new(alloc), 1 << 20)?;
+    match status_of(rt, alloc, &["run", "--pages", "2"], &mut source, &mut sink) {
+        Status::Done => Ok(sink),
+        _ => Err(Fail::from("not done")),
+    }
+}
+
+// How a run of this scenario ends, over a hub of this type and any sink.
+fn status_over<H: Hub + Sync + Drop, K: Sink, R: Threads + Wait + Sync>(
+    rt: &R,
+    alloc: Global,
+    scenario: &Scenario,
+    patience: u64,
+    print: Print,
+    sink: &mut K,
+) -> Status
+    requires sound { IsSound scenario.now }
+    requires patient { 1 ≤ patience }
+{
+    run_scenario::<H, K, R>(rt, alloc, scenario, PAGES_DEFAULT, patience, print, sink)
+}
+
+// What comes of this input over a hub of this type, with so much patience.
+fn shown_over<H: Hub + Sync + Drop, R: Threads + Wait + Sync>(
+    rt: &R,
+    alloc: Global,
+    input: &str,
+    patience: u64,
+    print: Print,
+) -> Result<String, Fail>
+    requires { 1 ≤ patience }
+{
+    let scenario = scenario_of(alloc, input)?;
+    let mut sink = MemSink::new(alloc, 1 << 20, Vec::new(alloc), 1 << 20)?;
+    let status = status_over::<H, MemSink, R>(rt, alloc, &scenario, patience, print, &mut sink);
+    told(alloc, status, sink.held())
 }
 
 fn scenario_of(alloc: Global, input: &str) -> Result<Scenario, Fail>

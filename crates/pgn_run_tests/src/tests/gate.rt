@@ -1,17 +1,11 @@
-ghost use Rattle.std.specs.Prelude.{◌≤◌};
-
 use super::probe::{Gate, Probe, Watch};
 use super::turns::awaits_of;
-use super::{SELF_NOTIFY, scenario_of, told};
-use pgn_base::{MemSink, PAGES_DEFAULT, PATIENCE_DEFAULT};
+use super::{SELF_NOTIFY, scenario_of, shown_over};
+use pgn_base::{PAGES_DEFAULT, PATIENCE_DEFAULT};
 use pgn_drill::drill_text;
-use pgn_hub::Hub;
-use pgn_run::{Print, run_scenario};
+use pgn_run::Print;
 use pgn_threads::{open_on_hub, run_sessions};
-use std::alloc::Global;
-use std::sync::Wait;
 use std::test::Fail;
-use std::thread::Threads;
 
 const TWO_WRITERS: &str = "\
 \\session a 1
@@ -33,30 +27,6 @@ fn sessions_run_side_by_side(rt: HostRuntime) -> Result<(), Fail> {
     run_sessions(&rt, alloc, &hub, sessions.as_mut_slice())?;
     assert!(rt; !hub.is_spent());
     Ok(())
-}
-
-// What comes of this input over a hub of this type, with so much patience.
-fn shown_over<H: Hub + Sync + Drop, R: Threads + Wait + Sync>(
-    rt: &R,
-    alloc: Global,
-    input: &str,
-    patience: u64,
-    print: Print,
-) -> Result<String, Fail>
-    requires { 1 ≤ patience }
-{
-    let scenario = scenario_of(alloc, input)?;
-    let mut sink = MemSink::new(alloc, 1 << 16, Vec::new(alloc), 1 << 20)?;
-    let status = run_scenario::<H, MemSink, R>(
-        rt,
-        alloc,
-        &scenario,
-        PAGES_DEFAULT,
-        patience,
-        print,
-        &mut sink,
-    );
-    told(alloc, status, sink.held())
 }
 
 const TWO_LISTENERS: &str = "\

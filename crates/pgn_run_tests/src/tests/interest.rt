@@ -1,11 +1,6 @@
-use super::{in_order, shown};
-use pgn_base::{MemSink, MemSource};
-use pgn_run::{Status, run_notify};
-use std::alloc::Global;
+use super::{in_order, in_two_pages, shown};
 use std::str;
-use std::sync::Wait;
 use std::test::Fail;
-use std::thread::Threads;
 
 // A listener waits while another session notifies on a channel to which it does not listen, and then on its own.
 const ONE_CHANNEL: &str = "\
@@ -67,26 +62,10 @@ SELECT pg_notify('d', repeat('x', 7999))
 SELECT pg_notify('d', repeat('x', 7999))
 ";
 
-// What the run writes, with two pages.
-fn in_two_pages<R: Threads + Wait + Sync>(
-    rt: &R,
-    alloc: Global,
-    input: &str,
-) -> Result<MemSink, Fail> {
-    let bytes = Vec::from_slice(alloc, input.as_bytes())?;
-    let mut source = MemSource::new(bytes, Vec::new(alloc), 1 << 20);
-    let mut sink = MemSink::new(alloc, 1 << 20, Vec::new(alloc), 1 << 20)?;
-    let words = ["run", "--pages", "2"];
-    match run_notify(rt, alloc, &words, &mut source, &mut sink) {
-        Status::Done => Ok(sink),
-        _ => Err(Fail::from("not done")),
-    }
-}
-
 // The third notification meets a full queue, and wakes both listeners: they read while they wait, and receive nothing.
 #[test]
 fn a_full_queue_wakes_all(rt: HostRuntime) -> Result<(), Fail> {
-    let sink = in_two_pages(&rt, rt.alloc(), FULL)?;
+    let sink = in_two_pages(&rt, rt.alloc(), FULL, 1 << 20)?;
     let text = str::from_utf8(sink.held())?;
     let parts = [
         "> \\await full\n",

@@ -30,10 +30,10 @@ fn producer(alloc: Global, number: u32, jobs: u32) -> Result<String, AllocError>
 }
 
 // One worker and the producers.
-fn job_scenario(alloc: Global) -> Result<String, AllocError> {
+fn job_scenario(alloc: Global, producers: &[(u32, u32)]) -> Result<String, AllocError> {
     let mut text = String::from_str(alloc, WORKER)?;
-    for (number, jobs) in PRODUCERS {
-        text.push_str(producer(alloc, number, jobs)?.as_str())?;
+    for (number, jobs) in producers {
+        text.push_str(producer(alloc, *number, *jobs)?.as_str())?;
     }
     Ok(text)
 }
@@ -117,9 +117,13 @@ fn read_up_to(part: &str) -> Option<&str> {
     Some(mark)
 }
 
-fn has_all_jobs_in_order(alloc: Global, entries: &str) -> Result<bool, AllocError> {
-    for (number, jobs) in PRODUCERS {
-        if !has_jobs_in_order(alloc, entries, number, jobs)? {
+fn has_all_jobs_in_order(
+    alloc: Global,
+    entries: &str,
+    producers: &[(u32, u32)],
+) -> Result<bool, AllocError> {
+    for (number, jobs) in producers {
+        if !has_jobs_in_order(alloc, entries, *number, *jobs)? {
             return Ok(false);
         }
     }
@@ -130,11 +134,12 @@ fn has_all_jobs_in_order(alloc: Global, entries: &str) -> Result<bool, AllocErro
 #[test]
 fn job_table(rt: HostRuntime) -> Result<(), Fail> {
     let alloc = rt.alloc();
-    let text = shown(&rt, alloc, job_scenario(alloc)?.as_str())?;
+    let input = job_scenario(alloc, &PRODUCERS)?;
+    let text = shown(&rt, alloc, input.as_str())?;
     let Some((entries, worker)) = parts_of(text.as_str()) else {
         return Err(Fail::from("no journal of 200, or no sections"));
     };
-    assert!(rt; has_all_jobs_in_order(alloc, entries)?);
+    assert!(rt; has_all_jobs_in_order(alloc, entries, &PRODUCERS)?);
     assert!(rt; worker.starts_with("> LISTEN jobs\n+enlist 3 3\nLISTEN\n"));
     assert_eq!(rt; read_up_to(worker), Some("203"));
     assert_eq!(rt;

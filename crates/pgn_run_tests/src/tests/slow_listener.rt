@@ -1,10 +1,7 @@
+use super::in_two_pages;
 use super::job_table::received_in;
-use pgn_base::{MemSink, MemSource};
-use pgn_run::{Status, run_notify};
 use std::alloc::{AllocError, Global};
-use std::sync::Wait;
 use std::test::Fail;
-use std::thread::Threads;
 
 // A listener that waits, and a session that sends notifications of which two fill a queue of two pages.
 fn scenario(alloc: Global) -> Result<String, AllocError> {
@@ -17,19 +14,6 @@ fn scenario(alloc: Global) -> Result<String, AllocError> {
     }
     text.push_str("\\signal done\n")?;
     Ok(text)
-}
-
-// What the run writes, with two pages.
-fn written<R: Threads + Wait + Sync>(rt: &R, alloc: Global) -> Result<MemSink, Fail> {
-    let input = scenario(alloc)?;
-    let bytes = Vec::from_slice(alloc, input.as_bytes())?;
-    let mut source = MemSource::new(bytes, Vec::new(alloc), 1 << 20);
-    let mut sink = MemSink::new(alloc, 64 << 20, Vec::new(alloc), 1 << 20)?;
-    let words = ["run", "--pages", "2"];
-    match run_notify(rt, alloc, &words, &mut source, &mut sink) {
-        Status::Done => Ok(sink),
-        _ => Err(Fail::from("not done")),
-    }
 }
 
 // The entries of the journal, and the parts of the listener and of the sender.
@@ -67,7 +51,8 @@ fn due_of(alloc: Global, entries: &str) -> Result<String, AllocError> {
 #[test]
 fn a_listener_behind_two_pages(rt: HostRuntime) -> Result<(), Fail> {
     let alloc = rt.alloc();
-    let sink = written(&rt, alloc)?;
+    let input = scenario(alloc)?;
+    let sink = in_two_pages(&rt, alloc, input.as_str(), 64 << 20)?;
     let Some((entries, listener, sender)) = parts_of(str::from_utf8(sink.held())?) else {
         return Err(Fail::from("no journal of 3,000, or no sections"));
     };

@@ -1,7 +1,10 @@
 use super::{AMPLE, CROSSING_FLAGS, Outside, SELF_NOTIFY, comes_of};
 use pgn_base::INPUT_BYTES_MAX;
 use std::alloc::{AllocError, Global};
+use std::process::Abort;
+use std::sync::Wait;
 use std::test::Fail;
+use std::thread::Threads;
 
 // One byte more than an input may have.
 #[test]
@@ -28,50 +31,59 @@ NOTIFY
 end mark 4
 ";
 
-// Which side failed, and that what was written is a front of the text.
-#[test]
-fn names_the_side_that_failed(rt: HostRuntime) -> Result<(), Fail> {
-    let table: [(Outside<'_>, &str); 6] = [
-        (
-            Outside {
-                read_fails: &[1],
-                ..AMPLE
-            },
-            "ReadFault: ",
-        ),
-        // The last read of three is the one that finds the end.
-        (
-            Outside {
-                read_fails: &[3],
-                most: 20,
-                ..AMPLE
-            },
-            "ReadFault: ",
-        ),
-        (
-            Outside {
-                write_fails: &[1],
-                ..AMPLE
-            },
-            "WriteFault: ",
-        ),
-        (
-            Outside {
-                write_fails: &[2],
-                most: 4,
-                ..AMPLE
-            },
-            "WriteFault: jour",
-        ),
-        (Outside { room: 10, ..AMPLE }, "WriteFault: journal 1\n"),
-        // Both work byte by byte.
-        (Outside { most: 1, ..AMPLE }, SELF_NOTIFY_OUTPUT),
-    ];
-    for (outside, want) in table {
-        let found = comes_of(&rt, rt.alloc(), SELF_NOTIFY.as_bytes(), &outside)?;
-        assert_eq!(rt; found.as_str(), want);
+// The side that fails, how the run ends, and what was written: a front of the text.
+const SIDES: [(Outside<'static>, &str); 6] = [
+    (
+        Outside {
+            read_fails: &[1],
+            ..AMPLE
+        },
+        "ReadFault: ",
+    ),
+    // The last read of three is the one that finds the end.
+    (
+        Outside {
+            read_fails: &[3],
+            most: 20,
+            ..AMPLE
+        },
+        "ReadFault: ",
+    ),
+    (
+        Outside {
+            write_fails: &[1],
+            ..AMPLE
+        },
+        "WriteFault: ",
+    ),
+    (
+        Outside {
+            write_fails: &[2],
+            most: 4,
+            ..AMPLE
+        },
+        "WriteFault: jour",
+    ),
+    (Outside { room: 10, ..AMPLE }, "WriteFault: journal 1\n"),
+    // Both work byte by byte.
+    (Outside { most: 1, ..AMPLE }, SELF_NOTIFY_OUTPUT),
+];
+
+fn assert_sides<R: Threads + Wait + Sync + Abort>(
+    rt: &R,
+    alloc: Global,
+    sides: &[(Outside<'_>, &str)],
+) -> Result<(), Fail> {
+    for (outside, want) in sides {
+        let found = comes_of(rt, alloc, SELF_NOTIFY.as_bytes(), outside)?;
+        assert_eq!(rt; found.as_str(), *want);
     }
     Ok(())
+}
+
+#[test]
+fn names_the_side_that_failed(rt: HostRuntime) -> Result<(), Fail> {
+    assert_sides(&rt, rt.alloc(), &SIDES)
 }
 
 const CROSSING_FLAGS_OUTPUT: &str = "\
@@ -130,28 +142,35 @@ NOTIFY
 end mark 5
 ";
 
-// A source gives a byte at a time, and its call of this number fails. A call for each byte is followed by one that finds the end.
+// What comes of a source that gives a byte at a time, and whose call of this number fails.
+fn read_until<R: Threads + Wait + Sync>(rt: &R, alloc: Global, call: u64) -> Result<String, Fail> {
+    let outside = Outside {
+        read_fails: &[call],
+        most: 1,
+        ..AMPLE
+    };
+    comes_of(rt, alloc, CROSSING_FLAGS.as_bytes(), &outside)
+}
+
+// What is to come of it. A call for each byte is followed by one that finds the end.
+fn wanted_of_read(call: u64) -> &'static str {
+    if call <= CROSSING_FLAGS.len() as u64 + 1 {
+        "ReadFault: "
+    } else {
+        CROSSING_FLAGS_OUTPUT
+    }
+}
+
 #[test]
 fn each_read_fails_in_turn(rt: HostRuntime) -> Result<(), Fail> {
-    let reads = CROSSING_FLAGS.len() as u64 + 1;
-    for call in 1..=reads + 1 {
-        let outside = Outside {
-            read_fails: &[call],
-            most: 1,
-            ..AMPLE
-        };
-        let found = comes_of(&rt, rt.alloc(), CROSSING_FLAGS.as_bytes(), &outside)?;
-        let want = if call <= reads {
-            "ReadFault: "
-        } else {
-            CROSSING_FLAGS_OUTPUT
-        };
-        assert_eq!(rt; found.as_str(), want);
+    for call in 1..=CROSSING_FLAGS.len() as u64 + 2 {
+        let found = read_until(&rt, rt.alloc(), call)?;
+        assert_eq!(rt; found.as_str(), wanted_of_read(call));
     }
     Ok(())
 }
 
-// What comes of a sink that takes seven bytes at a time, where so many calls do not fail and the next one, if there is one, does.
+// What is to come of a sink that takes seven bytes at a time, where so many calls do not fail and the next one, if there is one, does.
 fn written_before(alloc: Global, calls: usize) -> Result<String, Fail> {
     let bytes = calls.saturating_mul(7);
     if bytes >= CROSSING_FLAGS_OUTPUT.len() {
@@ -161,17 +180,21 @@ fn written_before(alloc: Global, calls: usize) -> Result<String, Fail> {
     Ok(format!(in alloc; "WriteFault: {written}")?)
 }
 
+// What comes of a sink that takes seven bytes at a time, and whose call of this number fails.
+fn write_until<R: Threads + Wait + Sync>(rt: &R, alloc: Global, call: u64) -> Result<String, Fail> {
+    let outside = Outside {
+        write_fails: &[call],
+        most: 7,
+        ..AMPLE
+    };
+    comes_of(rt, alloc, CROSSING_FLAGS.as_bytes(), &outside)
+}
+
 #[test]
 fn each_write_fails_in_turn(rt: HostRuntime) -> Result<(), Fail> {
     let alloc = rt.alloc();
-    let writes = CROSSING_FLAGS_OUTPUT.len() / 7 + 1;
-    for calls in 0..=writes {
-        let outside = Outside {
-            write_fails: &[calls as u64 + 1],
-            most: 7,
-            ..AMPLE
-        };
-        let found = comes_of(&rt, alloc, CROSSING_FLAGS.as_bytes(), &outside)?;
+    for calls in 0..=CROSSING_FLAGS_OUTPUT.len() / 7 + 1 {
+        let found = write_until(&rt, alloc, calls as u64 + 1)?;
         let want = written_before(alloc, calls)?;
         assert_eq!(rt; found.as_str(), want.as_str());
     }

@@ -1,15 +1,11 @@
-ghost use Rattle.std.specs.Prelude.{◌≤◌};
-
 use super::probe::{Probe, Watch};
-use super::{scenario_of, told};
-use pgn_base::{MemSink, PAGES_DEFAULT};
-use pgn_run::{Print, run_scenario};
+use super::{scenario_of, shown_over};
+use pgn_base::PAGES_DEFAULT;
+use pgn_run::Print;
 use pgn_threads::{open_on_hub, run_sessions};
 use pgn_wordhub::WordHub;
 use std::alloc::{AllocError, Global};
-use std::sync::Wait;
 use std::test::Fail;
-use std::thread::Threads;
 
 const READS_WHILE_IT_WAITS: &str = "\
 \\session a 1
@@ -38,29 +34,6 @@ fn a_listener_reads_while_it_sleeps_for_a_flag(rt: HostRuntime) -> Result<(), Fa
     Ok(())
 }
 
-// What comes of this input with so much patience.
-fn shown_with<R: Threads + Wait + Sync>(
-    rt: &R,
-    alloc: Global,
-    input: &str,
-    patience: u64,
-) -> Result<String, Fail>
-    requires { 1 ≤ patience }
-{
-    let scenario = scenario_of(alloc, input)?;
-    let mut sink = MemSink::new(alloc, 1 << 20, Vec::new(alloc), 1 << 20)?;
-    let status = run_scenario::<WordHub, MemSink, R>(
-        rt,
-        alloc,
-        &scenario,
-        PAGES_DEFAULT,
-        patience,
-        Print::Text,
-        &mut sink,
-    );
-    told(alloc, status, sink.held())
-}
-
 // A session that awaits a flag which another one raises after 1,000 lines.
 fn late_flag(alloc: Global) -> Result<String, AllocError> {
     let mut text = String::from_str(alloc, "\\session a 1\n\\await f\n\\session b 1\n")?;
@@ -75,7 +48,14 @@ fn late_flag(alloc: Global) -> Result<String, AllocError> {
 #[test]
 fn a_flag_that_is_raised_late_is_found(rt: HostRuntime) -> Result<(), Fail> {
     let alloc = rt.alloc();
-    let text = shown_with(&rt, alloc, late_flag(alloc)?.as_str(), 1_000_000)?;
+    let input = late_flag(alloc)?;
+    let text = shown_over::<WordHub, HostRuntime>(
+        &rt,
+        alloc,
+        input.as_str(),
+        1_000_000,
+        Print::Text,
+    )?;
     assert!(rt; text.as_str().contains("> \\await f\n+await 1003\nend\n"));
     Ok(())
 }
@@ -90,7 +70,13 @@ const AWAITS_ITSELF: &str = "\
 fn a_flag_that_nobody_raises_is_waited_for_as_long_as_the_patience(
     rt: HostRuntime,
 ) -> Result<(), Fail> {
-    let text = shown_with(&rt, rt.alloc(), AWAITS_ITSELF, 20_000)?;
+    let text = shown_over::<WordHub, HostRuntime>(
+        &rt,
+        rt.alloc(),
+        AWAITS_ITSELF,
+        20_000,
+        Print::Text,
+    )?;
     assert_eq!(rt;
         text.as_str(),
         "journal 0\nsession 1 a db 1 pid 1001\n> \\await f\n+timeout 20000\n> \\signal f\n+signal 3\nend\n"
