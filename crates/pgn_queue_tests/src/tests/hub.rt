@@ -44,10 +44,17 @@ fn note_on(alloc: Global, channel: &str, letters: usize) -> Result<Note, Fail>
     })
 }
 
+// That the channel `c` is listened to.
+fn listen_on_c(alloc: Global) -> Result<Actions, Fail> {
+    let channel = Name::new(alloc, "c")?;
+    let mut actions = Actions::new(alloc);
+    actions.push(Action::Listen(channel))?;
+    Ok(actions)
+}
+
 // The set of the channel `c`.
 fn set_of_c(alloc: Global) -> Result<ListenSet, Fail> {
-    let mut actions = Actions::new(alloc);
-    actions.push(Action::Listen(Name::new(alloc, "c")?))?;
+    let actions = listen_on_c(alloc)?;
     Ok(ListenSet::new(alloc).with(&actions)?)
 }
 
