@@ -11,7 +11,7 @@ use Rattle.pgn_language.specs.Inputs.{IsOneLine, IsSound}
 use Rattle.pgn_model.specs.declared.item.Item.{Item}
 use Rattle.pgn_model.specs.declared.item.Item.TheVariants as item
 use Rattle.pgn_model.specs.declared.trace.Trace.{Trace}
-use Rattle.pgn_model.specs.Text.{item_lines, joined, journal_lines, section_line, text, text_lines, traces_lines}
+use Rattle.pgn_model.specs.Text.{item_lines, joined, journal_lines, section_line, text_lines, traces_lines}
 use Rattle.pgn_reading.specs.Form.{BeginOutput, BreaksForm, Broken, EachSection, IsReadable, IsReading, IsReadTrace, Short, whole_lines, is_rows, IsNextLine, IsReadItem, lines_left}
 use Rattle.pgn_reading.proofs.GoesOnLaws.{begins-shorter, begins-whole, entry-goes_on, journal-goes_on, section-goes_on}
 use Rattle.pgn_reading.proofs.ReadableLaws.{readable-has_lines}
