@@ -1,0 +1,51 @@
+use Rattle.std.proofs.Common.{◌≡◌, Ok, ap}
+use Rattle.pgn_outlet.specs.Passes.{knows}
+use Rattle.pgn_session.specs.declared.doing.Step.TheVariants.{Ended}
+use Rattle.pgn_live.proofs.RoundLaws.{left-go, right-go, both-gone, both-over, one-gone, one-over, one-ready}
+use Rattle.pgn_live.proofs.turns.+rounds.Goals as goal
+
+pub play_both-play_round-first-requires-clause-may : goal.play_both-play_round-first-requires-clause-may
+play_both-play_round-first-requires-clause-may g t c = λ κs o.
+    left-go (g.H.Hub.is_pass c.args.hub.now) (g.H.Hub.shape c.args.hub.now) g.P.PassView.known c.args.left.now c.args.right.now c.args.left_told.now c.args.right_told.now (knows c.args.pass.now)
+    c.requires.counts.0 c.requires.may
+
+pub play_both-play_round-second-requires-clause-may : goal.play_both-play_round-second-requires-clause-may
+play_both-play_round-second-requires-clause-may g t c = λ κs o.
+    right-go (g.H.Hub.is_pass c.args.hub.now) (g.H.Hub.shape c.args.hub.now) g.P.PassView.known c.args.left.now c.play_round-first.new.sessions c.args.right.now c.args.left_told.now c.play_round-first.new.told c.args.right_told.now
+    (knows c.args.pass.now) (knows c.play_round-first.new.pass) c.requires.counts.0 c.requires.may c.play_round-first.ensures.gone
+
+pub play_both-returns-clause-gone : goal.play_both-returns-clause-gone
+play_both-returns-clause-gone g t c =
+    both-gone (g.H.Hub.is_pass c.args.hub.now) (g.H.Hub.shape c.args.hub.now) g.P.PassView.known c.args.left.now c.play_round-first.new.sessions c.args.right.now c.play_round-second.new.sessions
+    c.args.left_told.now c.args.right_told.now c.play_round-first.new.told c.play_round-second.new.told (knows c.args.pass.now) (knows c.play_round-first.new.pass) (knows c.play_round-second.new.pass)
+    c.requires.may c.play_round-first.ensures.gone c.play_round-second.ensures.gone
+
+pub play_both-returns-in_err-first-clause-gone : goal.play_both-returns-in_err-first-clause-gone
+play_both-returns-in_err-first-clause-gone g t c =
+    both-gone (g.H.Hub.is_pass c.args.hub.now) (g.H.Hub.shape c.args.hub.now) g.P.PassView.known c.args.left.now c.play_round-first.new.sessions c.args.right.now c.play_round-second.new.sessions
+    c.args.left_told.now c.args.right_told.now c.play_round-first.new.told c.play_round-second.new.told (knows c.args.pass.now) (knows c.play_round-first.new.pass) (knows c.play_round-second.new.pass)
+    c.requires.may c.play_round-first.ensures.gone c.play_round-second.ensures.gone
+
+pub play_both-returns-in_err-second-clause-gone : goal.play_both-returns-in_err-second-clause-gone
+play_both-returns-in_err-second-clause-gone g t c =
+    both-gone (g.H.Hub.is_pass c.args.hub.now) (g.H.Hub.shape c.args.hub.now) g.P.PassView.known c.args.left.now c.play_round-first.new.sessions c.args.right.now c.play_round-second.new.sessions
+    c.args.left_told.now c.args.right_told.now c.play_round-first.new.told c.play_round-second.new.told (knows c.args.pass.now) (knows c.play_round-first.new.pass) (knows c.play_round-second.new.pass)
+    c.requires.may c.play_round-first.ensures.gone c.play_round-second.ensures.gone
+
+pub play_both-returns-clause-over : goal.play_both-returns-clause-over
+play_both-returns-clause-over g t c = λ is.
+    both-over (g.H.Hub.is_pass c.args.hub.now) (g.H.Hub.shape c.args.hub.now) g.P.PassView.known c.play_round-first.new.sessions c.play_round-second.new.sessions c.in_ok-first.first c.in_ok-second.second c.both_steps.result
+    c.both_steps.ensures.first c.both_steps.ensures.second (λ ended. c.in_ok-first.ensures.over (ap Ok ended)) (λ ended. c.in_ok-second.ensures.over (ap Ok ended)) (let ended : c.both_steps.result ≡ Ended = cc in ended)
+
+pub play_round-returns-then-sessions-eq1-clause-gone : goal.play_round-returns-then-sessions-eq1-clause-gone
+play_round-returns-then-sessions-eq1-clause-gone g t c =
+    one-gone (g.H.Hub.is_pass c.args.hub.now) (g.H.Hub.shape c.args.hub.now) g.P.PassView.known c.args.sessions.now c.args.told.now c.index-sessions-0.result c.play_turn.new.session c.play_turn.new.told (knows c.args.pass.now) (knows c.play_turn.new.pass)
+    c.if-sessions-eq1.true c.requires.count c.play_turn.ensures.held c.play_turn.ensures.lawful c.play_turn.ensures.script c.play_turn.ensures.told c.play_turn.ensures.pushed
+
+pub play_round-returns-then-sessions-eq1-clause-ready : goal.play_round-returns-then-sessions-eq1-clause-ready
+play_round-returns-then-sessions-eq1-clause-ready g t c =
+    one-ready (g.H.Hub.is_pass c.args.hub.now) (g.H.Hub.shape c.args.hub.now) g.P.PassView.known c.args.sessions.now c.play_turn.new.session c.play_turn.result c.if-sessions-eq1.true c.play_turn.ensures.ready
+
+pub play_round-returns-then-sessions-eq1-clause-over : goal.play_round-returns-then-sessions-eq1-clause-over
+play_round-returns-then-sessions-eq1-clause-over g t c = λ is.
+    one-over (g.H.Hub.is_pass c.args.hub.now) (g.H.Hub.shape c.args.hub.now) g.P.PassView.known c.args.sessions.now c.play_turn.new.session c.if-sessions-eq1.true (c.play_turn.ensures.over is)
