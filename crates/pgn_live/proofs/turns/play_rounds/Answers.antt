@@ -19,7 +19,7 @@ pub loop-preserved : goal.loop-preserved
 loop-preserved g c =
     let gone = gone-on (g.H.Hub.is_pass c.args.hub.now) (g.H.Hub.shape c.args.hub.now) g.P.PassView.known c.args.sessions.now c.loop.sessions c.play_round.new.sessions c.loop.told c.play_round.new.told (knows c.args.pass.now) (knows c.loop.pass) (knows c.play_round.new.pass) c.loop.invariant.gone c.play_round.ensures.gone in
     let waited = gone-waited (g.H.Hub.is_pass c.args.hub.now) (g.H.Hub.shape c.args.hub.now) g.P.PassView.known c.args.sessions.now c.play_round.new.sessions c.wait_together-waits.new.sessions c.play_round.new.told (knows c.args.pass.now) (knows c.play_round.new.pass) gone
-        c.wait_together-waits.ensures.ready c.wait_together-waits.ensures.scripts c.wait_together-waits.ensures.shown in
+    c.wait_together-waits.ensures.ready c.wait_together-waits.ensures.scripts c.wait_together-waits.ensures.shown in
     record {
       own = c.play_round.ensures.own;
       count = told-count c.wait_together-waits.new.sessions c.play_round.new.told (knows c.play_round.new.pass) waited.told;
