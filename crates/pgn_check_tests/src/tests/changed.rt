@@ -65,7 +65,7 @@ fn changed(alloc: Global, from: usize, many: usize, instead: &str) -> Result<Vec
         if at + 1 == from {
             text.extend_from_slice(instead.as_bytes())?;
         }
-        if at + 1 < from || at + 1 >= from + many {
+        if at + 1 < from || at + 1 - from >= many {
             text.extend_from_slice(line.as_bytes())?;
         }
     }
