@@ -1,0 +1,263 @@
+ghost use Rattle.std.specs.Prelude.{◌≡◌, map, length, All, IfOk, OnErr, ◌<◌, ◌≤◌, ◌⊎◌};
+ghost use Rattle.std.specs.Io.KnownBytes.{WriteAppends};
+ghost use Rattle.std.specs.List.{range_with_len};
+ghost use Rattle.pgn_base.specs.Outside.{Rose};
+
+use super::{SELF_NOTIFY, SELF_NOTIFY_LINES, scenario_of};
+use pgn_base::{
+    Delivery, Enlisted, Failed, Full, ListenSet, MemSink, Note, PAGES_DEFAULT, PATIENCE_DEFAULT,
+    Sink, Usage, Xid,
+};
+use pgn_hub::{Hub, Roll, Setup};
+use pgn_live::{LiveFault, run_live};
+use pgn_threads::open_on_hub;
+use pgn_wordhub::WordHub;
+use std::alloc::{AllocError, Global};
+use std::sync::atomic::{AtomicU64, Ordering};
+use std::sync::{Arc, Wait};
+use std::test::Fail;
+use std::thread;
+use std::thread::Threads;
+use std::time::Duration;
+
+// How many transactions have begun, and how many writes: the first transaction waits for a second one of these.
+#[derive(Drop)]
+struct Counts {
+    begun: AtomicU64,
+    spent: AtomicU64,
+}
+
+// A word hub whose first transaction waits, at most so many turns, until something else has begun. Once the turns are spent its reads find
+// no memory; with no turns they are spent at once.
+#[derive(Drop)]
+struct Gate<const TURNS: u32> {
+    hub: WordHub,
+    counts: Arc<Counts, Global>,
+}
+
+impl<const TURNS: u32> Gate<TURNS> {
+    fn has_two(&self) -> bool {
+        self.counts.begun.load(Ordering::SeqCst) >= 2
+    }
+
+    // Whether a second one has begun within the turns.
+    fn waits(&self) -> bool {
+        for _ in 0..TURNS {
+            if self.has_two() {
+                return true;
+            }
+            thread::yield_now();
+        }
+        TURNS > 0 && self.has_two()
+    }
+
+    fn begins(&self) {
+        self.counts.begun.fetch_add(1, Ordering::SeqCst);
+        if !self.waits() {
+            self.counts.spent.fetch_add(1, Ordering::SeqCst);
+        }
+    }
+
+    fn is_spent(&self) -> bool {
+        self.counts.spent.load(Ordering::SeqCst) != 0
+    }
+}
+
+impl<const TURNS: u32> Hub for Gate<TURNS> {
+    ghost use Rattle.pgn_hub.specs.Gathered.{Gathered};
+    ghost use Rattle.pgn_wordhub.specs.Passes.{IsHubPass, hub_shape};
+
+    type Pass = <WordHub as Hub>::Pass;
+
+    ghost shape = { λ gate. hub_shape gate.hub };
+
+    ghost is_pass = { λ gate pass. IsHubPass gate.hub pass };
+
+    ghost shaped = { λ gate. gate.hub.shaped };
+
+    ghost within = { λ gate pass h. h.view.within };
+
+    ghost seated = { λ gate pass h. h.view.seated };
+
+    fn open(alloc: Global, setup: Setup) -> Result<(Self, Vec<Self::Pass>), AllocError> {
+        let counts = Counts {
+            begun: AtomicU64::new(0),
+            spent: AtomicU64::new(0),
+        };
+        let counts = Arc::new(alloc, counts)?;
+        let (hub, passes) = WordHub::open(alloc, setup)?;
+        Ok((Gate { hub, counts }, passes))
+    }
+
+    fn publish<R: Wait>(&self, rt: &R, pass: &mut Self::Pass, notes: &[Note]) -> Result<Xid, Full> {
+        self.begins();
+        self.hub.publish(rt, pass, notes)
+    }
+
+    fn enlist(&self, pass: &mut Self::Pass) -> Enlisted {
+        self.hub.enlist(pass)
+    }
+
+    fn interest(&self, pass: &mut Self::Pass, set: &ListenSet) {
+        self.hub.interest(pass, set);
+    }
+
+    fn scan(
+        &self,
+        alloc: Global,
+        pass: &mut Self::Pass,
+        set: &ListenSet,
+        out: &mut Vec<Delivery>,
+    ) -> Result<Xid, AllocError> {
+        if self.is_spent() {
+            return Err(AllocError);
+        }
+        self.hub.scan(alloc, pass, set, out)
+    }
+
+    fn leave(&self, pass: &mut Self::Pass) {
+        self.hub.leave(pass);
+    }
+
+    fn woken(&self, pass: &mut Self::Pass) -> bool {
+        self.hub.woken(pass)
+    }
+
+    fn raise(&self, pass: &mut Self::Pass, flag: u32) -> Xid {
+        self.hub.raise(pass, flag)
+    }
+
+    fn look(&self, pass: &mut Self::Pass, flag: u32) -> Option<Xid> {
+        self.hub.look(pass, flag)
+    }
+
+    fn rest<R: Wait>(&self, rt: &R, flag: u32, time: Duration) {
+        self.hub.rest(rt, flag, time);
+    }
+
+    fn usage<R: Wait>(&self, rt: &R, pass: &mut Self::Pass) -> Usage {
+        self.hub.usage(rt, pass)
+    }
+
+    fn meet(&self, from: &mut Self::Pass, into: &mut Self::Pass) {
+        self.hub.meet(from, into);
+    }
+
+    // What is known of a pass is that of its seat's view.
+    fn gather(self, passes: Vec<Self::Pass>) -> Roll
+        requires own { All (IsHubPass self.hub) passes.items }
+        requires all { map (λ pass. pass.seat.me.0.known.session) passes.items ≡ range_with_len 1 (length (hub_shape self.hub).seats) }
+        ensures { Gathered (map (λ pass. pass.seat.me.0.known) passes.items) result.count }
+    {
+        let Gate { hub, .. } = self;
+        hub.gather(passes)
+    }
+}
+
+// A sink whose first write lets the first transaction of a gate go on.
+#[derive(Drop)]
+struct GateSink {
+    sink: MemSink,
+    counts: Arc<Counts, Global>,
+    has_written: bool,
+}
+
+impl Sink for GateSink {
+    ghost use Rattle.std.specs.Prelude.{Some};
+
+    ghost held = { λ gate. Some gate.sink.held };
+
+    ghost faults = { λ gate. gate.sink.faults };
+
+    fn write(&mut self, piece: &[u8]) -> Result<usize, Failed> {
+        if !self.has_written {
+            self.has_written = true;
+            self.counts.begun.fetch_add(1, Ordering::SeqCst);
+        }
+        self.sink.write(piece)
+    }
+}
+
+// What came of a self notify over a gate.
+#[derive(Drop)]
+struct Shown {
+    ended: Result<(), LiveFault>,
+    is_spent: bool,
+    text: String,
+}
+
+// Runs it, written to a sink that takes at most so many bytes a call and fails at these calls.
+fn shown_over<const TURNS: u32, R: Threads + Wait + Sync>(
+    rt: &R,
+    alloc: Global,
+    most: usize,
+    fails: &[u64],
+) -> Result<Shown, Fail> {
+    let scenario = scenario_of(alloc, SELF_NOTIFY)?;
+    let (hub, mut sessions) = open_on_hub::<Gate<TURNS>>(
+        alloc,
+        &scenario,
+        PAGES_DEFAULT,
+        PATIENCE_DEFAULT,
+    )?;
+    let mut sink = GateSink {
+        sink: MemSink::new(alloc, 1 << 12, Vec::from_slice(alloc, fails)?, most.max(1))?,
+        counts: hub.counts.clone()?,
+        has_written: false,
+    };
+    let sections = scenario.sections.as_slice();
+    let ended = run_live(
+        rt,
+        alloc,
+        &hub,
+        sections,
+        sessions.as_mut_slice(),
+        &mut sink,
+    );
+    let held = str::from_utf8(sink.sink.held())?;
+    Ok(Shown {
+        ended,
+        is_spent: hub.is_spent(),
+        text: format!(in alloc; "{held}")?,
+    })
+}
+
+// A line is written while its session runs: else the transaction spends its turns, and the read behind it finds no memory.
+#[test]
+fn a_line_is_written_while_its_session_runs(rt: HostRuntime) -> Result<(), Fail> {
+    let shown = shown_over::<10_000_000, HostRuntime>(&rt, rt.alloc(), 1 << 12, &[])?;
+    assert!(rt; shown.ended.is_ok());
+    assert!(rt; !shown.is_spent);
+    assert_eq!(rt; shown.text.as_str(), SELF_NOTIFY_LINES);
+    Ok(())
+}
+
+// Where the read finds no memory, the lines before it are written.
+#[test]
+fn want_of_memory_leaves_the_first_lines(rt: HostRuntime) -> Result<(), Fail> {
+    let shown = shown_over::<0, HostRuntime>(&rt, rt.alloc(), 1 << 12, &[])?;
+    assert!(rt; shown.ended == Err(LiveFault::Memory));
+    assert_eq!(rt; shown.text.as_str(), LINES_BEFORE_THE_READ);
+    Ok(())
+}
+
+// A write that failed is told, and not the memory that the read does not find, whichever write it is.
+#[test]
+fn a_failed_write_is_told_before_want_of_memory(rt: HostRuntime) -> Result<(), Fail> {
+    let calls = (LINES_BEFORE_THE_READ.len() + 3) / 4;
+    for n in 1..calls as u64 {
+        let shown = shown_over::<0, HostRuntime>(&rt, rt.alloc(), 4, &[n])?;
+        assert!(rt; shown.ended == Err(LiveFault::Write));
+        assert!(rt; LINES_BEFORE_THE_READ.starts_with(shown.text.as_str()));
+    }
+    Ok(())
+}
+
+const LINES_BEFORE_THE_READ: &str = "\
+1| > LISTEN c
+1| +enlist 3 3
+1| LISTEN
+1| > NOTIFY c, 'x'
+1| +publish 3
+1| NOTIFY
+";
