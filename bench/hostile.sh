@@ -23,6 +23,9 @@
 #   crossing flags   the example of that name, of which the text is compared
 #   8, 256 plain     sessions that each send a line
 #   ring of 16       sessions of which each raises its own flag and awaits the next one's
+#   live             crossing flags with --live: by session, its lines are those of the example
+#
+# A closed reader: of a live run of 60,000 lines it reads one and closes; the run has to end within 20 seconds, with status 5.
 #
 # Needs timeout, setpriv and prlimit.
 
@@ -143,6 +146,31 @@ measure_no_threads() {
     sessions ring 0 16 '\signal f#' '\await f@'
     waits 'ring of 16' ring 3 "$@"
     in_time
+    live=--live
+    waits 'crossing flags, live' crossing 3 "$@"
+    live=
+    in_time
+    by_session <"$room/output" | cmp -- "$root/examples/crossing-flags.output" - || wrong 'crossing flags, live: other lines'
+}
+
+# by_session: what a live run has written, as the text of a run without --live
+by_session() {
+    awk '
+        /^[0-9]+\| / { number = $0 + 0; sub(/^[0-9]+\| /, ""); lines[number] = lines[number] $0 "\n"; next }
+        { print }
+        /^session / { printf "%s", lines[$2] }'
+}
+
+# What a run sees whose reader closes early.
+measure_closed_reader() {
+    sender closed 60000
+    {
+        status=0
+        timeout 20 "$program" run --live <"$room/closed" 2>"$room/errors" || status=$?
+        echo "$status" >"$room/status"
+    } | head -n 1 >"$room/output"
+    printf 'a closed reader: status %s\n' "$(cat -- "$room/status")"
+    [ "$(cat -- "$room/status")" = 5 ] || wrong 'a closed reader: wanted status 5'
 }
 
 measure_hostile() {
@@ -150,6 +178,7 @@ measure_hostile() {
     measure_large
     measure_memory
     "$root/bench/refuse" "$program" || failed=yes
+    measure_closed_reader
     measure_no_threads
     [ -z "$failed" ] || exit 1
 }

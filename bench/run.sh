@@ -46,6 +46,13 @@
 # Beside each stand the milliseconds of a plain program on the same scenario, with one lock round its queue, on 4 processors. A drill
 # is run ten times, and its summary has to be the one that its words say; the mean is given.
 #
+# Then come live runs:
+#
+#   at its end            60,000 lines of self-notify, and the text once the run has ended
+#   live                  the same lines with --live; it may take twice the processor time
+#
+# and how soon the lines of a live run are there, by bench/live.
+#
 # With --hostile only bench/hostile.sh is run, whose head says what that is.
 #
 # Seconds are those of the processor, the least of three runs, and depend on the machine's load. Instructions do not. Wall time is
@@ -204,6 +211,9 @@ sender() {
     }' >>"$room/$1"
 }
 
+# The word of a run after `run`, for the runs of waits: `--live`, or nothing.
+live=
+
 # waits NAME FILE RUNS WORD ..: the least processor seconds and milliseconds of wall time of so many runs; the words stand before the
 # program, as its surroundings
 waits() {
@@ -211,7 +221,7 @@ waits() {
     shift 3
     for _ in $(seq "$runs"); do
         begun=$(date +%s%N)
-        env time -q -o "$room/time" -f '%U %S' "$@" "$program" run <"$room/$file" >"$room/output" 2>"$room/errors" || refused "$file" $?
+        env time -q -o "$room/time" -f '%U %S' "$@" "$program" run $live <"$room/$file" >"$room/output" 2>"$room/errors" || refused "$file" $?
         echo "$(cat -- "$room/time") $(($(date +%s%N) - begun))" >>"$room/waits"
     done
     awk -v name="$name" '
@@ -223,7 +233,7 @@ waits() {
 
 # in_time: no await of the last run has timed out
 in_time() {
-    ! grep -q '^+timeout' "$room/output" || { printf 'bench: an await timed out: %s\n' "$name" >&2; exit 1; }
+    ! grep -q -e '^+timeout' -e '^[0-9]*| +timeout' "$room/output" || { printf 'bench: an await timed out: %s\n' "$name" >&2; exit 1; }
 }
 
 # What sessions that wait cost.
@@ -274,6 +284,19 @@ drill() {
         printf "drill %-10s %8.1f ms of processor %8.1f ms of clock    plain program %5.1f ms\n", words, cpu * 1000 / NR, wall * 1000 / NR, plain
     }' "$room/times"
     rm -f -- "$room/times"
+}
+
+# What a live run costs, and how soon its lines are there.
+measure_live() {
+    made load 'print "LISTEN c"; for (i = 0; i < n; i++) print "NOTIFY c, \047p\047"' 60000
+    at_end=$("$root/bench/timed" 5 "$room/load" "$room/output" "$room/errors" "$program" run) || refused load $?
+    live=$("$root/bench/timed" 5 "$room/load" "$room/output" "$room/errors" "$program" run --live) || refused load $?
+    printf '%s %s\n' "$at_end" "$live" | awk '{
+        printf "60,000 notifications, at its end %8.1f ms of processor time %8.1f ms of wall time\n", $1, $2
+        printf "60,000 notifications, live       %8.1f ms of processor time %8.1f ms of wall time\n", $3, $4
+        if ($3 > 2 * $1) { print "bench: a live run takes more than twice the processor time" >"/dev/stderr"; exit 1 }
+    }'
+    "$root/bench/live" "$program"
 }
 
 # What long scripts of one session cost.
@@ -339,3 +362,4 @@ drill 4.5 7 8 200
 drill 12.8 7 8 1000
 drill 17.2 7 32 200
 measure_waits
+measure_live

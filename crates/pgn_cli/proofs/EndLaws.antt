@@ -43,24 +43,24 @@ names-fault (Some input) old new ReadFault code is line reads three = absurd (om
 names-fault (Some input) old new WriteFault code is line reads three = absurd (omega (arith, is, three))
 names-fault (Some input) old new NoMemory code is line reads three = absurd (omega (arith, is, three))
 
--- what is not done, and no write that failed, has written nothing
+-- what is not done, is no write that failed and no want of memory, has written nothing
 pub refused-keeps : (old new : Option (List ℕ)) (status : Status) → (status ≡ BadWords → new ≡ old) → ((fault : ScenarioFault) → status ≡ BadScenario fault → new ≡ old)
-    → (status ≡ ReadFault → new ≡ old) → (status ≡ NoMemory → new ≡ old) → IsRefused status → new ≡ old
-refused-keeps old new Done words scenario read memory refused = absurd refused
-refused-keeps old new BadWords words scenario read memory refused = words refl
-refused-keeps old new (BadScenario fault) words scenario read memory refused = scenario fault refl
-refused-keeps old new ReadFault words scenario read memory refused = read refl
-refused-keeps old new WriteFault words scenario read memory refused = absurd refused
-refused-keeps old new NoMemory words scenario read memory refused = memory refl
+    → (status ≡ ReadFault → new ≡ old) → IsRefused status → new ≡ old
+refused-keeps old new Done words scenario read refused = absurd refused
+refused-keeps old new BadWords words scenario read refused = words refl
+refused-keeps old new (BadScenario fault) words scenario read refused = scenario fault refl
+refused-keeps old new ReadFault words scenario read refused = read refl
+refused-keeps old new WriteFault words scenario read refused = absurd refused
+refused-keeps old new NoMemory words scenario read refused = absurd refused
 
 -- the status of what has written nothing
-pub refused-code : (status : Status) (code : ℕ) → code ≡ code_of status → code ≢ 0 → code ≢ 5 → IsRefused status
-refused-code Done code is done fault = absurd (done is)
-refused-code BadWords code is done fault = tt
-refused-code (BadScenario found) code is done fault = tt
-refused-code ReadFault code is done fault = tt
-refused-code WriteFault code is done fault = absurd (fault is)
-refused-code NoMemory code is done fault = tt
+pub refused-code : (status : Status) (code : ℕ) → code ≡ code_of status → code ≢ 0 → code ≢ 5 → code ≢ 6 → IsRefused status
+refused-code Done code is done fault memory = absurd (done is)
+refused-code BadWords code is done fault memory = tt
+refused-code (BadScenario found) code is done fault memory = tt
+refused-code ReadFault code is done fault memory = tt
+refused-code WriteFault code is done fault memory = absurd (fault is)
+refused-code NoMemory code is done fault memory = absurd (memory is)
 
 -- the status of a write that failed
 pub write-fault-code : (status : Status) (code : ℕ) → code ≡ code_of status → code ≡ 5 → status ≡ WriteFault
@@ -70,3 +70,18 @@ write-fault-code (BadScenario found) code is five = absurd (omega (arith, is, fi
 write-fault-code ReadFault code is five = absurd (omega (arith, is, five))
 write-fault-code WriteFault code is five = refl
 write-fault-code NoMemory code is five = absurd (omega (arith, is, five))
+
+-- the status of want of memory
+pub memory-code : (status : Status) (code : ℕ) → code ≡ code_of status → code ≡ 6 → status ≡ NoMemory
+memory-code Done code is six = absurd (omega (arith, is, six))
+memory-code BadWords code is six = absurd (omega (arith, is, six))
+memory-code (BadScenario found) code is six = absurd (omega (arith, is, six))
+memory-code ReadFault code is six = absurd (omega (arith, is, six))
+memory-code WriteFault code is six = absurd (omega (arith, is, six))
+memory-code NoMemory code is six = refl
+
+-- what words ask for, where that status says what they have come to
+pub memory-lines : {T E : Type 0} (words : Result T E) (Asks : T → Type 0) (P : (t : T) → Asks t → Type 0) (status : Status) (code : ℕ) → code ≡ code_of status
+    → IfOk words (λ (w : T). (ask : Asks w) → status ≡ NoMemory → P w ask) → IfOk words (λ (w : T). (ask : Asks w) → code ≡ 6 → P w ask)
+memory-lines (Ok w) Asks P status code is h = λ ask six. h ask (memory-code status code is six)
+memory-lines (Err e) Asks P status code is h = h

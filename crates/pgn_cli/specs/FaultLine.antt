@@ -25,7 +25,7 @@ scenario_fault_text (NeverSignalled line) = line_fault line (codes ": flag is ne
 -- the line of an outcome, and nothing where the run is done
 abbrev pub fault_text : Status → List ℕ
 fault_text Done = []
-fault_text BadWords = codes "usage: pgnotify run [--pages N] [--patience N] or pgnotify drill SEED SESSIONS NOTES\n"
+fault_text BadWords = codes "usage: pgnotify run [--pages N] [--patience N] [--live] or pgnotify drill SEED SESSIONS NOTES\n"
 fault_text (BadScenario fault) = scenario_fault_text fault
 fault_text ReadFault = codes "pgnotify: read failed\n"
 fault_text WriteFault = codes "pgnotify: write failed\n"

@@ -7,7 +7,7 @@ use Rattle.pgn_base.specs.Outside.{AppendsPrefix, Rose}
 use Rattle.pgn_language.specs.declared.scenario.ScenarioFault.{ScenarioFault}
 use Rattle.pgn_language.specs.Inputs.{ReadsAsScenario}
 use Rattle.pgn_run.specs.declared.status.Status.{Status}
-use Rattle.pgn_run.specs.declared.status.Status.TheVariants.{Done, WriteFault}
+use Rattle.pgn_run.specs.declared.status.Status.TheVariants.{Done, WriteFault, NoMemory}
 use Rattle.pgn_run.specs.Run.{code_of}
 use Rattle.pgn_cli.specs.FaultLine.{fault_text, scenario_fault_text}
 use Rattle.pgn_cli.specs.declared.arguments.NoWords.{NoWords}
@@ -18,10 +18,11 @@ abbrev pub refused_for : ErrorKind → NoWords
 refused_for OutOfMemory = Memory
 refused_for kind = NotText
 
--- the outcomes with which nothing is written
+-- the outcomes with which nothing is written, whatever the words are
 abbrev pub IsRefused : Status → Type 0
 IsRefused Done = ⊥
 IsRefused WriteFault = ⊥
+IsRefused NoMemory = ⊥
 IsRefused status = Unit {0}
 
 -- the exit status is that of an outcome, and the outcome's line was written to the errors, whole where no fault was counted

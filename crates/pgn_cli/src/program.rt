@@ -1,10 +1,10 @@
-ghost use Rattle.std.specs.Prelude.{◌≡◌, ◌≢◌, ◌<◌, map, string_bytes, Err, IfOk, IfSome, IsOkAnd};
+ghost use Rattle.std.specs.Prelude.{◌≡◌, ◌≢◌, ◌⊎◌, ◌<◌, map, string_bytes, Err, IfOk, IfSome, IsOkAnd};
 ghost use Rattle.std.specs.Io.KnownBytes.{Appends};
 ghost use Rattle.pgn_base.specs.Outside.{AppendsPrefix, Rose};
 ghost use Rattle.pgn_language.specs.declared.scenario.ScenarioFault.{ScenarioFault};
 ghost use Rattle.pgn_language.specs.Inputs.{ReadsAsScenario};
 ghost use Rattle.pgn_options.specs.Words.{AreNoCommand};
-ghost use Rattle.pgn_run.specs.Run.{Performs};
+ghost use Rattle.pgn_run.specs.Run.{AskToRunLive, Performs, PerformsInPart, SoFarRuns, settings_with};
 ghost use Rattle.pgn_cli.specs.Program.{Ends, IsRefused, NamesFault};
 
 use crate::arguments::NoWords;
@@ -17,7 +17,7 @@ use std::thread::Threads;
 
 /// All that the program does once it has its words: it makes the one call of the product over these words, and writes one line to `errors` where the
 /// run is not done. The result is the exit status. Sessions may wait for one another, so that it is not promised that the call returns.
-pub fn program<S: Source, K: Sink, E: Sink, R: Threads + Wait + Sync>(
+pub fn program<S: Source, K: Sink + Send, E: Sink, R: Threads + Wait + Sync>(
     rt: &R,
     alloc: Global,
     words: Result<Vec<String>, NoWords>,
@@ -32,8 +32,11 @@ pub fn program<S: Source, K: Sink, E: Sink, R: Threads + Wait + Sync>(
     ensures read_fault_where_due { S.faults source.old < S.faults source.new → result ≡ 4 }
     ensures write_fault { result ≡ 5 → Rose (K.faults sink.old) (K.faults sink.new) }
     ensures write_fault_where_due { K.faults sink.old < K.faults sink.new → result ≡ 5 }
-    ensures write_fault_writes_a_prefix { result ≡ 5 → IsOkAnd words (λ words. Performs (map string_bytes words.items) (S.left source.old) (AppendsPrefix (K.held sink.old) (K.held sink.new))) }
-    ensures refused_writes_nothing { result ≢ 0 → result ≢ 5 → K.held sink.new ≡ K.held sink.old }
+    ensures write_fault_writes_a_prefix { result ≡ 5 → IsOkAnd words (λ words. PerformsInPart (map string_bytes words.items) (S.left source.old) (AppendsPrefix (K.held sink.old) (K.held sink.new))) }
+    ensures refused_writes_nothing { result ≢ 0 → result ≢ 5 → result ≢ 6 → K.held sink.new ≡ K.held sink.old }
+    ensures no_memory_writes_nothing { IfOk words (λ words. ¬ AskToRunLive (map string_bytes words.items)) → result ≡ 6 → K.held sink.new ≡ K.held sink.old }
+    ensures no_memory_writes_first_lines { IfOk words (λ words. (ask : AskToRunLive (map string_bytes words.items)) → result ≡ 6
+        → (K.held sink.new ≡ K.held sink.old) ⊎ IfSome (S.left source.old) (λ input. SoFarRuns (settings_with ask.pages ask.patience) input (Appends (K.held sink.old) (K.held sink.new)))) }
     ensures no_memory { words ≡ Err NoWords.Memory → result ≡ 6 }
     ensures not_text { words ≡ Err NoWords.NotText → result ≡ 2 }
     ensures right_words { IfOk words (λ words. result ≡ 2 → AreNoCommand (map string_bytes words.items)) }
@@ -45,7 +48,7 @@ pub fn program<S: Source, K: Sink, E: Sink, R: Threads + Wait + Sync>(
 }
 
 // How a run of these words ends.
-fn status_of<S: Source, K: Sink, R: Threads + Wait + Sync>(
+fn status_of<S: Source, K: Sink + Send, R: Threads + Wait + Sync>(
     rt: &R,
     alloc: Global,
     words: Result<Vec<String>, NoWords>,
@@ -58,8 +61,11 @@ fn status_of<S: Source, K: Sink, R: Threads + Wait + Sync>(
     ensures read_fault_where_due { S.faults source.old < S.faults source.new → result ≡ Status.ReadFault }
     ensures write_fault { result ≡ Status.WriteFault → Rose (K.faults sink.old) (K.faults sink.new) }
     ensures write_fault_where_due { K.faults sink.old < K.faults sink.new → result ≡ Status.WriteFault }
-    ensures write_fault_writes_a_prefix { result ≡ Status.WriteFault → IsOkAnd words (λ words. Performs (map string_bytes words.items) (S.left source.old) (AppendsPrefix (K.held sink.old) (K.held sink.new))) }
+    ensures write_fault_writes_a_prefix { result ≡ Status.WriteFault → IsOkAnd words (λ words. PerformsInPart (map string_bytes words.items) (S.left source.old) (AppendsPrefix (K.held sink.old) (K.held sink.new))) }
     ensures refused_writes_nothing { IsRefused result → K.held sink.new ≡ K.held sink.old }
+    ensures no_memory_writes_nothing { IfOk words (λ words. ¬ AskToRunLive (map string_bytes words.items)) → result ≡ Status.NoMemory → K.held sink.new ≡ K.held sink.old }
+    ensures no_memory_writes_first_lines { IfOk words (λ words. (ask : AskToRunLive (map string_bytes words.items)) → result ≡ Status.NoMemory
+        → (K.held sink.new ≡ K.held sink.old) ⊎ IfSome (S.left source.old) (λ input. SoFarRuns (settings_with ask.pages ask.patience) input (Appends (K.held sink.old) (K.held sink.new)))) }
     ensures no_memory { words ≡ Err NoWords.Memory → result ≡ Status.NoMemory }
     ensures not_text { words ≡ Err NoWords.NotText → result ≡ Status.BadWords }
     ensures right_words { IfOk words (λ words. result ≡ Status.BadWords → AreNoCommand (map string_bytes words.items)) }

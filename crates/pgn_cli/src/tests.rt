@@ -19,7 +19,7 @@ fn one_line_on_standard_error(rt: HostRuntime) -> Result<(), Fail> {
         (
             Status::BadWords,
             2,
-            b"usage: pgnotify run [--pages N] [--patience N] or pgnotify drill SEED SESSIONS NOTES\n",
+            b"usage: pgnotify run [--pages N] [--patience N] [--live] or pgnotify drill SEED SESSIONS NOTES\n",
         ),
         (
             Status::BadScenario(ScenarioFault::TooLarge),
@@ -105,7 +105,7 @@ const SCRIPT: &str = "\\session a 1\n";
 const OUTPUT: &str = "journal 0\nsession 1 a db 1 pid 1001\nend\n";
 
 const USAGE: &str =
-    "usage: pgnotify run [--pages N] [--patience N] or pgnotify drill SEED SESSIONS NOTES\n";
+    "usage: pgnotify run [--pages N] [--patience N] [--live] or pgnotify drill SEED SESSIONS NOTES\n";
 
 // What the program is run on: its words, its input, the read and the write that fail, and how many bytes the errors take.
 #[derive(Clone, Copy)]

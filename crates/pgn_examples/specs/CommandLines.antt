@@ -1,12 +1,12 @@
 -- Command lines, and what they ask for.
-use Rattle.std.specs.Prelude.{ℕ, List, [], ◌∷◌, Option, None, Some, codes}
+use Rattle.std.specs.Prelude.{ℕ, true, false, List, [], ◌∷◌, Option, None, Some, codes}
 use Rattle.pgn_options.specs.declared.asked.Asked.{Asked}
 use Rattle.pgn_options.specs.declared.asked.Asked.TheVariants.{Run, Drill}
 
 abbrev pub Line : Type 0
 Line = List (List ℕ)
 
--- the words of `run` with limits of its own, in each way in which they may be given
+-- the words of `run` with limits of its own, in each way in which they may be given, and with `--live`
 abbrev pub runs_with_limits : List Line
 runs_with_limits =
     (codes "run" ∷ [])
@@ -18,19 +18,27 @@ runs_with_limits =
     ∷ (codes "run" ∷ codes "--patience" ∷ codes "1000000000" ∷ codes "--pages" ∷ codes "1024" ∷ [])
     ∷ (codes "run" ∷ codes "--" ∷ [])
     ∷ (codes "run" ∷ codes "--patience=5" ∷ codes "--" ∷ [])
+    ∷ (codes "run" ∷ codes "--live" ∷ [])
+    ∷ (codes "run" ∷ codes "--live" ∷ codes "--pages" ∷ codes "2" ∷ codes "--patience=5" ∷ [])
+    ∷ (codes "run" ∷ codes "--pages" ∷ codes "2" ∷ codes "--live" ∷ codes "--patience=5" ∷ [])
+    ∷ (codes "run" ∷ codes "--patience=5" ∷ codes "--live" ∷ codes "--" ∷ [])
     ∷ []
 
 abbrev pub limits_of_runs : List (Option Asked)
 limits_of_runs =
-    Some (Run 256 10000000)
-    ∷ Some (Run 2 10000000)
-    ∷ Some (Run 2 10000000)
-    ∷ Some (Run 2 10000000)
-    ∷ Some (Run 2 10000000)
-    ∷ Some (Run 1024 1)
-    ∷ Some (Run 1024 1000000000)
-    ∷ Some (Run 256 10000000)
-    ∷ Some (Run 256 5)
+    Some (Run 256 10000000 false)
+    ∷ Some (Run 2 10000000 false)
+    ∷ Some (Run 2 10000000 false)
+    ∷ Some (Run 2 10000000 false)
+    ∷ Some (Run 2 10000000 false)
+    ∷ Some (Run 1024 1 false)
+    ∷ Some (Run 1024 1000000000 false)
+    ∷ Some (Run 256 10000000 false)
+    ∷ Some (Run 256 5 false)
+    ∷ Some (Run 256 10000000 true)
+    ∷ Some (Run 2 5 true)
+    ∷ Some (Run 2 5 true)
+    ∷ Some (Run 256 5 true)
     ∷ []
 
 -- the words of `drill`, with and without `--`
@@ -90,11 +98,19 @@ wrong_words =
     ∷ (codes "run" ∷ codes "--pages" ∷ codes "--patience" ∷ codes "5" ∷ [])
     ∷ (codes "run" ∷ codes "--pages" ∷ codes "2" ∷ codes "--pages" ∷ codes "3" ∷ [])
     ∷ (codes "run" ∷ codes "--pages=2" ∷ codes "--pages=2" ∷ [])
+    ∷ (codes "run" ∷ codes "--live" ∷ codes "--live" ∷ [])
+    ∷ (codes "run" ∷ codes "--live=true" ∷ [])
+    ∷ (codes "run" ∷ codes "--live=" ∷ [])
+    ∷ (codes "run" ∷ codes "--live" ∷ codes "true" ∷ [])
+    ∷ (codes "run" ∷ codes "--liv" ∷ [])
+    ∷ (codes "run" ∷ codes "--pages" ∷ codes "--live" ∷ codes "2" ∷ [])
+    ∷ (codes "run" ∷ codes "--" ∷ codes "--live" ∷ [])
     ∷ (codes "run" ∷ codes "--" ∷ codes "--" ∷ [])
     ∷ (codes "run" ∷ codes "--" ∷ codes "--pages" ∷ codes "2" ∷ [])
     ∷ (codes "drill" ∷ codes "1" ∷ codes "2" ∷ [])
     ∷ (codes "drill" ∷ codes "1" ∷ codes "2" ∷ codes "3" ∷ codes "4" ∷ [])
     ∷ (codes "drill" ∷ codes "--" ∷ codes "0" ∷ codes "--" ∷ codes "1" ∷ codes "1" ∷ [])
+    ∷ (codes "drill" ∷ codes "--live" ∷ codes "0" ∷ codes "1" ∷ codes "1" ∷ [])
     ∷ (codes "drill" ∷ codes "--pages" ∷ codes "2" ∷ codes "0" ∷ codes "1" ∷ codes "1" ∷ [])
     ∷ []
 

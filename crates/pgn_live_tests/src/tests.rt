@@ -7,6 +7,7 @@ use std::alloc::Global;
 use std::test::Fail;
 
 mod gate;
+mod program;
 mod sinks;
 
 fn scenario_of(alloc: Global, input: &str) -> Result<Scenario, Fail>

@@ -1,6 +1,6 @@
 -- What `clap` makes of the words of `run` is what they give.
-use Rattle.std.proofs.Common.{◌≡◌, ◌∙◌, ◌⊎◌, inl, inr, ℕ, ◌==◌, ◌||◌, Bool, true, false, cond, List, [], ◌∷◌, Option, Some, None, is_some, refl, sym, ap, subst, codes, arith}
-use Rattle.std.specs.Prelude.{fold, option_map, option_and_then, slice_get, drop, take}
+use Rattle.std.proofs.Common.{◌≡◌, ◌∙◌, ◌⊎◌, inl, inr, ℕ, ◌==◌, ◌||◌, ◌&&◌, Bool, true, false, cond, List, [], ◌∷◌, ◌++◌, ◌≤◌, append-nil, Option, Some, None, is_some, refl, sym, ap, subst, codes, arith}
+use Rattle.std.specs.Prelude.{fold, map, option_map, option_and_then, slice_get, drop, take}
 use Rattle.std.specs.Str.{bytes_eq, chars}
 use Rattle.std.specs.List.{before_first, after_first, list_any}
 use Rattle.std.proofs.lemmas.Slice.Eq.{bytes_eq-Decides}
@@ -8,15 +8,18 @@ use Rattle.clap.specs.Lexer.{long_of, short_of}
 use Rattle.clap.specs.ValueTests.{accepts}
 use Rattle.clap.specs.Kinds.{Kinds, or_else, value_kinds}
 use Rattle.clap.specs.Faults.{defaults_fault, default_fault, flags_fault, long_fault, option_fault, react_fault, settle_fault, step_fault, turn_fault, use_fault, walk_fault}
-use Rattle.clap.specs.Walk.{Held, Row, Rule, Text, Waiting, Walk, after_flag, after_step, arg_by_long, bundle_met, finished, has_row, idle, long_met, nothing_held, option as waits_for, settled, takes_values, used, walk_from, walked, with_default}
+use Rattle.clap.specs.Walk.{Held, Row, Rule, Text, Waiting, Walk, after_flag, after_step, arg_by_long, at_row, bundle_met, finished, has_row, idle, more_values, one_of, with_values, without, long_met, nothing_held, option as waits_for, settled, takes_values, used, walk_from, walked, with_default}
 use Rattle.clap.specs.Simple.{Shape, new_rule, new_shape}
-use Rattle.clap.specs.declared.builder.action.ArgAction.TheVariants.{Set}
+use Rattle.clap.specs.declared.builder.action.ArgAction.TheVariants.{Set, SetTrue}
+use Rattle.clap.specs.declared.builder.value_parser.Reading.{Reading}
 use Rattle.clap.specs.declared.builder.value_parser.Reading.TheVariants.{AsWritten}
 use Rattle.clap.specs.declared.builder.value_parser.ValueParser.{ValueParser}
-use Rattle.clap.specs.declared.builder.value_parser.ValueParser.TheVariants.{Unsigned}
-use Rattle.clap.specs.declared.parser.matches.ValueSource.TheVariants.{CommandLine}
+use Rattle.clap.specs.declared.builder.value_parser.ValueParser.TheVariants.{Bool as Bools, Unsigned}
+use Rattle.clap.specs.declared.parser.matches.ValueSource.{ValueSource}
+use Rattle.clap.specs.declared.parser.matches.ValueSource.TheVariants.{CommandLine, DefaultValue}
 use Rattle.clap.specs.declared.error.kind.ErrorKind.TheVariants.{ArgumentConflict, InvalidValue, TooManyValues, UnknownArgument, ValueValidation}
-use Rattle.pgn_options.specs.Words.{Key, Options, Pages, Patience, Nothing, behind_equals, by_word, if_last, key_named, no_options, number_in, options_after, says_behind, says_of, with_option}
+use Rattle.pgn_options.specs.Parse.{FindsOptions, IsFoundAs, IsFoundFlag}
+use Rattle.pgn_options.specs.Words.{Key, Options, Pages, Patience, Nothing, behind_equals, by_word, if_last, key_named, live_unless_set, no_options, number_in, options_after, says_behind, says_of, with_live, with_option}
 use Rattle.pgn_options.proofs.NumberLaws.{either, hyphen, passed, refused}
 use Rattle.pgn_options.proofs.TotalLaws.{Agrees, agrees-step, both-none, ending, found, later-step, or-first, or-second, total, total-nil, wrong-step}
 use Rattle.pgn_options.proofs.FormLaws.{Form, IsNoLong, dashes, form, long, plain, short}
@@ -46,8 +49,19 @@ rule key = record (new_rule (name_of key)) {
   range = Some (record { start_inclusive = 1; end_inclusive = 1 });
 }
 
+-- `--live` as it is built
+abbrev live_rule : Rule
+live_rule = record (new_rule (codes "live")) {
+  long = Some (codes "live");
+  action = Some SetTrue;
+  parser = Some Bools;
+  range = Some (record { start_inclusive = 0; end_inclusive = 0 });
+  defaults = codes "false" ∷ [];
+  missing = codes "true" ∷ [];
+}
+
 abbrev rules : List Rule
-rules = rule Pages ∷ rule Patience ∷ []
+rules = rule Pages ∷ rule Patience ∷ live_rule ∷ []
 
 -- `run` as it is built
 abbrev pub run_built : Shape
@@ -59,72 +73,218 @@ run_built = record (new_shape (codes "run")) {
   is_built = true;
 }
 
--- the options that are given, each with its word and its number, in order
-pub data Used : Type 0 where
-  none : Used
-  one : (key : Key) (word : Text) (n : ℕ) → number_of key word ≡ Some n → Used
-  pages_first : (word : Text) (n : ℕ) → number_of Pages word ≡ Some n → (other : Text) (m : ℕ) → number_of Patience other ≡ Some m → Used
-  patience_first : (word : Text) (n : ℕ) → number_of Patience word ≡ Some n → (other : Text) (m : ℕ) → number_of Pages other ≡ Some m → Used
+-- an option that is given: its word and its number, or `--live`
+pub data Use : Type 0 where
+  number : (key : Key) (word : Text) (n : ℕ) → number_of key word ≡ Some n → Use
+  live : Use
 
 abbrev row : Key → Text → Row
 row key word = record { id = name_of key; values = word ∷ []; count = None; source = Some CommandLine; reading = AsWritten }
 
-abbrev pub rows_for : Used → List Row
-rows_for none = []
-rows_for (one key word n e) = row key word ∷ []
-rows_for (pages_first word n e other m d) = row Pages word ∷ row Patience other ∷ []
-rows_for (patience_first word n e other m d) = row Patience word ∷ row Pages other ∷ []
+abbrev live_row : ValueSource → Text → Row
+live_row source word = record { id = codes "live"; values = word ∷ []; count = None; source = Some source; reading = AsWritten }
 
-abbrev single : Key → ℕ → Options
-single Pages n = record { pages = Some n; patience = None }
-single Patience n = record { pages = None; patience = Some n }
+abbrev row_for : Use → Row
+row_for (number key word n e) = row key word
+row_for live = live_row CommandLine (codes "true")
 
-abbrev pub options_for : Used → Options
-options_for none = no_options
-options_for (one key word n e) = single key n
-options_for (pages_first word n e other m d) = record { pages = Some n; patience = Some m }
-options_for (patience_first word n e other m d) = record { pages = Some m; patience = Some n }
+-- the rows of the options that are given, in order
+abbrev pub rows_for : List Use → List Row
+rows_for uses = map row_for uses
+
+-- the same once the words have ended
+abbrev pub rows_at_end : List Use → List Row
+rows_at_end uses = fold with_default (rows_for uses) rules
+
+abbrev value_if : Key → Key → ℕ → Option ℕ → Option ℕ
+value_if Pages Pages n rest = Some n
+value_if Patience Patience n rest = Some n
+value_if key other n rest = rest
+
+-- the number that is given for an option
+abbrev value_of : Key → List Use → Option ℕ
+value_of key [] = None
+value_of key (number other word n e ∷ uses) = value_if key other n (value_of key uses)
+value_of key (live ∷ uses) = value_of key uses
+
+-- `--live` is given
+abbrev is_live : List Use → Bool
+is_live [] = false
+is_live (number key word n e ∷ uses) = is_live uses
+is_live (live ∷ uses) = true
+
+abbrev pub options_for : List Use → Options
+options_for uses = record { pages = value_of Pages uses; patience = value_of Patience uses; live = is_live uses }
 
 -- P of the options that were found
 abbrev pub IsUsed : Options → List Row → Type 0
-IsUsed given rows = (now : Used) × (rows ≡ rows_for now) × (options_for now ≡ given)
+IsUsed given rows = (now : List Use) × (rows ≡ rows_at_end now) × (options_for now ≡ given)
+
+-- The rows of the options.
+
+has-number : (key : Key) (uses : List Use) → has_row (name_of key) (rows_for uses) ≡ is_some (value_of key uses)
+has-number Pages [] = refl
+has-number Pages (number Pages word n e ∷ uses) = refl
+has-number Pages (number Patience word n e ∷ uses) = has-number Pages uses
+has-number Pages (live ∷ uses) = has-number Pages uses
+has-number Patience [] = refl
+has-number Patience (number Pages word n e ∷ uses) = has-number Patience uses
+has-number Patience (number Patience word n e ∷ uses) = refl
+has-number Patience (live ∷ uses) = has-number Patience uses
+
+has-live : (uses : List Use) → has_row (codes "live") (rows_for uses) ≡ is_live uses
+has-live [] = refl
+has-live (number Pages word n e ∷ uses) = has-live uses
+has-live (number Patience word n e ∷ uses) = has-live uses
+has-live (live ∷ uses) = refl
+
+-- what there is no row for comes at the end
+new-row : (id : Text) (change : Row → List Row) (missing rows : List Row) → has_row id rows ≡ false → at_row id change missing rows ≡ rows ++ missing
+new-row id change missing [] e = refl
+new-row id change missing (r ∷ rows) e = go (bytes_eq r.id id) (new-row id change missing rows) e
+  where
+    go : (b : Bool) → (has_row id rows ≡ false → at_row id change missing rows ≡ rows ++ missing) → (b || has_row id rows) ≡ false → cond b (change r ++ rows) (r ∷ at_row id change missing rows) ≡ r ∷ (rows ++ missing)
+    go true later is = absurd (cc)
+    go false later is = ap (λ (rest : List Row). r ∷ rest) (later is)
+
+without-none : (id : Text) (rows : List Row) → has_row id rows ≡ false → without id rows ≡ rows
+without-none id rows e = new-row id (λ r. []) [] rows e ∙ append-nil rows
+
+new-values : (id : Text) (how : Reading) (source : ValueSource) (values : List Text) (rows : List Row) → has_row id rows ≡ false
+    → with_values id how source values (without id rows) ≡ rows ++ record { id = id; values = values; count = None; source = Some source; reading = how } ∷ []
+new-values id how source values rows e =
+    ap (λ (there : List Row). with_values id how source values there) (without-none id rows e)
+    ∙ new-row id (more_values source values) (record { id = id; values = values; count = None; source = Some source; reading = how } ∷ []) rows e
+
+rows-push : (uses : List Use) (last : Use) → rows_for (uses ++ last ∷ []) ≡ rows_for uses ++ row_for last ∷ []
+rows-push [] last = refl
+rows-push (first ∷ uses) last = ap (λ (rest : List Row). row_for first ∷ rest) (rows-push uses last)
+
+used-number : (key : Key) (word : Text) (n : ℕ) (e : number_of key word ≡ Some n) (uses : List Use) → has_row (name_of key) (rows_for uses) ≡ false
+    → used (rule key) (word ∷ []) (rows_for uses) ≡ rows_for (uses ++ number key word n e ∷ [])
+used-number key word n e uses none = new-values (name_of key) AsWritten CommandLine (word ∷ []) (rows_for uses) none ∙ sym (rows-push uses (number key word n e))
+
+used-live : (uses : List Use) → has_row (codes "live") (rows_for uses) ≡ false → used live_rule [] (rows_for uses) ≡ rows_for (uses ++ live ∷ [])
+used-live uses none = new-values (codes "live") AsWritten CommandLine (codes "true" ∷ []) (rows_for uses) none ∙ sym (rows-push uses live)
+
+-- The options with one more.
+
+number-push : (key : Key) (word : Text) (n : ℕ) (e : number_of key word ≡ Some n) (uses : List Use) → value_of key uses ≡ None → value_of key (uses ++ number key word n e ∷ []) ≡ Some n
+number-push Pages word n e [] none = refl
+number-push Patience word n e [] none = refl
+number-push Pages word n e (number Pages other m d ∷ uses) none = absurd (cc)
+number-push Pages word n e (number Patience other m d ∷ uses) none = number-push Pages word n e uses none
+number-push Pages word n e (live ∷ uses) none = number-push Pages word n e uses none
+number-push Patience word n e (number Pages other m d ∷ uses) none = number-push Patience word n e uses none
+number-push Patience word n e (number Patience other m d ∷ uses) none = absurd (cc)
+number-push Patience word n e (live ∷ uses) none = number-push Patience word n e uses none
+
+-- what another option has stays
+value-push : (key : Key) (last : Use) (uses : List Use) → value_of key (last ∷ []) ≡ None → value_of key (uses ++ last ∷ []) ≡ value_of key uses
+value-push key last [] none = none
+value-push key last (number other word n e ∷ uses) none = ap (λ (rest : Option ℕ). value_if key other n rest) (value-push key last uses none)
+value-push key last (live ∷ uses) none = value-push key last uses none
+
+live-push : (key : Key) (word : Text) (n : ℕ) (e : number_of key word ≡ Some n) (uses : List Use) → is_live (uses ++ number key word n e ∷ []) ≡ is_live uses
+live-push key word n e [] = refl
+live-push key word n e (number other text m d ∷ uses) = live-push key word n e uses
+live-push key word n e (live ∷ uses) = refl
+
+live-on : (uses : List Use) → is_live (uses ++ live ∷ []) ≡ true
+live-on [] = refl
+live-on (number key word n e ∷ uses) = live-on uses
+live-on (live ∷ uses) = refl
+
+abbrev made : Option ℕ → Option ℕ → Bool → Options
+made pages patience on = record { pages = pages; patience = patience; live = on }
+
+options-same : (a b c d : Option ℕ) (x y : Bool) → a ≡ b → c ≡ d → x ≡ y → made a c x ≡ made b d y
+options-same a b c d x y p q r = ap (λ (o : Option ℕ). made o c x) p ∙ ap (λ (o : Option ℕ). made b o x) q ∙ ap (λ (o : Bool). made b d o) r
 
 -- One use of an option.
 
-abbrev use_of : Key → Text → Used → Kinds
+abbrev use_of : Key → Text → List Use → Kinds
 use_of key word before = use_fault false (rule key) (word ∷ []) (rows_for before)
 
-abbrev Takes : Key → Text → Used → Option Options → Type 0
+abbrev Takes : Key → Text → List Use → Option Options → Type 0
 Takes key word before None = use_of key word before ≡ [] → ⊥
-Takes key word before (Some given) = (use_of key word before ≡ []) × (now : Used) × (used (rule key) (word ∷ []) (rows_for before) ≡ rows_for now) × (options_for now ≡ given)
+Takes key word before (Some given) = (use_of key word before ≡ []) × (now : List Use) × (used (rule key) (word ∷ []) (rows_for before) ≡ rows_for now) × (options_for now ≡ given)
 
-took : (key : Key) (word : Text) (before : Used) → Takes key word before (with_option key word (options_for before))
-took Pages word none = step (number_of Pages word) refl
+-- what is wrong with a value, by whether there is one already
+abbrev fault_if : Bool → Key → Text → Kinds
+fault_if there key word = or_else (cond (there && true) (ArgumentConflict ∷ []) []) (or_else (value_kinds false (Unsigned (least_of key) (most_of key)) word) [])
+
+fault-is : (key : Key) (word : Text) (before : List Use) (b : Bool) → has_row (name_of key) (rows_for before) ≡ b → use_of key word before ≡ fault_if b key word
+fault-is Pages word before b e = ap (λ (there : Bool). fault_if there Pages word) e
+fault-is Patience word before b e = ap (λ (there : Bool). fault_if there Patience word) e
+
+most-fits : (key : Key) → most_of key ≤ 18446744073709551615
+most-fits Pages = omega arith
+most-fits Patience = omega arith
+
+-- a second value is refused
+again : (key : Key) (word : Text) (before : List Use) (m : ℕ) → value_of key before ≡ Some m → use_of key word before ≡ [] → ⊥
+again key word before m there e =
+    let is : use_of key word before ≡ fault_if true key word = fault-is key word before true (has-number key before ∙ ap is_some there) in
+    cc
+
+-- so is what is no number
+unread : (key : Key) (word : Text) (before : List Use) → value_of key before ≡ None → number_of key word ≡ None → use_of key word before ≡ [] → ⊥
+unread key word before there none e =
+    refused (least_of key) (most_of key) word _ (most-fits key) refl none (sym (fault-is key word before false (has-number key before ∙ ap is_some there)) ∙ e)
+
+-- a number is taken
+read : (key : Key) (word : Text) (before : List Use) (n : ℕ) → value_of key before ≡ None → number_of key word ≡ Some n → use_of key word before ≡ []
+read key word before n there e =
+    fault-is key word before false (has-number key before ∙ ap is_some there) ∙ passed (least_of key) (most_of key) word n _ (most-fits key) refl e
+
+took : (key : Key) (word : Text) (before : List Use) → Takes key word before (with_option key word (options_for before))
+took Pages word before = go (value_of Pages before) refl (number_of Pages word) refl
   where
-    step : (o : Option ℕ) → number_of Pages word ≡ o → Takes Pages word none (option_map (λ n. record no_options { pages = Some n }) o)
-    step None e = refused 2 1024 word _ (omega arith) refl e
-    step (Some n) e = (passed 2 1024 word n _ (omega arith) refl e, one Pages word n e, refl, refl)
-took Patience word none = step (number_of Patience word) refl
+    go : (there : Option ℕ) → value_of Pages before ≡ there → (o : Option ℕ) → number_of Pages word ≡ o
+        → Takes Pages word before (cond (is_some there) None (option_map (λ n. record (options_for before) { pages = Some n }) o))
+    go (Some m) t o e = again Pages word before m t
+    go None t None e = unread Pages word before t e
+    go None t (Some n) e = (
+      read Pages word before n t e,
+      before ++ number Pages word n e ∷ [],
+      used-number Pages word n e before (has-number Pages before ∙ ap is_some t),
+      options-same _ _ _ _ _ _ (number-push Pages word n e before t) (value-push Patience (number Pages word n e) before refl) (live-push Pages word n e before),
+    )
+took Patience word before = go (value_of Patience before) refl (number_of Patience word) refl
   where
-    step : (o : Option ℕ) → number_of Patience word ≡ o → Takes Patience word none (option_map (λ n. record no_options { patience = Some n }) o)
-    step None e = refused 1 1000000000 word _ (omega arith) refl e
-    step (Some n) e = (passed 1 1000000000 word n _ (omega arith) refl e, one Patience word n e, refl, refl)
-took Pages word (one Pages other m d) = λ e. cc
-took Pages word (one Patience other m d) = step (number_of Pages word) refl
+    go : (there : Option ℕ) → value_of Patience before ≡ there → (o : Option ℕ) → number_of Patience word ≡ o
+        → Takes Patience word before (cond (is_some there) None (option_map (λ n. record (options_for before) { patience = Some n }) o))
+    go (Some m) t o e = again Patience word before m t
+    go None t None e = unread Patience word before t e
+    go None t (Some n) e = (
+      read Patience word before n t e,
+      before ++ number Patience word n e ∷ [],
+      used-number Patience word n e before (has-number Patience before ∙ ap is_some t),
+      options-same _ _ _ _ _ _ (value-push Pages (number Patience word n e) before refl) (number-push Patience word n e before t) (live-push Patience word n e before),
+    )
+
+abbrev live_use : List Use → Kinds
+live_use before = use_fault false live_rule [] (rows_for before)
+
+abbrev TakesLive : List Use → Option Options → Type 0
+TakesLive before None = live_use before ≡ [] → ⊥
+TakesLive before (Some given) = (live_use before ≡ []) × (now : List Use) × (used live_rule [] (rows_for before) ≡ rows_for now) × (options_for now ≡ given)
+
+live-fault : (before : List Use) (b : Bool) → has_row (codes "live") (rows_for before) ≡ b → live_use before ≡ or_else (cond (b && true) (ArgumentConflict ∷ []) []) []
+live-fault before b e = ap (λ (there : Bool). or_else (cond (there && true) (ArgumentConflict ∷ []) []) []) e
+
+took-live : (before : List Use) → TakesLive before (with_live (options_for before))
+took-live before = go (is_live before) refl
   where
-    step : (o : Option ℕ) → number_of Pages word ≡ o → Takes Pages word (one Patience other m d) (option_map (λ n. record (single Patience m) { pages = Some n }) o)
-    step None e = refused 2 1024 word _ (omega arith) refl e
-    step (Some n) e = (passed 2 1024 word n _ (omega arith) refl e, patience_first other m d word n e, refl, refl)
-took Patience word (one Pages other m d) = step (number_of Patience word) refl
-  where
-    step : (o : Option ℕ) → number_of Patience word ≡ o → Takes Patience word (one Pages other m d) (option_map (λ n. record (single Pages m) { patience = Some n }) o)
-    step None e = refused 1 1000000000 word _ (omega arith) refl e
-    step (Some n) e = (passed 1 1000000000 word n _ (omega arith) refl e, pages_first other m d word n e, refl, refl)
-took Patience word (one Patience other m d) = λ e. cc
-took Pages word (pages_first a n e b m d) = λ e. cc
-took Patience word (pages_first a n e b m d) = λ e. cc
-took Pages word (patience_first a n e b m d) = λ e. cc
-took Patience word (patience_first a n e b m d) = λ e. cc
+    go : (there : Bool) → is_live before ≡ there → TakesLive before (cond there None (Some (record (options_for before) { live = true })))
+    go true t = λ e. let is : live_use before ≡ ArgumentConflict ∷ [] = live-fault before true (has-live before ∙ t) in cc
+    go false t = (
+      live-fault before false (has-live before ∙ t),
+      before ++ live ∷ [],
+      used-live before (has-live before ∙ t),
+      options-same _ _ _ _ _ _ (value-push Pages live before refl) (value-push Patience live before refl) (live-on before),
+    )
 
 -- no word that begins with a hyphen is a value
 no-value : (key : Key) (bytes : Text) (given : Options) → with_option key (45 ∷ bytes) given ≡ None
@@ -144,16 +304,18 @@ no-value Patience bytes given = go (is_some given.patience)
 default-none : (key : Key) (rows : List Row) → default_fault rows (rule key) ≡ []
 default-none key rows = either (has_row (name_of key) rows) _ _
 
+live-default-none : (rows : List Row) → default_fault rows live_rule ≡ []
+live-default-none rows = go (has_row (codes "live") rows)
+  where
+    go : (b : Bool) → cond (b || false) [] (let none : Kinds = [] in none) ≡ []
+    go true = refl
+    go false = refl
+
 defaults-none : (rows : List Row) → defaults_fault rows rules ≡ []
 unfolding defaults_fault
-defaults-none rows = both-none _ _ (default-none Pages rows) (default-none Patience (with_default rows (rule Pages)))
-
-finished-same : (now : Used) → fold with_default (rows_for now) rules ≡ rows_for now
-finished-same none = refl
-finished-same (one Pages word n e) = refl
-finished-same (one Patience word n e) = refl
-finished-same (pages_first a n e b m d) = refl
-finished-same (patience_first a n e b m d) = refl
+defaults-none rows =
+    let first = ap (λ (k : Kinds). or_else k (or_else (default_fault (with_default rows (rule Pages)) (rule Patience)) (or_else (default_fault (with_default (with_default rows (rule Pages)) (rule Patience)) live_rule) []))) (default-none Pages rows) in
+    first ∙ both-none _ _ (default-none Patience (with_default rows (rule Pages))) (live-default-none (with_default (with_default rows (rule Pages)) (rule Patience)))
 
 abbrev held : List Row → Option (Text × List Text) → Held
 held rows pending = record { rows = rows; pending = pending; skip = 0 }
@@ -162,16 +324,16 @@ abbrev at : List Row → Option (Text × List Text) → Walk
 at rows pending = walk_from (held rows pending)
 
 -- nothing is wrong with what is pending, and these options are given with it
-pub record SettlesAs (rows : List Row) (pending : Option (Text × List Text)) (now : Used) : Type 0 where
+pub record SettlesAs (rows : List Row) (pending : Option (Text × List Text)) (now : List Use) : Type 0 where
   pub fine : settle_fault rules false (held rows pending) ≡ []
   pub same : settled rules (held rows pending) ≡ held (rows_for now) None
 
-idle-end : (rows : List Row) (pending : Option (Text × List Text)) (now : Used) → SettlesAs rows pending now
+idle-end : (rows : List Row) (pending : Option (Text × List Text)) (now : List Use) → SettlesAs rows pending now
     → (ending run_built (held rows pending) ≡ []) × IsUsed (options_for now) (finished rules (held rows pending))
 idle-end rows pending now h =
     let none = ap (λ (k : Kinds). or_else k (or_else (defaults_fault (settled rules (held rows pending)).rows rules) [])) h.fine in
     let defaults = ap (λ (k : Kinds). or_else k []) (defaults-none (settled rules (held rows pending)).rows) in
-    let rows_are = ap (λ (x : Held). fold with_default x.rows rules) h.same ∙ finished-same now in
+    let rows_are = ap (λ (x : Held). fold with_default x.rows rules) h.same in
     (none ∙ defaults, (now, rows_are, refl))
 
 -- an option waits for its value
@@ -223,13 +385,19 @@ long_name z zs = before_first (λ x. x == 61) (z ∷ zs)
 abbrev long_value : ℕ → Text → Option Text
 long_value z zs = behind_equals (z ∷ zs)
 
-arg-named : (name : Text) → arg_by_long rules name ≡ option_map rule (key_named name)
-arg-named name = go (bytes_eq (codes "pages") name) (bytes_eq (codes "patience") name) refl refl
+-- the option of a name
+abbrev arg_of : Option Key → Text → Option Rule
+arg_of None name = cond (bytes_eq (codes "live") name) (Some live_rule) None
+arg_of (Some key) name = Some (rule key)
+
+arg-named : (name : Text) → arg_by_long rules name ≡ arg_of (key_named name) name
+arg-named name = go (bytes_eq (codes "pages") name) (bytes_eq (codes "patience") name) (bytes_eq (codes "live") name) refl refl refl
   where
-    go : (a b : Bool) → bytes_eq (codes "pages") name ≡ a → bytes_eq (codes "patience") name ≡ b → arg_by_long rules name ≡ option_map rule (key_named name)
-    go true b e d = rw e refl
-    go false true e d = rw (e, d) refl
-    go false false e d = rw (e, d) refl
+    go : (a b c : Bool) → bytes_eq (codes "pages") name ≡ a → bytes_eq (codes "patience") name ≡ b → bytes_eq (codes "live") name ≡ c → arg_by_long rules name ≡ arg_of (key_named name) name
+    go true b c e d f = rw e refl
+    go false true c e d f = rw (e, d) refl
+    go false false true e d f = rw (e, d, f) refl
+    go false false false e d f = rw (e, d, f) refl
 
 module _ (rows : List Row) (pending : Option (Text × List Text)) (z : ℕ) (zs : Text) where
   abbrev the_word : Text
@@ -246,26 +414,49 @@ module _ (rows : List Row) (pending : Option (Text × List Text)) (z : ℕ) (zs 
       after_step rules the_word (at rows pending) (after_flag rules idle the_word (long_met rules a v (held rows pending)).0 (long_met rules a v (held rows pending)).1).0
       (after_flag rules idle the_word (long_met rules a v (held rows pending)).0 (long_met rules a v (held rows pending)).1).1
 
-  long-turn : turn_fault run_built [] (at rows pending) the_word ≡ long_turn (option_map rule (key_named (long_name z zs))) (long_value z zs)
+  long-turn : turn_fault run_built [] (at rows pending) the_word ≡ long_turn (arg_of (key_named (long_name z zs)) (long_name z zs)) (long_value z zs)
   long-turn = ap (λ (a : Option Rule). long_turn a (long_value z zs)) (arg-named (long_name z zs))
 
-  long-walk : walked rules [] (at rows pending) the_word ≡ long_walk (option_map rule (key_named (long_name z zs))) (long_value z zs)
+  long-walk : walked rules [] (at rows pending) the_word ≡ long_walk (arg_of (key_named (long_name z zs)) (long_name z zs)) (long_value z zs)
   unfolding walked
   long-walk = ap (λ (a : Option Rule). long_walk a (long_value z zs)) (arg-named (long_name z zs))
 
   -- no option has the name
-  long-unknown : key_named (long_name z zs) ≡ None → turn_fault run_built [] (at rows pending) the_word ≡ [] → ⊥
-  long-unknown unknown e =
-      let is : turn_fault run_built [] (at rows pending) the_word ≡ long_turn None (long_value z zs) = long-turn ∙ ap (λ (o : Option Key). long_turn (option_map rule o) (long_value z zs)) unknown in
+  long-unknown : key_named (long_name z zs) ≡ None → bytes_eq (codes "live") (long_name z zs) ≡ false → turn_fault run_built [] (at rows pending) the_word ≡ [] → ⊥
+  long-unknown unknown other e =
+      let is : turn_fault run_built [] (at rows pending) the_word ≡ long_turn None (long_value z zs) =
+      long-turn ∙ ap (λ (o : Option Key). long_turn (arg_of o (long_name z zs)) (long_value z zs)) unknown
+      ∙ ap (λ (b : Bool). long_turn (cond b (Some live_rule) None) (long_value z zs)) other in
       cc
+
+  module _ (unknown : key_named (long_name z zs) ≡ None) (named : bytes_eq (codes "live") (long_name z zs) ≡ true) where
+    -- `--live`
+    long-lives : long_value z zs ≡ None
+        → (turn_fault run_built [] (at rows pending) the_word
+        ≡ or_else (or_else (settle_fault rules false (held rows pending)) (use_fault false live_rule [] (settled rules (held rows pending)).rows)) [])
+        × (walked rules [] (at rows pending) the_word ≡ at (used live_rule [] (settled rules (held rows pending)).rows) None)
+    long-lives v = (
+      long-turn ∙ ap (λ (o : Option Key). long_turn (arg_of o (long_name z zs)) (long_value z zs)) unknown
+          ∙ ap (λ (b : Bool). long_turn (cond b (Some live_rule) None) (long_value z zs)) named ∙ ap (λ (t : Option Text). long_turn (Some live_rule) t) v,
+      long-walk ∙ ap (λ (o : Option Key). long_walk (arg_of o (long_name z zs)) (long_value z zs)) unknown
+          ∙ ap (λ (b : Bool). long_walk (cond b (Some live_rule) None) (long_value z zs)) named ∙ ap (λ (t : Option Text). long_walk (Some live_rule) t) v,
+    )
+
+    -- it has no value
+    long-valued : (value : Text) → long_value z zs ≡ Some value → turn_fault run_built [] (at rows pending) the_word ≡ [] → ⊥
+    long-valued value v e =
+        let is : turn_fault run_built [] (at rows pending) the_word ≡ long_turn (Some live_rule) (Some value) =
+        long-turn ∙ ap (λ (o : Option Key). long_turn (arg_of o (long_name z zs)) (long_value z zs)) unknown
+        ∙ ap (λ (b : Bool). long_turn (cond b (Some live_rule) None) (long_value z zs)) named ∙ ap (λ (t : Option Text). long_turn (Some live_rule) t) v in
+        cc
 
   -- an option whose value is to come
   long-opens : (key : Key) → key_named (long_name z zs) ≡ Some key → long_value z zs ≡ None
       → (turn_fault run_built [] (at rows pending) the_word ≡ or_else (settle_fault rules false (held rows pending)) [])
       × (walked rules [] (at rows pending) the_word ≡ waits_at (settled rules (held rows pending)).rows key)
   long-opens key e v = (
-    long-turn ∙ ap (λ (o : Option Key). long_turn (option_map rule o) (long_value z zs)) e ∙ ap (λ (t : Option Text). long_turn (Some (rule key)) t) v,
-    long-walk ∙ ap (λ (o : Option Key). long_walk (option_map rule o) (long_value z zs)) e ∙ ap (λ (t : Option Text). long_walk (Some (rule key)) t) v,
+    long-turn ∙ ap (λ (o : Option Key). long_turn (arg_of o (long_name z zs)) (long_value z zs)) e ∙ ap (λ (t : Option Text). long_turn (Some (rule key)) t) v,
+    long-walk ∙ ap (λ (o : Option Key). long_walk (arg_of o (long_name z zs)) (long_value z zs)) e ∙ ap (λ (t : Option Text). long_walk (Some (rule key)) t) v,
   )
 
   -- an option with its value
@@ -274,8 +465,8 @@ module _ (rows : List Row) (pending : Option (Text × List Text)) (z : ℕ) (zs 
       ≡ or_else (or_else (settle_fault rules false (held rows pending)) (use_fault false (rule key) (value ∷ []) (settled rules (held rows pending)).rows)) [])
       × (walked rules [] (at rows pending) the_word ≡ at (used (rule key) (value ∷ []) (settled rules (held rows pending)).rows) None)
   long-sets key value e v = (
-    long-turn ∙ ap (λ (o : Option Key). long_turn (option_map rule o) (long_value z zs)) e ∙ ap (λ (t : Option Text). long_turn (Some (rule key)) t) v,
-    long-walk ∙ ap (λ (o : Option Key). long_walk (option_map rule o) (long_value z zs)) e ∙ ap (λ (t : Option Text). long_walk (Some (rule key)) t) v,
+    long-turn ∙ ap (λ (o : Option Key). long_turn (arg_of o (long_name z zs)) (long_value z zs)) e ∙ ap (λ (t : Option Text). long_turn (Some (rule key)) t) v,
+    long-walk ∙ ap (λ (o : Option Key). long_walk (arg_of o (long_name z zs)) (long_value z zs)) e ∙ ap (λ (t : Option Text). long_walk (Some (rule key)) t) v,
   )
 
 -- What is pending is at fault: so are the words, whatever follows.
@@ -283,7 +474,13 @@ module _ (rows : List Row) (pending : Option (Text × List Text)) (z : ℕ) (zs 
 doomed-long : (rows : List Row) (pending : Option (Text × List Text)) (z : ℕ) (zs : Text) → (settle_fault rules false (held rows pending) ≡ [] → ⊥)
     → (o : Option Key) → key_named (long_name z zs) ≡ o → (v : Option Text) → long_value z zs ≡ v
     → turn_fault run_built [] (at rows pending) (45 ∷ 45 ∷ z ∷ zs) ≡ [] → ⊥
-doomed-long rows pending z zs wrong None e v d is = long-unknown rows pending z zs e is
+doomed-long rows pending z zs wrong None e v d is = go (bytes_eq (codes "live") (long_name z zs)) refl v d
+  where
+    go : (b : Bool) → bytes_eq (codes "live") (long_name z zs) ≡ b → (t : Option Text) → long_value z zs ≡ t → ⊥
+    go false other t x = long-unknown rows pending z zs e other is
+    go true named None x =
+        wrong (or-first _ (use_fault false live_rule [] (settled rules (held rows pending)).rows) (or-first _ [] (sym (long-lives rows pending z zs e named x).0 ∙ is)))
+    go true named (Some value) x = long-valued rows pending z zs e named value x is
 doomed-long rows pending z zs wrong (Some key) e None d is = wrong (or-first _ [] (sym (long-opens rows pending z zs key e d).0 ∙ is))
 doomed-long rows pending z zs wrong (Some key) e (Some value) d is =
     wrong (or-first _ (use_fault false (rule key) (value ∷ []) (settled rules (held rows pending)).rows) (or-first _ [] (sym (long-sets rows pending z zs key value e d).0 ∙ is)))
@@ -363,11 +560,11 @@ waiting-long rows key z zs words =
 -- The words, one after another.
 
 abbrev Idle : List Text → Type 0
-Idle words = (rows : List Row) (pending : Option (Text × List Text)) (before : Used) → SettlesAs rows pending before
+Idle words = (rows : List Row) (pending : Option (Text × List Text)) (before : List Use) → SettlesAs rows pending before
     → Agrees IsUsed (options_after words (options_for before) None) (total run_built (at rows pending) words) (found run_built (at rows pending) words)
 
 abbrev Waits : List Text → Type 0
-Waits words = (before : Used) (key : Key)
+Waits words = (before : List Use) (key : Key)
     → Agrees IsUsed (options_after words (options_for before) (Some key)) (total run_built (waits_at (rows_for before) key) words) (found run_built (waits_at (rows_for before) key) words)
 
 -- the options that are given are those of an equal record
@@ -386,7 +583,7 @@ held-rows : (a b : List Row) → a ≡ b → held a None ≡ held b None
 held-rows a b e = ap (λ (rows : List Row). held rows None) e
 
 -- a value that has been read, and what follows
-filled : (words : List Text) → Idle words → (before : Used) (key : Key) (w : Text)
+filled : (words : List Text) → Idle words → (before : List Use) (key : Key) (w : Text)
     → Agrees IsUsed (option_and_then (λ more. options_after words more None) (with_option key w (options_for before)))
     (total run_built (at (rows_for before) (Some (name_of key, w ∷ []))) words) (found run_built (at (rows_for before) (Some (name_of key, w ∷ []))) words)
 filled words idle_words before key w = go (with_option key w (options_for before)) (took key w before)
@@ -412,7 +609,7 @@ no-word : (w : Text) (words : List Text) (given : Options) (kinds : Kinds) (rows
 no-word w words given kinds rows front wrong =
     subst (λ (b : Bool). Agrees IsUsed (by_word (cond b (says_behind (drop 2 w)) Nothing) words given (options_after words)) kinds rows) (sym front) wrong
 
-waits-word : (w : Text) (words : List Text) → Idle words → Form w → (before : Used) (key : Key)
+waits-word : (w : Text) (words : List Text) → Idle words → Form w → (before : List Use) (key : Key)
     → Agrees IsUsed (options_after (w ∷ words) (options_for before) (Some key))
     (total run_built (waits_at (rows_for before) key) (w ∷ words)) (found run_built (waits_at (rows_for before) key) (w ∷ words))
 waits-word _ words idle_words (plain w apart s) before key =
@@ -434,7 +631,7 @@ waits-word _ words idle_words dashes before key =
 waits-word _ words idle_words (long z zs) before key =
     no-options key (45 ∷ z ∷ zs) words (options_for before) _ _ (waiting-long (rows_for before) key z zs words)
 
-idle-dashes : (words : List Text) (rows : List Row) (pending : Option (Text × List Text)) (before : Used) → SettlesAs rows pending before
+idle-dashes : (words : List Text) (rows : List Row) (pending : Option (Text × List Text)) (before : List Use) → SettlesAs rows pending before
     → Agrees IsUsed (if_last words (options_for before)) (total run_built (at rows pending) ((45 ∷ 45 ∷ []) ∷ words)) (found run_built (at rows pending) ((45 ∷ 45 ∷ []) ∷ words))
 idle-dashes [] rows pending before h =
     agrees-step IsUsed run_built (at rows pending) (trailing (held rows pending) idle) (45 ∷ 45 ∷ []) [] (Some (options_for before)) refl (dashes-walk rows pending)
@@ -442,12 +639,40 @@ idle-dashes [] rows pending before h =
 idle-dashes (word ∷ words) rows pending before h =
     later-step IsUsed run_built (at rows pending) (trailing (held rows pending) idle) (45 ∷ 45 ∷ []) (word ∷ words) (dashes-walk rows pending) (trailing-more (held rows pending) idle word words)
 
-idle-long : (words : List Text) → Idle words → Waits words → (rows : List Row) (pending : Option (Text × List Text)) (before : Used) → SettlesAs rows pending before
+idle-long : (words : List Text) → Idle words → Waits words → (rows : List Row) (pending : Option (Text × List Text)) (before : List Use) → SettlesAs rows pending before
     → (z : ℕ) (zs : Text) (o : Option Key) → key_named (long_name z zs) ≡ o → (v : Option Text) → long_value z zs ≡ v
-    → Agrees IsUsed (by_word (says_of o v) words (options_for before) (options_after words))
+    → Agrees IsUsed (by_word (says_of o (long_name z zs) v) words (options_for before) (options_after words))
     (total run_built (at rows pending) ((45 ∷ 45 ∷ z ∷ zs) ∷ words)) (found run_built (at rows pending) ((45 ∷ 45 ∷ z ∷ zs) ∷ words))
-idle-long words idle_words waits_words rows pending before h z zs None e v d =
-    wrong-step IsUsed run_built (at rows pending) (at rows pending) (45 ∷ 45 ∷ z ∷ zs) words (long-unknown rows pending z zs e)
+idle-long words idle_words waits_words rows pending before h z zs None e v d = go (bytes_eq (codes "live") (long_name z zs)) refl v d
+  where
+    go : (b : Bool) → bytes_eq (codes "live") (long_name z zs) ≡ b → (t : Option Text) → long_value z zs ≡ t
+        → Agrees IsUsed (by_word (cond b (live_unless_set t) Nothing) words (options_for before) (options_after words))
+        (total run_built (at rows pending) ((45 ∷ 45 ∷ z ∷ zs) ∷ words)) (found run_built (at rows pending) ((45 ∷ 45 ∷ z ∷ zs) ∷ words))
+    go false other t x =
+        wrong-step IsUsed run_built (at rows pending) (at rows pending) (45 ∷ 45 ∷ z ∷ zs) words (long-unknown rows pending z zs e other)
+    go true named (Some value) x =
+        wrong-step IsUsed run_built (at rows pending) (at rows pending) (45 ∷ 45 ∷ z ∷ zs) words (long-valued rows pending z zs e named value x)
+    go true named None x = takes (with_live (options_for before)) (took-live before)
+      where
+        turn : turn_fault run_built [] (at rows pending) (45 ∷ 45 ∷ z ∷ zs) ≡ or_else (live_use before) []
+        turn =
+            (long-lives rows pending z zs e named x).0
+            ∙ ap (λ (k : Kinds). or_else (or_else k (use_fault false live_rule [] (settled rules (held rows pending)).rows)) []) h.fine
+            ∙ ap (λ (there : Held). or_else (use_fault false live_rule [] there.rows) []) h.same
+
+        comes : walked rules [] (at rows pending) (45 ∷ 45 ∷ z ∷ zs) ≡ at (used live_rule [] (rows_for before)) None
+        comes = (long-lives rows pending z zs e named x).1 ∙ ap (λ (there : Held). at (used live_rule [] there.rows) None) h.same
+
+        takes : (o : Option Options) → TakesLive before o
+            → Agrees IsUsed (option_and_then (λ more. options_after words more None) o)
+            (total run_built (at rows pending) ((45 ∷ 45 ∷ z ∷ zs) ∷ words)) (found run_built (at rows pending) ((45 ∷ 45 ∷ z ∷ zs) ∷ words))
+        takes None wrong =
+            wrong-step IsUsed run_built (at rows pending) (at rows pending) (45 ∷ 45 ∷ z ∷ zs) words (λ is. wrong (or-first _ _ (sym turn ∙ is)))
+        takes (Some given) t =
+            agrees-step IsUsed run_built (at rows pending) (at (rows_for t.1) None) (45 ∷ 45 ∷ z ∷ zs) words (options_after words given None)
+            (turn ∙ ap (λ (k : Kinds). or_else k []) t.0)
+            (comes ∙ ap (λ (there : List Row). at there None) t.2)
+            (same-options (λ more. options_after words more None) (options_for t.1) given _ _ t.3 (idle_words (rows_for t.1) None t.1 (record { fine = refl; same = refl })))
 idle-long words idle_words waits_words rows pending before h z zs (Some key) e None d =
     let opens = long-opens rows pending z zs key e d in
     agrees-step IsUsed run_built (at rows pending) (waits_at (rows_for before) key) (45 ∷ 45 ∷ z ∷ zs) words (options_after words (options_for before) (Some key))
@@ -476,7 +701,7 @@ idle-long words idle_words waits_words rows pending before h z zs (Some key) e (
         (comes ∙ ap (λ (x : List Row). at x None) t.2)
         (same-options (λ more. options_after words more None) (options_for t.1) given _ _ t.3 (idle_words (rows_for t.1) None t.1 (record { fine = refl; same = refl })))
 
-idle-word : (w : Text) (words : List Text) → Idle words → Waits words → Form w → (rows : List Row) (pending : Option (Text × List Text)) (before : Used) → SettlesAs rows pending before
+idle-word : (w : Text) (words : List Text) → Idle words → Waits words → Form w → (rows : List Row) (pending : Option (Text × List Text)) (before : List Use) → SettlesAs rows pending before
     → Agrees IsUsed (options_after (w ∷ words) (options_for before) None) (total run_built (at rows pending) (w ∷ words)) (found run_built (at rows pending) (w ∷ words))
 idle-word _ words idle_words waits_words (plain w apart s) rows pending before h =
     no-word w words (options_for before) _ _ apart.front (wrong-step IsUsed run_built (at rows pending) (at rows pending) w words (plain-wrong rows pending w apart s))
@@ -497,4 +722,67 @@ claims (w ∷ words) = (idle-word w words (claims words).0 (claims words).1 (for
 -- what `clap` makes of the words of `run`
 pub run-agrees : (words : List Text)
     → Agrees IsUsed (options_after words no_options None) (total run_built (walk_from nothing_held) words) (found run_built (walk_from nothing_held) words)
-run-agrees words = (claims words).0 [] None none (record { fine = refl; same = refl })
+run-agrees words = (claims words).0 [] None [] (record { fine = refl; same = refl })
+
+-- What is found of them.
+
+-- `--live` has its default where it is not given
+abbrev live_default : Bool → List Row
+live_default true = []
+live_default false = live_row DefaultValue (codes "false") ∷ []
+
+no-default : (key : Key) (rows : List Row) → with_default rows (rule key) ≡ rows
+no-default key rows = go (has_row (name_of key) rows)
+  where
+    go : (b : Bool) → cond b rows rows ≡ rows
+    go true = refl
+    go false = refl
+
+with-live : (uses : List Use) (b : Bool) → is_live uses ≡ b → with_default (rows_for uses) live_rule ≡ rows_for uses ++ live_default b
+with-live uses true e =
+    ap (λ (there : Bool). cond there (rows_for uses) (with_values (codes "live") AsWritten DefaultValue (codes "false" ∷ []) (rows_for uses))) (has-live uses ∙ e)
+    ∙ sym (append-nil (rows_for uses))
+with-live uses false e =
+    ap (λ (there : Bool). cond there (rows_for uses) (with_values (codes "live") AsWritten DefaultValue (codes "false" ∷ []) (rows_for uses))) (has-live uses ∙ e)
+    ∙ new-row (codes "live") (more_values DefaultValue (codes "false" ∷ [])) (live_row DefaultValue (codes "false") ∷ []) (rows_for uses) (has-live uses ∙ e)
+
+at-end : (uses : List Use) → rows_at_end uses ≡ rows_for uses ++ live_default (is_live uses)
+at-end uses =
+    ap (λ (rows : List Row). with_default (with_default rows (rule Patience)) live_rule) (no-default Pages (rows_for uses))
+    ∙ ap (λ (rows : List Row). with_default rows live_rule) (no-default Patience (rows_for uses))
+    ∙ with-live uses (is_live uses) refl
+
+found-number : (key : Key) (uses : List Use) (rest : List Row) → one_of (name_of key) rest ≡ None → IsFoundAs (least_of key) (most_of key) (name_of key) (rows_for uses ++ rest) (value_of key uses)
+found-number Pages [] rest none = none
+found-number Pages (number Pages word n e ∷ uses) rest none = (word, refl, e)
+found-number Pages (number Patience word n e ∷ uses) rest none = found-number Pages uses rest none
+found-number Pages (live ∷ uses) rest none = found-number Pages uses rest none
+found-number Patience [] rest none = none
+found-number Patience (number Pages word n e ∷ uses) rest none = found-number Patience uses rest none
+found-number Patience (number Patience word n e ∷ uses) rest none = (word, refl, e)
+found-number Patience (live ∷ uses) rest none = found-number Patience uses rest none
+
+found-live : (uses : List Use) (rest : List Row) → (is_live uses ≡ false → one_of (codes "live") rest ≡ Some (codes "false")) → IsFoundFlag (codes "live") (rows_for uses ++ rest) (is_live uses)
+found-live [] rest none = none refl
+found-live (number Pages word n e ∷ uses) rest none = found-live uses rest none
+found-live (number Patience word n e ∷ uses) rest none = found-live uses rest none
+found-live (live ∷ uses) rest none = refl
+
+no-number : (key : Key) (b : Bool) → one_of (name_of key) (live_default b) ≡ None
+no-number Pages true = refl
+no-number Pages false = refl
+no-number Patience true = refl
+no-number Patience false = refl
+
+not-live : (b : Bool) → b ≡ false → one_of (codes "live") (live_default b) ≡ Some (codes "false")
+not-live true e = absurd (cc)
+not-live false e = refl
+
+pub options-found : (now : List Use) → FindsOptions (rows_at_end now) (options_for now)
+options-found now =
+    subst (λ (rows : List Row). FindsOptions rows (options_for now)) (sym (at-end now))
+    (record {
+      pages = found-number Pages now (live_default (is_live now)) (no-number Pages (is_live now));
+      patience = found-number Patience now (live_default (is_live now)) (no-number Patience (is_live now));
+      live = found-live now (live_default (is_live now)) (not-live (is_live now));
+    })

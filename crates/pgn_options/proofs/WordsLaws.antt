@@ -17,10 +17,10 @@ use Rattle.pgn_options.specs.declared.asked.Asked.TheVariants.{Run, Drill}
 use Rattle.pgn_options.specs.declared.reading.WordsFault.{WordsFault}
 use Rattle.pgn_options.specs.declared.reading.WordsFault.TheVariants.{BadWords, Memory}
 use Rattle.pgn_options.specs.Parse.{Finds, FindsDrill, FindsNumbers, FindsOptions, FindsRun, program_app, program_shape}
-use Rattle.pgn_options.specs.Words.{AreNoCommand, AskFor, IsWithin, Options, Pages, Patience, asked_by, command_asked, drill_asked, drill_of, no_options, options_after, run_asked, run_with, without_dashes}
+use Rattle.pgn_options.specs.Words.{AreNoCommand, AskFor, IsWithin, Options, asked_by, command_asked, drill_asked, drill_of, no_options, options_after, run_asked, run_with, without_dashes}
 use Rattle.pgn_options.proofs.TotalLaws.{Agrees, found, or-first, or-none, or-second, total}
 use Rattle.pgn_options.proofs.FormLaws.{Form, IsNoLong, dashes, form, long, plain, short}
-use Rattle.pgn_options.proofs.RunLaws.{IsUsed, Used, none, one, options_for, pages_first, patience_first, rows_for, run-agrees, run_built}
+use Rattle.pgn_options.proofs.RunLaws.{IsUsed, options-found, options_for, run-agrees, run_built}
 use Rattle.pgn_options.proofs.FindLaws.{finds-within}
 use Rattle.pgn_options.proofs.DrillLaws.{IsDrill, drill-agrees, drill_built}
 
@@ -103,13 +103,6 @@ drill-found words = command-found (codes "drill") words refl
 
 -- What is found of it.
 
-options-found : (now : Used) → FindsOptions (rows_for now) (options_for now)
-options-found none = record { pages = refl; patience = refl }
-options-found (one Pages word n e) = record { pages = (word, refl, e); patience = refl }
-options-found (one Patience word n e) = record { pages = refl; patience = (word, refl, e) }
-options-found (pages_first a n e b m d) = record { pages = (a, refl, e); patience = (b, refl, d) }
-options-found (patience_first a n e b m d) = record { pages = (b, refl, d); patience = (a, refl, e) }
-
 run-comes : (words : List Text) → Comes (run_asked words) (fault_of program_app (codes "run" ∷ words)) (subcommand_of program_app (codes "run" ∷ words))
 run-comes words = go (options_after words no_options None) _ _ _ (run-fault words) (run-found words) (run-agrees words)
   where
@@ -127,7 +120,7 @@ drill-comes words = go (drill_of (without_dashes words)) _ _ _ (drill-fault word
     go : (o : Option Asked) (kinds : Kinds) (sub : Option (Text × List Row)) (rows : List Row) → kinds ≡ total drill_built start words → sub ≡ Some (codes "drill", rows)
         → Agrees IsDrill o (total drill_built start words) rows → Comes o kinds sub
     go None kinds sub rows k s h = λ e. h (sym k ∙ e)
-    go (Some (Run pages patience)) kinds sub rows k s h = absurd h.1
+    go (Some (Run pages patience live)) kinds sub rows k s h = absurd h.1
     go (Some (Drill seed sessions notes)) kinds sub rows k s h =
         let there : FindsNumbers rows seed sessions notes =
         subst (λ (r : List Row). FindsNumbers r seed sessions notes) (sym h.1.3)

@@ -1,6 +1,6 @@
 -- The command that `clap` parses words with, and what is found of them.
-use Rattle.std.specs.Prelude.{◌≡◌, ℕ, Bool, true, false, List, [], ◌∷◌, Option, None, Some, MatchOption, codes}
-use Rattle.clap.specs.declared.builder.action.ArgAction.TheVariants.{Set}
+use Rattle.std.specs.Prelude.{◌≡◌, ℕ, Bool, true, false, cond, List, [], ◌∷◌, Option, None, Some, MatchOption, codes}
+use Rattle.clap.specs.declared.builder.action.ArgAction.TheVariants.{Set, SetTrue}
 use Rattle.clap.specs.declared.builder.value_parser.ValueParser.{ValueParser}
 use Rattle.clap.specs.declared.builder.value_parser.ValueParser.TheVariants as parser
 use Rattle.clap.specs.Walk.{Row, Rule, Text, one_of}
@@ -23,11 +23,16 @@ option_rule name numbers = record (new_rule name) { long = Some name; action = S
 abbrev pub word_rule : Text → ValueParser → Rule
 word_rule name numbers = record (new_rule name) { action = Some Set; parser = Some numbers; required = true }
 
+-- an option without a value
+abbrev pub flag_rule : Text → Rule
+flag_rule name = record (new_rule name) { long = Some name; action = Some SetTrue }
+
 -- `run`
 abbrev pub run_app : App
 run_app =
-    with_rule (with_rule (new_app (codes "run")) (option_rule (codes "pages") (parser.Unsigned PAGES_MIN PAGES_MAX)))
-    (option_rule (codes "patience") (parser.Unsigned 1 PATIENCE_MAX))
+    with_rule (with_rule (with_rule (new_app (codes "run")) (option_rule (codes "pages") (parser.Unsigned PAGES_MIN PAGES_MAX)))
+    (option_rule (codes "patience") (parser.Unsigned 1 PATIENCE_MAX)))
+    (flag_rule (codes "live"))
 
 -- `drill`
 abbrev pub drill_app : App
@@ -54,10 +59,15 @@ abbrev pub IsFoundAs : ℕ → ℕ → Text → List Row → Option ℕ → Type
 IsFoundAs least most name rows number =
     MatchOption number (one_of name rows ≡ None) (λ n. (word : Text) × (one_of name rows ≡ Some word) × (number_in least most word ≡ Some n))
 
+-- whether an option without a value was found
+abbrev pub IsFoundFlag : Text → List Row → Bool → Type 0
+IsFoundFlag name rows given = one_of name rows ≡ Some (cond given (codes "true") (codes "false"))
+
 -- the options of `run` that were found
 pub record FindsOptions (rows : List Row) (given : Options) : Type 0 where
   pub pages : IsFoundAs PAGES_MIN PAGES_MAX (codes "pages") rows given.pages
   pub patience : IsFoundAs 1 PATIENCE_MAX (codes "patience") rows given.patience
+  pub live : IsFoundFlag (codes "live") rows given.live
 
 -- the numbers of a drill that were found
 pub record FindsNumbers (rows : List Row) (seed sessions notes : ℕ) : Type 0 where

@@ -24,24 +24,29 @@ number_in least most word =
 
 -- The words of `run`.
 
--- an option
+-- an option that has a value
 pub data Key : Type 0 where
   Pages : Key
   Patience : Key
 
--- the values of the options that are given
+-- the values of the options that are given, and whether `--live` is
 pub record Options : Type 0 where
   pub pages : Option ℕ
   pub patience : Option ℕ
+  pub live : Bool
 
 -- no option is given
 abbrev pub no_options : Options
-no_options = record { pages = None; patience = None }
+no_options = record { pages = None; patience = None; live = false }
 
 -- an option that is not given yet gets this word as its value
 abbrev pub with_option : Key → List ℕ → Options → Option Options
 with_option Pages word given = cond (is_some given.pages) None (option_map (λ n. record given { pages = Some n }) (number_in PAGES_MIN PAGES_MAX word))
 with_option Patience word given = cond (is_some given.patience) None (option_map (λ n. record given { patience = Some n }) (number_in 1 PATIENCE_MAX word))
+
+-- `--live`, which is not given yet
+abbrev pub with_live : Options → Option Options
+with_live given = cond given.live None (Some (record given { live = true }))
 
 -- the option of this name
 abbrev pub key_named : List ℕ → Option Key
@@ -55,6 +60,8 @@ pub data Says : Type 0 where
   Names : Key → Says
   -- `--name=value`
   Sets : Key → List ℕ → Says
+  -- `--live`
+  GoesLive : Says
   -- nothing that `run` takes
   Nothing : Says
 
@@ -63,10 +70,19 @@ abbrev pub names_or_sets : Key → Option (List ℕ) → Says
 names_or_sets key None = Names key
 names_or_sets key (Some value) = Sets key value
 
+-- `--live`, which has no value
+abbrev pub live_unless_set : Option (List ℕ) → Says
+live_unless_set None = GoesLive
+live_unless_set (Some value) = Nothing
+
 -- the option that is named, where one is
-abbrev pub says_of : Option Key → Option (List ℕ) → Says
-says_of None value = Nothing
-says_of (Some key) value = names_or_sets key value
+abbrev pub says_of : Option Key → List ℕ → Option (List ℕ) → Says
+says_of None name value = cond (bytes_eq (codes "live") name) (live_unless_set value) Nothing
+says_of (Some key) name value = names_or_sets key value
+
+-- what a name and the value behind it say
+abbrev pub says_named : List ℕ → Option (List ℕ) → Says
+says_named name value = says_of (key_named name) name value
 
 -- what stands behind the first `=`, where there is one
 abbrev pub behind_equals : List ℕ → Option (List ℕ)
@@ -75,7 +91,7 @@ behind_equals text = cond (list_any (λ byte. byte == 61) text) (Some (after_fir
 -- what a word says that begins with two hyphens and goes on like this
 abbrev pub says_behind : List ℕ → Says
 says_behind [] = Ends
-says_behind (byte ∷ bytes) = says_of (key_named (before_first (λ byte. byte == 61) (byte ∷ bytes))) (behind_equals (byte ∷ bytes))
+says_behind (byte ∷ bytes) = says_named (before_first (λ byte. byte == 61) (byte ∷ bytes)) (behind_equals (byte ∷ bytes))
 
 -- what a word says
 abbrev pub says : List ℕ → Says
@@ -92,6 +108,7 @@ abbrev pub by_word : Says → List (List ℕ) → Options → (Options → Optio
 by_word Ends words given next = if_last words given
 by_word (Names key) words given next = next given (Some key)
 by_word (Sets key value) words given next = option_and_then (λ more. next more None) (with_option key value given)
+by_word GoesLive words given next = option_and_then (λ more. next more None) (with_live given)
 by_word Nothing words given next = None
 
 -- the options that words give after those so far, of which one may wait for its value: the next word is it
@@ -103,7 +120,7 @@ options_after (word ∷ words) given (Some key) = option_and_then (λ more. opti
 
 -- `run` with these options: the default stands for one that is not given
 abbrev pub run_with : Options → Asked
-run_with given = Run (unwrap_or given.pages PAGES_DEFAULT) (unwrap_or given.patience PATIENCE_DEFAULT)
+run_with given = Run (unwrap_or given.pages PAGES_DEFAULT) (unwrap_or given.patience PATIENCE_DEFAULT) given.live
 
 -- what `run` and these words ask for
 abbrev pub run_asked : List (List ℕ) → Option Asked
@@ -152,5 +169,5 @@ AreNoCommand words = asked_by words ≡ None
 
 -- the numbers that a command may give
 abbrev pub IsWithin : Asked → Type 0
-IsWithin (Run pages patience) = (PAGES_MIN ≤ pages) × (pages ≤ PAGES_MAX) × (1 ≤ patience) × (patience ≤ PATIENCE_MAX)
+IsWithin (Run pages patience live) = (PAGES_MIN ≤ pages) × (pages ≤ PAGES_MAX) × (1 ≤ patience) × (patience ≤ PATIENCE_MAX)
 IsWithin (Drill seed sessions notes) = (1 ≤ sessions) × (sessions ≤ DRILL_SESSIONS_MAX) × (1 ≤ notes) × (notes ≤ DRILL_NOTES_MAX)

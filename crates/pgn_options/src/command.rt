@@ -3,7 +3,7 @@ ghost use Rattle.clap.specs.Simple.{app_of};
 ghost use Rattle.clap.specs.Walk.{rule_of};
 ghost use Rattle.clap.specs.declared.builder.command.Command.TheViews.{out-Command};
 ghost use Rattle.clap.specs.declared.builder.value_parser.ValueParser.TheVariants.{Unsigned};
-ghost use Rattle.pgn_options.specs.Parse.{drill_app, option_rule, program_app, run_app, seed_max, word_rule};
+ghost use Rattle.pgn_options.specs.Parse.{drill_app, flag_rule, option_rule, program_app, run_app, seed_max, word_rule};
 ghost use Rattle.pgn_base.specs.declared.limits.TheConstants.{PAGES_MAX, PAGES_MIN};
 ghost use Rattle.pgn_options.specs.declared.limits.TheConstants.{DRILL_NOTES_MAX, DRILL_SESSIONS_MAX, PATIENCE_MAX};
 
@@ -36,6 +36,7 @@ fn run<'a>(alloc: Global) -> Result<Command<'a>, AllocError>
     let command = Command::new(alloc, "run");
     let command = command.arg(option(alloc, "pages", pages()))?;
     let command = command.arg(option(alloc, "patience", patience()))?;
+    let command = command.arg(flag(alloc, "live"))?;
     Ok(command)
 }
 
@@ -89,6 +90,14 @@ fn option<'a>(alloc: Global, name: &'a str, numbers: ValueParser<'a>) -> Arg<'a>
         .long(name)
         .action(ArgAction::Set)
         .value_parser(numbers)
+}
+
+// An option without a value.
+fn flag<'a>(alloc: Global, name: &'a str) -> Arg<'a>
+    ensures rule { rule_of result ≡ flag_rule name.now }
+    ensures local { result.global ≡ false }
+{
+    Arg::new(alloc, name).long(name).action(ArgAction::SetTrue)
 }
 
 // A word that has to be there, and is a number.

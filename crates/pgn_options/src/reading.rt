@@ -1,11 +1,11 @@
-ghost use Rattle.std.specs.Prelude.{◌≡◌, ◌≢◌, ◌≤◌, ◌<◌, ℕ, List, Option, Ok, Some, None, Err, map, IfOk, option_map};
+ghost use Rattle.std.specs.Prelude.{◌≡◌, ◌≢◌, ◌≤◌, ◌<◌, ℕ, Bool, codes, List, Option, Ok, Some, None, Err, map, IfOk, option_map};
 ghost use Rattle.clap.specs.Matches.{found_of};
 ghost use Rattle.clap.specs.Walk.{one_of, rows_of};
 ghost use Rattle.clap.specs.Simple.{subcommand_rows_of};
 ghost use Rattle.clap.specs.declared.error.kind.ErrorKind.TheVariants.{OutOfMemory};
 ghost use Rattle.pgn_options.specs.declared.asked.Asked.{Asked};
 ghost use Rattle.pgn_options.specs.declared.asked.Asked.TheVariants.{Drill};
-ghost use Rattle.pgn_options.specs.Parse.{Finds, FindsNumbers, FindsOptions, IsFoundAs};
+ghost use Rattle.pgn_options.specs.Parse.{Finds, FindsNumbers, FindsOptions, IsFoundAs, IsFoundFlag};
 ghost use Rattle.pgn_options.specs.Words.{AreNoCommand, AskFor, IsWithin, Options, number_in, run_with};
 
 use crate::Asked;
@@ -71,7 +71,19 @@ fn run_of(found: &ArgMatches<'_>) -> Asked
         None => PAGES_DEFAULT,
     };
     let patience = number_of(found, "patience").unwrap_or(PATIENCE_DEFAULT);
-    Asked::Run { pages, patience }
+    let live = live_of(found);
+    Asked::Run {
+        pages,
+        patience,
+        live,
+    }
+}
+
+// Whether `--live` was found.
+fn live_of(found: &ArgMatches<'_>) -> bool
+    ensures { (given : Bool) → IsFoundFlag (codes "live") (rows_of (found_of found.now)) given → result ≡ given }
+{
+    found.get_flag("live")
 }
 
 fn drill_of(found: &ArgMatches<'_>) -> Result<Asked, WordsFault>

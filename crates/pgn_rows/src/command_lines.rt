@@ -42,7 +42,14 @@ fn words_of(alloc: Global, line: &str) -> Result<Vec<&str>, AllocError> {
 
 fn put_numbers(text: &mut Vec<u8>, alloc: Global, asked: Asked) -> Result<(), AllocError> {
     let line = match asked {
-        Asked::Run { pages, patience } => format!(in alloc; "run {pages} {patience}")?,
+        Asked::Run {
+            pages,
+            patience,
+            live,
+        } => {
+            let live = if live { " live" } else { "" };
+            format!(in alloc; "run {pages} {patience}{live}")?
+        }
         Asked::Drill {
             seed,
             sessions,

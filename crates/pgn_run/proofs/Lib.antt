@@ -1,3 +1,4 @@
 pub mod RunLaws
 pub mod OverLaws
 pub mod AskedLaws
+pub mod LiveLaws

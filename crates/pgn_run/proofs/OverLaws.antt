@@ -12,6 +12,8 @@ use Rattle.pgn_model.specs.Walk.{Settings}
 use Rattle.pgn_run.specs.declared.status.Status.{Status}
 use Rattle.pgn_run.specs.declared.status.Status.TheVariants.{Done, BadWords, BadScenario, ReadFault, WriteFault, NoMemory}
 use Rattle.pgn_run.specs.Run.{Runs, RunsOver, HasWritten, Answers, printed}
+use Rattle.pgn_run.specs.Live.{EarlyOver, LiveOver, SoFarOver}
+use Rattle.pgn_run.specs.declared.print.Shows.TheVariants.{AtEnd, Live}
 use Rattle.pgn_run.specs.declared.print.Print.{Print}
 
 module _ (print : Print) (scenario : Scenario) (settings : Settings) (journal : List Tx) (traces : List Trace) (old new : Option (List ℕ)) (before now : ℕ) (status : Status)
@@ -52,13 +54,30 @@ runs-of print settings input scenario P reads run = record { scenario = scenario
 pub answers-over : (print : Print) (settings : Settings) (input : List ℕ) (scenario : Scenario) (old new : Option (List ℕ)) (before now : ℕ) (status : Status) → ReadsAsScenario input (Ok scenario)
     → (status ≡ Done → RunsOver print scenario settings (Appends old new)) → (status ≡ WriteFault → Rose before now)
     → (status ≡ WriteFault → RunsOver print scenario settings (AppendsPrefix old new)) → (status ≡ NoMemory → new ≡ old)
-    → (status ≡ Done) ⊎ (status ≡ WriteFault) ⊎ (status ≡ NoMemory) → Answers print settings input old new before now status
+    → (status ≡ Done) ⊎ (status ≡ WriteFault) ⊎ (status ≡ NoMemory) → Answers (AtEnd print) settings input old new before now status
 answers-over print settings input scenario old new before now Done reads done rose prefix memory only = runs-of print settings input scenario (Appends old new) reads (done refl)
 answers-over print settings input scenario old new before now WriteFault reads done rose prefix memory only = (runs-of print settings input scenario (AppendsPrefix old new) reads (prefix refl), rose refl)
 answers-over print settings input scenario old new before now NoMemory reads done rose prefix memory only = memory refl
 answers-over print settings input scenario old new before now BadWords reads done rose prefix memory only = absurd (elim only [ inl e ↦ cc | inr other ↦ elim other [ inl e ↦ cc | inr f ↦ cc ] ])
 answers-over print settings input scenario old new before now (BadScenario fault) reads done rose prefix memory only = absurd (elim only [ inl e ↦ cc | inr other ↦ elim other [ inl e ↦ cc | inr f ↦ cc ] ])
 answers-over print settings input scenario old new before now ReadFault reads done rose prefix memory only = absurd (elim only [ inl e ↦ cc | inr other ↦ elim other [ inl e ↦ cc | inr f ↦ cc ] ])
+
+-- the same of a live run
+pub live-answers-over : (settings : Settings) (input : List ℕ) (scenario : Scenario) (old new : Option (List ℕ)) (before now : ℕ) (status : Status) → ReadsAsScenario input (Ok scenario)
+    → (status ≡ Done → LiveOver scenario settings (Appends old new)) → (status ≡ WriteFault → Rose before now)
+    → (status ≡ WriteFault → LiveOver scenario settings (AppendsPrefix old new) ⊎ EarlyOver scenario settings (AppendsPrefix old new))
+    → (status ≡ NoMemory → (new ≡ old) ⊎ SoFarOver scenario settings (Appends old new))
+    → (status ≡ Done) ⊎ (status ≡ WriteFault) ⊎ (status ≡ NoMemory) → Answers Live settings input old new before now status
+live-answers-over settings input scenario old new before now Done reads done rose prefix memory only = record { scenario = scenario; reads = reads; run = done refl }
+live-answers-over settings input scenario old new before now WriteFault reads done rose prefix memory only = (
+  elim (prefix refl) [ inl all ↦ inl (record { scenario = scenario; reads = reads; run = all }) | inr part ↦ inr (record { scenario = scenario; reads = reads; run = part }) ],
+  rose refl,
+)
+live-answers-over settings input scenario old new before now NoMemory reads done rose prefix memory only =
+    elim (memory refl) [ inl none ↦ inl none | inr part ↦ inr (record { scenario = scenario; reads = reads; run = part }) ]
+live-answers-over settings input scenario old new before now BadWords reads done rose prefix memory only = absurd (elim only [ inl e ↦ cc | inr other ↦ elim other [ inl e ↦ cc | inr f ↦ cc ] ])
+live-answers-over settings input scenario old new before now (BadScenario fault) reads done rose prefix memory only = absurd (elim only [ inl e ↦ cc | inr other ↦ elim other [ inl e ↦ cc | inr f ↦ cc ] ])
+live-answers-over settings input scenario old new before now ReadFault reads done rose prefix memory only = absurd (elim only [ inl e ↦ cc | inr other ↦ elim other [ inl e ↦ cc | inr f ↦ cc ] ])
 
 -- a reading of the same bytes
 pub reads-same : (a b : List ℕ) (r s : Result Scenario ScenarioFault) → a ≡ b → r ≡ s → ReadsAsScenario a r → ReadsAsScenario b s

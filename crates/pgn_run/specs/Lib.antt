@@ -1,1 +1,4 @@
+-- what is said of a live run
+pub mod Live
+-- what the call of the program says
 pub mod Run

@@ -1,5 +1,5 @@
 -- What the call of the program says of its input and its output.
-use Rattle.std.specs.Prelude.{◌≡◌, ℕ, List, Option, Ok, Err, IfSome}
+use Rattle.std.specs.Prelude.{◌≡◌, ◌⊎◌, ℕ, Bool, true, false, List, Option, Ok, Err, IfSome}
 use Rattle.std.specs.Io.KnownBytes.{Appends}
 use Rattle.pgn_base.specs.Outside.{AppendsPrefix, Rose}
 use Rattle.pgn_journal.specs.declared.tx.Tx.{Tx}
@@ -16,6 +16,9 @@ use Rattle.pgn_options.specs.declared.asked.Asked.TheVariants.{Run, Drill}
 use Rattle.pgn_options.specs.declared.limits.TheConstants.{PATIENCE_MAX}
 use Rattle.pgn_options.specs.Words.{AskFor}
 use Rattle.pgn_drill.specs.Drill.{drill}
+use Rattle.pgn_run.specs.Live.{EarlyOver, LiveOver, SoFarOver}
+use Rattle.pgn_run.specs.declared.print.Shows.{Shows}
+use Rattle.pgn_run.specs.declared.print.Shows.TheVariants.{AtEnd, Live}
 use Rattle.pgn_run.specs.declared.print.Print.{Print}
 use Rattle.pgn_run.specs.declared.print.Print.TheVariants.{Text, Summary}
 use Rattle.pgn_run.specs.declared.status.Status.{Status}
@@ -59,9 +62,47 @@ pub record Runs (print : Print) (settings : Settings) (input : List ℕ) (P : Li
   pub legal : Legal scenario settings journal traces
   pub output : P (printed print scenario journal traces)
 
+-- the input reads as a scenario, and P holds of what is written of a legal live run of it, with these settings
+pub record LiveRuns (settings : Settings) (input : List ℕ) (P : List ℕ → Type 0) : Type 0 where
+  pub scenario : Scenario
+  pub reads : ReadsAsScenario input (Ok scenario)
+  pub run : LiveOver scenario settings P
+
+-- it does, and P holds of the lines of what its sessions have shown
+pub record EarlyRuns (settings : Settings) (input : List ℕ) (P : List ℕ → Type 0) : Type 0 where
+  pub scenario : Scenario
+  pub reads : ReadsAsScenario input (Ok scenario)
+  pub run : EarlyOver scenario settings P
+
+-- it does, and P holds of the lines of what its sessions have shown first
+pub record SoFarRuns (settings : Settings) (input : List ℕ) (P : List ℕ → Type 0) : Type 0 where
+  pub scenario : Scenario
+  pub reads : ReadsAsScenario input (Ok scenario)
+  pub run : SoFarOver scenario settings P
+
+-- P holds of all that is shown of a run of the input
+abbrev pub Shown : Shows → Settings → List ℕ → (List ℕ → Type 0) → Type 0
+Shown (AtEnd print) settings input P = Runs print settings input P
+Shown Live settings input P = LiveRuns settings input P
+
+-- P holds of all that is shown of a run of the input, or of all that is shown before its end
+abbrev pub ShownInPart : Shows → Settings → List ℕ → (List ℕ → Type 0) → Type 0
+ShownInPart (AtEnd print) settings input P = Runs print settings input P
+ShownInPart Live settings input P = LiveRuns settings input P ⊎ EarlyRuns settings input P
+
+-- nothing was written; or, of a live run, the lines of what comes first
+abbrev pub IsShownSoFar : Shows → Settings → List ℕ → Option (List ℕ) → Option (List ℕ) → Type 0
+IsShownSoFar (AtEnd print) settings input old new = new ≡ old
+IsShownSoFar Live settings input old new = (new ≡ old) ⊎ SoFarRuns settings input (Appends old new)
+
+-- what `run` shows, with `--live` and without
+abbrev pub shows_if : Bool → Shows
+shows_if true = Live
+shows_if false = AtEnd Text
+
 -- what was asked for was run: what is left of the source, or the scenario of a drill; and P holds of what is written of it
 abbrev pub Fulfils : Asked → Option (List ℕ) → (List ℕ → Type 0) → Type 0
-Fulfils (Run pages patience) left P = IfSome left (λ input. Runs Text (settings_with pages patience) input P)
+Fulfils (Run pages patience live) left P = IfSome left (λ input. Shown (shows_if live) (settings_with pages patience) input P)
 Fulfils (Drill seed sessions notes) left P = Runs (Summary seed notes) drill_settings (drill seed sessions notes) P
 
 -- the words ask for something, and that was run
@@ -70,11 +111,28 @@ pub record Performs (words : List (List ℕ)) (left : Option (List ℕ)) (P : Li
   pub asks : AskFor words asked
   pub done : Fulfils asked left P
 
+-- the same, where what is shown may end early
+abbrev pub FulfilsInPart : Asked → Option (List ℕ) → (List ℕ → Type 0) → Type 0
+FulfilsInPart (Run pages patience live) left P = IfSome left (λ input. ShownInPart (shows_if live) (settings_with pages patience) input P)
+FulfilsInPart (Drill seed sessions notes) left P = Runs (Summary seed notes) drill_settings (drill seed sessions notes) P
+
+pub record PerformsInPart (words : List (List ℕ)) (left : Option (List ℕ)) (P : List ℕ → Type 0) : Type 0 where
+  pub asked : Asked
+  pub asks : AskFor words asked
+  pub done : FulfilsInPart asked left P
+
+-- the words ask to run what is read, live
+pub record AskToRunLive (words : List (List ℕ)) : Type 0 where
+  pub pages : ℕ
+  pub patience : ℕ
+  pub asks : AskFor words (Run pages patience true)
+
 -- the words ask to run what is read
 pub record AskToRun (words : List (List ℕ)) : Type 0 where
   pub pages : ℕ
   pub patience : ℕ
-  pub asks : AskFor words (Run pages patience)
+  pub live : Bool
+  pub asks : AskFor words (Run pages patience live)
 
 -- the words ask for a drill
 pub record AskToDrill (words : List (List ℕ)) : Type 0 where
@@ -91,12 +149,12 @@ HasWritten text old new before now NoMemory = new ≡ old
 HasWritten text old new before now status = ⊥
 
 -- what each outcome says of an input that was read, of what the sink holds and of its count of faults
-abbrev pub Answers : Print → Settings → List ℕ → Option (List ℕ) → Option (List ℕ) → ℕ → ℕ → Status → Type 0
-Answers print settings input old new before now Done = Runs print settings input (Appends old new)
-Answers print settings input old new before now WriteFault = Runs print settings input (AppendsPrefix old new) × Rose before now
-Answers print settings input old new before now NoMemory = new ≡ old
-Answers print settings input old new before now (BadScenario fault) = ReadsAsScenario input (Err fault) × (new ≡ old)
-Answers print settings input old new before now status = ⊥
+abbrev pub Answers : Shows → Settings → List ℕ → Option (List ℕ) → Option (List ℕ) → ℕ → ℕ → Status → Type 0
+Answers shows settings input old new before now Done = Shown shows settings input (Appends old new)
+Answers shows settings input old new before now WriteFault = ShownInPart shows settings input (AppendsPrefix old new) × Rose before now
+Answers shows settings input old new before now NoMemory = IsShownSoFar shows settings input old new
+Answers shows settings input old new before now (BadScenario fault) = ReadsAsScenario input (Err fault) × (new ≡ old)
+Answers shows settings input old new before now status = ⊥
 
 -- the outcomes after which the whole input was read
 abbrev pub HasRead : Status → Type 0

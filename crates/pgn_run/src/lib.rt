@@ -23,11 +23,13 @@
 #![tactic(auto)]
 
 mod input;
+mod live_run;
 mod print;
 mod run;
 mod scenario_run;
 mod status;
 
+pub use live_run::run_scenario_live;
 pub use print::Print;
 pub use run::run_notify;
 pub use scenario_run::run_scenario;

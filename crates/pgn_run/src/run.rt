@@ -1,20 +1,23 @@
-ghost use Rattle.std.specs.Prelude.{◌≡◌, ◌≢◌, ◌⊎◌, ◌<◌, ◌≤◌, ◌+◌, map, take, Ok, Err, IfSome, OnSome, IsSomeAnd};
+ghost use Rattle.std.specs.Prelude.{◌≡◌, ◌≢◌, ◌⊎◌, ℕ, ◌<◌, ◌≤◌, ◌+◌, List, map, take, Ok, Err, IfSome, OnSome, IsSomeAnd};
 ghost use Rattle.std.specs.Io.KnownBytes.{Appends, Consumes, IsAtEnd};
 ghost use Rattle.pgn_base.specs.Outside.{AppendsPrefix, Rose};
 ghost use Rattle.pgn_base.specs.declared.limits.TheConstants.{PAGES_MAX, PAGES_MIN};
 ghost use Rattle.pgn_language.specs.declared.scenario.Scenario.{Scenario};
 ghost use Rattle.pgn_language.specs.declared.scenario.ScenarioFault.{ScenarioFault};
-ghost use Rattle.pgn_language.specs.Inputs.{ReadsAsScenario};
+ghost use Rattle.pgn_language.specs.Inputs.{IsSound, ReadsAsScenario};
 ghost use Rattle.pgn_options.specs.Words.{AreNoCommand};
 ghost use Rattle.pgn_drill.specs.Drill.{drill};
-ghost use Rattle.pgn_run.specs.declared.print.Print.TheVariants.{Summary, Text};
-ghost use Rattle.pgn_run.specs.Run.{Answers, AskToDrill, AskToRun, HasRead, Performs, Runs, drill_settings, settings_with};
+ghost use Rattle.pgn_run.specs.declared.print.Print.{Print};
+ghost use Rattle.pgn_run.specs.declared.print.Print.TheVariants.{Summary};
+ghost use Rattle.pgn_run.specs.Run.{Answers, AskToDrill, AskToRun, AskToRunLive, HasRead, IsShownSoFar, Performs, PerformsInPart, Runs, Shown, ShownInPart, SoFarRuns, drill_settings, settings_with, shows_if};
 
 use crate::input::{Unread, read_input};
-use crate::{Print, Status, run_scenario};
+use crate::print::Shows;
+use crate::{Print, Status, run_scenario, run_scenario_live};
 use pgn_base::{INPUT_BYTES_MAX, PAGES_MAX, Sink, Source};
 use pgn_drill::drill_text;
 use pgn_hub::Hub;
+use pgn_language::Scenario;
 use pgn_options::{Asked, PATIENCE_MAX, WordsFault, read_words};
 use pgn_scenario::read_scenario;
 use pgn_wordhub::WordHub;
@@ -29,7 +32,7 @@ const READ_LIMIT: usize = INPUT_BYTES_MAX + 1;
 /// sessions side by side, and writes the journal and what each session was answered and received to the sink. `drill` reads nothing:
 /// it makes a scenario, runs it the same way, and writes the summary. Sessions may wait for one another, so that it is not promised
 /// that the call returns; what stands here holds where it does.
-pub fn run_notify<'a, S: Source, K: Sink, R: Threads + Wait + Sync>(
+pub fn run_notify<'a, S: Source, K: Sink + Send, R: Threads + Wait + Sync>(
     rt: &R,
     alloc: Global,
     words: &'a [&'a str],
@@ -61,9 +64,11 @@ pub fn run_notify<'a, S: Source, K: Sink, R: Threads + Wait + Sync>(
     ensures write_fault { result ≡ Status.WriteFault → Rose (K.faults sink.old) (K.faults sink.new) }
     ensures write_fault_where_due { K.faults sink.old < K.faults sink.new → result ≡ Status.WriteFault }
     ensures write_fault_writes_a_prefix { result ≡ Status.WriteFault
-        → Performs (map (λ word. word.now) words.now) (S.left source.old) (AppendsPrefix (K.held sink.old) (K.held sink.new)) }
+        → PerformsInPart (map (λ word. word.now) words.now) (S.left source.old) (AppendsPrefix (K.held sink.old) (K.held sink.new)) }
 
-    ensures no_memory_writes_nothing { result ≡ Status.NoMemory → K.held sink.new ≡ K.held sink.old }
+    ensures no_memory_writes_nothing { ¬ AskToRunLive (map (λ word. word.now) words.now) → result ≡ Status.NoMemory → K.held sink.new ≡ K.held sink.old }
+    ensures no_memory_writes_first_lines { (ask : AskToRunLive (map (λ word. word.now) words.now)) → result ≡ Status.NoMemory
+        → (K.held sink.new ≡ K.held sink.old) ⊎ IfSome (S.left source.old) (λ input. SoFarRuns (settings_with ask.pages ask.patience) input (Appends (K.held sink.old) (K.held sink.new))) }
 
     // What was left is what was read and then what is left now; all of it was read, or its first 16,777,217 bytes.
     ensures what_was_read { AskToRun (map (λ word. word.now) words.now) → HasRead result → IfSome (S.left source.old) (λ left.
@@ -79,9 +84,13 @@ pub fn run_notify<'a, S: Source, K: Sink, R: Threads + Wait + Sync>(
         → (result ≡ Status.Done) ⊎ (result ≡ Status.NoMemory) }
 {
     match read_words(alloc, words) {
-        Ok(Asked::Run { pages, patience }) => {
-            run::<S, K, R>(rt, alloc, pages, patience, source, sink)
-        }
+        Ok(
+            Asked::Run {
+                pages,
+                patience,
+                live,
+            },
+        ) => run::<S, K, R>(rt, alloc, pages, patience, shows_if(live), source, sink),
         Ok(
             Asked::Drill {
                 seed,
@@ -94,12 +103,24 @@ pub fn run_notify<'a, S: Source, K: Sink, R: Threads + Wait + Sync>(
     }
 }
 
+// What `run` shows, with `--live` and without.
+fn shows_if(live: bool) -> Shows
+    ensures { result ≡ shows_if live }
+{
+    if live {
+        Shows::Live
+    } else {
+        Shows::AtEnd(Print::Text)
+    }
+}
+
 // Reads a scenario and runs it.
-fn run<S: Source, K: Sink, R: Threads + Wait + Sync>(
+fn run<S: Source, K: Sink + Send, R: Threads + Wait + Sync>(
     rt: &R,
     alloc: Global,
     pages: u32,
     patience: u64,
+    shows: Shows,
     source: &mut S,
     sink: &mut K,
 ) -> Status
@@ -107,7 +128,7 @@ fn run<S: Source, K: Sink, R: Threads + Wait + Sync>(
     requires few_pages { pages ≤ PAGES_MAX }
     requires patient { 1 ≤ patience }
     ensures done { result ≡ Status.Done → IfSome (S.left source.old) (λ input.
-        Runs Text (settings_with pages patience) input (Appends (K.held sink.old) (K.held sink.new))) }
+        Shown shows (settings_with pages patience) input (Appends (K.held sink.old) (K.held sink.new))) }
     ensures done_reads_all { result ≡ Status.Done → OnSome (S.left source.old) (IsAtEnd (S.left source.new)) }
     ensures right_words { result ≢ Status.BadWords }
     ensures bad_scenario { (fault : ScenarioFault) → result ≡ Status.BadScenario fault
@@ -124,8 +145,10 @@ fn run<S: Source, K: Sink, R: Threads + Wait + Sync>(
     ensures write_fault { result ≡ Status.WriteFault → Rose (K.faults sink.old) (K.faults sink.new) }
     ensures write_fault_where_due { K.faults sink.old < K.faults sink.new → result ≡ Status.WriteFault }
     ensures write_fault_writes_a_prefix { result ≡ Status.WriteFault → IfSome (S.left source.old) (λ input.
-        Runs Text (settings_with pages patience) input (AppendsPrefix (K.held sink.old) (K.held sink.new))) }
-    ensures no_memory_writes_nothing { result ≡ Status.NoMemory → K.held sink.new ≡ K.held sink.old }
+        ShownInPart shows (settings_with pages patience) input (AppendsPrefix (K.held sink.old) (K.held sink.new))) }
+    ensures no_memory_writes_nothing { (print : Print) → shows ≡ Shows.AtEnd print → result ≡ Status.NoMemory → K.held sink.new ≡ K.held sink.old }
+    ensures no_memory_writes_first_lines { result ≡ Status.NoMemory → (K.held sink.new ≡ K.held sink.old) ⊎ IfSome (S.left source.old) (λ input.
+        IsShownSoFar shows (settings_with pages patience) input (K.held sink.old) (K.held sink.new)) }
     ensures what_was_read { HasRead result → IfSome (S.left source.old) (λ left.
         Consumes (S.left source.old) (S.left source.new) (take (INPUT_BYTES_MAX + 1) left)) }
     ensures complete { (scenario : Scenario)
@@ -135,14 +158,14 @@ fn run<S: Source, K: Sink, R: Threads + Wait + Sync>(
         → (result ≡ Status.Done) ⊎ (result ≡ Status.NoMemory) }
 {
     match read_input(alloc, source, READ_LIMIT) {
-        Ok(input) => answer::<WordHub, K, R>(rt, alloc, input, pages, patience, Print::Text, sink),
+        Ok(input) => answer::<WordHub, K, R>(rt, alloc, input, pages, patience, shows, sink),
         Err(Unread::Failed) => Status::ReadFault,
         Err(Unread::Memory) => Status::NoMemory,
     }
 }
 
 // Makes the scenario of a drill and runs it. It reads as a scenario, which tests show; were it none, the answer would be want of memory.
-fn drill<K: Sink, R: Threads + Wait + Sync>(
+fn drill<K: Sink + Send, R: Threads + Wait + Sync>(
     rt: &R,
     alloc: Global,
     seed: u64,
@@ -162,37 +185,62 @@ fn drill<K: Sink, R: Threads + Wait + Sync>(
     let Ok(input) = drill_text(alloc, seed, sessions, notes) else {
         return Status::NoMemory;
     };
-    let print = Print::Summary { seed, notes };
-    match answer::<WordHub, K, R>(rt, alloc, input, PAGES_MAX, PATIENCE_MAX, print, sink) {
+    let shows = Shows::AtEnd(Print::Summary { seed, notes });
+    match answer::<WordHub, K, R>(rt, alloc, input, PAGES_MAX, PATIENCE_MAX, shows, sink) {
         Status::BadScenario(_) => Status::NoMemory,
         status => status,
     }
 }
 
 // Runs an input that was read, over a hub of this type, and lets the input go once it is a scenario.
-fn answer<H: Hub + Sync + Drop, K: Sink, R: Threads + Wait + Sync>(
+fn answer<H: Hub + Sync + Drop, K: Sink + Send, R: Threads + Wait + Sync>(
     rt: &R,
     alloc: Global,
     input: Vec<u8>,
     pages: u32,
     patience: u64,
-    print: Print,
+    shows: Shows,
     sink: &mut K,
 ) -> Status
     requires some_pages { PAGES_MIN ≤ pages }
     requires few_pages { pages ≤ PAGES_MAX }
     requires patient { 1 ≤ patience }
-    ensures answers { Answers print (settings_with pages patience) input.items (K.held sink.old) (K.held sink.new) (K.faults sink.old) (K.faults sink.new) result }
+    ensures answers { Answers shows (settings_with pages patience) input.items (K.held sink.old) (K.held sink.new) (K.faults sink.old) (K.faults sink.new) result }
     ensures later { K.faults sink.old ≤ K.faults sink.new }
     ensures rose { K.faults sink.old < K.faults sink.new → result ≡ Status.WriteFault }
 {
     let reading = read_scenario(alloc, input.as_slice());
     drop(input);
     match reading {
-        Ok(Ok(scenario)) => run_scenario::<H, K, R>(
-            rt, alloc, &scenario, pages, patience, print, sink,
-        ),
+        Ok(Ok(scenario)) => play::<H, K, R>(rt, alloc, &scenario, pages, patience, shows, sink),
         Ok(Err(fault)) => Status::BadScenario(fault),
         Err(AllocError) => Status::NoMemory,
+    }
+}
+
+// Runs a scenario and shows what is asked for, at the end or as it comes.
+fn play<H: Hub + Sync + Drop, K: Sink + Send, R: Threads + Wait + Sync>(
+    rt: &R,
+    alloc: Global,
+    scenario: &Scenario,
+    pages: u32,
+    patience: u64,
+    shows: Shows,
+    sink: &mut K,
+) -> Status
+    requires sound { IsSound scenario.now }
+    requires some_pages { PAGES_MIN ≤ pages }
+    requires few_pages { pages ≤ PAGES_MAX }
+    requires patient { 1 ≤ patience }
+    ensures answers { (input : List ℕ) → ReadsAsScenario input (Ok scenario.now)
+        → Answers shows (settings_with pages patience) input (K.held sink.old) (K.held sink.new) (K.faults sink.old) (K.faults sink.new) result }
+    ensures later { K.faults sink.old ≤ K.faults sink.new }
+    ensures rose { K.faults sink.old < K.faults sink.new → result ≡ Status.WriteFault }
+{
+    match shows {
+        Shows::AtEnd(print) => {
+            run_scenario::<H, K, R>(rt, alloc, scenario, pages, patience, print, sink)
+        }
+        Shows::Live => run_scenario_live::<H, K, R>(rt, alloc, scenario, pages, patience, sink),
     }
 }

@@ -12,9 +12,9 @@ use Rattle.pgn_language.specs.declared.scenario.ScriptLine.{ScriptLine}
 use Rattle.pgn_language.specs.declared.scenario.Section.{Section}
 use Rattle.pgn_model.specs.declared.item.Item.{Item}
 use Rattle.pgn_model.specs.declared.trace.Trace.{Trace}
-use Rattle.pgn_model.specs.Text.{entries_lines, entry_lines, item_lines, joined, trace_lines, traces_lines}
+use Rattle.pgn_model.specs.Text.{end_line, entries_lines, entry_lines, item_lines, joined, section_line, trace_lines, traces_lines}
 use Rattle.pgn_text.specs.declared.out.Out.{Out}
-use Rattle.pgn_text.specs.Rendering.{GrewBut, IsOut, Puts, mark_of, marked, marked_items}
+use Rattle.pgn_text.specs.Rendering.{GrewBut, IsOut, Puts, ends_lines, mark_of, marked, marked_items}
 
 -- a prefix of a text is a prefix of a longer one
 AppendsPrefix-more : (start held : Option (List ℕ)) (before text : List ℕ) → AppendsPrefix start held before → AppendsPrefix start held (before ++ text)
@@ -196,6 +196,25 @@ Toward-section sections traces i section trace t e f h k p =
     Toward-more t p (next (λ ss. joined (traces_lines ss (drop i traces))) sections i section h e ∙ next (λ ts. joined (traces_lines (section ∷ drop (i + 1) sections) ts)) traces i trace k f
     ∙ joined-append (trace_lines section trace) (traces_lines (drop (i + 1) sections) (drop (i + 1) traces)))
 
+-- the head of the next section and the end of its trace are given out
+pub Toward-ends : {S : Type 0} {held : S → Option (List ℕ)} {faults : S → ℕ} {s₀ s₁ s₂ : S} {o₀ o₁ o₂ : Out} {whole : List ℕ} (sections : List Section) (traces : List Trace) (i : ℕ) (section : Section) (trace : Trace)
+    → Toward held faults s₀ o₀ s₁ o₁ (joined (ends_lines (drop i sections) (drop i traces))) whole → section ≡ get_or sections i section → trace ≡ get_or traces i trace
+    → i < length sections → i < length traces → Puts held faults s₁ o₁ s₂ o₂ (section_line section ++ 10 ∷ [] ++ (end_line trace.last ++ 10 ∷ []))
+    → Toward held faults s₀ o₀ s₂ o₂ (joined (ends_lines (drop (i + 1) sections) (drop (i + 1) traces))) whole
+Toward-ends sections traces i section trace t e f h k p =
+    Toward-more t p (next (λ ss. joined (ends_lines ss (drop i traces))) sections i section h e ∙ next (λ ts. joined (ends_lines (section ∷ drop (i + 1) sections) ts)) traces i trace k f
+    ∙ sym (append_assoc (section_line section ++ 10 ∷ []) (end_line trace.last ++ 10 ∷ []) (joined (ends_lines (drop (i + 1) sections) (drop (i + 1) traces)))))
+
+no_ends : (sections : List Section) → ends_lines sections [] ≡ []
+no_ends [] = refl
+no_ends (section ∷ sections) = refl
+
+pub ends_lines-end : (sections : List Section) (traces : List Trace) (i : ℕ) → min (length sections) (length traces) ≤ i → joined (ends_lines (drop i sections) (drop i traces)) ≡ []
+ends_lines-end sections traces i h = elim (cases_lt i (length sections)) [
+  | inl k ↦ ap (λ (ts : List Trace). joined (ends_lines (drop i sections) ts)) (drop_all i traces (omega arith)) ∙ ap joined (no_ends (drop i sections))
+  | inr k ↦ ap (λ (ss : List Section). joined (ends_lines ss (drop i traces))) (drop_all i sections k)
+]
+
 no_traces : (sections : List Section) → traces_lines sections [] ≡ []
 no_traces [] = refl
 no_traces (section ∷ sections) = refl
@@ -229,4 +248,4 @@ pub ruleset send_laws = (Puts-none, Puts-failed, Puts-sent)
 
 pub ruleset put_laws = (Puts-trans, Puts-none, Puts-behind)
 
-pub ruleset loop_laws = (Toward-none, Toward-line, Toward-lines, Toward-marked, Toward-entry, Toward-section, Toward-all, Toward-last)
+pub ruleset loop_laws = (Toward-none, Toward-line, Toward-lines, Toward-marked, Toward-entry, Toward-section, Toward-ends, Toward-all, Toward-last)

@@ -5,7 +5,8 @@ use Rattle.pgn_language.specs.declared.scenario.ScriptLine.{ScriptLine}
 use Rattle.pgn_base.specs.declared.note.Note.{Note}
 use Rattle.pgn_language.specs.declared.scenario.Section.{Section}
 use Rattle.pgn_model.specs.declared.item.Item.{Item}
-use Rattle.pgn_model.specs.Text.{item_lines, line_text}
+use Rattle.pgn_model.specs.declared.trace.Trace.{Trace}
+use Rattle.pgn_model.specs.Text.{end_line, item_lines, line_text, section_line}
 use Rattle.pgn_language.specs.Quotes.{doubled_byte, quoted}
 use Rattle.pgn_text.specs.declared.line_cursor.LineCursor.{LineCursor}
 use Rattle.pgn_text.specs.declared.out.Out.{Out}
@@ -31,6 +32,12 @@ marked_items mark lines items = flat_map (λ item. marked mark (item_lines lines
 abbrev pub lines_of : ℕ → List Section → List ScriptLine
 lines_of n [] = []
 lines_of n (section ∷ sections) = cond (section.no == n) section.lines (lines_of n sections)
+
+-- the heads of sections, each with the end of its trace
+abbrev pub ends_lines : List Section → List Trace → List (List ℕ)
+ends_lines [] traces = []
+ends_lines (section ∷ sections) [] = []
+ends_lines (section ∷ sections) (trace ∷ traces) = section_line section ∷ end_line trace.last ∷ ends_lines sections traces
 
 -- a notification behind its first quote
 abbrev pub note_behind : Note → List ℕ

@@ -3,7 +3,7 @@
 ghost use Rattle.std.specs.Prelude.{◌+◌, ◌++◌, codes, decimal};
 ghost use Rattle.pgn_base.specs.declared.limits.TheConstants.{PID_BASE};
 ghost use Rattle.pgn_model.specs.Text.{end_line, joined, section_line, trace_lines, traces_lines};
-ghost use Rattle.pgn_text.specs.Rendering.{Puts, ended};
+ghost use Rattle.pgn_text.specs.Rendering.{Puts, ended, ends_lines};
 
 use crate::{LineCursor, Out};
 use pgn_base::{PID_BASE, SessionNo, Sink, Xid};
@@ -78,6 +78,25 @@ impl Out {
         let count = sections.len().min(traces.len());
         for i in 0..count {
             self.section(sink, &sections[i], &traces[i]);
+        }
+    }
+
+    // A section's head, and the end of its trace.
+    fn section_end<K: Sink>(&mut self, sink: &mut K, section: &Section, trace: &Trace)
+        ensures { Puts K.held K.faults sink.old self.old sink.new self.new (ended (section_line section.now) ++ ended (end_line trace.now.last)) }
+    {
+        self.section_line(sink, section);
+        self.end(sink, &trace.last);
+    }
+
+    /// The heads of the sections, each with the end of its trace.
+    #[tactic(auto, using(crate::proofs::PutsLaws::loop_laws))]
+    pub fn ends<K: Sink>(&mut self, sink: &mut K, sections: &[Section], traces: &[Trace])
+        ensures { Puts K.held K.faults sink.old self.old sink.new self.new (joined (ends_lines sections.now traces.now)) }
+    {
+        let count = sections.len().min(traces.len());
+        for i in 0..count {
+            self.section_end(sink, &sections[i], &traces[i]);
         }
     }
 }

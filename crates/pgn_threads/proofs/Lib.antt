@@ -1,11 +1,11 @@
 mod DrainLaws
 mod FlagWalkLaws
 mod LastReadLaws
-mod ListLemmas
+pub mod ListLemmas
 mod MeetLaws
 mod OpenLaws
 mod RunLaws
 mod RunningLaws
 mod ToldLaws
 mod TurnLaws
-mod WholeLaws
+pub mod WholeLaws

@@ -1,4 +1,4 @@
-use Rattle.pgn_cli.proofs.EndLaws.{written-prefix, written-whole, code-of_words, names-fault, refused-code, write-fault-code}
+use Rattle.pgn_cli.proofs.EndLaws.{written-prefix, written-whole, code-of_words, memory-code, memory-lines, names-fault, refused-code, write-fault-code}
 use Rattle.pgn_cli.proofs.program.program.Goals as goal
 
 pub returns-clause-ends : goal.returns-clause-ends
@@ -19,4 +19,10 @@ pub returns-clause-write_fault_writes_a_prefix : goal.returns-clause-write_fault
 returns-clause-write_fault_writes_a_prefix g c five = c.status_of-status.ensures.write_fault_writes_a_prefix (write-fault-code c.status_of-status.result _ c.code.ensures five)
 
 pub returns-clause-refused_writes_nothing : goal.returns-clause-refused_writes_nothing
-returns-clause-refused_writes_nothing g c done fault = c.status_of-status.ensures.refused_writes_nothing (refused-code c.status_of-status.result _ c.code.ensures done fault)
+returns-clause-refused_writes_nothing g c done fault memory = c.status_of-status.ensures.refused_writes_nothing (refused-code c.status_of-status.result _ c.code.ensures done fault memory)
+
+pub returns-clause-no_memory_writes_nothing : goal.returns-clause-no_memory_writes_nothing
+returns-clause-no_memory_writes_nothing g c once six = c.status_of-status.ensures.no_memory_writes_nothing once (memory-code c.status_of-status.result _ c.code.ensures six)
+
+pub returns-clause-no_memory_writes_first_lines : goal.returns-clause-no_memory_writes_first_lines
+returns-clause-no_memory_writes_first_lines g c = memory-lines c.args.words _ _ c.status_of-status.result _ c.code.ensures c.status_of-status.ensures.no_memory_writes_first_lines

@@ -32,4 +32,13 @@ pub returns-in-Ok-borrowed-clause-refused_writes_nothing : goal.returns-in-Ok-bo
 returns-in-Ok-borrowed-clause-refused_writes_nothing g c =
     refused-keeps (g.K.Sink.held c.args.sink.now) (g.K.Sink.held c.run_notify.new.sink) c.run_notify.result
     (λ e. ap g.K.Sink.held (c.run_notify.ensures.bad_words_write_nothing (c.run_notify.ensures.bad_words e))) c.run_notify.ensures.bad_scenario_writes_nothing c.run_notify.ensures.read_fault_writes_nothing
-    c.run_notify.ensures.no_memory_writes_nothing
+
+pub returns-in-Ok-borrowed-clause-no_memory_writes_nothing : goal.returns-in-Ok-borrowed-clause-no_memory_writes_nothing
+returns-in-Ok-borrowed-clause-no_memory_writes_nothing g c =
+    let none = rw (c.as_slice-in-Ok-borrowed.ensures.value, c.in-Ok-borrowed.ensures, c.as_slice.ensures.value) at c.run_notify.ensures.no_memory_writes_nothing in
+    rw c.in-Ok.is none
+
+pub returns-in-Ok-borrowed-clause-no_memory_writes_first_lines : goal.returns-in-Ok-borrowed-clause-no_memory_writes_first_lines
+returns-in-Ok-borrowed-clause-no_memory_writes_first_lines g c =
+    let lines = rw (c.as_slice-in-Ok-borrowed.ensures.value, c.in-Ok-borrowed.ensures, c.as_slice.ensures.value) at c.run_notify.ensures.no_memory_writes_first_lines in
+    rw c.in-Ok.is lines

@@ -1,7 +1,10 @@
-use Rattle.std.proofs.Common.{◌∙◌, Some, Err, ap, map, subst}
+use Rattle.std.proofs.Common.{◌∙◌, Some, Err, ap, inl, inr, map, subst}
+use Rattle.pgn_run.specs.Run.{shows_if}
+use Rattle.pgn_run.specs.declared.print.Print.TheVariants.{Text}
+use Rattle.pgn_run.proofs.RunLaws.{so_far-known}
 use Rattle.pgn_options.specs.declared.asked.Asked.TheVariants.{Run, Drill}
 use Rattle.pgn_options.specs.Words.{IsWithin}
-use Rattle.pgn_run.proofs.AskedLaws.{no-drill, no-other, no-run, none-drills, none-runs}
+use Rattle.pgn_run.proofs.AskedLaws.{no-drill, no-other, no-run, none-drills, none-runs, same-run, shows-once}
 use Rattle.pgn_run.proofs.OverLaws.{drill-completes, not-bad-scenario, not-bad-words, not-read-fault}
 use Rattle.pgn_run.proofs.run.run_notify.Goals as goal
 
@@ -16,9 +19,9 @@ run-requires-clause-patient g c κs within = (subst IsWithin c.in-Ok-Run.field-0
 
 pub returns-in-Ok-Run-clause-done : goal.returns-in-Ok-Run-clause-done
 returns-in-Ok-Run-clause-done g c = λ e. record {
-  asked = Run c.in-Ok-Run.pages c.in-Ok-Run.patience;
+  asked = Run c.in-Ok-Run.pages c.in-Ok-Run.patience c.in-Ok-Run.live;
   asks = c.in-Ok-Run.ensures.asked ∙ ap Some c.in-Ok-Run.field-0-is;
-  done = c.run.ensures.done e;
+  done = rw c.shows_if.ensures at (c.run.ensures.done e);
 }
 
 pub returns-in-Ok-Run-clause-bad_words : goal.returns-in-Ok-Run-clause-bad_words
@@ -35,7 +38,7 @@ returns-in-Ok-Run-clause-bad_words_write_nothing g c = λ none. absurd (no-other
 
 pub returns-in-Ok-Run-clause-bad_scenario : goal.returns-in-Ok-Run-clause-bad_scenario
 returns-in-Ok-Run-clause-bad_scenario g c = λ fault e. (
-  record { pages = c.in-Ok-Run.pages; patience = c.in-Ok-Run.patience; asks = c.in-Ok-Run.ensures.asked ∙ ap Some c.in-Ok-Run.field-0-is },
+  record { pages = c.in-Ok-Run.pages; patience = c.in-Ok-Run.patience; live = c.in-Ok-Run.live; asks = c.in-Ok-Run.ensures.asked ∙ ap Some c.in-Ok-Run.field-0-is },
   c.run.ensures.bad_scenario fault e,
 )
 
@@ -44,24 +47,38 @@ returns-in-Ok-Run-clause-bad_scenario_where_due g c = λ fault ask reads rose. c
 
 pub returns-in-Ok-Run-clause-read_fault : goal.returns-in-Ok-Run-clause-read_fault
 returns-in-Ok-Run-clause-read_fault g c = λ e. (
-  record { pages = c.in-Ok-Run.pages; patience = c.in-Ok-Run.patience; asks = c.in-Ok-Run.ensures.asked ∙ ap Some c.in-Ok-Run.field-0-is },
+  record { pages = c.in-Ok-Run.pages; patience = c.in-Ok-Run.patience; live = c.in-Ok-Run.live; asks = c.in-Ok-Run.ensures.asked ∙ ap Some c.in-Ok-Run.field-0-is },
   c.run.ensures.read_fault e,
 )
 
 pub returns-in-Ok-Run-clause-write_fault_writes_a_prefix : goal.returns-in-Ok-Run-clause-write_fault_writes_a_prefix
 returns-in-Ok-Run-clause-write_fault_writes_a_prefix g c = λ e. record {
-  asked = Run c.in-Ok-Run.pages c.in-Ok-Run.patience;
+  asked = Run c.in-Ok-Run.pages c.in-Ok-Run.patience c.in-Ok-Run.live;
   asks = c.in-Ok-Run.ensures.asked ∙ ap Some c.in-Ok-Run.field-0-is;
-  done = c.run.ensures.write_fault_writes_a_prefix e;
+  done = rw c.shows_if.ensures at (c.run.ensures.write_fault_writes_a_prefix e);
 }
+
+pub returns-in-Ok-Run-clause-no_memory_writes_nothing : goal.returns-in-Ok-Run-clause-no_memory_writes_nothing
+returns-in-Ok-Run-clause-no_memory_writes_nothing g c = λ once e.
+    c.run.ensures.no_memory_writes_nothing Text
+    (c.shows_if.ensures ∙ shows-once (map (λ word. word.now) c.args.words.now) c.in-Ok-Run.pages c.in-Ok-Run.patience c.in-Ok-Run.live once (c.in-Ok-Run.ensures.asked ∙ ap Some c.in-Ok-Run.field-0-is)) e
+
+pub returns-in-Ok-Run-clause-no_memory_writes_first_lines : goal.returns-in-Ok-Run-clause-no_memory_writes_first_lines
+returns-in-Ok-Run-clause-no_memory_writes_first_lines g c = λ ask e.
+    let same = same-run (map (λ word. word.now) c.args.words.now) c.in-Ok-Run.pages c.in-Ok-Run.patience c.in-Ok-Run.live ask (c.in-Ok-Run.ensures.asked ∙ ap Some c.in-Ok-Run.field-0-is) in
+    rw (same.0, same.1)
+    (elim (c.run.ensures.no_memory_writes_first_lines e) [
+      | inl nothing ↦ inl nothing
+      | inr part ↦ so_far-known (g.S.Source.left c.args.source.now) c.shows_if.result _ _ _ (c.shows_if.ensures ∙ ap shows_if same.2) part
+    ])
 
 pub returns-in-Ok-Run-clause-drill_reads_nothing : goal.returns-in-Ok-Run-clause-drill_reads_nothing
 returns-in-Ok-Run-clause-drill_reads_nothing g c = λ ask.
-    absurd (no-drill (map (λ word. word.now) c.args.words.now) c.in-Ok-Run.pages c.in-Ok-Run.patience (c.in-Ok-Run.ensures.asked ∙ ap Some c.in-Ok-Run.field-0-is) ask)
+    absurd (no-drill (map (λ word. word.now) c.args.words.now) c.in-Ok-Run.pages c.in-Ok-Run.patience c.in-Ok-Run.live (c.in-Ok-Run.ensures.asked ∙ ap Some c.in-Ok-Run.field-0-is) ask)
 
 pub returns-in-Ok-Run-clause-drill_complete : goal.returns-in-Ok-Run-clause-drill_complete
 returns-in-Ok-Run-clause-drill_complete g c = λ ask rose.
-    absurd (no-drill (map (λ word. word.now) c.args.words.now) c.in-Ok-Run.pages c.in-Ok-Run.patience (c.in-Ok-Run.ensures.asked ∙ ap Some c.in-Ok-Run.field-0-is) ask)
+    absurd (no-drill (map (λ word. word.now) c.args.words.now) c.in-Ok-Run.pages c.in-Ok-Run.patience c.in-Ok-Run.live (c.in-Ok-Run.ensures.asked ∙ ap Some c.in-Ok-Run.field-0-is) ask)
 
 pub returns-in-Ok-Drill-clause-done : goal.returns-in-Ok-Drill-clause-done
 returns-in-Ok-Drill-clause-done g c = λ e. record {
@@ -116,6 +133,9 @@ returns-in-Ok-Drill-clause-complete g c = λ scenario ask reads source_rose sink
 
 pub returns-in-Ok-Drill-clause-drill_complete : goal.returns-in-Ok-Drill-clause-drill_complete
 returns-in-Ok-Drill-clause-drill_complete g c = λ ask none. drill-completes c.drill.result _ c.drill.ensures.only c.drill.ensures.write_fault none
+
+pub returns-in-Ok-Drill-clause-no_memory_writes_first_lines : goal.returns-in-Ok-Drill-clause-no_memory_writes_first_lines
+returns-in-Ok-Drill-clause-no_memory_writes_first_lines g c = λ ask e. inl (c.drill.ensures.no_memory_writes_nothing e)
 
 pub returns-in-Err-BadWords-clause-bad_words : goal.returns-in-Err-BadWords-clause-bad_words
 returns-in-Err-BadWords-clause-bad_words g c = λ e. c.in-Err-BadWords.ensures.bad_words (ap Err c.in-Err-BadWords.field-0-is)

@@ -1,0 +1,85 @@
+use super::SELF_NOTIFY;
+use pgn_base::{MemSink, MemSource};
+use pgn_run::{Status, run_notify};
+use std::alloc::Global;
+use std::sync::Wait;
+use std::test::Fail;
+use std::thread::Threads;
+
+// How the program ends that plays this input live, written to a sink which takes at most so many bytes a call and fails at these calls, and
+// what is written then.
+fn played<R: Threads + Wait + Sync>(
+    rt: &R,
+    alloc: Global,
+    input: &str,
+    most: usize,
+    fails: &[u64],
+) -> Result<(Status, String), Fail> {
+    let input = Vec::from_slice(alloc, input.as_bytes())?;
+    let mut source = MemSource::new(input, Vec::new(alloc), 100);
+    let mut sink = MemSink::new(alloc, 1 << 14, Vec::from_slice(alloc, fails)?, most.max(1))?;
+    let status = run_notify(rt, alloc, &["run", "--live"], &mut source, &mut sink);
+    let held = str::from_utf8(sink.held())?;
+    let text = format!(in alloc; "{held}")?;
+    Ok((status, text))
+}
+
+const OUTPUT: &str = "\
+1| > LISTEN c
+1| +enlist 3 3
+1| LISTEN
+1| > NOTIFY c, 'x'
+1| +publish 3
+1| NOTIFY
+1| +read 3 4
+1|   3 1001 \"c\", 'x'
+journal 1
+xid 3 session 1 commit 1
+  \"c\", 'x'
+session 1 a db 1 pid 1001
+end mark 4
+";
+
+#[test]
+fn the_journal_and_the_ends_follow_the_lines(rt: HostRuntime) -> Result<(), Fail> {
+    let (status, text) = played(&rt, rt.alloc(), SELF_NOTIFY, 1 << 12, &[])?;
+    assert!(rt; matches!(status, Status::Done));
+    assert_eq!(rt; text.as_str(), OUTPUT);
+    Ok(())
+}
+
+// Whichever call of the sink fails, the program says so, and what is written is a prefix.
+#[test]
+fn each_write_of_a_live_run_may_fail(rt: HostRuntime) -> Result<(), Fail> {
+    let calls = (OUTPUT.len() + 3) / 4;
+    for n in 1..calls as u64 {
+        let (status, text) = played(&rt, rt.alloc(), SELF_NOTIFY, 4, &[n])?;
+        assert!(rt; matches!(status, Status::WriteFault));
+        assert!(rt; OUTPUT.starts_with(text.as_str()));
+    }
+    Ok(())
+}
+
+// Two sessions that quit: where each ended stands behind the journal, in the script's order.
+#[test]
+fn each_session_has_its_head_and_its_end(rt: HostRuntime) -> Result<(), Fail> {
+    let (status, text) = played(&rt, rt.alloc(), TWO_THAT_QUIT, 1 << 12, &[])?;
+    assert!(rt; matches!(status, Status::Done));
+    assert!(rt; text.as_str().ends_with(TWO_ENDS));
+    Ok(())
+}
+
+const TWO_THAT_QUIT: &str = "\
+\\session a 1
+\\quit
+\\session b 7
+\\quit
+";
+
+const TWO_ENDS: &str = "\
+journal 0
+session 1 a db 1 pid 1001
+end
+session 2 b db 7 pid 1002
+end
+";
