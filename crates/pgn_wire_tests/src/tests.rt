@@ -1,2 +1,4 @@
 mod answering;
 mod asking;
+mod serving;
+mod waiting;

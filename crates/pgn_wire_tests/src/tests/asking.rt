@@ -219,3 +219,27 @@ fn a_source_of_single_bytes_that_fails(rt: HostRuntime) -> Result<(), Fail> {
     }
     Ok(())
 }
+
+// So many queries `NOTIFY c`, of which one more than a client may ask is refused: the message that makes them too many is named.
+#[test]
+fn as_many_notifications_as_a_client_may_ask(rt: HostRuntime) -> Result<(), Fail> {
+    let alloc = rt.alloc();
+    let query = b"Q\0\0\0\x0dNOTIFY c\0";
+    let mut bytes = Vec::with_capacity(alloc, 65_537 * 14)?;
+    for _ in 0..65_537 {
+        bytes.extend_from_slice(query)?;
+    }
+    let mut source = MemSource::new(bytes, Vec::new(alloc), 64);
+    let mut queries = Queries::new(alloc);
+    for _ in 0..65_536 {
+        assert!(rt; matches!(queries.next(alloc, &mut source), Ok(Some(_))));
+    }
+    let at = 65_536 * 14;
+    assert!(rt;
+        matches!(
+            queries.next(alloc, &mut source),
+            Err(NoQuery::Fault(WireFault::TooMany { at: found })) if found == at
+        )
+    );
+    Ok(())
+}

@@ -1,0 +1,77 @@
+-- A hub that is opened for one client, and its session.
+use Rattle.std.proofs.Common.{◌≡◌, ℕ, ◌+◌, ◌<◌, ◌≤◌, List, [], ◌∷◌, ◌++◌, length, map, All, Option, None, Some, sym, ap, ◌∙◌, subst, refl, arith}
+use Rattle.std.specs.List.{range_with_len}
+use Rattle.std.proofs.lemmas.List.{length-append, length-map}
+use Rattle.std.proofs.lemmas.List.Elements.{All-nil, All-cons, All-head}
+use Rattle.pgn_base.specs.declared.limits.TheConstants.{NOTE_LINES_MAX}
+use Rattle.pgn_hub.specs.declared.setup.SeatSetup.{SeatSetup}
+use Rattle.pgn_hub.specs.Passes.{opened_pass, opened_passes}
+use Rattle.pgn_hub.specs.declared.known.Known.{Known}
+use Rattle.pgn_hub.specs.Shape.{Shape}
+use Rattle.pgn_language.specs.declared.scenario.Section.{Section}
+use Rattle.pgn_language.specs.declared.scenario.ScriptLine.{ScriptLine}
+use Rattle.pgn_session.specs.declared.session.Session.{Session}
+use Rattle.pgn_session.specs.declared.doing.Doing.TheVariants.{Lines}
+use Rattle.pgn_session.specs.declared.doing.FlagPlan.{FlagPlan}
+use Rattle.pgn_session.specs.Standing.{IsFlagBelow, IsServedBy}
+use Rattle.pgn_session.specs.Whole.{HasRest}
+use Rattle.pgn_wire.specs.Serving.{BeginsEmpty}
+use Rattle.pgn_conversation.specs.Conversation.{session_section, wire_plan, wire_quit, wire_shape}
+
+-- one pass is known
+pub one-pass : {P : Type 0} (known : P → Known) (passes : List P) (setup : Shape) (seats : List SeatSetup) → map known passes ≡ opened_passes 1 setup.seats → setup.seats ≡ seats → seats ≡ wire_shape.seats → length passes ≡ 1
+one-pass {P} known passes setup seats e f g =
+    let all : map known passes ≡ opened_passes 1 wire_shape.seats = e ∙ ap (λ (s : List SeatSetup). opened_passes 1 s) (f ∙ g) in
+    let as_many : length (map known passes) ≡ 1 = ap (λ (ks : List Known). length ks) all in
+    omega (arith, as_many, length-map passes known)
+
+-- it is that of a pass as it is opened
+pub opened-known : {P : Type 0} (known : P → Known) (passes : List P) (pass : P) (setup : Shape) (seats : List SeatSetup) (section : Section) → map known passes ≡ opened_passes 1 setup.seats → setup.seats ≡ seats → seats ≡ wire_shape.seats → passes ≡ pass ∷ []
+    → section ≡ session_section [] → known pass ≡ opened_pass section.no (record { db = section.db; notes = section.note_lines })
+opened-known {P} known passes pass setup seats section e f g one is =
+    let all : known pass ∷ [] ≡ opened_passes 1 wire_shape.seats = ap (λ (ps : List P). map known ps) (sym one) ∙ e ∙ ap (λ (s : List SeatSetup). opened_passes 1 s) (f ∙ g) in
+    let first : known pass ≡ opened_pass 1 (record { db = 1; notes = NOTE_LINES_MAX }) = cc in
+    first ∙ ap (λ (s : Section). opened_pass s.no (record { db = s.db; notes = s.note_lines })) (sym is)
+
+-- what holds of all holds of it
+pub only-has : {P : Type 0} (Q : P → Type 0) (passes : List P) (pass : P) → All Q passes → passes ≡ pass ∷ [] → Q pass
+only-has {P} Q passes pass h e = All-head Q pass [] (subst (λ (ps : List P). All Q ps) e h)
+
+-- all but the last of one
+pub none-before : {P : Type 0} (old new : List P) (pass : P) → length old ≡ 1 → old ≡ new ++ pass ∷ [] → old ≡ pass ∷ []
+none-before old [] pass one e = e
+none-before old (p ∷ new) pass one e =
+    let long : length old ≡ length (p ∷ new) + length (pass ∷ []) = ap length e ∙ length-append (p ∷ new) (pass ∷ []) in
+    absurd (omega (arith, one, long))
+
+one-line : (shape : Shape) → All (λ line. IsFlagBelow shape.flags line.act) (wire_quit ∷ [])
+one-line shape = All-cons (λ (line : ScriptLine). IsFlagBelow shape.flags line.act) wire_quit [] tt (All-nil (λ (line : ScriptLine). IsFlagBelow shape.flags line.act))
+
+-- the section is served by the hub
+pub opened-served : (shape : Shape) (section : Section) (plan : FlagPlan) → shape ≡ wire_shape → section ≡ session_section [] → plan ≡ wire_plan → IsServedBy shape section plan
+opened-served shape section plan e f g =
+    subst (λ (s : Shape). IsServedBy s section plan) (sym e) (subst (λ (s : Section). IsServedBy wire_shape s plan) (sym f) (subst (λ (p : FlagPlan). IsServedBy wire_shape (session_section []) p) (sym g)
+    (record { acts = one-line wire_shape; ends = omega arith; session = omega arith })))
+
+-- the session may begin
+pub opened-begins : {P : Type 0} (s : Session P) → s.section ≡ session_section [] → s.done ≡ 0 → s.doing ≡ Lines → s.items.items ≡ [] → BeginsEmpty s
+opened-begins s e done doing items = record {
+  last = wire_quit;
+  lines = ap (λ (section : Section). section.lines) e;
+  quits = refl;
+  notes = ap (λ (section : Section). section.note_lines) e;
+  begun = done;
+  between = doing;
+  shown = items;
+}
+
+-- The gathered pass.
+
+pub session-one : {P : Type 0} (shape : Shape) (known : P → Known) (s : Session P) (passes : List P) → HasRest shape known s → s.section.no ≡ 1 → passes ≡ s.pass ∷ [] → shape ≡ wire_shape
+    → map (λ pass. (known pass).session) passes ≡ range_with_len 1 (length shape.seats)
+session-one {P} shape known s passes rested no e is =
+    let number : (known s.pass).session ≡ 1 = rested.stands.session ∙ no in
+    ap (λ (ps : List P). map (λ (pass : P). (known pass).session) ps) e ∙ ap (λ (n : ℕ). n ∷ []) number ∙ ap (λ (z : Shape). range_with_len 1 (length z.seats)) (sym is)
+
+pub own-one : {P : Type 0} (Q : P → Type 0) (pass : P) (passes : List P) → passes ≡ pass ∷ [] → Q pass → All Q passes
+own-one {P} Q pass passes e h = subst (λ (ps : List P). All Q ps) (sym e) (All-cons Q pass [] h (All-nil Q))

@@ -1,0 +1,4 @@
+-- what a whole conversation is
+pub mod Conversation
+-- what it tells a client
+pub mod Laws

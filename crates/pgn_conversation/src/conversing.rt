@@ -1,0 +1,44 @@
+ghost use Rattle.std.specs.Prelude.{◌≡◌, ◌<◌, ◌≤◌, [], Err, IfSome, OnOk};
+ghost use Rattle.std.specs.Io.KnownBytes.{Appends};
+ghost use Rattle.pgn_base.specs.Outside.{AppendsPrefix, Rose};
+ghost use Rattle.pgn_messages.specs.Messages.{messages};
+ghost use Rattle.pgn_queries.specs.declared.wire_fault.WireFault.{WireFault};
+ghost use Rattle.pgn_conversation.specs.Conversation.{BreaksOff, Converses, EndsBy, StopsAmong};
+ghost use Rattle.pgn_wire.specs.Serving.{WroteWhole};
+
+use crate::finishing::finish;
+use crate::opening::open;
+use pgn_base::{Sink, Source};
+use pgn_hub::{Hub, PassView};
+use pgn_wire::{WireEnd, serve_wire};
+use std::alloc::Global;
+use std::sync::Wait;
+
+/// Serves a client over a hub of this type, which it opens: the session is number 1, of database 1, with a limit of 256 pages. It may
+/// wait for the hub, so that it is not promised that it returns.
+pub fn converse<P: PassView + Send + Drop, H: Hub<Pass = P> + Drop, R: Wait, S: Source, K: Sink>(
+    rt: &R,
+    alloc: Global,
+    source: &mut S,
+    sink: &mut K,
+) -> Result<(), WireEnd>
+    // What the client asked, and what stands written, by how it ended.
+    ensures ends { IfSome (S.left source.old) (λ bytes. EndsBy result bytes (K.held sink.old) (K.held sink.new)) }
+    ensures read { result ≡ Err WireEnd.Read → Rose (S.faults source.old) (S.faults source.new) }
+    ensures write { result ≡ Err WireEnd.Write → Rose (K.faults sink.old) (K.faults sink.new) }
+    ensures source_later { S.faults source.old ≤ S.faults source.new }
+    ensures source_rose { S.faults source.old < S.faults source.new → result ≡ Err WireEnd.Read }
+    ensures sink_later { K.faults sink.old ≤ K.faults sink.new }
+    ensures sink_rose { K.faults sink.old < K.faults sink.new → result ≡ Err WireEnd.Write }
+{
+    let Ok((hub, mut session)) = open::<P, H>(alloc) else {
+        return Err(WireEnd::Memory);
+    };
+    match serve_wire(rt, alloc, &hub, &mut session, source, sink) {
+        Ok(()) => match finish(alloc, hub, session) {
+            Ok(()) => Ok(()),
+            Err(_) => Err(WireEnd::Memory),
+        },
+        Err(end) => Err(end),
+    }
+}

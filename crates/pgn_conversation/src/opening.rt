@@ -1,0 +1,82 @@
+ghost use Rattle.std.specs.Prelude.{◌≡◌, [], ◌∷◌, length, IfOk};
+ghost use Rattle.pgn_session.specs.Standing.{IsServedBy};
+ghost use Rattle.pgn_session.specs.Whole.{HasRest};
+ghost use Rattle.pgn_conversation.specs.Conversation.{session_section, wire_plan, wire_shape};
+ghost use Rattle.pgn_wire.specs.Serving.{BeginsEmpty};
+
+use pgn_base::{DbOid, NOTE_LINES_MAX, Name, PAGES_DEFAULT, SessionNo};
+use pgn_hub::{Hub, PassView, SeatSetup, Setup};
+use pgn_language::{Act, LineText, ScriptLine, ScriptLines, Section};
+use pgn_session::{FlagPlan, Session};
+use std::alloc::{AllocError, Global};
+
+// A hub for one client, and its session, of which nothing was asked yet.
+pub(crate) fn open<P: PassView + Send + Drop, H: Hub<Pass = P> + Drop>(
+    alloc: Global,
+) -> Result<(H, Session<P>), AllocError>
+    ensures shape { IfOk result (λ opened. H.shape opened.0 ≡ wire_shape) }
+    ensures own { IfOk result (λ opened. H.is_pass opened.0 opened.1.pass) }
+    ensures served { IfOk result (λ opened. IsServedBy (H.shape opened.0) opened.1.section opened.1.plan) }
+    ensures rested { IfOk result (λ opened. HasRest (H.shape opened.0) P.known opened.1) }
+    ensures begins { IfOk result (λ opened. BeginsEmpty opened.1) }
+    ensures section { IfOk result (λ opened. opened.1.section ≡ session_section []) }
+    ensures plan { IfOk result (λ opened. opened.1.plan ≡ wire_plan) }
+    ensures patience { IfOk result (λ opened. opened.1.patience ≡ 1) }
+{
+    let section = section(alloc)?;
+    let seats = seats(alloc)?;
+    let setup = Setup::new(PAGES_DEFAULT, 1, seats);
+    let (hub, passes) = H::open(alloc, setup)?;
+    let pass = only(passes);
+    let plan = FlagPlan {
+        first_end: 0,
+        sessions: 1,
+    };
+    let session = Session::new(alloc, pass, section, plan, 1)?;
+    Ok((hub, session))
+}
+
+// The seat of the client's session.
+fn seats(alloc: Global) -> Result<Vec<SeatSetup>, AllocError>
+    ensures { IfOk result (λ seats. seats.items ≡ wire_shape.seats) }
+{
+    let mut seats = Vec::with_capacity(alloc, 1)?;
+    seats.push(SeatSetup {
+        db: DbOid::new(1),
+        notes: NOTE_LINES_MAX as u32,
+    })?;
+    Ok(seats)
+}
+
+// The pass of the one seat.
+fn only<P: Drop>(mut passes: Vec<P>) -> P
+    requires one { length passes.items ≡ 1 }
+    ensures { passes.items ≡ result ∷ [] }
+{
+    let Some(pass) = passes.pop() else {
+        unreachable!()
+    };
+    pass
+}
+
+// The section of a client of which nothing was asked yet.
+fn section(alloc: Global) -> Result<Section, AllocError>
+    ensures { IfOk result (λ section. section ≡ session_section []) }
+{
+    let Ok(name) = Name::new(alloc, "wire") else {
+        return Err(AllocError);
+    };
+    let mut lines = ScriptLines::new(alloc);
+    lines.push(ScriptLine {
+        line: u32::MAX,
+        text: LineText::new(alloc, "\\quit")?,
+        act: Act::Quit,
+    })?;
+    Ok(Section {
+        no: SessionNo::new(1),
+        name,
+        db: DbOid::new(1),
+        lines,
+        note_lines: NOTE_LINES_MAX as u32,
+    })
+}
