@@ -88,7 +88,7 @@ fn ending_of(status: Status) -> &'static str {
 }
 
 // How a run ends, over any source and sink: so no clause of the call has to be computed for those in memory.
-fn status_of<S: Source, K: Sink, R: Threads + Wait + Sync>(
+fn status_of<S: Source, K: Sink + Send, R: Threads + Wait + Sync>(
     rt: &R,
     alloc: Global,
     words: &[&str],
