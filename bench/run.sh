@@ -48,8 +48,8 @@
 #
 # Then come live runs:
 #
-#   at its end            60,000 lines of self-notify, and the text once the run has ended
-#   live                  the same lines with --live; it may take twice the processor time
+#   60,000 notifications, at its end   self-notify, and the text once the run has ended
+#   60,000 notifications, live         the same with --live; it may take twice the processor time
 #
 # and how soon the lines of a live run are there, by bench/live.
 #
@@ -290,8 +290,8 @@ drill() {
 measure_live() {
     made load 'print "LISTEN c"; for (i = 0; i < n; i++) print "NOTIFY c, \047p\047"' 60000
     at_end=$("$root/bench/timed" 5 "$room/load" "$room/output" "$room/errors" "$program" run) || refused load $?
-    live=$("$root/bench/timed" 5 "$room/load" "$room/output" "$room/errors" "$program" run --live) || refused load $?
-    printf '%s %s\n' "$at_end" "$live" | awk '{
+    as_it_goes=$("$root/bench/timed" 5 "$room/load" "$room/output" "$room/errors" "$program" run --live) || refused load $?
+    printf '%s %s\n' "$at_end" "$as_it_goes" | awk '{
         printf "60,000 notifications, at its end %8.1f ms of processor time %8.1f ms of wall time\n", $1, $2
         printf "60,000 notifications, live       %8.1f ms of processor time %8.1f ms of wall time\n", $3, $4
         if ($3 > 2 * $1) { print "bench: a live run takes more than twice the processor time" >"/dev/stderr"; exit 1 }
