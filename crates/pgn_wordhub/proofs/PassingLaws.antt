@@ -12,11 +12,11 @@ use Rattle.pgn_base.specs.declared.format.Format.TheVariants.{One}
 use Rattle.pgn_base.specs.declared.note.Note.{Note}
 use Rattle.pgn_journal.specs.Interest.{Covers}
 use Rattle.pgn_journal.specs.Bytes.{four_bytes, header, spelled}
-use Rattle.pgn_journal.specs.Packing.{Sender, cells_in, filled_cells}
+use Rattle.pgn_journal.specs.Packing.{Sender, filled_cells}
 use Rattle.pgn_journal.specs.Pieces.{Piece, AnEntry, piece_bytes}
 use Rattle.pgn_journal.proofs.PackingLemmas.{four_below}
 use Rattle.pgn_journal.proofs.PieceLaws.{piece_has_bytes, cells_hold_numbers}
-use Rattle.pgn_wordhub.specs.Walks.{StandsAt, sum_to_zero}
+use Rattle.pgn_wordhub.specs.Walks.{StandsAt, IsCell, sum_to_zero}
 use Rattle.pgn_wordhub.proofs.WayLaws.{cell_of}
 
 -- a byte that is not zero counts, and one that is zero ends the sum
@@ -80,15 +80,20 @@ cell_bytes_at (a ∷ b ∷ c ∷ d ∷ bytes) (suc k) within small =
     ∙ ap (λ (n : ℕ). four_bytes (from_le_bytes w32 (drop (4 * k) bytes)) ++ drop n (a ∷ b ∷ c ∷ d ∷ bytes)) next
     ∙ cell_bytes_at bytes k (omega (arith, within)) rest ∙ ap (λ (n : ℕ). drop n (a ∷ b ∷ c ∷ d ∷ bytes)) (sym here)
 
--- what is left to sum at a cell of a piece, by that cell
-pub left_at : (cells : List (Option ℕ)) (at k x : ℕ) (piece : Piece) → StandsAt cells at piece → 4 * k + 4 < length (piece_bytes One piece) + 1 → ((n : ℕ) → slice_get cells (at + k) ≡ Some (Some n) → x ≡ n)
-    → sum_to_zero (drop (4 * k) (piece_bytes One piece)) ≡ sum_to_zero (four_bytes x ++ drop (4 * (k + 1)) (piece_bytes One piece))
-left_at cells at k x piece stands within is =
+-- a loaded cell of a piece is its next four bytes
+pub cell_is : (cells : List (Option ℕ)) (at k x : ℕ) (piece : Piece) → StandsAt cells at piece → 4 * k + 4 < length (piece_bytes One piece) + 1 → IsCell cells (at + k) x
+    → four_bytes x ++ drop (4 * (k + 1)) (piece_bytes One piece) ≡ drop (4 * k) (piece_bytes One piece)
+cell_is cells at k x piece stands within is =
     let bytes = piece_bytes One piece in
     let n = from_le_bytes w32 (drop (4 * k) bytes) in
     let held : slice_get (filled_cells bytes) k ≡ Some (Some n) = cells_hold_numbers bytes k (omega (arith, within)) in
     let same : x ≡ n = is n (cell_of cells at k n piece stands held) in
-    sym (ap sum_to_zero (ap (λ (m : ℕ). four_bytes m ++ drop (4 * (k + 1)) bytes) same ∙ cell_bytes_at bytes k within (piece_has_bytes.below One piece stands.readable)))
+    ap (λ (m : ℕ). four_bytes m ++ drop (4 * (k + 1)) bytes) same ∙ cell_bytes_at bytes k within (piece_has_bytes.below One piece stands.readable)
+
+-- what is left to sum at a cell of a piece, by that cell
+pub left_at : (cells : List (Option ℕ)) (at k x : ℕ) (piece : Piece) → StandsAt cells at piece → 4 * k + 4 < length (piece_bytes One piece) + 1 → IsCell cells (at + k) x
+    → sum_to_zero (drop (4 * k) (piece_bytes One piece)) ≡ sum_to_zero (four_bytes x ++ drop (4 * (k + 1)) (piece_bytes One piece))
+left_at cells at k x piece stands within is = sym (ap sum_to_zero (cell_is cells at k x piece stands within is))
 
 -- what a cell with a zero byte adds is the last, and what another one adds is not
 pub stops_with : (so_far left more bit : ℕ) → (so_far + left) % 64 ≡ bit → left ≡ more → (so_far + more) % 64 ≡ bit

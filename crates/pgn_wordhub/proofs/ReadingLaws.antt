@@ -1,10 +1,9 @@
 -- What a reader makes of an entry.
-use Rattle.std.proofs.Common.{◌≡◌, ℕ, ◌+◌, ◌<◌, ◌==◌, ◌&&◌, Bool, true, false, cond, List, [], ◌∷◌, ◌++◌, length, take, slice_get, slice_index, Option, Some, Result, Ok, Err, OnOk, sym, refl, ap, ◌∙◌, arith}
+use Rattle.std.proofs.Common.{◌≡◌, ℕ, ◌+◌, ◌*◌, ◌≤◌, ◌==◌, ◌&&◌, Bool, true, false, cond, List, [], ◌∷◌, ◌++◌, length, take, drop, Option, Result, Ok, Err, OnOk, sym, refl, ap, ◌∙◌, arith}
 use Rattle.std.proofs.lemmas.Bool.Decides.{nat_tests}
-use Rattle.std.proofs.lemmas.Option.{slice_get_cases}
-use Rattle.std.proofs.lemmas.List.{append-nil, length-take, take-append-le}
+use Rattle.std.proofs.lemmas.List.{append-nil, append_assoc, length-append, length-take, length-take-le, take_at, take-append-drop, take-append-le}
 use Rattle.std.proofs.Math.Seq.{take-append_seam}
-use Rattle.std.specs.List.{flat_map}
+use borrow.Rule.Slice.PartMut.{put_mid, post_of}
 use Rattle.pgn_base.specs.Names.{has_name}
 use Rattle.pgn_base.specs.declared.format.Format.TheVariants.{One}
 use Rattle.pgn_base.specs.declared.note.Note.{Note}
@@ -12,11 +11,9 @@ use Rattle.pgn_base.specs.declared.note.Delivery.{Delivery}
 use Rattle.pgn_journal.specs.declared.tx.Tx.{Tx}
 use Rattle.pgn_journal.specs.Journal.{entry}
 use Rattle.pgn_journal.specs.Bytes.{four_bytes}
-use Rattle.pgn_journal.specs.Packing.{Sender, filled_cells, cells_in}
-use Rattle.pgn_journal.specs.Pieces.{Piece, AnEntry, piece_bytes, gives, delivery_of}
-use Rattle.pgn_journal.proofs.PieceLaws.{piece_has_bytes, numbers_give_bytes}
-use Rattle.pgn_wordhub.specs.Walks.{StandsAt, IsDueEntry, IsEntryAt}
-use Rattle.pgn_wordhub.proofs.WayLaws.{cell_of}
+use Rattle.pgn_journal.specs.Packing.{Sender}
+use Rattle.pgn_journal.specs.Pieces.{AnEntry, piece_bytes, gives, delivery_of}
+use Rattle.pgn_wordhub.specs.Walks.{IsDueEntry, IsEntryAt}
 
 -- what an entry of the reader's database gives, by whether it is due
 pub gives_when : (db : ℕ) (channels : List (List ℕ)) (committed : ℕ → Bool) (note : Note) (sender : Sender) (b : Bool) → sender.db ≡ db → b ≡ (has_name channels note.channel && committed sender.xid)
@@ -38,15 +35,22 @@ pub adds_nothing : (db : ℕ) (channels : List (List ℕ)) (committed : ℕ → 
 adds_nothing db channels committed got note sender of_db other =
     sym (append-nil got) ∙ ap (λ l. got ++ l) (sym (gives_when db channels committed note sender false of_db (sym (ap (λ b. b && committed sender.xid) other))))
 
--- cells that were loaded give the bytes of the piece
-pub loaded_bytes : (cells : List (Option ℕ)) (at : ℕ) (piece : Piece) (numbers : List ℕ) → StandsAt cells at piece → length numbers ≡ cells_in (length (piece_bytes One piece))
-    → ((k x : ℕ) → k < length numbers → slice_get cells (at + k) ≡ Some (Some x) → slice_index numbers k ≡ x) → flat_map four_bytes numbers ≡ piece_bytes One piece
-loaded_bytes cells at piece numbers stands long are =
-    numbers_give_bytes (piece_bytes One piece) numbers (piece_has_bytes.whole One piece stands.readable) (piece_has_bytes.below One piece stands.readable) long
-    (λ k n is. are k n (within k n is) (cell_of cells at k n piece stands is))
-  where
-    within : (k n : ℕ) → slice_get (filled_cells (piece_bytes One piece)) k ≡ Some (Some n) → k < length numbers
-    within k n is = let inside = Rattle.std.proofs.lemmas.Option.slice_get_within (filled_cells (piece_bytes One piece)) k (Some n) is in let all = Rattle.pgn_journal.proofs.PackingLemmas.length-filled_cells (piece_bytes One piece) in omega (arith, inside, all, long)
+-- one cell more of some bytes is loaded
+pub loads_cell : (bytes page part rest : List ℕ) (k behind x : ℕ) → 4 * k ≤ length page → take (4 * k) page ≡ take (4 * k) bytes → four_bytes x ++ drop (4 * (k + 1)) bytes ≡ drop (4 * k) bytes
+    → part ≡ four_bytes x ++ rest → take (4 * (k + 1)) (put_mid (4 * k) behind page part) ≡ take (4 * (k + 1)) bytes
+loads_cell bytes page part rest k behind x room before is part_is =
+    let n = 4 * (k + 1) in
+    let front : List ℕ = take (4 * k) page in
+    let four : List ℕ = four_bytes x in
+    let last : List ℕ = post_of (4 * k) behind page in
+    let front_long : length front ≡ 4 * k = length-take-le (4 * k) page room in
+    let both = length-append front four in
+    let long : length (front ++ four) ≡ n = omega (arith, front_long, both) in
+    let loaded : front ++ (part ++ last) ≡ (front ++ four) ++ (rest ++ last) =
+    ap (λ (l : List ℕ). front ++ (l ++ last)) part_is ∙ ap (λ (l : List ℕ). front ++ l) (append_assoc four rest last) ∙ sym (append_assoc front four (rest ++ last)) in
+    let all : bytes ≡ (front ++ four) ++ drop n bytes =
+    sym (take-append-drop (4 * k) bytes) ∙ ap (λ (l : List ℕ). l ++ drop (4 * k) bytes) (sym before) ∙ ap (λ (l : List ℕ). front ++ l) (sym is) ∙ sym (append_assoc front four (drop n bytes)) in
+    ap (take n) loaded ∙ take_at (front ++ four) (rest ++ last) n long ∙ sym (ap (take n) all ∙ take_at (front ++ four) (drop n bytes) n long)
 
 -- the bytes of an entry of a finished transaction that lies at a place
 pub due_at : (cells : List (Option ℕ)) (at len db : ℕ) (seen : List Tx) (bytes : List ℕ) (note : Note) (sender : Sender) → IsEntryAt cells at len db seen note sender → bytes ≡ piece_bytes One (AnEntry note sender)

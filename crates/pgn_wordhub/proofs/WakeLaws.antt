@@ -1,5 +1,5 @@
 -- A writer that decides about the seats one after another.
-use Rattle.std.proofs.Common.{◌≡◌, ℕ, zero, suc, ◌+◌, ◌-◌, ◌*◌, ◌/◌, ◌%◌, ◌==◌, ◌<◌, ◌≤◌, not, slice_index, Bool, false, List, [], ◌∷◌, ◌++◌, length, take, replicate, map, set, get_or, slice_index_or, All, sym, refl, ap, ◌∙◌, subst, arith}
+use Rattle.std.proofs.Common.{◌≡◌, ℕ, zero, suc, ◌+◌, ◌-◌, ◌*◌, ◌/◌, ◌%◌, ◌==◌, ◌<◌, ◌≤◌, slice_index, Bool, false, List, [], ◌∷◌, ◌++◌, length, take, replicate, map, set, get_or, slice_index_or, All, sym, refl, ap, ◌∙◌, subst, arith}
 use Rattle.std.proofs.lemmas.List.{length-take-le, length-map}
 use Rattle.std.proofs.lemmas.Nat.Bits.{bit_at-zero}
 use Rattle.std.specs.Int.{bit_at}

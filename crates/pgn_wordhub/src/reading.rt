@@ -127,24 +127,6 @@ impl WordHub {
         sum
     }
 
-    // The cells from a place on.
-    fn load_cells(&self, pass: &mut WordPass, at: Pos, words: &mut [u32])
-        requires own { IsPassOf self.now.queue pass.old }
-        requires shown { (view_of pass.old).walk.stage ≡ stages.Shown }
-        requires from { (view_of pass.old).post.at ≤ at }
-        requires low { at + length words.old < 2 ^ 64 }
-        ensures own { IsPassOf self.now.queue pass.new }
-        ensures view { view_of pass.new ≡ view_of pass.old }
-        ensures long { length words.new ≡ length words.old }
-        ensures cells { (k x : ℕ) → k < length words.new → slice_get (shown_cells (view_of pass.old)) (at + k) ≡ Some (Some x) → slice_index words.new k ≡ x }
-    {
-        let mut word = self.queue.word_of_cell(at);
-        for k in 0..words.len() {
-            words[k] = self.cell(pass, word);
-            word = self.queue.next_word(word);
-        }
-    }
-
     // Whether a finished transaction committed.
     fn committed(&self, pass: &mut WordPass, xid: Xid) -> bool
         requires own { IsPassOf self.now.queue pass.old }
@@ -161,20 +143,21 @@ impl WordHub {
     }
 
     // Loads the bytes of the entry at a place.
-    fn load_bytes(&self, pass: &mut WordPass, at: Pos, words: &mut [u32], page: &mut [u8])
+    fn load_bytes(&self, pass: &mut WordPass, at: Pos, page: &mut [u8])
         requires own { IsPassOf self.now.queue pass.old }
         requires shown { (view_of pass.old).walk.stage ≡ stages.Shown }
         requires from { (view_of pass.old).post.at ≤ at }
-        requires low { at + length words.old < 2 ^ 64 }
-        requires long { length page.old ≡ 4 * length words.old }
         ensures own { IsPassOf self.now.queue pass.new }
         ensures view { view_of pass.new ≡ view_of pass.old }
         ensures bytes { (piece : Piece) → StandsAt (shown_cells (view_of pass.old)) at piece → length page.old ≡ length (piece_bytes One piece) → page.new ≡ piece_bytes One piece }
-        ensures words { length words.new ≡ length words.old }
         ensures page { length page.new ≡ length page.old }
     {
-        self.load_cells(pass, at, words);
-        LittleEndian::write_u32_into(words, page);
+        let mut word = self.queue.word_of_cell(at);
+        for k in 0..page.len() / CELL_BYTES {
+            let cell = self.cell(pass, word);
+            LittleEndian::write_u32(&mut page[CELL_BYTES * k..], cell);
+            word = self.queue.next_word(word);
+        }
     }
 
     // Reads from the mark up to the first unfinished number.
@@ -302,16 +285,13 @@ impl Reader<'_> {
         &self,
         pass: &mut WordPass,
         at: Pos,
-        words: &mut [u32],
         bytes: &mut [u8],
         out: &mut Vec<Delivery>,
     ) -> Result<(), AllocError>
         requires own { IsPassOf self.now.hub.now.queue pass.old }
         requires shown { (view_of pass.old).walk.stage ≡ stages.Shown }
         requires from { (view_of pass.old).post.at ≤ at }
-        requires low { at < 2 ^ 32 }
         requires reach { length (known_of pass.old).seen ≤ notes_of_seats (hub_shape self.now.hub.now).seats }
-        requires words { length bytes.old ≡ 4 * length words.old }
         requires entry { HasEntryAt (shown_cells (view_of pass.old)) at (length bytes.old) (known_of pass.old).db (known_of pass.old).seen }
         ensures own { IsPassOf self.now.hub.now.queue pass.new }
         ensures view { view_of pass.new ≡ view_of pass.old }
@@ -319,7 +299,7 @@ impl Reader<'_> {
             → out.new.items ≡ out.old.items ++ gives (known_of pass.old).db self.now.set.now.channels (committed_by (known_of pass.old).seen) (AnEntry note sender)) }
         ensures refused { OnErr result (out.new.items ≡ out.old.items) }
     {
-        self.hub.load_bytes(pass, at, words, bytes);
+        self.hub.load_bytes(pass, at, bytes);
         self.deliver(pass, bytes, out)
     }
 
@@ -334,7 +314,6 @@ impl Reader<'_> {
         requires own { IsPassOf self.now.hub.now.queue pass.old }
         requires shown { (view_of pass.old).walk.stage ≡ stages.Shown }
         requires from { (view_of pass.old).post.at ≤ at }
-        requires low { at < 2 ^ 32 }
         requires reach { length (known_of pass.old).seen ≤ notes_of_seats (hub_shape self.now.hub.now).seats }
         requires entry { HasEntryAt (shown_cells (view_of pass.old)) at len (known_of pass.old).db (known_of pass.old).seen }
         ensures own { IsPassOf self.now.hub.now.queue pass.new }
@@ -344,14 +323,11 @@ impl Reader<'_> {
         ensures refused { OnErr result (out.new.items ≡ out.old.items) }
     {
         if len <= SHORT_BYTES {
-            let mut words = [0; SHORT_BYTES / CELL_BYTES];
             let mut bytes = [0; SHORT_BYTES];
-            let words = &mut words[..len / CELL_BYTES];
-            return self.take_by(pass, at, words, &mut bytes[..len], out);
+            return self.take_by(pass, at, &mut bytes[..len], out);
         }
-        let mut words = vec![in self.alloc; 0; len / CELL_BYTES]?;
         let mut bytes = vec![in self.alloc; 0; len]?;
-        self.take_by(pass, at, &mut words, &mut bytes, out)
+        self.take_by(pass, at, &mut bytes, out)
     }
 
     // Whether the set has no channel with the bit of that of an entry of so many cells. Then the entry is on none of them.
@@ -383,7 +359,6 @@ impl Reader<'_> {
         requires own { IsPassOf self.now.hub.now.queue pass.old }
         requires shown { (view_of pass.old).walk.stage ≡ stages.Shown }
         requires from { (view_of pass.old).post.at ≤ at }
-        requires low { at < 2 ^ 32 }
         requires third { third ≡ cell_word (hub_shape self.now.hub.now) (at + 2) }
         requires word { IsCellWord (hub_shape self.now.hub.now) third }
         requires reach { length (known_of pass.old).seen ≤ notes_of_seats (hub_shape self.now.hub.now).seats }
