@@ -7,7 +7,6 @@ use Rattle.std.specs.Io.KnownBytes.{Appends}
 use Rattle.pgn_base.specs.declared.limits.TheConstants.{NOTE_LINES_MAX}
 use Rattle.pgn_base.specs.declared.command.Command.TheVariants.{Bad as BadCommand}
 use Rattle.pgn_language.specs.declared.scenario.Act.{Act}
-use Rattle.pgn_language.specs.declared.scenario.Act.TheVariants.{Run}
 use Rattle.pgn_language.specs.declared.scenario.ScriptLine.{ScriptLine}
 use Rattle.pgn_language.specs.declared.scenario.Section.{Section}
 use Rattle.pgn_language.specs.Inputs.{is_note_act, note_lines_of}

@@ -1,6 +1,6 @@
 -- A query that was taken, and a session that was stopped.
-use Rattle.std.proofs.Common.{◌≡◌, ℕ, ◌+◌, ◌<◌, ◌≤◌, Bool, true, false, cond, List, [], ◌∷◌, ◌++◌, length, drop, Option, Result, Ok, Err, OnOk, OnErr, IfSome, Some, None, sym, ap, ◌∙◌, subst, refl, arith, append_assoc, append-nil, inl, inr}
-use Rattle.std.proofs.lemmas.List.{length-append, drop_all}
+use Rattle.std.proofs.Common.{◌≡◌, ℕ, ◌+◌, ◌≤◌, Bool, true, false, cond, List, [], ◌∷◌, ◌++◌, length, drop, Option, Result, Ok, Err, OnOk, OnErr, IfSome, Some, None, sym, ap, ◌∙◌, subst, refl, append_assoc, append-nil}
+use Rattle.std.proofs.lemmas.List.{length-append}
 use Rattle.std.specs.Prelude.{nat_lt}
 use Rattle.std.specs.List.{list_any}
 use lib.Seq.{drop-append_seam}
@@ -10,7 +10,7 @@ use Rattle.pgn_language.specs.declared.scenario.Act.TheVariants.{Run, Quit}
 use Rattle.pgn_language.specs.declared.scenario.ScriptLine.{ScriptLine}
 use Rattle.pgn_language.specs.declared.scenario.Section.{Section}
 use Rattle.pgn_model.specs.declared.item.Item.{Item}
-use Rattle.pgn_model.specs.declared.item.Item.TheVariants.{Line, Leave, Read}
+use Rattle.pgn_model.specs.declared.item.Item.TheVariants.{Line, Read}
 use Rattle.pgn_model.specs.Walk.{Terms, State}
 use Rattle.pgn_hub.specs.declared.known.Known.{Known}
 use Rattle.pgn_hub.specs.Shape.{Shape}
@@ -30,12 +30,12 @@ use Rattle.pgn_base.specs.declared.format.Format.{Format}
 use Rattle.pgn_base.specs.declared.note.Delivery.{Delivery}
 use Rattle.pgn_model.specs.laws.NextLine.{quit_items}
 use Rattle.pgn_session.specs.Feed.{EndsByQuit, fed}
-use Rattle.pgn_session.proofs.FeedLaws.{fed-split, fed-comes}
+use Rattle.pgn_session.proofs.FeedLaws.{fed-split}
 use Rattle.pgn_messages.specs.Messages.{act_command, answer_messages, messages, next_command}
 use Rattle.pgn_messages.specs.Laws.{after, begins_line}
 use Rattle.pgn_messages.proofs.GrowLaws.{query_answers, others_are_silent}
 use Rattle.pgn_messages.proofs.RestLaws.{line_is_put_in, one_line_begins}
-use Rattle.pgn_wire.specs.Serving.{BeginsByLine, HasStood, HasStopped, HasTaken, IsOpen, IsReadUp, RunsCommand}
+use Rattle.pgn_wire.specs.Serving.{HasStood, HasStopped, HasTaken, IsOpen, IsReadUp, RunsCommand}
 
 -- the lines that are to come after the items so far
 rest-at : (terms : Terms) (done : ℕ) (set : List (List ℕ)) (k : Known) (items : List Item) (P : State → Type 0) → IsAt terms done set k items P

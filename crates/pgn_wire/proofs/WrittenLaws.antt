@@ -1,5 +1,5 @@
 -- What stands written of an answer.
-use Rattle.std.proofs.Common.{◌≡◌, ℕ, ◌+◌, ◌<◌, List, [], ◌∷◌, ◌++◌, length, drop, Option, Some, None, Result, Ok, Err, sym, ap, ◌∙◌, subst, refl, arith, append_assoc}
+use Rattle.std.proofs.Common.{◌≡◌, ℕ, ◌+◌, ◌<◌, List, [], ◌∷◌, ◌++◌, length, drop, Option, Some, None, sym, ap, ◌∙◌, subst, arith, append_assoc}
 use Rattle.std.specs.Io.KnownBytes.{Appends}
 use Rattle.std.proofs.lemmas.List.{length-append}
 use lib.Seq.{drop-append_seam}
@@ -13,9 +13,7 @@ use Rattle.pgn_hub.specs.declared.known.Known.{Known}
 use Rattle.pgn_hub.specs.Shape.{Shape}
 use Rattle.pgn_session.specs.declared.session.Session.{Session}
 use Rattle.pgn_messages.specs.Messages.{answer_messages, messages}
-use Rattle.pgn_wire.specs.declared.wire_end.WireEnd.{WireEnd}
-use Rattle.pgn_wire.specs.declared.wire_end.WireEnd.TheVariants.{Write, Memory}
-use Rattle.pgn_wire.specs.Serving.{HasStopped, HasTaken, HasWritten, WroteWhole}
+use Rattle.pgn_wire.specs.Serving.{HasStopped, HasTaken, WroteWhole}
 
 -- a text, and behind it another
 pub appends-more : (held a b : Option (List ℕ)) (text answer whole : List ℕ) → whole ≡ text ++ answer → Appends held a text → Appends a b answer → Appends held b whole

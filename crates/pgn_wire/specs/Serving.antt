@@ -14,9 +14,8 @@ use Rattle.pgn_model.specs.Walk.{State}
 use Rattle.pgn_hub.specs.declared.known.Known.{Known}
 use Rattle.pgn_hub.specs.Shape.{Shape}
 use Rattle.pgn_session.specs.declared.session.Session.{Session}
-use Rattle.pgn_session.specs.declared.doing.Doing.TheVariants.{Lines, Over}
-use Rattle.pgn_session.specs.Standing.{StandsAt, IsServedBy, terms_of}
-use Rattle.pgn_session.specs.Whole.{HasRest}
+use Rattle.pgn_session.specs.declared.doing.Doing.TheVariants.{Lines}
+use Rattle.pgn_session.specs.Standing.{StandsAt, terms_of}
 use Rattle.pgn_session.specs.Feed.{EndsByQuit, fed}
 use Rattle.pgn_queries.specs.declared.wire_fault.WireFault.{WireFault}
 use Rattle.pgn_queries.specs.Client.{OfKnown}

@@ -1,4 +1,4 @@
-use Rattle.std.proofs.Common.{rules, ◌≡◌, ◌+◌, ◌++◌, drop, length}
+use Rattle.std.proofs.Common.{rules, ◌≡◌, ◌+◌, drop, length}
 use Rattle.pgn_language.specs.declared.scenario.Act.TheVariants.{Run}
 use Rattle.pgn_messages.specs.Messages.{answer_messages, messages}
 use Rattle.pgn_wire.proofs.WrittenLaws.{appends-more, appends-part, one-answer}

@@ -1,4 +1,3 @@
-use Rattle.pgn_wire.specs.Serving.{HasStopped}
 use Rattle.pgn_wire.proofs.TakenLaws.{on_err, query-between, query-taken, step-refused, read-refused}
 use Rattle.pgn_wire.proofs.taking.take_query.Goals as goal
 
