@@ -1,5 +1,5 @@
 -- From what came of a live run and what was written behind it to what its outcome says.
-use Rattle.std.proofs.Common.{◌≡◌, ℕ, zero, suc, ◌+◌, ◌<◌, ◌≤◌, Bool, true, false, cond, List, [], ◌∷◌, ◌++◌, length, map, drop, get_or, Option, Some, None, Result, Ok, Err, All, sym, ap, ◌∙◌, refl, subst, inl, inr, min, add-one, drop-cons, arith, append_assoc, append-nil}
+use Rattle.std.proofs.Common.{◌≡◌, ℕ, zero, suc, ◌+◌, ◌<◌, ◌≤◌, Bool, cond, List, [], ◌∷◌, ◌++◌, length, map, drop, get_or, Option, Some, None, Result, Ok, Err, All, sym, ap, ◌∙◌, refl, subst, inl, inr, min, add-one, drop-cons, arith, append_assoc, append-nil}
 use Rattle.std.specs.List.{range_with_len}
 use Rattle.std.specs.Io.KnownBytes.{Appends}
 use Rattle.std.proofs.lemmas.Bool.Decides.{eqb_tells}
@@ -7,14 +7,12 @@ use Rattle.std.proofs.lemmas.Bool.{cases_lt}
 use Rattle.std.proofs.lemmas.List.{drop_all, length-map}
 use Rattle.std.proofs.lemmas.List.Elements.{All-head, All-tail}
 use Rattle.pgn_base.specs.Outside.{AppendsPrefix, Rose}
-use Rattle.pgn_base.specs.declared.format.Format.TheVariants.{One}
 use Rattle.pgn_journal.specs.declared.tx.Tx.{Tx}
 use Rattle.pgn_language.specs.declared.scenario.Scenario.{Scenario}
 use Rattle.pgn_language.specs.declared.scenario.Section.{Section}
 use Rattle.pgn_language.specs.Inputs.{AreNumbered, IsSound}
 use Rattle.pgn_model.specs.Legal.{Legal}
 use Rattle.pgn_model.specs.Walk.{Settings, Terms}
-use Rattle.pgn_hub.specs.declared.setup.SeatSetup.{SeatSetup}
 use Rattle.pgn_hub.specs.Shape.{Shape}
 use Rattle.pgn_session.specs.declared.doing.FlagPlan.{FlagPlan}
 use Rattle.pgn_session.specs.declared.session.Session.{Session}
@@ -27,12 +25,11 @@ use Rattle.pgn_run.specs.declared.status.Status.TheVariants.{Done, WriteFault}
 use Rattle.pgn_run.specs.Run.{HasWritten, settings_with}
 use Rattle.pgn_model.specs.declared.item.Item.{Item}
 use Rattle.pgn_model.specs.declared.trace.Trace.{Trace}
-use Rattle.pgn_model.specs.Text.{joined}
 use Rattle.pgn_outlet.specs.declared.came.Came.{Came}
 use Rattle.pgn_outlet.specs.Cames.{items_of}
 use Rattle.pgn_outlet.proofs.CameLaws.{items_of-append}
 use Rattle.pgn_threads.specs.Drain.{EachMayEndWithRead, MayEndWithRead}
-use Rattle.pgn_live.specs.Lives.{AreFirst, AreWhole, ComesFirst, ComesWhole, came_from, log_of_trace, logs_of, tagged}
+use Rattle.pgn_live.specs.Lives.{AreWhole, ComesFirst, ComesWhole, came_from, log_of_trace, logs_of, tagged}
 use Rattle.pgn_live.specs.declared.lives.LiveFault.{LiveFault}
 use Rattle.pgn_live.specs.declared.lives.LiveFault.TheVariants.{Write}
 use Rattle.pgn_live.specs.Playing.{sections_of}
@@ -146,18 +143,19 @@ lasts-numbered k (items ∷ before) (trace ∷ traces) e =
 
 -- What comes last of each session, one after another.
 
-lasts-next : (told : List ℕ) (traces : List Trace) (i n : ℕ) (trace : Trace) → i < length told → i < length traces → n ≡ get_or told i n → trace ≡ get_or traces i trace
-    → lasts (drop i told) (drop i traces) ≡ came_from trace.session (drop n trace.items) ∷ lasts (drop (i + 1) told) (drop (i + 1) traces)
-lasts-next told traces i n trace h k e f =
-    let first : drop i told ≡ n ∷ drop (i + 1) told = drop-cons told i n h ∙ ap (λ (m : ℕ). m ∷ drop (suc i) told) (sym e) ∙ ap (λ (j : ℕ). n ∷ drop j told) (sym (add-one i)) in
+lasts-next : (told : List ℕ) (traces : List Trace) (i : ℕ) (trace : Trace) → i < length told → i < length traces → trace ≡ get_or traces i trace
+    → lasts (drop i told) (drop i traces) ≡ came_from trace.session (drop (get_or told i 0) trace.items) ∷ lasts (drop (i + 1) told) (drop (i + 1) traces)
+lasts-next told traces i trace h k f =
+    let n : ℕ = get_or told i 0 in
+    let first : drop i told ≡ n ∷ drop (i + 1) told = drop-cons told i 0 h ∙ ap (λ (j : ℕ). n ∷ drop j told) (sym (add-one i)) in
     let second : drop i traces ≡ trace ∷ drop (i + 1) traces = drop-cons traces i trace k ∙ ap (λ (t : Trace). t ∷ drop (suc i) traces) (sym f) ∙ ap (λ (j : ℕ). trace ∷ drop j traces) (sym (add-one i)) in
     ap (λ (ns : List ℕ). lasts ns (drop i traces)) first ∙ ap (λ (ts : List Trace). lasts (n ∷ drop (i + 1) told) ts) second
 
-pub tagged-next : (sections : List Section) (told : List ℕ) (traces : List Trace) (i n : ℕ) (trace : Trace) → i < length told → i < length traces → n ≡ get_or told i n → trace ≡ get_or traces i trace
-    → tagged sections (lasts (drop i told) (drop i traces)) ≡ tagged sections (came_from trace.session (drop n trace.items) ∷ []) ++ tagged sections (lasts (drop (i + 1) told) (drop (i + 1) traces))
-tagged-next sections told traces i n trace h k e f =
-    ap (λ (cames : List Came). tagged sections cames) (lasts-next told traces i n trace h k e f)
-    ∙ tagged-append sections (came_from trace.session (drop n trace.items) ∷ []) (lasts (drop (i + 1) told) (drop (i + 1) traces))
+pub tagged-next : (sections : List Section) (told : List ℕ) (traces : List Trace) (i : ℕ) (trace : Trace) → i < length told → i < length traces → trace ≡ get_or traces i trace
+    → tagged sections (lasts (drop i told) (drop i traces)) ≡ tagged sections (came_from trace.session (drop (get_or told i 0) trace.items) ∷ []) ++ tagged sections (lasts (drop (i + 1) told) (drop (i + 1) traces))
+tagged-next sections told traces i trace h k f =
+    ap (λ (cames : List Came). tagged sections cames) (lasts-next told traces i trace h k f)
+    ∙ tagged-append sections (came_from trace.session (drop (get_or told i 0) trace.items) ∷ []) (lasts (drop (i + 1) told) (drop (i + 1) traces))
 
 no-lasts : (told : List ℕ) → lasts told [] ≡ []
 no-lasts [] = refl

@@ -83,7 +83,7 @@ fn finish_live<H: Hub + Drop, K: Sink>(
         return Status::NoMemory;
     };
     match finish_run(alloc, hub, sessions) {
-        Ok(run) => write_end(scenario, told.as_slice(), &run, sink),
+        Ok(played) => write_end(scenario, told.as_slice(), &played, sink),
         Err(_) => Status::NoMemory,
     }
 }

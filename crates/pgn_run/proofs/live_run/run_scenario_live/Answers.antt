@@ -1,4 +1,4 @@
-use Rattle.std.proofs.Common.{◌≡◌, List, map, drop, length, ap, sym, subst, inl, inr, ◌∙◌}
+use Rattle.std.proofs.Common.{Err, List, map, drop, length, ap, sym, subst, inl, inr, ◌∙◌}
 use Rattle.std.specs.Io.KnownBytes.{Appends}
 use Rattle.std.proofs.lemmas.List.Elements.{All-same}
 use Rattle.pgn_base.specs.Outside.{AppendsPrefix}
@@ -6,8 +6,7 @@ use Rattle.pgn_session.specs.declared.session.Session.{Session}
 use Rattle.pgn_session.specs.Runs.{IsOver, IsReady, script_of}
 use Rattle.pgn_threads.proofs.ListLemmas.{same-count, written-back}
 use Rattle.pgn_live.specs.Lives.{logs_of}
-use Rattle.pgn_run.specs.Live.{EndsOver, SoFarOver}
-use Rattle.pgn_run.specs.Run.{settings_with}
+use Rattle.pgn_run.specs.Live.{EndsOver}
 use Rattle.pgn_run.proofs.LiveLaws.{Appends-more, Appends-prefix, all-numbers, due-behind, early-over, live-over, rose-from, so_far-over, still-few, still-numbered, still-opened, whole-first}
 use Rattle.pgn_run.proofs.live_run.run_scenario_live.Goals as goal
 
@@ -48,7 +47,7 @@ returns-in-Ok-run_live-clause-done g c = λ e.
     let back = written-back new (drop (length new) c.in-Ok.sessions.items) c.in-Ok.sessions.len (sym count) in
     let scripts = c.run_live.ensures.scripts ∙ ap (λ (sessions : List (Session g.row.H-Pass.Denot)). map script_of sessions) c.as_mut_slice.ensures.value ∙ c.in-Ok.ensures.scripts in
     live-over c.args.scenario.now (g.H.Hub.shape c.in-Ok.hub) c.args.pages c.args.patience new (Appends (g.K.Sink.held c.args.sink.now) (g.K.Sink.held c.run_live.new.sink)) (Appends (g.K.Sink.held c.args.sink.now) (g.K.Sink.held c.finish_live.new.sink)) (Appends (g.K.Sink.held c.run_live.new.sink) (g.K.Sink.held c.finish_live.new.sink))
-    (still-opened c.args.scenario.now (g.H.Hub.shape c.in-Ok.hub) c.args.pages c.args.patience new c.requires.sound c.in-Ok.ensures.shape scripts) (Appends-more (g.K.Sink.held c.args.sink.now) (g.K.Sink.held c.run_live.new.sink) (g.K.Sink.held c.finish_live.new.sink)) (rw c.as_slice.ensures at c.in-Ok-run_live.ensures.done)
+    (still-opened c.args.scenario.now (g.H.Hub.shape c.in-Ok.hub) c.args.pages c.args.patience new c.requires.sound c.in-Ok.ensures.shape scripts) (Appends-more (g.K.Sink.held c.args.sink.now) (g.K.Sink.held c.run_live.new.sink) (g.K.Sink.held c.finish_live.new.sink)) (rw c.as_slice-sections.ensures at c.in-Ok-run_live.ensures.done)
     (subst (λ (xs : List (Session g.row.H-Pass.Denot)). EndsOver c.args.scenario.now (g.H.Hub.shape c.in-Ok.hub) xs (Appends (g.K.Sink.held c.run_live.new.sink) (g.K.Sink.held c.finish_live.new.sink))) back (c.finish_live.ensures.done e))
 
 pub returns-in-Ok-run_live-clause-write_fault_writes_a_prefix : goal.returns-in-Ok-run_live-clause-write_fault_writes_a_prefix
@@ -58,7 +57,7 @@ returns-in-Ok-run_live-clause-write_fault_writes_a_prefix g c = λ e.
     let back = written-back new (drop (length new) c.in-Ok.sessions.items) c.in-Ok.sessions.len (sym count) in
     let scripts = c.run_live.ensures.scripts ∙ ap (λ (sessions : List (Session g.row.H-Pass.Denot)). map script_of sessions) c.as_mut_slice.ensures.value ∙ c.in-Ok.ensures.scripts in
     inl (live-over c.args.scenario.now (g.H.Hub.shape c.in-Ok.hub) c.args.pages c.args.patience new (Appends (g.K.Sink.held c.args.sink.now) (g.K.Sink.held c.run_live.new.sink)) (AppendsPrefix (g.K.Sink.held c.args.sink.now) (g.K.Sink.held c.finish_live.new.sink)) (AppendsPrefix (g.K.Sink.held c.run_live.new.sink) (g.K.Sink.held c.finish_live.new.sink))
-    (still-opened c.args.scenario.now (g.H.Hub.shape c.in-Ok.hub) c.args.pages c.args.patience new c.requires.sound c.in-Ok.ensures.shape scripts) (Appends-prefix (g.K.Sink.held c.args.sink.now) (g.K.Sink.held c.run_live.new.sink) (g.K.Sink.held c.finish_live.new.sink)) (rw c.as_slice.ensures at c.in-Ok-run_live.ensures.done)
+    (still-opened c.args.scenario.now (g.H.Hub.shape c.in-Ok.hub) c.args.pages c.args.patience new c.requires.sound c.in-Ok.ensures.shape scripts) (Appends-prefix (g.K.Sink.held c.args.sink.now) (g.K.Sink.held c.run_live.new.sink) (g.K.Sink.held c.finish_live.new.sink)) (rw c.as_slice-sections.ensures at c.in-Ok-run_live.ensures.done)
     (subst (λ (xs : List (Session g.row.H-Pass.Denot)). EndsOver c.args.scenario.now (g.H.Hub.shape c.in-Ok.hub) xs (AppendsPrefix (g.K.Sink.held c.run_live.new.sink) (g.K.Sink.held c.finish_live.new.sink))) back (c.finish_live.ensures.write_fault_writes_a_prefix e)))
 
 pub returns-in-Ok-run_live-clause-no_memory_writes_first_lines : goal.returns-in-Ok-run_live-clause-no_memory_writes_first_lines
@@ -67,7 +66,7 @@ returns-in-Ok-run_live-clause-no_memory_writes_first_lines g c = λ e.
     let scripts = c.run_live.ensures.scripts ∙ ap (λ (sessions : List (Session g.row.H-Pass.Denot)). map script_of sessions) c.as_mut_slice.ensures.value ∙ c.in-Ok.ensures.scripts in
     inr (rw (c.finish_live.ensures.no_memory_writes_nothing e)
     (so_far-over c.args.scenario.now (g.H.Hub.shape c.in-Ok.hub) c.args.pages c.args.patience new c.requires.sound c.in-Ok.ensures.shape scripts (Appends (g.K.Sink.held c.args.sink.now) (g.K.Sink.held c.run_live.new.sink)) c.run_live.ensures.lawful
-    (whole-first c.args.scenario.now.sections (logs_of new) (Appends (g.K.Sink.held c.args.sink.now) (g.K.Sink.held c.run_live.new.sink)) (rw c.as_slice.ensures at c.in-Ok-run_live.ensures.done))))
+    (whole-first c.args.scenario.now.sections (logs_of new) (Appends (g.K.Sink.held c.args.sink.now) (g.K.Sink.held c.run_live.new.sink)) (rw c.as_slice-sections.ensures at c.in-Ok-run_live.ensures.done))))
 
 pub returns-in-Ok-run_live-clause-write_fault : goal.returns-in-Ok-run_live-clause-write_fault
 returns-in-Ok-run_live-clause-write_fault g c = λ e. rose-from (g.K.Sink.faults c.args.sink.now) (g.K.Sink.faults c.run_live.new.sink) (g.K.Sink.faults c.finish_live.new.sink) c.run_live.ensures.later (c.finish_live.ensures.write_fault e)
@@ -79,10 +78,10 @@ pub returns-in-Err-Write-clause-write_fault_writes_a_prefix : goal.returns-in-Er
 returns-in-Err-Write-clause-write_fault_writes_a_prefix g c = λ e.
     let new : List (Session g.row.H-Pass.Denot) = c.run_live.new.sessions in
     let scripts = c.run_live.ensures.scripts ∙ ap (λ (sessions : List (Session g.row.H-Pass.Denot)). map script_of sessions) c.as_mut_slice.ensures.value ∙ c.in-Ok.ensures.scripts in
-    inr (early-over c.args.scenario.now (g.H.Hub.shape c.in-Ok.hub) c.args.pages c.args.patience new c.requires.sound c.in-Ok.ensures.shape scripts (AppendsPrefix (g.K.Sink.held c.args.sink.now) (g.K.Sink.held c.run_live.new.sink)) c.run_live.ensures.lawful (rw c.as_slice.ensures at (c.run_live.ensures.write_writes_a_prefix c.in-Err-Write.is)))
+    inr (early-over c.args.scenario.now (g.H.Hub.shape c.in-Ok.hub) c.args.pages c.args.patience new c.requires.sound c.in-Ok.ensures.shape scripts (AppendsPrefix (g.K.Sink.held c.args.sink.now) (g.K.Sink.held c.run_live.new.sink)) c.run_live.ensures.lawful (rw c.as_slice-sections.ensures at (c.run_live.ensures.write_writes_a_prefix (c.in-Err-Write.is ∙ ap Err c.in-Err-Write.field-0-is))))
 
-pub returns-in-Err-Memory-clause-no_memory_writes_first_lines : goal.returns-in-Err-Memory-clause-no_memory_writes_first_lines
-returns-in-Err-Memory-clause-no_memory_writes_first_lines g c = λ e.
+pub returns-clause-no_memory_writes_first_lines : goal.returns-clause-no_memory_writes_first_lines
+returns-clause-no_memory_writes_first_lines g c = λ e.
     let new : List (Session g.row.H-Pass.Denot) = c.run_live.new.sessions in
     let scripts = c.run_live.ensures.scripts ∙ ap (λ (sessions : List (Session g.row.H-Pass.Denot)). map script_of sessions) c.as_mut_slice.ensures.value ∙ c.in-Ok.ensures.scripts in
-    inr (so_far-over c.args.scenario.now (g.H.Hub.shape c.in-Ok.hub) c.args.pages c.args.patience new c.requires.sound c.in-Ok.ensures.shape scripts (Appends (g.K.Sink.held c.args.sink.now) (g.K.Sink.held c.run_live.new.sink)) c.run_live.ensures.lawful (rw c.as_slice.ensures at (c.run_live.ensures.memory_writes_first_items c.in-Err-Memory.is)))
+    inr (so_far-over c.args.scenario.now (g.H.Hub.shape c.in-Ok.hub) c.args.pages c.args.patience new c.requires.sound c.in-Ok.ensures.shape scripts (Appends (g.K.Sink.held c.args.sink.now) (g.K.Sink.held c.run_live.new.sink)) c.run_live.ensures.lawful (rw c.as_slice-sections.ensures at (c.run_live.ensures.memory_writes_first_items (c.in-Err-Memory.is ∙ ap Err c.in-Err-Memory.field-0-is))))
