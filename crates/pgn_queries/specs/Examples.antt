@@ -2,8 +2,9 @@
 use Rattle.std.specs.Prelude.{ℕ, List, [], ◌∷◌, codes}
 use Rattle.pgn_base.specs.declared.command.Command.{Command}
 use Rattle.pgn_base.specs.declared.command.Command.TheVariants as command
-use Rattle.pgn_language.specs.declared.scenario.Act.TheVariants.{Run}
+use Rattle.pgn_language.specs.declared.scenario.Act.TheVariants.{Run, Quit}
 use Rattle.pgn_language.specs.declared.scenario.ScriptLine.{ScriptLine}
+use Rattle.pgn_language.specs.declared.scenario.Section.{Section}
 
 -- a Query `LISTEN c`, and one `NOTIFY c, 'x'`
 abbrev pub asks_listen : List ℕ
@@ -43,3 +44,13 @@ asks_two_ends = 81 ∷ 0 ∷ 0 ∷ 0 ∷ 6 ∷ 0 ∷ 0 ∷ []
 
 abbrev pub asks_no_utf8 : List ℕ
 asks_no_utf8 = 81 ∷ 0 ∷ 0 ∷ 0 ∷ 6 ∷ 255 ∷ 0 ∷ []
+
+-- the section of the first two queries
+abbrev pub asks_section : Section
+asks_section = record {
+  no = 1;
+  name = codes "wire";
+  db = 1;
+  lines = listen_line ∷ notify_line ∷ record { line = 4294967295; text = codes "\\quit"; act = Quit } ∷ [];
+  note_lines = 1;
+}

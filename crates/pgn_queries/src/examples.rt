@@ -4,7 +4,8 @@ ghost use Rattle.pgn_language.specs.declared.scenario.ScriptLine.{ScriptLine};
 ghost use Rattle.pgn_queries.specs.declared.wire_fault.WireFault.{WireFault};
 ghost use Rattle.pgn_queries.specs.declared.wire_fault.WireFault.TheVariants.{BadLength, BadText, BadType, Truncated};
 ghost use Rattle.pgn_queries.specs.Queries.{queries};
-ghost use Rattle.pgn_queries.specs.Examples.{asks_lf, asks_listen, asks_no_utf8, asks_nothing, asks_notify, asks_two_ends, asks_unended, listen_line, notify_line, query_line, terminates};
+ghost use Rattle.pgn_queries.specs.Script.{wire_scenario};
+ghost use Rattle.pgn_queries.specs.Examples.{asks_lf, asks_listen, asks_no_utf8, asks_nothing, asks_notify, asks_two_ends, asks_unended, asks_section, listen_line, notify_line, query_line, terminates};
 
 /// Conversations, and what they read as.
 pub fn conversations()
@@ -16,6 +17,12 @@ pub fn conversations()
     // A query without a text is an empty one; one of an LF is bad at it, and its line is empty.
     ensures no_text { queries asks_nothing (query_line 1 [] command.Empty ∷ []) None }
     ensures an_lf { queries asks_lf (query_line 1 [] (command.Bad 0) ∷ []) None }
+{}
+
+/// The scenario of the first two queries: a `\quit` stands behind them, and one of them notifies.
+pub fn scenario()
+    ensures met { wire_scenario (listen_line ∷ notify_line ∷ []) ≡ record { sections = asks_section ∷ []; flags = [] } }
+    ensures no_quit { (wire_scenario (listen_line ∷ [])).sections ≡ record asks_section { lines = listen_line ∷ [] } ∷ [] → ⊥ }
 {}
 
 /// Bytes that are refused, each at the message with the fault, and the queries before it.

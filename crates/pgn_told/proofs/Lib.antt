@@ -14,5 +14,7 @@ pub mod LineLaws
 pub mod EntryLaws
 -- the law
 pub mod TellLaws
+-- the law, of a client's bytes
+pub mod AskedLaws
 -- scripts that are no client's
 pub mod ExampleLaws
