@@ -22,6 +22,7 @@ use pgn_options::{Asked, PATIENCE_MAX, WordsFault, read_words};
 use pgn_scenario::read_scenario;
 use pgn_wordhub::WordHub;
 use std::alloc::{AllocError, Global};
+use std::mem;
 use std::sync::Wait;
 use std::thread::Threads;
 
@@ -192,7 +193,8 @@ fn drill<K: Sink + Send, R: Threads + Wait + Sync>(
     }
 }
 
-// Runs an input that was read, over a hub of this type, and lets the input go once it is a scenario.
+// Runs an input that was read, over a hub of this type, and lets the input go once it is a scenario. The scenario is not freed: the
+// program ends with this answer, and to free it piece by piece is no small part of a run.
 fn answer<H: Hub + Sync + Drop, K: Sink + Send, R: Threads + Wait + Sync>(
     rt: &R,
     alloc: Global,
@@ -212,7 +214,11 @@ fn answer<H: Hub + Sync + Drop, K: Sink + Send, R: Threads + Wait + Sync>(
     let reading = read_scenario(alloc, input.as_slice());
     drop(input);
     match reading {
-        Ok(Ok(scenario)) => play::<H, K, R>(rt, alloc, &scenario, pages, patience, shows, sink),
+        Ok(Ok(scenario)) => {
+            let status = play::<H, K, R>(rt, alloc, &scenario, pages, patience, shows, sink);
+            mem::forget(scenario);
+            status
+        }
         Ok(Err(fault)) => Status::BadScenario(fault),
         Err(AllocError) => Status::NoMemory,
     }

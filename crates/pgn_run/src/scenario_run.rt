@@ -14,11 +14,13 @@ use pgn_language::Scenario;
 use pgn_text::render;
 use pgn_threads::{Run, run_on_hub};
 use std::alloc::Global;
+use std::mem;
 use std::sync::Wait;
 use std::thread::Threads;
 
 /// Runs a scenario over a hub of this type, with a limit of so many pages, its sessions side by side, where an await takes so many
-/// looks, made or slept over. Writes what is asked for of the run to the sink.
+/// looks, made or slept over. Writes what is asked for of the run to the sink. The run is not freed: the program ends with this
+/// answer, and to free it piece by piece is a tenth of it.
 pub fn run_scenario<H: Hub + Sync + Drop, K: Sink, R: Threads + Wait + Sync>(
     rt: &R,
     alloc: Global,
@@ -41,7 +43,11 @@ pub fn run_scenario<H: Hub + Sync + Drop, K: Sink, R: Threads + Wait + Sync>(
     ensures later { K.faults sink.old ≤ K.faults sink.new }
 {
     match run_on_hub::<H, R>(rt, alloc, scenario, pages, patience) {
-        Ok(played) => write_run(scenario, print, &played, sink),
+        Ok(played) => {
+            let status = write_run(scenario, print, &played, sink);
+            mem::forget(played);
+            status
+        }
         Err(_) => Status::NoMemory,
     }
 }

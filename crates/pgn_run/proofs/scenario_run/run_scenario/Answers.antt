@@ -2,16 +2,16 @@ use Rattle.pgn_run.proofs.OverLaws.{done-over, prefix-over, fault-over, memory-o
 use Rattle.pgn_run.proofs.scenario_run.run_scenario.Goals as goal
 
 pub returns-in-Ok-clause-done : goal.returns-in-Ok-clause-done
-returns-in-Ok-clause-done g c = done-over c.args.print c.args.scenario.now _ c.in-Ok.played.journal.items c.in-Ok.played.traces.items (g.K.Sink.held c.args.sink.now) (g.K.Sink.held c.write_run.new.sink) _ _ c.write_run.result c.in-Ok.ensures.legal c.write_run.ensures.written
+returns-in-Ok-clause-done g c = done-over c.args.print c.args.scenario.now _ c.in-Ok.played.journal.items c.in-Ok.played.traces.items (g.K.Sink.held c.args.sink.now) (g.K.Sink.held c.write_run-status.new.sink) _ _ c.write_run-status.result c.in-Ok.ensures.legal c.write_run-status.ensures.written
 
 pub returns-in-Ok-clause-write_fault : goal.returns-in-Ok-clause-write_fault
-returns-in-Ok-clause-write_fault g c = fault-over _ (g.K.Sink.held c.args.sink.now) (g.K.Sink.held c.write_run.new.sink) _ _ c.write_run.result c.write_run.ensures.written
+returns-in-Ok-clause-write_fault g c = fault-over _ (g.K.Sink.held c.args.sink.now) (g.K.Sink.held c.write_run-status.new.sink) _ _ c.write_run-status.result c.write_run-status.ensures.written
 
 pub returns-in-Ok-clause-write_fault_writes_a_prefix : goal.returns-in-Ok-clause-write_fault_writes_a_prefix
-returns-in-Ok-clause-write_fault_writes_a_prefix g c = prefix-over c.args.print c.args.scenario.now _ c.in-Ok.played.journal.items c.in-Ok.played.traces.items (g.K.Sink.held c.args.sink.now) (g.K.Sink.held c.write_run.new.sink) _ _ c.write_run.result c.in-Ok.ensures.legal c.write_run.ensures.written
+returns-in-Ok-clause-write_fault_writes_a_prefix g c = prefix-over c.args.print c.args.scenario.now _ c.in-Ok.played.journal.items c.in-Ok.played.traces.items (g.K.Sink.held c.args.sink.now) (g.K.Sink.held c.write_run-status.new.sink) _ _ c.write_run-status.result c.in-Ok.ensures.legal c.write_run-status.ensures.written
 
 pub returns-in-Ok-clause-no_memory_writes_nothing : goal.returns-in-Ok-clause-no_memory_writes_nothing
-returns-in-Ok-clause-no_memory_writes_nothing g c = memory-over _ (g.K.Sink.held c.args.sink.now) (g.K.Sink.held c.write_run.new.sink) _ _ c.write_run.result c.write_run.ensures.written
+returns-in-Ok-clause-no_memory_writes_nothing g c = memory-over _ (g.K.Sink.held c.args.sink.now) (g.K.Sink.held c.write_run-status.new.sink) _ _ c.write_run-status.result c.write_run-status.ensures.written
 
 pub returns-in-Ok-clause-only : goal.returns-in-Ok-clause-only
-returns-in-Ok-clause-only g c = only-over _ (g.K.Sink.held c.args.sink.now) (g.K.Sink.held c.write_run.new.sink) _ _ c.write_run.result c.write_run.ensures.written
+returns-in-Ok-clause-only g c = only-over _ (g.K.Sink.held c.args.sink.now) (g.K.Sink.held c.write_run-status.new.sink) _ _ c.write_run-status.result c.write_run-status.ensures.written
