@@ -3,14 +3,12 @@ ghost use Rattle.std.specs.Io.KnownBytes.{WriteAppends};
 ghost use Rattle.std.specs.List.{range_with_len};
 ghost use Rattle.pgn_base.specs.Outside.{Rose};
 
-use super::{SELF_NOTIFY, SELF_NOTIFY_LINES, scenario_of};
+use super::{SELF_NOTIFY, SELF_NOTIFY_LINES, open, scenario_of};
 use pgn_base::{
-    Delivery, Enlisted, Failed, Full, ListenSet, MemSink, Note, PAGES_DEFAULT, PATIENCE_DEFAULT,
-    Sink, Usage, Xid,
+    Delivery, Enlisted, Failed, Full, ListenSet, MemSink, Note, PATIENCE_DEFAULT, Sink, Usage, Xid,
 };
 use pgn_hub::{Hub, Roll, Setup};
 use pgn_live::{LiveFault, run_live};
-use pgn_threads::open_on_hub;
 use pgn_wordhub::WordHub;
 use std::alloc::{AllocError, Global};
 use std::sync::atomic::{AtomicU64, Ordering};
@@ -194,12 +192,7 @@ fn shown_over<const TURNS: u32, R: Threads + Wait + Sync>(
     fails: &[u64],
 ) -> Result<Shown, Fail> {
     let scenario = scenario_of(alloc, SELF_NOTIFY)?;
-    let (hub, mut sessions) = open_on_hub::<Gate<TURNS>>(
-        alloc,
-        &scenario,
-        PAGES_DEFAULT,
-        PATIENCE_DEFAULT,
-    )?;
+    let (hub, mut sessions) = open::<Gate<TURNS>>(alloc, &scenario, PATIENCE_DEFAULT)?;
     let mut sink = GateSink {
         sink: MemSink::new(alloc, 1 << 12, Vec::from_slice(alloc, fails)?, most.max(1))?,
         counts: hub.counts.clone()?,

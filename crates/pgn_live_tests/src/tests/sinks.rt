@@ -1,7 +1,6 @@
-use super::{SELF_NOTIFY, SELF_NOTIFY_LINES, scenario_of};
-use pgn_base::{MemSink, PAGES_DEFAULT};
+use super::{SELF_NOTIFY, SELF_NOTIFY_LINES, open, scenario_of};
+use pgn_base::MemSink;
 use pgn_live::{LiveFault, run_live};
-use pgn_threads::open_on_hub;
 use pgn_wordhub::WordHub;
 use std::alloc::Global;
 use std::sync::Wait;
@@ -18,7 +17,7 @@ fn written<R: Threads + Wait + Sync>(
     fails: &[u64],
 ) -> Result<(Result<(), LiveFault>, String), Fail> {
     let scenario = scenario_of(alloc, input)?;
-    let (hub, mut sessions) = open_on_hub::<WordHub>(alloc, &scenario, PAGES_DEFAULT, 1_000_000)?;
+    let (hub, mut sessions) = open::<WordHub>(alloc, &scenario, 1_000_000)?;
     let mut sink = MemSink::new(alloc, 1 << 14, Vec::from_slice(alloc, fails)?, most.max(1))?;
     let sections = scenario.sections.as_slice();
     let ended = run_live(
