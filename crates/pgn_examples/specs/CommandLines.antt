@@ -60,6 +60,10 @@ numbers_of_drills =
     ∷ Some (Drill 18446744073709551615 32 1000)
     ∷ []
 
+-- `wire`, with and without `--`
+abbrev pub wires : List Line
+wires = (codes "wire" ∷ []) ∷ (codes "wire" ∷ codes "--" ∷ []) ∷ []
+
 -- words of which one number is out of its range, or none
 abbrev pub wrong_numbers : List Line
 wrong_numbers =
@@ -112,6 +116,11 @@ wrong_words =
     ∷ (codes "drill" ∷ codes "--" ∷ codes "0" ∷ codes "--" ∷ codes "1" ∷ codes "1" ∷ [])
     ∷ (codes "drill" ∷ codes "--live" ∷ codes "0" ∷ codes "1" ∷ codes "1" ∷ [])
     ∷ (codes "drill" ∷ codes "--pages" ∷ codes "2" ∷ codes "0" ∷ codes "1" ∷ codes "1" ∷ [])
+    ∷ (codes "wire" ∷ codes "wire" ∷ [])
+    ∷ (codes "wire" ∷ [] ∷ [])
+    ∷ (codes "wire" ∷ codes "--live" ∷ [])
+    ∷ (codes "wire" ∷ codes "--" ∷ codes "--" ∷ [])
+    ∷ (codes "Wire" ∷ [])
     ∷ []
 
 -- the scenario of the least drill

@@ -1,23 +1,22 @@
 -- What `clap` makes of the words of `drill` is what they give.
 use Rattle.std.proofs.Common.{◌≡◌, ◌∙◌, ℕ, ◌==◌, Bool, true, false, cond, List, [], ◌∷◌, Option, Some, None, refl, sym, ap, subst, codes, arith}
-use Rattle.std.specs.Prelude.{fold, slice_get}
+use Rattle.std.specs.Prelude.{slice_get}
 use Rattle.std.specs.Str.{bytes_eq, chars}
-use Rattle.clap.specs.Lexer.{long_of, short_of}
-use Rattle.clap.specs.Kinds.{Kinds, or_else, value_kinds}
-use Rattle.clap.specs.Faults.{check_fault, default_fault, defaults_fault, flags_fault, settle_fault, step_fault, turn_fault, walk_fault, word_fault}
+use Rattle.clap.specs.Kinds.{Kinds, or_else}
+use Rattle.clap.specs.Faults.{check_fault, default_fault, defaults_fault, flags_fault, settle_fault, step_fault, turn_fault, word_fault}
 use Rattle.clap.specs.Walk.{Held, Row, Rule, Step, Text, Walk, after_step, bundle_met, finished, has_row, idle, nothing_held, settled, value, walk_from, walked, with_default, word_met}
 use Rattle.clap.specs.Simple.{Shape, new_rule, new_shape}
 use Rattle.clap.specs.declared.builder.action.ArgAction.TheVariants.{Set}
 use Rattle.clap.specs.declared.builder.value_parser.Reading.TheVariants.{AsWritten}
 use Rattle.clap.specs.declared.builder.value_parser.ValueParser.TheVariants.{Unsigned}
 use Rattle.clap.specs.declared.parser.matches.ValueSource.TheVariants.{CommandLine}
-use Rattle.clap.specs.declared.error.kind.ErrorKind.TheVariants.{MissingRequiredArgument, UnknownArgument}
+use Rattle.clap.specs.declared.error.kind.ErrorKind.TheVariants.{UnknownArgument}
 use Rattle.pgn_options.specs.declared.asked.Asked.{Asked}
-use Rattle.pgn_options.specs.declared.asked.Asked.TheVariants.{Run, Drill}
+use Rattle.pgn_options.specs.declared.asked.Asked.TheVariants.{Run, Drill, Wire}
 use Rattle.pgn_options.specs.Words.{drill_of, drill_with, number_in, without_dashes}
 use Rattle.pgn_options.proofs.NumberLaws.{either, hyphen, passed, refused}
-use Rattle.pgn_options.proofs.TotalLaws.{Agrees, agrees-step, both-none, ending, found, later-step, or-first, or-second, total, total-nil, wrong-step}
-use Rattle.pgn_options.proofs.FormLaws.{Form, IsNoLong, dashes, form, long, plain, short}
+use Rattle.pgn_options.proofs.TotalLaws.{Agrees, agrees-step, both-none, ending, found, or-first, or-second, total, total-nil, wrong-step}
+use Rattle.pgn_options.proofs.FormLaws.{Form, dashes, form, long, plain, short}
 
 -- The three words, each with its range.
 pub data Place : Type 0 where
@@ -80,6 +79,7 @@ IsDrill (Run pages patience live) rows = ⊥
 IsDrill (Drill seed sessions notes) rows =
     (a : Text) × (b : Text) × (c : Text) × (rows ≡ row Seed a ∷ row Sessions b ∷ row Notes c ∷ [])
     × (number_of Seed a ≡ Some seed) × (number_of Sessions b ≡ Some sessions) × (number_of Notes c ≡ Some notes)
+IsDrill Wire rows = ⊥
 
 -- the words that stand in their places, the last of which is not tested yet
 data Placed : Type 0 where

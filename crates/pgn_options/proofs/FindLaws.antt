@@ -1,5 +1,5 @@
 -- What a command that was found asks for.
-use Rattle.std.proofs.Common.{◌≡◌, ◌∙◌, ℕ, ◌≤◌, Bool, true, false, List, Option, Some, None, Result, Ok, Err, refl, ap, sym, subst, codes, arith}
+use Rattle.std.proofs.Common.{◌≡◌, ℕ, ◌≤◌, true, false, List, Option, Some, None, Result, Ok, refl, ap, subst, codes, arith}
 use Rattle.std.specs.Prelude.{Box, option_map, unwrap_or}
 use Rattle.std.specs.Box.{box_value}
 use Rattle.std.specs.Str.{bytes_eq}
@@ -11,9 +11,9 @@ use Rattle.clap.specs.declared.parser.matches.ArgMatches.{ArgMatches}
 use Rattle.clap.specs.declared.parser.matches.ArgMatches.TheViews.{out-ArgMatches, out-SubCommand}
 use Rattle.clap.specs.declared.parser.matches.SubCommand.{SubCommand}
 use Rattle.pgn_options.specs.declared.asked.Asked.{Asked}
-use Rattle.pgn_options.specs.declared.asked.Asked.TheVariants.{Drill}
+use Rattle.pgn_options.specs.declared.asked.Asked.TheVariants.{Drill, Wire}
 use Rattle.pgn_options.specs.declared.reading.WordsFault.{WordsFault}
-use Rattle.pgn_options.specs.Parse.{Finds, FindsDrill, FindsNumbers, FindsRun, IsFoundAs}
+use Rattle.pgn_options.specs.Parse.{Finds, FindsDrill, FindsNumbers, FindsRun, FindsWire, IsFoundAs}
 use Rattle.pgn_options.specs.Words.{IsWithin}
 use Rattle.pgn_options.proofs.ReadLaws.{number-is}
 
@@ -25,17 +25,34 @@ name-of m = go (out-ArgMatches m).subcommand
     go None = refl
     go (Some b) = refl
 
--- another name than `run` is `drill`
+-- `drill`, which is another name than `run`
 pub finds-drill : (s : Option (Text × List Row)) (asked : Asked) (name : Text) (rows : List Row) (r : Result Asked WordsFault)
     → Finds s asked → Some name ≡ option_map (λ p. p.0) s → Some rows ≡ option_map (λ p. p.1) s → bytes_eq name (codes "run") ≡ false
-    → ((seed sessions notes : ℕ) → FindsNumbers rows seed sessions notes → r ≡ Ok (Drill seed sessions notes)) → r ≡ Ok asked
-finds-drill _ _ name rows r (FindsRun there given f) named has other gives =
+    → bytes_eq name (codes "drill") ≡ true → ((seed sessions notes : ℕ) → FindsNumbers rows seed sessions notes → r ≡ Ok (Drill seed sessions notes)) → r ≡ Ok asked
+finds-drill _ _ name rows r (FindsRun there given f) named has other drill gives =
     let same : name ≡ codes "run" = cc in
     let is : bytes_eq name (codes "run") ≡ true = (bytes_eq-Decides name (codes "run")).1 same in
     absurd (cc)
-finds-drill _ _ name rows r (FindsDrill there seed sessions notes f) named has other gives =
+finds-drill _ _ name rows r (FindsDrill there seed sessions notes f) named has other drill gives =
     let same : there ≡ rows = cc in
     gives seed sessions notes (subst (λ (x : List Row). FindsNumbers x seed sessions notes) same f)
+finds-drill _ _ name rows r (FindsWire there) named has other drill gives =
+    let same : name ≡ codes "wire" = cc in
+    let is : bytes_eq name (codes "drill") ≡ false = ap (λ (n : Text). bytes_eq n (codes "drill")) same in
+    absurd (cc)
+
+-- another name than these two is `wire`
+pub finds-wire : (s : Option (Text × List Row)) (asked : Asked) (name : Text) → Finds s asked → Some name ≡ option_map (λ p. p.0) s
+    → bytes_eq name (codes "run") ≡ false → bytes_eq name (codes "drill") ≡ false → asked ≡ Wire
+finds-wire _ _ name (FindsRun there given f) named run drill =
+    let same : name ≡ codes "run" = cc in
+    let is : bytes_eq name (codes "run") ≡ true = (bytes_eq-Decides name (codes "run")).1 same in
+    absurd (cc)
+finds-wire _ _ name (FindsDrill there seed sessions notes f) named run drill =
+    let same : name ≡ codes "drill" = cc in
+    let is : bytes_eq name (codes "drill") ≡ true = (bytes_eq-Decides name (codes "drill")).1 same in
+    absurd (cc)
+finds-wire _ _ name (FindsWire there) named run drill = refl
 
 -- the numbers of what was found are those that a command may give
 pub finds-within : (s : Option (Text × List Row)) (asked : Asked) → Finds s asked → IsWithin asked
@@ -54,3 +71,4 @@ finds-within _ _ (FindsDrill rows seed sessions notes f) =
     let a = number-is 1 32 f.second.0 sessions f.second.2 in
     let b = number-is 1 1000 f.third.0 notes f.third.2 in
     (a.2, a.1, b.2, b.1)
+finds-within _ _ (FindsWire rows) = tt

@@ -1,6 +1,6 @@
 -- The forms of a word.
-use Rattle.std.proofs.Common.{◌≡◌, ◌⊎◌, inl, inr, ℕ, ◌==◌, Bool, true, false, List, [], ◌∷◌, Option, Some, None, refl, sym, subst, codes}
-use Rattle.std.specs.Prelude.{take, cond}
+use Rattle.std.proofs.Common.{◌≡◌, inl, inr, ℕ, ◌==◌, false, [], ◌∷◌, None, refl, sym, subst, codes}
+use Rattle.std.specs.Prelude.{take}
 use Rattle.std.specs.Str.{bytes_eq}
 use Rattle.std.proofs.lemmas.Bool.Decides.{eqb_tells}
 use Rattle.clap.specs.Lexer.{long_of, short_of}

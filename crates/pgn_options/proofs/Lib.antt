@@ -4,5 +4,6 @@ pub mod FormLaws
 pub mod RunLaws
 pub mod ReadLaws
 pub mod DrillLaws
+pub mod WireLaws
 pub mod FindLaws
 pub mod WordsLaws

@@ -1,27 +1,24 @@
 -- What `clap` makes of the words of `run` is what they give.
-use Rattle.std.proofs.Common.{◌≡◌, ◌∙◌, ◌⊎◌, inl, inr, ℕ, ◌==◌, ◌||◌, ◌&&◌, Bool, true, false, cond, List, [], ◌∷◌, ◌++◌, ◌≤◌, append-nil, Option, Some, None, is_some, refl, sym, ap, subst, codes, arith}
+use Rattle.std.proofs.Common.{◌≡◌, ◌∙◌, ℕ, ◌==◌, ◌||◌, ◌&&◌, Bool, true, false, cond, List, [], ◌∷◌, ◌++◌, ◌≤◌, append-nil, Option, Some, None, is_some, refl, sym, ap, subst, codes, arith}
 use Rattle.std.specs.Prelude.{fold, map, option_map, option_and_then, slice_get, drop, take}
 use Rattle.std.specs.Str.{bytes_eq, chars}
-use Rattle.std.specs.List.{before_first, after_first, list_any}
-use Rattle.std.proofs.lemmas.Slice.Eq.{bytes_eq-Decides}
-use Rattle.clap.specs.Lexer.{long_of, short_of}
-use Rattle.clap.specs.ValueTests.{accepts}
+use Rattle.std.specs.List.{before_first}
+use Rattle.clap.specs.Lexer.{short_of}
 use Rattle.clap.specs.Kinds.{Kinds, or_else, value_kinds}
-use Rattle.clap.specs.Faults.{defaults_fault, default_fault, flags_fault, long_fault, option_fault, react_fault, settle_fault, step_fault, turn_fault, use_fault, walk_fault}
+use Rattle.clap.specs.Faults.{defaults_fault, default_fault, flags_fault, long_fault, option_fault, react_fault, settle_fault, step_fault, turn_fault, use_fault}
 use Rattle.clap.specs.Walk.{Held, Row, Rule, Text, Waiting, Walk, after_flag, after_step, arg_by_long, at_row, bundle_met, finished, has_row, idle, more_values, one_of, with_values, without, long_met, nothing_held, option as waits_for, settled, takes_values, used, walk_from, walked, with_default}
 use Rattle.clap.specs.Simple.{Shape, new_rule, new_shape}
 use Rattle.clap.specs.declared.builder.action.ArgAction.TheVariants.{Set, SetTrue}
 use Rattle.clap.specs.declared.builder.value_parser.Reading.{Reading}
 use Rattle.clap.specs.declared.builder.value_parser.Reading.TheVariants.{AsWritten}
-use Rattle.clap.specs.declared.builder.value_parser.ValueParser.{ValueParser}
 use Rattle.clap.specs.declared.builder.value_parser.ValueParser.TheVariants.{Bool as Bools, Unsigned}
 use Rattle.clap.specs.declared.parser.matches.ValueSource.{ValueSource}
 use Rattle.clap.specs.declared.parser.matches.ValueSource.TheVariants.{CommandLine, DefaultValue}
-use Rattle.clap.specs.declared.error.kind.ErrorKind.TheVariants.{ArgumentConflict, InvalidValue, TooManyValues, UnknownArgument, ValueValidation}
+use Rattle.clap.specs.declared.error.kind.ErrorKind.TheVariants.{ArgumentConflict, InvalidValue, TooManyValues, UnknownArgument}
 use Rattle.pgn_options.specs.Parse.{FindsOptions, IsFoundAs, IsFoundFlag}
 use Rattle.pgn_options.specs.Words.{Key, Options, Pages, Patience, Nothing, behind_equals, by_word, if_last, key_named, live_unless_set, no_options, number_in, options_after, says_behind, says_of, with_live, with_option}
 use Rattle.pgn_options.proofs.NumberLaws.{either, hyphen, passed, refused}
-use Rattle.pgn_options.proofs.TotalLaws.{Agrees, agrees-step, both-none, ending, found, later-step, or-first, or-second, total, total-nil, wrong-step}
+use Rattle.pgn_options.proofs.TotalLaws.{Agrees, agrees-step, both-none, ending, found, later-step, or-first, total, total-nil, wrong-step}
 use Rattle.pgn_options.proofs.FormLaws.{Form, IsNoLong, dashes, form, long, plain, short}
 
 abbrev least_of : Key → ℕ

@@ -1,11 +1,10 @@
 -- What is wrong with the words of a subcommand, a word at a time.
-use Rattle.std.proofs.Common.{◌≡◌, ◌∙◌, ℕ, Bool, true, false, List, [], ◌∷◌, Option, Some, None, refl, ap, sym, subst}
+use Rattle.std.proofs.Common.{◌≡◌, ◌∙◌, false, List, [], ◌∷◌, Option, Some, None, refl, ap, sym, subst}
 use Rattle.std.specs.Prelude.{fold}
 use Rattle.clap.specs.Kinds.{Kinds, or_else}
 use Rattle.clap.specs.Walk.{Held, Row, Text, Walk, finished, settled, walk_from, walked, nothing_held}
 use Rattle.clap.specs.Simple.{Shape}
 use Rattle.clap.specs.Faults.{check_fault, defaults_fault, level_fault, settle_fault, turn_fault, walk_fault}
-use Rattle.clap.specs.declared.error.kind.ErrorKind.{ErrorKind}
 
 pub or-first : (a b : Kinds) → or_else a b ≡ [] → a ≡ []
 or-first [] b e = refl

@@ -1,11 +1,11 @@
 -- What `clap` makes of all words is what they ask for.
-use Rattle.std.proofs.Common.{◌≡◌, ◌∙◌, ℕ, ◌==◌, ◌||◌, Bool, true, false, cond, List, [], ◌∷◌, ◌++◌, Option, Some, None, Result, Ok, Err, IfOk, is_some, refl, sym, ap, subst, codes, append_assoc, ◌⊎◌, inl, inr}
+use Rattle.std.proofs.Common.{◌≡◌, ◌∙◌, ℕ, Bool, true, false, cond, List, [], ◌∷◌, ◌++◌, Option, Some, None, Result, Ok, Err, IfOk, is_some, refl, sym, ap, subst, codes, append_assoc, inl, inr}
 use Rattle.std.specs.Prelude.{fold, option_map, slice_get}
 use Rattle.std.specs.Str.{bytes_eq, chars}
 use Rattle.std.proofs.lemmas.Slice.Eq.{bytes_eq-Decides}
 use Rattle.clap.specs.Kinds.{HasKind, IsAmong, Kinds, or_else}
-use Rattle.clap.specs.Faults.{built_fault, check_fault, defaults_fault, entered_fault, fault_of, flags_fault, is_simple_and_free, settle_fault, turn_fault, walk_fault}
-use Rattle.clap.specs.Walk.{Held, Names, Row, Text, Walk, bundle_met, finished, nothing_held, settled, walk, walk_from, walked}
+use Rattle.clap.specs.Faults.{check_fault, defaults_fault, entered_fault, fault_of, flags_fault, is_simple_and_free, settle_fault, turn_fault, walk_fault}
+use Rattle.clap.specs.Walk.{Names, Row, Text, Walk, bundle_met, finished, nothing_held, settled, walk_from, walked}
 use Rattle.clap.specs.Simple.{App, Shape, built, entered, is_simple, subcommand_of}
 use Rattle.clap.specs.Values.{kind_of}
 use Rattle.clap.specs.declared.error.Error.{Error}
@@ -13,28 +13,29 @@ use Rattle.clap.specs.declared.error.kind.ErrorKind.{ErrorKind}
 use Rattle.clap.specs.declared.error.kind.ErrorKind.TheVariants.{MissingSubcommand, OutOfMemory, UnknownArgument, InvalidSubcommand}
 use Rattle.clap.proofs.FaultLemmas.{stopped_fault}
 use Rattle.pgn_options.specs.declared.asked.Asked.{Asked}
-use Rattle.pgn_options.specs.declared.asked.Asked.TheVariants.{Run, Drill}
+use Rattle.pgn_options.specs.declared.asked.Asked.TheVariants.{Run, Drill, Wire}
 use Rattle.pgn_options.specs.declared.reading.WordsFault.{WordsFault}
 use Rattle.pgn_options.specs.declared.reading.WordsFault.TheVariants.{BadWords, Memory}
-use Rattle.pgn_options.specs.Parse.{Finds, FindsDrill, FindsNumbers, FindsOptions, FindsRun, program_app, program_shape}
-use Rattle.pgn_options.specs.Words.{AreNoCommand, AskFor, IsWithin, Options, asked_by, command_asked, drill_asked, drill_of, no_options, options_after, run_asked, run_with, without_dashes}
+use Rattle.pgn_options.specs.Parse.{Finds, FindsDrill, FindsNumbers, FindsOptions, FindsRun, FindsWire, program_app, program_shape}
+use Rattle.pgn_options.specs.Words.{AreNoCommand, AskFor, IsWithin, Options, asked_by, drill_asked, drill_of, no_options, options_after, run_asked, run_with, wire_asked, wire_of, without_dashes}
 use Rattle.pgn_options.proofs.TotalLaws.{Agrees, found, or-first, or-none, or-second, total}
-use Rattle.pgn_options.proofs.FormLaws.{Form, IsNoLong, dashes, form, long, plain, short}
+use Rattle.pgn_options.proofs.FormLaws.{Form, dashes, form, long, plain, short}
 use Rattle.pgn_options.proofs.RunLaws.{IsUsed, options-found, options_for, run-agrees, run_built}
 use Rattle.pgn_options.proofs.FindLaws.{finds-within}
 use Rattle.pgn_options.proofs.DrillLaws.{IsDrill, drill-agrees, drill_built}
+use Rattle.pgn_options.proofs.WireLaws.{IsWire, wire-agrees, wire_built}
 
 abbrev program_built : Shape
 program_built = record program_shape { is_leaf = false; is_built = true }
 
 abbrev app : App
-app = record { top = program_built; subs = run_built ∷ drill_built ∷ [] }
+app = record { top = program_built; subs = run_built ∷ drill_built ∷ wire_built ∷ [] }
 
 built-is : built program_app ≡ app
 built-is = refl
 
 abbrev names : Names
-names = (codes "run", []) ∷ (codes "drill", []) ∷ []
+names = (codes "run", []) ∷ (codes "drill", []) ∷ (codes "wire", []) ∷ []
 
 abbrev start : Walk
 start = walk_from nothing_held
@@ -101,6 +102,14 @@ drill-found : (words : List Text) → subcommand_of program_app (codes "drill" �
 unfolding walked
 drill-found words = command-found (codes "drill") words refl
 
+wire-fault : (words : List Text) → fault_of program_app (codes "wire" ∷ words) ≡ total wire_built start words
+unfolding walked walk_fault defaults_fault
+wire-fault words = command-fault (codes "wire") words wire_built refl refl refl
+
+wire-found : (words : List Text) → subcommand_of program_app (codes "wire" ∷ words) ≡ Some (codes "wire", found wire_built start words)
+unfolding walked
+wire-found words = command-found (codes "wire") words refl
+
 -- What is found of it.
 
 run-comes : (words : List Text) → Comes (run_asked words) (fault_of program_app (codes "run" ∷ words)) (subcommand_of program_app (codes "run" ∷ words))
@@ -121,11 +130,22 @@ drill-comes words = go (drill_of (without_dashes words)) _ _ _ (drill-fault word
         → Agrees IsDrill o (total drill_built start words) rows → Comes o kinds sub
     go None kinds sub rows k s h = λ e. h (sym k ∙ e)
     go (Some (Run pages patience live)) kinds sub rows k s h = absurd h.1
+    go (Some Wire) kinds sub rows k s h = absurd h.1
     go (Some (Drill seed sessions notes)) kinds sub rows k s h =
         let there : FindsNumbers rows seed sessions notes =
         subst (λ (r : List Row). FindsNumbers r seed sessions notes) (sym h.1.3)
         (record { first = (h.1.0, refl, h.1.4); second = (h.1.1, refl, h.1.5); third = (h.1.2, refl, h.1.6) }) in
         (k ∙ h.0, subst (λ (x : Option (Text × List Row)). Finds x (Drill seed sessions notes)) (sym s) (FindsDrill rows seed sessions notes there))
+
+wire-comes : (words : List Text) → Comes (wire_asked words) (fault_of program_app (codes "wire" ∷ words)) (subcommand_of program_app (codes "wire" ∷ words))
+wire-comes words = go (wire_of (without_dashes words)) _ _ _ (wire-fault words) (wire-found words) (wire-agrees words)
+  where
+    go : (o : Option Asked) (kinds : Kinds) (sub : Option (Text × List Row)) (rows : List Row) → kinds ≡ total wire_built start words → sub ≡ Some (codes "wire", rows)
+        → Agrees IsWire o (total wire_built start words) rows → Comes o kinds sub
+    go None kinds sub rows k s h = λ e. h (sym k ∙ e)
+    go (Some (Run pages patience live)) kinds sub rows k s h = absurd h.1
+    go (Some (Drill seed sessions notes)) kinds sub rows k s h = absurd h.1
+    go (Some Wire) kinds sub rows k s h = (k ∙ h.0, subst (λ (x : Option (Text × List Row)). Finds x Wire) (sym s) (FindsWire rows))
 
 -- Other first words.
 
@@ -161,31 +181,34 @@ module _ (words : List Text) where
   turn-wrong : (w : Text) → (turn_fault program_built names start w ≡ [] → ⊥) → fault_of program_app (w ∷ words) ≡ [] → ⊥
   turn-wrong w wrong e = wrong (walk-parts start w words (walk-first (w ∷ words) e)).0
 
-  other-wrong : (w : Text) → Form w → bytes_eq (codes "run") w ≡ false → bytes_eq (codes "drill") w ≡ false → fault_of program_app (w ∷ words) ≡ [] → ⊥
+  other-wrong : (w : Text) → Form w → bytes_eq (codes "run") w ≡ false → bytes_eq (codes "drill") w ≡ false → bytes_eq (codes "wire") w ≡ false → fault_of program_app (w ∷ words) ≡ [] → ⊥
   unfolding flags_fault bundle_met
-  other-wrong _ (plain w apart s) run drill =
-      turn-wrong w (λ e. let is : turn_fault program_built names start w ≡ UnknownArgument ∷ InvalidSubcommand ∷ [] = rw (run, drill, apart.not_dashes, apart.no_long, s) refl in cc)
-  other-wrong _ (short y ys differs) run drill = turn-wrong (45 ∷ y ∷ ys) (go (slice_get (chars (y ∷ ys)) 0) refl)
+  other-wrong _ (plain w apart s) run drill wire =
+      turn-wrong w (λ e. let is : turn_fault program_built names start w ≡ UnknownArgument ∷ InvalidSubcommand ∷ [] = rw (run, drill, wire, apart.not_dashes, apart.no_long, s) refl in cc)
+  other-wrong _ (short y ys differs) run drill wire = turn-wrong (45 ∷ y ∷ ys) (go (slice_get (chars (y ∷ ys)) 0) refl)
     where
       go : (o : Option ℕ) → slice_get (chars (y ∷ ys)) 0 ≡ o → turn_fault program_built names start (45 ∷ y ∷ ys) ≡ [] → ⊥
       go None c e = let is : turn_fault program_built names start (45 ∷ y ∷ ys) ≡ UnknownArgument ∷ InvalidSubcommand ∷ [] = rw (differs, differs, c) refl in cc
       go (Some x) c e = let is : turn_fault program_built names start (45 ∷ y ∷ ys) ≡ UnknownArgument ∷ [] = rw (differs, differs, c) refl in cc
-  other-wrong _ dashes run drill = dashes-fault words
-  other-wrong _ (long z zs) run drill = turn-wrong (45 ∷ 45 ∷ z ∷ zs) (λ e. let bad : UnknownArgument ∷ [] ≡ [] = e in cc)
+  other-wrong _ dashes run drill wire = dashes-fault words
+  other-wrong _ (long z zs) run drill wire = turn-wrong (45 ∷ 45 ∷ z ∷ zs) (λ e. let bad : UnknownArgument ∷ [] ≡ [] = e in cc)
 
 words-come : (words : List Text) → Comes (asked_by words) (fault_of program_app words) (subcommand_of program_app words)
 words-come [] = λ e. let bad = sym nothing-fault ∙ e in cc
-words-come (w ∷ words) = go (bytes_eq (codes "run") w) (bytes_eq (codes "drill") w) refl refl
+words-come (w ∷ words) = go (bytes_eq (codes "run") w) (bytes_eq (codes "drill") w) (bytes_eq (codes "wire") w) refl refl refl
   where
-    go : (a b : Bool) → bytes_eq (codes "run") w ≡ a → bytes_eq (codes "drill") w ≡ b
-        → Comes (cond a (run_asked words) (cond b (drill_asked words) None)) (fault_of program_app (w ∷ words)) (subcommand_of program_app (w ∷ words))
-    go true b e d =
+    go : (a b c : Bool) → bytes_eq (codes "run") w ≡ a → bytes_eq (codes "drill") w ≡ b → bytes_eq (codes "wire") w ≡ c
+        → Comes (cond a (run_asked words) (cond b (drill_asked words) (cond c (wire_asked words) None))) (fault_of program_app (w ∷ words)) (subcommand_of program_app (w ∷ words))
+    go true b c e d f =
         subst (λ (x : Text). Comes (run_asked words) (fault_of program_app (x ∷ words)) (subcommand_of program_app (x ∷ words)))
         ((bytes_eq-Decides (codes "run") w).0 e) (run-comes words)
-    go false true e d =
+    go false true c e d f =
         subst (λ (x : Text). Comes (drill_asked words) (fault_of program_app (x ∷ words)) (subcommand_of program_app (x ∷ words)))
         ((bytes_eq-Decides (codes "drill") w).0 d) (drill-comes words)
-    go false false e d = other-wrong words w (form w) e d
+    go false false true e d f =
+        subst (λ (x : Text). Comes (wire_asked words) (fault_of program_app (x ∷ words)) (subcommand_of program_app (x ∷ words)))
+        ((bytes_eq-Decides (codes "wire") w).0 f) (wire-comes words)
+    go false false false e d f = other-wrong words w (form w) e d f
 
 -- What a parse answers.
 

@@ -1,5 +1,5 @@
 -- The command that `clap` parses words with, and what is found of them.
-use Rattle.std.specs.Prelude.{◌≡◌, ℕ, Bool, true, false, cond, List, [], ◌∷◌, Option, None, Some, MatchOption, codes}
+use Rattle.std.specs.Prelude.{◌≡◌, ℕ, Bool, true, cond, List, [], Option, None, Some, MatchOption, codes}
 use Rattle.clap.specs.declared.builder.action.ArgAction.TheVariants.{Set, SetTrue}
 use Rattle.clap.specs.declared.builder.value_parser.ValueParser.{ValueParser}
 use Rattle.clap.specs.declared.builder.value_parser.ValueParser.TheVariants as parser
@@ -7,7 +7,7 @@ use Rattle.clap.specs.Walk.{Row, Rule, Text, one_of}
 use Rattle.clap.specs.Simple.{App, Shape, new_app, new_rule, with_rule, with_subcommand}
 use Rattle.pgn_base.specs.declared.limits.TheConstants.{PAGES_MIN, PAGES_MAX}
 use Rattle.pgn_options.specs.declared.asked.Asked.{Asked}
-use Rattle.pgn_options.specs.declared.asked.Asked.TheVariants.{Run, Drill}
+use Rattle.pgn_options.specs.declared.asked.Asked.TheVariants.{Drill, Wire}
 use Rattle.pgn_options.specs.declared.limits.TheConstants.{DRILL_NOTES_MAX, DRILL_SESSIONS_MAX, PATIENCE_MAX}
 use Rattle.pgn_options.specs.Words.{Options, number_in, run_with}
 
@@ -41,7 +41,11 @@ drill_app =
     (word_rule (codes "sessions") (parser.Unsigned 1 DRILL_SESSIONS_MAX)))
     (word_rule (codes "notes") (parser.Unsigned 1 DRILL_NOTES_MAX))
 
--- the program: it has no words of its own, and one of these two has to follow
+-- `wire`, which takes no word
+abbrev pub wire_app : App
+wire_app = new_app (codes "wire")
+
+-- the program: it has no words of its own, and one of these three has to follow
 abbrev pub program_shape : Shape
 program_shape = record (new_app (codes "pgnotify")).top {
   no_binary_name = true;
@@ -50,9 +54,13 @@ program_shape = record (new_app (codes "pgnotify")).top {
   subcommand_required = true;
 }
 
+-- the program with the commands that play a scenario
+abbrev pub playing_app : App
+playing_app = with_subcommand (with_subcommand (record { top = program_shape; subs = [] }) run_app.top) drill_app.top
+
 -- the program with its commands
 abbrev pub program_app : App
-program_app = with_subcommand (with_subcommand (record { top = program_shape; subs = [] }) run_app.top) drill_app.top
+program_app = with_subcommand playing_app wire_app.top
 
 -- a number was found for an argument, or none was
 abbrev pub IsFoundAs : ℕ → ℕ → Text → List Row → Option ℕ → Type 0
@@ -79,3 +87,4 @@ pub record FindsNumbers (rows : List Row) (seed sessions notes : ℕ) : Type 0 w
 pub data Finds : Option (Text × List Row) → Asked → Type 0 where
   FindsRun : (rows : List Row) (given : Options) → FindsOptions rows given → Finds (Some (codes "run", rows)) (run_with given)
   FindsDrill : (rows : List Row) (seed sessions notes : ℕ) → FindsNumbers rows seed sessions notes → Finds (Some (codes "drill", rows)) (Drill seed sessions notes)
+  FindsWire : (rows : List Row) → Finds (Some (codes "wire", rows)) Wire

@@ -7,7 +7,7 @@ use Rattle.std.specs.Str.Parse.{digits_value, without_leading_plus}
 use Rattle.pgn_base.specs.declared.limits.TheConstants.{PAGES_DEFAULT, PAGES_MIN, PAGES_MAX, PATIENCE_DEFAULT}
 use Rattle.pgn_options.specs.declared.limits.TheConstants.{DRILL_NOTES_MAX, DRILL_SESSIONS_MAX, PATIENCE_MAX}
 use Rattle.pgn_options.specs.declared.asked.Asked.{Asked}
-use Rattle.pgn_options.specs.declared.asked.Asked.TheVariants.{Run, Drill}
+use Rattle.pgn_options.specs.declared.asked.Asked.TheVariants.{Run, Drill, Wire}
 
 -- Numbers.
 
@@ -148,11 +148,25 @@ drill_of words = None
 abbrev pub drill_asked : List (List ℕ) → Option Asked
 drill_asked words = drill_of (without_dashes words)
 
+-- The words of `wire`.
+
+-- no word
+abbrev pub wire_of : List (List ℕ) → Option Asked
+wire_of [] = Some Wire
+wire_of (word ∷ words) = None
+
+-- what `wire` and these words ask for
+abbrev pub wire_asked : List (List ℕ) → Option Asked
+wire_asked words = wire_of (without_dashes words)
+
 -- All words.
 
 -- what the first word and those after it ask for
 abbrev pub command_asked : List ℕ → List (List ℕ) → Option Asked
-command_asked name words = cond (bytes_eq (codes "run") name) (run_asked words) (cond (bytes_eq (codes "drill") name) (drill_asked words) None)
+command_asked name words =
+    cond (bytes_eq (codes "run") name) (run_asked words)
+    (cond (bytes_eq (codes "drill") name) (drill_asked words)
+    (cond (bytes_eq (codes "wire") name) (wire_asked words) None))
 
 -- what words ask for, where they are a command
 abbrev pub asked_by : List (List ℕ) → Option Asked
@@ -171,3 +185,4 @@ AreNoCommand words = asked_by words ≡ None
 abbrev pub IsWithin : Asked → Type 0
 IsWithin (Run pages patience live) = (PAGES_MIN ≤ pages) × (pages ≤ PAGES_MAX) × (1 ≤ patience) × (patience ≤ PATIENCE_MAX)
 IsWithin (Drill seed sessions notes) = (1 ≤ sessions) × (sessions ≤ DRILL_SESSIONS_MAX) × (1 ≤ notes) × (notes ≤ DRILL_NOTES_MAX)
+IsWithin Wire = Unit {0}

@@ -14,4 +14,6 @@ pub enum Asked {
         sessions: u32,
         notes: u32,
     },
+    /// To answer a client of PostgreSQL's protocol 3.0.
+    Wire,
 }

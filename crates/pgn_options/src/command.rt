@@ -3,7 +3,7 @@ ghost use Rattle.clap.specs.Simple.{app_of};
 ghost use Rattle.clap.specs.Walk.{rule_of};
 ghost use Rattle.clap.specs.declared.builder.command.Command.TheViews.{out-Command};
 ghost use Rattle.clap.specs.declared.builder.value_parser.ValueParser.TheVariants.{Unsigned};
-ghost use Rattle.pgn_options.specs.Parse.{drill_app, flag_rule, option_rule, program_app, run_app, seed_max, word_rule};
+ghost use Rattle.pgn_options.specs.Parse.{drill_app, flag_rule, option_rule, playing_app, program_app, run_app, seed_max, wire_app, word_rule};
 ghost use Rattle.pgn_base.specs.declared.limits.TheConstants.{PAGES_MAX, PAGES_MIN};
 ghost use Rattle.pgn_options.specs.declared.limits.TheConstants.{DRILL_NOTES_MAX, DRILL_SESSIONS_MAX, PATIENCE_MAX};
 
@@ -16,6 +16,16 @@ use std::alloc::{AllocError, Global};
 /// The command that words are parsed with.
 pub(crate) fn command<'a>(alloc: Global) -> Result<Command<'a>, AllocError>
     ensures { IfOk result (λ command. app_of command ≡ program_app) }
+{
+    let wire = wire(alloc);
+    let command = playing(alloc)?;
+    let command = command.subcommand(wire)?;
+    Ok(command)
+}
+
+// The program without `wire`.
+fn playing<'a>(alloc: Global) -> Result<Command<'a>, AllocError>
+    ensures { IfOk result (λ command. app_of command ≡ playing_app) }
 {
     let run = run(alloc)?;
     let drill = drill(alloc)?;
@@ -49,6 +59,13 @@ fn drill<'a>(alloc: Global) -> Result<Command<'a>, AllocError>
     let command = command.arg(word(alloc, "sessions", sessions()))?;
     let command = command.arg(word(alloc, "notes", notes()))?;
     Ok(command)
+}
+
+fn wire<'a>(alloc: Global) -> Command<'a>
+    ensures app { app_of result ≡ wire_app }
+    ensures local { (out-Command result).has_globals ≡ false }
+{
+    Command::new(alloc, "wire")
 }
 
 fn pages<'a>() -> ValueParser<'a>

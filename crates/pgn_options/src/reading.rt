@@ -58,8 +58,10 @@ fn asked_of(matches: &ArgMatches<'_>) -> Result<Asked, WordsFault>
     };
     if name == "run" {
         Ok(run_of(found))
-    } else {
+    } else if name == "drill" {
         drill_of(found)
+    } else {
+        Ok(Asked::Wire)
     }
 }
 

@@ -55,6 +55,7 @@ fn put_numbers(text: &mut Vec<u8>, alloc: Global, asked: Asked) -> Result<(), Al
             sessions,
             notes,
         } => format!(in alloc; "drill {seed} {sessions} {notes}")?,
+        Asked::Wire => format!(in alloc; "wire")?,
     };
     text.extend_from_slice(line.as_bytes())
 }

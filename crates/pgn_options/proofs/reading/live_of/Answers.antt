@@ -1,6 +1,5 @@
 use Rattle.std.proofs.Common.{◌≡◌, ◌∙◌, Bool, true, false, cond, List, Option, Some, codes, ℕ}
 use Rattle.clap.specs.Matches.{found_of, one_text}
-use Rattle.clap.specs.Walk.{one_of, rows_of}
 use Rattle.clap.proofs.WalkLemmas.{one_text-rows}
 use Rattle.pgn_options.proofs.reading.live_of.Goals as goal
 
