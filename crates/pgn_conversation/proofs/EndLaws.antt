@@ -27,13 +27,14 @@ use Rattle.pgn_threads.specs.Parts.{HasReadAll, HasRunOut, Part, settings_of, tr
 use Rattle.pgn_queries.specs.declared.wire_fault.WireFault.{WireFault}
 use Rattle.pgn_queries.specs.Queries as queries
 use Rattle.pgn_queries.specs.Queries.{IsLineOf, Place, QueriesAre, first_place}
+use Rattle.pgn_queries.specs.Script.{wire_quit, wire_section}
 use Rattle.pgn_queries.proofs.EachLaws.{each_has_reading}
 use Rattle.pgn_messages.specs.Messages.{messages}
 use Rattle.pgn_wire.specs.declared.wire_end.WireEnd.{WireEnd}
 use Rattle.pgn_wire.specs.declared.wire_end.WireEnd.TheVariants.{Bad, Read, Write, Memory}
 use Rattle.pgn_wire.specs.Serving.{AsksAll, AsksBy, HasAsked, HasStood, HasWritten, IsSameClient, WroteWhole}
 use Rattle.pgn_conversation.proofs.NotedLaws.{holds-noted, legal-noted, with_notes}
-use Rattle.pgn_conversation.specs.Conversation.{BreaksOff, Converses, EndsBy, IsSoFar, NamesNoFlags, RunsLegally, StopsAmong, session_section, wire_plan, wire_quit, wire_section, wire_settings, wire_shape, wire_terms}
+use Rattle.pgn_conversation.specs.Conversation.{BreaksOff, Converses, EndsBy, IsSoFar, NamesNoFlags, RunsLegally, StopsAmong, session_section, wire_plan, wire_settings, wire_shape, wire_terms}
 
 -- a list of one
 one : {T : Type 0} (P : T → Type 0) (x : T) → P x → All P (x ∷ [])
@@ -42,10 +43,10 @@ one {T} P x p = All-cons P x [] p (λ k d lt. absurd (omega (arith, lt)))
 -- a session that is over and listens no more, and its pass that was gathered, are a legal run
 run-over : RunsAreLegal → (shape : Shape) (section : Section) (k : Known) (items : List Item) (count : ℕ) → Gathered (k ∷ []) count → shape ≡ wire_shape → section.no ≡ 1 → NamesNoFlags section
     → HasRunOut shape wire_plan 1 (record { section = section; known = k; items = items }) → k.mark ≡ None → RunsLegally section items
-run-over law shape section k items count gathered is no names out left =
+run-over law shape section k items count gathered is number names out left =
     let part : Part = record { section = section; known = k; items = items } in
     let up : HasReadAll (k ∷ []) k = subst (λ (m : Option ℕ). IfSome m (λ mark. All (λ (other : Known). other.told ≤ mark) (k ∷ []))) (sym left) tt in
-    let legal = law (record { sections = section ∷ []; flags = [] }) shape wire_plan 1 (part ∷ []) count gathered refl (no, tt) (one (NamesFlagsBelow 0) section names) (one (HasRunOut shape wire_plan 1) part out) (one (HasReadAll (k ∷ [])) k up) in
+    let legal = law (record { sections = section ∷ []; flags = [] }) shape wire_plan 1 (part ∷ []) count gathered refl (number, tt) (one (NamesFlagsBelow 0) section names) (one (HasRunOut shape wire_plan 1) part out) (one (HasReadAll (k ∷ [])) k up) in
     record {
       journal = gathered.journal;
       trace = trace_of part;
@@ -55,9 +56,9 @@ run-over law shape section k items count gathered is no names out left =
 
 pub finished : {P : Type 0} → RunsAreLegal → (shape : Shape) (known : P → Known) (s : Session P) (passes : List P) (count : ℕ) → Gathered (map known passes) count → passes ≡ s.pass ∷ [] → IsWithin (known s.pass) → shape ≡ wire_shape
     → HasRest shape known s → s.doing ≡ Over → (known s.pass).mark ≡ None → s.section.no ≡ 1 → s.plan ≡ wire_plan → s.patience ≡ 1 → NamesNoFlags s.section → RunsLegally s.section s.items.items
-finished {P} law shape known s passes count gathered all within is rested over left no plan patience names =
+finished {P} law shape known s passes count gathered all within is rested over left number plan patience names =
     let known_all : map known passes ≡ known s.pass ∷ [] = ap (λ (ps : List P). map known ps) all in
-    run-over law shape s.section (known s.pass) s.items.items count (subst (λ (ks : List Known). Gathered ks count) known_all gathered) is no names
+    run-over law shape s.section (known s.pass) s.items.items count (subst (λ (ks : List Known). Gathered ks count) known_all gathered) is number names
     (record {
       done = s.done;
       block = s.block;
@@ -111,9 +112,9 @@ wrote-noted n section items held now h =
     record { written = h.written; whole = record { front = h.whole.front; behind = h.whole.behind; split = h.whole.split; line = h.whole.line; are = h.whole.are }; wrote = h.wrote }
 
 -- a session was served, and stopped
-stopped : {P T : Type 0} (shape : Shape) (known : P → Known) (end : WireEnd) (old new : Session P) (bytes : List ℕ) (held now : Option (List ℕ)) → shape ≡ wire_shape → old.section ≡ session_section [] → old.patience ≡ 1
+stopped : {P : Type 0} (T : Type 0) (shape : Shape) (known : P → Known) (end : WireEnd) (old new : Session P) (bytes : List ℕ) (held now : Option (List ℕ)) → shape ≡ wire_shape → old.section ≡ session_section [] → old.patience ≡ 1
     → IsSameClient old new → HasStood shape known new → AsksBy {T = T} (Err end) (Some bytes) wire_quit new.section → HasWritten {T = T} (Err end) held now new.section new.items.items → EndsBy {T = T} (Err end) bytes held now
-stopped shape known (Bad fault) old new bytes held now is begun patience same stood asked written =
+stopped T shape known (Bad fault) old new bytes held now is begun patience same stood asked written =
     let section = section-of old new asked.lines begun same asked.split in
     record {
       lines = asked.lines;
@@ -121,7 +122,7 @@ stopped shape known (Bad fault) old new bytes held now is begun patience same st
       so_far = so_far shape known new asked.lines (λ items. Appends held now (messages (wire_section asked.lines) items)) is (same.patience ∙ patience) section stood
           (subst (λ (s : Section). Appends held now (messages s new.items.items)) section written);
     }
-stopped shape known Read old new bytes held now is begun patience same stood asked written =
+stopped T shape known Read old new bytes held now is begun patience same stood asked written =
     let section = section-of old new asked.lines begun same asked.split in
     record {
       lines = asked.lines;
@@ -131,7 +132,7 @@ stopped shape known Read old new bytes held now is begun patience same stood ask
       so_far = so_far shape known new asked.lines (λ items. Appends held now (messages (wire_section asked.lines) items)) is (same.patience ∙ patience) section stood
           (subst (λ (s : Section). Appends held now (messages s new.items.items)) section written);
     }
-stopped shape known Write old new bytes held now is begun patience same stood asked written =
+stopped T shape known Write old new bytes held now is begun patience same stood asked written =
     let section = section-of old new asked.lines begun same asked.split in
     record {
       lines = asked.lines;
@@ -141,7 +142,7 @@ stopped shape known Write old new bytes held now is begun patience same stood as
       so_far = so_far shape known new asked.lines (λ items. AppendsPrefix held now (messages (wire_section asked.lines) items)) is (same.patience ∙ patience) section stood
           (subst (λ (s : Section). AppendsPrefix held now (messages s new.items.items)) section written);
     }
-stopped shape known Memory old new bytes held now is begun patience same stood asked written =
+stopped T shape known Memory old new bytes held now is begun patience same stood asked written =
     let section = section-of old new asked.lines begun same asked.split in
     record {
       lines = asked.lines;
@@ -153,9 +154,9 @@ stopped shape known Memory old new bytes held now is begun patience same stood a
     }
 
 -- it was served to its end
-served : {P T : Type 0} (x : T) (old new : Session P) (bytes : List ℕ) (held now : Option (List ℕ)) → old.section ≡ session_section [] → IsSameClient old new → AsksAll bytes None wire_quit new.section
+served : {P : Type 0} (T : Type 0) (x : T) (old new : Session P) (bytes : List ℕ) (held now : Option (List ℕ)) → old.section ≡ session_section [] → IsSameClient old new → AsksAll bytes None wire_quit new.section
     → Appends held now (messages new.section new.items.items) → (NamesNoFlags new.section → RunsLegally new.section new.items.items) → EndsBy {T = T} (Ok x) bytes held now
-served x old new bytes held now begun same asked written runs =
+served T x old new bytes held now begun same asked written runs =
     let section = section-of old new asked.lines begun same asked.split in
     let run = runs (subst (λ (s : Section). NamesNoFlags s) (sym section) (asked-no_flag first_place bytes asked.lines None asked.reads)) in
     record {
@@ -169,10 +170,10 @@ served x old new bytes held now begun same asked written runs =
     }
 
 -- to its end, but then memory did not suffice
-served-short : {P T : Type 0} (shape : Shape) (known : P → Known) (old new : Session P) (bytes : List ℕ) (held now : Option (List ℕ)) → shape ≡ wire_shape → old.section ≡ session_section [] → old.patience ≡ 1
+served-short : {P : Type 0} (T : Type 0) (shape : Shape) (known : P → Known) (old new : Session P) (bytes : List ℕ) (held now : Option (List ℕ)) → shape ≡ wire_shape → old.section ≡ session_section [] → old.patience ≡ 1
     → IsSameClient old new → HasStood shape known new → AsksAll bytes None wire_quit new.section → Appends held now (messages new.section new.items.items) → EndsBy {T = T} (Err Memory) bytes held now
-served-short {P} {T} shape known old new bytes held now is begun patience same stood asked written =
-    stopped {P = P} {T = T} shape known Memory old new bytes held now is begun patience same stood
+served-short {P} T shape known old new bytes held now is begun patience same stood asked written =
+    stopped {P = P} T shape known Memory old new bytes held now is begun patience same stood
     (record { lines = asked.lines; split = asked.split; more = []; fault = None; reads = subst (λ (ls : List ScriptLine). QueriesAre first_place bytes ls None) (sym (append-nil asked.lines)) asked.reads })
     (record { written = messages new.section new.items.items; whole = record { front = new.items.items; behind = []; split = sym (append-nil new.items.items); line = tt; are = refl }; wrote = written })
 
@@ -181,8 +182,8 @@ none-written : (held : Option (List ℕ)) → Appends held held []
 none-written None = tt
 none-written (Some xs) = sym (append-nil xs)
 
-not-opened : {T : Type 0} (bytes : List ℕ) (held : Option (List ℕ)) → EndsBy {T = T} (Err Memory) bytes held held
-not-opened bytes held =
+not-opened : (T : Type 0) (bytes : List ℕ) (held : Option (List ℕ)) → EndsBy {T = T} (Err Memory) bytes held held
+not-opened T bytes held =
     let all = each_has_reading first_place bytes in
     record {
       lines = [];
@@ -204,21 +205,21 @@ pub stopped-known : {P : Type 0} (shape : Shape) (known : P → Known) (end : Wi
     → HasWritten {T = Unit {0}} (Err end) held now new.section new.items.items → IfSome left (λ bytes. EndsBy {T = Unit {0}} (Err end) bytes held now)
 stopped-known shape known end old new None held now is begun patience same stood asked written = tt
 stopped-known shape known end old new (Some bytes) held now is begun patience same stood asked written =
-    stopped shape known end old new bytes held now is begun patience same stood (asked wire_quit (ap (λ (s : Section). s.lines) begun)) written
+    stopped (Unit {0}) shape known end old new bytes held now is begun patience same stood (asked wire_quit (ap (λ (s : Section). s.lines) begun)) written
 
 pub served-known : {P : Type 0} (old new : Session P) (left held now : Option (List ℕ)) → old.section ≡ session_section [] → IsSameClient old new
     → ((last : ScriptLine) → old.section.lines ≡ last ∷ [] → IfSome left (λ bytes. AsksAll bytes None last new.section)) → Appends held now (messages new.section new.items.items)
-    → (NamesNoFlags new.section → RunsLegally new.section new.items.items) → IfSome left (λ bytes. EndsBy {T = Unit {0}} (Ok tt) bytes held now)
+    → (NamesNoFlags new.section → RunsLegally new.section new.items.items) → IfSome left (λ bytes. EndsBy {T = Unit {0}} (Ok (tt {0})) bytes held now)
 served-known old new None held now begun same asked written runs = tt
-served-known old new (Some bytes) held now begun same asked written runs = served tt old new bytes held now begun same (asked wire_quit (ap (λ (s : Section). s.lines) begun)) written runs
+served-known old new (Some bytes) held now begun same asked written runs = served (Unit {0}) (tt {0}) old new bytes held now begun same (asked wire_quit (ap (λ (s : Section). s.lines) begun)) written runs
 
 pub short-known : {P : Type 0} (shape : Shape) (known : P → Known) (old new : Session P) (left held now : Option (List ℕ)) → shape ≡ wire_shape → old.section ≡ session_section [] → old.patience ≡ 1
     → IsSameClient old new → HasStood shape known new → ((last : ScriptLine) → old.section.lines ≡ last ∷ [] → IfSome left (λ bytes. AsksAll bytes None last new.section))
     → Appends held now (messages new.section new.items.items) → IfSome left (λ bytes. EndsBy {T = Unit {0}} (Err Memory) bytes held now)
 short-known shape known old new None held now is begun patience same stood asked written = tt
 short-known {P} shape known old new (Some bytes) held now is begun patience same stood asked written =
-    served-short {P = P} {T = Unit {0}} shape known old new bytes held now is begun patience same stood (asked wire_quit (ap (λ (s : Section). s.lines) begun)) written
+    served-short {P = P} (Unit {0}) shape known old new bytes held now is begun patience same stood (asked wire_quit (ap (λ (s : Section). s.lines) begun)) written
 
 pub unopened-known : (left held : Option (List ℕ)) → IfSome left (λ bytes. EndsBy {T = Unit {0}} (Err Memory) bytes held held)
 unopened-known None held = tt
-unopened-known (Some bytes) held = not-opened bytes held
+unopened-known (Some bytes) held = not-opened (Unit {0}) bytes held

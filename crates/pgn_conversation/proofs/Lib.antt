@@ -4,5 +4,3 @@ pub mod OpenLaws
 mod NotedLaws
 -- how a conversation ends
 pub mod EndLaws
--- what it tells a client
-pub mod ToldLaws

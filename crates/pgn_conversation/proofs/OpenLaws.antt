@@ -15,8 +15,9 @@ use Rattle.pgn_session.specs.declared.doing.Doing.TheVariants.{Lines}
 use Rattle.pgn_session.specs.declared.doing.FlagPlan.{FlagPlan}
 use Rattle.pgn_session.specs.Standing.{IsFlagBelow, IsServedBy}
 use Rattle.pgn_session.specs.Whole.{HasRest}
+use Rattle.pgn_queries.specs.Script.{wire_quit}
 use Rattle.pgn_wire.specs.Serving.{BeginsEmpty}
-use Rattle.pgn_conversation.specs.Conversation.{session_section, wire_plan, wire_quit, wire_shape}
+use Rattle.pgn_conversation.specs.Conversation.{session_section, wire_plan, wire_shape}
 
 -- one pass is known
 pub one-pass : {P : Type 0} (known : P → Known) (passes : List P) (setup : Shape) (seats : List SeatSetup) → map known passes ≡ opened_passes 1 setup.seats → setup.seats ≡ seats → seats ≡ wire_shape.seats → length passes ≡ 1
@@ -69,9 +70,12 @@ opened-begins s e done doing items = record {
 
 pub session-one : {P : Type 0} (shape : Shape) (known : P → Known) (s : Session P) (passes : List P) → HasRest shape known s → s.section.no ≡ 1 → passes ≡ s.pass ∷ [] → shape ≡ wire_shape
     → map (λ pass. (known pass).session) passes ≡ range_with_len 1 (length shape.seats)
-session-one {P} shape known s passes rested no e is =
-    let number : (known s.pass).session ≡ 1 = rested.stands.session ∙ no in
+session-one {P} shape known s passes rested first e is =
+    let number : (known s.pass).session ≡ 1 = rested.stands.session ∙ first in
     ap (λ (ps : List P). map (λ (pass : P). (known pass).session) ps) e ∙ ap (λ (n : ℕ). n ∷ []) number ∙ ap (λ (z : Shape). range_with_len 1 (length z.seats)) (sym is)
 
 pub own-one : {P : Type 0} (Q : P → Type 0) (pass : P) (passes : List P) → passes ≡ pass ∷ [] → Q pass → All Q passes
 own-one {P} Q pass passes e h = subst (λ (ps : List P). All Q ps) (sym e) (All-cons Q pass [] h (All-nil Q))
+
+pub pushed-one : {P : Type 0} (none all : List P) (pushed pass : P) → none ≡ [] → all ≡ none ++ pushed ∷ [] → pushed ≡ pass → all ≡ pass ∷ []
+pushed-one {P} none all pushed pass e f h = f ∙ ap (λ (ps : List P). ps ++ pushed ∷ []) e ∙ ap (λ (p : P). p ∷ []) h

@@ -5,11 +5,9 @@ use Rattle.pgn_base.specs.Outside.{AppendsPrefix}
 use Rattle.pgn_base.specs.declared.format.Format.TheVariants.{One}
 use Rattle.pgn_base.specs.declared.limits.TheConstants.{NOTE_LINES_MAX, PAGES_DEFAULT}
 use Rattle.pgn_journal.specs.declared.tx.Tx.{Tx}
-use Rattle.pgn_language.specs.declared.scenario.Act.TheVariants.{Quit}
 use Rattle.pgn_language.specs.declared.scenario.ScriptLine.{ScriptLine}
 use Rattle.pgn_language.specs.declared.scenario.Section.{Section}
-use Rattle.pgn_language.specs.declared.scenario.Scenario.{Scenario}
-use Rattle.pgn_language.specs.Inputs.{HasFlagBelow, note_lines_of}
+use Rattle.pgn_language.specs.Inputs.{HasFlagBelow}
 use Rattle.pgn_model.specs.declared.item.Item.{Item}
 use Rattle.pgn_model.specs.declared.trace.Trace.{Trace}
 use Rattle.pgn_model.specs.Walk.{Settings, State, Terms}
@@ -20,26 +18,15 @@ use Rattle.pgn_hub.specs.Shape.{Shape}
 use Rattle.pgn_session.specs.declared.doing.FlagPlan.{FlagPlan}
 use Rattle.pgn_queries.specs.declared.wire_fault.WireFault.{WireFault}
 use Rattle.pgn_queries.specs.Queries.{queries}
+use Rattle.pgn_queries.specs.Script.{wire_scenario, wire_section}
 use Rattle.pgn_messages.specs.Messages.{messages}
 use Rattle.pgn_wire.specs.declared.wire_end.WireEnd.{WireEnd}
 use Rattle.pgn_wire.specs.declared.wire_end.WireEnd.TheVariants.{Bad, Read, Write, Memory}
 use Rattle.pgn_wire.specs.Serving.{WroteWhole}
 
--- the line that ends a client's script: its number is greater than that of each query
-abbrev pub wire_quit : ScriptLine
-wire_quit = record { line = 4294967295; text = codes "\\quit"; act = Quit }
-
 -- the section of the session of a client that asked these queries so far: it may notify as often as a client may ask
 abbrev pub session_section : List ScriptLine → Section
-session_section lines = record { no = 1; name = codes "wire"; db = 1; lines = lines ++ wire_quit ∷ []; note_lines = NOTE_LINES_MAX }
-
--- the section of these queries, whose lines that notify are counted
-abbrev pub wire_section : List ScriptLine → Section
-wire_section lines = record (session_section lines) { note_lines = note_lines_of (lines ++ wire_quit ∷ []) }
-
--- the scenario of its queries
-abbrev pub wire_scenario : List ScriptLine → Scenario
-wire_scenario lines = record { sections = wire_section lines ∷ []; flags = [] }
+session_section lines = record (wire_section lines) { note_lines = NOTE_LINES_MAX }
 
 abbrev pub wire_settings : Settings
 wire_settings = record { format = One; limit = PAGES_DEFAULT; patience = 1 }

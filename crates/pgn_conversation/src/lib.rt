@@ -7,7 +7,6 @@
 
 mod conversing;
 mod finishing;
-pub mod laws;
 mod opening;
 
 pub use conversing::converse;

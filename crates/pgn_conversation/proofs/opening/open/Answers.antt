@@ -1,0 +1,11 @@
+use Rattle.std.proofs.Common.{sym}
+use Rattle.pgn_conversation.proofs.OpenLaws.{only-has}
+use Rattle.pgn_conversation.proofs.opening.open.Goals as goal
+
+pub returns-clause-own : goal.returns-clause-own
+returns-clause-own g c =
+    let has = only-has (g.H.Hub.is_pass c.in_ok-hub.hub) c.in_ok-hub.passes.items c.only-pass.result c.in_ok-hub.ensures.own c.only-pass.ensures in
+    rw c.in_ok-session.ensures.begins.0 has
+
+pub returns-clause-rested : goal.returns-clause-rested
+returns-clause-rested g c = c.in_ok-session.ensures.rested (g.H.Hub.shape c.in_ok-hub.hub)

@@ -1,8 +1,0 @@
-ghost use Rattle.pgn_conversation.specs.Laws.{ConversationTells};
-
-/// What a client sent and what it was answered tell it the run.
-pub fn conversation_tells()
-    // Two legal runs of the queries of a client's bytes with the same messages: the client saw the same of both, and their journals are the
-    // same but for how many notifications of an aborted transaction were queued.
-    ensures { ConversationTells }
-{}
