@@ -3,7 +3,7 @@ pub mod ClientLaws
 -- what a reader of queries gives
 pub mod QueryLaws
 -- bytes have one reading
-mod OneLaws
+pub mod OneLaws
 -- each list of bytes has a reading
 pub mod EachLaws
 -- readings of bytes that are known

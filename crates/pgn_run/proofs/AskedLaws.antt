@@ -1,9 +1,9 @@
 -- What words ask for, once they are read.
 use Rattle.std.proofs.Common.{◌≡◌, ◌∙◌, ℕ, Bool, true, false, List, Some, None, refl, sym}
 use Rattle.pgn_options.specs.declared.asked.Asked.{Asked}
-use Rattle.pgn_options.specs.declared.asked.Asked.TheVariants.{Run, Drill}
+use Rattle.pgn_options.specs.declared.asked.Asked.TheVariants.{Run, Drill, Wire}
 use Rattle.pgn_options.specs.Words.{AreNoCommand, AskFor}
-use Rattle.pgn_run.specs.Run.{AskToDrill, AskToRun, AskToRunLive, shows_if}
+use Rattle.pgn_run.specs.Run.{AskToDrill, AskToRun, AskToRunLive, AskToWire, shows_if}
 use Rattle.pgn_run.specs.declared.print.Print.TheVariants.{Text}
 use Rattle.pgn_run.specs.declared.print.Shows.TheVariants.{AtEnd}
 
@@ -41,3 +41,19 @@ same-run words pages patience live ask e =
 pub shows-once : (words : List (List ℕ)) (pages patience : ℕ) (live : Bool) → ¬ AskToRunLive words → AskFor words (Run pages patience live) → shows_if live ≡ AtEnd Text
 shows-once words pages patience true once e = absurd (once (record { pages = pages; patience = patience; asks = e }))
 shows-once words pages patience false once e = refl
+
+-- words that ask to serve a client ask for nothing else
+pub run-no_wire : (words : List (List ℕ)) (pages patience : ℕ) (live : Bool) → AskFor words (Run pages patience live) → AskToWire words → ⊥
+run-no_wire words pages patience live e other = let bad : Some (Run pages patience live) ≡ Some Wire = sym e ∙ other in cc
+
+pub drill-no_wire : (words : List (List ℕ)) (seed sessions notes : ℕ) → AskFor words (Drill seed sessions notes) → AskToWire words → ⊥
+drill-no_wire words seed sessions notes e other = let bad : Some (Drill seed sessions notes) ≡ Some Wire = sym e ∙ other in cc
+
+pub wire-no_run : (words : List (List ℕ)) → AskToWire words → AskToRun words → ⊥
+wire-no_run words e other = run-no_wire words other.pages other.patience other.live other.asks e
+
+pub wire-no_drill : (words : List (List ℕ)) → AskToWire words → AskToDrill words → ⊥
+wire-no_drill words e other = drill-no_wire words other.seed other.sessions other.notes other.asks e
+
+pub none-wires : (words : List (List ℕ)) → AreNoCommand words → AskToWire words → ⊥
+none-wires words none other = no-other words Wire other none

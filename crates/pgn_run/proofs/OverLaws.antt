@@ -7,10 +7,11 @@ use Rattle.pgn_language.specs.declared.scenario.Scenario.{Scenario}
 use Rattle.pgn_language.specs.declared.scenario.ScenarioFault.{ScenarioFault}
 use Rattle.pgn_model.specs.declared.trace.Trace.{Trace}
 use Rattle.pgn_language.specs.Inputs.{ReadsAsScenario}
+use Rattle.pgn_queries.specs.declared.wire_fault.WireFault.{WireFault}
 use Rattle.pgn_model.specs.Legal.{Legal}
 use Rattle.pgn_model.specs.Walk.{Settings}
 use Rattle.pgn_run.specs.declared.status.Status.{Status}
-use Rattle.pgn_run.specs.declared.status.Status.TheVariants.{Done, BadWords, BadScenario, ReadFault, WriteFault, NoMemory}
+use Rattle.pgn_run.specs.declared.status.Status.TheVariants.{Done, BadWords, BadScenario, ReadFault, WriteFault, NoMemory, BadWire}
 use Rattle.pgn_run.specs.Run.{Runs, RunsOver, HasWritten, Answers, printed}
 use Rattle.pgn_run.specs.Live.{EarlyOver, LiveOver, SoFarOver}
 use Rattle.pgn_run.specs.declared.print.Shows.TheVariants.{AtEnd, Live}
@@ -45,6 +46,7 @@ only-over all old new before now (BadScenario fault) written = absurd written
 only-over all old new before now ReadFault written = absurd written
 only-over all old new before now WriteFault written = inr (inl refl)
 only-over all old new before now NoMemory written = inr (inr refl)
+only-over all old new before now (BadWire fault) written = absurd written
 
 -- a run of the scenario that an input reads as
 runs-of : (print : Print) (settings : Settings) (input : List ℕ) (scenario : Scenario) (P : List ℕ → Type 0) → ReadsAsScenario input (Ok scenario) → RunsOver print scenario settings P → Runs print settings input P
@@ -61,6 +63,7 @@ answers-over print settings input scenario old new before now NoMemory reads don
 answers-over print settings input scenario old new before now BadWords reads done rose prefix memory only = absurd (elim only [ inl e ↦ cc | inr other ↦ elim other [ inl e ↦ cc | inr f ↦ cc ] ])
 answers-over print settings input scenario old new before now (BadScenario fault) reads done rose prefix memory only = absurd (elim only [ inl e ↦ cc | inr other ↦ elim other [ inl e ↦ cc | inr f ↦ cc ] ])
 answers-over print settings input scenario old new before now ReadFault reads done rose prefix memory only = absurd (elim only [ inl e ↦ cc | inr other ↦ elim other [ inl e ↦ cc | inr f ↦ cc ] ])
+answers-over print settings input scenario old new before now (BadWire fault) reads done rose prefix memory only = absurd (elim only [ inl e ↦ cc | inr other ↦ elim other [ inl e ↦ cc | inr f ↦ cc ] ])
 
 -- the same of a live run
 pub live-answers-over : (settings : Settings) (input : List ℕ) (scenario : Scenario) (old new : Option (List ℕ)) (before now : ℕ) (status : Status) → ReadsAsScenario input (Ok scenario)
@@ -78,6 +81,7 @@ live-answers-over settings input scenario old new before now NoMemory reads done
 live-answers-over settings input scenario old new before now BadWords reads done rose prefix memory only = absurd (elim only [ inl e ↦ cc | inr other ↦ elim other [ inl e ↦ cc | inr f ↦ cc ] ])
 live-answers-over settings input scenario old new before now (BadScenario fault) reads done rose prefix memory only = absurd (elim only [ inl e ↦ cc | inr other ↦ elim other [ inl e ↦ cc | inr f ↦ cc ] ])
 live-answers-over settings input scenario old new before now ReadFault reads done rose prefix memory only = absurd (elim only [ inl e ↦ cc | inr other ↦ elim other [ inl e ↦ cc | inr f ↦ cc ] ])
+live-answers-over settings input scenario old new before now (BadWire fault) reads done rose prefix memory only = absurd (elim only [ inl e ↦ cc | inr other ↦ elim other [ inl e ↦ cc | inr f ↦ cc ] ])
 
 -- a reading of the same bytes
 pub reads-same : (a b : List ℕ) (r s : Result Scenario ScenarioFault) → a ≡ b → r ≡ s → ReadsAsScenario a r → ReadsAsScenario b s
@@ -100,3 +104,6 @@ not-bad-scenario status fault only e = elim only [ inl d ↦ cc | inr other ↦ 
 
 pub not-read-fault : (status : Status) → (status ≡ Done) ⊎ (status ≡ WriteFault) ⊎ (status ≡ NoMemory) → status ≡ ReadFault → ⊥
 not-read-fault status only e = elim only [ inl d ↦ cc | inr other ↦ elim other [ inl f ↦ cc | inr m ↦ cc ] ]
+
+pub not-bad-wire : (status : Status) (fault : WireFault) → (status ≡ Done) ⊎ (status ≡ WriteFault) ⊎ (status ≡ NoMemory) → status ≡ BadWire fault → ⊥
+not-bad-wire status fault only e = elim only [ inl d ↦ cc | inr other ↦ elim other [ inl f ↦ cc | inr m ↦ cc ] ]

@@ -10,12 +10,13 @@ use Rattle.pgn_language.specs.declared.scenario.ScenarioFault.TheVariants.{TooLa
 use Rattle.pgn_language.specs.Inputs.{ReadsAsScenario, Large}
 use Rattle.pgn_language.proofs.InputLaws.{reads-input}
 use Rattle.pgn_run.specs.declared.status.Status.{Status}
-use Rattle.pgn_run.specs.declared.status.Status.TheVariants.{Done, BadWords, BadScenario, ReadFault, WriteFault, NoMemory}
+use Rattle.pgn_run.specs.declared.status.Status.TheVariants.{Done, BadWords, BadScenario, ReadFault, WriteFault, NoMemory, BadWire}
 use Rattle.pgn_run.specs.Run.{Answers, EarlyRuns, IsShownSoFar, LiveRuns, Runs, Shown, ShownInPart, SoFarRuns}
 use Rattle.pgn_run.specs.declared.print.Shows.{Shows}
 use Rattle.pgn_run.specs.declared.print.Shows.TheVariants.{AtEnd, Live}
 use Rattle.pgn_run.specs.declared.print.Print.{Print}
 use Rattle.pgn_model.specs.Walk.{Settings}
+use Rattle.pgn_queries.specs.declared.wire_fault.WireFault.{WireFault}
 
 -- a prefix that is no longer than a shorter limit is the whole
 whole : (n : ℕ) (xs : List ℕ) → length (take (n + 1) xs) ≤ n → take (n + 1) xs ≡ xs
@@ -119,6 +120,9 @@ module _ (shows : Shows) (settings : Settings) (left : Option (List ℕ)) (input
   pub bad-scenario-reads : (fault : ScenarioFault) → status ≡ BadScenario fault → IfSome left (λ xs. ReadsAsScenario xs (Err fault))
   bad-scenario-reads fault e = if-some left (λ xs. input ≡ take 16777217 xs) (λ xs. ReadsAsScenario xs (Err fault)) (λ xs b. reads-whole xs input (Err fault) b (answered (BadScenario fault) e).0) bytes
 
+  pub no-wire : (fault : WireFault) → status ≡ BadWire fault → ⊥
+  no-wire fault e = answered (BadWire fault) e
+
   pub done-at-end : (rest : Option (List ℕ)) → Consumes left rest input → status ≡ Done → OnSome left (IsAtEnd rest)
   done-at-end rest consumed e = with left rest bytes consumed
     where
@@ -146,6 +150,7 @@ reads-done shows settings (Some xs) input old new before now (BadScenario fault)
 reads-done shows settings (Some xs) input old new before now ReadFault scenario bytes answers reads rose = absurd answers
 reads-done shows settings (Some xs) input old new before now WriteFault scenario bytes answers reads rose = absurd (rose answers.1)
 reads-done shows settings (Some xs) input old new before now NoMemory scenario bytes answers reads rose = inr refl
+reads-done shows settings (Some xs) input old new before now (BadWire fault) scenario bytes answers reads rose = absurd answers
 
 -- what comes of an input with a fault
 pub faulty-refused : (shows : Shows) (settings : Settings) (left : Option (List ℕ)) (input : List ℕ) (old new : Option (List ℕ)) (before now : ℕ) (status : Status) (fault : ScenarioFault)
@@ -162,6 +167,7 @@ faulty-refused shows settings (Some xs) input old new before now WriteFault faul
     let run = part-reads shows settings input (AppendsPrefix old new) answers.0 in
     absurd (no-fault xs run.0 fault (reads-whole xs input (Ok run.0) bytes run.1) reads)
 faulty-refused shows settings (Some xs) input old new before now NoMemory fault bytes answers reads = inr refl
+faulty-refused shows settings (Some xs) input old new before now (BadWire other) fault bytes answers reads = absurd answers
 
 -- what a live run has shown so far
 pub so_far-known : (left : Option (List ℕ)) (shows : Shows) (settings : Settings) (old new : Option (List ℕ)) → shows ≡ Live → IfSome left (λ input. IsShownSoFar shows settings input old new)

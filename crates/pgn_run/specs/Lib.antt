@@ -1,3 +1,5 @@
+-- what a whole conversation of a client is
+pub mod Conversation
 -- what is said of a live run
 pub mod Live
 -- what the call of the program says

@@ -12,17 +12,23 @@ use Rattle.pgn_model.specs.Text.{brief, text}
 use Rattle.pgn_base.specs.declared.format.Format.TheVariants.{One}
 use Rattle.pgn_base.specs.declared.limits.TheConstants.{PAGES_MAX}
 use Rattle.pgn_options.specs.declared.asked.Asked.{Asked}
-use Rattle.pgn_options.specs.declared.asked.Asked.TheVariants.{Run, Drill}
+use Rattle.pgn_options.specs.declared.asked.Asked.TheVariants.{Run, Drill, Wire}
 use Rattle.pgn_options.specs.declared.limits.TheConstants.{PATIENCE_MAX}
 use Rattle.pgn_options.specs.Words.{AskFor}
 use Rattle.pgn_drill.specs.Drill.{drill}
+use Rattle.pgn_queries.specs.declared.wire_fault.WireFault.{WireFault}
+use Rattle.pgn_queries.specs.Queries.{queries}
+use Rattle.pgn_language.specs.declared.scenario.ScriptLine.{ScriptLine}
+use Rattle.pgn_messages.specs.Messages.{messages}
+use Rattle.pgn_wire.specs.Serving.{WroteWhole}
+use Rattle.pgn_run.specs.Conversation.{BreaksOff, Converses, StopsAmong}
 use Rattle.pgn_run.specs.Live.{EarlyOver, LiveOver, SoFarOver}
 use Rattle.pgn_run.specs.declared.print.Shows.{Shows}
 use Rattle.pgn_run.specs.declared.print.Shows.TheVariants.{AtEnd, Live}
 use Rattle.pgn_run.specs.declared.print.Print.{Print}
 use Rattle.pgn_run.specs.declared.print.Print.TheVariants.{Text, Summary}
 use Rattle.pgn_run.specs.declared.status.Status.{Status}
-use Rattle.pgn_run.specs.declared.status.Status.TheVariants.{Done, BadWords, BadScenario, ReadFault, WriteFault, NoMemory}
+use Rattle.pgn_run.specs.declared.status.Status.TheVariants.{Done, BadWords, BadScenario, ReadFault, WriteFault, NoMemory, BadWire}
 
 -- the exit status of each outcome
 abbrev pub code_of : Status → ℕ
@@ -32,6 +38,7 @@ code_of (BadScenario fault) = 3
 code_of ReadFault = 4
 code_of WriteFault = 5
 code_of NoMemory = 6
+code_of (BadWire fault) = 10
 
 -- the terms of a run with a limit of so many pages, where an await takes so many looks
 abbrev pub settings_with : ℕ → ℕ → Settings
@@ -100,10 +107,12 @@ abbrev pub shows_if : Bool → Shows
 shows_if true = Live
 shows_if false = AtEnd Text
 
--- what was asked for was run: what is left of the source, or the scenario of a drill; and P holds of what is written of it
+-- what was asked for was run: what is left of the source, the scenario of a drill, or the queries of a client; and P holds of what is
+-- written of it
 abbrev pub Fulfils : Asked → Option (List ℕ) → (List ℕ → Type 0) → Type 0
 Fulfils (Run pages patience live) left P = IfSome left (λ input. Shown (shows_if live) (settings_with pages patience) input P)
 Fulfils (Drill seed sessions notes) left P = Runs (Summary seed notes) drill_settings (drill seed sessions notes) P
+Fulfils Wire left P = IfSome left (λ bytes. Converses bytes P)
 
 -- the words ask for something, and that was run
 pub record Performs (words : List (List ℕ)) (left : Option (List ℕ)) (P : List ℕ → Type 0) : Type 0 where
@@ -115,6 +124,7 @@ pub record Performs (words : List (List ℕ)) (left : Option (List ℕ)) (P : Li
 abbrev pub FulfilsInPart : Asked → Option (List ℕ) → (List ℕ → Type 0) → Type 0
 FulfilsInPart (Run pages patience live) left P = IfSome left (λ input. ShownInPart (shows_if live) (settings_with pages patience) input P)
 FulfilsInPart (Drill seed sessions notes) left P = Runs (Summary seed notes) drill_settings (drill seed sessions notes) P
+FulfilsInPart Wire left P = IfSome left (λ bytes. StopsAmong bytes (λ section items. P (messages section items)))
 
 pub record PerformsInPart (words : List (List ℕ)) (left : Option (List ℕ)) (P : List ℕ → Type 0) : Type 0 where
   pub asked : Asked
@@ -141,6 +151,15 @@ pub record AskToDrill (words : List (List ℕ)) : Type 0 where
   pub notes : ℕ
   pub asks : AskFor words (Drill seed sessions notes)
 
+-- the words ask to serve a client
+abbrev pub AskToWire : List (List ℕ) → Type 0
+AskToWire words = AskFor words Wire
+
+-- a client's bytes are queries, and end so: by this fault, or without
+pub record EndsIn (bytes : List ℕ) (fault : Option WireFault) : Type 0 where
+  pub lines : List ScriptLine
+  pub reads : queries bytes lines fault
+
 -- what each outcome says of a text that was to be written: of what the sink holds and of its count of faults
 abbrev pub HasWritten : List ℕ → Option (List ℕ) → Option (List ℕ) → ℕ → ℕ → Status → Type 0
 HasWritten text old new before now Done = Appends old new text
@@ -155,6 +174,15 @@ Answers shows settings input old new before now WriteFault = ShownInPart shows s
 Answers shows settings input old new before now NoMemory = IsShownSoFar shows settings input old new
 Answers shows settings input old new before now (BadScenario fault) = ReadsAsScenario input (Err fault) × (new ≡ old)
 Answers shows settings input old new before now status = ⊥
+
+-- what each outcome says of what a client sent, and of what the sink holds
+abbrev pub AnswersWire : List ℕ → Option (List ℕ) → Option (List ℕ) → Status → Type 0
+AnswersWire bytes old new Done = Converses bytes (Appends old new)
+AnswersWire bytes old new (BadWire fault) = BreaksOff bytes fault (Appends old new)
+AnswersWire bytes old new ReadFault = StopsAmong bytes (λ section items. Appends old new (messages section items))
+AnswersWire bytes old new WriteFault = StopsAmong bytes (λ section items. AppendsPrefix old new (messages section items))
+AnswersWire bytes old new NoMemory = StopsAmong bytes (WroteWhole old new)
+AnswersWire bytes old new status = ⊥
 
 -- the outcomes after which the whole input was read
 abbrev pub HasRead : Status → Type 0

@@ -22,13 +22,17 @@
 //! ```
 #![tactic(auto)]
 
+mod client;
+mod conversing;
 mod input;
 mod live_run;
 mod print;
 mod run;
 mod scenario_run;
 mod status;
+mod wire;
 
+pub use conversing::converse;
 pub use live_run::run_scenario_live;
 pub use print::Print;
 pub use run::run_notify;

@@ -1,4 +1,4 @@
-ghost use Rattle.std.specs.Prelude.{◌≡◌, ◌≢◌, ◌⊎◌, ℕ, ◌<◌, ◌≤◌, ◌+◌, List, map, take, Ok, Err, IfSome, OnSome, IsSomeAnd};
+ghost use Rattle.std.specs.Prelude.{◌≡◌, ◌≢◌, ◌⊎◌, ℕ, ◌<◌, ◌≤◌, ◌+◌, List, map, take, Ok, Err, None, Some, IfSome, OnSome, IsSomeAnd};
 ghost use Rattle.std.specs.Io.KnownBytes.{Appends, Consumes, IsAtEnd};
 ghost use Rattle.pgn_base.specs.Outside.{AppendsPrefix, Rose};
 ghost use Rattle.pgn_base.specs.declared.limits.TheConstants.{PAGES_MAX, PAGES_MIN};
@@ -7,12 +7,17 @@ ghost use Rattle.pgn_language.specs.declared.scenario.ScenarioFault.{ScenarioFau
 ghost use Rattle.pgn_language.specs.Inputs.{IsSound, ReadsAsScenario};
 ghost use Rattle.pgn_options.specs.Words.{AreNoCommand};
 ghost use Rattle.pgn_drill.specs.Drill.{drill};
+ghost use Rattle.pgn_messages.specs.Messages.{messages};
+ghost use Rattle.pgn_queries.specs.declared.wire_fault.WireFault.{WireFault};
+ghost use Rattle.pgn_wire.specs.Serving.{WroteWhole};
+ghost use Rattle.pgn_run.specs.Conversation.{BreaksOff, StopsAmong};
 ghost use Rattle.pgn_run.specs.declared.print.Print.{Print};
 ghost use Rattle.pgn_run.specs.declared.print.Print.TheVariants.{Summary};
-ghost use Rattle.pgn_run.specs.Run.{Answers, AskToDrill, AskToRun, AskToRunLive, HasRead, IsShownSoFar, Performs, PerformsInPart, Runs, Shown, ShownInPart, SoFarRuns, drill_settings, settings_with, shows_if};
+ghost use Rattle.pgn_run.specs.Run.{Answers, AskToDrill, AskToRun, AskToRunLive, AskToWire, EndsIn, HasRead, IsShownSoFar, Performs, PerformsInPart, Runs, Shown, ShownInPart, SoFarRuns, drill_settings, settings_with, shows_if};
 
 use crate::input::{Unread, read_input};
 use crate::print::Shows;
+use crate::wire::wire;
 use crate::{Print, Status, run_scenario, run_scenario_live};
 use pgn_base::{INPUT_BYTES_MAX, PAGES_MAX, Sink, Source};
 use pgn_drill::drill_text;
@@ -31,7 +36,8 @@ const READ_LIMIT: usize = INPUT_BYTES_MAX + 1;
 
 /// Does all that the program does between its words and its exit status. `words` are those after the program's name. `run` reads a scenario from the source, runs its
 /// sessions side by side, and writes the journal and what each session was answered and received to the sink. `drill` reads nothing:
-/// it makes a scenario, runs it the same way, and writes the summary. Sessions may wait for one another, so that it is not promised
+/// it makes a scenario, runs it the same way, and writes the summary. `wire` answers each query that it reads, as a server of PostgreSQL
+/// does after start-up, before it reads the next. Sessions may wait for one another, so that it is not promised
 /// that the call returns; what stands here holds where it does.
 pub fn run_notify<'a, S: Source, K: Sink + Send, R: Threads + Wait + Sync>(
     rt: &R,
@@ -40,7 +46,8 @@ pub fn run_notify<'a, S: Source, K: Sink + Send, R: Threads + Wait + Sync>(
     source: &mut S,
     sink: &mut K,
 ) -> Status
-    // The headline: what was left reads as a scenario, and the text of a legal run of it was written; or the summary of a drill.
+    // The headline: what was left reads as a scenario, and the text of a legal run of it was written; or the summary of a drill; or what
+    // was left are the queries of a client, and the messages of a legal run of them were written.
     ensures done { result ≡ Status.Done → Performs (map (λ word. word.now) words.now) (S.left source.old) (Appends (K.held sink.old) (K.held sink.new)) }
     ensures done_reads_all { AskToRun (map (λ word. word.now) words.now) → result ≡ Status.Done → OnSome (S.left source.old) (IsAtEnd (S.left source.new)) }
 
@@ -58,18 +65,31 @@ pub fn run_notify<'a, S: Source, K: Sink + Send, R: Threads + Wait + Sync>(
     ensures bad_scenario_writes_nothing { (fault : ScenarioFault) → result ≡ Status.BadScenario fault
         → K.held sink.new ≡ K.held sink.old }
 
-    ensures read_fault { result ≡ Status.ReadFault → AskToRun (map (λ word. word.now) words.now) × Rose (S.faults source.old) (S.faults source.new) }
+    ensures read_fault { result ≡ Status.ReadFault → (AskToRun (map (λ word. word.now) words.now) ⊎ AskToWire (map (λ word. word.now) words.now)) × Rose (S.faults source.old) (S.faults source.new) }
     ensures read_fault_where_due { S.faults source.old < S.faults source.new → result ≡ Status.ReadFault }
-    ensures read_fault_writes_nothing { result ≡ Status.ReadFault → K.held sink.new ≡ K.held sink.old }
+    ensures read_fault_writes_nothing { ¬ AskToWire (map (λ word. word.now) words.now) → result ≡ Status.ReadFault → K.held sink.new ≡ K.held sink.old }
+    ensures read_fault_writes_answers { AskToWire (map (λ word. word.now) words.now) → result ≡ Status.ReadFault → IfSome (S.left source.old) (λ bytes.
+        StopsAmong bytes (λ section items. Appends (K.held sink.old) (K.held sink.new) (messages section items))) }
 
     ensures write_fault { result ≡ Status.WriteFault → Rose (K.faults sink.old) (K.faults sink.new) }
     ensures write_fault_where_due { K.faults sink.old < K.faults sink.new → result ≡ Status.WriteFault }
     ensures write_fault_writes_a_prefix { result ≡ Status.WriteFault
         → PerformsInPart (map (λ word. word.now) words.now) (S.left source.old) (AppendsPrefix (K.held sink.old) (K.held sink.new)) }
 
-    ensures no_memory_writes_nothing { ¬ AskToRunLive (map (λ word. word.now) words.now) → result ≡ Status.NoMemory → K.held sink.new ≡ K.held sink.old }
+    ensures no_memory_writes_nothing { ¬ AskToRunLive (map (λ word. word.now) words.now) → ¬ AskToWire (map (λ word. word.now) words.now) → result ≡ Status.NoMemory → K.held sink.new ≡ K.held sink.old }
     ensures no_memory_writes_first_lines { (ask : AskToRunLive (map (λ word. word.now) words.now)) → result ≡ Status.NoMemory
         → (K.held sink.new ≡ K.held sink.old) ⊎ IfSome (S.left source.old) (λ input. SoFarRuns (settings_with ask.pages ask.patience) input (Appends (K.held sink.old) (K.held sink.new))) }
+    ensures no_memory_writes_whole_answers { AskToWire (map (λ word. word.now) words.now) → result ≡ Status.NoMemory → IfSome (S.left source.old) (λ bytes.
+        StopsAmong bytes (WroteWhole (K.held sink.old) (K.held sink.new))) }
+
+    // The bytes of a client have this fault, and what it asked before was answered.
+    ensures bad_wire { (fault : WireFault) → result ≡ Status.BadWire fault
+        → AskToWire (map (λ word. word.now) words.now) × IfSome (S.left source.old) (λ bytes. BreaksOff bytes fault (Appends (K.held sink.old) (K.held sink.new))) }
+    ensures bad_wire_where_due { (fault : WireFault) → AskToWire (map (λ word. word.now) words.now)
+        → IsSomeAnd (S.left source.old) (λ bytes. EndsIn bytes (Some fault))
+        → ¬ Rose (S.faults source.old) (S.faults source.new)
+        → ¬ Rose (K.faults sink.old) (K.faults sink.new)
+        → (result ≡ Status.BadWire fault) ⊎ (result ≡ Status.NoMemory) }
 
     // What was left is what was read and then what is left now; all of it was read, or its first 16,777,217 bytes.
     ensures what_was_read { AskToRun (map (λ word. word.now) words.now) → HasRead result → IfSome (S.left source.old) (λ left.
@@ -78,6 +98,11 @@ pub fn run_notify<'a, S: Source, K: Sink + Send, R: Threads + Wait + Sync>(
 
     ensures complete { (scenario : Scenario) → AskToRun (map (λ word. word.now) words.now)
         → IsSomeAnd (S.left source.old) (λ input. ReadsAsScenario input (Ok scenario))
+        → ¬ Rose (S.faults source.old) (S.faults source.new)
+        → ¬ Rose (K.faults sink.old) (K.faults sink.new)
+        → (result ≡ Status.Done) ⊎ (result ≡ Status.NoMemory) }
+    ensures wire_complete { AskToWire (map (λ word. word.now) words.now)
+        → IsSomeAnd (S.left source.old) (λ bytes. EndsIn bytes None)
         → ¬ Rose (S.faults source.old) (S.faults source.new)
         → ¬ Rose (K.faults sink.old) (K.faults sink.new)
         → (result ≡ Status.Done) ⊎ (result ≡ Status.NoMemory) }
@@ -99,6 +124,7 @@ pub fn run_notify<'a, S: Source, K: Sink + Send, R: Threads + Wait + Sync>(
                 notes,
             },
         ) => drill::<K, R>(rt, alloc, seed, sessions, notes, sink),
+        Ok(Asked::Wire) => wire::<R, S, K>(rt, alloc, source, sink),
         Err(WordsFault::BadWords) => Status::BadWords,
         Err(WordsFault::Memory) => Status::NoMemory,
     }
@@ -132,6 +158,7 @@ fn run<S: Source, K: Sink + Send, R: Threads + Wait + Sync>(
         Shown shows (settings_with pages patience) input (Appends (K.held sink.old) (K.held sink.new))) }
     ensures done_reads_all { result ≡ Status.Done → OnSome (S.left source.old) (IsAtEnd (S.left source.new)) }
     ensures right_words { result ≢ Status.BadWords }
+    ensures no_wire { (fault : WireFault) → result ≢ Status.BadWire fault }
     ensures bad_scenario { (fault : ScenarioFault) → result ≡ Status.BadScenario fault
         → IfSome (S.left source.old) (λ input. ReadsAsScenario input (Err fault)) }
     ensures bad_scenario_where_due { (fault : ScenarioFault)

@@ -1,4 +1,5 @@
 use pgn_language::ScenarioFault;
+use pgn_queries::WireFault;
 
 /// How a run ended. Its `code` is the program's exit status.
 #[derive(Clone, Copy)]
@@ -14,13 +15,15 @@ pub enum Status {
     /// The sink failed; a prefix of the output was written.
     WriteFault,
     NoMemory,
+    /// What a client of the wire sent is at fault; what it asked before was answered.
+    BadWire(WireFault),
 }
 
 impl Status {
     ghost use Rattle.std.specs.Prelude.{◌≡◌};
     ghost use Rattle.pgn_run.specs.Run.{code_of};
 
-    /// The program's exit status, from 0 to 6.
+    /// The program's exit status: 0, 2 to 6, or 10.
     pub fn code(&self) -> u8
         ensures { result ≡ code_of self.now }
     {
@@ -31,6 +34,7 @@ impl Status {
             Status::ReadFault => 4,
             Status::WriteFault => 5,
             Status::NoMemory => 6,
+            Status::BadWire(_) => 10,
         }
     }
 }

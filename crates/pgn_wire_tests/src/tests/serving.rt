@@ -1,8 +1,8 @@
 // A client that is served.
 use pgn_base::{MemSink, MemSource, Sink, Source};
-use pgn_conversation::converse;
 use pgn_hub::Hub;
 use pgn_queries::WireFault;
+use pgn_run::converse;
 use pgn_wire::WireEnd;
 use pgn_wordhub::WordHub;
 use std::alloc::Global;

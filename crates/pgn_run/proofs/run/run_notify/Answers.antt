@@ -2,10 +2,12 @@ use Rattle.std.proofs.Common.{◌∙◌, Some, Err, ap, inl, inr, map, subst}
 use Rattle.pgn_run.specs.Run.{shows_if}
 use Rattle.pgn_run.specs.declared.print.Print.TheVariants.{Text}
 use Rattle.pgn_run.proofs.RunLaws.{so_far-known}
-use Rattle.pgn_options.specs.declared.asked.Asked.TheVariants.{Run, Drill}
+use Rattle.pgn_options.specs.declared.asked.Asked.TheVariants.{Run, Drill, Wire}
 use Rattle.pgn_options.specs.Words.{IsWithin}
-use Rattle.pgn_run.proofs.AskedLaws.{no-drill, no-other, no-run, none-drills, none-runs, same-run, shows-once}
-use Rattle.pgn_run.proofs.OverLaws.{drill-completes, not-bad-scenario, not-bad-words, not-read-fault}
+use Rattle.pgn_run.proofs.AskedLaws.{drill-no_wire, live-runs, no-drill, no-other, no-run, none-drills, none-runs, none-wires, run-no_wire, same-run, shows-once, wire-no_drill, wire-no_run}
+use Rattle.pgn_run.proofs.OverLaws.{drill-completes, not-bad-scenario, not-bad-wire, not-bad-words, not-read-fault}
+use Rattle.pgn_run.proofs.ConversationLaws.{unopened-known}
+use Rattle.pgn_run.proofs.WireLaws.{bad-wire, done-wire, memory-wire, read-wire, wire-completes, wire-refused, write-wire}
 use Rattle.pgn_run.proofs.run.run_notify.Goals as goal
 
 pub run-requires-clause-some_pages : goal.run-requires-clause-some_pages
@@ -47,7 +49,7 @@ returns-in-Ok-Run-clause-bad_scenario_where_due g c = λ fault ask reads rose. c
 
 pub returns-in-Ok-Run-clause-read_fault : goal.returns-in-Ok-Run-clause-read_fault
 returns-in-Ok-Run-clause-read_fault g c = λ e. (
-  record { pages = c.in-Ok-Run.pages; patience = c.in-Ok-Run.patience; live = c.in-Ok-Run.live; asks = c.in-Ok-Run.ensures.asked ∙ ap Some c.in-Ok-Run.field-0-is },
+  inl (record { pages = c.in-Ok-Run.pages; patience = c.in-Ok-Run.patience; live = c.in-Ok-Run.live; asks = c.in-Ok-Run.ensures.asked ∙ ap Some c.in-Ok-Run.field-0-is }),
   c.run.ensures.read_fault e,
 )
 
@@ -59,7 +61,7 @@ returns-in-Ok-Run-clause-write_fault_writes_a_prefix g c = λ e. record {
 }
 
 pub returns-in-Ok-Run-clause-no_memory_writes_nothing : goal.returns-in-Ok-Run-clause-no_memory_writes_nothing
-returns-in-Ok-Run-clause-no_memory_writes_nothing g c = λ once e.
+returns-in-Ok-Run-clause-no_memory_writes_nothing g c = λ once other e.
     c.run.ensures.no_memory_writes_nothing Text
     (c.shows_if.ensures ∙ shows-once (map (λ word. word.now) c.args.words.now) c.in-Ok-Run.pages c.in-Ok-Run.patience c.in-Ok-Run.live once (c.in-Ok-Run.ensures.asked ∙ ap Some c.in-Ok-Run.field-0-is)) e
 
@@ -114,7 +116,7 @@ pub returns-in-Ok-Drill-clause-read_fault : goal.returns-in-Ok-Drill-clause-read
 returns-in-Ok-Drill-clause-read_fault g c = λ e. absurd (not-read-fault c.drill.result c.drill.ensures.only e)
 
 pub returns-in-Ok-Drill-clause-read_fault_writes_nothing : goal.returns-in-Ok-Drill-clause-read_fault_writes_nothing
-returns-in-Ok-Drill-clause-read_fault_writes_nothing g c = λ e. absurd (not-read-fault c.drill.result c.drill.ensures.only e)
+returns-in-Ok-Drill-clause-read_fault_writes_nothing g c = λ other e. absurd (not-read-fault c.drill.result c.drill.ensures.only e)
 
 pub returns-in-Ok-Drill-clause-write_fault_writes_a_prefix : goal.returns-in-Ok-Drill-clause-write_fault_writes_a_prefix
 returns-in-Ok-Drill-clause-write_fault_writes_a_prefix g c = λ e. record {
@@ -151,3 +153,117 @@ returns-in-Err-BadWords-clause-bad_scenario_where_due g c = λ fault ask reads r
 pub returns-in-Err-BadWords-clause-drill_complete : goal.returns-in-Err-BadWords-clause-drill_complete
 returns-in-Err-BadWords-clause-drill_complete g c = λ ask none.
     absurd (none-drills (map (λ word. word.now) c.args.words.now) (c.in-Err-BadWords.ensures.bad_words (ap Err c.in-Err-BadWords.field-0-is)) ask)
+
+pub returns-in-Ok-Run-clause-read_fault_writes_answers : goal.returns-in-Ok-Run-clause-read_fault_writes_answers
+returns-in-Ok-Run-clause-read_fault_writes_answers g c = λ ask. absurd (run-no_wire (map (λ word. word.now) c.args.words.now) c.in-Ok-Run.pages c.in-Ok-Run.patience c.in-Ok-Run.live (c.in-Ok-Run.ensures.asked ∙ ap Some c.in-Ok-Run.field-0-is) ask)
+
+pub returns-in-Ok-Run-clause-no_memory_writes_whole_answers : goal.returns-in-Ok-Run-clause-no_memory_writes_whole_answers
+returns-in-Ok-Run-clause-no_memory_writes_whole_answers g c = λ ask. absurd (run-no_wire (map (λ word. word.now) c.args.words.now) c.in-Ok-Run.pages c.in-Ok-Run.patience c.in-Ok-Run.live (c.in-Ok-Run.ensures.asked ∙ ap Some c.in-Ok-Run.field-0-is) ask)
+
+pub returns-in-Ok-Run-clause-bad_wire_where_due : goal.returns-in-Ok-Run-clause-bad_wire_where_due
+returns-in-Ok-Run-clause-bad_wire_where_due g c = λ fault ask. absurd (run-no_wire (map (λ word. word.now) c.args.words.now) c.in-Ok-Run.pages c.in-Ok-Run.patience c.in-Ok-Run.live (c.in-Ok-Run.ensures.asked ∙ ap Some c.in-Ok-Run.field-0-is) ask)
+
+pub returns-in-Ok-Run-clause-wire_complete : goal.returns-in-Ok-Run-clause-wire_complete
+returns-in-Ok-Run-clause-wire_complete g c = λ ask. absurd (run-no_wire (map (λ word. word.now) c.args.words.now) c.in-Ok-Run.pages c.in-Ok-Run.patience c.in-Ok-Run.live (c.in-Ok-Run.ensures.asked ∙ ap Some c.in-Ok-Run.field-0-is) ask)
+
+pub returns-in-Ok-Drill-clause-read_fault_writes_answers : goal.returns-in-Ok-Drill-clause-read_fault_writes_answers
+returns-in-Ok-Drill-clause-read_fault_writes_answers g c = λ ask. absurd (drill-no_wire (map (λ word. word.now) c.args.words.now) c.in-Ok-Drill.seed c.in-Ok-Drill.sessions c.in-Ok-Drill.notes (c.in-Ok-Drill.ensures.asked ∙ ap Some c.in-Ok-Drill.field-0-is) ask)
+
+pub returns-in-Ok-Drill-clause-no_memory_writes_whole_answers : goal.returns-in-Ok-Drill-clause-no_memory_writes_whole_answers
+returns-in-Ok-Drill-clause-no_memory_writes_whole_answers g c = λ ask. absurd (drill-no_wire (map (λ word. word.now) c.args.words.now) c.in-Ok-Drill.seed c.in-Ok-Drill.sessions c.in-Ok-Drill.notes (c.in-Ok-Drill.ensures.asked ∙ ap Some c.in-Ok-Drill.field-0-is) ask)
+
+pub returns-in-Ok-Drill-clause-bad_wire_where_due : goal.returns-in-Ok-Drill-clause-bad_wire_where_due
+returns-in-Ok-Drill-clause-bad_wire_where_due g c = λ fault ask. absurd (drill-no_wire (map (λ word. word.now) c.args.words.now) c.in-Ok-Drill.seed c.in-Ok-Drill.sessions c.in-Ok-Drill.notes (c.in-Ok-Drill.ensures.asked ∙ ap Some c.in-Ok-Drill.field-0-is) ask)
+
+pub returns-in-Ok-Drill-clause-wire_complete : goal.returns-in-Ok-Drill-clause-wire_complete
+returns-in-Ok-Drill-clause-wire_complete g c = λ ask. absurd (drill-no_wire (map (λ word. word.now) c.args.words.now) c.in-Ok-Drill.seed c.in-Ok-Drill.sessions c.in-Ok-Drill.notes (c.in-Ok-Drill.ensures.asked ∙ ap Some c.in-Ok-Drill.field-0-is) ask)
+
+pub returns-in-Err-BadWords-clause-read_fault_writes_answers : goal.returns-in-Err-BadWords-clause-read_fault_writes_answers
+returns-in-Err-BadWords-clause-read_fault_writes_answers g c = λ ask. absurd (none-wires (map (λ word. word.now) c.args.words.now) (c.in-Err-BadWords.ensures.bad_words (ap Err c.in-Err-BadWords.field-0-is)) ask)
+
+pub returns-in-Err-BadWords-clause-no_memory_writes_whole_answers : goal.returns-in-Err-BadWords-clause-no_memory_writes_whole_answers
+returns-in-Err-BadWords-clause-no_memory_writes_whole_answers g c = λ ask. absurd (none-wires (map (λ word. word.now) c.args.words.now) (c.in-Err-BadWords.ensures.bad_words (ap Err c.in-Err-BadWords.field-0-is)) ask)
+
+pub returns-in-Err-BadWords-clause-bad_wire_where_due : goal.returns-in-Err-BadWords-clause-bad_wire_where_due
+returns-in-Err-BadWords-clause-bad_wire_where_due g c = λ fault ask. absurd (none-wires (map (λ word. word.now) c.args.words.now) (c.in-Err-BadWords.ensures.bad_words (ap Err c.in-Err-BadWords.field-0-is)) ask)
+
+pub returns-in-Err-BadWords-clause-wire_complete : goal.returns-in-Err-BadWords-clause-wire_complete
+returns-in-Err-BadWords-clause-wire_complete g c = λ ask. absurd (none-wires (map (λ word. word.now) c.args.words.now) (c.in-Err-BadWords.ensures.bad_words (ap Err c.in-Err-BadWords.field-0-is)) ask)
+
+pub returns-in-Ok-Run-clause-bad_wire : goal.returns-in-Ok-Run-clause-bad_wire
+returns-in-Ok-Run-clause-bad_wire g c = λ fault e. absurd (c.run.ensures.no_wire fault e)
+
+pub returns-in-Ok-Drill-clause-bad_wire : goal.returns-in-Ok-Drill-clause-bad_wire
+returns-in-Ok-Drill-clause-bad_wire g c = λ fault e. absurd (not-bad-wire c.drill.result fault c.drill.ensures.only e)
+
+pub returns-in-Ok-Wire-clause-done : goal.returns-in-Ok-Wire-clause-done
+returns-in-Ok-Wire-clause-done g c = λ e. record { asked = Wire; asks = (c.in-Ok-Wire.ensures.asked ∙ ap Some c.in-Ok-Wire.field-0-is); done = done-wire (g.S.Source.left c.args.source.now) (g.K.Sink.held c.args.sink.now) (g.K.Sink.held c.wire.new.sink) c.wire.result c.wire.ensures.answers e }
+
+pub returns-in-Ok-Wire-clause-done_reads_all : goal.returns-in-Ok-Wire-clause-done_reads_all
+returns-in-Ok-Wire-clause-done_reads_all g c = λ ask. absurd (wire-no_run (map (λ word. word.now) c.args.words.now) (c.in-Ok-Wire.ensures.asked ∙ ap Some c.in-Ok-Wire.field-0-is) ask)
+
+pub returns-in-Ok-Wire-clause-bad_words : goal.returns-in-Ok-Wire-clause-bad_words
+returns-in-Ok-Wire-clause-bad_words g c = λ e. absurd (c.wire.ensures.right_words e)
+
+pub returns-in-Ok-Wire-clause-bad_words_where_due : goal.returns-in-Ok-Wire-clause-bad_words_where_due
+returns-in-Ok-Wire-clause-bad_words_where_due g c = λ none. absurd (no-other (map (λ word. word.now) c.args.words.now) Wire (c.in-Ok-Wire.ensures.asked ∙ ap Some c.in-Ok-Wire.field-0-is) none)
+
+pub returns-in-Ok-Wire-clause-bad_words_read_nothing : goal.returns-in-Ok-Wire-clause-bad_words_read_nothing
+returns-in-Ok-Wire-clause-bad_words_read_nothing g c = λ none. absurd (no-other (map (λ word. word.now) c.args.words.now) Wire (c.in-Ok-Wire.ensures.asked ∙ ap Some c.in-Ok-Wire.field-0-is) none)
+
+pub returns-in-Ok-Wire-clause-bad_words_write_nothing : goal.returns-in-Ok-Wire-clause-bad_words_write_nothing
+returns-in-Ok-Wire-clause-bad_words_write_nothing g c = λ none. absurd (no-other (map (λ word. word.now) c.args.words.now) Wire (c.in-Ok-Wire.ensures.asked ∙ ap Some c.in-Ok-Wire.field-0-is) none)
+
+pub returns-in-Ok-Wire-clause-bad_scenario : goal.returns-in-Ok-Wire-clause-bad_scenario
+returns-in-Ok-Wire-clause-bad_scenario g c = λ fault e. absurd (c.wire.ensures.no_scenario fault e)
+
+pub returns-in-Ok-Wire-clause-bad_scenario_where_due : goal.returns-in-Ok-Wire-clause-bad_scenario_where_due
+returns-in-Ok-Wire-clause-bad_scenario_where_due g c = λ fault ask. absurd (wire-no_run (map (λ word. word.now) c.args.words.now) (c.in-Ok-Wire.ensures.asked ∙ ap Some c.in-Ok-Wire.field-0-is) ask)
+
+pub returns-in-Ok-Wire-clause-bad_scenario_writes_nothing : goal.returns-in-Ok-Wire-clause-bad_scenario_writes_nothing
+returns-in-Ok-Wire-clause-bad_scenario_writes_nothing g c = λ fault e. absurd (c.wire.ensures.no_scenario fault e)
+
+pub returns-in-Ok-Wire-clause-read_fault : goal.returns-in-Ok-Wire-clause-read_fault
+returns-in-Ok-Wire-clause-read_fault g c = λ e. (inr (c.in-Ok-Wire.ensures.asked ∙ ap Some c.in-Ok-Wire.field-0-is), c.wire.ensures.read_fault e)
+
+pub returns-in-Ok-Wire-clause-read_fault_writes_nothing : goal.returns-in-Ok-Wire-clause-read_fault_writes_nothing
+returns-in-Ok-Wire-clause-read_fault_writes_nothing g c = λ other. absurd (other (c.in-Ok-Wire.ensures.asked ∙ ap Some c.in-Ok-Wire.field-0-is))
+
+pub returns-in-Ok-Wire-clause-read_fault_writes_answers : goal.returns-in-Ok-Wire-clause-read_fault_writes_answers
+returns-in-Ok-Wire-clause-read_fault_writes_answers g c = λ ask. read-wire (g.S.Source.left c.args.source.now) (g.K.Sink.held c.args.sink.now) (g.K.Sink.held c.wire.new.sink) c.wire.result c.wire.ensures.answers
+
+pub returns-in-Ok-Wire-clause-write_fault_writes_a_prefix : goal.returns-in-Ok-Wire-clause-write_fault_writes_a_prefix
+returns-in-Ok-Wire-clause-write_fault_writes_a_prefix g c = λ e. record { asked = Wire; asks = (c.in-Ok-Wire.ensures.asked ∙ ap Some c.in-Ok-Wire.field-0-is); done = write-wire (g.S.Source.left c.args.source.now) (g.K.Sink.held c.args.sink.now) (g.K.Sink.held c.wire.new.sink) c.wire.result c.wire.ensures.answers e }
+
+pub returns-in-Ok-Wire-clause-no_memory_writes_nothing : goal.returns-in-Ok-Wire-clause-no_memory_writes_nothing
+returns-in-Ok-Wire-clause-no_memory_writes_nothing g c = λ once other. absurd (other (c.in-Ok-Wire.ensures.asked ∙ ap Some c.in-Ok-Wire.field-0-is))
+
+pub returns-in-Ok-Wire-clause-no_memory_writes_first_lines : goal.returns-in-Ok-Wire-clause-no_memory_writes_first_lines
+returns-in-Ok-Wire-clause-no_memory_writes_first_lines g c = λ ask. absurd (wire-no_run (map (λ word. word.now) c.args.words.now) (c.in-Ok-Wire.ensures.asked ∙ ap Some c.in-Ok-Wire.field-0-is) (live-runs (map (λ word. word.now) c.args.words.now) ask))
+
+pub returns-in-Ok-Wire-clause-no_memory_writes_whole_answers : goal.returns-in-Ok-Wire-clause-no_memory_writes_whole_answers
+returns-in-Ok-Wire-clause-no_memory_writes_whole_answers g c = λ ask. memory-wire (g.S.Source.left c.args.source.now) (g.K.Sink.held c.args.sink.now) (g.K.Sink.held c.wire.new.sink) c.wire.result c.wire.ensures.answers
+
+pub returns-in-Ok-Wire-clause-bad_wire : goal.returns-in-Ok-Wire-clause-bad_wire
+returns-in-Ok-Wire-clause-bad_wire g c = λ fault e. ((c.in-Ok-Wire.ensures.asked ∙ ap Some c.in-Ok-Wire.field-0-is), bad-wire (g.S.Source.left c.args.source.now) (g.K.Sink.held c.args.sink.now) (g.K.Sink.held c.wire.new.sink) c.wire.result c.wire.ensures.answers fault e)
+
+pub returns-in-Ok-Wire-clause-bad_wire_where_due : goal.returns-in-Ok-Wire-clause-bad_wire_where_due
+returns-in-Ok-Wire-clause-bad_wire_where_due g c = λ fault ask ends reads writes. wire-refused (g.S.Source.left c.args.source.now) (g.K.Sink.held c.args.sink.now) (g.K.Sink.held c.wire.new.sink) c.wire.result fault _ _ c.wire.ensures.answers ends c.wire.ensures.read_fault c.wire.ensures.write_fault reads writes
+
+pub returns-in-Ok-Wire-clause-what_was_read : goal.returns-in-Ok-Wire-clause-what_was_read
+returns-in-Ok-Wire-clause-what_was_read g c = λ ask. absurd (wire-no_run (map (λ word. word.now) c.args.words.now) (c.in-Ok-Wire.ensures.asked ∙ ap Some c.in-Ok-Wire.field-0-is) ask)
+
+pub returns-in-Ok-Wire-clause-drill_reads_nothing : goal.returns-in-Ok-Wire-clause-drill_reads_nothing
+returns-in-Ok-Wire-clause-drill_reads_nothing g c = λ ask. absurd (wire-no_drill (map (λ word. word.now) c.args.words.now) (c.in-Ok-Wire.ensures.asked ∙ ap Some c.in-Ok-Wire.field-0-is) ask)
+
+pub returns-in-Ok-Wire-clause-complete : goal.returns-in-Ok-Wire-clause-complete
+returns-in-Ok-Wire-clause-complete g c = λ scenario ask. absurd (wire-no_run (map (λ word. word.now) c.args.words.now) (c.in-Ok-Wire.ensures.asked ∙ ap Some c.in-Ok-Wire.field-0-is) ask)
+
+pub returns-in-Ok-Wire-clause-wire_complete : goal.returns-in-Ok-Wire-clause-wire_complete
+returns-in-Ok-Wire-clause-wire_complete g c = λ ask ends reads writes. wire-completes (g.S.Source.left c.args.source.now) (g.K.Sink.held c.args.sink.now) (g.K.Sink.held c.wire.new.sink) c.wire.result _ _ c.wire.ensures.answers ends c.wire.ensures.read_fault c.wire.ensures.write_fault reads writes
+
+pub returns-in-Ok-Wire-clause-drill_complete : goal.returns-in-Ok-Wire-clause-drill_complete
+returns-in-Ok-Wire-clause-drill_complete g c = λ ask. absurd (wire-no_drill (map (λ word. word.now) c.args.words.now) (c.in-Ok-Wire.ensures.asked ∙ ap Some c.in-Ok-Wire.field-0-is) ask)
+
+pub returns-in-Err-Memory-clause-no_memory_writes_whole_answers : goal.returns-in-Err-Memory-clause-no_memory_writes_whole_answers
+returns-in-Err-Memory-clause-no_memory_writes_whole_answers g c = λ ask e. unopened-known (g.S.Source.left c.args.source.now) (g.K.Sink.held c.args.sink.now)

@@ -1,5 +1,5 @@
 -- A client's conversation with a queue of its own.
-use Rattle.std.specs.Prelude.{◌≡◌, ℕ, List, [], ◌∷◌, ◌++◌, Option, None, Some, Result, Ok, Err, All, codes}
+use Rattle.std.specs.Prelude.{◌≡◌, ℕ, List, [], ◌∷◌, ◌++◌, Option, None, Some, Result, Ok, Err, All}
 use Rattle.std.specs.Io.KnownBytes.{Appends}
 use Rattle.pgn_base.specs.Outside.{AppendsPrefix}
 use Rattle.pgn_base.specs.declared.format.Format.TheVariants.{One}
@@ -13,7 +13,6 @@ use Rattle.pgn_model.specs.declared.trace.Trace.{Trace}
 use Rattle.pgn_model.specs.Walk.{Settings, State, Terms}
 use Rattle.pgn_model.specs.Legal.{Legal}
 use Rattle.pgn_model.specs.laws.NextLine.{HoldsSoFar}
-use Rattle.pgn_hub.specs.declared.setup.SeatSetup.{SeatSetup}
 use Rattle.pgn_hub.specs.Shape.{Shape}
 use Rattle.pgn_session.specs.declared.doing.FlagPlan.{FlagPlan}
 use Rattle.pgn_queries.specs.declared.wire_fault.WireFault.{WireFault}

@@ -1,15 +1,13 @@
 -- How a conversation ends.
-use Rattle.std.proofs.Common.{◌≡◌, ℕ, ◌+◌, ◌<◌, ◌≤◌, List, [], ◌∷◌, ◌++◌, length, map, All, Option, Some, None, IfSome, Result, Ok, Err, sym, ap, ◌∙◌, subst, refl, arith, append-nil}
+use Rattle.std.proofs.Common.{◌≡◌, ℕ, ◌+◌, ◌≤◌, List, [], ◌∷◌, ◌++◌, length, map, All, Option, Some, None, IfSome, Ok, Err, sym, ap, ◌∙◌, subst, refl, arith, append-nil}
 use Rattle.std.proofs.lemmas.List.Elements.{All-cons}
 use Rattle.std.specs.Io.KnownBytes.{Appends}
 use Rattle.pgn_base.specs.Outside.{AppendsPrefix}
-use Rattle.pgn_base.specs.declared.command.Command.TheVariants.{Bad as BadCommand}
-use Rattle.pgn_language.specs.declared.scenario.Act.TheVariants.{Run}
 use Rattle.pgn_language.specs.declared.scenario.ScriptLine.{ScriptLine}
 use Rattle.pgn_language.specs.declared.scenario.Section.{Section}
 use Rattle.pgn_language.specs.Inputs.{HasFlagBelow, note_lines_of}
 use Rattle.pgn_model.specs.declared.item.Item.{Item}
-use Rattle.pgn_model.specs.Walk.{State, Terms, start}
+use Rattle.pgn_model.specs.Walk.{Terms, start}
 use Rattle.pgn_model.specs.Legal.{Legal}
 use Rattle.pgn_model.specs.laws.NextLine.{HoldsSoFar}
 use Rattle.pgn_hub.specs.declared.known.Known.{Known}
@@ -32,9 +30,9 @@ use Rattle.pgn_queries.proofs.EachLaws.{each_has_reading}
 use Rattle.pgn_messages.specs.Messages.{messages}
 use Rattle.pgn_wire.specs.declared.wire_end.WireEnd.{WireEnd}
 use Rattle.pgn_wire.specs.declared.wire_end.WireEnd.TheVariants.{Bad, Read, Write, Memory}
-use Rattle.pgn_wire.specs.Serving.{AsksAll, AsksBy, HasAsked, HasStood, HasWritten, IsSameClient, WroteWhole}
-use Rattle.pgn_conversation.proofs.NotedLaws.{holds-noted, legal-noted, with_notes}
-use Rattle.pgn_conversation.specs.Conversation.{BreaksOff, Converses, EndsBy, IsSoFar, NamesNoFlags, RunsLegally, StopsAmong, session_section, wire_plan, wire_settings, wire_shape, wire_terms}
+use Rattle.pgn_wire.specs.Serving.{AsksAll, AsksBy, HasStood, HasWritten, IsSameClient, WroteWhole}
+use Rattle.pgn_run.proofs.NotedLaws.{holds-noted, legal-noted, with_notes}
+use Rattle.pgn_run.specs.Conversation.{EndsBy, IsSoFar, NamesNoFlags, RunsLegally, session_section, wire_plan, wire_settings, wire_shape}
 
 -- a list of one
 one : {T : Type 0} (P : T → Type 0) (x : T) → P x → All P (x ∷ [])

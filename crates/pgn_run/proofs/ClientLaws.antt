@@ -1,5 +1,5 @@
 -- A hub that is opened for one client, and its session.
-use Rattle.std.proofs.Common.{◌≡◌, ℕ, ◌+◌, ◌<◌, ◌≤◌, List, [], ◌∷◌, ◌++◌, length, map, All, Option, None, Some, sym, ap, ◌∙◌, subst, refl, arith}
+use Rattle.std.proofs.Common.{◌≡◌, ℕ, ◌+◌, List, [], ◌∷◌, ◌++◌, length, map, All, sym, ap, ◌∙◌, subst, refl, arith}
 use Rattle.std.specs.List.{range_with_len}
 use Rattle.std.proofs.lemmas.List.{length-append, length-map}
 use Rattle.std.proofs.lemmas.List.Elements.{All-nil, All-cons, All-head}
@@ -17,7 +17,7 @@ use Rattle.pgn_session.specs.Standing.{IsFlagBelow, IsServedBy}
 use Rattle.pgn_session.specs.Whole.{HasRest}
 use Rattle.pgn_queries.specs.Script.{wire_quit}
 use Rattle.pgn_wire.specs.Serving.{BeginsEmpty}
-use Rattle.pgn_conversation.specs.Conversation.{session_section, wire_plan, wire_shape}
+use Rattle.pgn_run.specs.Conversation.{session_section, wire_plan, wire_shape}
 
 -- one pass is known
 pub one-pass : {P : Type 0} (known : P → Known) (passes : List P) (setup : Shape) (seats : List SeatSetup) → map known passes ≡ opened_passes 1 setup.seats → setup.seats ≡ seats → seats ≡ wire_shape.seats → length passes ≡ 1

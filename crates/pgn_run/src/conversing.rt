@@ -3,11 +3,10 @@ ghost use Rattle.std.specs.Io.KnownBytes.{Appends};
 ghost use Rattle.pgn_base.specs.Outside.{AppendsPrefix, Rose};
 ghost use Rattle.pgn_messages.specs.Messages.{messages};
 ghost use Rattle.pgn_queries.specs.declared.wire_fault.WireFault.{WireFault};
-ghost use Rattle.pgn_conversation.specs.Conversation.{BreaksOff, Converses, EndsBy, StopsAmong};
+ghost use Rattle.pgn_run.specs.Conversation.{BreaksOff, Converses, EndsBy, StopsAmong};
 ghost use Rattle.pgn_wire.specs.Serving.{WroteWhole};
 
-use crate::finishing::finish;
-use crate::opening::open;
+use crate::client::{finish, open};
 use pgn_base::{Sink, Source};
 use pgn_hub::{Hub, PassView};
 use pgn_wire::{WireEnd, serve_wire};

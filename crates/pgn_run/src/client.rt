@@ -1,13 +1,15 @@
-ghost use Rattle.std.specs.Prelude.{◌≡◌, [], ◌∷◌, length, IfOk};
+ghost use Rattle.std.specs.Prelude.{◌≡◌, [], ◌∷◌, None, length, IfOk, OnOk};
+ghost use Rattle.pgn_hub.specs.Passes.{IsWithin};
 ghost use Rattle.pgn_session.specs.Standing.{IsServedBy};
 ghost use Rattle.pgn_session.specs.Whole.{HasRest};
-ghost use Rattle.pgn_conversation.specs.Conversation.{session_section, wire_plan, wire_shape};
 ghost use Rattle.pgn_wire.specs.Serving.{BeginsEmpty};
+ghost use Rattle.pgn_run.specs.Conversation.{NamesNoFlags, RunsLegally, session_section, wire_plan, wire_shape};
 
 use pgn_base::{DbOid, NOTE_LINES_MAX, Name, PAGES_DEFAULT, SessionNo};
 use pgn_hub::{Hub, PassView, SeatSetup, Setup};
 use pgn_language::{Act, LineText, ScriptLine, ScriptLines, Section};
-use pgn_session::{FlagPlan, Session};
+use pgn_session::{Doing, FlagPlan, Session};
+use pgn_threads::laws::runs_are_legal;
 use std::alloc::{AllocError, Global};
 
 // A hub for one client, and its session, of which nothing was asked yet.
@@ -80,3 +82,34 @@ fn section(alloc: Global) -> Result<Section, AllocError>
         note_lines: NOTE_LINES_MAX as u32,
     })
 }
+
+// Gathers the pass of a session that is over and listens no more: what it did is a legal run.
+pub(crate) fn finish<P: PassView + Send + Drop, H: Hub<Pass = P> + Drop>(
+    alloc: Global,
+    hub: H,
+    session: Session<P>,
+) -> Result<(), AllocError>
+    requires shape { H.shape hub ≡ wire_shape }
+    requires own { H.is_pass hub session.pass }
+    requires rested { HasRest (H.shape hub) P.known session }
+    requires over { session.doing ≡ Doing.Over }
+    requires left { (P.known session.pass).mark ≡ None }
+    requires number { session.section.no ≡ 1 }
+    requires plan { session.plan ≡ wire_plan }
+    requires patience { session.patience ≡ 1 }
+    ensures { OnOk result (NamesNoFlags session.section → RunsLegally session.section session.items.items) }
+{
+    let (pass, _trace) = session.into_log();
+    let mut passes = Vec::with_capacity(alloc, 1)?;
+    is_within(&hub, &pass);
+    passes.push(pass)?;
+    runs_are_legal();
+    let _roll = hub.gather(passes);
+    Ok(())
+}
+
+// What holds of a pass of a hub between calls.
+fn is_within<H: Hub>(hub: &H, pass: &H::Pass)
+    requires { H.is_pass hub.now pass.now }
+    ensures { IsWithin (H.Pass.known pass.now) }
+{}

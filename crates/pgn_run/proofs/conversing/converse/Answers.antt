@@ -1,6 +1,5 @@
-use Rattle.std.proofs.Common.{◌≡◌}
-use Rattle.pgn_conversation.proofs.EndLaws.{served-known, short-known, stopped-known, unopened-known}
-use Rattle.pgn_conversation.proofs.conversing.converse.Goals as goal
+use Rattle.pgn_run.proofs.ConversationLaws.{served-known, short-known, stopped-known, unopened-known}
+use Rattle.pgn_run.proofs.conversing.converse.Goals as goal
 
 pub returns-in_default-clause-ends : goal.returns-in_default-clause-ends
 returns-in_default-clause-ends g c = unopened-known (g.S.Source.left c.args.source.now) (g.K.Sink.held c.args.sink.now)

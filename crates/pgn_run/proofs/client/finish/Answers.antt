@@ -1,6 +1,6 @@
-use Rattle.pgn_conversation.proofs.EndLaws.{finished}
-use Rattle.pgn_conversation.proofs.OpenLaws.{pushed-one}
-use Rattle.pgn_conversation.proofs.finishing.finish.Goals as goal
+use Rattle.pgn_run.proofs.ConversationLaws.{finished}
+use Rattle.pgn_run.proofs.ClientLaws.{pushed-one}
+use Rattle.pgn_run.proofs.client.finish.Goals as goal
 
 pub returns : goal.returns
 returns g c = λ names.

@@ -1,6 +1,5 @@
-use Rattle.std.proofs.Common.{sym}
-use Rattle.pgn_conversation.proofs.OpenLaws.{only-has}
-use Rattle.pgn_conversation.proofs.opening.open.Goals as goal
+use Rattle.pgn_run.proofs.ClientLaws.{only-has}
+use Rattle.pgn_run.proofs.client.open.Goals as goal
 
 pub returns-clause-own : goal.returns-clause-own
 returns-clause-own g c =

@@ -1,2 +1,0 @@
--- what a whole conversation is
-pub mod Conversation
