@@ -1,14 +1,16 @@
 -- What stands on the errors' stream where a run has ended.
-use Rattle.std.proofs.Common.{◌≡◌, ◌≢◌, ℕ, List, [], Option, Some, None, Result, Ok, Err, IfOk, IfSome, sym, ap, ◌∙◌, refl, arith, append-nil}
+use Rattle.std.proofs.Common.{◌≡◌, ◌≢◌, ◌⊎◌, inl, inr, ℕ, List, [], Option, Some, None, Result, Ok, Err, IfOk, IfSome, sym, ap, ◌∙◌, refl, arith, append-nil}
 use Rattle.std.specs.Io.KnownBytes.{Appends}
 use Rattle.pgn_base.specs.Outside.{AppendsPrefix, HasCause, Rose, Writes}
 use Rattle.pgn_language.specs.declared.scenario.ScenarioFault.{ScenarioFault}
 use Rattle.pgn_language.specs.Inputs.{ReadsAsScenario}
+use Rattle.pgn_queries.specs.declared.wire_fault.WireFault.{WireFault}
+use Rattle.pgn_run.specs.Conversation.{BreaksOff}
 use Rattle.pgn_run.specs.declared.status.Status.{Status}
-use Rattle.pgn_run.specs.declared.status.Status.TheVariants.{Done, BadWords, BadScenario, ReadFault, WriteFault, NoMemory}
+use Rattle.pgn_run.specs.declared.status.Status.TheVariants.{Done, BadWords, BadScenario, ReadFault, WriteFault, NoMemory, BadWire}
 use Rattle.pgn_run.specs.Run.{code_of}
 use Rattle.pgn_cli.specs.FaultLine.{fault_text}
-use Rattle.pgn_cli.specs.Program.{IsRefused, NamesFault}
+use Rattle.pgn_cli.specs.Program.{IsRefused, NamesFault, NamesWireFault}
 
 -- a whole text is a prefix of itself
 whole-prefix : (old new : Option (List ℕ)) (text : List ℕ) → Appends old new text → AppendsPrefix old new text
@@ -42,25 +44,52 @@ names-fault (Some input) old new (BadScenario fault) code is line reads three = 
 names-fault (Some input) old new ReadFault code is line reads three = absurd (omega (arith, is, three))
 names-fault (Some input) old new WriteFault code is line reads three = absurd (omega (arith, is, three))
 names-fault (Some input) old new NoMemory code is line reads three = absurd (omega (arith, is, three))
+names-fault (Some input) old new (BadWire fault) code is line reads three = absurd (omega (arith, is, three))
 
--- what is not done, is no write that failed and no want of memory, has written nothing
+-- and so does that of a client's
+pub names-wire : (Asked : Type 0) (left held now old new : Option (List ℕ)) (status : Status) (code : ℕ) → code ≡ code_of status → AppendsPrefix old new (fault_text status)
+    → ((fault : WireFault) → status ≡ BadWire fault → Asked × IfSome left (λ bytes. BreaksOff bytes fault (Appends held now))) → code ≡ 10 → Asked × IfSome left (NamesWireFault held now old new)
+names-wire Asked left held now old new Done code is line breaks ten = absurd (omega (arith, is, ten))
+names-wire Asked left held now old new BadWords code is line breaks ten = absurd (omega (arith, is, ten))
+names-wire Asked left held now old new (BadScenario fault) code is line breaks ten = absurd (omega (arith, is, ten))
+names-wire Asked left held now old new ReadFault code is line breaks ten = absurd (omega (arith, is, ten))
+names-wire Asked left held now old new WriteFault code is line breaks ten = absurd (omega (arith, is, ten))
+names-wire Asked left held now old new NoMemory code is line breaks ten = absurd (omega (arith, is, ten))
+names-wire Asked None held now old new (BadWire fault) code is line breaks ten = ((breaks fault refl).0, tt)
+names-wire Asked (Some bytes) held now old new (BadWire fault) code is line breaks ten =
+    let broke = breaks fault refl in
+    (broke.0, record { fault = fault; breaks_off = broke.1; line = line })
+
+-- words that are no command and an input that is no scenario have written nothing
 pub refused-keeps : (old new : Option (List ℕ)) (status : Status) → (status ≡ BadWords → new ≡ old) → ((fault : ScenarioFault) → status ≡ BadScenario fault → new ≡ old)
-    → (status ≡ ReadFault → new ≡ old) → IsRefused status → new ≡ old
-refused-keeps old new Done words scenario read refused = absurd refused
-refused-keeps old new BadWords words scenario read refused = words refl
-refused-keeps old new (BadScenario fault) words scenario read refused = scenario fault refl
-refused-keeps old new ReadFault words scenario read refused = read refl
-refused-keeps old new WriteFault words scenario read refused = absurd refused
-refused-keeps old new NoMemory words scenario read refused = absurd refused
+    → IsRefused status → new ≡ old
+refused-keeps old new Done words scenario refused = absurd refused
+refused-keeps old new BadWords words scenario refused = words refl
+refused-keeps old new (BadScenario fault) words scenario refused = scenario fault refl
+refused-keeps old new ReadFault words scenario refused = absurd refused
+refused-keeps old new WriteFault words scenario refused = absurd refused
+refused-keeps old new NoMemory words scenario refused = absurd refused
+refused-keeps old new (BadWire fault) words scenario refused = absurd refused
 
 -- the status of what has written nothing
-pub refused-code : (status : Status) (code : ℕ) → code ≡ code_of status → code ≢ 0 → code ≢ 5 → code ≢ 6 → IsRefused status
-refused-code Done code is done fault memory = absurd (done is)
-refused-code BadWords code is done fault memory = tt
-refused-code (BadScenario found) code is done fault memory = tt
-refused-code ReadFault code is done fault memory = tt
-refused-code WriteFault code is done fault memory = absurd (fault is)
-refused-code NoMemory code is done fault memory = absurd (memory is)
+pub refused-code : (status : Status) (code : ℕ) → code ≡ code_of status → (code ≡ 2) ⊎ (code ≡ 3) → IsRefused status
+refused-code Done code is some = absurd (elim some [ inl e ↦ omega (arith, is, e) | inr e ↦ omega (arith, is, e) ])
+refused-code BadWords code is some = tt
+refused-code (BadScenario found) code is some = tt
+refused-code ReadFault code is some = absurd (elim some [ inl e ↦ omega (arith, is, e) | inr e ↦ omega (arith, is, e) ])
+refused-code WriteFault code is some = absurd (elim some [ inl e ↦ omega (arith, is, e) | inr e ↦ omega (arith, is, e) ])
+refused-code NoMemory code is some = absurd (elim some [ inl e ↦ omega (arith, is, e) | inr e ↦ omega (arith, is, e) ])
+refused-code (BadWire found) code is some = absurd (elim some [ inl e ↦ omega (arith, is, e) | inr e ↦ omega (arith, is, e) ])
+
+-- the status of a read that failed
+pub read-fault-code : (status : Status) (code : ℕ) → code ≡ code_of status → code ≡ 4 → status ≡ ReadFault
+read-fault-code Done code is four = absurd (omega (arith, is, four))
+read-fault-code BadWords code is four = absurd (omega (arith, is, four))
+read-fault-code (BadScenario found) code is four = absurd (omega (arith, is, four))
+read-fault-code ReadFault code is four = refl
+read-fault-code WriteFault code is four = absurd (omega (arith, is, four))
+read-fault-code NoMemory code is four = absurd (omega (arith, is, four))
+read-fault-code (BadWire found) code is four = absurd (omega (arith, is, four))
 
 -- the status of a write that failed
 pub write-fault-code : (status : Status) (code : ℕ) → code ≡ code_of status → code ≡ 5 → status ≡ WriteFault
@@ -70,6 +99,7 @@ write-fault-code (BadScenario found) code is five = absurd (omega (arith, is, fi
 write-fault-code ReadFault code is five = absurd (omega (arith, is, five))
 write-fault-code WriteFault code is five = refl
 write-fault-code NoMemory code is five = absurd (omega (arith, is, five))
+write-fault-code (BadWire found) code is five = absurd (omega (arith, is, five))
 
 -- the status of want of memory
 pub memory-code : (status : Status) (code : ℕ) → code ≡ code_of status → code ≡ 6 → status ≡ NoMemory
@@ -79,9 +109,15 @@ memory-code (BadScenario found) code is six = absurd (omega (arith, is, six))
 memory-code ReadFault code is six = absurd (omega (arith, is, six))
 memory-code WriteFault code is six = absurd (omega (arith, is, six))
 memory-code NoMemory code is six = refl
+memory-code (BadWire found) code is six = absurd (omega (arith, is, six))
 
 -- what words ask for, where that status says what they have come to
 pub memory-lines : {T E : Type 0} (words : Result T E) (Asks : T → Type 0) (P : (t : T) → Asks t → Type 0) (status : Status) (code : ℕ) → code ≡ code_of status
     → IfOk words (λ (w : T). (ask : Asks w) → status ≡ NoMemory → P w ask) → IfOk words (λ (w : T). (ask : Asks w) → code ≡ 6 → P w ask)
 memory-lines (Ok w) Asks P status code is h = λ ask six. h ask (memory-code status code is six)
 memory-lines (Err e) Asks P status code is h = h
+
+pub read-lines : {T E : Type 0} (words : Result T E) (Asks : T → Type 0) (P : (t : T) → Asks t → Type 0) (status : Status) (code : ℕ) → code ≡ code_of status
+    → IfOk words (λ (w : T). (ask : Asks w) → status ≡ ReadFault → P w ask) → IfOk words (λ (w : T). (ask : Asks w) → code ≡ 4 → P w ask)
+read-lines (Ok w) Asks P status code is h = λ ask four. h ask (read-fault-code status code is four)
+read-lines (Err e) Asks P status code is h = h

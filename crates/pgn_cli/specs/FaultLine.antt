@@ -1,19 +1,25 @@
 -- The line on standard error.
 use Rattle.std.specs.Prelude.{ℕ, List, [], ◌++◌, codes, decimal}
 use Rattle.pgn_run.specs.declared.status.Status.{Status}
-use Rattle.pgn_run.specs.declared.status.Status.TheVariants.{Done, BadWords, BadScenario, ReadFault, WriteFault, NoMemory}
+use Rattle.pgn_run.specs.declared.status.Status.TheVariants.{Done, BadWords, BadScenario, ReadFault, WriteFault, NoMemory, BadWire}
 use Rattle.pgn_language.specs.declared.scenario.ScenarioFault.{ScenarioFault}
 use Rattle.pgn_language.specs.declared.scenario.ScenarioFault.TheVariants.{TooLarge, LineTooLong, NotUtf8, NulByte, BadMeta, NoSession, SameName, TooMany, Empty, NeverSignalled}
+use Rattle.pgn_queries.specs.declared.wire_fault.WireFault.{WireFault}
+use Rattle.pgn_queries.specs.declared.wire_fault.WireFault.TheVariants.{BadType, BadLength, Truncated, BadText, TooMany as TooManyQueries}
 
 -- what is wrong at a line
 abbrev pub line_fault : ℕ → List ℕ → List ℕ
 line_fault line what = codes "pgnotify: line " ++ decimal line ++ what
 
+-- what is wrong at a byte
+abbrev pub byte_fault : ℕ → List ℕ → List ℕ
+byte_fault at what = codes "pgnotify: byte " ++ decimal at ++ what
+
 -- why an input is no scenario
 abbrev pub scenario_fault_text : ScenarioFault → List ℕ
 scenario_fault_text TooLarge = codes "pgnotify: input is larger than 16777216 bytes\n"
 scenario_fault_text (LineTooLong line) = line_fault line (codes ": line too long\n")
-scenario_fault_text (NotUtf8 at) = codes "pgnotify: byte " ++ decimal at ++ codes ": not UTF-8\n"
+scenario_fault_text (NotUtf8 at) = byte_fault at (codes ": not UTF-8\n")
 scenario_fault_text (NulByte line) = line_fault line (codes ": zero byte\n")
 scenario_fault_text (BadMeta line) = line_fault line (codes ": bad meta line\n")
 scenario_fault_text (NoSession line) = line_fault line (codes ": no session\n")
@@ -22,11 +28,24 @@ scenario_fault_text (TooMany line) = line_fault line (codes ": too many\n")
 scenario_fault_text Empty = codes "pgnotify: no session\n"
 scenario_fault_text (NeverSignalled line) = line_fault line (codes ": flag is never signalled\n")
 
+-- the offset of the message that is refused
+abbrev pub at_of : WireFault → ℕ
+at_of (BadType at) = at
+at_of (BadLength at) = at
+at_of (Truncated at) = at
+at_of (BadText at) = at
+at_of (TooManyQueries at) = at
+
+-- where a client's bytes are at fault
+abbrev pub wire_fault_text : WireFault → List ℕ
+wire_fault_text fault = byte_fault (at_of fault) (codes ": bad message\n")
+
 -- the line of an outcome, and nothing where the run is done
 abbrev pub fault_text : Status → List ℕ
 fault_text Done = []
-fault_text BadWords = codes "usage: pgnotify run [--pages N] [--patience N] [--live] or pgnotify drill SEED SESSIONS NOTES\n"
+fault_text BadWords = codes "usage: pgnotify run [--pages N] [--patience N] [--live] or pgnotify drill SEED SESSIONS NOTES or pgnotify wire\n"
 fault_text (BadScenario fault) = scenario_fault_text fault
 fault_text ReadFault = codes "pgnotify: read failed\n"
 fault_text WriteFault = codes "pgnotify: write failed\n"
 fault_text NoMemory = codes "pgnotify: out of memory\n"
+fault_text (BadWire fault) = wire_fault_text fault

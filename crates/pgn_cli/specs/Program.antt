@@ -6,10 +6,12 @@ use Rattle.std.specs.declared.io.ErrorKind.TheVariants.{OutOfMemory}
 use Rattle.pgn_base.specs.Outside.{AppendsPrefix, Rose}
 use Rattle.pgn_language.specs.declared.scenario.ScenarioFault.{ScenarioFault}
 use Rattle.pgn_language.specs.Inputs.{ReadsAsScenario}
+use Rattle.pgn_queries.specs.declared.wire_fault.WireFault.{WireFault}
+use Rattle.pgn_run.specs.Conversation.{BreaksOff}
 use Rattle.pgn_run.specs.declared.status.Status.{Status}
-use Rattle.pgn_run.specs.declared.status.Status.TheVariants.{Done, WriteFault, NoMemory}
+use Rattle.pgn_run.specs.declared.status.Status.TheVariants.{BadWords, BadScenario}
 use Rattle.pgn_run.specs.Run.{code_of}
-use Rattle.pgn_cli.specs.FaultLine.{fault_text, scenario_fault_text}
+use Rattle.pgn_cli.specs.FaultLine.{fault_text, scenario_fault_text, wire_fault_text}
 use Rattle.pgn_cli.specs.declared.arguments.NoWords.{NoWords}
 use Rattle.pgn_cli.specs.declared.arguments.NoWords.TheVariants.{Memory, NotText}
 
@@ -20,10 +22,9 @@ refused_for kind = NotText
 
 -- the outcomes with which nothing is written, whatever the words are
 abbrev pub IsRefused : Status → Type 0
-IsRefused Done = ⊥
-IsRefused WriteFault = ⊥
-IsRefused NoMemory = ⊥
-IsRefused status = Unit {0}
+IsRefused BadWords = Unit {0}
+IsRefused (BadScenario fault) = Unit {0}
+IsRefused status = ⊥
 
 -- the exit status is that of an outcome, and the outcome's line was written to the errors, whole where no fault was counted
 pub record Ends (code : ℕ) (old new : Option (List ℕ)) (before now : ℕ) : Type 0 where
@@ -37,3 +38,10 @@ pub record NamesFault (old new : Option (List ℕ)) (input : List ℕ) : Type 0 
   pub fault : ScenarioFault
   pub reads : ReadsAsScenario input (Err fault)
   pub line : AppendsPrefix old new (scenario_fault_text fault)
+
+-- a client's bytes are at fault; what it asked before was answered, and the line of the fault was written to the errors, or a prefix of
+-- that line
+pub record NamesWireFault (held now old new : Option (List ℕ)) (bytes : List ℕ) : Type 0 where
+  pub fault : WireFault
+  pub breaks_off : BreaksOff bytes fault (Appends held now)
+  pub line : AppendsPrefix old new (wire_fault_text fault)

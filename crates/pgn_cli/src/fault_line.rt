@@ -1,10 +1,11 @@
 ghost use Rattle.std.specs.Prelude.{◌++◌, decimal, codes};
 ghost use Rattle.pgn_base.specs.Outside.{Writes, HasCause};
-ghost use Rattle.pgn_cli.specs.FaultLine.{fault_text, scenario_fault_text, line_fault};
+ghost use Rattle.pgn_cli.specs.FaultLine.{byte_fault, fault_text, line_fault, scenario_fault_text, wire_fault_text};
 
 use itoa::Buffer;
 use pgn_base::{Failed, Sink, write_all};
 use pgn_language::ScenarioFault;
+use pgn_queries::WireFault;
 use pgn_run::Status;
 
 /// Writes the one line on standard error of an outcome, and nothing where the run is done. Where it fails, a prefix of the line
@@ -17,12 +18,13 @@ pub fn fault_line<K: Sink>(sink: &mut K, status: &Status) -> Result<(), Failed>
         Status::Done => Ok(()),
         Status::BadWords => write_all(
             sink,
-            b"usage: pgnotify run [--pages N] [--patience N] [--live] or pgnotify drill SEED SESSIONS NOTES\n",
+            b"usage: pgnotify run [--pages N] [--patience N] [--live] or pgnotify drill SEED SESSIONS NOTES or pgnotify wire\n",
         ),
         Status::BadScenario(fault) => scenario_fault_line(sink, *fault),
         Status::ReadFault => write_all(sink, b"pgnotify: read failed\n"),
         Status::WriteFault => write_all(sink, b"pgnotify: write failed\n"),
         Status::NoMemory => write_all(sink, b"pgnotify: out of memory\n"),
+        Status::BadWire(fault) => wire_fault_line(sink, *fault),
     }
 }
 
@@ -36,7 +38,7 @@ fn scenario_fault_line<K: Sink>(sink: &mut K, fault: ScenarioFault) -> Result<()
             b"pgnotify: input is larger than 16777216 bytes\n",
         ),
         ScenarioFault::LineTooLong { line } => at_line(sink, line, b": line too long\n"),
-        ScenarioFault::NotUtf8 { at } => numbered(sink, b"pgnotify: byte ", at, b": not UTF-8\n"),
+        ScenarioFault::NotUtf8 { at } => at_byte(sink, u64::from(at), b": not UTF-8\n"),
         ScenarioFault::NulByte { line } => at_line(sink, line, b": zero byte\n"),
         ScenarioFault::BadMeta { line } => at_line(sink, line, b": bad meta line\n"),
         ScenarioFault::NoSession { line } => at_line(sink, line, b": no session\n"),
@@ -55,12 +57,33 @@ fn at_line<K: Sink>(sink: &mut K, line: u32, what: &[u8]) -> Result<(), Failed>
     ensures bytes { Writes (K.held sink.old) (K.held sink.new) result (line_fault line what.now) }
     ensures cause { HasCause (K.faults sink.old) (K.faults sink.new) result }
 {
-    numbered(sink, b"pgnotify: line ", line, what)
+    numbered(sink, b"pgnotify: line ", u64::from(line), what)
+}
+
+fn wire_fault_line<K: Sink>(sink: &mut K, fault: WireFault) -> Result<(), Failed>
+    ensures bytes { Writes (K.held sink.old) (K.held sink.new) result (wire_fault_text fault) }
+    ensures cause { HasCause (K.faults sink.old) (K.faults sink.new) result }
+{
+    let at = match fault {
+        WireFault::BadType { at } => at,
+        WireFault::BadLength { at } => at,
+        WireFault::Truncated { at } => at,
+        WireFault::BadText { at } => at,
+        WireFault::TooMany { at } => at,
+    };
+    at_byte(sink, at, b": bad message\n")
+}
+
+fn at_byte<K: Sink>(sink: &mut K, at: u64, what: &[u8]) -> Result<(), Failed>
+    ensures bytes { Writes (K.held sink.old) (K.held sink.new) result (byte_fault at what.now) }
+    ensures cause { HasCause (K.faults sink.old) (K.faults sink.new) result }
+{
+    numbered(sink, b"pgnotify: byte ", at, what)
 }
 
 // A number between two texts.
 #[tactic(auto, using(pgn_base::proofs::OutsideLaws::writings))]
-fn numbered<K: Sink>(sink: &mut K, head: &[u8], number: u32, tail: &[u8]) -> Result<(), Failed>
+fn numbered<K: Sink>(sink: &mut K, head: &[u8], number: u64, tail: &[u8]) -> Result<(), Failed>
     ensures bytes { Writes (K.held sink.old) (K.held sink.new) result (head.now ++ decimal number ++ tail.now) }
     ensures cause { HasCause (K.faults sink.old) (K.faults sink.new) result }
 {

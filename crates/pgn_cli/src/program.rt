@@ -4,8 +4,12 @@ ghost use Rattle.pgn_base.specs.Outside.{AppendsPrefix, Rose};
 ghost use Rattle.pgn_language.specs.declared.scenario.ScenarioFault.{ScenarioFault};
 ghost use Rattle.pgn_language.specs.Inputs.{ReadsAsScenario};
 ghost use Rattle.pgn_options.specs.Words.{AreNoCommand};
-ghost use Rattle.pgn_run.specs.Run.{AskToRunLive, Performs, PerformsInPart, SoFarRuns, settings_with};
-ghost use Rattle.pgn_cli.specs.Program.{Ends, IsRefused, NamesFault};
+ghost use Rattle.pgn_messages.specs.Messages.{messages};
+ghost use Rattle.pgn_queries.specs.declared.wire_fault.WireFault.{WireFault};
+ghost use Rattle.pgn_wire.specs.Serving.{WroteWhole};
+ghost use Rattle.pgn_run.specs.Conversation.{BreaksOff, StopsAmong};
+ghost use Rattle.pgn_run.specs.Run.{AskToRunLive, AskToWire, Performs, PerformsInPart, SoFarRuns, settings_with};
+ghost use Rattle.pgn_cli.specs.Program.{Ends, IsRefused, NamesFault, NamesWireFault};
 
 use crate::arguments::NoWords;
 use crate::fault_line::fault_line;
@@ -28,15 +32,23 @@ pub fn program<S: Source, K: Sink + Send, E: Sink, R: Threads + Wait + Sync>(
     ensures ends { Ends result (E.held errors.old) (E.held errors.new) (E.faults errors.old) (E.faults errors.new) }
     ensures done { result ≡ 0 → IsOkAnd words (λ words. Performs (map string_bytes words.items) (S.left source.old) (Appends (K.held sink.old) (K.held sink.new))) }
     ensures bad_scenario { result ≡ 3 → IfSome (S.left source.old) (NamesFault (E.held errors.old) (E.held errors.new)) }
+    ensures bad_wire { result ≡ 10 → IsOkAnd words (λ words. AskToWire (map string_bytes words.items))
+        × IfSome (S.left source.old) (NamesWireFault (K.held sink.old) (K.held sink.new) (E.held errors.old) (E.held errors.new)) }
     ensures read_fault { result ≡ 4 → Rose (S.faults source.old) (S.faults source.new) }
     ensures read_fault_where_due { S.faults source.old < S.faults source.new → result ≡ 4 }
     ensures write_fault { result ≡ 5 → Rose (K.faults sink.old) (K.faults sink.new) }
     ensures write_fault_where_due { K.faults sink.old < K.faults sink.new → result ≡ 5 }
     ensures write_fault_writes_a_prefix { result ≡ 5 → IsOkAnd words (λ words. PerformsInPart (map string_bytes words.items) (S.left source.old) (AppendsPrefix (K.held sink.old) (K.held sink.new))) }
-    ensures refused_writes_nothing { result ≢ 0 → result ≢ 5 → result ≢ 6 → K.held sink.new ≡ K.held sink.old }
-    ensures no_memory_writes_nothing { IfOk words (λ words. ¬ AskToRunLive (map string_bytes words.items)) → result ≡ 6 → K.held sink.new ≡ K.held sink.old }
+    ensures refused_writes_nothing { (result ≡ 2) ⊎ (result ≡ 3) → K.held sink.new ≡ K.held sink.old }
+    ensures read_fault_writes_nothing { IfOk words (λ words. ¬ AskToWire (map string_bytes words.items)) → result ≡ 4 → K.held sink.new ≡ K.held sink.old }
+    ensures read_fault_writes_answers { IfOk words (λ words. AskToWire (map string_bytes words.items) → result ≡ 4
+        → IfSome (S.left source.old) (λ bytes. StopsAmong bytes (λ section items. Appends (K.held sink.old) (K.held sink.new) (messages section items)))) }
+    ensures no_memory_writes_nothing { IfOk words (λ words. ¬ AskToRunLive (map string_bytes words.items)) → IfOk words (λ words. ¬ AskToWire (map string_bytes words.items))
+        → result ≡ 6 → K.held sink.new ≡ K.held sink.old }
     ensures no_memory_writes_first_lines { IfOk words (λ words. (ask : AskToRunLive (map string_bytes words.items)) → result ≡ 6
         → (K.held sink.new ≡ K.held sink.old) ⊎ IfSome (S.left source.old) (λ input. SoFarRuns (settings_with ask.pages ask.patience) input (Appends (K.held sink.old) (K.held sink.new)))) }
+    ensures no_memory_writes_whole_answers { IfOk words (λ words. AskToWire (map string_bytes words.items) → result ≡ 6
+        → IfSome (S.left source.old) (λ bytes. StopsAmong bytes (WroteWhole (K.held sink.old) (K.held sink.new)))) }
     ensures no_memory { words ≡ Err NoWords.Memory → result ≡ 6 }
     ensures not_text { words ≡ Err NoWords.NotText → result ≡ 2 }
     ensures right_words { IfOk words (λ words. result ≡ 2 → AreNoCommand (map string_bytes words.items)) }
@@ -57,15 +69,23 @@ fn status_of<S: Source, K: Sink + Send, R: Threads + Wait + Sync>(
 ) -> Status
     ensures done { result ≡ Status.Done → IsOkAnd words (λ words. Performs (map string_bytes words.items) (S.left source.old) (Appends (K.held sink.old) (K.held sink.new))) }
     ensures bad_scenario { (fault : ScenarioFault) → result ≡ Status.BadScenario fault → IfSome (S.left source.old) (λ input. ReadsAsScenario input (Err fault)) }
+    ensures bad_wire { (fault : WireFault) → result ≡ Status.BadWire fault → IsOkAnd words (λ words. AskToWire (map string_bytes words.items))
+        × IfSome (S.left source.old) (λ bytes. BreaksOff bytes fault (Appends (K.held sink.old) (K.held sink.new))) }
     ensures read_fault { result ≡ Status.ReadFault → Rose (S.faults source.old) (S.faults source.new) }
     ensures read_fault_where_due { S.faults source.old < S.faults source.new → result ≡ Status.ReadFault }
     ensures write_fault { result ≡ Status.WriteFault → Rose (K.faults sink.old) (K.faults sink.new) }
     ensures write_fault_where_due { K.faults sink.old < K.faults sink.new → result ≡ Status.WriteFault }
     ensures write_fault_writes_a_prefix { result ≡ Status.WriteFault → IsOkAnd words (λ words. PerformsInPart (map string_bytes words.items) (S.left source.old) (AppendsPrefix (K.held sink.old) (K.held sink.new))) }
     ensures refused_writes_nothing { IsRefused result → K.held sink.new ≡ K.held sink.old }
-    ensures no_memory_writes_nothing { IfOk words (λ words. ¬ AskToRunLive (map string_bytes words.items)) → result ≡ Status.NoMemory → K.held sink.new ≡ K.held sink.old }
+    ensures read_fault_writes_nothing { IfOk words (λ words. ¬ AskToWire (map string_bytes words.items)) → result ≡ Status.ReadFault → K.held sink.new ≡ K.held sink.old }
+    ensures read_fault_writes_answers { IfOk words (λ words. AskToWire (map string_bytes words.items) → result ≡ Status.ReadFault
+        → IfSome (S.left source.old) (λ bytes. StopsAmong bytes (λ section items. Appends (K.held sink.old) (K.held sink.new) (messages section items)))) }
+    ensures no_memory_writes_nothing { IfOk words (λ words. ¬ AskToRunLive (map string_bytes words.items)) → IfOk words (λ words. ¬ AskToWire (map string_bytes words.items))
+        → result ≡ Status.NoMemory → K.held sink.new ≡ K.held sink.old }
     ensures no_memory_writes_first_lines { IfOk words (λ words. (ask : AskToRunLive (map string_bytes words.items)) → result ≡ Status.NoMemory
         → (K.held sink.new ≡ K.held sink.old) ⊎ IfSome (S.left source.old) (λ input. SoFarRuns (settings_with ask.pages ask.patience) input (Appends (K.held sink.old) (K.held sink.new)))) }
+    ensures no_memory_writes_whole_answers { IfOk words (λ words. AskToWire (map string_bytes words.items) → result ≡ Status.NoMemory
+        → IfSome (S.left source.old) (λ bytes. StopsAmong bytes (WroteWhole (K.held sink.old) (K.held sink.new)))) }
     ensures no_memory { words ≡ Err NoWords.Memory → result ≡ Status.NoMemory }
     ensures not_text { words ≡ Err NoWords.NotText → result ≡ Status.BadWords }
     ensures right_words { IfOk words (λ words. result ≡ Status.BadWords → AreNoCommand (map string_bytes words.items)) }

@@ -4,6 +4,7 @@ use crate::fault_line::fault_line;
 use crate::program::program;
 use pgn_base::{Failed, MemSink, MemSource, Sink, Source, write_all};
 use pgn_language::ScenarioFault;
+use pgn_queries::WireFault;
 use pgn_run::Status;
 use std::alloc::{AllocError, Global};
 use std::io;
@@ -14,12 +15,12 @@ use std::thread::Threads;
 
 #[test]
 fn one_line_on_standard_error(rt: HostRuntime) -> Result<(), Fail> {
-    let table: [(Status, u8, &[u8]); 15] = [
+    let table: [(Status, u8, &[u8]); 16] = [
         (Status::Done, 0, b""),
         (
             Status::BadWords,
             2,
-            b"usage: pgnotify run [--pages N] [--patience N] [--live] or pgnotify drill SEED SESSIONS NOTES\n",
+            b"usage: pgnotify run [--pages N] [--patience N] [--live] or pgnotify drill SEED SESSIONS NOTES or pgnotify wire\n",
         ),
         (
             Status::BadScenario(ScenarioFault::TooLarge),
@@ -74,10 +75,15 @@ fn one_line_on_standard_error(rt: HostRuntime) -> Result<(), Fail> {
         (Status::ReadFault, 4, b"pgnotify: read failed\n"),
         (Status::WriteFault, 5, b"pgnotify: write failed\n"),
         (Status::NoMemory, 6, b"pgnotify: out of memory\n"),
+        (
+            Status::BadWire(WireFault::Truncated { at: 5_000_000_000 }),
+            10,
+            b"pgnotify: byte 5000000000: bad message\n",
+        ),
     ];
     let alloc = rt.alloc();
     for (status, code, line) in table {
-        let mut sink = MemSink::new(alloc, 100, Vec::new(alloc), 7)?;
+        let mut sink = MemSink::new(alloc, 120, Vec::new(alloc), 7)?;
         assert_eq!(rt; fault_line(&mut sink, &status), Ok(()));
         assert_eq!(rt; sink.held(), line);
         assert_eq!(rt; status.code(), code);
@@ -104,8 +110,13 @@ const SCRIPT: &str = "\\session a 1\n";
 
 const OUTPUT: &str = "journal 0\nsession 1 a db 1 pid 1001\nend\n";
 
+// A query `LISTEN c`, as a client of the wire sends it, and its answer.
+const ASKS: &str = "Q\0\0\0\x0dLISTEN c\0";
+
+const ANSWERED: &str = "C\0\0\0\x0bLISTEN\0Z\0\0\0\x05I";
+
 const USAGE: &str =
-    "usage: pgnotify run [--pages N] [--patience N] [--live] or pgnotify drill SEED SESSIONS NOTES\n";
+    "usage: pgnotify run [--pages N] [--patience N] [--live] or pgnotify drill SEED SESSIONS NOTES or pgnotify wire\n";
 
 // What the program is run on: its words, its input, the read and the write that fail, and how many bytes the errors take.
 #[derive(Clone, Copy)]
@@ -122,7 +133,7 @@ const PLAIN: Run<'static> = Run {
     input: SCRIPT,
     failing_read: 0,
     failing_write: 0,
-    errors: 100,
+    errors: 120,
 };
 
 fn owned(
@@ -158,7 +169,7 @@ fn ended<R: Threads + Wait + Sync>(
 
 #[test]
 fn each_way_to_end(rt: HostRuntime) -> Result<(), Fail> {
-    let table: [(Run<'_>, u8, &str, &str); 9] = [
+    let table: [(Run<'_>, u8, &str, &str); 11] = [
         (PLAIN, 0, OUTPUT, ""),
         (
             Run {
@@ -232,6 +243,26 @@ fn each_way_to_end(rt: HostRuntime) -> Result<(), Fail> {
             3,
             "",
             "pgnotify: line 1",
+        ),
+        (
+            Run {
+                words: Ok(&["wire"]),
+                input: ASKS,
+                ..PLAIN
+            },
+            0,
+            ANSWERED,
+            "",
+        ),
+        (
+            Run {
+                words: Ok(&["wire"]),
+                input: "Q\0\0\0\x0dLISTEN c\0P",
+                ..PLAIN
+            },
+            10,
+            ANSWERED,
+            "pgnotify: byte 14: bad message\n",
         ),
     ];
     let alloc = rt.alloc();

@@ -1,4 +1,4 @@
-use Rattle.pgn_cli.proofs.EndLaws.{written-prefix, written-whole, code-of_words, memory-code, memory-lines, names-fault, refused-code, write-fault-code}
+use Rattle.pgn_cli.proofs.EndLaws.{written-prefix, written-whole, code-of_words, memory-code, memory-lines, names-fault, names-wire, read-fault-code, read-lines, refused-code, write-fault-code}
 use Rattle.pgn_cli.proofs.program.program.Goals as goal
 
 pub returns-clause-ends : goal.returns-clause-ends
@@ -19,10 +19,24 @@ pub returns-clause-write_fault_writes_a_prefix : goal.returns-clause-write_fault
 returns-clause-write_fault_writes_a_prefix g c five = c.status_of-status.ensures.write_fault_writes_a_prefix (write-fault-code c.status_of-status.result _ c.code.ensures five)
 
 pub returns-clause-refused_writes_nothing : goal.returns-clause-refused_writes_nothing
-returns-clause-refused_writes_nothing g c done fault memory = c.status_of-status.ensures.refused_writes_nothing (refused-code c.status_of-status.result _ c.code.ensures done fault memory)
+returns-clause-refused_writes_nothing g c some = c.status_of-status.ensures.refused_writes_nothing (refused-code c.status_of-status.result _ c.code.ensures some)
 
 pub returns-clause-no_memory_writes_nothing : goal.returns-clause-no_memory_writes_nothing
-returns-clause-no_memory_writes_nothing g c once six = c.status_of-status.ensures.no_memory_writes_nothing once (memory-code c.status_of-status.result _ c.code.ensures six)
+returns-clause-no_memory_writes_nothing g c once other six = c.status_of-status.ensures.no_memory_writes_nothing once other (memory-code c.status_of-status.result _ c.code.ensures six)
 
 pub returns-clause-no_memory_writes_first_lines : goal.returns-clause-no_memory_writes_first_lines
 returns-clause-no_memory_writes_first_lines g c = memory-lines c.args.words _ _ c.status_of-status.result _ c.code.ensures c.status_of-status.ensures.no_memory_writes_first_lines
+
+pub returns-clause-no_memory_writes_whole_answers : goal.returns-clause-no_memory_writes_whole_answers
+returns-clause-no_memory_writes_whole_answers g c = memory-lines c.args.words _ _ c.status_of-status.result _ c.code.ensures c.status_of-status.ensures.no_memory_writes_whole_answers
+
+pub returns-clause-read_fault_writes_nothing : goal.returns-clause-read_fault_writes_nothing
+returns-clause-read_fault_writes_nothing g c other four = c.status_of-status.ensures.read_fault_writes_nothing other (read-fault-code c.status_of-status.result _ c.code.ensures four)
+
+pub returns-clause-read_fault_writes_answers : goal.returns-clause-read_fault_writes_answers
+returns-clause-read_fault_writes_answers g c = read-lines c.args.words _ _ c.status_of-status.result _ c.code.ensures c.status_of-status.ensures.read_fault_writes_answers
+
+pub returns-clause-bad_wire : goal.returns-clause-bad_wire
+returns-clause-bad_wire g c =
+    names-wire _ (g.S.Source.left c.args.source.now) (g.K.Sink.held c.args.sink.now) (g.K.Sink.held c.status_of-status.new.sink) (g.E.Sink.held c.args.errors.now) (g.E.Sink.held c.fault_line.new.sink)
+    c.status_of-status.result _ c.code.ensures (written-prefix _ _ c.fault_line.result _ c.fault_line.ensures.bytes) c.status_of-status.ensures.bad_wire

@@ -31,7 +31,7 @@ returns-in-Ok-borrowed-clause-read_fault g c = λ e. (c.run_notify.ensures.read_
 pub returns-in-Ok-borrowed-clause-refused_writes_nothing : goal.returns-in-Ok-borrowed-clause-refused_writes_nothing
 returns-in-Ok-borrowed-clause-refused_writes_nothing g c =
     refused-keeps (g.K.Sink.held c.args.sink.now) (g.K.Sink.held c.run_notify.new.sink) c.run_notify.result
-    (λ e. ap g.K.Sink.held (c.run_notify.ensures.bad_words_write_nothing (c.run_notify.ensures.bad_words e))) c.run_notify.ensures.bad_scenario_writes_nothing c.run_notify.ensures.read_fault_writes_nothing
+    (λ e. ap g.K.Sink.held (c.run_notify.ensures.bad_words_write_nothing (c.run_notify.ensures.bad_words e))) c.run_notify.ensures.bad_scenario_writes_nothing
 
 pub returns-in-Ok-borrowed-clause-no_memory_writes_nothing : goal.returns-in-Ok-borrowed-clause-no_memory_writes_nothing
 returns-in-Ok-borrowed-clause-no_memory_writes_nothing g c =
@@ -42,3 +42,26 @@ pub returns-in-Ok-borrowed-clause-no_memory_writes_first_lines : goal.returns-in
 returns-in-Ok-borrowed-clause-no_memory_writes_first_lines g c =
     let lines = rw (c.as_slice-in-Ok-borrowed.ensures.value, c.in-Ok-borrowed.ensures, c.as_slice.ensures.value) at c.run_notify.ensures.no_memory_writes_first_lines in
     rw c.in-Ok.is lines
+
+pub returns-in-Ok-borrowed-clause-read_fault_writes_nothing : goal.returns-in-Ok-borrowed-clause-read_fault_writes_nothing
+returns-in-Ok-borrowed-clause-read_fault_writes_nothing g c =
+    let known = rw (c.as_slice-in-Ok-borrowed.ensures.value, c.in-Ok-borrowed.ensures, c.as_slice.ensures.value) at c.run_notify.ensures.read_fault_writes_nothing in
+    rw c.in-Ok.is known
+
+pub returns-in-Ok-borrowed-clause-read_fault_writes_answers : goal.returns-in-Ok-borrowed-clause-read_fault_writes_answers
+returns-in-Ok-borrowed-clause-read_fault_writes_answers g c =
+    let known = rw (c.as_slice-in-Ok-borrowed.ensures.value, c.in-Ok-borrowed.ensures, c.as_slice.ensures.value) at c.run_notify.ensures.read_fault_writes_answers in
+    rw c.in-Ok.is known
+
+pub returns-in-Ok-borrowed-clause-no_memory_writes_whole_answers : goal.returns-in-Ok-borrowed-clause-no_memory_writes_whole_answers
+returns-in-Ok-borrowed-clause-no_memory_writes_whole_answers g c =
+    let known = rw (c.as_slice-in-Ok-borrowed.ensures.value, c.in-Ok-borrowed.ensures, c.as_slice.ensures.value) at c.run_notify.ensures.no_memory_writes_whole_answers in
+    rw c.in-Ok.is known
+
+pub returns-in-Ok-borrowed-clause-bad_wire : goal.returns-in-Ok-borrowed-clause-bad_wire
+returns-in-Ok-borrowed-clause-bad_wire g c =
+    let known = rw (c.as_slice-in-Ok-borrowed.ensures.value, c.in-Ok-borrowed.ensures, c.as_slice.ensures.value) at c.run_notify.ensures.bad_wire in
+    rw c.in-Ok.is known
+
+pub returns-in-Err-borrowed-clause-no_memory_writes_whole_answers : goal.returns-in-Err-borrowed-clause-no_memory_writes_whole_answers
+returns-in-Err-borrowed-clause-no_memory_writes_whole_answers g c = ?
