@@ -84,6 +84,7 @@ fn ending_of(status: Status) -> &'static str {
         Status::ReadFault => "ReadFault: ",
         Status::WriteFault => "WriteFault: ",
         Status::NoMemory => "NoMemory: ",
+        Status::BadWire(_) => "BadWire: ",
     }
 }
 
