@@ -1,6 +1,6 @@
-ghost use Rattle.std.specs.Prelude.{◌++◌, decimal, codes};
+ghost use Rattle.std.specs.Prelude.{◌≡◌, ◌++◌, decimal, codes};
 ghost use Rattle.pgn_base.specs.Outside.{Writes, HasCause};
-ghost use Rattle.pgn_cli.specs.FaultLine.{byte_fault, fault_text, line_fault, scenario_fault_text, wire_fault_text};
+ghost use Rattle.pgn_cli.specs.FaultLine.{at_of, byte_fault, fault_text, line_fault, scenario_fault_text, wire_fault_text};
 
 use itoa::Buffer;
 use pgn_base::{Failed, Sink, write_all};
@@ -38,7 +38,7 @@ fn scenario_fault_line<K: Sink>(sink: &mut K, fault: ScenarioFault) -> Result<()
             b"pgnotify: input is larger than 16777216 bytes\n",
         ),
         ScenarioFault::LineTooLong { line } => at_line(sink, line, b": line too long\n"),
-        ScenarioFault::NotUtf8 { at } => at_byte(sink, u64::from(at), b": not UTF-8\n"),
+        ScenarioFault::NotUtf8 { at } => at_byte(sink, at, b": not UTF-8\n"),
         ScenarioFault::NulByte { line } => at_line(sink, line, b": zero byte\n"),
         ScenarioFault::BadMeta { line } => at_line(sink, line, b": bad meta line\n"),
         ScenarioFault::NoSession { line } => at_line(sink, line, b": no session\n"),
@@ -60,25 +60,31 @@ fn at_line<K: Sink>(sink: &mut K, line: u32, what: &[u8]) -> Result<(), Failed>
     numbered(sink, b"pgnotify: line ", u64::from(line), what)
 }
 
+fn at_byte<K: Sink>(sink: &mut K, at: u32, what: &[u8]) -> Result<(), Failed>
+    ensures bytes { Writes (K.held sink.old) (K.held sink.new) result (byte_fault at what.now) }
+    ensures cause { HasCause (K.faults sink.old) (K.faults sink.new) result }
+{
+    numbered(sink, b"pgnotify: byte ", u64::from(at), what)
+}
+
 fn wire_fault_line<K: Sink>(sink: &mut K, fault: WireFault) -> Result<(), Failed>
     ensures bytes { Writes (K.held sink.old) (K.held sink.new) result (wire_fault_text fault) }
     ensures cause { HasCause (K.faults sink.old) (K.faults sink.new) result }
 {
-    let at = match fault {
+    numbered(sink, b"pgnotify: byte ", offset(fault), b": bad message\n")
+}
+
+// The place of the message that is refused, in bytes.
+fn offset(fault: WireFault) -> u64
+    ensures { result ≡ at_of fault }
+{
+    match fault {
         WireFault::BadType { at } => at,
         WireFault::BadLength { at } => at,
         WireFault::Truncated { at } => at,
         WireFault::BadText { at } => at,
         WireFault::TooMany { at } => at,
-    };
-    at_byte(sink, at, b": bad message\n")
-}
-
-fn at_byte<K: Sink>(sink: &mut K, at: u64, what: &[u8]) -> Result<(), Failed>
-    ensures bytes { Writes (K.held sink.old) (K.held sink.new) result (byte_fault at what.now) }
-    ensures cause { HasCause (K.faults sink.old) (K.faults sink.new) result }
-{
-    numbered(sink, b"pgnotify: byte ", at, what)
+    }
 }
 
 // A number between two texts.

@@ -1,4 +1,5 @@
 use Rattle.std.proofs.Common.{ap, inl, inr}
+use Rattle.pgn_run.proofs.ConversationLaws.{unopened-known}
 use Rattle.pgn_cli.proofs.EndLaws.{refused-keeps}
 use Rattle.pgn_cli.proofs.program.status_of.Goals as goal
 
@@ -63,5 +64,6 @@ returns-in-Ok-borrowed-clause-bad_wire g c =
     let known = rw (c.as_slice-in-Ok-borrowed.ensures.value, c.in-Ok-borrowed.ensures, c.as_slice.ensures.value) at c.run_notify.ensures.bad_wire in
     rw c.in-Ok.is known
 
-pub returns-in-Err-borrowed-clause-no_memory_writes_whole_answers : goal.returns-in-Err-borrowed-clause-no_memory_writes_whole_answers
-returns-in-Err-borrowed-clause-no_memory_writes_whole_answers g c = ?
+pub returns-clause-no_memory_writes_whole_answers : goal.returns-clause-no_memory_writes_whole_answers
+returns-clause-no_memory_writes_whole_answers g c =
+    rw c.in-Ok.is (λ ask e. unopened-known (g.S.Source.left c.args.source.now) (g.K.Sink.held c.args.sink.now))
