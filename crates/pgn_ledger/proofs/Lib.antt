@@ -1,0 +1,5 @@
+pub mod PlaceLaws
+pub mod TurnLaws
+pub mod ReceivedLaws
+pub mod QueueLaws
+pub mod PartLaws
