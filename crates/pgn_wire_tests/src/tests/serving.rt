@@ -26,7 +26,7 @@ pub fn served<R: Wait, S: Source, K: Sink>(
     converse::<<WordHub as Hub>::Pass, WordHub, R, S, K>(rt, alloc, source, sink)
 }
 
-// Serves a client that sends these bytes, in reads of so many and with these that fail.
+// Serves a client that sends these bytes, in reads of so many (one at least) and with these that fail.
 fn serve<R: Wait>(
     rt: &R,
     alloc: Global,
@@ -35,7 +35,7 @@ fn serve<R: Wait>(
     fails: Vec<u64>,
     sink: &mut MemSink,
 ) -> Result<Result<(), WireEnd>, Fail> {
-    let mut source = MemSource::new(Vec::from_slice(alloc, bytes)?, fails, most);
+    let mut source = MemSource::new(Vec::from_slice(alloc, bytes)?, fails, most.max(1));
     Ok(served::<R, MemSource, MemSink>(rt, alloc, &mut source, sink))
 }
 

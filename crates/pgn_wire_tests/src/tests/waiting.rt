@@ -1,4 +1,4 @@
-ghost use Rattle.std.specs.Prelude.{None};
+ghost use Rattle.std.specs.Prelude.{◌≡◌, None};
 
 // A client that waits for its answer before it asks on.
 use super::serving::served;
@@ -30,7 +30,9 @@ const QUERY: &[u8] = b"Q\0\0\0\x0dLISTEN c\0";
 
 impl Waiting {
     // The next byte, unless the client has asked all.
-    fn next(&mut self) -> Option<u8> {
+    fn next(&mut self) -> Option<u8>
+        ensures { self.new.faults ≡ self.old.faults }
+    {
         if self.query >= ASKED {
             return None;
         }
