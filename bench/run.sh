@@ -12,7 +12,7 @@
 #   blocks       LISTEN c, and n NOTIFYs of payloads that differ, in blocks of 100
 #   savepoints   LISTEN c, and blocks of 20 times SAVEPOINT, NOTIFY, and after each third ROLLBACK TO that savepoint: n NOTIFYs
 #   4096-set     4,096 LISTENs, and n times NOTIFY c0 with a payload of 1 byte
-#   listens      n LISTENs, and 10,000 times NOTIFY c0 with a payload of 1 byte
+#   listens      n LISTENs
 #   left         n LISTENs, and then an UNLISTEN of each
 #   left-block   the same in one block
 #   no-such      in a block n SAVEPOINTs, an error, and n times ROLLBACK TO a name that is not there
@@ -330,7 +330,7 @@ many_savepoints='print "BEGIN"; for (i = 0; i < n; i++) print "SAVEPOINT s" i'
 # What sets of many channels and lists of many savepoints cost.
 measure_many() {
     load 4096-set "m = 4096; k = n; $listens" 1000 2000 10000
-    load listens "m = n; k = 10000; $listens" 1024 2048 4096
+    load listens "m = n; k = 0; $listens" 1024 2048 4096
     load left "$many_channels" 1024 2048 4096
     load left-block "print \"BEGIN\"; $many_channels; print \"COMMIT\"" 1024 2048 4096
     load no-such "$many_savepoints; print \"x\"; for (i = 0; i < n; i++) print \"ROLLBACK TO t\"" 1024 2048 4096
