@@ -23,7 +23,7 @@ use Rattle.pgn_base.specs.Notes.{IsNote}
 use Rattle.pgn_journal.specs.Bytes.{header_bytes, least_bytes, page_bytes, xid_bits, four_bytes, header, entry_length, spelled, filler, IsHead, IsEntryLength}
 use Rattle.pgn_journal.specs.Packing.{Sender, sender_of, cells_left, bytes_left, next_page, fits, has_room, is_page_start, filled_cells, page_rest, entry_cells, filler_cells, note_cells, notes_cells, end_cells, tx_cells, image_from, image, place, put, put_all, after, after_bytes, after_rest, HasRoom}
 use Rattle.pgn_journal.specs.Pieces.{Piece, AnEntry, AFiller, piece_bytes, piece_length, db_of, number_of, pid_of, lay, note_pieces, notes_pieces, end_pieces, tx_pieces, pieces_from, delivery_of, gives, give_all, has_committed, committed_by, TellsFates, QueuesAll, IsNumbered, IsReadable, IsWritten}
-use Rattle.pgn_journal.specs.laws.Pieces.{PiecesInTurn, ImageIsLaid, TransactionsArePacked, PiecesSplit, ImageDrops, JournalIsCut, PiecesGiveDue, PiecesGiveAllDue, FinishedQueueAll, JournalTellsFates, PiecesAreNumbered, NumbersRise, PiecesAreReadable, PieceAdvances, PieceHasBytes, PieceReadsBack, FirstCells, NextCells, NumbersGiveBytes, CellsHoldNumbers}
+use Rattle.pgn_journal.specs.laws.Pieces.{PiecesInTurn, ImageIsLaid, TransactionsArePacked, PiecesSplit, ImageDrops, JournalIsCut, PiecesGiveDue, PiecesGiveAllDue, FinishedQueueAll, JournalTellsFates, PiecesAreNumbered, NumbersRise, PiecesAreReadable, PieceAdvances, PieceHasBytes, PieceReadsBack, FirstCells, ThirdCell, NumbersGiveBytes, CellsHoldNumbers}
 use Rattle.pgn_journal.proofs.BeginsLaws.{begins-holds, begins-itself, begins-taken}
 use Rattle.pgn_journal.specs.Begins.{Begins}
 use Rattle.pgn_journal.proofs.BytesLemmas.{length-header, length-spelled, length-filler, entry_lengths, are_bytes, reads_back, none_is_filler, filler_reads_back}
@@ -542,18 +542,12 @@ second_cell Two (AFiller len sender) sound = cell_of 0 sound.head.db_fits
 pub first_cells : FirstCells
 first_cells = record { first = λ format piece sound. first_cell format piece sound ∙ ap (λ n. Some (Some n)) (sym (stated format piece sound)); second = second_cell }
 
-third_cell : (piece : Piece) → IsReadable One piece → slice_get (filled_cells (piece_bytes One piece)) 2 ≡ Some (Some (number_of piece))
+pub third_cell : ThirdCell
 unfolding filled_cells spelled filler header
-third_cell (AnEntry note sender) sound = cell_of sender.xid sound.head.xid_fits
-third_cell (AFiller len sender) sound = cell_of sender.xid sound.head.xid_fits
-
-fourth_cell : (piece : Piece) → IsReadable One piece → slice_get (filled_cells (piece_bytes One piece)) 3 ≡ Some (Some (pid_of piece))
-unfolding filled_cells spelled filler header
-fourth_cell (AnEntry note sender) sound = cell_of sender.pid sound.head.pid_fits
-fourth_cell (AFiller len sender) sound = cell_of sender.pid sound.head.pid_fits
-
-pub next_cells : NextCells
-next_cells = record { third = third_cell; fourth = fourth_cell }
+third_cell One (AnEntry note sender) sound small = cell_of sender.xid small
+third_cell Two (AnEntry note sender) sound small = cell_of sender.xid small
+third_cell One (AFiller len sender) sound small = cell_of sender.xid small
+third_cell Two (AFiller len sender) sound small = cell_of sender.xid small
 
 pub numbers_give_bytes : NumbersGiveBytes
 unfolding filled_cells

@@ -5,7 +5,7 @@ ghost use Rattle.pgn_journal.specs.laws.Due.{DueSplits, DueGrows};
 ghost use Rattle.pgn_journal.specs.laws.Interest.{InterestCovers, NothingInCommon};
 ghost use Rattle.pgn_journal.specs.laws.Near.{NearShrinks, NearItself, NearGrows};
 ghost use Rattle.pgn_journal.specs.laws.QueueUse.{NoPageGrows, UsageGrows};
-ghost use Rattle.pgn_journal.specs.laws.Pieces.{PiecesInTurn, ImageIsLaid, TransactionsArePacked, PiecesSplit, ImageDrops, JournalIsCut, PiecesGiveDue, PiecesGiveAllDue, FinishedQueueAll, JournalTellsFates, PiecesAreNumbered, NumbersRise, PiecesAreReadable, PieceAdvances, PieceHasBytes, PieceReadsBack, FirstCells, NextCells, NumbersGiveBytes, CellsHoldNumbers, FinishedAreWritten, OneMoreImage, DraftAtPageStart, FinishedAreDrafts, DraftsFinish, DraftsAreWritten, LongerAgrees, XidsGoOn};
+ghost use Rattle.pgn_journal.specs.laws.Pieces.{PiecesInTurn, ImageIsLaid, TransactionsArePacked, PiecesSplit, ImageDrops, JournalIsCut, PiecesGiveDue, PiecesGiveAllDue, FinishedQueueAll, JournalTellsFates, PiecesAreNumbered, NumbersRise, PiecesAreReadable, PieceAdvances, PieceHasBytes, PieceReadsBack, FirstCells, ThirdCell, NumbersGiveBytes, CellsHoldNumbers, FinishedAreWritten, OneMoreImage, DraftAtPageStart, FinishedAreDrafts, DraftsFinish, DraftsAreWritten, LongerAgrees, XidsGoOn};
 
 /// Lists that begin other lists.
 pub fn begins<T>()
@@ -162,8 +162,8 @@ pub fn pieces()
     ensures piece_reads_back { PieceReadsBack }
     // The first two cells of a piece hold its length and its database.
     ensures first_cells { FirstCells }
-    // The next two hold its transaction's number and its process number in format One.
-    ensures next_cells { NextCells }
+    // The next one holds its transaction's number.
+    ensures third_cell { ThirdCell }
     // The numbers in the cells of bytes give the bytes back.
     ensures numbers_give_bytes { NumbersGiveBytes }
     // A cell of bytes holds the number that its four bytes spell.

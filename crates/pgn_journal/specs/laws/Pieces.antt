@@ -5,7 +5,6 @@ use Rattle.std.specs.List.Sorted.{IsNonDecreasingBy}
 use Rattle.std.specs.Int.{w32, from_le_bytes}
 use Rattle.pgn_base.specs.declared.limits.TheConstants.{FIRST_XID, SECTIONS_MAX}
 use Rattle.pgn_base.specs.declared.format.Format.{Format}
-use Rattle.pgn_base.specs.declared.format.Format.TheVariants.{One}
 use Rattle.pgn_base.specs.declared.note.Note.{Note}
 use Rattle.pgn_journal.specs.declared.tx.Tx.{Tx}
 use Rattle.pgn_journal.specs.declared.tx.Fate.{Fate}
@@ -16,7 +15,7 @@ use Rattle.pgn_journal.specs.Due.{due, due_from}
 use Rattle.pgn_base.specs.Notes.{IsNote}
 use Rattle.pgn_journal.specs.Bytes.{xid_bits, four_bytes}
 use Rattle.pgn_journal.specs.Packing.{cell_bytes, cells_in, sender_of, is_page_start, filled_cells, entry_cells, filler_cells, notes_cells, image_from, image, place, after_bytes, put_all, after, HasRoom}
-use Rattle.pgn_journal.specs.Pieces.{Piece, piece_bytes, piece_length, db_of, number_of, pid_of, lay, pieces_from, give_all, committed_by, TellsFates, QueuesAll, IsNumbered, IsReadable, IsSamePiece, IsWritten, draft}
+use Rattle.pgn_journal.specs.Pieces.{Piece, piece_bytes, piece_length, db_of, number_of, lay, pieces_from, give_all, committed_by, TellsFates, QueuesAll, IsNumbered, IsReadable, IsSamePiece, IsWritten, draft}
 
 -- pieces lie one after another
 abbrev pub PiecesInTurn : Type 0
@@ -115,10 +114,10 @@ pub record FirstCells : Type 0 where
   pub second : (format : Format) (piece : Piece) → IsReadable format piece
       → slice_get (filled_cells (piece_bytes format piece)) 1 ≡ Some (Some (db_of piece))
 
--- the next two hold its transaction's number and its process number in format One
-pub record NextCells : Type 0 where
-  pub third : (piece : Piece) → IsReadable One piece → slice_get (filled_cells (piece_bytes One piece)) 2 ≡ Some (Some (number_of piece))
-  pub fourth : (piece : Piece) → IsReadable One piece → slice_get (filled_cells (piece_bytes One piece)) 3 ≡ Some (Some (pid_of piece))
+-- the next one holds its transaction's number, where that fits in a cell. In format Two a further one follows for larger numbers
+abbrev pub ThirdCell : Type 0
+ThirdCell = (format : Format) (piece : Piece) → IsReadable format piece → number_of piece < 2 ^ 32
+    → slice_get (filled_cells (piece_bytes format piece)) 2 ≡ Some (Some (number_of piece))
 
 -- numbers that stand in the cells of bytes give the bytes back
 abbrev pub NumbersGiveBytes : Type 0

@@ -1,4 +1,4 @@
-use Rattle.pgn_journal.proofs.PieceLaws.{pieces_in_turn, image_is_laid, transactions_are_packed, pieces_split, image_drops, journal_is_cut, pieces_give_due, pieces_give_all_due, finished_queue_all, journal_tells_fates, pieces_are_numbered, numbers_rise, pieces_are_readable, piece_advances, piece_has_bytes, piece_reads_back, first_cells, next_cells, numbers_give_bytes, cells_hold_numbers}
+use Rattle.pgn_journal.proofs.PieceLaws.{pieces_in_turn, image_is_laid, transactions_are_packed, pieces_split, image_drops, journal_is_cut, pieces_give_due, pieces_give_all_due, finished_queue_all, journal_tells_fates, pieces_are_numbered, numbers_rise, pieces_are_readable, piece_advances, piece_has_bytes, piece_reads_back, first_cells, third_cell, numbers_give_bytes, cells_hold_numbers}
 use Rattle.pgn_journal.proofs.laws.pieces.Goals as goal
 
 pub returns-clause-pieces_in_turn : goal.returns-clause-pieces_in_turn
@@ -52,8 +52,8 @@ returns-clause-piece_reads_back c = piece_reads_back
 pub returns-clause-first_cells : goal.returns-clause-first_cells
 returns-clause-first_cells c = first_cells
 
-pub returns-clause-next_cells : goal.returns-clause-next_cells
-returns-clause-next_cells c = next_cells
+pub returns-clause-third_cell : goal.returns-clause-third_cell
+returns-clause-third_cell c = third_cell
 
 pub returns-clause-numbers_give_bytes : goal.returns-clause-numbers_give_bytes
 returns-clause-numbers_give_bytes c = numbers_give_bytes
