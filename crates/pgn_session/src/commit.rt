@@ -40,7 +40,7 @@ pub(crate) fn commit<P: PassView + Send + Drop, H: Hub<Pass = P>, R: Wait>(
     show_commit(items, line, enlisted, sent, notes, left, tag);
 }
 
-// This one does.
+// An action is a LISTEN.
 fn listens(action: &Action) -> bool
     ensures { result ≡ is_listen action.now }
 {
