@@ -1,5 +1,5 @@
 #!/bin/sh
-# Measures the program on long scenarios and on sessions that wait: bench/run.sh [--hostile] [PROGRAM]
+# Measures the program on long scenarios and on sessions that wait: bench/run.sh [--hostile | --checked] [PROGRAM]
 #
 # PROGRAM is run with the word `run`; without it the program is the one that ./pgnotify starts, built first where need be.
 # Each long input is `\session a 1` and then lines that are told by a number n, at three sizes. A line in the tables is one of n.
@@ -53,18 +53,20 @@
 #
 # and how soon the lines of a live run are there, by bench/live.
 #
-# With --hostile only bench/hostile.sh is run, whose head says what that is.
+# With --hostile only bench/hostile.sh is run, with --checked only bench/checked.sh, whose heads say what they are.
 #
 # Seconds are those of the processor, the least of three runs, and depend on the machine's load. Instructions do not. Wall time is
 # the least of three runs too, but of one where two sessions wait for each other in vain. Needs GNU time, awk, Python, taskset, and
 # valgrind for the instructions (without it those are left out).
 set -eu
 
-hostile=
-if [ "${1-}" = --hostile ]; then
-    hostile=yes
+only=
+case ${1-} in
+--hostile | --checked)
+    only=${1#--}
     shift
-fi
+    ;;
+esac
 
 room=$(mktemp -d)
 trap 'rm -rf -- "$room"' EXIT
@@ -348,9 +350,9 @@ measure_several() {
 }
 
 printf '%s, %s processors, %s\n' "$(date -u +%Y-%m-%d)" "$(nproc)" "$program"
-if [ -n "$hostile" ]; then
-    . "$root/bench/hostile.sh"
-    measure_hostile
+if [ -n "$only" ]; then
+    . "$root/bench/$only.sh"
+    "measure_$only"
     exit
 fi
 measure_lines
