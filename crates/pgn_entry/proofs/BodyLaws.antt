@@ -31,7 +31,7 @@ body_parts bytes two =
     zero_apart bytes (omega arith) ∙ ap (λ (l : List ℕ). before_first is_zero bytes ++ 0 ∷ l) (zero_apart rest (omega arith))
 
 -- an element of the first of two lists
-left_at : (front rest : List ℕ) (k : ℕ) → k < length front → get_or (front ++ rest) k 0 ≡ get_or front k 0
+pub left_at : (front rest : List ℕ) (k : ℕ) → k < length front → get_or (front ++ rest) k 0 ≡ get_or front k 0
 left_at front rest k h =
     sym (get_or-take (length front) (front ++ rest) k 0 h) ∙ ap (λ (l : List ℕ). get_or l k 0) (take_at front rest (length front) refl)
 

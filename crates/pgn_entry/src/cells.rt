@@ -1,15 +1,14 @@
 ghost use Rattle.std.specs.Prelude.{◌≡◌, ℕ, ◌+◌, ◌*◌, ◌^◌, ◌<◌, ◌≤◌, [], ◌∷◌, ◌++◌, List, length, drop, get_or};
 ghost use Rattle.std.specs.Int.{w32, from_le_bytes};
-ghost use Rattle.pgn_base.specs.declared.format.Format.TheVariants.{One};
 ghost use Rattle.pgn_base.specs.declared.note.Note.{Note};
-ghost use Rattle.pgn_journal.specs.Bytes.{spelled, filler, IsEntryLength};
+ghost use Rattle.pgn_journal.specs.Bytes.{header_bytes, header, spelled, filler, IsEntryLength};
 ghost use Rattle.pgn_base.specs.declared.limits.TheConstants.{CELL_BYTES};
 ghost use Rattle.pgn_entry.specs.Cells.{AreCellsOf};
 
-use crate::format::HEADER_BYTES;
+use crate::format::{header_len, pid_cell};
 use crate::length::entry_len;
 use byteorder::{ByteOrder, LittleEndian};
-use pgn_base::{CELL_BYTES, DbOid, Note, Xid};
+use pgn_base::{CELL_BYTES, DbOid, Format, Note, Xid};
 
 // A byte of two texts that stand one after the other, with a zero byte between them. Past them it is zero.
 fn text_byte(channel: &[u8], payload: &[u8], at: usize) -> u8
@@ -50,6 +49,20 @@ fn payload_cell(payload: &[u8], past: usize) -> u32
     LittleEndian::read_u32(&payload[past..])
 }
 
+// The cell of this number of a head. In format Two cell 3 has the upper bytes of the transaction's number, and cell 5 ends the head.
+fn head_cell(format: Format, len: u32, db: u32, xid: u32, pid: u32, number: usize) -> u32
+    requires { 4 * number < header_bytes format }
+    ensures { result ≡ from_le_bytes w32 (drop (4 * number) (header format len db xid pid)) }
+{
+    match number {
+        0 => len,
+        1 => db,
+        2 => xid,
+        _ if number == pid_cell(format) => pid,
+        _ => 0,
+    }
+}
+
 /// What the cells of an entry are made of: the numbers of its head, and its two texts. Who goes from cell to cell looks for them
 /// once.
 #[derive(Clone, Copy)]
@@ -58,7 +71,7 @@ pub struct EntryCells<'a> {
     pub len: u32,
     /// The sender's database.
     pub db: u32,
-    /// The sender's transaction.
+    /// The sender's transaction. In format Two the upper bytes of its number are zero.
     pub xid: u32,
     /// The sender's process number.
     pub pid: u32,
@@ -67,13 +80,13 @@ pub struct EntryCells<'a> {
 }
 
 impl<'a> EntryCells<'a> {
-    /// Those of a notification's entry.
-    pub fn of(note: &'a Note, db: DbOid, xid: Xid, pid: u32) -> EntryCells<'a>
-        ensures entry { AreCellsOf note.now db xid pid result }
-        ensures long { IsEntryLength One result.len }
+    /// Those of a notification's entry in this format.
+    pub fn of(format: Format, note: &'a Note, db: DbOid, xid: Xid, pid: u32) -> EntryCells<'a>
+        ensures entry { AreCellsOf format note.now db xid pid result }
+        ensures long { IsEntryLength format result.len }
     {
         EntryCells {
-            len: entry_len(note),
+            len: entry_len(format, note),
             db: db.get(),
             xid: xid.get(),
             pid,
@@ -82,42 +95,34 @@ impl<'a> EntryCells<'a> {
         }
     }
 
-    /// The cell of this number: four of the entry's bytes, the lowest first.
-    pub fn cell(&self, number: usize) -> u32
-        requires long { IsEntryLength One self.now.len }
+    /// The cell of this number: four of the entry's bytes, the lowest first. The format is the one that `of` was given.
+    pub fn cell(&self, format: Format, number: usize) -> u32
+        requires long { IsEntryLength format self.now.len }
         requires within { 4 * number < self.now.len }
-        ensures { (note : Note) (db xid pid : ℕ) → AreCellsOf note db xid pid self.now → result ≡ from_le_bytes w32 (drop (4 * number) (spelled One note db xid pid)) }
+        ensures { (note : Note) (db xid pid : ℕ) → AreCellsOf format note db xid pid self.now → result ≡ from_le_bytes w32 (drop (4 * number) (spelled format note db xid pid)) }
     {
         // Most cells lie in the payload of a long entry, so that these are told first.
         let at = CELL_BYTES * number;
-        let start = HEADER_BYTES + self.channel.len() + 1;
+        let header = header_len(format);
+        let start = header + self.channel.len() + 1;
         if at >= start && at - start + CELL_BYTES <= self.payload.len() {
             return payload_cell(self.payload, at - start);
         }
-        match number {
-            0 => self.len,
-            1 => self.db,
-            2 => self.xid,
-            3 => self.pid,
-            _ => text_cell(
-                self.channel,
-                self.payload,
-                CELL_BYTES * number - HEADER_BYTES,
-            ),
+        if at < header {
+            return head_cell(format, self.len, self.db, self.xid, self.pid, number);
         }
+        text_cell(self.channel, self.payload, at - header)
     }
 }
 
 /// The cell of this number of a filler of so many bytes. A filler says nothing, and stands where the next entry does not fit.
-pub fn filler_cell(len: u32, xid: Xid, pid: u32, number: usize) -> u32
-    requires long { IsEntryLength One len }
+pub fn filler_cell(format: Format, len: u32, xid: Xid, pid: u32, number: usize) -> u32
+    requires long { IsEntryLength format len }
     requires within { 4 * number < len }
-    ensures { result ≡ from_le_bytes w32 (drop (4 * number) (filler One len xid pid)) }
+    ensures { result ≡ from_le_bytes w32 (drop (4 * number) (filler format len xid pid)) }
 {
-    match number {
-        0 => len,
-        2 => xid.get(),
-        3 => pid,
-        _ => 0,
+    if CELL_BYTES * number >= header_len(format) {
+        return 0;
     }
+    head_cell(format, len, 0, xid.get(), pid, number)
 }

@@ -2,11 +2,11 @@
 #[derive(Clone, Copy, PartialEq, Eq)]
 pub enum EntryView<'a> {
     /// A notification, in `len` bytes. `db` is its sender's database, from 1, `xid` the transaction and `pid` the process number
-    /// of its sender, each any number of 32 bits.
+    /// of its sender: any numbers of 32 bits, and in format Two `xid` one of 64.
     Entry {
         len: u32,
         db: u32,
-        xid: u32,
+        xid: u64,
         pid: u32,
         channel: &'a [u8],
         payload: &'a [u8],
@@ -14,7 +14,7 @@ pub enum EntryView<'a> {
     /// `len` bytes that say nothing, written by this transaction and process.
     Filler {
         len: u32,
-        xid: u32,
+        xid: u64,
         pid: u32,
     },
 }

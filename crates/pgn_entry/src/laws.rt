@@ -2,13 +2,14 @@ ghost use Rattle.pgn_entry.specs.Laws.{ReadsAsOne, EntryReadsBack, FillerReadsBa
 ghost use Rattle.pgn_entry.specs.Reading.{Reading, ReadsAs};
 
 use crate::read_entry;
+use pgn_base::Format;
 
-/// Any bytes read as one thing, an entry, a filler or a fault, and as no other.
-pub fn one_answer(bytes: &[u8])
-    ensures some { (answer : Reading) × ReadsAs bytes.now answer }
+/// In each format any bytes read as one thing, an entry, a filler or a fault, and as no other.
+pub fn one_answer(format: Format, bytes: &[u8])
+    ensures some { (answer : Reading) × ReadsAs format bytes.now answer }
     ensures no_other { ReadsAsOne }
 {
-    let _answer = read_entry(bytes);
+    let _answer = read_entry(format, bytes);
 }
 
 /// Whatever follows an entry or a filler, its fields are read back.

@@ -7,7 +7,8 @@
 //!
 //! An entry is its length, its database, its transaction and the process number of its sender, four bytes each with the lowest
 //! first, then the channel and the payload, each with a zero byte after it, and zero bytes up to its length. A filler is such a
-//! head with database 0, and zero bytes. Both definitions are `spelled` and `filler` of `pgn_journal`.
+//! head with database 0, and zero bytes. That is format One. In format Two the transaction has eight bytes, and four zero bytes
+//! end the head. Both definitions are `spelled` and `filler` of `pgn_journal`. Each call is told the format.
 //!
 //! None of these calls takes memory. What is read is shown as parts of the bytes that were given.
 //!
@@ -19,10 +20,10 @@
 //!     channel: Name::new(alloc, "c")?,
 //!     payload: Payload::new(alloc, "")?,
 //! };
-//! let cells = EntryCells::of(&note, DbOid::new(7), Xid::new(4), 1003);
+//! let cells = EntryCells::of(Format::One, &note, DbOid::new(7), Xid::new(4), 1003);
 //! let mut bytes = Vec::new(alloc);
 //! for number in 0..cells.len as usize / CELL_BYTES {
-//!     bytes.extend_from_slice(&cells.cell(number).to_le_bytes())?;
+//!     bytes.extend_from_slice(&cells.cell(Format::One, number).to_le_bytes())?;
 //! }
 //! let entry = EntryView::Entry {
 //!     len: 20,
@@ -32,7 +33,7 @@
 //!     channel: b"c",
 //!     payload: b"",
 //! };
-//! assert_eq!(rt; read_entry(&bytes), Ok(entry));
+//! assert_eq!(rt; read_entry(Format::One, &bytes), Ok(entry));
 //! ```
 #![tactic(auto)]
 

@@ -1,19 +1,13 @@
-use Rattle.std.proofs.Common.{◌≡◌, ◌+◌, ◌-◌, ◌*◌, ◌∙◌, arith}
-use Rattle.pgn_entry.proofs.CellLaws.{filler_cell_0, filler_cell_2, filler_cell_3, filler_cell_else}
+use Rattle.std.proofs.Common.{refl, ◌∙◌, arith}
+use Rattle.pgn_entry.proofs.CellLaws.{same_head, filler_cell_head, filler_cell_rest}
 use Rattle.pgn_entry.proofs.cells.filler_cell.Goals as goal
 
-pub returns-in-0 : goal.returns-in-0
-returns-in-0 c = filler_cell_0 c.args.len c.args.xid c.args.pid c.args.number c.in-0.is c.ranges.len.fits
+pub returns-then-number-header_len : goal.returns-then-number-header_len
+returns-then-number-header_len c =
+    filler_cell_rest c.args.format c.args.len c.args.xid c.args.pid c.args.number (omega (arith, c.if-number-header_len.true, c.header_len.ensures))
 
-pub returns-in-2 : goal.returns-in-2
-returns-in-2 c =
-    let within = c.get.ensures.within in
-    let value = c.get.ensures.value in
-    value ∙ filler_cell_2 c.args.len c.args.xid c.args.pid c.args.number c.in-2.is (omega (arith, within, value))
-
-pub returns-in-3 : goal.returns-in-3
-returns-in-3 c = filler_cell_3 c.args.len c.args.xid c.args.pid c.args.number c.in-3.is c.ranges.pid.fits
-
-pub returns-in_default : goal.returns-in_default
-returns-in_default c =
-    let no = c.in_default in filler_cell_else c.args.len c.args.xid c.args.pid c.args.number (omega (arith, no)) (omega (arith, no)) (omega (arith, no))
+pub returns : goal.returns
+returns c =
+    c.head_cell.ensures
+    ∙ same_head c.args.format c.args.len c.args.len 0 0 c.get.result c.args.xid c.args.pid c.args.pid c.args.number refl refl c.get.ensures.value refl
+    ∙ filler_cell_head c.args.format c.args.len c.args.xid c.args.pid c.args.number (omega (arith, c.if-number-header_len.false, c.header_len.ensures))

@@ -1,46 +1,27 @@
 use Rattle.std.proofs.Common.{◌≡◌, ℕ, ◌+◌, ◌-◌, ◌*◌, List, [], ◌∷◌, ◌++◌, length, drop, ap, ◌∙◌, arith}
 use Rattle.std.specs.Int.{w32, from_le_bytes}
-use Rattle.pgn_base.specs.declared.format.Format.TheVariants.{One}
-use Rattle.pgn_entry.proofs.CellLaws.{entry_cell_0, entry_cell_1, entry_cell_2, entry_cell_3, entry_cell_text}
+use Rattle.pgn_journal.specs.Bytes.{header_bytes, entry_length}
+use Rattle.pgn_entry.proofs.CellLaws.{same_head, entry_cell_head, entry_cell_text}
 use Rattle.pgn_entry.proofs.cells.EntryCells.cell.Goals as goal
 
 pub returns-then-at-start-2 : goal.returns-then-at-start-2
 returns-then-at-start-2 c note db xid pid cells =
-    let at : ℕ = length c.args.self.now.channel.now + 1 + (4 * c.args.number - (16 + length c.args.self.now.channel.now + 1)) in
-    let from = c.if-at-start.true in
-    let there : 4 * c.args.number ≡ 16 + at = omega (arith, from) in
+    let at : ℕ = length c.args.self.now.channel.now + 1 + (4 * c.args.number - (c.header_len-header.result + length c.args.self.now.channel.now + 1)) in
+    let there : 4 * c.args.number ≡ header_bytes c.args.format + at = omega (arith, c.if-at-start.true, c.header_len-header.ensures) in
     c.payload_cell.ensures c.args.self.now.channel.now
     ∙ ap (λ (xs : List ℕ). from_le_bytes w32 (drop at ((xs ++ 0 ∷ []) ++ c.args.self.now.payload.now))) cells.channel
-    ∙ ap (λ (xs : List ℕ). from_le_bytes w32 (drop at ((note.channel ++ 0 ∷ []) ++ xs))) cells.payload ∙ entry_cell_text note db xid pid c.args.number at there
+    ∙ ap (λ (xs : List ℕ). from_le_bytes w32 (drop at ((note.channel ++ 0 ∷ []) ++ xs))) cells.payload ∙ entry_cell_text c.args.format note db xid pid c.args.number at there
 
-pub returns-in-0 : goal.returns-in-0
-returns-in-0 c note db xid pid cells =
-    let len = cells.len in
-    let fits = c.requires.long.fits in
-    len ∙ entry_cell_0 note db xid pid c.args.number c.in-0.is (omega (arith, fits, len))
+pub returns-then-at-header : goal.returns-then-at-header
+returns-then-at-header c note db xid pid cells =
+    let self = c.args.self.now in
+    c.head_cell.ensures
+    ∙ same_head c.args.format self.len (entry_length c.args.format note) self.db db self.xid xid self.pid pid c.args.number cells.len cells.db_is cells.xid_is cells.pid_is
+    ∙ entry_cell_head c.args.format note db xid pid c.args.number (omega (arith, c.if-at-header.true, c.header_len-header.ensures))
 
-pub returns-in-1 : goal.returns-in-1
-returns-in-1 c note db xid pid cells =
-    let is = cells.db_is in
-    let fits = c.type_inv.self.0 in
-    is ∙ entry_cell_1 note db xid pid c.args.number c.in-1.is (omega (arith, fits, is))
-
-pub returns-in-2 : goal.returns-in-2
-returns-in-2 c note db xid pid cells =
-    let is = cells.xid_is in
-    let fits = c.type_inv.self.0 in
-    is ∙ entry_cell_2 note db xid pid c.args.number c.in-2.is (omega (arith, fits, is))
-
-pub returns-in-3 : goal.returns-in-3
-returns-in-3 c note db xid pid cells =
-    let is = cells.pid_is in
-    let fits = c.type_inv.self.0 in
-    is ∙ entry_cell_3 note db xid pid c.args.number c.in-3.is (omega (arith, fits, is))
-
-pub returns-in_default : goal.returns-in_default
-returns-in_default c note db xid pid cells =
-    let no = c.in_default in
-    let at : ℕ = 4 * c.args.number - 16 in
-    let past : 4 * c.args.number ≡ 16 + at = omega (arith, no) in
+pub returns : goal.returns
+returns c note db xid pid cells =
+    let at : ℕ = 4 * c.args.number - c.header_len-header.result in
+    let past : 4 * c.args.number ≡ header_bytes c.args.format + at = omega (arith, c.if-at-header.false, c.header_len-header.ensures) in
     c.text_cell.ensures ∙ ap (λ (xs : List ℕ). from_le_bytes w32 (drop at ((xs ++ 0 ∷ []) ++ c.args.self.now.payload.now))) cells.channel
-    ∙ ap (λ (xs : List ℕ). from_le_bytes w32 (drop at ((note.channel ++ 0 ∷ []) ++ xs))) cells.payload ∙ entry_cell_text note db xid pid c.args.number at past
+    ∙ ap (λ (xs : List ℕ). from_le_bytes w32 (drop at ((note.channel ++ 0 ∷ []) ++ xs))) cells.payload ∙ entry_cell_text c.args.format note db xid pid c.args.number at past

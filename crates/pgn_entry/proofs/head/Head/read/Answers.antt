@@ -9,9 +9,3 @@ returns-clause-len c = c.read_u32.ensures ∙ little_number_is c.args.bytes.now
 
 pub returns-clause-db : goal.returns-clause-db
 returns-clause-db c = c.read_u32-2.ensures ∙ read_at 4 c.args.bytes.now
-
-pub returns-clause-xid : goal.returns-clause-xid
-returns-clause-xid c = c.read_u32-3.ensures ∙ read_at 8 c.args.bytes.now
-
-pub returns-clause-pid : goal.returns-clause-pid
-returns-clause-pid c = c.read_u32-4.ensures ∙ read_at 12 c.args.bytes.now
