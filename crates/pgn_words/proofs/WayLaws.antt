@@ -4,16 +4,17 @@ use Rattle.std.proofs.lemmas.List.{length-drop, get_or-drop}
 use Rattle.std.proofs.lemmas.List.Elements.{All-head, All-drop}
 use Rattle.std.proofs.lemmas.Option.{slice_get_within, get_or_from_slice_get, slice_get_read, slice_get-get_or}
 use Rattle.pgn_base.specs.declared.format.Format.{Format}
-use Rattle.pgn_base.specs.declared.format.Format.TheVariants.{One}
+use Rattle.pgn_base.specs.declared.format.Format.TheVariants.{One, Two}
 use Rattle.pgn_journal.specs.declared.tx.Tx.{Tx}
 use Rattle.pgn_journal.specs.Begins.{Begins}
 use Rattle.pgn_journal.specs.Journal.{next_xid}
+use Rattle.pgn_journal.specs.Bytes.{xid_bits}
 use Rattle.pgn_journal.specs.Packing.{page_start, filled_cells, page_rest, entry_cells, image, place}
 use Rattle.pgn_journal.specs.Pieces.{Piece, piece_bytes, number_of, lay, pieces_from, IsNumbered, IsReadable, IsWritten}
 use Rattle.pgn_journal.proofs.BeginsLaws.{begins-continued, begins-holds, begins-shorter}
 use Rattle.pgn_journal.proofs.DraftLaws.{longer_agrees}
 use Rattle.pgn_journal.proofs.PackingLemmas.{room_place, place_grows, last_place}
-use Rattle.pgn_journal.proofs.PieceLaws.{image_drops, image_is_laid, pieces_are_numbered, pieces_are_readable, next_cells}
+use Rattle.pgn_journal.proofs.PieceLaws.{image_drops, image_is_laid, pieces_are_numbered, pieces_are_readable, third_cell}
 use Rattle.pgn_words.specs.Views.{is_walking}
 use Rattle.pgn_words.specs.Positions.{is_placed}
 use Rattle.pgn_words.specs.Laws.{WalksReadTheFinished, WalksEndInTime}
@@ -47,39 +48,46 @@ walks_read_finished z c g views j v h there walks at x from before is =
     )
 
 -- the third cell of the first of the pieces that lie at a place holds a number that all of them have at least
-first_number : (cells : List (Option ℕ)) (pieces : List Piece) (n m at : ℕ) → drop at cells ≡ lay One at pieces → at < length cells → All (IsReadable One) pieces → All (IsNumbered n m) pieces
-    → (x : ℕ) × (n ≤ x) × (slice_get cells (at + 2) ≡ Some (Some x))
+first_number : (format : Format) (cells : List (Option ℕ)) (pieces : List Piece) (n m at : ℕ) → drop at cells ≡ lay format at pieces → at < length cells → All (IsReadable format) pieces
+    → All (IsNumbered n m) pieces → m ≤ 2 ^ 32 → (x : ℕ) × (n ≤ x) × (slice_get cells (at + 2) ≡ Some (Some x))
 unfolding lay entry_cells
-first_number cells [] n m at laid before readable numbered =
+first_number format cells [] n m at laid before readable numbered few =
     let none : length (drop at cells) ≡ 0 = ap length laid in
     let left = length-drop at cells in absurd (omega (arith, none, left, before))
-first_number cells (piece ∷ pieces) n m at laid before readable numbered =
-    let filled = filled_cells (piece_bytes One piece) in
-    let rest = page_rest One (at + length filled) in
-    let more = lay One (at + length (entry_cells One at (piece_bytes One piece))) pieces in
+first_number format cells (piece ∷ pieces) n m at laid before readable numbered few =
+    let filled = filled_cells (piece_bytes format piece) in
+    let rest = page_rest format (at + length filled) in
+    let more = lay format (at + length (entry_cells format at (piece_bytes format piece))) pieces in
     let x = number_of piece in
-    let third = next_cells.third piece (All-head (IsReadable One) piece pieces readable) in
-    let low = (All-head (IsNumbered n m) piece pieces numbered).low in
+    let within = All-head (IsNumbered n m) piece pieces numbered in
+    let small : x < 2 ^ 32 = omega (arith, within.high, few) in
+    let third = third_cell format piece (All-head (IsReadable format) piece pieces readable) small in
     let one : slice_get (filled ++ rest) 2 ≡ Some (Some x) = begins-holds filled (filled ++ rest) 2 (Some x) (begins-continued filled rest) third in
     let two : slice_get (filled ++ rest ++ more) 2 ≡ Some (Some x) = begins-holds (filled ++ rest) (filled ++ rest ++ more) 2 (Some x) (begins-continued (filled ++ rest) more) one in
-    (x, low, held_behind at cells 2 (Some x) (ap (λ (l : List (Option ℕ)). slice_get l 2) laid ∙ two))
+    (x, within.low, held_behind at cells 2 (Some x) (ap (λ (l : List (Option ℕ)). slice_get l 2) laid ∙ two))
+
+-- the numbers of 32 bits fit in either format
+bits_hold : (format : Format) → 2 ^ 32 ≤ 2 ^ xid_bits format
+bits_hold One = omega arith
+bits_hold Two = omega arith
 
 -- the same of a journal, at the place of a number
-number_there : (journal : List Tx) (n : ℕ) → 3 ≤ n → n ≤ next_xid journal → All IsWritten journal → next_xid journal < 2 ^ 32 → place One journal n < length (image One journal)
-    → (x : ℕ) × (n ≤ x) × (slice_get (image One journal) (place One journal n + 2) ≡ Some (Some x))
-number_there journal n low high written few before =
-    let at = place One journal n in
+number_there : (format : Format) (journal : List Tx) (n : ℕ) → 3 ≤ n → n ≤ next_xid journal → All IsWritten journal → next_xid journal < 2 ^ 32 → place format journal n < length (image format journal)
+    → (x : ℕ) × (n ≤ x) × (slice_get (image format journal) (place format journal n + 2) ≡ Some (Some x))
+number_there format journal n low high written few before =
+    let at = place format journal n in
     let rest : List Tx = drop (n - 3) journal in
-    let room = room_place One journal n in
+    let room = room_place format journal n in
     let long = length-drop (n - 3) journal in
-    let fits : n + length rest ≤ 2 ^ 32 = omega (arith, long, high, few) in
-    first_number (image One journal) (pieces_from One n at rest) n (n + length rest) at
-    (image_drops One journal n low ∙ image_is_laid One n at rest room) before
-    (pieces_are_readable One n at rest room (All-drop IsWritten (n - 3) journal written) fits)
-    (pieces_are_numbered One n at rest)
+    let most : n + length rest ≤ 2 ^ 32 = omega (arith, long, high, few) in
+    let fits : n + length rest ≤ 2 ^ xid_bits format = omega (arith, most, bits_hold format) in
+    first_number format (image format journal) (pieces_from format n at rest) n (n + length rest) at
+    (image_drops format journal n low ∙ image_is_laid format n at rest room) before
+    (pieces_are_readable format n at rest room (All-drop IsWritten (n - 3) journal written) fits)
+    (pieces_are_numbered format n at rest) most
 
 pub walks_end_in_time : WalksEndInTime
-walks_end_in_time z c g views j v shape h there one shown at is before =
+walks_end_in_time z c g views j v shape h there shown at is before =
     let way = h.walks.walking j v there (ap is_walking shown) in
     let forth : v.post.mark ≤ v.walk.upto = way.1 in
     let has : is_placed v.post.listen ≡ true = ap is_placed way.0 in
@@ -90,17 +98,15 @@ walks_end_in_time z c g views j v shape h there one shown at is before =
     let longer = begins-shorter v.known.seen g.past (h.history.sees j v there) in
     let within : v.walk.upto ≤ next_xid g.past = let seen = way.2 in omega (arith, seen, longer) in
     let further = begins-shorter g.past g.shown h.history.begins in
-    let same = longer_agrees.places z.format g.past g.shown v.walk.upto h.history.begins within in
-    let there_is : at ≡ place One g.shown v.walk.upto = is ∙ sym same ∙ ap (λ (f : Format). place f g.shown v.walk.upto) one in
+    let there_is : at ≡ place z.format g.shown v.walk.upto = is ∙ sym (longer_agrees.places z.format g.past g.shown v.walk.upto h.history.begins within) in
     let ends = (h.walks.bounds j v there shown).1 in
     let headed = h.stored.headed in
-    let inside : at < length (image One g.shown) = subst (λ (f : Format). at < length (image f g.shown)) one (omega (arith, before, ends, headed)) in
-    let number = number_there g.shown v.walk.upto (omega (arith, first, forth)) (omega (arith, within, further)) h.history.written
+    let inside : at < length (image z.format g.shown) = omega (arith, before, ends, headed) in
+    let number = number_there z.format g.shown v.walk.upto (omega (arith, first, forth)) (omega (arith, within, further)) h.history.written
     (shown_few z c g views j v shape h there (setup_of z c g views j v h there placed.0))
-    (subst (λ n. n < length (image One g.shown)) there_is inside) in
+    (subst (λ n. n < length (image z.format g.shown)) there_is inside) in
     let up = place_grows z.format g.past v.post.mark v.walk.upto forth in
     let from : page_start c.stop ≤ at + 2 = omega (arith, kept, mine, up, is) in
-    let cell : slice_get (image z.format g.shown) (at + 2) ≡ Some (Some number.0) =
-    ap (λ (f : Format). slice_get (image f g.shown) (at + 2)) one ∙ ap (λ n. slice_get (image One g.shown) (n + 2)) there_is ∙ number.2 in
+    let cell : slice_get (image z.format g.shown) (at + 2) ≡ Some (Some number.0) = ap (λ n. slice_get (image z.format g.shown) (n + 2)) there_is ∙ number.2 in
     let found = h.stored.kept (at + 2) number.0 from cell in
     let least = number.1 in omega (arith, least, found)

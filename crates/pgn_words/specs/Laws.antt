@@ -2,7 +2,6 @@
 use Rattle.std.specs.Prelude.{◌≡◌, ◌≢◌, ℕ, ◌+◌, ◌%◌, ◌<◌, ◌≤◌, true, false, List, length, get_or, slice_get, Some}
 use mathlib.Core.Option.{some}
 use lib.ListN.{get_elem?}
-use Rattle.pgn_base.specs.declared.format.Format.TheVariants.{One}
 use Rattle.pgn_journal.specs.Due.{is_due_to}
 use Rattle.pgn_journal.specs.Near.{Near}
 use Rattle.pgn_journal.specs.Packing.{page_of, place, image}
@@ -31,7 +30,7 @@ WalksReadTheFinished = (z : Shape) (c : Content) (g : World) (views : List View)
 -- where that place is before the loaded head, the number that a walk loads there is no less than the one to which it goes: it stands in
 -- the third cell of the entry or filler
 abbrev pub WalksEndInTime : Type 0
-WalksEndInTime = (z : Shape) (c : Content) (g : World) (views : List View) (j : ℕ) (v : View) → IsShape z → Law z c g views → get_elem? views j ≡ some v → z.format ≡ One → v.walk.stage ≡ Shown
+WalksEndInTime = (z : Shape) (c : Content) (g : World) (views : List View) (j : ℕ) (v : View) → IsShape z → Law z c g views → get_elem? views j ≡ some v → v.walk.stage ≡ Shown
     → (at : ℕ) → at ≡ place z.format g.past v.walk.upto → at < length (image z.format v.walk.shown) → v.walk.upto ≤ get_or c.cells ((at + 2) % room_of z) 0
 
 -- where a writer may store a cell of a page, the page that lay there before is an earlier one than that of each position, and of each
