@@ -1,12 +1,12 @@
 ghost use Rattle.std.specs.Prelude.{◌≡◌, ℕ, ◌+◌, ◌^◌, List, [], ◌∷◌, map, Option};
 ghost use Rattle.std.specs.Str.{byte};
-ghost use Rattle.pgn_base.specs.declared.format.Format.TheVariants.{One};
+ghost use Rattle.pgn_base.specs.declared.format.Format.TheVariants.{One, Two};
 ghost use Rattle.pgn_journal.specs.declared.tx.Fate.TheVariants.{Committed, Aborted};
 ghost use Rattle.pgn_journal.specs.Packing.{Sender, place_at, filler_cells};
 ghost use Rattle.pgn_journal.specs.examples.Packing.{bare_note, letters};
 ghost use Rattle.pgn_layout.specs.Batches.{Runs, IsPlanned, AreBatches, fillers_from, IsPlaced};
 ghost use Rattle.pgn_layout.specs.Status.{status_word, status_in, status_set};
-ghost use Rattle.pgn_layout.specs.Examples.{to_the_edge, over_the_edge, first_batch, last_batch};
+ghost use Rattle.pgn_layout.specs.Examples.{to_the_edge, over_the_edge, first_batch, last_batch, to_the_edge_two, over_the_edge_two, first_batch_two, last_batch_two};
 
 /// Entries of 8020 and 152 bytes lead to offset 8172. A third one of 20 bytes takes the rest of the page. One of 24 does not fit
 /// there: a filler takes the rest, and the entry is the next batch.
@@ -16,6 +16,19 @@ pub fn page_edge()
     ensures next_page { IsPlanned One (place_at 1 0) (letters (byte "x") 5 ∷ []) last_batch }
     ensures both { AreBatches One (place_at 0 0) over_the_edge (first_batch ∷ last_batch ∷ []) }
     ensures one_filler { fillers_from One (place_at 0 0) over_the_edge ≡ 20 ∷ [] }
+{}
+
+/// The same in format Two. Entries of 8088 and 72 bytes lead to offset 8160. A third one of 32 bytes takes the rest of the page. One
+/// of 40 does not fit there: a filler takes the rest, and the entry is the next batch.
+#[tactic(auto, using(crate::proofs::ExampleSteps::batches_two))]
+pub fn page_edge_of_format_two()
+    ensures fits { IsPlanned Two (place_at 0 0) to_the_edge_two (record { fits = 3; filler = 0; next = place_at 1 0 }) }
+    ensures fits_not { IsPlanned Two (place_at 0 0) over_the_edge_two first_batch_two }
+    ensures next_page { IsPlanned Two (place_at 1 0) (letters (byte "x") 13 ∷ []) last_batch_two }
+    ensures both { AreBatches Two (place_at 0 0) over_the_edge_two (first_batch_two ∷ last_batch_two ∷ []) }
+    // It has a filler where an entry fits, or one that leaves a part of the page.
+    ensures fills_for_nothing { IsPlanned Two (place_at 0 0) to_the_edge_two (record { fits = 2; filler = 32; next = place_at 1 0 }) → ⊥ }
+    ensures short_filler { IsPlanned Two (place_at 0 0) over_the_edge_two (record { fits = 2; filler = 24; next = place_at 1 0 }) → ⊥ }
 {}
 
 /// Batches that are not planned there.

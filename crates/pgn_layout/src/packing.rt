@@ -1,16 +1,22 @@
-ghost use Rattle.std.specs.Prelude.{◌≡◌, ◌≢◌, ◌⊎◌, ◌^◌, ◌<◌, ◌≤◌, [], length};
-ghost use Rattle.pgn_base.specs.declared.format.Format.TheVariants.{One};
-ghost use Rattle.pgn_journal.specs.Bytes.{least_bytes, IsEntryLength};
-ghost use Rattle.pgn_journal.specs.Packing.{next_page, bytes_left, fits, after_bytes, HasRoom};
+ghost use Rattle.std.specs.Prelude.{◌≡◌, ◌≢◌, ◌⊎◌, ◌+◌, ◌%◌, ◌^◌, ◌<◌, ◌≤◌, [], length};
+ghost use Rattle.pgn_journal.specs.Bytes.{alignment, least_bytes, IsEntryLength};
+ghost use Rattle.pgn_journal.specs.Packing.{next_page, bytes_left, cells_in, bytes_in, fits, after_bytes, HasRoom};
 ghost use Rattle.pgn_layout.specs.Batches.{IsPlanned};
 
 use crate::pos::PAGE_CELLS;
 use crate::{Batch, Pos};
-use pgn_base::{CELL_BYTES, Note};
+use pgn_base::{CELL_BYTES, Format, Note};
 use pgn_entry::entry_len;
 
-/// The shortest entry has this many bytes.
-const LEAST_BYTES: u32 = 20;
+// The shortest entry has this many bytes.
+fn least_len(format: Format) -> u32
+    ensures { result ≡ least_bytes format }
+{
+    match format {
+        Format::One => 20,
+        Format::Two => 32,
+    }
+}
 
 // Where the page after that of a place begins.
 fn end_of_page(pos: Pos) -> Pos
@@ -31,15 +37,17 @@ fn left_on_page(pos: Pos) -> u32
 /// The place after an entry or a filler of so many bytes. Where the rest of the page is shorter than the shortest entry, it is
 /// skipped.
 #[tactic(auto, unfolding(pgn_journal::specs::Packing::after_bytes, pgn_journal::specs::Packing::after_rest))]
-pub fn advance(pos: Pos, len: u32) -> Pos
+pub fn advance(format: Format, pos: Pos, len: u32) -> Pos
     requires low { pos < 2 ^ 32 }
-    requires least { least_bytes One ≤ len }
-    ensures value { result ≡ after_bytes One pos len }
+    requires least { least_bytes format ≤ len }
+    ensures value { result ≡ after_bytes format pos len }
     ensures further { pos < result }
-    ensures room { HasRoom One result }
+
+    // Where it ends at a multiple of the alignment, an entry may begin there.
+    ensures room { bytes_in (pos + cells_in len) % alignment format ≡ 0 → HasRoom format result }
 {
     let end = Pos::new(pos.get() + u64::from(len) / CELL_BYTES as u64);
-    if left_on_page(end) < LEAST_BYTES {
+    if left_on_page(end) < least_len(format) {
         end_of_page(end)
     } else {
         end
@@ -47,16 +55,16 @@ pub fn advance(pos: Pos, len: u32) -> Pos
 }
 
 /// The next batch of these notifications, from a place on.
-pub fn plan_batch(pos: Pos, notes: &[Note]) -> Batch
+pub fn plan_batch(format: Format, pos: Pos, notes: &[Note]) -> Batch
     requires low { pos < 2 ^ 32 }
-    requires room { HasRoom One pos }
-    ensures planned { IsPlanned One pos notes.now result }
+    requires room { HasRoom format pos }
+    ensures planned { IsPlanned format pos notes.now result }
     ensures within { result.fits ≤ length notes.now }
-    ensures filler { 0 < result.filler → IsEntryLength One result.filler }
+    ensures filler { 0 < result.filler → IsEntryLength format result.filler }
 
     // It stays on its page, and an entry may begin where it ends.
     ensures page { result.next ≤ next_page pos }
-    ensures room { HasRoom One result.next }
+    ensures room { HasRoom format result.next }
 
     // Where a notification is left, it writes something.
     ensures further { notes.now ≢ [] → pos < result.next }
@@ -66,7 +74,7 @@ pub fn plan_batch(pos: Pos, notes: &[Note]) -> Batch
     let page_end = end_of_page(pos);
     let mut next = pos;
     for (fits, note) in notes.iter().enumerate() {
-        let len = entry_len(note);
+        let len = entry_len(format, note);
         let left = left_on_page(next);
         if len > left {
             return Batch {
@@ -75,7 +83,7 @@ pub fn plan_batch(pos: Pos, notes: &[Note]) -> Batch
                 next: page_end,
             };
         }
-        next = advance(next, len);
+        next = advance(format, next, len);
         if next == page_end {
             return Batch {
                 fits: fits + 1,

@@ -5,10 +5,10 @@ use Rattle.pgn_layout.proofs.packing.plan_batch.Goals as goal
 
 pub returns-then-eq-clause-planned : goal.returns-then-eq-clause-planned
 returns-then-eq-clause-planned c =
-    plans_page c.args.pos c.args.notes.now c.loop-fits.fits c.loop-fits.next _ c.advance-next.result c.index-notes-fits.result c.loop-fits.invariant c.loop-fits-test.true
+    plans_page c.args.format c.args.pos c.args.notes.now c.loop-fits.fits c.loop-fits.next _ c.advance-next.result c.index-notes-fits.result c.loop-fits.invariant c.loop-fits-test.true
     c.index-notes-fits.is c.entry_len-len.ensures.value (omega arith) c.advance-next.ensures.value (grind (arith, nat_tests))
 
 pub loop-fits-preserved : goal.loop-fits-preserved
 loop-fits-preserved c =
-    goes_on c.args.pos c.args.notes.now c.loop-fits.fits c.loop-fits.next _ c.advance-next.result c.index-notes-fits.result c.loop-fits.invariant c.loop-fits-test.true
-    c.index-notes-fits.is c.entry_len-len.ensures.value (omega arith) c.advance-next.ensures.value c.advance-next.ensures.further c.advance-next.ensures.room (λ e. grind (arith, nat_tests))
+    goes_on c.args.format c.args.pos c.args.notes.now c.loop-fits.fits c.loop-fits.next _ c.advance-next.result c.index-notes-fits.result c.loop-fits.invariant c.loop-fits-test.true
+    c.index-notes-fits.is c.entry_len-len.ensures.value (omega arith) c.advance-next.ensures.value c.advance-next.ensures.further c.entry_len-len.ensures.fits.whole (λ e. grind (arith, nat_tests))
