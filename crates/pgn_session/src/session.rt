@@ -20,8 +20,13 @@ use pgn_language::Section;
 use pgn_model::{Item, Items, Trace};
 use std::alloc::{AllocError, Global};
 
-/// Room for so many items is taken at the start.
+/// Room for so many items is taken at the start, and for so many more a line, as a line takes that notifies and is read. It is not
+/// taken for more than so many lines. A list that grows is copied each time, while room without items costs no memory yet.
 const FIRST_ITEMS: usize = 16;
+
+const LINE_ITEMS: usize = 4;
+
+const FIRST_LINES: usize = 65_536;
 
 /// A session: its pass, its script, and what it has done so far.
 #[derive(Drop)]
@@ -59,6 +64,7 @@ impl<P: PassView + Send + Drop> Session<P> {
         ensures rested { IfOk result (λ s. (shape : Shape) → HasRest shape P.known s) }
         ensures begins { IfOk result (λ s. (s.pass ≡ pass) × (s.section ≡ section) × (s.plan ≡ plan) × (s.patience ≡ patience) × (s.done ≡ 0) × (s.doing ≡ Doing.Lines) × (s.items.items ≡ [])) }
     {
+        let lines = section.lines.as_slice().len().min(FIRST_LINES);
         Ok(Session {
             pass,
             section,
@@ -67,7 +73,7 @@ impl<P: PassView + Send + Drop> Session<P> {
             done: 0,
             block: Block::new(alloc),
             set: ListenSet::new(alloc),
-            items: Vec::with_capacity(alloc, FIRST_ITEMS)?,
+            items: Vec::with_capacity(alloc, FIRST_ITEMS + LINE_ITEMS * lines)?,
             doing: Doing::Lines,
         })
     }
