@@ -1,4 +1,4 @@
-/// A format of the queue's entries. Every call of the program takes `One`.
+/// A format of the queue's entries. A run takes the one that its words name; the drill and a client of the wire have `One`.
 #[derive(Clone, Copy)]
 pub enum Format {
     /// A head of 16 bytes, with the transaction's number in four of them, and lengths that are multiples of 4.
