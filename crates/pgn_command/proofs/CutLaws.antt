@@ -1,9 +1,9 @@
 -- Cut names.
-use Rattle.std.proofs.Common.{◌≡◌, ℕ, zero, suc, ◌+◌, ◌*◌, ◌<◌, ◌≤◌, inl, inr, List, [], ◌∷◌, map, length, take, drop, sym, ap, ◌∙◌, refl, subst, arith, IsUtf8, IsCharBoundary, length-take, length-append}
+use Rattle.std.proofs.Common.{◌≡◌, ℕ, true, zero, suc, ◌+◌, ◌*◌, ◌<◌, ◌≤◌, inl, inr, List, [], ◌∷◌, map, length, take, drop, sym, ap, ◌∙◌, refl, subst, arith, IsUtf8, IsCharBoundary, length-take, length-append}
 use Rattle.std.specs.Char.{to_ascii_lowercase}
-use Rattle.std.specs.List.{repeat}
+use Rattle.std.specs.List.{repeat, list_all}
 use Rattle.std.specs.Str.{str_to_ascii_lowercase}
-use Rattle.std.proofs.lemmas.Bool.{cases_lt, cases_Bool}
+use Rattle.std.proofs.lemmas.Bool.{cases_lt, cases_Bool, and_parts, eqb-true}
 use Rattle.std.proofs.lemmas.Bool.Decides.{nat_tests}
 use Rattle.std.proofs.lemmas.Str.{IsUtf8-take, IsCharBoundary-from_take}
 use Rattle.std.proofs.Math.Seq.{take-length}
@@ -11,6 +11,7 @@ use Rattle.std.proofs.lemmas.List.{take-map}
 use Rattle.pgn_language.specs.Grammar.{begins_character, cut}
 use Rattle.pgn_language.specs.laws.Tokens.{IsLongestPrefix}
 use Rattle.pgn_language.proofs.TokenLaws.{cut-longest}
+use Rattle.pgn_command.specs.Statements.{is_folded}
 
 -- a text is cut at the last character that begins early enough
 pub cut-at : (n k : ℕ) (text : List ℕ) → IsUtf8 text → k ≤ n → IsCharBoundary text k → ((i : ℕ) → k < i → i ≤ n → IsCharBoundary text i → ⊥) → cut n text ≡ take k text
@@ -58,6 +59,13 @@ cut-folded (suc n) text =
       | inl e ↦ rw (same ∙ e, e, cut) (take-map to_ascii_lowercase (suc n) text)
       | inr e ↦ rw (same ∙ e, e, cut) (cut-folded n text)
     ]
+
+-- a text whose bytes are all what they are folded to
+pub folded-same : (text : List ℕ) → list_all is_folded text ≡ true → str_to_ascii_lowercase text ≡ text
+folded-same [] e = refl
+folded-same (b ∷ bytes) e =
+    let parts = and_parts (is_folded b) (list_all is_folded bytes) e in
+    ap (λ (c : ℕ). c ∷ map to_ascii_lowercase bytes) (eqb-true (to_ascii_lowercase b) b parts.0) ∙ ap (λ (cs : List ℕ). b ∷ cs) (folded-same bytes parts.1)
 
 sum : (n m : ℕ) → m + n * m ≡ suc n * m
 sum n m = grind (arith)

@@ -1,5 +1,6 @@
 -- What the statements of the code are.
-use Rattle.std.specs.Prelude.{◌≡◌, ℕ, List, [], true, false, drop, Result, Ok, Err, MatchResult}
+use Rattle.std.specs.Prelude.{◌≡◌, ◌==◌, ℕ, Bool, List, [], true, false, drop, Result, Ok, Err, MatchResult}
+use Rattle.std.specs.Char.{to_ascii_lowercase}
 use Rattle.std.specs.List.{repeat}
 use Rattle.pgn_base.specs.declared.command.Command.{Command}
 use Rattle.pgn_base.specs.declared.command.Command.TheVariants as command
@@ -23,6 +24,10 @@ ident_lexeme (ident.Quoted inside) = model.Quoted (single inside.quote inside.ra
 -- the name
 abbrev pub ident_name : Ident → List ℕ
 ident_name one = name_of (ident_lexeme one)
+
+-- a byte is what it is folded to
+abbrev pub is_folded : ℕ → Bool
+is_folded byte = to_ascii_lowercase byte == byte
 
 -- a text that is not yet built
 abbrev pub text_bytes : Text → List ℕ

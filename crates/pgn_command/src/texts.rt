@@ -1,8 +1,9 @@
 ghost use Rattle.std.specs.Prelude.{◌≡◌, ◌<◌, length, IfOk, IfSome, string_bytes};
-ghost use Rattle.std.specs.List.{repeat};
+ghost use Rattle.std.specs.List.{repeat, list_all};
+ghost use Rattle.std.specs.Str.{str_to_ascii_lowercase};
 ghost use Rattle.pgn_base.specs.Texts.{IsName, IsPayload};
 ghost use Rattle.pgn_language.specs.Grammar as grammar;
-ghost use Rattle.pgn_command.specs.Statements.{ident_name, text_bytes};
+ghost use Rattle.pgn_command.specs.Statements.{ident_name, is_folded, text_bytes};
 
 use crate::statement::{Ident, Text};
 use pgn_base::{NAME_BYTES_MAX, Name, Payload};
@@ -18,15 +19,37 @@ pub fn name_of(alloc: Global, ident: Ident<'_>) -> Result<Name, AllocError>
     ensures { IfOk result (λ name. name ≡ ident_name ident.entry) }
 {
     match ident {
-        Ident::Word(word) => {
-            let folded = cut(word).to_ascii_lowercase(alloc)?;
-            Name::of_valid_string(folded)
-        }
+        Ident::Word(word) => word_name(alloc, cut(word)),
         Ident::Quoted(inside) => match inside.plain() {
             Some(text) => Name::of_valid(alloc, cut(text)),
             None => cut_name(alloc, unquoted(alloc, inside)?),
         },
     }
+}
+
+// The name that a word is, folded to lower case. One that is so already is not built.
+fn word_name(alloc: Global, word: &str) -> Result<Name, AllocError>
+    requires { IsName (str_to_ascii_lowercase word.now) }
+    ensures { IfOk result (λ name. name ≡ str_to_ascii_lowercase word.now) }
+{
+    if are_folded(word.as_bytes()) {
+        return Name::of_valid(alloc, word);
+    }
+    let folded = word.to_ascii_lowercase(alloc)?;
+    Name::of_valid_string(folded)
+}
+
+// Each byte is what it is folded to.
+fn are_folded(word: &[u8]) -> bool
+    ensures { result ≡ list_all is_folded word.now }
+{
+    word.iter().all(|byte| is_folded(*byte))
+}
+
+fn is_folded(byte: u8) -> bool
+    ensures { result ≡ is_folded byte }
+{
+    byte.to_ascii_lowercase() == byte
 }
 
 // The name that a text is, which is cut if it is long.
