@@ -3,8 +3,6 @@ use Rattle.std.proofs.Common.{◌≡◌, ℕ, ◌<◌, ◌≤◌, max, List, ◌
 use Rattle.std.proofs.lemmas.List.{append_assoc}
 use Rattle.std.proofs.lemmas.List.Elements.{All-contains_itself, All-weaker}
 use Rattle.std.proofs.Math.Nat.{max-le, le-max_left, le-max_right}
-use Rattle.pgn_base.specs.declared.format.Format.{Format}
-use Rattle.pgn_base.specs.declared.format.Format.TheVariants.{One}
 use Rattle.pgn_hub.specs.declared.known.Advance.{Advance}
 use Rattle.pgn_journal.specs.declared.tx.Tx.{Tx}
 use Rattle.pgn_journal.specs.Journal.{next_xid}
@@ -35,10 +33,10 @@ both_met session None xs ys one other = tt
 both_met session (Some own) xs ys one other = (one, other)
 
 -- the whole advance, for the pass
-pub advances : (z : Shape) (v w x y u : View) (mark at mark1 at1 tail stop : ℕ) (holder holder1 : Option ℕ) → v.setup ≡ z → z.format ≡ One → 0 < length z.seats → v.known.session ≤ length z.seats
+pub advances : (z : Shape) (v w x y u : View) (mark at mark1 at1 tail stop : ℕ) (holder holder1 : Option ℕ) → v.setup ≡ z → 0 < length z.seats → v.known.session ≤ length z.seats
     → HasSeenFirst v w (length z.seats) mark1 at1 holder1 → x ≡ second_begun tail w → HasSeenSecond x y (length z.seats) mark at holder → u ≡ stopped stop y → page_of y.eye.target ≤ stop
     → (u ≡ advanced_view u v) × HasAdvancedTo z v u mark at holder
-advances z v w x y u mark at mark1 at1 tail stop holder holder1 setup one some within h e g s page =
+advances z v w x y u mark at mark1 at1 tail stop holder holder1 setup some within h e g s page =
     let W : View = second_begun tail (first_seen v w h.first) in
     let f : x ≡ W = e ∙ ap (second_begun tail) h.view in
     let k : HasSeenSecond W y (length z.seats) mark at holder = subst (λ (q : View). HasSeenSecond q y (length z.seats) mark at holder) f g in
@@ -55,8 +53,7 @@ advances z v w x y u mark at mark1 at1 tail stop holder holder1 setup one some w
     let in_word : place_in (packed mark at) ≡ at = omega (arith, low) in
     let floor_at : place_in y.eye.least ≡ at = ap place_in k.floor.least_is ∙ in_word in
     let stop_is : u.stop ≡ stop = ap (λ (q : View). q.stop) i in
-    let target_is : u.eye.target ≡ y.eye.target = ap (λ (q : View). q.eye.target) i in
-    let format : v.setup.format ≡ One = ap (λ (q : Shape). q.format) setup ∙ one in (
+    let target_is : u.eye.target ≡ y.eye.target = ap (λ (q : View). q.eye.target) i in (
       subst (λ (q : View). q ≡ advanced_view q v) (sym i) refl,
       record {
         named = named;
@@ -70,14 +67,14 @@ advances z v w x y u mark at mark1 at1 tail stop holder holder1 setup one some w
         });
         floor = subst (λ (a : Advance). IsFloor (next_xid v.known.seen) (met_by a) mark holder) (sym advance) k.floor.floor;
         met = subst (λ (a : Advance). All (Contains named) (met_by a)) (sym advance) (All-contains_itself named);
-        at_is = k.floor.at_is ∙ ap (λ (f : Format). place f v.known.seen mark) format;
+        at_is = k.floor.at_is ∙ ap (λ (q : Shape). place q.format v.known.seen mark) setup;
         second = ap (λ (q : View). q.eye.look) i ∙ k.look;
         all = ap (λ (q : View). q.eye.looked) i ∙ k.looked;
         kept = omega (arith, page, stop_is, target_is);
         floor_kept = omega (arith, page, stop_is, no_later, floor_at);
-        needed = subst (λ (a : Advance). All (λ pair. u.eye.target ≤ place One v.known.seen pair.1) (met_from 1 a.second)) (sym advance)
-            (subst (λ (n : ℕ). All (λ pair. n ≤ place One v.known.seen pair.1) (met_from 1 second)) (sym target_is)
-            (subst (λ (f : Format). All (λ pair. y.eye.target ≤ place f v.known.seen pair.1) (met_from 1 second)) format k.needed));
+        needed = subst (λ (a : Advance). All (λ pair. u.eye.target ≤ place z.format v.known.seen pair.1) (met_from 1 a.second)) (sym advance)
+            (subst (λ (n : ℕ). All (λ pair. n ≤ place z.format v.known.seen pair.1) (met_from 1 second)) (sym target_is)
+            (subst (λ (q : Shape). All (λ pair. y.eye.target ≤ place q.format v.known.seen pair.1) (met_from 1 second)) setup k.needed));
       },
     )
 
@@ -124,7 +121,7 @@ frees_to z v u mark at from to holder e adv greater stop =
     let seen : u.known.seen ≡ v.known.seen = ap (λ (q : View). q.known.seen) e in
     let session : u.known.session ≡ v.known.session = ap (λ (q : View). q.known.session) e in
     let own : u.known.mark ≡ v.known.mark = ap (λ (q : View). q.known.mark) e in
-    let there : place One u.known.seen mark ≡ at = ap (λ (txs : List Tx). place One txs mark) seen ∙ sym adv.at_is in
+    let there : place z.format u.known.seen mark ≡ at = ap (λ (txs : List Tx). place z.format txs mark) seen ∙ sym adv.at_is in
     let kept = adv.floor_kept in record {
       named = adv.named;
       named_is = adv.named_is;
@@ -134,8 +131,8 @@ frees_to z v u mark at from to holder e adv greater stop =
       holder = holder;
       floor = subst (λ (txs : List Tx). IsFloor (next_xid txs) (met_by u.known.advance) mark holder) (sym seen) adv.floor;
       floor_kept = omega (arith, kept, there, stop);
-      no_more = All-weaker (λ (pair : ℕ × ℕ). u.eye.target ≤ place One v.known.seen pair.1) (λ (pair : ℕ × ℕ). to ≤ max from (page_of (place One u.known.seen pair.1)))
-          (λ pair p. up_to (place One u.known.seen pair.1) (let same : place One u.known.seen pair.1 ≡ place One v.known.seen pair.1 = ap (λ (txs : List Tx). place One txs pair.1) seen in omega (arith, p, same)))
+      no_more = All-weaker (λ (pair : ℕ × ℕ). u.eye.target ≤ place z.format v.known.seen pair.1) (λ (pair : ℕ × ℕ). to ≤ max from (page_of (place z.format u.known.seen pair.1)))
+          (λ pair p. up_to (place z.format u.known.seen pair.1) (let same : place z.format u.known.seen pair.1 ≡ place z.format v.known.seen pair.1 = ap (λ (txs : List Tx). place z.format txs pair.1) seen in omega (arith, p, same)))
           (met_from 1 u.known.advance.second) adv.needed;
       second = adv.second;
       all = adv.all;

@@ -8,11 +8,12 @@ use Rattle.std.proofs.lemmas.List.Elements.{All-head, All-tail}
 use Rattle.std.proofs.lemmas.Nat.{le_bytes_4}
 use Rattle.pgn_base.specs.Names.{has_name}
 use Rattle.pgn_base.specs.Interest.{channel_bit}
-use Rattle.pgn_base.specs.declared.format.Format.TheVariants.{One}
+use Rattle.pgn_base.specs.declared.format.Format.{Format}
+use Rattle.pgn_base.specs.declared.format.Format.TheVariants.{One, Two}
 use Rattle.pgn_base.specs.declared.note.Note.{Note}
 use Rattle.pgn_journal.specs.Interest.{Covers}
-use Rattle.pgn_journal.specs.Bytes.{four_bytes, header, spelled}
-use Rattle.pgn_journal.specs.Packing.{Sender, filled_cells}
+use Rattle.pgn_journal.specs.Bytes.{header_bytes, four_bytes, header, spelled}
+use Rattle.pgn_journal.specs.Packing.{Sender, cells_in, filled_cells}
 use Rattle.pgn_journal.specs.Pieces.{Piece, AnEntry, piece_bytes}
 use Rattle.pgn_journal.proofs.PackingLemmas.{four_below}
 use Rattle.pgn_journal.proofs.PieceLaws.{piece_has_bytes, cells_hold_numbers}
@@ -53,9 +54,15 @@ texts_sum : (channel payload pad : List ℕ) → (Contains channel 0 → ⊥) �
 texts_sum channel payload pad none = ap sum_to_zero (append_assoc (channel ++ 0 ∷ []) payload pad) ∙ sum_of_text channel (payload ++ pad) none
 
 -- behind the head of an entry stands its channel
-pub channel_sum : (note : Note) (sender : Sender) → (Contains note.channel 0 → ⊥) → sum_to_zero (drop 16 (piece_bytes One (AnEntry note sender))) ≡ sum note.channel
+pub channel_sum : (format : Format) (note : Note) (sender : Sender) → (Contains note.channel 0 → ⊥) → sum_to_zero (drop (header_bytes format) (piece_bytes format (AnEntry note sender))) ≡ sum note.channel
 unfolding spelled header
-channel_sum note sender none = texts_sum note.channel (note.payload ++ 0 ∷ []) _ none
+channel_sum One note sender none = texts_sum note.channel (note.payload ++ 0 ∷ []) _ none
+channel_sum Two note sender none = texts_sum note.channel (note.payload ++ 0 ∷ []) _ none
+
+-- where the channel begins, in cells and in bytes
+pub head_whole : (format : Format) → 4 * cells_in (header_bytes format) ≡ header_bytes format
+head_whole One = refl
+head_whole Two = refl
 
 -- from a cell's place on stand its four bytes, and then those from the next one's on
 cell_bytes_at : (bytes : List ℕ) (k : ℕ) → 4 * k + 4 < length bytes + 1 → All (λ byte. byte < 256) bytes → four_bytes (from_le_bytes w32 (drop (4 * k) bytes)) ++ drop (4 * (k + 1)) bytes ≡ drop (4 * k) bytes
@@ -81,19 +88,19 @@ cell_bytes_at (a ∷ b ∷ c ∷ d ∷ bytes) (suc k) within small =
     ∙ cell_bytes_at bytes k (omega (arith, within)) rest ∙ ap (λ (n : ℕ). drop n (a ∷ b ∷ c ∷ d ∷ bytes)) (sym here)
 
 -- a loaded cell of a piece is its next four bytes
-pub cell_is : (cells : List (Option ℕ)) (at k x : ℕ) (piece : Piece) → StandsAt cells at piece → 4 * k + 4 < length (piece_bytes One piece) + 1 → IsCell cells (at + k) x
-    → four_bytes x ++ drop (4 * (k + 1)) (piece_bytes One piece) ≡ drop (4 * k) (piece_bytes One piece)
-cell_is cells at k x piece stands within is =
-    let bytes = piece_bytes One piece in
+pub cell_is : (format : Format) (cells : List (Option ℕ)) (at k x : ℕ) (piece : Piece) → StandsAt format cells at piece → 4 * k + 4 < length (piece_bytes format piece) + 1 → IsCell cells (at + k) x
+    → four_bytes x ++ drop (4 * (k + 1)) (piece_bytes format piece) ≡ drop (4 * k) (piece_bytes format piece)
+cell_is format cells at k x piece stands within is =
+    let bytes = piece_bytes format piece in
     let n = from_le_bytes w32 (drop (4 * k) bytes) in
     let held : slice_get (filled_cells bytes) k ≡ Some (Some n) = cells_hold_numbers bytes k (omega (arith, within)) in
-    let same : x ≡ n = is n (cell_of cells at k n piece stands held) in
-    ap (λ (m : ℕ). four_bytes m ++ drop (4 * (k + 1)) bytes) same ∙ cell_bytes_at bytes k within (piece_has_bytes.below One piece stands.readable)
+    let same : x ≡ n = is n (cell_of format cells at k n piece stands held) in
+    ap (λ (m : ℕ). four_bytes m ++ drop (4 * (k + 1)) bytes) same ∙ cell_bytes_at bytes k within (piece_has_bytes.below format piece stands.readable)
 
 -- what is left to sum at a cell of a piece, by that cell
-pub left_at : (cells : List (Option ℕ)) (at k x : ℕ) (piece : Piece) → StandsAt cells at piece → 4 * k + 4 < length (piece_bytes One piece) + 1 → IsCell cells (at + k) x
-    → sum_to_zero (drop (4 * k) (piece_bytes One piece)) ≡ sum_to_zero (four_bytes x ++ drop (4 * (k + 1)) (piece_bytes One piece))
-left_at cells at k x piece stands within is = sym (ap sum_to_zero (cell_is cells at k x piece stands within is))
+pub left_at : (format : Format) (cells : List (Option ℕ)) (at k x : ℕ) (piece : Piece) → StandsAt format cells at piece → 4 * k + 4 < length (piece_bytes format piece) + 1 → IsCell cells (at + k) x
+    → sum_to_zero (drop (4 * k) (piece_bytes format piece)) ≡ sum_to_zero (four_bytes x ++ drop (4 * (k + 1)) (piece_bytes format piece))
+left_at format cells at k x piece stands within is = sym (ap sum_to_zero (cell_is format cells at k x piece stands within is))
 
 -- what a cell with a zero byte adds is the last, and what another one adds is not
 pub stops_with : (so_far left more bit : ℕ) → (so_far + left) % 64 ≡ bit → left ≡ more → (so_far + more) % 64 ≡ bit

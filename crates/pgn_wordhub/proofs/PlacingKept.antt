@@ -3,7 +3,6 @@ use Rattle.std.proofs.Common.{◌≡◌, ℕ, ◌+◌, ◌<◌, ◌≤◌, ◌^�
 use Rattle.std.proofs.lemmas.List.{append-nil, append_assoc, drop_all}
 use Rattle.std.proofs.lemmas.Bool.Decides.{nat_tests}
 use Rattle.pgn_base.specs.declared.format.Format.{Format}
-use Rattle.pgn_base.specs.declared.format.Format.TheVariants.{One}
 use Rattle.pgn_base.specs.declared.note.Note.{Note}
 use Rattle.pgn_base.specs.Notes.{IsNote}
 use Rattle.pgn_journal.specs.declared.tx.Tx.{Tx}
@@ -30,84 +29,83 @@ use Rattle.pgn_wordhub.specs.Advancing.{HasAdvancedTo}
 use Rattle.pgn_wordhub.proofs.StoringLaws.{stored_long}
 
 -- some are left where the next one is too long
-some_left : (end count : ℕ) (notes : List Note) → FirstIsTooLong One end (drop count notes) → length notes ≤ count → ⊥
-some_left end count notes past none = subst (λ (ns : List Note). FirstIsTooLong One end ns) (drop_all count notes none) past
+some_left : (format : Format) (end count : ℕ) (notes : List Note) → FirstIsTooLong format end (drop count notes) → length notes ≤ count → ⊥
+some_left format end count notes past none = subst (λ (ns : List Note). FirstIsTooLong format end ns) (drop_all count notes none) past
 
-left_of : (end count : ℕ) (notes : List Note) → count ≤ length notes → FirstIsTooLong One end (drop count notes) → count < length notes
-left_of end count notes within past = by_le (native.Mathlib.Decide.dec_le (length notes) count)
+left_of : (format : Format) (end count : ℕ) (notes : List Note) → count ≤ length notes → FirstIsTooLong format end (drop count notes) → count < length notes
+left_of format end count notes within past = by_le (native.Mathlib.Decide.dec_le (length notes) count)
   where
     by_le : Dec (length notes ≤ count) → count < length notes
-    by_le (yes none) = absurd (some_left end count notes past none)
+    by_le (yes none) = absurd (some_left format end count notes past none)
     by_le (no more) = omega (arith, more)
 
 -- what is placed is the image of the journal and a draft, which is as far written as its fate says
-pub record Drafted (seen : List Tx) (session db : ℕ) (notes : List Note) (count : ℕ) (cells : List (Option ℕ)) : Type 0 where
+pub record Drafted (format : Format) (seen : List Tx) (session db : ℕ) (notes : List Note) (count : ℕ) (cells : List (Option ℕ)) : Type 0 where
   pub fate : Fate
-  pub image_is : image One (seen ++ draft session db notes count fate ∷ []) ≡ cells
+  pub image_is : image format (seen ++ draft session db notes count fate ∷ []) ≡ cells
   pub written : IsWrittenOf fate count (length notes)
 
-pub drafted : (seen : List Tx) (session db : ℕ) (notes : List Note) (count at : ℕ) (cells : List (Option ℕ)) → All IsNote notes
-    → IsPlaced One (record { db = db; xid = next_xid seen; pid = 1000 + session }) (image One seen) notes count at cells → Drafted seen session db notes count cells
-drafted seen session db notes count at cells valid (AfterNotes stands) = record {
+pub drafted : (format : Format) (seen : List Tx) (session db : ℕ) (notes : List Note) (count at : ℕ) (cells : List (Option ℕ)) → All IsNote notes
+    → IsPlaced format (record { db = db; xid = next_xid seen; pid = 1000 + session }) (image format seen) notes count at cells → Drafted format seen session db notes count cells
+drafted format seen session db notes count at cells valid (AfterNotes stands) = record {
   fate = Committed;
-  image_is = one_more_image.committed One seen (draft session db notes count Committed) refl ∙ sym stands.cells_are;
+  image_is = one_more_image.committed format seen (draft session db notes count Committed) refl ∙ sym stands.cells_are;
   written = stands.within;
 }
-drafted seen session db notes count at cells valid (AfterFiller stands) = record {
+drafted format seen session db notes count at cells valid (AfterFiller stands) = record {
   fate = Aborted;
-  image_is = placed_is_draft.aborted One seen session db notes count at cells valid (AfterFiller stands) (starts (put_all One (length (image One seen)) (take count notes)) at stands.ends);
-  written = left_of (put_all One (length (image One seen)) (take count notes)) count notes stands.within stands.too_long;
+  image_is = placed_is_draft.aborted format seen session db notes count at cells valid (AfterFiller stands) (starts (put_all format (length (image format seen)) (take count notes)) at stands.ends);
+  written = left_of format (put_all format (length (image format seen)) (take count notes)) count notes stands.within stands.too_long;
 }
   where
     starts : (end at : ℕ) → at ≡ next_page end → is_page_start at ≡ true
     starts end at is = grind (arith, nat_tests)
 
 -- the head may move up to the end of a planned batch
-pub may_show : (v w : View) (notes : List Note) (placed at : ℕ) (batch : Batch) → IsPlacing v notes placed at → v.setup.format ≡ One → IsPlanned One at (drop placed notes) batch → page_of at < v.stop + v.setup.pages
-    → w ≡ stored_more (batch_cells One (writer_of v.known) (drop placed notes) batch) v → MayShow w batch.next
-may_show v w notes placed at batch h one planned below e =
-    let cells = batch_cells One (writer_of v.known) (drop placed notes) batch in
-    let room = room_of_image One v.known.seen in
-    let next = placing_goes_on One (writer_of v.known) (image One v.known.seen) notes placed at v.pen.cells batch room h.valid h.lies planned in
-    let d = drafted v.known.seen v.known.session v.known.db notes (placed + batch.fits) batch.next (padded_to batch.next (v.pen.cells ++ cells)) h.valid next in
+pub may_show : (v w : View) (notes : List Note) (placed at : ℕ) (batch : Batch) → IsPlacing v notes placed at → IsPlanned v.setup.format at (drop placed notes) batch → page_of at < v.stop + v.setup.pages
+    → w ≡ stored_more (batch_cells v.setup.format (writer_of v.known) (drop placed notes) batch) v → MayShow w batch.next
+may_show v w notes placed at batch h planned below e =
+    let cells = batch_cells v.setup.format (writer_of v.known) (drop placed notes) batch in
+    let room = room_of_image v.setup.format v.known.seen in
+    let next = placing_goes_on v.setup.format (writer_of v.known) (image v.setup.format v.known.seen) notes placed at v.pen.cells batch room h.valid h.lies planned in
+    let d = drafted v.setup.format v.known.seen v.known.session v.known.db notes (placed + batch.fits) batch.next (padded_to batch.next (v.pen.cells ++ cells)) h.valid next in
     let W : View = stored_more cells v in
     let stored : stored_by W ≡ v.pen.cells ++ cells = ap (λ b. v.pen.cells ++ (b ++ cells)) h.fresh in
     let long = stored_long v W cells refl in
     let size : length (stored_by v) ≡ length v.pen.cells = ap (λ b. length (v.pen.cells ++ b)) h.fresh ∙ ap length (append-nil v.pen.cells) in
     let end = h.end in
-    let stays = batches_stay.cells One (writer_of v.known) at (drop placed notes) batch h.room planned in
-    let page = batches_stay.page One at (drop placed notes) batch planned in
+    let stays = batches_stay.cells v.setup.format (writer_of v.known) at (drop placed notes) batch h.room planned in
+    let page = batches_stay.page v.setup.format at (drop placed notes) batch planned in
     subst (λ (x : View). MayShow x batch.next) (sym e) (record {
       queued = placed + batch.fits;
       fate = d.fate;
-      image_is = ap (λ (f : Format). image f (v.known.seen ++ draft v.known.session v.known.db v.pen.notes (placed + batch.fits) d.fate ∷ [])) one
-          ∙ ap (λ (ns : List Note). image One (v.known.seen ++ draft v.known.session v.known.db ns (placed + batch.fits) d.fate ∷ [])) h.notes_are ∙ d.image_is ∙ ap (padded_to batch.next) (sym stored);
+      image_is = ap (λ (ns : List Note). image v.setup.format (v.known.seen ++ draft v.known.session v.known.db ns (placed + batch.fits) d.fate ∷ [])) h.notes_are ∙ d.image_is ∙ ap (padded_to batch.next) (sym stored);
       written = subst (λ (ns : List Note). IsWrittenOf d.fate (placed + batch.fits) (length ns)) (sym h.notes_are) d.written;
       up = omega (arith, long, size, end, stays);
       within = omega (arith, page, below);
     })
 
 -- and the writer has then come further
-pub places_on : (v w x : View) (notes : List Note) (placed at : ℕ) (batch : Batch) → IsPlacing v notes placed at → IsPlanned One at (drop placed notes) batch → page_of at < v.stop + v.setup.pages
-    → w ≡ stored_more (batch_cells One (writer_of v.known) (drop placed notes) batch) v → x ≡ head_stored batch.next w → batch.next < 2 ^ 32 → IsPlacing x notes (placed + batch.fits) batch.next
+pub places_on : (v w x : View) (notes : List Note) (placed at : ℕ) (batch : Batch) → IsPlacing v notes placed at → IsPlanned v.setup.format at (drop placed notes) batch → page_of at < v.stop + v.setup.pages
+    → w ≡ stored_more (batch_cells v.setup.format (writer_of v.known) (drop placed notes) batch) v → x ≡ head_stored batch.next w → batch.next < 2 ^ 32 → IsPlacing x notes (placed + batch.fits) batch.next
 places_on v w x notes placed at batch h planned below e f low =
-    let cells = batch_cells One (writer_of v.known) (drop placed notes) batch in
-    let room = room_of_image One v.known.seen in
-    let next = placing_goes_on One (writer_of v.known) (image One v.known.seen) notes placed at v.pen.cells batch room h.valid h.lies planned in
+    let cells = batch_cells v.setup.format (writer_of v.known) (drop placed notes) batch in
+    let room = room_of_image v.setup.format v.known.seen in
+    let next = placing_goes_on v.setup.format (writer_of v.known) (image v.setup.format v.known.seen) notes placed at v.pen.cells batch room h.valid h.lies planned in
     let W : View = stored_more cells v in
     let X : View = head_stored batch.next W in
     let stored : stored_by W ≡ v.pen.cells ++ cells = ap (λ b. v.pen.cells ++ (b ++ cells)) h.fresh in
-    let lies : IsPlaced One (writer_of v.known) (image One v.known.seen) notes (placed + batch.fits) batch.next (padded_to batch.next (stored_by W)) =
-    subst (λ (l : List (Option ℕ)). IsPlaced One (writer_of v.known) (image One v.known.seen) notes (placed + batch.fits) batch.next (padded_to batch.next l)) (sym stored) next in
-    let page = batches_stay.page One at (drop placed notes) batch planned in
+    let lies : IsPlaced v.setup.format (writer_of v.known) (image v.setup.format v.known.seen) notes (placed + batch.fits) batch.next (padded_to batch.next (stored_by W)) =
+    subst (λ (l : List (Option ℕ)). IsPlaced v.setup.format (writer_of v.known) (image v.setup.format v.known.seen) notes (placed + batch.fits) batch.next (padded_to batch.next l)) (sym stored) next in
+    let page = batches_stay.page v.setup.format at (drop placed notes) batch planned in
     subst (λ (y : View). IsPlacing y notes (placed + batch.fits) batch.next) (sym (f ∙ ap (head_stored batch.next) e)) (record {
       phase = h.phase;
       notes_are = h.notes_are;
       valid = h.valid;
       fresh = refl;
       lies = lies;
-      end = placing_stands.end One (writer_of v.known) (image One v.known.seen) notes (placed + batch.fits) batch.next (padded_to batch.next (stored_by W)) room lies;
-      room = batches_stay.room One at (drop placed notes) batch h.room planned;
+      end = placing_stands.end v.setup.format (writer_of v.known) (image v.setup.format v.known.seen) notes (placed + batch.fits) batch.next (padded_to batch.next (stored_by W)) room lies;
+      room = batches_stay.room v.setup.format at (drop placed notes) batch h.room planned;
       low = low;
       within = omega (arith, page, below);
     })
@@ -127,7 +125,7 @@ held_up z v w x count placed at mark floor holder written adv left none =
       looked = subst (λ (m : Option ℕ). LooksTwice z v.known.session m x.known.advance) own (subst (λ (n : ℕ). LooksTwice z n w.known.mark x.known.advance) session adv.looked);
       floor_is = subst (λ (txs : List Tx). IsFloor (next_xid txs) (met_by x.known.advance) mark holder) seen adv.floor;
       met = All-weaker (Contains adv.named) (Contains (written.more ++ adv.named)) (λ pair has. Contains-append_right written.more adv.named pair has) (met_by x.known.advance) adv.met;
-      at_is = adv.at_is ∙ ap (λ (txs : List Tx). place One txs mark) seen;
+      at_is = adv.at_is ∙ ap (λ (txs : List Tx). place z.format txs mark) seen;
       second = adv.second;
       all = adv.all;
       kept = adv.kept;

@@ -2,8 +2,6 @@
 use Rattle.std.proofs.Common.{Bool, ◌≡◌, ◌≢◌, ◌↔◌, ℕ, ◌+◌, ◌-◌, ◌^◌, ◌<◌, ◌≤◌, true, List, [], ◌∷◌, ◌++◌, length, slice_get, Option, Some, None, All, AllPairs, Contains, IsSomeAnd, sym, refl, ap, ◌∙◌, subst, arith}
 use Rattle.std.proofs.lemmas.List.{append-nil, append_assoc, length-append}
 use Rattle.std.proofs.lemmas.Bool.Decides.{nat_tests}
-use Rattle.pgn_base.specs.declared.format.Format.{Format}
-use Rattle.pgn_base.specs.declared.format.Format.TheVariants.{One}
 use Rattle.pgn_base.specs.declared.note.Note.{Note}
 use Rattle.pgn_base.specs.declared.queue_answers.Full.{Full}
 use Rattle.pgn_base.specs.Notes.{IsNote}
@@ -30,25 +28,22 @@ use Rattle.pgn_wordhub.specs.Finishing.{own_tx, finished_view, HasCommitted}
 use Rattle.pgn_wordhub.proofs.UsageLaws.{held_by_none}
 
 -- a writer that has drawn its number begins at the head
-pub begins : (z : Shape) (v d : View) (notes : List Note) (at stop : ℕ) → v.setup ≡ z → z.format ≡ One → d ≡ begun_view notes stop v → All IsNote notes → at ≡ length (image z.format v.known.seen) → at < 2 ^ 32
+pub begins : (z : Shape) (v d : View) (notes : List Note) (at stop : ℕ) → v.setup ≡ z → d ≡ begun_view notes stop v → All IsNote notes → at ≡ length (image z.format v.known.seen) → at < 2 ^ 32
     → length (image z.format v.known.seen) ≤ page_start (stop + z.pages) → IsPlacing d notes 0 at
-begins z v d notes at stop setup one begun valid is low ahead =
+begins z v d notes at stop setup begun valid is low ahead =
     let D : View = begun_view notes stop v in
-    let before = image One v.known.seen in
-    let format : v.setup.format ≡ One = ap (λ (q : Shape). q.format) setup ∙ one in
-    let cells : D.pen.cells ≡ before = ap (λ (f : Format). image f v.known.seen) format in
-    let start : at ≡ length before = is ∙ ap (λ (f : Format). length (image f v.known.seen)) one in
+    let before = image v.setup.format v.known.seen in
+    let start : at ≡ length before = is ∙ ap (λ (q : Shape). length (image q.format v.known.seen)) (sym setup) in
     let pages : v.setup.pages ≡ z.pages = ap (λ (q : Shape). q.pages) setup in
-    let none : IsPlaced One (writer_of v.known) before notes 0 (length before) before = placing_begins One (writer_of v.known) before notes in
+    let none : IsPlaced v.setup.format (writer_of v.known) before notes 0 (length before) before = placing_begins v.setup.format (writer_of v.known) before notes in
     subst (λ (y : View). IsPlacing y notes 0 at) (sym begun) (record {
       phase = refl;
       notes_are = refl;
       valid = valid;
       fresh = refl;
-      lies = subst (λ (n : ℕ). IsPlaced One (writer_of v.known) before notes 0 n D.pen.cells) (sym start)
-          (subst (λ (l : List (Option ℕ)). IsPlaced One (writer_of v.known) before notes 0 (length before) l) (sym cells) none);
-      end = start ∙ ap length (sym cells);
-      room = subst (λ (n : ℕ). HasRoom One n) (sym start) (room_of_image One v.known.seen);
+      lies = subst (λ (n : ℕ). IsPlaced v.setup.format (writer_of v.known) before notes 0 n D.pen.cells) (sym start) none;
+      end = start;
+      room = subst (λ (n : ℕ). HasRoom v.setup.format n) (sym start) (room_of_image v.setup.format v.known.seen);
       low = low;
       within = omega (arith, is, ahead, pages);
     })
@@ -58,35 +53,32 @@ starts : (at stop pages limit : ℕ) → at ≤ page_start (stop + pages) → pa
 starts at stop pages limit within same none = grind (arith, nat_tests)
 
 -- the transaction may end as committed, where all of it is placed
-pub may_commit : (v : View) (notes : List Note) (placed at : ℕ) → IsPlacing v notes placed at → v.setup.format ≡ One → placed ≡ length notes → notes ≢ [] → AllPairs (λ a b. a ≢ b) notes → MayEnd v (own_tx v placed Committed)
-may_commit v notes placed at h one all some different =
+pub may_commit : (v : View) (notes : List Note) (placed at : ℕ) → IsPlacing v notes placed at → placed ≡ length notes → notes ≢ [] → AllPairs (λ a b. a ≢ b) notes → MayEnd v (own_tx v placed Committed)
+may_commit v notes placed at h all some different =
     let session = v.known.session in
     let db = v.known.db in
-    let lies = subst (λ (n : ℕ). IsPlaced One (writer_of v.known) (image One v.known.seen) notes n at v.pen.cells) all h.lies in
-    let shown : image One (v.known.seen ++ draft session db notes (length notes) Committed ∷ []) ≡ v.pen.cells = placed_is_draft.committed One v.known.seen session db notes at v.pen.cells lies in record {
+    let lies = subst (λ (n : ℕ). IsPlaced v.setup.format (writer_of v.known) (image v.setup.format v.known.seen) notes n at v.pen.cells) all h.lies in
+    let shown : image v.setup.format (v.known.seen ++ draft session db notes (length notes) Committed ∷ []) ≡ v.pen.cells = placed_is_draft.committed v.setup.format v.known.seen session db notes at v.pen.cells lies in record {
       none_stored = h.fresh;
-      all_shown = sym (ap (λ (f : Format). image f (v.known.seen ++ own_tx v placed Committed ∷ [])) one
-          ∙ ap (λ (ns : List Note). image One (v.known.seen ++ draft session db ns placed Committed ∷ [])) h.notes_are
-          ∙ ap (λ (n : ℕ). image One (v.known.seen ++ draft session db notes n Committed ∷ [])) all ∙ shown);
+      all_shown = sym (ap (λ (ns : List Note). image v.setup.format (v.known.seen ++ draft session db ns placed Committed ∷ [])) h.notes_are
+          ∙ ap (λ (n : ℕ). image v.setup.format (v.known.seen ++ draft session db notes n Committed ∷ [])) all ∙ shown);
       finished = subst (λ (ns : List Note). IsFinished (draft session db ns placed Committed)) (sym h.notes_are) (record { some = some; valid = h.valid; different = different; queueing = all });
       full = λ aborted. absurd (cc);
     }
 
 -- and as aborted, where no page is left
-pub may_abort : (z : Shape) (d v : View) (notes : List Note) (placed at mark floor : ℕ) (holder : Option ℕ) → IsPlacing v notes placed at → IsHeldUp z d v (length notes) placed at mark floor holder → v.setup ≡ z → z.format ≡ One
+pub may_abort : (z : Shape) (d v : View) (notes : List Note) (placed at mark floor : ℕ) (holder : Option ℕ) → IsPlacing v notes placed at → IsHeldUp z d v (length notes) placed at mark floor holder → v.setup ≡ z
     → notes ≢ [] → AllPairs (λ a b. a ≢ b) notes → MayEnd v (own_tx v placed Aborted)
-may_abort z d v notes placed at mark floor holder h held setup one some different =
+may_abort z d v notes placed at mark floor holder h held setup some different =
     let session = v.known.session in
     let db = v.known.db in
-    let format : v.setup.format ≡ One = ap (λ (q : Shape). q.format) setup ∙ one in
     let pages : v.setup.pages ≡ z.pages = ap (λ (q : Shape). q.pages) setup in
     let page = starts at v.stop v.setup.pages z.pages h.within pages held.no_page in
-    let shown : image One (v.known.seen ++ draft session db notes placed Aborted ∷ []) ≡ v.pen.cells = placed_is_draft.aborted One v.known.seen session db notes placed at v.pen.cells h.valid h.lies page in
+    let shown : image v.setup.format (v.known.seen ++ draft session db notes placed Aborted ∷ []) ≡ v.pen.cells = placed_is_draft.aborted v.setup.format v.known.seen session db notes placed at v.pen.cells h.valid h.lies page in
     let none = held.no_page in
     let end = h.end in record {
       none_stored = h.fresh;
-      all_shown = sym (ap (λ (f : Format). image f (v.known.seen ++ own_tx v placed Aborted ∷ [])) format
-          ∙ ap (λ (ns : List Note). image One (v.known.seen ++ draft session db ns placed Aborted ∷ [])) h.notes_are ∙ shown);
+      all_shown = sym (ap (λ (ns : List Note). image v.setup.format (v.known.seen ++ draft session db ns placed Aborted ∷ [])) h.notes_are ∙ shown);
       finished = subst (λ (ns : List Note). IsFinished (draft session db ns placed Aborted)) (sym h.notes_are) (record { some = some; valid = h.valid; different = different; queueing = held.left });
       full = λ _. record {
         second = held.second;
@@ -157,29 +149,29 @@ last_entry : (seen : List Tx) (tx : Tx) (x : ℕ) → x ≡ next_xid seen → en
 last_entry seen tx x number = let index : x - 3 ≡ length seen = omega (arith, number) in ap (slice_get (seen ++ tx ∷ [])) index ∙ last_there seen tx
 
 -- why the queue was full, by the journal with the transaction that was cut short
-full_there : (z : Shape) (seen : List Tx) (session db : ℕ) (notes : List Note) (placed at mark floor stop x : ℕ) (holder : Option ℕ) (cells : List (Option ℕ)) (met : List (ℕ × ℕ)) → z.format ≡ One → All IsNote notes
-    → IsPlaced One (record { db = db; xid = next_xid seen; pid = 1000 + session }) (image One seen) notes placed at cells → at ≡ length cells → is_page_start at ≡ true → placed < length notes → x ≡ next_xid seen
-    → IsFloor (next_xid seen) met mark holder → floor ≡ place One seen mark → page_of floor ≤ stop → stop + z.pages ≤ page_of at
+full_there : (z : Shape) (seen : List Tx) (session db : ℕ) (notes : List Note) (placed at mark floor stop x : ℕ) (holder : Option ℕ) (cells : List (Option ℕ)) (met : List (ℕ × ℕ)) → All IsNote notes
+    → IsPlaced z.format (record { db = db; xid = next_xid seen; pid = 1000 + session }) (image z.format seen) notes placed at cells → at ≡ length cells → is_page_start at ≡ true → placed < length notes → x ≡ next_xid seen
+    → IsFloor (next_xid seen) met mark holder → floor ≡ place z.format seen mark → page_of floor ≤ stop → stop + z.pages ≤ page_of at
     → NoPage z.format z.pages (seen ++ draft session db notes placed Aborted ∷ []) (record { xid = x; queued = placed; head_page = page_of at; floor_mark = mark; floor_page = page_of floor; holder = holder })
-full_there z seen session db notes placed at mark floor stop x holder cells met one valid lies end page left number is floor_is kept none =
+full_there z seen session db notes placed at mark floor stop x holder cells met valid lies end page left number is floor_is kept none =
     let tx : Tx = draft session db notes placed Aborted in
     let journal = seen ++ tx ∷ [] in
     let full : Full = record { xid = x; queued = placed; head_page = page_of at; floor_mark = mark; floor_page = page_of floor; holder = holder } in
     let below = is.below in
-    let here : place One journal x ≡ length (image One seen) = places_agree One seen (tx ∷ []) x (omega (arith, number)) ∙ last_place One seen x (omega (arith, number)) in
-    let cut : IsCutShort One (length (image One seen)) placed tx = placed_is_cut_short One (record { db = db; xid = next_xid seen; pid = 1000 + session }) (image One seen) session db notes placed at cells lies page left in
-    let shown : image One journal ≡ cells = placed_is_draft.aborted One seen session db notes placed at cells valid lies page in
+    let here : place z.format journal x ≡ length (image z.format seen) = places_agree z.format seen (tx ∷ []) x (omega (arith, number)) ∙ last_place z.format seen x (omega (arith, number)) in
+    let cut : IsCutShort z.format (length (image z.format seen)) placed tx = placed_is_cut_short z.format (record { db = db; xid = next_xid seen; pid = 1000 + session }) (image z.format seen) session db notes placed at cells lies page left in
+    let shown : image z.format journal ≡ cells = placed_is_draft.aborted z.format seen session db notes placed at cells valid lies page in
     let long : length journal ≡ length seen + 1 = length-append seen (tx ∷ []) in
-    let head : place One journal (x + 1) ≡ at = last_place One journal (x + 1) (omega (arith, number, long)) ∙ ap length shown ∙ sym end in
-    let there : place One journal mark ≡ floor = places_agree One seen (tx ∷ []) mark below ∙ sym floor_is in
-    subst (λ (f : Format). NoPage f z.pages journal full) (sym one) (record {
-      cut_short = subst (λ (o : Option Tx). IsSomeAnd o (IsCutShort One (place One journal x) placed)) (sym (last_entry seen tx x number)) (subst (λ (n : ℕ). IsCutShort One n placed tx) (sym here) cut);
+    let head : place z.format journal (x + 1) ≡ at = last_place z.format journal (x + 1) (omega (arith, number, long)) ∙ ap length shown ∙ sym end in
+    let there : place z.format journal mark ≡ floor = places_agree z.format seen (tx ∷ []) mark below ∙ sym floor_is in
+    record {
+      cut_short = subst (λ (o : Option Tx). IsSomeAnd o (IsCutShort z.format (place z.format journal x) placed)) (sym (last_entry seen tx x number)) (subst (λ (n : ℕ). IsCutShort z.format n placed tx) (sym here) cut);
       floor_below = omega (arith, below, number);
       floor = ap page_of (sym there);
       head = ap page_of (sym head);
       no_page = omega (arith, kept, none);
       holder = subst (λ (n : ℕ). (holder ≡ None) ↔ (mark ≡ n)) (sym number) (held_by_none (next_xid seen) mark met holder is.held);
-    })
+    }
 
 -- what a writer's looks have named, where that is known otherwise too
 abbrev renamed : (d e : View) (more : List (ℕ × ℕ)) → e.known.named ≡ d.known.named ++ more → HasWritten d e → HasWritten d e
@@ -190,10 +182,10 @@ renamed d e more named w = record {
 }
 
 -- a transaction that was aborted has met a full queue
-pub meets_full : (z : Shape) (v d e g : View) (notes : List Note) (stop placed at mark floor x : ℕ) (holder : Option ℕ) (verdicts : List Verdict) (concerned : List Bool) → v.setup ≡ z → z.format ≡ One → d ≡ begun_view notes stop v → HasWritten d e
+pub meets_full : (z : Shape) (v d e g : View) (notes : List Note) (stop placed at mark floor x : ℕ) (holder : Option ℕ) (verdicts : List Verdict) (concerned : List Bool) → v.setup ≡ z → d ≡ begun_view notes stop v → HasWritten d e
     → IsPlacing e notes placed at → IsHeldUp z d e (length notes) placed at mark floor holder → g ≡ finished_view (own_tx e placed Aborted) verdicts concerned e → x ≡ next_xid v.known.seen
     → HasMetFull z v.known (freed g).known notes (record { xid = x; queued = placed; head_page = page_of at; floor_mark = mark; floor_page = page_of floor; holder = holder })
-meets_full z v d e g notes stop placed at mark floor x holder verdicts concerned setup one begun written h held done number =
+meets_full z v d e g notes stop placed at mark floor x holder verdicts concerned setup begun written h held done number =
     let k = v.known in
     let D : View = begun_view notes stop v in
     let u : IsHeldUp z D e (length notes) placed at mark floor holder = subst (λ (y : View). IsHeldUp z y e (length notes) placed at mark floor holder) begun held in
@@ -209,8 +201,9 @@ meets_full z v d e g notes stop placed at mark floor x holder verdicts concerned
     ap (λ (y : View). (freed y).known) done ∙ finished_known Aborted v e notes stop placed x u.more verdicts concerned is number in
     let advance : (freed g).known.advance ≡ e.known.advance = ap (λ (y : Known). y.advance) known in
     let journal : (freed g).known.seen ≡ k.seen ++ tx_of k notes placed Aborted ∷ [] = ap (λ (y : Known). y.seen) known in
-    let lies : IsPlaced One (writer_of k) (image One k.seen) notes placed at e.pen.cells =
-    subst (λ (y : Known). IsPlaced One (writer_of y) (image One y.seen) notes placed at e.pen.cells) (ap (λ (y : View). y.known) is) h.lies in
+    let lies : IsPlaced z.format (writer_of k) (image z.format k.seen) notes placed at e.pen.cells =
+    subst (λ (q : Shape). IsPlaced q.format (writer_of k) (image q.format k.seen) notes placed at e.pen.cells) here
+    (subst (λ (y : Known). IsPlaced e.setup.format (writer_of y) (image e.setup.format y.seen) notes placed at e.pen.cells) (ap (λ (y : View). y.known) is) h.lies) in
     let page = starts at e.stop e.setup.pages z.pages h.within pages u.no_page in
     record {
       more = [];
@@ -219,7 +212,7 @@ meets_full z v d e g notes stop placed at mark floor x holder verdicts concerned
       known = known ∙ ap (λ (a : Advance). ended_known k notes placed Aborted x u.more a) (sym advance)
           ∙ ap (λ (txs : List Tx). let l : Known = record (ended_known k notes placed Aborted x u.more (freed g).known.advance) { seen = txs ++ tx_of k notes placed Aborted ∷ [] } in l) (sym (append-nil k.seen));
       no_page = subst (λ (txs : List Tx). NoPage z.format z.pages txs full) (sym journal)
-          (full_there z k.seen k.session k.db notes placed at mark floor e.stop x holder e.pen.cells (met_by e.known.advance) one h.valid lies h.end page u.left number u.floor_is u.at_is u.floor_kept u.no_page);
+          (full_there z k.seen k.session k.db notes placed at mark floor e.stop x holder e.pen.cells (met_by e.known.advance) h.valid lies h.end page u.left number u.floor_is u.at_is u.floor_kept u.no_page);
       looked = subst (λ (a : Advance). LooksTwice z k.session k.mark a) (sym advance) u.looked;
       floor = subst (λ (a : Advance). IsFloor x (met_by a) mark holder) (sym advance) (subst (λ (n : ℕ). IsFloor n (met_by e.known.advance) mark holder) (sym number) u.floor_is);
       met = subst (λ (a : Advance). All (Contains u.more) (met_by a)) (sym advance) u.met;

@@ -2,7 +2,6 @@
 use Rattle.std.proofs.Common.{◌≡◌, ℕ, ◌+◌, ◌^◌, ◌<◌, ◌≤◌, false, List, [], ◌∷◌, ◌++◌, length, Some, sym, refl, ap, ◌∙◌, subst, arith}
 use Rattle.std.proofs.lemmas.List.{length-append, append_assoc}
 use Rattle.pgn_base.specs.declared.format.Format.{Format}
-use Rattle.pgn_base.specs.declared.format.Format.TheVariants.{One}
 use Rattle.pgn_base.specs.declared.note.Delivery.{Delivery}
 use Rattle.pgn_base.specs.declared.queue_answers.Enlisted.{Enlisted}
 use Rattle.pgn_journal.specs.declared.tx.Tx.{Tx}
@@ -19,46 +18,43 @@ use Rattle.pgn_hub.proofs.WithinLaws.{calls-keep_within}
 use Rattle.pgn_words.specs.declared.view.View.{View}
 use Rattle.pgn_words.specs.declared.view.Listen.TheVariants.{Based, Registered}
 use Rattle.pgn_words.specs.declared.view.Stage.TheVariants.{Still, Begun, Shown}
-use Rattle.pgn_words.specs.Positions.{IsPlacedIn}
 use Rattle.pgn_words.specs.Listening.{joining, HasBase, registered, HasBegun, HasShown, forwarded}
 use Rattle.pgn_wordhub.specs.Passes.{IsHubView}
 use Rattle.pgn_wordhub.specs.Walks.{Leads, Walks, shown_cells}
 use Rattle.pgn_wordhub.proofs.WayLaws.{begins_at}
 
--- the mark of a place belongs to the journal of format One
-placed_one : (f : Format) (seen : List Tx) (mark at : ℕ) → f ≡ One → IsPlacedIn f seen mark at → at ≡ place One seen mark
-placed_one f seen mark at e p = p.at_is ∙ ap (λ (g : Format). place g seen mark) e
-
 -- a listener that has loaded the first unfinished number and then the head is on a way up to it, which gives what is due
-pub reads_from : (v w u : View) (n h : ℕ) (channels : List (List ℕ)) (got : List Delivery) → v.setup.format ≡ One → HasBegun v n w → HasShown w h u
-    → Walks (shown_cells u) n u.known.db channels u.known.seen u.post.at (place One u.known.seen n) got (got ++ due u.known.seen u.post.mark n u.known.db channels)
-reads_from v w u n h channels got one begun shown =
-    let format : w.setup.format ≡ One = ap (λ (x : View). x.setup.format) begun.view ∙ one in
-    let there : w.post.at ≡ place One w.known.seen w.post.mark = placed_one w.setup.format w.known.seen w.post.mark w.post.at format begun.placed in
-    let walks = begins_at w.known.seen shown.shown w.post.mark w.post.at w.known.db channels got shown.begins shown.written shown.few begun.finished begun.placed.first begun.placed.within there in
-    let named = subst (λ (f : ℕ). Walks (image One shown.shown) f w.known.db channels w.known.seen w.post.at (place One w.known.seen f) got (got ++ due w.known.seen w.post.mark f w.known.db channels)) (sym begun.number) walks in
-    subst (λ (x : View). Walks (shown_cells x) n x.known.db channels x.known.seen x.post.at (place One x.known.seen n) got (got ++ due x.known.seen x.post.mark n x.known.db channels)) (sym shown.view) named
+pub reads_from : (format : Format) (v w u : View) (n h : ℕ) (channels : List (List ℕ)) (got : List Delivery) → v.setup.format ≡ format → HasBegun v n w → HasShown w h u
+    → Walks format (shown_cells u) n u.known.db channels u.known.seen u.post.at (place format u.known.seen n) got (got ++ due u.known.seen u.post.mark n u.known.db channels)
+reads_from format v w u n h channels got is begun shown =
+    let same : w.setup.format ≡ format = ap (λ (x : View). x.setup.format) begun.view ∙ is in
+    let there : w.post.at ≡ place format w.known.seen w.post.mark = begun.placed.at_is ∙ ap (λ (f : Format). place f w.known.seen w.post.mark) same in
+    let walks = begins_at format w.known.seen shown.shown w.post.mark w.post.at w.known.db channels got shown.begins shown.written shown.few begun.finished begun.placed.first begun.placed.within there in
+    let end : ℕ → List Delivery = λ f. got ++ due w.known.seen w.post.mark f w.known.db channels in
+    let named = subst (λ (f : ℕ). Walks format (image format shown.shown) f w.known.db channels w.known.seen w.post.at (place format w.known.seen f) got (end f)) (sym begun.number) walks in
+    let found = subst (λ (f : Format). Walks format (image f shown.shown) n w.known.db channels w.known.seen w.post.at (place format w.known.seen n) got (end n)) (sym same) named in
+    subst (λ (x : View). Walks format (shown_cells x) n x.known.db channels x.known.seen x.post.at (place format x.known.seen n) got (got ++ due x.known.seen x.post.mark n x.known.db channels)) (sym shown.view) found
 
 -- the same way from its base, as it joins
-pub joins_from : (v w u : View) (n h at : ℕ) → v.setup.format ≡ One → at ≡ u.post.at → HasBegun v n w → HasShown w h u → Leads (shown_cells u) n at (place One u.known.seen n)
-joins_from v w u n h at one is begun shown =
-    let walks = reads_from v w u n h [] [] one begun shown in
-    subst (λ (k : ℕ). Leads (shown_cells u) n k (place One u.known.seen n)) (sym is) (record { todo = walks.todo; later = walks.later; way = walks.way })
+pub joins_from : (format : Format) (v w u : View) (n h at : ℕ) → v.setup.format ≡ format → at ≡ u.post.at → HasBegun v n w → HasShown w h u → Leads format (shown_cells u) n at (place format u.known.seen n)
+joins_from format v w u n h at same is begun shown =
+    let walks = reads_from format v w u n h [] [] same begun shown in
+    subst (λ (k : ℕ). Leads format (shown_cells u) n k (place format u.known.seen n)) (sym is) (record { todo = walks.todo; later = walks.later; way = walks.way })
 
 -- the place up to which it goes is one of 32 bits
-pub reads_low : (v w u : View) (n h : ℕ) → v.setup.format ≡ One → HasBegun v n w → HasShown w h u → place One u.known.seen n < 2 ^ 32
-reads_low v w u n h one begun shown =
-    let format : w.setup.format ≡ One = ap (λ (x : View). x.setup.format) begun.view ∙ one in
+pub reads_low : (format : Format) (v w u : View) (n h : ℕ) → v.setup.format ≡ format → HasBegun v n w → HasShown w h u → place format u.known.seen n < 2 ^ 32
+reads_low format v w u n h is begun shown =
+    let here : w.setup.format ≡ format = ap (λ (x : View). x.setup.format) begun.view ∙ is in
     let seen : u.known.seen ≡ w.known.seen = ap (λ (x : View). x.known.seen) shown.view in
     let number = begun.number in
     let shorter = begins-shorter w.known.seen shown.shown shown.begins in
     let inside : n ≤ next_xid shown.shown = omega (arith, number, shorter) in
-    let same : place One shown.shown n ≡ place One w.known.seen n = longer_agrees.places One w.known.seen shown.shown n shown.begins (omega (arith, number)) in
-    let up = place_grows One shown.shown n (next_xid shown.shown) inside in
-    let end = last_place One shown.shown (next_xid shown.shown) (omega arith) in
-    let head : h ≡ length (image One shown.shown) = shown.head ∙ ap (λ (f : Format). length (image f shown.shown)) format in
+    let same : place format shown.shown n ≡ place format w.known.seen n = longer_agrees.places format w.known.seen shown.shown n shown.begins (omega (arith, number)) in
+    let up = place_grows format shown.shown n (next_xid shown.shown) inside in
+    let end = last_place format shown.shown (next_xid shown.shown) (omega arith) in
+    let head : h ≡ length (image format shown.shown) = shown.head ∙ ap (λ (f : Format). length (image f shown.shown)) here in
     let low = shown.low in
-    subst (λ (txs : List Tx). place One txs n < 2 ^ 32) (sym seen) (omega (arith, same, up, end, head, low))
+    subst (λ (txs : List Tx). place format txs n < 2 ^ 32) (sym seen) (omega (arith, same, up, end, head, low))
 
 -- what is known after a read
 pub has_read : (z : Shape) (v w u x : View) (n h at : ℕ) (channels : List (List ℕ)) (before after : List Delivery) → IsHubView z v → v.known.mark ≡ Some v.post.mark → HasBegun v n w → HasShown w h u

@@ -5,7 +5,7 @@ use Rattle.std.proofs.lemmas.List.{append-nil, append_assoc, length-append, leng
 use Rattle.std.proofs.Math.Seq.{take-append_seam}
 use borrow.Rule.Slice.PartMut.{put_mid, post_of}
 use Rattle.pgn_base.specs.Names.{has_name}
-use Rattle.pgn_base.specs.declared.format.Format.TheVariants.{One}
+use Rattle.pgn_base.specs.declared.format.Format.{Format}
 use Rattle.pgn_base.specs.declared.note.Note.{Note}
 use Rattle.pgn_base.specs.declared.note.Delivery.{Delivery}
 use Rattle.pgn_journal.specs.declared.tx.Tx.{Tx}
@@ -53,9 +53,9 @@ loads_cell bytes page part rest k behind x room before is part_is =
     ap (take n) loaded ∙ take_at (front ++ four) (rest ++ last) n long ∙ sym (ap (take n) all ∙ take_at (front ++ four) (drop n bytes) n long)
 
 -- the bytes of an entry of a finished transaction that lies at a place
-pub due_at : (cells : List (Option ℕ)) (at len db : ℕ) (seen : List Tx) (bytes : List ℕ) (note : Note) (sender : Sender) → IsEntryAt cells at len db seen note sender → bytes ≡ piece_bytes One (AnEntry note sender)
-    → IsDueEntry db seen bytes note sender
-due_at cells at len db seen bytes note sender entry are = record { readable = entry.stands.readable; spelling = are; of_db = entry.of_db; numbered = entry.numbered }
+pub due_at : (format : Format) (cells : List (Option ℕ)) (at len db : ℕ) (seen : List Tx) (bytes : List ℕ) (note : Note) (sender : Sender) → IsEntryAt format cells at len db seen note sender
+    → bytes ≡ piece_bytes format (AnEntry note sender) → IsDueEntry format db seen bytes note sender
+due_at format cells at len db seen bytes note sender entry are = record { readable = entry.stands.readable; spelling = are; of_db = entry.of_db; numbered = entry.numbered }
 
 -- the first of bytes and others
 pub firsts : (len : ℕ) (bytes rest : List ℕ) → length bytes ≡ len → take len (bytes ++ rest) ≡ bytes

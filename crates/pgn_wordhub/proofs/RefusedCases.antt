@@ -2,6 +2,7 @@
 use Rattle.std.proofs.Common.{◌≡◌, ℕ, ◌≤◌, max, Bool, true, false, get_or, [], ◌∷◌, List, length, Option, Some, None, Contains, refl, ap, arith}
 use Rattle.std.proofs.lemmas.List.Elements.{All-nil, All-head}
 use Rattle.std.proofs.Math.Nat.{max-le}
+use Rattle.pgn_base.specs.declared.format.Format.{Format}
 use Rattle.pgn_base.specs.declared.format.Format.TheVariants.{One}
 use Rattle.pgn_base.specs.declared.note.Delivery.{Delivery}
 use Rattle.pgn_journal.specs.declared.tx.Tx.{Tx}
@@ -24,7 +25,7 @@ use Rattle.pgn_wordhub.specs.Floors.{IsFloorOf}
 use Rattle.pgn_wordhub.specs.Looks.{HasCome, HasSeenFirst, HasSeenSecond, HasSeenSome}
 use Rattle.pgn_wordhub.specs.Advancing.{HasAdvancedTo, HasTried, HasFreedTo, HasGivenUp, IsFreed, HasTriedTail}
 use Rattle.pgn_wordhub.specs.Finishing.{HasCommitted, HasEnded}
-use Rattle.pgn_wordhub.specs.Examples.{first_pass, third_pass, told_of_3, with_mark, stored_one, writing, undecided_one, loaded_one, aborted_one, first_look, tail_is_late, one_seen, one_joins, both_seen, seen_once, one_met, none_freed, one_page, sender_3, other_db}
+use Rattle.pgn_wordhub.specs.Examples.{first_pass, third_pass, told_of_3, with_mark, stored_one, writing, undecided_one, loaded_one, aborted_one, first_look, tail_is_late, one_seen, one_joins, both_seen, seen_once, one_met, none_freed, one_page, sender_3, other_db, far_sender}
 use Rattle.pgn_wordhub.proofs.WayLaws.{cell_of}
 
 pub no_holder : IsHubView two_seats holder → ⊥
@@ -36,60 +37,63 @@ no_unknown_mark h = let listens = h.rest.listens in absurd (cc)
 pub no_third : IsHubView two_seats third_pass → ⊥
 no_third h = h.seated.seat
 
-pub nothing_stands : (piece : Piece) → StandsAt [] 0 piece → ⊥
-nothing_stands piece h = let there = cell_of [] 0 0 (length (piece_bytes One piece)) piece h (first_cells.first One piece h.readable) in absurd (cc)
+pub nothing_stands : (format : Format) (piece : Piece) → StandsAt format [] 0 piece → ⊥
+nothing_stands format piece h = let there = cell_of format [] 0 0 (length (piece_bytes format piece)) piece h (first_cells.first format piece h.readable) in absurd (cc)
+
+pub no_far_number : (format : Format) (cells : List (Option ℕ)) (at : ℕ) → StandsAt format cells at (AFiller 32 far_sender) → ⊥
+no_far_number format cells at h = let small = h.small in omega (arith, small)
 
 pub no_other_cell : IsCell (Some 44 ∷ []) 0 45 → ⊥
 no_other_cell h = let same = h 44 refl in omega (arith, same)
 
-pub not_unfinished : (cells : List (Option ℕ)) (end : ℕ) → IsOnWay cells 3 0 end (AFiller 8 sender_3 ∷ []) [] → ⊥
-not_unfinished cells end h = let first = All-head (IsNumbered 3 3) (AFiller 8 sender_3) [] h.below in let high = first.high in omega (arith, high)
+pub not_unfinished : (format : Format) (cells : List (Option ℕ)) (end : ℕ) → IsOnWay format cells 3 0 end (AFiller 8 sender_3 ∷ []) [] → ⊥
+not_unfinished format cells end h = let first = All-head (IsNumbered 3 3) (AFiller 8 sender_3) [] h.below in let high = first.high in omega (arith, high)
 
-pub not_left_out : (cells : List (Option ℕ)) (end : ℕ) → IsOnWay cells 4 0 end [] (AFiller 8 sender_3 ∷ []) → ⊥
-not_left_out cells end h = let first = All-head (λ piece. 4 ≤ number_of piece) (AFiller 8 sender_3) [] h.above in omega (arith, first)
+pub not_left_out : (format : Format) (cells : List (Option ℕ)) (end : ℕ) → IsOnWay format cells 4 0 end [] (AFiller 8 sender_3 ∷ []) → ⊥
+not_left_out format cells end h = let first = All-head (λ piece. 4 ≤ number_of piece) (AFiller 8 sender_3) [] h.above in omega (arith, first)
 
-pub not_past_the_head : Leads [] 3 1 1 → ⊥
-not_past_the_head h = let within = h.way.within in omega (arith, within)
+pub not_past_the_head : (format : Format) → Leads format [] 3 1 1 → ⊥
+not_past_the_head format h = let within = h.way.within in omega (arith, within)
 
-pub no_way : HasWay [] 3 1 → ⊥
-no_way h = let within = h.leads.way.within in omega (arith, within)
+pub no_way : (format : Format) → HasWay format [] 3 1 → ⊥
+no_way format h = let within = h.leads.way.within in omega (arith, within)
 
-pub no_walk : (owed : List Delivery) → Walks [] 3 1 [] [] 1 1 [] owed → ⊥
-no_walk owed h = let within = h.way.within in omega (arith, within)
+pub no_walk : (format : Format) (owed : List Delivery) → Walks format [] 3 1 [] [] 1 1 [] owed → ⊥
+no_walk format owed h = let within = h.way.within in omega (arith, within)
 
-pub none_walking : IsWalking [] 3 1 [] [] 1 [] → ⊥
-none_walking h = let within = h.walks.way.within in omega (arith, within)
+pub none_walking : (format : Format) → IsWalking format [] 3 1 [] [] 1 [] → ⊥
+none_walking format h = let within = h.walks.way.within in omega (arith, within)
 
-pub no_early_end : Turns [] 3 1 [] [] 0 1 [] [] None → ⊥
-no_early_end h = let there = h.0 in omega (arith, there)
+pub no_early_end : (format : Format) → Turns format [] 3 1 [] [] 0 1 [] [] None → ⊥
+no_early_end format h = let there = h.0 in omega (arith, there)
 
-pub no_stay : Turns [] 3 1 [] [] 0 1 [] [] (Some 0) → ⊥
-no_stay h = let on = h.0 in omega (arith, on)
+pub no_stay : (format : Format) → Turns format [] 3 1 [] [] 0 1 [] [] (Some 0) → ⊥
+no_stay format h = let on = h.0 in omega (arith, on)
 
-pub nothing_taken_back : HasTurned [] 3 1 [] [] 0 (got_a ∷ []) [] None → ⊥
-nothing_taken_back h = let after = h.after_is in absurd (cc)
+pub nothing_taken_back : (format : Format) → HasTurned format [] 3 1 [] [] 0 (got_a ∷ []) [] None → ⊥
+nothing_taken_back format h = let after = h.after_is in absurd (cc)
 
-pub no_empty_entry : HasEntry [] → ⊥
-no_empty_entry h =
-    let long = length-spelled One h.note h.sender.db h.sender.xid h.sender.pid in
-    let some = entry_whole One h.note in
+pub no_empty_entry : (format : Format) → HasEntry format [] → ⊥
+no_empty_entry format h =
+    let long = length-spelled format h.note h.sender.db h.sender.xid h.sender.pid in
+    let some = entry_whole format h.note in
     let none = ap length h.spelling in
     let least = some.1 in omega (arith, long, least, none)
 
 pub no_other_number : (pid : ℕ) (channel payload : List ℕ) → ArePartsOf note_a sender_3 4 pid channel payload → ⊥
 no_other_number pid channel payload h = let number = h.xid_is in omega (arith, number)
 
-pub no_other_database : (seen : List Tx) (bytes : List ℕ) → IsDueEntry 1 seen bytes note_a other_db → ⊥
-no_other_database seen bytes h = let db = h.of_db in omega (arith, db)
+pub no_other_database : (format : Format) (seen : List Tx) (bytes : List ℕ) → IsDueEntry format 1 seen bytes note_a other_db → ⊥
+no_other_database format seen bytes h = let db = h.of_db in omega (arith, db)
 
-pub none_due_unfinished : (bytes : List ℕ) → HasDueEntry 1 [] bytes → ⊥
-none_due_unfinished bytes h = let low = h.due.numbered.low in let high = h.due.numbered.high in omega (arith, low, high)
+pub none_due_unfinished : (format : Format) (bytes : List ℕ) → HasDueEntry format 1 [] bytes → ⊥
+none_due_unfinished format bytes h = let low = h.due.numbered.low in let high = h.due.numbered.high in omega (arith, low, high)
 
-pub no_entry_of_another : (cells : List (Option ℕ)) (len : ℕ) (seen : List Tx) → IsEntryAt cells 0 len 1 seen note_a other_db → ⊥
-no_entry_of_another cells len seen h = let db = h.of_db in omega (arith, db)
+pub no_entry_of_another : (format : Format) (cells : List (Option ℕ)) (len : ℕ) (seen : List Tx) → IsEntryAt format cells 0 len 1 seen note_a other_db → ⊥
+no_entry_of_another format cells len seen h = let db = h.of_db in omega (arith, db)
 
-pub no_entry_unfinished : (cells : List (Option ℕ)) (len : ℕ) → HasEntryAt cells 0 len 1 [] → ⊥
-no_entry_unfinished cells len h = let low = h.entry.numbered.low in let high = h.entry.numbered.high in omega (arith, low, high)
+pub no_entry_unfinished : (format : Format) (cells : List (Option ℕ)) (len : ℕ) → HasEntryAt format cells 0 len 1 [] → ⊥
+no_entry_unfinished format cells len h = let low = h.entry.numbered.low in let high = h.entry.numbered.high in omega (arith, low, high)
 
 pub not_unshown : (placed at : ℕ) → IsPlacing stored_one [] placed at → ⊥
 not_unshown placed at h = let fresh = h.fresh in absurd (cc)
@@ -232,7 +236,7 @@ at_the_head h = omega (arith, h)
 
 pub ruleset refused_passes = (no_holder, no_unknown_mark, no_third)
 
-pub ruleset refused_ways = (no_other_cell, not_unfinished, not_left_out, not_past_the_head, no_way, no_walk, none_walking, no_early_end, no_stay, nothing_taken_back)
+pub ruleset refused_ways = (no_far_number, no_other_cell, not_unfinished, not_left_out, not_past_the_head, no_way, no_walk, none_walking, no_early_end, no_stay, nothing_taken_back)
 
 pub ruleset refused_entries = (no_empty_entry, no_other_number, no_other_database, none_due_unfinished, no_entry_of_another, no_entry_unfinished)
 

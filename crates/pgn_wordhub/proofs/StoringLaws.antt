@@ -5,7 +5,7 @@ use Rattle.std.proofs.lemmas.List.{append_assoc, length-append, length-take, tak
 use Rattle.std.proofs.Math.Seq.{take-suc}
 use Rattle.std.proofs.lemmas.Option.{slice_get_within, get_or_from_slice_get}
 use Rattle.std.proofs.lemmas.Bool.Decides.{nat_tests}
-use Rattle.pgn_base.specs.declared.format.Format.TheVariants.{One}
+use Rattle.pgn_base.specs.declared.format.Format.{Format}
 use Rattle.pgn_base.specs.declared.note.Note.{Note}
 use Rattle.pgn_journal.specs.Bytes.{entry_length, spelled, filler, IsEntryLength}
 use Rattle.pgn_journal.specs.Packing.{Sender, filled_cells, page_of, page_start, HasRoom}
@@ -13,7 +13,7 @@ use Rattle.pgn_journal.proofs.BytesLemmas.{length-spelled, length-filler}
 use Rattle.pgn_layout.specs.declared.batch.Batch.{Batch}
 use Rattle.pgn_layout.specs.Batches.{IsPlanned, entry_of, entries_of, batch_cells}
 use Rattle.pgn_layout.proofs.BatchLaws.{batches_stay, fillers_take_rests}
-use Rattle.pgn_journal.proofs.PackingLemmas.{length-filled_cells}
+use Rattle.pgn_journal.proofs.PackingLemmas.{least_within, length-filled_cells}
 use Rattle.pgn_journal.proofs.PieceLaws.{cells_hold_numbers}
 use Rattle.pgn_words.specs.declared.view.View.{View}
 use Rattle.pgn_words.specs.Views.{stored_by}
@@ -55,56 +55,57 @@ next_at v w bytes k at e below is =
     let part = length-take k (filled_cells bytes) in omega (arith, long, all, part, below, is)
 
 -- the bytes of an entry, by what a writer says of itself
-pub spelled_by : (w : Sender) (note : Note) (db xid pid : ℕ) → db ≡ w.db → xid ≡ w.xid → pid ≡ w.pid → spelled One note db xid pid ≡ spelled One note w.db w.xid w.pid
-spelled_by w note db xid pid a b c =
-    ap (λ (n : ℕ). spelled One note n xid pid) a ∙ ap (λ (n : ℕ). spelled One note w.db n pid) b ∙ ap (λ (n : ℕ). spelled One note w.db w.xid n) c
+pub spelled_by : (format : Format) (w : Sender) (note : Note) (db xid pid : ℕ) → db ≡ w.db → xid ≡ w.xid → pid ≡ w.pid → spelled format note db xid pid ≡ spelled format note w.db w.xid w.pid
+spelled_by format w note db xid pid a b c =
+    ap (λ (n : ℕ). spelled format note n xid pid) a ∙ ap (λ (n : ℕ). spelled format note w.db n pid) b ∙ ap (λ (n : ℕ). spelled format note w.db w.xid n) c
 
 -- the entry of a notification takes as many cells as its length says
-pub entry_long : (sender : Sender) (note : Note) → length (entry_of One sender note) ≡ entry_length One note / 4
-entry_long sender note = length-filled_cells (spelled One note sender.db sender.xid sender.pid) ∙ ap (λ n. n / 4) (length-spelled One note sender.db sender.xid sender.pid)
+pub entry_long : (format : Format) (sender : Sender) (note : Note) → length (entry_of format sender note) ≡ entry_length format note / 4
+entry_long format sender note = length-filled_cells (spelled format note sender.db sender.xid sender.pid) ∙ ap (λ n. n / 4) (length-spelled format note sender.db sender.xid sender.pid)
 
 -- each entry of a run stands within the run
-pub entry_within : (sender : Sender) (run : List Note) (i : ℕ) (note : Note) → slice_get run i ≡ Some note
-    → length (entries_of One sender (take i run)) + length (entry_of One sender note) ≤ length (entries_of One sender run)
-entry_within sender [] i note e = absurd (let inside = slice_get_within [] i note e in omega (arith, inside))
-entry_within sender (n ∷ run) zero note e =
+pub entry_within : (format : Format) (sender : Sender) (run : List Note) (i : ℕ) (note : Note) → slice_get run i ≡ Some note
+    → length (entries_of format sender (take i run)) + length (entry_of format sender note) ≤ length (entries_of format sender run)
+entry_within format sender [] i note e = absurd (let inside = slice_get_within [] i note e in omega (arith, inside))
+entry_within format sender (n ∷ run) zero note e =
     let same : n ≡ note = ap (λ (o : Option Note). unwrap_or o n) e in
-    let all = length-append (entry_of One sender n) (entries_of One sender run) in
-    let size = ap (λ (m : Note). length (entry_of One sender m)) same in omega (arith, all, size)
-entry_within sender (n ∷ run) (suc i) note e =
-    let before = entry_within sender run i note e in
-    let part = length-append (entry_of One sender n) (entries_of One sender (take i run)) in
-    let all = length-append (entry_of One sender n) (entries_of One sender run) in omega (arith, before, part, all)
+    let all = length-append (entry_of format sender n) (entries_of format sender run) in
+    let size = ap (λ (m : Note). length (entry_of format sender m)) same in omega (arith, all, size)
+entry_within format sender (n ∷ run) (suc i) note e =
+    let before = entry_within format sender run i note e in
+    let part = length-append (entry_of format sender n) (entries_of format sender (take i run)) in
+    let all = length-append (entry_of format sender n) (entries_of format sender run) in omega (arith, before, part, all)
 
 -- the cells of a planned batch end on its page
-pub batch_within : (sender : Sender) (at : ℕ) (notes : List Note) (batch : Batch) (end : ℕ) → HasRoom One at → IsPlanned One at notes batch → page_of at < end
-    → at + length (batch_cells One sender notes batch) ≤ page_start end
-batch_within sender at notes batch end room planned below =
-    let cells = batches_stay.cells One sender at notes batch room planned in
-    let page = batches_stay.page One at notes batch planned in omega (arith, cells, page, below)
+pub batch_within : (format : Format) (sender : Sender) (at : ℕ) (notes : List Note) (batch : Batch) (end : ℕ) → HasRoom format at → IsPlanned format at notes batch → page_of at < end
+    → at + length (batch_cells format sender notes batch) ≤ page_start end
+batch_within format sender at notes batch end room planned below =
+    let cells = batches_stay.cells format sender at notes batch room planned in
+    let page = batches_stay.page format at notes batch planned in omega (arith, cells, page, below)
 
-pub entries_within : (sender : Sender) (at : ℕ) (notes : List Note) (batch : Batch) (end i : ℕ) (note : Note) → HasRoom One at → IsPlanned One at notes batch → page_of at < end → slice_get (take batch.fits notes) i ≡ Some note
-    → at + length (entries_of One sender (take i (take batch.fits notes))) + length (entry_of One sender note) ≤ page_start end
-entries_within sender at notes batch end i note room planned below e =
-    let all = batch_within sender at notes batch end room planned below in
-    let entries = entries_of One sender (take batch.fits notes) in
-    let filler = cond (batch.filler == 0) [] (filled_cells (filler One batch.filler sender.xid sender.pid)) in
+pub entries_within : (format : Format) (sender : Sender) (at : ℕ) (notes : List Note) (batch : Batch) (end i : ℕ) (note : Note) → HasRoom format at → IsPlanned format at notes batch → page_of at < end → slice_get (take batch.fits notes) i ≡ Some note
+    → at + length (entries_of format sender (take i (take batch.fits notes))) + length (entry_of format sender note) ≤ page_start end
+entries_within format sender at notes batch end i note room planned below e =
+    let all = batch_within format sender at notes batch end room planned below in
+    let entries = entries_of format sender (take batch.fits notes) in
+    let filler = cond (batch.filler == 0) [] (filled_cells (filler format batch.filler sender.xid sender.pid)) in
     let size = length-append entries filler in
-    let part = entry_within sender (take batch.fits notes) i note e in omega (arith, all, size, part)
+    let part = entry_within format sender (take batch.fits notes) i note e in omega (arith, all, size, part)
 
 -- the filler of a batch stands behind its entries
-pub filler_within : (sender : Sender) (at : ℕ) (notes : List Note) (batch : Batch) (end : ℕ) → HasRoom One at → IsPlanned One at notes batch → page_of at < end → 0 < batch.filler
-    → (IsEntryLength One batch.filler) × (at + length (entries_of One sender (take batch.fits notes)) + batch.filler / 4 ≤ page_start end)
-filler_within sender at notes batch end room planned below some =
-    let long = fillers_take_rests.long One at notes batch room planned some in
-    let left = fillers_take_rests.stands One sender at notes batch planned some in
-    let all = batch_within sender at notes batch end room planned below in
-    let entries = entries_of One sender (take batch.fits notes) in
+pub filler_within : (format : Format) (sender : Sender) (at : ℕ) (notes : List Note) (batch : Batch) (end : ℕ) → HasRoom format at → IsPlanned format at notes batch → page_of at < end → 0 < batch.filler
+    → (IsEntryLength format batch.filler) × (at + length (entries_of format sender (take batch.fits notes)) + batch.filler / 4 ≤ page_start end)
+filler_within format sender at notes batch end room planned below some =
+    let long = fillers_take_rests.long format at notes batch room planned some in
+    let left = fillers_take_rests.stands format sender at notes batch planned some in
+    let all = batch_within format sender at notes batch end room planned below in
+    let entries = entries_of format sender (take batch.fits notes) in
     let least = long.least in
+    let head = least_within format in
     let none : batch.filler == 0 ≡ false = grind (arith, nat_tests, some) in
-    let size : length (batch_cells One sender notes batch) ≡ length entries + length (filled_cells (filler One batch.filler sender.xid sender.pid)) =
-    ap (λ b. length (entries ++ cond b [] (filled_cells (filler One batch.filler sender.xid sender.pid)))) none ∙ length-append entries (filled_cells (filler One batch.filler sender.xid sender.pid)) in
-    let cells = length-filled_cells (filler One batch.filler sender.xid sender.pid) in
-    let bytes = length-filler One batch.filler sender.xid sender.pid (omega (arith, least)) in
-    let quarter : length (filler One batch.filler sender.xid sender.pid) / 4 ≡ batch.filler / 4 = ap (λ n. n / 4) bytes in
+    let size : length (batch_cells format sender notes batch) ≡ length entries + length (filled_cells (filler format batch.filler sender.xid sender.pid)) =
+    ap (λ b. length (entries ++ cond b [] (filled_cells (filler format batch.filler sender.xid sender.pid)))) none ∙ length-append entries (filled_cells (filler format batch.filler sender.xid sender.pid)) in
+    let cells = length-filled_cells (filler format batch.filler sender.xid sender.pid) in
+    let bytes = length-filler format batch.filler sender.xid sender.pid (omega (arith, least, head.0)) in
+    let quarter : length (filler format batch.filler sender.xid sender.pid) / 4 ≡ batch.filler / 4 = ap (λ n. n / 4) bytes in
     (long, omega (arith, all, size, cells, quarter))

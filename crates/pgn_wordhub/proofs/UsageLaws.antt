@@ -1,8 +1,6 @@
 -- What is in use, as an advance has found it.
 use Rattle.std.proofs.Common.{◌≡◌, ◌↔◌, ℕ, ◌-◌, ◌≤◌, List, [], ◌++◌, length, Option, Some, None, sym, refl, ap, ◌∙◌, subst, arith}
 use Rattle.std.proofs.lemmas.List.{append-nil}
-use Rattle.pgn_base.specs.declared.format.Format.{Format}
-use Rattle.pgn_base.specs.declared.format.Format.TheVariants.{One}
 use Rattle.pgn_base.specs.declared.queue_answers.Usage.{Usage}
 use Rattle.pgn_journal.specs.declared.tx.Tx.{Tx}
 use Rattle.pgn_journal.specs.Journal.{next_xid}
@@ -20,11 +18,11 @@ pub held_by_none : (x mark : ℕ) (met : List (ℕ × ℕ)) (holder : Option ℕ
 held_by_none x mark met None held = (λ _. held, λ _. refl)
 held_by_none x mark met (Some s) held = (λ some. absurd (cc), λ is. absurd (let less = held.0 in omega (arith, less, is)))
 
-shows : (z : Shape) (seen : List Tx) (met : List (ℕ × ℕ)) (at head mark floor : ℕ) (holder : Option ℕ) → z.format ≡ One → IsFloor (next_xid seen) met mark holder → floor ≡ place One seen mark → at ≡ next_xid seen
+shows : (z : Shape) (seen : List Tx) (met : List (ℕ × ℕ)) (at head mark floor : ℕ) (holder : Option ℕ) → IsFloor (next_xid seen) met mark holder → floor ≡ place z.format seen mark → at ≡ next_xid seen
     → head ≡ length (image z.format seen) → ShowsUsage z.format z.pages seen (record { at = at; occupied = page_of head - page_of floor; limit = z.pages; floor_mark = mark; holder = holder })
-shows z seen met at head mark floor holder one is floor_is number head_is =
+shows z seen met at head mark floor holder is floor_is number head_is =
     let below = is.below in
-    let there : place z.format seen mark ≡ floor = ap (λ (f : Format). place f seen mark) one ∙ sym floor_is in
+    let there : place z.format seen mark ≡ floor = sym floor_is in
     let end : place z.format seen at ≡ head = last_place z.format seen at (omega (arith, number)) ∙ sym head_is in
     let grows = place_grows z.format seen mark at (omega (arith, below, number)) in record {
       limited = refl;
@@ -35,10 +33,10 @@ shows z seen met at head mark floor holder one is floor_is number head_is =
     }
 
 -- the pass has loaded the head and the oldest kept page, and then advanced the tail
-pub measures : (z : Shape) (v u : View) (stop at head mark floor : ℕ) (holder : Option ℕ) → z.format ≡ One → u ≡ advanced_view u (stop_known stop (head_known v)) → HasAdvancedTo z (stop_known stop (head_known v)) u mark floor holder
+pub measures : (z : Shape) (v u : View) (stop at head mark floor : ℕ) (holder : Option ℕ) → u ≡ advanced_view u (stop_known stop (head_known v)) → HasAdvancedTo z (stop_known stop (head_known v)) u mark floor holder
     → at ≡ next_xid v.known.seen → head ≡ length (image z.format v.known.seen)
     → HasMeasured z v.known u.known (record { at = at; occupied = page_of head - page_of floor; limit = z.pages; floor_mark = mark; holder = holder })
-measures z v u stop at head mark floor holder one e adv number head_is =
+measures z v u stop at head mark floor holder e adv number head_is =
     let seen : u.known.seen ≡ v.known.seen = ap (λ (y : View). y.known.seen) e in
     let usage : Usage = record { at = at; occupied = page_of head - page_of floor; limit = z.pages; floor_mark = mark; holder = holder } in record {
       more = [];
@@ -46,16 +44,16 @@ measures z v u stop at head mark floor holder one e adv number head_is =
       number = number ∙ ap next_xid (sym (append-nil v.known.seen));
       known = ap (λ (y : View). y.known) e ∙ ap (λ l. record v.known { named = l; advance = u.known.advance }) adv.named_is
           ∙ ap (λ txs. record v.known { seen = txs; named = v.known.named ++ adv.named; advance = u.known.advance }) (sym (append-nil v.known.seen));
-      shows = subst (λ (txs : List Tx). ShowsUsage z.format z.pages txs usage) (sym seen) (shows z v.known.seen (met_by u.known.advance) at head mark floor holder one adv.floor adv.at_is number head_is);
+      shows = subst (λ (txs : List Tx). ShowsUsage z.format z.pages txs usage) (sym seen) (shows z v.known.seen (met_by u.known.advance) at head mark floor holder adv.floor adv.at_is number head_is);
       looked = adv.looked;
       floor = subst (λ (n : ℕ). IsFloor n (met_by u.known.advance) mark holder) (sym number) adv.floor;
       met = adv.met;
     }
 
 -- the floor is no later than the head
-pub floor_within : (z : Shape) (c u : View) (seen : List Tx) (head mark floor : ℕ) (holder : Option ℕ) → z.format ≡ One → c.known.seen ≡ seen → HasAdvancedTo z c u mark floor holder → head ≡ length (image z.format seen) → floor ≤ head
-floor_within z c u seen head mark floor holder one same adv head_is =
+pub floor_within : (z : Shape) (c u : View) (seen : List Tx) (head mark floor : ℕ) (holder : Option ℕ) → c.known.seen ≡ seen → HasAdvancedTo z c u mark floor holder → head ≡ length (image z.format seen) → floor ≤ head
+floor_within z c u seen head mark floor holder same adv head_is =
     let below : mark ≤ next_xid seen = subst (λ (txs : List Tx). mark ≤ next_xid txs) same adv.floor.below in
-    let there : place z.format seen mark ≡ floor = ap (λ (f : Format). place f seen mark) one ∙ sym (adv.at_is ∙ ap (λ (txs : List Tx). place One txs mark) same) in
+    let there : place z.format seen mark ≡ floor = sym (adv.at_is ∙ ap (λ (txs : List Tx). place z.format txs mark) same) in
     let end : place z.format seen (next_xid seen) ≡ head = last_place z.format seen (next_xid seen) (omega arith) ∙ sym head_is in
     let grows = place_grows z.format seen mark (next_xid seen) below in omega (arith, there, end, grows)

@@ -1,6 +1,5 @@
 -- An advance of the tail as a whole.
 use Rattle.std.specs.Prelude.{◌≡◌, ℕ, ◌+◌, ◌<◌, ◌≤◌, max, List, ◌++◌, length, Option, Some, None, All, Contains}
-use Rattle.pgn_base.specs.declared.format.Format.TheVariants.{One}
 use Rattle.pgn_hub.specs.declared.known.Known.{Known}
 use Rattle.pgn_journal.specs.declared.tx.Tx.{Tx}
 use Rattle.pgn_journal.specs.Journal.{next_xid}
@@ -22,12 +21,12 @@ pub record HasAdvancedTo (z : Shape) (v w : View) (mark at : ℕ) (holder : Opti
   pub looked : LooksTwice z v.known.session v.known.mark w.known.advance
   pub floor : IsFloor (next_xid v.known.seen) (met_by w.known.advance) mark holder
   pub met : All (Contains named) (met_by w.known.advance)
-  pub at_is : at ≡ place One v.known.seen mark
+  pub at_is : at ≡ place z.format v.known.seen mark
   pub second : w.eye.look ≡ Second
   pub all : w.eye.looked ≡ length z.seats
   pub kept : page_of w.eye.target ≤ w.stop
   pub floor_kept : page_of at ≤ w.stop
-  pub needed : All (λ pair. w.eye.target ≤ place One v.known.seen pair.1) (met_from 1 w.known.advance.second)
+  pub needed : All (λ pair. w.eye.target ≤ place z.format v.known.seen pair.1) (met_from 1 w.known.advance.second)
 
 -- an advance was tried, which may have given up at a joiner: of the pass it has changed the same
 pub record HasTried (v w : View) : Type 0 where
@@ -45,8 +44,8 @@ pub record HasFreedTo (z : Shape) (before : List (ℕ × ℕ)) (w : View) (from 
   pub mark : ℕ
   pub holder : Option ℕ
   pub floor : IsFloor (next_xid w.known.seen) (met_by w.known.advance) mark holder
-  pub floor_kept : page_of (place One w.known.seen mark) ≤ to
-  pub no_more : All (λ pair. to ≤ max from (page_of (place One w.known.seen pair.1))) (met_from 1 w.known.advance.second)
+  pub floor_kept : page_of (place z.format w.known.seen mark) ≤ to
+  pub no_more : All (λ pair. to ≤ max from (page_of (place z.format w.known.seen pair.1))) (met_from 1 w.known.advance.second)
   pub second : w.eye.look ≡ Second
   pub all : w.eye.looked ≡ length z.seats
   pub greater : to ≡ max from (page_of w.eye.target)

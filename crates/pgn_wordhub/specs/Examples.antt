@@ -93,3 +93,7 @@ sender_3 = record { db = 1; xid = 3; pid = 1001 }
 
 abbrev pub other_db : Sender
 other_db = record { db = 2; xid = 3; pid = 1001 }
+
+-- one whose transaction has a number that does not fit in a cell
+abbrev pub far_sender : Sender
+far_sender = record { db = 1; xid = 2 ^ 32; pid = 1001 }

@@ -1,6 +1,5 @@
 -- A writer that places the notifications of its transaction, batch by batch.
 use Rattle.std.specs.Prelude.{◌≡◌, ℕ, ◌+◌, ◌<◌, ◌≤◌, ◌^◌, List, [], ◌++◌, length, All, Contains, Option}
-use Rattle.pgn_base.specs.declared.format.Format.TheVariants.{One}
 use Rattle.pgn_base.specs.declared.limits.TheConstants.{PID_BASE}
 use Rattle.pgn_base.specs.declared.note.Note.{Note}
 use Rattle.pgn_base.specs.Notes.{IsNote}
@@ -33,9 +32,9 @@ pub record IsPlacing (v : View) (notes : List Note) (placed at : ℕ) : Type 0 w
   pub notes_are : v.pen.notes ≡ notes
   pub valid : All IsNote notes
   pub fresh : v.pen.batch ≡ []
-  pub lies : IsPlaced One (writer_of v.known) (image One v.known.seen) notes placed at v.pen.cells
+  pub lies : IsPlaced v.setup.format (writer_of v.known) (image v.setup.format v.known.seen) notes placed at v.pen.cells
   pub end : at ≡ length v.pen.cells
-  pub room : HasRoom One at
+  pub room : HasRoom v.setup.format at
   pub low : at < 2 ^ 32
   pub within : at ≤ page_start (v.stop + v.setup.pages)
 
@@ -61,7 +60,7 @@ pub record IsHeldUp (z : Shape) (v w : View) (count placed at mark floor : ℕ) 
   pub looked : LooksTwice z v.known.session v.known.mark w.known.advance
   pub floor_is : IsFloor (next_xid v.known.seen) (met_by w.known.advance) mark holder
   pub met : All (Contains more) (met_by w.known.advance)
-  pub at_is : floor ≡ place One v.known.seen mark
+  pub at_is : floor ≡ place z.format v.known.seen mark
   pub second : w.eye.look ≡ Second
   pub all : w.eye.looked ≡ length z.seats
   pub kept : page_of w.eye.target ≤ w.stop

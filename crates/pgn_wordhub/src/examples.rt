@@ -1,6 +1,7 @@
 //! Small cases that the definitions of this crate refuse, as theorems, and a few that they meet.
 ghost use Rattle.std.specs.Prelude.{◌≡◌, ℕ, ◌^◌, ◌*◌, ◌<◌, [], ◌∷◌, List, Option, Some, None};
 ghost use Rattle.pgn_base.specs.declared.note.Delivery.{Delivery};
+ghost use Rattle.pgn_base.specs.declared.format.Format.{Format};
 ghost use Rattle.pgn_base.specs.declared.format.Format.TheVariants.{One};
 ghost use Rattle.pgn_journal.specs.declared.tx.Tx.{Tx};
 ghost use Rattle.pgn_journal.specs.Pieces.{Piece, AFiller};
@@ -14,7 +15,7 @@ ghost use Rattle.pgn_wordhub.specs.Floors.{IsFloorOf};
 ghost use Rattle.pgn_wordhub.specs.Looks.{HasCome, HasSeenFirst, HasSeenSecond, HasSeenSome};
 ghost use Rattle.pgn_wordhub.specs.Advancing.{HasAdvancedTo, HasTried, HasFreedTo, HasGivenUp, IsFreed, HasTriedTail};
 ghost use Rattle.pgn_wordhub.specs.Finishing.{HasCommitted, HasEnded};
-ghost use Rattle.pgn_wordhub.specs.Examples.{first_pass, third_pass, told_of_3, with_mark, stored_one, writing, undecided_one, loaded_one, aborted_one, first_look, tail_is_late, one_seen, one_joins, both_seen, seen_once, one_met, none_freed, one_page, sender_3, other_db};
+ghost use Rattle.pgn_wordhub.specs.Examples.{first_pass, third_pass, told_of_3, with_mark, stored_one, writing, undecided_one, loaded_one, aborted_one, first_look, tail_is_late, one_seen, one_joins, both_seen, seen_once, one_met, none_freed, one_page, sender_3, other_db, far_sender};
 
 /// What is no pass of a hub between calls.
 #[tactic(auto, using(crate::proofs::RefusedCases::refused_passes))]
@@ -28,34 +29,36 @@ pub fn passes()
 /// What is no way of a reader over the pieces that the head shows.
 #[tactic(auto, using(crate::proofs::RefusedCases::refused_ways))]
 pub fn ways()
-    ensures nothing_there { (piece : Piece) → StandsAt [] 0 piece → ⊥ }
+    ensures nothing_there { (format : Format) (piece : Piece) → StandsAt format [] 0 piece → ⊥ }
+    // The number of its transaction does not fit in a cell.
+    ensures too_large_a_number { (format : Format) (cells : List (Option ℕ)) (at : ℕ) → StandsAt format cells at (AFiller 32 far_sender) → ⊥ }
     ensures another_number { IsCell (Some 44 ∷ []) 0 45 → ⊥ }
     // A piece of an unfinished transaction is still to be read.
-    ensures unfinished { (cells : List (Option ℕ)) (end : ℕ) → IsOnWay cells 3 0 end (AFiller 8 sender_3 ∷ []) [] → ⊥ }
+    ensures unfinished { (format : Format) (cells : List (Option ℕ)) (end : ℕ) → IsOnWay format cells 3 0 end (AFiller 8 sender_3 ∷ []) [] → ⊥ }
     // One of a finished transaction is left out.
-    ensures left_out { (cells : List (Option ℕ)) (end : ℕ) → IsOnWay cells 4 0 end [] (AFiller 8 sender_3 ∷ []) → ⊥ }
+    ensures left_out { (format : Format) (cells : List (Option ℕ)) (end : ℕ) → IsOnWay format cells 4 0 end [] (AFiller 8 sender_3 ∷ []) → ⊥ }
     // The reader has gone past the cells that the head shows.
-    ensures past_the_head { Leads [] 3 1 1 → ⊥ }
-    ensures no_way { HasWay [] 3 1 → ⊥ }
-    ensures no_walk { (owed : List Delivery) → Walks [] 3 1 [] [] 1 1 [] owed → ⊥ }
-    ensures none_walking { IsWalking [] 3 1 [] [] 1 [] → ⊥ }
+    ensures past_the_head { (format : Format) → Leads format [] 3 1 1 → ⊥ }
+    ensures no_way { (format : Format) → HasWay format [] 3 1 → ⊥ }
+    ensures no_walk { (format : Format) (owed : List Delivery) → Walks format [] 3 1 [] [] 1 1 [] owed → ⊥ }
+    ensures none_walking { (format : Format) → IsWalking format [] 3 1 [] [] 1 [] → ⊥ }
     // A turn ends before the end, or goes on and stays where it is.
-    ensures ends_early { Turns [] 3 1 [] [] 0 1 [] [] None → ⊥ }
-    ensures stays { Turns [] 3 1 [] [] 0 1 [] [] (Some 0) → ⊥ }
+    ensures ends_early { (format : Format) → Turns format [] 3 1 [] [] 0 1 [] [] None → ⊥ }
+    ensures stays { (format : Format) → Turns format [] 3 1 [] [] 0 1 [] [] (Some 0) → ⊥ }
     // A turn takes back what the reader had.
-    ensures takes_back { HasTurned [] 3 1 [] [] 0 (got_a ∷ []) [] None → ⊥ }
+    ensures takes_back { (format : Format) → HasTurned format [] 3 1 [] [] 0 (got_a ∷ []) [] None → ⊥ }
 {}
 
 /// What is no entry that a reader is to deliver.
 #[tactic(auto, using(crate::proofs::RefusedCases::refused_entries))]
 pub fn entries()
-    ensures no_bytes { HasEntry [] → ⊥ }
+    ensures no_bytes { (format : Format) → HasEntry format [] → ⊥ }
     ensures another_number { (pid : ℕ) (channel payload : List ℕ) → ArePartsOf note_a sender_3 4 pid channel payload → ⊥ }
-    ensures another_database { (seen : List Tx) (bytes : List ℕ) → IsDueEntry 1 seen bytes note_a other_db → ⊥ }
+    ensures another_database { (format : Format) (seen : List Tx) (bytes : List ℕ) → IsDueEntry format 1 seen bytes note_a other_db → ⊥ }
     // Its transaction is not finished.
-    ensures unfinished { (bytes : List ℕ) → HasDueEntry 1 [] bytes → ⊥ }
-    ensures entry_of_another_database { (cells : List (Option ℕ)) (len : ℕ) (seen : List Tx) → IsEntryAt cells 0 len 1 seen note_a other_db → ⊥ }
-    ensures entry_of_an_unfinished_one { (cells : List (Option ℕ)) (len : ℕ) → HasEntryAt cells 0 len 1 [] → ⊥ }
+    ensures unfinished { (format : Format) (bytes : List ℕ) → HasDueEntry format 1 [] bytes → ⊥ }
+    ensures entry_of_another_database { (format : Format) (cells : List (Option ℕ)) (len : ℕ) (seen : List Tx) → IsEntryAt format cells 0 len 1 seen note_a other_db → ⊥ }
+    ensures entry_of_an_unfinished_one { (format : Format) (cells : List (Option ℕ)) (len : ℕ) → HasEntryAt format cells 0 len 1 [] → ⊥ }
 {}
 
 /// What is no state of a writer, and no end of a transaction.

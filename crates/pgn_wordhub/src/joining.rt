@@ -18,10 +18,10 @@ impl WordHub {
         requires from { (view_of pass.old).post.at ≤ from }
         requires head { head ≡ length (shown_cells (view_of pass.old)) }
         requires low { head < 2 ^ 32 }
-        requires way { HasWay (shown_cells (view_of pass.old)) fin from }
+        requires way { HasWay self.now.format (shown_cells (view_of pass.old)) fin from }
         ensures own { IsPassOf self.now.queue pass.new }
         ensures view { view_of pass.new ≡ view_of pass.old }
-        ensures come { (end : ℕ) → Leads (shown_cells (view_of pass.old)) fin from end → result ≡ end }
+        ensures come { (end : ℕ) → Leads self.now.format (shown_cells (view_of pass.old)) fin from end → result ≡ end }
     {
         let mut at = from;
         let last = head.get();
@@ -31,7 +31,7 @@ impl WordHub {
             if cells.xid >= end {
                 return at;
             }
-            at = advance(at, cells.len);
+            at = advance(self.format, at, cells.len);
         }
         at
     }

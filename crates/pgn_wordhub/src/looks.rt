@@ -1,5 +1,4 @@
 ghost use Rattle.std.specs.Prelude.{◌≡◌, ◌≢◌, ℕ, ◌+◌, ◌^◌, ◌<◌, ◌≤◌, max, true, length, slice_get, Some, IfOk, IfErr};
-ghost use Rattle.pgn_base.specs.declared.format.Format.TheVariants.{One};
 ghost use Rattle.pgn_lanes.specs.Least.{least_with};
 ghost use Rattle.pgn_journal.specs.Journal.{next_xid};
 ghost use Rattle.pgn_journal.specs.Packing.{page_of, image};
@@ -202,7 +201,7 @@ impl WordHub {
         requires phase { may_look (view_of pass.old).phase ≡ true }
         requires decided { AreDecided (view_of pass.old).verdicts }
         requires number { number ≡ next_xid (known_of pass.old).seen }
-        requires head { head ≡ length (image One (known_of pass.old).seen) }
+        requires head { head ≡ length (image (hub_shape self.now).format (known_of pass.old).seen) }
         requires low { head < 2 ^ 32 }
         requires listens { (known_of pass.old).mark ≡ listens_at (view_of pass.old).post }
         requires stop { stop ≡ (view_of pass.old).stop }
@@ -231,7 +230,7 @@ impl WordHub {
         requires phase { may_look (view_of pass.old).phase ≡ true }
         requires decided { AreDecided (view_of pass.old).verdicts }
         requires number { number ≡ next_xid (known_of pass.old).seen }
-        requires head { head ≡ length (image One (known_of pass.old).seen) }
+        requires head { head ≡ length (image (hub_shape self.now).format (known_of pass.old).seen) }
         requires low { head < 2 ^ 32 }
         requires listens { (known_of pass.old).mark ≡ listens_at (view_of pass.old).post }
         requires stop { stop ≡ (view_of pass.old).stop }

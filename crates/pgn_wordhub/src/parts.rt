@@ -1,12 +1,11 @@
 ghost use Rattle.std.specs.Prelude.{◌≡◌, IfOk};
 ghost use Rattle.pgn_base.specs.declared.note.Note.{Note};
-ghost use Rattle.pgn_base.specs.declared.format.Format.TheVariants.{One};
 ghost use Rattle.pgn_base.specs.Texts.{IsName, IsPayload};
 ghost use Rattle.pgn_journal.specs.Packing.{Sender};
 ghost use Rattle.pgn_journal.specs.Pieces.{AnEntry, piece_bytes, IsReadable};
 ghost use Rattle.pgn_wordhub.specs.Walks.{HasEntry, ArePartsOf};
 
-use pgn_base::{Delivery, Name, Note, Payload, Xid};
+use pgn_base::{Delivery, Format, Name, Note, Payload, Xid};
 use pgn_entry::{EntryView, read_piece};
 use std::alloc::{AllocError, Global};
 use std::str;
@@ -36,19 +35,19 @@ fn payload_of(alloc: Global, bytes: &[u8]) -> Result<Payload, AllocError>
 // What a reader needs of an entry.
 #[derive(Clone, Copy)]
 pub(crate) struct EntryParts<'a> {
-    pub xid: u32,
+    pub xid: u64,
     pub pid: u32,
     pub channel: &'a [u8],
     pub payload: &'a [u8],
 }
 
-// The parts of the entry that these bytes are.
-pub(crate) fn entry_parts(bytes: &[u8]) -> EntryParts<'_>
-    requires { HasEntry bytes.now }
-    ensures { (note : Note) (sender : Sender) → IsReadable One (AnEntry note sender) → bytes.now ≡ piece_bytes One (AnEntry note sender)
+// The parts of the entry in this format that these bytes are.
+pub(crate) fn entry_parts(format: Format, bytes: &[u8]) -> EntryParts<'_>
+    requires { HasEntry format bytes.now }
+    ensures { (note : Note) (sender : Sender) → IsReadable format (AnEntry note sender) → bytes.now ≡ piece_bytes format (AnEntry note sender)
         → ArePartsOf note sender result.xid result.pid result.channel.now result.payload.now }
 {
-    match read_piece(bytes) {
+    match read_piece(format, bytes) {
         EntryView::Entry {
             xid,
             pid,

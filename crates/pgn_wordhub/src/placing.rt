@@ -1,5 +1,4 @@
 ghost use Rattle.std.specs.Prelude.{◌≡◌, ◌≢◌, ◌⊎◌, ℕ, ◌+◌, ◌*◌, ◌%◌, ◌^◌, ◌<◌, ◌≤◌, length, drop, true, false, None, IfSome};
-ghost use Rattle.pgn_base.specs.declared.format.Format.TheVariants.{One};
 ghost use Rattle.pgn_base.specs.declared.limits.TheConstants.{PID_BASE};
 ghost use Rattle.pgn_journal.specs.Journal.{next_xid};
 ghost use Rattle.pgn_journal.specs.Bytes.{entry_length, filler, IsEntryLength};
@@ -14,7 +13,7 @@ ghost use Rattle.pgn_wordhub.specs.Placing.{stored_more, writer_of, IsPlacing, H
 
 use crate::WordHub;
 use crate::floor::Floor;
-use pgn_base::{CELL_BYTES, Note, PID_BASE, Xid};
+use pgn_base::{CELL_BYTES, Format, Note, PID_BASE, Xid};
 use pgn_entry::{EntryCells, filler_cell};
 use pgn_hub::PassView;
 use pgn_layout::{Batch, Pos, plan_batch};
@@ -38,25 +37,25 @@ impl WordHub {
     }
 
     // Stores the entry of a notification, and answers the place behind it.
-    fn write_note(&self, pass: &mut WordPass, at: Pos, note: &Note, xid: Xid) -> Pos
+    fn write_note(&self, format: Format, pass: &mut WordPass, at: Pos, note: &Note, xid: Xid) -> Pos
         requires own { IsPassOf self.now.queue pass.old }
         requires phase { (view_of pass.old).phase ≡ phases.Open }
         requires next { at ≡ length (stored_by (view_of pass.old)) }
         requires xid { xid ≡ next_xid (known_of pass.old).seen }
-        requires pages { at + cells_in (entry_length One note.now) ≤ page_start ((view_of pass.old).stop + (hub_shape self.now).pages) }
-        requires stays { at + cells_in (entry_length One note.now) ≤ page_start (page_of (length (view_of pass.old).pen.cells) + 1) }
+        requires pages { at + cells_in (entry_length format note.now) ≤ page_start ((view_of pass.old).stop + (hub_shape self.now).pages) }
+        requires stays { at + cells_in (entry_length format note.now) ≤ page_start (page_of (length (view_of pass.old).pen.cells) + 1) }
         requires low { at ≤ 2 ^ 32 }
         ensures own { IsPassOf self.now.queue pass.new }
-        ensures view { view_of pass.new ≡ stored_more (entry_of One (writer_of (known_of pass.old)) note.now) (view_of pass.old) }
-        ensures end { result ≡ at + length (entry_of One (writer_of (known_of pass.old)) note.now) }
+        ensures view { view_of pass.new ≡ stored_more (entry_of format (writer_of (known_of pass.old)) note.now) (view_of pass.old) }
+        ensures end { result ≡ at + length (entry_of format (writer_of (known_of pass.old)) note.now) }
     {
         let db = pass.db();
         let pid = WordHub::pid(pass);
-        let entry = EntryCells::of(note, db, xid, pid);
+        let entry = EntryCells::of(format, note, db, xid, pid);
         let cells = entry.len as usize / CELL_BYTES;
         let mut word = self.queue.word_of_cell(at);
         for k in 0..cells {
-            let cell = entry.cell(k);
+            let cell = entry.cell(format, k);
             self.queue.store_cell(pass, word, cell);
             word = self.queue.next_word(word);
         }
@@ -64,47 +63,55 @@ impl WordHub {
     }
 
     // Stores a filler of so many bytes.
-    fn write_filler(&self, pass: &mut WordPass, at: Pos, xid: Xid, len: u32)
+    fn write_filler(&self, format: Format, pass: &mut WordPass, at: Pos, xid: Xid, len: u32)
         requires own { IsPassOf self.now.queue pass.old }
         requires phase { (view_of pass.old).phase ≡ phases.Open }
         requires next { at ≡ length (stored_by (view_of pass.old)) }
-        requires long { IsEntryLength One len }
+        requires long { IsEntryLength format len }
         requires pages { at + cells_in len ≤ page_start ((view_of pass.old).stop + (hub_shape self.now).pages) }
         requires stays { at + cells_in len ≤ page_start (page_of (length (view_of pass.old).pen.cells) + 1) }
         requires low { at ≤ 2 ^ 32 }
         ensures own { IsPassOf self.now.queue pass.new }
-        ensures view { view_of pass.new ≡ stored_more (filled_cells (filler One len xid (PID_BASE + (known_of pass.old).session))) (view_of pass.old) }
+        ensures view { view_of pass.new ≡ stored_more (filled_cells (filler format len xid (PID_BASE + (known_of pass.old).session))) (view_of pass.old) }
     {
         let pid = WordHub::pid(pass);
         let cells = len as usize / CELL_BYTES;
         let mut word = self.queue.word_of_cell(at);
         for k in 0..cells {
-            let cell = filler_cell(len, xid, pid, k);
+            let cell = filler_cell(format, len, xid, pid, k);
             self.queue.store_cell(pass, word, cell);
             word = self.queue.next_word(word);
         }
     }
 
     // Stores a batch of notifications, from a place on.
-    fn write_batch(&self, pass: &mut WordPass, at: Pos, notes: &[Note], batch: &Batch, xid: Xid)
+    fn write_batch(
+        &self,
+        format: Format,
+        pass: &mut WordPass,
+        at: Pos,
+        notes: &[Note],
+        batch: &Batch,
+        xid: Xid,
+    )
         requires own { IsPassOf self.now.queue pass.old }
         requires phase { (view_of pass.old).phase ≡ phases.Open }
         requires next { at ≡ length (stored_by (view_of pass.old)) }
         requires xid { xid ≡ next_xid (known_of pass.old).seen }
         requires begins { at ≡ length (view_of pass.old).pen.cells }
-        requires planned { IsPlanned One at notes.now batch.now }
-        requires room { HasRoom One at }
+        requires planned { IsPlanned format at notes.now batch.now }
+        requires room { HasRoom format at }
         requires pages { page_of at < (view_of pass.old).stop + (hub_shape self.now).pages }
         requires low { at < 2 ^ 32 }
         ensures own { IsPassOf self.now.queue pass.new }
-        ensures view { view_of pass.new ≡ stored_more (batch_cells One (writer_of (known_of pass.old)) notes.now batch.now) (view_of pass.old) }
+        ensures view { view_of pass.new ≡ stored_more (batch_cells format (writer_of (known_of pass.old)) notes.now batch.now) (view_of pass.old) }
     {
         let mut at = at;
         for note in &notes[..batch.fits] {
-            at = self.write_note(pass, at, note, xid);
+            at = self.write_note(format, pass, at, note, xid);
         }
         if batch.filler > 0 {
-            self.write_filler(pass, at, xid, batch.filler);
+            self.write_filler(format, pass, at, xid, batch.filler);
         }
     }
 
@@ -130,9 +137,10 @@ impl WordHub {
         ensures within { placing.new.placed ≤ length notes.now }
         ensures stop { placing.new.stop ≡ placing.old.stop }
     {
+        let format = self.format;
         let rest = &notes[placing.placed..];
-        let batch = plan_batch(placing.at, rest);
-        self.write_batch(pass, placing.at, rest, &batch, xid);
+        let batch = plan_batch(format, placing.at, rest);
+        self.write_batch(format, pass, placing.at, rest, &batch, xid);
         self.queue.store_head(pass, batch.next);
         placing.at = batch.next;
         placing.placed += batch.fits;
@@ -150,7 +158,7 @@ impl WordHub {
         requires own { IsPassOf self.now.queue pass.old }
         requires xid { xid ≡ next_xid (known_of pass.old).seen }
         requires placing { IsPlacing (view_of pass.old) notes.now placing.old.placed placing.old.at }
-        requires start { placing.old.at ≡ length (image One (known_of pass.old).seen) }
+        requires start { placing.old.at ≡ length (image (hub_shape self.now).format (known_of pass.old).seen) }
         requires within { placing.old.placed ≤ length notes.now }
         requires stop { placing.old.stop ≡ (view_of pass.old).stop }
         requires decided { AreDecided (view_of pass.old).verdicts }

@@ -1,14 +1,14 @@
 ghost use Rattle.std.specs.Int.{bit_at};
 ghost use Rattle.std.specs.Prelude.{◌==◌, true, false, cond, ◌≡◌, ◌≢◌, ℕ, ◌+◌, ◌*◌, ◌^◌, ◌<◌, ◌≤◌, [], ◌∷◌, ◌++◌, ◌&&◌, length, take, slice_get, slice_index, vec_len, Some, IsSome, List, IfOk, IfSome, OnOk, OnErr};
-ghost use Rattle.pgn_base.specs.declared.format.Format.TheVariants.{One};
+ghost use Rattle.pgn_base.specs.declared.format.Format.{Format};
 ghost use Rattle.pgn_base.specs.declared.note.Note.{Note};
 ghost use Rattle.pgn_base.specs.declared.note.Delivery.{Delivery};
 ghost use Rattle.pgn_base.specs.Names.{has_name};
 ghost use Rattle.pgn_base.specs.Interest.{channel_bit, interest as interest_of};
-ghost use Rattle.pgn_journal.specs.Bytes.{four_bytes};
+ghost use Rattle.pgn_journal.specs.Bytes.{header_bytes, four_bytes};
 ghost use Rattle.pgn_wordhub.specs.declared.reading.TheConstants.{BITS};
 ghost use Rattle.pgn_journal.specs.Journal.{next_xid};
-ghost use Rattle.pgn_journal.specs.Packing.{Sender, image, place};
+ghost use Rattle.pgn_journal.specs.Packing.{Sender, cells_in, image, place};
 ghost use Rattle.pgn_journal.specs.Pieces.{Piece, AnEntry, piece_bytes, gives, committed_by, IsReadable};
 ghost use Rattle.pgn_hub.specs.Shape.{notes_of_seats};
 ghost use Rattle.pgn_hub.specs.Calls.{HasRead, HasLearned};
@@ -21,7 +21,7 @@ ghost use Rattle.pgn_wordhub.specs.Walks.{StandsAt, IsCell, IsDueEntry, HasDueEn
 use crate::WordHub;
 use crate::parts::{delivery_of, entry_parts};
 use byteorder::{ByteOrder, LittleEndian};
-use pgn_base::{CELL_BYTES, Delivery, ListenSet, Xid};
+use pgn_base::{CELL_BYTES, Delivery, Format, ListenSet, Xid};
 use pgn_hub::PassView;
 use pgn_journal::Fate;
 use pgn_layout::{Pos, advance};
@@ -30,9 +30,6 @@ use std::alloc::{AllocError, Global};
 
 /// An entry of so many bytes or fewer is put together on the stack.
 const SHORT_BYTES: usize = 256;
-
-/// So many cells stand before the channel of an entry.
-const HEAD_CELLS: usize = 4;
 
 /// So many bits tell channels apart.
 const BITS: u64 = 64;
@@ -47,11 +44,12 @@ pub(crate) struct HeadCells {
     pub word: usize,
 }
 
-// What a read asks for: what is due on these channels of what the hub shows, from numbers below `fin`.
+// What a read asks for: what is due on these channels of what the hub shows in this format, from numbers below `fin`.
 #[derive(Clone, Copy)]
 struct Reader<'a> {
     hub: &'a WordHub,
     alloc: Global,
+    format: Format,
     fin: Xid,
     set: &'a ListenSet,
     // The bits of the channels of the set.
@@ -100,8 +98,32 @@ impl WordHub {
         }
     }
 
+    // The number of the word with which the channel of an entry begins, from that of its third cell.
+    fn channel_word(&self, format: Format, third: usize) -> usize
+        requires { IsCellWord (hub_shape self.now) third }
+        ensures value { (at : ℕ) → third ≡ cell_word (hub_shape self.now) (at + 2) → result ≡ cell_word (hub_shape self.now) (at + cells_in (header_bytes format)) }
+        ensures word { IsCellWord (hub_shape self.now) result }
+    {
+        let fourth = self.queue.next_word(third);
+        let fifth = self.queue.next_word(fourth);
+        match format {
+            Format::One => fifth,
+            Format::Two => {
+                let sixth = self.queue.next_word(fifth);
+                self.queue.next_word(sixth)
+            }
+        }
+    }
+
     // The bit of the channel of an entry of so many cells, from the number of its third cell's word.
-    fn channel_bit_at(&self, pass: &mut WordPass, at: Pos, third: usize, cells: usize) -> u64
+    fn channel_bit_at(
+        &self,
+        format: Format,
+        pass: &mut WordPass,
+        at: Pos,
+        third: usize,
+        cells: usize,
+    ) -> u64
         requires own { IsPassOf self.now.queue pass.old }
         requires shown { (view_of pass.old).walk.stage ≡ stages.Shown }
         requires from { (view_of pass.old).post.at ≤ at }
@@ -109,13 +131,12 @@ impl WordHub {
         requires word { IsCellWord (hub_shape self.now) third }
         ensures own { IsPassOf self.now.queue pass.new }
         ensures view { view_of pass.new ≡ view_of pass.old }
-        ensures bit { (note : Note) (sender : Sender) → StandsAt (shown_cells (view_of pass.old)) at (AnEntry note sender) → length (piece_bytes One (AnEntry note sender)) ≡ 4 * cells → result ≡ channel_bit note.channel }
+        ensures bit { (note : Note) (sender : Sender) → StandsAt format (shown_cells (view_of pass.old)) at (AnEntry note sender) → length (piece_bytes format (AnEntry note sender)) ≡ 4 * cells → result ≡ channel_bit note.channel }
         ensures within { result < BITS }
     {
-        let fourth = self.queue.next_word(third);
-        let mut word = self.queue.next_word(fourth);
+        let mut word = self.channel_word(format, third);
         let mut sum = 0;
-        for k in HEAD_CELLS..cells {
+        for k in head_cells(format)..cells {
             let cell = self.cell(pass, word);
             let (more, ended) = sum_of_cell(cell);
             sum = (sum + more) % BITS;
@@ -149,7 +170,7 @@ impl WordHub {
         requires from { (view_of pass.old).post.at ≤ at }
         ensures own { IsPassOf self.now.queue pass.new }
         ensures view { view_of pass.new ≡ view_of pass.old }
-        ensures bytes { (piece : Piece) → StandsAt (shown_cells (view_of pass.old)) at piece → length page.old ≡ length (piece_bytes One piece) → page.new ≡ piece_bytes One piece }
+        ensures bytes { (format : Format) (piece : Piece) → StandsAt format (shown_cells (view_of pass.old)) at piece → length page.old ≡ length (piece_bytes format piece) → page.new ≡ piece_bytes format piece }
         ensures page { length page.new ≡ length page.old }
     {
         let mut word = self.queue.word_of_cell(at);
@@ -181,6 +202,7 @@ impl WordHub {
         let reader = Reader {
             hub: self,
             alloc,
+            format: self.format,
             fin,
             set,
             interest: set.interest(),
@@ -195,6 +217,16 @@ impl WordHub {
                 Err(AllocError)
             }
         }
+    }
+}
+
+// So many cells stand before the channel of an entry.
+fn head_cells(format: Format) -> usize
+    ensures { result ≡ cells_in (header_bytes format) }
+{
+    match format {
+        Format::One => 4,
+        Format::Two => 6,
     }
 }
 
@@ -264,15 +296,15 @@ impl Reader<'_> {
     ) -> Result<(), AllocError>
         requires own { IsPassOf self.now.hub.now.queue pass.old }
         requires reach { length (known_of pass.old).seen ≤ notes_of_seats (hub_shape self.now.hub.now).seats }
-        requires entry { HasDueEntry (known_of pass.old).db (known_of pass.old).seen bytes.now }
+        requires entry { HasDueEntry self.now.format (known_of pass.old).db (known_of pass.old).seen bytes.now }
         ensures own { IsPassOf self.now.hub.now.queue pass.new }
         ensures view { view_of pass.new ≡ view_of pass.old }
-        ensures delivered { OnOk result ((note : Note) (sender : Sender) → IsDueEntry (known_of pass.old).db (known_of pass.old).seen bytes.now note sender
+        ensures delivered { OnOk result ((note : Note) (sender : Sender) → IsDueEntry self.now.format (known_of pass.old).db (known_of pass.old).seen bytes.now note sender
             → out.new.items ≡ out.old.items ++ gives (known_of pass.old).db self.now.set.now.channels (committed_by (known_of pass.old).seen) (AnEntry note sender)) }
         ensures refused { OnErr result (out.new.items ≡ out.old.items) }
     {
-        let parts = entry_parts(bytes);
-        let xid = Xid::new(parts.xid);
+        let parts = entry_parts(self.format, bytes);
+        let xid = Xid::new(parts.xid as u32);
         if self.is_due(pass, xid, parts.channel) {
             let delivery = delivery_of(self.alloc, xid, parts.pid, parts.channel, parts.payload)?;
             add(out, delivery)?;
@@ -292,10 +324,10 @@ impl Reader<'_> {
         requires shown { (view_of pass.old).walk.stage ≡ stages.Shown }
         requires from { (view_of pass.old).post.at ≤ at }
         requires reach { length (known_of pass.old).seen ≤ notes_of_seats (hub_shape self.now.hub.now).seats }
-        requires entry { HasEntryAt (shown_cells (view_of pass.old)) at (length bytes.old) (known_of pass.old).db (known_of pass.old).seen }
+        requires entry { HasEntryAt self.now.format (shown_cells (view_of pass.old)) at (length bytes.old) (known_of pass.old).db (known_of pass.old).seen }
         ensures own { IsPassOf self.now.hub.now.queue pass.new }
         ensures view { view_of pass.new ≡ view_of pass.old }
-        ensures taken { OnOk result ((note : Note) (sender : Sender) → IsEntryAt (shown_cells (view_of pass.old)) at (length bytes.old) (known_of pass.old).db (known_of pass.old).seen note sender
+        ensures taken { OnOk result ((note : Note) (sender : Sender) → IsEntryAt self.now.format (shown_cells (view_of pass.old)) at (length bytes.old) (known_of pass.old).db (known_of pass.old).seen note sender
             → out.new.items ≡ out.old.items ++ gives (known_of pass.old).db self.now.set.now.channels (committed_by (known_of pass.old).seen) (AnEntry note sender)) }
         ensures refused { OnErr result (out.new.items ≡ out.old.items) }
     {
@@ -315,10 +347,10 @@ impl Reader<'_> {
         requires shown { (view_of pass.old).walk.stage ≡ stages.Shown }
         requires from { (view_of pass.old).post.at ≤ at }
         requires reach { length (known_of pass.old).seen ≤ notes_of_seats (hub_shape self.now.hub.now).seats }
-        requires entry { HasEntryAt (shown_cells (view_of pass.old)) at len (known_of pass.old).db (known_of pass.old).seen }
+        requires entry { HasEntryAt self.now.format (shown_cells (view_of pass.old)) at len (known_of pass.old).db (known_of pass.old).seen }
         ensures own { IsPassOf self.now.hub.now.queue pass.new }
         ensures view { view_of pass.new ≡ view_of pass.old }
-        ensures taken { OnOk result ((note : Note) (sender : Sender) → IsEntryAt (shown_cells (view_of pass.old)) at len (known_of pass.old).db (known_of pass.old).seen note sender
+        ensures taken { OnOk result ((note : Note) (sender : Sender) → IsEntryAt self.now.format (shown_cells (view_of pass.old)) at len (known_of pass.old).db (known_of pass.old).seen note sender
             → out.new.items ≡ out.old.items ++ gives (known_of pass.old).db self.now.set.now.channels (committed_by (known_of pass.old).seen) (AnEntry note sender)) }
         ensures refused { OnErr result (out.new.items ≡ out.old.items) }
     {
@@ -339,10 +371,10 @@ impl Reader<'_> {
         requires word { IsCellWord (hub_shape self.now.hub.now) third }
         ensures own { IsPassOf self.now.hub.now.queue pass.new }
         ensures view { view_of pass.new ≡ view_of pass.old }
-        ensures apart { result ≡ true → (note : Note) (sender : Sender) → StandsAt (shown_cells (view_of pass.old)) at (AnEntry note sender) → length (piece_bytes One (AnEntry note sender)) ≡ 4 * cells
+        ensures apart { result ≡ true → (note : Note) (sender : Sender) → StandsAt self.now.format (shown_cells (view_of pass.old)) at (AnEntry note sender) → length (piece_bytes self.now.format (AnEntry note sender)) ≡ 4 * cells
             → has_name self.now.set.now.channels note.channel ≡ false }
     {
-        let bit = self.hub.channel_bit_at(pass, at, third, cells);
+        let bit = self.hub.channel_bit_at(self.format, pass, at, third, cells);
         !has_bit(self.interest, bit)
     }
 
@@ -362,10 +394,10 @@ impl Reader<'_> {
         requires third { third ≡ cell_word (hub_shape self.now.hub.now) (at + 2) }
         requires word { IsCellWord (hub_shape self.now.hub.now) third }
         requires reach { length (known_of pass.old).seen ≤ notes_of_seats (hub_shape self.now.hub.now).seats }
-        requires entry { HasEntryAt (shown_cells (view_of pass.old)) at len (known_of pass.old).db (known_of pass.old).seen }
+        requires entry { HasEntryAt self.now.format (shown_cells (view_of pass.old)) at len (known_of pass.old).db (known_of pass.old).seen }
         ensures own { IsPassOf self.now.hub.now.queue pass.new }
         ensures view { view_of pass.new ≡ view_of pass.old }
-        ensures taken { OnOk result ((note : Note) (sender : Sender) → IsEntryAt (shown_cells (view_of pass.old)) at len (known_of pass.old).db (known_of pass.old).seen note sender
+        ensures taken { OnOk result ((note : Note) (sender : Sender) → IsEntryAt self.now.format (shown_cells (view_of pass.old)) at len (known_of pass.old).db (known_of pass.old).seen note sender
             → out.new.items ≡ out.old.items ++ gives (known_of pass.old).db self.now.set.now.channels (committed_by (known_of pass.old).seen) (AnEntry note sender)) }
         ensures refused { OnErr result (out.new.items ≡ out.old.items) }
     {
@@ -389,10 +421,10 @@ impl Reader<'_> {
         requires low { length (shown_cells (view_of pass.old)) < 2 ^ 32 }
         requires fin { self.now.fin ≡ next_xid (known_of pass.old).seen }
         requires reach { length (known_of pass.old).seen ≤ notes_of_seats (hub_shape self.now.hub.now).seats }
-        requires walks { IsWalking (shown_cells (view_of pass.old)) self.now.fin (known_of pass.old).db self.now.set.now.channels (known_of pass.old).seen at out.old.items }
+        requires walks { IsWalking self.now.format (shown_cells (view_of pass.old)) self.now.fin (known_of pass.old).db self.now.set.now.channels (known_of pass.old).seen at out.old.items }
         ensures own { IsPassOf self.now.hub.now.queue pass.new }
         ensures view { view_of pass.new ≡ view_of pass.old }
-        ensures turned { IfOk result (HasTurned (shown_cells (view_of pass.old)) self.now.fin (known_of pass.old).db self.now.set.now.channels (known_of pass.old).seen at out.old.items out.new.items) }
+        ensures turned { IfOk result (HasTurned self.now.format (shown_cells (view_of pass.old)) self.now.fin (known_of pass.old).db self.now.set.now.channels (known_of pass.old).seen at out.old.items out.new.items) }
         ensures refused { OnErr result (out.new.items ≡ out.old.items) }
     {
         let head = self.hub.head_at(pass, at);
@@ -402,10 +434,10 @@ impl Reader<'_> {
         }
         let own = pass.db().get();
         if head.db != own {
-            return Ok(Some(advance(at, head.len)));
+            return Ok(Some(advance(self.format, at, head.len)));
         }
         self.take(pass, at, head.word, head.len as usize, out)?;
-        Ok(Some(advance(at, head.len)))
+        Ok(Some(advance(self.format, at, head.len)))
     }
 
     // Goes from a place on up to the first entry whose number is not below `fin`, or to the head, and puts what is due behind `out`.
@@ -423,10 +455,10 @@ impl Reader<'_> {
         requires low { head < 2 ^ 32 }
         requires fin { self.now.fin ≡ next_xid (known_of pass.old).seen }
         requires reach { length (known_of pass.old).seen ≤ notes_of_seats (hub_shape self.now.hub.now).seats }
-        requires walks { IsWalking (shown_cells (view_of pass.old)) self.now.fin (known_of pass.old).db self.now.set.now.channels (known_of pass.old).seen from out.old.items }
+        requires walks { IsWalking self.now.format (shown_cells (view_of pass.old)) self.now.fin (known_of pass.old).db self.now.set.now.channels (known_of pass.old).seen from out.old.items }
         ensures own { IsPassOf self.now.hub.now.queue pass.new }
         ensures view { view_of pass.new ≡ view_of pass.old }
-        ensures walked { IfOk result (λ at. (end : ℕ) (owed : List Delivery) → Walks (shown_cells (view_of pass.old)) self.now.fin (known_of pass.old).db self.now.set.now.channels (known_of pass.old).seen from end out.old.items owed
+        ensures walked { IfOk result (λ at. (end : ℕ) (owed : List Delivery) → Walks self.now.format (shown_cells (view_of pass.old)) self.now.fin (known_of pass.old).db self.now.set.now.channels (known_of pass.old).seen from end out.old.items owed
             → (at ≡ end) × (out.new.items ≡ owed)) }
         ensures front { take (vec_len out.old) out.new.items ≡ out.old.items }
     {

@@ -40,8 +40,15 @@ impl Hub for WordHub {
     fn open(alloc: Global, setup: Setup) -> Result<(Self, Vec<WordPass>), AllocError> {
         let dbs = databases(alloc, setup.seats())?;
         let pages = setup.pages();
+        let format = setup.format();
         let (queue, passes) = WordQueue::open(alloc, &setup)?;
-        Ok((WordHub { queue, pages, dbs }, passes))
+        let hub = WordHub {
+            queue,
+            pages,
+            format,
+            dbs,
+        };
+        Ok((hub, passes))
     }
 
     fn publish<R: Wait>(&self, rt: &R, pass: &mut WordPass, notes: &[Note]) -> Result<Xid, Full> {

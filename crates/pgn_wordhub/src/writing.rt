@@ -1,7 +1,6 @@
 ghost use Rattle.std.specs.Prelude.{◌≡◌, ◌≢◌, ◌+◌, ◌++◌, ◌^◌, ◌<◌, ◌≤◌, true, false, [], ◌∷◌, length, All, AllPairs, IfOk, IfErr};
 ghost use Rattle.pgn_base.specs.Notes.{IsNote};
 ghost use Rattle.pgn_journal.specs.Journal.{next_xid};
-ghost use Rattle.pgn_base.specs.declared.format.Format.TheVariants.{One};
 ghost use Rattle.pgn_base.specs.Interest.{interest};
 ghost use Rattle.pgn_journal.specs.Interest.{channels_of};
 ghost use Rattle.pgn_journal.specs.Packing.{page_of, image};
@@ -55,7 +54,7 @@ impl WordHub {
         requires decided { AreDecided (view_of pass.old).verdicts }
         requires number { xid + 1 ≡ next_xid (known_of pass.old).seen }
         requires few { xid + 1 < 2 ^ 32 }
-        requires head { placing.now.at ≡ length (image One (known_of pass.old).seen) }
+        requires head { placing.now.at ≡ length (image (hub_shape self.now).format (known_of pass.old).seen) }
         requires low { placing.now.at < 2 ^ 32 }
         requires listens { (known_of pass.old).mark ≡ listens_at (view_of pass.old).post }
         requires stop { placing.now.stop ≡ (view_of pass.old).stop }
@@ -104,7 +103,7 @@ impl WordHub {
         ensures number { result.0 ≡ next_xid (known_of pass.old).seen }
         ensures placing { IsPlacing (view_of pass.new) notes.now result.1.placed result.1.at }
         ensures none_placed { result.1.placed ≡ 0 }
-        ensures start { result.1.at ≡ length (image One (known_of pass.old).seen) }
+        ensures start { result.1.at ≡ length (image (hub_shape self.now).format (known_of pass.old).seen) }
     {
         let at = self.queue.load_head(pass);
         let stop = self.queue.load_stop(pass);

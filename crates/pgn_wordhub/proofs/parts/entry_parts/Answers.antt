@@ -8,7 +8,7 @@ use Rattle.pgn_wordhub.proofs.parts.entry_parts.Goals as goal
 
 pub returns : goal.returns
 returns c note sender readable spelling =
-    let read = subst (λ (r : EntryView). IsReadAs (AnEntry note sender) (told (Ok r))) c.in-Entry.is (c.read_piece.ensures (AnEntry note sender) readable spelling) in record {
+    let read = subst (λ (r : EntryView). IsReadAs c.args.format (AnEntry note sender) (told (Ok r))) c.in-Entry.is (c.read_piece.ensures (AnEntry note sender) readable spelling) in record {
       xid_is = read.from_xid;
       pid_is = read.from_pid;
       channel_is = ap (λ (n : Note). n.channel) read.same;

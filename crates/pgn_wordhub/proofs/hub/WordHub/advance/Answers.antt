@@ -1,15 +1,11 @@
-use Rattle.std.proofs.Common.{length, sym, ap, ◌∙◌, arith}
+use Rattle.std.proofs.Common.{ap, arith}
 use Rattle.std.proofs.Math.Nat.{le-max_left, le-max_right}
-use Rattle.pgn_base.specs.declared.format.Format.{Format}
-use Rattle.pgn_journal.specs.Packing.{page_of, image}
+use Rattle.pgn_journal.specs.Packing.{page_of}
 use Rattle.pgn_words.specs.declared.view.View.{View}
-use Rattle.pgn_words.specs.Passes.{view_of, known_of}
+use Rattle.pgn_words.specs.Passes.{view_of}
 use Rattle.pgn_wordhub.specs.Passes.{hub_shape}
 use Rattle.pgn_wordhub.proofs.AdvanceLaws.{advances}
 use Rattle.pgn_wordhub.proofs.hub.WordHub.advance.Goals as goal
-
-pub look_first-floor-requires-clause-head : goal.look_first-floor-requires-clause-head
-look_first-floor-requires-clause-head g c = c.requires.head ∙ ap (λ (f : Format). length (image f (known_of c.args.pass.now).seen)) (sym c.args.self.now.formatted)
 
 pub returns-clause-advanced : goal.returns-clause-advanced
 returns-clause-advanced g c =
@@ -22,7 +18,7 @@ returns-clause-advanced g c =
     let right = le-max_right c.args.stop (page_of c.look_second-target.result) in
     let seats = c.args.self.now.shaped.some_seats in
     let done = advances z v (view_of c.look_first-floor.new.pass) x y (view_of c.free-stop.new.pass) c.look_second-target.new.floor.mark c.look_second-target.new.floor.at c.look_first-floor.result.mark c.look_first-floor.result.at x.eye.tail c.free-stop.result
-    c.look_second-target.new.floor.holder c.look_first-floor.result.holder c.requires.own.setup c.args.self.now.formatted (omega (arith, seats)) c.requires.own.within
+    c.look_second-target.new.floor.holder c.look_first-floor.result.holder c.requires.own.setup (omega (arith, seats)) c.requires.own.within
     c.look_first-floor.ensures.seen c.announce-tail.ensures.view c.look_second-target.ensures.seen c.free-stop.ensures.view (omega (arith, target, greater, right)) in done.1
 
 pub returns-clause-grows : goal.returns-clause-grows

@@ -14,6 +14,6 @@ returns-clause-view c =
 
 pub returns-clause-placing : goal.returns-clause-placing
 returns-clause-placing c =
-    begins (hub_shape c.args.self.now) (view_of c.args.pass.now) (view_of c.draw_xid-xid.new.pass) c.args.notes.now c.load_head-at.result c.load_stop-stop.result c.requires.own.setup c.args.self.now.formatted
+    begins (hub_shape c.args.self.now) (view_of c.args.pass.now) (view_of c.draw_xid-xid.new.pass) c.args.notes.now c.load_head-at.result c.load_stop-stop.result c.requires.own.setup
     (c.draw_xid-xid.ensures.view ∙ ap (drawn c.args.notes.now) (c.load_stop-stop.ensures.view ∙ ap (stop_known c.load_stop-stop.result) c.load_head-at.ensures.view)) c.requires.valid c.load_head-at.ensures.head c.load_head-at.ensures.low
     (subst (λ (txs : List Tx). length (image (hub_shape c.args.self.now).format txs) ≤ page_start (c.load_stop-stop.result + (hub_shape c.args.self.now).pages)) (ap (λ (y : View). y.known.seen) c.load_head-at.ensures.view) c.load_stop-stop.ensures.ahead)

@@ -1,6 +1,5 @@
 use Rattle.std.proofs.Common.{◌≡◌, ◌+◌, ◌*◌, ◌%◌, ◌<◌, length, drop}
 use Rattle.pgn_base.specs.Interest.{channel_bit}
-use Rattle.pgn_base.specs.declared.format.Format.TheVariants.{One}
 use Rattle.pgn_base.specs.declared.note.Note.{Note}
 use Rattle.pgn_journal.specs.Packing.{Sender}
 use Rattle.pgn_journal.specs.Pieces.{AnEntry, piece_bytes}
@@ -12,6 +11,6 @@ use Rattle.pgn_wordhub.proofs.hub.WordHub.channel_bit_at.Given as goal
 
 abbrev pub invariant-loop-k : goal.invariant-loop-k
 invariant-loop-k l = IsPassOf l.self.queue l.pass × (view_of l.pass ≡ view_of l.fn.pass) × (l.word ≡ cell_word (hub_shape l.self) (l.fn.at + l.k)) × IsCellWord (hub_shape l.self) l.word
-    × ((note : Note) (sender : Sender) → StandsAt (shown_cells (view_of l.fn.pass)) l.fn.at (AnEntry note sender) → length (piece_bytes One (AnEntry note sender)) ≡ 4 * l.fn.cells
-    → (l.sum + sum_to_zero (drop (4 * l.k) (piece_bytes One (AnEntry note sender)))) % 64 ≡ channel_bit note.channel)
+    × ((note : Note) (sender : Sender) → StandsAt l.fn.format (shown_cells (view_of l.fn.pass)) l.fn.at (AnEntry note sender) → length (piece_bytes l.fn.format (AnEntry note sender)) ≡ 4 * l.fn.cells
+    → (l.sum + sum_to_zero (drop (4 * l.k) (piece_bytes l.fn.format (AnEntry note sender)))) % 64 ≡ channel_bit note.channel)
     × (l.sum < 64)

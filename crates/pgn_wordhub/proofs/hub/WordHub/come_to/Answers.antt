@@ -14,7 +14,7 @@ returns-then-cells-end-clause-come c end leads =
     let last = c.loop-pass.invariant.3 in
     let past = c.if-cells-end.true in
     let fin = c.loop-pass.invariant.4 in
-    leads_stops (shown_cells v) c.args.fin c.loop-pass.at end c.head_at-cells.result.xid (c.loop-pass.invariant.6 end leads) (omega (arith, head, test, value, last))
+    leads_stops c.args.self.now.format (shown_cells v) c.args.fin c.loop-pass.at end c.head_at-cells.result.xid (c.loop-pass.invariant.6 end leads) (omega (arith, head, test, value, last))
     (subst (λ (u : View). IsCell (shown_cells u) (c.loop-pass.at + 2) c.head_at-cells.result.xid) c.loop-pass.invariant.1 c.head_at-cells.ensures.xid) (omega (arith, past, fin))
 
 pub advance-at-requires-clause-least : goal.advance-at-requires-clause-least
@@ -27,7 +27,7 @@ advance-at-requires-clause-least c =
     let below = c.if-cells-end.false in
     let fin = c.loop-pass.invariant.4 in
     let way = c.loop-pass.invariant.5 in
-    let long = leads_long (shown_cells v) c.args.fin c.loop-pass.at way.end c.head_at-cells.result.xid c.head_at-cells.result.len way.leads (omega (arith, head, test, value, last))
+    let long = leads_long c.args.self.now.format (shown_cells v) c.args.fin c.loop-pass.at way.end c.head_at-cells.result.xid c.head_at-cells.result.len way.leads (omega (arith, head, test, value, last))
     (subst (λ (u : View). IsCell (shown_cells u) (c.loop-pass.at + 2) c.head_at-cells.result.xid) c.loop-pass.invariant.1 c.head_at-cells.ensures.xid)
     (subst (λ (u : View). IsCell (shown_cells u) (c.loop-pass.at + 0) c.head_at-cells.result.len) c.loop-pass.invariant.1 c.head_at-cells.ensures.len) (omega (arith, below, fin)) in
     long.least
@@ -53,8 +53,8 @@ loop-pass-preserved c =
       omega (arith, further, from),
       inv.3,
       inv.4,
-      record { end = inv.5.end; leads = leads_on (shown_cells v) c.args.fin c.loop-pass.at inv.5.end c.head_at-cells.result.xid c.head_at-cells.result.len c.advance-at.result inv.5.leads before is first low c.advance-at.ensures.value },
-      λ end leads. leads_on (shown_cells v) c.args.fin c.loop-pass.at end c.head_at-cells.result.xid c.head_at-cells.result.len c.advance-at.result (inv.6 end leads) before is first low c.advance-at.ensures.value,
+      record { end = inv.5.end; leads = leads_on c.args.self.now.format (shown_cells v) c.args.fin c.loop-pass.at inv.5.end c.head_at-cells.result.xid c.head_at-cells.result.len c.advance-at.result inv.5.leads before is first low c.advance-at.ensures.value },
+      λ end leads. leads_on c.args.self.now.format (shown_cells v) c.args.fin c.loop-pass.at end c.head_at-cells.result.xid c.head_at-cells.result.len c.advance-at.result (inv.6 end leads) before is first low c.advance-at.ensures.value,
     )
 
 pub returns-clause-come : goal.returns-clause-come
@@ -64,4 +64,4 @@ returns-clause-come c end leads =
     let test = c.loop-pass-test.false in
     let value = c.get.ensures.value in
     let last = c.loop-pass.invariant.3 in
-    leads_there (shown_cells v) c.args.fin c.loop-pass.at end (c.loop-pass.invariant.6 end leads) (omega (arith, head, test, value, last))
+    leads_there c.args.self.now.format (shown_cells v) c.args.fin c.loop-pass.at end (c.loop-pass.invariant.6 end leads) (omega (arith, head, test, value, last))

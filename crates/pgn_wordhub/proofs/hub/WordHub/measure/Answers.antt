@@ -16,7 +16,7 @@ overflow_sub-result g c =
     let w = view_of c.load_fin-at.new.pass in
     let is = loads v (view_of c.load_head-head.new.pass) (view_of c.load_stop-stop.new.pass) w c.load_stop-stop.result c.load_fin-at.result c.load_head-head.ensures.view c.load_stop-stop.ensures.view c.load_fin-at.ensures.heard in
     let within = floor_within (hub_shape c.args.self.now) w (view_of c.advance-floor.new.pass) v.known.seen c.load_head-head.result c.advance-floor.result.0.mark c.advance-floor.result.0.at c.advance-floor.result.0.holder
-    c.args.self.now.formatted (ap (λ (y : View). y.known.seen) is) c.advance-floor.ensures.advanced c.load_head-head.ensures.head in
+    (ap (λ (y : View). y.known.seen) is) c.advance-floor.ensures.advanced c.load_head-head.ensures.head in
     let head = c.page.ensures in
     let floor = c.page-2.ensures in omega (arith, within, head, floor)
 
@@ -30,7 +30,7 @@ returns-clause-measured g c =
     let head = c.load_head-head.result in
     let f = c.advance-floor.result.0 in
     let is = loads v (view_of c.load_head-head.new.pass) (view_of c.load_stop-stop.new.pass) (view_of c.load_fin-at.new.pass) stop at c.load_head-head.ensures.view c.load_stop-stop.ensures.view c.load_fin-at.ensures.heard in
-    let done = measures z v u stop at head f.mark f.at f.holder c.args.self.now.formatted (c.advance-floor.ensures.view ∙ ap (advanced_view u) is)
+    let done = measures z v u stop at head f.mark f.at f.holder (c.advance-floor.ensures.view ∙ ap (advanced_view u) is)
     (subst (λ (y : View). HasAdvancedTo z y u f.mark f.at f.holder) is c.advance-floor.ensures.advanced)
     (c.load_fin-at.ensures.heard.number ∙ ap (λ (y : View). next_xid y.known.seen) is) c.load_head-head.ensures.head in
     let first = c.page.ensures in

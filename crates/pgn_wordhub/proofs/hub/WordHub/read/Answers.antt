@@ -1,6 +1,5 @@
 use Rattle.std.proofs.Common.{◌≡◌, ℕ, ◌^◌, ◌<◌, ◌++◌, sym, ap, ◌∙◌, subst}
 use Rattle.pgn_base.specs.declared.format.Format.{Format}
-use Rattle.pgn_base.specs.declared.format.Format.TheVariants.{One}
 use Rattle.pgn_journal.specs.Due.{due}
 use Rattle.pgn_journal.specs.Packing.{place}
 use Rattle.pgn_hub.specs.Shape.{Shape}
@@ -15,44 +14,44 @@ pub walk-requires-clause-walks : goal.walk-requires-clause-walks
 walk-requires-clause-walks c =
     let v = view_of c.args.pass.now in
     let u = view_of c.show_head-head.new.pass in
-    let one : v.setup.format ≡ One = ap (λ (z : Shape). z.format) c.requires.own.own.setup ∙ c.args.self.now.formatted in
-    let walks = reads_from v (view_of c.begin_walk-fin.new.pass) u c.begin_walk-fin.result c.show_head-head.result c.args.set.now.channels c.args.out.now.items one c.begin_walk-fin.ensures.begun c.show_head-head.ensures.shown in
-    subst (λ (n : ℕ). IsWalking (shown_cells u) c.begin_walk-fin.result u.known.db c.args.set.now.channels u.known.seen n c.args.out.now.items) (sym c.place.ensures)
-    (record { end = place One u.known.seen c.begin_walk-fin.result; owed = c.args.out.now.items ++ due u.known.seen u.post.mark c.begin_walk-fin.result u.known.db c.args.set.now.channels; walks = walks })
+    let same : v.setup.format ≡ c.args.self.now.format = ap (λ (z : Shape). z.format) c.requires.own.own.setup ∙ c.args.self.now.formatted in
+    let walks = reads_from c.args.self.now.format v (view_of c.begin_walk-fin.new.pass) u c.begin_walk-fin.result c.show_head-head.result c.args.set.now.channels c.args.out.now.items same c.begin_walk-fin.ensures.begun c.show_head-head.ensures.shown in
+    subst (λ (n : ℕ). IsWalking c.args.self.now.format (shown_cells u) c.begin_walk-fin.result u.known.db c.args.set.now.channels u.known.seen n c.args.out.now.items) (sym c.place.ensures)
+    (record { end = place c.args.self.now.format u.known.seen c.begin_walk-fin.result; owed = c.args.out.now.items ++ due u.known.seen u.post.mark c.begin_walk-fin.result u.known.db c.args.set.now.channels; walks = walks })
 
 pub store_forward-requires-clause-place : goal.store_forward-requires-clause-place
 store_forward-requires-clause-place c =
     let v = view_of c.args.pass.now in
     let u = view_of c.show_head-head.new.pass in
-    let one : v.setup.format ≡ One = ap (λ (z : Shape). z.format) c.requires.own.own.setup ∙ c.args.self.now.formatted in
+    let same : v.setup.format ≡ c.args.self.now.format = ap (λ (z : Shape). z.format) c.requires.own.own.setup ∙ c.args.self.now.formatted in
     let owed = c.args.out.now.items ++ due u.known.seen u.post.mark c.begin_walk-fin.result u.known.db c.args.set.now.channels in
-    let end = place One u.known.seen c.begin_walk-fin.result in
-    let walks = subst (λ (n : ℕ). Walks (shown_cells u) c.begin_walk-fin.result u.known.db c.args.set.now.channels u.known.seen n end c.args.out.now.items owed) (sym c.place.ensures)
-    (reads_from v (view_of c.begin_walk-fin.new.pass) u c.begin_walk-fin.result c.show_head-head.result c.args.set.now.channels c.args.out.now.items one c.begin_walk-fin.ensures.begun c.show_head-head.ensures.shown) in
-    (c.in-Ok.ensures.walked end owed walks).0 ∙ ap (λ (y : View). place One y.known.seen c.begin_walk-fin.result) (sym c.walk.ensures.view)
+    let end = place c.args.self.now.format u.known.seen c.begin_walk-fin.result in
+    let walks = subst (λ (n : ℕ). Walks c.args.self.now.format (shown_cells u) c.begin_walk-fin.result u.known.db c.args.set.now.channels u.known.seen n end c.args.out.now.items owed) (sym c.place.ensures)
+    (reads_from c.args.self.now.format v (view_of c.begin_walk-fin.new.pass) u c.begin_walk-fin.result c.show_head-head.result c.args.set.now.channels c.args.out.now.items same c.begin_walk-fin.ensures.begun c.show_head-head.ensures.shown) in
+    (c.in-Ok.ensures.walked end owed walks).0 ∙ ap (λ (y : View). place c.args.self.now.format y.known.seen c.begin_walk-fin.result) (sym c.walk.ensures.view)
     ∙ ap (λ (f : Format). place f (known_of c.walk.new.pass).seen c.begin_walk-fin.result) (sym c.args.self.now.formatted)
 
 pub store_forward-requires-clause-low : goal.store_forward-requires-clause-low
 store_forward-requires-clause-low c =
     let v = view_of c.args.pass.now in
     let u = view_of c.show_head-head.new.pass in
-    let one : v.setup.format ≡ One = ap (λ (z : Shape). z.format) c.requires.own.own.setup ∙ c.args.self.now.formatted in
+    let same : v.setup.format ≡ c.args.self.now.format = ap (λ (z : Shape). z.format) c.requires.own.own.setup ∙ c.args.self.now.formatted in
     let owed = c.args.out.now.items ++ due u.known.seen u.post.mark c.begin_walk-fin.result u.known.db c.args.set.now.channels in
-    let end = place One u.known.seen c.begin_walk-fin.result in
-    let walks = subst (λ (n : ℕ). Walks (shown_cells u) c.begin_walk-fin.result u.known.db c.args.set.now.channels u.known.seen n end c.args.out.now.items owed) (sym c.place.ensures)
-    (reads_from v (view_of c.begin_walk-fin.new.pass) u c.begin_walk-fin.result c.show_head-head.result c.args.set.now.channels c.args.out.now.items one c.begin_walk-fin.ensures.begun c.show_head-head.ensures.shown) in
+    let end = place c.args.self.now.format u.known.seen c.begin_walk-fin.result in
+    let walks = subst (λ (n : ℕ). Walks c.args.self.now.format (shown_cells u) c.begin_walk-fin.result u.known.db c.args.set.now.channels u.known.seen n end c.args.out.now.items owed) (sym c.place.ensures)
+    (reads_from c.args.self.now.format v (view_of c.begin_walk-fin.new.pass) u c.begin_walk-fin.result c.show_head-head.result c.args.set.now.channels c.args.out.now.items same c.begin_walk-fin.ensures.begun c.show_head-head.ensures.shown) in
     subst (λ (n : ℕ). n < 2 ^ 32) (sym (c.in-Ok.ensures.walked end owed walks).0)
-    (reads_low v (view_of c.begin_walk-fin.new.pass) u c.begin_walk-fin.result c.show_head-head.result one c.begin_walk-fin.ensures.begun c.show_head-head.ensures.shown)
+    (reads_low c.args.self.now.format v (view_of c.begin_walk-fin.new.pass) u c.begin_walk-fin.result c.show_head-head.result same c.begin_walk-fin.ensures.begun c.show_head-head.ensures.shown)
 
 pub returns-in-Ok-clause-read : goal.returns-in-Ok-clause-read
 returns-in-Ok-clause-read c =
     let v = view_of c.args.pass.now in
     let u = view_of c.show_head-head.new.pass in
-    let one : v.setup.format ≡ One = ap (λ (z : Shape). z.format) c.requires.own.own.setup ∙ c.args.self.now.formatted in
+    let same : v.setup.format ≡ c.args.self.now.format = ap (λ (z : Shape). z.format) c.requires.own.own.setup ∙ c.args.self.now.formatted in
     let owed = c.args.out.now.items ++ due u.known.seen u.post.mark c.begin_walk-fin.result u.known.db c.args.set.now.channels in
-    let end = place One u.known.seen c.begin_walk-fin.result in
-    let walks = subst (λ (n : ℕ). Walks (shown_cells u) c.begin_walk-fin.result u.known.db c.args.set.now.channels u.known.seen n end c.args.out.now.items owed) (sym c.place.ensures)
-    (reads_from v (view_of c.begin_walk-fin.new.pass) u c.begin_walk-fin.result c.show_head-head.result c.args.set.now.channels c.args.out.now.items one c.begin_walk-fin.ensures.begun c.show_head-head.ensures.shown) in
+    let end = place c.args.self.now.format u.known.seen c.begin_walk-fin.result in
+    let walks = subst (λ (n : ℕ). Walks c.args.self.now.format (shown_cells u) c.begin_walk-fin.result u.known.db c.args.set.now.channels u.known.seen n end c.args.out.now.items owed) (sym c.place.ensures)
+    (reads_from c.args.self.now.format v (view_of c.begin_walk-fin.new.pass) u c.begin_walk-fin.result c.show_head-head.result c.args.set.now.channels c.args.out.now.items same c.begin_walk-fin.ensures.begun c.show_head-head.ensures.shown) in
     has_read (shape_of c.args.self.now.queue) v (view_of c.begin_walk-fin.new.pass) u (view_of c.store_forward.new.pass) c.begin_walk-fin.result c.show_head-head.result c.in-Ok.at
     c.args.set.now.channels c.args.out.now.items c.walk.new.out.items c.requires.own.view (mark_of_listener v c.requires.own.view.rest (listens v c.requires.own.view.rest c.requires.listens))
     c.begin_walk-fin.ensures.begun c.show_head-head.ensures.shown (c.store_forward.ensures.view ∙ ap (Rattle.pgn_words.specs.Listening.forwarded c.in-Ok.at) c.walk.ensures.view)

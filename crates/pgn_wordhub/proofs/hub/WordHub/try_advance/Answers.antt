@@ -1,15 +1,11 @@
-use Rattle.std.proofs.Common.{max, length, sym, ap, ◌∙◌, arith}
+use Rattle.std.proofs.Common.{max, sym, ap, ◌∙◌, arith}
 use Rattle.std.proofs.Math.Nat.{le-max_right}
-use Rattle.pgn_base.specs.declared.format.Format.{Format}
-use Rattle.pgn_journal.specs.Packing.{page_of, image}
+use Rattle.pgn_journal.specs.Packing.{page_of}
 use Rattle.pgn_words.specs.declared.view.View.{View}
-use Rattle.pgn_words.specs.Passes.{view_of, known_of}
+use Rattle.pgn_words.specs.Passes.{view_of}
 use Rattle.pgn_wordhub.specs.Passes.{hub_shape}
 use Rattle.pgn_wordhub.proofs.AdvanceLaws.{advances, frees_to}
 use Rattle.pgn_wordhub.proofs.hub.WordHub.try_advance.Goals as goal
-
-pub look_first-floor-requires-clause-head : goal.look_first-floor-requires-clause-head
-look_first-floor-requires-clause-head c = c.requires.head ∙ ap (λ (f : Format). length (image f (known_of c.args.pass.now).seen)) (sym c.args.self.now.formatted)
 
 pub returns-clause-stop : goal.returns-clause-stop
 returns-clause-stop c =
@@ -26,6 +22,6 @@ returns-clause-stop c =
     let stop_is = ap (λ (q : View). q.stop) c.free.ensures.view in
     let same = ap (λ (q : View). q.eye.target) c.free.ensures.view in
     let done = advances z v (view_of c.look_first-floor.new.pass) x y u floor.mark floor.at c.look_first-floor.result.mark c.look_first-floor.result.at x.eye.tail c.free.result
-    floor.holder c.look_first-floor.result.holder c.requires.own.setup c.args.self.now.formatted (omega (arith, seats)) c.requires.own.within
+    floor.holder c.look_first-floor.result.holder c.requires.own.setup (omega (arith, seats)) c.requires.own.within
     c.look_first-floor.ensures.seen c.announce-tail.ensures.view c.in_ok-target.ensures.seen c.free.ensures.view (omega (arith, target, greater, right)) in
     frees_to z v u floor.mark floor.at c.args.stop c.free.result floor.holder done.0 done.1 (greater ∙ ap (λ n. max c.args.stop (page_of n)) (target ∙ sym same)) stop_is

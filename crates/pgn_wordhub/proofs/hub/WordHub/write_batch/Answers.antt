@@ -1,7 +1,6 @@
 use Rattle.std.proofs.Common.{◌≡◌, ◌+◌, ◌/◌, List, length, take, refl, ap, arith}
 use Rattle.std.proofs.lemmas.List.{take_all}
 use Rattle.std.proofs.lemmas.Option.{slice_get_read}
-use Rattle.pgn_base.specs.declared.format.Format.TheVariants.{One}
 use Rattle.pgn_base.specs.declared.note.Note.{Note}
 use Rattle.pgn_words.specs.declared.view.View.{View}
 use Rattle.pgn_words.specs.Passes.{view_of, known_of}
@@ -17,8 +16,8 @@ write_note-at-requires-clause-pages c =
     let run = take c.args.batch.now.fits c.args.notes.now in
     let there = slice_get_read run (length run) c.loop-note.note-index c.note-item.result refl c.loop-note-test.true c.note-item.is in
     let end = v.stop + (hub_shape c.args.self.now).pages in
-    let fits = entries_within (writer_of v.known) c.args.at c.args.notes.now c.args.batch.now end c.loop-note.note-index c.note-item.result c.requires.room c.requires.planned c.requires.pages there in
-    let long = entry_long (writer_of v.known) c.note-item.result in
+    let fits = entries_within c.args.format (writer_of v.known) c.args.at c.args.notes.now c.args.batch.now end c.loop-note.note-index c.note-item.result c.requires.room c.requires.planned c.requires.pages there in
+    let long = entry_long c.args.format (writer_of v.known) c.note-item.result in
     let at = c.loop-note.invariant.2 in
     let stop : (view_of c.loop-note.pass).stop ≡ v.stop = ap (λ (u : View). u.stop) c.loop-note.invariant.1 in omega (arith, fits, long, at, stop)
 
@@ -28,8 +27,8 @@ write_note-at-requires-clause-low c =
     let run = take c.args.batch.now.fits c.args.notes.now in
     let there = slice_get_read run (length run) c.loop-note.note-index c.note-item.result refl c.loop-note-test.true c.note-item.is in
     let own = c.args.at / 2048 + 1 in
-    let fits = entries_within (writer_of v.known) c.args.at c.args.notes.now c.args.batch.now own c.loop-note.note-index c.note-item.result c.requires.room c.requires.planned (omega arith) there in
-    let long = entry_long (writer_of v.known) c.note-item.result in
+    let fits = entries_within c.args.format (writer_of v.known) c.args.at c.args.notes.now c.args.batch.now own c.loop-note.note-index c.note-item.result c.requires.room c.requires.planned (omega arith) there in
+    let long = entry_long c.args.format (writer_of v.known) c.note-item.result in
     let at = c.loop-note.invariant.2 in
     let low = c.requires.low in
     omega (arith, fits, long, at, low)
@@ -37,7 +36,7 @@ write_note-at-requires-clause-low c =
 pub write_filler-requires-clause-long : goal.write_filler-requires-clause-long
 write_filler-requires-clause-long c =
     let some = c.if-batch-gt0.true in
-    (filler_within (writer_of (known_of c.args.pass.now)) c.args.at c.args.notes.now c.args.batch.now (c.args.at / 2048 + 1) c.requires.room c.requires.planned (omega arith) (omega (arith, some))).0
+    (filler_within c.args.format (writer_of (known_of c.args.pass.now)) c.args.at c.args.notes.now c.args.batch.now (c.args.at / 2048 + 1) c.requires.room c.requires.planned (omega arith) (omega (arith, some))).0
 
 pub write_filler-requires-clause-pages : goal.write_filler-requires-clause-pages
 write_filler-requires-clause-pages c =
@@ -45,10 +44,10 @@ write_filler-requires-clause-pages c =
     let some = c.if-batch-gt0.true in
     let run = take c.args.batch.now.fits c.args.notes.now in
     let end = v.stop + (hub_shape c.args.self.now).pages in
-    let within = (filler_within (writer_of v.known) c.args.at c.args.notes.now c.args.batch.now end c.requires.room c.requires.planned c.requires.pages (omega (arith, some))).1 in
+    let within = (filler_within c.args.format (writer_of v.known) c.args.at c.args.notes.now c.args.batch.now end c.requires.room c.requires.planned c.requires.pages (omega (arith, some))).1 in
     let test = c.loop-note-test.false in
     let all : take c.loop-note.note-index run ≡ run = take_all c.loop-note.note-index run (omega (arith, test)) in
-    let size = ap (λ (notes : List Note). length (entries_of One (writer_of v.known) notes)) all in
+    let size = ap (λ (notes : List Note). length (entries_of c.args.format (writer_of v.known) notes)) all in
     let at = c.loop-note.invariant.2 in
     let stop : (view_of c.loop-note.pass).stop ≡ v.stop = ap (λ (u : View). u.stop) c.loop-note.invariant.1 in omega (arith, within, size, at, stop)
 
@@ -57,10 +56,10 @@ write_filler-requires-clause-low c =
     let v = view_of c.args.pass.now in
     let some = c.if-batch-gt0.true in
     let run = take c.args.batch.now.fits c.args.notes.now in
-    let within = (filler_within (writer_of v.known) c.args.at c.args.notes.now c.args.batch.now (c.args.at / 2048 + 1) c.requires.room c.requires.planned (omega arith) (omega (arith, some))).1 in
+    let within = (filler_within c.args.format (writer_of v.known) c.args.at c.args.notes.now c.args.batch.now (c.args.at / 2048 + 1) c.requires.room c.requires.planned (omega arith) (omega (arith, some))).1 in
     let test = c.loop-note-test.false in
     let all : take c.loop-note.note-index run ≡ run = take_all c.loop-note.note-index run (omega (arith, test)) in
-    let size = ap (λ (notes : List Note). length (entries_of One (writer_of v.known) notes)) all in
+    let size = ap (λ (notes : List Note). length (entries_of c.args.format (writer_of v.known) notes)) all in
     let at = c.loop-note.invariant.2 in
     let low = c.requires.low in omega (arith, within, size, at, low)
 
@@ -70,8 +69,8 @@ write_note-at-requires-clause-stays c =
     let run = take c.args.batch.now.fits c.args.notes.now in
     let there = slice_get_read run (length run) c.loop-note.note-index c.note-item.result refl c.loop-note-test.true c.note-item.is in
     let own = c.args.at / 2048 + 1 in
-    let fits = entries_within (writer_of v.known) c.args.at c.args.notes.now c.args.batch.now own c.loop-note.note-index c.note-item.result c.requires.room c.requires.planned (omega arith) there in
-    let long = entry_long (writer_of v.known) c.note-item.result in
+    let fits = entries_within c.args.format (writer_of v.known) c.args.at c.args.notes.now c.args.batch.now own c.loop-note.note-index c.note-item.result c.requires.room c.requires.planned (omega arith) there in
+    let long = entry_long c.args.format (writer_of v.known) c.note-item.result in
     let at = c.loop-note.invariant.2 in
     let begins = c.requires.begins in
     let cells : length (view_of c.loop-note.pass).pen.cells ≡ length v.pen.cells = ap (λ (u : View). length u.pen.cells) c.loop-note.invariant.1 in omega (arith, fits, long, at, begins, cells)
@@ -81,10 +80,10 @@ write_filler-requires-clause-stays c =
     let v = view_of c.args.pass.now in
     let some = c.if-batch-gt0.true in
     let run = take c.args.batch.now.fits c.args.notes.now in
-    let within = (filler_within (writer_of v.known) c.args.at c.args.notes.now c.args.batch.now (c.args.at / 2048 + 1) c.requires.room c.requires.planned (omega arith) (omega (arith, some))).1 in
+    let within = (filler_within c.args.format (writer_of v.known) c.args.at c.args.notes.now c.args.batch.now (c.args.at / 2048 + 1) c.requires.room c.requires.planned (omega arith) (omega (arith, some))).1 in
     let test = c.loop-note-test.false in
     let all : take c.loop-note.note-index run ≡ run = take_all c.loop-note.note-index run (omega (arith, test)) in
-    let size = ap (λ (notes : List Note). length (entries_of One (writer_of v.known) notes)) all in
+    let size = ap (λ (notes : List Note). length (entries_of c.args.format (writer_of v.known) notes)) all in
     let at = c.loop-note.invariant.2 in
     let begins = c.requires.begins in
     let cells : length (view_of c.loop-note.pass).pen.cells ≡ length v.pen.cells = ap (λ (u : View). length u.pen.cells) c.loop-note.invariant.1 in omega (arith, within, size, at, begins, cells)

@@ -1,7 +1,6 @@
 use Rattle.std.proofs.Common.{◌≡◌, ℕ, ◌++◌, Some, sym, ap, ◌∙◌, subst, arith}
 use Rattle.pgn_base.specs.declared.note.Note.{Note}
 use Rattle.pgn_journal.specs.Journal.{next_xid}
-use Rattle.pgn_base.specs.declared.format.Format.TheVariants.{One}
 use Rattle.pgn_journal.specs.Packing.{Sender, after_bytes}
 use Rattle.pgn_journal.specs.Pieces.{AnEntry, gives, committed_by}
 use Rattle.pgn_words.specs.declared.view.View.{View}
@@ -15,7 +14,7 @@ returns-then-head-end-clause-turned c =
     let v = view_of c.args.pass.now in
     let past = c.if-head-end.true in
     let fin = c.get-end.ensures.value in
-    turn_stops (shown_cells v) c.args.self.now.fin v.known.db c.args.at c.head_at-head.result.xid c.args.self.now.set.now.channels v.known.seen c.args.out.now.items c.requires.before c.head_at-head.ensures.xid (omega (arith, past, fin))
+    turn_stops c.args.self.now.format (shown_cells v) c.args.self.now.fin v.known.db c.args.at c.head_at-head.result.xid c.args.self.now.set.now.channels v.known.seen c.args.out.now.items c.requires.before c.head_at-head.ensures.xid (omega (arith, past, fin))
 
 pub advance-requires-clause-least : goal.advance-requires-clause-least
 advance-requires-clause-least c =
@@ -23,8 +22,8 @@ advance-requires-clause-least c =
     let w = c.requires.walks in
     let below = c.if-head-end.false in
     let fin = c.get-end.ensures.value in
-    let long = turn_long (shown_cells v) c.args.self.now.fin c.args.at w.end c.head_at-head.result.len w.walks.todo w.walks.later
-    (goes_here (shown_cells v) c.args.self.now.fin c.args.at w.end w.walks.todo w.walks.later w.walks.way c.requires.before c.head_at-head.result.xid c.head_at-head.result.len
+    let long = turn_long c.args.self.now.format (shown_cells v) c.args.self.now.fin c.args.at w.end c.head_at-head.result.len w.walks.todo w.walks.later
+    (goes_here c.args.self.now.format (shown_cells v) c.args.self.now.fin c.args.at w.end w.walks.todo w.walks.later w.walks.way c.requires.before c.head_at-head.result.xid c.head_at-head.result.len
     c.head_at-head.ensures.xid c.head_at-head.ensures.len (omega (arith, below, fin))) in
     long.least
 
@@ -35,14 +34,14 @@ returns-then-head-own-clause-turned c =
     let fin = c.get-end.ensures.value in
     let no = c.if-head-own.true in
     let own : c.get-own.result ≡ v.known.db = c.get-own.ensures.value ∙ c.db.ensures ∙ ap (λ (u : View). u.known.db) c.head_at-head.ensures.view in
-    subst (λ (n : ℕ). HasTurned (shown_cells v) c.args.self.now.fin v.known.db c.args.self.now.set.now.channels v.known.seen c.args.at c.args.out.now.items c.args.out.now.items (Some n)) (sym c.advance.ensures.value)
-    (turn_passes (shown_cells v) c.args.self.now.fin v.known.db c.args.at c.head_at-head.result.db c.head_at-head.result.xid c.head_at-head.result.len c.args.self.now.set.now.channels v.known.seen c.args.out.now.items
+    subst (λ (n : ℕ). HasTurned c.args.self.now.format (shown_cells v) c.args.self.now.fin v.known.db c.args.self.now.set.now.channels v.known.seen c.args.at c.args.out.now.items c.args.out.now.items (Some n)) (sym c.advance.ensures.value)
+    (turn_passes c.args.self.now.format (shown_cells v) c.args.self.now.fin v.known.db c.args.at c.head_at-head.result.db c.head_at-head.result.xid c.head_at-head.result.len c.args.self.now.set.now.channels v.known.seen c.args.out.now.items
     c.requires.before c.head_at-head.ensures.xid c.head_at-head.ensures.db c.head_at-head.ensures.len (omega (arith, below, fin)) (λ same. no (same ∙ sym own)))
 
 pub take-requires-clause-entry : goal.take-requires-clause-entry
 take-requires-clause-entry c =
     let v = view_of c.args.pass.now in
-    let w = subst (λ (f : ℕ). IsWalking (shown_cells v) f v.known.db c.args.self.now.set.now.channels v.known.seen c.args.at c.args.out.now.items) c.requires.fin c.requires.walks in
+    let w = subst (λ (f : ℕ). IsWalking c.args.self.now.format (shown_cells v) f v.known.db c.args.self.now.set.now.channels v.known.seen c.args.at c.args.out.now.items) c.requires.fin c.requires.walks in
     let below = c.if-head-end.false in
     let fin = c.get-end.ensures.value in
     let end = c.requires.fin in
@@ -50,9 +49,9 @@ take-requires-clause-entry c =
     let own : c.get-own.result ≡ v.known.db = c.get-own.ensures.value ∙ c.db.ensures ∙ ap (λ (u : View). u.known.db) c.head_at-head.ensures.view in
     let positive = c.get-own.ensures.positive in
     let value = c.get-own.ensures.value in
-    subst (λ (u : View). HasEntryAt (shown_cells u) c.args.at c.head_at-head.result.len u.known.db u.known.seen) (sym c.head_at-head.ensures.view)
-    (turn_entry (shown_cells v) c.args.at c.head_at-head.result.db c.head_at-head.result.len v.known.db w.end w.walks.todo w.walks.later v.known.seen
-    (goes_here (shown_cells v) (next_xid v.known.seen) c.args.at w.end w.walks.todo w.walks.later w.walks.way c.requires.before c.head_at-head.result.xid c.head_at-head.result.len
+    subst (λ (u : View). HasEntryAt c.args.self.now.format (shown_cells u) c.args.at c.head_at-head.result.len u.known.db u.known.seen) (sym c.head_at-head.ensures.view)
+    (turn_entry c.args.self.now.format (shown_cells v) c.args.at c.head_at-head.result.db c.head_at-head.result.len v.known.db w.end w.walks.todo w.walks.later v.known.seen
+    (goes_here c.args.self.now.format (shown_cells v) (next_xid v.known.seen) c.args.at w.end w.walks.todo w.walks.later w.walks.way c.requires.before c.head_at-head.result.xid c.head_at-head.result.len
     c.head_at-head.ensures.xid c.head_at-head.ensures.len (omega (arith, below, fin, end)))
     c.head_at-head.ensures.db (omega (arith, same, own)) (omega (arith, positive, value, own)))
 
@@ -62,8 +61,8 @@ advance-requires-2-clause-least c =
     let w = c.requires.walks in
     let below = c.if-head-end.false in
     let fin = c.get-end.ensures.value in
-    let long = turn_long (shown_cells v) c.args.self.now.fin c.args.at w.end c.head_at-head.result.len w.walks.todo w.walks.later
-    (goes_here (shown_cells v) c.args.self.now.fin c.args.at w.end w.walks.todo w.walks.later w.walks.way c.requires.before c.head_at-head.result.xid c.head_at-head.result.len
+    let long = turn_long c.args.self.now.format (shown_cells v) c.args.self.now.fin c.args.at w.end c.head_at-head.result.len w.walks.todo w.walks.later
+    (goes_here c.args.self.now.format (shown_cells v) c.args.self.now.fin c.args.at w.end w.walks.todo w.walks.later w.walks.way c.requires.before c.head_at-head.result.xid c.head_at-head.result.len
     c.head_at-head.ensures.xid c.head_at-head.ensures.len (omega (arith, below, fin))) in
     long.least
 
@@ -77,10 +76,10 @@ returns-clause-turned c =
     let own : c.get-own.result ≡ v.known.db = c.get-own.ensures.value ∙ c.db.ensures ∙ ap (λ (u : View). u.known.db) c.head_at-head.ensures.view in
     let positive = c.get-own.ensures.positive in
     let value = c.get-own.ensures.value in
-    let walking = subst (λ (f : ℕ). IsWalking (shown_cells v) f v.known.db c.args.self.now.set.now.channels v.known.seen c.args.at c.args.out.now.items) c.requires.fin c.requires.walks in
-    let taken = subst (λ (u : View). (note : Note) (sender : Sender) → IsEntryAt (shown_cells u) c.args.at c.head_at-head.result.len u.known.db u.known.seen note sender
+    let walking = subst (λ (f : ℕ). IsWalking c.args.self.now.format (shown_cells v) f v.known.db c.args.self.now.set.now.channels v.known.seen c.args.at c.args.out.now.items) c.requires.fin c.requires.walks in
+    let taken = subst (λ (u : View). (note : Note) (sender : Sender) → IsEntryAt c.args.self.now.format (shown_cells u) c.args.at c.head_at-head.result.len u.known.db u.known.seen note sender
     → c.take.new.out.items ≡ c.args.out.now.items ++ gives u.known.db c.args.self.now.set.now.channels (committed_by u.known.seen) (AnEntry note sender)) c.head_at-head.ensures.view c.in_ok-take.ensures.taken in
-    subst (λ (n : ℕ). HasTurned (shown_cells v) c.args.self.now.fin v.known.db c.args.self.now.set.now.channels v.known.seen c.args.at c.args.out.now.items c.take.new.out.items (Some n)) (sym c.advance-2.ensures.value)
-    (subst (λ (f : ℕ). HasTurned (shown_cells v) f v.known.db c.args.self.now.set.now.channels v.known.seen c.args.at c.args.out.now.items c.take.new.out.items (Some (after_bytes One c.args.at c.head_at-head.result.len))) (sym c.requires.fin)
-    (turn_takes (shown_cells v) v.known.db c.args.at c.head_at-head.result.db c.head_at-head.result.xid c.head_at-head.result.len c.args.self.now.set.now.channels v.known.seen c.args.out.now.items c.take.new.out.items
+    subst (λ (n : ℕ). HasTurned c.args.self.now.format (shown_cells v) c.args.self.now.fin v.known.db c.args.self.now.set.now.channels v.known.seen c.args.at c.args.out.now.items c.take.new.out.items (Some n)) (sym c.advance-2.ensures.value)
+    (subst (λ (f : ℕ). HasTurned c.args.self.now.format (shown_cells v) f v.known.db c.args.self.now.set.now.channels v.known.seen c.args.at c.args.out.now.items c.take.new.out.items (Some (after_bytes c.args.self.now.format c.args.at c.head_at-head.result.len))) (sym c.requires.fin)
+    (turn_takes c.args.self.now.format (shown_cells v) v.known.db c.args.at c.head_at-head.result.db c.head_at-head.result.xid c.head_at-head.result.len c.args.self.now.set.now.channels v.known.seen c.args.out.now.items c.take.new.out.items
     c.requires.before c.head_at-head.ensures.xid c.head_at-head.ensures.db c.head_at-head.ensures.len (omega (arith, below, fin, end)) (omega (arith, same, own)) (omega (arith, positive, value, own)) walking taken))

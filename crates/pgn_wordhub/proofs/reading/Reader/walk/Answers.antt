@@ -10,8 +10,8 @@ pub loop-pass-smaller : goal.loop-pass-smaller
 loop-pass-smaller c =
     let inv = c.loop-pass.invariant in
     let v = view_of c.args.pass.now in
-    let t = subst (λ (o : Option ℕ). HasTurned (shown_cells v) c.args.self.now.fin v.known.db c.args.self.now.set.now.channels v.known.seen c.loop-pass.at c.loop-pass.out.items c.turn.new.out.items o) c.in-Some.is
-    (subst (λ (u : View). HasTurned (shown_cells u) c.args.self.now.fin u.known.db c.args.self.now.set.now.channels u.known.seen c.loop-pass.at c.loop-pass.out.items c.turn.new.out.items c.in_ok-next.field-0) inv.1 c.in_ok-next.ensures.turned) in
+    let t = subst (λ (o : Option ℕ). HasTurned c.args.self.now.format (shown_cells v) c.args.self.now.fin v.known.db c.args.self.now.set.now.channels v.known.seen c.loop-pass.at c.loop-pass.out.items c.turn.new.out.items o) c.in-Some.is
+    (subst (λ (u : View). HasTurned c.args.self.now.format (shown_cells u) c.args.self.now.fin u.known.db c.args.self.now.set.now.channels u.known.seen c.loop-pass.at c.loop-pass.out.items c.turn.new.out.items c.in_ok-next.field-0) inv.1 c.in_ok-next.ensures.turned) in
     let walking = inv.5 in
     let next = t.turns walking.end walking.owed walking.walks in
     let further = next.0 in
@@ -25,8 +25,8 @@ pub loop-pass-preserved : goal.loop-pass-preserved
 loop-pass-preserved c =
     let inv = c.loop-pass.invariant in
     let v = view_of c.args.pass.now in
-    let t = subst (λ (o : Option ℕ). HasTurned (shown_cells v) c.args.self.now.fin v.known.db c.args.self.now.set.now.channels v.known.seen c.loop-pass.at c.loop-pass.out.items c.turn.new.out.items o) c.in-Some.is
-    (subst (λ (u : View). HasTurned (shown_cells u) c.args.self.now.fin u.known.db c.args.self.now.set.now.channels u.known.seen c.loop-pass.at c.loop-pass.out.items c.turn.new.out.items c.in_ok-next.field-0) inv.1 c.in_ok-next.ensures.turned) in
+    let t = subst (λ (o : Option ℕ). HasTurned c.args.self.now.format (shown_cells v) c.args.self.now.fin v.known.db c.args.self.now.set.now.channels v.known.seen c.loop-pass.at c.loop-pass.out.items c.turn.new.out.items o) c.in-Some.is
+    (subst (λ (u : View). HasTurned c.args.self.now.format (shown_cells u) c.args.self.now.fin u.known.db c.args.self.now.set.now.channels u.known.seen c.loop-pass.at c.loop-pass.out.items c.turn.new.out.items c.in_ok-next.field-0) inv.1 c.in_ok-next.ensures.turned) in
     let walking = inv.5 in
     let next = t.turns walking.end walking.owed walking.walks in
     let further = next.0 in
@@ -44,8 +44,8 @@ pub returns-in-None-clause-walked : goal.returns-in-None-clause-walked
 returns-in-None-clause-walked c end owed walks =
     let inv = c.loop-pass.invariant in
     let v = view_of c.args.pass.now in
-    let t = subst (λ (o : Option ℕ). HasTurned (shown_cells v) c.args.self.now.fin v.known.db c.args.self.now.set.now.channels v.known.seen c.loop-pass.at c.loop-pass.out.items c.turn.new.out.items o) c.in-None.is
-    (subst (λ (u : View). HasTurned (shown_cells u) c.args.self.now.fin u.known.db c.args.self.now.set.now.channels u.known.seen c.loop-pass.at c.loop-pass.out.items c.turn.new.out.items c.in_ok-next.field-0) inv.1 c.in_ok-next.ensures.turned) in
+    let t = subst (λ (o : Option ℕ). HasTurned c.args.self.now.format (shown_cells v) c.args.self.now.fin v.known.db c.args.self.now.set.now.channels v.known.seen c.loop-pass.at c.loop-pass.out.items c.turn.new.out.items o) c.in-None.is
+    (subst (λ (u : View). HasTurned c.args.self.now.format (shown_cells u) c.args.self.now.fin u.known.db c.args.self.now.set.now.channels u.known.seen c.loop-pass.at c.loop-pass.out.items c.turn.new.out.items c.in_ok-next.field-0) inv.1 c.in_ok-next.ensures.turned) in
     t.turns end owed (inv.6 end owed walks)
 
 pub returns-clause-walked : goal.returns-clause-walked
@@ -56,4 +56,4 @@ returns-clause-walked c end owed walks =
     let last = inv.3 in
     let test = c.loop-pass-test.false in
     let value = c.get.ensures.value in
-    walks_there (shown_cells v) c.args.self.now.fin v.known.db c.args.self.now.set.now.channels v.known.seen c.loop-pass.at end c.loop-pass.out.items owed (inv.6 end owed walks) (omega (arith, head, last, test, value))
+    walks_there c.args.self.now.format (shown_cells v) c.args.self.now.fin v.known.db c.args.self.now.set.now.channels v.known.seen c.loop-pass.at end c.loop-pass.out.items owed (inv.6 end owed walks) (omega (arith, head, last, test, value))
