@@ -1,14 +1,13 @@
 -- The steps on interests keep the rule.
 use Rattle.std.proofs.Common.{◌≡◌, ◌≢◌, ◌⊎◌, inl, inr, ⊎_elim, ℕ, zero, suc, ◌+◌, ◌-◌, ◌<◌, ◌≤◌, ◌&&◌, Bool, true, false, cond, List, [], ◌∷◌, ◌++◌, length, get_or, set, sym, refl, ap, ◌∙◌, subst, arith, length-set, get_or-set_other, get_or-set_same}
-use Rattle.std.specs.List.{list_any}
 use mathlib.Core.Option.{some, none}
 use lib.ListN.{get_elem?}
 use native.Mathlib.Decide.{ℕ_discrete}
 use Rattle.atomic_table.specs.Table.{Me, Allows, step}
 use Rattle.pgn_base.specs.declared.format.Format.{Format}
 use Rattle.pgn_journal.specs.declared.tx.Tx.{Tx}
-use Rattle.pgn_journal.specs.Journal.{next_xid, entries_between}
-use Rattle.pgn_journal.specs.Due.{is_due_to, listens}
+use Rattle.pgn_journal.specs.Journal.{next_xid}
+use Rattle.pgn_journal.specs.Due.{is_due_to}
 use Rattle.pgn_base.specs.Interest.{interest}
 use Rattle.pgn_journal.specs.Interest.{channels_of, meets, Covers}
 use Rattle.pgn_journal.proofs.InterestLaws.{interest-covers, nothing-in_common}
@@ -24,7 +23,7 @@ use Rattle.pgn_words.specs.Words.{Content, row, room_of, seats_of, interests_at}
 use Rattle.pgn_words.specs.Views.{holds_lock, is_walking}
 use Rattle.pgn_words.specs.Positions.{is_placed}
 use Rattle.pgn_words.specs.Interests.{interested, TellsInterested, interest_loaded, TellsInterest}
-use Rattle.pgn_words.specs.WakeRule.{served, passed, IsServed, IsHeeded, Heeds, Signals, waits_in, pending, IsHeard, ended_in, Covered, Deems}
+use Rattle.pgn_words.specs.WakeRule.{served, passed, IsServed, IsHeeded, Heeds, Signals, IsHeard, ended_in, Covered, Deems}
 use Rattle.pgn_words.specs.Rule.{World, KnowsStop, Holds, IsSignalling, Law, Lawful}
 use Rattle.pgn_words.proofs.EachLaws.{each_turn, each_keep}
 use Rattle.pgn_words.proofs.Frames.{seats_keep, locking_keep, history_keep, numbers_keep, budget_keep, statuses_keep}
@@ -33,7 +32,7 @@ use Rattle.pgn_words.proofs.LockKept.{held_setup, alone, free_holds}
 use Rattle.pgn_words.proofs.HeadKept.{phase_holds}
 use Rattle.pgn_words.proofs.NearSteps.{served_shrinks, passed_least, nothing_more, not_due_unheard}
 use Rattle.pgn_words.proofs.RowLaws.{set_interest_word, get_interest_word}
-use Rattle.pgn_words.proofs.PostKept.{turned, turns}
+use Rattle.pgn_words.proofs.PostKept.{turns}
 use Rattle.pgn_words.proofs.WalkKept.{seat_within}
 use Rattle.pgn_words.proofs.Meets.{allowed}
 
