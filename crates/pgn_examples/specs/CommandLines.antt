@@ -1,12 +1,13 @@
 -- Command lines, and what they ask for.
 use Rattle.std.specs.Prelude.{ℕ, true, false, List, [], ◌∷◌, Option, None, Some, codes}
+use Rattle.pgn_base.specs.declared.format.Format.TheVariants.{One, Two}
 use Rattle.pgn_options.specs.declared.asked.Asked.{Asked}
 use Rattle.pgn_options.specs.declared.asked.Asked.TheVariants.{Run, Drill}
 
 abbrev pub Line : Type 0
 Line = List (List ℕ)
 
--- the words of `run` with limits of its own, in each way in which they may be given, and with `--live`
+-- the words of `run` with limits and a format of its own, in each way in which they may be given, and with `--live`
 abbrev pub runs_with_limits : List Line
 runs_with_limits =
     (codes "run" ∷ [])
@@ -22,23 +23,33 @@ runs_with_limits =
     ∷ (codes "run" ∷ codes "--live" ∷ codes "--pages" ∷ codes "2" ∷ codes "--patience=5" ∷ [])
     ∷ (codes "run" ∷ codes "--pages" ∷ codes "2" ∷ codes "--live" ∷ codes "--patience=5" ∷ [])
     ∷ (codes "run" ∷ codes "--patience=5" ∷ codes "--live" ∷ codes "--" ∷ [])
+    ∷ (codes "run" ∷ codes "--format" ∷ codes "2" ∷ [])
+    ∷ (codes "run" ∷ codes "--format=1" ∷ [])
+    ∷ (codes "run" ∷ codes "--format" ∷ codes "02" ∷ [])
+    ∷ (codes "run" ∷ codes "--format=+2" ∷ [])
+    ∷ (codes "run" ∷ codes "--format" ∷ codes "2" ∷ codes "--pages=2" ∷ codes "--live" ∷ codes "--patience" ∷ codes "5" ∷ [])
     ∷ []
 
 abbrev pub limits_of_runs : List (Option Asked)
 limits_of_runs =
-    Some (Run 256 10000000 false)
-    ∷ Some (Run 2 10000000 false)
-    ∷ Some (Run 2 10000000 false)
-    ∷ Some (Run 2 10000000 false)
-    ∷ Some (Run 2 10000000 false)
-    ∷ Some (Run 1024 1 false)
-    ∷ Some (Run 1024 1000000000 false)
-    ∷ Some (Run 256 10000000 false)
-    ∷ Some (Run 256 5 false)
-    ∷ Some (Run 256 10000000 true)
-    ∷ Some (Run 2 5 true)
-    ∷ Some (Run 2 5 true)
-    ∷ Some (Run 256 5 true)
+    Some (Run 256 10000000 One false)
+    ∷ Some (Run 2 10000000 One false)
+    ∷ Some (Run 2 10000000 One false)
+    ∷ Some (Run 2 10000000 One false)
+    ∷ Some (Run 2 10000000 One false)
+    ∷ Some (Run 1024 1 One false)
+    ∷ Some (Run 1024 1000000000 One false)
+    ∷ Some (Run 256 10000000 One false)
+    ∷ Some (Run 256 5 One false)
+    ∷ Some (Run 256 10000000 One true)
+    ∷ Some (Run 2 5 One true)
+    ∷ Some (Run 2 5 One true)
+    ∷ Some (Run 256 5 One true)
+    ∷ Some (Run 256 10000000 Two false)
+    ∷ Some (Run 256 10000000 One false)
+    ∷ Some (Run 256 10000000 Two false)
+    ∷ Some (Run 256 10000000 Two false)
+    ∷ Some (Run 2 5 Two true)
     ∷ []
 
 -- the words of `drill`, with and without `--`
@@ -77,6 +88,10 @@ wrong_numbers =
     ∷ (codes "run" ∷ codes "--pages=" ∷ [])
     ∷ (codes "run" ∷ codes "--patience" ∷ codes "0" ∷ [])
     ∷ (codes "run" ∷ codes "--patience" ∷ codes "1000000001" ∷ [])
+    ∷ (codes "run" ∷ codes "--format" ∷ codes "0" ∷ [])
+    ∷ (codes "run" ∷ codes "--format" ∷ codes "3" ∷ [])
+    ∷ (codes "run" ∷ codes "--format=Two" ∷ [])
+    ∷ (codes "run" ∷ codes "--format=" ∷ [])
     ∷ (codes "drill" ∷ codes "0" ∷ codes "0" ∷ codes "1" ∷ [])
     ∷ (codes "drill" ∷ codes "0" ∷ codes "33" ∷ codes "1" ∷ [])
     ∷ (codes "drill" ∷ codes "0" ∷ codes "1" ∷ codes "0" ∷ [])
@@ -109,6 +124,12 @@ wrong_words =
     ∷ (codes "run" ∷ codes "--liv" ∷ [])
     ∷ (codes "run" ∷ codes "--pages" ∷ codes "--live" ∷ codes "2" ∷ [])
     ∷ (codes "run" ∷ codes "--" ∷ codes "--live" ∷ [])
+    ∷ (codes "run" ∷ codes "--format" ∷ [])
+    ∷ (codes "run" ∷ codes "--format" ∷ codes "2" ∷ codes "--format" ∷ codes "2" ∷ [])
+    ∷ (codes "run" ∷ codes "--format" ∷ codes "--live" ∷ [])
+    ∷ (codes "run" ∷ codes "--" ∷ codes "--format=2" ∷ [])
+    ∷ (codes "drill" ∷ codes "--format=2" ∷ codes "0" ∷ codes "1" ∷ codes "1" ∷ [])
+    ∷ (codes "wire" ∷ codes "--format=2" ∷ [])
     ∷ (codes "run" ∷ codes "--" ∷ codes "--" ∷ [])
     ∷ (codes "run" ∷ codes "--" ∷ codes "--pages" ∷ codes "2" ∷ [])
     ∷ (codes "drill" ∷ codes "1" ∷ codes "2" ∷ [])

@@ -75,7 +75,7 @@ row place word = record { id = name_of place; values = word ∷ []; count = None
 
 -- what is found of a drill
 abbrev pub IsDrill : Asked → List Row → Type 0
-IsDrill (Run pages patience live) rows = ⊥
+IsDrill (Run pages patience format live) rows = ⊥
 IsDrill (Drill seed sessions notes) rows =
     (a : Text) × (b : Text) × (c : Text) × (rows ≡ row Seed a ∷ row Sessions b ∷ row Notes c ∷ [])
     × (number_of Seed a ≡ Some seed) × (number_of Sessions b ≡ Some sessions) × (number_of Notes c ≡ Some notes)

@@ -23,7 +23,7 @@ wire_built = record (new_shape (codes "wire")) {
 
 -- what is found of `wire`
 abbrev pub IsWire : Asked → List Row → Type 0
-IsWire (Run pages patience live) rows = ⊥
+IsWire (Run pages patience format live) rows = ⊥
 IsWire (Drill seed sessions notes) rows = ⊥
 IsWire Wire rows = Unit {0}
 

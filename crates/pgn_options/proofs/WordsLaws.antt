@@ -129,7 +129,7 @@ drill-comes words = go (drill_of (without_dashes words)) _ _ _ (drill-fault word
     go : (o : Option Asked) (kinds : Kinds) (sub : Option (Text × List Row)) (rows : List Row) → kinds ≡ total drill_built start words → sub ≡ Some (codes "drill", rows)
         → Agrees IsDrill o (total drill_built start words) rows → Comes o kinds sub
     go None kinds sub rows k s h = λ e. h (sym k ∙ e)
-    go (Some (Run pages patience live)) kinds sub rows k s h = absurd h.1
+    go (Some (Run pages patience format live)) kinds sub rows k s h = absurd h.1
     go (Some Wire) kinds sub rows k s h = absurd h.1
     go (Some (Drill seed sessions notes)) kinds sub rows k s h =
         let there : FindsNumbers rows seed sessions notes =
@@ -143,7 +143,7 @@ wire-comes words = go (wire_of (without_dashes words)) _ _ _ (wire-fault words) 
     go : (o : Option Asked) (kinds : Kinds) (sub : Option (Text × List Row)) (rows : List Row) → kinds ≡ total wire_built start words → sub ≡ Some (codes "wire", rows)
         → Agrees IsWire o (total wire_built start words) rows → Comes o kinds sub
     go None kinds sub rows k s h = λ e. h (sym k ∙ e)
-    go (Some (Run pages patience live)) kinds sub rows k s h = absurd h.1
+    go (Some (Run pages patience format live)) kinds sub rows k s h = absurd h.1
     go (Some (Drill seed sessions notes)) kinds sub rows k s h = absurd h.1
     go (Some Wire) kinds sub rows k s h = (k ∙ h.0, subst (λ (x : Option (Text × List Row)). Finds x Wire) (sym s) (FindsWire rows))
 

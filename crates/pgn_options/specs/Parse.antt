@@ -30,8 +30,9 @@ flag_rule name = record (new_rule name) { long = Some name; action = Some SetTru
 -- `run`
 abbrev pub run_app : App
 run_app =
-    with_rule (with_rule (with_rule (new_app (codes "run")) (option_rule (codes "pages") (parser.Unsigned PAGES_MIN PAGES_MAX)))
+    with_rule (with_rule (with_rule (with_rule (new_app (codes "run")) (option_rule (codes "pages") (parser.Unsigned PAGES_MIN PAGES_MAX)))
     (option_rule (codes "patience") (parser.Unsigned 1 PATIENCE_MAX)))
+    (option_rule (codes "format") (parser.Unsigned 1 2)))
     (flag_rule (codes "live"))
 
 -- `drill`
@@ -75,6 +76,7 @@ IsFoundFlag name rows given = one_of name rows ≡ Some (cond given (codes "true
 pub record FindsOptions (rows : List Row) (given : Options) : Type 0 where
   pub pages : IsFoundAs PAGES_MIN PAGES_MAX (codes "pages") rows given.pages
   pub patience : IsFoundAs 1 PATIENCE_MAX (codes "patience") rows given.patience
+  pub format : IsFoundAs 1 2 (codes "format") rows given.format
   pub live : IsFoundFlag (codes "live") rows given.live
 
 -- the numbers of a drill that were found

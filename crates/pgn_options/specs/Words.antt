@@ -4,6 +4,8 @@ use Rattle.std.specs.List.{before_first, after_first, list_all, list_any}
 use Rattle.std.specs.Char.{digit_value}
 use Rattle.std.specs.Str.{bytes_eq}
 use Rattle.std.specs.Str.Parse.{digits_value, without_leading_plus}
+use Rattle.pgn_base.specs.declared.format.Format.{Format}
+use Rattle.pgn_base.specs.declared.format.Format.TheVariants.{One, Two}
 use Rattle.pgn_base.specs.declared.limits.TheConstants.{PAGES_DEFAULT, PAGES_MIN, PAGES_MAX, PATIENCE_DEFAULT}
 use Rattle.pgn_options.specs.declared.limits.TheConstants.{DRILL_NOTES_MAX, DRILL_SESSIONS_MAX, PATIENCE_MAX}
 use Rattle.pgn_options.specs.declared.asked.Asked.{Asked}
@@ -28,21 +30,24 @@ number_in least most word =
 pub data Key : Type 0 where
   Pages : Key
   Patience : Key
+  FormatNumber : Key
 
 -- the values of the options that are given, and whether `--live` is
 pub record Options : Type 0 where
   pub pages : Option ℕ
   pub patience : Option ℕ
+  pub format : Option ℕ
   pub live : Bool
 
 -- no option is given
 abbrev pub no_options : Options
-no_options = record { pages = None; patience = None; live = false }
+no_options = record { pages = None; patience = None; format = None; live = false }
 
 -- an option that is not given yet gets this word as its value
 abbrev pub with_option : Key → List ℕ → Options → Option Options
 with_option Pages word given = cond (is_some given.pages) None (option_map (λ n. record given { pages = Some n }) (number_in PAGES_MIN PAGES_MAX word))
 with_option Patience word given = cond (is_some given.patience) None (option_map (λ n. record given { patience = Some n }) (number_in 1 PATIENCE_MAX word))
+with_option FormatNumber word given = cond (is_some given.format) None (option_map (λ n. record given { format = Some n }) (number_in 1 2 word))
 
 -- `--live`, which is not given yet
 abbrev pub with_live : Options → Option Options
@@ -50,7 +55,10 @@ with_live given = cond given.live None (Some (record given { live = true }))
 
 -- the option of this name
 abbrev pub key_named : List ℕ → Option Key
-key_named name = cond (bytes_eq (codes "pages") name) (Some Pages) (cond (bytes_eq (codes "patience") name) (Some Patience) None)
+key_named name =
+    cond (bytes_eq (codes "pages") name) (Some Pages)
+    (cond (bytes_eq (codes "patience") name) (Some Patience)
+    (cond (bytes_eq (codes "format") name) (Some FormatNumber) None))
 
 -- what a word says where no option waits for its value
 pub data Says : Type 0 where
@@ -118,9 +126,14 @@ options_after [] given (Some key) = None
 options_after (word ∷ words) given None = by_word (says word) words given (options_after words)
 options_after (word ∷ words) given (Some key) = option_and_then (λ more. options_after words more None) (with_option key word given)
 
+-- the format of this number
+abbrev pub format_numbered : ℕ → Format
+format_numbered number = cond (number == 2) Two One
+
 -- `run` with these options: the default stands for one that is not given
 abbrev pub run_with : Options → Asked
-run_with given = Run (unwrap_or given.pages PAGES_DEFAULT) (unwrap_or given.patience PATIENCE_DEFAULT) given.live
+run_with given =
+    Run (unwrap_or given.pages PAGES_DEFAULT) (unwrap_or given.patience PATIENCE_DEFAULT) (format_numbered (unwrap_or given.format 1)) given.live
 
 -- what `run` and these words ask for
 abbrev pub run_asked : List (List ℕ) → Option Asked
@@ -183,6 +196,6 @@ AreNoCommand words = asked_by words ≡ None
 
 -- the numbers that a command may give
 abbrev pub IsWithin : Asked → Type 0
-IsWithin (Run pages patience live) = (PAGES_MIN ≤ pages) × (pages ≤ PAGES_MAX) × (1 ≤ patience) × (patience ≤ PATIENCE_MAX)
+IsWithin (Run pages patience format live) = (PAGES_MIN ≤ pages) × (pages ≤ PAGES_MAX) × (1 ≤ patience) × (patience ≤ PATIENCE_MAX)
 IsWithin (Drill seed sessions notes) = (1 ≤ sessions) × (sessions ≤ DRILL_SESSIONS_MAX) × (1 ≤ notes) × (notes ≤ DRILL_NOTES_MAX)
 IsWithin Wire = Unit {0}

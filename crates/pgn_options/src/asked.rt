@@ -1,11 +1,14 @@
+use pgn_base::Format;
+
 /// What the words of the command line ask for.
-#[derive(Clone, Copy, Debug, PartialEq, Eq)]
+#[derive(Clone, Copy)]
 pub enum Asked {
-    /// To run the scenario that is read: with so many pages at most, where an await takes so many looks. A live run shows each line
-    /// of each session as it comes.
+    /// To run the scenario that is read: with so many pages at most, whose entries have this format, where an await takes so many
+    /// looks. A live run shows each line of each session as it comes.
     Run {
         pages: u32,
         patience: u64,
+        format: Format,
         live: bool,
     },
     /// To run a scenario that is made from a seed: so many sessions, and so many notifications of each.

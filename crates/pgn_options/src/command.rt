@@ -46,6 +46,7 @@ fn run<'a>(alloc: Global) -> Result<Command<'a>, AllocError>
     let command = Command::new(alloc, "run");
     let command = command.arg(option(alloc, "pages", pages()))?;
     let command = command.arg(option(alloc, "patience", patience()))?;
+    let command = command.arg(option(alloc, "format", formats()))?;
     let command = command.arg(flag(alloc, "live"))?;
     Ok(command)
 }
@@ -78,6 +79,12 @@ fn patience<'a>() -> ValueParser<'a>
     ensures { result ≡ Unsigned 1 PATIENCE_MAX }
 {
     value_parser!(u64).range(1..=PATIENCE_MAX as i64)
+}
+
+fn formats<'a>() -> ValueParser<'a>
+    ensures { result ≡ Unsigned 1 2 }
+{
+    value_parser!(u64).range(1..=2)
 }
 
 fn seed<'a>() -> ValueParser<'a>

@@ -8,8 +8,8 @@
 //!
 //! ```
 //! let asked = read_words(alloc, &["drill", "7", "8", "+200"]);
-//! assert_eq!(rt; asked, Ok(Asked::Drill { seed: 7, sessions: 8, notes: 200 }));
-//! assert_eq!(rt; read_words(alloc, &["run", "--pages", "1"]), Err(WordsFault::BadWords));
+//! assert!(rt; matches!(asked, Ok(Asked::Drill { seed: 7, sessions: 8, notes: 200 })));
+//! assert!(rt; matches!(read_words(alloc, &["run", "--pages", "1"]), Err(WordsFault::BadWords)));
 //! ```
 #![tactic(auto)]
 

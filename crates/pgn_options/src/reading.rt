@@ -1,4 +1,4 @@
-ghost use Rattle.std.specs.Prelude.{◌≡◌, ◌≢◌, ◌≤◌, ◌<◌, ℕ, Bool, codes, List, Option, Ok, Some, None, Err, map, IfOk, option_map};
+ghost use Rattle.std.specs.Prelude.{◌≡◌, ◌≢◌, ◌≤◌, ◌<◌, ℕ, Bool, codes, List, Option, Ok, Some, None, Err, map, IfOk, option_map, unwrap_or};
 ghost use Rattle.clap.specs.Matches.{found_of};
 ghost use Rattle.clap.specs.Walk.{one_of, rows_of};
 ghost use Rattle.clap.specs.Simple.{subcommand_rows_of};
@@ -6,13 +6,13 @@ ghost use Rattle.clap.specs.declared.error.kind.ErrorKind.TheVariants.{OutOfMemo
 ghost use Rattle.pgn_options.specs.declared.asked.Asked.{Asked};
 ghost use Rattle.pgn_options.specs.declared.asked.Asked.TheVariants.{Drill};
 ghost use Rattle.pgn_options.specs.Parse.{Finds, FindsNumbers, FindsOptions, IsFoundAs, IsFoundFlag};
-ghost use Rattle.pgn_options.specs.Words.{AreNoCommand, AskFor, IsWithin, Options, number_in, run_with};
+ghost use Rattle.pgn_options.specs.Words.{AreNoCommand, AskFor, IsWithin, Options, format_numbered, number_in, run_with};
 
 use crate::Asked;
 use crate::command::command;
 use clap::ArgMatches;
 use clap::error::ErrorKind;
-use pgn_base::{PAGES_DEFAULT, PATIENCE_DEFAULT};
+use pgn_base::{Format, PAGES_DEFAULT, PATIENCE_DEFAULT};
 use std::alloc::{AllocError, Global};
 
 /// Why words are not read.
@@ -73,11 +73,23 @@ fn run_of(found: &ArgMatches<'_>) -> Asked
         None => PAGES_DEFAULT,
     };
     let patience = number_of(found, "patience").unwrap_or(PATIENCE_DEFAULT);
+    let format = format_of(number_of(found, "format"));
     let live = live_of(found);
     Asked::Run {
         pages,
         patience,
+        format,
         live,
+    }
+}
+
+// The format of this number; the first where none is given.
+fn format_of(number: Option<u64>) -> Format
+    ensures { result ≡ format_numbered (unwrap_or number 1) }
+{
+    match number {
+        Some(2) => Format::Two,
+        _ => Format::One,
     }
 }
 

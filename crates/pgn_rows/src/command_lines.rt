@@ -1,4 +1,5 @@
 use crate::cases::lines;
+use pgn_base::Format;
 use pgn_options::{Asked, WordsFault, read_words};
 use std::alloc::{AllocError, Global};
 
@@ -45,10 +46,12 @@ fn put_numbers(text: &mut Vec<u8>, alloc: Global, asked: Asked) -> Result<(), Al
         Asked::Run {
             pages,
             patience,
+            format,
             live,
         } => {
+            let format = number_of(format);
             let live = if live { " live" } else { "" };
-            format!(in alloc; "run {pages} {patience}{live}")?
+            format!(in alloc; "run {pages} {patience} {format}{live}")?
         }
         Asked::Drill {
             seed,
@@ -58,4 +61,11 @@ fn put_numbers(text: &mut Vec<u8>, alloc: Global, asked: Asked) -> Result<(), Al
         Asked::Wire => format!(in alloc; "wire")?,
     };
     text.extend_from_slice(line.as_bytes())
+}
+
+fn number_of(format: Format) -> u32 {
+    match format {
+        Format::One => 1,
+        Format::Two => 2,
+    }
 }
