@@ -1,7 +1,7 @@
 -- What the sessions of a scenario are given: seats, passes and scripts.
 use Rattle.std.specs.Prelude.{◌≡◌, ℕ, ◌+◌, ◌≤◌, List, length, ◌++◌, map, take, drop, All}
 use Rattle.pgn_hub.specs.declared.known.Known.{Known}
-use Rattle.pgn_base.specs.declared.format.Format.TheVariants.{One}
+use Rattle.pgn_base.specs.declared.format.Format.{Format}
 use Rattle.pgn_language.specs.declared.scenario.Scenario.{Scenario}
 use Rattle.pgn_language.specs.declared.scenario.Section.{Section}
 use Rattle.pgn_hub.specs.declared.setup.SeatSetup.{SeatSetup}
@@ -41,12 +41,12 @@ pub record HaveOpened {P : Type 0} (known : P → Known) (plan : FlagPlan) (pati
 abbrev pub plan_for : Scenario → FlagPlan
 plan_for scenario = record { first_end = length scenario.flags; sessions = length scenario.sections }
 
--- what the hub is opened for: a seat for each section, and these flags
-abbrev pub shape_for : Scenario → ℕ → Shape
-shape_for scenario pages = record { format = One; pages = pages; flags = length scenario.flags + length scenario.sections; seats = map seat_for scenario.sections }
+-- what the hub is opened for: so many pages, a seat for each section, these flags, and entries of this format
+abbrev pub shape_for : Scenario → ℕ → Format → Shape
+shape_for scenario pages format = record { format = format; pages = pages; flags = length scenario.flags + length scenario.sections; seats = map seat_for scenario.sections }
 
 -- the hub was opened for the scenario, and the sessions are those of its sections
-pub record AreOpenedFor {P : Type 0} (scenario : Scenario) (pages patience : ℕ) (shape : Shape) (sessions : List (Session P)) : Type 0 where
+pub record AreOpenedFor {P : Type 0} (scenario : Scenario) (pages patience : ℕ) (format : Format) (shape : Shape) (sessions : List (Session P)) : Type 0 where
   pub sound : IsSound scenario
-  pub opened : shape ≡ shape_for scenario pages
+  pub opened : shape ≡ shape_for scenario pages format
   pub scripts : map script_of sessions ≡ map (script_for (plan_for scenario) patience) scenario.sections

@@ -1,7 +1,7 @@
 ghost use Rattle.std.specs.Prelude.{◌≡◌, ◌+◌, ◌≤◌, ℕ, map, length, IfOk, All};
 ghost use Rattle.std.specs.List.{range_with_len};
 ghost use Rattle.pgn_base.specs.declared.limits.TheConstants.{PAGES_MIN, PAGES_MAX};
-ghost use Rattle.pgn_base.specs.declared.format.Format.TheVariants.{One};
+ghost use Rattle.pgn_base.specs.declared.format.Format.{Format};
 ghost use Rattle.pgn_language.specs.declared.scenario.Scenario.{Scenario};
 ghost use Rattle.pgn_language.specs.Inputs.{IsSound};
 ghost use Rattle.pgn_model.specs.Legal.{Legal};
@@ -12,6 +12,7 @@ ghost use Rattle.pgn_threads.specs.Opened.{AreOpenedFor, plan_for, script_for, s
 
 use crate::opening::{logs, open_sessions, seats_for};
 use crate::{drain, run_sessions};
+use pgn_base::Format;
 use pgn_hub::{Hub, Setup};
 use pgn_journal::Tx;
 use pgn_language::Scenario;
@@ -29,39 +30,41 @@ pub struct Run {
     pub traces: Vec<Trace>,
 }
 
-/// Runs a scenario over a hub of this type, which it opens with a limit of so many pages: its sessions run side by side, as
-/// `run_sessions` has it, and an await takes so many looks, made or slept over. The error is that memory did not suffice.
+/// Runs a scenario over a hub of this type, which it opens with a limit of so many pages and entries of this format: its sessions run
+/// side by side, as `run_sessions` has it, and an await takes so many looks, made or slept over. The error is that memory did not suffice.
 pub fn run_on_hub<H: Hub + Sync + Drop, R: Threads + Wait + Sync>(
     rt: &R,
     alloc: Global,
     scenario: &Scenario,
     pages: u32,
     patience: u64,
+    format: Format,
 ) -> Result<Run, AllocError>
     requires sound { IsSound scenario.now }
     requires some_pages { PAGES_MIN ≤ pages }
     requires few_pages { pages ≤ PAGES_MAX }
     requires patient { 1 ≤ patience }
-    ensures legal { IfOk result (λ run. Legal scenario.now (record { format = One; limit = pages; patience = patience }) run.journal.items run.traces.items) }
+    ensures legal { IfOk result (λ run. Legal scenario.now (record { format = format; limit = pages; patience = patience }) run.journal.items run.traces.items) }
 {
-    let (hub, mut sessions) = open_on_hub::<H>(alloc, scenario, pages, patience)?;
+    let (hub, mut sessions) = open_on_hub::<H>(alloc, scenario, pages, patience, format)?;
     run_sessions(rt, alloc, &hub, sessions.as_mut_slice())?;
     finish_run(alloc, hub, sessions)
 }
 
-/// Opens a hub of this type for a scenario, with a limit of so many pages, and makes a session for each section, ready to run, where
-/// an await takes so many looks. The error is that memory did not suffice.
+/// Opens a hub of this type for a scenario, with a limit of so many pages and entries of this format, and makes a session for each
+/// section, ready to run, where an await takes so many looks. The error is that memory did not suffice.
 pub fn open_on_hub<H: Hub + Drop>(
     alloc: Global,
     scenario: &Scenario,
     pages: u32,
     patience: u64,
+    format: Format,
 ) -> Result<(H, Vec<Session<H::Pass>>), AllocError>
     requires sound { IsSound scenario.now }
     requires some_pages { PAGES_MIN ≤ pages }
     requires few_pages { pages ≤ PAGES_MAX }
     requires patient { 1 ≤ patience }
-    ensures shape { IfOk result (λ opened. H.shape opened.0 ≡ shape_for scenario.now pages) }
+    ensures shape { IfOk result (λ opened. H.shape opened.0 ≡ shape_for scenario.now pages format) }
     ensures ready { IfOk result (λ opened. All (IsReady (H.is_pass opened.0) (H.shape opened.0) H.Pass.known) opened.1.items) }
     ensures scripts { IfOk result (λ opened. map script_of opened.1.items ≡ map (script_for (plan_for scenario.now) patience) scenario.now.sections) }
 {
@@ -71,7 +74,7 @@ pub fn open_on_hub<H: Hub + Drop>(
         sessions: sections.len() as u32,
     };
     let seats = seats_for(alloc, sections)?;
-    let setup = Setup::new(pages, plan.first_end + plan.sessions, seats);
+    let setup = Setup::new(pages, plan.first_end + plan.sessions, seats, format);
     let (hub, passes) = H::open(alloc, setup)?;
     let sessions = open_sessions(alloc, passes, sections, plan, patience)?;
     Ok((hub, sessions))
@@ -86,8 +89,8 @@ pub fn finish_run<H: Hub + Drop>(
 ) -> Result<Run, AllocError>
     requires over { All (IsOver (H.is_pass hub) (H.shape hub) H.Pass.known) sessions.items }
     requires all { map (λ s. s.section.no) sessions.items ≡ range_with_len 1 (length (H.shape hub).seats) }
-    ensures legal { IfOk result (λ run. (scenario : Scenario) (pages patience : ℕ) → AreOpenedFor scenario pages patience (H.shape hub) sessions.items
-        → Legal scenario (record { format = One; limit = pages; patience = patience }) run.journal.items run.traces.items) }
+    ensures legal { IfOk result (λ run. (scenario : Scenario) (pages patience : ℕ) (format : Format) → AreOpenedFor scenario pages patience format (H.shape hub) sessions.items
+        → Legal scenario (record { format = format; limit = pages; patience = patience }) run.journal.items run.traces.items) }
     ensures sessions { IfOk result (λ run. map (λ trace. trace.session) run.traces.items ≡ map (λ s. s.section.no) sessions.items) }
     ensures shown { IfOk result (λ run. EachMayEndWithRead (map shown_of sessions.items) (map (λ trace. trace.items) run.traces.items)) }
 {

@@ -45,7 +45,7 @@ gather-roll-requires-clause-all g c =
     passes-in_order (g.H.Hub.is_pass c.args.hub) (g.H.Hub.shape c.args.hub) g.H.Pass.PassView.known new c.in_ok-passes.passes.items _ (numbers-same new c.args.sessions.items scripts ∙ c.requires.all) c.in_ok-drain.ensures.over passes
 
 pub returns-clause-legal : goal.returns-clause-legal
-returns-clause-legal g c = λ scenario pages patience opened.
+returns-clause-legal g c = λ scenario pages patience format opened.
     let new : List (Session g.row.H-Pass.Denot) = c.drain.new.sessions in
     let count = same-count script_of new c.as_mut_slice.result.now c.in_ok-drain.ensures.scripts ∙ c.as_mut_slice.ensures.len in
     let back = written-back new (drop (length new) c.args.sessions.items) c.args.sessions.len (sym count) in

@@ -41,7 +41,7 @@ returns g c = record {
       let back = written-back new (drop (length new) c.in_ok-hub.sessions.items) c.in_ok-hub.sessions.len (sym count) in
       let scripts = c.run_sessions.ensures.scripts ∙ ap (λ (sessions : List (Session g.row.H-Pass.Denot)). map script_of sessions) c.as_mut_slice.ensures.value ∙ c.in_ok-hub.ensures.scripts in
       if-ok c.finish_run.result _ _
-      (λ run legal. legal c.args.scenario.now c.args.pages c.args.patience
+      (λ run legal. legal c.args.scenario.now c.args.pages c.args.patience c.args.format
       (record { sound = c.requires.sound; opened = c.in_ok-hub.ensures.shape; scripts = ap (λ (sessions : List (Session g.row.H-Pass.Denot)). map script_of sessions) back ∙ scripts }))
       c.finish_run.ensures.legal;
 }
