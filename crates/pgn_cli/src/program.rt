@@ -46,7 +46,7 @@ pub fn program<S: Source, K: Sink + Send, E: Sink, R: Threads + Wait + Sync>(
     ensures no_memory_writes_nothing { IfOk words (λ words. ¬ AskToRunLive (map string_bytes words.items)) → IfOk words (λ words. ¬ AskToWire (map string_bytes words.items))
         → result ≡ 6 → K.held sink.new ≡ K.held sink.old }
     ensures no_memory_writes_first_lines { IfOk words (λ words. (ask : AskToRunLive (map string_bytes words.items)) → result ≡ 6
-        → (K.held sink.new ≡ K.held sink.old) ⊎ IfSome (S.left source.old) (λ input. SoFarRuns (settings_with ask.pages ask.patience) input (Appends (K.held sink.old) (K.held sink.new)))) }
+        → (K.held sink.new ≡ K.held sink.old) ⊎ IfSome (S.left source.old) (λ input. SoFarRuns (settings_with ask.pages ask.patience ask.format) input (Appends (K.held sink.old) (K.held sink.new)))) }
     ensures no_memory_writes_whole_answers { IfOk words (λ words. AskToWire (map string_bytes words.items) → result ≡ 6
         → IfSome (S.left source.old) (λ bytes. StopsAmong bytes (WroteWhole (K.held sink.old) (K.held sink.new)))) }
     ensures no_memory { words ≡ Err NoWords.Memory → result ≡ 6 }
@@ -83,7 +83,7 @@ fn status_of<S: Source, K: Sink + Send, R: Threads + Wait + Sync>(
     ensures no_memory_writes_nothing { IfOk words (λ words. ¬ AskToRunLive (map string_bytes words.items)) → IfOk words (λ words. ¬ AskToWire (map string_bytes words.items))
         → result ≡ Status.NoMemory → K.held sink.new ≡ K.held sink.old }
     ensures no_memory_writes_first_lines { IfOk words (λ words. (ask : AskToRunLive (map string_bytes words.items)) → result ≡ Status.NoMemory
-        → (K.held sink.new ≡ K.held sink.old) ⊎ IfSome (S.left source.old) (λ input. SoFarRuns (settings_with ask.pages ask.patience) input (Appends (K.held sink.old) (K.held sink.new)))) }
+        → (K.held sink.new ≡ K.held sink.old) ⊎ IfSome (S.left source.old) (λ input. SoFarRuns (settings_with ask.pages ask.patience ask.format) input (Appends (K.held sink.old) (K.held sink.new)))) }
     ensures no_memory_writes_whole_answers { IfOk words (λ words. AskToWire (map string_bytes words.items) → result ≡ Status.NoMemory
         → IfSome (S.left source.old) (λ bytes. StopsAmong bytes (WroteWhole (K.held sink.old) (K.held sink.new)))) }
     ensures no_memory { words ≡ Err NoWords.Memory → result ≡ Status.NoMemory }

@@ -1,5 +1,6 @@
 -- What words ask for, once they are read.
 use Rattle.std.proofs.Common.{◌≡◌, ◌∙◌, ℕ, Bool, true, false, List, Some, None, refl, sym}
+use Rattle.pgn_base.specs.declared.format.Format.{Format}
 use Rattle.pgn_options.specs.declared.asked.Asked.{Asked}
 use Rattle.pgn_options.specs.declared.asked.Asked.TheVariants.{Run, Drill, Wire}
 use Rattle.pgn_options.specs.Words.{AreNoCommand, AskFor}
@@ -12,45 +13,45 @@ pub no-other : (words : List (List ℕ)) (asked : Asked) → AskFor words asked 
 no-other words asked e none = let bad : Some asked ≡ None = sym e ∙ none in cc
 
 -- words that ask for a run ask for no drill
-pub no-drill : (words : List (List ℕ)) (pages patience : ℕ) (live : Bool) → AskFor words (Run pages patience live) → AskToDrill words → ⊥
-no-drill words pages patience live e other = let bad : Some (Run pages patience live) ≡ Some (Drill other.seed other.sessions other.notes) = sym e ∙ other.asks in cc
+pub no-drill : (words : List (List ℕ)) (pages patience : ℕ) (format : Format) (live : Bool) → AskFor words (Run pages patience format live) → AskToDrill words → ⊥
+no-drill words pages patience format live e other = let bad : Some (Run pages patience format live) ≡ Some (Drill other.seed other.sessions other.notes) = sym e ∙ other.asks in cc
 
 -- words that ask for a drill ask for no run
 pub no-run : (words : List (List ℕ)) (seed sessions notes : ℕ) → AskFor words (Drill seed sessions notes) → AskToRun words → ⊥
-no-run words seed sessions notes e other = let bad : Some (Drill seed sessions notes) ≡ Some (Run other.pages other.patience other.live) = sym e ∙ other.asks in cc
+no-run words seed sessions notes e other = let bad : Some (Drill seed sessions notes) ≡ Some (Run other.pages other.patience other.format other.live) = sym e ∙ other.asks in cc
 
 -- words that are no command ask for no run and no drill
 pub none-runs : (words : List (List ℕ)) → AreNoCommand words → AskToRun words → ⊥
-none-runs words none other = no-other words (Run other.pages other.patience other.live) other.asks none
+none-runs words none other = no-other words (Run other.pages other.patience other.format other.live) other.asks none
 
 pub none-drills : (words : List (List ℕ)) → AreNoCommand words → AskToDrill words → ⊥
 none-drills words none other = no-other words (Drill other.seed other.sessions other.notes) other.asks none
 
 -- words that ask for a live run ask for a run
 pub live-runs : (words : List (List ℕ)) → AskToRunLive words → AskToRun words
-live-runs words ask = record { pages = ask.pages; patience = ask.patience; live = true; asks = ask.asks }
+live-runs words ask = record { pages = ask.pages; patience = ask.patience; format = ask.format; live = true; asks = ask.asks }
 
 -- words that ask for a run ask for no other
-pub same-run : (words : List (List ℕ)) (pages patience : ℕ) (live : Bool) (ask : AskToRunLive words) → AskFor words (Run pages patience live)
-    → (ask.pages ≡ pages) × (ask.patience ≡ patience) × (live ≡ true)
-same-run words pages patience live ask e =
-    let same : Some (Run ask.pages ask.patience true) ≡ Some (Run pages patience live) = sym ask.asks ∙ e in
-    (cc, cc, cc)
+pub same-run : (words : List (List ℕ)) (pages patience : ℕ) (format : Format) (live : Bool) (ask : AskToRunLive words) → AskFor words (Run pages patience format live)
+    → (ask.pages ≡ pages) × (ask.patience ≡ patience) × (ask.format ≡ format) × (live ≡ true)
+same-run words pages patience format live ask e =
+    let same : Some (Run ask.pages ask.patience ask.format true) ≡ Some (Run pages patience format live) = sym ask.asks ∙ e in
+    (cc, cc, cc, cc)
 
 -- what is asked for without `--live` is shown at its end
-pub shows-once : (words : List (List ℕ)) (pages patience : ℕ) (live : Bool) → ¬ AskToRunLive words → AskFor words (Run pages patience live) → shows_if live ≡ AtEnd Text
-shows-once words pages patience true once e = absurd (once (record { pages = pages; patience = patience; asks = e }))
-shows-once words pages patience false once e = refl
+pub shows-once : (words : List (List ℕ)) (pages patience : ℕ) (format : Format) (live : Bool) → ¬ AskToRunLive words → AskFor words (Run pages patience format live) → shows_if live ≡ AtEnd Text
+shows-once words pages patience format true once e = absurd (once (record { pages = pages; patience = patience; format = format; asks = e }))
+shows-once words pages patience format false once e = refl
 
 -- words that ask to serve a client ask for nothing else
-pub run-no_wire : (words : List (List ℕ)) (pages patience : ℕ) (live : Bool) → AskFor words (Run pages patience live) → AskToWire words → ⊥
-run-no_wire words pages patience live e other = let bad : Some (Run pages patience live) ≡ Some Wire = sym e ∙ other in cc
+pub run-no_wire : (words : List (List ℕ)) (pages patience : ℕ) (format : Format) (live : Bool) → AskFor words (Run pages patience format live) → AskToWire words → ⊥
+run-no_wire words pages patience format live e other = let bad : Some (Run pages patience format live) ≡ Some Wire = sym e ∙ other in cc
 
 pub drill-no_wire : (words : List (List ℕ)) (seed sessions notes : ℕ) → AskFor words (Drill seed sessions notes) → AskToWire words → ⊥
 drill-no_wire words seed sessions notes e other = let bad : Some (Drill seed sessions notes) ≡ Some Wire = sym e ∙ other in cc
 
 pub wire-no_run : (words : List (List ℕ)) → AskToWire words → AskToRun words → ⊥
-wire-no_run words e other = run-no_wire words other.pages other.patience other.live other.asks e
+wire-no_run words e other = run-no_wire words other.pages other.patience other.format other.live other.asks e
 
 pub wire-no_drill : (words : List (List ℕ)) → AskToWire words → AskToDrill words → ⊥
 wire-no_drill words e other = drill-no_wire words other.seed other.sessions other.notes other.asks e

@@ -7,6 +7,7 @@ use Rattle.std.proofs.lemmas.Bool.{cases_lt}
 use Rattle.std.proofs.lemmas.List.{drop_all, length-map}
 use Rattle.std.proofs.lemmas.List.Elements.{All-head, All-tail}
 use Rattle.pgn_base.specs.Outside.{AppendsPrefix, Rose}
+use Rattle.pgn_base.specs.declared.format.Format.{Format}
 use Rattle.pgn_journal.specs.declared.tx.Tx.{Tx}
 use Rattle.pgn_language.specs.declared.scenario.Scenario.{Scenario}
 use Rattle.pgn_language.specs.declared.scenario.Section.{Section}
@@ -189,7 +190,7 @@ counts-are [] = refl
 counts-are (s ∷ sessions) = ap (λ (ns : List ℕ). length s.items.items ∷ ns) (counts-are sessions)
 
 module _ {Q : Type 0} (scenario : Scenario) (shape : Shape) (sessions : List (Session Q)) (journal : List Tx) (traces : List Trace) (seats : ℕ)
-    (legal : (pages patience : ℕ) → AreOpenedFor scenario pages patience shape sessions → Legal scenario (settings_with pages patience) journal traces)
+    (legal : (pages patience : ℕ) (format : Format) → AreOpenedFor scenario pages patience format shape sessions → Legal scenario (settings_with pages patience format) journal traces)
     (all : map (λ s. s.section.no) sessions ≡ range_with_len 1 seats) (named : map (λ trace. trace.session) traces ≡ map (λ s. s.section.no) sessions)
     (shown : EachMayEndWithRead (map shown_of sessions) (map (λ trace. trace.items) traces)) where
   own-numbers : map (λ s. s.section.no) sessions ≡ range_with_len 1 (length sessions)
@@ -229,13 +230,13 @@ module _ {Q : Type 0} (scenario : Scenario) (shape : Shape) (sessions : List (Se
 -- A whole live run.
 
 -- what came while the sessions ran, and what came last
-pub live-over : {Q : Type 0} (scenario : Scenario) (shape : Shape) (pages patience : ℕ) (sessions : List (Session Q)) (R P S : List ℕ → Type 0) → AreOpenedFor scenario pages patience shape sessions
-    → ((first second : List ℕ) → R first → S second → P (first ++ second)) → ComesWhole scenario.sections (logs_of sessions) R → EndsOver scenario shape sessions S → LiveOver scenario (settings_with pages patience) P
-live-over scenario shape pages patience sessions R P S opened join came ends = record {
+pub live-over : {Q : Type 0} (scenario : Scenario) (shape : Shape) (pages patience : ℕ) (format : Format) (sessions : List (Session Q)) (R P S : List ℕ → Type 0) → AreOpenedFor scenario pages patience format shape sessions
+    → ((first second : List ℕ) → R first → S second → P (first ++ second)) → ComesWhole scenario.sections (logs_of sessions) R → EndsOver scenario shape sessions S → LiveOver scenario (settings_with pages patience format) P
+live-over scenario shape pages patience format sessions R P S opened join came ends = record {
   journal = ends.journal;
   traces = ends.traces;
   cames = came.cames ++ ends.last;
-  legal = ends.legal pages patience opened;
+  legal = ends.legal pages patience format opened;
   whole = λ n.
       items_of-append n came.cames ends.last ∙ ap (λ (items : List Item). items ++ items_of n ends.last) (came.whole n)
       ∙ sym (items_of-append n (logs_of sessions) ends.last) ∙ ends.whole n;
@@ -266,9 +267,9 @@ logs-lawful {Q} shape settings plan patience (section ∷ sections) (s ∷ sessi
 
 -- Sessions that were opened for a scenario, and have run since.
 
-module _ {Q : Type 0} (scenario : Scenario) (shape : Shape) (pages patience : ℕ) (new : List (Session Q)) (sound : IsSound scenario) (opened : shape ≡ shape_for scenario pages)
+module _ {Q : Type 0} (scenario : Scenario) (shape : Shape) (pages patience : ℕ) (format : Format) (new : List (Session Q)) (sound : IsSound scenario) (opened : shape ≡ shape_for scenario pages format)
     (scripts : map script_of new ≡ map (script_for (plan_for scenario) patience) scenario.sections) where
-  pub still-opened : AreOpenedFor scenario pages patience shape new
+  pub still-opened : AreOpenedFor scenario pages patience format shape new
   still-opened = record { sound = sound; opened = opened; scripts = scripts }
 
   sections-same : scenario.sections ≡ sections_of new
@@ -287,16 +288,16 @@ module _ {Q : Type 0} (scenario : Scenario) (shape : Shape) (pages patience : �
       numbers-opened scenario (plan_for scenario) patience new sound scripts
       ∙ ap (λ n. range_with_len 1 n) (sym (ap (λ (s : Shape). length s.seats) opened ∙ length-map scenario.sections seat_for))
 
-  all-lawful : All (IsLawful shape) new → AreLawfulLogs (settings_with pages patience) scenario.sections (logs_of new)
+  all-lawful : All (IsLawful shape) new → AreLawfulLogs (settings_with pages patience format) scenario.sections (logs_of new)
   all-lawful lawful =
-      logs-lawful shape (settings_with pages patience) (plan_for scenario) patience scenario.sections new
+      logs-lawful shape (settings_with pages patience format) (plan_for scenario) patience scenario.sections new
       (ap (λ (s : Shape). let given : Settings = record { format = s.format; limit = s.pages; patience = patience } in given) opened) scripts lawful
 
   -- what their outcome says where a write failed, and where memory did not suffice
-  pub early-over : (P : List ℕ → Type 0) → All (IsLawful shape) new → ComesWhole scenario.sections (logs_of new) P → EarlyOver scenario (settings_with pages patience) P
+  pub early-over : (P : List ℕ → Type 0) → All (IsLawful shape) new → ComesWhole scenario.sections (logs_of new) P → EarlyOver scenario (settings_with pages patience format) P
   early-over P lawful came = record { logs = logs_of new; cames = came.cames; lawful = all-lawful lawful; whole = came.whole; output = came.output }
 
-  pub so_far-over : (P : List ℕ → Type 0) → All (IsLawful shape) new → ComesFirst scenario.sections (logs_of new) P → SoFarOver scenario (settings_with pages patience) P
+  pub so_far-over : (P : List ℕ → Type 0) → All (IsLawful shape) new → ComesFirst scenario.sections (logs_of new) P → SoFarOver scenario (settings_with pages patience format) P
   so_far-over P lawful came = record { logs = logs_of new; cames = came.cames; lawful = all-lawful lawful; first = came.first; output = came.output }
 
 -- all that came are the first items too

@@ -1,6 +1,6 @@
 -- What a live run writes, and what each outcome of it says.
 use Rattle.std.specs.Prelude.{◌≡◌, ℕ, List, [], ◌∷◌, ◌++◌, length, map, drop}
-use Rattle.pgn_base.specs.declared.format.Format.TheVariants.{One}
+use Rattle.pgn_base.specs.declared.format.Format.{Format}
 use Rattle.pgn_journal.specs.declared.tx.Tx.{Tx}
 use Rattle.pgn_language.specs.declared.scenario.Scenario.{Scenario}
 use Rattle.pgn_language.specs.declared.scenario.Section.{Section}
@@ -72,6 +72,6 @@ pub record EndsOver {Q : Type 0} (scenario : Scenario) (shape : Shape) (sessions
   pub journal : List Tx
   pub traces : List Trace
   pub last : List Came
-  pub legal : (pages patience : ℕ) → AreOpenedFor scenario pages patience shape sessions → Legal scenario (record { format = One; limit = pages; patience = patience }) journal traces
+  pub legal : (pages patience : ℕ) (format : Format) → AreOpenedFor scenario pages patience format shape sessions → Legal scenario (record { format = format; limit = pages; patience = patience }) journal traces
   pub whole : AreWhole (map log_of_trace traces) (logs_of sessions ++ last)
   pub output : P (tagged scenario.sections last ++ end_text scenario journal traces)

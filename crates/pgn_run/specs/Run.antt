@@ -9,6 +9,7 @@ use Rattle.pgn_language.specs.Inputs.{ReadsAsScenario}
 use Rattle.pgn_model.specs.Walk.{Settings}
 use Rattle.pgn_model.specs.Legal.{Legal}
 use Rattle.pgn_model.specs.Text.{brief, text}
+use Rattle.pgn_base.specs.declared.format.Format.{Format}
 use Rattle.pgn_base.specs.declared.format.Format.TheVariants.{One}
 use Rattle.pgn_base.specs.declared.limits.TheConstants.{PAGES_MAX}
 use Rattle.pgn_options.specs.declared.asked.Asked.{Asked}
@@ -40,13 +41,13 @@ code_of WriteFault = 5
 code_of NoMemory = 6
 code_of (BadWire fault) = 10
 
--- the terms of a run with a limit of so many pages, where an await takes so many looks
-abbrev pub settings_with : ℕ → ℕ → Settings
-settings_with pages patience = record { format = One; limit = pages; patience = patience }
+-- the terms of a run with a limit of so many pages, where an await takes so many looks, with entries of this format
+abbrev pub settings_with : ℕ → ℕ → Format → Settings
+settings_with pages patience format = record { format = format; limit = pages; patience = patience }
 
 -- the terms of a drill
 abbrev pub drill_settings : Settings
-drill_settings = settings_with PAGES_MAX PATIENCE_MAX
+drill_settings = settings_with PAGES_MAX PATIENCE_MAX One
 
 -- what is written of a run
 abbrev pub printed : Print → Scenario → List Tx → List Trace → List ℕ
@@ -110,7 +111,7 @@ shows_if false = AtEnd Text
 -- what was asked for was run: what is left of the source, the scenario of a drill, or the queries of a client; and P holds of what is
 -- written of it
 abbrev pub Fulfils : Asked → Option (List ℕ) → (List ℕ → Type 0) → Type 0
-Fulfils (Run pages patience live) left P = IfSome left (λ input. Shown (shows_if live) (settings_with pages patience) input P)
+Fulfils (Run pages patience format live) left P = IfSome left (λ input. Shown (shows_if live) (settings_with pages patience format) input P)
 Fulfils (Drill seed sessions notes) left P = Runs (Summary seed notes) drill_settings (drill seed sessions notes) P
 Fulfils Wire left P = IfSome left (λ bytes. Converses bytes P)
 
@@ -122,7 +123,7 @@ pub record Performs (words : List (List ℕ)) (left : Option (List ℕ)) (P : Li
 
 -- the same, where what is shown may end early
 abbrev pub FulfilsInPart : Asked → Option (List ℕ) → (List ℕ → Type 0) → Type 0
-FulfilsInPart (Run pages patience live) left P = IfSome left (λ input. ShownInPart (shows_if live) (settings_with pages patience) input P)
+FulfilsInPart (Run pages patience format live) left P = IfSome left (λ input. ShownInPart (shows_if live) (settings_with pages patience format) input P)
 FulfilsInPart (Drill seed sessions notes) left P = Runs (Summary seed notes) drill_settings (drill seed sessions notes) P
 FulfilsInPart Wire left P = IfSome left (λ bytes. StopsAmong bytes (λ section items. P (messages section items)))
 
@@ -135,14 +136,16 @@ pub record PerformsInPart (words : List (List ℕ)) (left : Option (List ℕ)) (
 pub record AskToRunLive (words : List (List ℕ)) : Type 0 where
   pub pages : ℕ
   pub patience : ℕ
-  pub asks : AskFor words (Run pages patience true)
+  pub format : Format
+  pub asks : AskFor words (Run pages patience format true)
 
 -- the words ask to run what is read
 pub record AskToRun (words : List (List ℕ)) : Type 0 where
   pub pages : ℕ
   pub patience : ℕ
+  pub format : Format
   pub live : Bool
-  pub asks : AskFor words (Run pages patience live)
+  pub asks : AskFor words (Run pages patience format live)
 
 -- the words ask for a drill
 pub record AskToDrill (words : List (List ℕ)) : Type 0 where

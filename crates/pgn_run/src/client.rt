@@ -5,7 +5,7 @@ ghost use Rattle.pgn_session.specs.Whole.{HasRest};
 ghost use Rattle.pgn_wire.specs.Serving.{BeginsEmpty};
 ghost use Rattle.pgn_run.specs.Conversation.{NamesNoFlags, RunsLegally, session_section, wire_plan, wire_shape};
 
-use pgn_base::{DbOid, NOTE_LINES_MAX, Name, PAGES_DEFAULT, SessionNo};
+use pgn_base::{DbOid, Format, NOTE_LINES_MAX, Name, PAGES_DEFAULT, SessionNo};
 use pgn_hub::{Hub, PassView, SeatSetup, Setup};
 use pgn_language::{Act, LineText, ScriptLine, ScriptLines, Section};
 use pgn_session::{Doing, FlagPlan, Session};
@@ -27,7 +27,7 @@ pub(crate) fn open<P: PassView + Send + Drop, H: Hub<Pass = P> + Drop>(
 {
     let section = section(alloc)?;
     let seats = seats(alloc)?;
-    let setup = Setup::new(PAGES_DEFAULT, 1, seats);
+    let setup = Setup::new(PAGES_DEFAULT, 1, seats, Format::One);
     let (hub, passes) = H::open(alloc, setup)?;
     let pass = only(passes);
     let plan = FlagPlan {

@@ -12,7 +12,7 @@ ghost use Rattle.pgn_run.specs.Live.{EarlyOver, EndsOver, LiveOver, SoFarOver, c
 ghost use Rattle.pgn_run.specs.Run.{HasWritten, settings_with};
 
 use crate::Status;
-use pgn_base::{Failed, Sink};
+use pgn_base::{Failed, Format, Sink};
 use pgn_hub::{Hub, PassView};
 use pgn_journal::Tx;
 use pgn_language::{Scenario, Section};
@@ -33,24 +33,25 @@ pub fn run_scenario_live<H: Hub + Sync + Drop, K: Sink + Send, R: Threads + Wait
     scenario: &Scenario,
     pages: u32,
     patience: u64,
+    format: Format,
     sink: &mut K,
 ) -> Status
     requires sound { IsSound scenario.now }
     requires some_pages { PAGES_MIN ≤ pages }
     requires few_pages { pages ≤ PAGES_MAX }
     requires patient { 1 ≤ patience }
-    ensures done { result ≡ Status.Done → LiveOver scenario.now (settings_with pages patience) (Appends (K.held sink.old) (K.held sink.new)) }
+    ensures done { result ≡ Status.Done → LiveOver scenario.now (settings_with pages patience format) (Appends (K.held sink.old) (K.held sink.new)) }
     ensures write_fault { result ≡ Status.WriteFault → Rose (K.faults sink.old) (K.faults sink.new) }
     ensures write_fault_where_due { K.faults sink.old < K.faults sink.new → result ≡ Status.WriteFault }
     ensures write_fault_writes_a_prefix { result ≡ Status.WriteFault
-        → LiveOver scenario.now (settings_with pages patience) (AppendsPrefix (K.held sink.old) (K.held sink.new))
-        ⊎ EarlyOver scenario.now (settings_with pages patience) (AppendsPrefix (K.held sink.old) (K.held sink.new)) }
+        → LiveOver scenario.now (settings_with pages patience format) (AppendsPrefix (K.held sink.old) (K.held sink.new))
+        ⊎ EarlyOver scenario.now (settings_with pages patience format) (AppendsPrefix (K.held sink.old) (K.held sink.new)) }
     ensures no_memory_writes_first_lines { result ≡ Status.NoMemory
-        → (K.held sink.new ≡ K.held sink.old) ⊎ SoFarOver scenario.now (settings_with pages patience) (Appends (K.held sink.old) (K.held sink.new)) }
+        → (K.held sink.new ≡ K.held sink.old) ⊎ SoFarOver scenario.now (settings_with pages patience format) (Appends (K.held sink.old) (K.held sink.new)) }
     ensures only { (result ≡ Status.Done) ⊎ (result ≡ Status.WriteFault) ⊎ (result ≡ Status.NoMemory) }
     ensures later { K.faults sink.old ≤ K.faults sink.new }
 {
-    let Ok((hub, mut sessions)) = open_on_hub::<H>(alloc, scenario, pages, patience) else {
+    let Ok((hub, mut sessions)) = open_on_hub::<H>(alloc, scenario, pages, patience, format) else {
         return Status::NoMemory;
     };
     let sections = scenario.sections.as_slice();

@@ -19,7 +19,7 @@ use crate::input::{Unread, read_input};
 use crate::print::Shows;
 use crate::wire::wire;
 use crate::{Print, Status, run_scenario, run_scenario_live};
-use pgn_base::{INPUT_BYTES_MAX, PAGES_MAX, Sink, Source};
+use pgn_base::{Format, INPUT_BYTES_MAX, PAGES_MAX, Sink, Source};
 use pgn_drill::drill_text;
 use pgn_hub::Hub;
 use pgn_language::Scenario;
@@ -78,7 +78,7 @@ pub fn run_notify<'a, S: Source, K: Sink + Send, R: Threads + Wait + Sync>(
 
     ensures no_memory_writes_nothing { ¬ AskToRunLive (map (λ word. word.now) words.now) → ¬ AskToWire (map (λ word. word.now) words.now) → result ≡ Status.NoMemory → K.held sink.new ≡ K.held sink.old }
     ensures no_memory_writes_first_lines { (ask : AskToRunLive (map (λ word. word.now) words.now)) → result ≡ Status.NoMemory
-        → (K.held sink.new ≡ K.held sink.old) ⊎ IfSome (S.left source.old) (λ input. SoFarRuns (settings_with ask.pages ask.patience) input (Appends (K.held sink.old) (K.held sink.new))) }
+        → (K.held sink.new ≡ K.held sink.old) ⊎ IfSome (S.left source.old) (λ input. SoFarRuns (settings_with ask.pages ask.patience ask.format) input (Appends (K.held sink.old) (K.held sink.new))) }
     ensures no_memory_writes_whole_answers { AskToWire (map (λ word. word.now) words.now) → result ≡ Status.NoMemory → IfSome (S.left source.old) (λ bytes.
         StopsAmong bytes (WroteWhole (K.held sink.old) (K.held sink.new))) }
 
@@ -114,9 +114,10 @@ pub fn run_notify<'a, S: Source, K: Sink + Send, R: Threads + Wait + Sync>(
             Asked::Run {
                 pages,
                 patience,
+                format,
                 live,
             },
-        ) => run::<S, K, R>(rt, alloc, pages, patience, shows_if(live), source, sink),
+        ) => run::<S, K, R>(rt, alloc, pages, patience, format, shows_if(live), source, sink),
         Ok(
             Asked::Drill {
                 seed,
@@ -147,6 +148,7 @@ fn run<S: Source, K: Sink + Send, R: Threads + Wait + Sync>(
     alloc: Global,
     pages: u32,
     patience: u64,
+    format: Format,
     shows: Shows,
     source: &mut S,
     sink: &mut K,
@@ -155,7 +157,7 @@ fn run<S: Source, K: Sink + Send, R: Threads + Wait + Sync>(
     requires few_pages { pages ≤ PAGES_MAX }
     requires patient { 1 ≤ patience }
     ensures done { result ≡ Status.Done → IfSome (S.left source.old) (λ input.
-        Shown shows (settings_with pages patience) input (Appends (K.held sink.old) (K.held sink.new))) }
+        Shown shows (settings_with pages patience format) input (Appends (K.held sink.old) (K.held sink.new))) }
     ensures done_reads_all { result ≡ Status.Done → OnSome (S.left source.old) (IsAtEnd (S.left source.new)) }
     ensures right_words { result ≢ Status.BadWords }
     ensures no_wire { (fault : WireFault) → result ≢ Status.BadWire fault }
@@ -173,10 +175,10 @@ fn run<S: Source, K: Sink + Send, R: Threads + Wait + Sync>(
     ensures write_fault { result ≡ Status.WriteFault → Rose (K.faults sink.old) (K.faults sink.new) }
     ensures write_fault_where_due { K.faults sink.old < K.faults sink.new → result ≡ Status.WriteFault }
     ensures write_fault_writes_a_prefix { result ≡ Status.WriteFault → IfSome (S.left source.old) (λ input.
-        ShownInPart shows (settings_with pages patience) input (AppendsPrefix (K.held sink.old) (K.held sink.new))) }
+        ShownInPart shows (settings_with pages patience format) input (AppendsPrefix (K.held sink.old) (K.held sink.new))) }
     ensures no_memory_writes_nothing { (print : Print) → shows ≡ Shows.AtEnd print → result ≡ Status.NoMemory → K.held sink.new ≡ K.held sink.old }
     ensures no_memory_writes_first_lines { result ≡ Status.NoMemory → (K.held sink.new ≡ K.held sink.old) ⊎ IfSome (S.left source.old) (λ input.
-        IsShownSoFar shows (settings_with pages patience) input (K.held sink.old) (K.held sink.new)) }
+        IsShownSoFar shows (settings_with pages patience format) input (K.held sink.old) (K.held sink.new)) }
     ensures what_was_read { HasRead result → IfSome (S.left source.old) (λ left.
         Consumes (S.left source.old) (S.left source.new) (take (INPUT_BYTES_MAX + 1) left)) }
     ensures complete { (scenario : Scenario)
@@ -186,7 +188,7 @@ fn run<S: Source, K: Sink + Send, R: Threads + Wait + Sync>(
         → (result ≡ Status.Done) ⊎ (result ≡ Status.NoMemory) }
 {
     match read_input(alloc, source, READ_LIMIT) {
-        Ok(input) => answer::<WordHub, K, R>(rt, alloc, input, pages, patience, shows, sink),
+        Ok(input) => answer::<WordHub, K, R>(rt, alloc, input, pages, patience, format, shows, sink),
         Err(Unread::Failed) => Status::ReadFault,
         Err(Unread::Memory) => Status::NoMemory,
     }
@@ -214,7 +216,16 @@ fn drill<K: Sink + Send, R: Threads + Wait + Sync>(
         return Status::NoMemory;
     };
     let shows = Shows::AtEnd(Print::Summary { seed, notes });
-    match answer::<WordHub, K, R>(rt, alloc, input, PAGES_MAX, PATIENCE_MAX, shows, sink) {
+    match answer::<WordHub, K, R>(
+        rt,
+        alloc,
+        input,
+        PAGES_MAX,
+        PATIENCE_MAX,
+        Format::One,
+        shows,
+        sink,
+    ) {
         Status::BadScenario(_) => Status::NoMemory,
         status => status,
     }
@@ -228,13 +239,14 @@ fn answer<H: Hub + Sync + Drop, K: Sink + Send, R: Threads + Wait + Sync>(
     input: Vec<u8>,
     pages: u32,
     patience: u64,
+    format: Format,
     shows: Shows,
     sink: &mut K,
 ) -> Status
     requires some_pages { PAGES_MIN ≤ pages }
     requires few_pages { pages ≤ PAGES_MAX }
     requires patient { 1 ≤ patience }
-    ensures answers { Answers shows (settings_with pages patience) input.items (K.held sink.old) (K.held sink.new) (K.faults sink.old) (K.faults sink.new) result }
+    ensures answers { Answers shows (settings_with pages patience format) input.items (K.held sink.old) (K.held sink.new) (K.faults sink.old) (K.faults sink.new) result }
     ensures later { K.faults sink.old ≤ K.faults sink.new }
     ensures rose { K.faults sink.old < K.faults sink.new → result ≡ Status.WriteFault }
 {
@@ -242,7 +254,9 @@ fn answer<H: Hub + Sync + Drop, K: Sink + Send, R: Threads + Wait + Sync>(
     drop(input);
     match reading {
         Ok(Ok(scenario)) => {
-            let status = play::<H, K, R>(rt, alloc, &scenario, pages, patience, shows, sink);
+            let status = play::<H, K, R>(
+                rt, alloc, &scenario, pages, patience, format, shows, sink,
+            );
             mem::forget(scenario);
             status
         }
@@ -258,6 +272,7 @@ fn play<H: Hub + Sync + Drop, K: Sink + Send, R: Threads + Wait + Sync>(
     scenario: &Scenario,
     pages: u32,
     patience: u64,
+    format: Format,
     shows: Shows,
     sink: &mut K,
 ) -> Status
@@ -266,14 +281,16 @@ fn play<H: Hub + Sync + Drop, K: Sink + Send, R: Threads + Wait + Sync>(
     requires few_pages { pages ≤ PAGES_MAX }
     requires patient { 1 ≤ patience }
     ensures answers { (input : List ℕ) → ReadsAsScenario input (Ok scenario.now)
-        → Answers shows (settings_with pages patience) input (K.held sink.old) (K.held sink.new) (K.faults sink.old) (K.faults sink.new) result }
+        → Answers shows (settings_with pages patience format) input (K.held sink.old) (K.held sink.new) (K.faults sink.old) (K.faults sink.new) result }
     ensures later { K.faults sink.old ≤ K.faults sink.new }
     ensures rose { K.faults sink.old < K.faults sink.new → result ≡ Status.WriteFault }
 {
     match shows {
         Shows::AtEnd(print) => {
-            run_scenario::<H, K, R>(rt, alloc, scenario, pages, patience, print, sink)
+            run_scenario::<H, K, R>(rt, alloc, scenario, pages, patience, format, print, sink)
         }
-        Shows::Live => run_scenario_live::<H, K, R>(rt, alloc, scenario, pages, patience, sink),
+        Shows::Live => run_scenario_live::<H, K, R>(
+            rt, alloc, scenario, pages, patience, format, sink,
+        ),
     }
 }

@@ -7,7 +7,7 @@ ghost use Rattle.pgn_model.specs.Text.{brief, text};
 ghost use Rattle.pgn_run.specs.Run.{RunsOver, HasWritten, printed, settings_with};
 
 use crate::{Print, Status};
-use pgn_base::{Failed, Sink};
+use pgn_base::{Failed, Format, Sink};
 use pgn_drill::{received, summary};
 use pgn_hub::Hub;
 use pgn_language::Scenario;
@@ -18,8 +18,8 @@ use std::mem;
 use std::sync::Wait;
 use std::thread::Threads;
 
-/// Runs a scenario over a hub of this type, with a limit of so many pages, its sessions side by side, where an await takes so many
-/// looks, made or slept over. Writes what is asked for of the run to the sink. The run is not freed: the program ends with this
+/// Runs a scenario over a hub of this type, with a limit of so many pages and entries of this format, its sessions side by side, where
+/// an await takes so many looks, made or slept over. Writes what is asked for of the run to the sink. The run is not freed: the program ends with this
 /// answer, and to free it piece by piece is a tenth of it.
 pub fn run_scenario<H: Hub + Sync + Drop, K: Sink, R: Threads + Wait + Sync>(
     rt: &R,
@@ -27,6 +27,7 @@ pub fn run_scenario<H: Hub + Sync + Drop, K: Sink, R: Threads + Wait + Sync>(
     scenario: &Scenario,
     pages: u32,
     patience: u64,
+    format: Format,
     print: Print,
     sink: &mut K,
 ) -> Status
@@ -34,15 +35,15 @@ pub fn run_scenario<H: Hub + Sync + Drop, K: Sink, R: Threads + Wait + Sync>(
     requires some_pages { PAGES_MIN ≤ pages }
     requires few_pages { pages ≤ PAGES_MAX }
     requires patient { 1 ≤ patience }
-    ensures done { result ≡ Status.Done → RunsOver print scenario.now (settings_with pages patience) (Appends (K.held sink.old) (K.held sink.new)) }
+    ensures done { result ≡ Status.Done → RunsOver print scenario.now (settings_with pages patience format) (Appends (K.held sink.old) (K.held sink.new)) }
     ensures write_fault { result ≡ Status.WriteFault → Rose (K.faults sink.old) (K.faults sink.new) }
     ensures write_fault_where_due { K.faults sink.old < K.faults sink.new → result ≡ Status.WriteFault }
-    ensures write_fault_writes_a_prefix { result ≡ Status.WriteFault → RunsOver print scenario.now (settings_with pages patience) (AppendsPrefix (K.held sink.old) (K.held sink.new)) }
+    ensures write_fault_writes_a_prefix { result ≡ Status.WriteFault → RunsOver print scenario.now (settings_with pages patience format) (AppendsPrefix (K.held sink.old) (K.held sink.new)) }
     ensures no_memory_writes_nothing { result ≡ Status.NoMemory → K.held sink.new ≡ K.held sink.old }
     ensures only { (result ≡ Status.Done) ⊎ (result ≡ Status.WriteFault) ⊎ (result ≡ Status.NoMemory) }
     ensures later { K.faults sink.old ≤ K.faults sink.new }
 {
-    match run_on_hub::<H, R>(rt, alloc, scenario, pages, patience) {
+    match run_on_hub::<H, R>(rt, alloc, scenario, pages, patience, format) {
         Ok(played) => {
             let status = write_run(scenario, print, &played, sink);
             mem::forget(played);

@@ -21,7 +21,7 @@ run-requires-clause-patient g c κs within = (subst IsWithin c.in-Ok-Run.field-0
 
 pub returns-in-Ok-Run-clause-done : goal.returns-in-Ok-Run-clause-done
 returns-in-Ok-Run-clause-done g c = λ e. record {
-  asked = Run c.in-Ok-Run.pages c.in-Ok-Run.patience c.in-Ok-Run.live;
+  asked = Run c.in-Ok-Run.pages c.in-Ok-Run.patience c.in-Ok-Run.format c.in-Ok-Run.live;
   asks = c.in-Ok-Run.ensures.asked ∙ ap Some c.in-Ok-Run.field-0-is;
   done = rw c.shows_if.ensures at (c.run.ensures.done e);
 }
@@ -40,7 +40,7 @@ returns-in-Ok-Run-clause-bad_words_write_nothing g c = λ none. absurd (no-other
 
 pub returns-in-Ok-Run-clause-bad_scenario : goal.returns-in-Ok-Run-clause-bad_scenario
 returns-in-Ok-Run-clause-bad_scenario g c = λ fault e. (
-  record { pages = c.in-Ok-Run.pages; patience = c.in-Ok-Run.patience; live = c.in-Ok-Run.live; asks = c.in-Ok-Run.ensures.asked ∙ ap Some c.in-Ok-Run.field-0-is },
+  record { pages = c.in-Ok-Run.pages; patience = c.in-Ok-Run.patience; format = c.in-Ok-Run.format; live = c.in-Ok-Run.live; asks = c.in-Ok-Run.ensures.asked ∙ ap Some c.in-Ok-Run.field-0-is },
   c.run.ensures.bad_scenario fault e,
 )
 
@@ -49,13 +49,13 @@ returns-in-Ok-Run-clause-bad_scenario_where_due g c = λ fault ask reads rose. c
 
 pub returns-in-Ok-Run-clause-read_fault : goal.returns-in-Ok-Run-clause-read_fault
 returns-in-Ok-Run-clause-read_fault g c = λ e. (
-  inl (record { pages = c.in-Ok-Run.pages; patience = c.in-Ok-Run.patience; live = c.in-Ok-Run.live; asks = c.in-Ok-Run.ensures.asked ∙ ap Some c.in-Ok-Run.field-0-is }),
+  inl (record { pages = c.in-Ok-Run.pages; patience = c.in-Ok-Run.patience; format = c.in-Ok-Run.format; live = c.in-Ok-Run.live; asks = c.in-Ok-Run.ensures.asked ∙ ap Some c.in-Ok-Run.field-0-is }),
   c.run.ensures.read_fault e,
 )
 
 pub returns-in-Ok-Run-clause-write_fault_writes_a_prefix : goal.returns-in-Ok-Run-clause-write_fault_writes_a_prefix
 returns-in-Ok-Run-clause-write_fault_writes_a_prefix g c = λ e. record {
-  asked = Run c.in-Ok-Run.pages c.in-Ok-Run.patience c.in-Ok-Run.live;
+  asked = Run c.in-Ok-Run.pages c.in-Ok-Run.patience c.in-Ok-Run.format c.in-Ok-Run.live;
   asks = c.in-Ok-Run.ensures.asked ∙ ap Some c.in-Ok-Run.field-0-is;
   done = rw c.shows_if.ensures at (c.run.ensures.write_fault_writes_a_prefix e);
 }
@@ -63,24 +63,24 @@ returns-in-Ok-Run-clause-write_fault_writes_a_prefix g c = λ e. record {
 pub returns-in-Ok-Run-clause-no_memory_writes_nothing : goal.returns-in-Ok-Run-clause-no_memory_writes_nothing
 returns-in-Ok-Run-clause-no_memory_writes_nothing g c = λ once other e.
     c.run.ensures.no_memory_writes_nothing Text
-    (c.shows_if.ensures ∙ shows-once (map (λ word. word.now) c.args.words.now) c.in-Ok-Run.pages c.in-Ok-Run.patience c.in-Ok-Run.live once (c.in-Ok-Run.ensures.asked ∙ ap Some c.in-Ok-Run.field-0-is)) e
+    (c.shows_if.ensures ∙ shows-once (map (λ word. word.now) c.args.words.now) c.in-Ok-Run.pages c.in-Ok-Run.patience c.in-Ok-Run.format c.in-Ok-Run.live once (c.in-Ok-Run.ensures.asked ∙ ap Some c.in-Ok-Run.field-0-is)) e
 
 pub returns-in-Ok-Run-clause-no_memory_writes_first_lines : goal.returns-in-Ok-Run-clause-no_memory_writes_first_lines
 returns-in-Ok-Run-clause-no_memory_writes_first_lines g c = λ ask e.
-    let same = same-run (map (λ word. word.now) c.args.words.now) c.in-Ok-Run.pages c.in-Ok-Run.patience c.in-Ok-Run.live ask (c.in-Ok-Run.ensures.asked ∙ ap Some c.in-Ok-Run.field-0-is) in
-    rw (same.0, same.1)
+    let same = same-run (map (λ word. word.now) c.args.words.now) c.in-Ok-Run.pages c.in-Ok-Run.patience c.in-Ok-Run.format c.in-Ok-Run.live ask (c.in-Ok-Run.ensures.asked ∙ ap Some c.in-Ok-Run.field-0-is) in
+    rw (same.0, same.1, same.2)
     (elim (c.run.ensures.no_memory_writes_first_lines e) [
       | inl nothing ↦ inl nothing
-      | inr part ↦ so_far-known (g.S.Source.left c.args.source.now) c.shows_if.result _ _ _ (c.shows_if.ensures ∙ ap shows_if same.2) part
+      | inr part ↦ so_far-known (g.S.Source.left c.args.source.now) c.shows_if.result _ _ _ (c.shows_if.ensures ∙ ap shows_if same.3) part
     ])
 
 pub returns-in-Ok-Run-clause-drill_reads_nothing : goal.returns-in-Ok-Run-clause-drill_reads_nothing
 returns-in-Ok-Run-clause-drill_reads_nothing g c = λ ask.
-    absurd (no-drill (map (λ word. word.now) c.args.words.now) c.in-Ok-Run.pages c.in-Ok-Run.patience c.in-Ok-Run.live (c.in-Ok-Run.ensures.asked ∙ ap Some c.in-Ok-Run.field-0-is) ask)
+    absurd (no-drill (map (λ word. word.now) c.args.words.now) c.in-Ok-Run.pages c.in-Ok-Run.patience c.in-Ok-Run.format c.in-Ok-Run.live (c.in-Ok-Run.ensures.asked ∙ ap Some c.in-Ok-Run.field-0-is) ask)
 
 pub returns-in-Ok-Run-clause-drill_complete : goal.returns-in-Ok-Run-clause-drill_complete
 returns-in-Ok-Run-clause-drill_complete g c = λ ask rose.
-    absurd (no-drill (map (λ word. word.now) c.args.words.now) c.in-Ok-Run.pages c.in-Ok-Run.patience c.in-Ok-Run.live (c.in-Ok-Run.ensures.asked ∙ ap Some c.in-Ok-Run.field-0-is) ask)
+    absurd (no-drill (map (λ word. word.now) c.args.words.now) c.in-Ok-Run.pages c.in-Ok-Run.patience c.in-Ok-Run.format c.in-Ok-Run.live (c.in-Ok-Run.ensures.asked ∙ ap Some c.in-Ok-Run.field-0-is) ask)
 
 pub returns-in-Ok-Drill-clause-done : goal.returns-in-Ok-Drill-clause-done
 returns-in-Ok-Drill-clause-done g c = λ e. record {
@@ -155,16 +155,16 @@ returns-in-Err-BadWords-clause-drill_complete g c = λ ask none.
     absurd (none-drills (map (λ word. word.now) c.args.words.now) (c.in-Err-BadWords.ensures.bad_words (ap Err c.in-Err-BadWords.field-0-is)) ask)
 
 pub returns-in-Ok-Run-clause-read_fault_writes_answers : goal.returns-in-Ok-Run-clause-read_fault_writes_answers
-returns-in-Ok-Run-clause-read_fault_writes_answers g c = λ ask. absurd (run-no_wire (map (λ word. word.now) c.args.words.now) c.in-Ok-Run.pages c.in-Ok-Run.patience c.in-Ok-Run.live (c.in-Ok-Run.ensures.asked ∙ ap Some c.in-Ok-Run.field-0-is) ask)
+returns-in-Ok-Run-clause-read_fault_writes_answers g c = λ ask. absurd (run-no_wire (map (λ word. word.now) c.args.words.now) c.in-Ok-Run.pages c.in-Ok-Run.patience c.in-Ok-Run.format c.in-Ok-Run.live (c.in-Ok-Run.ensures.asked ∙ ap Some c.in-Ok-Run.field-0-is) ask)
 
 pub returns-in-Ok-Run-clause-no_memory_writes_whole_answers : goal.returns-in-Ok-Run-clause-no_memory_writes_whole_answers
-returns-in-Ok-Run-clause-no_memory_writes_whole_answers g c = λ ask. absurd (run-no_wire (map (λ word. word.now) c.args.words.now) c.in-Ok-Run.pages c.in-Ok-Run.patience c.in-Ok-Run.live (c.in-Ok-Run.ensures.asked ∙ ap Some c.in-Ok-Run.field-0-is) ask)
+returns-in-Ok-Run-clause-no_memory_writes_whole_answers g c = λ ask. absurd (run-no_wire (map (λ word. word.now) c.args.words.now) c.in-Ok-Run.pages c.in-Ok-Run.patience c.in-Ok-Run.format c.in-Ok-Run.live (c.in-Ok-Run.ensures.asked ∙ ap Some c.in-Ok-Run.field-0-is) ask)
 
 pub returns-in-Ok-Run-clause-bad_wire_where_due : goal.returns-in-Ok-Run-clause-bad_wire_where_due
-returns-in-Ok-Run-clause-bad_wire_where_due g c = λ fault ask. absurd (run-no_wire (map (λ word. word.now) c.args.words.now) c.in-Ok-Run.pages c.in-Ok-Run.patience c.in-Ok-Run.live (c.in-Ok-Run.ensures.asked ∙ ap Some c.in-Ok-Run.field-0-is) ask)
+returns-in-Ok-Run-clause-bad_wire_where_due g c = λ fault ask. absurd (run-no_wire (map (λ word. word.now) c.args.words.now) c.in-Ok-Run.pages c.in-Ok-Run.patience c.in-Ok-Run.format c.in-Ok-Run.live (c.in-Ok-Run.ensures.asked ∙ ap Some c.in-Ok-Run.field-0-is) ask)
 
 pub returns-in-Ok-Run-clause-wire_complete : goal.returns-in-Ok-Run-clause-wire_complete
-returns-in-Ok-Run-clause-wire_complete g c = λ ask. absurd (run-no_wire (map (λ word. word.now) c.args.words.now) c.in-Ok-Run.pages c.in-Ok-Run.patience c.in-Ok-Run.live (c.in-Ok-Run.ensures.asked ∙ ap Some c.in-Ok-Run.field-0-is) ask)
+returns-in-Ok-Run-clause-wire_complete g c = λ ask. absurd (run-no_wire (map (λ word. word.now) c.args.words.now) c.in-Ok-Run.pages c.in-Ok-Run.patience c.in-Ok-Run.format c.in-Ok-Run.live (c.in-Ok-Run.ensures.asked ∙ ap Some c.in-Ok-Run.field-0-is) ask)
 
 pub returns-in-Ok-Drill-clause-read_fault_writes_answers : goal.returns-in-Ok-Drill-clause-read_fault_writes_answers
 returns-in-Ok-Drill-clause-read_fault_writes_answers g c = λ ask. absurd (drill-no_wire (map (λ word. word.now) c.args.words.now) c.in-Ok-Drill.seed c.in-Ok-Drill.sessions c.in-Ok-Drill.notes (c.in-Ok-Drill.ensures.asked ∙ ap Some c.in-Ok-Drill.field-0-is) ask)
