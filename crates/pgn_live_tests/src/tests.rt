@@ -3,7 +3,7 @@ ghost use Rattle.pgn_language.specs.Inputs.{AreNumbered, IsSound};
 ghost use Rattle.pgn_live.specs.Playing.{sections_of};
 ghost use Rattle.pgn_session.specs.Runs.{IsReady};
 
-use pgn_base::PAGES_DEFAULT;
+use pgn_base::{Format, PAGES_DEFAULT};
 use pgn_hub::Hub;
 use pgn_language::Scenario;
 use pgn_scenario::read_scenario;
@@ -37,7 +37,7 @@ fn open<H: Hub + Drop>(
     ensures numbered { IfOk result (λ opened. AreNumbered 1 (sections_of opened.1.items)) }
     ensures few { IfOk result (λ opened. length opened.1.items ≤ 256) }
 {
-    let (hub, sessions) = open_on_hub::<H>(alloc, scenario, PAGES_DEFAULT, patience)?;
+    let (hub, sessions) = open_on_hub::<H>(alloc, scenario, PAGES_DEFAULT, patience, Format::One)?;
     Ok((hub, sessions))
 }
 

@@ -1,7 +1,7 @@
 ghost use Rattle.std.specs.Prelude.{IfOk, ◌≤◌};
 ghost use Rattle.pgn_language.specs.Inputs.{IsSound};
 
-use pgn_base::{MemSink, MemSource, PAGES_DEFAULT, Sink, Source};
+use pgn_base::{Format, MemSink, MemSource, PAGES_DEFAULT, Sink, Source};
 use pgn_hub::Hub;
 use pgn_language::{Scenario, ScenarioFault};
 use pgn_run::{Print, Status, run_notify, run_scenario};
@@ -148,7 +148,16 @@ fn status_over<H: Hub + Sync + Drop, K: Sink, R: Threads + Wait + Sync>(
     requires sound { IsSound scenario.now }
     requires patient { 1 ≤ patience }
 {
-    run_scenario::<H, K, R>(rt, alloc, scenario, PAGES_DEFAULT, patience, print, sink)
+    run_scenario::<H, K, R>(
+        rt,
+        alloc,
+        scenario,
+        PAGES_DEFAULT,
+        patience,
+        Format::One,
+        print,
+        sink,
+    )
 }
 
 // What comes of this input over a hub of this type, with so much patience.

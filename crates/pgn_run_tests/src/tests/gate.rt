@@ -1,7 +1,7 @@
 use super::probe::{Gate, Probe, Watch};
 use super::turns::awaits_of;
 use super::{SELF_NOTIFY, scenario_of, shown_over};
-use pgn_base::{PAGES_DEFAULT, PATIENCE_DEFAULT};
+use pgn_base::{Format, PAGES_DEFAULT, PATIENCE_DEFAULT};
 use pgn_drill::drill_text;
 use pgn_run::Print;
 use pgn_threads::{open_on_hub, run_sessions};
@@ -23,6 +23,7 @@ fn sessions_run_side_by_side(rt: HostRuntime) -> Result<(), Fail> {
         &scenario,
         PAGES_DEFAULT,
         PATIENCE_DEFAULT,
+        Format::One,
     )?;
     run_sessions(&rt, alloc, &hub, sessions.as_mut_slice())?;
     assert!(rt; !hub.is_spent());
@@ -108,6 +109,7 @@ fn where_a_session_is_refused_memory_the_others_end(rt: HostRuntime) -> Result<(
         &scenario,
         PAGES_DEFAULT,
         100_000,
+        Format::One,
     )?;
     let ended = run_sessions(&rt, alloc, &hub, sessions.as_mut_slice());
     assert!(rt; ended.is_err());
@@ -145,7 +147,13 @@ LISTEN c
 fn a_session_that_waits_looks_whether_it_was_woken(rt: HostRuntime) -> Result<(), Fail> {
     let alloc = rt.alloc();
     let scenario = scenario_of(alloc, AWAITS_ITSELF)?;
-    let (hub, mut sessions) = open_on_hub::<Probe<Gate<0>>>(alloc, &scenario, PAGES_DEFAULT, 10)?;
+    let (hub, mut sessions) = open_on_hub::<Probe<Gate<0>>>(
+        alloc,
+        &scenario,
+        PAGES_DEFAULT,
+        10,
+        Format::One,
+    )?;
     run_sessions(&rt, alloc, &hub, sessions.as_mut_slice())?;
     assert_eq!(rt; hub.wake_looks(), 13);
     Ok(())
@@ -169,7 +177,13 @@ UNLISTEN d
 fn a_session_tells_its_channels_where_it_has_acted(rt: HostRuntime) -> Result<(), Fail> {
     let alloc = rt.alloc();
     let scenario = scenario_of(alloc, LISTENS_AND_UNLISTENS)?;
-    let (hub, mut sessions) = open_on_hub::<Probe<Watch<0>>>(alloc, &scenario, PAGES_DEFAULT, 10)?;
+    let (hub, mut sessions) = open_on_hub::<Probe<Watch<0>>>(
+        alloc,
+        &scenario,
+        PAGES_DEFAULT,
+        10,
+        Format::One,
+    )?;
     run_sessions(&rt, alloc, &hub, sessions.as_mut_slice())?;
     assert_eq!(rt; hub.interests(), 3);
     Ok(())

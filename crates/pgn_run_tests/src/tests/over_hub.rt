@@ -4,7 +4,7 @@ ghost use Rattle.pgn_session.specs.Runs.{IsReady, IsOver};
 ghost use Rattle.pgn_session.specs.declared.doing.Doing.TheVariants.{Over};
 
 use super::scenario_of;
-use pgn_base::{DbOid, Name, Note, Payload};
+use pgn_base::{DbOid, Format, Name, Note, Payload};
 use pgn_hub::{Hub, PassView, SeatSetup, Setup};
 use pgn_model::Item;
 use pgn_session::{Session, Step};
@@ -119,7 +119,7 @@ fn read_after_the_block<P: PassView + Send + Drop, H: Hub<Pass = P> + Drop, R: W
 ) -> Result<(bool, bool, bool), Fail> {
     let input = "\\session a 1\nLISTEN c\nBEGIN\nNOTIFY c\nCOMMIT\n\\session b 1\n";
     let scenario = scenario_of(alloc, input)?;
-    let (hub, mut sessions) = open_on_hub::<H>(alloc, &scenario, 2, 1000)?;
+    let (hub, mut sessions) = open_on_hub::<H>(alloc, &scenario, 2, 1000, Format::One)?;
     take_the_first(rt, alloc, &hub, sessions.as_mut_slice())
 }
 
@@ -223,7 +223,7 @@ fn read_as_it_is_drained<P: PassView + Send + Drop, H: Hub<Pass = P> + Drop, R: 
     alloc: Global,
 ) -> Result<(bool, bool), Fail> {
     let scenario = scenario_of(alloc, "\\session a 1\nLISTEN c\n\\session b 1\nNOTIFY c\n")?;
-    let (hub, mut sessions) = open_on_hub::<H>(alloc, &scenario, 2, 1000)?;
+    let (hub, mut sessions) = open_on_hub::<H>(alloc, &scenario, 2, 1000, Format::One)?;
     end_and_drain(rt, alloc, &hub, sessions.as_mut_slice())
 }
 
@@ -312,7 +312,7 @@ fn open_passes<P: PassView + Send + Drop, H: Hub<Pass = P> + Drop>(
     let mut seats = Vec::with_capacity(alloc, 2)?;
     seats.push(seat(notes))?;
     seats.push(seat(notes))?;
-    let (hub, mut passes) = H::open(alloc, Setup::new(2, 2, seats))?;
+    let (hub, mut passes) = H::open(alloc, Setup::new(2, 2, seats, Format::One))?;
     let Some(second) = passes.pop() else {
         return Err(Fail::from("no pass"));
     };

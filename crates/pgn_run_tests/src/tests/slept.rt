@@ -5,7 +5,7 @@ ghost use Rattle.pgn_session.specs.Runs.{IsReady};
 use super::probe::{Probe, Watch};
 use super::scenario_of;
 use super::turns::awaits_of;
-use pgn_base::PAGES_DEFAULT;
+use pgn_base::{Format, PAGES_DEFAULT};
 use pgn_hub::{Hub, PassView};
 use pgn_session::Session;
 use pgn_threads::{open_on_hub, run_in_turns};
@@ -88,6 +88,7 @@ fn sessions_that_take_turns_count_no_more_than_they_sleep(rt: HostRuntime) -> Re
         &scenario,
         PAGES_DEFAULT,
         1_000_000,
+        Format::One,
     )?;
     run_two_beside(&rt, alloc, &hub, sessions.as_mut_slice())?;
     assert!(rt; !hub.is_spent());

@@ -1,6 +1,6 @@
 use super::probe::{Probe, Watch};
 use super::{CROSSING_FLAGS, scenario_of};
-use pgn_base::PAGES_DEFAULT;
+use pgn_base::{Format, PAGES_DEFAULT};
 use pgn_hub::PassView;
 use pgn_model::Item;
 use pgn_session::Session;
@@ -41,6 +41,7 @@ fn awaits_in_turns<R: Wait>(rt: &R, alloc: Global, input: &str) -> Result<(Strin
         &scenario,
         PAGES_DEFAULT,
         1_000_000,
+        Format::One,
     )?;
     run_in_turns(rt, alloc, &hub, sessions.as_mut_slice())?;
     let mut lines = String::new(alloc);

@@ -1,6 +1,6 @@
 use super::probe::{Probe, Watch};
 use super::{scenario_of, shown_over};
-use pgn_base::PAGES_DEFAULT;
+use pgn_base::{Format, PAGES_DEFAULT};
 use pgn_run::Print;
 use pgn_threads::{open_on_hub, run_sessions};
 use pgn_wordhub::WordHub;
@@ -28,6 +28,7 @@ fn a_listener_reads_while_it_sleeps_for_a_flag(rt: HostRuntime) -> Result<(), Fa
         &scenario,
         PAGES_DEFAULT,
         u64::MAX,
+        Format::One,
     )?;
     run_sessions(&rt, alloc, &hub, sessions.as_mut_slice())?;
     assert!(rt; !hub.is_spent());
