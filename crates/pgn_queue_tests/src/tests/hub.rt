@@ -4,7 +4,8 @@ ghost use Rattle.pgn_words.specs.Passes.{known_of};
 ghost use Rattle.pgn_wordhub.specs.Passes.{IsHubPass, hub_shape};
 
 use pgn_base::{
-    Action, Actions, DbOid, Delivery, Enlisted, ListenSet, Name, Note, Payload, SessionNo, Xid,
+    Action, Actions, DbOid, Delivery, Enlisted, Format, ListenSet, Name, Note, Payload, SessionNo,
+    Xid,
 };
 use pgn_hub::{Hub, PassView, SeatSetup, Setup};
 use pgn_wordhub::WordHub;
@@ -15,6 +16,7 @@ use std::sync::Wait;
 use std::test::Fail;
 
 mod calls;
+mod formats;
 mod full;
 mod interest;
 mod sharing;
@@ -70,7 +72,7 @@ fn seat(db: u32) -> SeatSetup
 }
 
 // What a hub of so many pages and two flags is opened for, with two sessions, of which the first is in database 1.
-fn setup_of_two(alloc: Global, pages: u32, second_db: u32) -> Result<Setup, Fail>
+fn setup_of_two(alloc: Global, format: Format, pages: u32, second_db: u32) -> Result<Setup, Fail>
     requires some_pages { 2 ≤ pages }
     requires few_pages { pages ≤ 1024 }
     requires db { 0 < second_db }
@@ -80,12 +82,13 @@ fn setup_of_two(alloc: Global, pages: u32, second_db: u32) -> Result<Setup, Fail
     let mut seats = Vec::with_capacity(alloc, 2)?;
     seats.push(seat(1))?;
     seats.push(seat(second_db))?;
-    Ok(Setup::new(pages, 2, seats))
+    Ok(Setup::new(pages, 2, seats, format))
 }
 
 // A hub of so many pages and two flags for two sessions, of which the first is in database 1.
 fn open_pages(
     alloc: Global,
+    format: Format,
     pages: u32,
     second_db: u32,
 ) -> Result<(WordHub, WordPass, WordPass), Fail>
@@ -101,7 +104,7 @@ fn open_pages(
     ensures seats { IfOk result (λ opened. length (hub_shape opened.0).seats ≡ 2) }
     ensures flags { IfOk result (λ opened. (hub_shape opened.0).flags ≡ 2) }
 {
-    let setup = setup_of_two(alloc, pages, second_db)?;
+    let setup = setup_of_two(alloc, format, pages, second_db)?;
     let (hub, mut passes) = WordHub::open(alloc, setup)?;
     let Some(second) = passes.pop() else {
         return Err(Fail::from("no pass"));
@@ -113,7 +116,7 @@ fn open_pages(
 }
 
 // A hub of two pages for two sessions of one database.
-fn open_two(alloc: Global) -> Result<(WordHub, WordPass, WordPass), Fail>
+fn open_two(alloc: Global, format: Format) -> Result<(WordHub, WordPass, WordPass), Fail>
     ensures first { IfOk result (λ opened. IsHubPass opened.0 opened.1) }
     ensures second { IfOk result (λ opened. IsHubPass opened.0 opened.2) }
     ensures first_out { IfOk result (λ opened. (known_of opened.1).mark ≡ None) }
@@ -123,7 +126,7 @@ fn open_two(alloc: Global) -> Result<(WordHub, WordPass, WordPass), Fail>
     ensures seats { IfOk result (λ opened. length (hub_shape opened.0).seats ≡ 2) }
     ensures flags { IfOk result (λ opened. (hub_shape opened.0).flags ≡ 2) }
 {
-    open_pages(alloc, 2, 1)
+    open_pages(alloc, format, 2, 1)
 }
 
 // The number of the transaction that publishes one notification: none where the queue is full, or the session has sent all it may.

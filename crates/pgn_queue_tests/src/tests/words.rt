@@ -11,7 +11,7 @@ ghost use Rattle.pgn_words.specs.Told.{drawn, refused};
 ghost use Rattle.pgn_words.specs.declared.view.Listen.TheVariants as listens;
 ghost use Rattle.pgn_words.specs.declared.view.Phase.TheVariants as phases;
 
-use pgn_base::{DbOid, Name, Note, Payload, SessionNo, Xid, are_notes};
+use pgn_base::{DbOid, Format, Name, Note, Payload, SessionNo, Xid, are_notes};
 use pgn_hub::{PassView, SeatSetup, Setup};
 use pgn_layout::Pos;
 use pgn_words::{WordPass, WordQueue};
@@ -44,7 +44,7 @@ fn setup_of_two(alloc: Global) -> Result<Setup, Fail>
     let mut seats = Vec::with_capacity(alloc, 2)?;
     seats.push(seat())?;
     seats.push(seat())?;
-    Ok(Setup::new(2, 1, seats))
+    Ok(Setup::new(2, 1, seats, Format::One))
 }
 
 // A queue of two pages and one flag for two sessions of database 1, each of which may send two notifications.

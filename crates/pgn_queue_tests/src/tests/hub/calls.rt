@@ -44,7 +44,7 @@ fn signal_and_leave<R: Wait>(rt: &R, hub: &WordHub, pass: &mut WordPass) -> (Opt
 
 #[test]
 fn one_pass_through_every_call(rt: HostRuntime) -> Result<(), Fail> {
-    let (hub, mut first, mut second) = open_two(rt.alloc())?;
+    let (hub, mut first, mut second) = open_two(rt.alloc(), Format::One)?;
     let read = listen_and_read(&rt, rt.alloc(), &hub, &mut first)?;
     assert_eq!(rt; read, (true, 4, 1));
     assert_eq!(rt; advance(&rt, &hub, &mut first), (0, 0, None));
@@ -57,7 +57,7 @@ fn one_pass_through_every_call(rt: HostRuntime) -> Result<(), Fail> {
 
 #[test]
 fn a_listener_reads_what_it_sent(rt: HostRuntime) -> Result<(), Fail> {
-    let (hub, mut first, _second) = open_two(rt.alloc())?;
+    let (hub, mut first, _second) = open_two(rt.alloc(), Format::One)?;
     let enlisted = listen(rt.alloc(), &hub, &mut first)?;
     assert_eq!(rt; (enlisted.base.get(), enlisted.point.get()), (3, 3));
     assert_eq!(rt;
@@ -72,23 +72,25 @@ fn a_listener_reads_what_it_sent(rt: HostRuntime) -> Result<(), Fail> {
 
 #[test]
 fn a_delivery_has_its_sender(rt: HostRuntime) -> Result<(), Fail> {
-    let (hub, mut first, mut second) = open_two(rt.alloc())?;
-    hub.enlist(&mut first);
-    send(&rt, &hub, &mut second, &[note(rt.alloc(), LARGEST)?]);
-    let mut got = Vec::new(rt.alloc());
-    read(rt.alloc(), &hub, &mut first, &mut got)?;
-    let Some(one) = got.pop() else {
-        return Err(Fail::from("nothing"));
-    };
-    assert_eq!(rt; (one.xid.get(), one.pid), (3, 1002));
-    assert_eq!(rt; one.note.channel.as_bytes(), b"c".as_slice());
-    assert_eq!(rt; one.note.payload.as_bytes().len(), LARGEST);
+    for format in [Format::One, Format::Two] {
+        let (hub, mut first, mut second) = open_two(rt.alloc(), format)?;
+        hub.enlist(&mut first);
+        send(&rt, &hub, &mut second, &[note(rt.alloc(), LARGEST)?]);
+        let mut got = Vec::new(rt.alloc());
+        read(rt.alloc(), &hub, &mut first, &mut got)?;
+        let Some(one) = got.pop() else {
+            return Err(Fail::from("nothing"));
+        };
+        assert_eq!(rt; (one.xid.get(), one.pid), (3, 1002));
+        assert_eq!(rt; one.note.channel.as_bytes(), b"c".as_slice());
+        assert_eq!(rt; one.note.payload.as_bytes().len(), LARGEST);
+    }
     Ok(())
 }
 
 #[test]
 fn flags_keep_the_greatest_number(rt: HostRuntime) -> Result<(), Fail> {
-    let (hub, mut first, mut second) = open_two(rt.alloc())?;
+    let (hub, mut first, mut second) = open_two(rt.alloc(), Format::One)?;
     assert_eq!(rt; hub.raise(&mut second, 0).get(), 3);
     send(&rt, &hub, &mut first, &[note(rt.alloc(), 1)?]);
     assert_eq!(rt; hub.raise(&mut first, 0).get(), 4);
@@ -122,7 +124,7 @@ fn held_by_nobody() -> Usage {
 
 #[test]
 fn usage_of_a_queue(rt: HostRuntime) -> Result<(), Fail> {
-    let (hub, mut first, mut second) = open_two(rt.alloc())?;
+    let (hub, mut first, mut second) = open_two(rt.alloc(), Format::One)?;
     hub.enlist(&mut second);
     let notes = [note(rt.alloc(), LARGEST)?];
     send(&rt, &hub, &mut first, &notes);
@@ -135,7 +137,7 @@ fn usage_of_a_queue(rt: HostRuntime) -> Result<(), Fail> {
 
 #[test]
 fn the_end_counts_the_journal(rt: HostRuntime) -> Result<(), Fail> {
-    let (hub, mut first, mut second) = open_two(rt.alloc())?;
+    let (hub, mut first, mut second) = open_two(rt.alloc(), Format::One)?;
     let notes = [note(rt.alloc(), 1)?];
     send(&rt, &hub, &mut first, &notes);
     send(&rt, &hub, &mut second, &notes);
@@ -146,7 +148,7 @@ fn the_end_counts_the_journal(rt: HostRuntime) -> Result<(), Fail> {
 
 #[test]
 fn two_databases(rt: HostRuntime) -> Result<(), Fail> {
-    let (hub, mut first, mut second) = open_pages(rt.alloc(), 2, 2)?;
+    let (hub, mut first, mut second) = open_pages(rt.alloc(), Format::One, 2, 2)?;
     listen(rt.alloc(), &hub, &mut first)?;
     listen(rt.alloc(), &hub, &mut second)?;
     send(&rt, &hub, &mut second, &[note(rt.alloc(), 1)?]);
@@ -159,7 +161,7 @@ fn two_databases(rt: HostRuntime) -> Result<(), Fail> {
 
 #[test]
 fn a_laggard_of_another_database_is_woken(rt: HostRuntime) -> Result<(), Fail> {
-    let (hub, mut first, mut second) = open_pages(rt.alloc(), 9, 2)?;
+    let (hub, mut first, mut second) = open_pages(rt.alloc(), Format::One, 9, 2)?;
     hub.enlist(&mut first);
     let notes = [note(rt.alloc(), LARGEST)?];
     send_four(&rt, &hub, &mut second, &notes);
@@ -172,7 +174,7 @@ fn a_laggard_of_another_database_is_woken(rt: HostRuntime) -> Result<(), Fail> {
 
 #[test]
 fn a_late_listener(rt: HostRuntime) -> Result<(), Fail> {
-    let (hub, mut first, mut second) = open_two(rt.alloc())?;
+    let (hub, mut first, mut second) = open_two(rt.alloc(), Format::One)?;
     send(&rt, &hub, &mut first, &[note(rt.alloc(), 1)?]);
     let enlisted = hub.enlist(&mut second);
     assert_eq!(rt; (enlisted.base.get(), enlisted.point.get()), (3, 4));

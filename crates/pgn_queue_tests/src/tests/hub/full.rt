@@ -85,14 +85,16 @@ fn read_and_send<R: Wait>(
 
 #[test]
 fn full_and_freed_by_a_read(rt: HostRuntime) -> Result<(), Fail> {
-    let (hub, mut first, mut second) = open_two(rt.alloc())?;
-    hub.enlist(&mut first);
-    let notes = [note(rt.alloc(), LARGEST)?];
-    assert!(rt; fill(&rt, &hub, &mut second, &notes));
-    let full = meet_full_twice(&rt, &hub, &mut second, &notes)?;
-    assert_eq!(rt; full, (held_by_the_listener(), None));
-    let read = read_and_send(&rt, rt.alloc(), &hub, &mut first, &mut second)?;
-    assert_eq!(rt; read, ((7, 2), Some(7), (8, 1)));
+    for format in [Format::One, Format::Two] {
+        let (hub, mut first, mut second) = open_two(rt.alloc(), format)?;
+        hub.enlist(&mut first);
+        let notes = [note(rt.alloc(), LARGEST)?];
+        assert!(rt; fill(&rt, &hub, &mut second, &notes));
+        let full = meet_full_twice(&rt, &hub, &mut second, &notes)?;
+        assert_eq!(rt; full, (held_by_the_listener(), None));
+        let read = read_and_send(&rt, rt.alloc(), &hub, &mut first, &mut second)?;
+        assert_eq!(rt; read, ((7, 2), Some(7), (8, 1)));
+    }
     Ok(())
 }
 
@@ -134,7 +136,7 @@ fn send_three<R: Wait>(
 
 #[test]
 fn full_without_a_listener(rt: HostRuntime) -> Result<(), Fail> {
-    let (hub, mut first, _second) = open_two(rt.alloc())?;
+    let (hub, mut first, _second) = open_two(rt.alloc(), Format::One)?;
     let full = send_three(&rt, rt.alloc(), &hub, &mut first)?;
     assert_eq!(rt; full, held_by_nobody());
     assert_eq!(rt;

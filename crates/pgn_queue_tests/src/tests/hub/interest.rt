@@ -26,7 +26,7 @@ fn send_and_look<R: Wait>(
 
 #[test]
 fn a_listener_sleeps_through_other_channels(rt: HostRuntime) -> Result<(), Fail> {
-    let (hub, mut first, mut second) = open_two(rt.alloc())?;
+    let (hub, mut first, mut second) = open_two(rt.alloc(), Format::One)?;
     listen(rt.alloc(), &hub, &mut first)?;
     let other = [note_on(rt.alloc(), "d", 1)?];
     let slept = send_and_look(&rt, &hub, &mut first, &mut second, &other);
@@ -40,7 +40,7 @@ fn a_listener_sleeps_through_other_channels(rt: HostRuntime) -> Result<(), Fail>
 
 #[test]
 fn channels_of_one_bit_wake_for_nothing(rt: HostRuntime) -> Result<(), Fail> {
-    let (hub, mut first, mut second) = open_two(rt.alloc())?;
+    let (hub, mut first, mut second) = open_two(rt.alloc(), Format::One)?;
     listen(rt.alloc(), &hub, &mut first)?;
     // The bytes of `1` and `2` add up to that of `c`.
     let same_bit = [note_on(rt.alloc(), "12", 1)?];
@@ -72,7 +72,7 @@ fn is_woken_at_the_full_queue<R: Wait>(
 
 #[test]
 fn a_full_queue_wakes_all(rt: HostRuntime) -> Result<(), Fail> {
-    let (hub, mut first, mut second) = open_two(rt.alloc())?;
+    let (hub, mut first, mut second) = open_two(rt.alloc(), Format::One)?;
     listen(rt.alloc(), &hub, &mut first)?;
     assert!(rt; is_woken_at_the_full_queue(&rt, rt.alloc(), &hub, &mut first, &mut second)?);
     Ok(())
@@ -80,7 +80,7 @@ fn a_full_queue_wakes_all(rt: HostRuntime) -> Result<(), Fail> {
 
 #[test]
 fn a_full_queue_wakes_other_databases(rt: HostRuntime) -> Result<(), Fail> {
-    let (hub, mut first, mut second) = open_pages(rt.alloc(), 2, 2)?;
+    let (hub, mut first, mut second) = open_pages(rt.alloc(), Format::One, 2, 2)?;
     listen(rt.alloc(), &hub, &mut first)?;
     assert!(rt; is_woken_at_the_full_queue(&rt, rt.alloc(), &hub, &mut first, &mut second)?);
     Ok(())

@@ -62,10 +62,12 @@ fn rounds<R: Wait>(
 
 #[test]
 fn pages_are_used_again(rt: HostRuntime) -> Result<(), Fail> {
-    let (hub, mut first, mut second) = open_two(rt.alloc())?;
-    hub.enlist(&mut second);
-    assert!(rt; rounds(&rt, rt.alloc(), &hub, &mut first, &mut second)?);
-    assert_eq!(rt; receive(rt.alloc(), &hub, &mut second)?, (4003, 0));
+    for format in [Format::One, Format::Two] {
+        let (hub, mut first, mut second) = open_two(rt.alloc(), format)?;
+        hub.enlist(&mut second);
+        assert!(rt; rounds(&rt, rt.alloc(), &hub, &mut first, &mut second)?);
+        assert_eq!(rt; receive(rt.alloc(), &hub, &mut second)?, (4003, 0));
+    }
     Ok(())
 }
 
@@ -245,7 +247,7 @@ fn share<R: Threads + Wait + Sync>(
 
 #[test]
 fn two_threads(rt: HostRuntime) -> Result<(), Fail> {
-    let (hub, mut first, mut second) = open_two(rt.alloc())?;
+    let (hub, mut first, mut second) = open_two(rt.alloc(), Format::One)?;
     hub.enlist(&mut first);
     hub.enlist(&mut second);
     let (mut a, mut b) = (empty_log(rt.alloc()), empty_log(rt.alloc()));

@@ -23,7 +23,7 @@ fn send_two<R: Wait>(rt: &R, alloc: Global, hub: &WordHub, pass: &mut WordPass) 
 
 #[test]
 fn a_listener_holds_the_tail(rt: HostRuntime) -> Result<(), Fail> {
-    let (hub, mut first, mut second) = open_two(rt.alloc())?;
+    let (hub, mut first, mut second) = open_two(rt.alloc(), Format::One)?;
     hub.enlist(&mut first);
     send_two(&rt, rt.alloc(), &hub, &mut second)?;
     assert_eq!(rt; advance(&rt, &hub, &mut second), (0, 0, None));
@@ -107,7 +107,7 @@ fn join_and_advance<R: Threads + Wait + Sync>(
 
 #[test]
 fn a_session_that_joins_is_named(rt: HostRuntime) -> Result<(), Fail> {
-    let (hub, first, mut second) = open_two(rt.alloc())?;
+    let (hub, first, mut second) = open_two(rt.alloc(), Format::One)?;
     send_two(&rt, rt.alloc(), &hub, &mut second)?;
     let Some((from, to, joiner)) = join_and_advance(&rt, &hub, first, second).1 else {
         return Err(Fail::from("nobody joined"));
@@ -119,7 +119,7 @@ fn a_session_that_joins_is_named(rt: HostRuntime) -> Result<(), Fail> {
 
 #[test]
 fn the_tail_moves_without_a_full_queue(rt: HostRuntime) -> Result<(), Fail> {
-    let (hub, mut first, mut second) = open_pages(rt.alloc(), 9, 1)?;
+    let (hub, mut first, mut second) = open_pages(rt.alloc(), Format::One, 9, 1)?;
     hub.enlist(&mut second);
     let notes = [note(rt.alloc(), LARGEST)?];
     send_four(&rt, &hub, &mut first, &notes);

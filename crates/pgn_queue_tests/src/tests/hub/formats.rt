@@ -1,0 +1,47 @@
+//! Where entries lie on their page, by the format of the hub.
+use super::*;
+
+// A largest notification and two others with so many letters are sent, and read by a listener: the pages in use before it has read,
+// its new mark, and how many it has received.
+fn send_three<R: Wait>(
+    rt: &R,
+    alloc: Global,
+    format: Format,
+    second: usize,
+    third: usize,
+) -> Result<(u64, (u32, usize)), Fail> {
+    let (hub, mut reader, mut writer) = open_two(alloc, format)?;
+    hub.enlist(&mut reader);
+    send(rt, &hub, &mut writer, &[note(alloc, LARGEST)?]);
+    send(rt, &hub, &mut writer, &[note(alloc, second)?]);
+    send(rt, &hub, &mut writer, &[note(alloc, third)?]);
+    let pages = hub.usage(rt, &mut writer).occupied;
+    let got = receive(alloc, &hub, &mut reader)?;
+    Ok((pages, got))
+}
+
+// By format, letters of the second and of the third, and the page on which the next entry begins. The largest entry ends at 8020 in
+// format One, and at 8032 in Two.
+const THREE: [(Format, usize, usize, u64); 6] = [
+    // The second ends at 8148, the third at 8168: the shortest entry fits behind it.
+    (Format::One, 109, 1, 0),
+    // The second ends at 8168, behind which 24 bytes are too few.
+    (Format::Two, 109, 1, 1),
+    // The second ends at 8172, and a filler takes 20 bytes.
+    (Format::One, 133, 5, 1),
+    // The second ends at 8160, and a filler takes 32 bytes.
+    (Format::Two, 101, 13, 1),
+    // The third takes these bytes itself.
+    (Format::Two, 101, 5, 1),
+    // The third ends at 8160: the shortest entry fits behind it.
+    (Format::Two, 37, 37, 0),
+];
+
+#[test]
+fn entries_lie_by_their_format(rt: HostRuntime) -> Result<(), Fail> {
+    for (format, second, third, page) in THREE {
+        let sent = send_three(&rt, rt.alloc(), format, second, third)?;
+        assert_eq!(rt; sent, (page, (6, 3)));
+    }
+    Ok(())
+}
