@@ -83,7 +83,7 @@ fn one_line_on_standard_error(rt: HostRuntime) -> Result<(), Fail> {
     ];
     let alloc = rt.alloc();
     for (status, code, line) in table {
-        let mut sink = MemSink::new(alloc, 120, Vec::new(alloc), 7)?;
+        let mut sink = MemSink::new(alloc, 200, Vec::new(alloc), 7)?;
         assert_eq!(rt; fault_line(&mut sink, &status), Ok(()));
         assert_eq!(rt; sink.held(), line);
         assert_eq!(rt; status.code(), code);
@@ -133,7 +133,7 @@ const PLAIN: Run<'static> = Run {
     input: SCRIPT,
     failing_read: 0,
     failing_write: 0,
-    errors: 120,
+    errors: 200,
 };
 
 fn owned(
