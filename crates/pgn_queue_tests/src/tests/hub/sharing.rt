@@ -35,13 +35,14 @@ fn send_and_read<R: Wait>(
     Ok(sent.is_some() && got.len() == 1)
 }
 
-// Whether all of these rounds went so.
+// Whether so many rounds all went so.
 fn rounds<R: Wait>(
     rt: &R,
     alloc: Global,
     hub: &WordHub,
     writer: &mut WordPass,
     reader: &mut WordPass,
+    times: usize,
 ) -> Result<bool, Fail>
     requires writer { IsHubPass hub.now writer.old }
     requires reader { IsHubPass hub.now reader.old }
@@ -52,7 +53,7 @@ fn rounds<R: Wait>(
 {
     let notes = [note(alloc, LARGEST)?];
     let set = set_of_c(alloc)?;
-    'rounds: for _ in 0..TIMES {
+    'rounds: for _ in 0..times {
         if !send_and_read(rt, alloc, hub, writer, reader, &notes, &set)? {
             return Ok(false);
         }
@@ -62,11 +63,12 @@ fn rounds<R: Wait>(
 
 #[test]
 fn pages_are_used_again(rt: HostRuntime) -> Result<(), Fail> {
-    for format in [Format::One, Format::Two] {
+    for (format, times, mark) in [(Format::One, TIMES, 4003), (Format::Two, 40, 43)] {
         let (hub, mut first, mut second) = open_two(rt.alloc(), format)?;
         hub.enlist(&mut second);
-        assert!(rt; rounds(&rt, rt.alloc(), &hub, &mut first, &mut second)?);
-        assert_eq!(rt; receive(rt.alloc(), &hub, &mut second)?, (4003, 0));
+        let done = rounds(&rt, rt.alloc(), &hub, &mut first, &mut second, times)?;
+        assert!(rt; done);
+        assert_eq!(rt; receive(rt.alloc(), &hub, &mut second)?, (mark, 0));
     }
     Ok(())
 }
