@@ -39,6 +39,7 @@ const BITS: u64 = 64;
 pub(crate) struct HeadCells {
     pub len: u32,
     pub db: u32,
+    /// That of the transaction fits in the third cell, in both formats.
     pub xid: u32,
     /// The number of the third one's word, from which a reader goes on.
     pub word: usize,
@@ -303,6 +304,7 @@ impl Reader<'_> {
             → out.new.items ≡ out.old.items ++ gives (known_of pass.old).db self.now.set.now.channels (committed_by (known_of pass.old).seen) (AnEntry note sender)) }
         ensures refused { OnErr result (out.new.items ≡ out.old.items) }
     {
+        // The number of a finished transaction has 32 bits.
         let parts = entry_parts(self.format, bytes);
         let xid = Xid::new(parts.xid as u32);
         if self.is_due(pass, xid, parts.channel) {
