@@ -3,7 +3,7 @@ ghost use Rattle.pgn_base.specs.declared.format.Format.TheVariants.{One};
 ghost use Rattle.pgn_journal.specs.Packing.{HasRoom};
 
 use super::repeated;
-use pgn_base::{Name, Note, Payload, Xid};
+use pgn_base::{Format, Name, Note, Payload, Xid};
 use pgn_journal::Fate;
 use pgn_layout::{Batch, Pos, advance, plan_batch, status_bits, status_of};
 use std::alloc::Global;
@@ -77,7 +77,7 @@ fn after(from: Place, len: u32) -> Option<Pos> {
     if len < 20 {
         return None;
     }
-    Some(advance(from, len))
+    Some(advance(Format::One, from, len))
 }
 
 #[test]
@@ -125,7 +125,7 @@ fn is_planned(from: Place, notes: &[Note], fits: usize, filler: u32, next: Place
     let (Some(from), Some(next)) = (pos_of(from), pos_of(next)) else {
         return false;
     };
-    plan_batch(from, notes) == Batch { fits, filler, next }
+    plan_batch(Format::One, from, notes) == Batch { fits, filler, next }
 }
 
 #[test]
