@@ -1,6 +1,7 @@
 // A module for each part, and four for what `pgn_base` has: values, lists, sets, and the fakes of the outside. Here stands what
 // several of them make.
 mod entries;
+mod entries_two;
 mod lanes;
 mod layout;
 mod lists;

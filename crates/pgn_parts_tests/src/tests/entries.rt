@@ -1,9 +1,8 @@
 ghost use Rattle.std.specs.Prelude.{◌<◌, ◌≤◌};
-ghost use Rattle.pgn_base.specs.declared.format.Format.TheVariants.{One};
 ghost use Rattle.pgn_journal.specs.Bytes.{IsEntryLength};
 
 use super::{note, repeated};
-use pgn_base::{CELL_BYTES, DbOid, Note, Xid};
+use pgn_base::{CELL_BYTES, DbOid, Format, Note, Xid};
 use pgn_entry::{
     EntryCells, EntryFault, EntryView, entry_len, filler_cell, read_entry, read_piece,
 };
@@ -45,32 +44,39 @@ const FILLER_VIEW: EntryView<'static> = EntryView::Filler {
 };
 
 // What bytes begin with, or the fault that they have.
-type Read<'a> = Result<EntryView<'a>, EntryFault>;
+pub(super) type Read<'a> = Result<EntryView<'a>, EntryFault>;
 
 // The bytes of an entry, cell after cell.
-fn written(
+pub(super) fn written(
     alloc: Global,
+    format: Format,
     note: &Note,
     db: DbOid,
     xid: Xid,
     pid: u32,
 ) -> Result<Vec<u8>, AllocError> {
-    let cells = EntryCells::of(note, db, xid, pid);
+    let cells = EntryCells::of(format, note, db, xid, pid);
     let mut out = Vec::new(alloc);
     for number in 0..cells.len as usize / CELL_BYTES {
-        let cell = cells.cell(number);
+        let cell = cells.cell(format, number);
         out.extend_from_slice(&cell.to_le_bytes())?;
     }
     Ok(out)
 }
 
 // The bytes of a filler of so many bytes, likewise.
-fn filled(alloc: Global, len: u32, xid: Xid, pid: u32) -> Result<Vec<u8>, AllocError>
-    requires { IsEntryLength One len }
+pub(super) fn filled(
+    alloc: Global,
+    format: Format,
+    len: u32,
+    xid: Xid,
+    pid: u32,
+) -> Result<Vec<u8>, AllocError>
+    requires { IsEntryLength format len }
 {
     let mut out = Vec::new(alloc);
     for number in 0..len as usize / CELL_BYTES {
-        let cell = filler_cell(len, xid, pid, number);
+        let cell = filler_cell(format, len, xid, pid, number);
         out.extend_from_slice(&cell.to_le_bytes())?;
     }
     Ok(out)
@@ -85,22 +91,37 @@ fn number(bytes: &[u8], at: usize) -> Option<u32> {
 }
 
 // The entry of these texts with the numbers that the bytes begin with.
-fn entry<'a>(bytes: &[u8], channel: &'a [u8], payload: &'a [u8]) -> Option<EntryView<'a>> {
+fn entry<'a>(
+    format: Format,
+    bytes: &[u8],
+    channel: &'a [u8],
+    payload: &'a [u8],
+) -> Option<EntryView<'a>> {
+    let (upper, pid) = match format {
+        Format::One => (0, number(bytes, 12)?),
+        Format::Two => (number(bytes, 12)?, number(bytes, 16)?),
+    };
     Some(EntryView::Entry {
         len: number(bytes, 0)?,
         db: number(bytes, 4)?,
-        xid: number(bytes, 8)?,
-        pid: number(bytes, 12)?,
+        xid: (u64::from(upper) << 32) | u64::from(number(bytes, 8)?),
+        pid,
         channel,
         payload,
     })
 }
 
 // Whether bytes have this fault, or with none begin with the entry of these texts and of their own numbers.
-fn reads(bytes: &[u8], fault: Option<EntryFault>, channel: &[u8], payload: &[u8]) -> bool {
-    match (read_entry(bytes), fault) {
+pub(super) fn reads(
+    format: Format,
+    bytes: &[u8],
+    fault: Option<EntryFault>,
+    channel: &[u8],
+    payload: &[u8],
+) -> bool {
+    match (read_entry(format, bytes), fault) {
         (Err(found), Some(fault)) => found == fault,
-        (Ok(found), None) => Some(found) == entry(bytes, channel, payload),
+        (Ok(found), None) => Some(found) == entry(format, bytes, channel, payload),
         _ => false,
     }
 }
@@ -109,10 +130,10 @@ fn reads(bytes: &[u8], fault: Option<EntryFault>, channel: &[u8], payload: &[u8]
 fn an_entry(rt: HostRuntime) -> Result<(), Fail> {
     let alloc = rt.alloc();
     let long = note(alloc, "virtual", "This is the payload")?;
-    assert!(rt; entry_len(&long) == 44);
-    let bytes = written(alloc, &long, DbOid::new(1), Xid::new(3), 1001)?;
+    assert!(rt; entry_len(Format::One, &long) == 44);
+    let bytes = written(alloc, Format::One, &long, DbOid::new(1), Xid::new(3), 1001)?;
     assert!(rt; bytes.as_slice() == LONG.as_slice());
-    assert!(rt; read_entry(&LONG) == Ok(LONG_VIEW));
+    assert!(rt; read_entry(Format::One, &LONG) == Ok(LONG_VIEW));
     Ok(())
 }
 
@@ -120,25 +141,25 @@ fn an_entry(rt: HostRuntime) -> Result<(), Fail> {
 fn a_short_entry(rt: HostRuntime) -> Result<(), Fail> {
     let alloc = rt.alloc();
     let short = note(alloc, "c", "")?;
-    assert!(rt; entry_len(&short) == 20);
-    let bytes = written(alloc, &short, DbOid::new(7), Xid::new(4), 1003)?;
+    assert!(rt; entry_len(Format::One, &short) == 20);
+    let bytes = written(alloc, Format::One, &short, DbOid::new(7), Xid::new(4), 1003)?;
     assert!(rt; bytes.as_slice() == SHORT.as_slice());
-    assert!(rt; read_entry(&SHORT) == Ok(SHORT_VIEW));
+    assert!(rt; read_entry(Format::One, &SHORT) == Ok(SHORT_VIEW));
     Ok(())
 }
 
 #[test]
 fn a_filler(rt: HostRuntime) -> Result<(), Fail> {
-    let bytes = filled(rt.alloc(), 20, Xid::new(5), 1002)?;
+    let bytes = filled(rt.alloc(), Format::One, 20, Xid::new(5), 1002)?;
     assert!(rt; bytes.as_slice() == FILLER.as_slice());
-    assert!(rt; read_entry(&FILLER) == Ok(FILLER_VIEW));
+    assert!(rt; read_entry(Format::One, &FILLER) == Ok(FILLER_VIEW));
     Ok(())
 }
 
 #[test]
 fn pieces(rt: HostRuntime) {
-    assert!(rt; read_piece(&SHORT) == SHORT_VIEW);
-    assert!(rt; read_piece(&FILLER) == FILLER_VIEW);
+    assert!(rt; read_piece(Format::One, &SHORT) == SHORT_VIEW);
+    assert!(rt; read_piece(Format::One, &FILLER) == FILLER_VIEW);
 }
 
 // Bytes that differ from `SHORT` in their end or in their length, and their fault.
@@ -163,16 +184,30 @@ const REFUSED: [(&[u8], EntryFault); 4] = [
 
 #[test]
 fn entry_bytes_refused(rt: HostRuntime) {
-    assert!(rt; read_entry(&SHORT[..19]) == Err(EntryFault::Short));
+    assert!(rt; read_entry(Format::One, &SHORT[..19]) == Err(EntryFault::Short));
     for (bytes, fault) in REFUSED {
-        assert!(rt; read_entry(bytes) == Err(fault), "{bytes:?}");
+        assert!(rt; read_entry(Format::One, bytes) == Err(fault), "{bytes:?}");
     }
 }
 
-// Bytes of this length with a channel, a payload and zero bytes, for database 1, transaction 3, process 1001.
-fn by_hand(alloc: Global, len: u32, channel: &[u8], payload: &[u8]) -> Result<Vec<u8>, AllocError> {
+// The numbers of a head after its length: database 1, transaction 3, process 1001.
+pub(super) fn sender(format: Format) -> &'static [u8] {
+    match format {
+        Format::One => b"\x01\0\0\0\x03\0\0\0\xe9\x03\0\0",
+        Format::Two => b"\x01\0\0\0\x03\0\0\0\0\0\0\0\xe9\x03\0\0\0\0\0\0",
+    }
+}
+
+// Bytes of this length with a channel, a payload and zero bytes, of this sender.
+pub(super) fn by_hand(
+    alloc: Global,
+    format: Format,
+    len: u32,
+    channel: &[u8],
+    payload: &[u8],
+) -> Result<Vec<u8>, AllocError> {
     let mut bytes = Vec::from_slice(alloc, &len.to_le_bytes())?;
-    bytes.extend_from_slice(b"\x01\0\0\0\x03\0\0\0\xe9\x03\0\0")?;
+    bytes.extend_from_slice(sender(format))?;
     bytes.extend_from_slice(channel)?;
     bytes.push(0)?;
     bytes.extend_from_slice(payload)?;
@@ -186,23 +221,44 @@ fn the_largest_entry(rt: HostRuntime) -> Result<(), Fail> {
     let channel = repeated(alloc, "c", 63, "")?;
     let payload = repeated(alloc, "x", 7999, "")?;
     let largest = note(alloc, &channel, &payload)?;
-    assert!(rt; entry_len(&largest) == 8080);
-    let bytes = written(alloc, &largest, DbOid::new(1), Xid::new(3), 1001)?;
-    let want = by_hand(alloc, 8080, channel.as_bytes(), payload.as_bytes())?;
+    assert!(rt; entry_len(Format::One, &largest) == 8080);
+    let bytes = written(
+        alloc,
+        Format::One,
+        &largest,
+        DbOid::new(1),
+        Xid::new(3),
+        1001,
+    )?;
+    let want = by_hand(
+        alloc,
+        Format::One,
+        8080,
+        channel.as_bytes(),
+        payload.as_bytes(),
+    )?;
     assert!(rt; bytes == want);
-    assert!(rt; reads(&bytes, None, channel.as_bytes(), payload.as_bytes()));
+    assert!(rt;
+        reads(
+            Format::One,
+            &bytes,
+            None,
+            channel.as_bytes(),
+            payload.as_bytes()
+        )
+    );
     Ok(())
 }
 
 #[test]
 fn the_largest_filler(rt: HostRuntime) -> Result<(), Fail> {
-    let bytes = filled(rt.alloc(), 8192, Xid::new(u32::MAX), u32::MAX)?;
+    let bytes = filled(rt.alloc(), Format::One, 8192, Xid::new(u32::MAX), u32::MAX)?;
     let filler = EntryView::Filler {
         len: 8192,
-        xid: u32::MAX,
+        xid: u64::from(u32::MAX),
         pid: u32::MAX,
     };
-    assert!(rt; read_entry(&bytes) == Ok(filler));
+    assert!(rt; read_entry(Format::One, &bytes) == Ok(filler));
     Ok(())
 }
 
@@ -215,7 +271,7 @@ fn two_entries() -> [u8; 64] {
 }
 
 // What so many bytes of an entry and what follows it read as: the entry, where all of it is there.
-fn read_of_prefix<'a>(view: EntryView<'a>, whole: usize, len: usize) -> Read<'a> {
+pub(super) fn read_of_prefix<'a>(view: EntryView<'a>, whole: usize, len: usize) -> Read<'a> {
     if len < whole {
         Err(EntryFault::Short)
     } else {
@@ -228,20 +284,20 @@ fn each_prefix_of_two_entries(rt: HostRuntime) {
     let both = two_entries();
     for len in 0..=64 {
         assert!(rt;
-            read_entry(&both[..len]) == read_of_prefix(LONG_VIEW, 44, len),
+            read_entry(Format::One, &both[..len]) == read_of_prefix(LONG_VIEW, 44, len),
             "at {len}"
         );
     }
     for len in 44..=64 {
         assert!(rt;
-            read_entry(&both[44..len]) == read_of_prefix(SHORT_VIEW, 64, len),
+            read_entry(Format::One, &both[44..len]) == read_of_prefix(SHORT_VIEW, 64, len),
             "at {len}"
         );
     }
 }
 
 // From one place up to another a byte is changed to this one: the fault of the entry that has it, or none.
-type Change = (usize, usize, u8, Option<EntryFault>);
+pub(super) type Change = (usize, usize, u8, Option<EntryFault>);
 
 const FIRST: [Change; 19] = [
     // The length: its lowest byte, and the others.
@@ -305,7 +361,7 @@ fn assert_changes(rt: &impl Abort, change: Change, begin: usize, channel: &[u8],
     for at in from..to {
         let bytes = changed(at, value);
         assert!(rt;
-            reads(&bytes[begin..], fault, channel, payload),
+            reads(Format::One, &bytes[begin..], fault, channel, payload),
             "at {at} with {value}"
         );
     }
@@ -348,8 +404,11 @@ fn lengths(rt: HostRuntime) {
     for (len, in_twenty, in_a_page) in LENGTHS {
         let mut bytes = [0; 8192];
         bytes[..4].copy_from_slice(&len.to_le_bytes());
-        assert!(rt; read_entry(&bytes[..20]) == Err(in_twenty), "at {len}");
-        assert!(rt; read_entry(&bytes) == in_a_page, "at {len}");
+        assert!(rt;
+            read_entry(Format::One, &bytes[..20]) == Err(in_twenty),
+            "at {len}"
+        );
+        assert!(rt; read_entry(Format::One, &bytes) == in_a_page, "at {len}");
     }
 }
 
@@ -357,7 +416,7 @@ fn lengths(rt: HostRuntime) {
 fn a_length_above_a_page(rt: HostRuntime) {
     let mut bytes = [0; 8196];
     bytes[..4].copy_from_slice(&8196u32.to_le_bytes());
-    assert!(rt; read_entry(&bytes) == Err(EntryFault::BadLength));
+    assert!(rt; read_entry(Format::One, &bytes) == Err(EntryFault::BadLength));
 }
 
 // A length, and how often which letters make the channel and the payload, and the fault.
@@ -374,9 +433,21 @@ fn texts_that_are_too_long(rt: HostRuntime) -> Result<(), Fail> {
     for (len, channel, payload, fault) in TEXTS {
         let channel = channel.0.repeat(alloc, channel.1)?;
         let payload = payload.0.repeat(alloc, payload.1)?;
-        let bytes = by_hand(alloc, len, channel.as_bytes(), payload.as_bytes())?;
+        let bytes = by_hand(
+            alloc,
+            Format::One,
+            len,
+            channel.as_bytes(),
+            payload.as_bytes(),
+        )?;
         assert!(rt;
-            reads(&bytes, fault, channel.as_bytes(), payload.as_bytes()),
+            reads(
+                Format::One,
+                &bytes,
+                fault,
+                channel.as_bytes(),
+                payload.as_bytes()
+            ),
             "at {len}"
         );
     }
@@ -394,9 +465,9 @@ const SHORT_TEXTS: [(u32, &[u8], &[u8], Option<EntryFault>); 4] = [
 #[test]
 fn texts_that_are_no_utf8(rt: HostRuntime) -> Result<(), Fail> {
     for (len, channel, payload, fault) in SHORT_TEXTS {
-        let bytes = by_hand(rt.alloc(), len, channel, payload)?;
+        let bytes = by_hand(rt.alloc(), Format::One, len, channel, payload)?;
         assert!(rt;
-            reads(&bytes, fault, channel, payload),
+            reads(Format::One, &bytes, fault, channel, payload),
             "at {len} {channel:?}"
         );
     }
@@ -406,9 +477,12 @@ fn texts_that_are_no_utf8(rt: HostRuntime) -> Result<(), Fail> {
 #[test]
 fn wrong_padding(rt: HostRuntime) -> Result<(), Fail> {
     for at in 21..24 {
-        let mut bytes = by_hand(rt.alloc(), 24, b"c", b"xy")?;
+        let mut bytes = by_hand(rt.alloc(), Format::One, 24, b"c", b"xy")?;
         *bytes.get_mut(at).ok_or("a place past the end")? = 1;
-        assert!(rt; read_entry(&bytes) == Err(EntryFault::BadPad), "at {at}");
+        assert!(rt;
+            read_entry(Format::One, &bytes) == Err(EntryFault::BadPad),
+            "at {at}"
+        );
     }
     Ok(())
 }
@@ -418,6 +492,9 @@ fn a_filler_that_carries_a_byte(rt: HostRuntime) {
     for at in 16..20 {
         let mut bytes = FILLER;
         bytes[at] = 1;
-        assert!(rt; read_entry(&bytes) == Err(EntryFault::BadText), "at {at}");
+        assert!(rt;
+            read_entry(Format::One, &bytes) == Err(EntryFault::BadText),
+            "at {at}"
+        );
     }
 }
