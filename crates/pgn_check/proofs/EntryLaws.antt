@@ -159,11 +159,11 @@ blamed_in_journal scenario out n journal traces sound h e settings =
 
 -- Each line has a byte of its own.
 
-joined_long : (lines : List (List ℕ)) → length lines ≤ length (joined lines)
+pub joined_long : (lines : List (List ℕ)) → length lines ≤ length (joined lines)
 joined_long [] = omega arith
 joined_long (line ∷ lines) = omega (arith, joined_long lines, length-append (line ++ 10 ∷ []) (joined lines), length-append line (10 ∷ []))
 
-lines_long : (x : ℕ) (txs : List Tx) → length (entries_lines x txs) ≡ lines_in txs
+pub lines_long : (x : ℕ) (txs : List Tx) → length (entries_lines x txs) ≡ lines_in txs
 lines_long x [] = refl
 lines_long x (tx ∷ txs) = omega (arith, entry_long x tx, lines_long (x + 1) txs, length-append (entry_lines x tx) (entries_lines (x + 1) txs))
 

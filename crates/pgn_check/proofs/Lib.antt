@@ -1,2 +1,4 @@
 pub mod NoteLaws
 pub mod EntryLaws
+pub mod SectionLaws
+pub mod VerdictLaws

@@ -97,3 +97,15 @@ fn put(seen: &mut IndexSet<Note>, note: Note) -> Result<bool, AllocError>
     let new = seen.insert(note)?;
     Ok(new)
 }
+
+/// How many lines transactions have.
+pub fn lines_in(journal: &[Tx]) -> usize
+    requires { lines_in journal.now < 2 ^ 63 }
+    ensures { result ≡ lines_in journal.now }
+{
+    let mut lines = 0;
+    for tx in journal {
+        lines += 1 + tx.notes.as_slice().len();
+    }
+    lines
+}

@@ -1,11 +1,15 @@
-//! Whether a text is the output of a legal run of a scenario, as far as its form and its journal go.
+//! Whether a text is the output of a legal run of a scenario.
 //!
-//! `read_journal` reads a text as an output of the scenario, by `pgn_form`, and then asks each transaction of its journal: it is
-//! finished, with notifications that are all different, and some section has its session's number. Otherwise it gives the number of
-//! the first line that is to blame, whatever the settings of the run. What the sessions did is not asked yet.
+//! `check_output` answers it. It reads the text by `pgn_form`, asks each transaction of its journal (`read_journal`: finished, with
+//! notifications that are all different, and some section's), and walks along each section by `pgn_walk`. Where the text is not that of
+//! a legal run it gives the number of the first line that is to blame.
 #![tactic(auto)]
 
+mod check;
 mod entries;
+mod held;
 mod journal;
+mod sections;
 
+pub use check::{Verdict, check_output};
 pub use journal::read_journal;

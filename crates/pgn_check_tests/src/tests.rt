@@ -1,7 +1,9 @@
 mod changed;
 mod kinds;
+mod walked;
 
-use pgn_check::read_journal;
+use pgn_base::{Format, PAGES_DEFAULT, PATIENCE_DEFAULT};
+use pgn_check::{Verdict, check_output, read_journal};
 use pgn_scenario::read_scenario;
 use std::alloc::{AllocError, Global};
 
@@ -13,5 +15,27 @@ fn to_blame(alloc: Global, input: &[u8], out: &[u8]) -> Result<usize, AllocError
     match read_journal(alloc, &scenario, out)? {
         Ok(_) => Ok(0),
         Err(number) => Ok(number),
+    }
+}
+
+// The line that is to blame in an output of a scenario, or 0 where none is.
+fn verdict(alloc: Global, input: &[u8], out: &[u8]) -> Result<usize, AllocError> {
+    let Ok(scenario) = read_scenario(alloc, input)? else {
+        return Ok(usize::MAX);
+    };
+    if out.len() > 67_108_864 {
+        return Ok(usize::MAX);
+    }
+    let found = check_output(
+        alloc,
+        &scenario,
+        PAGES_DEFAULT,
+        PATIENCE_DEFAULT,
+        Format::One,
+        out,
+    )?;
+    match found {
+        Verdict::Legal => Ok(0),
+        Verdict::Illegal { line } => Ok(line),
     }
 }

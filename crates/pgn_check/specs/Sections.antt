@@ -1,0 +1,17 @@
+-- The sections of a text: which line of all is the first that is to blame.
+use Rattle.std.specs.Prelude.{ℕ, ◌≤◌, List}
+use Rattle.pgn_journal.specs.declared.tx.Tx.{Tx}
+use Rattle.pgn_language.specs.declared.scenario.Section.{Section}
+use Rattle.pgn_model.specs.declared.trace.Trace.{Trace}
+use Rattle.pgn_model.specs.Walk.{Settings}
+use Rattle.pgn_ledger.specs.declared.ledger.Ledger.{Ledger}
+use Rattle.pgn_reading.specs.Blame.{BlamesTraces}
+
+-- what the command line sets
+abbrev pub settings_at : Ledger → ℕ → ℕ → Settings
+settings_at ledger limit patience = record { format = ledger.format; limit = limit; patience = patience }
+
+-- a line of all sections is to blame, and none before it
+pub record IsLeastIn (settings : Settings) (journal : List Tx) (sections : List Section) (traces : List Trace) (head n : ℕ) : Type 0 where
+  pub blamed : BlamesTraces settings journal sections traces head sections traces n
+  pub least : (m : ℕ) → BlamesTraces settings journal sections traces head sections traces m → n ≤ m

@@ -1,0 +1,133 @@
+use super::verdict;
+use std::alloc::{AllocError, Global};
+use std::process::Abort;
+use std::test::Fail;
+
+const INPUT: &[u8] = b"\\session a 1\nLISTEN c\nNOTIFY c, 'x'\n";
+
+// Its output, line by line.
+const OUTPUT: [&str; 13] = [
+    "journal 1\n",
+    "xid 3 session 1 commit 1\n",
+    "  \"c\", 'x'\n",
+    "session 1 a db 1 pid 1001\n",
+    "> LISTEN c\n",
+    "+enlist 3 3\n",
+    "LISTEN\n",
+    "> NOTIFY c, 'x'\n",
+    "+publish 3\n",
+    "NOTIFY\n",
+    "+read 3 4\n",
+    "  3 1001 \"c\", 'x'\n",
+    "end mark 4\n",
+];
+
+// From which line on, from 1, how many lines are taken out; what stands there instead; and the line that is to blame then.
+const ROWS: [(usize, usize, &str, usize); 17] = [
+    (1, 0, "", 0),
+    (1, 1, "journal 2\n", 4),
+    (2, 1, "xid 3 session 1 abort 0 of 1\n", 9),
+    (3, 1, "  \"c\", 'y'\n", 9),
+    (6, 1, "+enlist 3 4\n", 9),
+    (6, 1, "", 6),
+    (7, 1, "", 7),
+    (9, 1, "+publish 4\n", 9),
+    (9, 2, "NOTIFY\n+publish 3\n", 9),
+    (10, 1, "", 10),
+    (10, 2, "+read 3 4\nNOTIFY\n", 12),
+    (11, 2, "", 10),
+    (12, 1, "", 11),
+    (12, 1, "  3 1001 \"c\", 'x'\n  3 1001 \"c\", 'x'\n", 11),
+    (12, 1, "  3 1002 \"c\", 'x'\n", 11),
+    (13, 1, "end mark 3\n", 13),
+    (13, 1, "end\n", 13),
+];
+
+// The output, changed so.
+fn changed(alloc: Global, from: usize, many: usize, instead: &str) -> Result<Vec<u8>, AllocError> {
+    let mut text = Vec::new(alloc);
+    for (at, line) in OUTPUT.iter().enumerate() {
+        if at + 1 == from {
+            text.extend_from_slice(instead.as_bytes())?;
+        }
+        if at + 1 < from || at + 1 - from >= many {
+            text.extend_from_slice(line.as_bytes())?;
+        }
+    }
+    Ok(text)
+}
+
+#[test]
+fn lines_of_a_session(rt: HostRuntime) -> Result<(), Fail> {
+    let alloc = rt.alloc();
+    for (from, many, instead, want) in ROWS {
+        let text = changed(alloc, from, many, instead)?;
+        let found = verdict(alloc, INPUT, &text)?;
+        assert_eq!(rt; found, want, "at {from}, {instead}");
+    }
+    Ok(())
+}
+
+// Scenarios with outputs, and the line that is to blame in each, or 0.
+const WHOLE: [(&str, &str, usize); 10] = [
+    (
+        "\\session a 1\nLISTEN c\nNOTIFY c, 'x'\nBEGIN\n",
+        "journal 1\nxid 3 session 1 commit 1\n  \"c\", 'x'\nsession 1 a db 1 pid 1001\n> LISTEN c\n+enlist 3 3\nLISTEN\n> NOTIFY c, 'x'\n+publish 3\nNOTIFY\n+read 3 4\n  3 1001 \"c\", 'x'\n> BEGIN\nBEGIN\nend mark 4\n",
+        0,
+    ),
+    (
+        "\\session a 1\nLISTEN c\nNOTIFY c, 'x'\nBEGIN\n",
+        "journal 1\nxid 3 session 1 commit 1\n  \"c\", 'x'\nsession 1 a db 1 pid 1001\n> LISTEN c\n+enlist 3 3\nLISTEN\n> NOTIFY c, 'x'\n+publish 3\nNOTIFY\n> BEGIN\nBEGIN\nend mark 4\n",
+        10,
+    ),
+    (
+        "\\session a 1\nNOTIFY c, 'x'\nNOTIFY c, 'x'\n",
+        "journal 2\nxid 3 session 1 commit 1\n  \"c\", 'x'\nxid 4 session 1 commit 1\n  \"c\", 'x'\nsession 1 a db 1 pid 1001\n> NOTIFY c, 'x'\n+publish 4\nNOTIFY\n> NOTIFY c, 'x'\n+publish 3\nNOTIFY\nend\n",
+        8,
+    ),
+    (
+        "\\session a 1\nNOTIFY c, 'x'\nNOTIFY c, 'x'\n",
+        "journal 2\nxid 3 session 1 commit 1\n  \"c\", 'x'\nxid 4 session 1 commit 1\n  \"c\", 'x'\nsession 1 a db 1 pid 1001\n> NOTIFY c, 'x'\n+publish 3\nNOTIFY\n> NOTIFY c, 'x'\n+publish 4\nNOTIFY\nend\n",
+        0,
+    ),
+    (
+        "\\session a 1\n\\signal f\n\\session b 1\n\\await f\n",
+        "journal 0\nsession 1 a db 1 pid 1001\n> \\signal f\n+signal 3\nend\nsession 2 b db 1 pid 1002\n> \\await f\n+await 3\nend\n",
+        0,
+    ),
+    (
+        "\\session a 1\n\\signal f\n\\session b 1\n\\await f\n",
+        "journal 0\nsession 1 a db 1 pid 1001\n> \\signal f\n+signal 3\nend\nsession 2 b db 1 pid 1002\n> \\await f\n+await 4\nend\n",
+        8,
+    ),
+    (
+        "\\session a 1\n\\signal f\n\\session b 1\n\\await f\n",
+        "journal 0\nsession 1 a db 1 pid 1001\n> \\signal f\n+signal 4\nend\nsession 2 b db 1 pid 1002\n> \\await f\n+await 3\nend\n",
+        4,
+    ),
+    (
+        "\\session a 1\n\\signal f\n\\session b 1\n\\await f\n",
+        "journal 0\nsession 1 a db 1 pid 1001\n> \\signal f\n+signal 3\nend\nsession 2 b db 1 pid 1002\n> \\await f\n+timeout 10000000\nend\n",
+        0,
+    ),
+    (
+        "\\session a 1\n\\signal f\n\\session b 1\n\\await f\n",
+        "journal 0\nsession 1 a db 1 pid 1001\n> \\signal f\n+signal 3\nend\nsession 2 b db 1 pid 1002\n> \\await f\n+timeout 5\nend\n",
+        8,
+    ),
+    (
+        "\\session a 1\n\\signal f\n\\session b 1\n\\await f\n",
+        "journal 0\nsession 1 a db 1 pid 1001\n> \\signal f\nend\nsession 2 b db 1 pid 1002\n> \\await f\n+await 3\nend\n",
+        4,
+    ),
+];
+
+#[test]
+fn whole_outputs(rt: HostRuntime) -> Result<(), Fail> {
+    let alloc = rt.alloc();
+    for (input, output, want) in WHOLE {
+        let found = verdict(alloc, input.as_bytes(), output.as_bytes())?;
+        assert_eq!(rt; found, want, "{output}");
+    }
+    Ok(())
+}

@@ -1,0 +1,76 @@
+-- A transaction commits.
+use Rattle.std.proofs.Common.{◌≡◌, ℕ, ◌==◌, Bool, true, false, ◌&&◌, List, [], ◌∷◌, length, Option, is_some, is_none, if◌then◌else◌, sym, ap, ◌∙◌, refl, subst, arith}
+use Rattle.std.specs.List.{list_any}
+use Rattle.std.proofs.lemmas.Bool.{false≢true}
+use Rattle.std.proofs.lemmas.Bool.Decides.{Decides-eqb}
+use Rattle.std.proofs.lemmas.List.{nil_from_length}
+use Rattle.pgn_base.specs.declared.note.Note.{Note}
+use Rattle.pgn_base.specs.declared.listen_set.Action.{Action}
+use Rattle.pgn_base.specs.Channels.{applied}
+use Rattle.pgn_base.specs.Listening.{Listening}
+use Rattle.pgn_answers.specs.Savepoints.{is_listen}
+use Rattle.pgn_journal.specs.declared.tx.Tx.{Tx}
+use Rattle.pgn_language.specs.declared.scenario.Section.{Section}
+use Rattle.pgn_model.specs.Walk.{Owed, State, is_empty_set, leaving_or_answering, queueing_or_settled, settled}
+use Rattle.pgn_model.specs.Walk as walk
+use Rattle.pgn_walk.specs.declared.standing.Standing.{Standing}
+use Rattle.pgn_walk.specs.declared.to_show.Ending.{Ending}
+use Rattle.pgn_walk.specs.declared.to_show.ToShow.TheVariants as show
+use Rattle.pgn_walk.specs.Standing.{Holds, Leads, commits, ending_of}
+use Rattle.pgn_walk.proofs.StandingLaws.{fresh_zero, holds_owed}
+
+-- the test that the walk makes is that of the session
+tests_same : (section : Section) (journal : List Tx) (at : Standing) (s : State) → Holds section journal at s → (is_some s.mark && is_empty_set s.set) ≡ (is_some at.mark && is_empty_set at.set.channels)
+tests_same section journal at s h = ap (λ (m : Option ℕ). is_some m && is_empty_set s.set) h.mark ∙ ap (λ (set : List (List ℕ)). is_some at.mark && is_empty_set set) h.set
+
+pub leaves : (at : Standing) (ending : Ending) → (is_some at.mark && is_empty_set at.set.channels) ≡ true → Leads at (record at { owed = show.Leaving ending }) (λ s. leaving_or_answering s (ending_of ending))
+leaves at ending test section journal s h =
+    subst (λ (b : Bool). Holds section journal (record at { owed = show.Leaving ending }) (if b then record s { owed = walk.Leaving (ending_of ending) } else record s { owed = walk.Answering (ending_of ending) }))
+    (sym (tests_same section journal at s h ∙ test)) (holds_owed section journal at s (show.Leaving ending) (walk.Leaving (ending_of ending)) h refl)
+
+pub answers : (at : Standing) (ending : Ending) → (is_some at.mark && is_empty_set at.set.channels) ≡ false → Leads at (record at { owed = show.Answering ending }) (λ s. leaving_or_answering s (ending_of ending))
+answers at ending test section journal s h =
+    subst (λ (b : Bool). Holds section journal (record at { owed = show.Answering ending }) (if b then record s { owed = walk.Leaving (ending_of ending) } else record s { owed = walk.Answering (ending_of ending) }))
+    (sym (tests_same section journal at s h ∙ test)) (holds_owed section journal at s (show.Answering ending) (walk.Answering (ending_of ending)) h refl)
+
+-- the set changes
+pub acts : (at : Standing) (set : Listening) (actions : List Action) → set.channels ≡ applied at.set.channels actions → Leads at (record at { set = set; fresh_to = 0 }) (λ s. record s { set = applied s.set actions })
+acts at set actions e section journal s h = record {
+  rest = h.rest;
+  owed = h.owed;
+  block = h.block;
+  changes = h.changes;
+  set = ap (λ (channels : List (List ℕ)). applied channels actions) h.set ∙ sym e;
+  mark = h.mark;
+  told = h.told;
+  marks = h.marks;
+  flags = h.flags;
+  fresh = fresh_zero journal section.db set.channels at.mark;
+}
+
+pub acts_not : (at : Standing) (actions : List Action) → (length actions == 0) ≡ true → Leads at at (λ s. record s { set = applied s.set actions })
+acts_not at actions none section journal s h =
+    let e : actions ≡ [] = nil_from_length actions ((Decides-eqb (length actions) 0).0 none) in
+    subst (λ (them : List Action). Holds section journal at (record s { set = applied s.set them })) (sym e) h
+
+-- the notifications come next
+pub queues : (at : Standing) (actions : List Action) (notes : List Note) (ending : Ending) → (length notes == 0) ≡ false → Leads at (record at { owed = show.Queueing actions notes ending }) (λ s. queueing_or_settled s actions notes (ending_of ending))
+queues at actions [] ending some section journal s h = absurd (false≢true (sym some ∙ (Decides-eqb 0 0).1 refl))
+queues at actions (note ∷ notes) ending some section journal s h = holds_owed section journal at s (show.Queueing actions (note ∷ notes) ending) (walk.Queueing actions (note ∷ notes) (ending_of ending)) h refl
+
+pub settles : (at new : Standing) (actions : List Action) (notes : List Note) (ending : Ending) → (length notes == 0) ≡ true → Leads at new (λ s. settled s actions (ending_of ending)) → Leads at new (λ s. queueing_or_settled s actions notes (ending_of ending))
+settles at new actions [] ending none h = h
+settles at new actions (note ∷ notes) ending none h = absurd (let some : length (note ∷ notes) ≡ 0 = (Decides-eqb (length (note ∷ notes)) 0).0 none in omega (arith, some))
+
+-- whether the session becomes a listener
+pub enlists : (at : Standing) (actions : List Action) (notes : List Note) (ending : Ending) → (list_any is_listen actions && is_none at.mark) ≡ true
+    → Leads at (record at { owed = show.Enlisting actions notes ending }) (λ s. commits s actions notes (ending_of ending))
+enlists at actions notes ending test section journal s h =
+    subst (λ (b : Bool). Holds section journal (record at { owed = show.Enlisting actions notes ending }) (if b then record s { owed = walk.Enlisting actions notes (ending_of ending) } else queueing_or_settled s actions notes (ending_of ending)))
+    (sym (ap (λ (m : Option ℕ). list_any is_listen actions && is_none m) h.mark ∙ test)) (holds_owed section journal at s (show.Enlisting actions notes ending) (walk.Enlisting actions notes (ending_of ending)) h refl)
+
+pub goes_on : (at new : Standing) (actions : List Action) (notes : List Note) (ending : Ending) → (list_any is_listen actions && is_none at.mark) ≡ false
+    → Leads at new (λ s. queueing_or_settled s actions notes (ending_of ending)) → Leads at new (λ s. commits s actions notes (ending_of ending))
+goes_on at new actions notes ending test next section journal s h =
+    subst (λ (b : Bool). Holds section journal new (if b then record s { owed = walk.Enlisting actions notes (ending_of ending) } else queueing_or_settled s actions notes (ending_of ending)))
+    (sym (ap (λ (m : Option ℕ). list_any is_listen actions && is_none m) h.mark ∙ test)) (next section journal s h)

@@ -1,0 +1,95 @@
+-- Whether a read was left out.
+use Rattle.std.proofs.Common.{◌≡◌, ◌↔◌, ℕ, ◌+◌, ◌<◌, Bool, true, false, List, Option, Some, None, sym, ◌∙◌, refl, subst}
+use Rattle.std.specs.Prelude.{IfSome}
+use Rattle.std.proofs.lemmas.Bool.{false≢true}
+use Rattle.pgn_base.specs.declared.limits.TheConstants.{CLEANUP_DELAY_PAGES}
+use Rattle.pgn_answers.specs.declared.block_state.BlockState.TheVariants.{Idle}
+use Rattle.pgn_journal.specs.declared.tx.Tx.{Tx}
+use Rattle.pgn_journal.specs.Due.{is_due_to}
+use Rattle.pgn_journal.specs.Near.{Near}
+use Rattle.pgn_journal.specs.Packing.{page_of, place}
+use Rattle.pgn_model.specs.declared.item.Item.{Item}
+use Rattle.pgn_model.specs.declared.item.Item.TheVariants as item
+use Rattle.pgn_model.specs.Walk.{State, Terms}
+use Rattle.pgn_model.specs.Trace.{IsFreshAt, IsUpToDate}
+use Rattle.pgn_walk.specs.declared.standing.Standing.{Standing}
+use Rattle.pgn_walk.specs.Evidence.{begins_line}
+use Rattle.pgn_walk.specs.Standing.{Holds}
+use Rattle.pgn_walk.specs.Fresh.{Asks}
+use Rattle.pgn_walk.proofs.ReadLaws.{FindsNothing}
+
+-- it is near where the session stands
+near_same : (terms : Terms) (journal : List Tx) (mark : ℕ) (old : Standing) (s : State) → old.mark ≡ Some mark → Holds terms.section journal old s → IsUpToDate terms journal s
+    ↔ Near terms.settings.format (is_due_to terms.section.db s.set) journal mark s.told
+near_same terms journal mark old s e h = (
+  λ up. subst (λ (m : Option ℕ). IfSome m (λ own. Near terms.settings.format (is_due_to terms.section.db s.set) journal own s.told)) (h.mark ∙ e) up,
+  λ near. subst (λ (m : Option ℕ). IfSome m (λ own. Near terms.settings.format (is_due_to terms.section.db s.set) journal own s.told)) (sym (h.mark ∙ e)) near,
+)
+
+pub up_none : (terms : Terms) (journal : List Tx) (old : Standing) → old.mark ≡ None → Asks terms.section journal old true old (λ s. IsUpToDate terms journal s)
+up_none terms journal old e = record {
+  decides = λ s h. (λ _. subst (λ (m : Option ℕ). IfSome m (λ own. Near terms.settings.format (is_due_to terms.section.db s.set) journal own s.told)) (sym (h.mark ∙ e)) tt, λ _. refl);
+  stays = λ s h. h;
+}
+
+abbrev pub IsClose : Terms → List Tx → ℕ → ℕ → Type 0
+IsClose terms journal mark x = page_of (place terms.settings.format journal x) < page_of (place terms.settings.format journal mark) + CLEANUP_DELAY_PAGES
+
+pub up_far : (terms : Terms) (journal : List Tx) (mark : ℕ) (old : Standing) (b : Bool) → old.mark ≡ Some mark → (b ≡ true) ↔ IsClose terms journal mark old.told → b ≡ false → Asks terms.section journal old false old (λ s. IsUpToDate terms journal s)
+up_far terms journal mark old b e test far = record {
+  decides = λ s h. (
+    λ t. absurd (false≢true t),
+    λ up.
+        let near = (near_same terms journal mark old s e h).0 up in
+        absurd (false≢true (sym far ∙ test.1 (subst (λ (x : ℕ). IsClose terms journal mark x) h.told near.few_pages))),
+  );
+  stays = λ s h. h;
+}
+
+pub up_by : (terms : Terms) (journal : List Tx) (mark : ℕ) (old new : Standing) (b d : Bool) → old.mark ≡ Some mark → (b ≡ true) ↔ IsClose terms journal mark old.told → b ≡ true
+    → Asks terms.section journal old d new (FindsNothing terms.section journal mark) → Asks terms.section journal old d new (λ s. IsUpToDate terms journal s)
+up_by terms journal mark old new b d e test close asks = record {
+  decides = λ s h. (
+    λ t. (near_same terms journal mark old s e h).1 (record {
+      nothing_due = (asks.decides s h).0 t;
+      few_pages = subst (λ (x : ℕ). IsClose terms journal mark x) (sym h.told) (test.0 close);
+    }),
+    λ up. (asks.decides s h).1 ((near_same terms journal mark old s e h).0 up).nothing_due,
+  );
+  stays = asks.stays;
+}
+
+-- Before an item.
+
+fresh_elsewhere : (terms : Terms) (journal : List Tx) (s : State) (i : Item) → begins_line i ≡ false → IsFreshAt terms journal s i
+fresh_elsewhere terms journal s (item.Line n) h = absurd (false≢true (sym h))
+fresh_elsewhere terms journal s other h = tt
+
+pub fresh_no_line : (terms : Terms) (journal : List Tx) (old : Standing) (i : Item) → begins_line i ≡ false → Asks terms.section journal old true old (λ s. IsFreshAt terms journal s i)
+fresh_no_line terms journal old i none = record {
+  decides = λ s h. (λ _. fresh_elsewhere terms journal s i none, λ _. refl);
+  stays = λ s h. h;
+}
+
+fresh_in_block : (terms : Terms) (journal : List Tx) (s : State) (i : Item) → (s.block ≡ Idle → ⊥) → IsFreshAt terms journal s i
+fresh_in_block terms journal s (item.Line n) shut = λ idle. absurd (shut idle)
+fresh_in_block terms journal s other shut = tt
+
+pub fresh_open : (terms : Terms) (journal : List Tx) (old : Standing) (i : Item) (b : Bool) → (b ≡ true) ↔ (old.block.state ≡ Idle) → b ≡ false → Asks terms.section journal old true old (λ s. IsFreshAt terms journal s i)
+fresh_open terms journal old i b test off = record {
+  decides = λ s h. (λ _. fresh_in_block terms journal s i (λ idle. false≢true (sym off ∙ test.1 (sym h.block ∙ idle))), λ _. refl);
+  stays = λ s h. h;
+}
+
+fresh_line : (terms : Terms) (journal : List Tx) (s : State) (i : Item) → begins_line i ≡ true → s.block ≡ Idle → IsUpToDate terms journal s ↔ IsFreshAt terms journal s i
+fresh_line terms journal s (item.Line n) h idle = (λ up. λ _. up, λ f. f idle)
+fresh_line terms journal s other h idle = absurd (false≢true h)
+
+pub fresh_by : (terms : Terms) (journal : List Tx) (old new : Standing) (i : Item) (b d : Bool) → begins_line i ≡ true → (b ≡ true) ↔ (old.block.state ≡ Idle) → b ≡ true → Asks terms.section journal old d new (λ s. IsUpToDate terms journal s)
+    → Asks terms.section journal old d new (λ s. IsFreshAt terms journal s i)
+fresh_by terms journal old new i b d line test idle asks = record {
+  decides = λ s h.
+      let same = fresh_line terms journal s i line (h.block ∙ test.0 idle) in
+      (λ t. same.0 ((asks.decides s h).0 t), λ f. (asks.decides s h).1 (same.1 f));
+  stays = asks.stays;
+}

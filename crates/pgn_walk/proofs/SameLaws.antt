@@ -1,0 +1,57 @@
+-- Lists that are compared element by element.
+use Rattle.std.proofs.Common.{◌≡◌, ◌≢◌, ◌↔◌, ℕ, ◌+◌, ◌<◌, ◌≤◌, Bool, true, false, cond, List, [], ◌∷◌, length, get_or, drop, sym, ap, ◌∙◌, refl, subst, inl, inr, arith}
+use Rattle.std.specs.Prelude.{bytes_eq}
+use Rattle.std.proofs.lemmas.Bool.{cases_Bool, false≢true}
+use Rattle.std.proofs.lemmas.List.{drop_all, drop_more}
+use Rattle.std.proofs.lemmas.Slice.Eq.{bytes_eq-Decides}
+use Rattle.pgn_base.specs.declared.note.Note.{Note}
+use Rattle.pgn_answers.specs.Savepoints.{same_note}
+use Rattle.pgn_answers.proofs.SavepointLemmas.{same_note-same, same_note-true}
+use Rattle.pgn_walk.specs.Same.{same_by}
+
+module _ {X : Type 0} (same : X → X → Bool) where
+  -- other lengths
+  pub same_long : (xs ys : List X) → length xs ≢ length ys → same_by same xs ys ≡ false
+  same_long [] [] h = absurd (h refl)
+  same_long [] (y ∷ ys) h = refl
+  same_long (x ∷ xs) [] h = refl
+  same_long (x ∷ xs) (y ∷ ys) h = elim (cases_Bool (same x y)) [
+    | inl is ↦ ap (λ (b : Bool). cond b (same_by same xs ys) false) is ∙ same_long xs ys (λ e. h (omega (arith, e)))
+    | inr off ↦ ap (λ (b : Bool). cond b (same_by same xs ys) false) off
+  ]
+
+  -- one place on
+  pub same_more : (xs ys : List X) (k : ℕ) (x y : X) → k < length xs → k < length ys → x ≡ get_or xs k x → y ≡ get_or ys k y → same x y ≡ true → same_by same (drop (k + 1) xs) (drop (k + 1) ys) ≡ same_by same (drop k xs) (drop k ys)
+  same_more xs ys k x y lx ly one two is =
+      sym (ap (λ (them : List X). same_by same them (drop k ys)) (drop_more xs k x lx ∙ ap (λ (z : X). z ∷ drop (k + 1) xs) (sym one))
+      ∙ ap (λ (them : List X). same_by same (x ∷ drop (k + 1) xs) them) (drop_more ys k y ly ∙ ap (λ (z : X). z ∷ drop (k + 1) ys) (sym two)) ∙ ap (λ (b : Bool). cond b (same_by same (drop (k + 1) xs) (drop (k + 1) ys)) false) is)
+
+  pub same_stops : (xs ys : List X) (k : ℕ) (x y : X) → k < length xs → k < length ys → x ≡ get_or xs k x → y ≡ get_or ys k y → same x y ≡ false → same_by same (drop k xs) (drop k ys) ≡ false
+  same_stops xs ys k x y lx ly one two off =
+      ap (λ (them : List X). same_by same them (drop k ys)) (drop_more xs k x lx ∙ ap (λ (z : X). z ∷ drop (k + 1) xs) (sym one))
+      ∙ ap (λ (them : List X). same_by same (x ∷ drop (k + 1) xs) them) (drop_more ys k y ly ∙ ap (λ (z : X). z ∷ drop (k + 1) ys) (sym two)) ∙ ap (λ (b : Bool). cond b (same_by same (drop (k + 1) xs) (drop (k + 1) ys)) false) off
+
+  pub same_end : (xs ys : List X) (k : ℕ) → length xs ≤ k → length ys ≤ k → same_by same (drop k xs) (drop k ys) ≡ true
+  same_end xs ys k lx ly = ap (λ (them : List X). same_by same them (drop k ys)) (drop_all k xs lx) ∙ ap (λ (them : List X). same_by same [] them) (drop_all k ys ly)
+
+  -- where the test tells equality, so does the comparison
+  same_is : ((x y : X) → same x y ≡ true → x ≡ y) → (xs ys : List X) → same_by same xs ys ≡ true → xs ≡ ys
+  same_is tells [] [] h = refl
+  same_is tells [] (y ∷ ys) h = absurd (false≢true h)
+  same_is tells (x ∷ xs) [] h = absurd (false≢true h)
+  same_is tells (x ∷ xs) (y ∷ ys) h = elim (cases_Bool (same x y)) [
+    | inl is ↦
+        let rest : xs ≡ ys = same_is tells xs ys (sym (ap (λ (b : Bool). cond b (same_by same xs ys) false) is) ∙ h) in
+        ap (λ (z : X). z ∷ xs) (tells x y is) ∙ ap (λ (them : List X). y ∷ them) rest
+    | inr off ↦ absurd (false≢true (sym (ap (λ (b : Bool). cond b (same_by same xs ys) false) off) ∙ h))
+  ]
+
+  is_same : ((x : X) → same x x ≡ true) → (xs : List X) → same_by same xs xs ≡ true
+  is_same itself [] = refl
+  is_same itself (x ∷ xs) = ap (λ (b : Bool). cond b (same_by same xs xs) false) (itself x) ∙ is_same itself xs
+
+pub notes_are : (a b : List Note) → (same_by same_note a b ≡ true) ↔ (a ≡ b)
+notes_are a b = (same_is same_note same_note-true a b, λ e. subst (λ (them : List Note). same_by same_note a them ≡ true) e (is_same same_note same_note-same a))
+
+pub names_are : (a b : List (List ℕ)) → (same_by bytes_eq a b ≡ true) ↔ (a ≡ b)
+names_are a b = (same_is bytes_eq (λ x y. (bytes_eq-Decides x y).0) a b, λ e. subst (λ (them : List (List ℕ)). same_by bytes_eq a them ≡ true) e (is_same bytes_eq (λ x. (bytes_eq-Decides x x).1 refl) a))

@@ -1,0 +1,85 @@
+-- Where a session stands in the walk over its trace, and the states of the walk that it stands for.
+use Rattle.std.specs.Prelude.{◌≡◌, ◌==◌, ◌↔◌, ℕ, ◌≤◌, Bool, false, List, length, drop, Option, None, IfSome, All, if◌then◌else◌, ◌&&◌, is_none, nat_eq}
+use Rattle.std.specs.List.{list_any}
+use Rattle.std.specs.Map.{lookup}
+use Rattle.pgn_base.specs.declared.note.Note.{Note}
+use Rattle.pgn_base.specs.declared.listen_set.Action.{Action}
+use Rattle.pgn_answers.specs.Savepoints.{is_listen}
+use Rattle.pgn_journal.specs.declared.tx.Tx.{Tx}
+use Rattle.pgn_journal.specs.Journal.{entries_between}
+use Rattle.pgn_journal.specs.Due.{is_due_to}
+use Rattle.pgn_language.specs.declared.scenario.Section.{Section}
+use Rattle.pgn_model.specs.Walk.{State, Owed, IsGreatest, IsUnknown, queueing_or_settled}
+use Rattle.pgn_model.specs.Walk as walk
+use Rattle.pgn_pending.specs.Kept.{StandsFor}
+use Rattle.pgn_walk.specs.declared.to_show.Ending.{Ending}
+use Rattle.pgn_walk.specs.declared.to_show.Ending.TheVariants.{Replied, Refused}
+use Rattle.pgn_walk.specs.declared.to_show.ToShow.{ToShow}
+use Rattle.pgn_walk.specs.declared.to_show.ToShow.TheVariants as show
+use Rattle.pgn_walk.specs.declared.standing.Standing.{Standing}
+
+-- how a line is answered
+abbrev pub ending_of : Ending → walk.Ending
+ending_of (Replied tag warning) = walk.Replied tag warning
+ending_of (Refused refusal) = walk.Refused refusal
+
+-- what the current line still has to show
+abbrev pub owed_of : ToShow → Owed
+owed_of show.Nothing = walk.Nothing
+owed_of (show.Enlisting actions notes ending) = walk.Enlisting actions notes (ending_of ending)
+owed_of (show.Queueing actions notes ending) = walk.Queueing actions notes (ending_of ending)
+owed_of (show.Leaving ending) = walk.Leaving (ending_of ending)
+owed_of (show.Answering ending) = walk.Answering (ending_of ending)
+owed_of (show.Listing names ending) = walk.Listing names (ending_of ending)
+owed_of (show.Measuring ending) = walk.Measuring (ending_of ending)
+owed_of (show.Raising flag) = walk.Raising flag
+owed_of (show.Awaiting flag) = walk.Awaiting flag
+owed_of show.Quitting = walk.Quitting
+
+-- a mark is no less than each of these exactly where it is no less than this one
+abbrev pub IsGreatestMark : List ℕ → ℕ → Type 0
+IsGreatestMark marks greatest = (point : ℕ) → All (λ mark. mark ≤ point) marks ↔ (greatest ≤ point)
+
+-- the number with which a flag is known
+abbrev pub known_at : List (ℕ × ℕ) → ℕ → Option ℕ
+known_at known flag = lookup (nat_eq flag) known
+
+-- what a session has raised and found of each flag
+pub record AreKnown (raised found known : List (ℕ × ℕ)) : Type 0 where
+  pub greatest : (flag value : ℕ) → (IsGreatest raised flag value × IsGreatest found flag value) ↔ IfSome (known_at known flag) (λ most. most ≤ value)
+  pub unknown : (flag : ℕ) → (IsUnknown raised flag × IsUnknown found flag) ↔ (known_at known flag ≡ None)
+
+-- a listener finds nothing that is due from its mark up to a number
+abbrev pub IsFreshTo : List Tx → ℕ → List (List ℕ) → Option ℕ → ℕ → Type 0
+IsFreshTo journal db set mark to = IfSome mark (λ from. list_any (is_due_to db set) (entries_between journal from to) ≡ false)
+
+-- a session that stands so may be in this state of the walk
+pub record Holds (section : Section) (journal : List Tx) (at : Standing) (s : State) : Type 0 where
+  pub rest : s.rest ≡ drop at.next section.lines
+  pub owed : s.owed ≡ owed_of at.owed
+  pub block : s.block ≡ at.block.state
+  pub changes : StandsFor s.changes at.block.kept
+  pub set : s.set ≡ at.set.channels
+  pub mark : s.mark ≡ at.mark
+  pub told : s.told ≡ at.told
+  pub marks : IsGreatestMark s.marks at.greatest
+  pub flags : AreKnown s.raised s.found at.known.entries
+  pub fresh : IsFreshTo journal section.db at.set.channels at.mark at.fresh_to
+
+-- a step leads from one standing to another as this does from a state of the walk to another
+abbrev pub Leads : Standing → Standing → (State → State) → Type 0
+Leads old new step = (section : Section) (journal : List Tx) (s : State) → Holds section journal old s → Holds section journal new (step s)
+
+-- a commit of these actions and notifications: a session that is to listen and is no listener becomes one first
+abbrev pub commits : State → List Action → List Note → walk.Ending → State
+commits s actions notes ending = if list_any is_listen actions && is_none s.mark then record s { owed = walk.Enlisting actions notes ending } else queueing_or_settled s actions notes ending
+
+-- the rows of no channel come next
+abbrev pub has_no_rows : ToShow → Bool
+has_no_rows (show.Listing names ending) = length names == 0
+has_no_rows other = false
+
+-- the answer comes behind rows
+abbrev pub behind_rows : ToShow → ToShow
+behind_rows (show.Listing names ending) = show.Answering ending
+behind_rows other = other

@@ -1,0 +1,116 @@
+ghost use Rattle.std.specs.Prelude.{◌≡◌, ◌&&◌, OnOk, is_none};
+ghost use Rattle.std.specs.List.{list_any};
+ghost use Rattle.pgn_base.specs.Channels.{applied};
+ghost use Rattle.pgn_answers.specs.Savepoints.{is_listen};
+ghost use Rattle.pgn_model.specs.Walk.{State};
+ghost use Rattle.pgn_model.specs.Walk.{leaving_or_answering, queueing_or_settled, settled};
+ghost use Rattle.pgn_walk.specs.Standing.{Leads, commits, ending_of};
+
+use crate::standing::Standing;
+use crate::to_show::{Ending, ToShow};
+use pgn_base::{Action, Actions, Notes};
+use std::alloc::AllocError;
+
+// A transaction commits.
+impl Standing {
+    /// A session that is to listen and is no listener becomes one first.
+    #[tactic(auto, using(crate::proofs::CommitLaws::enlists, crate::proofs::CommitLaws::goes_on))]
+    pub fn commit(
+        &mut self,
+        actions: Actions,
+        notes: Notes,
+        ending: Ending,
+    ) -> Result<(), AllocError>
+        ensures { OnOk result (Leads self.old self.new (λ s. commits s actions notes (ending_of ending))) }
+    {
+        if self.is_to_enlist(actions.as_slice()) {
+            self.owed = ToShow::Enlisting {
+                actions,
+                notes,
+                ending,
+            };
+            return Ok(());
+        }
+        self.queue_or_settle(actions, notes, ending)
+    }
+
+    // It is to become one.
+    fn is_to_enlist(&self, actions: &[Action]) -> bool
+        ensures { result ≡ (list_any is_listen actions.now && is_none self.now.mark) }
+    {
+        some_listens(actions) && self.mark.is_none()
+    }
+
+    /// The notifications come next, if there are any.
+    #[tactic(auto, using(crate::proofs::CommitLaws::queues, crate::proofs::CommitLaws::settles))]
+    pub fn queue_or_settle(
+        &mut self,
+        actions: Actions,
+        notes: Notes,
+        ending: Ending,
+    ) -> Result<(), AllocError>
+        ensures { OnOk result (Leads self.old self.new (λ s. queueing_or_settled s actions notes (ending_of ending))) }
+    {
+        if notes.as_slice().is_empty() {
+            return self.settle(actions, ending);
+        }
+        self.owed = ToShow::Queueing {
+            actions,
+            notes,
+            ending,
+        };
+        Ok(())
+    }
+
+    /// The actions take effect.
+    pub fn settle(&mut self, actions: Actions, ending: Ending) -> Result<(), AllocError>
+        ensures { OnOk result (Leads self.old self.new (λ s. settled s actions (ending_of ending))) }
+    {
+        self.act(actions)?;
+        self.leave_or_answer(ending);
+        Ok(())
+    }
+
+    // The actions change the set.
+    #[tactic(auto, using(crate::proofs::CommitLaws::acts, crate::proofs::CommitLaws::acts_not))]
+    fn act(&mut self, actions: Actions) -> Result<(), AllocError>
+        ensures { OnOk result (Leads self.old self.new (λ s. record s { set = applied s.set actions })) }
+    {
+        if actions.as_slice().is_empty() {
+            return Ok(());
+        }
+        self.set.reserve(actions.as_slice().len())?;
+        self.set.apply(actions);
+        self.fresh_to = 0;
+        Ok(())
+    }
+
+    /// The answer comes next; a listener whose set is empty leaves first.
+    #[tactic(auto, using(crate::proofs::CommitLaws::leaves, crate::proofs::CommitLaws::answers))]
+    pub fn leave_or_answer(&mut self, ending: Ending)
+        ensures { Leads self.old self.new (λ s. leaving_or_answering s (ending_of ending)) }
+    {
+        if self.is_to_leave() {
+            self.owed = ToShow::Leaving { ending };
+        } else {
+            self.owed = ToShow::Answering { ending };
+        }
+    }
+}
+
+// An action listens.
+fn some_listens(actions: &[Action]) -> bool
+    ensures { result ≡ list_any is_listen actions.now }
+{
+    actions.iter().any(|action| listens(action))
+}
+
+// This one does.
+fn listens(action: &Action) -> bool
+    ensures { result ≡ is_listen action.now }
+{
+    match action {
+        Action::Listen(_) => true,
+        Action::Unlisten(_) | Action::UnlistenAll => false,
+    }
+}

@@ -1,0 +1,96 @@
+ghost use Rattle.std.specs.Prelude.{◌≡◌, ◌↔◌, ◌&&◌, true, is_some, List};
+ghost use Rattle.pgn_reading.specs.Completed.{ready};
+ghost use Rattle.pgn_language.specs.declared.scenario.Section.{Section};
+ghost use Rattle.pgn_journal.specs.declared.tx.Tx.{Tx};
+ghost use Rattle.pgn_model.specs.Walk.{is_empty_set, start};
+ghost use Rattle.pgn_walk.specs.Standing.{Holds, Leads, behind_rows, has_no_rows};
+
+use crate::to_show::ToShow;
+use indexmap::IndexMap;
+use pgn_base::{FIRST_XID, ListenSet, Xid};
+use pgn_block::Block;
+use std::alloc::Global;
+use std::mem;
+
+/// Where a session stands in the walk over its trace.
+#[derive(Drop)]
+pub struct Standing {
+    /// How many script lines have begun.
+    pub next: usize,
+    pub owed: ToShow,
+    pub block: Block,
+    pub set: ListenSet,
+    pub mark: Option<Xid>,
+    /// Every transaction below this number is known to be finished.
+    pub told: Xid,
+    /// The greatest base, point or end of a read so far, or 0.
+    pub greatest: u32,
+    /// Each flag that was raised or found, with the greatest number that it showed.
+    pub known: IndexMap<u32, u32>,
+    /// From the mark up to here nothing is due.
+    pub fresh_to: u32,
+}
+
+impl Standing {
+    /// Before the first item.
+    #[tactic(auto, using(crate::proofs::StandingLaws::holds_first))]
+    pub fn new(alloc: Global) -> Standing
+        ensures { (section : Section) (journal : List Tx) → Holds section journal result (start section) }
+    {
+        Standing {
+            next: 0,
+            owed: ToShow::Nothing,
+            block: Block::new(alloc),
+            set: ListenSet::new(alloc),
+            mark: None,
+            told: Xid::new(FIRST_XID),
+            greatest: 0,
+            known: IndexMap::new(alloc),
+            fresh_to: 0,
+        }
+    }
+
+    /// Takes in the rows of no channel, where they come next.
+    #[tactic(auto, using(crate::proofs::ReadyLaws::ready_with, crate::proofs::ReadyLaws::ready_without))]
+    pub fn ready(&mut self)
+        ensures { Leads self.old self.new ready }
+    {
+        if self.has_no_rows() {
+            self.skip_rows();
+        }
+    }
+
+    // The rows of no channel come next.
+    fn has_no_rows(&self) -> bool
+        ensures { result ≡ has_no_rows self.now.owed }
+    {
+        match &self.owed {
+            ToShow::Listing { names, .. } => names.as_slice().is_empty(),
+            _ => false,
+        }
+    }
+
+    // The answer comes behind rows.
+    fn skip_rows(&mut self)
+        ensures { self.new ≡ record self.old { owed = behind_rows self.old.owed } }
+    {
+        match mem::replace(&mut self.owed, ToShow::Nothing) {
+            ToShow::Listing { ending, .. } => self.owed = ToShow::Answering { ending },
+            owed => self.owed = owed,
+        }
+    }
+
+    /// Nothing is left to show.
+    pub fn has_answered(&self) -> bool
+        ensures { (result ≡ true) ↔ (self.now.owed ≡ ToShow.Nothing) }
+    {
+        matches!(self.owed, ToShow::Nothing)
+    }
+
+    /// The session is a listener whose set is empty.
+    pub fn is_to_leave(&self) -> bool
+        ensures { result ≡ (is_some self.now.mark && is_empty_set self.now.set.channels) }
+    {
+        self.mark.is_some() && self.set.is_empty()
+    }
+}

@@ -1,0 +1,200 @@
+ghost use Rattle.std.specs.Prelude.{◌≡◌, ◌↔◌, ℕ, ◌+◌, ◌^◌, ◌<◌, ◌≤◌, ◌&&◌, ◌||◌, true, [], ◌∷◌, ◌++◌, List, flat_map, length, Ok, None, IfOk, IfSome, MatchOption};
+ghost use Rattle.pgn_journal.specs.Journal.{next_xid};
+ghost use Rattle.pgn_journal.specs.declared.tx.Tx.{Tx};
+ghost use Rattle.pgn_language.specs.declared.scenario.Section.{Section};
+ghost use Rattle.pgn_model.specs.declared.item.Item.{Item};
+ghost use Rattle.pgn_model.specs.declared.trace.Trace.{Trace};
+ghost use Rattle.pgn_model.specs.Legal.{finished_xids};
+ghost use Rattle.pgn_model.specs.Trace.{IsEnd};
+ghost use Rattle.pgn_model.specs.Text.{item_lines, trace_lines};
+ghost use Rattle.pgn_reading.specs.Form.{IsReadTrace};
+ghost use Rattle.pgn_reading.specs.WholeLaws.{IsWalked};
+ghost use Rattle.pgn_walk.specs.declared.basis.Basis.{Basis};
+ghost use Rattle.pgn_walk.specs.Fresh.{Asks};
+ghost use Rattle.pgn_walk.specs.Basis.{Tells, journal_of, terms_of};
+ghost use Rattle.pgn_walk.specs.Walked.{AsksLast, CountsOn, HasCome, IsAround, IsAtEnd, IsLeastOf, IsMissingNone};
+
+use crate::basis::Basis;
+use crate::borne::{finished_in, lines_of};
+use crate::standing::Standing;
+use pgn_base::Xid;
+use pgn_language::Section;
+use pgn_model::{Item, Trace};
+use std::alloc::{AllocError, Global};
+
+/// How far a walk has come: where its session stands, how many transactions the items so far show as finished, and the number of the
+/// last line.
+#[derive(Drop)]
+pub(crate) struct Walker {
+    at: Standing,
+    own: usize,
+    line: usize,
+}
+
+/// The number of the first line of a section that is to blame, if one is, where the section's head is the line of this number.
+pub fn walk(
+    alloc: Global,
+    basis: &Basis,
+    trace: &Trace,
+    head: usize,
+) -> Result<Option<usize>, AllocError>
+    requires fits { head + length (trace_lines basis.now.section.now trace.now) < 2 ^ 64 }
+    ensures { IfOk result (λ blamed. (sections : List Section) (traces : List Trace) → Tells basis.now sections traces → IsReadTrace basis.now.section.now trace.now
+        → MatchOption blamed (IsWalked (terms_of basis.now) (journal_of basis.now) sections traces trace.now) (λ n. IsLeastOf (terms_of basis.now) (journal_of basis.now) sections traces head trace.now n)) }
+{
+    let mut walker = Walker::new(alloc, head);
+    for item in trace.items.as_slice() {
+        match walker.step(alloc, basis, item)? {
+            Some(line) => return Ok(Some(line)),
+            None => {}
+        }
+    }
+    Ok(walker.end(basis, trace))
+}
+
+impl Walker {
+    // Before the first item, where the head is the line of this number.
+    #[tactic(auto, using(crate::proofs::WalkLaws::come_first))]
+    fn new(alloc: Global, head: usize) -> Walker
+        ensures counted { (result.own ≡ 0) × (result.line ≡ head) }
+        ensures come { (basis : Basis) (sections : List Section) (traces : List Trace) → HasCome basis sections traces [] result.at }
+    {
+        Walker {
+            at: Standing::new(alloc),
+            own: 0,
+            line: head,
+        }
+    }
+
+    // Takes an item, or gives the line that is to blame.
+    #[tactic(auto, using(crate::proofs::WalkLaws::step_left, crate::proofs::WalkLaws::step_bad, crate::proofs::WalkLaws::step_on))]
+    fn step(
+        &mut self,
+        alloc: Global,
+        basis: &Basis,
+        item: &Item,
+    ) -> Result<Option<usize>, AllocError>
+        requires line { self.old.line + length (item_lines [] item.now) < 2 ^ 64 }
+        requires next { self.old.line + 1 < 2 ^ 64 }
+        requires own { self.old.own ≤ self.old.line }
+        ensures counted { result ≡ Ok None → CountsOn self.old item.now self.new }
+        ensures come { IfOk result (λ blamed. (sections : List Section) (traces : List Trace) (head : ℕ) (trace : Trace) (before after : List Item) → IsAround basis.now sections traces head trace before item.now after self.old
+            → MatchOption blamed (HasCome basis.now sections traces (before ++ item.now ∷ []) self.new.at) (λ n. IsLeastOf (terms_of basis.now) (journal_of basis.now) sections traces head trace n)) }
+    {
+        self.at.ready();
+        if !self.at.is_fresh_at(basis, item) {
+            return Ok(Some(self.line));
+        }
+        if !self.at.takes(alloc, basis, self.own, item)? {
+            return Ok(Some(self.line + 1));
+        }
+        self.own += finished_in(item);
+        self.line += lines_of(item);
+        Ok(None)
+    }
+
+    // The line that is to blame at the end, if one is.
+    #[tactic(auto, using(crate::proofs::WalkLaws::end_left, crate::proofs::WalkLaws::end_bad, crate::proofs::WalkLaws::end_good))]
+    fn end(&mut self, basis: &Basis, trace: &Trace) -> Option<usize>
+        requires next { self.old.line + 1 < 2 ^ 64 }
+        requires own { self.old.own ≡ length (finished_xids trace.now.items) }
+        ensures { (sections : List Section) (traces : List Trace) (head : ℕ) → IsAtEnd basis.now sections traces head trace.now self.old
+            → MatchOption result (IsWalked (terms_of basis.now) (journal_of basis.now) sections traces trace.now) (λ n. IsLeastOf (terms_of basis.now) (journal_of basis.now) sections traces head trace.now n) }
+    {
+        if !self.at.is_fresh_last(basis) {
+            return Some(self.line);
+        }
+        if !self.at.is_whole(basis, self.own, &trace.last) {
+            return Some(self.line + 1);
+        }
+        None
+    }
+}
+
+// The end of a trace.
+impl Standing {
+    // No read was left out, where no block is open or no script line is left.
+    #[tactic(auto, using(crate::proofs::LastLaws::last_off, crate::proofs::LastLaws::last_by))]
+    fn is_fresh_last(&mut self, basis: &Basis) -> bool
+        ensures { AsksLast (terms_of basis.now) (journal_of basis.now) self.old result self.new }
+    {
+        if !is_either(self.is_idle(), self.is_over(basis.section)) {
+            return true;
+        }
+        self.is_up_to_date(basis)
+    }
+
+    // Nothing is missing, where so many transactions were shown.
+    #[tactic(auto, using(crate::proofs::LastLaws::whole_by))]
+    fn is_whole(&self, basis: &Basis, own: usize, last: &Option<Xid>) -> bool
+        ensures { Asks basis.now.section.now (journal_of basis.now) self.now result self.now (IsMissingNone basis.now own last.now) }
+    {
+        are_all(
+            self.has_ended(basis.section, last),
+            basis.ledger.count_of(basis.section.no) <= own,
+            has_read_all(basis, last),
+        )
+    }
+
+    // The script is done, its last line has its whole answer, and this is the mark.
+    #[tactic(auto, using(crate::proofs::LastLaws::ended_by))]
+    fn has_ended(&self, section: &Section, last: &Option<Xid>) -> bool
+        ensures { (journal : List Tx) → Asks section.now journal self.now result self.now (λ s. IsEnd s last.now) }
+    {
+        are_all(
+            self.has_answered(),
+            self.is_over(section),
+            self.has_mark(last),
+        )
+    }
+
+    // No script line is left.
+    fn is_over(&self, section: &Section) -> bool
+        ensures { (result ≡ true) ↔ (length section.now.lines ≤ self.now.next) }
+    {
+        self.next >= section.lines.as_slice().len()
+    }
+
+    // This is the mark.
+    fn has_mark(&self, last: &Option<Xid>) -> bool
+        ensures { (result ≡ true) ↔ (self.now.mark ≡ last.now) }
+    {
+        self.mark == *last
+    }
+}
+
+// One of two.
+fn is_either(a: bool, b: bool) -> bool
+    ensures { result ≡ (a || b) }
+{
+    a || b
+}
+
+// All of three.
+pub(crate) fn are_all(a: bool, b: bool, c: bool) -> bool
+    ensures { result ≡ (a && (b && c)) }
+{
+    a && b && c
+}
+
+// A session that still listens has read the whole journal.
+fn has_read_all(basis: &Basis, last: &Option<Xid>) -> bool
+    ensures { (result ≡ true) ↔ IfSome last.now (λ mark. mark ≡ next_xid (journal_of basis.now)) }
+{
+    match last {
+        None => true,
+        Some(mark) => mark.get() == basis.ledger.next_xid(),
+    }
+}
+
+/// How many lines a section with its trace has.
+pub fn lines_of_trace(trace: &Trace) -> usize
+    requires { 2 + length (flat_map (item_lines []) trace.now.items) < 2 ^ 64 }
+    ensures { (section : Section) → result ≡ length (trace_lines section trace.now) }
+{
+    let mut lines = 2;
+    for item in trace.items.as_slice() {
+        lines += lines_of(item);
+    }
+    lines
+}
