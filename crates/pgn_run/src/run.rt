@@ -117,7 +117,16 @@ pub fn run_notify<'a, S: Source, K: Sink + Send, R: Threads + Wait + Sync>(
                 format,
                 live,
             },
-        ) => run::<S, K, R>(rt, alloc, pages, patience, format, shows_if(live), source, sink),
+        ) => run::<S, K, R>(
+            rt,
+            alloc,
+            pages,
+            patience,
+            format,
+            shows_if(live),
+            source,
+            sink,
+        ),
         Ok(
             Asked::Drill {
                 seed,
@@ -188,7 +197,9 @@ fn run<S: Source, K: Sink + Send, R: Threads + Wait + Sync>(
         → (result ≡ Status.Done) ⊎ (result ≡ Status.NoMemory) }
 {
     match read_input(alloc, source, READ_LIMIT) {
-        Ok(input) => answer::<WordHub, K, R>(rt, alloc, input, pages, patience, format, shows, sink),
+        Ok(input) => answer::<WordHub, K, R>(
+            rt, alloc, input, pages, patience, format, shows, sink,
+        ),
         Err(Unread::Failed) => Status::ReadFault,
         Err(Unread::Memory) => Status::NoMemory,
     }
