@@ -2,7 +2,7 @@
 use Rattle.std.specs.Prelude.{ℕ, true, false, List, [], ◌∷◌, Option, None, Some, codes}
 use Rattle.pgn_base.specs.declared.format.Format.TheVariants.{One, Two}
 use Rattle.pgn_options.specs.declared.asked.Asked.{Asked}
-use Rattle.pgn_options.specs.declared.asked.Asked.TheVariants.{Run, Drill}
+use Rattle.pgn_options.specs.declared.asked.Asked.TheVariants.{Run, Drill, Check}
 
 abbrev pub Line : Type 0
 Line = List (List ℕ)
@@ -75,6 +75,23 @@ numbers_of_drills =
 abbrev pub wires : List Line
 wires = (codes "wire" ∷ []) ∷ (codes "wire" ∷ codes "--" ∷ []) ∷ []
 
+-- `check`, with the options of `run` but `--live`
+abbrev pub checks : List Line
+checks =
+    (codes "check" ∷ [])
+    ∷ (codes "check" ∷ codes "--" ∷ [])
+    ∷ (codes "check" ∷ codes "--pages=2" ∷ codes "--format" ∷ codes "2" ∷ [])
+    ∷ (codes "check" ∷ codes "--patience" ∷ codes "5" ∷ codes "--pages" ∷ codes "1024" ∷ codes "--" ∷ [])
+    ∷ []
+
+abbrev pub limits_of_checks : List (Option Asked)
+limits_of_checks =
+    Some (Check 256 10000000 One)
+    ∷ Some (Check 256 10000000 One)
+    ∷ Some (Check 2 10000000 Two)
+    ∷ Some (Check 1024 5 One)
+    ∷ []
+
 -- words of which one number is out of its range, or none
 abbrev pub wrong_numbers : List Line
 wrong_numbers =
@@ -92,6 +109,9 @@ wrong_numbers =
     ∷ (codes "run" ∷ codes "--format" ∷ codes "3" ∷ [])
     ∷ (codes "run" ∷ codes "--format=Two" ∷ [])
     ∷ (codes "run" ∷ codes "--format=" ∷ [])
+    ∷ (codes "check" ∷ codes "--pages" ∷ codes "1" ∷ [])
+    ∷ (codes "check" ∷ codes "--patience=0" ∷ [])
+    ∷ (codes "check" ∷ codes "--format" ∷ codes "3" ∷ [])
     ∷ (codes "drill" ∷ codes "0" ∷ codes "0" ∷ codes "1" ∷ [])
     ∷ (codes "drill" ∷ codes "0" ∷ codes "33" ∷ codes "1" ∷ [])
     ∷ (codes "drill" ∷ codes "0" ∷ codes "1" ∷ codes "0" ∷ [])
@@ -142,6 +162,13 @@ wrong_words =
     ∷ (codes "wire" ∷ codes "--live" ∷ [])
     ∷ (codes "wire" ∷ codes "--" ∷ codes "--" ∷ [])
     ∷ (codes "Wire" ∷ [])
+    ∷ (codes "check" ∷ codes "--live" ∷ [])
+    ∷ (codes "check" ∷ codes "--live" ∷ codes "--format" ∷ codes "2" ∷ [])
+    ∷ (codes "check" ∷ codes "--format=2" ∷ codes "--format=2" ∷ [])
+    ∷ (codes "check" ∷ codes "--" ∷ codes "--format=2" ∷ [])
+    ∷ (codes "check" ∷ codes "check" ∷ [])
+    ∷ (codes "check" ∷ codes "--format" ∷ [])
+    ∷ (codes "Check" ∷ [])
     ∷ []
 
 -- the scenario of the least drill

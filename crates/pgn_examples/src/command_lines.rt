@@ -3,12 +3,13 @@ ghost use Rattle.std.specs.List.{list_all};
 ghost use Rattle.pgn_options.specs.declared.asked.Asked.TheVariants.{Wire};
 ghost use Rattle.pgn_options.specs.Words.{asked_by};
 ghost use Rattle.pgn_drill.specs.Drill.{drill};
-ghost use Rattle.pgn_examples.specs.CommandLines.{runs_with_limits, limits_of_runs, drills, numbers_of_drills, wrong_numbers, wrong_words, least_drill, wires};
+ghost use Rattle.pgn_examples.specs.CommandLines.{checks, limits_of_checks, runs_with_limits, limits_of_runs, drills, numbers_of_drills, wrong_numbers, wrong_words, least_drill, wires};
 
 /// Words that are a command, and what they ask for.
 pub fn commands()
     ensures runs { map asked_by runs_with_limits ≡ limits_of_runs }
     ensures drills { map asked_by drills ≡ numbers_of_drills }
+    ensures checks { map asked_by checks ≡ limits_of_checks }
     ensures wires { map asked_by wires ≡ map (λ line. Some Wire) wires }
 {}
 

@@ -5,7 +5,7 @@ use Rattle.std.specs.Str.{bytes_eq, chars}
 use Rattle.std.specs.List.{before_first}
 use Rattle.clap.specs.Lexer.{short_of}
 use Rattle.clap.specs.Kinds.{Kinds, or_else, value_kinds}
-use Rattle.clap.specs.Faults.{defaults_fault, default_fault, flags_fault, long_fault, option_fault, react_fault, settle_fault, step_fault, turn_fault, use_fault}
+use Rattle.clap.specs.Faults.{defaults_fault, default_fault, flags_fault, long_fault, option_fault, react_fault, settle_fault, step_fault, turn_fault, use_fault, walk_fault}
 use Rattle.clap.specs.Walk.{Held, Row, Rule, Text, Waiting, Walk, after_flag, after_step, arg_by_long, at_row, bundle_met, finished, has_row, idle, more_values, one_of, with_values, without, long_met, nothing_held, option as waits_for, settled, takes_values, used, walk_from, walked, with_default}
 use Rattle.clap.specs.Simple.{Shape, new_rule, new_shape}
 use Rattle.clap.specs.declared.builder.action.ArgAction.TheVariants.{Set, SetTrue}
@@ -18,7 +18,7 @@ use Rattle.clap.specs.declared.error.kind.ErrorKind.TheVariants.{ArgumentConflic
 use Rattle.pgn_options.specs.Parse.{FindsOptions, IsFoundAs, IsFoundFlag}
 use Rattle.pgn_options.specs.Words.{FormatNumber, Key, Options, Pages, Patience, Nothing, behind_equals, by_word, if_last, key_named, live_unless_set, no_options, number_in, options_after, says_behind, says_of, with_live, with_option}
 use Rattle.pgn_options.proofs.NumberLaws.{either, hyphen, passed, refused}
-use Rattle.pgn_options.proofs.TotalLaws.{Agrees, agrees-step, both-none, ending, found, later-step, or-first, total, total-nil, wrong-step}
+use Rattle.pgn_options.proofs.TotalLaws.{Agrees, agrees-step, both-none, ending, found, later-step, or-first, total, total-nil, walk_end, wrong-step}
 use Rattle.pgn_options.proofs.FormLaws.{Form, IsNoLong, dashes, form, long, plain, short}
 
 abbrev least_of : Key → ℕ
@@ -63,15 +63,19 @@ live_rule = record (new_rule (codes "live")) {
 abbrev rules : List Rule
 rules = rule Pages ∷ rule Patience ∷ rule FormatNumber ∷ live_rule ∷ []
 
--- `run` as it is built
-abbrev pub run_built : Shape
-run_built = record (new_shape (codes "run")) {
+-- a command with the options of `run`, as it is built
+abbrev pub options_built : Text → Shape
+options_built name = record (new_shape name) {
   rules = rules;
   no_binary_name = true;
   disable_help_flag = true;
   disable_help_subcommand = true;
   is_built = true;
 }
+
+-- `run` as it is built
+abbrev pub run_built : Shape
+run_built = options_built (codes "run")
 
 -- an option that is given: its word and its number, or `--live`
 pub data Use : Type 0 where
@@ -770,6 +774,22 @@ claims (w ∷ words) = (idle-word w words (claims words).0 (claims words).1 (for
 pub run-agrees : (words : List Text)
     → Agrees IsUsed (options_after words no_options None) (total run_built (walk_from nothing_held) words) (found run_built (walk_from nothing_held) words)
 run-agrees words = (claims words).0 [] None [] (record { fine = refl; same = refl })
+
+-- What `clap` makes of the words of a command of another name with these options: the name makes no difference.
+
+walk-renamed : (name : Text) (w : Walk) (words : List Text) → walk_fault (options_built name) [] w words ≡ walk_fault run_built [] w words
+unfolding walk_fault
+walk-renamed name w [] = refl
+walk-renamed name w (word ∷ words) =
+    ap (λ (k : Kinds). or_else (turn_fault run_built [] w word) k) (walk-renamed name (walked rules [] w word) words)
+
+total-renamed : (name : Text) (words : List Text) → total (options_built name) (walk_from nothing_held) words ≡ total run_built (walk_from nothing_held) words
+total-renamed name words = ap (λ (k : Kinds). or_else k (ending run_built (walk_end run_built (walk_from nothing_held) words))) (walk-renamed name (walk_from nothing_held) words)
+
+pub options-agree : (name : Text) (words : List Text)
+    → Agrees IsUsed (options_after words no_options None) (total (options_built name) (walk_from nothing_held) words) (found (options_built name) (walk_from nothing_held) words)
+options-agree name words =
+    subst (λ (k : Kinds). Agrees IsUsed (options_after words no_options None) k (found run_built (walk_from nothing_held) words)) (sym (total-renamed name words)) (run-agrees words)
 
 -- What is found of them.
 

@@ -1,6 +1,6 @@
 -- What `clap` makes of all words is what they ask for.
 use Rattle.std.proofs.Common.{◌≡◌, ◌∙◌, ℕ, Bool, true, false, cond, List, [], ◌∷◌, ◌++◌, Option, Some, None, Result, Ok, Err, IfOk, is_some, refl, sym, ap, subst, codes, append_assoc, inl, inr}
-use Rattle.std.specs.Prelude.{fold, option_map, slice_get}
+use Rattle.std.specs.Prelude.{fold, option_and_then, option_map, slice_get}
 use Rattle.std.specs.Str.{bytes_eq, chars}
 use Rattle.std.proofs.lemmas.Slice.Eq.{bytes_eq-Decides}
 use Rattle.clap.specs.Kinds.{HasKind, IsAmong, Kinds, or_else}
@@ -13,14 +13,14 @@ use Rattle.clap.specs.declared.error.kind.ErrorKind.{ErrorKind}
 use Rattle.clap.specs.declared.error.kind.ErrorKind.TheVariants.{MissingSubcommand, OutOfMemory, UnknownArgument, InvalidSubcommand}
 use Rattle.clap.proofs.FaultLemmas.{stopped_fault}
 use Rattle.pgn_options.specs.declared.asked.Asked.{Asked}
-use Rattle.pgn_options.specs.declared.asked.Asked.TheVariants.{Run, Drill, Wire}
+use Rattle.pgn_options.specs.declared.asked.Asked.TheVariants.{Run, Drill, Wire, Check}
 use Rattle.pgn_options.specs.declared.reading.WordsFault.{WordsFault}
 use Rattle.pgn_options.specs.declared.reading.WordsFault.TheVariants.{BadWords, Memory}
-use Rattle.pgn_options.specs.Parse.{Finds, FindsDrill, FindsNumbers, FindsOptions, FindsRun, FindsWire, program_app, program_shape}
-use Rattle.pgn_options.specs.Words.{AreNoCommand, AskFor, IsWithin, Options, asked_by, drill_asked, drill_of, no_options, options_after, run_asked, run_with, wire_asked, wire_of, without_dashes}
+use Rattle.pgn_options.specs.Parse.{Finds, FindsCheck, FindsDrill, FindsLive, FindsNumbers, FindsOptions, FindsRun, FindsTooMuch, FindsWire, program_app, program_shape}
+use Rattle.pgn_options.specs.Words.{AreNoCommand, AskFor, IsWithin, Options, asked_by, check_asked, check_with, drill_asked, drill_of, no_options, options_after, run_asked, run_with, wire_asked, wire_of, without_dashes}
 use Rattle.pgn_options.proofs.TotalLaws.{Agrees, found, or-first, or-none, or-second, total}
 use Rattle.pgn_options.proofs.FormLaws.{Form, dashes, form, long, plain, short}
-use Rattle.pgn_options.proofs.RunLaws.{IsUsed, options-found, options_for, run-agrees, run_built}
+use Rattle.pgn_options.proofs.RunLaws.{IsUsed, options-agree, options-found, options_built, options_for, run-agrees, run_built}
 use Rattle.pgn_options.proofs.FindLaws.{finds-within}
 use Rattle.pgn_options.proofs.DrillLaws.{IsDrill, drill-agrees, drill_built}
 use Rattle.pgn_options.proofs.WireLaws.{IsWire, wire-agrees, wire_built}
@@ -28,21 +28,25 @@ use Rattle.pgn_options.proofs.WireLaws.{IsWire, wire-agrees, wire_built}
 abbrev program_built : Shape
 program_built = record program_shape { is_leaf = false; is_built = true }
 
+-- `check` as it is built
+abbrev check_built : Shape
+check_built = options_built (codes "check")
+
 abbrev app : App
-app = record { top = program_built; subs = run_built ∷ drill_built ∷ wire_built ∷ [] }
+app = record { top = program_built; subs = run_built ∷ drill_built ∷ wire_built ∷ check_built ∷ [] }
 
 built-is : built program_app ≡ app
 built-is = refl
 
 abbrev names : Names
-names = (codes "run", []) ∷ (codes "drill", []) ∷ (codes "wire", []) ∷ []
+names = (codes "run", []) ∷ (codes "drill", []) ∷ (codes "wire", []) ∷ (codes "check", []) ∷ []
 
 abbrev start : Walk
 start = walk_from nothing_held
 
--- no kinds where the words ask for something, which is found; else some
+-- no kinds where the words ask for something, which is found; else some, or too much is found
 abbrev pub Comes : Option Asked → Kinds → Option (Text × List Row) → Type 0
-Comes None kinds sub = kinds ≡ [] → ⊥
+Comes None kinds sub = kinds ≡ [] → FindsTooMuch sub
 Comes (Some asked) kinds sub = (kinds ≡ []) × Finds sub asked
 
 -- A command.
@@ -110,6 +114,14 @@ wire-found : (words : List Text) → subcommand_of program_app (codes "wire" ∷
 unfolding walked
 wire-found words = command-found (codes "wire") words refl
 
+check-fault : (words : List Text) → fault_of program_app (codes "check" ∷ words) ≡ total check_built start words
+unfolding walked walk_fault defaults_fault
+check-fault words = command-fault (codes "check") words check_built refl refl refl
+
+check-found : (words : List Text) → subcommand_of program_app (codes "check" ∷ words) ≡ Some (codes "check", found check_built start words)
+unfolding walked
+check-found words = command-found (codes "check") words refl
+
 -- What is found of it.
 
 run-comes : (words : List Text) → Comes (run_asked words) (fault_of program_app (codes "run" ∷ words)) (subcommand_of program_app (codes "run" ∷ words))
@@ -117,7 +129,7 @@ run-comes words = go (options_after words no_options None) _ _ _ (run-fault word
   where
     go : (o : Option Options) (kinds : Kinds) (sub : Option (Text × List Row)) (rows : List Row) → kinds ≡ total run_built start words → sub ≡ Some (codes "run", rows)
         → Agrees IsUsed o (total run_built start words) rows → Comes (option_map run_with o) kinds sub
-    go None kinds sub rows k s h = λ e. h (sym k ∙ e)
+    go None kinds sub rows k s h = λ e. absurd (h (sym k ∙ e))
     go (Some given) kinds sub rows k s h =
         let options : FindsOptions rows (options_for h.1.0) = subst (λ (r : List Row). FindsOptions r (options_for h.1.0)) (sym h.1.1) (options-found h.1.0) in
         let given_options = subst (λ (g : Options). FindsOptions rows g) h.1.2 options in
@@ -128,9 +140,10 @@ drill-comes words = go (drill_of (without_dashes words)) _ _ _ (drill-fault word
   where
     go : (o : Option Asked) (kinds : Kinds) (sub : Option (Text × List Row)) (rows : List Row) → kinds ≡ total drill_built start words → sub ≡ Some (codes "drill", rows)
         → Agrees IsDrill o (total drill_built start words) rows → Comes o kinds sub
-    go None kinds sub rows k s h = λ e. h (sym k ∙ e)
+    go None kinds sub rows k s h = λ e. absurd (h (sym k ∙ e))
     go (Some (Run pages patience format live)) kinds sub rows k s h = absurd h.1
     go (Some Wire) kinds sub rows k s h = absurd h.1
+    go (Some (Check pages patience format)) kinds sub rows k s h = absurd h.1
     go (Some (Drill seed sessions notes)) kinds sub rows k s h =
         let there : FindsNumbers rows seed sessions notes =
         subst (λ (r : List Row). FindsNumbers r seed sessions notes) (sym h.1.3)
@@ -142,10 +155,26 @@ wire-comes words = go (wire_of (without_dashes words)) _ _ _ (wire-fault words) 
   where
     go : (o : Option Asked) (kinds : Kinds) (sub : Option (Text × List Row)) (rows : List Row) → kinds ≡ total wire_built start words → sub ≡ Some (codes "wire", rows)
         → Agrees IsWire o (total wire_built start words) rows → Comes o kinds sub
-    go None kinds sub rows k s h = λ e. h (sym k ∙ e)
+    go None kinds sub rows k s h = λ e. absurd (h (sym k ∙ e))
     go (Some (Run pages patience format live)) kinds sub rows k s h = absurd h.1
     go (Some (Drill seed sessions notes)) kinds sub rows k s h = absurd h.1
     go (Some Wire) kinds sub rows k s h = (k ∙ h.0, subst (λ (x : Option (Text × List Row)). Finds x Wire) (sym s) (FindsWire rows))
+    go (Some (Check pages patience format)) kinds sub rows k s h = absurd h.1
+
+check-comes : (words : List Text) → Comes (check_asked words) (fault_of program_app (codes "check" ∷ words)) (subcommand_of program_app (codes "check" ∷ words))
+check-comes words = go (options_after words no_options None) _ _ _ (check-fault words) (check-found words) (options-agree (codes "check") words)
+  where
+    taken : (given : Options) (o : Option Asked) → check_with given ≡ o → (kinds : Kinds) (sub : Option (Text × List Row)) (rows : List Row) → kinds ≡ [] → sub ≡ Some (codes "check", rows)
+        → FindsOptions rows given → Comes o kinds sub
+    taken given None e kinds sub rows k s f = λ _. subst FindsTooMuch (sym s) (FindsLive rows given f e)
+    taken given (Some asked) e kinds sub rows k s f = (k, subst (λ (x : Option (Text × List Row)). Finds x asked) (sym s) (FindsCheck rows given asked f e))
+
+    go : (o : Option Options) (kinds : Kinds) (sub : Option (Text × List Row)) (rows : List Row) → kinds ≡ total check_built start words → sub ≡ Some (codes "check", rows)
+        → Agrees IsUsed o (total check_built start words) rows → Comes (option_and_then check_with o) kinds sub
+    go None kinds sub rows k s h = λ e. absurd (h (sym k ∙ e))
+    go (Some given) kinds sub rows k s h =
+        let options : FindsOptions rows (options_for h.1.0) = subst (λ (r : List Row). FindsOptions r (options_for h.1.0)) (sym h.1.1) (options-found h.1.0) in
+        taken given (check_with given) refl kinds sub rows (k ∙ h.0) s (subst (λ (g : Options). FindsOptions rows g) h.1.2 options)
 
 -- Other first words.
 
@@ -181,41 +210,46 @@ module _ (words : List Text) where
   turn-wrong : (w : Text) → (turn_fault program_built names start w ≡ [] → ⊥) → fault_of program_app (w ∷ words) ≡ [] → ⊥
   turn-wrong w wrong e = wrong (walk-parts start w words (walk-first (w ∷ words) e)).0
 
-  other-wrong : (w : Text) → Form w → bytes_eq (codes "run") w ≡ false → bytes_eq (codes "drill") w ≡ false → bytes_eq (codes "wire") w ≡ false → fault_of program_app (w ∷ words) ≡ [] → ⊥
+  other-wrong : (w : Text) → Form w → bytes_eq (codes "run") w ≡ false → bytes_eq (codes "drill") w ≡ false → bytes_eq (codes "wire") w ≡ false → bytes_eq (codes "check") w ≡ false → fault_of program_app (w ∷ words) ≡ [] → ⊥
   unfolding flags_fault bundle_met
-  other-wrong _ (plain w apart s) run drill wire =
-      turn-wrong w (λ e. let is : turn_fault program_built names start w ≡ UnknownArgument ∷ InvalidSubcommand ∷ [] = rw (run, drill, wire, apart.not_dashes, apart.no_long, s) refl in cc)
-  other-wrong _ (short y ys differs) run drill wire = turn-wrong (45 ∷ y ∷ ys) (go (slice_get (chars (y ∷ ys)) 0) refl)
+  other-wrong _ (plain w apart s) run drill wire check =
+      turn-wrong w (λ e. let is : turn_fault program_built names start w ≡ UnknownArgument ∷ InvalidSubcommand ∷ [] = rw (run, drill, wire, check, apart.not_dashes, apart.no_long, s) refl in cc)
+  other-wrong _ (short y ys differs) run drill wire check = turn-wrong (45 ∷ y ∷ ys) (go (slice_get (chars (y ∷ ys)) 0) refl)
     where
       go : (o : Option ℕ) → slice_get (chars (y ∷ ys)) 0 ≡ o → turn_fault program_built names start (45 ∷ y ∷ ys) ≡ [] → ⊥
       go None c e = let is : turn_fault program_built names start (45 ∷ y ∷ ys) ≡ UnknownArgument ∷ InvalidSubcommand ∷ [] = rw (differs, differs, c) refl in cc
       go (Some x) c e = let is : turn_fault program_built names start (45 ∷ y ∷ ys) ≡ UnknownArgument ∷ [] = rw (differs, differs, c) refl in cc
-  other-wrong _ dashes run drill wire = dashes-fault words
-  other-wrong _ (long z zs) run drill wire = turn-wrong (45 ∷ 45 ∷ z ∷ zs) (λ e. let bad : UnknownArgument ∷ [] ≡ [] = e in cc)
+  other-wrong _ dashes run drill wire check = dashes-fault words
+  other-wrong _ (long z zs) run drill wire check = turn-wrong (45 ∷ 45 ∷ z ∷ zs) (λ e. let bad : UnknownArgument ∷ [] ≡ [] = e in cc)
 
 words-come : (words : List Text) → Comes (asked_by words) (fault_of program_app words) (subcommand_of program_app words)
-words-come [] = λ e. let bad = sym nothing-fault ∙ e in cc
-words-come (w ∷ words) = go (bytes_eq (codes "run") w) (bytes_eq (codes "drill") w) (bytes_eq (codes "wire") w) refl refl refl
+words-come [] = λ e. let bad = sym nothing-fault ∙ e in absurd (cc)
+words-come (w ∷ words) = go (bytes_eq (codes "run") w) (bytes_eq (codes "drill") w) (bytes_eq (codes "wire") w) (bytes_eq (codes "check") w) refl refl refl refl
   where
-    go : (a b c : Bool) → bytes_eq (codes "run") w ≡ a → bytes_eq (codes "drill") w ≡ b → bytes_eq (codes "wire") w ≡ c
-        → Comes (cond a (run_asked words) (cond b (drill_asked words) (cond c (wire_asked words) None))) (fault_of program_app (w ∷ words)) (subcommand_of program_app (w ∷ words))
-    go true b c e d f =
+    go : (a b c i : Bool) → bytes_eq (codes "run") w ≡ a → bytes_eq (codes "drill") w ≡ b → bytes_eq (codes "wire") w ≡ c → bytes_eq (codes "check") w ≡ i
+        → Comes (cond a (run_asked words) (cond b (drill_asked words) (cond c (wire_asked words) (cond i (check_asked words) None)))) (fault_of program_app (w ∷ words)) (subcommand_of program_app (w ∷ words))
+    go true b c i e d f g =
         subst (λ (x : Text). Comes (run_asked words) (fault_of program_app (x ∷ words)) (subcommand_of program_app (x ∷ words)))
         ((bytes_eq-Decides (codes "run") w).0 e) (run-comes words)
-    go false true c e d f =
+    go false true c i e d f g =
         subst (λ (x : Text). Comes (drill_asked words) (fault_of program_app (x ∷ words)) (subcommand_of program_app (x ∷ words)))
         ((bytes_eq-Decides (codes "drill") w).0 d) (drill-comes words)
-    go false false true e d f =
+    go false false true i e d f g =
         subst (λ (x : Text). Comes (wire_asked words) (fault_of program_app (x ∷ words)) (subcommand_of program_app (x ∷ words)))
         ((bytes_eq-Decides (codes "wire") w).0 f) (wire-comes words)
-    go false false false e d f = other-wrong words w (form w) e d f
+    go false false false true e d f g =
+        subst (λ (x : Text). Comes (check_asked words) (fault_of program_app (x ∷ words)) (subcommand_of program_app (x ∷ words)))
+        ((bytes_eq-Decides (codes "check") w).0 g) (check-comes words)
+    go false false false false e d f g = λ is. absurd (other-wrong words w (form w) e d f g is)
 
 -- What a parse answers.
 
 came : (o : Option Asked) (kinds : Kinds) (sub : Option (Text × List Row)) (r : Result Asked WordsFault) → Comes o kinds sub → kinds ≡ []
-    → ((asked : Asked) → Finds sub asked → r ≡ Ok asked) → IfOk r (λ asked. o ≡ Some asked) × (r ≡ Err BadWords → o ≡ None) × IfOk r IsWithin
-came None kinds sub r comes fine gives = absurd (comes fine)
-came (Some asked) kinds sub r comes fine gives =
+    → ((asked : Asked) → Finds sub asked → r ≡ Ok asked) → (FindsTooMuch sub → r ≡ Err BadWords) → IfOk r (λ asked. o ≡ Some asked) × (r ≡ Err BadWords → o ≡ None) × IfOk r IsWithin
+came None kinds sub r comes fine gives refuses =
+    let is = refuses (comes fine) in
+    (subst (λ (x : Result Asked WordsFault). IfOk x (λ a. None ≡ Some a)) (sym is) tt, λ e. refl, subst (λ (x : Result Asked WordsFault). IfOk x IsWithin) (sym is) tt)
+came (Some asked) kinds sub r comes fine gives refuses =
     let is = gives asked comes.1 in
     (subst (λ (x : Result Asked WordsFault). IfOk x (λ a. Some asked ≡ Some a)) (sym is) refl, λ e. let bad : Ok asked ≡ Err BadWords = sym is ∙ e in absurd (cc), subst (λ (x : Result Asked WordsFault). IfOk x IsWithin) (sym is) (finds-within sub asked comes.1))
 
@@ -229,11 +263,11 @@ simple = refl
 module _ (a : App) (is : a ≡ program_app) (words : List Text) where
   pub parsed : (sub : Option (Text × List Row)) (r : Result Asked WordsFault) → (is_simple_and_free a ≡ true → fault_of a words ≡ [])
       → (is_simple a ≡ true → sub ≡ subcommand_of a words)
-      → ((asked : Asked) → Finds sub asked → r ≡ Ok asked) → IfOk r (AskFor words) × (r ≡ Err BadWords → AreNoCommand words) × IfOk r IsWithin
-  parsed sub r fine finds gives =
+      → ((asked : Asked) → Finds sub asked → r ≡ Ok asked) → (FindsTooMuch sub → r ≡ Err BadWords) → IfOk r (AskFor words) × (r ≡ Err BadWords → AreNoCommand words) × IfOk r IsWithin
+  parsed sub r fine finds gives refused =
       let none : fault_of program_app words ≡ [] = ap (λ (x : App). fault_of x words) (sym is) ∙ fine (ap is_simple_and_free is ∙ simple) in
       let there : sub ≡ subcommand_of program_app words = finds (ap is_simple is) ∙ ap (λ (x : App). subcommand_of x words) is in
-      came (asked_by words) _ sub r (subst (λ (x : Option (Text × List Row)). Comes (asked_by words) (fault_of program_app words) x) (sym there) (words-come words)) none gives
+      came (asked_by words) _ sub r (subst (λ (x : Option (Text × List Row)). Comes (asked_by words) (fault_of program_app words) x) (sym there) (words-come words)) none gives refused
 
   pub unparsed : (e : Error) (w : WordsFault) → (is_simple_and_free a ≡ true → HasKind (fault_of a words) e) → (kind_of e ≡ OutOfMemory → w ≡ Memory)
       → w ≡ BadWords → AreNoCommand words

@@ -9,7 +9,7 @@ use Rattle.pgn_base.specs.declared.limits.TheConstants.{PAGES_MIN, PAGES_MAX}
 use Rattle.pgn_options.specs.declared.asked.Asked.{Asked}
 use Rattle.pgn_options.specs.declared.asked.Asked.TheVariants.{Drill, Wire}
 use Rattle.pgn_options.specs.declared.limits.TheConstants.{DRILL_NOTES_MAX, DRILL_SESSIONS_MAX, PATIENCE_MAX}
-use Rattle.pgn_options.specs.Words.{Options, number_in, run_with}
+use Rattle.pgn_options.specs.Words.{Options, check_with, number_in, run_with}
 
 -- the greatest seed
 abbrev pub seed_max : ℕ
@@ -27,13 +27,21 @@ word_rule name numbers = record (new_rule name) { action = Some Set; parser = So
 abbrev pub flag_rule : Text → Rule
 flag_rule name = record (new_rule name) { long = Some name; action = Some SetTrue }
 
--- `run`
-abbrev pub run_app : App
-run_app =
-    with_rule (with_rule (with_rule (with_rule (new_app (codes "run")) (option_rule (codes "pages") (parser.Unsigned PAGES_MIN PAGES_MAX)))
+-- a command with the options of `run`
+abbrev pub options_app : Text → App
+options_app name =
+    with_rule (with_rule (with_rule (with_rule (new_app name) (option_rule (codes "pages") (parser.Unsigned PAGES_MIN PAGES_MAX)))
     (option_rule (codes "patience") (parser.Unsigned 1 PATIENCE_MAX)))
     (option_rule (codes "format") (parser.Unsigned 1 2)))
     (flag_rule (codes "live"))
+
+-- `run`
+abbrev pub run_app : App
+run_app = options_app (codes "run")
+
+-- `check`, which takes the same options: `--live` is refused once they are read
+abbrev pub check_app : App
+check_app = options_app (codes "check")
 
 -- `drill`
 abbrev pub drill_app : App
@@ -46,7 +54,7 @@ drill_app =
 abbrev pub wire_app : App
 wire_app = new_app (codes "wire")
 
--- the program: it has no words of its own, and one of these three has to follow
+-- the program: it has no words of its own, and one of these four has to follow
 abbrev pub program_shape : Shape
 program_shape = record (new_app (codes "pgnotify")).top {
   no_binary_name = true;
@@ -61,7 +69,7 @@ playing_app = with_subcommand (with_subcommand (record { top = program_shape; su
 
 -- the program with its commands
 abbrev pub program_app : App
-program_app = with_subcommand playing_app wire_app.top
+program_app = with_subcommand (with_subcommand playing_app wire_app.top) check_app.top
 
 -- a number was found for an argument, or none was
 abbrev pub IsFoundAs : ℕ → ℕ → Text → List Row → Option ℕ → Type 0
@@ -90,3 +98,8 @@ pub data Finds : Option (Text × List Row) → Asked → Type 0 where
   FindsRun : (rows : List Row) (given : Options) → FindsOptions rows given → Finds (Some (codes "run", rows)) (run_with given)
   FindsDrill : (rows : List Row) (seed sessions notes : ℕ) → FindsNumbers rows seed sessions notes → Finds (Some (codes "drill", rows)) (Drill seed sessions notes)
   FindsWire : (rows : List Row) → Finds (Some (codes "wire", rows)) Wire
+  FindsCheck : (rows : List Row) (given : Options) (asked : Asked) → FindsOptions rows given → check_with given ≡ Some asked → Finds (Some (codes "check", rows)) asked
+
+-- `check` was found with options that it does not take
+pub data FindsTooMuch : Option (Text × List Row) → Type 0 where
+  FindsLive : (rows : List Row) (given : Options) → FindsOptions rows given → check_with given ≡ None → FindsTooMuch (Some (codes "check", rows))

@@ -9,7 +9,7 @@ use Rattle.pgn_base.specs.declared.format.Format.TheVariants.{One, Two}
 use Rattle.pgn_base.specs.declared.limits.TheConstants.{PAGES_DEFAULT, PAGES_MIN, PAGES_MAX, PATIENCE_DEFAULT}
 use Rattle.pgn_options.specs.declared.limits.TheConstants.{DRILL_NOTES_MAX, DRILL_SESSIONS_MAX, PATIENCE_MAX}
 use Rattle.pgn_options.specs.declared.asked.Asked.{Asked}
-use Rattle.pgn_options.specs.declared.asked.Asked.TheVariants.{Run, Drill, Wire}
+use Rattle.pgn_options.specs.declared.asked.Asked.TheVariants.{Run, Drill, Wire, Check}
 
 -- Numbers.
 
@@ -172,6 +172,18 @@ wire_of (word ∷ words) = None
 abbrev pub wire_asked : List (List ℕ) → Option Asked
 wire_asked words = wire_of (without_dashes words)
 
+-- The words of `check`.
+
+-- `check` with these options, which are those of `run` but for `--live`
+abbrev pub check_with : Options → Option Asked
+check_with given =
+    cond given.live None
+    (Some (Check (unwrap_or given.pages PAGES_DEFAULT) (unwrap_or given.patience PATIENCE_DEFAULT) (format_numbered (unwrap_or given.format 1))))
+
+-- what `check` and these words ask for
+abbrev pub check_asked : List (List ℕ) → Option Asked
+check_asked words = option_and_then check_with (options_after words no_options None)
+
 -- All words.
 
 -- what the first word and those after it ask for
@@ -179,7 +191,8 @@ abbrev pub command_asked : List ℕ → List (List ℕ) → Option Asked
 command_asked name words =
     cond (bytes_eq (codes "run") name) (run_asked words)
     (cond (bytes_eq (codes "drill") name) (drill_asked words)
-    (cond (bytes_eq (codes "wire") name) (wire_asked words) None))
+    (cond (bytes_eq (codes "wire") name) (wire_asked words)
+    (cond (bytes_eq (codes "check") name) (check_asked words) None)))
 
 -- what words ask for, where they are a command
 abbrev pub asked_by : List (List ℕ) → Option Asked
@@ -199,3 +212,4 @@ abbrev pub IsWithin : Asked → Type 0
 IsWithin (Run pages patience format live) = (PAGES_MIN ≤ pages) × (pages ≤ PAGES_MAX) × (1 ≤ patience) × (patience ≤ PATIENCE_MAX)
 IsWithin (Drill seed sessions notes) = (1 ≤ sessions) × (sessions ≤ DRILL_SESSIONS_MAX) × (1 ≤ notes) × (notes ≤ DRILL_NOTES_MAX)
 IsWithin Wire = Unit {0}
+IsWithin (Check pages patience format) = (PAGES_MIN ≤ pages) × (pages ≤ PAGES_MAX) × (1 ≤ patience) × (patience ≤ PATIENCE_MAX)

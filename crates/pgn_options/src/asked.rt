@@ -19,4 +19,11 @@ pub enum Asked {
     },
     /// To answer a client of PostgreSQL's protocol 3.0.
     Wire,
+    /// To tell whether what is read, a scenario and an output text, is a legal run with its output: with so many pages at most, whose
+    /// entries have this format, where an await takes so many looks.
+    Check {
+        pages: u32,
+        patience: u64,
+        format: Format,
+    },
 }

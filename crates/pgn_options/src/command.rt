@@ -3,7 +3,7 @@ ghost use Rattle.clap.specs.Simple.{app_of};
 ghost use Rattle.clap.specs.Walk.{rule_of};
 ghost use Rattle.clap.specs.declared.builder.command.Command.TheViews.{out-Command};
 ghost use Rattle.clap.specs.declared.builder.value_parser.ValueParser.TheVariants.{Unsigned};
-ghost use Rattle.pgn_options.specs.Parse.{drill_app, flag_rule, option_rule, playing_app, program_app, run_app, seed_max, wire_app, word_rule};
+ghost use Rattle.pgn_options.specs.Parse.{check_app, drill_app, flag_rule, option_rule, options_app, playing_app, program_app, run_app, seed_max, wire_app, word_rule};
 ghost use Rattle.pgn_base.specs.declared.limits.TheConstants.{PAGES_MAX, PAGES_MIN};
 ghost use Rattle.pgn_options.specs.declared.limits.TheConstants.{DRILL_NOTES_MAX, DRILL_SESSIONS_MAX, PATIENCE_MAX};
 
@@ -18,16 +18,18 @@ pub(crate) fn command<'a>(alloc: Global) -> Result<Command<'a>, AllocError>
     ensures { IfOk result (λ command. app_of command ≡ program_app) }
 {
     let wire = wire(alloc);
+    let check = options(alloc, "check")?;
     let command = playing(alloc)?;
     let command = command.subcommand(wire)?;
+    let command = command.subcommand(check)?;
     Ok(command)
 }
 
-// The program without `wire`.
+// The program with `run` and `drill` alone.
 fn playing<'a>(alloc: Global) -> Result<Command<'a>, AllocError>
     ensures { IfOk result (λ command. app_of command ≡ playing_app) }
 {
-    let run = run(alloc)?;
+    let run = options(alloc, "run")?;
     let drill = drill(alloc)?;
     let command = Command::new(alloc, "pgnotify")
         .no_binary_name(true)
@@ -39,11 +41,12 @@ fn playing<'a>(alloc: Global) -> Result<Command<'a>, AllocError>
     Ok(command)
 }
 
-fn run<'a>(alloc: Global) -> Result<Command<'a>, AllocError>
-    ensures app { IfOk result (λ command. app_of command ≡ run_app) }
+// A command with the options of `run`.
+fn options<'a>(alloc: Global, name: &'a str) -> Result<Command<'a>, AllocError>
+    ensures app { IfOk result (λ command. app_of command ≡ options_app name.now) }
     ensures local { IfOk result (λ command. (out-Command command).has_globals ≡ false) }
 {
-    let command = Command::new(alloc, "run");
+    let command = Command::new(alloc, name);
     let command = command.arg(option(alloc, "pages", pages()))?;
     let command = command.arg(option(alloc, "patience", patience()))?;
     let command = command.arg(option(alloc, "format", formats()))?;

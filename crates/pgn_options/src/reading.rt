@@ -1,12 +1,12 @@
-ghost use Rattle.std.specs.Prelude.{◌≡◌, ◌≢◌, ◌≤◌, ◌<◌, ℕ, Bool, codes, List, Option, Ok, Some, None, Err, map, IfOk, option_map, unwrap_or};
+ghost use Rattle.std.specs.Prelude.{◌≡◌, ◌≢◌, ◌≤◌, ◌<◌, ℕ, Bool, codes, List, Option, Ok, Some, None, Err, map, IfOk, MatchOption, option_map, unwrap_or};
 ghost use Rattle.clap.specs.Matches.{found_of};
 ghost use Rattle.clap.specs.Walk.{one_of, rows_of};
 ghost use Rattle.clap.specs.Simple.{subcommand_rows_of};
 ghost use Rattle.clap.specs.declared.error.kind.ErrorKind.TheVariants.{OutOfMemory};
 ghost use Rattle.pgn_options.specs.declared.asked.Asked.{Asked};
 ghost use Rattle.pgn_options.specs.declared.asked.Asked.TheVariants.{Drill};
-ghost use Rattle.pgn_options.specs.Parse.{Finds, FindsNumbers, FindsOptions, IsFoundAs, IsFoundFlag};
-ghost use Rattle.pgn_options.specs.Words.{AreNoCommand, AskFor, IsWithin, Options, format_numbered, number_in, run_with};
+ghost use Rattle.pgn_options.specs.Parse.{Finds, FindsNumbers, FindsOptions, FindsTooMuch, IsFoundAs, IsFoundFlag};
+ghost use Rattle.pgn_options.specs.Words.{AreNoCommand, AskFor, IsWithin, Options, check_with, format_numbered, number_in, run_with};
 
 use crate::Asked;
 use crate::command::command;
@@ -51,7 +51,8 @@ fn fault_of(kind: ErrorKind) -> WordsFault
 
 // What a command that was found asks for.
 fn asked_of(matches: &ArgMatches<'_>) -> Result<Asked, WordsFault>
-    ensures { (asked : Asked) → Finds (subcommand_rows_of matches.now) asked → result ≡ Ok asked }
+    ensures found { (asked : Asked) → Finds (subcommand_rows_of matches.now) asked → result ≡ Ok asked }
+    ensures too_much { FindsTooMuch (subcommand_rows_of matches.now) → result ≡ Err WordsFault.BadWords }
 {
     let Some((name, found)) = matches.subcommand() else {
         return Err(WordsFault::BadWords);
@@ -60,8 +61,10 @@ fn asked_of(matches: &ArgMatches<'_>) -> Result<Asked, WordsFault>
         Ok(run_of(found))
     } else if name == "drill" {
         drill_of(found)
-    } else {
+    } else if name == "wire" {
         Ok(Asked::Wire)
+    } else {
+        check_of(found)
     }
 }
 
@@ -80,6 +83,25 @@ fn run_of(found: &ArgMatches<'_>) -> Asked
         patience,
         format,
         live,
+    }
+}
+
+// `check` takes the options of `run` but for `--live`.
+fn check_of(found: &ArgMatches<'_>) -> Result<Asked, WordsFault>
+    ensures { (given : Options) → FindsOptions (rows_of (found_of found.now)) given → MatchOption (check_with given) (result ≡ Err WordsFault.BadWords) (λ asked. result ≡ Ok asked) }
+{
+    match run_of(found) {
+        Asked::Run {
+            pages,
+            patience,
+            format,
+            live: false,
+        } => Ok(Asked::Check {
+            pages,
+            patience,
+            format,
+        }),
+        _ => Err(WordsFault::BadWords),
     }
 }
 

@@ -59,6 +59,14 @@ fn put_numbers(text: &mut Vec<u8>, alloc: Global, asked: Asked) -> Result<(), Al
             notes,
         } => format!(in alloc; "drill {seed} {sessions} {notes}")?,
         Asked::Wire => format!(in alloc; "wire")?,
+        Asked::Check {
+            pages,
+            patience,
+            format,
+        } => {
+            let format = number_of(format);
+            format!(in alloc; "check {pages} {patience} {format}")?
+        }
     };
     text.extend_from_slice(line.as_bytes())
 }
