@@ -3,14 +3,17 @@ use Rattle.std.proofs.Common.{◌≡◌, ◌≢◌, ◌⊎◌, inl, inr, ℕ, Li
 use Rattle.std.specs.Io.KnownBytes.{Appends}
 use Rattle.pgn_base.specs.Outside.{AppendsPrefix, HasCause, Rose, Writes}
 use Rattle.pgn_language.specs.declared.scenario.ScenarioFault.{ScenarioFault}
-use Rattle.pgn_language.specs.Inputs.{ReadsAsScenario}
 use Rattle.pgn_queries.specs.declared.wire_fault.WireFault.{WireFault}
+use Rattle.pgn_language.specs.Inputs.{ReadsAsScenario}
+use Rattle.pgn_check.specs.declared.check.Verdict.TheVariants as verdict
+use Rattle.pgn_model.specs.Walk.{Settings}
+use Rattle.pgn_run.specs.Checking.{HasFault, IsJudged, verdict_text}
 use Rattle.pgn_run.specs.Conversation.{BreaksOff}
 use Rattle.pgn_run.specs.declared.status.Status.{Status}
-use Rattle.pgn_run.specs.declared.status.Status.TheVariants.{Done, BadWords, BadScenario, ReadFault, WriteFault, NoMemory, BadWire}
+use Rattle.pgn_run.specs.declared.status.Status.TheVariants.{Done, BadWords, BadScenario, ReadFault, WriteFault, NoMemory, BadWire, Illegal, NoOutput, CheckTooLarge}
 use Rattle.pgn_run.specs.Run.{code_of}
 use Rattle.pgn_cli.specs.FaultLine.{fault_text}
-use Rattle.pgn_cli.specs.Program.{IsRefused, NamesFault, NamesWireFault}
+use Rattle.pgn_cli.specs.Program.{IsFaulty, IsRefused, NamesFault, NamesWireFault, SaysIllegal}
 
 -- a whole text is a prefix of itself
 whole-prefix : (old new : Option (List ℕ)) (text : List ℕ) → Appends old new text → AppendsPrefix old new text
@@ -36,15 +39,18 @@ code-of_words (Err e) AreOther status code is h = h
 
 -- the status of a scenario's fault names it
 pub names-fault : (left old new : Option (List ℕ)) (status : Status) (code : ℕ) → code ≡ code_of status → AppendsPrefix old new (fault_text status)
-    → ((fault : ScenarioFault) → status ≡ BadScenario fault → IfSome left (λ input. ReadsAsScenario input (Err fault))) → code ≡ 3 → IfSome left (NamesFault old new)
+    → ((fault : ScenarioFault) → status ≡ BadScenario fault → IfSome left (λ input. IsFaulty input fault)) → code ≡ 3 → IfSome left (NamesFault old new)
 names-fault None old new status code is line reads three = tt
 names-fault (Some input) old new Done code is line reads three = absurd (omega (arith, is, three))
 names-fault (Some input) old new BadWords code is line reads three = absurd (omega (arith, is, three))
-names-fault (Some input) old new (BadScenario fault) code is line reads three = record { fault = fault; reads = reads fault refl; line = line }
+names-fault (Some input) old new (BadScenario fault) code is line reads three = record { fault = fault; faulty = reads fault refl; line = line }
 names-fault (Some input) old new ReadFault code is line reads three = absurd (omega (arith, is, three))
 names-fault (Some input) old new WriteFault code is line reads three = absurd (omega (arith, is, three))
 names-fault (Some input) old new NoMemory code is line reads three = absurd (omega (arith, is, three))
 names-fault (Some input) old new (BadWire fault) code is line reads three = absurd (omega (arith, is, three))
+names-fault (Some input) old new (Illegal n) code is line reads three = absurd (omega (arith, is, three))
+names-fault (Some input) old new NoOutput code is line reads three = absurd (omega (arith, is, three))
+names-fault (Some input) old new CheckTooLarge code is line reads three = absurd (omega (arith, is, three))
 
 -- and so does that of a client's
 pub names-wire : (Asked : Type 0) (left held now old new : Option (List ℕ)) (status : Status) (code : ℕ) → code ≡ code_of status → AppendsPrefix old new (fault_text status)
@@ -55,31 +61,50 @@ names-wire Asked left held now old new (BadScenario fault) code is line breaks t
 names-wire Asked left held now old new ReadFault code is line breaks ten = absurd (omega (arith, is, ten))
 names-wire Asked left held now old new WriteFault code is line breaks ten = absurd (omega (arith, is, ten))
 names-wire Asked left held now old new NoMemory code is line breaks ten = absurd (omega (arith, is, ten))
+names-wire Asked left held now old new (Illegal n) code is line breaks ten = absurd (omega (arith, is, ten))
+names-wire Asked left held now old new NoOutput code is line breaks ten = absurd (omega (arith, is, ten))
+names-wire Asked left held now old new CheckTooLarge code is line breaks ten = absurd (omega (arith, is, ten))
 names-wire Asked None held now old new (BadWire fault) code is line breaks ten = ((breaks fault refl).0, tt)
 names-wire Asked (Some bytes) held now old new (BadWire fault) code is line breaks ten =
     let broke = breaks fault refl in
     (broke.0, record { fault = fault; breaks_off = broke.1; line = line })
 
--- words that are no command and an input that is no scenario have written nothing
+-- words that are no command, an input that is no scenario, and one that cannot be checked have written nothing
 pub refused-keeps : (old new : Option (List ℕ)) (status : Status) → (status ≡ BadWords → new ≡ old) → ((fault : ScenarioFault) → status ≡ BadScenario fault → new ≡ old)
-    → IsRefused status → new ≡ old
-refused-keeps old new Done words scenario refused = absurd refused
-refused-keeps old new BadWords words scenario refused = words refl
-refused-keeps old new (BadScenario fault) words scenario refused = scenario fault refl
-refused-keeps old new ReadFault words scenario refused = absurd refused
-refused-keeps old new WriteFault words scenario refused = absurd refused
-refused-keeps old new NoMemory words scenario refused = absurd refused
-refused-keeps old new (BadWire fault) words scenario refused = absurd refused
+    → (status ≡ NoOutput → new ≡ old) → (status ≡ CheckTooLarge → new ≡ old) → IsRefused status → new ≡ old
+refused-keeps old new Done words scenario none large refused = absurd refused
+refused-keeps old new BadWords words scenario none large refused = words refl
+refused-keeps old new (BadScenario fault) words scenario none large refused = scenario fault refl
+refused-keeps old new ReadFault words scenario none large refused = absurd refused
+refused-keeps old new WriteFault words scenario none large refused = absurd refused
+refused-keeps old new NoMemory words scenario none large refused = absurd refused
+refused-keeps old new (BadWire fault) words scenario none large refused = absurd refused
+refused-keeps old new (Illegal line) words scenario none large refused = absurd refused
+refused-keeps old new NoOutput words scenario none large refused = none refl
+refused-keeps old new CheckTooLarge words scenario none large refused = large refl
+
+-- a code that is another than these four
+four-codes : (n code : ℕ) → code ≡ n → n ≢ 2 → n ≢ 3 → n ≢ 9 → n ≢ 11 → (code ≡ 2) ⊎ (code ≡ 3) ⊎ (code ≡ 9) ⊎ (code ≡ 11) → ⊥
+four-codes n code is a b c d some = elim some [
+  | inl e ↦ a (sym is ∙ e)
+  | inr more ↦ elim more [
+    | inl e ↦ b (sym is ∙ e)
+    | inr rest ↦ elim rest [ inl e ↦ c (sym is ∙ e) | inr e ↦ d (sym is ∙ e) ]
+  ]
+]
 
 -- the status of what has written nothing
-pub refused-code : (status : Status) (code : ℕ) → code ≡ code_of status → (code ≡ 2) ⊎ (code ≡ 3) → IsRefused status
-refused-code Done code is some = absurd (elim some [ inl e ↦ omega (arith, is, e) | inr e ↦ omega (arith, is, e) ])
+pub refused-code : (status : Status) (code : ℕ) → code ≡ code_of status → (code ≡ 2) ⊎ (code ≡ 3) ⊎ (code ≡ 9) ⊎ (code ≡ 11) → IsRefused status
 refused-code BadWords code is some = tt
 refused-code (BadScenario found) code is some = tt
-refused-code ReadFault code is some = absurd (elim some [ inl e ↦ omega (arith, is, e) | inr e ↦ omega (arith, is, e) ])
-refused-code WriteFault code is some = absurd (elim some [ inl e ↦ omega (arith, is, e) | inr e ↦ omega (arith, is, e) ])
-refused-code NoMemory code is some = absurd (elim some [ inl e ↦ omega (arith, is, e) | inr e ↦ omega (arith, is, e) ])
-refused-code (BadWire found) code is some = absurd (elim some [ inl e ↦ omega (arith, is, e) | inr e ↦ omega (arith, is, e) ])
+refused-code NoOutput code is some = tt
+refused-code CheckTooLarge code is some = tt
+refused-code Done code is some = absurd (four-codes 0 code is (omega arith) (omega arith) (omega arith) (omega arith) some)
+refused-code ReadFault code is some = absurd (four-codes 4 code is (omega arith) (omega arith) (omega arith) (omega arith) some)
+refused-code WriteFault code is some = absurd (four-codes 5 code is (omega arith) (omega arith) (omega arith) (omega arith) some)
+refused-code NoMemory code is some = absurd (four-codes 6 code is (omega arith) (omega arith) (omega arith) (omega arith) some)
+refused-code (BadWire found) code is some = absurd (four-codes 10 code is (omega arith) (omega arith) (omega arith) (omega arith) some)
+refused-code (Illegal line) code is some = absurd (four-codes 8 code is (omega arith) (omega arith) (omega arith) (omega arith) some)
 
 -- the status of a read that failed
 pub read-fault-code : (status : Status) (code : ℕ) → code ≡ code_of status → code ≡ 4 → status ≡ ReadFault
@@ -90,6 +115,9 @@ read-fault-code ReadFault code is four = refl
 read-fault-code WriteFault code is four = absurd (omega (arith, is, four))
 read-fault-code NoMemory code is four = absurd (omega (arith, is, four))
 read-fault-code (BadWire found) code is four = absurd (omega (arith, is, four))
+read-fault-code (Illegal line) code is four = absurd (omega (arith, is, four))
+read-fault-code NoOutput code is four = absurd (omega (arith, is, four))
+read-fault-code CheckTooLarge code is four = absurd (omega (arith, is, four))
 
 -- the status of a write that failed
 pub write-fault-code : (status : Status) (code : ℕ) → code ≡ code_of status → code ≡ 5 → status ≡ WriteFault
@@ -100,6 +128,9 @@ write-fault-code ReadFault code is five = absurd (omega (arith, is, five))
 write-fault-code WriteFault code is five = refl
 write-fault-code NoMemory code is five = absurd (omega (arith, is, five))
 write-fault-code (BadWire found) code is five = absurd (omega (arith, is, five))
+write-fault-code (Illegal line) code is five = absurd (omega (arith, is, five))
+write-fault-code NoOutput code is five = absurd (omega (arith, is, five))
+write-fault-code CheckTooLarge code is five = absurd (omega (arith, is, five))
 
 -- the status of want of memory
 pub memory-code : (status : Status) (code : ℕ) → code ≡ code_of status → code ≡ 6 → status ≡ NoMemory
@@ -110,6 +141,9 @@ memory-code ReadFault code is six = absurd (omega (arith, is, six))
 memory-code WriteFault code is six = absurd (omega (arith, is, six))
 memory-code NoMemory code is six = refl
 memory-code (BadWire found) code is six = absurd (omega (arith, is, six))
+memory-code (Illegal line) code is six = absurd (omega (arith, is, six))
+memory-code NoOutput code is six = absurd (omega (arith, is, six))
+memory-code CheckTooLarge code is six = absurd (omega (arith, is, six))
 
 -- what words ask for, where that status says what they have come to
 pub memory-lines : {T E : Type 0} (words : Result T E) (Asks : T → Type 0) (P : (t : T) → Asks t → Type 0) (status : Status) (code : ℕ) → code ≡ code_of status
@@ -121,3 +155,54 @@ pub read-lines : {T E : Type 0} (words : Result T E) (Asks : T → Type 0) (P : 
     → IfOk words (λ (w : T). (ask : Asks w) → status ≡ ReadFault → P w ask) → IfOk words (λ (w : T). (ask : Asks w) → code ≡ 4 → P w ask)
 read-lines (Ok w) Asks P status code is h = λ ask four. h ask (read-fault-code status code is four)
 read-lines (Err e) Asks P status code is h = h
+
+-- the status of an output that is not legal
+pub illegal-code : (status : Status) (code : ℕ) → code ≡ code_of status → code ≡ 8 → (line : ℕ) × (status ≡ Illegal line)
+illegal-code Done code is eight = absurd (omega (arith, is, eight))
+illegal-code BadWords code is eight = absurd (omega (arith, is, eight))
+illegal-code (BadScenario found) code is eight = absurd (omega (arith, is, eight))
+illegal-code ReadFault code is eight = absurd (omega (arith, is, eight))
+illegal-code WriteFault code is eight = absurd (omega (arith, is, eight))
+illegal-code NoMemory code is eight = absurd (omega (arith, is, eight))
+illegal-code (BadWire found) code is eight = absurd (omega (arith, is, eight))
+illegal-code (Illegal line) code is eight = (line, refl)
+illegal-code NoOutput code is eight = absurd (omega (arith, is, eight))
+illegal-code CheckTooLarge code is eight = absurd (omega (arith, is, eight))
+
+-- of an input without an output part
+pub no-output-code : (status : Status) (code : ℕ) → code ≡ code_of status → code ≡ 9 → status ≡ NoOutput
+no-output-code Done code is nine = absurd (omega (arith, is, nine))
+no-output-code BadWords code is nine = absurd (omega (arith, is, nine))
+no-output-code (BadScenario found) code is nine = absurd (omega (arith, is, nine))
+no-output-code ReadFault code is nine = absurd (omega (arith, is, nine))
+no-output-code WriteFault code is nine = absurd (omega (arith, is, nine))
+no-output-code NoMemory code is nine = absurd (omega (arith, is, nine))
+no-output-code (BadWire found) code is nine = absurd (omega (arith, is, nine))
+no-output-code (Illegal line) code is nine = absurd (omega (arith, is, nine))
+no-output-code NoOutput code is nine = refl
+no-output-code CheckTooLarge code is nine = absurd (omega (arith, is, nine))
+
+-- of one that is too large to be checked
+pub too-large-code : (status : Status) (code : ℕ) → code ≡ code_of status → code ≡ 11 → status ≡ CheckTooLarge
+too-large-code Done code is eleven = absurd (omega (arith, is, eleven))
+too-large-code BadWords code is eleven = absurd (omega (arith, is, eleven))
+too-large-code (BadScenario found) code is eleven = absurd (omega (arith, is, eleven))
+too-large-code ReadFault code is eleven = absurd (omega (arith, is, eleven))
+too-large-code WriteFault code is eleven = absurd (omega (arith, is, eleven))
+too-large-code NoMemory code is eleven = absurd (omega (arith, is, eleven))
+too-large-code (BadWire found) code is eleven = absurd (omega (arith, is, eleven))
+too-large-code (Illegal line) code is eleven = absurd (omega (arith, is, eleven))
+too-large-code NoOutput code is eleven = absurd (omega (arith, is, eleven))
+too-large-code CheckTooLarge code is eleven = refl
+
+-- where the fault of an input may lie
+pub faulty-either : (left : Option (List ℕ)) (fault : ScenarioFault) (A B : Type 0) → (A × IfSome left (λ input. ReadsAsScenario input (Err fault))) ⊎ (B × IfSome left (λ input. HasFault input fault))
+    → IfSome left (λ input. IsFaulty input fault)
+faulty-either None fault A B h = tt
+faulty-either (Some input) fault A B h = elim h [ inl run ↦ inl run.1 | inr check ↦ inr check.1 ]
+
+-- what is said of an output that is not legal
+pub says-illegal : (settings : Settings) (left old new : Option (List ℕ)) (line : ℕ)
+    → IfSome left (λ input. IsJudged settings input (verdict.Illegal line) × Appends old new (verdict_text (verdict.Illegal line))) → IfSome left (SaysIllegal settings old new)
+says-illegal settings None old new line h = tt
+says-illegal settings (Some input) old new line h = record { line = line; judged = h.0; output = h.1 }

@@ -1,7 +1,7 @@
 -- The line on standard error.
 use Rattle.std.specs.Prelude.{ℕ, List, [], ◌++◌, codes, decimal}
 use Rattle.pgn_run.specs.declared.status.Status.{Status}
-use Rattle.pgn_run.specs.declared.status.Status.TheVariants.{Done, BadWords, BadScenario, ReadFault, WriteFault, NoMemory, BadWire}
+use Rattle.pgn_run.specs.declared.status.Status.TheVariants.{Done, BadWords, BadScenario, ReadFault, WriteFault, NoMemory, BadWire, Illegal, NoOutput, CheckTooLarge}
 use Rattle.pgn_language.specs.declared.scenario.ScenarioFault.{ScenarioFault}
 use Rattle.pgn_language.specs.declared.scenario.ScenarioFault.TheVariants.{TooLarge, LineTooLong, NotUtf8, NulByte, BadMeta, NoSession, SameName, TooMany, Empty, NeverSignalled}
 use Rattle.pgn_queries.specs.declared.wire_fault.WireFault.{WireFault}
@@ -43,9 +43,12 @@ wire_fault_text fault = byte_fault (at_of fault) (codes ": bad message\n")
 -- the line of an outcome, and nothing where the run is done
 abbrev pub fault_text : Status → List ℕ
 fault_text Done = []
-fault_text BadWords = codes "usage: pgnotify run [--pages N] [--patience N] [--format N] [--live] or pgnotify drill SEED SESSIONS NOTES or pgnotify wire\n"
+fault_text BadWords = codes "usage: pgnotify run [--pages N] [--patience N] [--format N] [--live] or pgnotify drill SEED SESSIONS NOTES or pgnotify wire or pgnotify check [--pages N] [--patience N] [--format N]\n"
 fault_text (BadScenario fault) = scenario_fault_text fault
 fault_text ReadFault = codes "pgnotify: read failed\n"
 fault_text WriteFault = codes "pgnotify: write failed\n"
 fault_text NoMemory = codes "pgnotify: out of memory\n"
 fault_text (BadWire fault) = wire_fault_text fault
+fault_text (Illegal line) = codes "pgnotify: output is not legal\n"
+fault_text NoOutput = codes "pgnotify: no output part\n"
+fault_text CheckTooLarge = codes "pgnotify: check input is larger than 67108864 bytes\n"

@@ -1,5 +1,5 @@
 -- How the program ends.
-use Rattle.std.specs.Prelude.{◌≡◌, ℕ, List, Option, Err}
+use Rattle.std.specs.Prelude.{◌≡◌, ◌⊎◌, ℕ, List, Option, Err}
 use Rattle.std.specs.Io.KnownBytes.{Appends}
 use Rattle.std.specs.declared.io.ErrorKind.{ErrorKind}
 use Rattle.std.specs.declared.io.ErrorKind.TheVariants.{OutOfMemory}
@@ -7,9 +7,12 @@ use Rattle.pgn_base.specs.Outside.{AppendsPrefix, Rose}
 use Rattle.pgn_language.specs.declared.scenario.ScenarioFault.{ScenarioFault}
 use Rattle.pgn_language.specs.Inputs.{ReadsAsScenario}
 use Rattle.pgn_queries.specs.declared.wire_fault.WireFault.{WireFault}
+use Rattle.pgn_check.specs.declared.check.Verdict.TheVariants as verdict
+use Rattle.pgn_model.specs.Walk.{Settings}
+use Rattle.pgn_run.specs.Checking.{HasFault, IsJudged, verdict_text}
 use Rattle.pgn_run.specs.Conversation.{BreaksOff}
 use Rattle.pgn_run.specs.declared.status.Status.{Status}
-use Rattle.pgn_run.specs.declared.status.Status.TheVariants.{BadWords, BadScenario}
+use Rattle.pgn_run.specs.declared.status.Status.TheVariants.{BadWords, BadScenario, NoOutput, CheckTooLarge}
 use Rattle.pgn_run.specs.Run.{code_of}
 use Rattle.pgn_cli.specs.FaultLine.{fault_text, scenario_fault_text, wire_fault_text}
 use Rattle.pgn_cli.specs.declared.arguments.NoWords.{NoWords}
@@ -24,6 +27,8 @@ refused_for kind = NotText
 abbrev pub IsRefused : Status → Type 0
 IsRefused BadWords = Unit {0}
 IsRefused (BadScenario fault) = Unit {0}
+IsRefused NoOutput = Unit {0}
+IsRefused CheckTooLarge = Unit {0}
 IsRefused status = ⊥
 
 -- the exit status is that of an outcome, and the outcome's line was written to the errors, whole where no fault was counted
@@ -33,10 +38,14 @@ pub record Ends (code : ℕ) (old new : Option (List ℕ)) (before now : ℕ) : 
   pub line : AppendsPrefix old new (fault_text status)
   pub whole : ¬ Rose before now → Appends old new (fault_text status)
 
--- the input is no scenario, and the line of its fault was written to the errors, or a prefix of that line
+-- the input, or its first part where it has two, is no scenario for this fault
+abbrev pub IsFaulty : List ℕ → ScenarioFault → Type 0
+IsFaulty input fault = ReadsAsScenario input (Err fault) ⊎ HasFault input fault
+
+-- it is no scenario, and the line of its fault was written to the errors, or a prefix of that line
 pub record NamesFault (old new : Option (List ℕ)) (input : List ℕ) : Type 0 where
   pub fault : ScenarioFault
-  pub reads : ReadsAsScenario input (Err fault)
+  pub faulty : IsFaulty input fault
   pub line : AppendsPrefix old new (scenario_fault_text fault)
 
 -- a client's bytes are at fault; what it asked before was answered, and the line of the fault was written to the errors, or a prefix of
@@ -45,3 +54,9 @@ pub record NamesWireFault (held now old new : Option (List ℕ)) (bytes : List �
   pub fault : WireFault
   pub breaks_off : BreaksOff bytes fault (Appends held now)
   pub line : AppendsPrefix old new (wire_fault_text fault)
+
+-- the output text of an input is none of a legal run, and the number of the first line to blame was written
+pub record SaysIllegal (settings : Settings) (old new : Option (List ℕ)) (input : List ℕ) : Type 0 where
+  pub line : ℕ
+  pub judged : IsJudged settings input (verdict.Illegal line)
+  pub output : Appends old new (verdict_text (verdict.Illegal line))

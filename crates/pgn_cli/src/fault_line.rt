@@ -18,13 +18,19 @@ pub fn fault_line<K: Sink>(sink: &mut K, status: &Status) -> Result<(), Failed>
         Status::Done => Ok(()),
         Status::BadWords => write_all(
             sink,
-            b"usage: pgnotify run [--pages N] [--patience N] [--format N] [--live] or pgnotify drill SEED SESSIONS NOTES or pgnotify wire\n",
+            b"usage: pgnotify run [--pages N] [--patience N] [--format N] [--live] or pgnotify drill SEED SESSIONS NOTES or pgnotify wire or pgnotify check [--pages N] [--patience N] [--format N]\n",
         ),
         Status::BadScenario(fault) => scenario_fault_line(sink, *fault),
         Status::ReadFault => write_all(sink, b"pgnotify: read failed\n"),
         Status::WriteFault => write_all(sink, b"pgnotify: write failed\n"),
         Status::NoMemory => write_all(sink, b"pgnotify: out of memory\n"),
         Status::BadWire(fault) => wire_fault_line(sink, *fault),
+        Status::Illegal { .. } => write_all(sink, b"pgnotify: output is not legal\n"),
+        Status::NoOutput => write_all(sink, b"pgnotify: no output part\n"),
+        Status::CheckTooLarge => write_all(
+            sink,
+            b"pgnotify: check input is larger than 67108864 bytes\n",
+        ),
     }
 }
 

@@ -1,15 +1,15 @@
-ghost use Rattle.std.specs.Prelude.{◌≡◌, ◌≢◌, ◌⊎◌, ◌<◌, map, string_bytes, Err, IfOk, IfSome, IsOkAnd};
+ghost use Rattle.std.specs.Prelude.{◌≡◌, ◌≢◌, ◌⊎◌, ◌<◌, ℕ, map, string_bytes, Err, IfOk, IfSome, IsOkAnd};
 ghost use Rattle.std.specs.Io.KnownBytes.{Appends};
 ghost use Rattle.pgn_base.specs.Outside.{AppendsPrefix, Rose};
 ghost use Rattle.pgn_language.specs.declared.scenario.ScenarioFault.{ScenarioFault};
-ghost use Rattle.pgn_language.specs.Inputs.{ReadsAsScenario};
 ghost use Rattle.pgn_options.specs.Words.{AreNoCommand};
 ghost use Rattle.pgn_messages.specs.Messages.{messages};
 ghost use Rattle.pgn_queries.specs.declared.wire_fault.WireFault.{WireFault};
 ghost use Rattle.pgn_wire.specs.Serving.{WroteWhole};
+ghost use Rattle.pgn_run.specs.Checking.{HasNoOutput, IsTooLarge};
 ghost use Rattle.pgn_run.specs.Conversation.{BreaksOff, StopsAmong};
-ghost use Rattle.pgn_run.specs.Run.{AskToRunLive, AskToWire, Performs, PerformsInPart, SoFarRuns, settings_with};
-ghost use Rattle.pgn_cli.specs.Program.{Ends, IsRefused, NamesFault, NamesWireFault};
+ghost use Rattle.pgn_run.specs.Run.{AskToCheck, AskToRunLive, AskToWire, Performs, PerformsInPart, SoFarRuns, asked_settings, settings_with};
+ghost use Rattle.pgn_cli.specs.Program.{Ends, IsFaulty, IsRefused, NamesFault, NamesWireFault, SaysIllegal};
 
 use crate::arguments::NoWords;
 use crate::fault_line::fault_line;
@@ -34,12 +34,16 @@ pub fn program<S: Source, K: Sink + Send, E: Sink, R: Threads + Wait + Sync>(
     ensures bad_scenario { result ≡ 3 → IfSome (S.left source.old) (NamesFault (E.held errors.old) (E.held errors.new)) }
     ensures bad_wire { result ≡ 10 → IsOkAnd words (λ words. AskToWire (map string_bytes words.items))
         × IfSome (S.left source.old) (NamesWireFault (K.held sink.old) (K.held sink.new) (E.held errors.old) (E.held errors.new)) }
+    ensures illegal { result ≡ 8 → IsOkAnd words (λ words. (ask : AskToCheck (map string_bytes words.items))
+        × IfSome (S.left source.old) (SaysIllegal (asked_settings ask) (K.held sink.old) (K.held sink.new))) }
+    ensures no_output { result ≡ 9 → IsOkAnd words (λ words. AskToCheck (map string_bytes words.items)) × IfSome (S.left source.old) HasNoOutput }
+    ensures check_too_large { result ≡ 11 → IsOkAnd words (λ words. AskToCheck (map string_bytes words.items)) × IfSome (S.left source.old) IsTooLarge }
     ensures read_fault { result ≡ 4 → Rose (S.faults source.old) (S.faults source.new) }
     ensures read_fault_where_due { S.faults source.old < S.faults source.new → result ≡ 4 }
     ensures write_fault { result ≡ 5 → Rose (K.faults sink.old) (K.faults sink.new) }
     ensures write_fault_where_due { K.faults sink.old < K.faults sink.new → result ≡ 5 }
     ensures write_fault_writes_a_prefix { result ≡ 5 → IsOkAnd words (λ words. PerformsInPart (map string_bytes words.items) (S.left source.old) (AppendsPrefix (K.held sink.old) (K.held sink.new))) }
-    ensures refused_writes_nothing { (result ≡ 2) ⊎ (result ≡ 3) → K.held sink.new ≡ K.held sink.old }
+    ensures refused_writes_nothing { (result ≡ 2) ⊎ (result ≡ 3) ⊎ (result ≡ 9) ⊎ (result ≡ 11) → K.held sink.new ≡ K.held sink.old }
     ensures read_fault_writes_nothing { IfOk words (λ words. ¬ AskToWire (map string_bytes words.items)) → result ≡ 4 → K.held sink.new ≡ K.held sink.old }
     ensures read_fault_writes_answers { IfOk words (λ words. AskToWire (map string_bytes words.items) → result ≡ 4
         → IfSome (S.left source.old) (λ bytes. StopsAmong bytes (λ section items. Appends (K.held sink.old) (K.held sink.new) (messages section items)))) }
@@ -68,9 +72,13 @@ fn status_of<S: Source, K: Sink + Send, R: Threads + Wait + Sync>(
     sink: &mut K,
 ) -> Status
     ensures done { result ≡ Status.Done → IsOkAnd words (λ words. Performs (map string_bytes words.items) (S.left source.old) (Appends (K.held sink.old) (K.held sink.new))) }
-    ensures bad_scenario { (fault : ScenarioFault) → result ≡ Status.BadScenario fault → IfSome (S.left source.old) (λ input. ReadsAsScenario input (Err fault)) }
+    ensures bad_scenario { (fault : ScenarioFault) → result ≡ Status.BadScenario fault → IfSome (S.left source.old) (λ input. IsFaulty input fault) }
     ensures bad_wire { (fault : WireFault) → result ≡ Status.BadWire fault → IsOkAnd words (λ words. AskToWire (map string_bytes words.items))
         × IfSome (S.left source.old) (λ bytes. BreaksOff bytes fault (Appends (K.held sink.old) (K.held sink.new))) }
+    ensures illegal { (line : ℕ) → result ≡ Status.Illegal line → IsOkAnd words (λ words. (ask : AskToCheck (map string_bytes words.items))
+        × IfSome (S.left source.old) (SaysIllegal (asked_settings ask) (K.held sink.old) (K.held sink.new))) }
+    ensures no_output { result ≡ Status.NoOutput → IsOkAnd words (λ words. AskToCheck (map string_bytes words.items)) × IfSome (S.left source.old) HasNoOutput }
+    ensures check_too_large { result ≡ Status.CheckTooLarge → IsOkAnd words (λ words. AskToCheck (map string_bytes words.items)) × IfSome (S.left source.old) IsTooLarge }
     ensures read_fault { result ≡ Status.ReadFault → Rose (S.faults source.old) (S.faults source.new) }
     ensures read_fault_where_due { S.faults source.old < S.faults source.new → result ≡ Status.ReadFault }
     ensures write_fault { result ≡ Status.WriteFault → Rose (K.faults sink.old) (K.faults sink.new) }

@@ -20,7 +20,7 @@ fn one_line_on_standard_error(rt: HostRuntime) -> Result<(), Fail> {
         (
             Status::BadWords,
             2,
-            b"usage: pgnotify run [--pages N] [--patience N] [--format N] [--live] or pgnotify drill SEED SESSIONS NOTES or pgnotify wire\n",
+            b"usage: pgnotify run [--pages N] [--patience N] [--format N] [--live] or pgnotify drill SEED SESSIONS NOTES or pgnotify wire or pgnotify check [--pages N] [--patience N] [--format N]\n",
         ),
         (
             Status::BadScenario(ScenarioFault::TooLarge),
@@ -116,7 +116,7 @@ const ASKS: &str = "Q\0\0\0\x0dLISTEN c\0";
 const ANSWERED: &str = "C\0\0\0\x0bLISTEN\0Z\0\0\0\x05I";
 
 const USAGE: &str =
-    "usage: pgnotify run [--pages N] [--patience N] [--format N] [--live] or pgnotify drill SEED SESSIONS NOTES or pgnotify wire\n";
+    "usage: pgnotify run [--pages N] [--patience N] [--format N] [--live] or pgnotify drill SEED SESSIONS NOTES or pgnotify wire or pgnotify check [--pages N] [--patience N] [--format N]\n";
 
 // What the program is run on: its words, its input, the read and the write that fail, and how many bytes the errors take.
 #[derive(Clone, Copy)]

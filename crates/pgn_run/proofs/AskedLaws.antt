@@ -1,10 +1,10 @@
 -- What words ask for, once they are read.
-use Rattle.std.proofs.Common.{◌≡◌, ◌∙◌, ℕ, Bool, true, false, List, Some, None, refl, sym}
+use Rattle.std.proofs.Common.{◌≡◌, ◌∙◌, ℕ, Bool, true, false, List, Some, None, refl, sym, ap}
 use Rattle.pgn_base.specs.declared.format.Format.{Format}
 use Rattle.pgn_options.specs.declared.asked.Asked.{Asked}
-use Rattle.pgn_options.specs.declared.asked.Asked.TheVariants.{Run, Drill, Wire}
+use Rattle.pgn_options.specs.declared.asked.Asked.TheVariants.{Run, Drill, Wire, Check}
 use Rattle.pgn_options.specs.Words.{AreNoCommand, AskFor}
-use Rattle.pgn_run.specs.Run.{AskToDrill, AskToRun, AskToRunLive, AskToWire, shows_if}
+use Rattle.pgn_run.specs.Run.{AskToCheck, AskToDrill, AskToRun, AskToRunLive, AskToWire, asked_settings, settings_with, shows_if}
 use Rattle.pgn_run.specs.declared.print.Print.TheVariants.{Text}
 use Rattle.pgn_run.specs.declared.print.Shows.TheVariants.{AtEnd}
 
@@ -58,3 +58,38 @@ wire-no_drill words e other = drill-no_wire words other.seed other.sessions othe
 
 pub none-wires : (words : List (List ℕ)) → AreNoCommand words → AskToWire words → ⊥
 none-wires words none other = no-other words Wire other none
+
+-- words that ask to check ask for nothing else
+pub check-no_run : (words : List (List ℕ)) (pages patience : ℕ) (format : Format) → AskFor words (Check pages patience format) → AskToRun words → ⊥
+check-no_run words pages patience format e other =
+    let bad : Some (Check pages patience format) ≡ Some (Run other.pages other.patience other.format other.live) = sym e ∙ other.asks in cc
+
+pub check-no_drill : (words : List (List ℕ)) (pages patience : ℕ) (format : Format) → AskFor words (Check pages patience format) → AskToDrill words → ⊥
+check-no_drill words pages patience format e other = let bad : Some (Check pages patience format) ≡ Some (Drill other.seed other.sessions other.notes) = sym e ∙ other.asks in cc
+
+pub check-no_wire : (words : List (List ℕ)) (pages patience : ℕ) (format : Format) → AskFor words (Check pages patience format) → AskToWire words → ⊥
+check-no_wire words pages patience format e other = let bad : Some (Check pages patience format) ≡ Some Wire = sym e ∙ other in cc
+
+pub run-no_check : (words : List (List ℕ)) (pages patience : ℕ) (format : Format) (live : Bool) → AskFor words (Run pages patience format live) → AskToCheck words → ⊥
+run-no_check words pages patience format live e other =
+    check-no_run words other.pages other.patience other.format other.asks (record { pages = pages; patience = patience; format = format; live = live; asks = e })
+
+pub drill-no_check : (words : List (List ℕ)) (seed sessions notes : ℕ) → AskFor words (Drill seed sessions notes) → AskToCheck words → ⊥
+drill-no_check words seed sessions notes e other =
+    check-no_drill words other.pages other.patience other.format other.asks (record { seed = seed; sessions = sessions; notes = notes; asks = e })
+
+pub wire-no_check : (words : List (List ℕ)) → AskToWire words → AskToCheck words → ⊥
+wire-no_check words e other = check-no_wire words other.pages other.patience other.format other.asks e
+
+pub none-checks : (words : List (List ℕ)) → AreNoCommand words → AskToCheck words → ⊥
+none-checks words none other = no-other words (Check other.pages other.patience other.format) other.asks none
+
+-- words that ask to check give one set of settings
+pub same-check : (words : List (List ℕ)) (pages patience : ℕ) (format : Format) (ask : AskToCheck words) → AskFor words (Check pages patience format)
+    → asked_settings ask ≡ settings_with pages patience format
+same-check words pages patience format ask e =
+    let same : Some (Check ask.pages ask.patience ask.format) ≡ Some (Check pages patience format) = sym ask.asks ∙ e in
+    let a : ask.pages ≡ pages = cc in
+    let b : ask.patience ≡ patience = cc in
+    let f : ask.format ≡ format = cc in
+    ap (λ (n : ℕ). settings_with n ask.patience ask.format) a ∙ ap (λ (n : ℕ). settings_with pages n ask.format) b ∙ ap (λ (g : Format). settings_with pages patience g) f

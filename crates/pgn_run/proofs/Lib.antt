@@ -10,3 +10,7 @@ mod NotedLaws
 pub mod ConversationLaws
 -- what comes of it
 pub mod WireLaws
+-- how an input of `check` is parted
+pub mod PartingLaws
+-- what comes of it
+pub mod CheckingLaws

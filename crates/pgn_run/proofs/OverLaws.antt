@@ -1,5 +1,5 @@
 -- From the text of a run that was written to what is said of the run of a scenario, and from that to what is said of its input.
-use Rattle.std.proofs.Common.{◌≡◌, ℕ, ◌⊎◌, List, Option, Result, Ok, subst, refl, inl, inr}
+use Rattle.std.proofs.Common.{◌≡◌, ℕ, ◌⊎◌, List, Option, Result, Ok, sym, subst, refl, inl, inr}
 use Rattle.std.specs.Io.KnownBytes.{Appends}
 use Rattle.pgn_base.specs.Outside.{AppendsPrefix, Rose}
 use Rattle.pgn_journal.specs.declared.tx.Tx.{Tx}
@@ -11,8 +11,8 @@ use Rattle.pgn_queries.specs.declared.wire_fault.WireFault.{WireFault}
 use Rattle.pgn_model.specs.Legal.{Legal}
 use Rattle.pgn_model.specs.Walk.{Settings}
 use Rattle.pgn_run.specs.declared.status.Status.{Status}
-use Rattle.pgn_run.specs.declared.status.Status.TheVariants.{Done, BadWords, BadScenario, ReadFault, WriteFault, NoMemory, BadWire}
-use Rattle.pgn_run.specs.Run.{Runs, RunsOver, HasWritten, Answers, printed}
+use Rattle.pgn_run.specs.declared.status.Status.TheVariants.{Done, BadWords, BadScenario, ReadFault, WriteFault, NoMemory, BadWire, Illegal, NoOutput, CheckTooLarge}
+use Rattle.pgn_run.specs.Run.{Runs, RunsOver, HasWritten, Answers, IsOfRun, printed}
 use Rattle.pgn_run.specs.Live.{EarlyOver, LiveOver, SoFarOver}
 use Rattle.pgn_run.specs.declared.print.Shows.TheVariants.{AtEnd, Live}
 use Rattle.pgn_run.specs.declared.print.Print.{Print}
@@ -47,6 +47,9 @@ only-over all old new before now ReadFault written = absurd written
 only-over all old new before now WriteFault written = inr (inl refl)
 only-over all old new before now NoMemory written = inr (inr refl)
 only-over all old new before now (BadWire fault) written = absurd written
+only-over all old new before now (Illegal line) written = absurd written
+only-over all old new before now NoOutput written = absurd written
+only-over all old new before now CheckTooLarge written = absurd written
 
 -- a run of the scenario that an input reads as
 runs-of : (print : Print) (settings : Settings) (input : List ℕ) (scenario : Scenario) (P : List ℕ → Type 0) → ReadsAsScenario input (Ok scenario) → RunsOver print scenario settings P → Runs print settings input P
@@ -64,6 +67,9 @@ answers-over print settings input scenario old new before now BadWords reads don
 answers-over print settings input scenario old new before now (BadScenario fault) reads done rose prefix memory only = absurd (elim only [ inl e ↦ cc | inr other ↦ elim other [ inl e ↦ cc | inr f ↦ cc ] ])
 answers-over print settings input scenario old new before now ReadFault reads done rose prefix memory only = absurd (elim only [ inl e ↦ cc | inr other ↦ elim other [ inl e ↦ cc | inr f ↦ cc ] ])
 answers-over print settings input scenario old new before now (BadWire fault) reads done rose prefix memory only = absurd (elim only [ inl e ↦ cc | inr other ↦ elim other [ inl e ↦ cc | inr f ↦ cc ] ])
+answers-over print settings input scenario old new before now (Illegal line) reads done rose prefix memory only = absurd (elim only [ inl e ↦ cc | inr other ↦ elim other [ inl e ↦ cc | inr f ↦ cc ] ])
+answers-over print settings input scenario old new before now NoOutput reads done rose prefix memory only = absurd (elim only [ inl e ↦ cc | inr other ↦ elim other [ inl e ↦ cc | inr f ↦ cc ] ])
+answers-over print settings input scenario old new before now CheckTooLarge reads done rose prefix memory only = absurd (elim only [ inl e ↦ cc | inr other ↦ elim other [ inl e ↦ cc | inr f ↦ cc ] ])
 
 -- the same of a live run
 pub live-answers-over : (settings : Settings) (input : List ℕ) (scenario : Scenario) (old new : Option (List ℕ)) (before now : ℕ) (status : Status) → ReadsAsScenario input (Ok scenario)
@@ -82,6 +88,9 @@ live-answers-over settings input scenario old new before now BadWords reads done
 live-answers-over settings input scenario old new before now (BadScenario fault) reads done rose prefix memory only = absurd (elim only [ inl e ↦ cc | inr other ↦ elim other [ inl e ↦ cc | inr f ↦ cc ] ])
 live-answers-over settings input scenario old new before now ReadFault reads done rose prefix memory only = absurd (elim only [ inl e ↦ cc | inr other ↦ elim other [ inl e ↦ cc | inr f ↦ cc ] ])
 live-answers-over settings input scenario old new before now (BadWire fault) reads done rose prefix memory only = absurd (elim only [ inl e ↦ cc | inr other ↦ elim other [ inl e ↦ cc | inr f ↦ cc ] ])
+live-answers-over settings input scenario old new before now (Illegal line) reads done rose prefix memory only = absurd (elim only [ inl e ↦ cc | inr other ↦ elim other [ inl e ↦ cc | inr f ↦ cc ] ])
+live-answers-over settings input scenario old new before now NoOutput reads done rose prefix memory only = absurd (elim only [ inl e ↦ cc | inr other ↦ elim other [ inl e ↦ cc | inr f ↦ cc ] ])
+live-answers-over settings input scenario old new before now CheckTooLarge reads done rose prefix memory only = absurd (elim only [ inl e ↦ cc | inr other ↦ elim other [ inl e ↦ cc | inr f ↦ cc ] ])
 
 -- a reading of the same bytes
 pub reads-same : (a b : List ℕ) (r s : Result Scenario ScenarioFault) → a ≡ b → r ≡ s → ReadsAsScenario a r → ReadsAsScenario b s
@@ -95,7 +104,13 @@ drill-completes status Fault only rose none = elim only [
   | inr other ↦ elim other [ inl fault ↦ absurd (none (rose fault)) | inr memory ↦ inr memory ]
 ]
 
--- a drill has no other answer
+-- a drill has no other answer than a run
+pub own-drill : (status : Status) → (status ≡ Done) ⊎ (status ≡ WriteFault) ⊎ (status ≡ NoMemory) → IsOfRun status
+own-drill status only = elim only [
+  | inl e ↦ subst IsOfRun (sym e) tt
+  | inr other ↦ elim other [ inl e ↦ subst IsOfRun (sym e) tt | inr e ↦ subst IsOfRun (sym e) tt ]
+]
+
 pub not-bad-words : (status : Status) → (status ≡ Done) ⊎ (status ≡ WriteFault) ⊎ (status ≡ NoMemory) → status ≡ BadWords → ⊥
 not-bad-words status only e = elim only [ inl d ↦ cc | inr other ↦ elim other [ inl f ↦ cc | inr m ↦ cc ] ]
 

@@ -10,16 +10,15 @@ use Rattle.pgn_language.specs.declared.scenario.ScenarioFault.TheVariants.{TooLa
 use Rattle.pgn_language.specs.Inputs.{ReadsAsScenario, Large}
 use Rattle.pgn_language.proofs.InputLaws.{reads-input}
 use Rattle.pgn_run.specs.declared.status.Status.{Status}
-use Rattle.pgn_run.specs.declared.status.Status.TheVariants.{Done, BadWords, BadScenario, ReadFault, WriteFault, NoMemory, BadWire}
-use Rattle.pgn_run.specs.Run.{Answers, EarlyRuns, IsShownSoFar, LiveRuns, Runs, Shown, ShownInPart, SoFarRuns}
+use Rattle.pgn_run.specs.declared.status.Status.TheVariants.{Done, BadWords, BadScenario, ReadFault, WriteFault, NoMemory, BadWire, Illegal, NoOutput, CheckTooLarge}
+use Rattle.pgn_run.specs.Run.{Answers, EarlyRuns, IsOfRun, IsShownSoFar, LiveRuns, Runs, Shown, ShownInPart, SoFarRuns}
 use Rattle.pgn_run.specs.declared.print.Shows.{Shows}
 use Rattle.pgn_run.specs.declared.print.Shows.TheVariants.{AtEnd, Live}
 use Rattle.pgn_run.specs.declared.print.Print.{Print}
 use Rattle.pgn_model.specs.Walk.{Settings}
-use Rattle.pgn_queries.specs.declared.wire_fault.WireFault.{WireFault}
 
 -- a prefix that is no longer than a shorter limit is the whole
-whole : (n : ℕ) (xs : List ℕ) → length (take (n + 1) xs) ≤ n → take (n + 1) xs ≡ xs
+pub whole : (n : ℕ) (xs : List ℕ) → length (take (n + 1) xs) ≤ n → take (n + 1) xs ≡ xs
 whole n xs h = take_all (n + 1) xs (omega (arith, length-take (n + 1) xs))
 
 -- what was read is all of it, where it is within the limit
@@ -29,7 +28,7 @@ within-is-whole xs input e h =
     e ∙ whole 16777216 xs short
 
 -- an input has one reading
-one-reading : (input : List ℕ) (a b : Result Scenario ScenarioFault) → ReadsAsScenario input a → ReadsAsScenario input b → a ≡ b
+pub one-reading : (input : List ℕ) (a b : Result Scenario ScenarioFault) → ReadsAsScenario input a → ReadsAsScenario input b → a ≡ b
 one-reading input a b h k = sym (reads-input input a h) ∙ reads-input input b k
 
 -- an input has the reading of what was read of it
@@ -95,7 +94,7 @@ part-reads (AtEnd print) settings input P h = (h.scenario, h.reads)
 part-reads Live settings input P h = elim h [ inl all ↦ (all.scenario, all.reads) | inr part ↦ (part.scenario, part.reads) ]
 
 -- what follows of known bytes
-if-some : (known : Option (List ℕ)) (A B : List ℕ → Type 0) → ((xs : List ℕ) → A xs → B xs) → IfSome known A → IfSome known B
+pub if-some : (known : Option (List ℕ)) (A B : List ℕ → Type 0) → ((xs : List ℕ) → A xs → B xs) → IfSome known A → IfSome known B
 if-some None A B f h = h
 if-some (Some xs) A B f h = f xs h
 
@@ -120,8 +119,20 @@ module _ (shows : Shows) (settings : Settings) (left : Option (List ℕ)) (input
   pub bad-scenario-reads : (fault : ScenarioFault) → status ≡ BadScenario fault → IfSome left (λ xs. ReadsAsScenario xs (Err fault))
   bad-scenario-reads fault e = if-some left (λ xs. input ≡ take 16777217 xs) (λ xs. ReadsAsScenario xs (Err fault)) (λ xs b. reads-whole xs input (Err fault) b (answered (BadScenario fault) e).0) bytes
 
-  pub no-wire : (fault : WireFault) → status ≡ BadWire fault → ⊥
-  no-wire fault e = answered (BadWire fault) e
+  pub own-run : IsOfRun status
+  own-run = go status answers
+    where
+      go : (s : Status) → Answers shows settings input old new before now s → IsOfRun s
+      go Done h = tt
+      go BadWords h = h
+      go (BadScenario fault) h = tt
+      go ReadFault h = tt
+      go WriteFault h = tt
+      go NoMemory h = tt
+      go (BadWire fault) h = h
+      go (Illegal line) h = h
+      go NoOutput h = h
+      go CheckTooLarge h = h
 
   pub done-at-end : (rest : Option (List ℕ)) → Consumes left rest input → status ≡ Done → OnSome left (IsAtEnd rest)
   done-at-end rest consumed e = with left rest bytes consumed
@@ -151,6 +162,9 @@ reads-done shows settings (Some xs) input old new before now ReadFault scenario 
 reads-done shows settings (Some xs) input old new before now WriteFault scenario bytes answers reads rose = absurd (rose answers.1)
 reads-done shows settings (Some xs) input old new before now NoMemory scenario bytes answers reads rose = inr refl
 reads-done shows settings (Some xs) input old new before now (BadWire fault) scenario bytes answers reads rose = absurd answers
+reads-done shows settings (Some xs) input old new before now (Illegal line) scenario bytes answers reads rose = absurd answers
+reads-done shows settings (Some xs) input old new before now NoOutput scenario bytes answers reads rose = absurd answers
+reads-done shows settings (Some xs) input old new before now CheckTooLarge scenario bytes answers reads rose = absurd answers
 
 -- what comes of an input with a fault
 pub faulty-refused : (shows : Shows) (settings : Settings) (left : Option (List ℕ)) (input : List ℕ) (old new : Option (List ℕ)) (before now : ℕ) (status : Status) (fault : ScenarioFault)
@@ -168,6 +182,9 @@ faulty-refused shows settings (Some xs) input old new before now WriteFault faul
     absurd (no-fault xs run.0 fault (reads-whole xs input (Ok run.0) bytes run.1) reads)
 faulty-refused shows settings (Some xs) input old new before now NoMemory fault bytes answers reads = inr refl
 faulty-refused shows settings (Some xs) input old new before now (BadWire other) fault bytes answers reads = absurd answers
+faulty-refused shows settings (Some xs) input old new before now (Illegal line) fault bytes answers reads = absurd answers
+faulty-refused shows settings (Some xs) input old new before now NoOutput fault bytes answers reads = absurd answers
+faulty-refused shows settings (Some xs) input old new before now CheckTooLarge fault bytes answers reads = absurd answers
 
 -- what a live run has shown so far
 pub so_far-known : (left : Option (List ℕ)) (shows : Shows) (settings : Settings) (old new : Option (List ℕ)) → shows ≡ Live → IfSome left (λ input. IsShownSoFar shows settings input old new)

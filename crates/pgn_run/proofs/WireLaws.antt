@@ -9,7 +9,7 @@ use Rattle.pgn_queries.specs.Queries.{first_place, queries}
 use Rattle.pgn_queries.proofs.OneLaws.{one_reading}
 use Rattle.pgn_wire.specs.Serving.{WroteWhole}
 use Rattle.pgn_run.specs.declared.status.Status.{Status}
-use Rattle.pgn_run.specs.declared.status.Status.TheVariants.{Done, BadWords, BadScenario, ReadFault, WriteFault, NoMemory, BadWire}
+use Rattle.pgn_run.specs.declared.status.Status.TheVariants.{Done, BadWords, BadScenario, ReadFault, WriteFault, NoMemory, BadWire, Illegal, NoOutput, CheckTooLarge}
 use Rattle.pgn_run.specs.Conversation.{BreaksOff, Converses, StopsAmong}
 use Rattle.pgn_run.specs.Run.{AnswersWire, EndsIn}
 
@@ -45,6 +45,9 @@ wire-refused (Some bytes) old new Done fault Reads Writes answers ends read writ
     let same : None ≡ Some fault = one-end bytes answers.lines None (Some fault) answers.reads ends in
     absurd (cc)
 wire-refused (Some bytes) old new BadWords fault Reads Writes answers ends read write no_read no_write = absurd answers
+wire-refused (Some bytes) old new (Illegal line) fault Reads Writes answers ends read write no_read no_write = absurd answers
+wire-refused (Some bytes) old new NoOutput fault Reads Writes answers ends read write no_read no_write = absurd answers
+wire-refused (Some bytes) old new CheckTooLarge fault Reads Writes answers ends read write no_read no_write = absurd answers
 wire-refused (Some bytes) old new (BadScenario other) fault Reads Writes answers ends read write no_read no_write = absurd answers
 wire-refused (Some bytes) old new ReadFault fault Reads Writes answers ends read write no_read no_write = absurd (no_read (read refl))
 wire-refused (Some bytes) old new WriteFault fault Reads Writes answers ends read write no_read no_write = absurd (no_write (write refl))
@@ -60,6 +63,9 @@ pub wire-completes : (left old new : Option (List ℕ)) (status : Status) (Reads
 wire-completes None old new status Reads Writes answers ends read write no_read no_write = absurd ends
 wire-completes (Some bytes) old new Done Reads Writes answers ends read write no_read no_write = inl refl
 wire-completes (Some bytes) old new BadWords Reads Writes answers ends read write no_read no_write = absurd answers
+wire-completes (Some bytes) old new (Illegal line) Reads Writes answers ends read write no_read no_write = absurd answers
+wire-completes (Some bytes) old new NoOutput Reads Writes answers ends read write no_read no_write = absurd answers
+wire-completes (Some bytes) old new CheckTooLarge Reads Writes answers ends read write no_read no_write = absurd answers
 wire-completes (Some bytes) old new (BadScenario other) Reads Writes answers ends read write no_read no_write = absurd answers
 wire-completes (Some bytes) old new ReadFault Reads Writes answers ends read write no_read no_write = absurd (no_read (read refl))
 wire-completes (Some bytes) old new WriteFault Reads Writes answers ends read write no_read no_write = absurd (no_write (write refl))

@@ -1,3 +1,5 @@
+-- what `check` reads and answers
+pub mod Checking
 -- what a whole conversation of a client is
 pub mod Conversation
 -- what is said of a live run

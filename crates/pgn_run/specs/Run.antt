@@ -13,15 +13,17 @@ use Rattle.pgn_base.specs.declared.format.Format.{Format}
 use Rattle.pgn_base.specs.declared.format.Format.TheVariants.{One}
 use Rattle.pgn_base.specs.declared.limits.TheConstants.{PAGES_MAX}
 use Rattle.pgn_options.specs.declared.asked.Asked.{Asked}
-use Rattle.pgn_options.specs.declared.asked.Asked.TheVariants.{Run, Drill, Wire}
+use Rattle.pgn_options.specs.declared.asked.Asked.TheVariants.{Run, Drill, Wire, Check}
 use Rattle.pgn_options.specs.declared.limits.TheConstants.{PATIENCE_MAX}
 use Rattle.pgn_options.specs.Words.{AskFor}
 use Rattle.pgn_drill.specs.Drill.{drill}
+use Rattle.pgn_check.specs.declared.check.Verdict.TheVariants as verdict
 use Rattle.pgn_queries.specs.declared.wire_fault.WireFault.{WireFault}
 use Rattle.pgn_queries.specs.Queries.{queries}
 use Rattle.pgn_language.specs.declared.scenario.ScriptLine.{ScriptLine}
 use Rattle.pgn_messages.specs.Messages.{messages}
 use Rattle.pgn_wire.specs.Serving.{WroteWhole}
+use Rattle.pgn_run.specs.Checking.{IsJudged, Tells, verdict_text}
 use Rattle.pgn_run.specs.Conversation.{BreaksOff, Converses, StopsAmong}
 use Rattle.pgn_run.specs.Live.{EarlyOver, LiveOver, SoFarOver}
 use Rattle.pgn_run.specs.declared.print.Shows.{Shows}
@@ -29,7 +31,7 @@ use Rattle.pgn_run.specs.declared.print.Shows.TheVariants.{AtEnd, Live}
 use Rattle.pgn_run.specs.declared.print.Print.{Print}
 use Rattle.pgn_run.specs.declared.print.Print.TheVariants.{Text, Summary}
 use Rattle.pgn_run.specs.declared.status.Status.{Status}
-use Rattle.pgn_run.specs.declared.status.Status.TheVariants.{Done, BadWords, BadScenario, ReadFault, WriteFault, NoMemory, BadWire}
+use Rattle.pgn_run.specs.declared.status.Status.TheVariants.{Done, BadWords, BadScenario, ReadFault, WriteFault, NoMemory, BadWire, Illegal, NoOutput, CheckTooLarge}
 
 -- the exit status of each outcome
 abbrev pub code_of : Status → ℕ
@@ -39,7 +41,10 @@ code_of (BadScenario fault) = 3
 code_of ReadFault = 4
 code_of WriteFault = 5
 code_of NoMemory = 6
+code_of (Illegal line) = 8
+code_of NoOutput = 9
 code_of (BadWire fault) = 10
+code_of CheckTooLarge = 11
 
 -- the terms of a run with a limit of so many pages, where an await takes so many looks, with entries of this format
 abbrev pub settings_with : ℕ → ℕ → Format → Settings
@@ -108,12 +113,14 @@ abbrev pub shows_if : Bool → Shows
 shows_if true = Live
 shows_if false = AtEnd Text
 
--- what was asked for was run: what is left of the source, the scenario of a drill, or the queries of a client; and P holds of what is
--- written of it
+-- what was asked for was done: what is left of the source was run, the scenario of a drill was, or the queries of a client, and P holds
+-- of what is written of it; or what is left was checked and is legal, and P holds of the line that says so
 abbrev pub Fulfils : Asked → Option (List ℕ) → (List ℕ → Type 0) → Type 0
 Fulfils (Run pages patience format live) left P = IfSome left (λ input. Shown (shows_if live) (settings_with pages patience format) input P)
 Fulfils (Drill seed sessions notes) left P = Runs (Summary seed notes) drill_settings (drill seed sessions notes) P
 Fulfils Wire left P = IfSome left (λ bytes. Converses bytes P)
+Fulfils (Check pages patience format) left P =
+    IfSome left (λ input. IsJudged (settings_with pages patience format) input verdict.Legal × P (verdict_text verdict.Legal))
 
 -- the words ask for something, and that was run
 pub record Performs (words : List (List ℕ)) (left : Option (List ℕ)) (P : List ℕ → Type 0) : Type 0 where
@@ -126,6 +133,7 @@ abbrev pub FulfilsInPart : Asked → Option (List ℕ) → (List ℕ → Type 0)
 FulfilsInPart (Run pages patience format live) left P = IfSome left (λ input. ShownInPart (shows_if live) (settings_with pages patience format) input P)
 FulfilsInPart (Drill seed sessions notes) left P = Runs (Summary seed notes) drill_settings (drill seed sessions notes) P
 FulfilsInPart Wire left P = IfSome left (λ bytes. StopsAmong bytes (λ section items. P (messages section items)))
+FulfilsInPart (Check pages patience format) left P = IfSome left (λ input. Tells (settings_with pages patience format) input P)
 
 pub record PerformsInPart (words : List (List ℕ)) (left : Option (List ℕ)) (P : List ℕ → Type 0) : Type 0 where
   pub asked : Asked
@@ -158,6 +166,17 @@ pub record AskToDrill (words : List (List ℕ)) : Type 0 where
 abbrev pub AskToWire : List (List ℕ) → Type 0
 AskToWire words = AskFor words Wire
 
+-- the words ask to check what is read
+pub record AskToCheck (words : List (List ℕ)) : Type 0 where
+  pub pages : ℕ
+  pub patience : ℕ
+  pub format : Format
+  pub asks : AskFor words (Check pages patience format)
+
+-- the settings that they name
+abbrev pub asked_settings : {words : List (List ℕ)} → AskToCheck words → Settings
+asked_settings ask = settings_with ask.pages ask.patience ask.format
+
 -- a client's bytes are queries, and end so: by this fault, or without
 pub record EndsIn (bytes : List ℕ) (fault : Option WireFault) : Type 0 where
   pub lines : List ScriptLine
@@ -178,6 +197,24 @@ Answers shows settings input old new before now NoMemory = IsShownSoFar shows se
 Answers shows settings input old new before now (BadScenario fault) = ReadsAsScenario input (Err fault) × (new ≡ old)
 Answers shows settings input old new before now status = ⊥
 
+-- the outcomes that `run` may have
+abbrev pub IsOfRun : Status → Type 0
+IsOfRun Done = Unit {0}
+IsOfRun (BadScenario fault) = Unit {0}
+IsOfRun ReadFault = Unit {0}
+IsOfRun WriteFault = Unit {0}
+IsOfRun NoMemory = Unit {0}
+IsOfRun status = ⊥
+
+-- those that `wire` may have
+abbrev pub IsOfWire : Status → Type 0
+IsOfWire Done = Unit {0}
+IsOfWire ReadFault = Unit {0}
+IsOfWire WriteFault = Unit {0}
+IsOfWire NoMemory = Unit {0}
+IsOfWire (BadWire fault) = Unit {0}
+IsOfWire status = ⊥
+
 -- what each outcome says of what a client sent, and of what the sink holds
 abbrev pub AnswersWire : List ℕ → Option (List ℕ) → Option (List ℕ) → Status → Type 0
 AnswersWire bytes old new Done = Converses bytes (Appends old new)
@@ -192,4 +229,7 @@ abbrev pub HasRead : Status → Type 0
 HasRead Done = Unit {0}
 HasRead WriteFault = Unit {0}
 HasRead (BadScenario fault) = Unit {0}
+HasRead (Illegal line) = Unit {0}
+HasRead NoOutput = Unit {0}
+HasRead CheckTooLarge = Unit {0}
 HasRead status = ⊥

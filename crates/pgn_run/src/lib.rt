@@ -22,10 +22,12 @@
 //! ```
 #![tactic(auto)]
 
+mod checking;
 mod client;
 mod conversing;
 mod input;
 mod live_run;
+mod parting;
 mod print;
 mod run;
 mod scenario_run;

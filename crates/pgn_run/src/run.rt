@@ -8,13 +8,16 @@ ghost use Rattle.pgn_language.specs.Inputs.{IsSound, ReadsAsScenario};
 ghost use Rattle.pgn_options.specs.Words.{AreNoCommand};
 ghost use Rattle.pgn_drill.specs.Drill.{drill};
 ghost use Rattle.pgn_messages.specs.Messages.{messages};
+ghost use Rattle.pgn_check.specs.declared.check.Verdict.TheVariants as verdict;
 ghost use Rattle.pgn_queries.specs.declared.wire_fault.WireFault.{WireFault};
 ghost use Rattle.pgn_wire.specs.Serving.{WroteWhole};
+ghost use Rattle.pgn_run.specs.Checking.{HasFault, HasNoOutput, IsJudged, IsTooLarge, verdict_text};
 ghost use Rattle.pgn_run.specs.Conversation.{BreaksOff, StopsAmong};
 ghost use Rattle.pgn_run.specs.declared.print.Print.{Print};
 ghost use Rattle.pgn_run.specs.declared.print.Print.TheVariants.{Summary};
-ghost use Rattle.pgn_run.specs.Run.{Answers, AskToDrill, AskToRun, AskToRunLive, AskToWire, EndsIn, HasRead, IsShownSoFar, Performs, PerformsInPart, Runs, Shown, ShownInPart, SoFarRuns, drill_settings, settings_with, shows_if};
+ghost use Rattle.pgn_run.specs.Run.{Answers, AskToCheck, AskToDrill, AskToRun, AskToRunLive, AskToWire, EndsIn, HasRead, IsOfRun, IsShownSoFar, Performs, PerformsInPart, Runs, Shown, ShownInPart, SoFarRuns, asked_settings, drill_settings, settings_with, shows_if};
 
+use crate::checking::{CHECK_BYTES_MAX, check};
 use crate::input::{Unread, read_input};
 use crate::print::Shows;
 use crate::wire::wire;
@@ -37,7 +40,8 @@ const READ_LIMIT: usize = INPUT_BYTES_MAX + 1;
 /// Does all that the program does between its words and its exit status. `words` are those after the program's name. `run` reads a scenario from the source, runs its
 /// sessions side by side, and writes the journal and what each session was answered and received to the sink. `drill` reads nothing:
 /// it makes a scenario, runs it the same way, and writes the summary. `wire` answers each query that it reads, as a server of PostgreSQL
-/// does after start-up, before it reads the next. Sessions may wait for one another, so that it is not promised
+/// does after start-up, before it reads the next. `check` reads a scenario and an output text, and writes whether this is the output of a
+/// legal run of it, or which line is the first to blame. Sessions may wait for one another, so that it is not promised
 /// that the call returns; what stands here holds where it does.
 pub fn run_notify<'a, S: Source, K: Sink + Send, R: Threads + Wait + Sync>(
     rt: &R,
@@ -47,7 +51,8 @@ pub fn run_notify<'a, S: Source, K: Sink + Send, R: Threads + Wait + Sync>(
     sink: &mut K,
 ) -> Status
     // The headline: what was left reads as a scenario, and the text of a legal run of it was written; or the summary of a drill; or what
-    // was left are the queries of a client, and the messages of a legal run of them were written.
+    // was left are the queries of a client, and the messages of a legal run of them were written; or it is a scenario with the output of
+    // a legal run of it, and that was said.
     ensures done { result ≡ Status.Done → Performs (map (λ word. word.now) words.now) (S.left source.old) (Appends (K.held sink.old) (K.held sink.new)) }
     ensures done_reads_all { AskToRun (map (λ word. word.now) words.now) → result ≡ Status.Done → OnSome (S.left source.old) (IsAtEnd (S.left source.new)) }
 
@@ -57,15 +62,42 @@ pub fn run_notify<'a, S: Source, K: Sink + Send, R: Threads + Wait + Sync>(
     ensures bad_words_write_nothing { AreNoCommand (map (λ word. word.now) words.now) → sink.new ≡ sink.old }
 
     ensures bad_scenario { (fault : ScenarioFault) → result ≡ Status.BadScenario fault
-        → AskToRun (map (λ word. word.now) words.now) × IfSome (S.left source.old) (λ input. ReadsAsScenario input (Err fault)) }
+        → (AskToRun (map (λ word. word.now) words.now) × IfSome (S.left source.old) (λ input. ReadsAsScenario input (Err fault)))
+        ⊎ (AskToCheck (map (λ word. word.now) words.now) × IfSome (S.left source.old) (λ input. HasFault input fault)) }
     ensures bad_scenario_where_due { (fault : ScenarioFault) → AskToRun (map (λ word. word.now) words.now)
         → IsSomeAnd (S.left source.old) (λ input. ReadsAsScenario input (Err fault))
+        → ¬ Rose (S.faults source.old) (S.faults source.new)
+        → (result ≡ Status.BadScenario fault) ⊎ (result ≡ Status.NoMemory) }
+    ensures bad_scenario_where_checked { (fault : ScenarioFault) → AskToCheck (map (λ word. word.now) words.now)
+        → IsSomeAnd (S.left source.old) (λ input. HasFault input fault)
         → ¬ Rose (S.faults source.old) (S.faults source.new)
         → (result ≡ Status.BadScenario fault) ⊎ (result ≡ Status.NoMemory) }
     ensures bad_scenario_writes_nothing { (fault : ScenarioFault) → result ≡ Status.BadScenario fault
         → K.held sink.new ≡ K.held sink.old }
 
-    ensures read_fault { result ≡ Status.ReadFault → (AskToRun (map (λ word. word.now) words.now) ⊎ AskToWire (map (λ word. word.now) words.now)) × Rose (S.faults source.old) (S.faults source.new) }
+    // The output text is none of a legal run, this line is the first to blame, and that was written.
+    ensures illegal { (line : ℕ) → result ≡ Status.Illegal line
+        → (ask : AskToCheck (map (λ word. word.now) words.now)) × IfSome (S.left source.old) (λ input.
+            IsJudged (asked_settings ask) input (verdict.Illegal line) × Appends (K.held sink.old) (K.held sink.new) (verdict_text (verdict.Illegal line))) }
+    ensures illegal_where_due { (line : ℕ) (ask : AskToCheck (map (λ word. word.now) words.now))
+        → IsSomeAnd (S.left source.old) (λ input. IsJudged (asked_settings ask) input (verdict.Illegal line))
+        → ¬ Rose (S.faults source.old) (S.faults source.new)
+        → ¬ Rose (K.faults sink.old) (K.faults sink.new)
+        → (result ≡ Status.Illegal line) ⊎ (result ≡ Status.NoMemory) }
+
+    ensures no_output { result ≡ Status.NoOutput → AskToCheck (map (λ word. word.now) words.now) × IfSome (S.left source.old) HasNoOutput }
+    ensures no_output_where_due { AskToCheck (map (λ word. word.now) words.now) → IsSomeAnd (S.left source.old) HasNoOutput
+        → ¬ Rose (S.faults source.old) (S.faults source.new)
+        → (result ≡ Status.NoOutput) ⊎ (result ≡ Status.NoMemory) }
+    ensures no_output_writes_nothing { result ≡ Status.NoOutput → K.held sink.new ≡ K.held sink.old }
+
+    ensures check_too_large { result ≡ Status.CheckTooLarge → AskToCheck (map (λ word. word.now) words.now) × IfSome (S.left source.old) IsTooLarge }
+    ensures check_too_large_where_due { AskToCheck (map (λ word. word.now) words.now) → IsSomeAnd (S.left source.old) IsTooLarge
+        → ¬ Rose (S.faults source.old) (S.faults source.new)
+        → (result ≡ Status.CheckTooLarge) ⊎ (result ≡ Status.NoMemory) }
+    ensures check_too_large_writes_nothing { result ≡ Status.CheckTooLarge → K.held sink.new ≡ K.held sink.old }
+
+    ensures read_fault { result ≡ Status.ReadFault → (AskToRun (map (λ word. word.now) words.now) ⊎ AskToWire (map (λ word. word.now) words.now) ⊎ AskToCheck (map (λ word. word.now) words.now)) × Rose (S.faults source.old) (S.faults source.new) }
     ensures read_fault_where_due { S.faults source.old < S.faults source.new → result ≡ Status.ReadFault }
     ensures read_fault_writes_nothing { ¬ AskToWire (map (λ word. word.now) words.now) → result ≡ Status.ReadFault → K.held sink.new ≡ K.held sink.old }
     ensures read_fault_writes_answers { AskToWire (map (λ word. word.now) words.now) → result ≡ Status.ReadFault → IfSome (S.left source.old) (λ bytes.
@@ -94,6 +126,9 @@ pub fn run_notify<'a, S: Source, K: Sink + Send, R: Threads + Wait + Sync>(
     // What was left is what was read and then what is left now; all of it was read, or its first 16,777,217 bytes.
     ensures what_was_read { AskToRun (map (λ word. word.now) words.now) → HasRead result → IfSome (S.left source.old) (λ left.
         Consumes (S.left source.old) (S.left source.new) (take (INPUT_BYTES_MAX + 1) left)) }
+    // The same of what is checked, or its first 67,108,865 bytes.
+    ensures what_was_checked { AskToCheck (map (λ word. word.now) words.now) → HasRead result → IfSome (S.left source.old) (λ left.
+        Consumes (S.left source.old) (S.left source.new) (take (CHECK_BYTES_MAX + 1) left)) }
     ensures drill_reads_nothing { AskToDrill (map (λ word. word.now) words.now) → source.new ≡ source.old }
 
     ensures complete { (scenario : Scenario) → AskToRun (map (λ word. word.now) words.now)
@@ -103,6 +138,11 @@ pub fn run_notify<'a, S: Source, K: Sink + Send, R: Threads + Wait + Sync>(
         → (result ≡ Status.Done) ⊎ (result ≡ Status.NoMemory) }
     ensures wire_complete { AskToWire (map (λ word. word.now) words.now)
         → IsSomeAnd (S.left source.old) (λ bytes. EndsIn bytes None)
+        → ¬ Rose (S.faults source.old) (S.faults source.new)
+        → ¬ Rose (K.faults sink.old) (K.faults sink.new)
+        → (result ≡ Status.Done) ⊎ (result ≡ Status.NoMemory) }
+    ensures check_complete { (ask : AskToCheck (map (λ word. word.now) words.now))
+        → IsSomeAnd (S.left source.old) (λ input. IsJudged (asked_settings ask) input verdict.Legal)
         → ¬ Rose (S.faults source.old) (S.faults source.new)
         → ¬ Rose (K.faults sink.old) (K.faults sink.new)
         → (result ≡ Status.Done) ⊎ (result ≡ Status.NoMemory) }
@@ -135,6 +175,13 @@ pub fn run_notify<'a, S: Source, K: Sink + Send, R: Threads + Wait + Sync>(
             },
         ) => drill::<K, R>(rt, alloc, seed, sessions, notes, sink),
         Ok(Asked::Wire) => wire::<R, S, K>(rt, alloc, source, sink),
+        Ok(
+            Asked::Check {
+                pages,
+                patience,
+                format,
+            },
+        ) => check::<S, K>(alloc, pages, patience, format, source, sink),
         Err(WordsFault::BadWords) => Status::BadWords,
         Err(WordsFault::Memory) => Status::NoMemory,
     }
@@ -168,8 +215,7 @@ fn run<S: Source, K: Sink + Send, R: Threads + Wait + Sync>(
     ensures done { result ≡ Status.Done → IfSome (S.left source.old) (λ input.
         Shown shows (settings_with pages patience format) input (Appends (K.held sink.old) (K.held sink.new))) }
     ensures done_reads_all { result ≡ Status.Done → OnSome (S.left source.old) (IsAtEnd (S.left source.new)) }
-    ensures right_words { result ≢ Status.BadWords }
-    ensures no_wire { (fault : WireFault) → result ≢ Status.BadWire fault }
+    ensures own { IsOfRun result }
     ensures bad_scenario { (fault : ScenarioFault) → result ≡ Status.BadScenario fault
         → IfSome (S.left source.old) (λ input. ReadsAsScenario input (Err fault)) }
     ensures bad_scenario_where_due { (fault : ScenarioFault)

@@ -17,13 +17,19 @@ pub enum Status {
     NoMemory,
     /// What a client of the wire sent is at fault; what it asked before was answered.
     BadWire(WireFault),
+    /// The text that was to be checked is no output of a legal run; the line that is to blame first, from 1.
+    Illegal { line: usize },
+    /// No line of the input of `check` is `\output`.
+    NoOutput,
+    /// The input of `check` is too large.
+    CheckTooLarge,
 }
 
 impl Status {
     ghost use Rattle.std.specs.Prelude.{◌≡◌};
     ghost use Rattle.pgn_run.specs.Run.{code_of};
 
-    /// The program's exit status: 0, 2 to 6, or 10.
+    /// The program's exit status: 0, 2 to 6, or 8 to 11.
     pub fn code(&self) -> u8
         ensures { result ≡ code_of self.now }
     {
@@ -34,7 +40,10 @@ impl Status {
             Status::ReadFault => 4,
             Status::WriteFault => 5,
             Status::NoMemory => 6,
+            Status::Illegal { .. } => 8,
+            Status::NoOutput => 9,
             Status::BadWire(_) => 10,
+            Status::CheckTooLarge => 11,
         }
     }
 }

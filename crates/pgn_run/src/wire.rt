@@ -1,7 +1,6 @@
-ghost use Rattle.std.specs.Prelude.{◌≡◌, ◌≢◌, ◌<◌, IfSome};
+ghost use Rattle.std.specs.Prelude.{◌≡◌, ◌<◌, IfSome};
 ghost use Rattle.pgn_base.specs.Outside.{Rose};
-ghost use Rattle.pgn_language.specs.declared.scenario.ScenarioFault.{ScenarioFault};
-ghost use Rattle.pgn_run.specs.Run.{AnswersWire};
+ghost use Rattle.pgn_run.specs.Run.{AnswersWire, IsOfWire};
 
 use crate::Status;
 use crate::conversing::converse;
@@ -20,8 +19,7 @@ pub(crate) fn wire<R: Wait, S: Source, K: Sink>(
     sink: &mut K,
 ) -> Status
     ensures answers { IfSome (S.left source.old) (λ bytes. AnswersWire bytes (K.held sink.old) (K.held sink.new) result) }
-    ensures right_words { result ≢ Status.BadWords }
-    ensures no_scenario { (fault : ScenarioFault) → result ≢ Status.BadScenario fault }
+    ensures own { IsOfWire result }
     ensures read_fault { result ≡ Status.ReadFault → Rose (S.faults source.old) (S.faults source.new) }
     ensures read_fault_where_due { S.faults source.old < S.faults source.new → result ≡ Status.ReadFault }
     ensures write_fault { result ≡ Status.WriteFault → Rose (K.faults sink.old) (K.faults sink.new) }

@@ -1,4 +1,4 @@
-use Rattle.pgn_cli.proofs.EndLaws.{written-prefix, written-whole, code-of_words, memory-code, memory-lines, names-fault, names-wire, read-fault-code, read-lines, refused-code, write-fault-code}
+use Rattle.pgn_cli.proofs.EndLaws.{written-prefix, written-whole, code-of_words, illegal-code, memory-code, memory-lines, names-fault, names-wire, no-output-code, read-fault-code, read-lines, refused-code, too-large-code, write-fault-code}
 use Rattle.pgn_cli.proofs.program.program.Goals as goal
 
 pub returns-clause-ends : goal.returns-clause-ends
@@ -40,3 +40,12 @@ pub returns-clause-bad_wire : goal.returns-clause-bad_wire
 returns-clause-bad_wire g c =
     names-wire _ (g.S.Source.left c.args.source.now) (g.K.Sink.held c.args.sink.now) (g.K.Sink.held c.status_of-status.new.sink) (g.E.Sink.held c.args.errors.now) (g.E.Sink.held c.fault_line.new.sink)
     c.status_of-status.result _ c.code.ensures (written-prefix _ _ c.fault_line.result _ c.fault_line.ensures.bytes) c.status_of-status.ensures.bad_wire
+
+pub returns-clause-illegal : goal.returns-clause-illegal
+returns-clause-illegal g c eight = let found = illegal-code c.status_of-status.result _ c.code.ensures eight in c.status_of-status.ensures.illegal found.0 found.1
+
+pub returns-clause-no_output : goal.returns-clause-no_output
+returns-clause-no_output g c nine = c.status_of-status.ensures.no_output (no-output-code c.status_of-status.result _ c.code.ensures nine)
+
+pub returns-clause-check_too_large : goal.returns-clause-check_too_large
+returns-clause-check_too_large g c eleven = c.status_of-status.ensures.check_too_large (too-large-code c.status_of-status.result _ c.code.ensures eleven)

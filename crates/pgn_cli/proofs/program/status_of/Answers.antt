@@ -1,6 +1,6 @@
 use Rattle.std.proofs.Common.{ap, inl, inr}
 use Rattle.pgn_run.proofs.ConversationLaws.{unopened-known}
-use Rattle.pgn_cli.proofs.EndLaws.{refused-keeps}
+use Rattle.pgn_cli.proofs.EndLaws.{faulty-either, refused-keeps, says-illegal}
 use Rattle.pgn_cli.proofs.program.status_of.Goals as goal
 
 pub returns-in-Ok-borrowed-clause-done : goal.returns-in-Ok-borrowed-clause-done
@@ -24,7 +24,7 @@ returns-in-Ok-borrowed-clause-other_words g c =
     rw c.in-Ok.is (λ other memory. elim (due other) [ inl bad ↦ bad | inr short ↦ absurd (memory short) ])
 
 pub returns-in-Ok-borrowed-clause-bad_scenario : goal.returns-in-Ok-borrowed-clause-bad_scenario
-returns-in-Ok-borrowed-clause-bad_scenario g c = λ fault e. (c.run_notify.ensures.bad_scenario fault e).1
+returns-in-Ok-borrowed-clause-bad_scenario g c = λ fault e. faulty-either (g.S.Source.left c.args.source.now) fault _ _ (c.run_notify.ensures.bad_scenario fault e)
 
 pub returns-in-Ok-borrowed-clause-read_fault : goal.returns-in-Ok-borrowed-clause-read_fault
 returns-in-Ok-borrowed-clause-read_fault g c = λ e. (c.run_notify.ensures.read_fault e).1
@@ -33,6 +33,7 @@ pub returns-in-Ok-borrowed-clause-refused_writes_nothing : goal.returns-in-Ok-bo
 returns-in-Ok-borrowed-clause-refused_writes_nothing g c =
     refused-keeps (g.K.Sink.held c.args.sink.now) (g.K.Sink.held c.run_notify.new.sink) c.run_notify.result
     (λ e. ap g.K.Sink.held (c.run_notify.ensures.bad_words_write_nothing (c.run_notify.ensures.bad_words e))) c.run_notify.ensures.bad_scenario_writes_nothing
+    c.run_notify.ensures.no_output_writes_nothing c.run_notify.ensures.check_too_large_writes_nothing
 
 pub returns-in-Ok-borrowed-clause-no_memory_writes_nothing : goal.returns-in-Ok-borrowed-clause-no_memory_writes_nothing
 returns-in-Ok-borrowed-clause-no_memory_writes_nothing g c =
@@ -67,3 +68,18 @@ returns-in-Ok-borrowed-clause-bad_wire g c =
 pub returns-clause-no_memory_writes_whole_answers : goal.returns-clause-no_memory_writes_whole_answers
 returns-clause-no_memory_writes_whole_answers g c =
     rw c.in-Ok.is (λ ask e. unopened-known (g.S.Source.left c.args.source.now) (g.K.Sink.held c.args.sink.now))
+
+pub returns-in-Ok-borrowed-clause-illegal : goal.returns-in-Ok-borrowed-clause-illegal
+returns-in-Ok-borrowed-clause-illegal g c =
+    let known = rw (c.as_slice-in-Ok-borrowed.ensures.value, c.in-Ok-borrowed.ensures, c.as_slice.ensures.value) at c.run_notify.ensures.illegal in
+    rw c.in-Ok.is (λ line e. let says = known line e in (says.0, says-illegal _ (g.S.Source.left c.args.source.now) (g.K.Sink.held c.args.sink.now) (g.K.Sink.held c.run_notify.new.sink) line says.1))
+
+pub returns-in-Ok-borrowed-clause-no_output : goal.returns-in-Ok-borrowed-clause-no_output
+returns-in-Ok-borrowed-clause-no_output g c =
+    let known = rw (c.as_slice-in-Ok-borrowed.ensures.value, c.in-Ok-borrowed.ensures, c.as_slice.ensures.value) at c.run_notify.ensures.no_output in
+    rw c.in-Ok.is known
+
+pub returns-in-Ok-borrowed-clause-check_too_large : goal.returns-in-Ok-borrowed-clause-check_too_large
+returns-in-Ok-borrowed-clause-check_too_large g c =
+    let known = rw (c.as_slice-in-Ok-borrowed.ensures.value, c.in-Ok-borrowed.ensures, c.as_slice.ensures.value) at c.run_notify.ensures.check_too_large in
+    rw c.in-Ok.is known

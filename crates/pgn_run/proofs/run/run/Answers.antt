@@ -1,5 +1,5 @@
 use Rattle.pgn_run.specs.Run.{settings_with}
-use Rattle.pgn_run.proofs.RunLaws.{done-runs, done-at-end, write-fault-runs, bad-scenario-reads, faulty-refused, memory-nothing, memory-shows, no-wire, reads-done}
+use Rattle.pgn_run.proofs.RunLaws.{done-runs, done-at-end, write-fault-runs, bad-scenario-reads, faulty-refused, memory-nothing, memory-shows, own-run, reads-done}
 use Rattle.pgn_run.proofs.run.run.Goals as goal
 
 pub returns-in-Ok-clause-done : goal.returns-in-Ok-clause-done
@@ -26,5 +26,5 @@ returns-in-Ok-clause-no_memory_writes_first_lines g c = memory-shows c.args.show
 pub returns-in-Ok-clause-no_memory_writes_nothing : goal.returns-in-Ok-clause-no_memory_writes_nothing
 returns-in-Ok-clause-no_memory_writes_nothing g c = memory-nothing c.args.shows (settings_with c.args.pages c.args.patience c.args.format) (g.S.Source.left c.args.source.now) c.in-Ok.input.items (g.K.Sink.held c.args.sink.now) (g.K.Sink.held c.answer.new.sink) _ _ c.answer.result c.in-Ok.ensures.bytes c.answer.ensures.answers
 
-pub returns-in-Ok-clause-no_wire : goal.returns-in-Ok-clause-no_wire
-returns-in-Ok-clause-no_wire g c = no-wire c.args.shows (settings_with c.args.pages c.args.patience c.args.format) (g.S.Source.left c.args.source.now) c.in-Ok.input.items (g.K.Sink.held c.args.sink.now) (g.K.Sink.held c.answer.new.sink) _ _ c.answer.result c.in-Ok.ensures.bytes c.answer.ensures.answers
+pub returns-in-Ok-clause-own : goal.returns-in-Ok-clause-own
+returns-in-Ok-clause-own g c = own-run c.args.shows (settings_with c.args.pages c.args.patience c.args.format) (g.S.Source.left c.args.source.now) c.in-Ok.input.items (g.K.Sink.held c.args.sink.now) (g.K.Sink.held c.answer.new.sink) _ _ c.answer.result c.in-Ok.ensures.bytes c.answer.ensures.answers

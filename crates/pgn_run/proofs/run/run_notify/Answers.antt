@@ -1,13 +1,18 @@
-use Rattle.std.proofs.Common.{◌∙◌, Some, Err, ap, inl, inr, map, subst}
-use Rattle.pgn_run.specs.Run.{shows_if}
+use Rattle.std.proofs.Common.{◌∙◌, Some, Err, IsSomeAnd, ap, inl, inr, map, subst, sym}
+use Rattle.pgn_check.specs.declared.check.Verdict.TheVariants as verdict
+use Rattle.pgn_model.specs.Walk.{Settings}
+use Rattle.pgn_run.specs.Checking.{IsJudged, IsOfCheck, IsUntold}
+use Rattle.pgn_run.specs.Run.{IsOfRun, IsOfWire, settings_with, shows_if}
+use Rattle.pgn_run.specs.declared.status.Status.TheVariants.{Done, Illegal}
 use Rattle.pgn_run.specs.declared.print.Print.TheVariants.{Text}
 use Rattle.pgn_run.proofs.RunLaws.{so_far-known}
-use Rattle.pgn_options.specs.declared.asked.Asked.TheVariants.{Run, Drill, Wire}
+use Rattle.pgn_options.specs.declared.asked.Asked.TheVariants.{Run, Drill, Wire, Check}
 use Rattle.pgn_options.specs.Words.{IsWithin}
-use Rattle.pgn_run.proofs.AskedLaws.{drill-no_wire, live-runs, no-drill, no-other, no-run, none-drills, none-runs, none-wires, run-no_wire, same-run, shows-once, wire-no_drill, wire-no_run}
-use Rattle.pgn_run.proofs.OverLaws.{drill-completes, not-bad-scenario, not-bad-wire, not-bad-words, not-read-fault}
+use Rattle.pgn_run.proofs.AskedLaws.{check-no_drill, check-no_run, check-no_wire, drill-no_check, drill-no_wire, live-runs, no-drill, no-other, no-run, none-checks, none-drills, none-runs, none-wires, run-no_check, run-no_wire, same-check, same-run, shows-once, wire-no_check, wire-no_drill, wire-no_run}
+use Rattle.pgn_run.proofs.OverLaws.{drill-completes, not-bad-scenario, not-bad-wire, not-bad-words, not-read-fault, own-drill}
 use Rattle.pgn_run.proofs.ConversationLaws.{unopened-known}
 use Rattle.pgn_run.proofs.WireLaws.{bad-wire, done-wire, memory-wire, read-wire, wire-completes, wire-refused, write-wire}
+use Rattle.pgn_run.proofs.CheckingLaws.{answered-check, check-fault, check-large, check-none, check-part, fault-due, large-due, none-due, verdict-due}
 use Rattle.pgn_run.proofs.run.run_notify.Goals as goal
 
 pub run-requires-clause-some_pages : goal.run-requires-clause-some_pages
@@ -27,7 +32,7 @@ returns-in-Ok-Run-clause-done g c = λ e. record {
 }
 
 pub returns-in-Ok-Run-clause-bad_words : goal.returns-in-Ok-Run-clause-bad_words
-returns-in-Ok-Run-clause-bad_words g c = λ e. absurd (c.run.ensures.right_words e)
+returns-in-Ok-Run-clause-bad_words g c = λ e. absurd (subst IsOfRun e c.run.ensures.own)
 
 pub returns-in-Ok-Run-clause-bad_words_where_due : goal.returns-in-Ok-Run-clause-bad_words_where_due
 returns-in-Ok-Run-clause-bad_words_where_due g c = λ none. absurd (no-other (map (λ word. word.now) c.args.words.now) c.in-Ok-Run.field-0 c.in-Ok-Run.ensures.asked none)
@@ -39,7 +44,7 @@ pub returns-in-Ok-Run-clause-bad_words_write_nothing : goal.returns-in-Ok-Run-cl
 returns-in-Ok-Run-clause-bad_words_write_nothing g c = λ none. absurd (no-other (map (λ word. word.now) c.args.words.now) c.in-Ok-Run.field-0 c.in-Ok-Run.ensures.asked none)
 
 pub returns-in-Ok-Run-clause-bad_scenario : goal.returns-in-Ok-Run-clause-bad_scenario
-returns-in-Ok-Run-clause-bad_scenario g c = λ fault e. (
+returns-in-Ok-Run-clause-bad_scenario g c = λ fault e. inl (
   record { pages = c.in-Ok-Run.pages; patience = c.in-Ok-Run.patience; format = c.in-Ok-Run.format; live = c.in-Ok-Run.live; asks = c.in-Ok-Run.ensures.asked ∙ ap Some c.in-Ok-Run.field-0-is },
   c.run.ensures.bad_scenario fault e,
 )
@@ -191,7 +196,7 @@ pub returns-in-Err-BadWords-clause-wire_complete : goal.returns-in-Err-BadWords-
 returns-in-Err-BadWords-clause-wire_complete g c = λ ask. absurd (none-wires (map (λ word. word.now) c.args.words.now) (c.in-Err-BadWords.ensures.bad_words (ap Err c.in-Err-BadWords.field-0-is)) ask)
 
 pub returns-in-Ok-Run-clause-bad_wire : goal.returns-in-Ok-Run-clause-bad_wire
-returns-in-Ok-Run-clause-bad_wire g c = λ fault e. absurd (c.run.ensures.no_wire fault e)
+returns-in-Ok-Run-clause-bad_wire g c = λ fault e. absurd (subst IsOfRun e c.run.ensures.own)
 
 pub returns-in-Ok-Drill-clause-bad_wire : goal.returns-in-Ok-Drill-clause-bad_wire
 returns-in-Ok-Drill-clause-bad_wire g c = λ fault e. absurd (not-bad-wire c.drill.result fault c.drill.ensures.only e)
@@ -203,7 +208,7 @@ pub returns-in-Ok-Wire-clause-done_reads_all : goal.returns-in-Ok-Wire-clause-do
 returns-in-Ok-Wire-clause-done_reads_all g c = λ ask. absurd (wire-no_run (map (λ word. word.now) c.args.words.now) (c.in-Ok-Wire.ensures.asked ∙ ap Some c.in-Ok-Wire.field-0-is) ask)
 
 pub returns-in-Ok-Wire-clause-bad_words : goal.returns-in-Ok-Wire-clause-bad_words
-returns-in-Ok-Wire-clause-bad_words g c = λ e. absurd (c.wire.ensures.right_words e)
+returns-in-Ok-Wire-clause-bad_words g c = λ e. absurd (subst IsOfWire e c.wire.ensures.own)
 
 pub returns-in-Ok-Wire-clause-bad_words_where_due : goal.returns-in-Ok-Wire-clause-bad_words_where_due
 returns-in-Ok-Wire-clause-bad_words_where_due g c = λ none. absurd (no-other (map (λ word. word.now) c.args.words.now) Wire (c.in-Ok-Wire.ensures.asked ∙ ap Some c.in-Ok-Wire.field-0-is) none)
@@ -215,16 +220,16 @@ pub returns-in-Ok-Wire-clause-bad_words_write_nothing : goal.returns-in-Ok-Wire-
 returns-in-Ok-Wire-clause-bad_words_write_nothing g c = λ none. absurd (no-other (map (λ word. word.now) c.args.words.now) Wire (c.in-Ok-Wire.ensures.asked ∙ ap Some c.in-Ok-Wire.field-0-is) none)
 
 pub returns-in-Ok-Wire-clause-bad_scenario : goal.returns-in-Ok-Wire-clause-bad_scenario
-returns-in-Ok-Wire-clause-bad_scenario g c = λ fault e. absurd (c.wire.ensures.no_scenario fault e)
+returns-in-Ok-Wire-clause-bad_scenario g c = λ fault e. absurd (subst IsOfWire e c.wire.ensures.own)
 
 pub returns-in-Ok-Wire-clause-bad_scenario_where_due : goal.returns-in-Ok-Wire-clause-bad_scenario_where_due
 returns-in-Ok-Wire-clause-bad_scenario_where_due g c = λ fault ask. absurd (wire-no_run (map (λ word. word.now) c.args.words.now) (c.in-Ok-Wire.ensures.asked ∙ ap Some c.in-Ok-Wire.field-0-is) ask)
 
 pub returns-in-Ok-Wire-clause-bad_scenario_writes_nothing : goal.returns-in-Ok-Wire-clause-bad_scenario_writes_nothing
-returns-in-Ok-Wire-clause-bad_scenario_writes_nothing g c = λ fault e. absurd (c.wire.ensures.no_scenario fault e)
+returns-in-Ok-Wire-clause-bad_scenario_writes_nothing g c = λ fault e. absurd (subst IsOfWire e c.wire.ensures.own)
 
 pub returns-in-Ok-Wire-clause-read_fault : goal.returns-in-Ok-Wire-clause-read_fault
-returns-in-Ok-Wire-clause-read_fault g c = λ e. (inr (c.in-Ok-Wire.ensures.asked ∙ ap Some c.in-Ok-Wire.field-0-is), c.wire.ensures.read_fault e)
+returns-in-Ok-Wire-clause-read_fault g c = λ e. (inr (inl (c.in-Ok-Wire.ensures.asked ∙ ap Some c.in-Ok-Wire.field-0-is)), c.wire.ensures.read_fault e)
 
 pub returns-in-Ok-Wire-clause-read_fault_writes_nothing : goal.returns-in-Ok-Wire-clause-read_fault_writes_nothing
 returns-in-Ok-Wire-clause-read_fault_writes_nothing g c = λ other. absurd (other (c.in-Ok-Wire.ensures.asked ∙ ap Some c.in-Ok-Wire.field-0-is))
@@ -267,3 +272,219 @@ returns-in-Ok-Wire-clause-drill_complete g c = λ ask. absurd (wire-no_drill (ma
 
 pub returns-in-Err-Memory-clause-no_memory_writes_whole_answers : goal.returns-in-Err-Memory-clause-no_memory_writes_whole_answers
 returns-in-Err-Memory-clause-no_memory_writes_whole_answers g c = λ ask e. unopened-known (g.S.Source.left c.args.source.now) (g.K.Sink.held c.args.sink.now)
+
+pub returns-in-Ok-Run-clause-illegal : goal.returns-in-Ok-Run-clause-illegal
+returns-in-Ok-Run-clause-illegal g c = λ line e. absurd (subst IsOfRun e c.run.ensures.own)
+
+pub returns-in-Ok-Run-clause-illegal_where_due : goal.returns-in-Ok-Run-clause-illegal_where_due
+returns-in-Ok-Run-clause-illegal_where_due g c = λ line ask. absurd (run-no_check (map (λ word. word.now) c.args.words.now) c.in-Ok-Run.pages c.in-Ok-Run.patience c.in-Ok-Run.format c.in-Ok-Run.live (c.in-Ok-Run.ensures.asked ∙ ap Some c.in-Ok-Run.field-0-is) ask)
+
+pub returns-in-Ok-Run-clause-no_output : goal.returns-in-Ok-Run-clause-no_output
+returns-in-Ok-Run-clause-no_output g c = λ e. absurd (subst IsOfRun e c.run.ensures.own)
+
+pub returns-in-Ok-Run-clause-no_output_where_due : goal.returns-in-Ok-Run-clause-no_output_where_due
+returns-in-Ok-Run-clause-no_output_where_due g c = λ ask. absurd (run-no_check (map (λ word. word.now) c.args.words.now) c.in-Ok-Run.pages c.in-Ok-Run.patience c.in-Ok-Run.format c.in-Ok-Run.live (c.in-Ok-Run.ensures.asked ∙ ap Some c.in-Ok-Run.field-0-is) ask)
+
+pub returns-in-Ok-Run-clause-no_output_writes_nothing : goal.returns-in-Ok-Run-clause-no_output_writes_nothing
+returns-in-Ok-Run-clause-no_output_writes_nothing g c = λ e. absurd (subst IsOfRun e c.run.ensures.own)
+
+pub returns-in-Ok-Run-clause-check_too_large : goal.returns-in-Ok-Run-clause-check_too_large
+returns-in-Ok-Run-clause-check_too_large g c = λ e. absurd (subst IsOfRun e c.run.ensures.own)
+
+pub returns-in-Ok-Run-clause-check_too_large_where_due : goal.returns-in-Ok-Run-clause-check_too_large_where_due
+returns-in-Ok-Run-clause-check_too_large_where_due g c = λ ask. absurd (run-no_check (map (λ word. word.now) c.args.words.now) c.in-Ok-Run.pages c.in-Ok-Run.patience c.in-Ok-Run.format c.in-Ok-Run.live (c.in-Ok-Run.ensures.asked ∙ ap Some c.in-Ok-Run.field-0-is) ask)
+
+pub returns-in-Ok-Run-clause-check_too_large_writes_nothing : goal.returns-in-Ok-Run-clause-check_too_large_writes_nothing
+returns-in-Ok-Run-clause-check_too_large_writes_nothing g c = λ e. absurd (subst IsOfRun e c.run.ensures.own)
+
+pub returns-in-Ok-Run-clause-bad_scenario_where_checked : goal.returns-in-Ok-Run-clause-bad_scenario_where_checked
+returns-in-Ok-Run-clause-bad_scenario_where_checked g c = λ fault ask. absurd (run-no_check (map (λ word. word.now) c.args.words.now) c.in-Ok-Run.pages c.in-Ok-Run.patience c.in-Ok-Run.format c.in-Ok-Run.live (c.in-Ok-Run.ensures.asked ∙ ap Some c.in-Ok-Run.field-0-is) ask)
+
+pub returns-in-Ok-Run-clause-what_was_checked : goal.returns-in-Ok-Run-clause-what_was_checked
+returns-in-Ok-Run-clause-what_was_checked g c = λ ask. absurd (run-no_check (map (λ word. word.now) c.args.words.now) c.in-Ok-Run.pages c.in-Ok-Run.patience c.in-Ok-Run.format c.in-Ok-Run.live (c.in-Ok-Run.ensures.asked ∙ ap Some c.in-Ok-Run.field-0-is) ask)
+
+pub returns-in-Ok-Run-clause-check_complete : goal.returns-in-Ok-Run-clause-check_complete
+returns-in-Ok-Run-clause-check_complete g c = λ ask. absurd (run-no_check (map (λ word. word.now) c.args.words.now) c.in-Ok-Run.pages c.in-Ok-Run.patience c.in-Ok-Run.format c.in-Ok-Run.live (c.in-Ok-Run.ensures.asked ∙ ap Some c.in-Ok-Run.field-0-is) ask)
+
+pub returns-in-Ok-Drill-clause-illegal : goal.returns-in-Ok-Drill-clause-illegal
+returns-in-Ok-Drill-clause-illegal g c = λ line e. absurd (subst IsOfRun e (own-drill c.drill.result c.drill.ensures.only))
+
+pub returns-in-Ok-Drill-clause-illegal_where_due : goal.returns-in-Ok-Drill-clause-illegal_where_due
+returns-in-Ok-Drill-clause-illegal_where_due g c = λ line ask. absurd (drill-no_check (map (λ word. word.now) c.args.words.now) c.in-Ok-Drill.seed c.in-Ok-Drill.sessions c.in-Ok-Drill.notes (c.in-Ok-Drill.ensures.asked ∙ ap Some c.in-Ok-Drill.field-0-is) ask)
+
+pub returns-in-Ok-Drill-clause-no_output : goal.returns-in-Ok-Drill-clause-no_output
+returns-in-Ok-Drill-clause-no_output g c = λ e. absurd (subst IsOfRun e (own-drill c.drill.result c.drill.ensures.only))
+
+pub returns-in-Ok-Drill-clause-no_output_where_due : goal.returns-in-Ok-Drill-clause-no_output_where_due
+returns-in-Ok-Drill-clause-no_output_where_due g c = λ ask. absurd (drill-no_check (map (λ word. word.now) c.args.words.now) c.in-Ok-Drill.seed c.in-Ok-Drill.sessions c.in-Ok-Drill.notes (c.in-Ok-Drill.ensures.asked ∙ ap Some c.in-Ok-Drill.field-0-is) ask)
+
+pub returns-in-Ok-Drill-clause-no_output_writes_nothing : goal.returns-in-Ok-Drill-clause-no_output_writes_nothing
+returns-in-Ok-Drill-clause-no_output_writes_nothing g c = λ e. absurd (subst IsOfRun e (own-drill c.drill.result c.drill.ensures.only))
+
+pub returns-in-Ok-Drill-clause-check_too_large : goal.returns-in-Ok-Drill-clause-check_too_large
+returns-in-Ok-Drill-clause-check_too_large g c = λ e. absurd (subst IsOfRun e (own-drill c.drill.result c.drill.ensures.only))
+
+pub returns-in-Ok-Drill-clause-check_too_large_where_due : goal.returns-in-Ok-Drill-clause-check_too_large_where_due
+returns-in-Ok-Drill-clause-check_too_large_where_due g c = λ ask. absurd (drill-no_check (map (λ word. word.now) c.args.words.now) c.in-Ok-Drill.seed c.in-Ok-Drill.sessions c.in-Ok-Drill.notes (c.in-Ok-Drill.ensures.asked ∙ ap Some c.in-Ok-Drill.field-0-is) ask)
+
+pub returns-in-Ok-Drill-clause-check_too_large_writes_nothing : goal.returns-in-Ok-Drill-clause-check_too_large_writes_nothing
+returns-in-Ok-Drill-clause-check_too_large_writes_nothing g c = λ e. absurd (subst IsOfRun e (own-drill c.drill.result c.drill.ensures.only))
+
+pub returns-in-Ok-Drill-clause-bad_scenario_where_checked : goal.returns-in-Ok-Drill-clause-bad_scenario_where_checked
+returns-in-Ok-Drill-clause-bad_scenario_where_checked g c = λ fault ask. absurd (drill-no_check (map (λ word. word.now) c.args.words.now) c.in-Ok-Drill.seed c.in-Ok-Drill.sessions c.in-Ok-Drill.notes (c.in-Ok-Drill.ensures.asked ∙ ap Some c.in-Ok-Drill.field-0-is) ask)
+
+pub returns-in-Ok-Drill-clause-what_was_checked : goal.returns-in-Ok-Drill-clause-what_was_checked
+returns-in-Ok-Drill-clause-what_was_checked g c = λ ask. absurd (drill-no_check (map (λ word. word.now) c.args.words.now) c.in-Ok-Drill.seed c.in-Ok-Drill.sessions c.in-Ok-Drill.notes (c.in-Ok-Drill.ensures.asked ∙ ap Some c.in-Ok-Drill.field-0-is) ask)
+
+pub returns-in-Ok-Drill-clause-check_complete : goal.returns-in-Ok-Drill-clause-check_complete
+returns-in-Ok-Drill-clause-check_complete g c = λ ask. absurd (drill-no_check (map (λ word. word.now) c.args.words.now) c.in-Ok-Drill.seed c.in-Ok-Drill.sessions c.in-Ok-Drill.notes (c.in-Ok-Drill.ensures.asked ∙ ap Some c.in-Ok-Drill.field-0-is) ask)
+
+pub returns-in-Ok-Wire-clause-illegal : goal.returns-in-Ok-Wire-clause-illegal
+returns-in-Ok-Wire-clause-illegal g c = λ line e. absurd (subst IsOfWire e c.wire.ensures.own)
+
+pub returns-in-Ok-Wire-clause-illegal_where_due : goal.returns-in-Ok-Wire-clause-illegal_where_due
+returns-in-Ok-Wire-clause-illegal_where_due g c = λ line ask. absurd (wire-no_check (map (λ word. word.now) c.args.words.now) (c.in-Ok-Wire.ensures.asked ∙ ap Some c.in-Ok-Wire.field-0-is) ask)
+
+pub returns-in-Ok-Wire-clause-no_output : goal.returns-in-Ok-Wire-clause-no_output
+returns-in-Ok-Wire-clause-no_output g c = λ e. absurd (subst IsOfWire e c.wire.ensures.own)
+
+pub returns-in-Ok-Wire-clause-no_output_where_due : goal.returns-in-Ok-Wire-clause-no_output_where_due
+returns-in-Ok-Wire-clause-no_output_where_due g c = λ ask. absurd (wire-no_check (map (λ word. word.now) c.args.words.now) (c.in-Ok-Wire.ensures.asked ∙ ap Some c.in-Ok-Wire.field-0-is) ask)
+
+pub returns-in-Ok-Wire-clause-no_output_writes_nothing : goal.returns-in-Ok-Wire-clause-no_output_writes_nothing
+returns-in-Ok-Wire-clause-no_output_writes_nothing g c = λ e. absurd (subst IsOfWire e c.wire.ensures.own)
+
+pub returns-in-Ok-Wire-clause-check_too_large : goal.returns-in-Ok-Wire-clause-check_too_large
+returns-in-Ok-Wire-clause-check_too_large g c = λ e. absurd (subst IsOfWire e c.wire.ensures.own)
+
+pub returns-in-Ok-Wire-clause-check_too_large_where_due : goal.returns-in-Ok-Wire-clause-check_too_large_where_due
+returns-in-Ok-Wire-clause-check_too_large_where_due g c = λ ask. absurd (wire-no_check (map (λ word. word.now) c.args.words.now) (c.in-Ok-Wire.ensures.asked ∙ ap Some c.in-Ok-Wire.field-0-is) ask)
+
+pub returns-in-Ok-Wire-clause-check_too_large_writes_nothing : goal.returns-in-Ok-Wire-clause-check_too_large_writes_nothing
+returns-in-Ok-Wire-clause-check_too_large_writes_nothing g c = λ e. absurd (subst IsOfWire e c.wire.ensures.own)
+
+pub returns-in-Ok-Wire-clause-bad_scenario_where_checked : goal.returns-in-Ok-Wire-clause-bad_scenario_where_checked
+returns-in-Ok-Wire-clause-bad_scenario_where_checked g c = λ fault ask. absurd (wire-no_check (map (λ word. word.now) c.args.words.now) (c.in-Ok-Wire.ensures.asked ∙ ap Some c.in-Ok-Wire.field-0-is) ask)
+
+pub returns-in-Ok-Wire-clause-what_was_checked : goal.returns-in-Ok-Wire-clause-what_was_checked
+returns-in-Ok-Wire-clause-what_was_checked g c = λ ask. absurd (wire-no_check (map (λ word. word.now) c.args.words.now) (c.in-Ok-Wire.ensures.asked ∙ ap Some c.in-Ok-Wire.field-0-is) ask)
+
+pub returns-in-Ok-Wire-clause-check_complete : goal.returns-in-Ok-Wire-clause-check_complete
+returns-in-Ok-Wire-clause-check_complete g c = λ ask. absurd (wire-no_check (map (λ word. word.now) c.args.words.now) (c.in-Ok-Wire.ensures.asked ∙ ap Some c.in-Ok-Wire.field-0-is) ask)
+
+pub returns-in-Err-BadWords-clause-bad_scenario_where_checked : goal.returns-in-Err-BadWords-clause-bad_scenario_where_checked
+returns-in-Err-BadWords-clause-bad_scenario_where_checked g c = λ fault ask. absurd (none-checks (map (λ word. word.now) c.args.words.now) (c.in-Err-BadWords.ensures.bad_words (ap Err c.in-Err-BadWords.field-0-is)) ask)
+
+pub returns-in-Err-BadWords-clause-illegal_where_due : goal.returns-in-Err-BadWords-clause-illegal_where_due
+returns-in-Err-BadWords-clause-illegal_where_due g c = λ line ask. absurd (none-checks (map (λ word. word.now) c.args.words.now) (c.in-Err-BadWords.ensures.bad_words (ap Err c.in-Err-BadWords.field-0-is)) ask)
+
+pub returns-in-Err-BadWords-clause-no_output_where_due : goal.returns-in-Err-BadWords-clause-no_output_where_due
+returns-in-Err-BadWords-clause-no_output_where_due g c = λ ask. absurd (none-checks (map (λ word. word.now) c.args.words.now) (c.in-Err-BadWords.ensures.bad_words (ap Err c.in-Err-BadWords.field-0-is)) ask)
+
+pub returns-in-Err-BadWords-clause-check_too_large_where_due : goal.returns-in-Err-BadWords-clause-check_too_large_where_due
+returns-in-Err-BadWords-clause-check_too_large_where_due g c = λ ask. absurd (none-checks (map (λ word. word.now) c.args.words.now) (c.in-Err-BadWords.ensures.bad_words (ap Err c.in-Err-BadWords.field-0-is)) ask)
+
+pub returns-in-Err-BadWords-clause-check_complete : goal.returns-in-Err-BadWords-clause-check_complete
+returns-in-Err-BadWords-clause-check_complete g c = λ ask. absurd (none-checks (map (λ word. word.now) c.args.words.now) (c.in-Err-BadWords.ensures.bad_words (ap Err c.in-Err-BadWords.field-0-is)) ask)
+
+pub returns-in-Ok-Check-clause-done : goal.returns-in-Ok-Check-clause-done
+returns-in-Ok-Check-clause-done g c = λ e. record { asked = Check c.in-Ok-Check.pages c.in-Ok-Check.patience c.in-Ok-Check.format; asks = (c.in-Ok-Check.ensures.asked ∙ ap Some c.in-Ok-Check.field-0-is); done = answered-check (settings_with c.in-Ok-Check.pages c.in-Ok-Check.patience c.in-Ok-Check.format) (g.S.Source.left c.args.source.now) (g.K.Sink.held c.args.sink.now) (g.K.Sink.held c.check.new.sink) _ _ c.check.result c.check.ensures.answers Done e }
+
+pub returns-in-Ok-Check-clause-done_reads_all : goal.returns-in-Ok-Check-clause-done_reads_all
+returns-in-Ok-Check-clause-done_reads_all g c = λ ask. absurd (check-no_run (map (λ word. word.now) c.args.words.now) c.in-Ok-Check.pages c.in-Ok-Check.patience c.in-Ok-Check.format (c.in-Ok-Check.ensures.asked ∙ ap Some c.in-Ok-Check.field-0-is) ask)
+
+pub returns-in-Ok-Check-clause-bad_words : goal.returns-in-Ok-Check-clause-bad_words
+returns-in-Ok-Check-clause-bad_words g c = λ e. absurd (subst IsOfCheck e c.check.ensures.own)
+
+pub returns-in-Ok-Check-clause-bad_words_where_due : goal.returns-in-Ok-Check-clause-bad_words_where_due
+returns-in-Ok-Check-clause-bad_words_where_due g c = λ none. absurd (no-other (map (λ word. word.now) c.args.words.now) (Check c.in-Ok-Check.pages c.in-Ok-Check.patience c.in-Ok-Check.format) (c.in-Ok-Check.ensures.asked ∙ ap Some c.in-Ok-Check.field-0-is) none)
+
+pub returns-in-Ok-Check-clause-bad_words_read_nothing : goal.returns-in-Ok-Check-clause-bad_words_read_nothing
+returns-in-Ok-Check-clause-bad_words_read_nothing g c = λ none. absurd (no-other (map (λ word. word.now) c.args.words.now) (Check c.in-Ok-Check.pages c.in-Ok-Check.patience c.in-Ok-Check.format) (c.in-Ok-Check.ensures.asked ∙ ap Some c.in-Ok-Check.field-0-is) none)
+
+pub returns-in-Ok-Check-clause-bad_words_write_nothing : goal.returns-in-Ok-Check-clause-bad_words_write_nothing
+returns-in-Ok-Check-clause-bad_words_write_nothing g c = λ none. absurd (no-other (map (λ word. word.now) c.args.words.now) (Check c.in-Ok-Check.pages c.in-Ok-Check.patience c.in-Ok-Check.format) (c.in-Ok-Check.ensures.asked ∙ ap Some c.in-Ok-Check.field-0-is) none)
+
+pub returns-in-Ok-Check-clause-bad_scenario : goal.returns-in-Ok-Check-clause-bad_scenario
+returns-in-Ok-Check-clause-bad_scenario g c = λ fault e. inr (record { pages = c.in-Ok-Check.pages; patience = c.in-Ok-Check.patience; format = c.in-Ok-Check.format; asks = (c.in-Ok-Check.ensures.asked ∙ ap Some c.in-Ok-Check.field-0-is) }, check-fault (settings_with c.in-Ok-Check.pages c.in-Ok-Check.patience c.in-Ok-Check.format) (g.S.Source.left c.args.source.now) (g.K.Sink.held c.args.sink.now) (g.K.Sink.held c.check.new.sink) _ _ c.check.result c.check.ensures.answers fault e)
+
+pub returns-in-Ok-Check-clause-bad_scenario_where_due : goal.returns-in-Ok-Check-clause-bad_scenario_where_due
+returns-in-Ok-Check-clause-bad_scenario_where_due g c = λ fault ask. absurd (check-no_run (map (λ word. word.now) c.args.words.now) c.in-Ok-Check.pages c.in-Ok-Check.patience c.in-Ok-Check.format (c.in-Ok-Check.ensures.asked ∙ ap Some c.in-Ok-Check.field-0-is) ask)
+
+pub returns-in-Ok-Check-clause-bad_scenario_where_checked : goal.returns-in-Ok-Check-clause-bad_scenario_where_checked
+returns-in-Ok-Check-clause-bad_scenario_where_checked g c = λ fault ask faulty reads. fault-due (settings_with c.in-Ok-Check.pages c.in-Ok-Check.patience c.in-Ok-Check.format) (g.S.Source.left c.args.source.now) (g.K.Sink.held c.args.sink.now) (g.K.Sink.held c.check.new.sink) _ _ c.check.result fault _ c.check.ensures.answers faulty c.check.ensures.read_fault reads
+
+pub returns-in-Ok-Check-clause-bad_scenario_writes_nothing : goal.returns-in-Ok-Check-clause-bad_scenario_writes_nothing
+returns-in-Ok-Check-clause-bad_scenario_writes_nothing g c = λ fault e. c.check.ensures.nothing (subst IsUntold (sym e) tt)
+
+pub returns-in-Ok-Check-clause-illegal : goal.returns-in-Ok-Check-clause-illegal
+returns-in-Ok-Check-clause-illegal g c = λ line e. (record { pages = c.in-Ok-Check.pages; patience = c.in-Ok-Check.patience; format = c.in-Ok-Check.format; asks = (c.in-Ok-Check.ensures.asked ∙ ap Some c.in-Ok-Check.field-0-is) }, answered-check (settings_with c.in-Ok-Check.pages c.in-Ok-Check.patience c.in-Ok-Check.format) (g.S.Source.left c.args.source.now) (g.K.Sink.held c.args.sink.now) (g.K.Sink.held c.check.new.sink) _ _ c.check.result c.check.ensures.answers (Illegal line) e)
+
+pub returns-in-Ok-Check-clause-illegal_where_due : goal.returns-in-Ok-Check-clause-illegal_where_due
+returns-in-Ok-Check-clause-illegal_where_due g c = λ line ask judged reads writes. verdict-due (settings_with c.in-Ok-Check.pages c.in-Ok-Check.patience c.in-Ok-Check.format) (g.S.Source.left c.args.source.now) (g.K.Sink.held c.args.sink.now) (g.K.Sink.held c.check.new.sink) _ _ c.check.result (verdict.Illegal line) _ c.check.ensures.answers (subst (λ (s : Settings). IsSomeAnd (g.S.Source.left c.args.source.now) (λ xs. IsJudged s xs (verdict.Illegal line))) (same-check (map (λ word. word.now) c.args.words.now) c.in-Ok-Check.pages c.in-Ok-Check.patience c.in-Ok-Check.format ask (c.in-Ok-Check.ensures.asked ∙ ap Some c.in-Ok-Check.field-0-is)) judged) c.check.ensures.read_fault reads writes
+
+pub returns-in-Ok-Check-clause-check_complete : goal.returns-in-Ok-Check-clause-check_complete
+returns-in-Ok-Check-clause-check_complete g c = λ ask judged reads writes. verdict-due (settings_with c.in-Ok-Check.pages c.in-Ok-Check.patience c.in-Ok-Check.format) (g.S.Source.left c.args.source.now) (g.K.Sink.held c.args.sink.now) (g.K.Sink.held c.check.new.sink) _ _ c.check.result (verdict.Legal) _ c.check.ensures.answers (subst (λ (s : Settings). IsSomeAnd (g.S.Source.left c.args.source.now) (λ xs. IsJudged s xs (verdict.Legal))) (same-check (map (λ word. word.now) c.args.words.now) c.in-Ok-Check.pages c.in-Ok-Check.patience c.in-Ok-Check.format ask (c.in-Ok-Check.ensures.asked ∙ ap Some c.in-Ok-Check.field-0-is)) judged) c.check.ensures.read_fault reads writes
+
+pub returns-in-Ok-Check-clause-no_output : goal.returns-in-Ok-Check-clause-no_output
+returns-in-Ok-Check-clause-no_output g c = λ e. (record { pages = c.in-Ok-Check.pages; patience = c.in-Ok-Check.patience; format = c.in-Ok-Check.format; asks = (c.in-Ok-Check.ensures.asked ∙ ap Some c.in-Ok-Check.field-0-is) }, check-none (settings_with c.in-Ok-Check.pages c.in-Ok-Check.patience c.in-Ok-Check.format) (g.S.Source.left c.args.source.now) (g.K.Sink.held c.args.sink.now) (g.K.Sink.held c.check.new.sink) _ _ c.check.result c.check.ensures.answers e)
+
+pub returns-in-Ok-Check-clause-no_output_where_due : goal.returns-in-Ok-Check-clause-no_output_where_due
+returns-in-Ok-Check-clause-no_output_where_due g c = λ ask none reads. none-due (settings_with c.in-Ok-Check.pages c.in-Ok-Check.patience c.in-Ok-Check.format) (g.S.Source.left c.args.source.now) (g.K.Sink.held c.args.sink.now) (g.K.Sink.held c.check.new.sink) _ _ c.check.result _ c.check.ensures.answers none c.check.ensures.read_fault reads
+
+pub returns-in-Ok-Check-clause-no_output_writes_nothing : goal.returns-in-Ok-Check-clause-no_output_writes_nothing
+returns-in-Ok-Check-clause-no_output_writes_nothing g c = λ e. c.check.ensures.nothing (subst IsUntold (sym e) tt)
+
+pub returns-in-Ok-Check-clause-check_too_large : goal.returns-in-Ok-Check-clause-check_too_large
+returns-in-Ok-Check-clause-check_too_large g c = λ e. (record { pages = c.in-Ok-Check.pages; patience = c.in-Ok-Check.patience; format = c.in-Ok-Check.format; asks = (c.in-Ok-Check.ensures.asked ∙ ap Some c.in-Ok-Check.field-0-is) }, check-large (settings_with c.in-Ok-Check.pages c.in-Ok-Check.patience c.in-Ok-Check.format) (g.S.Source.left c.args.source.now) (g.K.Sink.held c.args.sink.now) (g.K.Sink.held c.check.new.sink) _ _ c.check.result c.check.ensures.answers e)
+
+pub returns-in-Ok-Check-clause-check_too_large_where_due : goal.returns-in-Ok-Check-clause-check_too_large_where_due
+returns-in-Ok-Check-clause-check_too_large_where_due g c = λ ask large reads. large-due (settings_with c.in-Ok-Check.pages c.in-Ok-Check.patience c.in-Ok-Check.format) (g.S.Source.left c.args.source.now) (g.K.Sink.held c.args.sink.now) (g.K.Sink.held c.check.new.sink) _ _ c.check.result _ c.check.ensures.answers large c.check.ensures.read_fault reads
+
+pub returns-in-Ok-Check-clause-check_too_large_writes_nothing : goal.returns-in-Ok-Check-clause-check_too_large_writes_nothing
+returns-in-Ok-Check-clause-check_too_large_writes_nothing g c = λ e. c.check.ensures.nothing (subst IsUntold (sym e) tt)
+
+pub returns-in-Ok-Check-clause-read_fault : goal.returns-in-Ok-Check-clause-read_fault
+returns-in-Ok-Check-clause-read_fault g c = λ e. (inr (inr (record { pages = c.in-Ok-Check.pages; patience = c.in-Ok-Check.patience; format = c.in-Ok-Check.format; asks = (c.in-Ok-Check.ensures.asked ∙ ap Some c.in-Ok-Check.field-0-is) })), c.check.ensures.read_fault e)
+
+pub returns-in-Ok-Check-clause-read_fault_writes_nothing : goal.returns-in-Ok-Check-clause-read_fault_writes_nothing
+returns-in-Ok-Check-clause-read_fault_writes_nothing g c = λ other e. c.check.ensures.nothing (subst IsUntold (sym e) tt)
+
+pub returns-in-Ok-Check-clause-read_fault_writes_answers : goal.returns-in-Ok-Check-clause-read_fault_writes_answers
+returns-in-Ok-Check-clause-read_fault_writes_answers g c = λ ask. absurd (check-no_wire (map (λ word. word.now) c.args.words.now) c.in-Ok-Check.pages c.in-Ok-Check.patience c.in-Ok-Check.format (c.in-Ok-Check.ensures.asked ∙ ap Some c.in-Ok-Check.field-0-is) ask)
+
+pub returns-in-Ok-Check-clause-write_fault_writes_a_prefix : goal.returns-in-Ok-Check-clause-write_fault_writes_a_prefix
+returns-in-Ok-Check-clause-write_fault_writes_a_prefix g c = λ e. record { asked = Check c.in-Ok-Check.pages c.in-Ok-Check.patience c.in-Ok-Check.format; asks = (c.in-Ok-Check.ensures.asked ∙ ap Some c.in-Ok-Check.field-0-is); done = check-part (settings_with c.in-Ok-Check.pages c.in-Ok-Check.patience c.in-Ok-Check.format) (g.S.Source.left c.args.source.now) (g.K.Sink.held c.args.sink.now) (g.K.Sink.held c.check.new.sink) _ _ c.check.result c.check.ensures.answers e }
+
+pub returns-in-Ok-Check-clause-no_memory_writes_nothing : goal.returns-in-Ok-Check-clause-no_memory_writes_nothing
+returns-in-Ok-Check-clause-no_memory_writes_nothing g c = λ once other e. c.check.ensures.nothing (subst IsUntold (sym e) tt)
+
+pub returns-in-Ok-Check-clause-no_memory_writes_first_lines : goal.returns-in-Ok-Check-clause-no_memory_writes_first_lines
+returns-in-Ok-Check-clause-no_memory_writes_first_lines g c = λ ask. absurd (check-no_run (map (λ word. word.now) c.args.words.now) c.in-Ok-Check.pages c.in-Ok-Check.patience c.in-Ok-Check.format (c.in-Ok-Check.ensures.asked ∙ ap Some c.in-Ok-Check.field-0-is) (live-runs (map (λ word. word.now) c.args.words.now) ask))
+
+pub returns-in-Ok-Check-clause-no_memory_writes_whole_answers : goal.returns-in-Ok-Check-clause-no_memory_writes_whole_answers
+returns-in-Ok-Check-clause-no_memory_writes_whole_answers g c = λ ask. absurd (check-no_wire (map (λ word. word.now) c.args.words.now) c.in-Ok-Check.pages c.in-Ok-Check.patience c.in-Ok-Check.format (c.in-Ok-Check.ensures.asked ∙ ap Some c.in-Ok-Check.field-0-is) ask)
+
+pub returns-in-Ok-Check-clause-bad_wire : goal.returns-in-Ok-Check-clause-bad_wire
+returns-in-Ok-Check-clause-bad_wire g c = λ fault e. absurd (subst IsOfCheck e c.check.ensures.own)
+
+pub returns-in-Ok-Check-clause-bad_wire_where_due : goal.returns-in-Ok-Check-clause-bad_wire_where_due
+returns-in-Ok-Check-clause-bad_wire_where_due g c = λ fault ask. absurd (check-no_wire (map (λ word. word.now) c.args.words.now) c.in-Ok-Check.pages c.in-Ok-Check.patience c.in-Ok-Check.format (c.in-Ok-Check.ensures.asked ∙ ap Some c.in-Ok-Check.field-0-is) ask)
+
+pub returns-in-Ok-Check-clause-what_was_read : goal.returns-in-Ok-Check-clause-what_was_read
+returns-in-Ok-Check-clause-what_was_read g c = λ ask. absurd (check-no_run (map (λ word. word.now) c.args.words.now) c.in-Ok-Check.pages c.in-Ok-Check.patience c.in-Ok-Check.format (c.in-Ok-Check.ensures.asked ∙ ap Some c.in-Ok-Check.field-0-is) ask)
+
+pub returns-in-Ok-Check-clause-what_was_checked : goal.returns-in-Ok-Check-clause-what_was_checked
+returns-in-Ok-Check-clause-what_was_checked g c = λ ask. c.check.ensures.what_was_read
+
+pub returns-in-Ok-Check-clause-drill_reads_nothing : goal.returns-in-Ok-Check-clause-drill_reads_nothing
+returns-in-Ok-Check-clause-drill_reads_nothing g c = λ ask. absurd (check-no_drill (map (λ word. word.now) c.args.words.now) c.in-Ok-Check.pages c.in-Ok-Check.patience c.in-Ok-Check.format (c.in-Ok-Check.ensures.asked ∙ ap Some c.in-Ok-Check.field-0-is) ask)
+
+pub returns-in-Ok-Check-clause-complete : goal.returns-in-Ok-Check-clause-complete
+returns-in-Ok-Check-clause-complete g c = λ scenario ask. absurd (check-no_run (map (λ word. word.now) c.args.words.now) c.in-Ok-Check.pages c.in-Ok-Check.patience c.in-Ok-Check.format (c.in-Ok-Check.ensures.asked ∙ ap Some c.in-Ok-Check.field-0-is) ask)
+
+pub returns-in-Ok-Check-clause-wire_complete : goal.returns-in-Ok-Check-clause-wire_complete
+returns-in-Ok-Check-clause-wire_complete g c = λ ask. absurd (check-no_wire (map (λ word. word.now) c.args.words.now) c.in-Ok-Check.pages c.in-Ok-Check.patience c.in-Ok-Check.format (c.in-Ok-Check.ensures.asked ∙ ap Some c.in-Ok-Check.field-0-is) ask)
+
+pub returns-in-Ok-Check-clause-drill_complete : goal.returns-in-Ok-Check-clause-drill_complete
+returns-in-Ok-Check-clause-drill_complete g c = λ ask. absurd (check-no_drill (map (λ word. word.now) c.args.words.now) c.in-Ok-Check.pages c.in-Ok-Check.patience c.in-Ok-Check.format (c.in-Ok-Check.ensures.asked ∙ ap Some c.in-Ok-Check.field-0-is) ask)
