@@ -15,7 +15,7 @@ use std::thread::Threads;
 
 #[test]
 fn one_line_on_standard_error(rt: HostRuntime) -> Result<(), Fail> {
-    let table: [(Status, u8, &[u8]); 16] = [
+    let table: [(Status, u8, &[u8]); 19] = [
         (Status::Done, 0, b""),
         (
             Status::BadWords,
@@ -79,6 +79,17 @@ fn one_line_on_standard_error(rt: HostRuntime) -> Result<(), Fail> {
             Status::BadWire(WireFault::Truncated { at: 5_000_000_000 }),
             10,
             b"pgnotify: byte 5000000000: bad message\n",
+        ),
+        (
+            Status::Illegal { line: 7 },
+            8,
+            b"pgnotify: output is not legal\n",
+        ),
+        (Status::NoOutput, 9, b"pgnotify: no output part\n"),
+        (
+            Status::CheckTooLarge,
+            11,
+            b"pgnotify: check input is larger than 67108864 bytes\n",
         ),
     ];
     let alloc = rt.alloc();
