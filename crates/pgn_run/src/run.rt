@@ -78,7 +78,7 @@ pub fn run_notify<'a, S: Source, K: Sink + Send, R: Threads + Wait + Sync>(
     // The output text is none of a legal run, this line is the first to blame, and that was written.
     ensures illegal { (line : ℕ) → result ≡ Status.Illegal line
         → (ask : AskToCheck (map (λ word. word.now) words.now)) × IfSome (S.left source.old) (λ input.
-            IsJudged (asked_settings ask) input (verdict.Illegal line) × Appends (K.held sink.old) (K.held sink.new) (verdict_text (verdict.Illegal line))) }
+        IsJudged (asked_settings ask) input (verdict.Illegal line) × Appends (K.held sink.old) (K.held sink.new) (verdict_text (verdict.Illegal line))) }
     ensures illegal_where_due { (line : ℕ) (ask : AskToCheck (map (λ word. word.now) words.now))
         → IsSomeAnd (S.left source.old) (λ input. IsJudged (asked_settings ask) input (verdict.Illegal line))
         → ¬ Rose (S.faults source.old) (S.faults source.new)
