@@ -9,7 +9,9 @@
 //! - `.faults`: the output has for each case of the input its fault, or the scenario that it reads as;
 //! - `.answers`: each line of the input is a line of SQL, and the output has its answers in each state of a transaction block;
 //! - `.asked`: each line of the input has the words of a command line, a space between two, and the output has what they ask for;
-//! - `.blocks`: the lines of a case are told to one block, one after another, and the output has the answer to each.
+//! - `.blocks`: the lines of a case are told to one block, one after another, and the output has the answer to each;
+//! - `.changes`: each line of the input names a row that is a run, and may name a change of its output by one line; the output has what
+//!   `check` says of it.
 //!
 //! After each case of an input a LF, `=====` and a LF follow, which are no part of it: a case that ends in a LF has an empty line
 //! before its `=====`. A character `…` in a line of SQL or in a case, and the byte after it, stand for 65,536 of that byte, as many
@@ -21,6 +23,7 @@
 
 mod answers;
 mod cases;
+mod changes;
 mod command_lines;
 mod faults;
 mod lines;

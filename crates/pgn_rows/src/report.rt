@@ -1,6 +1,7 @@
 ghost use Rattle.std.specs.Prelude.{◌≡◌, ◌++◌, IfOk, codes};
 
 use crate::answers::{answers_row, blocks_row};
+use crate::changes::changes_row;
 use crate::command_lines::command_lines_row;
 use crate::faults::faults_row;
 use crate::lines::lines_row;
@@ -40,7 +41,7 @@ fn line(alloc: Global, name: &str, what: &str) -> Result<Vec<u8>, AllocError>
     Ok(text)
 }
 
-fn judged<R: Threads + Wait + Sync>(
+fn judged<R: Files + AllocGlobal + Threads + Wait + Sync>(
     rt: &R,
     alloc: Global,
     name: &str,
@@ -62,7 +63,7 @@ fn judged<R: Threads + Wait + Sync>(
 }
 
 // What the row's input comes to, by the ending of its name.
-fn outcome<R: Threads + Wait + Sync>(
+fn outcome<R: Files + AllocGlobal + Threads + Wait + Sync>(
     rt: &R,
     alloc: Global,
     name: &str,
@@ -78,6 +79,7 @@ fn outcome<R: Threads + Wait + Sync>(
         "answers" => answers_row(alloc, &input)?,
         "blocks" => blocks_row(alloc, &input)?,
         "asked" => command_lines_row(alloc, &input)?,
+        "changes" => changes_row(rt, alloc, &input)?,
         _ => Vec::from_slice(alloc, b"no kind of row")?,
     };
     Ok(Outcome { output, status: 0 })
