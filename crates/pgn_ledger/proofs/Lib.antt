@@ -3,3 +3,4 @@ pub mod TurnLaws
 pub mod ReceivedLaws
 pub mod QueueLaws
 pub mod PartLaws
+pub mod EndLaws

@@ -15,10 +15,10 @@ part txs start end h =
 pub between : (journal : List Tx) (m n start end : ℕ) → m ≤ n → start ≡ m - 3 → end ≡ n - 3 → take (end - start) (drop start journal) ≡ entries_between journal m n
 between journal m n start end le s e = part journal start end (omega arith) ∙ ap (λ (k : ℕ). drop k (take end journal)) s ∙ ap (λ (k : ℕ). drop (m - 3) (take k journal)) e
 
-pub between_any : (journal : List Tx) (m n start end : ℕ) → end ≡ min (n - 3) (length journal) → start ≡ min (m - 3) end → take (end - start) (drop start journal) ≡ entries_between journal m n
+pub between_any : (journal : List Tx) (m n start end : ℕ) → end ≡ min (n - 3) (length journal) → start ≡ min (m - 3) end → drop start (take end journal) ≡ entries_between journal m n
 between_any journal m n start end e s =
     let same : take end journal ≡ take (n - 3) journal = ap (λ (k : ℕ). take k journal) e ∙ take_least journal (n - 3) in
-    part journal start end (omega arith) ∙ ap (λ (txs : List Tx). drop start txs) same ∙ elim (cases_lt end (m - 3)) as (λ _. drop start (take (n - 3) journal) ≡ drop (m - 3) (take (n - 3) journal)) [
+    ap (λ (txs : List Tx). drop start txs) same ∙ elim (cases_lt end (m - 3)) as (λ _. drop start (take (n - 3) journal) ≡ drop (m - 3) (take (n - 3) journal)) [
       | inl lt ↦
           let long : length (take (n - 3) journal) ≡ end = omega (arith, length-take (n - 3) journal) in
           drop_all start (take (n - 3) journal) (omega (arith, long)) ∙ sym (drop_all (m - 3) (take (n - 3) journal) (omega (arith, long)))

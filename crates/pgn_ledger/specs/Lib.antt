@@ -2,3 +2,4 @@ pub mod Places
 pub mod Turns
 pub mod Received
 pub mod QueueUse
+pub mod Ends

@@ -1,16 +1,18 @@
-ghost use Rattle.std.specs.Prelude.{◌≡◌, ◌↔◌, ◌+◌, ◌^◌, ◌<◌, ◌≤◌, true, not, length, All, IfOk, option_copied, slice_get, Some, ◌==◌, ◌&&◌};
+ghost use Rattle.std.specs.Prelude.{◌≡◌, ◌↔◌, ◌+◌, ◌^◌, ◌<◌, ◌≤◌, true, not, drop, take, length, All, IfOk, option_copied, slice_get, Some, ◌==◌, ◌&&◌};
 ghost use Rattle.std.specs.List.{list_any};
 ghost use Rattle.pgn_journal.specs.Journal.{IsFinished, entries_between, entry, next_xid, xids_of};
 ghost use Rattle.pgn_journal.specs.Due.{due, is_due_to};
 ghost use Rattle.pgn_journal.specs.Packing.{page_of, place};
 ghost use Rattle.pgn_journal.specs.QueueUse.{NoPage, ShowsUsage};
+ghost use Rattle.pgn_ledger.specs.Ends.{AreEnds};
 ghost use Rattle.pgn_ledger.specs.Places.{notes_in};
 ghost use Rattle.pgn_ledger.specs.QueueUse.{IsLedger, has_no_page, is_cut_short};
 
+use crate::ends::ends_of;
 use crate::packing::page_of;
 use crate::places::places_of;
 use crate::queue_use::{is_cut_short, is_held};
-use crate::received::{gives_nothing, is_due};
+use crate::received::{is_due, is_due_to};
 use crate::turns::{Turns, turns_of};
 use pgn_base::{
     CLEANUP_DELAY_PAGES, DbOid, Delivery, FIRST_XID, Format, Full, ListenSet, SessionNo, Usage, Xid,
@@ -25,7 +27,9 @@ pub struct Ledger<'a> {
     pub journal: &'a [Tx],
     places: Vec<u64>,
     turns: Turns,
+    ends: Vec<u32>,
     ghost known: { IsLedger format journal.now places.items turns.ranks.items turns.counts.items },
+    ghost ended: { AreEnds journal.now ends.items },
 }
 
 impl<'a> Ledger<'a> {
@@ -39,11 +43,13 @@ impl<'a> Ledger<'a> {
     {
         let places = places_of(alloc, format, journal)?;
         let turns = turns_of(alloc, journal)?;
+        let ends = ends_of(alloc, journal)?;
         Ok(Ledger {
             format,
             journal,
             places,
             turns,
+            ends,
         })
     }
 
@@ -150,7 +156,26 @@ impl<'a> Ledger<'a> {
         let count = self.journal.len();
         let end = ((to - FIRST_XID) as usize).min(count);
         let start = ((from - FIRST_XID) as usize).min(end);
-        gives_nothing(&self.journal[start..end], db, set)
+        self.finds_none(start, end, db, set)
+    }
+
+    // The same from one place up to another, from behind. Aborted transactions are passed over.
+    fn finds_none(&self, start: usize, end: usize, db: DbOid, set: &ListenSet) -> bool
+        requires { end ≤ length self.now.journal.now }
+        ensures { result ≡ not (list_any (is_due_to db set.now.channels) (drop start (take end self.now.journal.now))) }
+    {
+        let mut left = end;
+        while left > start {
+            let last = self.ends[left] as usize;
+            if last <= start {
+                return true;
+            }
+            if is_due_to(&self.journal[last - 1], db, set) {
+                return false;
+            }
+            left = last - 1;
+        }
+        true
     }
 
     /// What was received from one number up to another is what was due to a reader in a database that listens on the channels of a set.

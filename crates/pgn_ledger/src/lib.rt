@@ -1,6 +1,7 @@
 //! Questions to a journal that was read.
 #![tactic(auto)]
 
+mod ends;
 mod ledger;
 mod packing;
 mod places;

@@ -1,4 +1,4 @@
-ghost use Rattle.std.specs.Prelude.{◌≡◌, ◌↔◌, ◌+◌, ◌^◌, ◌<◌, true, not, length, slice_get};
+ghost use Rattle.std.specs.Prelude.{◌≡◌, ◌↔◌, ◌+◌, ◌^◌, ◌<◌, true, length, slice_get};
 ghost use Rattle.std.specs.List.{list_any};
 ghost use Rattle.pgn_journal.specs.Due.{due_from, is_due_to, listens};
 ghost use Rattle.pgn_ledger.specs.Received.{is_delivery, past_notes, past_tx, stands_from};
@@ -8,7 +8,6 @@ use pgn_journal::{Fate, Tx};
 
 /// What was received is what transactions give to a reader in a database that listens on the channels of a set, where the first of
 /// them has this number.
-
 #[tactic(auto, using(crate::proofs::ReceivedLaws::stands_is_due))]
 pub fn is_due(txs: &[Tx], from: u32, db: DbOid, set: &ListenSet, got: &[Delivery]) -> bool
     requires { from + length txs.now < 2 ^ 32 }
@@ -90,20 +89,8 @@ fn is_there(number: u32, session: SessionNo, note: &Note, got: &[Delivery], at: 
         && delivery.note == *note
 }
 
-/// Transactions give nothing to a reader in a database that listens on the channels of a set.
-pub fn gives_nothing(txs: &[Tx], db: DbOid, set: &ListenSet) -> bool
-    ensures { result ≡ not (list_any (is_due_to db set.now.channels) txs.now) }
-{
-    for tx in txs {
-        if is_due_to(tx, db, set) {
-            return false;
-        }
-    }
-    true
-}
-
-// A transaction gives something to it.
-fn is_due_to(tx: &Tx, db: DbOid, set: &ListenSet) -> bool
+/// A transaction gives something to a reader in a database that listens on the channels of a set.
+pub fn is_due_to(tx: &Tx, db: DbOid, set: &ListenSet) -> bool
     ensures { result ≡ is_due_to db set.now.channels tx.now }
 {
     match tx.fate {

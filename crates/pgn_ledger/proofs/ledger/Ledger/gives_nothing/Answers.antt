@@ -7,5 +7,5 @@ use Rattle.pgn_ledger.proofs.ledger.Ledger.gives_nothing.Goals as goal
 
 pub returns : goal.returns
 returns c =
-    c.gives_nothing.ensures
+    c.finds_none.ensures
     ∙ ap (λ (txs : List Tx). not (list_any (is_due_to c.args.db c.args.set.now.channels) txs)) (between_any c.args.self.now.journal.now c.args.from c.args.to c.min-start.result c.min-end.result c.min-end.ensures c.min-start.ensures)
