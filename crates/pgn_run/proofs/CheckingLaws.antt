@@ -178,9 +178,9 @@ fault-rose settings input old new before now status h e =
 
 -- From the answer to what the call says.
 
-first : {B : Type 0} (left : Option (List ℕ)) (A : List ℕ → Type 0) → IfSome left (λ xs. A xs × B) → IfSome left A
-first None A h = tt
-first (Some xs) A h = h.0
+first : (B : Type 0) (left : Option (List ℕ)) (A : List ℕ → Type 0) → IfSome left (λ xs. A xs × B) → IfSome left A
+first B None A h = tt
+first B (Some xs) A h = h.0
 
 module _ (settings : Settings) (left old new : Option (List ℕ)) (before now : ℕ) (status : Status) (answers : IfSome left (λ xs. AnswersCheck settings xs old new before now status)) where
   -- the answer where it is known
@@ -188,16 +188,16 @@ module _ (settings : Settings) (left old new : Option (List ℕ)) (before now : 
   answered-check other e = subst (λ (s : Status). IfSome left (λ xs. AnswersCheck settings xs old new before now s)) e answers
 
   pub check-part : status ≡ WriteFault → IfSome left (λ xs. Tells settings xs (AppendsPrefix old new))
-  check-part e = first left (λ xs. Tells settings xs (AppendsPrefix old new)) (answered-check WriteFault e)
+  check-part e = first _ left (λ xs. Tells settings xs (AppendsPrefix old new)) (answered-check WriteFault e)
 
   pub check-fault : (fault : ScenarioFault) → status ≡ BadScenario fault → IfSome left (λ xs. HasFault xs fault)
-  check-fault fault e = first left (λ xs. HasFault xs fault) (answered-check (BadScenario fault) e)
+  check-fault fault e = first _ left (λ xs. HasFault xs fault) (answered-check (BadScenario fault) e)
 
   pub check-none : status ≡ NoOutput → IfSome left HasNoOutput
-  check-none e = first left HasNoOutput (answered-check NoOutput e)
+  check-none e = first _ left HasNoOutput (answered-check NoOutput e)
 
   pub check-large : status ≡ CheckTooLarge → IfSome left IsTooLarge
-  check-large e = first left IsTooLarge (answered-check CheckTooLarge e)
+  check-large e = first _ left IsTooLarge (answered-check CheckTooLarge e)
 
 -- what comes of an input on which this is the verdict
 pub verdict-due : (settings : Settings) (left old new : Option (List ℕ)) (before now : ℕ) (status : Status) (given : Verdict) (Reads : Type 0)

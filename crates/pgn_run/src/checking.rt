@@ -22,7 +22,8 @@ pub const CHECK_BYTES_MAX: usize = 67_108_864;
 // How many bytes of it are read at most: one more than it may have.
 const CHECK_READ_LIMIT: usize = CHECK_BYTES_MAX + 1;
 
-// Reads a scenario and an output text, and writes whether this is the output of a legal run of it.
+// Reads a scenario and an output text, and writes whether this is the output of a legal run of it. What was read is not freed: the
+// program ends with this answer.
 pub(crate) fn check<S: Source, K: Sink>(
     alloc: Global,
     pages: u32,
@@ -43,7 +44,11 @@ pub(crate) fn check<S: Source, K: Sink>(
     ensures write_fault_where_due { K.faults sink.old < K.faults sink.new → result ≡ Status.WriteFault }
 {
     match read_input(alloc, source, CHECK_READ_LIMIT) {
-        Ok(input) => judge(alloc, input.as_slice(), pages, patience, format, sink),
+        Ok(input) => {
+            let status = judge(alloc, input.as_slice(), pages, patience, format, sink);
+            mem::forget(input);
+            status
+        }
         Err(Unread::Failed) => Status::ReadFault,
         Err(Unread::Memory) => Status::NoMemory,
     }
