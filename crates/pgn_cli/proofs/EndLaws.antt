@@ -1,5 +1,5 @@
 -- What stands on the errors' stream where a run has ended.
-use Rattle.std.proofs.Common.{◌≡◌, ◌≢◌, ◌⊎◌, inl, inr, ℕ, List, [], Option, Some, None, Result, Ok, Err, IfOk, IfSome, sym, ap, ◌∙◌, refl, arith, append-nil}
+use Rattle.std.proofs.Common.{◌≡◌, ◌≢◌, ◌⊎◌, inl, inr, ℕ, List, [], Option, Some, None, Result, Ok, Err, IfOk, IfSome, sym, ap, ◌∙◌, refl, subst, arith, append-nil}
 use Rattle.std.specs.Io.KnownBytes.{Appends}
 use Rattle.pgn_base.specs.Outside.{AppendsPrefix, HasCause, Rose, Writes}
 use Rattle.pgn_language.specs.declared.scenario.ScenarioFault.{ScenarioFault}
@@ -11,7 +11,7 @@ use Rattle.pgn_run.specs.Checking.{HasFault, IsJudged, verdict_text}
 use Rattle.pgn_run.specs.Conversation.{BreaksOff}
 use Rattle.pgn_run.specs.declared.status.Status.{Status}
 use Rattle.pgn_run.specs.declared.status.Status.TheVariants.{Done, BadWords, BadScenario, ReadFault, WriteFault, NoMemory, BadWire, Illegal, NoOutput, CheckTooLarge}
-use Rattle.pgn_run.specs.Run.{code_of}
+use Rattle.pgn_run.specs.Run.{AskToCheck, asked_settings, code_of}
 use Rattle.pgn_cli.specs.FaultLine.{fault_text}
 use Rattle.pgn_cli.specs.Program.{IsFaulty, IsRefused, NamesFault, NamesWireFault, SaysIllegal}
 
@@ -206,3 +206,11 @@ pub says-illegal : (settings : Settings) (left old new : Option (List ℕ)) (lin
     → IfSome left (λ input. IsJudged settings input (verdict.Illegal line) × Appends old new (verdict_text (verdict.Illegal line))) → IfSome left (SaysIllegal settings old new)
 says-illegal settings None old new line h = tt
 says-illegal settings (Some input) old new line h = record { line = line; judged = h.0; output = h.1 }
+
+-- the same of equal words
+pub says-for : (words others : List (List ℕ)) (left old new : Option (List ℕ)) (line : ℕ)
+    → ((ask : AskToCheck words) × IfSome left (λ input. IsJudged (asked_settings ask) input (verdict.Illegal line) × Appends old new (verdict_text (verdict.Illegal line)))) → words ≡ others
+    → (ask : AskToCheck others) × IfSome left (SaysIllegal (asked_settings ask) old new)
+says-for words others left old new line h e =
+    subst (λ (ws : List (List ℕ)). (ask : AskToCheck ws) × IfSome left (SaysIllegal (asked_settings ask) old new)) e
+    (h.0, says-illegal (asked_settings h.0) left old new line h.1)

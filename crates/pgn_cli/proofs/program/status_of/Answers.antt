@@ -1,6 +1,6 @@
-use Rattle.std.proofs.Common.{ap, inl, inr}
+use Rattle.std.proofs.Common.{ap, inl, inr, refl}
 use Rattle.pgn_run.proofs.ConversationLaws.{unopened-known}
-use Rattle.pgn_cli.proofs.EndLaws.{faulty-either, refused-keeps, says-illegal}
+use Rattle.pgn_cli.proofs.EndLaws.{faulty-either, refused-keeps, says-for}
 use Rattle.pgn_cli.proofs.program.status_of.Goals as goal
 
 pub returns-in-Ok-borrowed-clause-done : goal.returns-in-Ok-borrowed-clause-done
@@ -71,8 +71,9 @@ returns-clause-no_memory_writes_whole_answers g c =
 
 pub returns-in-Ok-borrowed-clause-illegal : goal.returns-in-Ok-borrowed-clause-illegal
 returns-in-Ok-borrowed-clause-illegal g c =
-    let known = rw (c.as_slice-in-Ok-borrowed.ensures.value, c.in-Ok-borrowed.ensures, c.as_slice.ensures.value) at c.run_notify.ensures.illegal in
-    rw c.in-Ok.is (λ line e. let says = known line e in (says.0, says-illegal _ (g.S.Source.left c.args.source.now) (g.K.Sink.held c.args.sink.now) (g.K.Sink.held c.run_notify.new.sink) line says.1))
+    rw c.in-Ok.is
+    (λ line e. says-for _ _ (g.S.Source.left c.args.source.now) (g.K.Sink.held c.args.sink.now) (g.K.Sink.held c.run_notify.new.sink) line (c.run_notify.ensures.illegal line e)
+    (rw (c.as_slice-in-Ok-borrowed.ensures.value, c.in-Ok-borrowed.ensures, c.as_slice.ensures.value) refl))
 
 pub returns-in-Ok-borrowed-clause-no_output : goal.returns-in-Ok-borrowed-clause-no_output
 returns-in-Ok-borrowed-clause-no_output g c =
