@@ -1,5 +1,5 @@
 -- From a verdict to what `check` answers, and from that to what the program's call says.
-use Rattle.std.proofs.Common.{◌≡◌, ℕ, ◌+◌, ◌<◌, ◌≤◌, ◌⊎◌, List, length, take, Option, None, Some, Result, Ok, Err, IfSome, IsSomeAnd, sym, ap, ◌∙◌, refl, subst, inl, inr, arith, length-take}
+use Rattle.std.proofs.Common.{◌≡◌, ℕ, ◌+◌, ◌≤◌, ◌⊎◌, List, length, take, Option, None, Some, Ok, Err, IfSome, IsSomeAnd, sym, ap, ◌∙◌, refl, subst, inl, inr, arith, length-take}
 use Rattle.std.specs.Io.KnownBytes.{Appends}
 use Rattle.pgn_base.specs.Outside.{AppendsPrefix, Rose}
 use Rattle.pgn_language.specs.declared.scenario.Scenario.{Scenario}

@@ -1,6 +1,4 @@
-use Rattle.std.proofs.Common.{length, ◌-◌, ◌≡◌, ◌≤◌, take, drop, Some, None, IfSome, MatchOption, ℕ, ◌+◌, ◌*◌, ◌<◌}
-use Rattle.std.specs.List.{after_first, position_or_len}
-use Rattle.pgn_run.specs.Checking.{ends_line, parts_of}
+use Rattle.std.proofs.Common.{length, ◌-◌}
 use Rattle.pgn_run.proofs.PartingLaws.{IsBehind}
 use Rattle.pgn_run.proofs.parting.output_line.Given as goal
 
