@@ -85,6 +85,9 @@ fn ending_of(status: Status) -> &'static str {
         Status::WriteFault => "WriteFault: ",
         Status::NoMemory => "NoMemory: ",
         Status::BadWire(_) => "BadWire: ",
+        Status::Illegal { .. } => "Illegal: ",
+        Status::NoOutput => "NoOutput: ",
+        Status::CheckTooLarge => "CheckTooLarge: ",
     }
 }
 
