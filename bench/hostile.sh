@@ -6,6 +6,7 @@
 #   one line        of 16,777,216 bytes
 #   unlistens       16 MB: LISTENs of different channels, and then an UNLISTEN of each
 #   unlisten *      16 MB of them after 4,096 LISTENs
+#   emptied         15 MB: 500,000 LISTENs in a block, and then 700,000 times UNLISTEN *
 #   rollbacks       16 MB: in a block SAVEPOINTs of different names, an error, and then ROLLBACK TO a name that is not there
 #   one savepoint   16 MB in a block of SAVEPOINTs of one name
 #   and releases    the same, and then a RELEASE of each
@@ -63,6 +64,9 @@ measure_large() {
     large unlistens 0 $((1 + 1 + 4 * 520000 + 2 + 1)) ''
     written 'for (i = 0; i < 4096; i++) print "LISTEN c" i; for (i = 0; i < 1500000; i++) print "UNLISTEN *"'
     large 'unlisten *' 0 $((1 + 1 + 2 * 4096 + 2 * 1500000 + 2 + 1)) ''
+    written 'print "BEGIN"; for (i = 0; i < 500000; i++) printf "LISTEN c%06d\n", i
+        print "COMMIT"; for (i = 0; i < 700000; i++) print "UNLISTEN *"'
+    large emptied 0 $((1 + 1 + 2 + 2 * 500000 + 2 + 2 * 700000 + 2 + 1)) ''
     written 'print "BEGIN"; for (i = 0; i < 500000; i++) printf "SAVEPOINT s%06d\n", i
         print "x"; for (i = 0; i < 500000; i++) print "ROLLBACK TO t"'
     large rollbacks 0 $((1 + 1 + 2 + 4 * 500000 + 2 + 1)) ''

@@ -185,7 +185,8 @@ impl ListenSet {
         ensures { self.new ≡ self.old }
     {
         self.places.retain(|place| place.is_some());
-        self.index.clear();
+        // In the time of what goes. `clear` would go over all the room that there is.
+        self.index.truncate(0);
         put_all(&mut self.index, &self.places);
     }
 
@@ -193,7 +194,7 @@ impl ListenSet {
         ensures channels { self.new.channels ≡ after_action self.old.channels Action.UnlistenAll }
         ensures room { self.old.room ≤ self.new.room + 1 }
     {
-        self.index.clear();
+        self.index.truncate(0);
         self.places.clear();
         self.bits = ChannelBits::new();
     }

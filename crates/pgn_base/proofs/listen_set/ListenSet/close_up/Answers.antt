@@ -8,7 +8,7 @@ use Rattle.pgn_base.proofs.listen_set.ListenSet.close_up.Goals as goal
 pub put_all-requires-clause-room : goal.put_all-requires-clause-room
 put_all-requires-clause-room c =
     let left : c.retain.new.self.items ≡ filter is_some c.self.inside.places.items = filter_same _ _ _ (λ x b f' k. search rules) _ _ c.retain.ensures.filtered in
-    omega (arith, ap length (c.deref.ensures.value ∙ left), length-closed c.self.inside.places.items, c.self.invariant.0.there.counted, c.clear.ensures.capacity)
+    omega (arith, ap length (c.deref.ensures.value ∙ left), length-closed c.self.inside.places.items, c.self.invariant.0.there.counted, c.truncate.ensures.capacity (omega arith), c.truncate.ensures.len)
 
 pub put_all-requires-clause-once : goal.put_all-requires-clause-once
 put_all-requires-clause-once c =
@@ -24,7 +24,7 @@ invariant_of-self c =
         there = subst (λ (places : List (Option (List ℕ))). AreThere places c.put_all.new.index.entries) c.deref.ensures.value c.put_all.ensures.entries;
         once = subst (λ (names : List (List ℕ)). AreOnce names) (sym (ap listed left ∙ listed-closed c.self.inside.places.items)) c.self.invariant.0.once;
         fits = omega (arith, c.retain.ensures.bound, c.retain.new.self.ok.0, c.self.inside.places.ok.0, c.retain.ensures.capacity, c.self.invariant.0.fits);
-        indexed = omega (arith, same, size, c.put_all.ensures.room, c.clear.ensures.capacity, c.self.invariant.0.there.counted, c.self.invariant.0.indexed);
+        indexed = omega (arith, same, size, c.put_all.ensures.room, c.truncate.ensures.capacity (omega arith), c.truncate.ensures.len, c.self.invariant.0.there.counted, c.self.invariant.0.indexed);
       },
       subst (λ (names : List (List ℕ)). AreBits names c.self.inside.bits) (sym (ap listed left ∙ listed-closed c.self.inside.places.items)) c.self.invariant.1,
     )
