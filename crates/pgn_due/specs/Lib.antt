@@ -1,0 +1,4 @@
+pub mod Sent
+pub mod Places
+pub mod Lists
+pub mod Next
