@@ -1,12 +1,9 @@
 -- The verdict on a text.
 use Rattle.std.proofs.Common.{◌≡◌, ℕ, ◌+◌, ◌^◌, ◌<◌, ◌≤◌, List, [], ◌∷◌, length, ap, subst, arith}
-use Rattle.std.specs.Prelude.{All}
 use Rattle.std.proofs.lemmas.List.{length-append}
-use Rattle.std.proofs.lemmas.List.Elements.{All-weaker}
 use Rattle.std.proofs.lemmas.List.Sums.{sum_by-cons}
 use Rattle.pgn_base.specs.declared.limits.TheConstants.{FIRST_XID}
 use Rattle.pgn_journal.specs.declared.tx.Tx.{Tx}
-use Rattle.pgn_journal.specs.Journal.{IsFinished}
 use Rattle.pgn_language.specs.declared.scenario.Scenario.{Scenario}
 use Rattle.pgn_language.specs.Inputs.{IsSound}
 use Rattle.pgn_model.specs.declared.trace.Trace.{Trace}
@@ -14,7 +11,7 @@ use Rattle.pgn_model.specs.Walk.{Settings}
 use Rattle.pgn_model.specs.Legal.{EachTrace}
 use Rattle.pgn_model.specs.Text.{journal_lines, text_lines, traces_lines}
 use Rattle.pgn_reading.specs.Form.{IsReading}
-use Rattle.pgn_reading.specs.Blame.{IsGoodTx, IsLeastBlamed, IsLegalText}
+use Rattle.pgn_reading.specs.Blame.{IsLeastBlamed, IsLegalText}
 use Rattle.pgn_reading.specs.WholeLaws.{IsWalked}
 use Rattle.pgn_reading.proofs.BlameLaws.{least-in_traces}
 use Rattle.pgn_reading.proofs.WholeLaws.{walked-is_legal_text}
@@ -25,9 +22,6 @@ use Rattle.pgn_check.specs.Entries.{IsBlamedFirst, IsReadSoFar, lines_in}
 use Rattle.pgn_check.specs.Sections.{IsLeastIn}
 use Rattle.pgn_check.specs.Verdicts.{IsIllegal}
 use Rattle.pgn_check.proofs.EntryLaws.{joined_long, lines_long}
-
-pub finished_all : (scenario : Scenario) (out : List ℕ) (journal : List Tx) (traces : List Trace) → IsReadSoFar scenario out journal traces → All IsFinished journal
-finished_all scenario out journal traces h = All-weaker (IsGoodTx scenario.sections) IsFinished (λ tx good. good.finished) journal h.entries
 
 notes_fewer : (txs : List Tx) → notes_in txs ≤ lines_in txs
 notes_fewer [] = omega arith

@@ -20,7 +20,7 @@ place_in format at (tx ∷ txs) zero d h = refl
 place_in format at (tx ∷ txs) (suc k) d h = place_in format (after format at tx) txs k d (omega (arith, h))
 
 -- the first few, where there are fewer
-pub take_least : (txs : List Tx) (k : ℕ) → take (min k (length txs)) txs ≡ take k txs
+take_least : (txs : List Tx) (k : ℕ) → take (min k (length txs)) txs ≡ take k txs
 take_least [] zero =
     let none : List Tx = [] in
     let e : min zero (length none) ≡ 0 = omega arith in

@@ -1,4 +1,4 @@
--- The tests of a full queue, of a usage and of a floor say what the definitions say.
+-- The tests of a full queue and of a floor say what the definitions say.
 use Rattle.std.proofs.Common.{◌≡◌, ◌↔◌, ◌⊎◌, ℕ, ◌+◌, ◌<◌, ◌≤◌, ◌==◌, Bool, true, false, not, ◌&&◌, ◌||◌, cond, nat_le, List, [], ◌∷◌, length, take, Option, None, Some, sym, ap, ◌∙◌, refl, inl, inr, arith, subst}
 use Rattle.std.specs.Prelude.{IfSome, IsSomeAnd, slice_get}
 use Rattle.std.proofs.lemmas.Bool.{cases_Bool, false≢true}
@@ -7,15 +7,14 @@ use Rattle.std.proofs.lemmas.Option.{slice_get-get_or, slice_get_within}
 use Rattle.pgn_base.specs.declared.format.Format.{Format}
 use Rattle.pgn_base.specs.declared.note.Note.{Note}
 use Rattle.pgn_base.specs.declared.queue_answers.Full.{Full}
-use Rattle.pgn_base.specs.declared.queue_answers.Usage.{Usage}
 use Rattle.pgn_journal.specs.declared.tx.Tx.{Tx}
 use Rattle.pgn_journal.specs.declared.tx.Fate.{Fate}
 use Rattle.pgn_journal.specs.declared.tx.Fate.TheVariants.{Committed, Aborted}
-use Rattle.pgn_journal.specs.Journal.{entry, next_xid}
+use Rattle.pgn_journal.specs.Journal.{entry}
 use Rattle.pgn_journal.specs.Bytes.{entry_length}
 use Rattle.pgn_journal.specs.Packing.{fits, is_page_start, page_of, place, put_all}
-use Rattle.pgn_journal.specs.QueueUse.{IsCutShort, IsFloorFor, NoPage, ShowsUsage}
-use Rattle.pgn_ledger.specs.QueueUse.{has_no_page, has_usage, is_aborted, is_below, is_cut_short, is_held, is_own_floor, is_stopped_at}
+use Rattle.pgn_journal.specs.QueueUse.{IsCutShort, IsFloorFor, NoPage}
+use Rattle.pgn_ledger.specs.QueueUse.{has_no_page, is_aborted, is_below, is_cut_short, is_held, is_own_floor, is_stopped_at}
 
 Decides-leb : (a b : ℕ) → (nat_le a b ≡ true) ↔ (a ≤ b)
 Decides-leb a b = elim (leb_tells a b) [
@@ -172,30 +171,3 @@ is_no_page format limit journal full tx e h =
 
 pub none_no_page : (format : Format) (limit : ℕ) (journal : List Tx) (full : Full) → entry journal full.xid ≡ None → NoPage format limit journal full → ⊥
 none_no_page format limit journal full e h = subst (λ (t : Option Tx). IsSomeAnd t (IsCutShort format (place format journal full.xid) full.queued)) e h.cut_short
-
--- A usage.
-
-pub usage_is : (format : Format) (limit : ℕ) (journal : List Tx) (usage : Usage) → (has_usage format limit journal usage ≡ true) ↔ ShowsUsage format limit journal usage
-usage_is format limit journal usage =
-    let within : Bool = nat_le usage.at (next_xid journal) in
-    let below : Bool = nat_le usage.floor_mark usage.at in
-    let fills : Bool = page_of (place format journal usage.floor_mark) + usage.occupied == page_of (place format journal usage.at) in
-    let held : Bool = is_held usage.holder usage.floor_mark usage.at in (
-      λ h.
-          let a = both (usage.limit == limit) (within && (below && (fills && held))) h in
-          let b = both within (below && (fills && held)) a.1 in
-          let c = both below (fills && held) b.1 in
-          let d = both fills held c.1 in
-          record {
-            limited = (Decides-eqb usage.limit limit).0 a.0;
-            in_journal = (Decides-leb usage.at (next_xid journal)).0 b.0;
-            floor_below = (Decides-leb usage.floor_mark usage.at).0 c.0;
-            in_use = (Decides-eqb (page_of (place format journal usage.floor_mark) + usage.occupied) (page_of (place format journal usage.at))).0 d.0;
-            holder = held_is usage.holder usage.floor_mark usage.at d.1;
-          },
-      λ h.
-          and_true (usage.limit == limit) (within && (below && (fills && held))) ((Decides-eqb usage.limit limit).1 h.limited)
-          (and_true within (below && (fills && held)) ((Decides-leb usage.at (next_xid journal)).1 h.in_journal)
-          (and_true below (fills && held) ((Decides-leb usage.floor_mark usage.at).1 h.floor_below)
-          (and_true fills held ((Decides-eqb (page_of (place format journal usage.floor_mark) + usage.occupied) (page_of (place format journal usage.at))).1 h.in_use) (is_held_as usage.holder usage.floor_mark usage.at h.holder)))),
-    )

@@ -1,5 +1,3 @@
 pub mod Places
 pub mod Turns
-pub mod Received
 pub mod QueueUse
-pub mod Ends

@@ -1,9 +1,8 @@
 -- Places of transactions, one after another.
-use Rattle.std.specs.Prelude.{◌≡◌, ℕ, ◌+◌, ◌≤◌, List, [], ◌∷◌, length, sum_by, slice_get, Some}
-use Rattle.pgn_base.specs.declared.limits.TheConstants.{FIRST_XID}
+use Rattle.std.specs.Prelude.{ℕ, List, [], ◌∷◌, length, sum_by}
 use Rattle.pgn_base.specs.declared.format.Format.{Format}
 use Rattle.pgn_journal.specs.declared.tx.Tx.{Tx}
-use Rattle.pgn_journal.specs.Packing.{after, place}
+use Rattle.pgn_journal.specs.Packing.{after}
 
 -- a notification takes at most so many cells
 abbrev pub most_cells : ℕ
@@ -17,7 +16,3 @@ places_from format at (tx ∷ txs) = at ∷ places_from format (after format at 
 -- how many notifications transactions have
 abbrev pub notes_in : List Tx → ℕ
 notes_in txs = sum_by (λ tx. length tx.notes) txs
-
--- the places of a journal's transactions
-abbrev pub ArePlaces : Format → List Tx → List ℕ → Type 0
-ArePlaces format journal places = (k : ℕ) → k ≤ length journal → slice_get places k ≡ Some (place format journal (FIRST_XID + k))

@@ -1,9 +1,8 @@
--- Tests of a full queue, of a usage and of a floor, and what is known of a journal to which questions are put.
+-- Tests of a full queue and of a floor, and what is known of a journal to which questions are put.
 use Rattle.std.specs.Prelude.{◌≡◌, ℕ, ◌+◌, ◌<◌, nat_le, Bool, false, true, cond, not, ◌&&◌, ◌||◌, ◌==◌, List, [], take, Option, None, Some, slice_get, All, ◌^◌}
 use Rattle.pgn_base.specs.declared.format.Format.{Format}
 use Rattle.pgn_base.specs.declared.note.Note.{Note}
 use Rattle.pgn_base.specs.declared.queue_answers.Full.{Full}
-use Rattle.pgn_base.specs.declared.queue_answers.Usage.{Usage}
 use Rattle.pgn_journal.specs.declared.tx.Tx.{Tx}
 use Rattle.pgn_journal.specs.declared.tx.Fate.{Fate}
 use Rattle.pgn_journal.specs.declared.tx.Fate.TheVariants.{Committed, Aborted}
@@ -50,12 +49,6 @@ abbrev pub has_no_page : Format → ℕ → List Tx → Full → Bool
 has_no_page format limit journal full =
     nat_le full.floor_mark full.xid && (full.floor_page == page_of (place format journal full.floor_mark) && (full.head_page == page_of (place format journal (full.xid + 1))
     && (nat_le (full.floor_page + limit) full.head_page && is_held full.holder full.floor_mark full.xid)))
-
--- a test of a usage
-abbrev pub has_usage : Format → ℕ → List Tx → Usage → Bool
-has_usage format limit journal usage =
-    usage.limit == limit && (nat_le usage.at (next_xid journal) && (nat_le usage.floor_mark usage.at
-    && (page_of (place format journal usage.floor_mark) + usage.occupied == page_of (place format journal usage.at) && is_held usage.holder usage.floor_mark usage.at)))
 
 -- the floor is not above a mark
 abbrev pub is_below : Option ℕ → ℕ → Bool

@@ -1,22 +1,16 @@
-ghost use Rattle.std.specs.Prelude.{◌≡◌, ◌↔◌, ◌+◌, ◌^◌, ◌<◌, ◌≤◌, true, not, drop, take, length, All, IfOk, option_copied, slice_get, Some, ◌==◌, ◌&&◌};
-ghost use Rattle.std.specs.List.{list_any};
-ghost use Rattle.pgn_journal.specs.Journal.{IsFinished, entries_between, entry, next_xid, xids_of};
-ghost use Rattle.pgn_journal.specs.Due.{due, is_due_to};
+ghost use Rattle.std.specs.Prelude.{◌≡◌, ◌↔◌, ◌+◌, ◌^◌, ◌<◌, ◌≤◌, true, length, All, IfOk, option_copied, slice_get, Some, ◌==◌, ◌&&◌};
+ghost use Rattle.pgn_journal.specs.Journal.{IsFinished, entry, next_xid, xids_of};
 ghost use Rattle.pgn_journal.specs.Packing.{page_of, place};
 ghost use Rattle.pgn_journal.specs.QueueUse.{NoPage, ShowsUsage};
-ghost use Rattle.pgn_ledger.specs.Ends.{AreEnds};
 ghost use Rattle.pgn_ledger.specs.Places.{notes_in};
 ghost use Rattle.pgn_ledger.specs.QueueUse.{IsLedger, has_no_page, is_cut_short};
 
-use crate::ends::ends_of;
 use crate::packing::page_of;
 use crate::places::places_of;
 use crate::queue_use::{is_cut_short, is_held};
-use crate::received::{is_due, is_due_to};
 use crate::turns::{Turns, turns_of};
-use pgn_base::{
-    CLEANUP_DELAY_PAGES, DbOid, Delivery, FIRST_XID, Format, Full, ListenSet, SessionNo, Usage, Xid,
-};
+use pgn_base::{CLEANUP_DELAY_PAGES, FIRST_XID, Format, Full, SessionNo, Usage, Xid};
+use pgn_due::Feed;
 use pgn_journal::Tx;
 use std::alloc::{AllocError, Global};
 
@@ -25,11 +19,12 @@ use std::alloc::{AllocError, Global};
 pub struct Ledger<'a> {
     pub format: Format,
     pub journal: &'a [Tx],
+    /// What the journal sent.
+    pub feed: Feed<'a>,
     places: Vec<u64>,
     turns: Turns,
-    ends: Vec<u32>,
     ghost known: { IsLedger format journal.now places.items turns.ranks.items turns.counts.items },
-    ghost ended: { AreEnds journal.now ends.items },
+    ghost fed: { feed.sends.journal.now ≡ journal.now },
 }
 
 impl<'a> Ledger<'a> {
@@ -41,15 +36,15 @@ impl<'a> Ledger<'a> {
         ensures format { IfOk result (λ ledger. ledger.format ≡ format) }
         ensures journal { IfOk result (λ ledger. ledger.journal.now ≡ journal.now) }
     {
+        let feed = Feed::new(alloc, journal)?;
         let places = places_of(alloc, format, journal)?;
         let turns = turns_of(alloc, journal)?;
-        let ends = ends_of(alloc, journal)?;
         Ok(Ledger {
             format,
             journal,
+            feed,
             places,
             turns,
-            ends,
         })
     }
 
@@ -145,48 +140,6 @@ impl<'a> Ledger<'a> {
         ensures { (result ≡ true) ↔ (page_of (place self.now.format self.now.journal.now x) < page_of (place self.now.format self.now.journal.now mark.now) + CLEANUP_DELAY_PAGES) }
     {
         self.page(x) < self.page(mark.get()) + CLEANUP_DELAY_PAGES
-    }
-
-    /// From one number up to another there is nothing for a reader in a database that listens on the channels of a set.
-    pub fn gives_nothing(&self, from: u32, to: u32, db: DbOid, set: &ListenSet) -> bool
-        requires from { FIRST_XID ≤ from }
-        requires to { FIRST_XID ≤ to }
-        ensures { result ≡ not (list_any (is_due_to db set.now.channels) (entries_between self.now.journal.now from to)) }
-    {
-        let count = self.journal.len();
-        let end = ((to - FIRST_XID) as usize).min(count);
-        let start = ((from - FIRST_XID) as usize).min(end);
-        self.finds_none(start, end, db, set)
-    }
-
-    // The same from one place up to another, from behind. Aborted transactions are passed over.
-    fn finds_none(&self, start: usize, end: usize, db: DbOid, set: &ListenSet) -> bool
-        requires { end ≤ length self.now.journal.now }
-        ensures { result ≡ not (list_any (is_due_to db set.now.channels) (drop start (take end self.now.journal.now))) }
-    {
-        let mut left = end;
-        while left > start {
-            let last = self.ends[left] as usize;
-            if last <= start {
-                return true;
-            }
-            if is_due_to(&self.journal[last - 1], db, set) {
-                return false;
-            }
-            left = last - 1;
-        }
-        true
-    }
-
-    /// What was received from one number up to another is what was due to a reader in a database that listens on the channels of a set.
-    pub fn gives(&self, from: Xid, to: Xid, db: DbOid, set: &ListenSet, got: &[Delivery]) -> bool
-        requires forward { from ≤ to }
-        requires within { to ≤ next_xid self.now.journal.now }
-        ensures { (result ≡ true) ↔ (got.now ≡ due self.now.journal.now from to db set.now.channels) }
-    {
-        let start = (from.get() - FIRST_XID) as usize;
-        let end = (to.get() - FIRST_XID) as usize;
-        is_due(&self.journal[start..end], from.get(), db, set, got)
     }
 
     /// The transaction with this number is the session's next after so many.

@@ -1,12 +1,10 @@
 //! Questions to a journal that was read.
 #![tactic(auto)]
 
-mod ends;
 mod ledger;
 mod packing;
 mod places;
 mod queue_use;
-mod received;
 mod turns;
 
 pub use ledger::Ledger;

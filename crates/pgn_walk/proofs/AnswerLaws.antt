@@ -52,7 +52,7 @@ unmarked section journal old s left owed h e = record {
   told = h.told;
   marks = h.marks;
   flags = h.flags;
-  fresh = tt;
+  watch = record { over = h.watch.over; within = h.watch.within; next = tt };
 }
 
 pub leave_on : (terms : Terms) (journal : List Tx) (old : Standing) (ending : Ending) → old.owed ≡ show.Leaving ending → Moves terms journal old item.Leave true (record old { owed = show.Answering ending; mark = None })
@@ -235,7 +235,7 @@ measure_on terms journal old usage b d f ending test is shown found floor held e
       told = h.told;
       marks = h.marks;
       flags = h.flags;
-      fresh = h.fresh;
+      watch = h.watch;
     } in
     subst (λ (owed : Owed). Holds terms.section journal (record old { owed = show.Answering ending }) (walk.at_rows named owed)) (sym (h.owed ∙ ap owed_of e))
     (holds_owed terms.section journal old named (show.Answering ending) (walk.Answering (ending_of ending)) stands refl))

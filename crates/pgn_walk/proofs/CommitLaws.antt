@@ -10,6 +10,8 @@ use Rattle.pgn_base.specs.Channels.{applied}
 use Rattle.pgn_base.specs.Listening.{Listening}
 use Rattle.pgn_answers.specs.Savepoints.{is_listen}
 use Rattle.pgn_journal.specs.declared.tx.Tx.{Tx}
+use Rattle.pgn_due.specs.Next.{IsWatch}
+use Rattle.pgn_due.specs.declared.watch.Watch.{Watch}
 use Rattle.pgn_language.specs.declared.scenario.Section.{Section}
 use Rattle.pgn_model.specs.Walk.{Owed, State, is_empty_set, leaving_or_answering, queueing_or_settled, settled}
 use Rattle.pgn_model.specs.Walk as walk
@@ -17,7 +19,7 @@ use Rattle.pgn_walk.specs.declared.standing.Standing.{Standing}
 use Rattle.pgn_walk.specs.declared.to_show.Ending.{Ending}
 use Rattle.pgn_walk.specs.declared.to_show.ToShow.TheVariants as show
 use Rattle.pgn_walk.specs.Standing.{Holds, Leads, commits, ending_of}
-use Rattle.pgn_walk.proofs.StandingLaws.{fresh_zero, holds_owed}
+use Rattle.pgn_walk.proofs.StandingLaws.{holds_owed}
 
 -- the test that the walk makes is that of the session
 tests_same : (section : Section) (journal : List Tx) (at : Standing) (s : State) → Holds section journal at s → (is_some s.mark && is_empty_set s.set) ≡ (is_some at.mark && is_empty_set at.set.channels)
@@ -34,8 +36,10 @@ answers at ending test section journal s h =
     (sym (tests_same section journal at s h ∙ test)) (holds_owed section journal at s (show.Answering ending) (walk.Answering (ending_of ending)) h refl)
 
 -- the set changes
-pub acts : (at : Standing) (set : Listening) (actions : List Action) → set.channels ≡ applied at.set.channels actions → Leads at (record at { set = set; fresh_to = 0 }) (λ s. record s { set = applied s.set actions })
-acts at set actions e section journal s h = record {
+pub acts : (at : Standing) (set : Listening) (watch : Watch) (actions : List Action) → set.channels ≡ applied at.set.channels actions
+    → ((journal : List Tx) (db : ℕ) (channels : List (List ℕ)) → IsWatch journal db channels at.mark at.watch → IsWatch journal db (applied channels actions) at.mark watch)
+    → Leads at (record at { set = set; watch = watch }) (λ s. record s { set = applied s.set actions })
+acts at set watch actions e follows section journal s h = record {
   rest = h.rest;
   owed = h.owed;
   block = h.block;
@@ -45,7 +49,7 @@ acts at set actions e section journal s h = record {
   told = h.told;
   marks = h.marks;
   flags = h.flags;
-  fresh = fresh_zero journal section.db set.channels at.mark;
+  watch = subst (λ (channels : List (List ℕ)). IsWatch journal section.db channels at.mark watch) (sym e) (follows journal section.db at.set.channels h.watch);
 }
 
 pub acts_not : (at : Standing) (actions : List Action) → (length actions == 0) ≡ true → Leads at at (λ s. record s { set = applied s.set actions })

@@ -143,7 +143,7 @@ raise_on terms journal old mid flag value e told k =
       told = h.told;
       marks = h.marks;
       flags = more_raised s.raised s.found old mid flag value h.flags k;
-      fresh = h.fresh;
+      watch = h.watch;
     } in
     subst (λ (owed : Owed). Holds terms.section journal (record mid { owed = show.Nothing }) (walk.at_raise value s owed)) (sym (h.owed ∙ ap owed_of e))
     (subst (λ (m : Standing). Holds terms.section journal (record m { owed = show.Nothing }) after) (sym k.same) stands))
@@ -199,7 +199,7 @@ find_on terms journal old mid flag value b e test is k =
       told = ap (λ (n : ℕ). max n value) h.told;
       marks = h.marks;
       flags = more_found s.raised s.found old mid flag value h.flags k;
-      fresh = h.fresh;
+      watch = h.watch;
     } in
     subst (λ (owed : Owed). Holds terms.section journal (record mid { told = max mid.told value; owed = show.Nothing }) (walk.at_found value s owed)) (sym (h.owed ∙ ap owed_of e))
     (subst (λ (m : Standing). Holds terms.section journal (record m { told = max m.told value; owed = show.Nothing }) after) (sym k.same) stands))
@@ -234,5 +234,5 @@ time_on terms journal old flag looks b e patient test is =
       told = h.told;
       marks = h.marks;
       flags = h.flags;
-      fresh = h.fresh;
+      watch = h.watch;
     })

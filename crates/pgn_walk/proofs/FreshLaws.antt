@@ -26,38 +26,29 @@ near_same terms journal mark old s e h = (
   λ near. subst (λ (m : Option ℕ). IfSome m (λ own. Near terms.settings.format (is_due_to terms.section.db s.set) journal own s.told)) (sym (h.mark ∙ e)) near,
 )
 
-pub up_none : (terms : Terms) (journal : List Tx) (old : Standing) → old.mark ≡ None → Asks terms.section journal old true old (λ s. IsUpToDate terms journal s)
-up_none terms journal old e = record {
-  decides = λ s h. (λ _. subst (λ (m : Option ℕ). IfSome m (λ own. Near terms.settings.format (is_due_to terms.section.db s.set) journal own s.told)) (sym (h.mark ∙ e)) tt, λ _. refl);
-  stays = λ s h. h;
-}
+pub up_none : (terms : Terms) (journal : List Tx) (at : Standing) → at.mark ≡ None → Asks terms.section journal at true (λ s. IsUpToDate terms journal s)
+up_none terms journal at e s h = (λ _. subst (λ (m : Option ℕ). IfSome m (λ own. Near terms.settings.format (is_due_to terms.section.db s.set) journal own s.told)) (sym (h.mark ∙ e)) tt, λ _. refl)
 
 abbrev pub IsClose : Terms → List Tx → ℕ → ℕ → Type 0
 IsClose terms journal mark x = page_of (place terms.settings.format journal x) < page_of (place terms.settings.format journal mark) + CLEANUP_DELAY_PAGES
 
-pub up_far : (terms : Terms) (journal : List Tx) (mark : ℕ) (old : Standing) (b : Bool) → old.mark ≡ Some mark → (b ≡ true) ↔ IsClose terms journal mark old.told → b ≡ false → Asks terms.section journal old false old (λ s. IsUpToDate terms journal s)
-up_far terms journal mark old b e test far = record {
-  decides = λ s h. (
-    λ t. absurd (false≢true t),
-    λ up.
-        let near = (near_same terms journal mark old s e h).0 up in
-        absurd (false≢true (sym far ∙ test.1 (subst (λ (x : ℕ). IsClose terms journal mark x) h.told near.few_pages))),
-  );
-  stays = λ s h. h;
-}
+pub up_far : (terms : Terms) (journal : List Tx) (mark : ℕ) (at : Standing) (b : Bool) → at.mark ≡ Some mark → (b ≡ true) ↔ IsClose terms journal mark at.told → b ≡ false → Asks terms.section journal at false (λ s. IsUpToDate terms journal s)
+up_far terms journal mark at b e test far s h = (
+  λ t. absurd (false≢true t),
+  λ up.
+      let near = (near_same terms journal mark at s e h).0 up in
+      absurd (false≢true (sym far ∙ test.1 (subst (λ (x : ℕ). IsClose terms journal mark x) h.told near.few_pages))),
+)
 
-pub up_by : (terms : Terms) (journal : List Tx) (mark : ℕ) (old new : Standing) (b d : Bool) → old.mark ≡ Some mark → (b ≡ true) ↔ IsClose terms journal mark old.told → b ≡ true
-    → Asks terms.section journal old d new (FindsNothing terms.section journal mark) → Asks terms.section journal old d new (λ s. IsUpToDate terms journal s)
-up_by terms journal mark old new b d e test close asks = record {
-  decides = λ s h. (
-    λ t. (near_same terms journal mark old s e h).1 (record {
-      nothing_due = (asks.decides s h).0 t;
-      few_pages = subst (λ (x : ℕ). IsClose terms journal mark x) (sym h.told) (test.0 close);
-    }),
-    λ up. (asks.decides s h).1 ((near_same terms journal mark old s e h).0 up).nothing_due,
-  );
-  stays = asks.stays;
-}
+pub up_by : (terms : Terms) (journal : List Tx) (mark : ℕ) (at : Standing) (b d : Bool) → at.mark ≡ Some mark → (b ≡ true) ↔ IsClose terms journal mark at.told → b ≡ true → Asks terms.section journal at d (FindsNothing terms.section journal mark)
+    → Asks terms.section journal at d (λ s. IsUpToDate terms journal s)
+up_by terms journal mark at b d e test close asks s h = (
+  λ t. (near_same terms journal mark at s e h).1 (record {
+    nothing_due = (asks s h).0 t;
+    few_pages = subst (λ (x : ℕ). IsClose terms journal mark x) (sym h.told) (test.0 close);
+  }),
+  λ up. (asks s h).1 ((near_same terms journal mark at s e h).0 up).nothing_due,
+)
 
 -- Before an item.
 
@@ -65,31 +56,22 @@ fresh_elsewhere : (terms : Terms) (journal : List Tx) (s : State) (i : Item) →
 fresh_elsewhere terms journal s (item.Line n) h = absurd (false≢true (sym h))
 fresh_elsewhere terms journal s other h = tt
 
-pub fresh_no_line : (terms : Terms) (journal : List Tx) (old : Standing) (i : Item) → begins_line i ≡ false → Asks terms.section journal old true old (λ s. IsFreshAt terms journal s i)
-fresh_no_line terms journal old i none = record {
-  decides = λ s h. (λ _. fresh_elsewhere terms journal s i none, λ _. refl);
-  stays = λ s h. h;
-}
+pub fresh_no_line : (terms : Terms) (journal : List Tx) (at : Standing) (i : Item) → begins_line i ≡ false → Asks terms.section journal at true (λ s. IsFreshAt terms journal s i)
+fresh_no_line terms journal at i none s h = (λ _. fresh_elsewhere terms journal s i none, λ _. refl)
 
 fresh_in_block : (terms : Terms) (journal : List Tx) (s : State) (i : Item) → (s.block ≡ Idle → ⊥) → IsFreshAt terms journal s i
 fresh_in_block terms journal s (item.Line n) shut = λ idle. absurd (shut idle)
 fresh_in_block terms journal s other shut = tt
 
-pub fresh_open : (terms : Terms) (journal : List Tx) (old : Standing) (i : Item) (b : Bool) → (b ≡ true) ↔ (old.block.state ≡ Idle) → b ≡ false → Asks terms.section journal old true old (λ s. IsFreshAt terms journal s i)
-fresh_open terms journal old i b test off = record {
-  decides = λ s h. (λ _. fresh_in_block terms journal s i (λ idle. false≢true (sym off ∙ test.1 (sym h.block ∙ idle))), λ _. refl);
-  stays = λ s h. h;
-}
+pub fresh_open : (terms : Terms) (journal : List Tx) (at : Standing) (i : Item) (b : Bool) → (b ≡ true) ↔ (at.block.state ≡ Idle) → b ≡ false → Asks terms.section journal at true (λ s. IsFreshAt terms journal s i)
+fresh_open terms journal at i b test off s h = (λ _. fresh_in_block terms journal s i (λ idle. false≢true (sym off ∙ test.1 (sym h.block ∙ idle))), λ _. refl)
 
 fresh_line : (terms : Terms) (journal : List Tx) (s : State) (i : Item) → begins_line i ≡ true → s.block ≡ Idle → IsUpToDate terms journal s ↔ IsFreshAt terms journal s i
 fresh_line terms journal s (item.Line n) h idle = (λ up. λ _. up, λ f. f idle)
 fresh_line terms journal s other h idle = absurd (false≢true h)
 
-pub fresh_by : (terms : Terms) (journal : List Tx) (old new : Standing) (i : Item) (b d : Bool) → begins_line i ≡ true → (b ≡ true) ↔ (old.block.state ≡ Idle) → b ≡ true → Asks terms.section journal old d new (λ s. IsUpToDate terms journal s)
-    → Asks terms.section journal old d new (λ s. IsFreshAt terms journal s i)
-fresh_by terms journal old new i b d line test idle asks = record {
-  decides = λ s h.
-      let same = fresh_line terms journal s i line (h.block ∙ test.0 idle) in
-      (λ t. same.0 ((asks.decides s h).0 t), λ f. (asks.decides s h).1 (same.1 f));
-  stays = asks.stays;
-}
+pub fresh_by : (terms : Terms) (journal : List Tx) (at : Standing) (i : Item) (b d : Bool) → begins_line i ≡ true → (b ≡ true) ↔ (at.block.state ≡ Idle) → b ≡ true → Asks terms.section journal at d (λ s. IsUpToDate terms journal s)
+    → Asks terms.section journal at d (λ s. IsFreshAt terms journal s i)
+fresh_by terms journal at i b d line test idle asks s h =
+    let same = fresh_line terms journal s i line (h.block ∙ test.0 idle) in
+    (λ t. same.0 ((asks s h).0 t), λ f. (asks s h).1 (same.1 f))

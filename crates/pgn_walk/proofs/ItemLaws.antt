@@ -13,6 +13,8 @@ use Rattle.pgn_base.specs.declared.queue_answers.Full.{Full}
 use Rattle.pgn_journal.specs.declared.tx.Tx.{Tx}
 use Rattle.pgn_journal.specs.Journal.{entry, next_xid}
 use Rattle.pgn_journal.specs.QueueUse.{IsFloorFor}
+use Rattle.pgn_due.specs.Next.{IsWatch}
+use Rattle.pgn_due.specs.declared.watch.Watch.{Watch}
 use Rattle.pgn_language.specs.declared.scenario.ScriptLine.{ScriptLine}
 use Rattle.pgn_model.specs.declared.item.Item.{Item}
 use Rattle.pgn_model.specs.declared.item.Item.TheVariants as item
@@ -26,7 +28,6 @@ use Rattle.pgn_walk.specs.declared.to_show.ToShow.{ToShow}
 use Rattle.pgn_walk.specs.declared.to_show.ToShow.TheVariants as show
 use Rattle.pgn_walk.specs.Standing.{Holds, IsGreatestMark, Leads, ending_of, owed_of}
 use Rattle.pgn_walk.specs.Steps.{BeginsFrom, Moves}
-use Rattle.pgn_walk.proofs.StandingLaws.{fresh_zero}
 
 -- What every item's judgement comes to.
 
@@ -102,7 +103,7 @@ line_on terms journal old new n l e same none begins =
       told = h.told;
       marks = h.marks;
       flags = h.flags;
-      fresh = h.fresh;
+      watch = h.watch;
     } in
     subst (λ (lines : List ScriptLine). Holds terms.section journal new (at_line s lines)) (sym (h.rest ∙ drop_some terms.section.lines old.next l e))
     (begins terms.section journal (record s { rest = drop (old.next + 1) terms.section.lines }) stands (h.owed ∙ ap owed_of none)))
@@ -152,10 +153,11 @@ enlist_early terms journal old new base point b test is = moves_not terms journa
 pub enlist_never : (terms : Terms) (journal : List Tx) (old new : Standing) (base point : ℕ) → ((a : List Action) (n : List Note) (f : Ending) → old.owed ≡ show.Enlisting a n f → ⊥) → Moves terms journal old (item.Enlist base point) false new
 enlist_never terms journal old new base point no_one = moves_not terms journal old new (item.Enlist base point) (λ s h allowed. not_enlisting old.owed no_one (subst IsEnlisting h.owed allowed.expected))
 
-pub enlist_on : (terms : Terms) (journal : List Tx) (old new : Standing) (base point : ℕ) (b : Bool) (actions : List Action) (notes : List Note) (ending : Ending)
+pub enlist_on : (terms : Terms) (journal : List Tx) (old new : Standing) (watch : Watch) (base point : ℕ) (b : Bool) (actions : List Action) (notes : List Note) (ending : Ending)
     → (b ≡ true) ↔ ((base ≤ point) × (old.told ≤ point) × (old.greatest ≤ point) × (point ≤ next_xid journal)) → b ≡ true → 3 ≤ base → old.owed ≡ show.Enlisting actions notes ending
-    → Leads (record old { owed = show.Nothing; mark = Some point; greatest = point; fresh_to = 0 }) new (λ s. queueing_or_settled s actions notes (ending_of ending)) → Moves terms journal old (item.Enlist base point) true new
-enlist_on terms journal old new base point b actions notes ending test is first e on =
+    → ((journal : List Tx) (db : ℕ) (before : List (List ℕ)) (was : Option ℕ) → IsWatch journal db before was old.watch → IsWatch journal db old.set.channels (Some point) watch)
+    → Leads (record old { owed = show.Nothing; mark = Some point; greatest = point; watch = watch }) new (λ s. queueing_or_settled s actions notes (ending_of ending)) → Moves terms journal old (item.Enlist base point) true new
+enlist_on terms journal old new watch base point b actions notes ending test is first e begins on =
     let t = test.0 is in
     moves_on terms journal old new (item.Enlist base point)
     (λ s h. record {
@@ -168,7 +170,7 @@ enlist_on terms journal old new base point b actions notes ending test is first 
     })
     (λ s h.
     let marked : State = record s { mark = Some point; marks = s.marks ++ base ∷ [] ++ point ∷ [] } in
-    let stands : Holds terms.section journal (record old { owed = show.Nothing; mark = Some point; greatest = point; fresh_to = 0 }) (record marked { owed = walk.Nothing }) = record {
+    let stands : Holds terms.section journal (record old { owed = show.Nothing; mark = Some point; greatest = point; watch = watch }) (record marked { owed = walk.Nothing }) = record {
       rest = h.rest;
       owed = refl;
       block = h.block;
@@ -178,7 +180,7 @@ enlist_on terms journal old new base point b actions notes ending test is first 
       told = h.told;
       marks = two_marks s.marks old.greatest base point h.marks t.2 t.0;
       flags = h.flags;
-      fresh = fresh_zero journal terms.section.db old.set.channels (Some point);
+      watch = begins journal terms.section.db old.set.channels old.mark h.watch;
     } in
     subst (λ (owed : Owed). Holds terms.section journal new (walk.at_enlist marked owed)) (sym (h.owed ∙ ap owed_of e))
     (subst (λ (after : State). Holds terms.section journal new after) (queueing_same marked walk.Nothing actions notes (ending_of ending)) (on terms.section journal (record marked { owed = walk.Nothing }) stands)))
@@ -241,7 +243,7 @@ publish_on terms journal old new xid none b d actions notes ending e test is the
       told = omega (arith, h.told, t.0);
       marks = h.marks;
       flags = h.flags;
-      fresh = h.fresh;
+      watch = h.watch;
     } in
     subst (λ (owed : Owed). Holds terms.section journal new (walk.at_publish told owed)) (sym (h.owed ∙ ap owed_of e)) (on terms.section journal (record told { owed = walk.Nothing }) stands))
 
@@ -291,6 +293,6 @@ full_on terms journal old new full none b d f actions notes ending e test is the
       told = omega (arith, h.told, t.0);
       marks = h.marks;
       flags = h.flags;
-      fresh = h.fresh;
+      watch = h.watch;
     } in
     subst (λ (owed : Owed). Holds terms.section journal new (walk.at_full told owed)) (sym (h.owed ∙ ap owed_of e)) (on terms.section journal (record told { owed = walk.Nothing }) stands))

@@ -1,5 +1,5 @@
 -- A line of the script begins.
-use Rattle.std.proofs.Common.{◌≡◌, ℕ, Bool, true, false, cond, List, [], ◌++◌, length, Option, None, is_some, if◌then◌else◌, sym, ap, ◌∙◌, refl, subst}
+use Rattle.std.proofs.Common.{◌≡◌, ◌≢◌, ℕ, Bool, true, false, cond, List, [], ◌++◌, length, Option, None, is_some, if◌then◌else◌, sym, ap, ◌∙◌, refl, subst}
 use Rattle.pgn_base.specs.Names.{has_name}
 use Rattle.pgn_base.specs.Listening.{Listening}
 use Rattle.pgn_base.specs.declared.note.Note.{Note}
@@ -17,6 +17,8 @@ use Rattle.pgn_answers.specs.declared.block_state.BlockState.TheVariants.{Idle, 
 use Rattle.pgn_answers.specs.Answers.{Outcome, Commits, Replies, Refuses, Silent, GivesChannels, GivesUsage, answer, next_state, list_after, in_state, ignored}
 use Rattle.pgn_answers.specs.Savepoints.{Change, changes_of, live_names, surviving_actions, surviving_notes, firsts}
 use Rattle.pgn_journal.specs.declared.tx.Tx.{Tx}
+use Rattle.pgn_due.specs.Next.{IsWatch}
+use Rattle.pgn_due.specs.declared.watch.Watch.{Watch}
 use Rattle.pgn_language.specs.declared.scenario.Section.{Section}
 use Rattle.pgn_language.specs.declared.scenario.Act.{Act}
 use Rattle.pgn_language.specs.declared.scenario.Act.TheVariants.{Run, Signal, Await, Quit}
@@ -33,13 +35,17 @@ use Rattle.pgn_walk.specs.declared.to_show.Ending.TheVariants.{Replied, Refused}
 use Rattle.pgn_walk.specs.declared.to_show.ToShow.TheVariants as show
 use Rattle.pgn_walk.specs.Standing.{Holds, Leads, commits, ending_of}
 use Rattle.pgn_walk.specs.Steps.{BeginsFrom, HasRows, IsGivenBy}
-use Rattle.pgn_walk.proofs.StandingLaws.{fresh_zero, holds_owed}
+use Rattle.pgn_walk.proofs.StandingLaws.{holds_owed}
 
 -- The session quits.
 
-quit_holds : (section : Section) (journal : List Tx) (at : Standing) (block : BlockView) (set : Listening) (s : State) → block ≡ idle_view → set.channels ≡ [] → Holds section journal at s
-    → Holds section journal (record at { block = block; set = set; fresh_to = 0 }) (record s { block = Idle; changes = []; set = [] })
-quit_holds section journal at block set s is none h = record {
+-- what is due next, where the set has ended
+abbrev pub Ends : Watch → Watch → Type 0
+Ends old new = (journal : List Tx) (db : ℕ) (set : List (List ℕ)) (mark : Option ℕ) → IsWatch journal db set mark old → IsWatch journal db [] mark new
+
+quit_holds : (section : Section) (journal : List Tx) (at : Standing) (block : BlockView) (set : Listening) (watch : Watch) (s : State) → block ≡ idle_view → set.channels ≡ [] → Ends at.watch watch → Holds section journal at s
+    → Holds section journal (record at { block = block; set = set; watch = watch }) (record s { block = Idle; changes = []; set = [] })
+quit_holds section journal at block set watch s is none ends h = record {
   rest = h.rest;
   owed = h.owed;
   block = ap (λ (v : BlockView). v.state) (sym is);
@@ -49,22 +55,23 @@ quit_holds section journal at block set s is none h = record {
   told = h.told;
   marks = h.marks;
   flags = h.flags;
-  fresh = fresh_zero journal section.db set.channels at.mark;
+  watch = subst (λ (channels : List (List ℕ)). IsWatch journal section.db channels at.mark watch) (sym none) (ends journal section.db at.set.channels at.mark h.watch);
 }
 
-pub quits_listening : (at : Standing) (block : BlockView) (set : Listening) → block ≡ idle_view → set.channels ≡ [] → is_some at.mark ≡ true
-    → BeginsFrom at (record at { block = block; set = set; fresh_to = 0; owed = show.Quitting }) quitting
-quits_listening at block set is none test section journal s h e =
+pub quits_listening : (at : Standing) (block : BlockView) (set : Listening) (watch : Watch) → block ≡ idle_view → set.channels ≡ [] → Ends at.watch watch → is_some at.mark ≡ true
+    → BeginsFrom at (record at { block = block; set = set; watch = watch; owed = show.Quitting }) quitting
+quits_listening at block set watch is none ends test section journal s h e =
     let ended : State = record s { block = Idle; changes = []; set = [] } in
-    let stands = quit_holds section journal at block set s is none h in
-    subst (λ (b : Bool). Holds section journal (record at { block = block; set = set; fresh_to = 0; owed = show.Quitting }) (if b then record ended { owed = walk.Quitting } else ended))
-    (sym (ap (λ (m : Option ℕ). is_some m) h.mark ∙ test)) (holds_owed section journal (record at { block = block; set = set; fresh_to = 0 }) ended show.Quitting walk.Quitting stands refl)
+    let stands = quit_holds section journal at block set watch s is none ends h in
+    subst (λ (b : Bool). Holds section journal (record at { block = block; set = set; watch = watch; owed = show.Quitting }) (if b then record ended { owed = walk.Quitting } else ended))
+    (sym (ap (λ (m : Option ℕ). is_some m) h.mark ∙ test)) (holds_owed section journal (record at { block = block; set = set; watch = watch }) ended show.Quitting walk.Quitting stands refl)
 
-pub quits_idle : (at : Standing) (block : BlockView) (set : Listening) → block ≡ idle_view → set.channels ≡ [] → is_some at.mark ≡ false → BeginsFrom at (record at { block = block; set = set; fresh_to = 0 }) quitting
-quits_idle at block set is none test section journal s h e =
+pub quits_idle : (at : Standing) (block : BlockView) (set : Listening) (watch : Watch) → block ≡ idle_view → set.channels ≡ [] → Ends at.watch watch → is_some at.mark ≡ false
+    → BeginsFrom at (record at { block = block; set = set; watch = watch }) quitting
+quits_idle at block set watch is none ends test section journal s h e =
     let ended : State = record s { block = Idle; changes = []; set = [] } in
-    subst (λ (b : Bool). Holds section journal (record at { block = block; set = set; fresh_to = 0 }) (if b then record ended { owed = walk.Quitting } else ended))
-    (sym (ap (λ (m : Option ℕ). is_some m) h.mark ∙ test)) (quit_holds section journal at block set s is none h)
+    subst (λ (b : Bool). Holds section journal (record at { block = block; set = set; watch = watch }) (if b then record ended { owed = walk.Quitting } else ended))
+    (sym (ap (λ (m : Option ℕ). is_some m) h.mark ∙ test)) (quit_holds section journal at block set watch s is none ends h)
 
 -- What the block gives.
 
@@ -150,9 +157,9 @@ release_rows InBlock false name names count = tt
 release_rows Failed true name names count = tt
 release_rows Failed false name names count = tt
 
-pub has_rows : (state : BlockState) (live set : List (List ℕ)) (c : Command) (names : List (List ℕ)) (count : ℕ) → (c ≡ command.ListeningChannels → names ≡ set) → count ≡ length names → HasRows (answer state live set c) names count
-has_rows Idle live set command.ListeningChannels names count f e = (f refl, e)
-has_rows InBlock live set command.ListeningChannels names count f e = (f refl, e)
+pub has_rows : (state : BlockState) (live set : List (List ℕ)) (c : Command) (names : List (List ℕ)) (count : ℕ) → (c ≡ command.ListeningChannels → state ≢ Failed → names ≡ set) → count ≡ length names → HasRows (answer state live set c) names count
+has_rows Idle live set command.ListeningChannels names count f e = (f refl (λ failed. let no : ⊥ = cc in no), e)
+has_rows InBlock live set command.ListeningChannels names count f e = (f refl (λ failed. let no : ⊥ = cc in no), e)
 has_rows Failed live set command.ListeningChannels names count f e = tt
 has_rows state live set (command.RollbackTo name) names count f e = back_rows state (has_name live name) name names count
 has_rows state live set (command.Release name) names count f e = release_rows state (has_name live name) name names count
@@ -164,7 +171,7 @@ has_rows Failed live set other names count f e = tt
 
 -- the block has taken a command, and what it gave is owed
 pub runs : (at new : Standing) (c : Command) (block : BlockView) (gave : Effect) (names : List (List ℕ)) (count : ℕ)
-    → (c ≡ command.ListeningChannels → names ≡ at.set.channels) → count ≡ length names
+    → (c ≡ command.ListeningChannels → at.block.state ≢ Failed → names ≡ at.set.channels) → count ≡ length names
     → ((changes : List Change) (set : List (List ℕ)) → StandsFor changes at.block.kept → gave ≡ effect_of (changes ++ changes_of c) (answer at.block.state (live_names changes) set c))
     → ((changes : List Change) (set : List (List ℕ)) → StandsFor changes at.block.kept → block.state ≡ next_state at.block.state (answer at.block.state (live_names changes) set c))
     → ((changes : List Change) (set : List (List ℕ)) → StandsFor changes at.block.kept → StandsFor (list_after changes c (answer at.block.state (live_names changes) set c)) block.kept)
@@ -183,10 +190,10 @@ runs at new c block gave names count rows long gives leads leaves on section jou
       told = h.told;
       marks = h.marks;
       flags = h.flags;
-      fresh = h.fresh;
+      watch = h.watch;
     } in
     on section journal next (s.changes ++ changes_of c) o stands e (gives s.changes s.set h.changes ∙ ap (λ (p : Outcome). effect_of (s.changes ++ changes_of c) p) same)
-    (has_rows s.block (live_names s.changes) s.set c names count (λ is. rows is ∙ sym h.set) long)
+    (has_rows s.block (live_names s.changes) s.set c names count (λ is unfailed. rows is (λ failed. unfailed (h.block ∙ failed)) ∙ sym h.set) long)
 
 -- What a line does.
 

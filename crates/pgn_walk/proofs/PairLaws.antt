@@ -55,9 +55,6 @@ put_in pairs keys a b false few h is x y g =
 pub puts : (old new : List ℕ) (a b : ℕ) → b < 2 ^ 32 → new ≡ cond (list_any (nat_eq (key_of a b)) old) old (old ++ key_of a b ∷ []) → Gathers old new ((a, b) ∷ [])
 puts old new a b few e pairs h = subst (λ (keys : List ℕ). AreKeys (pairs ++ (a, b) ∷ []) keys) (sym e) (put_in pairs old a b (list_any (nat_eq (key_of a b)) old) few h refl)
 
-pub no_keys : AreKeys [] []
-no_keys x y few = (λ t. absurd (false≢true t), λ there. absurd (omega (arith, there.1)))
-
 -- nothing is put in
 pub gathers_none : (keys : List ℕ) → Gathers keys keys []
 gathers_none keys pairs h = subst (λ (ps : List (ℕ × ℕ)). AreKeys ps keys) (sym (append-nil pairs)) h

@@ -1,17 +1,17 @@
 -- A read, where a session stands, and whether one was left out.
-use Rattle.std.proofs.Common.{◌≡◌, ◌↔◌, ◌⊎◌, ℕ, ◌-◌, ◌<◌, ◌≤◌, max, Bool, true, false, not, ◌||◌, nat_le, List, [], ◌++◌, length, take, drop, Option, Some, sym, ap, ◌∙◌, refl, subst, inl, inr, arith}
+use Rattle.std.proofs.Common.{◌≡◌, ◌↔◌, ◌⊎◌, ℕ, ◌<◌, ◌≤◌, max, Bool, true, false, ◌||◌, nat_le, List, [], length, drop, Option, Some, sym, ap, ◌∙◌, refl, subst, inl, inr, arith}
 use Rattle.std.specs.List.{list_any}
-use Rattle.std.proofs.lemmas.Bool.{cases_lt, false≢true}
+use Rattle.std.proofs.lemmas.Bool.{false≢true}
 use Rattle.std.proofs.lemmas.Bool.Decides.{leb_tells}
-use Rattle.std.proofs.lemmas.List.{drop-append-le, drop_all, length-drop, length-take, take-append-drop, take-take}
-use Rattle.std.proofs.lemmas.List.Folds.{list_any-append}
+use Rattle.std.proofs.lemmas.List.{drop_all, length-drop}
 use Rattle.pgn_base.specs.declared.note.Delivery.{Delivery}
 use Rattle.pgn_answers.specs.declared.block_state.BlockState.{BlockState}
 use Rattle.pgn_answers.specs.declared.block_state.BlockState.TheVariants.{Idle, InBlock, Failed}
 use Rattle.pgn_journal.specs.declared.tx.Tx.{Tx}
 use Rattle.pgn_journal.specs.Journal.{entries_between, next_xid}
 use Rattle.pgn_journal.specs.Due.{due, is_due_to}
-use Rattle.pgn_journal.proofs.NearLaws.{none-within}
+use Rattle.pgn_due.specs.Next.{IsWatch}
+use Rattle.pgn_due.specs.declared.watch.Watch.{Watch}
 use Rattle.pgn_language.specs.declared.scenario.ScriptLine.{ScriptLine}
 use Rattle.pgn_language.specs.declared.scenario.Section.{Section}
 use Rattle.pgn_model.specs.declared.item.Item.TheVariants as item
@@ -19,10 +19,9 @@ use Rattle.pgn_model.specs.Walk.{State, Terms, MayRead}
 use Rattle.pgn_walk.specs.declared.standing.Standing.{Standing}
 use Rattle.pgn_walk.specs.declared.to_show.ToShow.{ToShow}
 use Rattle.pgn_walk.specs.declared.to_show.ToShow.TheVariants as show
-use Rattle.pgn_walk.specs.Standing.{Holds, IsFreshTo, owed_of}
+use Rattle.pgn_walk.specs.Standing.{Holds, owed_of}
 use Rattle.pgn_walk.specs.Steps.{Moves, is_idle, may_read, may_read_at}
 use Rattle.pgn_walk.specs.Fresh.{Asks}
-use Rattle.pgn_walk.proofs.StandingLaws.{fresh_zero}
 use Rattle.pgn_walk.proofs.ItemLaws.{moves_not, moves_on, one_mark}
 
 -- Whether the session may read.
@@ -100,23 +99,37 @@ pub read_far : (terms : Terms) (journal : List Tx) (old new : Standing) (from to
 read_far terms journal old new from to got b test is = moves_not terms journal old new (item.Read from to got) (λ s h allowed.
     false≢true (sym is ∙ test.1 (sym h.mark ∙ allowed.from_mark, allowed.forward, omega (arith, h.told, allowed.after_told), allowed.in_journal)))
 
-pub read_other : (terms : Terms) (journal : List Tx) (old new : Standing) (from to : ℕ) (got : List Delivery) (b : Bool) → (b ≡ true) ↔ (got ≡ due journal from to terms.section.db old.set.channels) → b ≡ false
-    → Moves terms journal old (item.Read from to got) false new
-read_other terms journal old new from to got b test is = moves_not terms journal old new (item.Read from to got) (λ s h allowed.
-    false≢true (sym is ∙ test.1 (allowed.received ∙ ap (λ (channels : List (List ℕ)). due journal from to terms.section.db channels) h.set)))
+-- what a watch tells of what was received up to a number, and where it stands behind it
+abbrev pub Takes : ℕ → List Delivery → Watch → Bool → Watch → Type 0
+Takes to got old taken new = (journal : List Tx) (db mark : ℕ) (set : List (List ℕ)) → 3 ≤ mark → mark ≤ to → IsWatch journal db set (Some mark) old
+    → ((taken ≡ true) ↔ (got ≡ due journal mark to db set)) × (taken ≡ true → IsWatch journal db set (Some to) new)
 
-pub read_on : (terms : Terms) (journal : List Tx) (old : Standing) (from to : ℕ) (got : List Delivery) (b d f : Bool) → b ≡ may_read old terms.section → b ≡ true → (d ≡ true) ↔ Reaches old journal from to → d ≡ true
-    → (f ≡ true) ↔ (got ≡ due journal from to terms.section.db old.set.channels) → f ≡ true → Moves terms journal old (item.Read from to got) true (record old { mark = Some to; greatest = max old.greatest to; fresh_to = 0 })
-read_on terms journal old from to got b d f test is reach far given same =
+-- the same where the session stands
+takes_there : (terms : Terms) (journal : List Tx) (old : Standing) (watch : Watch) (from to : ℕ) (got : List Delivery) (d f : Bool) (s : State) → 3 ≤ from → (d ≡ true) ↔ Reaches old journal from to → d ≡ true → Takes to got old.watch f watch
+    → Holds terms.section journal old s → ((f ≡ true) ↔ (got ≡ due journal from to terms.section.db s.set)) × (f ≡ true → IsWatch journal terms.section.db old.set.channels (Some to) watch)
+takes_there terms journal old watch from to got d f s first reach far takes h =
     let t = reach.0 far in
-    moves_on terms journal old (record old { mark = Some to; greatest = max old.greatest to; fresh_to = 0 }) (item.Read from to got)
+    let here : IsWatch journal terms.section.db old.set.channels (Some from) old.watch = subst (λ (m : Option ℕ). IsWatch journal terms.section.db old.set.channels m old.watch) t.0 h.watch in
+    let told = takes journal terms.section.db from old.set.channels first (omega (arith, t.1)) here in
+    (subst (λ (channels : List (List ℕ)). (f ≡ true) ↔ (got ≡ due journal from to terms.section.db channels)) (sym h.set) told.0, told.1)
+
+pub read_other : (terms : Terms) (journal : List Tx) (old new : Standing) (watch : Watch) (from to : ℕ) (got : List Delivery) (d f : Bool) → 3 ≤ from → (d ≡ true) ↔ Reaches old journal from to → d ≡ true → Takes to got old.watch f watch
+    → f ≡ false → Moves terms journal old (item.Read from to got) false new
+read_other terms journal old new watch from to got d f first reach far takes off = moves_not terms journal old new (item.Read from to got) (λ s h allowed.
+    false≢true (sym off ∙ (takes_there terms journal old watch from to got d f s first reach far takes h).0.1 allowed.received))
+
+pub read_on : (terms : Terms) (journal : List Tx) (old : Standing) (watch : Watch) (from to : ℕ) (got : List Delivery) (b d f : Bool) → 3 ≤ from → b ≡ may_read old terms.section → b ≡ true → (d ≡ true) ↔ Reaches old journal from to → d ≡ true
+    → Takes to got old.watch f watch → f ≡ true → Moves terms journal old (item.Read from to got) true (record old { mark = Some to; greatest = max old.greatest to; watch = watch })
+read_on terms journal old watch from to got b d f first test is reach far takes same =
+    let t = reach.0 far in
+    moves_on terms journal old (record old { mark = Some to; greatest = max old.greatest to; watch = watch }) (item.Read from to got)
     (λ s h. record {
       in_turn = subst (MayRead s) (sym h.owed) (may_at s old.owed old.block.state terms.section.lines old.next h.block h.rest (sym test ∙ is));
       from_mark = h.mark ∙ t.0;
       forward = t.1;
       after_told = omega (arith, h.told, t.2);
       in_journal = t.3;
-      received = given.0 same ∙ ap (λ (channels : List (List ℕ)). due journal from to terms.section.db channels) (sym h.set);
+      received = (takes_there terms journal old watch from to got d f s first reach far takes h).0.0 same;
     })
     (λ s h. record {
       rest = h.rest;
@@ -128,92 +141,18 @@ read_on terms journal old from to got b d f test is reach far given same =
       told = h.told;
       marks = one_mark s.marks old.greatest (max old.greatest to) to h.marks refl;
       flags = h.flags;
-      fresh = fresh_zero journal terms.section.db old.set.channels (Some to);
+      watch = (takes_there terms journal old watch from to got d f s first reach far takes h).1 same;
     })
 
--- What was looked at before is not looked at again.
-
-joins : (p : Tx → Bool) (txs : List Tx) (a k n : ℕ) → k ≤ n → list_any p (drop a (take k txs)) ≡ false → list_any p (drop (max k a) (take n txs)) ≡ false → list_any p (drop a (take n txs)) ≡ false
-joins p txs a k n le old new = elim (cases_lt k a) as (λ _. list_any p (drop a (take n txs)) ≡ false) [
-  | inl lt ↦ ap (λ (i : ℕ). list_any p (drop i (take n txs))) (let e : a ≡ max k a = omega arith in e) ∙ new
-  | inr ge ↦
-      let short : take k (take n txs) ≡ take k txs = take-take k n txs le in
-      let cut : take k txs ++ drop k (take n txs) ≡ take n txs = ap (λ (ts : List Tx). ts ++ drop k (take n txs)) (sym short) ∙ take-append-drop k (take n txs) in
-      let rest : list_any p (drop k (take n txs)) ≡ false = ap (λ (i : ℕ). list_any p (drop i (take n txs))) (let e : k ≡ max k a = omega arith in e) ∙ new in
-      elim (cases_lt (length (take k txs)) a) as (λ _. list_any p (drop a (take n txs)) ≡ false) [
-        | inl past ↦ ap (λ (ts : List Tx). list_any p ts) (drop_all a (take n txs) (omega (arith, past, length-take k txs, length-take n txs)))
-        | inr fits ↦
-            ap (λ (ts : List Tx). list_any p (drop a ts)) (sym cut) ∙ ap (list_any p) (drop-append-le a (take k txs) (drop k (take n txs)) fits) ∙ list_any-append p (drop a (take k txs)) (drop k (take n txs))
-            ∙ ap (λ (t : Bool). t || list_any p (drop k (take n txs))) old ∙ rest
-      ]
-]
+-- Whether anything is due.
 
 -- what is asked where the session has a mark
 abbrev pub FindsNothing : Section → List Tx → ℕ → State → Type 0
 FindsNothing section journal mark s = list_any (is_due_to section.db s.set) (entries_between journal mark s.told) ≡ false
 
-asked_same : (section : Section) (journal : List Tx) (mark : ℕ) (old : Standing) (s : State) → Holds section journal old s
-    → list_any (is_due_to section.db s.set) (entries_between journal mark s.told) ≡ list_any (is_due_to section.db old.set.channels) (entries_between journal mark old.told)
-asked_same section journal mark old s h =
-    ap (λ (set : List (List ℕ)). list_any (is_due_to section.db set) (entries_between journal mark s.told)) h.set ∙ ap (λ (told : ℕ). list_any (is_due_to section.db old.set.channels) (entries_between journal mark told)) h.told
-
-fresh_there : (section : Section) (journal : List Tx) (mark : ℕ) (old : Standing) (s : State) → old.mark ≡ Some mark → Holds section journal old s
-    → list_any (is_due_to section.db old.set.channels) (entries_between journal mark old.fresh_to) ≡ false
-fresh_there section journal mark old s e h = subst (λ (m : Option ℕ). IsFreshTo journal section.db old.set.channels m old.fresh_to) e h.fresh
-
-pub looked_before : (section : Section) (journal : List Tx) (mark : ℕ) (old : Standing) → old.mark ≡ Some mark → old.told ≤ old.fresh_to → Asks section journal old true old (FindsNothing section journal mark)
-looked_before section journal mark old e le = record {
-  decides = λ s h. (
-    λ _. asked_same section journal mark old s h
-        ∙ none-within (is_due_to section.db old.set.channels) journal (mark - 3) (old.fresh_to - 3) (mark - 3) (old.told - 3) (omega arith) (omega arith) (fresh_there section journal mark old s e h),
-    λ _. refl,
-  );
-  stays = λ s h. h;
-}
-
-found_none : (b : Bool) → true ≡ not b → b ≡ false
-found_none true h = absurd (false≢true (sym h))
-found_none false h = refl
-
-found_some : (b : Bool) → false ≡ not b → b ≡ true
-found_some true h = refl
-found_some false h = absurd (false≢true h)
-
-pub looks_on : (section : Section) (journal : List Tx) (mark from : ℕ) (old : Standing) (b : Bool) → 3 ≤ mark → old.mark ≡ Some mark → old.fresh_to < old.told → from ≡ max old.fresh_to mark
-    → b ≡ not (list_any (is_due_to section.db old.set.channels) (entries_between journal from old.told)) → b ≡ true → Asks section journal old true (record old { fresh_to = old.told }) (FindsNothing section journal mark)
-looks_on section journal mark from old b first e lt is test said =
-    let p : Tx → Bool = is_due_to section.db old.set.channels in
-    let new : list_any p (drop (max (old.fresh_to - 3) (mark - 3)) (take (old.told - 3) journal)) ≡ false =
-    ap (λ (i : ℕ). list_any p (drop i (take (old.told - 3) journal))) (let n : max (old.fresh_to - 3) (mark - 3) ≡ from - 3 = omega (arith, is) in n) ∙ found_none (list_any p (entries_between journal from old.told)) (sym said ∙ test) in
-    let all : (s : State) → Holds section journal old s → list_any p (entries_between journal mark old.told) ≡ false =
-    λ s h. joins p journal (mark - 3) (old.fresh_to - 3) (old.told - 3) (omega arith) (fresh_there section journal mark old s e h) new in
-    record {
-      decides = λ s h. (λ _. asked_same section journal mark old s h ∙ all s h, λ _. refl);
-      stays = λ s h. record {
-        rest = h.rest;
-        owed = h.owed;
-        block = h.block;
-        changes = h.changes;
-        set = h.set;
-        mark = h.mark;
-        told = h.told;
-        marks = h.marks;
-        flags = h.flags;
-        fresh = subst (λ (m : Option ℕ). IsFreshTo journal section.db old.set.channels m old.told) (sym e) (all s h);
-      };
-    }
-
-pub looks_off : (section : Section) (journal : List Tx) (mark from : ℕ) (old : Standing) (b : Bool) → from ≡ max old.fresh_to mark
-    → b ≡ not (list_any (is_due_to section.db old.set.channels) (entries_between journal from old.told)) → b ≡ false → Asks section journal old false old (FindsNothing section journal mark)
-looks_off section journal mark from old b is test off =
-    let p : Tx → Bool = is_due_to section.db old.set.channels in
-    record {
-      decides = λ s h. (
-        λ t. absurd (false≢true t),
-        λ none.
-            let all : list_any p (entries_between journal mark old.told) ≡ false = sym (asked_same section journal mark old s h) ∙ none in
-            let part : list_any p (entries_between journal from old.told) ≡ false = none-within p journal (mark - 3) (old.told - 3) (from - 3) (old.told - 3) (omega (arith, is)) (omega arith) all in
-            absurd (false≢true (sym part ∙ found_some (list_any p (entries_between journal from old.told)) (sym off ∙ test))),
-      );
-      stays = λ s h. h;
-    }
+pub finds_by : (section : Section) (journal : List Tx) (mark : ℕ) (at : Standing) (b : Bool) → at.mark ≡ Some mark
+    → ((db : ℕ) (set : List (List ℕ)) → IsWatch journal db set (Some mark) at.watch → (b ≡ true) ↔ (list_any (is_due_to db set) (entries_between journal mark at.told) ≡ false)) → Asks section journal at b (FindsNothing section journal mark)
+finds_by section journal mark at b e finds s h =
+    let here : IsWatch journal section.db at.set.channels (Some mark) at.watch = subst (λ (m : Option ℕ). IsWatch journal section.db at.set.channels m at.watch) e h.watch in
+    subst (λ (told : ℕ). (b ≡ true) ↔ (list_any (is_due_to section.db s.set) (entries_between journal mark told) ≡ false)) (sym h.told)
+    (subst (λ (set : List (List ℕ)). (b ≡ true) ↔ (list_any (is_due_to section.db set) (entries_between journal mark at.told) ≡ false)) (sym h.set) (finds section.db at.set.channels here))

@@ -1,8 +1,7 @@
 -- Lists that are compared element by element.
-use Rattle.std.proofs.Common.{◌≡◌, ◌≢◌, ◌↔◌, ℕ, ◌+◌, ◌<◌, ◌≤◌, Bool, true, false, cond, List, [], ◌∷◌, length, get_or, drop, sym, ap, ◌∙◌, refl, subst, inl, inr, arith}
+use Rattle.std.proofs.Common.{◌≡◌, ◌≢◌, ◌↔◌, ℕ, Bool, true, false, cond, List, [], ◌∷◌, length, sym, ap, ◌∙◌, refl, subst, inl, inr, arith}
 use Rattle.std.specs.Prelude.{bytes_eq}
 use Rattle.std.proofs.lemmas.Bool.{cases_Bool, false≢true}
-use Rattle.std.proofs.lemmas.List.{drop_all, drop_more}
 use Rattle.std.proofs.lemmas.Slice.Eq.{bytes_eq-Decides}
 use Rattle.pgn_base.specs.declared.note.Note.{Note}
 use Rattle.pgn_answers.specs.Savepoints.{same_note}
@@ -19,20 +18,6 @@ module _ {X : Type 0} (same : X → X → Bool) where
     | inl is ↦ ap (λ (b : Bool). cond b (same_by same xs ys) false) is ∙ same_long xs ys (λ e. h (omega (arith, e)))
     | inr off ↦ ap (λ (b : Bool). cond b (same_by same xs ys) false) off
   ]
-
-  -- one place on
-  pub same_more : (xs ys : List X) (k : ℕ) (x y : X) → k < length xs → k < length ys → x ≡ get_or xs k x → y ≡ get_or ys k y → same x y ≡ true → same_by same (drop (k + 1) xs) (drop (k + 1) ys) ≡ same_by same (drop k xs) (drop k ys)
-  same_more xs ys k x y lx ly one two is =
-      sym (ap (λ (them : List X). same_by same them (drop k ys)) (drop_more xs k x lx ∙ ap (λ (z : X). z ∷ drop (k + 1) xs) (sym one))
-      ∙ ap (λ (them : List X). same_by same (x ∷ drop (k + 1) xs) them) (drop_more ys k y ly ∙ ap (λ (z : X). z ∷ drop (k + 1) ys) (sym two)) ∙ ap (λ (b : Bool). cond b (same_by same (drop (k + 1) xs) (drop (k + 1) ys)) false) is)
-
-  pub same_stops : (xs ys : List X) (k : ℕ) (x y : X) → k < length xs → k < length ys → x ≡ get_or xs k x → y ≡ get_or ys k y → same x y ≡ false → same_by same (drop k xs) (drop k ys) ≡ false
-  same_stops xs ys k x y lx ly one two off =
-      ap (λ (them : List X). same_by same them (drop k ys)) (drop_more xs k x lx ∙ ap (λ (z : X). z ∷ drop (k + 1) xs) (sym one))
-      ∙ ap (λ (them : List X). same_by same (x ∷ drop (k + 1) xs) them) (drop_more ys k y ly ∙ ap (λ (z : X). z ∷ drop (k + 1) ys) (sym two)) ∙ ap (λ (b : Bool). cond b (same_by same (drop (k + 1) xs) (drop (k + 1) ys)) false) off
-
-  pub same_end : (xs ys : List X) (k : ℕ) → length xs ≤ k → length ys ≤ k → same_by same (drop k xs) (drop k ys) ≡ true
-  same_end xs ys k lx ly = ap (λ (them : List X). same_by same them (drop k ys)) (drop_all k xs lx) ∙ ap (λ (them : List X). same_by same [] them) (drop_all k ys ly)
 
   -- where the test tells equality, so does the comparison
   same_is : ((x y : X) → same x y ≡ true → x ≡ y) → (xs ys : List X) → same_by same xs ys ≡ true → xs ≡ ys

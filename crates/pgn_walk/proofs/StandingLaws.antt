@@ -1,26 +1,15 @@
 -- Where a session stands: what it begins with, and what changes one part of it.
-use Rattle.std.proofs.Common.{◌≡◌, ℕ, ◌-◌, ◌≤◌, List, [], drop, take, Option, None, Some, sym, ap, ◌∙◌, refl, arith}
-use Rattle.std.specs.List.{list_any}
-use Rattle.std.proofs.lemmas.List.{drop_all}
+use Rattle.std.proofs.Common.{◌≡◌, ℕ, ◌≤◌, List, [], drop, None, sym, ap, refl, arith}
 use Rattle.std.proofs.lemmas.List.Elements.{All-nil}
 use Rattle.pgn_journal.specs.declared.tx.Tx.{Tx}
-use Rattle.pgn_journal.specs.Journal.{entries_between}
-use Rattle.pgn_journal.specs.Due.{is_due_to}
+use Rattle.pgn_due.specs.Next.{IsWatch}
 use Rattle.pgn_language.specs.declared.scenario.Section.{Section}
 use Rattle.pgn_model.specs.Walk.{Owed, State, start}
 use Rattle.pgn_block.specs.Views.{BlockView, idle_view}
 use Rattle.pgn_walk.specs.declared.standing.Standing.{Standing}
 use Rattle.pgn_walk.specs.declared.to_show.ToShow.{ToShow}
 use Rattle.pgn_walk.specs.declared.to_show.ToShow.TheVariants as show
-use Rattle.pgn_walk.specs.Standing.{AreKnown, Holds, IsFreshTo, IsGreatestMark, owed_of}
-
--- nothing was looked at
-pub fresh_zero : (journal : List Tx) (db : ℕ) (set : List (List ℕ)) (mark : Option ℕ) → IsFreshTo journal db set mark 0
-fresh_zero journal db set None = tt
-fresh_zero journal db set (Some from) = ap (λ (txs : List Tx). list_any (is_due_to db set) txs) (none from)
-  where
-    none : (m : ℕ) → entries_between journal m 0 ≡ []
-    none m = let e : 0 - 3 ≡ 0 = omega arith in ap (λ (n : ℕ). drop (m - 3) (take n journal)) e ∙ drop_all (m - 3) [] (omega arith)
+use Rattle.pgn_walk.specs.Standing.{AreKnown, Holds, IsGreatestMark, owed_of}
 
 no_mark : IsGreatestMark [] 0
 no_mark point = (λ h. omega arith, λ h. All-nil (λ (mark : ℕ). mark ≤ point))
@@ -32,8 +21,8 @@ no_flag = record {
 }
 
 pub holds_first : (section : Section) (journal : List Tx) (at : Standing) → at.next ≡ 0 → at.owed ≡ show.Nothing → at.block ≡ idle_view → at.set.channels ≡ [] → at.mark ≡ None → at.told ≡ 3 → at.greatest ≡ 0 → at.known.entries ≡ []
-    → Holds section journal at (start section)
-holds_first section journal at next owed block set mark told greatest known = record {
+    → IsWatch journal section.db at.set.channels at.mark at.watch → Holds section journal at (start section)
+holds_first section journal at next owed block set mark told greatest known watch = record {
   rest = ap (λ (k : ℕ). drop k section.lines) (sym next);
   owed = ap owed_of (sym owed);
   block = ap (λ (v : BlockView). v.state) (sym block);
@@ -43,7 +32,7 @@ holds_first section journal at next owed block set mark told greatest known = re
   told = sym told;
   marks = rw greatest no_mark;
   flags = rw known no_flag;
-  fresh = rw mark tt;
+  watch = watch;
 }
 
 -- something else is left to show
@@ -59,5 +48,5 @@ holds_owed section journal at s left owed h e = record {
   told = h.told;
   marks = h.marks;
   flags = h.flags;
-  fresh = h.fresh;
+  watch = h.watch;
 }

@@ -46,10 +46,10 @@ judged_by terms journal sections traces before old new i a b d next borne moves 
 
 -- A step.
 
-pub come_first : (basis : Basis) (sections : List Section) (traces : List Trace) (at : Standing) → ((section : Section) (journal : List Tx) → Holds section journal at (start section)) → HasCome basis sections traces [] at
+pub come_first : (basis : Basis) (sections : List Section) (traces : List Trace) (at : Standing) → Holds basis.section.now (journal_of basis) at (start basis.section.now) → HasCome basis sections traces [] at
 come_first basis sections traces at h = record {
   comes = comes-first (terms_of basis) (journal_of basis);
-  holds = h basis.section.now (journal_of basis);
+  holds = h;
   spotless = spotless-first (terms_of basis) (journal_of basis) sections traces;
 }
 
@@ -62,15 +62,15 @@ holds_ready : (basis : Basis) (sections : List Section) (traces : List Trace) (b
     → Holds basis.section.now (journal_of basis) ready_at (ready (state_at basis before))
 holds_ready basis sections traces before at ready_at come leads = leads basis.section.now (journal_of basis) (state_at basis before) come.holds
 
-pub step_left : (basis : Basis) (sections : List Section) (traces : List Trace) (head : ℕ) (trace : Trace) (before : List Item) (i : Item) (after : List Item) (old : Walker) (ready_at fresh_at : Standing) (b : Bool)
-    → IsAround basis sections traces head trace before i after old → Leads old.at ready_at ready → Asks (terms_of basis).section (journal_of basis) ready_at b fresh_at (λ s. IsFreshAt (terms_of basis) (journal_of basis) s i) → b ≡ false
+pub step_left : (basis : Basis) (sections : List Section) (traces : List Trace) (head : ℕ) (trace : Trace) (before : List Item) (i : Item) (after : List Item) (old : Walker) (ready_at : Standing) (b : Bool)
+    → IsAround basis sections traces head trace before i after old → Leads old.at ready_at ready → Asks (terms_of basis).section (journal_of basis) ready_at b (λ s. IsFreshAt (terms_of basis) (journal_of basis) s i) → b ≡ false
     → IsLeastOf (terms_of basis) (journal_of basis) sections traces head trace old.line
-step_left basis sections traces head trace before i after old ready_at fresh_at b around leads asks off =
+step_left basis sections traces head trace before i after old ready_at b around leads asks off =
     let s : State = state_at basis before in
     let holds = holds_ready basis sections traces before old.at ready_at around.come leads in
     let line : last_line head basis.section.now before ≡ old.line = sym around.line in
     subst (λ (n : ℕ). IsLeastOf (terms_of basis) (journal_of basis) sections traces head trace n) line (record {
-      blamed = LeftOut before after i s around.split around.come.comes (λ fresh. false≢true (sym off ∙ (asks.decides (ready s) holds).1 fresh));
+      blamed = LeftOut before after i s around.split around.come.comes (λ fresh. false≢true (sym off ∙ (asks (ready s) holds).1 fresh));
       least = λ m blames. blamed-from_before (terms_of basis) (journal_of basis) sections traces head trace before after i s m around.split around.come.comes around.come.spotless blames;
     })
 
@@ -82,35 +82,34 @@ blames_item basis sections traces head trace before i after split comes (inl h) 
 blames_item basis sections traces head trace before i after split comes (inr (inl h)) = NotNext before after i (state_at basis before) split comes h
 blames_item basis sections traces head trace before i after split comes (inr (inr h)) = Unfounded before after i (state_at basis before) split comes h
 
-pub step_bad : (basis : Basis) (sections : List Section) (traces : List Trace) (head : ℕ) (trace : Trace) (before : List Item) (i : Item) (after : List Item) (old : Walker) (ready_at fresh_at new : Standing) (b d : Bool)
-    → IsAround basis sections traces head trace before i after old → Leads old.at ready_at ready → Asks (terms_of basis).section (journal_of basis) ready_at b fresh_at (λ s. IsFreshAt (terms_of basis) (journal_of basis) s i) → b ≡ true
-    → IsJudged (terms_of basis) (journal_of basis) sections traces before fresh_at i d new → d ≡ false → IsLeastOf (terms_of basis) (journal_of basis) sections traces head trace (old.line + 1)
-step_bad basis sections traces head trace before i after old ready_at fresh_at new b d around leads asks on judged off =
+pub step_bad : (basis : Basis) (sections : List Section) (traces : List Trace) (head : ℕ) (trace : Trace) (before : List Item) (i : Item) (after : List Item) (old : Walker) (ready_at new : Standing) (b d : Bool)
+    → IsAround basis sections traces head trace before i after old → Leads old.at ready_at ready → Asks (terms_of basis).section (journal_of basis) ready_at b (λ s. IsFreshAt (terms_of basis) (journal_of basis) s i) → b ≡ true
+    → IsJudged (terms_of basis) (journal_of basis) sections traces before ready_at i d new → d ≡ false → IsLeastOf (terms_of basis) (journal_of basis) sections traces head trace (old.line + 1)
+step_bad basis sections traces head trace before i after old ready_at new b d around leads asks on judged off =
     let s : State = state_at basis before in
     let holds = holds_ready basis sections traces before old.at ready_at around.come leads in
     let bad : IsTaken (terms_of basis) (journal_of basis) sections traces before i (ready s) false =
-    subst (λ (t : Bool). IsTaken (terms_of basis) (journal_of basis) sections traces before i (ready s) t) off (judged.judged (ready s) (asks.stays (ready s) holds)) in
+    subst (λ (t : Bool). IsTaken (terms_of basis) (journal_of basis) sections traces before i (ready s) t) off (judged.judged (ready s) holds) in
     let line : line_after head basis.section.now before ≡ old.line + 1 = ap (λ (n : ℕ). n + 1) (sym around.line) in
     subst (λ (n : ℕ). IsLeastOf (terms_of basis) (journal_of basis) sections traces head trace n) line (record {
       blamed = blames_item basis sections traces head trace before i after around.split around.come.comes bad;
-      least = λ m blames. blamed-from_item (terms_of basis) (journal_of basis) sections traces head trace before after i s m around.read around.split around.come.comes around.come.spotless ((asks.decides (ready s) holds).0 on) blames;
+      least = λ m blames. blamed-from_item (terms_of basis) (journal_of basis) sections traces head trace before after i s m around.read around.split around.come.comes around.come.spotless ((asks (ready s) holds).0 on) blames;
     })
 
-pub step_on : (basis : Basis) (sections : List Section) (traces : List Trace) (head : ℕ) (trace : Trace) (before : List Item) (i : Item) (after : List Item) (old : Walker) (ready_at fresh_at new : Standing) (b d : Bool)
-    → IsAround basis sections traces head trace before i after old → Leads old.at ready_at ready → Asks (terms_of basis).section (journal_of basis) ready_at b fresh_at (λ s. IsFreshAt (terms_of basis) (journal_of basis) s i) → b ≡ true
-    → IsJudged (terms_of basis) (journal_of basis) sections traces before fresh_at i d new → d ≡ true → HasCome basis sections traces (before ++ i ∷ []) new
-step_on basis sections traces head trace before i after old ready_at fresh_at new b d around leads asks on judged said =
+pub step_on : (basis : Basis) (sections : List Section) (traces : List Trace) (head : ℕ) (trace : Trace) (before : List Item) (i : Item) (after : List Item) (old : Walker) (ready_at new : Standing) (b d : Bool)
+    → IsAround basis sections traces head trace before i after old → Leads old.at ready_at ready → Asks (terms_of basis).section (journal_of basis) ready_at b (λ s. IsFreshAt (terms_of basis) (journal_of basis) s i) → b ≡ true
+    → IsJudged (terms_of basis) (journal_of basis) sections traces before ready_at i d new → d ≡ true → HasCome basis sections traces (before ++ i ∷ []) new
+step_on basis sections traces head trace before i after old ready_at new b d around leads asks on judged said =
     let s : State = state_at basis before in
     let holds = holds_ready basis sections traces before old.at ready_at around.come leads in
-    let fresh = asks.stays (ready s) holds in
     let good : IsTaken (terms_of basis) (journal_of basis) sections traces before i (ready s) true =
-    subst (λ (t : Bool). IsTaken (terms_of basis) (journal_of basis) sections traces before i (ready s) t) said (judged.judged (ready s) fresh) in
+    subst (λ (t : Bool). IsTaken (terms_of basis) (journal_of basis) sections traces before i (ready s) t) said (judged.judged (ready s) holds) in
     let next : stepped s i ≡ state_at basis (before ++ i ∷ []) = sym (fold-push stepped (start basis.section.now) before i) in
     record {
       comes = subst (λ (t : State). Comes (terms_of basis) (journal_of basis) (before ++ i ∷ []) t) next (comes-on (terms_of basis) (journal_of basis) before i s around.come.comes good.0);
-      holds = subst (λ (t : State). Holds basis.section.now (journal_of basis) new t) next (judged.moved (ready s) fresh said);
+      holds = subst (λ (t : State). Holds basis.section.now (journal_of basis) new t) next (judged.moved (ready s) holds said);
       spotless = spotless-on (terms_of basis) (journal_of basis) sections traces before i s around.come.comes around.come.spotless (record {
-        fresh = (asks.decides (ready s) holds).0 on;
+        fresh = (asks (ready s) holds).0 on;
         next = good.1;
         borne_out = good.2;
       });
@@ -118,22 +117,22 @@ step_on basis sections traces head trace before i after old ready_at fresh_at ne
 
 -- The end.
 
-pub end_left : (basis : Basis) (sections : List Section) (traces : List Trace) (head : ℕ) (trace : Trace) (old : Walker) (fresh_at : Standing) (b : Bool) → IsAtEnd basis sections traces head trace old
-    → AsksLast (terms_of basis) (journal_of basis) old.at b fresh_at → b ≡ false → IsLeastOf (terms_of basis) (journal_of basis) sections traces head trace old.line
-end_left basis sections traces head trace old fresh_at b end asks off =
+pub end_left : (basis : Basis) (sections : List Section) (traces : List Trace) (head : ℕ) (trace : Trace) (old : Walker) (b : Bool) → IsAtEnd basis sections traces head trace old
+    → AsksLast (terms_of basis) (journal_of basis) old.at b → b ≡ false → IsLeastOf (terms_of basis) (journal_of basis) sections traces head trace old.line
+end_left basis sections traces head trace old b end asks off =
     let s : State = state_at basis trace.items in
     let out : IsFreshLast false (IsAtRest s) (IsUpToDate (terms_of basis) (journal_of basis) s) =
-    subst (λ (t : Bool). IsFreshLast t (IsAtRest s) (IsUpToDate (terms_of basis) (journal_of basis) s)) off (asks.decides s end.come.holds) in
+    subst (λ (t : Bool). IsFreshLast t (IsAtRest s) (IsUpToDate (terms_of basis) (journal_of basis) s)) off (asks s end.come.holds) in
     subst (λ (n : ℕ). IsLeastOf (terms_of basis) (journal_of basis) sections traces head trace n) (sym end.line) (record {
       blamed = LeftOutLast s end.come.comes out.0 out.1;
       least = λ m blames. blamed-from_last (terms_of basis) (journal_of basis) sections traces head trace s m end.come.comes end.come.spotless blames;
     })
 
-fresh_last : (basis : Basis) (sections : List Section) (traces : List Trace) (trace : Trace) (at fresh_at : Standing) (b : Bool) → HasCome basis sections traces trace.items at → AsksLast (terms_of basis) (journal_of basis) at b fresh_at
+fresh_last : (basis : Basis) (sections : List Section) (traces : List Trace) (trace : Trace) (at : Standing) (b : Bool) → HasCome basis sections traces trace.items at → AsksLast (terms_of basis) (journal_of basis) at b
     → b ≡ true → IsAtRest (state_at basis trace.items) → IsUpToDate (terms_of basis) (journal_of basis) (state_at basis trace.items)
-fresh_last basis sections traces trace at fresh_at b come asks on =
+fresh_last basis sections traces trace at b come asks on =
     let s : State = state_at basis trace.items in
-    subst (λ (t : Bool). IsFreshLast t (IsAtRest s) (IsUpToDate (terms_of basis) (journal_of basis) s)) on (asks.decides s come.holds)
+    subst (λ (t : Bool). IsFreshLast t (IsAtRest s) (IsUpToDate (terms_of basis) (journal_of basis) s)) on (asks s come.holds)
 
 -- nothing is missing
 whole_is : (basis : Basis) (trace : Trace) (own : ℕ) (s : State) → own ≡ length (finished_xids trace.items) → IsMissingNone basis own trace.last s → IsWhole basis.section.now (journal_of basis) trace s
@@ -142,26 +141,26 @@ whole_is basis trace own s e h = record { ended = h.ended; own = omega (arith, e
 is_whole : (basis : Basis) (trace : Trace) (own : ℕ) (s : State) → own ≡ length (finished_xids trace.items) → IsWhole basis.section.now (journal_of basis) trace s → IsMissingNone basis own trace.last s
 is_whole basis trace own s e h = record { ended = h.ended; all_own = omega (arith, e, h.own); read_all = h.read_all }
 
-pub end_bad : (basis : Basis) (sections : List Section) (traces : List Trace) (head : ℕ) (trace : Trace) (old : Walker) (fresh_at : Standing) (own : ℕ) (b d : Bool) → IsAtEnd basis sections traces head trace old
-    → AsksLast (terms_of basis) (journal_of basis) old.at b fresh_at → b ≡ true → own ≡ length (finished_xids trace.items) → Asks basis.section.now (journal_of basis) fresh_at d fresh_at (IsMissingNone basis own trace.last) → d ≡ false
+pub end_bad : (basis : Basis) (sections : List Section) (traces : List Trace) (head : ℕ) (trace : Trace) (old : Walker) (own : ℕ) (b d : Bool) → IsAtEnd basis sections traces head trace old
+    → AsksLast (terms_of basis) (journal_of basis) old.at b → b ≡ true → own ≡ length (finished_xids trace.items) → Asks basis.section.now (journal_of basis) old.at d (IsMissingNone basis own trace.last) → d ≡ false
     → IsLeastOf (terms_of basis) (journal_of basis) sections traces head trace (old.line + 1)
-end_bad basis sections traces head trace old fresh_at own b d end asks on e missing off =
+end_bad basis sections traces head trace old own b d end asks on e missing off =
     let s : State = state_at basis trace.items in
     let line : line_after head basis.section.now trace.items ≡ old.line + 1 = ap (λ (n : ℕ). n + 1) (sym end.line) in
     subst (λ (n : ℕ). IsLeastOf (terms_of basis) (journal_of basis) sections traces head trace n) line (record {
-      blamed = Unfinished s end.come.comes (λ whole. false≢true (sym off ∙ (missing.decides s (asks.stays s end.come.holds)).1 (is_whole basis trace own s e whole)));
-      least = λ m blames. blamed-from_end (terms_of basis) (journal_of basis) sections traces head trace s m end.come.comes end.come.spotless (fresh_last basis sections traces trace old.at fresh_at b end.come asks on) blames;
+      blamed = Unfinished s end.come.comes (λ whole. false≢true (sym off ∙ (missing s end.come.holds).1 (is_whole basis trace own s e whole)));
+      least = λ m blames. blamed-from_end (terms_of basis) (journal_of basis) sections traces head trace s m end.come.comes end.come.spotless (fresh_last basis sections traces trace old.at b end.come asks on) blames;
     })
 
-pub end_good : (basis : Basis) (sections : List Section) (traces : List Trace) (head : ℕ) (trace : Trace) (old : Walker) (fresh_at : Standing) (own : ℕ) (b d : Bool) → IsAtEnd basis sections traces head trace old
-    → AsksLast (terms_of basis) (journal_of basis) old.at b fresh_at → b ≡ true → own ≡ length (finished_xids trace.items) → Asks basis.section.now (journal_of basis) fresh_at d fresh_at (IsMissingNone basis own trace.last) → d ≡ true
+pub end_good : (basis : Basis) (sections : List Section) (traces : List Trace) (head : ℕ) (trace : Trace) (old : Walker) (own : ℕ) (b d : Bool) → IsAtEnd basis sections traces head trace old
+    → AsksLast (terms_of basis) (journal_of basis) old.at b → b ≡ true → own ≡ length (finished_xids trace.items) → Asks basis.section.now (journal_of basis) old.at d (IsMissingNone basis own trace.last) → d ≡ true
     → IsWalked (terms_of basis) (journal_of basis) sections traces trace
-end_good basis sections traces head trace old fresh_at own b d end asks on e missing said =
+end_good basis sections traces head trace old own b d end asks on e missing said =
     let s : State = state_at basis trace.items in
     record {
       state = s;
       comes = end.come.comes;
       spotless = end.come.spotless;
-      fresh = fresh_last basis sections traces trace old.at fresh_at b end.come asks on;
-      nothing_missing = whole_is basis trace own s e ((missing.decides s (asks.stays s end.come.holds)).0 said);
+      fresh = fresh_last basis sections traces trace old.at b end.come asks on;
+      nothing_missing = whole_is basis trace own s e ((missing s end.come.holds).0 said);
     }

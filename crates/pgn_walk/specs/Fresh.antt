@@ -6,7 +6,6 @@ use Rattle.pgn_model.specs.Walk.{State}
 use Rattle.pgn_walk.specs.declared.standing.Standing.{Standing}
 use Rattle.pgn_walk.specs.Standing.{Holds}
 
--- it is answered whether P holds where the session stands, and the session stands for the same states
-pub record Asks (section : Section) (journal : List Tx) (old : Standing) (answer : Bool) (new : Standing) (P : State → Type 0) : Type 0 where
-  pub decides : (s : State) → Holds section journal old s → (answer ≡ true) ↔ P s
-  pub stays : (s : State) → Holds section journal old s → Holds section journal new s
+-- it is answered whether P holds where the session stands
+abbrev pub Asks : Section → List Tx → Standing → Bool → (State → Type 0) → Type 0
+Asks section journal at answer P = (s : State) → Holds section journal at s → (answer ≡ true) ↔ P s

@@ -6,8 +6,7 @@ use Rattle.pgn_base.specs.declared.note.Note.{Note}
 use Rattle.pgn_base.specs.declared.listen_set.Action.{Action}
 use Rattle.pgn_answers.specs.Savepoints.{is_listen}
 use Rattle.pgn_journal.specs.declared.tx.Tx.{Tx}
-use Rattle.pgn_journal.specs.Journal.{entries_between}
-use Rattle.pgn_journal.specs.Due.{is_due_to}
+use Rattle.pgn_due.specs.Next.{IsWatch}
 use Rattle.pgn_language.specs.declared.scenario.Section.{Section}
 use Rattle.pgn_model.specs.Walk.{State, Owed, IsGreatest, IsUnknown, queueing_or_settled}
 use Rattle.pgn_model.specs.Walk as walk
@@ -49,10 +48,6 @@ pub record AreKnown (raised found known : List (ℕ × ℕ)) : Type 0 where
   pub greatest : (flag value : ℕ) → (IsGreatest raised flag value × IsGreatest found flag value) ↔ IfSome (known_at known flag) (λ most. most ≤ value)
   pub unknown : (flag : ℕ) → (IsUnknown raised flag × IsUnknown found flag) ↔ (known_at known flag ≡ None)
 
--- a listener finds nothing that is due from its mark up to a number
-abbrev pub IsFreshTo : List Tx → ℕ → List (List ℕ) → Option ℕ → ℕ → Type 0
-IsFreshTo journal db set mark to = IfSome mark (λ from. list_any (is_due_to db set) (entries_between journal from to) ≡ false)
-
 -- a session that stands so may be in this state of the walk
 pub record Holds (section : Section) (journal : List Tx) (at : Standing) (s : State) : Type 0 where
   pub rest : s.rest ≡ drop at.next section.lines
@@ -64,7 +59,7 @@ pub record Holds (section : Section) (journal : List Tx) (at : Standing) (s : St
   pub told : s.told ≡ at.told
   pub marks : IsGreatestMark s.marks at.greatest
   pub flags : AreKnown s.raised s.found at.known.entries
-  pub fresh : IsFreshTo journal section.db at.set.channels at.mark at.fresh_to
+  pub watch : IsWatch journal section.db at.set.channels at.mark at.watch
 
 -- a step leads from one standing to another as this does from a state of the walk to another
 abbrev pub Leads : Standing → Standing → (State → State) → Type 0

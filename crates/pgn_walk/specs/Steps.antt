@@ -52,5 +52,6 @@ may_read_at show.Nothing idle over = idle || over
 may_read_at (show.Awaiting flag) idle over = idle
 may_read_at other idle over = false
 
+-- the same of its section: whether no block is open, and whether no line is left
 abbrev pub may_read : Standing → Section → Bool
 may_read at section = may_read_at at.owed (is_idle at.block.state) (nat_le (length section.lines) at.next)

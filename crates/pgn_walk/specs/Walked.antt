@@ -66,9 +66,8 @@ abbrev pub IsFreshLast : Bool → Type 0 → Type 0 → Type 0
 IsFreshLast true rests fresh = rests → fresh
 IsFreshLast false rests fresh = rests × (fresh → ⊥)
 
-pub record AsksLast (terms : Terms) (journal : List Tx) (old : Standing) (answer : Bool) (new : Standing) : Type 0 where
-  pub decides : (s : State) → Holds terms.section journal old s → IsFreshLast answer (IsAtRest s) (IsUpToDate terms journal s)
-  pub stays : (s : State) → Holds terms.section journal old s → Holds terms.section journal new s
+abbrev pub AsksLast : Terms → List Tx → Standing → Bool → Type 0
+AsksLast terms journal at answer = (s : State) → Holds terms.section journal at s → IsFreshLast answer (IsAtRest s) (IsUpToDate terms journal s)
 
 -- nothing is missing at the end, where so many transactions were shown
 pub record IsMissingNone (basis : Basis) (own : ℕ) (last : Option ℕ) (s : State) : Type 0 where

@@ -12,7 +12,7 @@ use pgn_base::{Action, Actions, Notes};
 use std::alloc::AllocError;
 
 // A transaction commits.
-impl Standing {
+impl Standing<'_> {
     /// A session that is to listen and is no listener becomes one first.
     #[tactic(auto, using(crate::proofs::CommitLaws::enlists, crate::proofs::CommitLaws::goes_on))]
     pub fn commit(
@@ -71,7 +71,7 @@ impl Standing {
         Ok(())
     }
 
-    // The actions change the set.
+    // The actions change the set, and what is due next.
     #[tactic(auto, using(crate::proofs::CommitLaws::acts, crate::proofs::CommitLaws::acts_not))]
     fn act(&mut self, actions: Actions) -> Result<(), AllocError>
         ensures { OnOk result (Leads self.old self.new (λ s. record s { set = applied s.set actions })) }
@@ -80,8 +80,8 @@ impl Standing {
             return Ok(());
         }
         self.set.reserve(actions.as_slice().len())?;
+        self.watch.act(&self.mark, actions.as_slice())?;
         self.set.apply(actions);
-        self.fresh_to = 0;
         Ok(())
     }
 

@@ -1,10 +1,11 @@
-ghost use Rattle.std.specs.Prelude.{◌≡◌, ◌↔◌, ◌<◌, ◌≤◌, ℕ, max, true, false, Some, None, List, IfOk, OnOk, IfSome, IsSomeAnd};
+ghost use Rattle.std.specs.Prelude.{◌≡◌, ◌↔◌, ◌<◌, ◌≤◌, ℕ, max, true, false, Option, Some, None, List, IfOk, OnOk, IfSome, IsSomeAnd};
 ghost use Rattle.pgn_base.specs.declared.note.Note.{Note};
 ghost use Rattle.pgn_journal.specs.Journal.{entry, next_xid};
 ghost use Rattle.pgn_language.specs.declared.scenario.Section.{Section};
 ghost use Rattle.pgn_base.specs.declared.format.Format.{Format};
 ghost use Rattle.pgn_journal.specs.declared.tx.Tx.{Tx};
 ghost use Rattle.pgn_model.specs.Walk.{Settings, Terms, IsAbortedBy, IsCommittedBy};
+ghost use Rattle.pgn_due.specs.Next.{IsWatch};
 ghost use Rattle.pgn_walk.specs.Standing.{known_at};
 ghost use Rattle.pgn_walk.specs.Steps.{Knows, Moves, may_read};
 
@@ -21,7 +22,7 @@ use std::alloc::{AllocError, Global};
 use std::mem;
 
 // An item is judged, and where it is allowed the session stands behind it.
-impl Standing {
+impl Standing<'_> {
     /// A script line begins.
     #[tactic(auto, using(crate::proofs::ItemLaws::line_owing, crate::proofs::ItemLaws::line_past, crate::proofs::ItemLaws::line_other, crate::proofs::ItemLaws::line_on))]
     pub fn line(&mut self, alloc: Global, section: &Section, line: u32) -> Result<bool, AllocError>
@@ -55,7 +56,7 @@ impl Standing {
                 notes,
                 ending,
             } => {
-                self.stand_at(point);
+                self.stand_at(point)?;
                 self.queue_or_settle(actions, notes, ending)?;
                 Ok(true)
             }
@@ -75,12 +76,14 @@ impl Standing {
     }
 
     // The mark is here, and it is the greatest.
-    fn stand_at(&mut self, mark: Xid)
-        ensures { self.new ≡ record self.old { mark = Some mark; greatest = mark; fresh_to = 0 } }
+    fn stand_at(&mut self, mark: Xid) -> Result<(), AllocError>
+        ensures stands { OnOk result (self.new ≡ record self.old { mark = Some mark; greatest = mark; watch = self.new.watch }) }
+        ensures watches { OnOk result ((journal : List Tx) (db : ℕ) (before : List (List ℕ)) (was : Option ℕ) → IsWatch journal db before was self.old.watch → IsWatch journal db self.old.set.channels (Some mark) self.new.watch) }
     {
+        self.watch.begin(&self.set, mark)?;
         self.mark = Some(mark);
         self.greatest = mark.get();
-        self.fresh_to = 0;
+        Ok(())
     }
 
     /// A transaction committed.
@@ -314,17 +317,17 @@ impl Standing {
         from: Xid,
         to: Xid,
         got: &Seq<Delivery>,
-    ) -> bool
-        ensures { (settings : Settings) → Moves (record { section = section.now; settings = settings }) ledger.now.journal.now self.old (Item.Read from to got.now) result self.new }
+    ) -> Result<bool, AllocError>
+        ensures { IfOk result (λ allowed. (settings : Settings) → Moves (record { section = section.now; settings = settings }) ledger.now.journal.now self.old (Item.Read from to got.now) allowed self.new) }
     {
         if !self.may_read(section) || !self.reaches(ledger, from, to) {
-            return false;
+            return Ok(false);
         }
-        if !ledger.gives(from, to, section.db, &self.set, got.as_slice()) {
-            return false;
+        if !self.watch.takes(to, got.as_slice())? {
+            return Ok(false);
         }
         self.come_to(to);
-        true
+        Ok(true)
     }
 
     // No block is open, between lines and while a flag is awaited; at the script's end an open block is dropped.
@@ -347,7 +350,8 @@ impl Standing {
 
     // A read goes from the mark on, and to no earlier than what the session was told.
     fn reaches(&self, ledger: &Ledger, from: Xid, to: Xid) -> bool
-        ensures { (result ≡ true) ↔ ((self.now.mark ≡ Some from) × (from < to) × (self.now.told ≤ to) × (to ≤ next_xid ledger.now.journal.now)) }
+        ensures value { (result ≡ true) ↔ ((self.now.mark ≡ Some from) × (from < to) × (self.now.told ≤ to) × (to ≤ next_xid ledger.now.journal.now)) }
+        ensures first { result ≡ true → 3 ≤ from }
     {
         match &self.mark {
             None => false,
@@ -362,11 +366,10 @@ impl Standing {
 
     // The mark is here.
     fn come_to(&mut self, mark: Xid)
-        ensures { self.new ≡ record self.old { mark = Some mark; greatest = max self.old.greatest mark; fresh_to = 0 } }
+        ensures { self.new ≡ record self.old { mark = Some mark; greatest = max self.old.greatest mark } }
     {
         self.mark = Some(mark);
         self.greatest = self.greatest.max(mark.get());
-        self.fresh_to = 0;
     }
 }
 

@@ -14,7 +14,7 @@ use crate::walker::are_all;
 use pgn_model::Item;
 use std::alloc::{AllocError, Global};
 
-impl Standing {
+impl Standing<'_> {
     /// An item is allowed, the session's next, and borne out; then the session stands behind it.
     #[tactic(auto, using(crate::proofs::WalkLaws::judged_by))]
     pub fn takes(
@@ -53,7 +53,7 @@ impl Standing {
             Item::Found { value } => self.find(*value),
             Item::TimedOut { looks } => Ok(self.time_out(basis.patience, *looks)),
             Item::Read { from, to, got } => {
-                Ok(self.read(basis.section, basis.ledger, *from, *to, got))
+                self.read(basis.section, basis.ledger, *from, *to, got)
             }
         }
     }

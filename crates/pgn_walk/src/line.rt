@@ -1,4 +1,4 @@
-ghost use Rattle.std.specs.Prelude.{◌≡◌, OnOk, IfOk, List, length};
+ghost use Rattle.std.specs.Prelude.{◌≡◌, ◌≢◌, OnOk, IfOk, List, length};
 ghost use Rattle.pgn_answers.specs.Answers.{answer};
 ghost use Rattle.pgn_answers.specs.Savepoints.{live_names};
 ghost use Rattle.pgn_language.specs.declared.scenario.Section.{Section};
@@ -9,13 +9,14 @@ ghost use Rattle.pgn_walk.specs.Steps.{BeginsFrom, IsGivenBy};
 
 use crate::standing::Standing;
 use crate::to_show::{Ending, ToShow};
+use pgn_answers::BlockState;
 use pgn_base::{Command, Copied, ListenSet, Names, Tag};
 use pgn_block::{Effect, Kind};
 use pgn_language::Act;
 use std::alloc::{AllocError, Global};
 
 // A line of the script begins.
-impl Standing {
+impl Standing<'_> {
     /// What it does.
     #[tactic(auto, using(crate::proofs::LineLaws::begins_run, crate::proofs::LineLaws::begins_signal, crate::proofs::LineLaws::begins_await, crate::proofs::LineLaws::begins_quit))]
     pub fn begin(&mut self, alloc: Global, act: &Act) -> Result<(), AllocError>
@@ -45,7 +46,7 @@ impl Standing {
     {
         self.block.drop_block();
         self.set = ListenSet::new(alloc);
-        self.fresh_to = 0;
+        self.watch.clear();
         if self.mark.is_some() {
             self.owed = ToShow::Quitting;
         }
@@ -56,7 +57,7 @@ impl Standing {
     fn run(&mut self, alloc: Global, command: &Command) -> Result<(), AllocError>
         ensures { OnOk result (BeginsFrom self.old self.new (λ s. at_outcome s command.now (answer s.block (live_names s.changes) s.set command.now))) }
     {
-        let rows = rows_for(alloc, command, &self.set)?;
+        let rows = rows_for(alloc, command, self.block.state(), &self.set)?;
         let effect = self.block.step(command.copy(alloc)?)?;
         self.give(effect, rows)
     }
@@ -130,12 +131,19 @@ struct Rows {
     count: u32,
 }
 
-// The rows that a command may ask for. More than a tag can count have no place in memory.
-fn rows_for(alloc: Global, command: &Command, set: &ListenSet) -> Result<Rows, AllocError>
-    ensures names { IfOk result (λ rows. command.now ≡ Command.ListeningChannels → rows.names ≡ set.now.channels) }
+// The rows that a command may ask for, which it does not in a block that has failed. More than a tag can count have no place in
+// memory.
+fn rows_for(
+    alloc: Global,
+    command: &Command,
+    state: BlockState,
+    set: &ListenSet,
+) -> Result<Rows, AllocError>
+    ensures names { IfOk result (λ rows. command.now ≡ Command.ListeningChannels → state ≢ BlockState.Failed → rows.names ≡ set.now.channels) }
     ensures count { IfOk result (λ rows. rows.count ≡ length rows.names) }
 {
-    let Command::ListeningChannels = command else {
+    let (Command::ListeningChannels, BlockState::Idle | BlockState::InBlock) = (command, state)
+    else {
         return Ok(Rows {
             names: Names::new(alloc),
             count: 0,

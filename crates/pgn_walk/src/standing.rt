@@ -1,20 +1,20 @@
-ghost use Rattle.std.specs.Prelude.{◌≡◌, ◌↔◌, ◌&&◌, true, is_some, List};
+ghost use Rattle.std.specs.Prelude.{◌≡◌, ◌↔◌, ◌&&◌, true, is_some};
 ghost use Rattle.pgn_reading.specs.Completed.{ready};
 ghost use Rattle.pgn_language.specs.declared.scenario.Section.{Section};
-ghost use Rattle.pgn_journal.specs.declared.tx.Tx.{Tx};
 ghost use Rattle.pgn_model.specs.Walk.{is_empty_set, start};
 ghost use Rattle.pgn_walk.specs.Standing.{Holds, Leads, behind_rows, has_no_rows};
 
 use crate::to_show::ToShow;
 use indexmap::IndexMap;
-use pgn_base::{FIRST_XID, ListenSet, Xid};
+use pgn_base::{DbOid, FIRST_XID, ListenSet, Xid};
 use pgn_block::Block;
+use pgn_due::{Feed, Watch};
 use std::alloc::Global;
 use std::mem;
 
 /// Where a session stands in the walk over its trace.
 #[derive(Drop)]
-pub struct Standing {
+pub struct Standing<'a> {
     /// How many script lines have begun.
     pub next: usize,
     pub owed: ToShow,
@@ -27,15 +27,15 @@ pub struct Standing {
     pub greatest: u32,
     /// Each flag that was raised or found, with the greatest number that it showed.
     pub known: IndexMap<u32, u32>,
-    /// From the mark up to here nothing is due.
-    pub fresh_to: u32,
+    /// What is due next, from the mark on.
+    pub watch: Watch<'a>,
 }
 
-impl Standing {
-    /// Before the first item.
+impl<'a> Standing<'a> {
+    /// Before the first item, in this database.
     #[tactic(auto, using(crate::proofs::StandingLaws::holds_first))]
-    pub fn new(alloc: Global) -> Standing
-        ensures { (section : Section) (journal : List Tx) → Holds section journal result (start section) }
+    pub fn new(alloc: Global, feed: &'a Feed<'a>, db: DbOid) -> Standing<'a>
+        ensures { (section : Section) → section.db ≡ db → Holds section feed.now.sends.journal.now result (start section) }
     {
         Standing {
             next: 0,
@@ -46,7 +46,7 @@ impl Standing {
             told: Xid::new(FIRST_XID),
             greatest: 0,
             known: IndexMap::new(alloc),
-            fresh_to: 0,
+            watch: Watch::new(alloc, feed, db),
         }
     }
 

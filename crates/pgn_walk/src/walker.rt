@@ -9,7 +9,6 @@ ghost use Rattle.pgn_model.specs.Trace.{IsEnd};
 ghost use Rattle.pgn_model.specs.Text.{item_lines, trace_lines};
 ghost use Rattle.pgn_reading.specs.Form.{IsReadTrace};
 ghost use Rattle.pgn_reading.specs.WholeLaws.{IsWalked};
-ghost use Rattle.pgn_walk.specs.declared.basis.Basis.{Basis};
 ghost use Rattle.pgn_walk.specs.Fresh.{Asks};
 ghost use Rattle.pgn_walk.specs.Basis.{Tells, journal_of, terms_of};
 ghost use Rattle.pgn_walk.specs.Walked.{AsksLast, CountsOn, HasCome, IsAround, IsAtEnd, IsLeastOf, IsMissingNone};
@@ -25,8 +24,8 @@ use std::alloc::{AllocError, Global};
 /// How far a walk has come: where its session stands, how many transactions the items so far show as finished, and the number of the
 /// last line.
 #[derive(Drop)]
-pub(crate) struct Walker {
-    at: Standing,
+pub(crate) struct Walker<'a> {
+    at: Standing<'a>,
     own: usize,
     line: usize,
 }
@@ -42,7 +41,7 @@ pub fn walk(
     ensures { IfOk result (λ blamed. (sections : List Section) (traces : List Trace) → Tells basis.now sections traces → IsReadTrace basis.now.section.now trace.now
         → MatchOption blamed (IsWalked (terms_of basis.now) (journal_of basis.now) sections traces trace.now) (λ n. IsLeastOf (terms_of basis.now) (journal_of basis.now) sections traces head trace.now n)) }
 {
-    let mut walker = Walker::new(alloc, head);
+    let mut walker = Walker::new(alloc, basis, head);
     for item in trace.items.as_slice() {
         match walker.step(alloc, basis, item)? {
             Some(line) => return Ok(Some(line)),
@@ -52,15 +51,15 @@ pub fn walk(
     Ok(walker.end(basis, trace))
 }
 
-impl Walker {
+impl<'a> Walker<'a> {
     // Before the first item, where the head is the line of this number.
     #[tactic(auto, using(crate::proofs::WalkLaws::come_first))]
-    fn new(alloc: Global, head: usize) -> Walker
+    fn new(alloc: Global, basis: &Basis<'a>, head: usize) -> Walker<'a>
         ensures counted { (result.own ≡ 0) × (result.line ≡ head) }
-        ensures come { (basis : Basis) (sections : List Section) (traces : List Trace) → HasCome basis sections traces [] result.at }
+        ensures come { (sections : List Section) (traces : List Trace) → HasCome basis.now sections traces [] result.at }
     {
         Walker {
-            at: Standing::new(alloc),
+            at: Standing::new(alloc, &basis.ledger.feed, basis.section.db),
             own: 0,
             line: head,
         }
@@ -95,10 +94,10 @@ impl Walker {
 
     // The line that is to blame at the end, if one is.
     #[tactic(auto, using(crate::proofs::WalkLaws::end_left, crate::proofs::WalkLaws::end_bad, crate::proofs::WalkLaws::end_good))]
-    fn end(&mut self, basis: &Basis, trace: &Trace) -> Option<usize>
-        requires next { self.old.line + 1 < 2 ^ 64 }
-        requires own { self.old.own ≡ length (finished_xids trace.now.items) }
-        ensures { (sections : List Section) (traces : List Trace) (head : ℕ) → IsAtEnd basis.now sections traces head trace.now self.old
+    fn end(&self, basis: &Basis, trace: &Trace) -> Option<usize>
+        requires next { self.now.line + 1 < 2 ^ 64 }
+        requires own { self.now.own ≡ length (finished_xids trace.now.items) }
+        ensures { (sections : List Section) (traces : List Trace) (head : ℕ) → IsAtEnd basis.now sections traces head trace.now self.now
             → MatchOption result (IsWalked (terms_of basis.now) (journal_of basis.now) sections traces trace.now) (λ n. IsLeastOf (terms_of basis.now) (journal_of basis.now) sections traces head trace.now n) }
     {
         if !self.at.is_fresh_last(basis) {
@@ -112,11 +111,11 @@ impl Walker {
 }
 
 // The end of a trace.
-impl Standing {
+impl Standing<'_> {
     // No read was left out, where no block is open or no script line is left.
     #[tactic(auto, using(crate::proofs::LastLaws::last_off, crate::proofs::LastLaws::last_by))]
-    fn is_fresh_last(&mut self, basis: &Basis) -> bool
-        ensures { AsksLast (terms_of basis.now) (journal_of basis.now) self.old result self.new }
+    fn is_fresh_last(&self, basis: &Basis) -> bool
+        ensures { AsksLast (terms_of basis.now) (journal_of basis.now) self.now result }
     {
         if !is_either(self.is_idle(), self.is_over(basis.section)) {
             return true;
@@ -127,7 +126,7 @@ impl Standing {
     // Nothing is missing, where so many transactions were shown.
     #[tactic(auto, using(crate::proofs::LastLaws::whole_by))]
     fn is_whole(&self, basis: &Basis, own: usize, last: &Option<Xid>) -> bool
-        ensures { Asks basis.now.section.now (journal_of basis.now) self.now result self.now (IsMissingNone basis.now own last.now) }
+        ensures { Asks basis.now.section.now (journal_of basis.now) self.now result (IsMissingNone basis.now own last.now) }
     {
         are_all(
             self.has_ended(basis.section, last),
@@ -139,7 +138,7 @@ impl Standing {
     // The script is done, its last line has its whole answer, and this is the mark.
     #[tactic(auto, using(crate::proofs::LastLaws::ended_by))]
     fn has_ended(&self, section: &Section, last: &Option<Xid>) -> bool
-        ensures { (journal : List Tx) → Asks section.now journal self.now result self.now (λ s. IsEnd s last.now) }
+        ensures { (journal : List Tx) → Asks section.now journal self.now result (λ s. IsEnd s last.now) }
     {
         are_all(
             self.has_answered(),

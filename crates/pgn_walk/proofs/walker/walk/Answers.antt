@@ -71,5 +71,5 @@ loop-item-init c = record {
   line = omega (arith, c.new-walker.ensures.counted.1);
   own = c.new-walker.ensures.counted.0;
   few = omega (arith, c.new-walker.ensures.counted.0);
-  come = λ sections traces tells read. c.new-walker.ensures.come c.args.basis.now sections traces;
+  come = λ sections traces tells read. c.new-walker.ensures.come sections traces;
 }

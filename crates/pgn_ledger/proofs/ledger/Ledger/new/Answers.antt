@@ -13,5 +13,5 @@ invariant_of-result c = record {
     few = c.requires.few;
     few_notes = c.requires.few_notes;
   };
-  ended = c.in_ok-ends.ensures;
+  fed = c.in_ok-feed.ensures;
 }
