@@ -2,9 +2,9 @@
 #
 # Runs whose outputs differ from run to run, 200 of each. Each output is joined to its scenario, and `check` has to find it legal:
 #
-#   crowd           8 sessions that listen, and send 12 notifications each, with a LISTEN of another channel amid them
+#   crowd           8 sessions that listen, and send 9 notifications each, with a LISTEN of another channel amid them
 #   crossing        4 sessions, each of which raises a flag and awaits that of the next one, in blocks and outside
-#   full            6 sessions that send 4 notifications of 7,999 bytes each over 2 pages, of which 3 listen
+#   full            6 sessions that send 3 notifications of 7,999 bytes each over 2 pages, of which 3 listen and send an empty one too
 #
 # How many texts they have is printed too. Each text with a line taken out of its middle has to be found illegal where that line is
 # not one of those that another legal run has: an entry of the journal.
@@ -13,7 +13,13 @@
 #
 #   long notes      a session that listens, and sends 1,900 notifications of 7,999 bytes
 #   short notes     a session that sends 60,000 notifications of 1 byte to itself and to 20 others, which read them at their end
-#   many lines      600,000 LISTENs and UNLISTENs
+#   many lines      600,000 LISTENs and as many UNLISTENs
+#
+# Texts that are made to cost the most, with their verdicts:
+#
+#   unread          a session that listens on a further channel in each of 1,000,000 lines, with 1,300 notifications of another unread
+#   many reads      255 sessions that each read 1,500,000 notifications of which none is for them; their sender has not sent them
+#   read by read    255 sessions that listen on 600 channels each, and read 1,000,000 such notifications in 600 reads
 #
 # Needs GNU time.
 
@@ -49,12 +55,34 @@ large_checked() {
     awk "$letters BEGIN { $2 }" >"$room/large"
     "$program" run <"$room/large" >"$room/output" 2>"$room/errors" || refused large $?
     joined large >"$room/whole"
+    weighed "$1" legal
+}
+
+# made_checked NAME VERDICT BODY: the scenario with an output that the body of an awk program prints is to have this verdict
+made_checked() {
+    awk "BEGIN { $3 }" >"$room/whole"
+    weighed "$1" "$2"
+}
+
+# weighed NAME VERDICT: the cost of the check of the whole text, which is to have this verdict
+weighed() {
     bytes=$(wc -c <"$room/whole")
     if [ "$bytes" -gt 67108864 ]; then wrong "$1: $bytes bytes"; fi
-    env time -q -o "$room/time" -f '%U %S %M' "$program" check <"$room/whole" >"$room/verdict" 2>"$room/errors" || refused whole $?
+    env time -q -o "$room/time" -f '%U %S %M' "$program" check <"$room/whole" >"$room/verdict" 2>"$room/errors" || [ $? -eq 8 ] || refused whole $?
     awk -v name="$1" -v bytes="$bytes" '{ printf "%-12s %8.1f MB of scenario and output: %.2f s, %.1f MB peak\n", name, bytes / 1000000, $1 + $2, $3 / 1024 }' "$room/time"
-    [ "$(cat -- "$room/verdict")" = legal ] || wrong "$1: $(cat -- "$room/verdict")"
+    [ "$(cat -- "$room/verdict")" = "$2" ] || wrong "$1: $(cat -- "$room/verdict")"
 }
+
+# an output in which 255 sessions read all notifications of the last one, which sent one of them alone
+many_reads='for (s = 0; s < 255; s++) { print "\\session a" s " 1"; for (k = 0; k < listens; k++) print "LISTEN c" k }
+    print "\\session z 1\nNOTIFY d\n\\output\njournal " all; for (k = 0; k < all; k++) print "xid " 3 + k " session 256 commit 1\n  \"d\", \047\047"
+    for (s = 0; s < 255; s++) {
+        print "session " s + 1 " a" s " db 1 pid " 1001 + s "\n> LISTEN c0\n+enlist 3 3\nLISTEN"
+        for (k = 1; k < listens; k++) print "> LISTEN c" k "\nLISTEN"
+        for (r = 0; r < reads; r++) print "+read " 3 + int(all * r / reads) " " 3 + int(all * (r + 1) / reads)
+        print "end mark " 3 + all
+    }
+    print "session 256 z db 1 pid 1256\n> NOTIFY d\n+publish 3\nNOTIFY\nend"'
 
 measure_checked() {
     failed=
@@ -72,5 +100,15 @@ measure_checked() {
     large_checked 'short notes' 'print "\\session a 1"; print "LISTEN c"; for (i = 0; i < 60000; i++) print "NOTIFY c, \047p\047"
         for (k = 0; k < 20; k++) { print "\\session b" k " 1"; print "LISTEN c" }'
     large_checked 'many lines' 'print "\\session a 1"; for (i = 0; i < 600000; i++) { print "LISTEN c" i % 1000; print "UNLISTEN c" i % 1000 }'
+    made_checked unread legal 'print "\\session a 1\nLISTEN c\nNOTIFY e"; for (i = 0; i < 1000000; i++) print "LISTEN c" i
+        print "\\session b 1"; for (k = 0; k < 1300; k++) print "NOTIFY d"
+        print "\\output\njournal 1301"; for (k = 0; k < 1300; k++) print "xid " 3 + k " session 2 commit 1\n  \"d\", \047\047"
+        print "xid 1303 session 1 commit 1\n  \"e\", \047\047"
+        print "session 1 a db 1 pid 1001\n> LISTEN c\n+enlist 3 3\nLISTEN\n> NOTIFY e\n+publish 1303\nNOTIFY"
+        for (i = 0; i < 1000000; i++) print "> LISTEN c" i "\nLISTEN"
+        print "+read 3 1304\nend mark 1304\nsession 2 b db 1 pid 1002"
+        for (k = 0; k < 1300; k++) print "> NOTIFY d\n+publish " 3 + k "\nNOTIFY"; print "end"'
+    made_checked 'many reads' 'illegal line 3001536' "reads = 1; listens = 1; all = 1500000; $many_reads"
+    made_checked 'read by read' 'illegal line 2459771' "reads = 600; listens = 600; all = 1000000; $many_reads"
     [ -z "$failed" ] || exit 1
 }
