@@ -13,7 +13,9 @@
 //! let alloc = rt.alloc();
 //! let mut actions = Actions::new(alloc);
 //! actions.push(Action::Listen(Name::new(alloc, "c")?))?;
-//! let set = ListenSet::new(alloc).with(&actions)?;
+//! let mut set = ListenSet::new(alloc);
+//! set.reserve(1)?;
+//! set.apply(actions);
 //! assert!(rt; set.contains(b"c"));
 //!
 //! let mut sink = MemSink::new(alloc, 100, Vec::new(alloc), 7)?;
