@@ -6,4 +6,3 @@ pub mod Channels
 pub mod Listening
 pub mod Interest
 pub mod Outside
-pub mod Memory

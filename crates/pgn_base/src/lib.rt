@@ -13,12 +13,10 @@
 //! let alloc = rt.alloc();
 //! let mut actions = Actions::new(alloc);
 //! actions.push(Action::Listen(Name::new(alloc, "c")?))?;
-//! let set = ListenSet::new(alloc).with(&actions)?;
+//! let mut set = ListenSet::new(alloc);
+//! set.reserve(1)?;
+//! set.apply(actions);
 //! assert!(rt; set.contains(b"c"));
-//!
-//! let mut sink = MemSink::new(alloc, 100, Vec::new(alloc), 7)?;
-//! assert_eq!(rt; write_all(&mut sink, b"LISTEN\n"), Ok(()));
-//! assert_eq!(rt; sink.held(), b"LISTEN\n".as_slice());
 //! ```
 #![tactic(auto)]
 
@@ -30,8 +28,6 @@ mod format;
 mod in_place;
 mod limits;
 mod listen_set;
-mod memory_sink;
-mod memory_source;
 mod name;
 mod note;
 mod numbers;
@@ -53,8 +49,6 @@ pub use limits::{
     PAGES_MIN, PATIENCE_DEFAULT, PAYLOAD_BYTES_MAX, PID_BASE, REPEATS_MAX, SECTIONS_MAX,
 };
 pub use listen_set::{Action, Actions, ListenSet};
-pub use memory_sink::MemSink;
-pub use memory_source::MemSource;
 pub use name::{Name, NameFault, Names};
 pub use note::{Deliveries, Delivery, Note, Notes, are_notes};
 pub use numbers::{DbOid, SessionNo, Xid};

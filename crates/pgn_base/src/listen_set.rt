@@ -1,4 +1,4 @@
-ghost use Rattle.std.specs.Prelude.{◌≡◌, ◌==◌, ℕ, ◌+◌, ◌≤◌, List, [], ◌∷◌, ◌++◌, Option, None, false, length, vec_capacity, max, IfOk, OnOk, OnErr};
+ghost use Rattle.std.specs.Prelude.{◌≡◌, ◌==◌, ℕ, ◌+◌, ◌≤◌, List, [], ◌∷◌, ◌++◌, Option, None, false, length, max, IfOk, OnOk, OnErr};
 ghost use Rattle.std.specs.List.{list_any};
 ghost use Rattle.indexmap.specs.IndexMap.{spare};
 ghost use Rattle.pgn_base.specs.Listening.{listed, holds, AreOnce, AreThere};
@@ -19,22 +19,6 @@ pub enum Action {
 }
 
 pub type Actions = Seq<Action>;
-
-impl Copied for Action {
-    fn copy(&self, alloc: Global) -> Result<Self, AllocError> {
-        match self {
-            Action::Listen(name) => {
-                let name = name.copy(alloc)?;
-                Ok(Action::Listen(name))
-            }
-            Action::Unlisten(name) => {
-                let name = name.copy(alloc)?;
-                Ok(Action::Unlisten(name))
-            }
-            Action::UnlistenAll => Ok(Action::UnlistenAll),
-        }
-    }
-}
 
 /// The channels that a session listens to, in order of listening. Contracts see them, and how many more may be put in without
 /// memory. To listen and to unlisten take the same time, however many there are: places that were left are closed up once they
@@ -82,19 +66,6 @@ impl ListenSet {
             bits: ChannelBits::new(),
             room: 0,
         }
-    }
-
-    /// The set after these actions, with room for no more. It leaves this one as it is.
-    pub fn with(&self, actions: &Actions) -> Result<ListenSet, AllocError>
-        ensures { IfOk result (λ set. set ≡ record { channels = applied self.now.channels actions.now; room = 0 }) }
-    {
-        let alloc = *self.places.allocator();
-        let mut set = self.copy(alloc)?;
-        let actions = actions.copy(alloc)?;
-        set.reserve(actions.as_slice().len())?;
-        set.apply(actions);
-        set.room = 0;
-        Ok(set)
     }
 
     /// Makes room for at least so many more channels. A refusal changes nothing.
@@ -229,22 +200,6 @@ impl ListenSet {
     }
 }
 
-impl Copied for ListenSet {
-    fn copy(&self, alloc: Global) -> Result<Self, AllocError> {
-        let room = self.places.len() + self.room;
-        let places = copy_places(alloc, &self.places, room)?;
-        let mut index = IndexMap::new(alloc);
-        index.reserve(room)?;
-        put_all(&mut index, &places);
-        Ok(ListenSet {
-            places,
-            index,
-            bits: self.bits,
-            room: self.room,
-        })
-    }
-}
-
 // Empties a place.
 fn empty(place: &mut Option<Name>)
     ensures { place.new ≡ None }
@@ -313,33 +268,5 @@ fn push_name(alloc: Global, names: &mut Names, place: &Option<Name>) -> Result<(
             Ok(())
         }
         None => Ok(()),
-    }
-}
-
-// Places, copied, in a list with room for so many.
-fn copy_places(
-    alloc: Global,
-    places: &[Option<Name>],
-    room: usize,
-) -> Result<Vec<Option<Name>>, AllocError>
-    ensures items { IfOk result (λ copied. copied.items ≡ places.now) }
-    ensures room { IfOk result (λ copied. room ≤ vec_capacity copied) }
-{
-    let mut copied = Vec::with_capacity(alloc, room)?;
-    for place in places {
-        copied.push(copy_place(alloc, place)?)?;
-    }
-    Ok(copied)
-}
-
-fn copy_place(alloc: Global, place: &Option<Name>) -> Result<Option<Name>, AllocError>
-    ensures { IfOk result (λ copied. copied ≡ place.now) }
-{
-    match place {
-        Some(name) => {
-            let name = name.copy(alloc)?;
-            Ok(Some(name))
-        }
-        None => Ok(None),
     }
 }

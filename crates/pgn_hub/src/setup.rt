@@ -1,8 +1,7 @@
 ghost use Rattle.std.specs.Prelude.{◌≡◌, ◌≤◌, sum_by, vec_len};
 ghost use Rattle.pgn_base.specs.declared.limits.TheConstants.{HUB_FLAGS_MAX, NOTE_LINES_MAX, PAGES_MAX, PAGES_MIN, SECTIONS_MAX};
 
-use pgn_base::{Copied, DbOid, Format, Seq};
-use std::alloc::{AllocError, Global};
+use pgn_base::{DbOid, Format, Seq};
 use std::marker::Model;
 
 /// What a queue keeps for a session: its database, and how many notifications it may still send.
@@ -13,12 +12,6 @@ pub struct SeatSetup {
 }
 
 pub type Seats = Seq<SeatSetup>;
-
-impl Copied for SeatSetup {
-    fn copy(&self, _alloc: Global) -> Result<Self, AllocError> {
-        Ok(*self)
-    }
-}
 
 /// What a queue is opened for: its limit in pages, how many flags there are, a seat for each session, in order, and the format of
 /// its entries. Contracts see it as a `Shape`.
@@ -90,17 +83,5 @@ impl Setup {
         ensures { result ≡ self.now.format }
     {
         self.format
-    }
-}
-
-impl Copied for Setup {
-    fn copy(&self, alloc: Global) -> Result<Self, AllocError> {
-        let seats = self.seats.copy(alloc)?;
-        Ok(Setup {
-            pages: self.pages,
-            flags: self.flags,
-            seats,
-            format: self.format,
-        })
     }
 }

@@ -1,5 +1,4 @@
-use pgn_base::{Copied, DbOid, Notes, SessionNo};
-use std::alloc::{AllocError, Global};
+use pgn_base::{DbOid, Notes, SessionNo};
 
 /// How a finished transaction ended.
 #[derive(Clone, Copy, PartialEq, Eq)]
@@ -17,17 +16,4 @@ pub struct Tx {
     pub notes: Notes,
     pub queued: u32,
     pub fate: Fate,
-}
-
-impl Copied for Tx {
-    fn copy(&self, alloc: Global) -> Result<Self, AllocError> {
-        let notes = self.notes.copy(alloc)?;
-        Ok(Tx {
-            session: self.session,
-            db: self.db,
-            notes,
-            queued: self.queued,
-            fate: self.fate,
-        })
-    }
 }

@@ -105,11 +105,3 @@ impl Copied for Section {
         })
     }
 }
-
-impl Copied for Scenario {
-    fn copy(&self, alloc: Global) -> Result<Self, AllocError> {
-        let sections = self.sections.copy(alloc)?;
-        let flags = self.flags.copy(alloc)?;
-        Ok(Scenario { sections, flags })
-    }
-}

@@ -1,6 +1,6 @@
 // The set of channels that a session listens to.
 use super::repeated;
-use pgn_base::{Action, Actions, Copied, ListenSet, Name};
+use pgn_base::{Action, Actions, ListenSet, Name};
 use std::alloc::{AllocError, Global};
 use std::test::Fail;
 
@@ -39,7 +39,10 @@ fn all_listened(alloc: Global) -> Result<ListenSet, Fail> {
     for (before, letter) in LISTENED {
         actions.push(Action::Listen(channel(alloc, before, letter)?))?;
     }
-    Ok(ListenSet::new(alloc).with(&actions)?)
+    let mut set = ListenSet::new(alloc);
+    set.reserve(actions.as_slice().len())?;
+    set.apply(actions);
+    Ok(set)
 }
 
 // How many channels a set has, and how many it has of those and of the others.
@@ -113,13 +116,16 @@ fn leave_all_but_c(alloc: Global) -> Result<Actions, Fail> {
 
 fn only_c(alloc: Global) -> Result<ListenSet, Fail> {
     let actions = leave_all_but_c(alloc)?;
-    Ok(all_listened(alloc)?.with(&actions)?)
+    let mut set = all_listened(alloc)?;
+    set.reserve(actions.as_slice().len())?;
+    set.apply(actions);
+    Ok(set)
 }
 
 #[test]
 fn channels_after_all_were_left(rt: HostRuntime) -> Result<(), Fail> {
     let alloc = rt.alloc();
-    let set = only_c(alloc)?.copy(alloc)?;
+    let set = only_c(alloc)?;
     assert!(rt; set.names(alloc)?.as_slice().len() == 1);
     assert!(rt; set.contains(b"c"));
     assert!(rt; found(alloc, &set, &LISTENED)? == 2);

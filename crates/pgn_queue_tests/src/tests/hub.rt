@@ -57,7 +57,10 @@ fn listen_on_c(alloc: Global) -> Result<Actions, Fail> {
 // The set of the channel `c`.
 fn set_of_c(alloc: Global) -> Result<ListenSet, Fail> {
     let actions = listen_on_c(alloc)?;
-    Ok(ListenSet::new(alloc).with(&actions)?)
+    let mut set = ListenSet::new(alloc);
+    set.reserve(1)?;
+    set.apply(actions);
+    Ok(set)
 }
 
 // The seat of a session in a database.

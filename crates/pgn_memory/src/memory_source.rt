@@ -1,9 +1,9 @@
 ghost use Rattle.std.specs.Prelude.{◌≡◌, ◌↔◌, ◌≤◌, Contains, IfOk, IsErr, OnErr, OnOk, Some, length, min};
 ghost use Rattle.std.specs.Io.KnownBytes.{ReadConsumes};
-ghost use Rattle.pgn_base.specs.Memory.{next_count};
+ghost use Rattle.pgn_memory.specs.Memory.{next_count};
 ghost use Rattle.pgn_base.specs.Outside.{HasCause};
 
-use crate::{Failed, Source};
+use pgn_base::{Failed, Source};
 use std::marker::Model;
 
 /// A source of known bytes, for tests. Contracts see what is left of them, how often it was read and how often that failed.
@@ -19,7 +19,7 @@ pub struct MemSource {
 
 impl Model for MemSource {
     ghost use Rattle.std.specs.Prelude.{◌≤◌, drop, vec_len};
-    ghost use Rattle.pgn_base.specs.Memory.{SourceState};
+    ghost use Rattle.pgn_memory.specs.Memory.{SourceState};
 
     ghost Value = { SourceState };
 

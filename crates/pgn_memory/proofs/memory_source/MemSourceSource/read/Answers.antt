@@ -1,7 +1,7 @@
 use Rattle.std.proofs.Common.{◌≡◌, ℕ, ◌+◌, ◌-◌, ◌<◌, ◌≤◌, min, List, [], ◌++◌, length, take, drop, sym, ap, ◌∙◌, arith, length-append, length-drop}
 use Rattle.std.proofs.lemmas.List.{take-append-drop, drop-drop, length-take, take_all, drop_all}
 use Rattle.std.proofs.Math.Seq.{take-append_seam}
-use Rattle.pgn_base.proofs.memory_source.MemSourceSource.read.Goals as goal
+use Rattle.pgn_memory.proofs.memory_source.MemSourceSource.read.Goals as goal
 
 -- what is given and what is left make what there was
 given_and_left : (bytes buf : List ℕ) (at n : ℕ) → n ≤ length (drop at bytes)

@@ -1,9 +1,9 @@
 ghost use Rattle.std.specs.Prelude.{◌≡◌, ◌↔◌, ◌+◌, ◌<◌, ◌≤◌, ◌⊎◌, [], Contains, IfOk, IsErr, OnErr, Some, length, min};
 ghost use Rattle.std.specs.Io.KnownBytes.{WriteAppends};
-ghost use Rattle.pgn_base.specs.Memory.{next_count};
+ghost use Rattle.pgn_memory.specs.Memory.{next_count};
 ghost use Rattle.pgn_base.specs.Outside.{Rose};
 
-use crate::{Failed, Sink};
+use pgn_base::{Failed, Sink};
 use std::alloc::{AllocError, Global};
 use std::marker::Model;
 
@@ -21,7 +21,7 @@ pub struct MemSink {
 
 impl Model for MemSink {
     ghost use Rattle.std.specs.Prelude.{◌+◌, ◌≤◌, vec_capacity, vec_len};
-    ghost use Rattle.pgn_base.specs.Memory.{SinkState};
+    ghost use Rattle.pgn_memory.specs.Memory.{SinkState};
 
     ghost Value = { SinkState };
 
