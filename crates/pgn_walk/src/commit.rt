@@ -24,11 +24,11 @@ impl Standing<'_> {
         ensures { OnOk result (Leads self.old self.new (λ s. commits s actions notes (ending_of ending))) }
     {
         if self.is_to_enlist(actions.as_slice()) {
-            self.owed = ToShow::Enlisting {
+            self.owed.set(ToShow::Enlisting {
                 actions,
                 notes,
                 ending,
-            };
+            });
             return Ok(());
         }
         self.queue_or_settle(actions, notes, ending)
@@ -54,11 +54,11 @@ impl Standing<'_> {
         if notes.as_slice().is_empty() {
             return self.settle(actions, ending);
         }
-        self.owed = ToShow::Queueing {
+        self.owed.set(ToShow::Queueing {
             actions,
             notes,
             ending,
-        };
+        });
         Ok(())
     }
 
@@ -91,9 +91,9 @@ impl Standing<'_> {
         ensures { Leads self.old self.new (λ s. leaving_or_answering s (ending_of ending)) }
     {
         if self.is_to_leave() {
-            self.owed = ToShow::Leaving { ending };
+            self.owed.set(ToShow::Leaving { ending });
         } else {
-            self.owed = ToShow::Answering { ending };
+            self.owed.set(ToShow::Answering { ending });
         }
     }
 }

@@ -152,7 +152,7 @@ impl Standing<'_> {
     {
         match mem::replace(&mut self.owed, ToShow::Nothing) {
             ToShow::Leaving { ending } => {
-                self.owed = ToShow::Answering { ending };
+                self.owed.set(ToShow::Answering { ending });
                 self.mark = None;
                 true
             }
@@ -193,7 +193,7 @@ impl Standing<'_> {
     {
         match mem::replace(&mut self.owed, ToShow::Nothing) {
             ToShow::Listing { names: due, ending } => {
-                self.owed = ToShow::Answering { ending };
+                self.owed.set(ToShow::Answering { ending });
                 same_names(names, due.as_slice())
             }
             _ => false,
@@ -213,7 +213,7 @@ impl Standing<'_> {
         }
         match mem::replace(&mut self.owed, ToShow::Nothing) {
             ToShow::Measuring { ending } => {
-                self.owed = ToShow::Answering { ending };
+                self.owed.set(ToShow::Answering { ending });
                 true
             }
             _ => false,
@@ -232,7 +232,7 @@ impl Standing<'_> {
             return Ok(false);
         }
         self.know(flag, value)?;
-        self.owed = ToShow::Nothing;
+        self.owed.set(ToShow::Nothing);
         Ok(true)
     }
 
@@ -259,7 +259,7 @@ impl Standing<'_> {
         if self.told < value {
             self.told = value;
         }
-        self.owed = ToShow::Nothing;
+        self.owed.set(ToShow::Nothing);
     }
 
     // No greater number is known of the flag.
@@ -304,7 +304,7 @@ impl Standing<'_> {
         if looks != patience || self.is_known(flag) {
             return false;
         }
-        self.owed = ToShow::Nothing;
+        self.owed.set(ToShow::Nothing);
         true
     }
 

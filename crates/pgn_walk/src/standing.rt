@@ -75,8 +75,8 @@ impl<'a> Standing<'a> {
         ensures { self.new ≡ record self.old { owed = behind_rows self.old.owed } }
     {
         match mem::replace(&mut self.owed, ToShow::Nothing) {
-            ToShow::Listing { ending, .. } => self.owed = ToShow::Answering { ending },
-            owed => self.owed = owed,
+            ToShow::Listing { ending, .. } => self.owed.set(ToShow::Answering { ending }),
+            owed => self.owed.set(owed),
         }
     }
 

@@ -1,4 +1,7 @@
+ghost use Rattle.std.specs.Prelude.{◌≡◌};
+
 use pgn_base::{Actions, Names, Notes, Refusal, Tag, Warning};
+use std::mem;
 
 /// How a line is answered.
 #[derive(Drop)]
@@ -50,4 +53,13 @@ pub enum ToShow {
     },
     /// A listener that quits stops being one.
     Quitting,
+}
+
+impl ToShow {
+    /// This is to show from now on. What stood there is dropped by a call, so that no caller that has several ways out drops it.
+    pub fn set(&mut self, now: ToShow)
+        ensures { self.new ≡ now }
+    {
+        drop(mem::replace(self, now));
+    }
 }

@@ -42,13 +42,10 @@ pub fn walk(
         → MatchOption blamed (IsWalked (terms_of basis.now) (journal_of basis.now) sections traces trace.now) (λ n. IsLeastOf (terms_of basis.now) (journal_of basis.now) sections traces head trace.now n)) }
 {
     let mut walker = Walker::new(alloc, basis, head);
-    for item in trace.items.as_slice() {
-        match walker.step(alloc, basis, item)? {
-            Some(line) => return Ok(Some(line)),
-            None => {}
-        }
-    }
-    Ok(walker.end(basis, trace))
+    let blamed = walker.go(alloc, basis, trace);
+    // By a call, behind the last way out.
+    drop(walker);
+    blamed
 }
 
 impl<'a> Walker<'a> {
@@ -63,6 +60,28 @@ impl<'a> Walker<'a> {
             own: 0,
             line: head,
         }
+    }
+
+    // Goes along a whole trace, to the line that is to blame, if one is.
+    fn go(
+        &mut self,
+        alloc: Global,
+        basis: &Basis,
+        trace: &Trace,
+    ) -> Result<Option<usize>, AllocError>
+        requires fits { self.old.line + length (trace_lines basis.now.section.now trace.now) < 2 ^ 64 }
+        requires own { self.old.own ≡ 0 }
+        requires come { (sections : List Section) (traces : List Trace) → HasCome basis.now sections traces [] self.old.at }
+        ensures { IfOk result (λ blamed. (sections : List Section) (traces : List Trace) → Tells basis.now sections traces → IsReadTrace basis.now.section.now trace.now
+            → MatchOption blamed (IsWalked (terms_of basis.now) (journal_of basis.now) sections traces trace.now) (λ n. IsLeastOf (terms_of basis.now) (journal_of basis.now) sections traces self.old.line trace.now n)) }
+    {
+        for item in trace.items.as_slice() {
+            match self.step(alloc, basis, item)? {
+                Some(line) => return Ok(Some(line)),
+                None => {}
+            }
+        }
+        Ok(self.end(basis, trace))
     }
 
     // Takes an item, or gives the line that is to blame.
