@@ -66,7 +66,7 @@ impl Block {
     pub fn drop_block(&mut self)
         ensures { self.new ≡ idle_view }
     {
-        let _dropped = self.stage.take();
+        drop(self.stage.take());
     }
 }
 

@@ -93,12 +93,14 @@ impl Stage {
     fn rollback(&mut self) -> Effect
         ensures { IsStep self.old Command.Rollback result self.new }
     {
-        match self.take() {
-            Stage::Idle { .. } => Effect::Reply {
+        let was = self.state();
+        drop(self.take());
+        match was {
+            BlockState::Idle => Effect::Reply {
                 tag: Tag::Rollback,
                 warning: Some(Warning::NotInBlock),
             },
-            Stage::Failed { .. } | Stage::InBlock { .. } => done(Tag::Rollback),
+            BlockState::InBlock | BlockState::Failed => done(Tag::Rollback),
         }
     }
 
@@ -255,25 +257,32 @@ impl Stage {
         ensures effect { result ≡ Effect.Refuse refusal }
         ensures failed { view_of self.new ≡ failed_view (view_of self.old) }
     {
-        match self.take() {
-            Stage::Idle { .. } => {}
-            Stage::InBlock { alloc, pending } | Stage::Failed { alloc, pending } => {
-                *self = Stage::Failed { alloc, pending };
-            }
-        }
+        self.fail();
         Effect::Refuse { refusal }
+    }
+
+    // An open block fails.
+    fn fail(&mut self)
+        ensures { view_of self.new ≡ failed_view (view_of self.old) }
+    {
+        let Stage::InBlock { alloc, pending } = self else {
+            return;
+        };
+        let alloc = *alloc;
+        let pending = mem::replace(pending, Pending::new(alloc));
+        drop(mem::replace(self, Stage::Failed { alloc, pending }));
     }
 
     // A failed block goes on.
     fn reopen(&mut self)
         ensures { view_of self.new ≡ open_view (view_of self.old) }
     {
-        match self.take() {
-            Stage::Idle { .. } => {}
-            Stage::InBlock { alloc, pending } | Stage::Failed { alloc, pending } => {
-                *self = Stage::InBlock { alloc, pending };
-            }
-        }
+        let Stage::Failed { alloc, pending } = self else {
+            return;
+        };
+        let alloc = *alloc;
+        let pending = mem::replace(pending, Pending::new(alloc));
+        drop(mem::replace(self, Stage::InBlock { alloc, pending }));
     }
 
     // What the next block's memory is taken from.
