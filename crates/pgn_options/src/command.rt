@@ -1,9 +1,9 @@
-ghost use Rattle.std.specs.Prelude.{◌≡◌, false, None, Some, IfOk, pos};
-ghost use Rattle.clap.specs.Simple.{app_of};
+ghost use Rattle.std.specs.Prelude.{◌≡◌, false, [], None, Some, IfOk, pos};
+ghost use Rattle.clap.specs.Simple.{app_of, shape_of, with_rule, with_subcommand};
 ghost use Rattle.clap.specs.Walk.{rule_of};
 ghost use Rattle.clap.specs.declared.builder.command.Command.TheViews.{out-Command};
 ghost use Rattle.clap.specs.declared.builder.value_parser.ValueParser.TheVariants.{Unsigned};
-ghost use Rattle.pgn_options.specs.Parse.{check_app, drill_app, flag_rule, option_rule, options_app, playing_app, program_app, run_app, seed_max, wire_app, word_rule};
+ghost use Rattle.pgn_options.specs.Parse.{check_app, drill_app, flag_rule, option_rule, options_app, playing_app, program_app, program_shape, run_app, seed_max, wire_app, word_rule};
 ghost use Rattle.pgn_base.specs.declared.limits.TheConstants.{PAGES_MAX, PAGES_MIN};
 ghost use Rattle.pgn_options.specs.declared.limits.TheConstants.{DRILL_NOTES_MAX, DRILL_SESSIONS_MAX, PATIENCE_MAX};
 
@@ -17,12 +17,16 @@ use std::alloc::{AllocError, Global};
 pub(crate) fn command<'a>(alloc: Global) -> Result<Command<'a>, AllocError>
     ensures { IfOk result (λ command. app_of command ≡ program_app) }
 {
-    let wire = wire(alloc);
-    let check = options(alloc, "check")?;
     let command = playing(alloc)?;
-    let command = command.subcommand(wire)?;
-    let command = command.subcommand(check)?;
-    Ok(command)
+    let command = with_command(command, wire(alloc))?;
+    match options(alloc, "check") {
+        Ok(check) => with_command(command, check),
+        Err(AllocError) => {
+            // Dropped here, by a call: there are several ways out.
+            drop(command);
+            Err(AllocError)
+        }
+    }
 }
 
 // The program with `run` and `drill` alone.
@@ -30,15 +34,36 @@ fn playing<'a>(alloc: Global) -> Result<Command<'a>, AllocError>
     ensures { IfOk result (λ command. app_of command ≡ playing_app) }
 {
     let run = options(alloc, "run")?;
-    let drill = drill(alloc)?;
-    let command = Command::new(alloc, "pgnotify")
+    let command = with_command(program(alloc), run)?;
+    match drill(alloc) {
+        Ok(drill) => with_command(command, drill),
+        Err(AllocError) => {
+            drop(command);
+            Err(AllocError)
+        }
+    }
+}
+
+// The program without its commands.
+fn program<'a>(alloc: Global) -> Command<'a>
+    ensures { app_of result ≡ record { top = program_shape; subs = [] } }
+{
+    Command::new(alloc, "pgnotify")
         .no_binary_name(true)
         .disable_help_flag(true)
         .disable_help_subcommand(true)
-        .subcommand_required(true);
-    let command = command.subcommand(run)?;
-    let command = command.subcommand(drill)?;
-    Ok(command)
+        .subcommand_required(true)
+}
+
+// A command with this one below it.
+fn with_command<'a>(
+    command: Command<'a>,
+    below: Command<'a>,
+) -> Result<Command<'a>, AllocError>
+    requires { (out-Command below).has_globals ≡ false }
+    ensures { IfOk result (λ whole. app_of whole ≡ with_subcommand (app_of command.entry) (shape_of below.entry)) }
+{
+    command.subcommand(below)
 }
 
 // A command with the options of `run`.
@@ -47,11 +72,10 @@ fn options<'a>(alloc: Global, name: &'a str) -> Result<Command<'a>, AllocError>
     ensures local { IfOk result (λ command. (out-Command command).has_globals ≡ false) }
 {
     let command = Command::new(alloc, name);
-    let command = command.arg(option(alloc, "pages", pages()))?;
-    let command = command.arg(option(alloc, "patience", patience()))?;
-    let command = command.arg(option(alloc, "format", formats()))?;
-    let command = command.arg(flag(alloc, "live"))?;
-    Ok(command)
+    let command = with_argument(command, option(alloc, "pages", pages()))?;
+    let command = with_argument(command, option(alloc, "patience", patience()))?;
+    let command = with_argument(command, option(alloc, "format", formats()))?;
+    with_argument(command, flag(alloc, "live"))
 }
 
 fn drill<'a>(alloc: Global) -> Result<Command<'a>, AllocError>
@@ -59,10 +83,22 @@ fn drill<'a>(alloc: Global) -> Result<Command<'a>, AllocError>
     ensures local { IfOk result (λ command. (out-Command command).has_globals ≡ false) }
 {
     let command = Command::new(alloc, "drill");
-    let command = command.arg(word(alloc, "seed", seed()))?;
-    let command = command.arg(word(alloc, "sessions", sessions()))?;
-    let command = command.arg(word(alloc, "notes", notes()))?;
-    Ok(command)
+    let command = with_argument(command, word(alloc, "seed", seed()))?;
+    let command = with_argument(command, word(alloc, "sessions", sessions()))?;
+    with_argument(command, word(alloc, "notes", notes()))
+}
+
+// A command with one more argument.
+fn with_argument<'a>(
+    command: Command<'a>,
+    argument: Arg<'a>,
+) -> Result<Command<'a>, AllocError>
+    requires own { (out-Command command).has_globals ≡ false }
+    requires local { argument.global ≡ false }
+    ensures app { IfOk result (λ whole. app_of whole ≡ with_rule (app_of command.entry) (rule_of argument.entry)) }
+    ensures local { IfOk result (λ whole. (out-Command whole).has_globals ≡ false) }
+{
+    command.arg(argument)
 }
 
 fn wire<'a>(alloc: Global) -> Command<'a>
