@@ -4,11 +4,12 @@ ghost use Rattle.pgn_base.specs.Channels.{applied};
 ghost use Rattle.pgn_answers.specs.Savepoints.{is_listen};
 ghost use Rattle.pgn_model.specs.Walk.{State};
 ghost use Rattle.pgn_model.specs.Walk.{leaving_or_answering, queueing_or_settled, settled};
-ghost use Rattle.pgn_walk.specs.Standing.{Leads, commits, ending_of};
+ghost use Rattle.pgn_ledger.specs.ToShow.{ending_of};
+ghost use Rattle.pgn_walk.specs.Standing.{Leads, commits};
 
 use crate::standing::Standing;
-use crate::to_show::{Ending, ToShow};
 use pgn_base::{Action, Actions, Notes};
+use pgn_ledger::{Ending, ToShow};
 use std::alloc::AllocError;
 
 // A transaction commits.
@@ -24,11 +25,11 @@ impl Standing<'_> {
         ensures { OnOk result (Leads self.old self.new (λ s. commits s actions notes (ending_of ending))) }
     {
         if self.is_to_enlist(actions.as_slice()) {
-            self.owed = ToShow::Enlisting {
+            self.owed.set(ToShow::Enlisting {
                 actions,
                 notes,
                 ending,
-            };
+            });
             return Ok(());
         }
         self.queue_or_settle(actions, notes, ending)
@@ -54,11 +55,11 @@ impl Standing<'_> {
         if notes.as_slice().is_empty() {
             return self.settle(actions, ending);
         }
-        self.owed = ToShow::Queueing {
+        self.owed.set(ToShow::Queueing {
             actions,
             notes,
             ending,
-        };
+        });
         Ok(())
     }
 
@@ -91,9 +92,9 @@ impl Standing<'_> {
         ensures { Leads self.old self.new (λ s. leaving_or_answering s (ending_of ending)) }
     {
         if self.is_to_leave() {
-            self.owed = ToShow::Leaving { ending };
+            self.owed.set(ToShow::Leaving { ending });
         } else {
-            self.owed = ToShow::Answering { ending };
+            self.owed.set(ToShow::Answering { ending });
         }
     }
 }

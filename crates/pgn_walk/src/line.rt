@@ -8,12 +8,13 @@ ghost use Rattle.pgn_walk.specs.Standing.{Holds, Leads};
 ghost use Rattle.pgn_walk.specs.Steps.{BeginsFrom, IsGivenBy};
 
 use crate::standing::Standing;
-use crate::to_show::{Ending, ToShow};
 use pgn_answers::BlockState;
 use pgn_base::{Command, Copied, ListenSet, Names, Tag};
 use pgn_block::{Effect, Kind};
 use pgn_language::Act;
+use pgn_ledger::{Ending, ToShow};
 use std::alloc::{AllocError, Global};
+use std::mem;
 
 // A line of the script begins.
 impl Standing<'_> {
@@ -25,11 +26,11 @@ impl Standing<'_> {
         match act {
             Act::Run(command) => self.run(alloc, command),
             Act::Signal(flag) => {
-                self.owed = ToShow::Raising { flag: *flag };
+                self.owed.set(ToShow::Raising { flag: *flag });
                 Ok(())
             }
             Act::Await(flag) => {
-                self.owed = ToShow::Awaiting { flag: *flag };
+                self.owed.set(ToShow::Awaiting { flag: *flag });
                 Ok(())
             }
             Act::Quit => {
@@ -45,10 +46,10 @@ impl Standing<'_> {
         ensures { BeginsFrom self.old self.new quitting }
     {
         self.block.drop_block();
-        self.set = ListenSet::new(alloc);
+        drop(mem::replace(&mut self.set, ListenSet::new(alloc)));
         self.watch.clear();
         if self.mark.is_some() {
-            self.owed = ToShow::Quitting;
+            self.owed.set(ToShow::Quitting);
         }
     }
 
@@ -86,12 +87,12 @@ impl Standing<'_> {
             Effect::Query {
                 kind: Kind::QueueUsage,
             } => {
-                self.owed = ToShow::Measuring {
+                self.owed.set(ToShow::Measuring {
                     ending: Ending::Replied {
                         tag: Tag::Select(1),
                         warning: None,
                     },
-                };
+                });
                 Ok(())
             }
             Effect::Commit {
@@ -106,7 +107,7 @@ impl Standing<'_> {
     fn answer(&mut self, ending: Ending)
         ensures { self.new ≡ record self.old { owed = ToShow.Answering ending } }
     {
-        self.owed = ToShow::Answering { ending };
+        self.owed.set(ToShow::Answering { ending });
     }
 
     // Rows are to be shown, and then their number.
@@ -114,13 +115,13 @@ impl Standing<'_> {
         ensures { self.new ≡ record self.old { owed = ToShow.Listing rows.names (Ending.Replied (Tag.Select rows.count) None) } }
     {
         let Rows { names, count } = rows;
-        self.owed = ToShow::Listing {
+        self.owed.set(ToShow::Listing {
             names,
             ending: Ending::Replied {
                 tag: Tag::Select(count),
                 warning: None,
             },
-        };
+        });
     }
 }
 
