@@ -8,13 +8,13 @@ use Rattle.pgn_model.specs.Walk.{Settings, Terms}
 use Rattle.pgn_model.specs.Legal.{EachTrace}
 use Rattle.std.specs.Prelude.{flat_map}
 use Rattle.pgn_language.specs.declared.scenario.ScriptLine.{ScriptLine}
-use Rattle.pgn_walk.proofs.LoopLaws.{trace_many}
+use Rattle.pgn_check.proofs.LoopLaws.{trace_many}
 use Rattle.pgn_model.specs.Text.{item_lines, trace_lines, traces_lines}
 use Rattle.pgn_reading.specs.Form.{EachSection, IsReadTrace}
 use Rattle.pgn_reading.specs.Blame.{BlamesTraces}
 use Rattle.pgn_reading.specs.WholeLaws.{IsWalked}
 use Rattle.pgn_reading.proofs.BlameLaws.{blamed-apart, blamed-later, least-in_first, nothing-blamed}
-use Rattle.pgn_walk.specs.Walked.{IsLeastOf}
+use Rattle.pgn_check.specs.Walked.{IsLeastOf}
 use Rattle.pgn_check.specs.Sections.{IsLeastIn}
 
 -- There is one trace for each section.

@@ -1,5 +1,11 @@
-ghost use Rattle.std.specs.Prelude.{◌≡◌, ◌≤◌, length, ℕ, IfOk};
+ghost use Rattle.std.specs.Prelude.{◌≡◌, ◌+◌, ◌^◌, ◌<◌, ◌≤◌, length, ℕ, All, IfOk};
+ghost use Rattle.pgn_journal.specs.Journal.{IsFinished, next_xid};
 ghost use Rattle.pgn_language.specs.Inputs.{IsSound};
+ghost use Rattle.pgn_ledger.specs.Places.{notes_in};
+ghost use Rattle.pgn_model.specs.Text.{traces_lines};
+ghost use Rattle.pgn_reading.specs.Form.{EachSection, IsReadTrace};
+ghost use Rattle.pgn_check.specs.Entries.{lines_in};
+ghost use Rattle.pgn_check.specs.Sections.{IsFirstBlamed, settings_at};
 ghost use Rattle.pgn_check.specs.Verdicts.{Judges};
 
 use crate::entries::lines_in;
@@ -7,9 +13,10 @@ use crate::held::are_held;
 use crate::journal::read_journal;
 use crate::sections::walk_all;
 use pgn_base::Format;
+use pgn_evidence::Evidence;
+use pgn_form::Reading;
 use pgn_language::Scenario;
 use pgn_ledger::Ledger;
-use pgn_walk::Evidence;
 use std::alloc::{AllocError, Global};
 
 /// Whether a text is the output of a legal run of a scenario.
@@ -36,21 +43,65 @@ pub fn check_output(
     ensures { IfOk result (Judges scenario.now (record { format = format; limit = pages; patience = patience }) out.now) }
 {
     are_held(scenario.sections.as_slice());
-    let reading = match read_journal(alloc, scenario, out)? {
-        Ok(reading) => reading,
-        Err(line) => return Ok(Verdict::Illegal { line }),
-    };
-    let journal = reading.journal.as_slice();
-    let ledger = Ledger::new(alloc, format, journal)?;
+    match read_journal(alloc, scenario, out)? {
+        Ok(reading) => {
+            let blamed = walk_reading(alloc, scenario, pages, patience, format, &reading);
+            drop(reading);
+            match blamed? {
+                Some(line) => Ok(Verdict::Illegal { line }),
+                None => Ok(Verdict::Legal),
+            }
+        }
+        Err(line) => Ok(Verdict::Illegal { line }),
+    }
+}
+
+// The first line of all sections that is to blame, if one is, where this was read.
+fn walk_reading(
+    alloc: Global,
+    scenario: &Scenario,
+    pages: u32,
+    patience: u64,
+    format: Format,
+    reading: &Reading,
+) -> Result<Option<usize>, AllocError>
+    requires finished { All IsFinished reading.now.journal }
+    requires few { next_xid reading.now.journal < 2 ^ 32 }
+    requires few_notes { notes_in reading.now.journal < 2 ^ 40 }
+    requires few_lines { lines_in reading.now.journal < 2 ^ 63 }
+    requires read { EachSection IsReadTrace scenario.now.sections reading.now.traces }
+    requires fits { 2 + lines_in reading.now.journal + length (traces_lines scenario.now.sections reading.now.traces) < 2 ^ 64 }
+    ensures { IfOk result (IsFirstBlamed (record { format = format; limit = pages; patience = patience }) scenario.now.sections reading.now.journal reading.now.traces) }
+{
+    let ledger = Ledger::new(alloc, format, reading.journal.as_slice())?;
+    let blamed = walk_sections(alloc, scenario, pages, patience, &ledger, reading);
+    drop(ledger);
+    blamed
+}
+
+// The same, with this ledger of the journal that was read.
+fn walk_sections(
+    alloc: Global,
+    scenario: &Scenario,
+    pages: u32,
+    patience: u64,
+    ledger: &Ledger,
+    reading: &Reading,
+) -> Result<Option<usize>, AllocError>
+    requires journal { ledger.now.journal.now ≡ reading.now.journal }
+    requires few_lines { lines_in reading.now.journal < 2 ^ 63 }
+    requires read { EachSection IsReadTrace scenario.now.sections reading.now.traces }
+    requires fits { 2 + lines_in reading.now.journal + length (traces_lines scenario.now.sections reading.now.traces) < 2 ^ 64 }
+    ensures { IfOk result (IsFirstBlamed (settings_at ledger.now pages patience) scenario.now.sections reading.now.journal reading.now.traces) }
+{
     let sections = scenario.sections.as_slice();
     let traces = reading.traces.as_slice();
     let evidence = Evidence::new(alloc, sections, traces)?;
+    let journal = reading.journal.as_slice();
     let head = 2 + lines_in(journal);
     let blamed = walk_all(
-        alloc, sections, pages, patience, &ledger, &evidence, traces, head,
-    )?;
-    match blamed {
-        Some(line) => Ok(Verdict::Illegal { line }),
-        None => Ok(Verdict::Legal),
-    }
+        alloc, sections, pages, patience, ledger, &evidence, traces, head,
+    );
+    drop(evidence);
+    blamed
 }

@@ -7,9 +7,13 @@
 
 mod check;
 mod entries;
+mod fresh;
 mod held;
 mod journal;
+mod judge;
+mod last;
 mod sections;
+mod walker;
 
 pub use check::{Verdict, check_output};
 pub use journal::read_journal;

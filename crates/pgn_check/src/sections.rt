@@ -3,13 +3,14 @@ ghost use Rattle.pgn_reading.specs.Form.{EachSection, IsReadTrace};
 ghost use Rattle.pgn_reading.specs.WholeLaws.{IsWalked};
 ghost use Rattle.pgn_model.specs.Legal.{EachTrace};
 ghost use Rattle.pgn_model.specs.Text.{traces_lines};
-ghost use Rattle.pgn_walk.specs.Evidence.{IsEvidence};
+ghost use Rattle.pgn_evidence.specs.Evidence.{IsEvidence};
 ghost use Rattle.pgn_check.specs.Sections.{IsLeastIn, settings_at};
 
+use crate::walker::{lines_of_trace, walk};
+use pgn_evidence::{Basis, Evidence};
 use pgn_language::Section;
 use pgn_ledger::Ledger;
 use pgn_model::Trace;
-use pgn_walk::{Basis, Evidence, lines_of_trace, walk};
 use std::alloc::{AllocError, Global};
 
 /// The number of the first line of all sections that is to blame, if one is, where the first section's head is the line of this number.

@@ -13,11 +13,12 @@ use Rattle.pgn_model.specs.declared.item.Item.TheVariants as item
 use Rattle.pgn_model.specs.Walk.{Owed, State, Terms, IsLeaving, IsListing, IsMeasuring, after_item}
 use Rattle.pgn_model.specs.Walk as walk
 use Rattle.pgn_walk.specs.declared.standing.Standing.{Standing}
-use Rattle.pgn_walk.specs.declared.to_show.Ending.{Ending}
-use Rattle.pgn_walk.specs.declared.to_show.Ending.TheVariants.{Replied, Refused}
-use Rattle.pgn_walk.specs.declared.to_show.ToShow.{ToShow}
-use Rattle.pgn_walk.specs.declared.to_show.ToShow.TheVariants as show
-use Rattle.pgn_walk.specs.Standing.{Holds, ending_of, owed_of}
+use Rattle.pgn_ledger.specs.declared.to_show.Ending.{Ending}
+use Rattle.pgn_ledger.specs.declared.to_show.Ending.TheVariants.{Replied, Refused}
+use Rattle.pgn_ledger.specs.declared.to_show.ToShow.{ToShow}
+use Rattle.pgn_ledger.specs.declared.to_show.ToShow.TheVariants as show
+use Rattle.pgn_ledger.specs.ToShow.{ending_of, owed_of}
+use Rattle.pgn_walk.specs.Standing.{Holds}
 use Rattle.pgn_walk.specs.Steps.{Moves}
 use Rattle.pgn_walk.proofs.StandingLaws.{holds_owed}
 use Rattle.pgn_walk.proofs.ItemLaws.{IsBehind, moves_by, moves_not, moves_on}

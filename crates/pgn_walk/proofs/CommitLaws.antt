@@ -16,9 +16,10 @@ use Rattle.pgn_language.specs.declared.scenario.Section.{Section}
 use Rattle.pgn_model.specs.Walk.{Owed, State, is_empty_set, leaving_or_answering, queueing_or_settled, settled}
 use Rattle.pgn_model.specs.Walk as walk
 use Rattle.pgn_walk.specs.declared.standing.Standing.{Standing}
-use Rattle.pgn_walk.specs.declared.to_show.Ending.{Ending}
-use Rattle.pgn_walk.specs.declared.to_show.ToShow.TheVariants as show
-use Rattle.pgn_walk.specs.Standing.{Holds, Leads, commits, ending_of}
+use Rattle.pgn_ledger.specs.declared.to_show.Ending.{Ending}
+use Rattle.pgn_ledger.specs.declared.to_show.ToShow.TheVariants as show
+use Rattle.pgn_ledger.specs.ToShow.{ending_of}
+use Rattle.pgn_walk.specs.Standing.{Holds, Leads, commits}
 use Rattle.pgn_walk.proofs.StandingLaws.{holds_owed}
 
 -- the test that the walk makes is that of the session

@@ -11,9 +11,10 @@ use Rattle.pgn_model.specs.declared.item.Item.TheVariants as item
 use Rattle.pgn_model.specs.Walk.{Owed, State, Terms, IsAwaiting, IsGreatest, IsRaising, IsUnknown}
 use Rattle.pgn_model.specs.Walk as walk
 use Rattle.pgn_walk.specs.declared.standing.Standing.{Standing}
-use Rattle.pgn_walk.specs.declared.to_show.ToShow.{ToShow}
-use Rattle.pgn_walk.specs.declared.to_show.ToShow.TheVariants as show
-use Rattle.pgn_walk.specs.Standing.{AreKnown, Holds, known_at, owed_of}
+use Rattle.pgn_ledger.specs.declared.to_show.ToShow.{ToShow}
+use Rattle.pgn_ledger.specs.declared.to_show.ToShow.TheVariants as show
+use Rattle.pgn_ledger.specs.ToShow.{owed_of}
+use Rattle.pgn_walk.specs.Standing.{AreKnown, Holds, known_at}
 use Rattle.pgn_walk.specs.Steps.{Knows, Moves}
 use Rattle.pgn_walk.proofs.ItemLaws.{moves_not, moves_on}
 

@@ -22,11 +22,12 @@ use Rattle.pgn_model.specs.Walk.{Owed, State, Terms, Allowed, BeginsLine, Enlist
 use Rattle.pgn_model.specs.Walk as walk
 use Rattle.pgn_reading.specs.Completed.{notes_of, with_owed}
 use Rattle.pgn_walk.specs.declared.standing.Standing.{Standing}
-use Rattle.pgn_walk.specs.declared.to_show.Ending.{Ending}
-use Rattle.pgn_walk.specs.declared.to_show.Ending.TheVariants.{Refused}
-use Rattle.pgn_walk.specs.declared.to_show.ToShow.{ToShow}
-use Rattle.pgn_walk.specs.declared.to_show.ToShow.TheVariants as show
-use Rattle.pgn_walk.specs.Standing.{Holds, IsGreatestMark, Leads, ending_of, owed_of}
+use Rattle.pgn_ledger.specs.declared.to_show.Ending.{Ending}
+use Rattle.pgn_ledger.specs.declared.to_show.Ending.TheVariants.{Refused}
+use Rattle.pgn_ledger.specs.declared.to_show.ToShow.{ToShow}
+use Rattle.pgn_ledger.specs.declared.to_show.ToShow.TheVariants as show
+use Rattle.pgn_ledger.specs.ToShow.{ending_of, owed_of}
+use Rattle.pgn_walk.specs.Standing.{Holds, IsGreatestMark, Leads}
 use Rattle.pgn_walk.specs.Steps.{BeginsFrom, Moves}
 
 -- What every item's judgement comes to.

@@ -2,15 +2,8 @@ pub mod StandingLaws
 pub mod ReadyLaws
 pub mod CommitLaws
 pub mod LineLaws
-pub mod PairLaws
-pub mod EvidenceLaws
-pub mod BorneLaws
 pub mod ItemLaws
 pub mod AnswerLaws
 pub mod FlagLaws
 pub mod ReadLaws
-pub mod FreshLaws
-pub mod WalkLaws
-pub mod LastLaws
 pub mod SameLaws
-pub mod LoopLaws

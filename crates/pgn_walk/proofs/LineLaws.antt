@@ -31,9 +31,10 @@ use Rattle.pgn_block.specs.declared.effect.Effect.{Effect}
 use Rattle.pgn_block.specs.declared.effect.Effect.TheVariants as effect
 use Rattle.pgn_block.specs.declared.effect.Kind.TheVariants.{ListeningChannels, QueueUsage}
 use Rattle.pgn_walk.specs.declared.standing.Standing.{Standing}
-use Rattle.pgn_walk.specs.declared.to_show.Ending.TheVariants.{Replied, Refused}
-use Rattle.pgn_walk.specs.declared.to_show.ToShow.TheVariants as show
-use Rattle.pgn_walk.specs.Standing.{Holds, Leads, commits, ending_of}
+use Rattle.pgn_ledger.specs.declared.to_show.Ending.TheVariants.{Replied, Refused}
+use Rattle.pgn_ledger.specs.declared.to_show.ToShow.TheVariants as show
+use Rattle.pgn_ledger.specs.ToShow.{ending_of}
+use Rattle.pgn_walk.specs.Standing.{Holds, Leads, commits}
 use Rattle.pgn_walk.specs.Steps.{BeginsFrom, HasRows, IsGivenBy}
 use Rattle.pgn_walk.proofs.StandingLaws.{holds_owed}
 

@@ -1,6 +1,5 @@
--- A read, where a session stands, and whether one was left out.
+-- A read, where a session stands.
 use Rattle.std.proofs.Common.{◌≡◌, ◌↔◌, ◌⊎◌, ℕ, ◌<◌, ◌≤◌, max, Bool, true, false, ◌||◌, nat_le, List, [], length, drop, Option, Some, sym, ap, ◌∙◌, refl, subst, inl, inr, arith}
-use Rattle.std.specs.List.{list_any}
 use Rattle.std.proofs.lemmas.Bool.{false≢true}
 use Rattle.std.proofs.lemmas.Bool.Decides.{leb_tells}
 use Rattle.std.proofs.lemmas.List.{drop_all, length-drop}
@@ -8,8 +7,8 @@ use Rattle.pgn_base.specs.declared.note.Delivery.{Delivery}
 use Rattle.pgn_answers.specs.declared.block_state.BlockState.{BlockState}
 use Rattle.pgn_answers.specs.declared.block_state.BlockState.TheVariants.{Idle, InBlock, Failed}
 use Rattle.pgn_journal.specs.declared.tx.Tx.{Tx}
-use Rattle.pgn_journal.specs.Journal.{entries_between, next_xid}
-use Rattle.pgn_journal.specs.Due.{due, is_due_to}
+use Rattle.pgn_journal.specs.Journal.{next_xid}
+use Rattle.pgn_journal.specs.Due.{due}
 use Rattle.pgn_due.specs.Next.{IsWatch}
 use Rattle.pgn_due.specs.declared.watch.Watch.{Watch}
 use Rattle.pgn_language.specs.declared.scenario.ScriptLine.{ScriptLine}
@@ -17,11 +16,11 @@ use Rattle.pgn_language.specs.declared.scenario.Section.{Section}
 use Rattle.pgn_model.specs.declared.item.Item.TheVariants as item
 use Rattle.pgn_model.specs.Walk.{State, Terms, MayRead}
 use Rattle.pgn_walk.specs.declared.standing.Standing.{Standing}
-use Rattle.pgn_walk.specs.declared.to_show.ToShow.{ToShow}
-use Rattle.pgn_walk.specs.declared.to_show.ToShow.TheVariants as show
-use Rattle.pgn_walk.specs.Standing.{Holds, owed_of}
+use Rattle.pgn_ledger.specs.declared.to_show.ToShow.{ToShow}
+use Rattle.pgn_ledger.specs.declared.to_show.ToShow.TheVariants as show
+use Rattle.pgn_ledger.specs.ToShow.{owed_of}
+use Rattle.pgn_walk.specs.Standing.{Holds}
 use Rattle.pgn_walk.specs.Steps.{Moves, is_idle, may_read, may_read_at}
-use Rattle.pgn_walk.specs.Fresh.{Asks}
 use Rattle.pgn_walk.proofs.ItemLaws.{moves_not, moves_on, one_mark}
 
 -- Whether the session may read.
@@ -143,16 +142,3 @@ read_on terms journal old watch from to got b d f first test is reach far takes 
       flags = h.flags;
       watch = (takes_there terms journal old watch from to got d f s first reach far takes h).1 same;
     })
-
--- Whether anything is due.
-
--- what is asked where the session has a mark
-abbrev pub FindsNothing : Section → List Tx → ℕ → State → Type 0
-FindsNothing section journal mark s = list_any (is_due_to section.db s.set) (entries_between journal mark s.told) ≡ false
-
-pub finds_by : (section : Section) (journal : List Tx) (mark : ℕ) (at : Standing) (b : Bool) → at.mark ≡ Some mark
-    → ((db : ℕ) (set : List (List ℕ)) → IsWatch journal db set (Some mark) at.watch → (b ≡ true) ↔ (list_any (is_due_to db set) (entries_between journal mark at.told) ≡ false)) → Asks section journal at b (FindsNothing section journal mark)
-finds_by section journal mark at b e finds s h =
-    let here : IsWatch journal section.db at.set.channels (Some mark) at.watch = subst (λ (m : Option ℕ). IsWatch journal section.db at.set.channels m at.watch) e h.watch in
-    subst (λ (told : ℕ). (b ≡ true) ↔ (list_any (is_due_to section.db s.set) (entries_between journal mark told) ≡ false)) (sym h.told)
-    (subst (λ (set : List (List ℕ)). (b ≡ true) ↔ (list_any (is_due_to section.db set) (entries_between journal mark at.told) ≡ false)) (sym h.set) (finds section.db at.set.channels here))

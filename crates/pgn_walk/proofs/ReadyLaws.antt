@@ -8,9 +8,10 @@ use Rattle.pgn_model.specs.Walk.{Owed, State, after_item}
 use Rattle.pgn_model.specs.Walk as walk
 use Rattle.pgn_reading.specs.Completed.{ready, without_line}
 use Rattle.pgn_walk.specs.declared.standing.Standing.{Standing}
-use Rattle.pgn_walk.specs.declared.to_show.ToShow.{ToShow}
-use Rattle.pgn_walk.specs.declared.to_show.ToShow.TheVariants as show
-use Rattle.pgn_walk.specs.Standing.{Holds, behind_rows, ending_of, has_no_rows, owed_of}
+use Rattle.pgn_ledger.specs.declared.to_show.ToShow.{ToShow}
+use Rattle.pgn_ledger.specs.declared.to_show.ToShow.TheVariants as show
+use Rattle.pgn_ledger.specs.ToShow.{ending_of, owed_of}
+use Rattle.pgn_walk.specs.Standing.{Holds, behind_rows, has_no_rows}
 use Rattle.pgn_walk.proofs.StandingLaws.{holds_owed}
 
 -- by what is left to show

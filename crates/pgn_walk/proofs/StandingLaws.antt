@@ -7,9 +7,10 @@ use Rattle.pgn_language.specs.declared.scenario.Section.{Section}
 use Rattle.pgn_model.specs.Walk.{Owed, State, start}
 use Rattle.pgn_block.specs.Views.{BlockView, idle_view}
 use Rattle.pgn_walk.specs.declared.standing.Standing.{Standing}
-use Rattle.pgn_walk.specs.declared.to_show.ToShow.{ToShow}
-use Rattle.pgn_walk.specs.declared.to_show.ToShow.TheVariants as show
-use Rattle.pgn_walk.specs.Standing.{AreKnown, Holds, IsGreatestMark, owed_of}
+use Rattle.pgn_ledger.specs.declared.to_show.ToShow.{ToShow}
+use Rattle.pgn_ledger.specs.declared.to_show.ToShow.TheVariants as show
+use Rattle.pgn_ledger.specs.ToShow.{owed_of}
+use Rattle.pgn_walk.specs.Standing.{AreKnown, Holds, IsGreatestMark}
 
 no_mark : IsGreatestMark [] 0
 no_mark point = (λ h. omega arith, λ h. All-nil (λ (mark : ℕ). mark ≤ point))

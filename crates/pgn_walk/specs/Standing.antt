@@ -8,32 +8,13 @@ use Rattle.pgn_answers.specs.Savepoints.{is_listen}
 use Rattle.pgn_journal.specs.declared.tx.Tx.{Tx}
 use Rattle.pgn_due.specs.Next.{IsWatch}
 use Rattle.pgn_language.specs.declared.scenario.Section.{Section}
-use Rattle.pgn_model.specs.Walk.{State, Owed, IsGreatest, IsUnknown, queueing_or_settled}
+use Rattle.pgn_model.specs.Walk.{State, IsGreatest, IsUnknown, queueing_or_settled}
 use Rattle.pgn_model.specs.Walk as walk
 use Rattle.pgn_pending.specs.Kept.{StandsFor}
-use Rattle.pgn_walk.specs.declared.to_show.Ending.{Ending}
-use Rattle.pgn_walk.specs.declared.to_show.Ending.TheVariants.{Replied, Refused}
-use Rattle.pgn_walk.specs.declared.to_show.ToShow.{ToShow}
-use Rattle.pgn_walk.specs.declared.to_show.ToShow.TheVariants as show
+use Rattle.pgn_ledger.specs.declared.to_show.ToShow.{ToShow}
+use Rattle.pgn_ledger.specs.declared.to_show.ToShow.TheVariants as show
+use Rattle.pgn_ledger.specs.ToShow.{owed_of}
 use Rattle.pgn_walk.specs.declared.standing.Standing.{Standing}
-
--- how a line is answered
-abbrev pub ending_of : Ending → walk.Ending
-ending_of (Replied tag warning) = walk.Replied tag warning
-ending_of (Refused refusal) = walk.Refused refusal
-
--- what the current line still has to show
-abbrev pub owed_of : ToShow → Owed
-owed_of show.Nothing = walk.Nothing
-owed_of (show.Enlisting actions notes ending) = walk.Enlisting actions notes (ending_of ending)
-owed_of (show.Queueing actions notes ending) = walk.Queueing actions notes (ending_of ending)
-owed_of (show.Leaving ending) = walk.Leaving (ending_of ending)
-owed_of (show.Answering ending) = walk.Answering (ending_of ending)
-owed_of (show.Listing names ending) = walk.Listing names (ending_of ending)
-owed_of (show.Measuring ending) = walk.Measuring (ending_of ending)
-owed_of (show.Raising flag) = walk.Raising flag
-owed_of (show.Awaiting flag) = walk.Awaiting flag
-owed_of show.Quitting = walk.Quitting
 
 -- a mark is no less than each of these exactly where it is no less than this one
 abbrev pub IsGreatestMark : List ℕ → ℕ → Type 0

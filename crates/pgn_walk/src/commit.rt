@@ -4,11 +4,12 @@ ghost use Rattle.pgn_base.specs.Channels.{applied};
 ghost use Rattle.pgn_answers.specs.Savepoints.{is_listen};
 ghost use Rattle.pgn_model.specs.Walk.{State};
 ghost use Rattle.pgn_model.specs.Walk.{leaving_or_answering, queueing_or_settled, settled};
-ghost use Rattle.pgn_walk.specs.Standing.{Leads, commits, ending_of};
+ghost use Rattle.pgn_ledger.specs.ToShow.{ending_of};
+ghost use Rattle.pgn_walk.specs.Standing.{Leads, commits};
 
 use crate::standing::Standing;
-use crate::to_show::{Ending, ToShow};
 use pgn_base::{Action, Actions, Notes};
+use pgn_ledger::{Ending, ToShow};
 use std::alloc::AllocError;
 
 // A transaction commits.

@@ -11,12 +11,11 @@ ghost use Rattle.pgn_walk.specs.Steps.{Knows, Moves, may_read};
 
 use crate::same::{same_names, same_notes, same_refusal, same_reply};
 use crate::standing::Standing;
-use crate::to_show::{Ending, ToShow};
 use pgn_answers::BlockState;
 use pgn_base::{Delivery, Full, Name, Note, Refusal, Seq, Tag, Usage, Warning, Xid};
 use pgn_journal::{Fate, Tx};
 use pgn_language::Section;
-use pgn_ledger::{Ledger, is_floor_for};
+use pgn_ledger::{Ending, Ledger, ToShow, is_floor_for};
 use pgn_model::Item;
 use std::alloc::{AllocError, Global};
 use std::mem;
@@ -60,7 +59,10 @@ impl Standing<'_> {
                 self.queue_or_settle(actions, notes, ending)?;
                 Ok(true)
             }
-            _ => Ok(false),
+            owed => {
+                drop(owed);
+                Ok(false)
+            }
         }
     }
 
@@ -105,13 +107,20 @@ impl Standing<'_> {
                 if !self.is_behind(xid)
                     || !is_committed_by(section, ledger, notes.as_slice(), xid)
                 {
+                    drop(actions);
+                    drop(notes);
+                    drop(ending);
                     return Ok(false);
                 }
+                drop(notes);
                 self.told = Xid::new(xid.get() + 1);
                 self.settle(actions, ending)?;
                 Ok(true)
             }
-            _ => Ok(false),
+            owed => {
+                drop(owed);
+                Ok(false)
+            }
         }
     }
 
@@ -128,20 +137,31 @@ impl Standing<'_> {
         ensures { (settings : Settings) (notes : List Note) → Moves (record { section = section.now; settings = settings }) ledger.now.journal.now self.old (Item.QueueFull full.now notes) result self.new }
     {
         match mem::replace(&mut self.owed, ToShow::Nothing) {
-            ToShow::Queueing { notes, .. } => {
+            ToShow::Queueing {
+                actions,
+                notes,
+                ending,
+            } => {
+                drop(actions);
+                drop(ending);
                 if !self.is_behind(full.xid)
                     || !is_aborted_by(section, ledger, notes.as_slice(), full)
                     || !is_floor_for(&section.no, &self.mark, &full.floor_mark, &full.holder)
                 {
+                    drop(notes);
                     return false;
                 }
+                drop(notes);
                 self.told = Xid::new(full.xid.get() + 1);
                 self.leave_or_answer(Ending::Refused {
                     refusal: Refusal::QueueFull,
                 });
                 true
             }
-            _ => false,
+            owed => {
+                drop(owed);
+                false
+            }
         }
     }
 
@@ -160,7 +180,10 @@ impl Standing<'_> {
                 self.mark = None;
                 true
             }
-            _ => false,
+            owed => {
+                drop(owed);
+                false
+            }
         }
     }
 
@@ -171,7 +194,10 @@ impl Standing<'_> {
     {
         match mem::replace(&mut self.owed, ToShow::Nothing) {
             ToShow::Answering { ending } => is_reply(&ending, tag, warning),
-            _ => false,
+            owed => {
+                drop(owed);
+                false
+            }
         }
     }
 
@@ -182,7 +208,10 @@ impl Standing<'_> {
     {
         match mem::replace(&mut self.owed, ToShow::Nothing) {
             ToShow::Answering { ending } => is_refusal(&ending, refusal),
-            _ => false,
+            owed => {
+                drop(owed);
+                false
+            }
         }
     }
 
@@ -196,7 +225,10 @@ impl Standing<'_> {
                 self.owed.set(ToShow::Answering { ending });
                 same_names(names, due.as_slice())
             }
-            _ => false,
+            owed => {
+                drop(owed);
+                false
+            }
         }
     }
 
@@ -216,7 +248,10 @@ impl Standing<'_> {
                 self.owed.set(ToShow::Answering { ending });
                 true
             }
-            _ => false,
+            owed => {
+                drop(owed);
+                false
+            }
         }
     }
 

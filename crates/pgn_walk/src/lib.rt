@@ -1,23 +1,13 @@
-//! The walk over a trace that was read.
+//! Where a session stands in the walk over its trace, and each step of it.
 //!
-//! `walk` goes along a trace, item by item, and gives the first line of its section that is to blame, if one is. `Evidence` has what all
-//! traces show, and `Basis` what a trace is judged by.
+//! A `Standing` is taken along a trace, item by item: each method judges one kind of item, and where it is allowed the session stands
+//! behind it.
 #![tactic(auto)]
 
-mod basis;
-mod borne;
 mod commit;
-mod evidence;
-mod fresh;
 mod items;
-mod judge;
 mod line;
-mod pairs;
 mod same;
 mod standing;
-mod to_show;
-mod walker;
 
-pub use basis::Basis;
-pub use evidence::Evidence;
-pub use walker::{lines_of_trace, walk};
+pub use standing::Standing;

@@ -8,11 +8,11 @@ ghost use Rattle.pgn_walk.specs.Standing.{Holds, Leads};
 ghost use Rattle.pgn_walk.specs.Steps.{BeginsFrom, IsGivenBy};
 
 use crate::standing::Standing;
-use crate::to_show::{Ending, ToShow};
 use pgn_answers::BlockState;
 use pgn_base::{Command, Copied, ListenSet, Names, Tag};
 use pgn_block::{Effect, Kind};
 use pgn_language::Act;
+use pgn_ledger::{Ending, ToShow};
 use std::alloc::{AllocError, Global};
 use std::mem;
 

@@ -4,11 +4,11 @@ ghost use Rattle.pgn_language.specs.declared.scenario.Section.{Section};
 ghost use Rattle.pgn_model.specs.Walk.{is_empty_set, start};
 ghost use Rattle.pgn_walk.specs.Standing.{Holds, Leads, behind_rows, has_no_rows};
 
-use crate::to_show::ToShow;
 use indexmap::IndexMap;
 use pgn_base::{DbOid, FIRST_XID, ListenSet, Xid};
 use pgn_block::Block;
 use pgn_due::{Feed, Watch};
+use pgn_ledger::ToShow;
 use std::alloc::Global;
 use std::mem;
 

@@ -1,13 +1,14 @@
 use Rattle.std.proofs.Common.{Some, sym, ap, ◌∙◌, subst}
 use Rattle.pgn_model.specs.Walk.{queueing_or_settled}
 use Rattle.pgn_walk.specs.declared.standing.Standing.{Standing}
-use Rattle.pgn_walk.specs.declared.to_show.ToShow.{ToShow}
-use Rattle.pgn_walk.specs.Standing.{Leads, ending_of}
+use Rattle.pgn_ledger.specs.declared.to_show.ToShow.{ToShow}
+use Rattle.pgn_ledger.specs.ToShow.{ending_of}
+use Rattle.pgn_walk.specs.Standing.{Leads}
 use Rattle.pgn_walk.proofs.ItemLaws.{enlist_on}
 use Rattle.pgn_walk.proofs.standing.Standing.enlist.Goals as goal
 
-pub returns-in-Enlisting : goal.returns-in-Enlisting
-returns-in-Enlisting c = λ terms.
+pub returns-in_ok-queue_or_settle-in-Enlisting : goal.returns-in_ok-queue_or_settle-in-Enlisting
+returns-in_ok-queue_or_settle-in-Enlisting c = λ terms.
     let old = c.args.self.now in
     let watch = c.stand_at.new.self.watch in
     let stood = c.in_ok-stand_at-in-Enlisting.ensures.stands ∙ ap (λ (left : ToShow). let at : Standing = record old { owed = left; mark = Some c.args.point; greatest = c.args.point; watch = watch } in at) c.replace.ensures.after in

@@ -2,8 +2,8 @@ use Rattle.std.proofs.Common.{sym, subst}
 use Rattle.std.proofs.lemmas.Result.{on_ok_weaker}
 use Rattle.pgn_block.specs.declared.effect.Effect.{Effect}
 use Rattle.pgn_walk.specs.declared.standing.Standing.{Standing}
-use Rattle.pgn_walk.specs.declared.to_show.Ending.TheVariants.{Replied, Refused}
-use Rattle.pgn_walk.specs.declared.to_show.ToShow.TheVariants as show
+use Rattle.pgn_ledger.specs.declared.to_show.Ending.TheVariants.{Replied, Refused}
+use Rattle.pgn_ledger.specs.declared.to_show.ToShow.TheVariants as show
 use Rattle.pgn_walk.specs.Steps.{IsGivenBy}
 use Rattle.pgn_walk.proofs.LineLaws.{gives_commit, gives_refusal, gives_reply}
 use Rattle.pgn_walk.proofs.standing.Standing.give.Goals as goal

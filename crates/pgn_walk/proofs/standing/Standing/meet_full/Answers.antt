@@ -5,15 +5,16 @@ use Rattle.pgn_base.specs.declared.answers.Refusal.TheVariants as refused
 use Rattle.pgn_journal.specs.Journal.{entry}
 use Rattle.pgn_model.specs.Walk.{IsAbortedBy, leaving_or_answering}
 use Rattle.pgn_walk.specs.declared.standing.Standing.{Standing}
-use Rattle.pgn_walk.specs.declared.to_show.Ending.TheVariants.{Refused}
-use Rattle.pgn_walk.specs.declared.to_show.ToShow.{ToShow}
-use Rattle.pgn_walk.specs.declared.to_show.ToShow.TheVariants as show
-use Rattle.pgn_walk.specs.Standing.{Leads, ending_of}
+use Rattle.pgn_ledger.specs.declared.to_show.Ending.TheVariants.{Refused}
+use Rattle.pgn_ledger.specs.declared.to_show.ToShow.{ToShow}
+use Rattle.pgn_ledger.specs.declared.to_show.ToShow.TheVariants as show
+use Rattle.pgn_ledger.specs.ToShow.{ending_of}
+use Rattle.pgn_walk.specs.Standing.{Leads}
 use Rattle.pgn_walk.proofs.ItemLaws.{full_on}
 use Rattle.pgn_walk.proofs.standing.Standing.meet_full.Goals as goal
 
-pub returns-in-Queueing : goal.returns-in-Queueing
-returns-in-Queueing c = λ settings none.
+pub returns-else-not-is_floor_for : goal.returns-else-not-is_floor_for
+returns-else-not-is_floor_for c = λ settings none.
     let old = c.args.self.now in
     let full = c.args.full.now in
     let journal = c.args.ledger.now.journal.now in

@@ -4,14 +4,15 @@ use Rattle.pgn_base.specs.declared.note.Note.{Note}
 use Rattle.pgn_journal.specs.Journal.{entry}
 use Rattle.pgn_model.specs.Walk.{IsCommittedBy, settled}
 use Rattle.pgn_walk.specs.declared.standing.Standing.{Standing}
-use Rattle.pgn_walk.specs.declared.to_show.ToShow.{ToShow}
-use Rattle.pgn_walk.specs.declared.to_show.ToShow.TheVariants as show
-use Rattle.pgn_walk.specs.Standing.{Leads, ending_of}
+use Rattle.pgn_ledger.specs.declared.to_show.ToShow.{ToShow}
+use Rattle.pgn_ledger.specs.declared.to_show.ToShow.TheVariants as show
+use Rattle.pgn_ledger.specs.ToShow.{ending_of}
+use Rattle.pgn_walk.specs.Standing.{Leads}
 use Rattle.pgn_walk.proofs.ItemLaws.{publish_on}
 use Rattle.pgn_walk.proofs.standing.Standing.publish.Goals as goal
 
-pub returns-in-Queueing : goal.returns-in-Queueing
-returns-in-Queueing c = λ settings none.
+pub returns-in_ok-settle-in-Queueing : goal.returns-in_ok-settle-in-Queueing
+returns-in_ok-settle-in-Queueing c = λ settings none.
     let old = c.args.self.now in
     let journal = c.args.ledger.now.journal.now in
     let there = subst (λ (notes : List Note). (c.is_committed_by.result ≡ true) ↔ IsSomeAnd (entry journal c.args.xid) (IsCommittedBy c.args.section.now notes)) c.as_slice.ensures c.is_committed_by.ensures in

@@ -1,6 +1,6 @@
 use Rattle.std.proofs.Common.{sym, ◌∙◌, subst}
 use Rattle.pgn_model.specs.declared.item.Item.TheVariants as item
-use Rattle.pgn_walk.specs.declared.to_show.ToShow.{ToShow}
+use Rattle.pgn_ledger.specs.declared.to_show.ToShow.{ToShow}
 use Rattle.pgn_walk.specs.Steps.{Moves}
 use Rattle.pgn_walk.proofs.AnswerLaws.{reply_by}
 use Rattle.pgn_walk.proofs.standing.Standing.reply.Goals as goal

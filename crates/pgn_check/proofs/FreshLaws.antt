@@ -1,0 +1,95 @@
+-- Whether a read was left out.
+use Rattle.std.proofs.Common.{◌≡◌, ◌↔◌, ℕ, ◌+◌, ◌<◌, Bool, true, false, List, Option, Some, None, sym, ◌∙◌, refl, subst}
+use Rattle.std.specs.Prelude.{IfSome}
+use Rattle.std.specs.List.{list_any}
+use Rattle.std.proofs.lemmas.Bool.{false≢true}
+use Rattle.pgn_base.specs.declared.limits.TheConstants.{CLEANUP_DELAY_PAGES}
+use Rattle.pgn_answers.specs.declared.block_state.BlockState.TheVariants.{Idle}
+use Rattle.pgn_journal.specs.declared.tx.Tx.{Tx}
+use Rattle.pgn_journal.specs.Journal.{entries_between}
+use Rattle.pgn_journal.specs.Due.{is_due_to}
+use Rattle.pgn_journal.specs.Near.{Near}
+use Rattle.pgn_journal.specs.Packing.{page_of, place}
+use Rattle.pgn_due.specs.Next.{IsWatch}
+use Rattle.pgn_language.specs.declared.scenario.Section.{Section}
+use Rattle.pgn_model.specs.declared.item.Item.{Item}
+use Rattle.pgn_model.specs.declared.item.Item.TheVariants as item
+use Rattle.pgn_model.specs.Walk.{State, Terms}
+use Rattle.pgn_model.specs.Trace.{IsFreshAt, IsUpToDate}
+use Rattle.pgn_walk.specs.declared.standing.Standing.{Standing}
+use Rattle.pgn_evidence.specs.Evidence.{begins_line}
+use Rattle.pgn_walk.specs.Standing.{Holds}
+use Rattle.pgn_check.specs.Fresh.{Asks}
+
+-- Whether anything is due.
+
+-- what is asked where the session has a mark
+abbrev pub FindsNothing : Section → List Tx → ℕ → State → Type 0
+FindsNothing section journal mark s = list_any (is_due_to section.db s.set) (entries_between journal mark s.told) ≡ false
+
+pub finds_by : (section : Section) (journal : List Tx) (mark : ℕ) (at : Standing) (b : Bool) → at.mark ≡ Some mark
+    → ((db : ℕ) (set : List (List ℕ)) → IsWatch journal db set (Some mark) at.watch → (b ≡ true) ↔ (list_any (is_due_to db set) (entries_between journal mark at.told) ≡ false)) → Asks section journal at b (FindsNothing section journal mark)
+finds_by section journal mark at b e finds s h =
+    let here : IsWatch journal section.db at.set.channels (Some mark) at.watch = subst (λ (m : Option ℕ). IsWatch journal section.db at.set.channels m at.watch) e h.watch in
+    subst (λ (told : ℕ). (b ≡ true) ↔ (list_any (is_due_to section.db s.set) (entries_between journal mark told) ≡ false)) (sym h.told)
+    (subst (λ (set : List (List ℕ)). (b ≡ true) ↔ (list_any (is_due_to section.db set) (entries_between journal mark at.told) ≡ false)) (sym h.set) (finds section.db at.set.channels here))
+
+-- Whether the session is up to date.
+
+-- it is near where the session stands
+near_same : (terms : Terms) (journal : List Tx) (mark : ℕ) (old : Standing) (s : State) → old.mark ≡ Some mark → Holds terms.section journal old s → IsUpToDate terms journal s
+    ↔ Near terms.settings.format (is_due_to terms.section.db s.set) journal mark s.told
+near_same terms journal mark old s e h = (
+  λ up. subst (λ (m : Option ℕ). IfSome m (λ own. Near terms.settings.format (is_due_to terms.section.db s.set) journal own s.told)) (h.mark ∙ e) up,
+  λ near. subst (λ (m : Option ℕ). IfSome m (λ own. Near terms.settings.format (is_due_to terms.section.db s.set) journal own s.told)) (sym (h.mark ∙ e)) near,
+)
+
+pub up_none : (terms : Terms) (journal : List Tx) (at : Standing) → at.mark ≡ None → Asks terms.section journal at true (λ s. IsUpToDate terms journal s)
+up_none terms journal at e s h = (λ _. subst (λ (m : Option ℕ). IfSome m (λ own. Near terms.settings.format (is_due_to terms.section.db s.set) journal own s.told)) (sym (h.mark ∙ e)) tt, λ _. refl)
+
+abbrev pub IsClose : Terms → List Tx → ℕ → ℕ → Type 0
+IsClose terms journal mark x = page_of (place terms.settings.format journal x) < page_of (place terms.settings.format journal mark) + CLEANUP_DELAY_PAGES
+
+pub up_far : (terms : Terms) (journal : List Tx) (mark : ℕ) (at : Standing) (b : Bool) → at.mark ≡ Some mark → (b ≡ true) ↔ IsClose terms journal mark at.told → b ≡ false → Asks terms.section journal at false (λ s. IsUpToDate terms journal s)
+up_far terms journal mark at b e test far s h = (
+  λ t. absurd (false≢true t),
+  λ up.
+      let near = (near_same terms journal mark at s e h).0 up in
+      absurd (false≢true (sym far ∙ test.1 (subst (λ (x : ℕ). IsClose terms journal mark x) h.told near.few_pages))),
+)
+
+pub up_by : (terms : Terms) (journal : List Tx) (mark : ℕ) (at : Standing) (b d : Bool) → at.mark ≡ Some mark → (b ≡ true) ↔ IsClose terms journal mark at.told → b ≡ true → Asks terms.section journal at d (FindsNothing terms.section journal mark)
+    → Asks terms.section journal at d (λ s. IsUpToDate terms journal s)
+up_by terms journal mark at b d e test close asks s h = (
+  λ t. (near_same terms journal mark at s e h).1 (record {
+    nothing_due = (asks s h).0 t;
+    few_pages = subst (λ (x : ℕ). IsClose terms journal mark x) (sym h.told) (test.0 close);
+  }),
+  λ up. (asks s h).1 ((near_same terms journal mark at s e h).0 up).nothing_due,
+)
+
+-- Before an item.
+
+fresh_elsewhere : (terms : Terms) (journal : List Tx) (s : State) (i : Item) → begins_line i ≡ false → IsFreshAt terms journal s i
+fresh_elsewhere terms journal s (item.Line n) h = absurd (false≢true (sym h))
+fresh_elsewhere terms journal s other h = tt
+
+pub fresh_no_line : (terms : Terms) (journal : List Tx) (at : Standing) (i : Item) → begins_line i ≡ false → Asks terms.section journal at true (λ s. IsFreshAt terms journal s i)
+fresh_no_line terms journal at i none s h = (λ _. fresh_elsewhere terms journal s i none, λ _. refl)
+
+fresh_in_block : (terms : Terms) (journal : List Tx) (s : State) (i : Item) → (s.block ≡ Idle → ⊥) → IsFreshAt terms journal s i
+fresh_in_block terms journal s (item.Line n) shut = λ idle. absurd (shut idle)
+fresh_in_block terms journal s other shut = tt
+
+pub fresh_open : (terms : Terms) (journal : List Tx) (at : Standing) (i : Item) (b : Bool) → (b ≡ true) ↔ (at.block.state ≡ Idle) → b ≡ false → Asks terms.section journal at true (λ s. IsFreshAt terms journal s i)
+fresh_open terms journal at i b test off s h = (λ _. fresh_in_block terms journal s i (λ idle. false≢true (sym off ∙ test.1 (sym h.block ∙ idle))), λ _. refl)
+
+fresh_line : (terms : Terms) (journal : List Tx) (s : State) (i : Item) → begins_line i ≡ true → s.block ≡ Idle → IsUpToDate terms journal s ↔ IsFreshAt terms journal s i
+fresh_line terms journal s (item.Line n) h idle = (λ up. λ _. up, λ f. f idle)
+fresh_line terms journal s other h idle = absurd (false≢true h)
+
+pub fresh_by : (terms : Terms) (journal : List Tx) (at : Standing) (i : Item) (b d : Bool) → begins_line i ≡ true → (b ≡ true) ↔ (at.block.state ≡ Idle) → b ≡ true → Asks terms.section journal at d (λ s. IsUpToDate terms journal s)
+    → Asks terms.section journal at d (λ s. IsFreshAt terms journal s i)
+fresh_by terms journal at i b d line test idle asks s h =
+    let same = fresh_line terms journal s i line (h.block ∙ test.0 idle) in
+    (λ t. same.0 ((asks s h).0 t), λ f. (asks s h).1 (same.1 f))

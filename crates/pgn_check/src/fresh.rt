@@ -1,0 +1,46 @@
+ghost use Rattle.std.specs.Prelude.{◌≡◌, ℕ, false, List, Some};
+ghost use Rattle.std.specs.List.{list_any};
+ghost use Rattle.pgn_journal.specs.declared.tx.Tx.{Tx};
+ghost use Rattle.pgn_journal.specs.Journal.{entries_between};
+ghost use Rattle.pgn_journal.specs.Due.{is_due_to};
+ghost use Rattle.pgn_language.specs.declared.scenario.Section.{Section};
+ghost use Rattle.pgn_model.specs.Trace.{IsFreshAt, IsUpToDate};
+ghost use Rattle.pgn_evidence.specs.Basis.{journal_of, terms_of};
+ghost use Rattle.pgn_check.specs.Fresh.{Asks};
+
+use pgn_evidence::{Basis, begins_line};
+use pgn_model::Item;
+use pgn_walk::Standing;
+
+/// No read was left out before an item.
+#[tactic(auto, using(crate::proofs::FreshLaws::fresh_no_line, crate::proofs::FreshLaws::fresh_open, crate::proofs::FreshLaws::fresh_by))]
+pub fn is_fresh_at(at: &Standing, basis: &Basis, item: &Item) -> bool
+    ensures { Asks (terms_of basis.now).section (journal_of basis.now) at.now result (λ s. IsFreshAt (terms_of basis.now) (journal_of basis.now) s item.now) }
+{
+    if !begins_line(item) || !at.is_idle() {
+        return true;
+    }
+    is_up_to_date(at, basis)
+}
+
+/// A listener need not read up to what it was told of.
+#[tactic(auto, using(crate::proofs::FreshLaws::up_none, crate::proofs::FreshLaws::up_far, crate::proofs::FreshLaws::up_by))]
+pub fn is_up_to_date(at: &Standing, basis: &Basis) -> bool
+    ensures { Asks (terms_of basis.now).section (journal_of basis.now) at.now result (λ s. IsUpToDate (terms_of basis.now) (journal_of basis.now) s) }
+{
+    let Some(mark) = at.mark else {
+        return true;
+    };
+    if !basis.ledger.is_close(&mark, at.told.get()) {
+        return false;
+    }
+    finds_nothing(at)
+}
+
+// From the mark on nothing is due.
+#[tactic(auto, using(crate::proofs::FreshLaws::finds_by))]
+fn finds_nothing(at: &Standing) -> bool
+    ensures { (section : Section) (journal : List Tx) (mark : ℕ) → at.now.mark ≡ Some mark → Asks section journal at.now result (λ s. list_any (is_due_to section.db s.set) (entries_between journal mark s.told) ≡ false) }
+{
+    at.watch.finds_nothing(at.told.get())
+}

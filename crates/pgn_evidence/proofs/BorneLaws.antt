@@ -1,0 +1,66 @@
+-- What the journal and all traces bear out.
+use Rattle.std.proofs.Common.{◌≡◌, ◌↔◌, ℕ, ◌+◌, ◌≤◌, Bool, true, false, ◌&&◌, List, [], ◌∷◌, ◌++◌, length, ap, ◌∙◌, refl, sym, subst, arith}
+use Rattle.std.proofs.lemmas.List.{length-append}
+use Rattle.std.proofs.lemmas.List.Elements.{All-nil, All-push, filter_map-append}
+use Rattle.std.specs.Prelude.{All, Contains}
+use Rattle.pgn_journal.specs.declared.tx.Tx.{Tx}
+use Rattle.pgn_journal.specs.Journal.{next_xid}
+use Rattle.pgn_language.specs.declared.scenario.Section.{Section}
+use Rattle.pgn_model.specs.declared.item.Item.{Item}
+use Rattle.pgn_model.specs.declared.trace.Trace.{Trace}
+use Rattle.pgn_model.specs.Walk.{Owed, Settings, State}
+use Rattle.pgn_language.specs.declared.scenario.ScriptLine.{ScriptLine}
+use Rattle.pgn_model.specs.declared.item.Item.TheVariants as item
+use Rattle.pgn_model.specs.Legal.{IsFullThere, IsShownWithin, finished_xid, finished_xids}
+use Rattle.pgn_model.specs.Text.{item_lines}
+use Rattle.pgn_evidence.specs.Evidence.{finished_count}
+use Rattle.pgn_reading.specs.Blame.{IsBorneOut}
+use Rattle.pgn_reading.specs.Shown.{ShowsMark, found_shown, named_shown, raised_in}
+
+both : (a b : Bool) → (a && b) ≡ true → (a ≡ true) × (b ≡ true)
+both true true h = (refl, refl)
+both true false h = absurd (let no : ⊥ = cc in no)
+both false b h = absurd (let no : ⊥ = cc in no)
+
+and_true : (a b : Bool) → a ≡ true → b ≡ true → (a && b) ≡ true
+and_true a b p q = ap (λ (t : Bool). t && b) p ∙ q
+
+pub borne_is : (settings : Settings) (sections : List Section) (journal : List Tx) (traces : List Trace) (s : State) (owed : Owed) (item : Item) (a b c d : Bool) → s.owed ≡ owed
+    → (a ≡ true) ↔ IsFullThere settings journal item → (b ≡ true) ↔ All (Contains (raised_in sections traces)) (found_shown owed item) → (c ≡ true) ↔ All (ShowsMark traces) (named_shown item)
+    → (d ≡ true) ↔ IsShownWithin (next_xid journal) item → ((a && ((b && (c && d)) && true)) ≡ true) ↔ IsBorneOut settings sections journal traces s item
+borne_is settings sections journal traces s owed item a b c d e f g h i = (
+  λ t.
+      let p = both a ((b && (c && d)) && true) t in
+      let q = both (b && (c && d)) true p.1 in
+      let r = both b (c && d) q.0 in
+      let u = both c d r.1 in
+      record {
+        full = f.0 p.0;
+        found = subst (λ (o : Owed). All (Contains (raised_in sections traces)) (found_shown o item)) (sym e) (g.0 r.0);
+        holder = h.0 u.0;
+        within = i.0 u.1;
+      },
+  λ t.
+      and_true a ((b && (c && d)) && true) (f.1 t.full)
+      (and_true (b && (c && d)) true
+      (and_true b (c && d) (g.1 (subst (λ (o : Owed). All (Contains (raised_in sections traces)) (found_shown o item)) e t.found)) (and_true c d (h.1 t.holder) (i.1 t.within))) refl),
+)
+
+-- so it is of one pair where it is of each of a list of one
+pub all_one : (P : ℕ × ℕ → Type 0) (pair : ℕ × ℕ) (b : Bool) → (b ≡ true) ↔ P pair → (b ≡ true) ↔ All P (pair ∷ [])
+all_one P pair b h = (λ t. All-push P [] pair (All-nil P) (h.0 t), λ all. h.1 (all 0 pair (omega arith)))
+
+-- How many transactions an item shows.
+
+one_count : (i : Item) → length (finished_xids (i ∷ [])) ≡ finished_count i
+one_count (item.Publish xid notes) = refl
+one_count (item.QueueFull full notes) = refl
+one_count other = refl
+
+pub counts_more : (before : List Item) (i : Item) → length (finished_xids (before ++ i ∷ [])) ≡ length (finished_xids before) + finished_count i
+counts_more before i = ap length (filter_map-append finished_xid before (i ∷ [])) ∙ length-append (finished_xids before) (finished_xids (i ∷ [])) ∙ ap (λ (n : ℕ). length (finished_xids before) + n) (one_count i)
+
+pub counts_within : (lines : List ScriptLine) (i : Item) → finished_count i ≤ length (item_lines lines i)
+counts_within lines (item.Publish xid notes) = omega arith
+counts_within lines (item.QueueFull full notes) = omega arith
+counts_within lines other = omega arith
