@@ -1,14 +1,8 @@
 use Rattle.std.proofs.Common.{◌≡◌, ◌+◌, ◌<◌, ◌≤◌, List, length, take, drop, get_or, ap, subst, arith}
 use Rattle.pgn_model.specs.declared.item.Item.{Item}
-<<<<<<<< HEAD:crates/pgn_walk/proofs/walker/Walker/go/Answers.antt
-use Rattle.pgn_walk.specs.Walked.{CountsOn}
-use Rattle.pgn_walk.proofs.LoopLaws.{around_at, come_next, end_at, end_fits, line_next, lines_fit, own_all, own_next}
-use Rattle.pgn_walk.proofs.walker.Walker.go.Goals as goal
-========
 use Rattle.pgn_check.specs.Walked.{CountsOn}
 use Rattle.pgn_check.proofs.LoopLaws.{around_at, come_next, end_at, end_fits, line_next, lines_fit, own_all, own_next}
 use Rattle.pgn_check.proofs.walker.Walker.go.Goals as goal
->>>>>>>> 688aa42e50691f7b8abf2c50431f2f44f7943403:crates/pgn_check/proofs/walker/Walker/go/Answers.antt
 
 pub returns-in-Some : goal.returns-in-Some
 returns-in-Some c =

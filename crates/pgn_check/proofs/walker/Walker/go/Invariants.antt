@@ -4,15 +4,9 @@ use Rattle.pgn_model.specs.declared.trace.Trace.{Trace}
 use Rattle.pgn_model.specs.Legal.{finished_xids}
 use Rattle.pgn_reading.specs.Form.{IsReadTrace}
 use Rattle.pgn_reading.specs.Blame.{last_line}
-<<<<<<<< HEAD:crates/pgn_walk/proofs/walker/Walker/go/Invariants.antt
-use Rattle.pgn_walk.specs.Basis.{Tells}
-use Rattle.pgn_walk.specs.Walked.{HasCome}
-use Rattle.pgn_walk.proofs.walker.Walker.go.Given as goal
-========
 use Rattle.pgn_evidence.specs.Basis.{Tells}
 use Rattle.pgn_check.specs.Walked.{HasCome}
 use Rattle.pgn_check.proofs.walker.Walker.go.Given as goal
->>>>>>>> 688aa42e50691f7b8abf2c50431f2f44f7943403:crates/pgn_check/proofs/walker/Walker/go/Invariants.antt
 
 abbrev pub invariant-loop-item : goal.invariant-loop-item
 invariant-loop-item l = record {
