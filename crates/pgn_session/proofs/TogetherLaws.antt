@@ -1,5 +1,6 @@
--- Sessions for which a sleep was counted.
-use Rattle.std.proofs.Common.{◌≡◌, ℕ, List, [], ◌∷◌, map, All, sym, ap, ◌∙◌, refl, subst}
+-- Sessions for which a sleep was counted, and two halves of sessions.
+use Rattle.std.proofs.Common.{◌≡◌, ℕ, List, [], ◌∷◌, ◌++◌, map, All, sym, ap, ◌∙◌, refl, subst}
+use Rattle.std.proofs.lemmas.List.{map-append}
 use Rattle.std.proofs.lemmas.List.Elements.{All-map, All-weaker}
 use Rattle.pgn_hub.specs.declared.known.Known.{Known}
 use Rattle.pgn_hub.specs.Shape.{Shape}
@@ -27,3 +28,12 @@ module _ {P : Type 0} (is_own : P → Type 0) (shape : Shape) (known : P → Kno
   all-slept micros xs ys same all =
       subst (λ (zs : List (Session P)). All (IsReady is_own shape known) zs) (sym same)
       (All-map (IsReady is_own shape known) (slept micros) xs (All-weaker (IsReady is_own shape known) (λ s. IsReady is_own shape known (slept micros s)) (slept-ready micros) xs all))
+
+-- what the halves keep, the whole keeps
+pub halves-same : {P X : Type 0} (f : Session P → X) (whole front back left right : List (Session P)) → whole ≡ front ++ back → map f left ≡ map f front → map f right ≡ map f back → map f (left ++ right) ≡ map f whole
+halves-same {P} {X} f whole front back left right cut one two =
+    map-append f left right
+    ∙ ap (λ (ys : List X). ys ++ map f right) one
+    ∙ ap (λ (ys : List X). map f front ++ ys) two
+    ∙ sym (map-append f front back)
+    ∙ ap (λ (ss : List (Session P)). map f ss) (sym cut)

@@ -1,14 +1,14 @@
 ghost use Rattle.std.specs.Prelude.{◌≡◌, ◌+◌, ◌≤◌, ◌<◌, [], ◌∷◌, ◌++◌, None, length, IfOk, OnOk, OnErr, vec_len, vec_capacity};
 ghost use Rattle.pgn_language.specs.declared.scenario.Act.TheVariants as act;
 ghost use Rattle.pgn_session.specs.declared.doing.Doing.TheVariants as doing;
-ghost use Rattle.pgn_session.specs.Parts.{HasShownUsage};
+ghost use Rattle.pgn_session.specs.Parts.{HasTaken, HasShownUsage};
 ghost use Rattle.pgn_session.specs.Whole.{HasRest, RestsAt, ComesWith, HasStepped, HasRefused};
 
 use crate::commit::commit;
 use crate::line::measure;
 use crate::{Doing, Session, Step};
 use pgn_base::{Actions, Command, ListenSet, Names, Notes, Tag};
-use pgn_block::{Effect, Kind};
+use pgn_block::{Block, Effect, Kind};
 use pgn_hub::{Hub, PassView};
 use pgn_model::Item;
 use std::alloc::{AllocError, Global};
@@ -34,24 +34,38 @@ impl<P: PassView + Send + Drop> Session<P> {
         ensures stepped { IfOk result (λ step. HasStepped (H.shape hub.now) P.known self.old doing.Lines self.new step) }
         ensures refused { OnErr result (HasRefused (H.shape hub.now) P.known self.old doing.Lines self.new) }
     {
-        self.items.reserve(3)?;
-        let rows = rows_for(alloc, &command, &self.set)?;
-        let effect = self.block.step(command)?;
+        let taken = take(alloc, &mut self.block, &self.set, &mut self.items, command)?;
+        let Taken { effect, rows } = taken;
         match effect {
-            Effect::Nothing => Ok(self.show_line(line)),
-            Effect::Reply { tag, warning } => Ok(self.show(line, Item::Reply { tag, warning })),
-            Effect::Refuse { refusal } => Ok(self.show(line, Item::Refuse { refusal })),
+            Effect::Nothing => {
+                drop(rows);
+                Ok(self.show_line(line))
+            }
+            Effect::Reply { tag, warning } => {
+                drop(rows);
+                Ok(self.show(line, Item::Reply { tag, warning }))
+            }
+            Effect::Refuse { refusal } => {
+                drop(rows);
+                Ok(self.show(line, Item::Refuse { refusal }))
+            }
             Effect::Query {
                 kind: Kind::ListeningChannels,
             } => Ok(self.show_rows(line, rows)),
             Effect::Query {
                 kind: Kind::QueueUsage,
-            } => Ok(self.measure(rt, hub, line)),
+            } => {
+                drop(rows);
+                Ok(self.measure(rt, hub, line))
+            }
             Effect::Commit {
                 actions,
                 notes,
                 tag,
-            } => self.commit(rt, hub, actions, notes, tag),
+            } => {
+                drop(rows);
+                self.commit(rt, hub, actions, notes, tag)
+            }
         }
     }
 
@@ -160,6 +174,45 @@ impl<P: PassView + Send + Drop> Session<P> {
     {
         self.items.reserve(5)?;
         self.set.reserve(actions)
+    }
+}
+
+// What a command comes to, and the rows that it may ask for.
+#[derive(Drop)]
+struct Taken {
+    effect: Effect,
+    rows: Rows,
+}
+
+// Has the block take a command, with room for the items of its line. Where memory does not suffice, the block is as it was.
+fn take(
+    alloc: Global,
+    block: &mut Block,
+    set: &ListenSet,
+    items: &mut Vec<Item>,
+    command: Command,
+) -> Result<Taken, AllocError>
+    ensures taken { IfOk result (λ taken. HasTaken block.old command taken.effect block.new) }
+    ensures names { IfOk result (λ taken. command ≡ Command.ListeningChannels → taken.rows.names ≡ set.now.channels) }
+    ensures count { IfOk result (λ taken. taken.rows.count ≡ length taken.rows.names) }
+    ensures unchanged { OnErr result (block.new ≡ block.old) }
+    ensures items { items.new.items ≡ items.old.items }
+    ensures room { OnOk result (vec_len items.new + 3 ≤ vec_capacity items.new) }
+{
+    if items.reserve(3).is_err() {
+        drop(command);
+        return Err(AllocError);
+    }
+    let Ok(rows) = rows_for(alloc, &command, set) else {
+        drop(command);
+        return Err(AllocError);
+    };
+    match block.step(command) {
+        Ok(effect) => Ok(Taken { effect, rows }),
+        Err(_) => {
+            drop(rows);
+            Err(AllocError)
+        }
     }
 }
 

@@ -64,7 +64,12 @@ impl<P: PassView + Send + Drop> Session<P> {
         ensures rested { IfOk result (λ s. (shape : Shape) → HasRest shape P.known s) }
         ensures begins { IfOk result (λ s. (s.pass ≡ pass) × (s.section ≡ section) × (s.plan ≡ plan) × (s.patience ≡ patience) × (s.done ≡ 0) × (s.doing ≡ Doing.Lines) × (s.items.items ≡ [])) }
     {
-        let lines = section.lines.as_slice().len().min(FIRST_LINES);
+        let Ok(items) = first_room(alloc, section.lines.as_slice().len()) else {
+            // Dropped here, by calls, before the return.
+            drop(section);
+            drop(pass);
+            return Err(AllocError);
+        };
         Ok(Session {
             pass,
             section,
@@ -73,7 +78,7 @@ impl<P: PassView + Send + Drop> Session<P> {
             done: 0,
             block: Block::new(alloc),
             set: ListenSet::new(alloc),
-            items: Vec::with_capacity(alloc, FIRST_ITEMS + LINE_ITEMS * lines)?,
+            items,
             doing: Doing::Lines,
         })
     }
@@ -170,13 +175,11 @@ impl<P: PassView + Send + Drop> Session<P> {
         let Session {
             pass,
             section,
-            plan: _,
-            patience: _,
-            done: _,
-            block: _,
-            set: _,
+            block,
+            set,
             items,
-            doing: _,
+            doing,
+            ..
         } = self;
         let trace = Trace {
             session: section.no,
@@ -184,8 +187,19 @@ impl<P: PassView + Send + Drop> Session<P> {
             items: Items::from_items(items),
             last: pass.mark(),
         };
+        drop(section);
+        drop(block);
+        drop(set);
+        drop(doing);
         (pass, trace)
     }
+}
+
+// Room for the items of a script of so many lines.
+fn first_room(alloc: Global, lines: usize) -> Result<Vec<Item>, AllocError>
+    ensures { IfOk result (λ items. items.items ≡ []) }
+{
+    Vec::with_capacity(alloc, FIRST_ITEMS + LINE_ITEMS * lines.min(FIRST_LINES))
 }
 
 /// Raises the end flag of a session.

@@ -2,9 +2,11 @@ use Rattle.std.proofs.Common.{◌≡◌, Bool, true, List, ap, sym, subst, ◌�
 use Rattle.pgn_model.specs.declared.item.Item.{Item}
 use Rattle.pgn_hub.specs.declared.known.Known.{Known}
 use Rattle.pgn_hub.specs.Calls.{HasWoken}
+use Rattle.pgn_session.specs.Parts.{Begins}
 use Rattle.pgn_session.specs.Standing.{terms_of, IsAnswered}
 use Rattle.pgn_session.proofs.ReadLaws.{quiet-rested, owed-still, woken-answered, learned-answered, read-rested}
 use Rattle.pgn_session.proofs.KnownLaws.{on-err, told-set}
+use Rattle.pgn_session.proofs.GrowthLaws.{read-more}
 use Rattle.pgn_session.proofs.session.Session.idle.Goals as goal
 
 pub returns-then-not-woken-clause-rested : goal.returns-then-not-woken-clause-rested
@@ -45,3 +47,9 @@ read_on-requires-clause-interested g c κs within =
     let terms = terms_of (g.H.Hub.shape c.args.hub.now) s.section s.patience in
     ap (λ (q : Known). q.set) c.woken.ensures.woken.known
     ∙ told-set terms s.done s.set.channels k s.items.items _ c.in-Some.from (sym c.in-Some.ensures) c.requires.answered
+
+pub returns-clause-grows : goal.returns-clause-grows
+returns-clause-grows g c =
+    let before : List Item = c.args.self.now.items.items in
+    let read = c.in_ok-to.ensures.read in
+    subst (λ (after : List Item). Begins before after) (sym read.shown) (read-more before c.in-Some.from c.in_ok-to.to read.got)

@@ -1,6 +1,9 @@
-use Rattle.std.proofs.Common.{sym}
+use Rattle.std.proofs.Common.{List, sym, subst}
+use Rattle.pgn_model.specs.declared.item.Item.{Item}
+use Rattle.pgn_session.specs.Parts.{Begins}
 use Rattle.pgn_session.specs.Standing.{terms_of}
 use Rattle.pgn_session.proofs.KnownLaws.{told-set}
+use Rattle.pgn_session.proofs.GrowthLaws.{read-more}
 use Rattle.pgn_session.proofs.FirstReadLaws.{learned-between, read-between}
 use Rattle.pgn_session.proofs.session.Session.read_first.Goals as goal
 
@@ -20,3 +23,9 @@ pub read_on-requires-clause-interested : goal.read_on-requires-clause-interested
 read_on-requires-clause-interested g c κs within =
     let s = c.args.self.now in
     told-set (terms_of (g.H.Hub.shape c.args.hub.now) s.section s.patience) s.done s.set.channels (g.P.PassView.known s.pass) s.items.items _ c.in-Some.from (sym c.in-Some.ensures) c.requires.rested
+
+pub returns-clause-grows : goal.returns-clause-grows
+returns-clause-grows g c =
+    let before : List Item = c.args.self.now.items.items in
+    let read = c.in_ok-_to.ensures.read in
+    subst (λ (after : List Item). Begins before after) (sym read.shown) (read-more before c.in-Some.from c.in_ok-_to._to read.got)
