@@ -289,10 +289,10 @@ impl SoFar {
         ensures same_at { self.new.at ≡ self.old.at }
         ensures ok { OnOk result (self.new ≡ ended self.old) }
     {
-        if let Some(part) = self.part.take() {
-            self.done.push(part)?;
+        match self.part.take() {
+            Some(part) => self.done.push(part),
+            None => Ok(()),
         }
-        Ok(())
     }
 
     /// What all lines make, where none has a fault: a scenario, or a fault of the whole. The sections are taken out.
@@ -319,10 +319,12 @@ fn push_line(part: &mut Option<Section>, line: ScriptLine, notes: u32) -> Result
     ensures ok { OnOk result (part.new ≡ option_map (with_line line) part.old) }
     ensures err { OnErr result (part.new ≡ part.old) }
 {
-    if let Some(section) = part {
-        section.lines.push(line)?;
-        section.note_lines += notes;
-    }
+    let Some(section) = part else {
+        drop(line);
+        return Ok(());
+    };
+    section.lines.push(line)?;
+    section.note_lines += notes;
     Ok(())
 }
 
