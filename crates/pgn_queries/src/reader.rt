@@ -90,7 +90,10 @@ impl Queries {
         };
         match self.count(size, &line.act) {
             Ok(()) => Ok(Some(line)),
-            Err(fault) => Err(NoQuery::Fault(fault)),
+            Err(fault) => {
+                drop(line);
+                Err(NoQuery::Fault(fault))
+            }
         }
     }
 
