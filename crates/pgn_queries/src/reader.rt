@@ -145,11 +145,11 @@ fn one_line(alloc: Global, line: u32, text: &[u8]) -> Result<ScriptLine, AllocEr
     let Ok(text) = str::from_utf8(text) else {
         unreachable!()
     };
+    let kept = LineText::new(alloc, text)?;
     let command = parse_line(alloc, text)?;
-    let text = LineText::new(alloc, text)?;
     Ok(ScriptLine {
         line,
-        text,
+        text: kept,
         act: Act::Run(command),
     })
 }
