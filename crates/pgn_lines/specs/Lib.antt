@@ -1,3 +1,4 @@
 pub mod Shown
 pub mod Fields
 pub mod Examples
+pub mod Rows

@@ -1,13 +1,14 @@
 ghost use Rattle.std.specs.Prelude.{◌≡◌, ℕ, List, MatchOption, IfOk};
 ghost use Rattle.pgn_base.specs.declared.note.Delivery.{Delivery};
 ghost use Rattle.pgn_base.specs.declared.note.Note.{Note};
-ghost use Rattle.pgn_lines.specs.Shown.{Shows, Unshown};
+ghost use Rattle.pgn_lines.specs.Rows.{IsSender, received_text};
+ghost use Rattle.pgn_lines.specs.Shown.{IsShort, IsXid, Shows, Unshown};
 ghost use Rattle.pgn_lines.specs.declared.shown.Shown.TheVariants as show;
 
 use crate::numbers::{after, long, parted, short, short_then, xid_then};
 use crate::quoted::{note_of, quoted_name};
 use crate::shown::Shown;
-use pgn_base::Delivery;
+use pgn_base::{Delivery, Xid};
 use std::alloc::{AllocError, Global};
 
 /// The row of a usage.
@@ -55,22 +56,43 @@ pub fn channel(alloc: Global, line: &str) -> Result<Option<Shown>, AllocError>
     Ok(Some(Shown::Channel { name }))
 }
 
+// Who sent a notification that was received, and the text of the notification.
+#[derive(Clone, Copy)]
+struct Sender<'a> {
+    xid: Xid,
+    pid: u32,
+    text: &'a str,
+}
+
+fn sender_of(line: &str) -> Option<Sender<'_>>
+    ensures { MatchOption result ((xid pid : ℕ) (text : List ℕ) → IsXid xid → IsShort pid → received_text xid pid text ≡ line.now → ⊥) (λ sender. IsSender line.now sender.xid sender.pid sender.text.now) }
+{
+    let Some(row) = after(line, "  ") else {
+        return None;
+    };
+    let Some((xid, at_pid)) = xid_then(row, "") else {
+        return None;
+    };
+    let Some((pid, text)) = short_then(at_pid, "") else {
+        return None;
+    };
+    Some(Sender { xid, pid, text })
+}
+
 /// A notification that was received.
 pub fn received(alloc: Global, line: &str) -> Result<Option<Shown>, AllocError>
     ensures { IfOk result (λ read. MatchOption read ((delivery : Delivery) → Unshown line.now (show.Received delivery)) (Shows line.now)) }
 {
-    let Some(row) = after(line, "  ") else {
+    let Some(sender) = sender_of(line) else {
         return Ok(None);
     };
-    let Some((xid, at_pid)) = xid_then(row, "") else {
+    let Some(note) = note_of(alloc, sender.text)? else {
         return Ok(None);
     };
-    let Some((pid, text)) = short_then(at_pid, "") else {
-        return Ok(None);
+    let delivery = Delivery {
+        xid: sender.xid,
+        pid: sender.pid,
+        note,
     };
-    let Some(note) = note_of(alloc, text)? else {
-        return Ok(None);
-    };
-    let delivery = Delivery { xid, pid, note };
     Ok(Some(Shown::Received { delivery }))
 }

@@ -90,7 +90,10 @@ impl Queries {
         };
         match self.count(size, &line.act) {
             Ok(()) => Ok(Some(line)),
-            Err(fault) => Err(NoQuery::Fault(fault)),
+            Err(fault) => {
+                drop(line);
+                Err(NoQuery::Fault(fault))
+            }
         }
     }
 
@@ -142,11 +145,11 @@ fn one_line(alloc: Global, line: u32, text: &[u8]) -> Result<ScriptLine, AllocEr
     let Ok(text) = str::from_utf8(text) else {
         unreachable!()
     };
+    let kept = LineText::new(alloc, text)?;
     let command = parse_line(alloc, text)?;
-    let text = LineText::new(alloc, text)?;
     Ok(ScriptLine {
         line,
-        text,
+        text: kept,
         act: Act::Run(command),
     })
 }

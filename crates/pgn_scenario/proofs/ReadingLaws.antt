@@ -14,7 +14,7 @@ use Rattle.pgn_language.specs.laws.Inputs.{first_fault, whole_reading, lines_rea
 use Rattle.pgn_language.proofs.InputLaws.{input-reads}
 use Rattle.pgn_language.proofs.SoundLaws.{only-sound}
 use Rattle.pgn_scenario.specs.Flags.{first_unsignalled}
-use Rattle.pgn_scenario.specs.Steps.{State, at_start, steps, finished}
+use Rattle.pgn_scenario.specs.Steps.{State, at_start, steps, finished, outcome}
 use Rattle.pgn_scenario.proofs.FaultLaws.{StandsFor, starts, AllFollow, steps_follow}
 use Rattle.pgn_scenario.proofs.SectionLaws.{flags_made, sections_made}
 use Rattle.pgn_scenario.proofs.AwaitLaws.{signals_made, waits_made, unsignalled_alike}
@@ -86,6 +86,10 @@ reads-whole input t l h =
 sound-read : (input : List ℕ) (read : Result Scenario ScenarioFault) → ReadsAsScenario input read → IfOk read IsSound
 sound-read input (Ok scenario) h = only-sound input scenario h
 sound-read input (Err found) h = tt
+
+-- what the lines of an input make, where they are taken from the start
+pub taken : (input : List ℕ) (s t : State) (found : Option ScenarioFault) → s ≡ at_start → outcome found t ≡ steps s (lines_of input) → steps at_start (lines_of input) ≡ outcome found t
+taken input s t found start h = subst (λ (x : State). steps x (lines_of input) ≡ outcome found t) start (sym h)
 
 -- what is finished is read, where there is memory for it
 pub finish-reads : {E : Type 0} (input : List ℕ) (t : State) (made : Result (Result Scenario ScenarioFault) E) → length input ≤ INPUT_BYTES_MAX → steps at_start (lines_of input) ≡ Ok t

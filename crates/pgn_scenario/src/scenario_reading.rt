@@ -1,8 +1,8 @@
-ghost use Rattle.std.specs.Prelude.{◌≡◌, ◌≤◌, length, IfOk};
+ghost use Rattle.std.specs.Prelude.{◌≡◌, ◌+◌, ◌≤◌, length, IfOk};
 ghost use Rattle.pgn_base.specs.declared.limits.TheConstants.{INPUT_BYTES_MAX};
 ghost use Rattle.pgn_language.specs.Lines.{lines_of};
 ghost use Rattle.pgn_language.specs.Inputs.{ReadsAsScenario, IsSound};
-ghost use Rattle.pgn_scenario.specs.Steps.{at_start, steps};
+ghost use Rattle.pgn_scenario.specs.Steps.{at_start, outcome, steps};
 
 use crate::lines::first_line;
 use crate::so_far::SoFar;
@@ -24,25 +24,45 @@ pub fn read_scenario(
     if bytes.len() > INPUT_BYTES_MAX {
         return Ok(Err(ScenarioFault::TooLarge));
     }
-    match read_lines(alloc, bytes)? {
-        Ok(so_far) => so_far.finish(alloc),
-        Err(fault) => Ok(Err(fault)),
+    let mut so_far = SoFar::new(alloc);
+    let reading = read_all(&mut so_far, alloc, bytes);
+    // Dropped here, by a call: what reads may return at each line.
+    drop(so_far);
+    reading
+}
+
+// What an input reads as, of which no line is read so far.
+fn read_all(
+    so_far: &mut SoFar,
+    alloc: Global,
+    bytes: &[u8],
+) -> Result<Result<Scenario, ScenarioFault>, AllocError>
+    requires start { so_far.old ≡ at_start }
+    requires short { length bytes.now ≤ INPUT_BYTES_MAX }
+    ensures { IfOk result (ReadsAsScenario bytes.now) }
+{
+    match read_lines(so_far, alloc, bytes)? {
+        None => so_far.finish(alloc),
+        Some(fault) => Ok(Err(fault)),
     }
 }
 
-// What the lines of an input make, or the fault of the first that has one.
-fn read_lines(alloc: Global, bytes: &[u8]) -> Result<Result<SoFar, ScenarioFault>, AllocError>
-    requires { length bytes.now ≤ INPUT_BYTES_MAX }
-    ensures { IfOk result (λ made. made ≡ steps at_start (lines_of bytes.now)) }
+// Takes the lines of a text, up to the first that has a fault.
+fn read_lines(
+    so_far: &mut SoFar,
+    alloc: Global,
+    bytes: &[u8],
+) -> Result<Option<ScenarioFault>, AllocError>
+    requires { so_far.old.at + length bytes.now ≤ INPUT_BYTES_MAX }
+    ensures { IfOk result (λ found. outcome found so_far.new ≡ steps so_far.old (lines_of bytes.now)) }
 {
-    let mut so_far = SoFar::new(alloc);
     let mut rest = bytes;
     while !rest.is_empty() {
         let (line, after) = first_line(rest);
         if let Some(fault) = so_far.take(alloc, line)? {
-            return Ok(Err(fault));
+            return Ok(Some(fault));
         }
         rest = after;
     }
-    Ok(Ok(so_far))
+    Ok(None)
 }

@@ -1,8 +1,9 @@
-ghost use Rattle.std.specs.Prelude.{◌≡◌, ◌+◌, ◌^◌, ◌<◌, ◌≤◌, length, option_map, IfOk, IfSome, OnOk, OnErr};
-ghost use Rattle.pgn_base.specs.declared.limits.TheConstants.{INPUT_BYTES_MAX, NOTE_LINES_MAX};
+ghost use Rattle.std.specs.Prelude.{◌≡◌, ◌+◌, ◌^◌, ◌<◌, ◌≤◌, false, length, option_map, IfOk, IfSome, OnOk, OnErr};
+ghost use Rattle.pgn_base.specs.declared.limits.TheConstants.{INPUT_BYTES_MAX, NOTE_LINES_MAX, SECTIONS_MAX};
+ghost use Rattle.pgn_base.specs.Names.{has_name};
 ghost use Rattle.pgn_language.specs.Inputs.{is_note_act};
 ghost use Rattle.pgn_scenario.specs.Saying.{told, told_deed};
-ghost use Rattle.pgn_scenario.specs.Steps.{at_start, note_of, with_line, acted, ended, added, opening, running, signals, awaits, quits, step, passed, finished, outcome};
+ghost use Rattle.pgn_scenario.specs.Steps.{at_start, note_of, with_line, acted, ended, added, opened, opening, running, signals, awaits, quits, step, passed, finished, outcome};
 
 use crate::flags::Flags;
 use crate::said::{Deed, Said, said_of};
@@ -18,7 +19,7 @@ use pgn_language::{
 };
 use std::alloc::{AllocError, Global};
 use std::marker::Model;
-use std::str;
+use std::{mem, str};
 
 /// What the lines so far make. Contracts see it as `State`.
 #[derive(Drop)]
@@ -140,24 +141,39 @@ impl SoFar {
     {
         let line = self.line;
         if self.names.contains(&name) {
+            // Dropped here, by a call, as what else has parts where there are several ways out.
+            drop(name);
             return Ok(Some(ScenarioFault::SameName { line }));
         }
-        let number = self.names.len() + 1;
-        if number > SECTIONS_MAX as usize {
+        if self.names.len() + 1 > SECTIONS_MAX as usize {
+            drop(name);
             return Ok(Some(ScenarioFault::TooMany { line }));
         }
+        self.begin(alloc, name, db)?;
+        Ok(None)
+    }
+
+    // A section begins whose name is new.
+    fn begin(&mut self, alloc: Global, name: Name, db: DbOid) -> Result<(), AllocError>
+        requires new { has_name self.old.names name ≡ false }
+        requires few { length self.old.names + 1 ≤ SECTIONS_MAX }
+        ensures same_at { self.new.at ≡ self.old.at }
+        ensures ok { OnOk result (self.new ≡ opened self.old name db) }
+    {
+        let no = SessionNo::new(self.names.len() as u32 + 1);
+        let copy = name.copy(alloc)?;
+        self.names.insert(copy)?;
+        self.end_part()?;
         let section = Section {
-            no: SessionNo::new(number as u32),
-            name: name.copy(alloc)?,
+            no,
+            name,
             db,
             lines: ScriptLines::new(alloc),
             note_lines: 0,
         };
-        self.names.insert(name)?;
-        self.end_part()?;
-        self.part = Some(section);
+        drop(self.part.replace(section));
         self.quit = false;
-        Ok(None)
+        Ok(())
     }
 
     // The session does something, which needs a section without a `\quit`.
@@ -172,9 +188,11 @@ impl SoFar {
     {
         let line = self.line;
         if self.quit {
+            drop(deed);
             return Ok(Some(ScenarioFault::BadMeta { line }));
         }
         if self.part.is_none() {
+            drop(deed);
             return Ok(Some(ScenarioFault::NoSession { line }));
         }
         match deed {
@@ -197,6 +215,7 @@ impl SoFar {
     {
         let act = Act::Run(command);
         if self.notes + usize::from(is_note(&act)) > NOTE_LINES_MAX {
+            drop(act);
             return Ok(Some(ScenarioFault::TooMany { line: self.line }));
         }
         self.push(alloc, text, act)?;
@@ -270,30 +289,25 @@ impl SoFar {
         ensures same_at { self.new.at ≡ self.old.at }
         ensures ok { OnOk result (self.new ≡ ended self.old) }
     {
-        if let Some(part) = self.part.take() {
-            self.done.push(part)?;
+        match self.part.take() {
+            Some(part) => self.done.push(part),
+            None => Ok(()),
         }
-        Ok(())
     }
 
-    /// What all lines make, where none has a fault: a scenario, or a fault of the whole.
-    pub fn finish(self, alloc: Global) -> Result<Result<Scenario, ScenarioFault>, AllocError>
-        ensures { IfOk result (λ reading. reading ≡ finished self) }
+    /// What all lines make, where none has a fault: a scenario, or a fault of the whole. The sections are taken out.
+    pub fn finish(&mut self, alloc: Global) -> Result<Result<Scenario, ScenarioFault>, AllocError>
+        ensures { IfOk result (λ reading. reading ≡ finished self.old) }
     {
-        let SoFar {
-            done: mut sections,
-            part,
-            flags,
-            ..
-        } = self;
-        let Some(part) = part else {
+        if self.part.is_none() {
             return Ok(Err(ScenarioFault::Empty));
-        };
-        if let Some(line) = flags.unsignalled() {
+        }
+        if let Some(line) = self.flags.unsignalled() {
             return Ok(Err(ScenarioFault::NeverSignalled { line }));
         }
-        sections.push(part)?;
-        let flags = flags.names(alloc)?;
+        self.end_part()?;
+        let flags = self.flags.names(alloc)?;
+        let sections = mem::replace(&mut self.done, Sections::new(alloc));
         Ok(Ok(Scenario { sections, flags }))
     }
 }
@@ -305,10 +319,12 @@ fn push_line(part: &mut Option<Section>, line: ScriptLine, notes: u32) -> Result
     ensures ok { OnOk result (part.new ≡ option_map (with_line line) part.old) }
     ensures err { OnErr result (part.new ≡ part.old) }
 {
-    if let Some(section) = part {
-        section.lines.push(line)?;
-        section.note_lines += notes;
-    }
+    let Some(section) = part else {
+        drop(line);
+        return Ok(());
+    };
+    section.lines.push(line)?;
+    section.note_lines += notes;
     Ok(())
 }
 
