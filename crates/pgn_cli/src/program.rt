@@ -19,8 +19,9 @@ use std::alloc::{AllocError, Global};
 use std::sync::Wait;
 use std::thread::Threads;
 
-/// All that the program does once it has its words: it makes the one call of the product over these words, and writes one line to `errors` where the
-/// run is not done. The result is the exit status. Sessions may wait for one another, so that it is not promised that the call returns.
+/// All that the program does once it has its words: it calls `run_notify` over these words, and writes one line to `errors`
+/// where the run is not done. The result is the exit status. Sessions may wait for one another, so that it is not promised that the call
+/// returns.
 pub fn program<S: Source, K: Sink + Send, E: Sink, R: Threads + Wait + Sync>(
     rt: &R,
     alloc: Global,

@@ -29,7 +29,8 @@ pub fn lawful_walks()
     ensures mixed { IsTraceOf listen_notify mixed_journal (mixed_front ++ Read 3 6 mixed_due ∷ []) (Some 6) }
 {}
 
-/// Traces of blocks: a COMMIT sends what survives, each once, and what an ended block had is gone. At the end of the script an open block is dropped.
+/// Traces of blocks: a COMMIT sends what survives, each once, and what an ended block had is gone. At the end of the script an open block
+/// is dropped.
 pub fn lawful_blocks()
     ensures block { IsTraceOf block_lines block_journal block_items (Some 4) }
     ensures joining { IsTraceOf joining_lines joining_journal joining_items (Some 5) }

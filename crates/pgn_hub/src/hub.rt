@@ -53,8 +53,8 @@ pub trait Hub: Sized {
         ensures interested { HasInterest (Self.Pass.known pass.old) (Self.Pass.known pass.new) set.now.channels };
 
     /// Reads from the mark to the first unfinished transaction, which it answers as the new mark, and puts what is due on the
-    /// channels of the set, which is the one that the listener has told, behind `out`. The error is that memory did not suffice; then `out` and the mark stay, and a read that was
-    /// owed is still owed.
+    /// channels of the set, which is the one that the listener has told, behind `out`. The error is that memory did not suffice; then `out`
+    /// and the mark stay, and a read that was owed is still owed.
     fn scan(
         &self,
         alloc: Global,

@@ -13,7 +13,8 @@ pub fn tokens()
     ensures cut_is_name { CutIsName }
     // Each token of a text stands in it where it is said to begin.
     ensures tokens_stand { TokensStand }
-    // The tokens of a text cover it: nothing but blanks stands before them and between them, and nothing but blanks and a comment after them. Words, numbers and quoted texts are as long as they can be. After what is no token anything may stand.
+    // The tokens of a text cover it: nothing but blanks stands before them and between them, and nothing but blanks and a comment after
+    // them. Words, numbers and quoted texts are as long as they can be. After what is no token anything may stand.
     ensures tokens_cover { TokensCover }
     // No other tokens cover it, so that no other order of reading gives others.
     ensures one_cover { OneCover }
@@ -35,7 +36,8 @@ pub fn grammar()
     ensures reading_computes { ReadingComputes }
     // A line has exactly one reading.
     ensures one_reading { OneReading }
-    // What a line of UTF-8 without a zero byte reads as is valid: each name is one, and a notification can be sent. So the channel of NOTIFY is never empty, and no name is cut in the middle of a character.
+    // What a line of UTF-8 without a zero byte reads as is valid: each name is one, and a notification can be sent. So the channel of
+    // NOTIFY is never empty, and no name is cut in the middle of a character.
     ensures readings_are_valid { ReadingsAreValid }
 {}
 

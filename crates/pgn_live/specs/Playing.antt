@@ -34,7 +34,8 @@ pub record HasPlayedOut {P : Type 0} (is_own : P → Type 0) (shape : Shape) (kn
 abbrev pub sections_of : {P : Type 0} → List (Session P) → List Section
 sections_of sessions = map (λ s. s.section) sessions
 
--- sessions that are ready, numbered from the first number of a pass on and not more than its numbers, may run, and push by that pass, which has pushed nothing
+-- sessions that are ready, numbered from the first number of a pass on and not more than its numbers, may run, and push by that pass, which
+-- has pushed nothing
 pub record MayPlay {P : Type 0} (is_own : P → Type 0) (shape : Shape) (known : P → Known) (sessions : List (Session P)) (v : Hand) : Type 0 where
   pub ready : All (IsReady is_own shape known) sessions
   pub numbered : AreNumbered v.first (sections_of sessions)

@@ -30,7 +30,8 @@ pub fn growing()
     ensures mark_within { MarkWithin }
     // All of it of a state that items lead to.
     ensures state_within { StateWithin }
-    // A lawful trace shows numbers within the journal alone, if each full queue that it shows was full and each flag was found with a number within it.
+    // A lawful trace shows numbers within the journal alone, if each full queue that it shows was full and each flag was found with a
+    // number within it.
     ensures lawful_shows { LawfulShows }
     // What is up to date, over a journal that has all that was told, is so over a longer one.
     ensures up_to_date_grows { UpToDateGrows }

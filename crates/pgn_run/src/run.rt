@@ -37,11 +37,11 @@ use std::thread::Threads;
 // How many bytes of an input are read at most: one more than an input may have.
 const READ_LIMIT: usize = INPUT_BYTES_MAX + 1;
 
-/// Does all that the program does between its words and its exit status. `words` are those after the program's name. `run` reads a scenario from the source, runs its
-/// sessions side by side, and writes the journal and what each session was answered and received to the sink. `drill` reads nothing:
-/// it makes a scenario, runs it the same way, and writes the summary. `wire` answers each query that it reads, as a server of PostgreSQL
-/// does after start-up, before it reads the next. `check` reads a scenario and an output text, and writes whether this is the output of a
-/// legal run of it, or which line is the first to blame. Sessions may wait for one another, so that it is not promised
+/// Does all that the program does between its words and its exit status. `words` are those after the program's name. `run` reads a scenario
+/// from the source, runs its sessions side by side, and writes the journal and what each session was answered and received to the sink.
+/// `drill` reads nothing: it makes a scenario, runs it the same way, and writes the summary. `wire` answers each query that it reads, as a
+/// server of PostgreSQL does after start-up, before it reads the next. `check` reads a scenario and an output text, and writes whether this
+/// is the output of a legal run of it, or which line is the first to blame. Sessions may wait for one another, so that it is not promised
 /// that the call returns; what stands here holds where it does.
 pub fn run_notify<'a, S: Source, K: Sink + Send, R: Threads + Wait + Sync>(
     rt: &R,

@@ -94,7 +94,8 @@ pub record TellsMore (plan : FlagPlan) (k : Known) (s : State) : Type 0 where
 abbrev pub spare_of : Section → ℕ
 spare_of section = section.note_lines - note_lines_of section.lines
 
--- the script goes on, and so many notifications are to be kept back: the block is the walk's, and what the current line still has to show is this
+-- the script goes on, and so many notifications are to be kept back: the block is the walk's, and what the current line still has to show
+-- is this
 pub record IsInScript (spare : ℕ) (block : BlockView) (k : Known) (s : State) (owed : Owed) : Type 0 where
   pub owes : s.owed ≡ owed
   pub block_state : s.block ≡ block.state

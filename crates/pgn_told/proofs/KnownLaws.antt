@@ -1,4 +1,5 @@
--- What is known of each item of a trace, beside that it is allowed: what was received can be told, and a usage is no greater than the journal has it.
+-- What is known of each item of a trace, beside that it is allowed: what was received can be told, and a usage is no greater than the
+-- journal has it.
 use Rattle.std.proofs.Common.{◌≡◌, ℕ, ◌+◌, ◌-◌, ◌^◌, ◌<◌, Bool, true, false, cond, List, [], ◌∷◌, map, sym, ap, subst}
 use Rattle.std.specs.Prelude.{All, filter}
 use Rattle.std.proofs.lemmas.List.Elements.{All-nil, All-cons, All-head, All-tail, All-append, All-map, All-filter, All-take, All-drop}

@@ -8,7 +8,8 @@ pub fn journal_is_short()
 
 /// The lines of a journal give it back.
 pub fn journal_is_unique()
-    // The journal of a legal run of a sound scenario is one of the scenario: each transaction is finished and of some section, and it is short.
+    // The journal of a legal run of a sound scenario is one of the scenario: each transaction is finished and of some section, and it is
+    // short.
     ensures legal { LegalHasJournal }
     // Two journals of one sound scenario with the same lines are the same, whatever follows the lines, and the same follows.
     ensures unique { JournalIsUnique }

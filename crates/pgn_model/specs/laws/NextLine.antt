@@ -1,4 +1,5 @@
--- Laws of what a session's next line adds to its trace, and what a read and the script's end add: which items come, and which state they lead to.
+-- Laws of what a session's next line adds to its trace, and what a read and the script's end add: which items come, and which state they
+-- lead to.
 --
 -- A session has three calls that add items: step begins a line and answers it, or looks once more for an awaited flag; idle reads
 -- between lines and while a flag is awaited; finish_read reads once more after the script's end.
