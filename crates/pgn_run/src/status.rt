@@ -12,8 +12,9 @@ pub enum Status {
     BadScenario(ScenarioFault),
     /// The source failed.
     ReadFault,
-    /// The sink failed; a prefix of the output was written.
+    /// The sink failed; a prefix of the output was written, or of a live run of the lines of what its sessions did.
     WriteFault,
+    /// Memory did not suffice; nothing was written, or of a live run its first lines, or of `wire` whole answers.
     NoMemory,
     /// What a client of the wire sent is at fault; what it asked before was answered.
     BadWire(WireFault),
