@@ -1,4 +1,4 @@
-ghost use Rattle.std.specs.Prelude.{◌≡◌, ◌+◌, ◌^◌, ◌<◌, ◌≤◌, length, ℕ, All, IfOk};
+ghost use Rattle.std.specs.Prelude.{◌≡◌, ◌+◌, ◌^◌, ◌<◌, ◌≤◌, length, All, IfOk};
 ghost use Rattle.pgn_journal.specs.Journal.{IsFinished, next_xid};
 ghost use Rattle.pgn_language.specs.Inputs.{IsSound};
 ghost use Rattle.pgn_ledger.specs.Places.{notes_in};
@@ -43,16 +43,16 @@ pub fn check_output(
     ensures { IfOk result (Judges scenario.now (record { format = format; limit = pages; patience = patience }) out.now) }
 {
     are_held(scenario.sections.as_slice());
-    match read_journal(alloc, scenario, out)? {
-        Ok(reading) => {
-            let blamed = walk_reading(alloc, scenario, pages, patience, format, &reading);
-            drop(reading);
-            match blamed? {
-                Some(line) => Ok(Verdict::Illegal { line }),
-                None => Ok(Verdict::Legal),
-            }
-        }
-        Err(line) => Ok(Verdict::Illegal { line }),
+    let reading = match read_journal(alloc, scenario, out)? {
+        Ok(reading) => reading,
+        Err(line) => return Ok(Verdict::Illegal { line }),
+    };
+    let found = walk_reading(alloc, scenario, pages, patience, format, &reading);
+    // By a call, before what may return.
+    drop(reading);
+    match found? {
+        Some(line) => Ok(Verdict::Illegal { line }),
+        None => Ok(Verdict::Legal),
     }
 }
 

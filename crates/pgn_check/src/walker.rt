@@ -1,17 +1,13 @@
-ghost use Rattle.std.specs.Prelude.{◌≡◌, ◌↔◌, ℕ, ◌+◌, ◌^◌, ◌<◌, ◌≤◌, ◌&&◌, ◌||◌, true, [], ◌∷◌, ◌++◌, List, flat_map, length, Ok, None, IfOk, IfSome, MatchOption};
-ghost use Rattle.pgn_journal.specs.Journal.{next_xid};
-ghost use Rattle.pgn_journal.specs.declared.tx.Tx.{Tx};
+ghost use Rattle.std.specs.Prelude.{◌≡◌, ℕ, ◌+◌, ◌^◌, ◌<◌, ◌≤◌, [], ◌∷◌, ◌++◌, List, flat_map, length, Ok, None, IfOk, MatchOption};
 ghost use Rattle.pgn_language.specs.declared.scenario.Section.{Section};
 ghost use Rattle.pgn_model.specs.declared.item.Item.{Item};
 ghost use Rattle.pgn_model.specs.declared.trace.Trace.{Trace};
 ghost use Rattle.pgn_model.specs.Legal.{finished_xids};
-ghost use Rattle.pgn_model.specs.Trace.{IsEnd};
 ghost use Rattle.pgn_model.specs.Text.{item_lines, trace_lines};
 ghost use Rattle.pgn_reading.specs.Form.{IsReadTrace};
 ghost use Rattle.pgn_reading.specs.WholeLaws.{IsWalked};
-ghost use Rattle.pgn_check.specs.Fresh.{Asks};
 ghost use Rattle.pgn_evidence.specs.Basis.{Tells, journal_of, terms_of};
-ghost use Rattle.pgn_check.specs.Walked.{AsksLast, CountsOn, HasCome, IsAround, IsAtEnd, IsLeastOf, IsMissingNone};
+ghost use Rattle.pgn_check.specs.Walked.{CountsOn, HasCome, IsAround, IsAtEnd, IsLeastOf};
 
 use crate::fresh::is_fresh_at;
 use crate::judge::takes;

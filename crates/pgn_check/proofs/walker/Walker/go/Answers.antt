@@ -14,7 +14,7 @@ returns-in-Some c =
     let inv = c.loop-item.invariant in
     λ sections traces tells read.
     let around = around_at c.args.basis.now sections traces c.args.self.now.line trace k i c.loop-item.self lt is inv.line inv.own tells read (inv.come sections traces tells read) in
-    rw c.in-Some.is at (c.in_ok-step.ensures.come sections traces c.args.self.now.line trace (take k trace.items) (drop (k + 1) trace.items) around)
+    rw c.in-Some.is at (c.in_ok-line.ensures.come sections traces c.args.self.now.line trace (take k trace.items) (drop (k + 1) trace.items) around)
 
 pub step-requires : goal.step-requires
 step-requires c =
@@ -36,7 +36,7 @@ loop-item-preserved c =
     let lt : k < length trace.items = omega (arith, ap length c.as_slice-item-items.ensures) in
     let is : i ≡ get_or trace.items k i = subst (λ (xs : List Item). i ≡ get_or xs k i) c.as_slice-item-items.ensures c.item-item.is in
     let inv = c.loop-item.invariant in
-    let counts : CountsOn c.loop-item.self i c.step.new.self = c.in_ok-step.ensures.counted cc in
+    let counts : CountsOn c.loop-item.self i c.step.new.self = c.in_ok-line.ensures.counted cc in
     record {
       line = line_next section trace k i c.args.self.now.line c.loop-item.self.line c.step.new.self.line lt is inv.line (counts.line section.lines);
       own = own_next section trace k i c.loop-item.self.own c.step.new.self.own lt is (counts.own (take k trace.items) inv.own);
@@ -44,7 +44,7 @@ loop-item-preserved c =
       come = λ sections traces tells read.
           let around = around_at c.args.basis.now sections traces c.args.self.now.line trace k i c.loop-item.self lt is inv.line inv.own tells read (inv.come sections traces tells read) in
           come_next c.args.basis.now sections traces trace.items k i c.step.new.self.at lt is
-          (rw c.in-None.is at (c.in_ok-step.ensures.come sections traces c.args.self.now.line trace (take k trace.items) (drop (k + 1) trace.items) around));
+          (rw c.in-None.is at (c.in_ok-line.ensures.come sections traces c.args.self.now.line trace (take k trace.items) (drop (k + 1) trace.items) around));
     }
 
 pub end-requires : goal.end-requires
