@@ -38,6 +38,11 @@ pub fn converse<P: PassView + Send + Drop, H: Hub<Pass = P> + Drop, R: Wait, S: 
             Ok(()) => Ok(()),
             Err(_) => Err(WireEnd::Memory),
         },
-        Err(end) => Err(end),
+        // Dropped here, by a call: `finish` takes them on the other way.
+        Err(end) => {
+            drop(session);
+            drop(hub);
+            Err(end)
+        }
     }
 }

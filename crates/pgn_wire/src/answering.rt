@@ -48,13 +48,17 @@ pub(crate) fn one_query<P: PassView + Send + Drop, H: Hub<Pass = P>, R: Wait, K:
     let Act::Run(command) = &line.act else {
         unreachable!()
     };
+    // What is owned is dropped by a call before each return.
     let Ok(command) = command.copy(alloc) else {
+        drop(line);
         return Err(WireEnd::Memory);
     };
     let Ok(()) = take_query(rt, alloc, hub, session, line) else {
+        drop(command);
         return Err(WireEnd::Memory);
     };
     let Ok(bytes) = answer_behind(alloc, session, from, &command) else {
+        drop(command);
         return Err(WireEnd::Memory);
     };
     match write_all(sink, bytes.as_slice()) {
