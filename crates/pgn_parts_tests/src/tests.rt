@@ -16,11 +16,19 @@ use pgn_base::{Name, Note, Payload};
 use std::alloc::{AllocError, Global};
 use std::test::Fail;
 
-fn note(alloc: Global, channel: &str, payload: &str) -> Result<Note, Fail> {
-    Ok(Note {
-        channel: Name::new(alloc, channel)?,
-        payload: Payload::new(alloc, payload)?,
-    })
+// Calls with many clauses stand in functions of their own, so that these clauses are worked out once.
+fn name(alloc: Global, text: &str) -> Result<Name, Fail> {
+    Ok(Name::new(alloc, text)?)
+}
+
+fn payload(alloc: Global, text: &str) -> Result<Payload, Fail> {
+    Ok(Payload::new(alloc, text)?)
+}
+
+fn note(alloc: Global, channel: &str, text: &str) -> Result<Note, Fail> {
+    let channel = name(alloc, channel)?;
+    let payload = payload(alloc, text)?;
+    Ok(Note { channel, payload })
 }
 
 // So many times a piece, and what follows.

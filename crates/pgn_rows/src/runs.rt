@@ -1,5 +1,6 @@
 use crate::row::Outcome;
-use pgn_base::{MemSink, MemSource, Sink, Source};
+use pgn_base::{Sink, Source};
+use pgn_memory::{MemSink, MemSource};
 use pgn_run::{Status, run_notify};
 use std::alloc::{AllocError, Global};
 use std::sync::Wait;

@@ -1,9 +1,10 @@
 ghost use Rattle.std.specs.Prelude.{IfOk, ◌≤◌};
 ghost use Rattle.pgn_language.specs.Inputs.{IsSound};
 
-use pgn_base::{Format, MemSink, MemSource, PAGES_DEFAULT, Sink, Source};
+use pgn_base::{Format, PAGES_DEFAULT, Sink, Source};
 use pgn_hub::Hub;
 use pgn_language::{Scenario, ScenarioFault};
+use pgn_memory::{MemSink, MemSource};
 use pgn_run::{Print, Status, run_notify, run_scenario};
 use pgn_scenario::read_scenario;
 use std::alloc::Global;

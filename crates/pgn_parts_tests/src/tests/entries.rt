@@ -1,8 +1,8 @@
 ghost use Rattle.std.specs.Prelude.{◌<◌, ◌≤◌};
 ghost use Rattle.pgn_journal.specs.Bytes.{IsEntryLength};
 
-use super::{note, repeated};
-use pgn_base::{CELL_BYTES, DbOid, Format, Note, Xid};
+use super::{name, note, payload, repeated};
+use pgn_base::{CELL_BYTES, DbOid, Format, Name, Note, Payload, Xid};
 use pgn_entry::{
     EntryCells, EntryFault, EntryView, entry_len, filler_cell, read_entry, read_piece,
 };
@@ -45,6 +45,11 @@ const FILLER_VIEW: EntryView<'static> = EntryView::Filler {
 
 // What bytes begin with, or the fault that they have.
 pub(super) type Read<'a> = Result<EntryView<'a>, EntryFault>;
+
+// A call of its own, so that what it promises is worked out once.
+pub(super) fn read(format: Format, bytes: &[u8]) -> Read<'_> {
+    read_entry(format, bytes)
+}
 
 // The bytes of an entry, cell after cell.
 pub(super) fn written(
@@ -119,7 +124,7 @@ pub(super) fn reads(
     channel: &[u8],
     payload: &[u8],
 ) -> bool {
-    match (read_entry(format, bytes), fault) {
+    match (read(format, bytes), fault) {
         (Err(found), Some(fault)) => found == fault,
         (Ok(found), None) => Some(found) == entry(format, bytes, channel, payload),
         _ => false,
@@ -133,7 +138,7 @@ fn an_entry(rt: HostRuntime) -> Result<(), Fail> {
     assert!(rt; entry_len(Format::One, &long) == 44);
     let bytes = written(alloc, Format::One, &long, DbOid::new(1), Xid::new(3), 1001)?;
     assert!(rt; bytes.as_slice() == LONG.as_slice());
-    assert!(rt; read_entry(Format::One, &LONG) == Ok(LONG_VIEW));
+    assert!(rt; read(Format::One, &LONG) == Ok(LONG_VIEW));
     Ok(())
 }
 
@@ -144,7 +149,7 @@ fn a_short_entry(rt: HostRuntime) -> Result<(), Fail> {
     assert!(rt; entry_len(Format::One, &short) == 20);
     let bytes = written(alloc, Format::One, &short, DbOid::new(7), Xid::new(4), 1003)?;
     assert!(rt; bytes.as_slice() == SHORT.as_slice());
-    assert!(rt; read_entry(Format::One, &SHORT) == Ok(SHORT_VIEW));
+    assert!(rt; read(Format::One, &SHORT) == Ok(SHORT_VIEW));
     Ok(())
 }
 
@@ -152,7 +157,7 @@ fn a_short_entry(rt: HostRuntime) -> Result<(), Fail> {
 fn a_filler(rt: HostRuntime) -> Result<(), Fail> {
     let bytes = filled(rt.alloc(), Format::One, 20, Xid::new(5), 1002)?;
     assert!(rt; bytes.as_slice() == FILLER.as_slice());
-    assert!(rt; read_entry(Format::One, &FILLER) == Ok(FILLER_VIEW));
+    assert!(rt; read(Format::One, &FILLER) == Ok(FILLER_VIEW));
     Ok(())
 }
 
@@ -184,9 +189,9 @@ const REFUSED: [(&[u8], EntryFault); 4] = [
 
 #[test]
 fn entry_bytes_refused(rt: HostRuntime) {
-    assert!(rt; read_entry(Format::One, &SHORT[..19]) == Err(EntryFault::Short));
+    assert!(rt; read(Format::One, &SHORT[..19]) == Err(EntryFault::Short));
     for (bytes, fault) in REFUSED {
-        assert!(rt; read_entry(Format::One, bytes) == Err(fault), "{bytes:?}");
+        assert!(rt; read(Format::One, bytes) == Err(fault), "{bytes:?}");
     }
 }
 
@@ -215,12 +220,40 @@ pub(super) fn by_hand(
     Ok(bytes)
 }
 
+// A notification of a longest channel and a longest payload.
+pub(super) fn largest(alloc: Global) -> Result<Note, Fail> {
+    let channel = long_channel(alloc)?;
+    let payload = long_payload(alloc)?;
+    Ok(Note { channel, payload })
+}
+
+fn long_channel(alloc: Global) -> Result<Name, Fail> {
+    let text = repeated(alloc, "c", 63, "")?;
+    name(alloc, &text)
+}
+
+fn long_payload(alloc: Global) -> Result<Payload, Fail> {
+    let text = repeated(alloc, "x", 7999, "")?;
+    payload(alloc, &text)
+}
+
+// Whether bytes are those of that notification in an entry of this length, and read as it.
+pub(super) fn is_largest(
+    alloc: Global,
+    format: Format,
+    len: u32,
+    bytes: &[u8],
+) -> Result<bool, AllocError> {
+    let channel = [b'c'; 63];
+    let payload = [b'x'; 7999];
+    let want = by_hand(alloc, format, len, &channel, &payload)?;
+    Ok(bytes == want.as_slice() && reads(format, bytes, None, &channel, &payload))
+}
+
 #[test]
 fn the_largest_entry(rt: HostRuntime) -> Result<(), Fail> {
     let alloc = rt.alloc();
-    let channel = repeated(alloc, "c", 63, "")?;
-    let payload = repeated(alloc, "x", 7999, "")?;
-    let largest = note(alloc, &channel, &payload)?;
+    let largest = largest(alloc)?;
     assert!(rt; entry_len(Format::One, &largest) == 8080);
     let bytes = written(
         alloc,
@@ -230,23 +263,7 @@ fn the_largest_entry(rt: HostRuntime) -> Result<(), Fail> {
         Xid::new(3),
         1001,
     )?;
-    let want = by_hand(
-        alloc,
-        Format::One,
-        8080,
-        channel.as_bytes(),
-        payload.as_bytes(),
-    )?;
-    assert!(rt; bytes == want);
-    assert!(rt;
-        reads(
-            Format::One,
-            &bytes,
-            None,
-            channel.as_bytes(),
-            payload.as_bytes()
-        )
-    );
+    assert!(rt; is_largest(alloc, Format::One, 8080, &bytes)?);
     Ok(())
 }
 
@@ -258,7 +275,7 @@ fn the_largest_filler(rt: HostRuntime) -> Result<(), Fail> {
         xid: u64::from(u32::MAX),
         pid: u32::MAX,
     };
-    assert!(rt; read_entry(Format::One, &bytes) == Ok(filler));
+    assert!(rt; read(Format::One, &bytes) == Ok(filler));
     Ok(())
 }
 
@@ -284,13 +301,13 @@ fn each_prefix_of_two_entries(rt: HostRuntime) {
     let both = two_entries();
     for len in 0..=64 {
         assert!(rt;
-            read_entry(Format::One, &both[..len]) == read_of_prefix(LONG_VIEW, 44, len),
+            read(Format::One, &both[..len]) == read_of_prefix(LONG_VIEW, 44, len),
             "at {len}"
         );
     }
     for len in 44..=64 {
         assert!(rt;
-            read_entry(Format::One, &both[44..len]) == read_of_prefix(SHORT_VIEW, 64, len),
+            read(Format::One, &both[44..len]) == read_of_prefix(SHORT_VIEW, 64, len),
             "at {len}"
         );
     }
@@ -405,10 +422,10 @@ fn lengths(rt: HostRuntime) {
         let mut bytes = [0; 8192];
         bytes[..4].copy_from_slice(&len.to_le_bytes());
         assert!(rt;
-            read_entry(Format::One, &bytes[..20]) == Err(in_twenty),
+            read(Format::One, &bytes[..20]) == Err(in_twenty),
             "at {len}"
         );
-        assert!(rt; read_entry(Format::One, &bytes) == in_a_page, "at {len}");
+        assert!(rt; read(Format::One, &bytes) == in_a_page, "at {len}");
     }
 }
 
@@ -416,7 +433,19 @@ fn lengths(rt: HostRuntime) {
 fn a_length_above_a_page(rt: HostRuntime) {
     let mut bytes = [0; 8196];
     bytes[..4].copy_from_slice(&8196u32.to_le_bytes());
-    assert!(rt; read_entry(Format::One, &bytes) == Err(EntryFault::BadLength));
+    assert!(rt; read(Format::One, &bytes) == Err(EntryFault::BadLength));
+}
+
+// Whether bytes of this length with these texts have this fault, or with none read as an entry of them.
+fn read_by_hand(
+    alloc: Global,
+    len: u32,
+    texts: (&[u8], &[u8]),
+    fault: Option<EntryFault>,
+) -> Result<bool, AllocError> {
+    let (channel, payload) = texts;
+    let bytes = by_hand(alloc, Format::One, len, channel, payload)?;
+    Ok(reads(Format::One, &bytes, fault, channel, payload))
 }
 
 // A length, and how often which letters make the channel and the payload, and the fault.
@@ -431,25 +460,10 @@ const TEXTS: [(u32, (&str, usize), (&str, usize), Option<EntryFault>); 4] = [
 fn texts_that_are_too_long(rt: HostRuntime) -> Result<(), Fail> {
     let alloc = rt.alloc();
     for (len, channel, payload, fault) in TEXTS {
-        let channel = channel.0.repeat(alloc, channel.1)?;
-        let payload = payload.0.repeat(alloc, payload.1)?;
-        let bytes = by_hand(
-            alloc,
-            Format::One,
-            len,
-            channel.as_bytes(),
-            payload.as_bytes(),
-        )?;
-        assert!(rt;
-            reads(
-                Format::One,
-                &bytes,
-                fault,
-                channel.as_bytes(),
-                payload.as_bytes()
-            ),
-            "at {len}"
-        );
+        let channel = repeated(alloc, channel.0, channel.1, "")?;
+        let payload = repeated(alloc, payload.0, payload.1, "")?;
+        let texts = (channel.as_bytes(), payload.as_bytes());
+        assert!(rt; read_by_hand(alloc, len, texts, fault)?, "at {len}");
     }
     Ok(())
 }
@@ -465,9 +479,8 @@ const SHORT_TEXTS: [(u32, &[u8], &[u8], Option<EntryFault>); 4] = [
 #[test]
 fn texts_that_are_no_utf8(rt: HostRuntime) -> Result<(), Fail> {
     for (len, channel, payload, fault) in SHORT_TEXTS {
-        let bytes = by_hand(rt.alloc(), Format::One, len, channel, payload)?;
         assert!(rt;
-            reads(Format::One, &bytes, fault, channel, payload),
+            read_by_hand(rt.alloc(), len, (channel, payload), fault)?,
             "at {len} {channel:?}"
         );
     }
@@ -476,11 +489,14 @@ fn texts_that_are_no_utf8(rt: HostRuntime) -> Result<(), Fail> {
 
 #[test]
 fn wrong_padding(rt: HostRuntime) -> Result<(), Fail> {
+    let plain = by_hand(rt.alloc(), Format::One, 24, b"c", b"xy")?;
+    assert!(rt; plain.len() == 24);
     for at in 21..24 {
-        let mut bytes = by_hand(rt.alloc(), Format::One, 24, b"c", b"xy")?;
-        *bytes.get_mut(at).ok_or("a place past the end")? = 1;
+        let mut bytes = [0; 24];
+        bytes.copy_from_slice(&plain);
+        bytes[at] = 1;
         assert!(rt;
-            read_entry(Format::One, &bytes) == Err(EntryFault::BadPad),
+            read(Format::One, &bytes) == Err(EntryFault::BadPad),
             "at {at}"
         );
     }
@@ -493,7 +509,7 @@ fn a_filler_that_carries_a_byte(rt: HostRuntime) {
         let mut bytes = FILLER;
         bytes[at] = 1;
         assert!(rt;
-            read_entry(Format::One, &bytes) == Err(EntryFault::BadText),
+            read(Format::One, &bytes) == Err(EntryFault::BadText),
             "at {at}"
         );
     }

@@ -1,10 +1,12 @@
 // Entries and fillers of format Two, as `entries` has those of format One.
 ghost use Rattle.std.specs.Prelude.{◌<◌, ◌≤◌};
 
-use super::entries::{Change, Read, by_hand, filled, read_of_prefix, reads, written};
-use super::{note, repeated};
+use super::entries::{
+    Change, Read, filled, is_largest, largest, read, read_of_prefix, reads, written,
+};
+use super::note;
 use pgn_base::{DbOid, Format, Xid};
-use pgn_entry::{EntryFault, EntryView, entry_len, read_entry, read_piece};
+use pgn_entry::{EntryFault, EntryView, entry_len, read_piece};
 use std::process::Abort;
 use std::test::Fail;
 
@@ -57,7 +59,7 @@ fn an_entry(rt: HostRuntime) -> Result<(), Fail> {
     assert!(rt; entry_len(Format::Two, &long) == 56);
     let bytes = written(alloc, Format::Two, &long, DbOid::new(1), Xid::new(3), 1001)?;
     assert!(rt; bytes.as_slice() == LONG.as_slice());
-    assert!(rt; read_entry(Format::Two, &LONG) == Ok(LONG_VIEW));
+    assert!(rt; read(Format::Two, &LONG) == Ok(LONG_VIEW));
     Ok(())
 }
 
@@ -68,13 +70,13 @@ fn a_short_entry(rt: HostRuntime) -> Result<(), Fail> {
     assert!(rt; entry_len(Format::Two, &short) == 32);
     let bytes = written(alloc, Format::Two, &short, DbOid::new(7), Xid::new(4), 1003)?;
     assert!(rt; bytes.as_slice() == SHORT.as_slice());
-    assert!(rt; read_entry(Format::Two, &SHORT) == Ok(short_view(4)));
+    assert!(rt; read(Format::Two, &SHORT) == Ok(short_view(4)));
     Ok(())
 }
 
 #[test]
 fn a_number_of_more_than_32_bits(rt: HostRuntime) {
-    assert!(rt; read_entry(Format::Two, &LATE) == Ok(short_view(1_234_567_890_123_456_789)));
+    assert!(rt; read(Format::Two, &LATE) == Ok(short_view(1_234_567_890_123_456_789)));
     let mut last = FILLER;
     last[8..16].copy_from_slice(&u64::MAX.to_le_bytes());
     let filler = EntryView::Filler {
@@ -82,14 +84,14 @@ fn a_number_of_more_than_32_bits(rt: HostRuntime) {
         xid: u64::MAX,
         pid: 1002,
     };
-    assert!(rt; read_entry(Format::Two, &last) == Ok(filler));
+    assert!(rt; read(Format::Two, &last) == Ok(filler));
 }
 
 #[test]
 fn a_filler(rt: HostRuntime) -> Result<(), Fail> {
     let bytes = filled(rt.alloc(), Format::Two, 32, Xid::new(5), 1002)?;
     assert!(rt; bytes.as_slice() == FILLER.as_slice());
-    assert!(rt; read_entry(Format::Two, &FILLER) == Ok(FILLER_VIEW));
+    assert!(rt; read(Format::Two, &FILLER) == Ok(FILLER_VIEW));
     Ok(())
 }
 
@@ -135,16 +137,14 @@ const REFUSED: [(&[u8], EntryFault); 7] = [
 #[test]
 fn entry_bytes_refused(rt: HostRuntime) {
     for (bytes, fault) in REFUSED {
-        assert!(rt; read_entry(Format::Two, bytes) == Err(fault), "{bytes:?}");
+        assert!(rt; read(Format::Two, bytes) == Err(fault), "{bytes:?}");
     }
 }
 
 #[test]
 fn the_largest_entry(rt: HostRuntime) -> Result<(), Fail> {
     let alloc = rt.alloc();
-    let channel = repeated(alloc, "c", 63, "")?;
-    let payload = repeated(alloc, "x", 7999, "")?;
-    let largest = note(alloc, &channel, &payload)?;
+    let largest = largest(alloc)?;
     assert!(rt; entry_len(Format::Two, &largest) == 8088);
     let bytes = written(
         alloc,
@@ -154,23 +154,7 @@ fn the_largest_entry(rt: HostRuntime) -> Result<(), Fail> {
         Xid::new(3),
         1001,
     )?;
-    let want = by_hand(
-        alloc,
-        Format::Two,
-        8088,
-        channel.as_bytes(),
-        payload.as_bytes(),
-    )?;
-    assert!(rt; bytes == want);
-    assert!(rt;
-        reads(
-            Format::Two,
-            &bytes,
-            None,
-            channel.as_bytes(),
-            payload.as_bytes()
-        )
-    );
+    assert!(rt; is_largest(alloc, Format::Two, 8088, &bytes)?);
     Ok(())
 }
 
@@ -182,7 +166,7 @@ fn the_largest_filler(rt: HostRuntime) -> Result<(), Fail> {
         xid: u64::from(u32::MAX),
         pid: u32::MAX,
     };
-    assert!(rt; read_entry(Format::Two, &bytes) == Ok(filler));
+    assert!(rt; read(Format::Two, &bytes) == Ok(filler));
     Ok(())
 }
 
@@ -199,13 +183,13 @@ fn each_prefix_of_two_entries(rt: HostRuntime) {
     let both = two_entries();
     for len in 0..=88 {
         assert!(rt;
-            read_entry(Format::Two, &both[..len]) == read_of_prefix(LONG_VIEW, 56, len),
+            read(Format::Two, &both[..len]) == read_of_prefix(LONG_VIEW, 56, len),
             "at {len}"
         );
     }
     for len in 56..=88 {
         assert!(rt;
-            read_entry(Format::Two, &both[56..len]) == read_of_prefix(short_view(4), 88, len),
+            read(Format::Two, &both[56..len]) == read_of_prefix(short_view(4), 88, len),
             "at {len}"
         );
     }
@@ -330,12 +314,9 @@ fn lengths(rt: HostRuntime) {
     for (len, in_few, in_page) in LENGTHS {
         let mut bytes = [0; 8192];
         bytes[..4].copy_from_slice(&len.to_le_bytes());
+        assert!(rt; read(Format::Two, &bytes[..32]) == Err(in_few), "at {len}");
         assert!(rt;
-            read_entry(Format::Two, &bytes[..32]) == Err(in_few),
-            "at {len}"
-        );
-        assert!(rt;
-            read_entry(Format::Two, &bytes) == page_read(len, in_page),
+            read(Format::Two, &bytes) == page_read(len, in_page),
             "at {len}"
         );
     }
@@ -345,7 +326,7 @@ fn lengths(rt: HostRuntime) {
 fn a_length_above_a_page(rt: HostRuntime) {
     let mut bytes = [0; 8200];
     bytes[..4].copy_from_slice(&8200u32.to_le_bytes());
-    assert!(rt; read_entry(Format::Two, &bytes) == Err(EntryFault::BadLength));
+    assert!(rt; read(Format::Two, &bytes) == Err(EntryFault::BadLength));
 }
 
 // A place, and the fault of a filler that has a byte there that is not zero.
@@ -363,7 +344,7 @@ fn a_filler_that_carries_a_byte(rt: HostRuntime) -> Result<(), Fail> {
     for (at, fault) in CARRIED {
         let mut bytes = FILLER;
         *bytes.get_mut(at).ok_or("a place past the end")? = 1;
-        assert!(rt; read_entry(Format::Two, &bytes) == Err(fault), "at {at}");
+        assert!(rt; read(Format::Two, &bytes) == Err(fault), "at {at}");
     }
     Ok(())
 }

@@ -2,7 +2,7 @@ ghost use Rattle.std.specs.Prelude.{◌^◌, ◌<◌, IfSome};
 ghost use Rattle.pgn_base.specs.declared.format.Format.TheVariants.{One};
 ghost use Rattle.pgn_journal.specs.Packing.{HasRoom};
 
-use super::repeated;
+use super::{name, repeated};
 use pgn_base::{Format, Name, Note, Payload, Xid};
 use pgn_journal::Fate;
 use pgn_layout::{Batch, Pos, advance, plan_batch, status_bits, status_of};
@@ -26,19 +26,33 @@ fn pos_of(place: Place) -> Option<Pos>
     }
 }
 
+fn channel(alloc: Global, len: usize) -> Result<Name, Fail> {
+    let text = repeated(alloc, "c", len, "")?;
+    name(alloc, &text)
+}
+
+fn payload(alloc: Global, len: usize) -> Result<Payload, Fail> {
+    let text = repeated(alloc, "x", len, "")?;
+    super::payload(alloc, &text)
+}
+
 // A notification whose channel and payload have these lengths.
 fn note(alloc: Global, channel_len: usize, payload_len: usize) -> Result<Note, Fail> {
-    Ok(Note {
-        channel: Name::from_string(repeated(alloc, "c", channel_len, "")?)?,
-        payload: Payload::from_string(repeated(alloc, "x", payload_len, "")?)?,
-    })
+    let channel = channel(alloc, channel_len)?;
+    let payload = payload(alloc, payload_len)?;
+    Ok(Note { channel, payload })
+}
+
+fn push_note(alloc: Global, notes: &mut Vec<Note>, payload_len: usize) -> Result<(), Fail> {
+    notes.push(note(alloc, 1, payload_len)?)?;
+    Ok(())
 }
 
 // Notifications on a channel of one letter, whose payloads have these lengths.
 fn notes(alloc: Global, payload_lens: &[usize]) -> Result<Vec<Note>, Fail> {
     let mut notes = Vec::new(alloc);
     for len in payload_lens {
-        notes.push(note(alloc, 1, *len)?)?;
+        push_note(alloc, &mut notes, *len)?;
     }
     Ok(notes)
 }

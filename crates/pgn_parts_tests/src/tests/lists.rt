@@ -1,5 +1,5 @@
 // Copies, lists, and what sets and threads ask of a value.
-use super::{note, repeated};
+use super::{name, note, payload, repeated};
 use indexmap::IndexSet;
 use pgn_base::{
     Copied, Deliveries, Delivery, ListenSet, Name, Names, Note, Payload, Refusal, Seq, Text, Xid,
@@ -36,22 +36,35 @@ fn a_copy_of_a_delivery(rt: HostRuntime) -> Result<(), Fail> {
 }
 
 #[test]
-fn a_copy_of_a_notification(rt: HostRuntime) -> Result<(), Fail> {
+fn a_copy_of_a_channel(rt: HostRuntime) -> Result<(), Fail> {
     let alloc = rt.alloc();
-    let note = note(alloc, "c", "hello")?;
-    assert!(rt; note.channel.copy(alloc)?.as_bytes() == b"c".as_slice());
-    assert!(rt; note.payload.copy(alloc)?.as_bytes() == b"hello".as_slice());
+    let channel = copy_of(alloc, &name(alloc, "c")?)?;
+    assert!(rt; channel.as_bytes() == b"c".as_slice());
     Ok(())
+}
+
+#[test]
+fn a_copy_of_a_payload(rt: HostRuntime) -> Result<(), Fail> {
+    let alloc = rt.alloc();
+    let payload = copy_of(alloc, &payload(alloc, "hello")?)?;
+    assert!(rt; payload.as_bytes() == b"hello".as_slice());
+    Ok(())
+}
+
+// Whether it is a refusal for want of this savepoint.
+fn is_no_savepoint(refusal: &Refusal, wanted: &[u8]) -> bool {
+    match refusal {
+        Refusal::NoSavepoint { name } => name.as_bytes() == wanted,
+        _ => false,
+    }
 }
 
 #[test]
 fn a_copy_of_a_refusal(rt: HostRuntime) -> Result<(), Fail> {
     let alloc = rt.alloc();
-    let name = Name::new(alloc, "s")?;
-    let Refusal::NoSavepoint { name } = copy_of(alloc, &Refusal::NoSavepoint { name })? else {
-        return Err("another refusal")?;
-    };
-    assert!(rt; name.as_bytes() == b"s".as_slice());
+    let name = name(alloc, "s")?;
+    let refusal = copy_of(alloc, &Refusal::NoSavepoint { name })?;
+    assert!(rt; is_no_savepoint(&refusal, b"s"));
     Ok(())
 }
 
@@ -76,18 +89,27 @@ fn copies_of_texts_stay(rt: HostRuntime) -> Result<(), Fail> {
     Ok(())
 }
 
+fn push_name(alloc: Global, names: &mut Names, text: &str) -> Result<(), Fail> {
+    names.push(name(alloc, text)?)?;
+    Ok(())
+}
+
+// Whether they are two names, of these texts.
+fn are_named(names: &[Name], first: &[u8], second: &[u8]) -> bool {
+    match names {
+        [a, b] => a.as_bytes() == first && b.as_bytes() == second,
+        _ => false,
+    }
+}
+
 #[test]
 fn lists_keep_their_order(rt: HostRuntime) -> Result<(), Fail> {
     let alloc = rt.alloc();
     let mut names = Names::new(alloc);
     assert!(rt; names.as_slice().is_empty());
-    names.push(Name::new(alloc, "b")?)?;
-    names.push(Name::new(alloc, "a")?)?;
-    let [first, second] = names.as_slice() else {
-        return Err("two names were pushed")?;
-    };
-    assert!(rt; first.as_bytes() == b"b".as_slice());
-    assert!(rt; second.as_bytes() == b"a".as_slice());
+    push_name(alloc, &mut names, "b")?;
+    push_name(alloc, &mut names, "a")?;
+    assert!(rt; are_named(names.as_slice(), b"b", b"a"));
     Ok(())
 }
 
@@ -108,22 +130,24 @@ fn notes_and_sets_go_to_threads(rt: HostRuntime) -> Result<(), Fail> {
     Ok(())
 }
 
-fn name_set(alloc: Global, texts: &[&str]) -> Result<IndexSet<Name>, Fail> {
-    let mut set = IndexSet::new(alloc);
-    for text in texts {
-        set.insert(Name::new(alloc, *text)?)?;
-    }
-    Ok(set)
+fn put_name(alloc: Global, set: &mut IndexSet<Name>, text: &str) -> Result<(), Fail> {
+    set.insert(name(alloc, text)?)?;
+    Ok(())
 }
 
 #[test]
 fn equal_names_are_one_entry(rt: HostRuntime) -> Result<(), Fail> {
-    let set = name_set(rt.alloc(), &["b", "a", "b"])?;
-    let [first, second] = set.as_slice() else {
-        return Err("two names are different")?;
-    };
-    assert!(rt; first.as_bytes() == b"b".as_slice());
-    assert!(rt; second.as_bytes() == b"a".as_slice());
+    let alloc = rt.alloc();
+    let mut set = IndexSet::new(alloc);
+    for text in ["b", "a", "b"] {
+        put_name(alloc, &mut set, text)?;
+    }
+    assert!(rt; are_named(set.as_slice(), b"b", b"a"));
+    Ok(())
+}
+
+fn put_payload(alloc: Global, set: &mut IndexSet<Payload>, text: &str) -> Result<(), Fail> {
+    set.insert(payload(alloc, text)?)?;
     Ok(())
 }
 
@@ -132,27 +156,32 @@ fn equal_payloads_are_one_entry(rt: HostRuntime) -> Result<(), Fail> {
     let alloc = rt.alloc();
     let mut set = IndexSet::new(alloc);
     for text in ["", "a", ""] {
-        set.insert(Payload::new(alloc, text)?)?;
+        put_payload(alloc, &mut set, text)?;
     }
     assert!(rt; set.len() == 2);
     Ok(())
 }
 
-fn note_set(alloc: Global, payloads: &[&str]) -> Result<IndexSet<Note>, Fail> {
-    let mut set = IndexSet::new(alloc);
-    for payload in payloads {
-        set.insert(note(alloc, "c", *payload)?)?;
+fn put_note(alloc: Global, set: &mut IndexSet<Note>, payload: &str) -> Result<(), Fail> {
+    set.insert(note(alloc, "c", payload)?)?;
+    Ok(())
+}
+
+// Whether they are two notifications, of these payloads.
+fn are_of_payloads(notes: &[Note], first: &[u8], second: &[u8]) -> bool {
+    match notes {
+        [a, b] => a.payload.as_bytes() == first && b.payload.as_bytes() == second,
+        _ => false,
     }
-    Ok(set)
 }
 
 #[test]
 fn notes_differ_by_their_payload(rt: HostRuntime) -> Result<(), Fail> {
-    let set = note_set(rt.alloc(), &["2", "1", "2"])?;
-    let [first, second] = set.as_slice() else {
-        return Err("two notes are different")?;
-    };
-    assert!(rt; first.payload.as_bytes() == b"2".as_slice());
-    assert!(rt; second.payload.as_bytes() == b"1".as_slice());
+    let alloc = rt.alloc();
+    let mut set = IndexSet::new(alloc);
+    for payload in ["2", "1", "2"] {
+        put_note(alloc, &mut set, payload)?;
+    }
+    assert!(rt; are_of_payloads(set.as_slice(), b"2", b"1"));
     Ok(())
 }

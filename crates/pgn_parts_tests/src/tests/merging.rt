@@ -10,11 +10,16 @@ fn number(n: u32) -> Xid {
     Xid::new(n.max(3))
 }
 
+fn push_note(alloc: Global, notes: &mut Notes, payload: &str) -> Result<(), Fail> {
+    notes.push(note(alloc, "c", payload)?)?;
+    Ok(())
+}
+
 // A notification on channel c for each payload.
 fn notes(alloc: Global, payloads: &str) -> Result<Notes, Fail> {
     let mut notes = Notes::new(alloc);
     for payload in payloads.split(' ') {
-        notes.push(note(alloc, "c", payload)?)?;
+        push_note(alloc, &mut notes, payload)?;
     }
     Ok(notes)
 }
@@ -51,26 +56,52 @@ fn trace(alloc: Global, session: SessionNo, db: DbOid) -> Trace {
     }
 }
 
-// Two sessions of two databases that commit in turns.
-fn in_turns(alloc: Global) -> Result<Vec<Trace>, Fail> {
-    let mut first = trace(alloc, SessionNo::new(1), DbOid::new(7));
-    first.items.push(Item::Line { line: 2 })?;
-    first.items.push(publish(alloc, 4, "b")?)?;
-    let mut second = trace(alloc, SessionNo::new(2), DbOid::new(8));
-    second.items.push(publish(alloc, 3, "a")?)?;
-    second.items.push(publish(alloc, 5, "c d")?)?;
-    let mut traces = Vec::new(alloc);
-    traces.push(first)?;
-    traces.push(second)?;
+fn push(trace: &mut Trace, item: Item) -> Result<(), AllocError> {
+    trace.items.push(item)?;
+    Ok(())
+}
+
+fn push_first(alloc: Global, trace: &mut Trace) -> Result<(), Fail> {
+    push(trace, Item::Line { line: 2 })?;
+    push(trace, publish(alloc, 4, "b")?)?;
+    Ok(())
+}
+
+fn push_second(alloc: Global, trace: &mut Trace) -> Result<(), Fail> {
+    push(trace, publish(alloc, 3, "a")?)?;
+    push(trace, publish(alloc, 5, "c d")?)?;
+    Ok(())
+}
+
+fn two_traces(alloc: Global) -> Result<Vec<Trace>, AllocError> {
+    let mut traces = Vec::with_capacity(alloc, 2)?;
+    traces.push(trace(alloc, SessionNo::new(1), DbOid::new(7)))?;
+    traces.push(trace(alloc, SessionNo::new(2), DbOid::new(8)))?;
     Ok(traces)
 }
 
-// One session that meets a full queue twice, and then commits.
+// Two sessions of two databases that commit in turns.
+fn in_turns(alloc: Global) -> Result<Vec<Trace>, Fail> {
+    let mut traces = two_traces(alloc)?;
+    if let [first, second] = traces.as_mut_slice() {
+        push_first(alloc, first)?;
+        push_second(alloc, second)?;
+    }
+    Ok(traces)
+}
+
+// A session that meets a full queue twice, and then commits.
+fn push_aborted(alloc: Global, trace: &mut Trace) -> Result<(), Fail> {
+    push(trace, full(alloc, 3, 0, "a")?)?;
+    push(trace, full(alloc, 4, 1, "b c")?)?;
+    push(trace, publish(alloc, 5, "d")?)?;
+    Ok(())
+}
+
+// That session alone.
 fn aborted(alloc: Global) -> Result<Vec<Trace>, Fail> {
     let mut only = trace(alloc, SessionNo::new(256), DbOid::new(u32::MAX));
-    only.items.push(full(alloc, 3, 0, "a")?)?;
-    only.items.push(full(alloc, 4, 1, "b c")?)?;
-    only.items.push(publish(alloc, 5, "d")?)?;
+    push_aborted(alloc, &mut only)?;
     let mut traces = Vec::new(alloc);
     traces.push(only)?;
     Ok(traces)
@@ -102,15 +133,20 @@ fn by_number(rt: HostRuntime) -> Result<(), Fail> {
     Ok(())
 }
 
+// The databases of three transactions.
+fn databases(journal: &[Tx]) -> Option<[u32; 3]> {
+    match journal {
+        [a, b, c] => Some([a.db.get(), b.db.get(), c.db.get()]),
+        _ => None,
+    }
+}
+
 #[test]
 fn of_each_database(rt: HostRuntime) -> Result<(), Fail> {
     let alloc = rt.alloc();
     let traces = in_turns(alloc)?;
-    let mut databases = Vec::new(alloc);
-    for tx in merge(alloc, traces.as_slice())? {
-        databases.push(tx.db.get())?;
-    }
-    assert_eq!(rt; databases.as_slice(), [8, 7, 8].as_slice());
+    let journal = merge(alloc, traces.as_slice())?;
+    assert_eq!(rt; databases(&journal), Some([8, 7, 8]));
     Ok(())
 }
 

@@ -1,5 +1,6 @@
 // The fakes that fail where they are told to.
-use pgn_base::{Failed, MemSink, MemSource, Sink, Source, write_all};
+use pgn_base::{Failed, Sink, Source, write_all};
+use pgn_memory::{MemSink, MemSource};
 use std::alloc::{AllocError, Global};
 use std::test::Fail;
 

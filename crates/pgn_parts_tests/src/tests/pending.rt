@@ -1,4 +1,4 @@
-use super::note;
+use super::{name, note};
 use pgn_base::{Action, Actions, Name, Note, Notes};
 use pgn_pending::{Call, NoSuch, Pending, finish_after};
 use std::alloc::{AllocError, Global};
@@ -39,7 +39,10 @@ fn name_call(verb: &str, name: Name) -> Result<Call, Fail> {
         "SAVEPOINT" => Ok(Call::Savepoint(name)),
         "ROLLBACK" => Ok(Call::BackTo(name)),
         "RELEASE" => Ok(Call::Release(name)),
-        _ => Err("another verb")?,
+        _ => {
+            drop(name);
+            Err(Fail::from("another verb"))
+        }
     }
 }
 
@@ -51,7 +54,7 @@ fn call(alloc: Global, command: &str) -> Result<Call, Fail> {
     if command == "UNLISTEN *" {
         return Ok(Call::Action(Action::UnlistenAll));
     }
-    name_call(verb, Name::new(alloc, words)?)
+    name_call(verb, name(alloc, words)?)
 }
 
 fn tell_note(pending: &mut Pending, note: Note) -> Result<bool, AllocError> {
@@ -88,23 +91,27 @@ fn tell(pending: &mut Pending, call: Call) -> Result<bool, AllocError> {
     }
 }
 
-// What these commands leave, and how often there was no such savepoint.
-fn tell_all(alloc: Global, commands: &str) -> Result<(u32, Pending), Fail> {
-    let mut pending = Pending::new(alloc);
+// Tells these commands: how often there was no such savepoint.
+fn tell_all(alloc: Global, pending: &mut Pending, commands: &str) -> Result<u32, Fail> {
     let mut refused = 0u32;
     for command in commands.split("; ") {
-        if !tell(&mut pending, call(alloc, command)?)? {
+        if !tell(pending, call(alloc, command)?)? {
             refused = refused.saturating_add(1);
         }
     }
-    Ok((refused, pending))
+    Ok(refused)
+}
+
+fn push_calls(alloc: Global, calls: &mut Vec<Call>, commands: &str) -> Result<(), Fail> {
+    for command in commands.split("; ") {
+        calls.push(call(alloc, command)?)?;
+    }
+    Ok(())
 }
 
 fn all_calls(alloc: Global, commands: &str) -> Result<Vec<Call>, Fail> {
     let mut calls = Vec::new(alloc);
-    for command in commands.split("; ") {
-        calls.push(call(alloc, command)?)?;
-    }
+    push_calls(alloc, &mut calls, commands)?;
     Ok(calls)
 }
 
@@ -145,13 +152,26 @@ fn as_commands(alloc: Global, left: &(Actions, Notes)) -> Result<Vec<u8>, AllocE
     Ok(text)
 }
 
+fn count(alloc: Global, refused: u32) -> Result<Vec<u8>, AllocError> {
+    let text = format!(in alloc; "{refused}: ")?;
+    Vec::from_slice(alloc, text.as_bytes())
+}
+
+// The same behind how often there was no such savepoint.
+fn as_answer(alloc: Global, refused: u32, left: &(Actions, Notes)) -> Result<Vec<u8>, AllocError> {
+    let mut text = count(alloc, refused)?;
+    text.append(&mut as_commands(alloc, left)?)?;
+    Ok(text)
+}
+
 // What these commands answer: how often there is no such savepoint, and what is left.
 fn answer(alloc: Global, commands: &str) -> Result<Vec<u8>, Fail> {
-    let (refused, pending) = tell_all(alloc, commands)?;
-    let front = format!(in alloc; "{refused}: ")?;
-    let mut text = Vec::from_slice(alloc, front.as_bytes())?;
-    text.append(&mut as_commands(alloc, &pending.finish())?)?;
-    Ok(text)
+    let mut pending = Pending::new(alloc);
+    let refused = tell_all(alloc, &mut pending, commands)?;
+    let left = pending.finish();
+    let text = as_answer(alloc, refused, &left);
+    drop(left);
+    Ok(text?)
 }
 
 #[test]
@@ -167,7 +187,9 @@ fn what_is_left_of_a_transaction(rt: HostRuntime) -> Result<(), Fail> {
 // What is left of a row's commands, made one after another.
 fn left(alloc: Global, commands: &str) -> Result<Vec<u8>, Fail> {
     let left = finish_after(alloc, all_calls(alloc, commands)?)?;
-    Ok(as_commands(alloc, &left)?)
+    let text = as_commands(alloc, &left);
+    drop(left);
+    Ok(text?)
 }
 
 #[test]
@@ -181,18 +203,23 @@ fn what_is_left_after_calls(rt: HostRuntime) -> Result<(), Fail> {
     Ok(())
 }
 
-// A savepoint, and in it a notification with its number.
-fn push_level(pending: &mut Pending, alloc: Global, level: u32) -> Result<(), Fail> {
-    tell_savepoint(pending, Name::new(alloc, "s")?)?;
+// A notification of this number.
+fn numbered(alloc: Global, level: usize) -> Result<Note, Fail> {
     let payload = format!(in alloc; "{level}")?;
-    tell_note(pending, note(alloc, "c", &payload)?)?;
+    note(alloc, "c", &payload)
+}
+
+// A savepoint, and in it a notification with its number.
+fn push_level(pending: &mut Pending, alloc: Global, level: usize) -> Result<(), Fail> {
+    tell_savepoint(pending, name(alloc, "s")?)?;
+    tell_note(pending, numbered(alloc, level)?)?;
     Ok(())
 }
 
 // Each of 300 levels sends its number.
 fn levels(alloc: Global) -> Result<Pending, Fail> {
     let mut pending = Pending::new(alloc);
-    for level in 0..300u32 {
+    for level in 0..300 {
         push_level(&mut pending, alloc, level)?;
     }
     Ok(pending)
@@ -211,11 +238,17 @@ fn end_levels(rt: &impl Abort, pending: &mut Pending, name: &Name) {
 }
 
 fn left_of_levels(rt: &impl Abort, alloc: Global) -> Result<Notes, Fail> {
+    let name = name(alloc, "s")?;
     let mut pending = levels(alloc)?;
-    let name = Name::new(alloc, "s")?;
     end_levels(rt, &mut pending, &name);
     let (_, notes) = pending.finish();
     Ok(notes)
+}
+
+// Whether its payload is this number.
+fn has_number(alloc: Global, note: &Note, level: usize) -> Result<bool, AllocError> {
+    let payload = format!(in alloc; "{level}")?;
+    Ok(note.payload.as_bytes() == payload.as_bytes())
 }
 
 #[test]
@@ -224,8 +257,7 @@ fn three_hundred_nested_savepoints(rt: HostRuntime) -> Result<(), Fail> {
     let notes = left_of_levels(&rt, alloc)?;
     assert!(rt; notes.as_slice().len() == 150);
     for (level, note) in notes.as_slice().iter().enumerate() {
-        let payload = format!(in alloc; "{level}")?;
-        assert!(rt; note.payload.as_bytes() == payload.as_bytes());
+        assert!(rt; has_number(alloc, note, level)?);
     }
     Ok(())
 }

@@ -1,5 +1,5 @@
 // The set of channels that a session listens to.
-use super::repeated;
+use super::{name, repeated};
 use pgn_base::{Action, Actions, ListenSet, Name};
 use std::alloc::{AllocError, Global};
 use std::test::Fail;
@@ -19,7 +19,7 @@ const OTHERS: [(usize, &str); 5] = [(0, "a"), (20, "a"), (21, "b"), (62, "a"), (
 
 fn channel(alloc: Global, before: usize, letter: &str) -> Result<Name, Fail> {
     let text = repeated(alloc, "c", before, letter)?;
-    Ok(Name::new(alloc, &text)?)
+    name(alloc, &text)
 }
 
 // How many of these channels are in a set.
@@ -40,8 +40,7 @@ fn all_listened(alloc: Global) -> Result<ListenSet, Fail> {
         actions.push(Action::Listen(channel(alloc, before, letter)?))?;
     }
     let mut set = ListenSet::new(alloc);
-    set.reserve(actions.as_slice().len())?;
-    set.apply(actions);
+    act(&mut set, actions)?;
     Ok(set)
 }
 
@@ -82,25 +81,39 @@ fn leave(alloc: Global, names: &[(usize, &str)]) -> Result<Actions, Fail> {
     Ok(actions)
 }
 
-fn some_left(alloc: Global) -> Result<ListenSet, Fail> {
-    let actions = leave(alloc, &LEFT)?;
-    let mut set = all_listened(alloc)?;
-    set.reserve(actions.as_slice().len())?;
+// Does these actions in place.
+fn act(set: &mut ListenSet, actions: Actions) -> Result<(), AllocError> {
+    if let Err(error) = set.reserve(actions.as_slice().len()) {
+        drop(actions);
+        return Err(error);
+    }
     set.apply(actions);
+    Ok(())
+}
+
+fn some_left(alloc: Global) -> Result<ListenSet, Fail> {
+    let mut set = all_listened(alloc)?;
+    act(&mut set, leave(alloc, &LEFT)?)?;
     Ok(set)
+}
+
+// Whether they are the four channels that stay: `e`, `c` and two more, of which the last one has 63 bytes.
+fn are_those_that_stay(names: &[Name]) -> bool {
+    match names {
+        [e, c, _, b] => {
+            e.as_bytes() == b"e".as_slice()
+                && c.as_bytes() == b"c".as_slice()
+                && b.as_bytes().len() == 63
+        }
+        _ => false,
+    }
 }
 
 #[test]
 fn channels_in_order_of_listening(rt: HostRuntime) -> Result<(), Fail> {
     let alloc = rt.alloc();
     let set = some_left(alloc)?;
-    let names = set.names(alloc)?;
-    let [e, c, _, b] = names.as_slice() else {
-        return Err("four channels are left")?;
-    };
-    assert!(rt; e.as_bytes() == b"e".as_slice());
-    assert!(rt; c.as_bytes() == b"c".as_slice());
-    assert!(rt; b.as_bytes().len() == 63);
+    assert!(rt; are_those_that_stay(set.names(alloc)?.as_slice()));
     assert!(rt; found(alloc, &set, &LISTENED)? == 5);
     Ok(())
 }
@@ -115,10 +128,8 @@ fn leave_all_but_c(alloc: Global) -> Result<Actions, Fail> {
 }
 
 fn only_c(alloc: Global) -> Result<ListenSet, Fail> {
-    let actions = leave_all_but_c(alloc)?;
     let mut set = all_listened(alloc)?;
-    set.reserve(actions.as_slice().len())?;
-    set.apply(actions);
+    act(&mut set, leave_all_but_c(alloc)?)?;
     Ok(set)
 }
 
@@ -126,8 +137,7 @@ fn only_c(alloc: Global) -> Result<ListenSet, Fail> {
 fn channels_after_all_were_left(rt: HostRuntime) -> Result<(), Fail> {
     let alloc = rt.alloc();
     let set = only_c(alloc)?;
-    assert!(rt; set.names(alloc)?.as_slice().len() == 1);
     assert!(rt; set.contains(b"c"));
-    assert!(rt; found(alloc, &set, &LISTENED)? == 2);
+    assert_eq!(rt; counts(alloc, &set)?, (1, 2, 0));
     Ok(())
 }
