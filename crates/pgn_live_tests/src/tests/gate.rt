@@ -5,7 +5,9 @@ ghost use Rattle.pgn_base.specs.Outside.{Rose};
 ghost use Rattle.pgn_language.specs.Inputs.{IsSound};
 
 use super::{SELF_NOTIFY, SELF_NOTIFY_LINES, live, open, scenario_of, sink_of, text_of};
-use pgn_base::{Delivery, Enlisted, Failed, Full, ListenSet, Note, PATIENCE_DEFAULT, Sink, Usage, Xid};
+use pgn_base::{
+    Delivery, Enlisted, Failed, Full, ListenSet, Note, PATIENCE_DEFAULT, Sink, Usage, Xid,
+};
 use pgn_hub::{Hub, Roll, Setup};
 use pgn_language::Scenario;
 use pgn_live::LiveFault;
