@@ -38,10 +38,17 @@ pub fn added(
     ensures { OnOk result (draft.new ≡ added scenario.now place draft.old shown) }
 {
     match place {
-        Place::Entries { left, next } => entry(alloc, scenario, left, next, draft, shown),
+        Place::Entries { left, next } => {
+            let done = entry(alloc, scenario, left, next, draft, &shown);
+            drop(shown);
+            done
+        }
         Place::Notes { notes, left, next } => note(scenario, notes, left, next, draft, shown),
         Place::Inside { section, .. } => of_section(alloc, scenario, section, draft, shown),
-        _ => Ok(()),
+        _ => {
+            drop(shown);
+            Ok(())
+        }
     }
 }
 
@@ -52,17 +59,17 @@ fn entry(
     left: u32,
     next: u32,
     draft: &mut Draft,
-    shown: Shown,
+    shown: &Shown,
 ) -> Result<(), AllocError>
-    ensures { OnOk result (draft.new ≡ added scenario.now (at.Entries left next) draft.old shown) }
+    ensures { OnOk result (draft.new ≡ added scenario.now (at.Entries left next) draft.old shown.now) }
 {
     let sections = scenario.sections.as_slice();
     match shown {
         Shown::Committed { session, notes, .. } => draft.entry(
             sections,
-            notes,
-            session,
-            notes,
+            *notes,
+            *session,
+            *notes,
             Fate::Committed,
             Seq::new(alloc),
         ),
@@ -73,9 +80,9 @@ fn entry(
             ..
         } => draft.entry(
             sections,
-            notes,
-            session,
-            queued,
+            *notes,
+            *session,
+            *queued,
             Fate::Aborted,
             Seq::new(alloc),
         ),
@@ -98,7 +105,10 @@ fn note(
         Shown::Sent { note } => {
             draft.note(scenario.sections.as_slice(), notes.saturating_sub(1), note)
         }
-        _ => Ok(()),
+        other => {
+            drop(other);
+            Ok(())
+        }
     }
 }
 
@@ -159,6 +169,9 @@ fn in_section(alloc: Global, draft: &mut Draft, shown: Shown) -> Result<(), Allo
             got: Seq::new(alloc),
         }),
         Shown::Received { delivery } => draft.receive(delivery),
-        _ => Ok(()),
+        other => {
+            drop(other);
+            Ok(())
+        }
     }
 }

@@ -2,6 +2,7 @@ ghost use Rattle.std.specs.Prelude.{◌≡◌, [], IfOk, MatchOption, MatchResul
 ghost use Rattle.pgn_language.specs.Inputs.{IsSound};
 ghost use Rattle.pgn_reading.specs.Form.{BreaksForm, IsReading, whole_lines};
 ghost use Rattle.pgn_form.specs.Cuts.{IsCut};
+ghost use Rattle.pgn_form.specs.Drafts.{first_draft};
 ghost use Rattle.pgn_form.specs.Places.{Ended};
 
 use crate::Place;
@@ -22,7 +23,6 @@ pub struct Reading {
 }
 
 /// What a text shows as an output of the scenario, or the number of the first line that breaks its form, from 1.
-#[tactic(auto, using(crate::proofs::ReaderLaws::come_first, crate::proofs::ReaderLaws::come_on, crate::proofs::CutLaws::cut_shorter))]
 pub fn read_output(
     alloc: Global,
     scenario: &Scenario,
@@ -31,22 +31,48 @@ pub fn read_output(
     requires sound { IsSound scenario.now }
     ensures { IfOk result (λ read. MatchResult read (λ reading. IsReading scenario.now out.now reading.journal reading.traces) (BreaksForm scenario.now out.now)) }
 {
-    let mut place = Place::Start;
     let mut draft = Draft::new(alloc);
+    match read_lines(alloc, scenario, &mut draft, out) {
+        Ok(None) => Ok(Ok(draft.into_reading())),
+        // The draft is dropped by a call where it is of no more use: there are several ways out.
+        Ok(Some(number)) => {
+            drop(draft);
+            Ok(Err(number))
+        }
+        Err(AllocError) => {
+            drop(draft);
+            Err(AllocError)
+        }
+    }
+}
+
+// Reads what a text shows, or the number of the first line that breaks its form.
+#[tactic(auto, using(crate::proofs::ReaderLaws::come_first, crate::proofs::ReaderLaws::come_on, crate::proofs::CutLaws::cut_shorter))]
+fn read_lines(
+    alloc: Global,
+    scenario: &Scenario,
+    draft: &mut Draft,
+    out: &[u8],
+) -> Result<Option<usize>, AllocError>
+    requires sound { IsSound scenario.now }
+    requires first { draft.old ≡ first_draft }
+    ensures { IfOk result (λ broken. MatchOption broken (IsReading scenario.now out.now draft.new.journal draft.new.traces) (BreaksForm scenario.now out.now)) }
+{
+    let mut place = Place::Start;
     let mut rest = out;
     let mut number: usize = 1;
     while let Some((line, tail)) = first_line(rest) {
-        let Some(next) = step(alloc, scenario, place, &mut draft, line)? else {
-            return Ok(Err(number));
+        let Some(next) = step(alloc, scenario, place, draft, line)? else {
+            return Ok(Some(number));
         };
         place = next;
         rest = tail;
         number += 1;
     }
     if is_read(scenario, place, rest) {
-        Ok(Ok(draft.into_reading()))
+        Ok(None)
     } else {
-        Ok(Err(number))
+        Ok(Some(number))
     }
 }
 

@@ -36,6 +36,7 @@ pub fn step(
         return Ok(None);
     };
     let Some(next) = moved(place, &shown) else {
+        drop(shown);
         return Ok(None);
     };
     added(alloc, scenario, place, draft, shown)?;

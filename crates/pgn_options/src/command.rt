@@ -56,10 +56,7 @@ fn program<'a>(alloc: Global) -> Command<'a>
 }
 
 // A command with this one below it.
-fn with_command<'a>(
-    command: Command<'a>,
-    below: Command<'a>,
-) -> Result<Command<'a>, AllocError>
+fn with_command<'a>(command: Command<'a>, below: Command<'a>) -> Result<Command<'a>, AllocError>
     requires { (out-Command below).has_globals ≡ false }
     ensures { IfOk result (λ whole. app_of whole ≡ with_subcommand (app_of command.entry) (shape_of below.entry)) }
 {
@@ -89,10 +86,7 @@ fn drill<'a>(alloc: Global) -> Result<Command<'a>, AllocError>
 }
 
 // A command with one more argument.
-fn with_argument<'a>(
-    command: Command<'a>,
-    argument: Arg<'a>,
-) -> Result<Command<'a>, AllocError>
+fn with_argument<'a>(command: Command<'a>, argument: Arg<'a>) -> Result<Command<'a>, AllocError>
     requires own { (out-Command command).has_globals ≡ false }
     requires local { argument.global ≡ false }
     ensures app { IfOk result (λ whole. app_of whole ≡ with_rule (app_of command.entry) (rule_of argument.entry)) }

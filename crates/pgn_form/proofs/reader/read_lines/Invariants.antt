@@ -1,7 +1,7 @@
 use Rattle.std.proofs.Common.{length}
 use Rattle.pgn_form.proofs.ReaderLaws.{HasCome}
 use Rattle.pgn_form.specs.Places.{Fits}
-use Rattle.pgn_form.proofs.reader.read_output.Given as goal
+use Rattle.pgn_form.proofs.reader.read_lines.Given as goal
 
 abbrev pub invariant-loop-line : goal.invariant-loop-line
 invariant-loop-line l = record { come : HasCome l.scenario l.fn.out l.rest l.place l.draft l.number; fits : Fits l.place }

@@ -1,5 +1,6 @@
+use Rattle.std.proofs.Common.{refl}
 use Rattle.pgn_form.proofs.ReaderLaws.{come_short, come_to_end, come_to_nothing_at}
-use Rattle.pgn_form.proofs.reader.read_output.Goals as goal
+use Rattle.pgn_form.proofs.reader.read_lines.Goals as goal
 
 pub returns-in_default-2 : goal.returns-in_default-2
 returns-in_default-2 c =
@@ -8,8 +9,8 @@ returns-in_default-2 c =
 
 pub returns-then-is_read : goal.returns-then-is_read
 returns-then-is_read c =
-    come_to_end c.args.scenario.now c.args.out.now c.loop-line.rest.now c.loop-line.place c.loop-line.draft c.loop-line.number c.into_reading.result.journal c.into_reading.result.traces c.is_read.result c.loop-line.invariant.come
-    c.in_default.ensures c.is_read.ensures c.if-is_read.true c.into_reading.ensures.journal c.into_reading.ensures.traces
+    come_to_end c.args.scenario.now c.args.out.now c.loop-line.rest.now c.loop-line.place c.loop-line.draft c.loop-line.number c.loop-line.draft.journal c.loop-line.draft.traces c.is_read.result c.loop-line.invariant.come
+    c.in_default.ensures c.is_read.ensures c.if-is_read.true refl refl
 
 pub returns-else-is_read : goal.returns-else-is_read
 returns-else-is_read c =
