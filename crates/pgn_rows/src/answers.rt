@@ -4,77 +4,115 @@ use crate::printer::Printer;
 use pgn_block::Block;
 use std::alloc::{AllocError, Global};
 
-// What leads into each state of a block: none, one that has the savepoint s, and one that has it and failed.
-const WAYS: [&[&[u8]]; 3] = [
-    &[],
-    &[b"BEGIN", b"SAVEPOINT s"],
-    &[b"BEGIN", b"SAVEPOINT s", b"LISTEN 5"],
-];
+// What leads into a block that has the savepoint s, and behind that into one that failed.
+const WAY: [&[u8]; 3] = [b"BEGIN", b"SAVEPOINT s", b"LISTEN 5"];
 
 // The line that drops a block, as the end of a session does.
 const DROP: &[u8] = b"\\drop";
 
 /// Each line of the input, and below it what it is answered in each state of a block.
 pub fn answers_row(alloc: Global, input: &[u8]) -> Result<Vec<u8>, AllocError> {
+    let lines = lines(alloc, input)?;
     let mut printer = Printer::new(alloc);
-    for line in lines(alloc, input)? {
-        printer.bytes(line)?;
-        printer.bytes(b"\n")?;
-        put_in_each_state(&mut printer, alloc, line)?;
-    }
-    Ok(printer.into_text())
+    let put = put_lines(&mut printer, alloc, lines.as_slice());
+    drop(lines);
+    printer.into_text(put)
 }
 
-fn put_in_each_state(printer: &mut Printer, alloc: Global, line: &[u8]) -> Result<(), AllocError> {
-    for way in WAYS {
-        let mut block = block_after(alloc, way)?;
-        printer.bytes(b"  ")?;
-        printer.state(block.state())?;
-        printer.bytes(b": ")?;
-        put_answer(printer, alloc, &mut block, line)?;
+fn put_lines(printer: &mut Printer, alloc: Global, lines: &[&[u8]]) -> Result<(), AllocError> {
+    for line in lines {
+        printer.bytes(line)?;
+        printer.bytes(b"\n")?;
+        put_in_each_state(printer, alloc, line)?;
     }
     Ok(())
 }
 
-// A block after these lines.
-fn block_after(alloc: Global, lines: &[&[u8]]) -> Result<Block, AllocError> {
+fn put_in_each_state(printer: &mut Printer, alloc: Global, line: &[u8]) -> Result<(), AllocError> {
+    put_behind(printer, alloc, &[], line)?;
+    put_behind(printer, alloc, &WAY[..2], line)?;
+    put_behind(printer, alloc, &WAY, line)
+}
+
+// The state of a block behind these lines, and what the line is answered there.
+fn put_behind(
+    printer: &mut Printer,
+    alloc: Global,
+    way: &[&[u8]],
+    line: &[u8],
+) -> Result<(), AllocError> {
     let mut block = Block::new(alloc);
-    for line in lines {
-        if let Some(command) = command_of(alloc, line)? {
-            let _effect = block.step(command)?;
-        }
+    let put = put_in_state(printer, alloc, &mut block, way, line);
+    drop(block);
+    put
+}
+
+fn put_in_state(
+    printer: &mut Printer,
+    alloc: Global,
+    block: &mut Block,
+    way: &[&[u8]],
+    line: &[u8],
+) -> Result<(), AllocError> {
+    for earlier in way {
+        tell(alloc, block, earlier)?;
     }
-    Ok(block)
+    printer.bytes(b"  ")?;
+    printer.state(block.state())?;
+    printer.bytes(b": ")?;
+    put_answer(printer, alloc, block, line)
+}
+
+// Tells a block a line.
+fn tell(alloc: Global, block: &mut Block, line: &[u8]) -> Result<(), AllocError> {
+    match command_of(alloc, line)? {
+        Some(command) => {
+            drop(block.step(command)?);
+            Ok(())
+        }
+        None => Ok(()),
+    }
 }
 
 /// The answers to the lines of each case, which are told to one block.
 pub fn blocks_row(alloc: Global, input: &[u8]) -> Result<Vec<u8>, AllocError> {
+    let cases = cases(alloc, input)?;
     let mut printer = Printer::new(alloc);
-    for case in cases(alloc, input)? {
-        put_answers(&mut printer, alloc, case)?;
-        printer.end_of_case()?;
-    }
-    Ok(printer.into_text())
+    let put = put_cases(&mut printer, alloc, cases.as_slice());
+    drop(cases);
+    printer.into_text(put)
 }
 
-fn put_answers(printer: &mut Printer, alloc: Global, case: &[u8]) -> Result<(), AllocError> {
-    let mut block = Block::new(alloc);
-    for line in lines(alloc, case)? {
-        put_told(printer, alloc, &mut block, line)?;
+fn put_cases(printer: &mut Printer, alloc: Global, cases: &[&[u8]]) -> Result<(), AllocError> {
+    for case in cases {
+        put_case(printer, alloc, case)?;
+        printer.end_of_case()?;
     }
     Ok(())
 }
 
-// A line, and on the same line what it is answered.
-fn put_told(
+fn put_case(printer: &mut Printer, alloc: Global, case: &[u8]) -> Result<(), AllocError> {
+    let lines = lines(alloc, case)?;
+    let mut block = Block::new(alloc);
+    let put = put_answers(printer, alloc, &mut block, lines.as_slice());
+    drop(block);
+    drop(lines);
+    put
+}
+
+// Each line, and on the same line what it is answered.
+fn put_answers(
     printer: &mut Printer,
     alloc: Global,
     block: &mut Block,
-    line: &[u8],
+    lines: &[&[u8]],
 ) -> Result<(), AllocError> {
-    printer.bytes(line)?;
-    printer.bytes(b": ")?;
-    put_answer(printer, alloc, block, line)
+    for line in lines {
+        printer.bytes(line)?;
+        printer.bytes(b": ")?;
+        put_answer(printer, alloc, block, line)?;
+    }
+    Ok(())
 }
 
 // What a line is answered, and the new state where it changes.
@@ -107,7 +145,9 @@ fn put_effect(
     match command_of(alloc, line)? {
         Some(command) => {
             let effect = block.step(command)?;
-            printer.effect(&effect)
+            let put = printer.effect(&effect);
+            drop(effect);
+            put
         }
         None => printer.bytes(b"no line"),
     }

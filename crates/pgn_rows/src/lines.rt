@@ -6,17 +6,28 @@ use std::alloc::{AllocError, Global};
 
 /// What each line of the input reads as, a line each.
 pub fn lines_row(alloc: Global, input: &[u8]) -> Result<Vec<u8>, AllocError> {
+    let lines = lines(alloc, input)?;
     let mut printer = Printer::new(alloc);
-    for line in lines(alloc, input)? {
-        put_reading(&mut printer, alloc, line)?;
+    let put = put_readings(&mut printer, alloc, lines.as_slice());
+    drop(lines);
+    printer.into_text(put)
+}
+
+fn put_readings(printer: &mut Printer, alloc: Global, lines: &[&[u8]]) -> Result<(), AllocError> {
+    for line in lines {
+        put_reading(printer, alloc, line)?;
         printer.bytes(b"\n")?;
     }
-    Ok(printer.into_text())
+    Ok(())
 }
 
 fn put_reading(printer: &mut Printer, alloc: Global, line: &[u8]) -> Result<(), AllocError> {
     match command_of(alloc, line)? {
-        Some(command) => printer.command(&command),
+        Some(command) => {
+            let put = printer.command(&command);
+            drop(command);
+            put
+        }
         None => printer.bytes(b"no line"),
     }
 }
@@ -24,7 +35,13 @@ fn put_reading(printer: &mut Printer, alloc: Global, line: &[u8]) -> Result<(), 
 /// The command that a line reads as, unless it can be no line of an input.
 pub fn command_of(alloc: Global, line: &[u8]) -> Result<Option<Command>, AllocError> {
     let whole = written_out(alloc, line)?;
-    let Ok(line) = str::from_utf8(whole.as_slice()) else {
+    let command = command_in(alloc, whole.as_slice());
+    drop(whole);
+    command
+}
+
+fn command_in(alloc: Global, whole: &[u8]) -> Result<Option<Command>, AllocError> {
+    let Ok(line) = str::from_utf8(whole) else {
         return Ok(None);
     };
     if line.len() > LINE_BYTES_MAX || line.as_bytes().contains(&0) {

@@ -20,9 +20,16 @@ impl Printer {
         }
     }
 
-    pub fn into_text(self) -> Vec<u8> {
+    /// The text, where all of it was put.
+    pub fn into_text(self, put: Result<(), AllocError>) -> Result<Vec<u8>, AllocError> {
         let Printer { text, .. } = self;
-        text
+        match put {
+            Ok(()) => Ok(text),
+            Err(error) => {
+                drop(text);
+                Err(error)
+            }
+        }
     }
 
     pub fn bytes(&mut self, bytes: &[u8]) -> Result<(), AllocError> {
@@ -36,7 +43,9 @@ impl Printer {
 
     fn number(&mut self, number: u32) -> Result<(), AllocError> {
         let digits = format!(in self.alloc; "{number}")?;
-        self.bytes(digits.as_bytes())
+        let put = self.bytes(digits.as_bytes());
+        drop(digits);
+        put
     }
 
     fn named(&mut self, words: &[u8], name: &Name) -> Result<(), AllocError> {

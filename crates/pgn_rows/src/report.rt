@@ -52,14 +52,18 @@ fn judged<R: Files + AllocGlobal + Threads + Wait + Sync>(
         input,
         wanted,
     } = row;
-    let found = outcome(rt, alloc, name, words, input)?;
-    if found.status == wanted.status && found.output.as_slice() == wanted.output.as_slice() {
-        return line(alloc, name, "");
+    match outcome(rt, alloc, name, words, input) {
+        Ok(found) => {
+            let text = compared(alloc, name, &wanted, &found);
+            drop(found);
+            drop(wanted);
+            text
+        }
+        Err(error) => {
+            drop(wanted);
+            Err(error)
+        }
     }
-    let mut text = line(alloc, name, " differs")?;
-    put_outcome(&mut text, alloc, "wanted", &wanted)?;
-    put_outcome(&mut text, alloc, "found", &found)?;
-    Ok(text)
 }
 
 // What the row's input comes to, by the ending of its name.
@@ -71,18 +75,64 @@ fn outcome<R: Files + AllocGlobal + Threads + Wait + Sync>(
     input: Vec<u8>,
 ) -> Result<Outcome, AllocError> {
     let Some((_, kind)) = name.rsplit_once('.') else {
-        return run_row(rt, alloc, words.as_slice(), input);
+        let found = run_row(rt, alloc, words.as_slice(), input);
+        drop(words);
+        return found;
     };
-    let output = match kind {
-        "lines" => lines_row(alloc, &input)?,
-        "faults" => faults_row(alloc, &input)?,
-        "answers" => answers_row(alloc, &input)?,
-        "blocks" => blocks_row(alloc, &input)?,
-        "asked" => command_lines_row(alloc, &input)?,
-        "changes" => changes_row(rt, alloc, &input)?,
-        _ => Vec::from_slice(alloc, b"no kind of row")?,
-    };
-    Ok(Outcome { output, status: 0 })
+    let output = output_of(rt, alloc, kind, input.as_slice());
+    drop(input);
+    drop(words);
+    Ok(Outcome {
+        output: output?,
+        status: 0,
+    })
+}
+
+fn output_of<R: Files + AllocGlobal + Threads + Wait + Sync>(
+    rt: &R,
+    alloc: Global,
+    kind: &str,
+    input: &[u8],
+) -> Result<Vec<u8>, AllocError> {
+    match kind {
+        "lines" => lines_row(alloc, input),
+        "faults" => faults_row(alloc, input),
+        "answers" => answers_row(alloc, input),
+        "blocks" => blocks_row(alloc, input),
+        "asked" => command_lines_row(alloc, input),
+        "changes" => changes_row(rt, alloc, input),
+        _ => Vec::from_slice(alloc, b"no kind of row"),
+    }
+}
+
+// What is printed of a row that is to come to the one and came to the other.
+fn compared(
+    alloc: Global,
+    name: &str,
+    wanted: &Outcome,
+    found: &Outcome,
+) -> Result<Vec<u8>, AllocError> {
+    if found.status == wanted.status && found.output.as_slice() == wanted.output.as_slice() {
+        return line(alloc, name, "");
+    }
+    let mut text = line(alloc, name, " differs")?;
+    match put_both(&mut text, alloc, wanted, found) {
+        Ok(()) => Ok(text),
+        Err(error) => {
+            drop(text);
+            Err(error)
+        }
+    }
+}
+
+fn put_both(
+    text: &mut Vec<u8>,
+    alloc: Global,
+    wanted: &Outcome,
+    found: &Outcome,
+) -> Result<(), AllocError> {
+    put_outcome(text, alloc, "wanted", wanted)?;
+    put_outcome(text, alloc, "found", found)
 }
 
 // An outcome below its heading. A LF follows what does not end in one.
@@ -94,7 +144,9 @@ fn put_outcome(
 ) -> Result<(), AllocError> {
     let (bytes, status) = (outcome.output.len(), outcome.status);
     let head = format!(in alloc; "--- {what}: {bytes} bytes, status {status}\n")?;
-    text.extend_from_slice(head.as_bytes())?;
+    let put = text.extend_from_slice(head.as_bytes());
+    drop(head);
+    put?;
     text.extend_from_slice(outcome.output.as_slice())?;
     if !outcome.output.ends_with(b"\n") {
         text.push(b'\n')?;

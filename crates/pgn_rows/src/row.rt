@@ -33,7 +33,9 @@ pub fn read_row<R: Files + AllocGlobal>(rt: &R, name: &str) -> io::Result<Row> {
 
 fn read_file<R: Files + AllocGlobal>(rt: &R, name: &str, ending: &str) -> io::Result<Vec<u8>> {
     let path = format!(in rt.alloc(); "{name}.{ending}")?;
-    fs::read(rt, path.as_str())
+    let read = fs::read(rt, path.as_str());
+    drop(path);
+    read
 }
 
 // The text of a file that may be left out.
@@ -43,11 +45,20 @@ fn read_text<R: Files + AllocGlobal>(
     ending: &str,
 ) -> io::Result<Option<String>> {
     let path = format!(in rt.alloc(); "{name}.{ending}")?;
-    match fs::read_to_string(rt, path.as_str()) {
+    let read = fs::read_to_string(rt, path.as_str());
+    drop(path);
+    match read {
         Ok(text) => Ok(Some(text)),
-        Err(error) if error.kind() == ErrorKind::NotFound => Ok(None),
-        Err(error) => Err(error),
+        Err(error) => none_if_missing(error),
     }
+}
+
+fn none_if_missing(error: Error) -> io::Result<Option<String>> {
+    if error.kind() != ErrorKind::NotFound {
+        return Err(error);
+    }
+    drop(error);
+    Ok(None)
 }
 
 fn read_words<R: Files + AllocGlobal>(rt: &R, name: &str) -> io::Result<Vec<String>> {

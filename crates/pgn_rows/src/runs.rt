@@ -16,10 +16,34 @@ pub fn run_row<R: Threads + Wait + Sync>(
     words: &[String],
     input: Vec<u8>,
 ) -> Result<Outcome, AllocError> {
-    let words = borrowed(alloc, words)?;
-    let mut sink = MemSink::new(alloc, ROOM, Vec::new(alloc), ROOM)?;
     let mut source = MemSource::new(input, Vec::new(alloc), ROOM);
-    let status = status_of(rt, alloc, words.as_slice(), &mut source, &mut sink);
+    let outcome = run_over(rt, alloc, words, &mut source);
+    drop(source);
+    outcome
+}
+
+fn run_over<R: Threads + Wait + Sync>(
+    rt: &R,
+    alloc: Global,
+    words: &[String],
+    source: &mut MemSource,
+) -> Result<Outcome, AllocError> {
+    let mut sink = MemSink::new(alloc, ROOM, Vec::new(alloc), ROOM)?;
+    let outcome = outcome_of(rt, alloc, words, source, &mut sink);
+    drop(sink);
+    outcome
+}
+
+fn outcome_of<R: Threads + Wait + Sync>(
+    rt: &R,
+    alloc: Global,
+    words: &[String],
+    source: &mut MemSource,
+    sink: &mut MemSink,
+) -> Result<Outcome, AllocError> {
+    let words = borrowed(alloc, words)?;
+    let status = status_of(rt, alloc, words.as_slice(), source, sink);
+    drop(words);
     let output = Vec::from_slice(alloc, sink.held())?;
     Ok(Outcome {
         output,
