@@ -12,7 +12,10 @@ fn to_blame(alloc: Global, input: &[u8], out: &[u8]) -> Result<usize, AllocError
     let Ok(scenario) = read_scenario(alloc, input)? else {
         return Ok(usize::MAX);
     };
-    match read_journal(alloc, &scenario, out)? {
+    let found = read_journal(alloc, &scenario, out);
+    // Dropped here, by a call: what follows may return.
+    drop(scenario);
+    match found? {
         Ok(_) => Ok(0),
         Err(number) => Ok(number),
     }
@@ -20,12 +23,12 @@ fn to_blame(alloc: Global, input: &[u8], out: &[u8]) -> Result<usize, AllocError
 
 // The line that is to blame in an output of a scenario, or 0 where none is.
 fn verdict(alloc: Global, input: &[u8], out: &[u8]) -> Result<usize, AllocError> {
-    let Ok(scenario) = read_scenario(alloc, input)? else {
-        return Ok(usize::MAX);
-    };
     if out.len() > 67_108_864 {
         return Ok(usize::MAX);
     }
+    let Ok(scenario) = read_scenario(alloc, input)? else {
+        return Ok(usize::MAX);
+    };
     let found = check_output(
         alloc,
         &scenario,
@@ -33,8 +36,9 @@ fn verdict(alloc: Global, input: &[u8], out: &[u8]) -> Result<usize, AllocError>
         PATIENCE_DEFAULT,
         Format::One,
         out,
-    )?;
-    match found {
+    );
+    drop(scenario);
+    match found? {
         Verdict::Legal => Ok(0),
         Verdict::Illegal { line } => Ok(line),
     }

@@ -3,7 +3,7 @@ use std::alloc::{AllocError, Global};
 use std::process::Abort;
 use std::test::Fail;
 
-const INPUT: &[u8] = b"\\session a 1\nLISTEN c\nNOTIFY c, 'x'\n";
+pub(super) const INPUT: &[u8] = b"\\session a 1\nLISTEN c\nNOTIFY c, 'x'\n";
 
 // Its output, line by line.
 const OUTPUT: [&str; 13] = [
@@ -59,7 +59,12 @@ const JOURNAL: [(usize, usize, &str, usize); 5] = [
 ];
 
 // The output, changed so.
-fn changed(alloc: Global, from: usize, many: usize, instead: &str) -> Result<Vec<u8>, AllocError> {
+pub(super) fn changed(
+    alloc: Global,
+    from: usize,
+    many: usize,
+    instead: &str,
+) -> Result<Vec<u8>, AllocError> {
     let mut text = Vec::new(alloc);
     for (at, line) in OUTPUT.iter().enumerate() {
         if at + 1 == from {

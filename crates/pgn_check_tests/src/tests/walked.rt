@@ -1,28 +1,10 @@
+use super::changed::{INPUT, changed};
 use super::verdict;
-use std::alloc::{AllocError, Global};
 use std::process::Abort;
 use std::test::Fail;
 
-const INPUT: &[u8] = b"\\session a 1\nLISTEN c\nNOTIFY c, 'x'\n";
-
-// Its output, line by line.
-const OUTPUT: [&str; 13] = [
-    "journal 1\n",
-    "xid 3 session 1 commit 1\n",
-    "  \"c\", 'x'\n",
-    "session 1 a db 1 pid 1001\n",
-    "> LISTEN c\n",
-    "+enlist 3 3\n",
-    "LISTEN\n",
-    "> NOTIFY c, 'x'\n",
-    "+publish 3\n",
-    "NOTIFY\n",
-    "+read 3 4\n",
-    "  3 1001 \"c\", 'x'\n",
-    "end mark 4\n",
-];
-
-// From which line on, from 1, how many lines are taken out; what stands there instead; and the line that is to blame then.
+// The same output with other lines changed. From which line on, from 1, how many lines are taken out; what stands there instead; and
+// the line that is to blame then.
 const ROWS: [(usize, usize, &str, usize); 17] = [
     (1, 0, "", 0),
     (1, 1, "journal 2\n", 4),
@@ -42,20 +24,6 @@ const ROWS: [(usize, usize, &str, usize); 17] = [
     (13, 1, "end mark 3\n", 13),
     (13, 1, "end\n", 13),
 ];
-
-// The output, changed so.
-fn changed(alloc: Global, from: usize, many: usize, instead: &str) -> Result<Vec<u8>, AllocError> {
-    let mut text = Vec::new(alloc);
-    for (at, line) in OUTPUT.iter().enumerate() {
-        if at + 1 == from {
-            text.extend_from_slice(instead.as_bytes())?;
-        }
-        if at + 1 < from || at + 1 - from >= many {
-            text.extend_from_slice(line.as_bytes())?;
-        }
-    }
-    Ok(text)
-}
 
 #[test]
 fn lines_of_a_session(rt: HostRuntime) -> Result<(), Fail> {
