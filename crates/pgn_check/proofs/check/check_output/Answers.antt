@@ -44,8 +44,8 @@ returns-in-Some c =
     illegal_walk c.args.scenario.now settings c.args.out.now c.in-Ok.reading.journal c.in-Ok.reading.traces (2 + lines_in c.in-Ok.reading.journal) c.in-Some.line c.requires.sound held c.requires.few read refl
     (rw c.in-Some.is at (rw c.in_ok-line.was at c.walk_reading-found.ensures))
 
-pub returns : goal.returns
-returns c =
+pub returns-in-None : goal.returns-in-None
+returns-in-None c =
     let settings : Settings = record { format = c.args.format; limit = c.args.pages; patience = c.args.patience } in
     let read = rw c.in-Ok.is at c.in_ok-reading.ensures in
     legal_walk c.args.scenario.now settings c.args.out.now c.in-Ok.reading.journal c.in-Ok.reading.traces read (rw c.in-None.is at (rw c.in_ok-line.was at c.walk_reading-found.ensures))
