@@ -12,7 +12,6 @@ use Rattle.pgn_journal.specs.Due.{due}
 use Rattle.pgn_due.specs.Next.{IsWatch}
 use Rattle.pgn_due.specs.declared.watch.Watch.{Watch}
 use Rattle.pgn_language.specs.declared.scenario.ScriptLine.{ScriptLine}
-use Rattle.pgn_language.specs.declared.scenario.Section.{Section}
 use Rattle.pgn_model.specs.declared.item.Item.TheVariants as item
 use Rattle.pgn_model.specs.Walk.{State, Terms, MayRead}
 use Rattle.pgn_walk.specs.declared.standing.Standing.{Standing}
