@@ -39,38 +39,28 @@ fn note(alloc: Global, letters: usize) -> Result<Note, Fail>
 fn note_on(alloc: Global, channel: &str, letters: usize) -> Result<Note, Fail>
     ensures { IfOk result (λ note. length note.payload ≡ letters) }
 {
-    let channel = name(alloc, channel)?;
-    let payload = payload(alloc, letters)?;
-    Ok(Note { channel, payload })
+    let payload = vec![in alloc; b'x'; letters]?;
+    Ok(Note {
+        channel: Name::new(alloc, channel)?,
+        payload: Payload::new(alloc, str::from_utf8(&payload)?)?,
+    })
 }
 
-fn name(alloc: Global, text: &str) -> Result<Name, Fail> {
-    Ok(Name::new(alloc, text)?)
-}
-
-// A payload of so many letters.
-fn payload(alloc: Global, letters: usize) -> Result<Payload, Fail>
-    ensures { IfOk result (λ payload. length payload ≡ letters) }
-{
-    let text = vec![in alloc; b'x'; letters]?;
-    Ok(Payload::new(alloc, str::from_utf8(&text)?)?)
-}
-
-// That the channel `c` is listened to, if memory suffices.
-fn listen_on_c(alloc: Global) -> Option<Actions> {
-    let channel = Name::new(alloc, "c").ok()?;
+// That the channel `c` is listened to.
+fn listen_on_c(alloc: Global) -> Result<Actions, Fail> {
+    let channel = Name::new(alloc, "c")?;
     let mut actions = Actions::new(alloc);
-    actions.push(Action::Listen(channel)).ok()?;
-    Some(actions)
+    actions.push(Action::Listen(channel))?;
+    Ok(actions)
 }
 
-// The set of the channel `c`, if memory suffices.
-fn set_of_c(alloc: Global) -> Option<ListenSet> {
+// The set of the channel `c`.
+fn set_of_c(alloc: Global) -> Result<ListenSet, Fail> {
     let actions = listen_on_c(alloc)?;
     let mut set = ListenSet::new(alloc);
-    set.reserve(1).ok()?;
+    set.reserve(actions.as_slice().len())?;
     set.apply(actions);
-    Some(set)
+    Ok(set)
 }
 
 // The seat of a session in a database.
@@ -188,9 +178,13 @@ fn send_four<R: Wait>(rt: &R, hub: &WordHub, pass: &mut WordPass, notes: &[Note;
     send(rt, hub, pass, notes);
 }
 
-// Tells that the session listens on the channel `c`, and reads on: the new mark, if memory suffices, and what was received is put
-// behind `got`.
-fn read(alloc: Global, hub: &WordHub, pass: &mut WordPass, got: &mut Vec<Delivery>) -> Option<u32>
+// Tells that the session listens on the channel `c`, and reads on: the new mark, and what was received is put behind `got`.
+fn read(
+    alloc: Global,
+    hub: &WordHub,
+    pass: &mut WordPass,
+    got: &mut Vec<Delivery>,
+) -> Result<u32, Fail>
     requires own { IsHubPass hub.now pass.old }
     requires listens { IsSome (known_of pass.old).mark }
     ensures own { IsHubPass hub.now pass.new }
@@ -199,14 +193,11 @@ fn read(alloc: Global, hub: &WordHub, pass: &mut WordPass, got: &mut Vec<Deliver
 {
     let set = set_of_c(alloc)?;
     hub.interest(pass, &set);
-    match hub.scan(alloc, pass, &set, got) {
-        Ok(to) => Some(to.get()),
-        Err(_) => None,
-    }
+    Ok(hub.scan(alloc, pass, &set, got)?.get())
 }
 
 // Reads on: the new mark, and how many notifications were received.
-fn receive(alloc: Global, hub: &WordHub, pass: &mut WordPass) -> Option<(u32, usize)>
+fn receive(alloc: Global, hub: &WordHub, pass: &mut WordPass) -> Result<(u32, usize), Fail>
     requires own { IsHubPass hub.now pass.old }
     requires listens { IsSome (known_of pass.old).mark }
     ensures own { IsHubPass hub.now pass.new }
@@ -214,25 +205,21 @@ fn receive(alloc: Global, hub: &WordHub, pass: &mut WordPass) -> Option<(u32, us
     ensures session { (known_of pass.new).session ≡ (known_of pass.old).session }
 {
     let mut got = Vec::new(alloc);
-    match read(alloc, hub, pass, &mut got) {
-        Some(to) => Some((to, got.len())),
-        None => None,
-    }
+    let to = read(alloc, hub, pass, &mut got)?;
+    Ok((to, got.len()))
 }
 
 // A session listens on the channel `c` from here on, and owes no read.
-fn listen(alloc: Global, hub: &WordHub, pass: &mut WordPass) -> Option<Enlisted>
+fn listen(alloc: Global, hub: &WordHub, pass: &mut WordPass) -> Result<Enlisted, Fail>
     requires own { IsHubPass hub.now pass.old }
     requires out { (known_of pass.old).mark ≡ None }
     ensures own { IsHubPass hub.now pass.new }
-    ensures listens { IsSome (known_of pass.new).mark }
+    ensures listens { IfOk result (λ _. IsSome (known_of pass.new).mark) }
     ensures session { (known_of pass.new).session ≡ (known_of pass.old).session }
 {
     let enlisted = hub.enlist(pass);
-    match receive(alloc, hub, pass) {
-        Some(_) => Some(enlisted),
-        None => None,
-    }
+    receive(alloc, hub, pass)?;
+    Ok(enlisted)
 }
 
 // What an advance did: the oldest kept page before it and after it, and the session that joined.
@@ -272,6 +259,8 @@ fn count_journal(
     requires second_session { (known_of second).session ≡ 2 }
     requires seats { length (hub_shape hub).seats ≡ 2 }
 {
-    let passes = Vec::from_array(alloc, [first, second])?;
+    let mut passes = Vec::with_capacity(alloc, 2)?;
+    passes.push(first)?;
+    passes.push(second)?;
     Ok(hub.gather(passes).count)
 }
