@@ -10,6 +10,7 @@ use pgn_run::Status;
 use std::alloc::{AllocError, Global};
 use std::io;
 use std::io::{ErrorKind, Read, Write};
+use std::process::Abort;
 use std::sync::Wait;
 use std::test::Fail;
 use std::thread::Threads;
@@ -93,27 +94,37 @@ fn one_line_on_standard_error(rt: HostRuntime) -> Result<(), Fail> {
             b"pgnotify: check input is larger than 67108864 bytes\n",
         ),
     ];
-    let alloc = rt.alloc();
     for (status, code, line) in table {
-        let mut sink = MemSink::new(alloc, 200, Vec::new(alloc), 7)?;
-        assert_eq!(rt; fault_line(&mut sink, &status), Ok(()));
+        let sink = line_of(rt.alloc(), &status)?;
         assert_eq!(rt; sink.held(), line);
         assert_eq!(rt; status.code(), code);
     }
     Ok(())
 }
 
+// What is written for a status.
+fn line_of(alloc: Global, status: &Status) -> Result<MemSink, Fail> {
+    let mut sink = MemSink::new(alloc, 200, Vec::new(alloc), 7)?;
+    match put_line(&mut sink, status) {
+        Ok(()) => Ok(sink),
+        Err(Failed) => {
+            drop(sink);
+            Err(Fail::from("not written"))
+        }
+    }
+}
+
+// Over any sink: so no clause of the call has to be computed for one in memory.
+fn put_line<K: Sink>(sink: &mut K, status: &Status) -> Result<(), Failed> {
+    fault_line(sink, status)
+}
+
 #[test]
 fn a_line_is_cut_where_its_sink_fails(rt: HostRuntime) -> Result<(), Fail> {
     let alloc = rt.alloc();
     let mut sink = MemSink::new(alloc, 16, Vec::new(alloc), 100)?;
-    assert_eq!(rt;
-        fault_line(
-            &mut sink,
-            &Status::BadScenario(ScenarioFault::BadMeta { line: 12 })
-        ),
-        Err(Failed)
-    );
+    let status = Status::BadScenario(ScenarioFault::BadMeta { line: 12 });
+    assert_eq!(rt; put_line(&mut sink, &status), Err(Failed));
     assert_eq!(rt; sink.held(), b"pgnotify: line 1".as_slice());
     Ok(())
 }
@@ -148,20 +159,38 @@ const PLAIN: Run<'static> = Run {
     errors: 200,
 };
 
+fn push_texts(alloc: Global, texts: &mut Vec<String>, words: &[&str]) -> Result<(), AllocError> {
+    for word in words {
+        texts.push(String::from_str(alloc, *word)?)?;
+    }
+    Ok(())
+}
+
+fn texts(alloc: Global, words: &[&str]) -> Result<Vec<String>, AllocError> {
+    let mut texts = Vec::new(alloc);
+    push_texts(alloc, &mut texts, words)?;
+    Ok(texts)
+}
+
 fn owned(
     alloc: Global,
     words: Result<&[&str], NoWords>,
 ) -> Result<Result<Vec<String>, NoWords>, AllocError> {
-    let mut texts = Vec::new(alloc);
     match words {
-        Ok(words) => {
-            for word in words {
-                texts.push(String::from_str(alloc, *word)?)?;
-            }
-            Ok(Ok(texts))
-        }
+        Ok(words) => Ok(Ok(texts(alloc, words)?)),
         Err(why) => Ok(Err(why)),
     }
+}
+
+fn source_of(alloc: Global, run: &Run<'_>) -> Result<MemSource, AllocError> {
+    let input = Vec::from_slice(alloc, run.input.as_bytes())?;
+    let fails = Vec::from_slice(alloc, &[run.failing_read])?;
+    Ok(MemSource::new(input, fails, 7))
+}
+
+fn sink_of(alloc: Global, run: &Run<'_>) -> Result<MemSink, AllocError> {
+    let fails = Vec::from_slice(alloc, &[run.failing_write])?;
+    MemSink::new(alloc, 100, fails, 20)
 }
 
 // The exit status, the output and the line on the errors' stream.
@@ -170,13 +199,24 @@ fn ended<R: Threads + Wait + Sync>(
     alloc: Global,
     run: &Run<'_>,
 ) -> Result<(u8, MemSink, MemSink), AllocError> {
-    let input = run.input.as_bytes().to_vec(alloc)?;
-    let mut source = MemSource::new(input, [run.failing_read].to_vec(alloc)?, 7);
-    let mut sink = MemSink::new(alloc, 100, [run.failing_write].to_vec(alloc)?, 20)?;
+    let mut source = source_of(alloc, run)?;
+    let mut sink = sink_of(alloc, run)?;
     let mut errors = MemSink::new(alloc, run.errors, Vec::new(alloc), 9)?;
     let words = owned(alloc, run.words)?;
-    let code = program(rt, alloc, words, &mut source, &mut sink, &mut errors);
+    let code = code_of(rt, alloc, words, &mut source, &mut sink, &mut errors);
     Ok((code, sink, errors))
+}
+
+// Over any streams: so no clause of the call has to be computed for those in memory.
+fn code_of<S: Source, K: Sink + Send, E: Sink, R: Threads + Wait + Sync>(
+    rt: &R,
+    alloc: Global,
+    words: Result<Vec<String>, NoWords>,
+    source: &mut S,
+    sink: &mut K,
+    errors: &mut E,
+) -> u8 {
+    program(rt, alloc, words, source, sink, errors)
 }
 
 #[test]
@@ -348,53 +388,58 @@ impl<T: Write> Write for Interrupted<T> {
     }
 }
 
-#[test]
-fn what_is_interrupted_is_tried_again(rt: HostRuntime) -> Result<(), Fail> {
-    let alloc = rt.alloc();
+// Asserts that a source gives the bytes `abc`, and then ends.
+fn assert_gives<S: Source, R: Abort>(rt: &R, source: &mut S) {
     let mut buffer = [0; 8];
+    assert_eq!(rt; source.read(&mut buffer), Ok(3));
+    assert_eq!(rt; &buffer[..3], b"abc".as_slice());
+    assert_eq!(rt; source.read(&mut buffer), Ok(0));
+}
+
+// Asserts that a sink takes `abc` and `de`.
+fn assert_takes<K: Sink, R: Abort>(rt: &R, sink: &mut K) {
+    assert_eq!(rt; write_all(sink, b"abc"), Ok(()));
+    assert_eq!(rt; write_all(sink, b"de"), Ok(()));
+}
+
+#[test]
+fn an_interrupted_read_is_tried_again(rt: HostRuntime) {
     let mut source = Input::new(Interrupted {
         stream: b"abc".as_slice(),
         calls: 0,
     });
-    assert_eq!(rt; source.read(&mut buffer), Ok(3));
-    assert_eq!(rt; &buffer[..3], b"abc".as_slice());
-    assert_eq!(rt; source.read(&mut buffer), Ok(0));
-
-    let mut sink = Output::new(Interrupted {
-        stream: Vec::new(alloc),
-        calls: 0,
-    });
-    assert_eq!(rt; write_all(&mut sink, b"abc"), Ok(()));
-    assert_eq!(rt; write_all(&mut sink, b"de"), Ok(()));
-    assert_eq!(rt; sink.writer().stream.as_slice(), b"abcde".as_slice());
-    Ok(())
+    assert_gives(&rt, &mut source);
 }
 
 #[test]
-fn adapters_pass_bytes_on_and_fail_with_their_streams(rt: HostRuntime) -> Result<(), Fail> {
-    let alloc = rt.alloc();
-    let mut buffer = [0; 8];
-    let mut source = Input::new(b"abc".as_slice());
-    assert_eq!(rt; source.read(&mut buffer), Ok(3));
-    assert_eq!(rt; &buffer[..3], b"abc".as_slice());
-    assert_eq!(rt; source.read(&mut buffer), Ok(0));
-    assert_eq!(rt;
-        Input::new(Broken { fails: true }).read(&mut buffer),
-        Err(Failed)
-    );
+fn an_interrupted_write_is_tried_again(rt: HostRuntime) {
+    let mut sink = Output::new(Interrupted {
+        stream: Vec::new(rt.alloc()),
+        calls: 0,
+    });
+    assert_takes(&rt, &mut sink);
+    assert_eq!(rt; sink.writer().stream.as_slice(), b"abcde".as_slice());
+}
 
-    let mut sink = Output::new(Vec::new(alloc));
-    assert_eq!(rt; write_all(&mut sink, b"abc"), Ok(()));
-    assert_eq!(rt; write_all(&mut sink, b"de"), Ok(()));
+#[test]
+fn adapters_pass_bytes_on(rt: HostRuntime) {
+    assert_gives(&rt, &mut Input::new(b"abc".as_slice()));
+    let mut sink = Output::new(Vec::new(rt.alloc()));
+    assert_takes(&rt, &mut sink);
     assert_eq!(rt; sink.writer().as_slice(), b"abcde".as_slice());
-    assert_eq!(rt;
-        write_all(&mut Output::new(Broken { fails: true }), b"abc"),
-        Err(Failed)
-    );
-    assert_eq!(rt;
-        write_all(&mut Output::new(Broken { fails: false }), b"abc"),
-        Err(Failed)
-    );
+}
+
+// Whether a sink fails with these bytes.
+fn fails<K: Sink>(sink: &mut K) -> bool {
+    write_all(sink, b"abc") == Err(Failed)
+}
+
+#[test]
+fn adapters_fail_with_their_streams(rt: HostRuntime) {
+    let mut buffer = [0; 8];
+    let mut source = Input::new(Broken { fails: true });
+    assert_eq!(rt; source.read(&mut buffer), Err(Failed));
+    assert!(rt; fails(&mut Output::new(Broken { fails: true })));
+    assert!(rt; fails(&mut Output::new(Broken { fails: false })));
     assert_eq!(rt; Output::new(Broken { fails: false }).write(b"abc"), Ok(0));
-    Ok(())
 }
