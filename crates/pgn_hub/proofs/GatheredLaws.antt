@@ -17,7 +17,7 @@ in-more true y z ys h = Contains-append_right (y ∷ []) ys z h
 in-more false y z ys h = h
 
 -- the number of a session's transaction is among the numbers of that session
-pub number-among : (session x : ℕ) (txs : List Tx) (k : ℕ) (d : Tx) → k < length txs → (slice_index_or txs k d).session ≡ session → Contains (xids_from session x txs) (x + k)
+number-among : (session x : ℕ) (txs : List Tx) (k : ℕ) (d : Tx) → k < length txs → (slice_index_or txs k d).session ≡ session → Contains (xids_from session x txs) (x + k)
 number-among session x [] k d lt is = absurd (omega (arith, lt))
 number-among session x (tx ∷ txs) zero d lt is =
     let rest = xids_from session (x + 1) txs in
@@ -28,7 +28,7 @@ number-among session x (tx ∷ txs) (suc k) d lt is =
     in-more (tx.session == session) x (x + suc k) rest there
 
 -- what is said of an element that is there
-pub some-at : (passes : List Known) (k : ℕ) (P : Known → Type 0) (d : Known) → IsSomeAnd (slice_get passes k) P → (k < length passes) × P (slice_index_or passes k d)
+some-at : (passes : List Known) (k : ℕ) (P : Known → Type 0) (d : Known) → IsSomeAnd (slice_get passes k) P → (k < length passes) × P (slice_index_or passes k d)
 some-at [] k P d h = absurd h
 some-at (pass ∷ passes) zero P d h = (omega arith, h)
 some-at (pass ∷ passes) (suc k) P d h = let rest = some-at passes k P d h in (omega (arith, rest.0), rest.1)

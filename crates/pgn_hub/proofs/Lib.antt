@@ -3,5 +3,4 @@ pub mod FloorLaws
 pub mod SeatLaws
 pub mod WithinLaws
 pub mod GatheredLaws
-mod CallerLemmas
 mod ExampleLemmas

@@ -8,7 +8,7 @@
 //! nobody. Only `open` and `scan` take memory.
 //!
 //! Laws of what the calls say, and worked examples, stand on public functions with an empty body, in the modules that are named
-//! after them. `callers` has functions over any hub.
+//! after them.
 //!
 //! A caller: a session that is no listener becomes one, and reads.
 //!
@@ -33,7 +33,6 @@
 //! ```
 #![tactic(auto)]
 
-pub mod callers;
 pub mod examples;
 mod hub;
 mod known;
