@@ -1,5 +1,5 @@
 -- A session that has slept stands where it stood.
-use Rattle.std.proofs.Common.{◌≡◌, ℕ, ◌-◌, ◌<◌, ◌≤◌, min, Bool, true, false, cond, nat_lt, sym, subst, arith}
+use Rattle.std.proofs.Common.{◌≡◌, ℕ, ◌-◌, ◌<◌, ◌≤◌, min, Bool, true, false, cond, nat_lt, ap, sym, refl, subst, arith}
 use Rattle.pgn_model.specs.Walk.{Terms, State}
 use Rattle.pgn_hub.specs.declared.known.Known.{Known}
 use Rattle.pgn_hub.specs.Shape.{Shape}
@@ -10,6 +10,7 @@ use Rattle.pgn_session.specs.declared.doing.Doing.{Doing}
 use Rattle.pgn_session.specs.declared.doing.Doing.TheVariants.{Lines, Committing, Awaiting, Ending, Over}
 use Rattle.pgn_session.specs.Standing.{terms_of, HasAnswered, HasRested, IsServedBy}
 use Rattle.pgn_session.specs.Sleep.{slept_looks, slept_doing, slept_for, IsAwaitedBelow}
+use Rattle.pgn_session.specs.Runs.{slept}
 use Rattle.pgn_session.specs.Whole.{HasAnswer, HasRest}
 use Rattle.pgn_session.proofs.AwaitLaws.{awaited-below}
 
@@ -76,3 +77,14 @@ answer-below shape known s served h = answered-below shape (terms_of shape s.sec
 
 pub rest-below : {P : Type 0} (shape : Shape) (known : P → Known) (s : Session P) → IsServedBy shape s.section s.plan → HasRest shape known s → IsAwaitedBelow shape.flags s.doing
 rest-below shape known s served h = rested-below shape (terms_of shape s.section s.patience) s.plan s.block (known s.pass) h.state s.doing served h.here
+
+-- who has not slept counts nothing
+doing-unslept : (patience : ℕ) (doing : Doing) → slept_doing patience 0 doing ≡ doing
+doing-unslept patience Lines = refl
+doing-unslept patience (Committing actions notes tag) = refl
+doing-unslept patience (Awaiting flag looks) = ap (λ (n : ℕ). Awaiting flag n) (omega arith)
+doing-unslept patience (Ending found looks) = ap (λ (n : ℕ). Ending found n) (omega arith)
+doing-unslept patience Over = refl
+
+pub unslept-same : {P : Type 0} (s : Session P) → s ≡ slept 0 s
+unslept-same {P} s = sym (ap (λ (d : Doing). record s { doing = d }) (doing-unslept s.patience s.doing))

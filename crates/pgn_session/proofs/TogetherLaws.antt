@@ -6,12 +6,17 @@ use Rattle.pgn_hub.specs.declared.known.Known.{Known}
 use Rattle.pgn_hub.specs.Shape.{Shape}
 use Rattle.pgn_session.specs.declared.session.Session.{Session}
 use Rattle.pgn_session.specs.Runs.{script_of, shown_of, slept, IsReady}
-use Rattle.pgn_session.proofs.SleepLaws.{rest-slept}
+use Rattle.pgn_session.proofs.SleepLaws.{rest-slept, unslept-same}
 
 -- what a sleep does not change
 slept-same : {P X : Type 0} (f : Session P → X) (micros : ℕ) → ((s : Session P) → f (slept micros s) ≡ f s) → (xs : List (Session P)) → map f (map (slept micros) xs) ≡ map f xs
 slept-same f micros same [] = refl
 slept-same {P} {X} f micros same (x ∷ xs) = ap (λ (y : X). y ∷ map f (map (slept micros) xs)) (same x) ∙ ap (λ (ys : List X). f x ∷ ys) (slept-same f micros same xs)
+
+-- sessions that have not slept
+pub all-unslept : {P : Type 0} (xs : List (Session P)) → xs ≡ map (slept 0) xs
+all-unslept [] = refl
+all-unslept {P} (x ∷ xs) = ap (λ (y : Session P). y ∷ xs) (unslept-same x) ∙ ap (λ (ys : List (Session P)). slept 0 x ∷ ys) (all-unslept xs)
 
 module _ {P : Type 0} (micros : ℕ) (xs ys : List (Session P)) (same : ys ≡ map (slept micros) xs) where
   pub slept-scripts : map script_of ys ≡ map script_of xs

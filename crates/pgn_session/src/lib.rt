@@ -51,4 +51,4 @@ pub use doing::{Doing, FlagPlan, IdleDone, Step};
 pub use meeting::Meeting;
 pub use session::Session;
 pub use together::{give_up_all, wait_together};
-pub use turn::both_steps;
+pub use turn::{LONGEST_SLEEP, both_steps};

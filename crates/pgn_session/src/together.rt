@@ -1,6 +1,7 @@
-ghost use Rattle.std.specs.Prelude.{◌≡◌, ◌≤◌, map, All};
+ghost use Rattle.std.specs.Prelude.{◌≡◌, ◌≢◌, ◌≤◌, ℕ, map, All};
 ghost use Rattle.pgn_session.specs.Runs.{HasGivenUp, IsHeld, IsReady, script_of, shown_of, slept};
 ghost use Rattle.pgn_session.specs.Standing.{IsServedBy};
+ghost use Rattle.pgn_session.specs.declared.turn.TheConstants.{LONGEST_SLEEP};
 
 use crate::turn::{TURNS_BEFORE_SLEEP, sleep_of};
 use crate::{Session, Step};
@@ -22,17 +23,33 @@ pub fn wait_together<P: PassView + Send + Drop, H: Hub<Pass = P>, R: Wait>(
     ensures ready { All (IsReady (H.is_pass hub.now) (H.shape hub.now) P.known) sessions.new }
     ensures scripts { map script_of sessions.new ≡ map script_of sessions.old }
     ensures shown { map shown_of sessions.new ≡ map shown_of sessions.old }
+    ensures unslept { step ≢ Step.Waiting → sessions.new ≡ sessions.old }
+    ensures waited { (micros : ℕ) × (micros ≤ LONGEST_SLEEP) × (sessions.new ≡ map (slept micros) sessions.old) }
 {
     if step != Step::Waiting {
         return 0;
     }
+    give_way(rt, hub, sessions, waits);
+    waits.saturating_add(1)
+}
+
+// Gives way behind the first rounds in which none did more than wait, and sleeps behind the others.
+fn give_way<P: PassView + Send + Drop, H: Hub<Pass = P>, R: Wait>(
+    rt: &R,
+    hub: &H,
+    sessions: &mut [Session<P>],
+    waits: u32,
+)
+    requires ready { All (IsReady (H.is_pass hub.now) (H.shape hub.now) P.known) sessions.old }
+    ensures ready { All (IsReady (H.is_pass hub.now) (H.shape hub.now) P.known) sessions.new }
+    ensures waited { (micros : ℕ) × (micros ≤ LONGEST_SLEEP) × (sessions.new ≡ map (slept micros) sessions.old) }
+{
     if waits < TURNS_BEFORE_SLEEP {
         thread::yield_now();
-    } else {
-        let micros = sleep_of(must_look(sessions), waits - TURNS_BEFORE_SLEEP);
-        rest_together(rt, hub, sessions, micros);
+        return;
     }
-    waits.saturating_add(1)
+    let micros = sleep_of(must_look(sessions), waits - TURNS_BEFORE_SLEEP);
+    rest_together(rt, hub, sessions, micros);
 }
 
 // Whether a sleep has to be short: more than one session shares the thread, or the only one listens.
@@ -50,8 +67,7 @@ fn rest_together<P: PassView + Send + Drop, H: Hub<Pass = P>, R: Wait>(
 )
     requires ready { All (IsReady (H.is_pass hub.now) (H.shape hub.now) P.known) sessions.old }
     ensures ready { All (IsReady (H.is_pass hub.now) (H.shape hub.now) P.known) sessions.new }
-    ensures scripts { map script_of sessions.new ≡ map script_of sessions.old }
-    ensures shown { map shown_of sessions.new ≡ map shown_of sessions.old }
+    ensures waited { (slept_for : ℕ) × (slept_for ≤ micros) × (sessions.new ≡ map (slept slept_for) sessions.old) }
 {
     let micros = sleep_on_one(rt, hub, sessions, micros);
     sleep_over_all(sessions, micros);

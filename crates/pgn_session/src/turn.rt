@@ -1,8 +1,9 @@
-ghost use Rattle.std.specs.Prelude.{◌≡◌, Ok, OnOk};
+ghost use Rattle.std.specs.Prelude.{◌≡◌, ◌≢◌, ◌≤◌, ℕ, Ok, OnOk};
 ghost use Rattle.pgn_session.specs.Parts.{Begins};
-ghost use Rattle.pgn_session.specs.Runs.{IsHeld, IsLawful, IsOver, IsReady, script_of};
+ghost use Rattle.pgn_session.specs.Runs.{IsHeld, IsLawful, IsOver, IsReady, script_of, slept};
 ghost use Rattle.pgn_session.specs.Standing.{IsServedBy};
 ghost use Rattle.pgn_session.specs.Whole.{HasAnswer};
+ghost use Rattle.pgn_session.specs.declared.turn.TheConstants.{LONGEST_SLEEP};
 
 use crate::{Session, Step};
 use pgn_hub::{Hub, PassView};
@@ -13,12 +14,13 @@ use std::thread;
 // So many turns in a row that did no more than wait give way, and the ones behind them sleep.
 pub(crate) const TURNS_BEFORE_SLEEP: u32 = 64;
 
-// The first sleep, and the longest of a listener, who reads where it was woken meanwhile, and of others: microseconds.
+// The first sleep, and the longest of a listener, who reads where it was woken meanwhile, in microseconds.
 const FIRST_SLEEP: u64 = 50;
 
 const LISTENER_SLEEP: u64 = 1_000;
 
-const LONGEST_SLEEP: u64 = 16_000;
+/// The longest sleep of a session between two looks at a flag, in microseconds.
+pub const LONGEST_SLEEP: u64 = 16_000;
 
 impl<P: PassView + Send + Drop> Session<P> {
     /// A step, with a read before it where the next line asks for one, and a read behind it where the session was woken, unless it is over.
@@ -60,6 +62,8 @@ impl<P: PassView + Send + Drop> Session<P> {
         requires answered { HasAnswer (H.shape hub.now) P.known self.old }
         ensures answered { HasAnswer (H.shape hub.now) P.known self.new }
         ensures same { self.new ≡ record self.old { doing = self.new.doing } }
+        ensures unslept { step ≢ Step.Waiting → self.new ≡ self.old }
+        ensures waited { (micros : ℕ) × (micros ≤ LONGEST_SLEEP) × (self.new ≡ slept micros self.old) }
     {
         if step != Step::Waiting {
             return 0;
@@ -76,7 +80,9 @@ impl<P: PassView + Send + Drop> Session<P> {
 
 // How long a sleep is that has so many before it in a row, in microseconds: twice as long as the one before, up to the longest, which is
 // shorter for a listener, since it has to read meanwhile.
-pub(crate) fn sleep_of(listens: bool, sleeps: u32) -> u64 {
+pub(crate) fn sleep_of(listens: bool, sleeps: u32) -> u64
+    ensures { result ≤ LONGEST_SLEEP }
+{
     let longest = if listens {
         LISTENER_SLEEP
     } else {
