@@ -103,6 +103,13 @@ pub trait Hub: Sized {
     fn rest<R: Wait>(&self, rt: &R, flag: u32, time: Duration)
         requires flag { flag < (shape self.now).flags };
 
+    /// Calls the run off: a session was refused memory, and others need not wait for what it would have done. It needs no pass and
+    /// does nothing to any.
+    fn call_off(&self);
+
+    /// Whether the run was called off. No clause says that a call is heard of, or when.
+    fn is_called_off(&self) -> bool;
+
     /// How many pages are in use, after the tail was advanced.
     fn usage<R: Wait>(&self, rt: &R, pass: &mut Self::Pass) -> Usage
         requires own { is_pass self.now pass.old }

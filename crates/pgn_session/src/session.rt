@@ -153,7 +153,8 @@ impl<P: PassView + Send + Drop> Session<P> {
         hub.meet(&mut self.pass, &mut into.pass);
     }
 
-    /// Raises the session's end flag after a refusal, so that the others don't wait for it.
+    /// Raises the session's end flag after a refusal, so that the others don't wait for it, and calls the run off, so that they don't
+    /// wait for other flags either.
     pub fn give_up<H: Hub<Pass = P>>(&mut self, hub: &H)
         requires own { H.is_pass hub.now self.old.pass }
         requires served { IsServedBy (H.shape hub.now) self.old.section self.old.plan }
@@ -163,6 +164,7 @@ impl<P: PassView + Send + Drop> Session<P> {
         ensures same { self.new ≡ record self.old { pass = self.new.pass } }
     {
         raise_end(hub, &mut self.pass, self.section.no, self.plan);
+        hub.call_off();
     }
 
     /// The pass, and the trace. Where the session is over, the trace is lawful and left no read out.

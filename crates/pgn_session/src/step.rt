@@ -157,7 +157,8 @@ impl<P: PassView + Send + Drop> Session<P> {
         Ok(self.look_for(hub, flag, 1))
     }
 
-    // Looks once more for the flag that the line awaits.
+    // Looks once more for the flag that the line awaits. Where the run was called off it is refused, since a session that was refused
+    // memory raises no flag but its own end flag.
     fn look_again<H: Hub<Pass = P>>(
         &mut self,
         hub: &H,
@@ -172,7 +173,7 @@ impl<P: PassView + Send + Drop> Session<P> {
         ensures stepped { IfOk result (λ step. HasStepped (H.shape hub.now) P.known self.old (doing.Awaiting flag looks) self.new step) }
         ensures refused { OnErr result (HasRefused (H.shape hub.now) P.known self.old (doing.Awaiting flag looks) self.new) }
     {
-        if self.items.reserve(1).is_err() {
+        if hub.is_called_off() || self.items.reserve(1).is_err() {
             self.doing = Doing::Awaiting { flag, looks };
             return Err(AllocError);
         }

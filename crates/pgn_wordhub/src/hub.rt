@@ -4,15 +4,18 @@ ghost use Rattle.pgn_words.specs.Passes.{shape_of};
 
 use pgn_base::Format;
 use pgn_words::WordQueue;
+use std::sync::atomic::AtomicBool;
 
 /// The words that all sessions share, and what it takes to write on them: the limit in pages, which is 2 to 1,024, the format of the
-/// entries, and the database of each seat. `Hub::open` makes one with a pass for each seat, and `Hub::gather` ends it with all of them.
+/// entries, and the database of each seat; and whether the run was called off. `Hub::open` makes one with a pass for each seat, and
+/// `Hub::gather` ends it with all of them.
 #[derive(Drop)]
 pub struct WordHub {
     pub(crate) queue: WordQueue,
     pub(crate) pages: u32,
     pub(crate) format: Format,
     pub(crate) dbs: Vec<u32>,
+    pub(crate) called_off: AtomicBool,
     ghost shaped: { IsShape (shape_of queue) },
     ghost formatted: { (shape_of queue).format ≡ format },
     ghost limited: { pages ≡ (shape_of queue).pages },

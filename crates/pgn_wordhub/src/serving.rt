@@ -11,6 +11,7 @@ use pgn_journal::interest_of_notes;
 use pgn_words::{WordPass, WordQueue};
 use std::alloc::{AllocError, Global};
 use std::sync::Wait;
+use std::sync::atomic::{AtomicBool, Ordering};
 use std::time::Duration;
 
 // The databases of seats.
@@ -47,6 +48,7 @@ impl Hub for WordHub {
             pages,
             format,
             dbs,
+            called_off: AtomicBool::new(false),
         };
         Ok((hub, passes))
     }
@@ -97,6 +99,14 @@ impl Hub for WordHub {
 
     fn rest<R: Wait>(&self, rt: &R, flag: u32, time: Duration) {
         self.queue.sleep_on_flag(rt, flag, time);
+    }
+
+    fn call_off(&self) {
+        self.called_off.store(true, Ordering::SeqCst);
+    }
+
+    fn is_called_off(&self) -> bool {
+        self.called_off.load(Ordering::SeqCst)
     }
 
     fn usage<R: Wait>(&self, rt: &R, pass: &mut WordPass) -> Usage {

@@ -134,6 +134,14 @@ impl<const TURNS: u32> Hub for Gate<TURNS> {
         self.hub.rest(rt, flag, time);
     }
 
+    fn call_off(&self) {
+        self.hub.call_off();
+    }
+
+    fn is_called_off(&self) -> bool {
+        self.hub.is_called_off()
+    }
+
     fn usage<R: Wait>(&self, rt: &R, pass: &mut Self::Pass) -> Usage {
         self.hub.usage(rt, pass)
     }

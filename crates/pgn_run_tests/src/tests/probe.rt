@@ -213,6 +213,14 @@ impl<P: Pace> Hub for Probe<P> {
         self.hub.rest(rt, flag, time);
     }
 
+    fn call_off(&self) {
+        self.hub.call_off();
+    }
+
+    fn is_called_off(&self) -> bool {
+        self.hub.is_called_off()
+    }
+
     fn usage<R: Wait>(&self, rt: &R, pass: &mut Self::Pass) -> Usage {
         self.hub.usage(rt, pass)
     }
