@@ -1,8 +1,9 @@
 //! Whether a text is the output of a legal run of a scenario.
 //!
 //! `check_output` answers it. It reads the text by `pgn_form`, asks each transaction of its journal (`read_journal`: finished, with
-//! notifications that are all different, and some section's), and walks along each section by `pgn_walk`. Where the text is not that of
-//! a legal run it gives the number of the first line that is to blame.
+//! notifications that are all different, and some section's), and walks along each section: `pgn_walk` judges an item by what its
+//! session has done so far, and `pgn_evidence` by what the journal and the other sections say. Where the text is not that of a legal
+//! run it gives the number of the first line that is to blame.
 #![tactic(auto)]
 
 mod check;

@@ -5,7 +5,7 @@
 //! at a time from any source, and the layer above may rely on it that it gives exactly these, however the reads cut the bytes. It takes
 //! no byte behind a query before it is asked for the next, so that a client which waits for an answer is not waited for.
 //!
-//! A caller, in a test:
+//! A caller, in a test, with a source in memory, of `pgn_memory`:
 //!
 //! ```
 //! let bytes = Vec::from_slice(alloc, b"Q\0\0\0\x0dLISTEN c\0X\0\0\0\x04")?;

@@ -8,7 +8,7 @@
 //!
 //! `run_scenario` is all of it behind the reading, over a hub of the type that its caller names.
 //!
-//! A caller, in a test:
+//! A caller, in a test, with a source and a sink in memory, of `pgn_memory`:
 //!
 //! ```
 //! let alloc = rt.alloc();
