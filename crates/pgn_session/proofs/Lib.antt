@@ -36,6 +36,8 @@ pub mod EndLaws
 pub mod StepLaws
 -- what a step of a whole session promises
 pub mod WholeLaws
+-- the line of a script that comes next
+pub mod NextLaws
 -- a step by a command
 pub mod RunLaws
 -- items that only come behind others

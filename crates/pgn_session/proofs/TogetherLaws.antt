@@ -1,7 +1,8 @@
 -- Sessions for which a sleep was counted, and two halves of sessions.
-use Rattle.std.proofs.Common.{◌≡◌, ℕ, List, [], ◌∷◌, ◌++◌, map, All, sym, ap, ◌∙◌, refl, subst}
-use Rattle.std.proofs.lemmas.List.{map-append}
-use Rattle.std.proofs.lemmas.List.Elements.{All-map, All-weaker}
+use Rattle.std.proofs.Common.{◌≡◌, ℕ, List, [], ◌∷◌, ◌++◌, map, length, All, sym, ap, ◌∙◌, refl, subst, arith}
+use Rattle.std.proofs.Math.ListN.{get_or, set}
+use Rattle.std.proofs.lemmas.List.{map-append, nil_from_length}
+use Rattle.std.proofs.lemmas.List.Elements.{All-nil, All-cons, All-head, All-tail, All-get_or, All-map, All-weaker}
 use Rattle.pgn_hub.specs.declared.known.Known.{Known}
 use Rattle.pgn_hub.specs.Shape.{Shape}
 use Rattle.pgn_session.specs.declared.session.Session.{Session}
@@ -42,3 +43,29 @@ halves-same {P} {X} f whole front back left right cut one two =
     ∙ ap (λ (ys : List X). map f front ++ ys) two
     ∙ sym (map-append f front back)
     ∙ ap (λ (ss : List (Session P)). map f ss) (sym cut)
+
+-- what holds of all holds of each half
+pub all-front : {X : Type 0} (P : X → Type 0) (xs ys : List X) → All P (xs ++ ys) → All P xs
+all-front P [] ys all = All-nil P
+all-front P (x ∷ xs) ys all = All-cons P x xs (All-head P x (xs ++ ys) all) (all-front P xs ys (All-tail P x (xs ++ ys) all))
+
+pub all-back : {X : Type 0} (P : X → Type 0) (xs ys : List X) → All P (xs ++ ys) → All P ys
+all-back P [] ys all = all
+all-back P (x ∷ xs) ys all = all-back P xs ys (All-tail P x (xs ++ ys) all)
+
+-- of none, and of the one that there is
+pub none-all : {X : Type 0} (P : X → Type 0) (xs : List X) → length xs ≡ 0 → All P xs
+none-all P xs e = subst (λ ys. All P ys) (sym (nil_from_length xs e)) (All-nil P)
+
+pub one-held : {X : Type 0} (P : X → Type 0) (xs : List X) (d : X) → length xs ≡ 1 → All P xs → P (get_or xs 0 d)
+one-held P xs d e all = All-get_or P xs 0 d (omega (arith, e)) all
+
+pub one-all : {X : Type 0} (P : X → Type 0) (xs : List X) (x : X) → length xs ≡ 1 → P x → All P (set xs 0 x)
+one-all P [] x e p = All-nil P
+one-all P (y ∷ []) x e p = All-cons P x [] p (All-nil P)
+one-all P (y ∷ z ∷ zs) x e p = absurd (omega (arith, e))
+
+pub one-same : {X Y : Type 0} (f : X → Y) (xs : List X) (d x : X) → length xs ≡ 1 → f x ≡ f (get_or xs 0 d) → map f (set xs 0 x) ≡ map f xs
+one-same f [] d x e same = refl
+one-same {X} {Y} f (y ∷ []) d x e same = ap (λ (z : Y). z ∷ []) same
+one-same f (y ∷ z ∷ zs) d x e same = absurd (omega (arith, e))

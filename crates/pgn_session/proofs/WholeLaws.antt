@@ -13,8 +13,8 @@ use Rattle.pgn_session.specs.declared.doing.Step.{Step}
 use Rattle.pgn_session.specs.declared.doing.Step.TheVariants.{Did, Waiting, Ended}
 use Rattle.pgn_session.specs.declared.doing.Doing.{Doing}
 use Rattle.pgn_session.specs.declared.doing.Doing.TheVariants.{Lines, Committing, Awaiting, Ending, Over}
-use Rattle.pgn_session.specs.Standing.{IsRested}
-use Rattle.pgn_session.specs.Steps.{HasBegun, HasMoved, Waits, Ends}
+use Rattle.pgn_session.specs.Standing.{terms_of, IsRested}
+use Rattle.pgn_session.specs.Steps.{HasBegun, HasMoved, StandsStill, Waits, Ends}
 use Rattle.pgn_session.specs.Whole.{ComesWith, HasAnswer, HasRest, IsSameScript, HasStepped, HasRefused}
 use Rattle.pgn_session.proofs.StepLaws.{CountsFound, moved-waits, moved-ended, refused-ended}
 
@@ -70,3 +70,44 @@ line-stepped shape known old new line act step comes same one answered rested be
 pub line-did : {P : Type 0} (shape : Shape) (known : P → Known) (old new : Session P) (line : ℕ) (act : Act) → ComesWith old line act → IsSameScript old new → new.done ≡ old.done + 1
     → HasAnswer shape known new → HasBegun old.plan old.section.no old.patience line act (known old.pass) (known new.pass) old.items.items new.items.items new.doing Did → HasStepped shape known old Lines new Did
 line-did shape known old new line act comes same one answered begun = line-stepped shape known old new line act Did comes same one answered (λ other. absurd (other refl)) begun
+
+-- a step, by the place that was taken out before it
+pub stepped-from : {P : Type 0} (shape : Shape) (known : P → Known) (s new : Session P) (between stood : Doing) (step : Step) → s.doing ≡ stood
+    → HasStepped shape known (record s { doing = between }) stood new step → HasStepped shape known s s.doing new step
+stepped-from shape known s new between stood step e h = record {
+  same = record { section = h.same.section; plan = h.same.plan; patience = h.same.patience };
+  answered = h.answered;
+  rested = h.rested;
+  moved = subst (λ (d : Doing). HasMoved s.plan s.section.no s.patience (drop s.done s.section.lines) d s.done new.done (known s.pass) (known new.pass) s.items.items new.items.items new.doing step) (sym e) h.moved;
+}
+
+pub stepped-at : {P E : Type 0} (shape : Shape) (known : P → Known) (s new : Session P) (between stood : Doing) (r : Result Step E) → s.doing ≡ stood
+    → IfOk r (λ step. HasStepped shape known (record s { doing = between }) stood new step) → IfOk r (λ step. HasStepped shape known s s.doing new step)
+stepped-at shape known s new between stood (Ok step) e h = stepped-from shape known s new between stood step e h
+stepped-at shape known s new between stood (Err x) e h = tt
+
+pub refused-at : {P E : Type 0} (shape : Shape) (known : P → Known) (s new : Session P) (between stood : Doing) (r : Result Step E) → s.doing ≡ stood
+    → OnErr r (HasRefused shape known (record s { doing = between }) stood new) → OnErr r (HasRefused shape known s s.doing new)
+refused-at shape known s new between stood (Ok step) e h = tt
+refused-at shape known s new between stood (Err x) e h = record {
+  same = record { section = h.same.section; plan = h.same.plan; patience = h.same.patience };
+  place = subst (λ (d : Doing). StandsStill d new.doing) (sym e) h.place;
+  pass = h.pass;
+  shown = h.shown;
+  counted = h.counted;
+  channels = h.channels;
+  rested = h.rested;
+}
+
+-- a session that is over stays so
+pub over-stepped : {P : Type 0} (shape : Shape) (known : P → Known) (s : Session P) → s.doing ≡ Over → HasRest shape known s → HasStepped shape known s s.doing (record s { doing = Over }) Ended
+over-stepped shape known s e h =
+    let terms : Terms = terms_of shape s.section s.patience in
+    let at : IsRested terms s.plan s.done s.block s.set.channels Over (known s.pass) s.items.items =
+    subst (λ (d : Doing). IsRested terms s.plan s.done s.block s.set.channels d (known s.pass) s.items.items) e h in
+    record {
+      same = record { section = refl; plan = refl; patience = refl };
+      answered = record { state = at.state; stands = at.stands; rest = at.rest; channels = at.channels; here = at.here.0 };
+      rested = λ other. at;
+      moved = subst (λ (d : Doing). HasMoved s.plan s.section.no s.patience (drop s.done s.section.lines) d s.done s.done (known s.pass) (known s.pass) s.items.items s.items.items Over Ended) (sym e) (refl, refl, refl, refl, refl);
+    }

@@ -1,5 +1,6 @@
-ghost use Rattle.std.specs.Prelude.{◌≡◌, ◌+◌, ◌≤◌, ◌<◌, [], ◌∷◌, ◌++◌, None, length, IfOk, OnOk, OnErr, vec_len, vec_capacity};
+ghost use Rattle.std.specs.Prelude.{◌≡◌, ◌+◌, ◌≤◌, ◌<◌, List, [], ◌∷◌, ◌++◌, None, drop, length, IfOk, OnOk, OnErr, vec_len, vec_capacity};
 ghost use Rattle.pgn_language.specs.declared.scenario.Act.TheVariants as act;
+ghost use Rattle.pgn_language.specs.declared.scenario.ScriptLine.{ScriptLine};
 ghost use Rattle.pgn_session.specs.declared.doing.Doing.TheVariants as doing;
 ghost use Rattle.pgn_session.specs.Parts.{HasTaken, HasShownUsage};
 ghost use Rattle.pgn_session.specs.Whole.{HasRest, RestsAt, ComesWith, HasStepped, HasRefused};
@@ -148,7 +149,7 @@ impl<P: PassView + Send + Drop> Session<P> {
             };
             return Err(AllocError);
         }
-        let line = self.section.lines.as_slice()[self.done].line;
+        let line = self.next_number();
         commit(
             rt,
             hub,
@@ -162,6 +163,15 @@ impl<P: PassView + Send + Drop> Session<P> {
         );
         self.done += 1;
         Ok(Step::Did)
+    }
+
+    // The number of the next line.
+    fn next_number(&self) -> u32
+        requires more { self.now.done < length self.now.section.lines }
+        ensures number { (next : ScriptLine) (rest : List ScriptLine) → drop self.now.done self.now.section.lines ≡ next ∷ rest → result ≡ next.line }
+        ensures counted { self.now.done < usize.MAX }
+    {
+        self.section.lines.as_slice()[self.done].line
     }
 
     // Makes room for the items of a commit, and in the set for as many channels as it has actions.

@@ -1,4 +1,4 @@
-ghost use Rattle.std.specs.Prelude.{◌≡◌, ◌↔◌, ◌⊎◌, ◌+◌, ◌≤◌, ◌<◌, [], ◌∷◌, Ok, drop, IfOk, OnOk, OnErr, vec_len, vec_capacity};
+ghost use Rattle.std.specs.Prelude.{◌≡◌, ◌↔◌, ◌⊎◌, ◌+◌, ◌≤◌, ◌<◌, [], ◌∷◌, Ok, drop, length, IfOk, OnOk, OnErr, vec_len, vec_capacity};
 ghost use Rattle.pgn_language.specs.declared.scenario.Act.TheVariants as act;
 ghost use Rattle.pgn_session.specs.declared.doing.Doing.TheVariants as doing;
 ghost use Rattle.pgn_session.specs.Standing.{IsServedBy};
@@ -97,18 +97,46 @@ impl<P: PassView + Send + Drop> Session<P> {
         ensures stepped { IfOk result (λ step. HasStepped (H.shape hub.now) P.known self.old doing.Lines self.new step) }
         ensures refused { OnErr result (HasRefused (H.shape hub.now) P.known self.old doing.Lines self.new) }
     {
-        let lines = self.section.lines.as_slice();
-        if self.done >= lines.len() {
+        if self.done >= self.section.lines.as_slice().len() {
             return Ok(self.begin_end(hub));
         }
-        let line = lines[self.done].line;
-        let act = lines[self.done].act.copy(alloc)?;
+        self.begin_line(rt, alloc, hub)
+    }
+
+    // Begins the next line.
+    fn begin_line<H: Hub<Pass = P>, R: Wait>(
+        &mut self,
+        rt: &R,
+        alloc: Global,
+        hub: &H,
+    ) -> Result<Step, AllocError>
+        requires own { H.is_pass hub.now self.old.pass }
+        requires served { IsServedBy (H.shape hub.now) self.old.section self.old.plan }
+        requires place { self.old.doing ≡ doing.Lines }
+        requires rested { HasRest (H.shape hub.now) P.known self.old }
+        requires more { self.old.done < length self.old.section.lines }
+        requires counted { self.old.done < usize.MAX }
+        ensures own { H.is_pass hub.now self.new.pass }
+        ensures stepped { IfOk result (λ step. HasStepped (H.shape hub.now) P.known self.old doing.Lines self.new step) }
+        ensures refused { OnErr result (HasRefused (H.shape hub.now) P.known self.old doing.Lines self.new) }
+    {
+        let (line, act) = self.next_act(alloc)?;
         match act {
             Act::Run(command) => self.run(rt, alloc, hub, line, command),
             Act::Signal(flag) => self.signal(hub, line, flag),
             Act::Await(flag) => self.await_flag(hub, line, flag),
             Act::Quit => self.quit(alloc, hub, line),
         }
+    }
+
+    // The number of the next line, and what it does, copied.
+    fn next_act(&self, alloc: Global) -> Result<(u32, Act), AllocError>
+        requires more { self.now.done < length self.now.section.lines }
+        ensures { IfOk result (λ next. ComesWith self.now next.0 next.1) }
+    {
+        let next = &self.section.lines.as_slice()[self.done];
+        let act = next.act.copy(alloc)?;
+        Ok((next.line, act))
     }
 
     // Raises a flag.

@@ -1,15 +1,17 @@
-use Rattle.std.proofs.Common.{◌≡◌, ◌≢◌, ◌+◌, ℕ, List, AllPairs, drop, slice_index_or, ap, ◌∙◌, sym, subst, refl}
+use Rattle.std.proofs.Common.{◌≡◌, ◌≢◌, ◌+◌, ◌<◌, ◌≤◌, ℕ, List, AllPairs, length, drop, ap, ◌∙◌, sym, subst, refl}
 use Rattle.pgn_base.specs.declared.note.Note.{Note}
 use Rattle.pgn_model.specs.declared.item.Item.{Item}
-use Rattle.pgn_language.specs.declared.scenario.ScriptLine.{ScriptLine}
+use Rattle.pgn_base.specs.declared.listen_set.Action.{Action}
+use Rattle.pgn_language.specs.Inputs.{note_lines_of}
 use Rattle.pgn_answers.proofs.SavepointLemmas.{firsts-differ}
 use Rattle.pgn_session.specs.declared.session.Session.{Session}
 use Rattle.pgn_session.specs.declared.doing.Doing.{Doing}
 use Rattle.pgn_session.specs.declared.doing.Doing.TheVariants.{Lines, Committing}
-use Rattle.pgn_session.specs.Standing.{terms_of, IsAnswered, IsRested}
+use Rattle.pgn_session.specs.Standing.{terms_of, spare_of, IsAnswered, IsRested}
 use Rattle.pgn_session.specs.Steps.{ShowsNext}
 use Rattle.pgn_session.specs.Whole.{RestsAt}
-use Rattle.pgn_session.proofs.FullLaws.{commit-answered, indexed-line}
+use Rattle.pgn_session.proofs.FullLaws.{commit-answered}
+use Rattle.pgn_session.proofs.NextLaws.{some-left, part-fits, when-ok}
 use Rattle.pgn_session.proofs.session.Session.commit.Goals as goal
 
 pub commit-requires-clause-different : goal.commit-requires-clause-different
@@ -29,9 +31,8 @@ returns-clause-stepped g c =
     let rested : RestsAt shape known m stood = subst (λ (x : Session g.row.P.Denot). RestsAt shape known x stood) (sym same)
     (subst (λ (items : List Item). IsRested terms s.plan s.done s.block m.set.channels stood (known s.pass) items) (sym c.make_room.ensures.items)
     (subst (λ (set : List (List ℕ)). IsRested terms s.plan s.done s.block set stood (known s.pass) s.items.items) (sym c.make_room.ensures.channels) c.requires.rested)) in
-    let number = ap (λ (l : ScriptLine). l.line)
-    (indexed-line m.section.lines c.as_slice-2.result.now m.done rested.here.line rested.here.lines c.index-as_slice-self.result (sym rested.rest ∙ rested.here.next.comes.next) c.as_slice-2.ensures) in
-    let answers = commit-answered shape m.section m.patience m.plan m.done m.set.channels c.commit.new.set.channels (known m.pass) q m.items.items c.commit.new.items.items c.args.actions c.args.notes c.args.tag m.block (slice_index_or c.as_slice-2.result.now m.done c.index-as_slice-self.result).line
+    let number = c.next_number-line.ensures.number rested.here.line rested.here.lines (sym rested.rest ∙ rested.here.next.comes.next) in
+    let answers = commit-answered shape m.section m.patience m.plan m.done m.set.channels c.commit.new.set.channels (known m.pass) q m.items.items c.commit.new.items.items c.args.actions c.args.notes c.args.tag m.block c.next_number-line.result
     rested number c.commit.ensures.committed in
     let between : m.doing ≡ Lines = ap (λ (x : Session g.row.P.Denot). x.doing) same ∙ c.requires.place in
     let shows : ShowsNext (drop s.done s.section.lines) (known s.pass) q s.items.items c.commit.new.items.items =
@@ -42,4 +43,46 @@ returns-clause-stepped g c =
       answered = subst (λ (d : Doing). IsAnswered (terms_of shape m.section m.patience) m.plan (m.done + 1) m.block c.commit.new.set.channels d q c.commit.new.items.items) (sym between) answers.0;
       rested = λ other. absurd (other refl);
       moved = (shows, between, refl, ap (λ (x : Session g.row.P.Denot). x.done + 1) same);
+    }
+
+pub next_number-line-requires-clause-more : goal.next_number-line-requires-clause-more
+next_number-line-requires-clause-more g c κs within =
+    let s = c.args.self.now in
+    let r = c.requires.rested in
+    let left : s.done < length s.section.lines = some-left s.section.lines r.here.lines s.done r.here.line (sym r.rest ∙ r.here.next.comes.next) in
+    subst (λ (x : Session g.row.P.Denot). x.done < length x.section.lines) (sym c.make_room.ensures.same) left
+
+pub commit-requires-clause-few : goal.commit-requires-clause-few
+commit-requires-clause-few g c κs within =
+    let s = c.args.self.now in
+    let r = c.requires.rested in
+    let few : length c.args.notes ≤ (g.P.PassView.known s.pass).notes_left = part-fits (spare_of s.section) (length c.args.notes) (note_lines_of r.here.lines) (g.P.PassView.known s.pass).notes_left r.here.budget in
+    subst (λ (x : Session g.row.P.Denot). length c.args.notes ≤ (g.P.PassView.known x.pass).notes_left) (sym c.make_room.ensures.same) few
+
+pub commit-requires-clause-room : goal.commit-requires-clause-room
+commit-requires-clause-room g c κs within = when-ok c.make_room.result _ (sym c.is_err.ensures.value ∙ c.if-is_err.false) c.make_room.ensures.room
+
+pub commit-requires-clause-set_room : goal.commit-requires-clause-set_room
+commit-requires-clause-set_room g c κs within =
+    subst (λ (actions : List Action). length actions ≤ c.make_room.new.self.set.room) c.as_slice.ensures (when-ok c.make_room.result _ (sym c.is_err.ensures.value ∙ c.if-is_err.false) c.make_room.ensures.set_room)
+
+pub returns-then-is_err-clause-refused : goal.returns-then-is_err-clause-refused
+returns-then-is_err-clause-refused g c =
+    let s = c.args.self.now in
+    let m = c.make_room.new.self in
+    let shape = g.H.Hub.shape c.args.hub.now in
+    let known = g.P.PassView.known in
+    let stood : Doing = Committing c.args.actions c.args.notes c.args.tag in
+    let same = c.make_room.ensures.same in
+    let terms = terms_of shape s.section s.patience in
+    record {
+      same = record { section = ap (λ (x : Session g.row.P.Denot). x.section) same; plan = ap (λ (x : Session g.row.P.Denot). x.plan) same; patience = ap (λ (x : Session g.row.P.Denot). x.patience) same };
+      place = refl;
+      pass = ap (λ (x : Session g.row.P.Denot). x.pass) same;
+      shown = c.make_room.ensures.items;
+      counted = ap (λ (x : Session g.row.P.Denot). x.done) same;
+      channels = c.make_room.ensures.channels;
+      rested = subst (λ (x : Session g.row.P.Denot). RestsAt shape known x stood) (sym same)
+          (subst (λ (items : List Item). IsRested terms s.plan s.done s.block m.set.channels stood (known s.pass) items) (sym c.make_room.ensures.items)
+          (subst (λ (set : List (List ℕ)). IsRested terms s.plan s.done s.block set stood (known s.pass) s.items.items) (sym c.make_room.ensures.channels) c.requires.rested));
     }

@@ -1,0 +1,29 @@
+use Rattle.pgn_language.specs.declared.scenario.Act.TheVariants.{Run, Signal, Await, Quit}
+use Rattle.pgn_session.proofs.KnownLaws.{on-err}
+use Rattle.pgn_session.proofs.NextLaws.{comes-as, comes-below, refused-still}
+use Rattle.pgn_session.proofs.session.Session.begin_line.Goals as goal
+
+pub run-requires-clause-comes : goal.run-requires-clause-comes
+run-requires-clause-comes g c κs within = comes-as c.args.self.now c.in_ok-line.line c.in_ok-line.act (Run c.in-Run.command) c.in-Run.is c.in_ok-line.ensures
+
+pub signal-requires-clause-comes : goal.signal-requires-clause-comes
+signal-requires-clause-comes g c κs within = comes-as c.args.self.now c.in_ok-line.line c.in_ok-line.act (Signal c.in-Signal.flag) c.in-Signal.is c.in_ok-line.ensures
+
+pub signal-requires-clause-flag : goal.signal-requires-clause-flag
+signal-requires-clause-flag g c κs within =
+    let s = c.args.self.now in
+    comes-below (g.H.Hub.shape c.args.hub.now).flags s c.in_ok-line.line (Signal c.in-Signal.flag) (comes-as s c.in_ok-line.line c.in_ok-line.act (Signal c.in-Signal.flag) c.in-Signal.is c.in_ok-line.ensures) c.requires.served.acts
+
+pub await_flag-requires-clause-comes : goal.await_flag-requires-clause-comes
+await_flag-requires-clause-comes g c κs within = comes-as c.args.self.now c.in_ok-line.line c.in_ok-line.act (Await c.in-Await.flag) c.in-Await.is c.in_ok-line.ensures
+
+pub await_flag-requires-clause-flag : goal.await_flag-requires-clause-flag
+await_flag-requires-clause-flag g c κs within =
+    let s = c.args.self.now in
+    comes-below (g.H.Hub.shape c.args.hub.now).flags s c.in_ok-line.line (Await c.in-Await.flag) (comes-as s c.in_ok-line.line c.in_ok-line.act (Await c.in-Await.flag) c.in-Await.is c.in_ok-line.ensures) c.requires.served.acts
+
+pub quit-requires-clause-comes : goal.quit-requires-clause-comes
+quit-requires-clause-comes g c κs within = comes-as c.args.self.now c.in_ok-line.line c.in_ok-line.act Quit c.in-Quit.is c.in_ok-line.ensures
+
+pub returns-in_err-line-clause-refused : goal.returns-in_err-line-clause-refused
+returns-in_err-line-clause-refused g c = on-err _ _ (refused-still (g.H.Hub.shape c.args.hub.now) g.P.PassView.known c.args.self.now c.requires.place c.requires.rested)
