@@ -61,10 +61,8 @@ impl Stage {
         match self {
             Stage::Idle { alloc } => {
                 let alloc = *alloc;
-                *self = Stage::InBlock {
-                    alloc,
-                    pending: Pending::new(alloc),
-                };
+                let pending = Pending::new(alloc);
+                drop(mem::replace(self, Stage::InBlock { alloc, pending }));
                 Effect::Reply { tag, warning: None }
             }
             Stage::InBlock { .. } => Effect::Reply {
@@ -186,8 +184,8 @@ impl Stage {
     {
         match self {
             Stage::Idle { alloc } => {
-                let actions = Actions::new(*alloc);
                 let notes = only(*alloc, note)?;
+                let actions = Actions::new(*alloc);
                 Ok(Effect::Commit {
                     actions,
                     notes,
