@@ -1,5 +1,5 @@
 -- What stands written of an answer.
-use Rattle.std.proofs.Common.{◌≡◌, ℕ, ◌+◌, ◌<◌, List, [], ◌∷◌, ◌++◌, length, drop, Option, Some, None, sym, ap, ◌∙◌, subst, arith, append_assoc}
+use Rattle.std.proofs.Common.{◌≡◌, ℕ, ◌+◌, ◌<◌, List, [], ◌∷◌, ◌++◌, length, drop, Option, Some, None, Result, Ok, Err, IfOk, OnOk, sym, ap, ◌∙◌, subst, arith, refl, append-nil, append_assoc}
 use Rattle.std.specs.Io.KnownBytes.{Appends}
 use Rattle.std.proofs.lemmas.List.{length-append}
 use lib.Seq.{drop-append_seam}
@@ -13,7 +13,7 @@ use Rattle.pgn_hub.specs.declared.known.Known.{Known}
 use Rattle.pgn_hub.specs.Shape.{Shape}
 use Rattle.pgn_session.specs.declared.session.Session.{Session}
 use Rattle.pgn_messages.specs.Messages.{answer_messages, messages}
-use Rattle.pgn_wire.specs.Serving.{HasStopped, HasTaken, WroteWhole}
+use Rattle.pgn_wire.specs.Serving.{AreWhole, HasStopped, HasTaken, WroteWhole}
 
 -- a text, and behind it another
 pub appends-more : (held a b : Option (List ℕ)) (text answer whole : List ℕ) → whole ≡ text ++ answer → Appends held a text → Appends a b answer → Appends held b whole
@@ -63,11 +63,27 @@ stopped-wrote shape known old new held a b h e wrote = record {
   wrote = subst (λ (now : Option (List ℕ)). Appends held now (messages old.section old.items.items)) (sym e) wrote;
 }
 
--- so did one whose answer was not made
-pub taken-wrote : {P : Type 0} (old new : Session P) (line : ScriptLine) (held a b : Option (List ℕ)) → HasTaken old line new → b ≡ a
-    → Appends held a (messages old.section old.items.items) → WroteWhole held b new.section new.items.items
-taken-wrote old new line held a b h e wrote = record {
-  written = messages old.section old.items.items;
-  whole = record { front = old.items.items; behind = Line line.line ∷ h.more; split = h.shown; line = tt; are = sym h.kept };
-  wrote = subst (λ (now : Option (List ℕ)). Appends held now (messages old.section old.items.items)) (sym e) wrote;
-}
+-- the items of a session in which nothing happened are whole
+pub same-whole : {P : Type 0} (s : Session P) → AreWhole s.section s.items.items (messages s.section s.items.items)
+same-whole s = record { front = s.items.items; behind = []; split = sym (append-nil s.items.items); line = tt; are = refl }
+
+-- so are those of a session that was stopped
+pub stopped-whole : {P : Type 0} (shape : Shape) (known : P → Known) (old new : Session P) → HasStopped shape known old new
+    → AreWhole new.section new.items.items (messages old.section old.items.items)
+stopped-whole shape known old new h = record { front = old.items.items; behind = h.behind; split = h.shown; line = h.line; are = sym h.same }
+
+-- and of one whose answer was not made
+pub taken-whole : {P : Type 0} (old new : Session P) (line : ScriptLine) → HasTaken old line new → AreWhole new.section new.items.items (messages old.section old.items.items)
+taken-whole old new line h = record { front = old.items.items; behind = Line line.line ∷ h.more; split = h.shown; line = tt; are = sym h.kept }
+
+-- the answer, where it was made, is the query's
+pub answer-made : {P E : Type 0} (old new : Session P) (line : ScriptLine) (command : Command) (from : ℕ) (made : Result (List ℕ) E) → HasTaken old line new → line.act ≡ Run command → from ≡ length old.items.items
+    → IfOk made (λ bytes. bytes ≡ answer_messages command (drop (from + 1) new.items.items) new.block.state)
+    → IfOk made (λ bytes. messages new.section new.items.items ≡ messages old.section old.items.items ++ bytes)
+answer-made old new line command from (Ok bytes) h does e made = one-answer old new line command from bytes h does e made
+answer-made old new line command from (Err error) h does e made = tt
+
+-- it holds in the case of an answer
+pub on_made : {T E : Type 0} (r : Result T E) (P : Type 0) → P → OnOk r P
+on_made (Ok x) P p = p
+on_made (Err e) P p = tt

@@ -1,11 +1,12 @@
-ghost use Rattle.std.specs.Prelude.{◌≡◌, ◌≢◌, ◌+◌, ◌<◌, ◌≤◌, ◌⊎◌, [], ◌∷◌, List, ℕ, Option, Err, drop, length, IfOk, OnOk, OnErr};
+ghost use Rattle.std.specs.Prelude.{◌≡◌, ◌≢◌, ◌+◌, ◌<◌, ◌≤◌, ◌⊎◌, [], ◌∷◌, ◌++◌, List, ℕ, Option, Err, drop, length, IfOk, OnOk, OnErr};
 ghost use Rattle.std.specs.Io.KnownBytes.{Appends};
 ghost use Rattle.pgn_base.specs.Outside.{Rose};
+ghost use Rattle.pgn_language.specs.declared.scenario.Act.TheVariants.{Run};
 ghost use Rattle.pgn_language.specs.Inputs.{note_lines_of};
 ghost use Rattle.pgn_messages.specs.Messages.{answer_messages, messages};
 ghost use Rattle.pgn_session.specs.Standing.{IsServedBy};
 ghost use Rattle.pgn_session.specs.Whole.{HasRest};
-ghost use Rattle.pgn_wire.specs.Serving.{HasStood, HasTaken, HasWritten, IsFedOrNot, IsOpen, IsSameClient, RunsCommand};
+ghost use Rattle.pgn_wire.specs.Serving.{AreWhole, HasStood, HasTaken, HasWritten, IsFedOrNot, IsOpen, IsSameClient, RunsCommand};
 
 use crate::WireEnd;
 use crate::taking::take_query;
@@ -44,27 +45,64 @@ pub(crate) fn one_query<P: PassView + Send + Drop, H: Hub<Pass = P>, R: Wait, K:
     ensures failed { result ≡ Err WireEnd.Write → Rose (K.faults sink.old) (K.faults sink.new) }
     ensures rose { K.faults sink.old < K.faults sink.new → result ≡ Err WireEnd.Write }
 {
-    let from = session.items.len();
-    let Act::Run(command) = &line.act else {
-        unreachable!()
-    };
-    // What is owned is dropped by a call before each return.
-    let Ok(command) = command.copy(alloc) else {
-        drop(line);
+    let Ok(bytes) = answered(rt, alloc, hub, session, line) else {
         return Err(WireEnd::Memory);
     };
-    let Ok(()) = take_query(rt, alloc, hub, session, line) else {
-        drop(command);
-        return Err(WireEnd::Memory);
-    };
-    let Ok(bytes) = answer_behind(alloc, session, from, &command) else {
-        drop(command);
-        return Err(WireEnd::Memory);
-    };
-    match write_all(sink, bytes.as_slice()) {
+    let sent = write_all(sink, bytes.as_slice());
+    drop(bytes);
+    match sent {
         Ok(()) => Ok(()),
         Err(_) => Err(WireEnd::Write),
     }
+}
+
+// Takes a query, and makes its whole answer. Where memory does not suffice, what was answered so far are whole answers.
+fn answered<P: PassView + Send + Drop, H: Hub<Pass = P>, R: Wait>(
+    rt: &R,
+    alloc: Global,
+    hub: &H,
+    session: &mut Session<P>,
+    line: ScriptLine,
+) -> Result<Bytes, AllocError>
+    requires own { H.is_pass hub.now session.old.pass }
+    requires served { IsServedBy (H.shape hub.now) session.old.section session.old.plan }
+    requires rested { HasRest (H.shape hub.now) P.known session.old }
+    requires between { IsOpen session.old }
+    requires runs { RunsCommand line }
+    requires few { note_lines_of (line ∷ []) + note_lines_of session.old.section.lines ≤ session.old.section.note_lines }
+    ensures own { H.is_pass hub.now session.new.pass }
+    ensures same { IsSameClient session.old session.new }
+    ensures taken { OnOk result (HasTaken session.old line session.new) }
+    ensures rested { OnOk result (HasRest (H.shape hub.now) P.known session.new) }
+    ensures stood { HasStood (H.shape hub.now) P.known session.new }
+    ensures script { OnErr result (IsFedOrNot session.old.section line session.new.section) }
+    ensures answer { IfOk result (λ bytes. messages session.new.section session.new.items.items ≡ messages session.old.section session.old.items.items ++ bytes) }
+    ensures whole { OnErr result (AreWhole session.new.section session.new.items.items (messages session.old.section session.old.items.items)) }
+{
+    let from = session.items.len();
+    // What is owned is dropped by a call before each return.
+    let Ok(command) = command_of(alloc, &line) else {
+        drop(line);
+        return Err(AllocError);
+    };
+    let Ok(()) = take_query(rt, alloc, hub, session, line) else {
+        drop(command);
+        return Err(AllocError);
+    };
+    let answer = answer_behind(alloc, session, from, &command);
+    drop(command);
+    answer
+}
+
+// The command of a query's line, copied.
+fn command_of(alloc: Global, line: &ScriptLine) -> Result<Command, AllocError>
+    requires { RunsCommand line.now }
+    ensures { IfOk result (λ command. line.now.act ≡ Run command) }
+{
+    let Act::Run(command) = &line.act else {
+        unreachable!()
+    };
+    command.copy(alloc)
 }
 
 // The answer to a query with this command, whose line is the session's item of this place.
