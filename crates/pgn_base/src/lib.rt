@@ -1,4 +1,4 @@
-//! What every other crate speaks of: names and payloads, sessions, databases and transaction numbers, the lists and sets made
+//! What the other crates speak of: names and payloads, sessions, databases and transaction numbers, the lists and sets made
 //! of them, the commands, the enums of answers, and the outside as two traits.
 //!
 //! A value is valid by its type: a `Name` has 1 to 63 bytes and an `Xid` is at least 3, and a layer above need not test it

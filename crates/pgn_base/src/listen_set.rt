@@ -21,8 +21,8 @@ pub enum Action {
 pub type Actions = Seq<Action>;
 
 /// The channels that a session listens to, in order of listening. Contracts see them, and how many more may be put in without
-/// memory. To listen and to unlisten take the same time, however many there are: places that were left are closed up once they
-/// are more than half.
+/// memory. To listen and to unlisten take the same time, however many there are: places that were left are closed up where they
+/// come to be more than half.
 #[derive(Drop)]
 pub struct ListenSet {
     // The channels in order. A place is empty where its channel was left.

@@ -25,7 +25,7 @@ pub(crate) enum Stage {
     Failed { alloc: Global, pending: Pending },
 }
 
-// The commands, a method for each row of the table of answers.
+// The commands, by the rows of the table of answers.
 impl Stage {
     // The command's row. Where memory does not suffice, nothing has changed.
     pub(crate) fn step(&mut self, command: Command) -> Result<Effect, AllocError>

@@ -19,9 +19,10 @@ use std::sync::Wait;
 
 // What a step does, by where the session stands in its script. Each method is called with the place taken out, and puts the new one in.
 impl<P: PassView + Send + Drop> Session<P> {
-    /// Takes the next line of the script, or looks once more for an awaited flag, or waits for the others at the end. All memory is
-    /// taken before the first call on the hub, so that after a refusal the pass and the trace are as they were; a commit that the
-    /// block has handed out is kept for the next step.
+    /// Takes the next line of the script, or looks once more for an awaited flag, or waits for the others at the end. It is refused
+    /// where memory does not suffice, and a further look where the run was called off. All memory is taken before a call on the hub that
+    /// changes anything, so that after a refusal the pass and the trace are as they were; a commit that the block has handed out is kept
+    /// for the next step.
     /// A session that waits may have to read, as one whose line was answered: it has rested once it was idle.
     pub fn step<H: Hub<Pass = P>, R: Wait>(
         &mut self,

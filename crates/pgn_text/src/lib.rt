@@ -2,7 +2,7 @@
 //!
 //! `render` writes the whole text of a run. `Out` is the buffer that all of it goes through, with a method for each kind of line. It
 //! keeps some kilobytes back, so that the sink is called seldom, and `send` gives them out. It never fails in the middle: a failed write
-//! stays in `so_far`, and from then on nothing more is given out. So each contract says one thing, `Puts`: whatever was given out before,
+//! stays in `so_far`, and from then on nothing more is given out. So most contracts say one thing, `Puts`: whatever was given out before,
 //! this text is given out after it, and a failure has its cause.
 //!
 //! The lines are those of `item_lines`, `trace_lines` and `journal_lines` of `pgn_model`. Nothing here takes memory.

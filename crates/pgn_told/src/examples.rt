@@ -4,7 +4,7 @@ ghost use Rattle.pgn_model.specs.declared.item.Item.TheVariants.{Enlist, Read};
 ghost use Rattle.pgn_told.specs.Told.{AsksThenQuits, but_queued, seen};
 ghost use Rattle.pgn_told.specs.Examples.{cut_short, told_items, told_query, told_quit, told_section, told_seen, told_signal, went_through};
 
-/// Each kind of item, and what the client sees of it.
+/// Items of eight kinds, and what the client sees of them.
 pub fn what_a_client_sees()
     ensures met { seen told_items ≡ told_seen }
     ensures nothing { seen told_items ≡ [] → ⊥ }
