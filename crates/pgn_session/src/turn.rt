@@ -24,7 +24,7 @@ pub const LONGEST_SLEEP: u64 = 16_000;
 
 impl<P: PassView + Send + Drop> Session<P> {
     /// A step, with a read before it where the next line asks for one, and a read behind it where the session was woken, unless it is over.
-    /// The error is that memory did not suffice for one of them.
+    /// The error is that memory did not suffice for one of them, or that the run was called off.
     #[tactic(auto, using(crate::proofs::LawfulLaws::turn_laws))]
     pub fn turn<H: Hub<Pass = P>, R: Wait>(
         &mut self,
