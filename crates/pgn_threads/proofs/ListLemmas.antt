@@ -1,7 +1,7 @@
 -- Lists that are mapped and joined.
-use Rattle.std.proofs.Common.{◌≡◌, ℕ, zero, suc, ◌<◌, List, [], ◌∷◌, ◌++◌, length, map, take, flat_map, get_or, slice_get, IsSomeAnd, All, Any, Contains, sym, ap, ◌∙◌, refl, subst, arith}
+use Rattle.std.proofs.Common.{◌≡◌, ℕ, zero, suc, ◌+◌, ◌-◌, ◌<◌, List, [], ◌∷◌, ◌++◌, length, map, take, drop, flat_map, get_or, slice_get, IsSomeAnd, All, Any, Contains, sym, ap, ◌∙◌, refl, subst, arith}
 use Rattle.std.proofs.lemmas.List.{length-map}
-use Rattle.std.proofs.lemmas.List.Elements.{All-nil, All-cons, All-head, All-tail, All-append, Contains-append_left, Contains-append_right}
+use Rattle.std.proofs.lemmas.List.Elements.{All-nil, All-cons, All-head, All-tail, All-append, All-drop, All-same, All-take, Contains-append_left, Contains-append_right}
 
 -- what holds of each element of a mapped list
 pub All-unmap : {X Y : Type 0} (P : Y → Type 0) (f : X → Y) (xs : List X) → All P (map f xs) → All (λ x. P (f x)) xs
@@ -53,3 +53,17 @@ written-back {X} xs old n is = ap (λ (m : ℕ). take m (xs ++ old)) is ∙ fron
 
 pub same-count : {X Y : Type 0} (f : X → Y) (xs ys : List X) → map f xs ≡ map f ys → length xs ≡ length ys
 same-count {X} {Y} f xs ys e = sym (length-map xs f) ∙ ap (λ (zs : List Y). length zs) e ∙ length-map ys f
+
+-- what holds of each holds of a front, and of what follows it
+pub all-front : {X : Type 0} (Q : X → Type 0) (xs front : List X) (n : ℕ) → front ≡ take n xs → All Q xs → All Q front
+all-front Q xs front n cut all = All-same Q front (take n xs) cut (All-take Q n xs all)
+
+pub all-behind : {X : Type 0} (Q : X → Type 0) (xs back : List X) (n : ℕ) → back ≡ drop n xs → All Q xs → All Q back
+all-behind Q xs back n cut all = All-same Q back (drop n xs) cut (All-drop Q n xs all)
+
+-- a place before the cut, and one behind it
+pub place-before : (i n : ℕ) → 0 < i → n ≡ i → i - 1 < n
+place-before i n some is = omega (arith, some, is)
+
+pub place-behind : (i n all : ℕ) → n + i ≡ all → i < all → 0 < n
+place-behind i n all cut lt = omega (arith, cut, lt)

@@ -1,5 +1,5 @@
 -- What is left of sessions that have run.
-use Rattle.std.proofs.Common.{◌≡◌, ◌+◌, List, ◌++◌, length, map, set, length-append, Any, Result, Ok, Err, OnErr, sym, ap, ◌∙◌, subst, arith}
+use Rattle.std.proofs.Common.{◌≡◌, inl, inr, ◌+◌, List, ◌++◌, length, map, set, length-append, All, Any, Option, None, Some, IfNone, Result, Ok, Err, OnOk, OnErr, sym, ap, ◌∙◌, subst, arith}
 use Rattle.std.specs.Result.{result_and}
 use Rattle.std.proofs.lemmas.List.{map-append, get_or_append_left, get_or-append-add}
 use Rattle.std.proofs.lemmas.List.Elements.{All-append}
@@ -7,8 +7,9 @@ use Rattle.std.proofs.lemmas.List.Quantifiers.{any-set}
 use Rattle.pgn_hub.specs.declared.known.Known.{Known}
 use Rattle.pgn_hub.specs.Shape.{Shape}
 use Rattle.pgn_session.specs.declared.session.Session.{Session}
-use Rattle.pgn_session.specs.Runs.{Script, script_of, IsOver, HasGivenUp, HasStopped}
-use Rattle.pgn_threads.specs.Whole.{HaveRun}
+use Rattle.pgn_session.specs.Runs.{Script, script_of, IsOver, IsReady, HasGivenUp, HasStopped}
+use Rattle.pgn_threads.specs.Whole.{HaveRun, MayHaveRun}
+use Rattle.pgn_threads.proofs.TurnLaws.{all-one}
 
 -- one of a front, or of what follows it
 any-front : {X : Type 0} (Q : X → Type 0) (xs ys : List X) → Any Q xs → Any Q (xs ++ ys)
@@ -22,6 +23,15 @@ module _ {P : Type 0} (is_own : P → Type 0) (shape : Shape) (known : P → Kno
   pub one-gave_up : {A E : Type 0} (old : List (Session P)) (s : Session P) (r : Result A E) → length old ≡ 1 → OnErr r (HasGivenUp known s) → OnErr r (Any (HasGivenUp known) (set old 0 s))
   one-gave_up old s (Ok a) one gave_up = tt
   one-gave_up old s (Err e) one gave_up = any-set (HasGivenUp known) old 0 s (omega (arith, one)) gave_up
+
+  pub one-stopped : {A E : Type 0} (old : List (Session P)) (s : Session P) (r : Result A E) → length old ≡ 1 → OnOk r (IsOver is_own shape known s) → OnErr r (HasGivenUp known s) → All (HasStopped is_own shape known) (set old 0 s)
+  one-stopped old s (Ok a) one over gave_up = all-one (HasStopped is_own shape known) old s one (inl over)
+  one-stopped old s (Err e) one over gave_up = all-one (HasStopped is_own shape known) old s one (inr gave_up)
+
+  -- those that have not run are ready still
+  pub still-ready : {A E : Type 0} (old new : List (Session P)) (ran : Option (Result A E)) → All (IsReady is_own shape known) old → MayHaveRun is_own shape known old new ran → IfNone ran (All (IsReady is_own shape known) new)
+  still-ready old new None all same = subst (λ (ss : List (Session P)). All (IsReady is_own shape known) ss) (sym same) all
+  still-ready old new (Some r) all ran = tt
 
   both-scripts : (left left_new right right_new : List (Session P)) → map script_of left_new ≡ map script_of left → map script_of right_new ≡ map script_of right → map script_of (left_new ++ right_new) ≡ map script_of (left ++ right)
   both-scripts left left_new right right_new l r =

@@ -1,6 +1,6 @@
 -- Sessions that take turns.
-use Rattle.std.proofs.Common.{◌≡◌, ◌<◌, List, [], ◌∷◌, ◌++◌, length, map, All, Any, refl, arith}
-use Rattle.std.proofs.lemmas.List.Elements.{All-append, All-head}
+use Rattle.std.proofs.Common.{◌≡◌, ◌<◌, List, [], ◌∷◌, ◌++◌, length, map, set, All, Any, Result, Ok, Err, OnOk, refl, arith}
+use Rattle.std.proofs.lemmas.List.Elements.{All-append, All-cons, All-head, All-nil}
 use Rattle.pgn_hub.specs.declared.known.Known.{Known}
 use Rattle.pgn_hub.specs.Shape.{Shape}
 use Rattle.pgn_session.specs.declared.session.Session.{Session}
@@ -8,6 +8,23 @@ use Rattle.pgn_session.specs.declared.doing.Step.{Step}
 use Rattle.pgn_session.specs.declared.doing.Step.TheVariants.{Ended}
 use Rattle.pgn_session.specs.Runs.{script_of, IsOver, HasGivenUp}
 use Rattle.pgn_threads.proofs.ListLemmas.{same-count}
+
+-- where there is none, and where there is one
+pub all-none : {X : Type 0} (Q : X → Type 0) (xs : List X) → length xs ≡ 0 → All Q xs
+all-none Q [] none = All-nil Q
+all-none Q (x ∷ xs) none = absurd (omega (arith, none))
+
+pub some-one : {X : Type 0} (xs : List X) → length xs ≡ 1 → 0 < length xs
+some-one xs one = omega (arith, one)
+
+pub all-one : {X : Type 0} (Q : X → Type 0) (xs : List X) (x : X) → length xs ≡ 1 → Q x → All Q (set xs 0 x)
+all-one Q [] x one q = absurd (omega (arith, one))
+all-one Q (y ∷ []) x one q = All-cons Q x [] q (All-nil Q)
+all-one Q (y ∷ z ∷ ys) x one q = absurd (omega (arith, one))
+
+pub ok-one : {X A E : Type 0} (Q : X → Type 0) (xs : List X) (x : X) (r : Result A E) → length xs ≡ 1 → OnOk r (Q x) → OnOk r (All Q (set xs 0 x))
+ok-one Q xs x (Ok a) one q = all-one Q xs x one q
+ok-one Q xs x (Err e) one q = tt
 
 -- one of some of which each is so
 all-any : {X : Type 0} (Q : X → Type 0) (xs : List X) → 0 < length xs → All Q xs → Any Q xs
