@@ -1,7 +1,8 @@
-use Rattle.std.proofs.Common.{rules, ◌+◌, List, sym, subst, ◌∙◌}
+use Rattle.std.proofs.Common.{rules, ◌+◌, List, ap, sym, subst, ◌∙◌}
+use Rattle.pgn_language.specs.declared.scenario.Section.{Section}
 use Rattle.pgn_session.specs.declared.session.Session.{Session}
-use Rattle.pgn_threads.specs.Opened.{HaveOpened}
-use Rattle.pgn_threads.proofs.OpenLaws.{one-opened, same-script}
+use Rattle.pgn_threads.specs.Opened.{opened_for, HaveOpened, IsFit}
+use Rattle.pgn_threads.proofs.OpenLaws.{is-opened, one-opened, all-opened, all-scripts, same-script}
 use Rattle.pgn_threads.proofs.opening.open_sessions.Goals as goal
 
 pub loop-section-preserved : goal.loop-section-preserved
@@ -12,3 +13,28 @@ loop-section-preserved g c =
     (one-opened g.P.PassView.known c.args.plan c.args.patience c.args.sections.now c.args.passes.items c.loop-section.passes.rest.items c.loop-section.sessions.items c.loop-section.section-index c.section-item.result
     c.in-Some.pass c.next.new.self.rest.items s (search rules) c.in-Some.ensures.items c.loop-section.invariant begins.0
     (same-script s c.args.plan c.args.patience _ (begins.1 ∙ c.in_ok-section.ensures.equal ∙ c.section-item.is) begins.2 begins.3) c.in_ok-new.ensures.rested)
+
+pub new-requires-clause-opened : goal.new-requires-clause-opened
+new-requires-clause-opened g c κs within =
+    is-opened g.P.PassView.known c.args.plan c.args.patience c.args.sections.now c.args.passes.items c.loop-section.passes.rest.items c.loop-section.sessions.items c.loop-section.section-index c.section-item.result
+    c.in-Some.pass c.next.new.self.rest.items (search rules) c.in-Some.ensures.items c.loop-section.invariant ∙ ap (λ (section : Section). opened_for section) (sym (c.in_ok-section.ensures.equal ∙ c.section-item.is))
+
+pub new-requires-clause-counted : goal.new-requires-clause-counted
+new-requires-clause-counted g c κs within =
+    (subst (λ (section : Section). IsFit section) (sym (c.in_ok-section.ensures.equal ∙ c.section-item.is)) (c.requires.fit c.loop-section.section-index c.section-item.result (search rules))).counted
+
+pub new-requires-clause-quits_last : goal.new-requires-clause-quits_last
+new-requires-clause-quits_last g c κs within =
+    (subst (λ (section : Section). IsFit section) (sym (c.in_ok-section.ensures.equal ∙ c.section-item.is)) (c.requires.fit c.loop-section.section-index c.section-item.result (search rules))).quits_last
+
+pub returns-clause-passes : goal.returns-clause-passes
+returns-clause-passes g c =
+    all-opened g.P.PassView.known c.args.plan c.args.patience c.args.sections.now c.args.passes.items c.loop-section.passes.rest.items c.loop-section.sessions.items c.loop-section.section-index (search rules) c.loop-section.invariant
+
+pub returns-clause-scripts : goal.returns-clause-scripts
+returns-clause-scripts g c =
+    all-scripts g.P.PassView.known c.args.plan c.args.patience c.args.sections.now c.args.passes.items c.loop-section.passes.rest.items c.loop-section.sessions.items c.loop-section.section-index (search rules) c.loop-section.invariant
+
+pub returns-clause-rested : goal.returns-clause-rested
+returns-clause-rested g c =
+    c.loop-section.invariant.rested
