@@ -1,6 +1,6 @@
 -- Lists that are mapped and joined.
 use Rattle.std.proofs.Common.{◌≡◌, ℕ, zero, suc, ◌+◌, ◌-◌, ◌<◌, List, [], ◌∷◌, ◌++◌, length, map, take, drop, flat_map, get_or, slice_get, IsSomeAnd, All, Any, Contains, sym, ap, ◌∙◌, refl, subst, arith}
-use Rattle.std.proofs.lemmas.List.{length-map}
+use Rattle.std.proofs.lemmas.List.{length-map, map-append}
 use Rattle.std.proofs.lemmas.List.Elements.{All-nil, All-cons, All-head, All-tail, All-append, All-drop, All-same, All-take, Contains-append_left, Contains-append_right}
 
 -- what holds of each element of a mapped list
@@ -67,3 +67,7 @@ place-before i n some is = omega (arith, some, is)
 
 pub place-behind : (i n all : ℕ) → n + i ≡ all → i < all → 0 < n
 place-behind i n all cut lt = omega (arith, cut, lt)
+
+-- one more, mapped
+pub one-more : {X Y : Type 0} (f : X → Y) (xs : List X) (x : X) (ys zs : List Y) (y : Y) → ys ≡ map f xs → y ≡ f x → zs ≡ ys ++ y ∷ [] → zs ≡ map f (xs ++ x ∷ [])
+one-more {X} {Y} f xs x ys zs y so_far is more = more ∙ ap (λ (all : List Y). all ++ y ∷ []) so_far ∙ ap (λ (a : Y). map f xs ++ a ∷ []) is ∙ sym (map-append f xs (x ∷ []))
