@@ -1,5 +1,5 @@
 -- Sessions that run and tell, in halves.
-use Rattle.std.proofs.Common.{◌≡◌, ℕ, ◌+◌, ◌-◌, ◌/◌, ◌<◌, ◌≤◌, List, [], ◌∷◌, ◌++◌, length, get_or, map, set, All, Option, Some, None, Result, Ok, Err, OnOk, sym, ap, ◌∙◌, refl, subst, arith, append-nil, length-append}
+use Rattle.std.proofs.Common.{◌≡◌, ℕ, ◌+◌, ◌-◌, ◌/◌, ◌<◌, ◌≤◌, List, [], ◌∷◌, ◌++◌, length, get_or, map, set, All, Option, Some, None, IfNone, Result, Ok, Err, OnOk, sym, ap, ◌∙◌, refl, subst, arith, append-nil, length-append}
 use Rattle.std.specs.Result.{result_and}
 use Rattle.std.proofs.lemmas.List.{map-append}
 use Rattle.std.proofs.lemmas.List.Elements.{All-nil, All-cons, All-head, All-tail, All-append, All-weaker}
@@ -164,3 +164,9 @@ module _ {P : Type 0} (is_own : P → Type 0) (shape : Shape) (known : P → Kno
   pub halves-ran : {A E : Type 0} (left left_new right right_new : List (Session P)) (v a w b : Hand) (first second r : Result A E) → HavePlayed is_own shape known left left_new v a first → HavePlayed is_own shape known right right_new w b second
       → r ≡ result_and first second → BothHavePlayed is_own shape known left left_new right right_new v a w b r
   halves-ran left left_new right right_new v a w b first second r f g is = record { first = first; second = second; left_played = f; right_played = g; both = is }
+
+  -- those that have not run may run still
+  pub may-still : {A E : Type 0} (old new : List (Session P)) (v w : Hand) (r : Option (Result A E)) → MayPlay is_own shape known old v → MayHavePlayed is_own shape known old new v w r → IfNone r (MayPlay is_own shape known new w)
+  may-still old new v w None m same =
+      subst (λ (ss : List (Session P)). MayPlay is_own shape known ss w) (sym same.0) (subst (λ (x : Hand). MayPlay is_own shape known old x) (sym same.1) m)
+  may-still old new v w (Some a) m played = tt

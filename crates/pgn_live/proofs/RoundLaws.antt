@@ -167,6 +167,27 @@ module _ {P : Type 0} (is_own : P → Type 0) (shape : Shape) (known : P → Kno
       → (first ≡ Ended → All (IsOver is_own shape known) xs) → (second ≡ Ended → All (IsOver is_own shape known) ys) → both ≡ Ended → All (IsOver is_own shape known) (xs ++ ys)
   both-over xs ys first second both one other xs_over ys_over ended = All-append (IsOver is_own shape known) xs ys (xs_over (one ended)) (ys_over (other ended))
 
+  -- where there is none, and where there is one
+  pub none-over : (xs : List (Session P)) → length xs ≡ 0 → All (IsOver is_own shape known) xs
+  none-over [] none = All-nil (IsOver is_own shape known)
+  none-over (x ∷ xs) none = absurd (omega (arith, none))
+
+  pub one-there : (xs : List (Session P)) → length xs ≡ 1 → 0 < length xs
+  one-there xs one = omega (arith, one)
+
+  pub one-told : (xs : List (Session P)) (ns : List ℕ) (d : Session P) (v : Hand) → length xs ≡ 1 → AreTold xs ns v → IsTold (get_or xs 0 d).section.no (get_or xs 0 d).items.items (get_or ns 0 0) v
+  one-told [] ns d v one told = absurd (omega (arith, one))
+  one-told (x ∷ xs) [] d v one told = absurd told
+  one-told (x ∷ xs) (n ∷ ns) d v one told = told.0
+
+  -- sessions, by their two parts
+  pub parts-go : (xs left right : List (Session P)) (counts ns ms : List ℕ) (v : Hand) → xs ≡ left ++ right → counts ≡ ns ++ ms → MayGo is_own shape known xs counts v → MayGo is_own shape known (left ++ right) (ns ++ ms) v
+  parts-go xs left right counts ns ms v cut cut_counts m =
+      subst (λ (ss : List (Session P)). MayGo is_own shape known ss (ns ++ ms) v) cut (subst (λ (l : List ℕ). MayGo is_own shape known xs l v) cut_counts m)
+
+  pub parts-gone : (xs left right new : List (Session P)) (counts : List ℕ) (v w : Hand) → xs ≡ left ++ right → HaveGone is_own shape (left ++ right) new counts v w → HaveGone is_own shape xs new counts v w
+  parts-gone xs left right new counts v w cut g = subst (λ (ss : List (Session P)). HaveGone is_own shape ss new counts v w) (sym cut) g
+
   -- the first part of a round, and the second behind it
   pub left-go : (left right : List (Session P)) (ns ms : List ℕ) (v : Hand) → length ns ≡ length left → MayGo is_own shape known (left ++ right) (ns ++ ms) v → MayGo is_own shape known left ns v
   left-go left right ns ms v count m = record {

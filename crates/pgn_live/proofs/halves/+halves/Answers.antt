@@ -1,5 +1,5 @@
 use Rattle.pgn_outlet.specs.Passes.{knows}
-use Rattle.pgn_live.proofs.PlayLaws.{lower-may, lower-ran, left-goes, right-goes, apart-played, halves-ran}
+use Rattle.pgn_live.proofs.PlayLaws.{lower-may, lower-ran, left-goes, right-goes, apart-played, halves-ran, may-still}
 use Rattle.pgn_live.proofs.halves.+halves.Goals as goal
 
 pub play_lower-play_sessions-played-requires-clause-may : goal.play_lower-play_sessions-played-requires-clause-may
@@ -40,3 +40,15 @@ play_halves-returns-clause-played g t c =
 
 pub play_sessions-returns-clause-played : goal.play_sessions-returns-clause-played
 play_sessions-returns-clause-played g t c = c.play_the_rest.ensures.played c.args.sessions.now (knows c.args.pass.now) c.play_apart-played.ensures.played
+
+pub play_halves-play_the_rest-first-requires-clause-may : goal.play_halves-play_the_rest-first-requires-clause-may
+play_halves-play_the_rest-first-requires-clause-may g t c κs within =
+    may-still (g.H.Hub.is_pass c.args.hub.now) (g.H.Hub.shape c.args.hub.now) g.P.PassView.known c.args.left.now c.join_halves-first.new.left (knows c.args.pass.now) (knows c.join_halves-first.new.pass) c.join_halves-first.result.0 c.requires.left c.join_halves-first.ensures.left
+
+pub play_halves-play_the_rest-second-requires-clause-may : goal.play_halves-play_the_rest-second-requires-clause-may
+play_halves-play_the_rest-second-requires-clause-may g t c κs within =
+    may-still (g.H.Hub.is_pass c.args.hub.now) (g.H.Hub.shape c.args.hub.now) g.P.PassView.known c.args.right.now c.join_halves-first.new.right (knows c.args.other.now) (knows c.join_halves-first.new.other) c.join_halves-first.result.1 c.requires.right c.join_halves-first.ensures.right
+
+pub play_sessions-play_the_rest-requires-clause-may : goal.play_sessions-play_the_rest-requires-clause-may
+play_sessions-play_the_rest-requires-clause-may g t c κs within =
+    may-still (g.H.Hub.is_pass c.args.hub.now) (g.H.Hub.shape c.args.hub.now) g.P.PassView.known c.args.sessions.now c.play_apart-played.new.sessions (knows c.args.pass.now) (knows c.play_apart-played.new.pass) c.play_apart-played.result c.requires.may c.play_apart-played.ensures.played

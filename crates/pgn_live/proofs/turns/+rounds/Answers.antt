@@ -1,7 +1,9 @@
-use Rattle.std.proofs.Common.{◌≡◌, Ok, ap}
+use Rattle.std.proofs.Common.{◌≡◌, ◌++◌, Ok, ap}
+use Rattle.std.proofs.lemmas.List.Elements.{All-append}
 use Rattle.pgn_outlet.specs.Passes.{knows}
 use Rattle.pgn_session.specs.declared.doing.Step.TheVariants.{Ended}
-use Rattle.pgn_live.proofs.RoundLaws.{left-go, right-go, both-gone, both-over, one-gone, one-over, one-ready}
+use Rattle.pgn_session.specs.Runs.{IsReady}
+use Rattle.pgn_live.proofs.RoundLaws.{left-go, right-go, both-gone, both-over, none-over, not-gone, one-gone, one-over, one-ready, one-there, one-told, parts-go, parts-gone}
 use Rattle.pgn_live.proofs.turns.+rounds.Goals as goal
 
 pub play_both-play_round-first-requires-clause-may : goal.play_both-play_round-first-requires-clause-may
@@ -49,3 +51,37 @@ play_round-returns-then-sessions-eq1-clause-ready g t c =
 pub play_round-returns-then-sessions-eq1-clause-over : goal.play_round-returns-then-sessions-eq1-clause-over
 play_round-returns-then-sessions-eq1-clause-over g t c = λ is.
     one-over (g.H.Hub.is_pass c.args.hub.now) (g.H.Hub.shape c.args.hub.now) g.P.PassView.known c.args.sessions.now c.play_turn.new.session c.if-sessions-eq1.true (c.play_turn.ensures.over is)
+
+pub play_both-returns-clause-ready : goal.play_both-returns-clause-ready
+play_both-returns-clause-ready g t c =
+    All-append (IsReady (g.H.Hub.is_pass c.args.hub.now) (g.H.Hub.shape c.args.hub.now) g.P.PassView.known) c.play_round-first.new.sessions c.play_round-second.new.sessions c.in_ok-first.ensures.ready c.in_ok-second.ensures.ready
+
+pub play_round-returns-then-sessions-eq0-clause-gone : goal.play_round-returns-then-sessions-eq0-clause-gone
+play_round-returns-then-sessions-eq0-clause-gone g t c =
+    not-gone (g.H.Hub.is_pass c.args.hub.now) (g.H.Hub.shape c.args.hub.now) g.P.PassView.known c.args.sessions.now c.args.told.now (knows c.args.pass.now) c.requires.may
+
+pub play_round-returns-then-sessions-eq0-clause-over : goal.play_round-returns-then-sessions-eq0-clause-over
+play_round-returns-then-sessions-eq0-clause-over g t c =
+    λ is. none-over (g.H.Hub.is_pass c.args.hub.now) (g.H.Hub.shape c.args.hub.now) g.P.PassView.known c.args.sessions.now c.if-sessions-eq0.true
+
+pub play_round-play_turn-requires-clause-ready : goal.play_round-play_turn-requires-clause-ready
+play_round-play_turn-requires-clause-ready g t c κs within =
+    c.requires.may.ready 0 c.index-sessions-0.result (one-there (g.H.Hub.is_pass c.args.hub.now) (g.H.Hub.shape c.args.hub.now) g.P.PassView.known c.args.sessions.now c.if-sessions-eq1.true)
+
+pub play_round-play_turn-requires-clause-may : goal.play_round-play_turn-requires-clause-may
+play_round-play_turn-requires-clause-may g t c κs within =
+    c.requires.may.may 0 c.index-sessions-0.result (one-there (g.H.Hub.is_pass c.args.hub.now) (g.H.Hub.shape c.args.hub.now) g.P.PassView.known c.args.sessions.now c.if-sessions-eq1.true)
+
+pub play_round-play_turn-requires-clause-told : goal.play_round-play_turn-requires-clause-told
+play_round-play_turn-requires-clause-told g t c κs within =
+    one-told (g.H.Hub.is_pass c.args.hub.now) (g.H.Hub.shape c.args.hub.now) g.P.PassView.known c.args.sessions.now c.args.told.now c.index-sessions-0.result (knows c.args.pass.now) c.if-sessions-eq1.true c.requires.may.told
+
+pub play_round-play_both-requires-clause-may : goal.play_round-play_both-requires-clause-may
+play_round-play_both-requires-clause-may g t c κs within =
+    parts-go (g.H.Hub.is_pass c.args.hub.now) (g.H.Hub.shape c.args.hub.now) g.P.PassView.known c.args.sessions.now c.split_at_mut-left.result.0.now c.split_at_mut-left.result.1.now c.args.told.now c.split_at_mut-left_told.result.0.now c.split_at_mut-left_told.result.1.now (knows c.args.pass.now)
+    c.split_at_mut-left.ensures.value c.split_at_mut-left_told.ensures.value c.requires.may
+
+pub play_round-returns-clause-gone : goal.play_round-returns-clause-gone
+play_round-returns-clause-gone g t c =
+    parts-gone (g.H.Hub.is_pass c.args.hub.now) (g.H.Hub.shape c.args.hub.now) g.P.PassView.known c.args.sessions.now c.split_at_mut-left.result.0.now c.split_at_mut-left.result.1.now (c.play_both.new.left ++ c.play_both.new.right) (c.play_both.new.left_told ++ c.play_both.new.right_told) (knows c.args.pass.now) (knows c.play_both.new.pass)
+    c.split_at_mut-left.ensures.value c.play_both.ensures.gone
