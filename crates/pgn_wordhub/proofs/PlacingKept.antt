@@ -24,8 +24,8 @@ use Rattle.pgn_words.specs.Told.{MayShow, IsWrittenOf, head_stored}
 use Rattle.std.proofs.lemmas.List.Elements.{All-weaker, Contains-append_right}
 use Rattle.pgn_hub.specs.Shape.{Shape}
 use Rattle.pgn_hub.specs.Calls.{met_by, LooksTwice, IsFloor}
-use Rattle.pgn_wordhub.specs.Placing.{writer_of, stored_more, IsPlacing, HasWritten, IsHeldUp}
-use Rattle.pgn_wordhub.specs.Advancing.{HasAdvancedTo}
+use Rattle.pgn_wordhub.specs.Placing.{writer_of, stored_more, IsPlacing, HasWritten, IsHeldUp, placed_view}
+use Rattle.pgn_wordhub.specs.Advancing.{advanced_view, HasAdvancedTo}
 use Rattle.pgn_wordhub.proofs.StoringLaws.{stored_long}
 
 -- some are left where the next one is too long
@@ -140,3 +140,27 @@ writes_on v w h listens = ap (λ (u : View). u.known.mark) h.view ∙ listens �
 -- a writer that has placed nothing has changed nothing
 pub nothing_written : (v : View) → HasWritten v v
 nothing_written v = record { more = []; view = ap (λ (n : List (ℕ × ℕ)). let y : View = record v { known = record v.known { named = n } } in y) (sym (append-nil v.known.named)) }
+
+-- what was written on, and on
+pub then_written : (v w x : View) → HasWritten v w → HasWritten w x → HasWritten v x
+then_written v w x h k = record {
+  more = h.more ++ k.more;
+  view = k.view
+      ∙ ap (λ (u : View). let y : View = record u { stop = x.stop; eye = x.eye; pen = record u.pen { cells = x.pen.cells; batch = x.pen.batch }; known = record u.known { named = u.known.named ++ k.more; advance = x.known.advance } } in y) h.view
+      ∙ ap (λ (n : List (ℕ × ℕ)). let y : View = record v { stop = x.stop; eye = x.eye; pen = record v.pen { cells = x.pen.cells; batch = x.pen.batch }; known = record v.known { named = n; advance = x.known.advance } } in y) (append_assoc v.known.named h.more k.more);
+}
+
+pub batch_written : (x y : View) → y ≡ placed_view y x → HasWritten x y
+batch_written x y is = record {
+  more = [];
+  view = is
+      ∙ ap (λ (n : ℕ). let u : View = record x { stop = n; eye = y.eye; pen = record x.pen { cells = y.pen.cells; batch = y.pen.batch }; known = record x.known { advance = y.known.advance } } in u) (sym (ap (λ (u : View). u.stop) is))
+      ∙ ap (λ (n : List (ℕ × ℕ)). let u : View = record x { stop = y.stop; eye = y.eye; pen = record x.pen { cells = y.pen.cells; batch = y.pen.batch }; known = record x.known { named = n; advance = y.known.advance } } in u) (sym (append-nil x.known.named));
+}
+
+-- an advance leaves what is placed
+pub placing_on : (w x : View) (notes : List Note) (placed at : ℕ) → x ≡ advanced_view x w → w.stop ≤ x.stop → IsPlacing w notes placed at → IsPlacing x notes placed at
+placing_on w x notes placed at is grows h =
+    let within = h.within in
+    subst (λ (u : View). IsPlacing u notes placed at) (sym is)
+    (record { phase = h.phase; notes_are = h.notes_are; valid = h.valid; fresh = h.fresh; lies = h.lies; end = h.end; room = h.room; low = h.low; within = omega (arith, within, grows) })

@@ -1,4 +1,4 @@
-ghost use Rattle.std.specs.Prelude.{◌≡◌, ◌≢◌, ◌⊎◌, ℕ, ◌+◌, ◌*◌, ◌%◌, ◌^◌, ◌<◌, ◌≤◌, length, drop, true, false, None, IfSome};
+ghost use Rattle.std.specs.Prelude.{◌≡◌, ◌≢◌, ◌⊎◌, ℕ, ◌+◌, ◌*◌, ◌%◌, ◌^◌, ◌<◌, ◌≤◌, length, drop, true, false, None, is_some, IfSome};
 ghost use Rattle.pgn_base.specs.declared.limits.TheConstants.{PID_BASE};
 ghost use Rattle.pgn_journal.specs.Journal.{next_xid};
 ghost use Rattle.pgn_journal.specs.Bytes.{entry_length, filler, IsEntryLength};
@@ -6,9 +6,10 @@ ghost use Rattle.pgn_journal.specs.Packing.{page_of, page_start, cells_in, fille
 ghost use Rattle.pgn_layout.specs.Batches.{IsPlanned, entry_of, batch_cells};
 ghost use Rattle.pgn_words.specs.Passes.{IsPassOf, view_of, known_of};
 ghost use Rattle.pgn_words.specs.Positions.{listens_at};
-ghost use Rattle.pgn_words.specs.Views.{stored_by, AreDecided};
+ghost use Rattle.pgn_words.specs.Views.{stored_by, may_look, AreDecided};
 ghost use Rattle.pgn_words.specs.declared.view.Phase.TheVariants as phases;
 ghost use Rattle.pgn_wordhub.specs.Passes.{hub_shape};
+ghost use Rattle.pgn_wordhub.specs.Advancing.{advanced_view, HasAdvancedTo};
 ghost use Rattle.pgn_wordhub.specs.Placing.{stored_more, writer_of, IsPlacing, HasWritten, IsHeldUp, placed_view};
 
 use crate::WordHub;
@@ -115,12 +116,49 @@ impl WordHub {
         }
     }
 
-    // There is a page for the head.
-    fn has_page(&self, placing: &Placing) -> bool
-        ensures some { result ≡ true → page_of placing.now.at < placing.now.stop + (hub_shape self.now).pages }
-        ensures none { result ≡ false → placing.now.stop + (hub_shape self.now).pages ≤ page_of placing.now.at }
+    // There is a page for the head, where this is the oldest kept one.
+    fn has_page(&self, at: Pos, stop: u64) -> bool
+        ensures some { result ≡ true → page_of at < stop + (hub_shape self.now).pages }
+        ensures none { result ≡ false → stop + (hub_shape self.now).pages ≤ page_of at }
     {
-        placing.at.page().saturating_sub(placing.stop) < u64::from(self.pages)
+        at.page().saturating_sub(stop) < u64::from(self.pages)
+    }
+
+    // Finds a page for the head: where there is none it advances the tail once. Answers the oldest kept page, and what holds the head up
+    // where there is no page still.
+    fn find_page<R: Wait>(
+        &self,
+        rt: &R,
+        pass: &mut WordPass,
+        xid: Xid,
+        start: Pos,
+        placing: &Placing,
+    ) -> (u64, Option<Floor>)
+        requires own { IsPassOf self.now.queue pass.old }
+        requires phase { may_look (view_of pass.old).phase ≡ true }
+        requires decided { AreDecided (view_of pass.old).verdicts }
+        requires number { xid ≡ next_xid (known_of pass.old).seen }
+        requires start { start ≡ length (image (hub_shape self.now).format (known_of pass.old).seen) }
+        requires low { start < 2 ^ 32 }
+        requires listens { (known_of pass.old).mark ≡ listens_at (view_of pass.old).post }
+        requires stop { placing.now.stop ≡ (view_of pass.old).stop }
+        ensures own { IsPassOf self.now.queue pass.new }
+        ensures view { view_of pass.new ≡ advanced_view (view_of pass.new) (view_of pass.old) }
+        ensures writes { HasWritten (view_of pass.old) (view_of pass.new) }
+        ensures grows { (view_of pass.old).stop ≤ (view_of pass.new).stop }
+        ensures stop { result.0 ≡ (view_of pass.new).stop }
+        ensures page { is_some result.1 ≡ false → page_of placing.now.at < result.0 + (hub_shape self.now).pages }
+        ensures no_page { is_some result.1 ≡ true → result.0 + (hub_shape self.now).pages ≤ page_of placing.now.at }
+        ensures held { IfSome result.1 (λ floor. HasAdvancedTo (hub_shape self.now) (view_of pass.old) (view_of pass.new) floor.mark floor.at floor.holder) }
+    {
+        if self.has_page(placing.at, placing.stop) {
+            return (placing.stop, None);
+        }
+        let (floor, stop) = self.advance(rt, pass, xid, start, placing.stop);
+        if self.has_page(placing.at, stop) {
+            return (stop, None);
+        }
+        (stop, Some(floor))
     }
 
     // Writes the next batch of the notifications that are left.
@@ -176,12 +214,10 @@ impl WordHub {
             if placing.placed >= notes.len() {
                 break;
             }
-            if !self.has_page(placing) {
-                let (floor, stop) = self.advance(rt, pass, xid, start, placing.stop);
-                placing.stop = stop;
-                if !self.has_page(placing) {
-                    return Some(floor);
-                }
+            let (stop, floor) = self.find_page(rt, pass, xid, start, placing);
+            placing.stop = stop;
+            if floor.is_some() {
+                return floor;
             }
             self.place_batch(pass, notes, xid, placing);
         }
