@@ -77,5 +77,5 @@ session-one {P} shape known s passes rested first e is =
 pub own-one : {P : Type 0} (Q : P → Type 0) (pass : P) (passes : List P) → passes ≡ pass ∷ [] → Q pass → All Q passes
 own-one {P} Q pass passes e h = subst (λ (ps : List P). All Q ps) (sym e) (All-cons Q pass [] h (All-nil Q))
 
-pub pushed-one : {P : Type 0} (none all : List P) (pushed pass : P) → none ≡ [] → all ≡ none ++ pushed ∷ [] → pushed ≡ pass → all ≡ pass ∷ []
-pushed-one {P} none all pushed pass e f h = f ∙ ap (λ (ps : List P). ps ++ pushed ∷ []) e ∙ ap (λ (p : P). p ∷ []) h
+pub alone-is : {P : Type 0} (all : List P) (pushed pass : P) → all ≡ pushed ∷ [] → pushed ≡ pass → all ≡ pass ∷ []
+alone-is {P} all pushed pass e f = e ∙ ap (λ (p : P). p ∷ []) f

@@ -99,13 +99,30 @@ pub(crate) fn finish<P: PassView + Send + Drop, H: Hub<Pass = P> + Drop>(
     requires patience { session.patience ≡ 1 }
     ensures { OnOk result (NamesNoFlags session.section → RunsLegally session.section session.items.items) }
 {
-    let (pass, _trace) = session.into_log();
-    let mut passes = Vec::with_capacity(alloc, 1)?;
+    let (pass, trace) = session.into_log();
+    drop(trace);
     is_within(&hub, &pass);
-    passes.push(pass)?;
     runs_are_legal();
-    let _roll = hub.gather(passes);
-    Ok(())
+    match alone(alloc, pass) {
+        Ok(passes) => {
+            let roll = hub.gather(passes);
+            drop(roll);
+            Ok(())
+        }
+        Err(error) => {
+            drop(hub);
+            Err(error)
+        }
+    }
+}
+
+// The one pass of a hub, to be gathered.
+fn alone<P: Drop>(alloc: Global, pass: P) -> Result<Vec<P>, AllocError>
+    ensures { IfOk result (λ passes. passes.items ≡ pass ∷ []) }
+{
+    let mut passes = Vec::with_capacity(alloc, 1)?;
+    passes.push(pass)?;
+    Ok(passes)
 }
 
 // What holds of a pass of a hub between calls.

@@ -1,8 +1,11 @@
-use Rattle.std.proofs.Common.{◌∙◌, Some, Err, IsSomeAnd, ap, inl, inr, map, subst, sym}
+use Rattle.std.proofs.Common.{◌∙◌, Some, Err, IfSome, IsSomeAnd, ap, inl, inr, map, subst, sym}
 use Rattle.pgn_check.specs.declared.check.Verdict.TheVariants as verdict
 use Rattle.pgn_model.specs.Walk.{Settings}
 use Rattle.pgn_run.specs.Checking.{IsJudged, IsOfCheck, IsUntold}
-use Rattle.pgn_run.specs.Run.{IsOfRun, IsOfWire, settings_with, shows_if}
+use Rattle.std.specs.Io.KnownBytes.{Appends}
+use Rattle.pgn_base.specs.Outside.{AppendsPrefix}
+use Rattle.pgn_run.specs.Run.{IsOfRun, IsOfWire, Shown, ShownInPart, settings_with, shows_if}
+use Rattle.pgn_run.specs.declared.print.Shows.{Shows}
 use Rattle.pgn_run.specs.declared.status.Status.TheVariants.{Done, Illegal}
 use Rattle.pgn_run.specs.declared.print.Print.TheVariants.{Text}
 use Rattle.pgn_run.proofs.RunLaws.{so_far-known}
@@ -28,7 +31,7 @@ pub returns-in-Ok-Run-clause-done : goal.returns-in-Ok-Run-clause-done
 returns-in-Ok-Run-clause-done g c = λ e. record {
   asked = Run c.in-Ok-Run.pages c.in-Ok-Run.patience c.in-Ok-Run.format c.in-Ok-Run.live;
   asks = c.in-Ok-Run.ensures.asked ∙ ap Some c.in-Ok-Run.field-0-is;
-  done = rw c.shows_if.ensures at (c.run.ensures.done e);
+  done = subst (λ (s : Shows). IfSome (g.S.Source.left c.args.source.now) (λ input. Shown s (settings_with c.in-Ok-Run.pages c.in-Ok-Run.patience c.in-Ok-Run.format) input (Appends (g.K.Sink.held c.args.sink.now) (g.K.Sink.held c.run.new.sink)))) c.shows_if.ensures (c.run.ensures.done e);
 }
 
 pub returns-in-Ok-Run-clause-bad_words : goal.returns-in-Ok-Run-clause-bad_words
@@ -62,7 +65,7 @@ pub returns-in-Ok-Run-clause-write_fault_writes_a_prefix : goal.returns-in-Ok-Ru
 returns-in-Ok-Run-clause-write_fault_writes_a_prefix g c = λ e. record {
   asked = Run c.in-Ok-Run.pages c.in-Ok-Run.patience c.in-Ok-Run.format c.in-Ok-Run.live;
   asks = c.in-Ok-Run.ensures.asked ∙ ap Some c.in-Ok-Run.field-0-is;
-  done = rw c.shows_if.ensures at (c.run.ensures.write_fault_writes_a_prefix e);
+  done = subst (λ (s : Shows). IfSome (g.S.Source.left c.args.source.now) (λ input. ShownInPart s (settings_with c.in-Ok-Run.pages c.in-Ok-Run.patience c.in-Ok-Run.format) input (AppendsPrefix (g.K.Sink.held c.args.sink.now) (g.K.Sink.held c.run.new.sink)))) c.shows_if.ensures (c.run.ensures.write_fault_writes_a_prefix e);
 }
 
 pub returns-in-Ok-Run-clause-no_memory_writes_nothing : goal.returns-in-Ok-Run-clause-no_memory_writes_nothing
