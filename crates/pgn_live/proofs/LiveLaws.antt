@@ -1,5 +1,5 @@
 -- What came of sessions that have run live.
-use Rattle.std.proofs.Common.{◌≡◌, ◌≢◌, ◌⊎◌, inl, inr, ℕ, true, ◌+◌, ◌-◌, ◌<◌, ◌≤◌, cond, List, [], ◌∷◌, ◌++◌, length, drop, map, flat_map, All, Option, Some, None, Result, Ok, Err, OnOk, OnErr, MatchResult, sym, ap, ◌∙◌, refl, subst, arith, append-nil, append_assoc, eq-eqb}
+use Rattle.std.proofs.Common.{◌≡◌, ◌≢◌, ◌⊎◌, inl, inr, ℕ, true, ◌+◌, ◌<◌, ◌≤◌, cond, List, [], ◌∷◌, ◌++◌, length, drop, map, All, Option, Some, None, Result, Ok, Err, OnOk, sym, ap, ◌∙◌, refl, subst, arith, append-nil, append_assoc, eq-eqb}
 use Rattle.std.specs.Io.KnownBytes.{Appends}
 use Rattle.std.proofs.Math.Seq.{drop-append_seam}
 use Rattle.std.proofs.lemmas.Bool.{cases_eq, cases_lt}
@@ -28,7 +28,7 @@ use Rattle.pgn_text.specs.Rendering.{Puts}
 use Rattle.pgn_text.proofs.PutsLaws.{Puts-none, Puts-same, Puts-trans, Writes-from_Puts}
 use Rattle.pgn_live.specs.Lives.{answer_of, log_of, logs_of, tagged, AreFirst, AreWhole, CameTo, ComesFirst, ComesWhole, IsNumber, Wrote}
 use Rattle.pgn_live.specs.Playing.{sections_of, HasPlayed, HasPlayedOut, HavePlayed}
-use Rattle.pgn_live.proofs.RowLaws.{none-before, none-behind, same-length, sections-same}
+use Rattle.pgn_live.proofs.RowLaws.{same-length, sections-same}
 use Rattle.pgn_live.proofs.WriteLaws.{stand-fresh, tagged-append}
 
 -- what came of a session whose number none of these has

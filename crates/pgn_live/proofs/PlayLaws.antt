@@ -1,8 +1,7 @@
 -- Sessions that run and tell, in halves.
-use Rattle.std.proofs.Common.{◌≡◌, ℕ, ◌+◌, ◌-◌, ◌/◌, ◌<◌, ◌≤◌, List, [], ◌∷◌, ◌++◌, length, get_or, map, set, All, Option, Some, None, IfNone, Result, Ok, Err, OnOk, sym, ap, ◌∙◌, refl, subst, arith, append-nil, length-append}
+use Rattle.std.proofs.Common.{◌≡◌, ℕ, ◌+◌, ◌-◌, ◌/◌, ◌<◌, ◌≤◌, List, [], ◌++◌, length, All, Option, Some, None, IfNone, Result, Ok, Err, OnOk, sym, ap, ◌∙◌, refl, subst, arith, append-nil, length-append}
 use Rattle.std.specs.Result.{result_and}
-use Rattle.std.proofs.lemmas.List.{map-append}
-use Rattle.std.proofs.lemmas.List.Elements.{All-nil, All-cons, All-head, All-tail, All-append, All-weaker}
+use Rattle.std.proofs.lemmas.List.Elements.{All-append, All-weaker}
 use Rattle.pgn_hub.specs.declared.known.Known.{Known}
 use Rattle.pgn_hub.specs.Shape.{Shape}
 use Rattle.pgn_language.specs.declared.scenario.Section.{Section}

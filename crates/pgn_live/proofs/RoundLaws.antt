@@ -1,5 +1,5 @@
 -- Sessions that take turns and tell: one after another, and round after round.
-use Rattle.std.proofs.Common.{◌≡◌, ◌≢◌, ℕ, ◌+◌, ◌<◌, ◌≤◌, inl, inr, Bool, true, List, [], ◌∷◌, ◌++◌, length, get_or, map, set, take, drop, replicate, All, Result, Ok, Err, OnOk, sym, ap, ◌∙◌, refl, subst, arith}
+use Rattle.std.proofs.Common.{◌≡◌, ◌≢◌, ℕ, ◌+◌, ◌<◌, ◌≤◌, inl, inr, List, [], ◌∷◌, ◌++◌, length, get_or, map, set, take, drop, replicate, All, Result, Ok, Err, OnOk, sym, ap, ◌∙◌, refl, subst, arith}
 use Rattle.std.proofs.lemmas.List.{take_all, take-append-drop}
 use Rattle.std.proofs.lemmas.List.Elements.{All-nil, All-cons, All-head, All-tail, All-append, All-weaker}
 use Rattle.pgn_hub.specs.declared.known.Known.{Known}
@@ -13,7 +13,6 @@ use Rattle.pgn_outlet.specs.Rule.{MayPush, sender}
 use Rattle.pgn_session.specs.declared.session.Session.{Session}
 use Rattle.pgn_session.specs.declared.doing.Step.{Step}
 use Rattle.pgn_session.specs.declared.doing.Step.TheVariants.{Ended}
-use Rattle.pgn_session.specs.Parts.{Begins}
 use Rattle.pgn_session.specs.Standing.{terms_of}
 use Rattle.pgn_session.specs.Runs.{Script, AreLawful, HasGivenUp, HasStopped, IsHeld, IsLawful, IsOver, IsReady, script_of, shown_of}
 use Rattle.pgn_session.proofs.LawfulLaws.{rest-lawful}

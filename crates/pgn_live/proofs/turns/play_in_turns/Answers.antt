@@ -1,4 +1,4 @@
-use Rattle.std.proofs.Common.{Ok, Err, length, arith}
+use Rattle.std.proofs.Common.{length, arith}
 use Rattle.std.proofs.lemmas.List.{take-replicate}
 use Rattle.pgn_outlet.specs.Passes.{knows}
 use Rattle.pgn_live.proofs.RoundLaws.{gave-up-played, may-go, over-played}
