@@ -1,5 +1,5 @@
 -- What is left of sessions that have run.
-use Rattle.std.proofs.Common.{◌≡◌, inl, inr, ◌+◌, List, ◌++◌, length, map, set, length-append, All, Any, Option, None, Some, IfNone, Result, Ok, Err, OnOk, OnErr, sym, ap, ◌∙◌, subst, arith}
+use Rattle.std.proofs.Common.{◌≡◌, inl, inr, ◌+◌, ◌/◌, ◌<◌, ◌≤◌, List, ◌++◌, length, map, set, length-append, All, Any, Option, None, Some, IfNone, Result, Ok, Err, OnOk, OnErr, sym, ap, ◌∙◌, subst, arith}
 use Rattle.std.specs.Result.{result_and}
 use Rattle.std.proofs.lemmas.List.{map-append, get_or_append_left, get_or-append-add}
 use Rattle.std.proofs.lemmas.List.Elements.{All-append}
@@ -17,6 +17,10 @@ any-front Q xs ys some = (some.0, some.1, omega (arith, some.2, length-append xs
 
 any-behind : {X : Type 0} (Q : X → Type 0) (xs ys : List X) → Any Q ys → Any Q (xs ++ ys)
 any-behind Q xs ys some = (length xs + some.0, some.1, omega (arith, some.2, length-append xs ys), get_or-append-add xs ys some.0 some.1 ∙ some.3, some.4)
+
+-- two halves of some, neither of which is empty
+pub halves-some : {X : Type 0} (xs front back : List X) → 2 ≤ length xs → length front ≡ length xs / 2 → length back + length xs / 2 ≡ length xs → (0 < length front) × (0 < length back)
+halves-some xs front back two half rest = (omega (arith, two, half), omega (arith, two, half, rest))
 
 module _ {P : Type 0} (is_own : P → Type 0) (shape : Shape) (known : P → Known) where
   -- one session

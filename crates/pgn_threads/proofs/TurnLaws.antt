@@ -9,6 +9,9 @@ use Rattle.pgn_session.specs.declared.doing.Step.TheVariants.{Ended}
 use Rattle.pgn_session.specs.Runs.{script_of, IsOver, HasGivenUp}
 use Rattle.pgn_threads.proofs.ListLemmas.{same-count}
 
+pub of-ok : {A E : Type 0} (a b : A) → ◌≡◌ {A = Result A E} (Ok a) (Ok b) → a ≡ b
+of-ok a b same = cc
+
 -- where there is none, and where there is one
 pub all-none : {X : Type 0} (Q : X → Type 0) (xs : List X) → length xs ≡ 0 → All Q xs
 all-none Q [] none = All-nil Q

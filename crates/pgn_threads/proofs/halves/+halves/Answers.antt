@@ -5,7 +5,7 @@ use Rattle.pgn_session.specs.Runs.{IsOver, IsReady, script_of}
 use Rattle.pgn_threads.specs.Whole.{MayHaveRun}
 use Rattle.pgn_threads.proofs.ListLemmas.{all-front, all-behind}
 use Rattle.pgn_threads.proofs.TurnLaws.{some-one, ok-one}
-use Rattle.pgn_threads.proofs.RunningLaws.{halves-ran, one-gave_up, one-stopped, still-ready}
+use Rattle.pgn_threads.proofs.RunningLaws.{halves-some, halves-ran, one-gave_up, one-stopped, still-ready}
 use Rattle.pgn_threads.proofs.halves.+halves.Goals as goal
 
 pub run_halves-returns : goal.run_halves-returns
@@ -68,3 +68,29 @@ run_sessions-run_the_rest-requires-after_bounds g t c κs within =
 
 pub run_sessions-returns-clause-scripts : goal.run_sessions-returns-clause-scripts
 run_sessions-returns-clause-scripts g t c = (c.run_the_rest.ensures c.args.sessions.now c.run_apart-ran.ensures).scripts
+
+pub arrive-returns : goal.arrive-returns
+arrive-returns g t c = record {
+  over = c.run_sessions.ensures.over;
+  scripts = c.run_sessions.ensures.scripts;
+  stopped = c.run_sessions.ensures.stopped;
+  gave_up = c.run_sessions.ensures.gave_up;
+}
+
+pub expect-returns : goal.expect-returns
+expect-returns g t c = record {
+  over = c.run_sessions.ensures.over;
+  scripts = c.run_sessions.ensures.scripts;
+  stopped = c.run_sessions.ensures.stopped;
+  gave_up = c.run_sessions.ensures.gave_up;
+}
+
+pub join_halves-join_mut+arg2-returns : goal.join_halves-join_mut+arg2-returns
+join_halves-join_mut+arg2-returns g t c = c.arrive.ensures
+
+pub join_halves-join_mut+arg3-returns : goal.join_halves-join_mut+arg3-returns
+join_halves-join_mut+arg3-returns g t c = c.expect.ensures
+
+pub run_apart-run_halves-requires-clause-some : goal.run_apart-run_halves-requires-clause-some
+run_apart-run_halves-requires-clause-some g t c κs within =
+    halves-some c.args.sessions.now c.split_at_mut-left.result.0.now c.split_at_mut-left.result.1.now c.requires.some c.split_at_mut-left.ensures.front_len c.split_at_mut-left.ensures.back_len

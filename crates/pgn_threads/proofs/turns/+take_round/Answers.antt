@@ -1,4 +1,4 @@
-use Rattle.std.proofs.Common.{◌≡◌, Ok, ap}
+use Rattle.std.proofs.Common.{Ok, ap}
 use Rattle.std.proofs.Math.Seq.{map-set_same}
 use Rattle.std.proofs.lemmas.List.Elements.{All-append}
 use Rattle.pgn_session.specs.declared.doing.Step.TheVariants.{Ended}
@@ -6,13 +6,13 @@ use Rattle.pgn_session.specs.declared.session.Session.{Session}
 use Rattle.pgn_session.specs.Runs.{IsHeld, IsOver, IsReady, script_of}
 use Rattle.pgn_session.proofs.TogetherLaws.{halves-same}
 use Rattle.pgn_threads.proofs.ListLemmas.{all-front, all-behind}
-use Rattle.pgn_threads.proofs.TurnLaws.{all-none, some-one, all-one, ok-one, both-over}
+use Rattle.pgn_threads.proofs.TurnLaws.{of-ok, all-none, some-one, all-one, ok-one, both-over}
 use Rattle.pgn_threads.proofs.turns.+take_round.Goals as goal
 
 pub returns-clause-over : goal.returns-clause-over
 returns-clause-over g t c = λ is.
     both-over (g.H.Hub.is_pass c.args.hub.now) (g.H.Hub.shape c.args.hub.now) g.P.PassView.known c.take_round-first.new.sessions c.take_round-second.new.sessions c.in_ok-first.first c.in_ok-second.second c.both_steps.result
-    c.both_steps.ensures.first c.both_steps.ensures.second (λ ended. c.in_ok-first.ensures.over (ap Ok ended)) (λ ended. c.in_ok-second.ensures.over (ap Ok ended)) (let ended : c.both_steps.result ≡ Ended = cc in ended)
+    c.both_steps.ensures.first c.both_steps.ensures.second (λ ended. c.in_ok-first.ensures.over (ap Ok ended)) (λ ended. c.in_ok-second.ensures.over (ap Ok ended)) (of-ok c.both_steps.result Ended is)
 
 pub returns-then-sessions-eq0-clause-held : goal.returns-then-sessions-eq0-clause-held
 returns-then-sessions-eq0-clause-held g t c =
