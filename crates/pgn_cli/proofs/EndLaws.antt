@@ -1,5 +1,6 @@
 -- What stands on the errors' stream where a run has ended.
-use Rattle.std.proofs.Common.{◌≡◌, ◌≢◌, ◌⊎◌, inl, inr, ℕ, List, [], Option, Some, None, Result, Ok, Err, IfOk, IfSome, sym, ap, ◌∙◌, refl, subst, arith, append-nil}
+use Rattle.std.proofs.Common.{◌≡◌, ◌≢◌, ◌⊎◌, ◌+◌, ◌<◌, inl, inr, ℕ, List, [], ◌∷◌, ◌++◌, length, take, get_or, Option, Some, None, Result, Ok, Err, IfOk, IfSome, IsOkAnd, sym, ap, map, ◌∙◌, refl, subst, arith, append-nil}
+use Rattle.std.proofs.lemmas.List.{map-append, map_more}
 use Rattle.std.specs.Io.KnownBytes.{Appends}
 use Rattle.pgn_base.specs.Outside.{AppendsPrefix, HasCause, Rose, Writes}
 use Rattle.pgn_language.specs.declared.scenario.ScenarioFault.{ScenarioFault}
@@ -30,6 +31,35 @@ written-prefix old new (Err e) text h = h
 pub written-whole : {T E : Type 0} (old new : Option (List ℕ)) (before now : ℕ) (result : Result T E) (text : List ℕ) → Writes old new result text → HasCause before now result → ¬ Rose before now → Appends old new text
 written-whole old new before now (Ok x) text h cause none = h
 written-whole old new before now (Err e) text h cause none = absurd (none cause.failed)
+
+-- what holds of words that are there
+pub is-ok-and : {T E : Type 0} (words : Result T E) (w : T) (P : T → Type 0) → words ≡ Ok w → P w → IsOkAnd words P
+is-ok-and {T} {E} words w P is h = subst (λ (r : Result T E). IsOkAnd r P) (sym is) h
+
+pub if-ok : {T E : Type 0} (words : Result T E) (w : T) (P : T → Type 0) → words ≡ Ok w → P w → IfOk words P
+if-ok {T} {E} words w P is h = subst (λ (r : Result T E). IfOk r P) (sym is) h
+
+pub of-ok : {T E : Type 0} (words : Result T E) (w : T) (P : T → Type 0) → words ≡ Ok w → IfOk words P → P w
+of-ok {T} {E} words w P is h = subst (λ (r : Result T E). IfOk r P) is h
+
+-- words that are lent piece by piece are the same
+pub lent-words : {A : Type 0} (now : A → List ℕ) (slice texts : List A) (words : List (List ℕ)) → slice ≡ texts → map now texts ≡ words → map now slice ≡ words
+lent-words {A} now slice texts words e f = ap (λ (xs : List A). map now xs) e ∙ f
+
+-- one word more is lent
+pub texts-more : {A B : Type 0} (now : A → List ℕ) (bytes : B → List ℕ) (old new : List A) (text : A) (words : List B) (i : ℕ) (word : B) → map now old ≡ map bytes (take i words) → new ≡ old ++ text ∷ []
+    → now text ≡ bytes word → i < length words → word ≡ get_or words i word → map now new ≡ map bytes (take (i + 1) words)
+texts-more {A} {B} now bytes old new text words i word h e f less is =
+    ap (λ (xs : List A). map now xs) e ∙ map-append now old (text ∷ []) ∙ ap (λ (bs : List (List ℕ)). bs ++ now text ∷ []) h
+    ∙ ap (λ (b : List ℕ). map bytes (take i words) ++ b ∷ []) (f ∙ ap bytes is) ∙ sym (map_more bytes words i word less)
+
+-- what holds of words holds of equal ones
+pub of-words : (P : List (List ℕ) → Type 0) (words others : List (List ℕ)) → words ≡ others → P words → P others
+of-words P words others same h = subst P same h
+
+-- what does not hold of words does not hold of equal ones
+pub not-words : (P : List (List ℕ) → Type 0) (words others : List (List ℕ)) → words ≡ others → ¬ P others → ¬ P words
+not-words P words others same none h = none (subst P same h)
 
 -- other words end with the status of wrong words, unless memory did not suffice
 pub code-of_words : {T E : Type 0} (words : Result T E) (AreOther : T → Type 0) (status : Status) (code : ℕ) → code ≡ code_of status

@@ -100,12 +100,51 @@ fn status_of<S: Source, K: Sink + Send, R: Threads + Wait + Sync>(
     ensures right_words { IfOk words (λ words. result ≡ Status.BadWords → AreNoCommand (map string_bytes words.items)) }
     ensures other_words { IfOk words (λ words. AreNoCommand (map string_bytes words.items) → result ≢ Status.NoMemory → result ≡ Status.BadWords) }
 {
-    let words = match words {
-        Ok(words) => words,
-        Err(NoWords::Memory) => return Status::NoMemory,
-        Err(NoWords::NotText) => return Status::BadWords,
-    };
-    match borrowed(alloc, words.as_slice()) {
+    match words {
+        Ok(words) => {
+            let status = run_words(rt, alloc, words.as_slice(), source, sink);
+            drop(words);
+            status
+        }
+        Err(NoWords::Memory) => Status::NoMemory,
+        Err(NoWords::NotText) => Status::BadWords,
+    }
+}
+
+// How a run of words that are there ends.
+fn run_words<S: Source, K: Sink + Send, R: Threads + Wait + Sync>(
+    rt: &R,
+    alloc: Global,
+    words: &[String],
+    source: &mut S,
+    sink: &mut K,
+) -> Status
+    ensures done { result ≡ Status.Done → Performs (map string_bytes words.now) (S.left source.old) (Appends (K.held sink.old) (K.held sink.new)) }
+    ensures bad_scenario { (fault : ScenarioFault) → result ≡ Status.BadScenario fault → IfSome (S.left source.old) (λ input. IsFaulty input fault) }
+    ensures bad_wire { (fault : WireFault) → result ≡ Status.BadWire fault → AskToWire (map string_bytes words.now)
+        × IfSome (S.left source.old) (λ bytes. BreaksOff bytes fault (Appends (K.held sink.old) (K.held sink.new))) }
+    ensures illegal { (line : ℕ) → result ≡ Status.Illegal line → (ask : AskToCheck (map string_bytes words.now))
+        × IfSome (S.left source.old) (SaysIllegal (asked_settings ask) (K.held sink.old) (K.held sink.new)) }
+    ensures no_output { result ≡ Status.NoOutput → AskToCheck (map string_bytes words.now) × IfSome (S.left source.old) HasNoOutput }
+    ensures check_too_large { result ≡ Status.CheckTooLarge → AskToCheck (map string_bytes words.now) × IfSome (S.left source.old) IsTooLarge }
+    ensures read_fault { result ≡ Status.ReadFault → Rose (S.faults source.old) (S.faults source.new) }
+    ensures read_fault_where_due { S.faults source.old < S.faults source.new → result ≡ Status.ReadFault }
+    ensures write_fault { result ≡ Status.WriteFault → Rose (K.faults sink.old) (K.faults sink.new) }
+    ensures write_fault_where_due { K.faults sink.old < K.faults sink.new → result ≡ Status.WriteFault }
+    ensures write_fault_writes_a_prefix { result ≡ Status.WriteFault → PerformsInPart (map string_bytes words.now) (S.left source.old) (AppendsPrefix (K.held sink.old) (K.held sink.new)) }
+    ensures refused_writes_nothing { IsRefused result → K.held sink.new ≡ K.held sink.old }
+    ensures read_fault_writes_nothing { ¬ AskToWire (map string_bytes words.now) → result ≡ Status.ReadFault → K.held sink.new ≡ K.held sink.old }
+    ensures read_fault_writes_answers { AskToWire (map string_bytes words.now) → result ≡ Status.ReadFault
+        → IfSome (S.left source.old) (λ bytes. StopsAmong bytes (λ section items. Appends (K.held sink.old) (K.held sink.new) (messages section items))) }
+    ensures no_memory_writes_nothing { ¬ AskToRunLive (map string_bytes words.now) → ¬ AskToWire (map string_bytes words.now) → result ≡ Status.NoMemory → K.held sink.new ≡ K.held sink.old }
+    ensures no_memory_writes_first_lines { (ask : AskToRunLive (map string_bytes words.now)) → result ≡ Status.NoMemory
+        → (K.held sink.new ≡ K.held sink.old) ⊎ IfSome (S.left source.old) (λ input. SoFarRuns (settings_with ask.pages ask.patience ask.format) input (Appends (K.held sink.old) (K.held sink.new))) }
+    ensures no_memory_writes_whole_answers { AskToWire (map string_bytes words.now) → result ≡ Status.NoMemory
+        → IfSome (S.left source.old) (λ bytes. StopsAmong bytes (WroteWhole (K.held sink.old) (K.held sink.new))) }
+    ensures right_words { result ≡ Status.BadWords → AreNoCommand (map string_bytes words.now) }
+    ensures other_words { AreNoCommand (map string_bytes words.now) → result ≢ Status.NoMemory → result ≡ Status.BadWords }
+{
+    match borrowed(alloc, words) {
         Ok(words) => run_notify(rt, alloc, words.as_slice(), source, sink),
         Err(AllocError) => Status::NoMemory,
     }
