@@ -1,7 +1,7 @@
 use crate::cases::{cases, lines};
 use crate::lines::command_of;
 use crate::printer::Printer;
-use pgn_block::Block;
+use pgn_block::{Block, Effect};
 use std::alloc::{AllocError, Global};
 
 // What leads into a block that has the savepoint s, and behind that into one that failed.
@@ -14,63 +14,54 @@ const DROP: &[u8] = b"\\drop";
 pub fn answers_row(alloc: Global, input: &[u8]) -> Result<Vec<u8>, AllocError> {
     let lines = lines(alloc, input)?;
     let mut printer = Printer::new(alloc);
-    let put = put_lines(&mut printer, alloc, lines.as_slice());
+    put_lines(&mut printer, alloc, lines.as_slice());
     drop(lines);
-    printer.into_text(put)
+    printer.into_text()
 }
 
-fn put_lines(printer: &mut Printer, alloc: Global, lines: &[&[u8]]) -> Result<(), AllocError> {
+fn put_lines(printer: &mut Printer, alloc: Global, lines: &[&[u8]]) {
     for line in lines {
-        printer.bytes(line)?;
-        printer.bytes(b"\n")?;
-        put_in_each_state(printer, alloc, line)?;
+        printer.bytes(line);
+        printer.bytes(b"\n");
+        put_behind(printer, alloc, &[], line);
+        put_behind(printer, alloc, &WAY[..2], line);
+        put_behind(printer, alloc, &WAY, line);
     }
-    Ok(())
-}
-
-fn put_in_each_state(printer: &mut Printer, alloc: Global, line: &[u8]) -> Result<(), AllocError> {
-    put_behind(printer, alloc, &[], line)?;
-    put_behind(printer, alloc, &WAY[..2], line)?;
-    put_behind(printer, alloc, &WAY, line)
 }
 
 // The state of a block behind these lines, and what the line is answered there.
-fn put_behind(
-    printer: &mut Printer,
-    alloc: Global,
-    way: &[&[u8]],
-    line: &[u8],
-) -> Result<(), AllocError> {
+fn put_behind(printer: &mut Printer, alloc: Global, way: &[&[u8]], line: &[u8]) {
     let mut block = Block::new(alloc);
-    let put = put_in_state(printer, alloc, &mut block, way, line);
+    for earlier in way {
+        tell(printer, alloc, &mut block, earlier);
+    }
+    put_in_state(printer, alloc, &mut block, line);
     drop(block);
-    put
 }
 
-fn put_in_state(
-    printer: &mut Printer,
-    alloc: Global,
-    block: &mut Block,
-    way: &[&[u8]],
-    line: &[u8],
-) -> Result<(), AllocError> {
-    for earlier in way {
-        tell(alloc, block, earlier)?;
-    }
-    printer.bytes(b"  ")?;
-    printer.state(block.state())?;
-    printer.bytes(b": ")?;
-    put_answer(printer, alloc, block, line)
+fn put_in_state(printer: &mut Printer, alloc: Global, block: &mut Block, line: &[u8]) {
+    printer.bytes(b"  ");
+    printer.state(block.state());
+    printer.bytes(b": ");
+    put_answer(printer, alloc, block, line);
 }
 
 // Tells a block a line.
-fn tell(alloc: Global, block: &mut Block, line: &[u8]) -> Result<(), AllocError> {
+fn tell(printer: &mut Printer, alloc: Global, block: &mut Block, line: &[u8]) {
+    match effect_of(alloc, block, line) {
+        Ok(effect) => drop(effect),
+        Err(error) => printer.fail(error),
+    }
+}
+
+// What a line comes to in a block, unless it can be no line of an input.
+fn effect_of(alloc: Global, block: &mut Block, line: &[u8]) -> Result<Option<Effect>, AllocError> {
     match command_of(alloc, line)? {
         Some(command) => {
-            drop(block.step(command)?);
-            Ok(())
+            let effect = block.step(command)?;
+            Ok(Some(effect))
         }
-        None => Ok(()),
+        None => Ok(None),
     }
 }
 
@@ -78,77 +69,62 @@ fn tell(alloc: Global, block: &mut Block, line: &[u8]) -> Result<(), AllocError>
 pub fn blocks_row(alloc: Global, input: &[u8]) -> Result<Vec<u8>, AllocError> {
     let cases = cases(alloc, input)?;
     let mut printer = Printer::new(alloc);
-    let put = put_cases(&mut printer, alloc, cases.as_slice());
+    put_cases(&mut printer, alloc, cases.as_slice());
     drop(cases);
-    printer.into_text(put)
+    printer.into_text()
 }
 
-fn put_cases(printer: &mut Printer, alloc: Global, cases: &[&[u8]]) -> Result<(), AllocError> {
+fn put_cases(printer: &mut Printer, alloc: Global, cases: &[&[u8]]) {
     for case in cases {
-        put_case(printer, alloc, case)?;
-        printer.end_of_case()?;
+        put_case(printer, alloc, case);
+        printer.end_of_case();
     }
-    Ok(())
 }
 
-fn put_case(printer: &mut Printer, alloc: Global, case: &[u8]) -> Result<(), AllocError> {
-    let lines = lines(alloc, case)?;
-    let mut block = Block::new(alloc);
-    let put = put_answers(printer, alloc, &mut block, lines.as_slice());
-    drop(block);
-    drop(lines);
-    put
+fn put_case(printer: &mut Printer, alloc: Global, case: &[u8]) {
+    match lines(alloc, case) {
+        Ok(lines) => {
+            put_answers(printer, alloc, lines.as_slice());
+            drop(lines);
+        }
+        Err(error) => printer.fail(error),
+    }
 }
 
 // Each line, and on the same line what it is answered.
-fn put_answers(
-    printer: &mut Printer,
-    alloc: Global,
-    block: &mut Block,
-    lines: &[&[u8]],
-) -> Result<(), AllocError> {
+fn put_answers(printer: &mut Printer, alloc: Global, lines: &[&[u8]]) {
+    let mut block = Block::new(alloc);
     for line in lines {
-        printer.bytes(line)?;
-        printer.bytes(b": ")?;
-        put_answer(printer, alloc, block, line)?;
+        printer.bytes(line);
+        printer.bytes(b": ");
+        put_answer(printer, alloc, &mut block, line);
     }
-    Ok(())
+    drop(block);
 }
 
 // What a line is answered, and the new state where it changes.
-fn put_answer(
-    printer: &mut Printer,
-    alloc: Global,
-    block: &mut Block,
-    line: &[u8],
-) -> Result<(), AllocError> {
+fn put_answer(printer: &mut Printer, alloc: Global, block: &mut Block, line: &[u8]) {
     let before = block.state();
     if line == DROP {
         block.drop_block();
-        printer.bytes(b"dropped")?;
+        printer.bytes(b"dropped");
     } else {
-        put_effect(printer, alloc, block, line)?;
+        put_effect(printer, alloc, block, line);
     }
     if block.state() != before {
-        printer.bytes(b" -> ")?;
-        printer.state(block.state())?;
+        printer.bytes(b" -> ");
+        printer.state(block.state());
     }
-    printer.bytes(b"\n")
+    printer.bytes(b"\n");
 }
 
-fn put_effect(
-    printer: &mut Printer,
-    alloc: Global,
-    block: &mut Block,
-    line: &[u8],
-) -> Result<(), AllocError> {
-    match command_of(alloc, line)? {
-        Some(command) => {
-            let effect = block.step(command)?;
-            let put = printer.effect(&effect);
+fn put_effect(printer: &mut Printer, alloc: Global, block: &mut Block, line: &[u8]) {
+    match effect_of(alloc, block, line) {
+        Ok(Some(effect)) => {
+            printer.effect(&effect);
             drop(effect);
-            put
         }
-        None => printer.bytes(b"no line"),
+        Ok(None) => printer.bytes(b"no line"),
+        Err(error) => printer.fail(error),
     }
 }

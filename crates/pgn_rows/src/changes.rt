@@ -1,4 +1,5 @@
 use crate::cases::lines;
+use crate::printer::Printer;
 use crate::row::{Outcome, Row, read_row};
 use crate::runs::run_row;
 use std::alloc::{AllocError, Global};
@@ -25,48 +26,40 @@ pub fn changes_row<R: Files + AllocGlobal + Threads + Wait + Sync>(
     input: &[u8],
 ) -> Result<Vec<u8>, AllocError> {
     let lines = lines(alloc, input)?;
-    let mut text = Vec::new(alloc);
-    let put = put_lines(rt, alloc, &mut text, lines.as_slice());
+    let mut printer = Printer::new(alloc);
+    put_lines(rt, alloc, &mut printer, lines.as_slice());
     drop(lines);
-    match put {
-        Ok(()) => Ok(text),
-        Err(error) => {
-            drop(text);
-            Err(error)
-        }
-    }
+    printer.into_text()
 }
 
 fn put_lines<R: Files + AllocGlobal + Threads + Wait + Sync>(
     rt: &R,
     alloc: Global,
-    text: &mut Vec<u8>,
+    printer: &mut Printer,
     lines: &[&[u8]],
-) -> Result<(), AllocError> {
+) {
     for line in lines {
         if let Ok(asked) = str::from_utf8(line) {
-            put_asked(rt, alloc, text, asked)?;
+            put_asked(rt, alloc, printer, asked);
         }
     }
-    Ok(())
 }
 
 fn put_asked<R: Files + AllocGlobal + Threads + Wait + Sync>(
     rt: &R,
     alloc: Global,
-    text: &mut Vec<u8>,
+    printer: &mut Printer,
     asked: &str,
-) -> Result<(), AllocError> {
+) {
     let (name, _) = parted(asked);
     match read_row(rt, name) {
         Ok(row) => {
-            let put = put_row(rt, alloc, text, asked, &row);
+            put_row(rt, alloc, printer, asked, &row);
             drop(row);
-            put
         }
         Err(error) => {
             drop(error);
-            put_answer(text, asked, b"cannot be read\n")
+            put_answer(printer, asked, b"cannot be read\n");
         }
     }
 }
@@ -82,39 +75,45 @@ fn parted(asked: &str) -> (&str, &str) {
 fn put_row<R: Threads + Wait + Sync>(
     rt: &R,
     alloc: Global,
-    text: &mut Vec<u8>,
+    printer: &mut Printer,
     asked: &str,
     row: &Row,
-) -> Result<(), AllocError> {
-    let lines = lines(alloc, row.wanted.output.as_slice())?;
-    let put = put_lines_of(rt, alloc, text, asked, row, lines.as_slice());
-    drop(lines);
-    put
+) {
+    match lines(alloc, row.wanted.output.as_slice()) {
+        Ok(lines) => {
+            put_lines_of(rt, alloc, printer, asked, row, lines.as_slice());
+            drop(lines);
+        }
+        Err(error) => printer.fail(error),
+    }
 }
 
 fn put_lines_of<R: Threads + Wait + Sync>(
     rt: &R,
     alloc: Global,
-    text: &mut Vec<u8>,
+    printer: &mut Printer,
     asked: &str,
     row: &Row,
     lines: &[&[u8]],
-) -> Result<(), AllocError> {
-    let words = check_words(alloc, row.words.as_slice())?;
-    let checked = Checked {
-        words: words.as_slice(),
-        scenario: row.input.as_slice(),
-        lines,
-    };
-    let put = checked.put_asked(rt, alloc, text, asked);
-    drop(words);
-    put
+) {
+    match check_words(alloc, row.words.as_slice()) {
+        Ok(words) => {
+            let checked = Checked {
+                words: words.as_slice(),
+                scenario: row.input.as_slice(),
+                lines,
+            };
+            checked.put_asked(rt, alloc, printer, asked);
+            drop(words);
+        }
+        Err(error) => printer.fail(error),
+    }
 }
 
-fn put_answer(text: &mut Vec<u8>, asked: &str, answer: &[u8]) -> Result<(), AllocError> {
-    text.extend_from_slice(asked.as_bytes())?;
-    text.extend_from_slice(b": ")?;
-    text.extend_from_slice(answer)
+fn put_answer(printer: &mut Printer, asked: &str, answer: &[u8]) {
+    printer.bytes(asked.as_bytes());
+    printer.bytes(b": ");
+    printer.bytes(answer);
 }
 
 // The words with which the output of a run of these words is checked.
@@ -156,17 +155,16 @@ impl<'a> Checked<'a> {
         &self,
         rt: &R,
         alloc: Global,
-        text: &mut Vec<u8>,
+        printer: &mut Printer,
         asked: &str,
-    ) -> Result<(), AllocError> {
+    ) {
         let (name, change) = parted(asked);
         if change.is_empty() {
-            return self.put_all(rt, alloc, text, name);
+            self.put_all(rt, alloc, printer, name);
+        } else {
+            put_answer(printer, asked, b"");
+            printer.owned(self.answer_to_change(rt, alloc, change));
         }
-        let answer = self.answer_to_change(rt, alloc, change)?;
-        let put = put_answer(text, asked, answer.as_slice());
-        drop(answer);
-        put
     }
 
     // The answer to the output, and each change by one line that changes the text and is legal.
@@ -174,33 +172,31 @@ impl<'a> Checked<'a> {
         &self,
         rt: &R,
         alloc: Global,
-        text: &mut Vec<u8>,
+        printer: &mut Printer,
         name: &str,
-    ) -> Result<(), AllocError> {
-        let answer = self.answer(rt, alloc, self.lines)?;
-        let put = put_answer(text, name, answer.as_slice());
-        drop(answer);
-        put?;
+    ) {
+        put_answer(printer, name, b"");
+        printer.owned(self.answer(rt, alloc, self.lines));
         for at in 0..self.lines.len() {
-            self.put_legal_at(rt, alloc, text, name, at)?;
+            self.put_legal_at(rt, alloc, printer, name, at);
         }
-        Ok(())
     }
 
     fn put_legal_at<R: Threads + Wait + Sync>(
         &self,
         rt: &R,
         alloc: Global,
-        text: &mut Vec<u8>,
+        printer: &mut Printer,
         name: &str,
         at: usize,
-    ) -> Result<(), AllocError> {
+    ) {
         for change in CHANGES {
-            if self.is_legal_with(rt, alloc, change, at)? {
-                put_legal(alloc, text, name, change, at)?;
+            match self.is_legal_with(rt, alloc, change, at) {
+                Ok(true) => put_legal(printer, name, change, at),
+                Ok(false) => {}
+                Err(error) => printer.fail(error),
             }
         }
-        Ok(())
     }
 
     // Whether the output with this change at a place is another text, and legal.
@@ -280,18 +276,14 @@ fn put_output(input: &mut Vec<u8>, lines: &[&[u8]]) -> Result<(), AllocError> {
 }
 
 // Names a change that is legal.
-fn put_legal(
-    alloc: Global,
-    text: &mut Vec<u8>,
-    name: &str,
-    change: &str,
-    at: usize,
-) -> Result<(), AllocError> {
-    let number = at.saturating_add(1);
-    let asked = format!(in alloc; "{name} {change} {number}")?;
-    let put = put_answer(text, asked.as_str(), LEGAL);
-    drop(asked);
-    put
+fn put_legal(printer: &mut Printer, name: &str, change: &str, at: usize) {
+    printer.bytes(name.as_bytes());
+    printer.bytes(b" ");
+    printer.bytes(change.as_bytes());
+    printer.bytes(b" ");
+    printer.number(at.saturating_add(1) as u64);
+    printer.bytes(b": ");
+    printer.bytes(LEGAL);
 }
 
 // These lines with a change of the line at a place. A place behind the last one changes nothing.
@@ -301,9 +293,8 @@ fn changed<'a>(
     change: &str,
     at: usize,
 ) -> Result<Vec<&'a [u8]>, AllocError> {
-    let mut changed = Vec::new(alloc);
-    let (front, rest) = lines.split_at(at.min(lines.len()));
-    match put_changed(&mut changed, front, rest, change) {
+    let mut changed = Vec::from_slice(alloc, lines)?;
+    match change_at(&mut changed, change, at) {
         Ok(()) => Ok(changed),
         Err(error) => {
             drop(changed);
@@ -312,28 +303,25 @@ fn changed<'a>(
     }
 }
 
-// Puts lines, and behind them others with a change of the first of these.
-fn put_changed<'a>(
-    changed: &mut Vec<&'a [u8]>,
-    front: &[&'a [u8]],
-    rest: &[&'a [u8]],
-    change: &str,
-) -> Result<(), AllocError> {
-    changed.extend_from_slice(front)?;
-    let Some((line, behind)) = rest.split_first() else {
+// Changes the line at a place, where there is one.
+fn change_at(lines: &mut Vec<&[u8]>, change: &str, at: usize) -> Result<(), AllocError> {
+    if at >= lines.len() {
         return Ok(());
-    };
-    match (change, behind.split_first()) {
-        ("without", _) => changed.extend_from_slice(behind),
-        ("behind", Some((next, more))) => {
-            changed.push(*next)?;
-            changed.push(*line)?;
-            changed.extend_from_slice(more)
+    }
+    match change {
+        "without" => {
+            lines.remove(at);
+            Ok(())
         }
-        ("twice", _) => {
-            changed.push(*line)?;
-            changed.extend_from_slice(rest)
+        "twice" => {
+            let line = lines[at];
+            lines.insert(at, line)?;
+            Ok(())
         }
-        _ => changed.extend_from_slice(rest),
+        "behind" => {
+            lines.swap(at, (at + 1).min(lines.len() - 1));
+            Ok(())
+        }
+        _ => Ok(()),
     }
 }

@@ -1,4 +1,5 @@
 use crate::cases::lines;
+use crate::printer::Printer;
 use pgn_base::Format;
 use pgn_options::{Asked, WordsFault, read_words};
 use std::alloc::{AllocError, Global};
@@ -7,41 +8,37 @@ use std::alloc::{AllocError, Global};
 /// no word.
 pub fn command_lines_row(alloc: Global, input: &[u8]) -> Result<Vec<u8>, AllocError> {
     let lines = lines(alloc, input)?;
-    let mut text = Vec::new(alloc);
-    let put = put_lines(&mut text, alloc, lines.as_slice());
+    let mut printer = Printer::new(alloc);
+    put_lines(&mut printer, alloc, lines.as_slice());
     drop(lines);
-    match put {
-        Ok(()) => Ok(text),
-        Err(error) => {
-            drop(text);
-            Err(error)
-        }
-    }
+    printer.into_text()
 }
 
-fn put_lines(text: &mut Vec<u8>, alloc: Global, lines: &[&[u8]]) -> Result<(), AllocError> {
+fn put_lines(printer: &mut Printer, alloc: Global, lines: &[&[u8]]) {
     for line in lines {
-        put_asked(text, alloc, line)?;
-        text.push(b'\n')?;
+        put_asked(printer, alloc, line);
+        printer.bytes(b"\n");
     }
-    Ok(())
 }
 
-fn put_asked(text: &mut Vec<u8>, alloc: Global, line: &[u8]) -> Result<(), AllocError> {
+fn put_asked(printer: &mut Printer, alloc: Global, line: &[u8]) {
     let Ok(line) = str::from_utf8(line) else {
-        return text.extend_from_slice(b"no line");
+        return printer.bytes(b"no line");
     };
-    let words = words_of(alloc, line)?;
-    let put = put_reading(text, alloc, words.as_slice());
-    drop(words);
-    put
+    match words_of(alloc, line) {
+        Ok(words) => {
+            put_reading(printer, alloc, words.as_slice());
+            drop(words);
+        }
+        Err(error) => printer.fail(error),
+    }
 }
 
-fn put_reading(text: &mut Vec<u8>, alloc: Global, words: &[&str]) -> Result<(), AllocError> {
+fn put_reading(printer: &mut Printer, alloc: Global, words: &[&str]) {
     match read_words(alloc, words) {
-        Ok(asked) => put_numbers(text, alloc, asked),
-        Err(WordsFault::BadWords) => text.extend_from_slice(b"no command"),
-        Err(WordsFault::Memory) => text.extend_from_slice(b"no memory"),
+        Ok(asked) => put_numbers(printer, asked),
+        Err(WordsFault::BadWords) => printer.bytes(b"no command"),
+        Err(WordsFault::Memory) => printer.bytes(b"no memory"),
     }
 }
 
@@ -56,14 +53,7 @@ fn words_of(alloc: Global, line: &str) -> Result<Vec<&str>, AllocError> {
     Ok(words)
 }
 
-fn put_numbers(text: &mut Vec<u8>, alloc: Global, asked: Asked) -> Result<(), AllocError> {
-    let line = numbers(alloc, asked)?;
-    let put = text.extend_from_slice(line.as_bytes());
-    drop(line);
-    put
-}
-
-fn numbers(alloc: Global, asked: Asked) -> Result<String, AllocError> {
+fn put_numbers(printer: &mut Printer, asked: Asked) {
     match asked {
         Asked::Run {
             pages,
@@ -71,28 +61,44 @@ fn numbers(alloc: Global, asked: Asked) -> Result<String, AllocError> {
             format,
             live,
         } => {
-            let format = number_of(format);
-            let live = if live { " live" } else { "" };
-            format!(in alloc; "run {pages} {patience} {format}{live}")
+            put_settings(printer, b"run", pages, patience, format);
+            if live {
+                printer.bytes(b" live");
+            }
         }
         Asked::Drill {
             seed,
             sessions,
             notes,
-        } => format!(in alloc; "drill {seed} {sessions} {notes}"),
-        Asked::Wire => format!(in alloc; "wire"),
+        } => {
+            printer.bytes(b"drill");
+            put_number(printer, seed);
+            put_number(printer, u64::from(sessions));
+            put_number(printer, u64::from(notes));
+        }
+        Asked::Wire => printer.bytes(b"wire"),
         Asked::Check {
             pages,
             patience,
             format,
-        } => {
-            let format = number_of(format);
-            format!(in alloc; "check {pages} {patience} {format}")
-        }
+        } => put_settings(printer, b"check", pages, patience, format),
     }
 }
 
-fn number_of(format: Format) -> u32 {
+// The word of a command, and the numbers behind it.
+fn put_settings(printer: &mut Printer, word: &[u8], pages: u32, patience: u64, format: Format) {
+    printer.bytes(word);
+    put_number(printer, u64::from(pages));
+    put_number(printer, patience);
+    put_number(printer, number_of(format));
+}
+
+fn put_number(printer: &mut Printer, number: u64) {
+    printer.bytes(b" ");
+    printer.number(number);
+}
+
+fn number_of(format: Format) -> u64 {
     match format {
         Format::One => 1,
         Format::Two => 2,

@@ -8,27 +8,26 @@ use std::alloc::{AllocError, Global};
 pub fn lines_row(alloc: Global, input: &[u8]) -> Result<Vec<u8>, AllocError> {
     let lines = lines(alloc, input)?;
     let mut printer = Printer::new(alloc);
-    let put = put_readings(&mut printer, alloc, lines.as_slice());
+    put_readings(&mut printer, alloc, lines.as_slice());
     drop(lines);
-    printer.into_text(put)
+    printer.into_text()
 }
 
-fn put_readings(printer: &mut Printer, alloc: Global, lines: &[&[u8]]) -> Result<(), AllocError> {
+fn put_readings(printer: &mut Printer, alloc: Global, lines: &[&[u8]]) {
     for line in lines {
-        put_reading(printer, alloc, line)?;
-        printer.bytes(b"\n")?;
+        put_reading(printer, alloc, line);
+        printer.bytes(b"\n");
     }
-    Ok(())
 }
 
-fn put_reading(printer: &mut Printer, alloc: Global, line: &[u8]) -> Result<(), AllocError> {
-    match command_of(alloc, line)? {
-        Some(command) => {
-            let put = printer.command(&command);
+fn put_reading(printer: &mut Printer, alloc: Global, line: &[u8]) {
+    match command_of(alloc, line) {
+        Ok(Some(command)) => {
+            printer.command(&command);
             drop(command);
-            put
         }
-        None => printer.bytes(b"no line"),
+        Ok(None) => printer.bytes(b"no line"),
+        Err(error) => printer.fail(error),
     }
 }
 

@@ -5,11 +5,12 @@ use pgn_language::{Act, Scenario, ScenarioFault, ScriptLine, Section};
 use std::alloc::{AllocError, Global};
 
 /// The text that shows values to readers of the rows, in plain words. Names stand in double and payloads in single quotes, as
-/// they are.
+/// they are. Once memory did not suffice, nothing more is put.
 #[derive(Drop)]
 pub struct Printer {
     alloc: Global,
     text: Vec<u8>,
+    so_far: Result<(), AllocError>,
 }
 
 impl Printer {
@@ -17,13 +18,14 @@ impl Printer {
         Printer {
             alloc,
             text: Vec::new(alloc),
+            so_far: Ok(()),
         }
     }
 
     /// The text, where all of it was put.
-    pub fn into_text(self, put: Result<(), AllocError>) -> Result<Vec<u8>, AllocError> {
-        let Printer { text, .. } = self;
-        match put {
+    pub fn into_text(self) -> Result<Vec<u8>, AllocError> {
+        let Printer { text, so_far, .. } = self;
+        match so_far {
             Ok(()) => Ok(text),
             Err(error) => {
                 drop(text);
@@ -32,38 +34,60 @@ impl Printer {
         }
     }
 
-    pub fn bytes(&mut self, bytes: &[u8]) -> Result<(), AllocError> {
-        self.text.extend_from_slice(bytes)
+    pub fn bytes(&mut self, bytes: &[u8]) {
+        if self.so_far.is_ok() {
+            self.so_far = self.text.extend_from_slice(bytes);
+        }
+    }
+
+    /// Puts what memory may not have sufficed for.
+    pub fn owned(&mut self, bytes: Result<Vec<u8>, AllocError>) {
+        match bytes {
+            Ok(bytes) => {
+                self.bytes(bytes.as_slice());
+                drop(bytes);
+            }
+            Err(error) => self.fail(error),
+        }
+    }
+
+    /// Notes that memory did not suffice for what was to be put.
+    pub fn fail(&mut self, error: AllocError) {
+        self.so_far = Err(error);
     }
 
     /// The line that follows what is printed of a case.
-    pub fn end_of_case(&mut self) -> Result<(), AllocError> {
-        self.bytes(b"=====\n")
+    pub fn end_of_case(&mut self) {
+        self.bytes(b"=====\n");
     }
 
-    fn number(&mut self, number: u32) -> Result<(), AllocError> {
-        let digits = format!(in self.alloc; "{number}")?;
-        let put = self.bytes(digits.as_bytes());
-        drop(digits);
-        put
+    /// A number in decimal.
+    pub fn number(&mut self, number: u64) {
+        match format!(in self.alloc; "{number}") {
+            Ok(digits) => {
+                self.bytes(digits.as_bytes());
+                drop(digits);
+            }
+            Err(error) => self.fail(error),
+        }
     }
 
-    fn named(&mut self, words: &[u8], name: &Name) -> Result<(), AllocError> {
-        self.bytes(words)?;
-        self.bytes(b" \"")?;
-        self.bytes(name.as_bytes())?;
-        self.bytes(b"\"")
+    fn named(&mut self, words: &[u8], name: &Name) {
+        self.bytes(words);
+        self.bytes(b" \"");
+        self.bytes(name.as_bytes());
+        self.bytes(b"\"");
     }
 
-    fn note(&mut self, words: &[u8], note: &Note) -> Result<(), AllocError> {
-        self.named(words, &note.channel)?;
-        self.bytes(b", '")?;
-        self.bytes(note.payload.as_bytes())?;
-        self.bytes(b"'")
+    fn note(&mut self, words: &[u8], note: &Note) {
+        self.named(words, &note.channel);
+        self.bytes(b", '");
+        self.bytes(note.payload.as_bytes());
+        self.bytes(b"'");
     }
 
     /// What a line of SQL asks for.
-    pub fn command(&mut self, command: &Command) -> Result<(), AllocError> {
+    pub fn command(&mut self, command: &Command) {
         match command {
             Command::Savepoint(name) => self.named(b"savepoint", name),
             Command::RollbackTo(name) => self.named(b"rollback to", name),
@@ -78,14 +102,14 @@ impl Printer {
         }
     }
 
-    fn at_byte(&mut self, what: &[u8], at: u32) -> Result<(), AllocError> {
-        self.bytes(what)?;
-        self.bytes(b" at byte ")?;
-        self.number(at)
+    fn at_byte(&mut self, what: &[u8], at: u32) {
+        self.bytes(what);
+        self.bytes(b" at byte ");
+        self.number(u64::from(at));
     }
 
     /// Why an input is no scenario.
-    pub fn fault(&mut self, fault: ScenarioFault) -> Result<(), AllocError> {
+    pub fn fault(&mut self, fault: ScenarioFault) {
         match fault {
             ScenarioFault::TooLarge => self.bytes(b"too large"),
             ScenarioFault::LineTooLong { line } => self.at_line(line, b"too long"),
@@ -103,83 +127,81 @@ impl Printer {
         }
     }
 
-    fn at_line(&mut self, line: u32, what: &[u8]) -> Result<(), AllocError> {
-        self.bytes(b"line ")?;
-        self.number(line)?;
-        self.bytes(b": ")?;
-        self.bytes(what)
+    fn at_line(&mut self, line: u32, what: &[u8]) {
+        self.bytes(b"line ");
+        self.number(u64::from(line));
+        self.bytes(b": ");
+        self.bytes(what);
     }
 
     /// The flags, and then each section with its lines.
-    pub fn scenario(&mut self, scenario: &Scenario) -> Result<(), AllocError> {
-        self.bytes(b"flags")?;
+    pub fn scenario(&mut self, scenario: &Scenario) {
+        self.bytes(b"flags");
         for flag in scenario.flags.as_slice() {
-            self.named(b"", flag)?;
+            self.named(b"", flag);
         }
-        self.sections(scenario.sections.as_slice())
+        self.sections(scenario.sections.as_slice());
     }
 
-    fn sections(&mut self, sections: &[Section]) -> Result<(), AllocError> {
+    fn sections(&mut self, sections: &[Section]) {
         for section in sections {
-            self.section_head(section)?;
-            self.script(section.lines.as_slice())?;
+            self.section_head(section);
+            self.script(section.lines.as_slice());
         }
-        Ok(())
     }
 
-    fn section_head(&mut self, section: &Section) -> Result<(), AllocError> {
-        self.bytes(b"\nsection ")?;
-        self.number(section.no.get())?;
-        self.named(b"", &section.name)?;
-        self.section_numbers(section.db.get(), section.note_lines)
+    fn section_head(&mut self, section: &Section) {
+        self.bytes(b"\nsection ");
+        self.number(u64::from(section.no.get()));
+        self.named(b"", &section.name);
+        self.section_numbers(section.db.get(), section.note_lines);
     }
 
-    fn section_numbers(&mut self, database: u32, note_lines: u32) -> Result<(), AllocError> {
-        self.bytes(b" database ")?;
-        self.number(database)?;
-        self.bytes(b" lines that notify ")?;
-        self.number(note_lines)
+    fn section_numbers(&mut self, database: u32, note_lines: u32) {
+        self.bytes(b" database ");
+        self.number(u64::from(database));
+        self.bytes(b" lines that notify ");
+        self.number(u64::from(note_lines));
     }
 
-    fn script(&mut self, lines: &[ScriptLine]) -> Result<(), AllocError> {
+    fn script(&mut self, lines: &[ScriptLine]) {
         for line in lines {
-            self.script_line(line)?;
+            self.script_line(line);
         }
-        Ok(())
     }
 
-    fn script_line(&mut self, line: &ScriptLine) -> Result<(), AllocError> {
-        self.bytes(b"\n")?;
-        self.number(line.line)?;
-        self.bytes(b" ")?;
-        self.bytes(line.text.as_bytes())?;
-        self.bytes(b": ")?;
-        self.act(&line.act)
+    fn script_line(&mut self, line: &ScriptLine) {
+        self.bytes(b"\n");
+        self.number(u64::from(line.line));
+        self.bytes(b" ");
+        self.bytes(line.text.as_bytes());
+        self.bytes(b": ");
+        self.act(&line.act);
     }
 
     // A flag is shown by its place among the flags, from 0.
-    fn act(&mut self, act: &Act) -> Result<(), AllocError> {
+    fn act(&mut self, act: &Act) {
         match act {
             Act::Run(command) => self.command(command),
             Act::Signal(flag) => {
-                self.bytes(b"signal flag ")?;
-                self.number(*flag)
+                self.bytes(b"signal flag ");
+                self.number(u64::from(*flag));
             }
             Act::Await(flag) => {
-                self.bytes(b"await flag ")?;
-                self.number(*flag)
+                self.bytes(b"await flag ");
+                self.number(u64::from(*flag));
             }
             Act::Quit => self.bytes(b"quit"),
         }
     }
 
     /// What a command comes to in a block.
-    pub fn effect(&mut self, effect: &Effect) -> Result<(), AllocError> {
+    pub fn effect(&mut self, effect: &Effect) {
         match effect {
             Effect::Nothing => self.bytes(b"nothing"),
             Effect::Reply { tag, warning } => {
-                self.bytes(warning_text(*warning))?;
-                self.tag(*tag)
+                self.bytes(warning_text(*warning));
+                self.tag(*tag);
             }
             Effect::Refuse { refusal } => self.refusal(refusal),
             Effect::Commit {
@@ -194,58 +216,56 @@ impl Printer {
         }
     }
 
-    fn tag(&mut self, tag: Tag) -> Result<(), AllocError> {
+    fn tag(&mut self, tag: Tag) {
         match tag {
             Tag::Select(rows) => {
-                self.bytes(b"SELECT ")?;
-                self.number(rows)
+                self.bytes(b"SELECT ");
+                self.number(u64::from(rows));
             }
             other => self.bytes(tag_text(other)),
         }
     }
 
     // What is handed out, and then the tag.
-    fn commit(&mut self, actions: &Actions, notes: &Notes, tag: Tag) -> Result<(), AllocError> {
-        self.bytes(b"commit")?;
-        self.actions(actions)?;
-        self.notes(notes)?;
-        self.bytes(b"; ")?;
-        self.tag(tag)
+    fn commit(&mut self, actions: &Actions, notes: &Notes, tag: Tag) {
+        self.bytes(b"commit");
+        self.actions(actions);
+        self.notes(notes);
+        self.bytes(b"; ");
+        self.tag(tag);
     }
 
-    fn actions(&mut self, actions: &Actions) -> Result<(), AllocError> {
+    fn actions(&mut self, actions: &Actions) {
         for action in actions.as_slice() {
             match action {
-                Action::Listen(name) => self.named(b", listen", name)?,
-                Action::Unlisten(name) => self.named(b", unlisten", name)?,
-                Action::UnlistenAll => self.bytes(b", unlisten all")?,
+                Action::Listen(name) => self.named(b", listen", name),
+                Action::Unlisten(name) => self.named(b", unlisten", name),
+                Action::UnlistenAll => self.bytes(b", unlisten all"),
             }
         }
-        Ok(())
     }
 
-    fn notes(&mut self, notes: &Notes) -> Result<(), AllocError> {
+    fn notes(&mut self, notes: &Notes) {
         for note in notes.as_slice() {
-            self.note(b", notify", note)?;
+            self.note(b", notify", note);
         }
-        Ok(())
     }
 
-    fn refusal(&mut self, refusal: &Refusal) -> Result<(), AllocError> {
+    fn refusal(&mut self, refusal: &Refusal) {
         match refusal {
             Refusal::Syntax { at } => self.at_byte(b"ERROR: 42601: syntax error", *at),
             Refusal::Bounds { which } => {
-                self.bytes(b"ERROR: 22023: ")?;
-                self.bytes(which_text(*which))
+                self.bytes(b"ERROR: 22023: ");
+                self.bytes(which_text(*which));
             }
             Refusal::NeedsBlock { what } => {
-                self.bytes(b"ERROR: 25P01: ")?;
-                self.bytes(needs_text(*what))?;
-                self.bytes(b" can only be used in transaction blocks")
+                self.bytes(b"ERROR: 25P01: ");
+                self.bytes(needs_text(*what));
+                self.bytes(b" can only be used in transaction blocks");
             }
             Refusal::NoSavepoint { name } => {
-                self.named(b"ERROR: 3B001: savepoint", name)?;
-                self.bytes(b" does not exist")
+                self.named(b"ERROR: 3B001: savepoint", name);
+                self.bytes(b" does not exist");
             }
             Refusal::Aborted => self.bytes(ABORTED),
             Refusal::QueueFull => self.bytes(FULL),
@@ -253,7 +273,7 @@ impl Printer {
     }
 
     /// A block's state.
-    pub fn state(&mut self, state: BlockState) -> Result<(), AllocError> {
+    pub fn state(&mut self, state: BlockState) {
         match state {
             BlockState::Idle => self.bytes(b"no block"),
             BlockState::InBlock => self.bytes(b"block"),

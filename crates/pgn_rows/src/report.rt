@@ -5,6 +5,7 @@ use crate::changes::changes_row;
 use crate::command_lines::command_lines_row;
 use crate::faults::faults_row;
 use crate::lines::lines_row;
+use crate::printer::Printer;
 use crate::row::{Outcome, Row, read_row};
 use crate::runs::run_row;
 use std::alloc::{AllocError, Global};
@@ -115,41 +116,28 @@ fn compared(
     if found.status == wanted.status && found.output.as_slice() == wanted.output.as_slice() {
         return line(alloc, name, "");
     }
-    let mut text = line(alloc, name, " differs")?;
-    match put_both(&mut text, alloc, wanted, found) {
-        Ok(()) => Ok(text),
-        Err(error) => {
-            drop(text);
-            Err(error)
-        }
-    }
-}
-
-fn put_both(
-    text: &mut Vec<u8>,
-    alloc: Global,
-    wanted: &Outcome,
-    found: &Outcome,
-) -> Result<(), AllocError> {
-    put_outcome(text, alloc, "wanted", wanted)?;
-    put_outcome(text, alloc, "found", found)
+    let mut printer = Printer::new(alloc);
+    printer.owned(line(alloc, name, " differs"));
+    put_outcome(&mut printer, "wanted", wanted);
+    put_outcome(&mut printer, "found", found);
+    printer.into_text()
 }
 
 // An outcome below its heading. A LF follows what does not end in one.
-fn put_outcome(
-    text: &mut Vec<u8>,
-    alloc: Global,
-    what: &str,
-    outcome: &Outcome,
-) -> Result<(), AllocError> {
-    let (bytes, status) = (outcome.output.len(), outcome.status);
-    let head = format!(in alloc; "--- {what}: {bytes} bytes, status {status}\n")?;
-    let put = text.extend_from_slice(head.as_bytes());
-    drop(head);
-    put?;
-    text.extend_from_slice(outcome.output.as_slice())?;
+fn put_outcome(printer: &mut Printer, what: &str, outcome: &Outcome) {
+    put_heading(printer, what, outcome);
+    printer.bytes(outcome.output.as_slice());
     if !outcome.output.ends_with(b"\n") {
-        text.push(b'\n')?;
+        printer.bytes(b"\n");
     }
-    Ok(())
+}
+
+fn put_heading(printer: &mut Printer, what: &str, outcome: &Outcome) {
+    printer.bytes(b"--- ");
+    printer.bytes(what.as_bytes());
+    printer.bytes(b": ");
+    printer.number(outcome.output.len() as u64);
+    printer.bytes(b" bytes, status ");
+    printer.number(u64::from(outcome.status));
+    printer.bytes(b"\n");
 }
