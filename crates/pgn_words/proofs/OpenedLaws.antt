@@ -1,7 +1,7 @@
 -- The passes as they are made, one after another.
-use Rattle.std.proofs.Common.{◌≡◌, ℕ, ◌+◌, ◌-◌, ◌<◌, List, [], ◌∷◌, ◌++◌, length, get_or, take, map, All, sym, ap, ◌∙◌, arith}
+use Rattle.std.proofs.Common.{◌≡◌, ℕ, ◌+◌, ◌-◌, ◌<◌, ◌≤◌, List, [], ◌∷◌, ◌++◌, length, get_or, take, map, All, sym, ap, ◌∙◌, subst, arith, take_all}
 use Rattle.std.proofs.lemmas.List.{length-take, map-append, take_more}
-use Rattle.std.proofs.lemmas.List.Elements.{All-push}
+use Rattle.std.proofs.lemmas.List.Elements.{All-cons, All-push}
 use Rattle.pgn_hub.specs.declared.setup.SeatSetup.{SeatSetup}
 use Rattle.pgn_hub.specs.Passes.{opened_pass, opened_passes}
 use Rattle.pgn_words.specs.declared.pass.WordQueue.{WordQueue}
@@ -75,3 +75,18 @@ next_made queue first now pass passes k made within now_own now_is own is =
       out = ap (λ (x : View). x.post.listen) is;
       alone = ap (λ (x : View). x.joined) is;
     }
+
+-- all of them, once the first one stands before the others
+module _ (queue : WordQueue) (first : WordPass) (passes all : List WordPass) (k : ℕ) (made : AreMade queue first passes k) (whole : all ≡ first ∷ passes) where
+  pub all_known : (setup : Shape) → shape_of queue ≡ setup → length setup.seats ≤ k → map known_of all ≡ opened_passes 1 setup.seats
+  all_known setup is last =
+      ap (λ (ps : List WordPass). map known_of ps) whole
+      ∙ made.known
+      ∙ ap (λ (z : Shape). opened_passes 1 (take k z.seats)) is
+      ∙ ap (opened_passes 1) (take_all k setup.seats last)
+
+  pub all_own : All (IsPassOf queue) all
+  all_own = subst (λ (ps : List WordPass). All (IsPassOf queue) ps) (sym whole) (All-cons (IsPassOf queue) first passes made.first_own made.own)
+
+  pub all_fresh : All IsFresh all
+  all_fresh = subst (λ (ps : List WordPass). All IsFresh ps) (sym whole) (All-cons IsFresh first passes made.first_fresh made.fresh)
