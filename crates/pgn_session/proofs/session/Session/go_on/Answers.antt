@@ -1,6 +1,6 @@
 use Rattle.std.proofs.Common.{◌≡◌, ◌∙◌, sym, subst}
 use Rattle.pgn_session.specs.declared.doing.Doing.{Doing}
-use Rattle.pgn_session.specs.declared.doing.Doing.TheVariants.{Lines, Committing, Awaiting, Ending, Over}
+use Rattle.pgn_session.specs.declared.doing.Doing.TheVariants.{Lines, Committing, Awaiting, Ending}
 use Rattle.pgn_session.specs.Sleep.{IsAwaitedBelow}
 use Rattle.pgn_session.specs.Standing.{terms_of, IsRested}
 use Rattle.pgn_session.proofs.SleepLaws.{rest-below}

@@ -1,4 +1,4 @@
-use Rattle.std.proofs.Common.{ℕ, List, length, ◌<◌, ◌≤◌, subst}
+use Rattle.std.proofs.Common.{List, length, ◌<◌, ◌≤◌, subst}
 use Rattle.std.proofs.lemmas.List.{drop_all}
 use Rattle.pgn_language.specs.declared.scenario.ScriptLine.{ScriptLine}
 use Rattle.pgn_session.proofs.session.Session.next_line.Goals as goal
