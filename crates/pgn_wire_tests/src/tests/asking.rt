@@ -9,21 +9,39 @@ use std::test::Fail;
 // `LISTEN c`, `NOTIFY c, 'x'`, and a Terminate.
 const TALK: &[u8] = b"Q\0\0\0\x0dLISTEN c\0Q\0\0\0\x12NOTIFY c, 'x'\0X\0\0\0\x04";
 
-// How many queries a source gives, and what ends them.
-fn asked<S: Source>(
-    alloc: Global,
-    source: &mut S,
-) -> Result<(Vec<ScriptLine>, Option<NoQuery>), AllocError> {
+// The queries that a source gives, at most ten, and what ends them where they do not end by themselves.
+#[derive(Drop)]
+struct Came {
+    lines: Vec<ScriptLine>,
+    end: Option<NoQuery>,
+}
+
+// Those of a source that gives these bytes, at most so many a call, and fails at these calls.
+fn asked(alloc: Global, bytes: &[u8], fails: &[u64], most: usize) -> Result<Came, AllocError> {
+    let bytes = Vec::from_slice(alloc, bytes)?;
+    let fails = Vec::from_slice(alloc, fails)?;
+    let mut source = MemSource::new(bytes, fails, most.max(1));
     let mut queries = Queries::new(alloc);
     let mut lines = Vec::new(alloc);
+    let end = ask(alloc, &mut source, &mut queries, &mut lines)?;
+    Ok(Came { lines, end })
+}
+
+// Asks for them, over any source: so no clause of the call has to be computed for one in memory.
+fn ask<S: Source>(
+    alloc: Global,
+    source: &mut S,
+    queries: &mut Queries,
+    lines: &mut Vec<ScriptLine>,
+) -> Result<Option<NoQuery>, AllocError> {
     for _ in 0..10 {
         match queries.next(alloc, source) {
             Ok(Some(line)) => lines.push(line)?,
-            Ok(None) => return Ok((lines, None)),
-            Err(error) => return Ok((lines, Some(error))),
+            Ok(None) => return Ok(None),
+            Err(error) => return Ok(Some(error)),
         }
     }
-    Ok((lines, None))
+    Ok(None)
 }
 
 // The script of the talk, however it is cut.
@@ -45,11 +63,9 @@ fn is_script(lines: &[ScriptLine]) -> bool {
 fn cut_by_the_reads_in_any_way(rt: HostRuntime) -> Result<(), Fail> {
     let alloc = rt.alloc();
     for most in [1, 2, 3, 14, 64] {
-        let bytes = Vec::from_slice(alloc, TALK)?;
-        let mut source = MemSource::new(bytes, Vec::new(alloc), most);
-        let (lines, end) = asked(alloc, &mut source)?;
-        assert!(rt; is_script(lines.as_slice()));
-        assert!(rt; end.is_none());
+        let asked = asked(alloc, TALK, &[], most)?;
+        assert!(rt; is_script(&asked.lines));
+        assert!(rt; asked.end.is_none());
     }
     Ok(())
 }
@@ -85,23 +101,28 @@ const FAULTS: [(&[u8], usize, WireFault); 15] = [
 fn faults_at_their_offsets(rt: HostRuntime) -> Result<(), Fail> {
     let alloc = rt.alloc();
     for (bytes, count, fault) in FAULTS {
-        let mut source = MemSource::new(Vec::from_slice(alloc, bytes)?, Vec::new(alloc), 1);
-        let (lines, end) = asked(alloc, &mut source)?;
-        assert!(rt; lines.len() == count);
-        assert!(rt; end == Some(NoQuery::Fault(fault)));
+        let asked = asked(alloc, bytes, &[], 1)?;
+        assert!(rt; asked.lines.len() == count);
+        assert!(rt; asked.end == Some(NoQuery::Fault(fault)));
     }
     Ok(())
 }
 
+// Where the only line is at fault, of which no text is kept.
+fn only_fault(lines: &[ScriptLine]) -> Option<u32> {
+    let [line] = lines else {
+        return None;
+    };
+    match &line.act {
+        Act::Run(Command::Bad { at }) if line.text.as_bytes().is_empty() => Some(*at),
+        _ => None,
+    }
+}
+
 #[test]
 fn a_text_with_a_line_feed(rt: HostRuntime) -> Result<(), Fail> {
-    let alloc = rt.alloc();
-    let bytes = Vec::from_slice(alloc, b"Q\0\0\0\x0bLIS\nTN\0rest")?;
-    let mut source = MemSource::new(bytes, Vec::new(alloc), 64);
-    let (lines, _) = asked(alloc, &mut source)?;
-    assert!(rt; lines.len() == 1);
-    assert!(rt; lines[0].text.as_bytes().is_empty());
-    assert!(rt; matches!(lines[0].act, Act::Run(Command::Bad { at: 3 })));
+    let asked = asked(rt.alloc(), b"Q\0\0\0\x0bLIS\nTN\0rest", &[], 64)?;
+    assert_eq!(rt; only_fault(&asked.lines), Some(3));
     Ok(())
 }
 
@@ -119,11 +140,9 @@ fn a_source_that_fails_at_each_of_its_calls(rt: HostRuntime) -> Result<(), Fail>
         (7, 2),
         (8, 2),
     ] {
-        let bytes = Vec::from_slice(alloc, TALK)?;
-        let mut source = MemSource::new(bytes, vec![in alloc; call]?, 14);
-        let (lines, end) = asked(alloc, &mut source)?;
-        assert!(rt; lines.len() == count);
-        assert!(rt; end == Some(NoQuery::Failed));
+        let asked = asked(alloc, TALK, &[call], 14)?;
+        assert!(rt; asked.lines.len() == count);
+        assert!(rt; asked.end == Some(NoQuery::Failed));
     }
     Ok(())
 }
@@ -132,12 +151,10 @@ fn a_source_that_fails_at_each_of_its_calls(rt: HostRuntime) -> Result<(), Fail>
 fn a_message_cut_after_each_of_its_bytes(rt: HostRuntime) -> Result<(), Fail> {
     let alloc = rt.alloc();
     for cut in 0..14 {
-        let bytes = Vec::from_slice(alloc, &TALK[..cut])?;
-        let mut source = MemSource::new(bytes, Vec::new(alloc), 3);
-        let (lines, end) = asked(alloc, &mut source)?;
+        let asked = asked(alloc, &TALK[..cut], &[], 3)?;
         let truncated = Some(NoQuery::Fault(WireFault::Truncated { at: 0 }));
-        assert!(rt; lines.is_empty());
-        assert!(rt; end == if cut == 0 { None } else { truncated });
+        assert!(rt; asked.lines.is_empty());
+        assert!(rt; asked.end == if cut == 0 { None } else { truncated });
     }
     Ok(())
 }
@@ -146,52 +163,65 @@ fn a_message_cut_after_each_of_its_bytes(rt: HostRuntime) -> Result<(), Fail> {
 fn a_terminate_cut_after_each_of_its_bytes(rt: HostRuntime) -> Result<(), Fail> {
     let alloc = rt.alloc();
     for cut in 34..38 {
-        let bytes = Vec::from_slice(alloc, &TALK[..cut])?;
-        let mut source = MemSource::new(bytes, Vec::new(alloc), 64);
-        let (lines, end) = asked(alloc, &mut source)?;
-        assert!(rt; is_script(lines.as_slice()));
-        assert!(rt; end == Some(NoQuery::Fault(WireFault::Truncated { at: 33 })));
+        let asked = asked(alloc, &TALK[..cut], &[], 64)?;
+        assert!(rt; is_script(&asked.lines));
+        assert!(rt; asked.end == Some(NoQuery::Fault(WireFault::Truncated { at: 33 })));
     }
     Ok(())
 }
 
-#[test]
-fn the_longest_query(rt: HostRuntime) -> Result<(), Fail> {
-    let alloc = rt.alloc();
+fn longest_query(alloc: Global) -> Result<Vec<u8>, AllocError> {
     let mut bytes = Vec::from_slice(alloc, b"Q\0\x01\0\x05")?;
     bytes.resize(5 + 65_536, b'-')?;
     bytes.extend_from_slice(b"\0X\0\0\0\x04")?;
-    let mut source = MemSource::new(bytes, Vec::new(alloc), 4_096);
-    let (lines, end) = asked(alloc, &mut source)?;
-    assert!(rt; end.is_none());
-    assert!(rt; lines.len() == 1);
-    assert!(rt; lines[0].text.as_bytes().len() == 65_536);
-    assert!(rt; matches!(lines[0].act, Act::Run(Command::Empty)));
+    Ok(bytes)
+}
+
+// How long the text of the only line is, which is no command.
+fn only_length(lines: &[ScriptLine]) -> Option<usize> {
+    let [line] = lines else {
+        return None;
+    };
+    match &line.act {
+        Act::Run(Command::Empty) => Some(line.text.as_bytes().len()),
+        _ => None,
+    }
+}
+
+#[test]
+fn the_longest_query(rt: HostRuntime) -> Result<(), Fail> {
+    let bytes = longest_query(rt.alloc())?;
+    let asked = asked(rt.alloc(), &bytes, &[], 4_096)?;
+    assert!(rt; asked.end.is_none());
+    assert_eq!(rt; only_length(&asked.lines), Some(65_536));
     Ok(())
 }
 
 #[test]
 fn bytes_behind_a_terminate(rt: HostRuntime) -> Result<(), Fail> {
-    let alloc = rt.alloc();
-    let bytes = Vec::from_slice(alloc, b"X\0\0\0\x04Q\0\0\0\x05\0")?;
-    let mut source = MemSource::new(bytes, Vec::new(alloc), 64);
-    let (lines, end) = asked(alloc, &mut source)?;
-    assert!(rt; lines.is_empty());
-    assert!(rt; end.is_none());
+    let asked = asked(rt.alloc(), b"X\0\0\0\x04Q\0\0\0\x05\0", &[], 64)?;
+    assert!(rt; asked.lines.is_empty());
+    assert!(rt; asked.end.is_none());
     Ok(())
 }
 
 #[test]
 fn a_line_feed_alone(rt: HostRuntime) -> Result<(), Fail> {
-    let alloc = rt.alloc();
-    let bytes = Vec::from_slice(alloc, b"Q\0\0\0\x06\n\0")?;
-    let mut source = MemSource::new(bytes, Vec::new(alloc), 64);
-    let (lines, end) = asked(alloc, &mut source)?;
-    assert!(rt; end.is_none());
-    assert!(rt; lines.len() == 1);
-    assert!(rt; lines[0].text.as_bytes().is_empty());
-    assert!(rt; matches!(lines[0].act, Act::Run(Command::Bad { at: 0 })));
+    let asked = asked(rt.alloc(), b"Q\0\0\0\x06\n\0", &[], 64)?;
+    assert!(rt; asked.end.is_none());
+    assert_eq!(rt; only_fault(&asked.lines), Some(0));
     Ok(())
+}
+
+// How many queries of the talk are read byte by byte before this call.
+fn queries_before(call: u64) -> usize {
+    if call <= 14 {
+        0
+    } else if call <= 33 {
+        1
+    } else {
+        2
+    }
 }
 
 // The talk takes 38 reads of one byte: a read more is asked for by nothing.
@@ -199,48 +229,58 @@ fn a_line_feed_alone(rt: HostRuntime) -> Result<(), Fail> {
 fn a_source_of_single_bytes_that_fails(rt: HostRuntime) -> Result<(), Fail> {
     let alloc = rt.alloc();
     for call in 1..40 {
-        let bytes = Vec::from_slice(alloc, TALK)?;
-        let mut source = MemSource::new(bytes, vec![in alloc; call]?, 1);
-        let (lines, end) = asked(alloc, &mut source)?;
-        let count = if call <= 14 {
-            0
-        } else if call <= 33 {
-            1
-        } else {
-            2
-        };
-        assert!(rt; lines.len() == count);
+        let asked = asked(alloc, TALK, &[call], 1)?;
+        assert!(rt; asked.lines.len() == queries_before(call));
         assert!(rt;
-            end == if call == 39 {
-                None
-            } else {
-                Some(NoQuery::Failed)
-            }
+            asked.end
+                == if call == 39 {
+                    None
+                } else {
+                    Some(NoQuery::Failed)
+                }
         );
     }
     Ok(())
 }
 
-// So many queries `NOTIFY c`, of which one more than a client may ask is refused: the message that makes them too many is named.
+// So many queries `NOTIFY c`.
+fn many_queries(alloc: Global, count: usize) -> Result<Vec<u8>, AllocError> {
+    let mut bytes = Vec::new(alloc);
+    for _ in 0..count {
+        bytes.extend_from_slice(b"Q\0\0\0\x0dNOTIFY c\0")?;
+    }
+    Ok(bytes)
+}
+
+// Whether a source gives so many queries.
+fn gives<S: Source>(alloc: Global, queries: &mut Queries, source: &mut S, count: u32) -> bool {
+    for _ in 0..count {
+        if !matches!(queries.next(alloc, source), Ok(Some(_))) {
+            return false;
+        }
+    }
+    true
+}
+
+// At which offset the message stands that makes its queries too many.
+fn too_many<S: Source>(alloc: Global, queries: &mut Queries, source: &mut S) -> Option<u64> {
+    match queries.next(alloc, source) {
+        Err(NoQuery::Fault(WireFault::TooMany { at })) => Some(at),
+        _ => None,
+    }
+}
+
+// One query more than a client may ask is refused: the message that makes them too many is named.
 #[test]
 fn as_many_notifications_as_a_client_may_ask(rt: HostRuntime) -> Result<(), Fail> {
     let alloc = rt.alloc();
-    let query = b"Q\0\0\0\x0dNOTIFY c\0";
-    let mut bytes = Vec::with_capacity(alloc, 65_537 * 14)?;
-    for _ in 0..65_537 {
-        bytes.extend_from_slice(query)?;
-    }
+    let bytes = many_queries(alloc, 65_537)?;
     let mut source = MemSource::new(bytes, Vec::new(alloc), 64);
     let mut queries = Queries::new(alloc);
-    for _ in 0..65_536 {
-        assert!(rt; matches!(queries.next(alloc, &mut source), Ok(Some(_))));
-    }
-    let at = 65_536 * 14;
-    assert!(rt;
-        matches!(
-            queries.next(alloc, &mut source),
-            Err(NoQuery::Fault(WireFault::TooMany { at: found })) if found == at
-        )
+    assert!(rt; gives(alloc, &mut queries, &mut source, 65_536));
+    assert_eq!(rt;
+        too_many(alloc, &mut queries, &mut source),
+        Some(65_536 * 14)
     );
     Ok(())
 }

@@ -6,7 +6,7 @@ use pgn_queries::WireFault;
 use pgn_run::converse;
 use pgn_wire::WireEnd;
 use pgn_wordhub::WordHub;
-use std::alloc::Global;
+use std::alloc::{AllocError, Global};
 use std::sync::Wait;
 use std::test::Fail;
 
@@ -27,25 +27,50 @@ pub fn served<R: Wait, S: Source, K: Sink>(
     converse::<<WordHub as Hub>::Pass, WordHub, R, S, K>(rt, alloc, source, sink)
 }
 
-// Serves a client that sends these bytes, in reads of so many (one at least) and with these that fail.
+// A side of a conversation: how many bytes a call moves at most, one at least, and which calls fail.
+#[derive(Clone, Copy)]
+struct Side<'a> {
+    most: usize,
+    fails: &'a [u64],
+}
+
+const PLAIN: Side<'static> = Side {
+    most: 64,
+    fails: &[],
+};
+
+// How a client is served that sends these bytes, and what it is answered.
 fn serve<R: Wait>(
     rt: &R,
     alloc: Global,
     bytes: &[u8],
-    most: usize,
-    fails: Vec<u64>,
-    sink: &mut MemSink,
-) -> Result<Result<(), WireEnd>, Fail> {
-    let mut source = MemSource::new(Vec::from_slice(alloc, bytes)?, fails, most.max(1));
-    Ok(served::<R, MemSource, MemSink>(rt, alloc, &mut source, sink))
+    reads: Side<'_>,
+    writes: Side<'_>,
+) -> Result<(Result<(), WireEnd>, MemSink), Fail> {
+    let mut source = source_of(alloc, bytes, reads)?;
+    let mut sink = sink_of(alloc, writes)?;
+    let end = served::<R, MemSource, MemSink>(rt, alloc, &mut source, &mut sink);
+    Ok((end, sink))
+}
+
+fn source_of(alloc: Global, bytes: &[u8], side: Side<'_>) -> Result<MemSource, AllocError> {
+    let bytes = Vec::from_slice(alloc, bytes)?;
+    let fails = Vec::from_slice(alloc, side.fails)?;
+    Ok(MemSource::new(bytes, fails, side.most.max(1)))
+}
+
+fn sink_of(alloc: Global, side: Side<'_>) -> Result<MemSink, AllocError> {
+    let fails = Vec::from_slice(alloc, side.fails)?;
+    MemSink::new(alloc, 1_000, fails, side.most.max(1))
 }
 
 #[test]
 fn a_listener_that_notifies_itself(rt: HostRuntime) -> Result<(), Fail> {
     let alloc = rt.alloc();
     for most in [1, 64] {
-        let mut sink = MemSink::new(alloc, 1_000, Vec::new(alloc), 7)?;
-        let end = serve(&rt, alloc, TALK, most, Vec::new(alloc), &mut sink)?;
+        let reads = Side { most, ..PLAIN };
+        let writes = Side { most: 7, ..PLAIN };
+        let (end, sink) = serve(&rt, alloc, TALK, reads, writes)?;
         assert!(rt; end == Ok(()));
         assert!(rt; sink.held() == ANSWERS);
     }
@@ -54,16 +79,8 @@ fn a_listener_that_notifies_itself(rt: HostRuntime) -> Result<(), Fail> {
 
 #[test]
 fn a_syntax_error(rt: HostRuntime) -> Result<(), Fail> {
-    let alloc = rt.alloc();
-    let mut sink = MemSink::new(alloc, 1_000, Vec::new(alloc), 64)?;
-    let end = serve(
-        &rt,
-        alloc,
-        b"Q\0\0\0\x0bLISTEN\0",
-        1,
-        Vec::new(alloc),
-        &mut sink,
-    )?;
+    let reads = Side { most: 1, ..PLAIN };
+    let (end, sink) = serve(&rt, rt.alloc(), b"Q\0\0\0\x0bLISTEN\0", reads, PLAIN)?;
     let want = b"E\0\0\0\x32SERROR\0VERROR\0C42601\0Msyntax error at byte 6\0\0Z\0\0\0\x05I";
     assert!(rt; end == Ok(()));
     assert!(rt; sink.held() == want.as_slice());
@@ -72,12 +89,21 @@ fn a_syntax_error(rt: HostRuntime) -> Result<(), Fail> {
 
 #[test]
 fn a_message_that_is_cut(rt: HostRuntime) -> Result<(), Fail> {
-    let alloc = rt.alloc();
-    let mut sink = MemSink::new(alloc, 1_000, Vec::new(alloc), 64)?;
-    let end = serve(&rt, alloc, b"Q\0\0\0\x12NO", 64, Vec::new(alloc), &mut sink)?;
+    let (end, sink) = serve(&rt, rt.alloc(), b"Q\0\0\0\x12NO", PLAIN, PLAIN)?;
     assert!(rt; end == Err(WireEnd::Bad(WireFault::Truncated { at: 0 })));
     assert!(rt; sink.held().is_empty());
     Ok(())
+}
+
+// What is answered before this read of 14 bytes.
+fn answered_before(call: u64) -> &'static [u8] {
+    if call <= 3 {
+        &[]
+    } else if call <= 6 {
+        &ANSWERS[..18]
+    } else {
+        ANSWERS
+    }
 }
 
 // The reads of a source that gives 14 bytes at a time: three a query and two for the Terminate.
@@ -85,15 +111,11 @@ fn a_message_that_is_cut(rt: HostRuntime) -> Result<(), Fail> {
 fn a_source_that_fails_at_each_of_its_calls(rt: HostRuntime) -> Result<(), Fail> {
     let alloc = rt.alloc();
     for call in 1..10 {
-        let mut sink = MemSink::new(alloc, 1_000, Vec::new(alloc), 64)?;
-        let end = serve(&rt, alloc, TALK, 14, vec![in alloc; call]?, &mut sink)?;
-        let size = if call <= 3 {
-            0
-        } else if call <= 6 {
-            18
-        } else {
-            ANSWERS.len()
+        let reads = Side {
+            most: 14,
+            fails: &[call],
         };
+        let (end, sink) = serve(&rt, alloc, TALK, reads, PLAIN)?;
         assert!(rt;
             end == if call == 9 {
                 Ok(())
@@ -101,7 +123,7 @@ fn a_source_that_fails_at_each_of_its_calls(rt: HostRuntime) -> Result<(), Fail>
                 Err(WireEnd::Read)
             }
         );
-        assert!(rt; sink.held() == &ANSWERS[..size]);
+        assert!(rt; sink.held() == answered_before(call));
     }
     Ok(())
 }
@@ -110,8 +132,11 @@ fn a_source_that_fails_at_each_of_its_calls(rt: HostRuntime) -> Result<(), Fail>
 fn a_sink_that_fails_at_each_of_its_calls(rt: HostRuntime) -> Result<(), Fail> {
     let alloc = rt.alloc();
     for (call, size) in [(1, 0), (2, 18)] {
-        let mut sink = MemSink::new(alloc, 1_000, vec![in alloc; call]?, 64)?;
-        let end = serve(&rt, alloc, TALK, 64, Vec::new(alloc), &mut sink)?;
+        let writes = Side {
+            fails: &[call],
+            ..PLAIN
+        };
+        let (end, sink) = serve(&rt, alloc, TALK, PLAIN, writes)?;
         assert!(rt; end == Err(WireEnd::Write));
         assert!(rt; sink.held() == &ANSWERS[..size]);
     }
@@ -120,9 +145,11 @@ fn a_sink_that_fails_at_each_of_its_calls(rt: HostRuntime) -> Result<(), Fail> {
 
 #[test]
 fn a_sink_that_fails_within_an_answer(rt: HostRuntime) -> Result<(), Fail> {
-    let alloc = rt.alloc();
-    let mut sink = MemSink::new(alloc, 1_000, vec![in alloc; 2]?, 5)?;
-    let end = serve(&rt, alloc, TALK, 64, Vec::new(alloc), &mut sink)?;
+    let writes = Side {
+        most: 5,
+        fails: &[2],
+    };
+    let (end, sink) = serve(&rt, rt.alloc(), TALK, PLAIN, writes)?;
     assert!(rt; end == Err(WireEnd::Write));
     assert!(rt; sink.held() == &ANSWERS[..5]);
     Ok(())
@@ -132,16 +159,20 @@ fn a_sink_that_fails_within_an_answer(rt: HostRuntime) -> Result<(), Fail> {
 // the second LISTEN.
 #[test]
 fn a_listener_that_listens_again(rt: HostRuntime) -> Result<(), Fail> {
-    let alloc = rt.alloc();
     let bytes =
         b"Q\0\0\0\x0dLISTEN c\0Q\0\0\0\x0fUNLISTEN c\0Q\0\0\0\x0dNOTIFY c\0Q\0\0\0\x0dLISTEN c\0";
     let want =
         b"C\0\0\0\x0bLISTEN\0Z\0\0\0\x05IC\0\0\0\x0dUNLISTEN\0Z\0\0\0\x05IC\0\0\0\x0bNOTIFY\0Z\0\0\0\x05IC\0\0\0\x0bLISTEN\0Z\0\0\0\x05I";
-    let mut sink = MemSink::new(alloc, 1_000, Vec::new(alloc), 64)?;
-    let end = serve(&rt, alloc, bytes, 64, Vec::new(alloc), &mut sink)?;
+    let (end, sink) = serve(&rt, rt.alloc(), bytes, PLAIN, PLAIN)?;
     assert!(rt; end == Ok(()));
     assert!(rt; sink.held() == want.as_slice());
     Ok(())
+}
+
+fn behind_the_queries(alloc: Global, more: &[u8]) -> Result<Vec<u8>, AllocError> {
+    let mut bytes = Vec::from_slice(alloc, &TALK[..33])?;
+    bytes.extend_from_slice(more)?;
+    Ok(bytes)
 }
 
 // What a client is answered before a fault stands written, and nothing behind it.
@@ -158,11 +189,8 @@ fn faults_behind_queries(rt: HostRuntime) -> Result<(), Fail> {
         ),
         (b"X\0\0".as_slice(), WireFault::Truncated { at: 33 }),
     ] {
-        let mut bytes = Vec::from_slice(alloc, &TALK[..33])?;
-        bytes.extend_from_slice(more)?;
-        let mut sink = MemSink::new(alloc, 1_000, Vec::new(alloc), 64)?;
-        let mut source = MemSource::new(bytes, Vec::new(alloc), 64);
-        let end = served::<HostRuntime, MemSource, MemSink>(&rt, alloc, &mut source, &mut sink);
+        let bytes = behind_the_queries(alloc, more)?;
+        let (end, sink) = serve(&rt, alloc, &bytes, PLAIN, PLAIN)?;
         assert!(rt; end == Err(WireEnd::Bad(fault)));
         assert!(rt; sink.held() == ANSWERS);
     }
@@ -171,10 +199,8 @@ fn faults_behind_queries(rt: HostRuntime) -> Result<(), Fail> {
 
 #[test]
 fn a_block_with_an_error(rt: HostRuntime) -> Result<(), Fail> {
-    let alloc = rt.alloc();
     let bytes = b"Q\0\0\0\x0aBEGIN\0Q\0\0\0\x06x\0Q\0\0\0\x0bCOMMIT\0";
-    let mut sink = MemSink::new(alloc, 1_000, Vec::new(alloc), 64)?;
-    let end = serve(&rt, alloc, bytes, 64, Vec::new(alloc), &mut sink)?;
+    let (end, sink) = serve(&rt, rt.alloc(), bytes, PLAIN, PLAIN)?;
     let held = sink.held();
     assert!(rt; end == Ok(()));
     assert!(rt; held.starts_with(b"C\0\0\0\x0aBEGIN\0Z\0\0\0\x05TE"));
@@ -207,27 +233,23 @@ const PSQL_IS_TOLD: &[&[u8]] = &[
     b"T\0\0\0\x22\0\x01pg_notify\0\0\0\0\0\0\0\0\0\0\x19\xff\xff\xff\xff\xff\xff\0\0D\0\0\0\x0a\0\x01\0\0\0\0C\0\0\0\x0dSELECT 1\0A\0\0\0\x0c\0\0\x03\xe9c\0z\0Z\0\0\0\x05I",
 ];
 
+// Texts one after another.
+fn whole(alloc: Global, pieces: &[&[u8]]) -> Result<Vec<u8>, AllocError> {
+    let mut bytes = Vec::new(alloc);
+    for piece in pieces {
+        bytes.extend_from_slice(piece)?;
+    }
+    Ok(bytes)
+}
+
 #[test]
 fn a_conversation_as_psql_holds_it(rt: HostRuntime) -> Result<(), Fail> {
     let alloc = rt.alloc();
-    let mut bytes = Vec::new(alloc);
-    for query in PSQL_ASKS {
-        bytes.extend_from_slice(query)?;
-    }
-    let mut want = Vec::new(alloc);
-    for answer in PSQL_IS_TOLD {
-        want.extend_from_slice(answer)?;
-    }
+    let bytes = whole(alloc, PSQL_ASKS)?;
+    let want = whole(alloc, PSQL_IS_TOLD)?;
     for most in [1, 64] {
-        let mut sink = MemSink::new(alloc, 1_000, Vec::new(alloc), most)?;
-        let end = serve(
-            &rt,
-            alloc,
-            bytes.as_slice(),
-            most,
-            Vec::new(alloc),
-            &mut sink,
-        )?;
+        let side = Side { most, ..PLAIN };
+        let (end, sink) = serve(&rt, alloc, &bytes, side, side)?;
         assert!(rt; end == Ok(()));
         assert!(rt; sink.held() == want.as_slice());
     }

@@ -93,15 +93,15 @@ fn each_answer_is_sent_before_the_next_read(rt: HostRuntime) -> Result<(), Fail>
     let alloc = rt.alloc();
     let count = AtomicU64::new(0);
     let answers = Arc::new(alloc, Answers { count })?;
+    let of_source = Arc::clone(&answers)?;
+    let of_sink = Arc::clone(&answers)?;
     let mut source = Waiting {
-        answers: Arc::clone(&answers)?,
+        answers: of_source,
         query: 0,
         at: 0,
         faults: 0,
     };
-    let mut sink = Counting {
-        answers: Arc::clone(&answers)?,
-    };
+    let mut sink = Counting { answers: of_sink };
     let end = served::<HostRuntime, Waiting, Counting>(&rt, alloc, &mut source, &mut sink);
     assert!(rt; end == Ok(()));
     assert!(rt; answers.count.load(Ordering::SeqCst) == ASKED);
