@@ -3,14 +3,18 @@ ghost use Rattle.pgn_language.specs.Inputs.{AreNumbered, IsSound};
 ghost use Rattle.pgn_live.specs.Playing.{sections_of};
 ghost use Rattle.pgn_session.specs.Runs.{IsReady};
 
-use pgn_base::{Format, PAGES_DEFAULT};
-use pgn_hub::Hub;
-use pgn_language::Scenario;
+use pgn_base::{Format, PAGES_DEFAULT, Sink};
+use pgn_hub::{Hub, PassView};
+use pgn_language::{Scenario, Section};
+use pgn_live::{LiveFault, run_live};
+use pgn_memory::MemSink;
 use pgn_scenario::read_scenario;
 use pgn_session::Session;
 use pgn_threads::open_on_hub;
-use std::alloc::Global;
+use std::alloc::{AllocError, Global};
+use std::sync::Wait;
 use std::test::Fail;
+use std::thread::Threads;
 
 mod gate;
 mod program;
@@ -39,6 +43,38 @@ fn open<H: Hub + Drop>(
 {
     let (hub, sessions) = open_on_hub::<H>(alloc, scenario, PAGES_DEFAULT, patience, Format::One)?;
     Ok((hub, sessions))
+}
+
+// How a live run ends, over any hub and sink: so no clause of the call has to be computed for those of a test.
+fn live<
+    P: PassView + Send + Drop,
+    H: Hub<Pass = P> + Sync,
+    R: Threads + Wait + Sync,
+    K: Sink + Send,
+>(
+    rt: &R,
+    alloc: Global,
+    hub: &H,
+    sections: &[Section],
+    sessions: &mut [Session<P>],
+    sink: &mut K,
+) -> Result<(), LiveFault>
+    requires ready { All (IsReady (H.is_pass hub.now) (H.shape hub.now) P.known) sessions.old }
+    requires numbered { AreNumbered 1 (sections_of sessions.old) }
+    requires few { length sessions.old ≤ 256 }
+{
+    run_live(rt, alloc, hub, sections, sessions, sink)
+}
+
+// A sink that takes at most so many bytes a call and fails at these calls.
+fn sink_of(alloc: Global, most: usize, fails: &[u64]) -> Result<MemSink, AllocError> {
+    let fails = Vec::from_slice(alloc, fails)?;
+    MemSink::new(alloc, 1 << 14, fails, most.max(1))
+}
+
+fn text_of(alloc: Global, held: &[u8]) -> Result<String, Fail> {
+    let text = str::from_utf8(held)?;
+    Ok(String::from_str(alloc, text)?)
 }
 
 const SELF_NOTIFY: &str = "\

@@ -2,14 +2,15 @@ ghost use Rattle.std.specs.Prelude.{◌≡◌, map, length, All, IfOk, OnErr, �
 ghost use Rattle.std.specs.Io.KnownBytes.{WriteAppends};
 ghost use Rattle.std.specs.List.{range_with_len};
 ghost use Rattle.pgn_base.specs.Outside.{Rose};
+ghost use Rattle.pgn_language.specs.Inputs.{IsSound};
 
-use super::{SELF_NOTIFY, SELF_NOTIFY_LINES, open, scenario_of};
+use super::{SELF_NOTIFY, SELF_NOTIFY_LINES, live, open, scenario_of, sink_of, text_of};
 use pgn_base::{
     Delivery, Enlisted, Failed, Full, ListenSet, Note, PATIENCE_DEFAULT, Sink, Usage, Xid,
 };
 use pgn_hub::{Hub, Roll, Setup};
-use pgn_live::{LiveFault, run_live};
-use pgn_memory::MemSink;
+use pgn_language::Scenario;
+use pgn_live::LiveFault;
 use pgn_wordhub::WordHub;
 use std::alloc::{AllocError, Global};
 use std::sync::atomic::{AtomicU64, Ordering};
@@ -201,14 +202,30 @@ fn shown_over<const TURNS: u32, R: Threads + Wait + Sync>(
     fails: &[u64],
 ) -> Result<Shown, Fail> {
     let scenario = scenario_of(alloc, SELF_NOTIFY)?;
-    let (hub, mut sessions) = open::<Gate<TURNS>>(alloc, &scenario, PATIENCE_DEFAULT)?;
+    let shown = shown_of::<TURNS, R>(rt, alloc, &scenario, most, fails);
+    drop(scenario);
+    shown
+}
+
+// The same of this scenario.
+fn shown_of<const TURNS: u32, R: Threads + Wait + Sync>(
+    rt: &R,
+    alloc: Global,
+    scenario: &Scenario,
+    most: usize,
+    fails: &[u64],
+) -> Result<Shown, Fail>
+    requires { IsSound scenario.now }
+{
+    let sink = sink_of(alloc, most, fails)?;
+    let (hub, mut sessions) = open::<Gate<TURNS>>(alloc, scenario, PATIENCE_DEFAULT)?;
     let mut sink = GateSink {
-        sink: MemSink::new(alloc, 1 << 12, Vec::from_slice(alloc, fails)?, most.max(1))?,
+        sink,
         counts: hub.counts.clone()?,
         has_written: false,
     };
     let sections = scenario.sections.as_slice();
-    let ended = run_live(
+    let ended = live(
         rt,
         alloc,
         &hub,
@@ -216,11 +233,14 @@ fn shown_over<const TURNS: u32, R: Threads + Wait + Sync>(
         sessions.as_mut_slice(),
         &mut sink,
     );
-    let held = str::from_utf8(sink.sink.held())?;
+    let is_spent = hub.is_spent();
+    drop(sessions);
+    drop(hub);
+    let text = text_of(alloc, sink.sink.held())?;
     Ok(Shown {
         ended,
-        is_spent: hub.is_spent(),
-        text: format!(in alloc; "{held}")?,
+        is_spent,
+        text,
     })
 }
 

@@ -1,5 +1,6 @@
-use super::SELF_NOTIFY;
-use pgn_memory::{MemSink, MemSource};
+use super::{SELF_NOTIFY, sink_of, text_of};
+use pgn_base::{Sink, Source};
+use pgn_memory::MemSource;
 use pgn_run::{Status, run_notify};
 use std::alloc::Global;
 use std::sync::Wait;
@@ -17,11 +18,21 @@ fn played<R: Threads + Wait + Sync>(
 ) -> Result<(Status, String), Fail> {
     let input = Vec::from_slice(alloc, input.as_bytes())?;
     let mut source = MemSource::new(input, Vec::new(alloc), 100);
-    let mut sink = MemSink::new(alloc, 1 << 14, Vec::from_slice(alloc, fails)?, most.max(1))?;
-    let status = run_notify(rt, alloc, &["run", "--live"], &mut source, &mut sink);
-    let held = str::from_utf8(sink.held())?;
-    let text = format!(in alloc; "{held}")?;
+    let mut sink = sink_of(alloc, most, fails)?;
+    let status = status_of(rt, alloc, &mut source, &mut sink);
+    drop(source);
+    let text = text_of(alloc, sink.held())?;
     Ok((status, text))
+}
+
+// How the program ends, over any source and sink: so no clause of the call has to be computed for those in memory.
+fn status_of<S: Source, K: Sink + Send, R: Threads + Wait + Sync>(
+    rt: &R,
+    alloc: Global,
+    source: &mut S,
+    sink: &mut K,
+) -> Status {
+    run_notify(rt, alloc, &["run", "--live"], source, sink)
 }
 
 const OUTPUT: &str = "\

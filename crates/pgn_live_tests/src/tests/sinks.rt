@@ -1,8 +1,10 @@
-use super::{SELF_NOTIFY, SELF_NOTIFY_LINES, open, scenario_of};
-use pgn_live::{LiveFault, run_live};
-use pgn_memory::MemSink;
+ghost use Rattle.pgn_language.specs.Inputs.{IsSound};
+
+use super::{SELF_NOTIFY, SELF_NOTIFY_LINES, live, open, scenario_of, sink_of, text_of};
+use pgn_language::Scenario;
+use pgn_live::LiveFault;
 use pgn_wordhub::WordHub;
-use std::alloc::Global;
+use std::alloc::{AllocError, Global};
 use std::sync::Wait;
 use std::test::Fail;
 use std::thread::Threads;
@@ -17,10 +19,25 @@ fn written<R: Threads + Wait + Sync>(
     fails: &[u64],
 ) -> Result<(Result<(), LiveFault>, String), Fail> {
     let scenario = scenario_of(alloc, input)?;
-    let (hub, mut sessions) = open::<WordHub>(alloc, &scenario, 1_000_000)?;
-    let mut sink = MemSink::new(alloc, 1 << 14, Vec::from_slice(alloc, fails)?, most.max(1))?;
+    let written = written_of(rt, alloc, &scenario, most, fails);
+    drop(scenario);
+    written
+}
+
+// The same of this scenario.
+fn written_of<R: Threads + Wait + Sync>(
+    rt: &R,
+    alloc: Global,
+    scenario: &Scenario,
+    most: usize,
+    fails: &[u64],
+) -> Result<(Result<(), LiveFault>, String), Fail>
+    requires { IsSound scenario.now }
+{
+    let mut sink = sink_of(alloc, most, fails)?;
+    let (hub, mut sessions) = open::<WordHub>(alloc, scenario, 1_000_000)?;
     let sections = scenario.sections.as_slice();
-    let ended = run_live(
+    let ended = live(
         rt,
         alloc,
         &hub,
@@ -28,8 +45,9 @@ fn written<R: Threads + Wait + Sync>(
         sessions.as_mut_slice(),
         &mut sink,
     );
-    let held = str::from_utf8(sink.held())?;
-    let text = format!(in alloc; "{held}")?;
+    drop(sessions);
+    drop(hub);
+    let text = text_of(alloc, sink.held())?;
     Ok((ended, text))
 }
 
@@ -83,16 +101,34 @@ NOTIFY c, 'from b'
 \\signal b2
 ";
 
-// The lines of one session, without its number.
-fn lines_of_session(alloc: Global, text: &str, mark: &str) -> Result<String, Fail> {
-    let mut lines = String::new(alloc);
+// Puts the lines of one session, without its number, behind others.
+fn push_lines(lines: &mut String, text: &str, mark: &str) -> Result<(), AllocError> {
     for line in text.lines() {
         if let Some(rest) = line.strip_prefix(mark) {
             lines.push_str(rest)?;
             lines.push('\n')?;
         }
     }
+    Ok(())
+}
+
+// The lines of one session, without its number.
+fn lines_of_session(alloc: Global, text: &str, mark: &str) -> Result<String, AllocError> {
+    let mut lines = String::new(alloc);
+    push_lines(&mut lines, text, mark)?;
     Ok(lines)
+}
+
+// Whether the lines of one session are these.
+fn has_lines(alloc: Global, text: &str, mark: &str, want: &str) -> Result<bool, AllocError> {
+    let lines = lines_of_session(alloc, text, mark)?;
+    Ok(lines.as_str() == want)
+}
+
+// Whether they end so.
+fn has_end(alloc: Global, text: &str, mark: &str, want: &str) -> Result<bool, AllocError> {
+    let lines = lines_of_session(alloc, text, mark)?;
+    Ok(lines.as_str().ends_with(want))
 }
 
 const LINES_OF_A: &str = "\
@@ -128,10 +164,8 @@ fn sessions_that_await_each_other_are_written_in_order(rt: HostRuntime) -> Resul
     let alloc = rt.alloc();
     let (ended, text) = written(&rt, alloc, CROSSING_FLAGS, 1 << 12, &[])?;
     assert!(rt; ended.is_ok());
-    let of_a = lines_of_session(alloc, text.as_str(), "1| ")?;
-    assert_eq!(rt; of_a.as_str(), LINES_OF_A);
-    let of_b = lines_of_session(alloc, text.as_str(), "2| ")?;
-    assert!(rt; of_b.as_str().ends_with("> \\signal b2\n+signal 5\n"));
+    assert!(rt; has_lines(alloc, text.as_str(), "1| ", LINES_OF_A)?);
+    assert!(rt; has_end(alloc, text.as_str(), "2| ", "> \\signal b2\n+signal 5\n")?);
     Ok(())
 }
 
