@@ -39,28 +39,35 @@ fn note(alloc: Global, letters: usize) -> Result<Note, Fail>
 fn note_on(alloc: Global, channel: &str, letters: usize) -> Result<Note, Fail>
     ensures { IfOk result (λ note. length note.payload ≡ letters) }
 {
-    let payload = vec![in alloc; b'x'; letters]?;
-    Ok(Note {
-        channel: Name::new(alloc, channel)?,
-        payload: Payload::new(alloc, str::from_utf8(&payload)?)?,
-    })
+    let channel = name(alloc, channel)?;
+    let payload = payload(alloc, letters)?;
+    Ok(Note { channel, payload })
 }
 
-// That the channel `c` is listened to.
-fn listen_on_c(alloc: Global) -> Result<Actions, Fail> {
-    let channel = Name::new(alloc, "c")?;
+fn name(alloc: Global, text: &str) -> Result<Name, Fail> {
+    Ok(Name::new(alloc, text)?)
+}
+
+// A payload of so many letters.
+fn payload(alloc: Global, letters: usize) -> Result<Payload, Fail>
+    ensures { IfOk result (λ payload. length payload ≡ letters) }
+{
+    let text = vec![in alloc; b'x'; letters]?;
+    Ok(Payload::new(alloc, str::from_utf8(&text)?)?)
+}
+
+// That the channel `c` is listened to, if memory suffices.
+fn listen_on_c(alloc: Global) -> Option<Actions> {
+    let channel = Name::new(alloc, "c").ok()?;
     let mut actions = Actions::new(alloc);
-    actions.push(Action::Listen(channel))?;
-    Ok(actions)
+    actions.push(Action::Listen(channel)).ok()?;
+    Some(actions)
 }
 
-// The set of the channel `c`.
-fn set_of_c(alloc: Global) -> Result<ListenSet, Fail> {
+// The set of the channel `c`, if memory suffices.
+fn set_of_c(alloc: Global) -> Option<ListenSet> {
     let actions = listen_on_c(alloc)?;
-    let mut set = ListenSet::new(alloc);
-    set.reserve(actions.as_slice().len())?;
-    set.apply(actions);
-    Ok(set)
+    ListenSet::new(alloc).with(&actions).ok()
 }
 
 // The seat of a session in a database.
@@ -178,13 +185,9 @@ fn send_four<R: Wait>(rt: &R, hub: &WordHub, pass: &mut WordPass, notes: &[Note;
     send(rt, hub, pass, notes);
 }
 
-// Tells that the session listens on the channel `c`, and reads on: the new mark, and what was received is put behind `got`.
-fn read(
-    alloc: Global,
-    hub: &WordHub,
-    pass: &mut WordPass,
-    got: &mut Vec<Delivery>,
-) -> Result<u32, Fail>
+// Tells that the session listens on the channel `c`, and reads on: the new mark, if memory suffices, and what was received is put
+// behind `got`.
+fn read(alloc: Global, hub: &WordHub, pass: &mut WordPass, got: &mut Vec<Delivery>) -> Option<u32>
     requires own { IsHubPass hub.now pass.old }
     requires listens { IsSome (known_of pass.old).mark }
     ensures own { IsHubPass hub.now pass.new }
@@ -193,11 +196,14 @@ fn read(
 {
     let set = set_of_c(alloc)?;
     hub.interest(pass, &set);
-    Ok(hub.scan(alloc, pass, &set, got)?.get())
+    match hub.scan(alloc, pass, &set, got) {
+        Ok(to) => Some(to.get()),
+        Err(_) => None,
+    }
 }
 
 // Reads on: the new mark, and how many notifications were received.
-fn receive(alloc: Global, hub: &WordHub, pass: &mut WordPass) -> Result<(u32, usize), Fail>
+fn receive(alloc: Global, hub: &WordHub, pass: &mut WordPass) -> Option<(u32, usize)>
     requires own { IsHubPass hub.now pass.old }
     requires listens { IsSome (known_of pass.old).mark }
     ensures own { IsHubPass hub.now pass.new }
@@ -205,21 +211,25 @@ fn receive(alloc: Global, hub: &WordHub, pass: &mut WordPass) -> Result<(u32, us
     ensures session { (known_of pass.new).session ≡ (known_of pass.old).session }
 {
     let mut got = Vec::new(alloc);
-    let to = read(alloc, hub, pass, &mut got)?;
-    Ok((to, got.len()))
+    match read(alloc, hub, pass, &mut got) {
+        Some(to) => Some((to, got.len())),
+        None => None,
+    }
 }
 
 // A session listens on the channel `c` from here on, and owes no read.
-fn listen(alloc: Global, hub: &WordHub, pass: &mut WordPass) -> Result<Enlisted, Fail>
+fn listen(alloc: Global, hub: &WordHub, pass: &mut WordPass) -> Option<Enlisted>
     requires own { IsHubPass hub.now pass.old }
     requires out { (known_of pass.old).mark ≡ None }
     ensures own { IsHubPass hub.now pass.new }
-    ensures listens { IfOk result (λ _. IsSome (known_of pass.new).mark) }
+    ensures listens { IsSome (known_of pass.new).mark }
     ensures session { (known_of pass.new).session ≡ (known_of pass.old).session }
 {
     let enlisted = hub.enlist(pass);
-    receive(alloc, hub, pass)?;
-    Ok(enlisted)
+    match receive(alloc, hub, pass) {
+        Some(_) => Some(enlisted),
+        None => None,
+    }
 }
 
 // What an advance did: the oldest kept page before it and after it, and the session that joined.
@@ -259,8 +269,6 @@ fn count_journal(
     requires second_session { (known_of second).session ≡ 2 }
     requires seats { length (hub_shape hub).seats ≡ 2 }
 {
-    let mut passes = Vec::with_capacity(alloc, 2)?;
-    passes.push(first)?;
-    passes.push(second)?;
+    let passes = Vec::from_array(alloc, [first, second])?;
     Ok(hub.gather(passes).count)
 }

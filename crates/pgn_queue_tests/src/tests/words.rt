@@ -152,10 +152,9 @@ fn make_ready(queue: &WordQueue, pass: &mut WordPass) -> Option<(Pos, u64)>
 
 // A notification on the channel `c`.
 fn note(alloc: Global) -> Result<Note, Fail> {
-    Ok(Note {
-        channel: Name::new(alloc, "c")?,
-        payload: Payload::new(alloc, "x")?,
-    })
+    let channel = Name::new(alloc, "c")?;
+    let payload = Payload::new(alloc, "x")?;
+    Ok(Note { channel, payload })
 }
 
 // It draws a number for one notification.
@@ -177,16 +176,21 @@ fn draw(queue: &WordQueue, pass: &mut WordPass, notes: &[Note; 1]) -> Option<Xid
 
 #[test]
 fn a_writer_reads_what_it_stored(rt: HostRuntime) -> Result<(), Fail> {
+    let notes = [note(rt.alloc())?];
     let (queue, mut first, mut second) = open_two(rt.alloc())?;
     let Some((head, stop)) = make_ready(&queue, &mut first) else {
+        // Dropped here, by a call: what follows returns.
+        drop((queue, first, second));
         return Err(Fail::from("no lock"));
     };
     assert_eq!(rt; (head.get(), stop), (0, 0));
-    let Some(xid) = draw(&queue, &mut first, &[note(rt.alloc())?]) else {
+    let Some(xid) = draw(&queue, &mut first, &notes) else {
+        drop((queue, first, second));
         return Err(Fail::from("no number"));
     };
     assert_eq!(rt; (xid.get(), first.notes_left()), (3, 1));
     if head.page() >= stop + 2 {
+        drop((queue, first, second));
         return Err(Fail::from("no page"));
     }
     let word = queue.word_of_cell(head);

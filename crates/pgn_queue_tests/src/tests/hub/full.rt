@@ -1,29 +1,22 @@
 //! A full queue, and what frees it.
-ghost use Rattle.std.specs.Prelude.{◌≡◌, None, IsSome, IfOk};
+ghost use Rattle.std.specs.Prelude.{◌≡◌, None, IsSome};
 ghost use Rattle.pgn_words.specs.Passes.{known_of};
 ghost use Rattle.pgn_wordhub.specs.Passes.{IsHubPass};
 
 use super::*;
 use pgn_base::Full;
+use std::process::Abort;
 
 // Why one notification met a full queue.
-fn meet_full<R: Wait>(
-    rt: &R,
-    hub: &WordHub,
-    pass: &mut WordPass,
-    notes: &[Note; 1],
-) -> Result<Full, Fail>
+fn meet_full<R: Wait>(rt: &R, hub: &WordHub, pass: &mut WordPass, notes: &[Note; 1]) -> Option<Full>
     requires own { IsHubPass hub.now pass.old }
     ensures own { IsHubPass hub.now pass.new }
     ensures mark { (known_of pass.new).mark ≡ (known_of pass.old).mark }
 {
     if pass.notes_left() < 1 {
-        return Err(Fail::from("all sent"));
+        return None;
     }
-    match hub.publish(rt, pass, notes) {
-        Ok(_) => Err(Fail::from("not full")),
-        Err(full) => Ok(full),
-    }
+    hub.publish(rt, pass, notes).err()
 }
 
 // Two largest notifications fill two pages.
@@ -55,12 +48,12 @@ fn meet_full_twice<R: Wait>(
     hub: &WordHub,
     pass: &mut WordPass,
     notes: &[Note; 1],
-) -> Result<(Full, Option<u32>), Fail>
+) -> (Option<Full>, Option<u32>)
     requires own { IsHubPass hub.now pass.old }
     ensures own { IsHubPass hub.now pass.new }
 {
-    let full = meet_full(rt, hub, pass, notes)?;
-    Ok((full, send(rt, hub, pass, notes)))
+    let full = meet_full(rt, hub, pass, notes);
+    (full, send(rt, hub, pass, notes))
 }
 
 // A listener reads, another session sends a short notification, and the listener reads on: what it has received each time, and the
@@ -71,29 +64,35 @@ fn read_and_send<R: Wait>(
     hub: &WordHub,
     reader: &mut WordPass,
     writer: &mut WordPass,
-) -> Result<((u32, usize), Option<u32>, (u32, usize)), Fail>
+    notes: &[Note; 1],
+) -> (Option<(u32, usize)>, Option<u32>, Option<(u32, usize)>)
     requires reader { IsHubPass hub.now reader.old }
     requires listens { IsSome (known_of reader.old).mark }
     requires writer { IsHubPass hub.now writer.old }
 {
-    let notes = [note(alloc, 4)?];
-    let before = receive(alloc, hub, reader)?;
-    let number = send(rt, hub, writer, &notes);
-    let after = receive(alloc, hub, reader)?;
-    Ok((before, number, after))
+    let before = receive(alloc, hub, reader);
+    let number = send(rt, hub, writer, notes);
+    let after = receive(alloc, hub, reader);
+    (before, number, after)
+}
+
+fn assert_freed<R: Wait + Abort>(rt: &R, alloc: Global, format: Format) -> Result<(), Fail> {
+    let large = [note(alloc, LARGEST)?];
+    let short = [note(alloc, 4)?];
+    let (hub, mut first, mut second) = open_two(alloc, format)?;
+    hub.enlist(&mut first);
+    assert!(rt; fill(rt, &hub, &mut second, &large));
+    let full = meet_full_twice(rt, &hub, &mut second, &large);
+    assert_eq!(rt; full, (Some(held_by_the_listener()), None));
+    let read = read_and_send(rt, alloc, &hub, &mut first, &mut second, &short);
+    assert_eq!(rt; read, (Some((7, 2)), Some(7), Some((8, 1))));
+    Ok(())
 }
 
 #[test]
 fn full_and_freed_by_a_read(rt: HostRuntime) -> Result<(), Fail> {
     for format in [Format::One, Format::Two] {
-        let (hub, mut first, mut second) = open_two(rt.alloc(), format)?;
-        hub.enlist(&mut first);
-        let notes = [note(rt.alloc(), LARGEST)?];
-        assert!(rt; fill(&rt, &hub, &mut second, &notes));
-        let full = meet_full_twice(&rt, &hub, &mut second, &notes)?;
-        assert_eq!(rt; full, (held_by_the_listener(), None));
-        let read = read_and_send(&rt, rt.alloc(), &hub, &mut first, &mut second)?;
-        assert_eq!(rt; read, ((7, 2), Some(7), (8, 1)));
+        assert_freed(&rt, rt.alloc(), format)?;
     }
     Ok(())
 }
@@ -116,32 +115,28 @@ fn send_three<R: Wait>(
     alloc: Global,
     hub: &WordHub,
     pass: &mut WordPass,
-) -> Result<Full, Fail>
+) -> Result<Option<Full>, Fail>
     requires own { IsHubPass hub.now pass.old }
     ensures own { IsHubPass hub.now pass.new }
 {
     if pass.notes_left() < 3 {
-        return Err(Fail::from("all sent"));
+        return Ok(None);
     }
     let notes = [
         note(alloc, LARGEST - 2)?,
         note(alloc, LARGEST - 1)?,
         note(alloc, LARGEST)?,
     ];
-    match hub.publish(rt, pass, &notes) {
-        Ok(_) => Err(Fail::from("not full")),
-        Err(full) => Ok(full),
-    }
+    Ok(hub.publish(rt, pass, &notes).err())
 }
 
 #[test]
 fn full_without_a_listener(rt: HostRuntime) -> Result<(), Fail> {
-    let (hub, mut first, _second) = open_two(rt.alloc(), Format::One)?;
-    let full = send_three(&rt, rt.alloc(), &hub, &mut first)?;
-    assert_eq!(rt; full, held_by_nobody());
-    assert_eq!(rt;
-        send(&rt, &hub, &mut first, &[note(rt.alloc(), 0)?]),
-        Some(4)
-    );
+    let alloc = rt.alloc();
+    let short = [note(alloc, 0)?];
+    let (hub, mut first, _second) = open_two(alloc, Format::One)?;
+    let full = send_three(&rt, alloc, &hub, &mut first)?;
+    assert_eq!(rt; full, Some(held_by_nobody()));
+    assert_eq!(rt; send(&rt, &hub, &mut first, &short), Some(4));
     Ok(())
 }

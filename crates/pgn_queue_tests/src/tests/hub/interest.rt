@@ -26,27 +26,29 @@ fn send_and_look<R: Wait>(
 
 #[test]
 fn a_listener_sleeps_through_other_channels(rt: HostRuntime) -> Result<(), Fail> {
-    let (hub, mut first, mut second) = open_two(rt.alloc(), Format::One)?;
-    listen(rt.alloc(), &hub, &mut first)?;
-    let other = [note_on(rt.alloc(), "d", 1)?];
+    let alloc = rt.alloc();
+    let other = [note_on(alloc, "d", 1)?];
+    let its_own = [note(alloc, 1)?];
+    let (hub, mut first, mut second) = open_two(alloc, Format::One)?;
+    assert!(rt; listen(alloc, &hub, &mut first).is_some());
     let slept = send_and_look(&rt, &hub, &mut first, &mut second, &other);
     assert_eq!(rt; slept, (Some(3), false));
-    let its_own = [note(rt.alloc(), 1)?];
     let woken = send_and_look(&rt, &hub, &mut first, &mut second, &its_own);
     assert_eq!(rt; woken, (Some(4), true));
-    assert_eq!(rt; receive(rt.alloc(), &hub, &mut first)?, (5, 1));
+    assert_eq!(rt; receive(alloc, &hub, &mut first), Some((5, 1)));
     Ok(())
 }
 
 #[test]
 fn channels_of_one_bit_wake_for_nothing(rt: HostRuntime) -> Result<(), Fail> {
-    let (hub, mut first, mut second) = open_two(rt.alloc(), Format::One)?;
-    listen(rt.alloc(), &hub, &mut first)?;
+    let alloc = rt.alloc();
     // The bytes of `1` and `2` add up to that of `c`.
-    let same_bit = [note_on(rt.alloc(), "12", 1)?];
+    let same_bit = [note_on(alloc, "12", 1)?];
+    let (hub, mut first, mut second) = open_two(alloc, Format::One)?;
+    assert!(rt; listen(alloc, &hub, &mut first).is_some());
     let woken = send_and_look(&rt, &hub, &mut first, &mut second, &same_bit);
     assert_eq!(rt; woken, (Some(3), true));
-    assert_eq!(rt; receive(rt.alloc(), &hub, &mut first)?, (4, 0));
+    assert_eq!(rt; receive(alloc, &hub, &mut first), Some((4, 0)));
     Ok(())
 }
 
@@ -54,34 +56,37 @@ fn channels_of_one_bit_wake_for_nothing(rt: HostRuntime) -> Result<(), Fail> {
 // there is no page.
 fn is_woken_at_the_full_queue<R: Wait>(
     rt: &R,
-    alloc: Global,
     hub: &WordHub,
     listener: &mut WordPass,
     writer: &mut WordPass,
-) -> Result<bool, Fail>
+    notes: &[Note; 1],
+) -> bool
     requires listener { IsHubPass hub.now listener.old }
     requires listens { IsSome (known_of listener.old).mark }
     requires writer { IsHubPass hub.now writer.old }
 {
-    let notes = [note_on(alloc, "d", LARGEST)?];
-    let first = send_and_look(rt, hub, listener, writer, &notes);
-    let second = send_and_look(rt, hub, listener, writer, &notes);
-    let third = send_and_look(rt, hub, listener, writer, &notes);
-    Ok((first, second, third) == ((Some(3), false), (Some(4), false), (None, true)))
+    let first = send_and_look(rt, hub, listener, writer, notes);
+    let second = send_and_look(rt, hub, listener, writer, notes);
+    let third = send_and_look(rt, hub, listener, writer, notes);
+    (first, second, third) == ((Some(3), false), (Some(4), false), (None, true))
 }
 
 #[test]
 fn a_full_queue_wakes_all(rt: HostRuntime) -> Result<(), Fail> {
-    let (hub, mut first, mut second) = open_two(rt.alloc(), Format::One)?;
-    listen(rt.alloc(), &hub, &mut first)?;
-    assert!(rt; is_woken_at_the_full_queue(&rt, rt.alloc(), &hub, &mut first, &mut second)?);
+    let alloc = rt.alloc();
+    let notes = [note_on(alloc, "d", LARGEST)?];
+    let (hub, mut first, mut second) = open_two(alloc, Format::One)?;
+    assert!(rt; listen(alloc, &hub, &mut first).is_some());
+    assert!(rt; is_woken_at_the_full_queue(&rt, &hub, &mut first, &mut second, &notes));
     Ok(())
 }
 
 #[test]
 fn a_full_queue_wakes_other_databases(rt: HostRuntime) -> Result<(), Fail> {
-    let (hub, mut first, mut second) = open_pages(rt.alloc(), Format::One, 2, 2)?;
-    listen(rt.alloc(), &hub, &mut first)?;
-    assert!(rt; is_woken_at_the_full_queue(&rt, rt.alloc(), &hub, &mut first, &mut second)?);
+    let alloc = rt.alloc();
+    let notes = [note_on(alloc, "d", LARGEST)?];
+    let (hub, mut first, mut second) = open_pages(alloc, Format::One, 2, 2)?;
+    assert!(rt; listen(alloc, &hub, &mut first).is_some());
+    assert!(rt; is_woken_at_the_full_queue(&rt, &hub, &mut first, &mut second, &notes));
     Ok(())
 }

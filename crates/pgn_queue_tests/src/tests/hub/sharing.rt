@@ -1,5 +1,5 @@
 //! Two sessions that share the queue for long.
-ghost use Rattle.std.specs.Prelude.{◌≡◌, ◌<◌, true, length, None, IsSome, IfOk};
+ghost use Rattle.std.specs.Prelude.{◌≡◌, ◌<◌, true, length, None, IsSome};
 ghost use Rattle.std.specs.Thread.{IsSync, IsSend};
 ghost use Rattle.pgn_words.specs.Passes.{known_of};
 ghost use Rattle.pgn_wordhub.specs.Passes.{IsHubPass};
@@ -20,7 +20,7 @@ fn send_and_read<R: Wait>(
     reader: &mut WordPass,
     notes: &[Note; 1],
     set: &ListenSet,
-) -> Result<bool, AllocError>
+) -> bool
     requires writer { IsHubPass hub.now writer.old }
     requires reader { IsHubPass hub.now reader.old }
     requires listens { IsSome (known_of reader.old).mark }
@@ -31,8 +31,8 @@ fn send_and_read<R: Wait>(
     let sent = publish_one(rt, hub, writer, notes);
     let mut got = Vec::new(alloc);
     hub.interest(reader, set);
-    hub.scan(alloc, reader, set, &mut got)?;
-    Ok(sent.is_some() && got.len() == 1)
+    let read = hub.scan(alloc, reader, set, &mut got);
+    sent.is_some() && read.is_ok() && got.len() == 1
 }
 
 // Whether so many rounds all went so.
@@ -42,8 +42,10 @@ fn rounds<R: Wait>(
     hub: &WordHub,
     writer: &mut WordPass,
     reader: &mut WordPass,
+    notes: &[Note; 1],
+    set: &ListenSet,
     times: usize,
-) -> Result<bool, Fail>
+) -> bool
     requires writer { IsHubPass hub.now writer.old }
     requires reader { IsHubPass hub.now reader.old }
     requires listens { IsSome (known_of reader.old).mark }
@@ -51,24 +53,43 @@ fn rounds<R: Wait>(
     ensures reader { IsHubPass hub.now reader.new }
     ensures listens { IsSome (known_of reader.new).mark }
 {
-    let notes = [note(alloc, LARGEST)?];
-    let set = set_of_c(alloc)?;
     'rounds: for _ in 0..times {
-        if !send_and_read(rt, alloc, hub, writer, reader, &notes, &set)? {
-            return Ok(false);
+        if !send_and_read(rt, alloc, hub, writer, reader, notes, set) {
+            return false;
         }
     }
-    Ok(true)
+    true
+}
+
+// Whether so many rounds went so in a queue of two pages, and what is received after them.
+fn used_again<R: Wait>(
+    rt: &R,
+    alloc: Global,
+    format: Format,
+    times: usize,
+) -> Result<(bool, Option<(u32, usize)>), Fail> {
+    let notes = [note(alloc, LARGEST)?];
+    let set = set_of_c(alloc).ok_or("no memory")?;
+    let (hub, mut first, mut second) = open_two(alloc, format)?;
+    hub.enlist(&mut second);
+    let done = rounds(
+        rt,
+        alloc,
+        &hub,
+        &mut first,
+        &mut second,
+        &notes,
+        &set,
+        times,
+    );
+    Ok((done, receive(alloc, &hub, &mut second)))
 }
 
 #[test]
 fn pages_are_used_again(rt: HostRuntime) -> Result<(), Fail> {
     for (format, times, mark) in [(Format::One, TIMES, 4003), (Format::Two, 40, 43)] {
-        let (hub, mut first, mut second) = open_two(rt.alloc(), format)?;
-        hub.enlist(&mut second);
-        let done = rounds(&rt, rt.alloc(), &hub, &mut first, &mut second, times)?;
-        assert!(rt; done);
-        assert_eq!(rt; receive(rt.alloc(), &hub, &mut second)?, (mark, 0));
+        let done = used_again(&rt, rt.alloc(), format, times)?;
+        assert_eq!(rt; done, (true, Some((mark, 0))));
     }
     Ok(())
 }
@@ -162,8 +183,7 @@ fn try_both<R: Threads + Wait + Sync>(
         &mut || tries(rt, alloc, hub, first, notes, set, first_log),
         &mut || tries(rt, alloc, hub, second, notes, set, second_log),
     );
-    one?;
-    other
+    one.and(other)
 }
 
 // A session hears of what another one knows, and reads on.
@@ -225,9 +245,11 @@ fn share<R: Threads + Wait + Sync>(
     hub: &WordHub,
     first: &mut WordPass,
     second: &mut WordPass,
+    notes: &[Note; 1],
+    set: &ListenSet,
     first_log: &mut Log,
     second_log: &mut Log,
-) -> Result<(), Fail>
+) -> Result<(), AllocError>
     requires first { IsHubPass hub.now first.old }
     requires first_listens { IsSome (known_of first.old).mark }
     requires second { IsHubPass hub.now second.old }
@@ -237,33 +259,36 @@ fn share<R: Threads + Wait + Sync>(
     ensures second { IsHubPass hub.now second.new }
     ensures second_session { (known_of second.new).session ≡ (known_of second.old).session }
 {
-    let notes = [note(alloc, 100)?];
-    let set = set_of_c(alloc)?;
     try_both(
-        rt, alloc, hub, first, second, &notes, &set, first_log, second_log,
+        rt, alloc, hub, first, second, notes, set, first_log, second_log,
     )?;
-    read_rest(alloc, hub, first, second, &set, first_log)?;
-    read_rest(alloc, hub, second, first, &set, second_log)?;
-    Ok(())
+    read_rest(alloc, hub, first, second, set, first_log)?;
+    read_rest(alloc, hub, second, first, set, second_log)
 }
 
 #[test]
 fn two_threads(rt: HostRuntime) -> Result<(), Fail> {
-    let (hub, mut first, mut second) = open_two(rt.alloc(), Format::One)?;
+    let alloc = rt.alloc();
+    let notes = [note(alloc, 100)?];
+    let set = set_of_c(alloc).ok_or("no memory")?;
+    let (hub, mut first, mut second) = open_two(alloc, Format::One)?;
     hub.enlist(&mut first);
     hub.enlist(&mut second);
-    let (mut a, mut b) = (empty_log(rt.alloc()), empty_log(rt.alloc()));
-    share(
+    let (mut a, mut b) = (empty_log(alloc), empty_log(alloc));
+    let done = share(
         &rt,
-        rt.alloc(),
+        alloc,
         &hub,
         &mut first,
         &mut second,
+        &notes,
+        &set,
         &mut a,
         &mut b,
-    )?;
+    );
+    assert!(rt; done.is_ok());
     assert!(rt; is_all(&a.got, &a.sent, &b.sent));
     assert!(rt; is_all(&b.got, &a.sent, &b.sent));
-    assert_eq!(rt; count_journal(rt.alloc(), hub, first, second)?, 8000);
+    assert_eq!(rt; count_journal(alloc, hub, first, second)?, 8000);
     Ok(())
 }

@@ -52,10 +52,9 @@ fn entry_of(number: u32, pid: u32) -> [u32; 11]
 pub(crate) fn virtual_note(alloc: Global) -> Result<Note, Fail>
     ensures { IfOk result (λ note. note ≡ virtual_note) }
 {
-    Ok(Note {
-        channel: Name::new(alloc, "virtual")?,
-        payload: Payload::new(alloc, "This is the payload")?,
-    })
+    let channel = Name::new(alloc, "virtual")?;
+    let payload = Payload::new(alloc, "This is the payload")?;
+    Ok(Note { channel, payload })
 }
 
 // The holder draws a number, and answers where the journal ends: at the beginning, or behind one entry.
@@ -259,18 +258,21 @@ pub(crate) fn shows_entry(queue: &WordQueue, pass: &mut WordPass) -> bool
 
 #[test]
 fn a_listener_reads_what_the_head_shows(rt: HostRuntime) -> Result<(), Fail> {
+    let notes = [virtual_note(rt.alloc())?];
     let (queue, mut first, mut second) = open_two(rt.alloc())?;
     join(&queue, &mut second);
     assert_eq!(rt; queue.begin_walk(&mut second).get(), 3);
-    let notes = [virtual_note(rt.alloc())?];
     if queue.try_lock(&mut first).is_err() {
+        drop((queue, first, second));
         return Err(Fail::from("no lock"));
     }
     let Some((at, xid)) = begin(&queue, &mut first, &notes) else {
+        drop((queue, first, second));
         return Err(Fail::from("no number"));
     };
     assert_eq!(rt; (at, xid.get()), (0, 3));
     let Some(by) = holder(&queue, &mut second) else {
+        drop((queue, first, second));
         return Err(Fail::from("no holder"));
     };
     assert_eq!(rt; by.get(), 1);
@@ -284,10 +286,11 @@ fn a_listener_reads_what_the_head_shows(rt: HostRuntime) -> Result<(), Fail> {
 
 #[test]
 fn a_wake_is_taken_and_set_again(rt: HostRuntime) -> Result<(), Fail> {
+    let notes = [virtual_note(rt.alloc())?];
     let (queue, mut first, mut second) = open_two(rt.alloc())?;
     join(&queue, &mut second);
-    let notes = [virtual_note(rt.alloc())?];
     let Some(true) = publish(&queue, &mut first, &notes) else {
+        drop((queue, first, second));
         return Err(Fail::from("not published"));
     };
     assert!(rt; queue.take_wake(&mut second));

@@ -162,10 +162,12 @@ fn look_again(queue: &WordQueue, pass: &mut WordPass, joiner: &mut WordPass) -> 
 fn a_joiner_between_the_looks_is_waited_for(rt: HostRuntime) -> Result<(), Fail> {
     let (queue, mut first, mut second) = open_two(rt.alloc())?;
     if !look_once(&queue, &mut first) {
+        drop((queue, first, second));
         return Err(Fail::from("no first look"));
     }
     queue.mark_joining(&mut second);
     if !look_at_joiner(&queue, &mut first) {
+        drop((queue, first, second));
         return Err(Fail::from("the joiner was not met"));
     }
     let (mark, pos) = queue.load_base(&mut second);
@@ -176,13 +178,16 @@ fn a_joiner_between_the_looks_is_waited_for(rt: HostRuntime) -> Result<(), Fail>
 
 #[test]
 fn a_joiner_keeps_the_place_that_it_has_loaded(rt: HostRuntime) -> Result<(), Fail> {
+    let notes = [virtual_note(rt.alloc())?];
     let (queue, mut first, mut second) = open_two(rt.alloc())?;
     queue.mark_joining(&mut second);
     let (mark, pos) = queue.load_base(&mut second);
-    let Some(true) = publish(&queue, &mut first, &[virtual_note(rt.alloc())?]) else {
+    let Some(true) = publish(&queue, &mut first, &notes) else {
+        drop((queue, first, second));
         return Err(Fail::from("not published"));
     };
     if !look_once(&queue, &mut first) || !look_at_joiner(&queue, &mut first) {
+        drop((queue, first, second));
         return Err(Fail::from("the joiner was not met"));
     }
     assert_eq!(rt; (mark.get(), pos.get()), (3, 0));

@@ -87,8 +87,8 @@ fn publish_on_two<R: Threads + Wait + Sync>(
 
 #[test]
 fn two_threads_draw_store_and_load(rt: HostRuntime) -> Result<(), Fail> {
-    let (queue, first, second) = open_two(rt.alloc())?;
     let notes = [virtual_note(rt.alloc())?];
+    let (queue, first, second) = open_two(rt.alloc())?;
     let told = publish_on_two(&rt, &queue, first, second, &notes);
     assert!(rt; matches!(told, (Some(4), Some(5)) | (Some(5), Some(4))));
     Ok(())
@@ -138,9 +138,9 @@ fn publish_and_read<R: Threads + Sync>(
 
 #[test]
 fn a_thread_reads_while_another_writes(rt: HostRuntime) -> Result<(), Fail> {
+    let notes = [virtual_note(rt.alloc())?];
     let (queue, first, mut second) = open_two(rt.alloc())?;
     join(&queue, &mut second);
-    let notes = [virtual_note(rt.alloc())?];
     let done = publish_and_read(&rt, &queue, first, second, &notes);
     assert_eq!(rt; done, (Some(true), true));
     Ok(())
