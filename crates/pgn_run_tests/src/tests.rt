@@ -1,5 +1,7 @@
-ghost use Rattle.std.specs.Prelude.{IfOk, ◌≤◌};
+ghost use Rattle.std.specs.Prelude.{◌≤◌, All, IfOk};
+ghost use Rattle.pgn_base.specs.declared.limits.TheConstants.{PAGES_MAX, PAGES_MIN};
 ghost use Rattle.pgn_language.specs.Inputs.{IsSound};
+ghost use Rattle.pgn_session.specs.Runs.{IsReady};
 
 use pgn_base::{Format, PAGES_DEFAULT, Sink, Source};
 use pgn_hub::Hub;
@@ -7,7 +9,9 @@ use pgn_language::{Scenario, ScenarioFault};
 use pgn_memory::{MemSink, MemSource};
 use pgn_run::{Print, Status, run_notify, run_scenario};
 use pgn_scenario::read_scenario;
-use std::alloc::Global;
+use pgn_session::Session;
+use pgn_threads::{open_on_hub, run_sessions};
+use std::alloc::{AllocError, Global};
 use std::sync::Wait;
 use std::test::Fail;
 use std::thread::Threads;
@@ -72,8 +76,11 @@ const AMPLE: Outside<'static> = Outside {
 // What a run has written that is done; of another one how it ended, and what it wrote.
 fn told(alloc: Global, status: Status, held: &[u8]) -> Result<String, Fail> {
     let written = str::from_utf8(held)?;
-    let ending = ending_of(status);
-    Ok(format!(in alloc; "{ending}{written}")?)
+    Ok(joined(alloc, ending_of(status), written)?)
+}
+
+fn joined(alloc: Global, front: &str, rest: &str) -> Result<String, AllocError> {
+    format!(in alloc; "{front}{rest}")
 }
 
 fn ending_of(status: Status) -> &'static str {
@@ -110,13 +117,21 @@ fn comes_of<R: Threads + Wait + Sync>(
     input: &[u8],
     outside: &Outside<'_>,
 ) -> Result<String, Fail> {
-    let most = outside.most.max(1);
-    let bytes = Vec::from_slice(alloc, input)?;
-    let mut source = MemSource::new(bytes, Vec::from_slice(alloc, outside.read_fails)?, most);
-    let fails = Vec::from_slice(alloc, outside.write_fails)?;
-    let mut sink = MemSink::new(alloc, outside.room, fails, most)?;
+    let mut source = source_of(alloc, input, outside)?;
+    let mut sink = sink_of(alloc, outside)?;
     let status = status_of(rt, alloc, &["run"], &mut source, &mut sink);
     told(alloc, status, sink.held())
+}
+
+fn source_of(alloc: Global, input: &[u8], outside: &Outside<'_>) -> Result<MemSource, AllocError> {
+    let bytes = Vec::from_slice(alloc, input)?;
+    let fails = Vec::from_slice(alloc, outside.read_fails)?;
+    Ok(MemSource::new(bytes, fails, outside.most.max(1)))
+}
+
+fn sink_of(alloc: Global, outside: &Outside<'_>) -> Result<MemSink, AllocError> {
+    let fails = Vec::from_slice(alloc, outside.write_fails)?;
+    MemSink::new(alloc, outside.room, fails, outside.most.max(1))
 }
 
 // What comes of this input where nothing fails.
@@ -131,12 +146,15 @@ fn in_two_pages<R: Threads + Wait + Sync>(
     input: &str,
     room: usize,
 ) -> Result<MemSink, Fail> {
-    let bytes = Vec::from_slice(alloc, input.as_bytes())?;
-    let mut source = MemSource::new(bytes, Vec::new(alloc), 1 << 20);
-    let mut sink = MemSink::new(alloc, room, Vec::new(alloc), 1 << 20)?;
+    let outside = Outside { room, ..AMPLE };
+    let mut source = source_of(alloc, input.as_bytes(), &outside)?;
+    let mut sink = sink_of(alloc, &outside)?;
     match status_of(rt, alloc, &["run", "--pages", "2"], &mut source, &mut sink) {
         Status::Done => Ok(sink),
-        _ => Err(Fail::from("not done")),
+        _ => {
+            drop(sink);
+            Err(Fail::from("not done"))
+        }
     }
 }
 
@@ -175,9 +193,61 @@ fn shown_over<H: Hub + Sync + Drop, R: Threads + Wait + Sync>(
     requires { 1 ≤ patience }
 {
     let scenario = scenario_of(alloc, input)?;
-    let mut sink = MemSink::new(alloc, 1 << 20, Vec::new(alloc), 1 << 20)?;
-    let status = status_over::<H, MemSink, R>(rt, alloc, &scenario, patience, print, &mut sink);
+    let text = shown_of::<H, R>(rt, alloc, &scenario, patience, print);
+    drop(scenario);
+    text
+}
+
+// The same of this scenario.
+fn shown_of<H: Hub + Sync + Drop, R: Threads + Wait + Sync>(
+    rt: &R,
+    alloc: Global,
+    scenario: &Scenario,
+    patience: u64,
+    print: Print,
+) -> Result<String, Fail>
+    requires sound { IsSound scenario.now }
+    requires patient { 1 ≤ patience }
+{
+    let outside = Outside {
+        room: 1 << 20,
+        ..AMPLE
+    };
+    let mut sink = sink_of(alloc, &outside)?;
+    let status = status_over::<H, MemSink, R>(rt, alloc, scenario, patience, print, &mut sink);
     told(alloc, status, sink.held())
+}
+
+// A hub of this type for an input, with so many pages and so much patience, and its sessions.
+fn opened<H: Hub + Drop>(
+    alloc: Global,
+    input: &str,
+    pages: u32,
+    patience: u64,
+) -> Result<(H, Vec<Session<H::Pass>>), Fail>
+    requires some_pages { PAGES_MIN ≤ pages }
+    requires few_pages { pages ≤ PAGES_MAX }
+    requires patient { 1 ≤ patience }
+    ensures ready { IfOk result (λ opened. All (IsReady (H.is_pass opened.0) (H.shape opened.0) H.Pass.known) opened.1.items) }
+{
+    let scenario = scenario_of(alloc, input)?;
+    let opened = open_on_hub::<H>(alloc, &scenario, pages, patience, Format::One);
+    drop(scenario);
+    Ok(opened?)
+}
+
+// Runs the sessions of an input over a hub of this type, with so much patience: the hub, the sessions, and whether memory sufficed.
+fn ran<H: Hub + Sync + Drop, R: Threads + Wait + Sync>(
+    rt: &R,
+    alloc: Global,
+    input: &str,
+    patience: u64,
+) -> Result<(H, Vec<Session<H::Pass>>, bool), Fail>
+    requires { 1 ≤ patience }
+{
+    let (hub, mut sessions) = opened::<H>(alloc, input, PAGES_DEFAULT, patience)?;
+    let ended = run_sessions(rt, alloc, &hub, sessions.as_mut_slice());
+    Ok((hub, sessions, ended.is_ok()))
 }
 
 fn scenario_of(alloc: Global, input: &str) -> Result<Scenario, Fail>

@@ -1,10 +1,9 @@
 use super::probe::{Gate, Probe, Watch};
 use super::turns::awaits_of;
-use super::{SELF_NOTIFY, scenario_of, shown_over};
-use pgn_base::{Format, PAGES_DEFAULT, PATIENCE_DEFAULT};
+use super::{SELF_NOTIFY, ran, shown_over};
+use pgn_base::PATIENCE_DEFAULT;
 use pgn_drill::drill_text;
 use pgn_run::Print;
-use pgn_threads::{open_on_hub, run_sessions};
 use std::test::Fail;
 
 const TWO_WRITERS: &str = "\
@@ -16,16 +15,13 @@ NOTIFY c
 
 #[test]
 fn sessions_run_side_by_side(rt: HostRuntime) -> Result<(), Fail> {
-    let alloc = rt.alloc();
-    let scenario = scenario_of(alloc, TWO_WRITERS)?;
-    let (hub, mut sessions) = open_on_hub::<Probe<Gate<10_000_000>>>(
-        alloc,
-        &scenario,
-        PAGES_DEFAULT,
+    let (hub, _sessions, ended) = ran::<Probe<Gate<10_000_000>>, HostRuntime>(
+        &rt,
+        rt.alloc(),
+        TWO_WRITERS,
         PATIENCE_DEFAULT,
-        Format::One,
     )?;
-    run_sessions(&rt, alloc, &hub, sessions.as_mut_slice())?;
+    assert!(rt; ended);
     assert!(rt; !hub.is_spent());
     Ok(())
 }
@@ -86,7 +82,7 @@ fn a_drill_is_over_its_hub(rt: HostRuntime) -> Result<(), Fail> {
 }
 
 // The first transaction spends the turns, so that the read of session a after its LISTEN finds no memory: it does not send again, and it
-// raises its second flag never. Session b awaits this in vain, and sends then.
+// raises its second flag never. Session b awaits this in vain, and sends then. Of the two it alone has awaits.
 const ONE_IS_REFUSED: &str = "\
 \\session a 1
 NOTIFY d
@@ -103,19 +99,16 @@ NOTIFY d
 #[test]
 fn where_a_session_is_refused_memory_the_others_end(rt: HostRuntime) -> Result<(), Fail> {
     let alloc = rt.alloc();
-    let scenario = scenario_of(alloc, ONE_IS_REFUSED)?;
-    let (hub, mut sessions) = open_on_hub::<Probe<Gate<0>>>(
+    let (hub, sessions, ended) = ran::<Probe<Gate<0>>, HostRuntime>(
+        &rt,
         alloc,
-        &scenario,
-        PAGES_DEFAULT,
+        ONE_IS_REFUSED,
         100_000,
-        Format::One,
     )?;
-    let ended = run_sessions(&rt, alloc, &hub, sessions.as_mut_slice());
-    assert!(rt; ended.is_err());
+    assert!(rt; !ended);
     assert_eq!(rt; hub.begun(), 2);
-    let second = sessions.last().ok_or("no session")?;
-    let awaits = awaits_of(alloc, second)?;
+    drop(hub);
+    let awaits = awaits_of(alloc, &sessions)?;
     assert_eq!(rt; awaits.as_str(), "+await 4\n+timeout 100000\n");
     Ok(())
 }
@@ -145,16 +138,13 @@ LISTEN c
 // script's end begins.
 #[test]
 fn a_session_that_waits_looks_whether_it_was_woken(rt: HostRuntime) -> Result<(), Fail> {
-    let alloc = rt.alloc();
-    let scenario = scenario_of(alloc, AWAITS_ITSELF)?;
-    let (hub, mut sessions) = open_on_hub::<Probe<Gate<0>>>(
-        alloc,
-        &scenario,
-        PAGES_DEFAULT,
+    let (hub, _sessions, ended) = ran::<Probe<Gate<0>>, HostRuntime>(
+        &rt,
+        rt.alloc(),
+        AWAITS_ITSELF,
         10,
-        Format::One,
     )?;
-    run_sessions(&rt, alloc, &hub, sessions.as_mut_slice())?;
+    assert!(rt; ended);
     assert_eq!(rt; hub.wake_looks(), 13);
     Ok(())
 }
@@ -175,16 +165,13 @@ UNLISTEN d
 // A session tells its channels where its transaction had actions and it listens afterwards, and at no other line: after the first three.
 #[test]
 fn a_session_tells_its_channels_where_it_has_acted(rt: HostRuntime) -> Result<(), Fail> {
-    let alloc = rt.alloc();
-    let scenario = scenario_of(alloc, LISTENS_AND_UNLISTENS)?;
-    let (hub, mut sessions) = open_on_hub::<Probe<Watch<0>>>(
-        alloc,
-        &scenario,
-        PAGES_DEFAULT,
+    let (hub, _sessions, ended) = ran::<Probe<Watch<0>>, HostRuntime>(
+        &rt,
+        rt.alloc(),
+        LISTENS_AND_UNLISTENS,
         10,
-        Format::One,
     )?;
-    run_sessions(&rt, alloc, &hub, sessions.as_mut_slice())?;
+    assert!(rt; ended);
     assert_eq!(rt; hub.interests(), 3);
     Ok(())
 }

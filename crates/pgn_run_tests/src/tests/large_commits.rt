@@ -1,6 +1,20 @@
 use super::{AMPLE, Outside, comes_of};
 use std::alloc::{AllocError, Global};
+use std::sync::Wait;
 use std::test::Fail;
+use std::thread::Threads;
+
+// Puts a number between two texts behind others.
+fn push(
+    alloc: Global,
+    text: &mut String,
+    front: &str,
+    number: u32,
+    end: &str,
+) -> Result<(), AllocError> {
+    let line = format!(in alloc; "{front}{number}{end}")?;
+    text.push_str(line.as_str())
+}
 
 // What a block of notifications is made of, and what it shows.
 #[derive(Drop)]
@@ -23,18 +37,26 @@ impl Block {
 
     // One more notification of this payload.
     fn send(&mut self, alloc: Global, payload: u32) -> Result<(), AllocError> {
-        let line = format!(in alloc; "NOTIFY c, '{payload}'\n")?;
-        self.lines.push_str(line.as_str())?;
-        let answer = format!(in alloc; "> {line}NOTIFY\n")?;
-        self.answers.push_str(answer.as_str())
+        push(alloc, &mut self.lines, "NOTIFY c, '", payload, "'\n")?;
+        push(
+            alloc,
+            &mut self.answers,
+            "> NOTIFY c, '",
+            payload,
+            "'\nNOTIFY\n",
+        )
     }
 
     // The notification is one that is sent.
     fn sent(&mut self, alloc: Global, payload: u32) -> Result<(), AllocError> {
-        let note = format!(in alloc; "  \"c\", '{payload}'\n")?;
-        self.notes.push_str(note.as_str())?;
-        let delivery = format!(in alloc; "  3 1001 \"c\", '{payload}'\n")?;
-        self.deliveries.push_str(delivery.as_str())
+        push(alloc, &mut self.notes, "  \"c\", '", payload, "'\n")?;
+        push(
+            alloc,
+            &mut self.deliveries,
+            "  3 1001 \"c\", '",
+            payload,
+            "'\n",
+        )
     }
 
     // The input of a listener that sends the block.
@@ -62,41 +84,49 @@ const MANY: Outside<'static> = Outside {
 };
 
 // 10,000 notifications, each of its number.
-fn different(alloc: Global) -> Result<Block, AllocError> {
-    let mut block = Block::new(alloc);
+fn push_different(alloc: Global, block: &mut Block) -> Result<(), AllocError> {
     for number in 0..10_000 {
         block.send(alloc, number)?;
         block.sent(alloc, number)?;
     }
-    Ok(block)
+    Ok(())
+}
+
+// Whether a run of the block writes what it shows, where so many are sent.
+fn is_written<R: Threads + Wait + Sync>(
+    rt: &R,
+    alloc: Global,
+    block: &Block,
+    count: u32,
+) -> Result<bool, Fail> {
+    let input = block.input(alloc)?;
+    let found = comes_of(rt, alloc, input.as_bytes(), &MANY)?;
+    let want = block.output(alloc, count)?;
+    Ok(found == want)
 }
 
 #[test]
 fn ten_thousand_notifications_that_differ(rt: HostRuntime) -> Result<(), Fail> {
     let alloc = rt.alloc();
-    let block = different(alloc)?;
-    let found = comes_of(&rt, alloc, block.input(alloc)?.as_bytes(), &MANY)?;
-    let want = block.output(alloc, 10_000)?;
-    assert!(rt; found == want);
+    let mut block = Block::new(alloc);
+    push_different(alloc, &mut block)?;
+    assert!(rt; is_written(&rt, alloc, &block, 10_000)?);
     Ok(())
 }
 
 // As many of one, which is sent once.
-fn equal(alloc: Global) -> Result<Block, AllocError> {
-    let mut block = Block::new(alloc);
+fn push_equal(alloc: Global, block: &mut Block) -> Result<(), AllocError> {
     for _ in 0..10_000 {
         block.send(alloc, 7)?;
     }
-    block.sent(alloc, 7)?;
-    Ok(block)
+    block.sent(alloc, 7)
 }
 
 #[test]
 fn ten_thousand_equal_notifications(rt: HostRuntime) -> Result<(), Fail> {
     let alloc = rt.alloc();
-    let block = equal(alloc)?;
-    let found = comes_of(&rt, alloc, block.input(alloc)?.as_bytes(), &MANY)?;
-    let want = block.output(alloc, 1)?;
-    assert!(rt; found == want);
+    let mut block = Block::new(alloc);
+    push_equal(alloc, &mut block)?;
+    assert!(rt; is_written(&rt, alloc, &block, 1)?);
     Ok(())
 }

@@ -1,4 +1,5 @@
 use super::{in_order, shown};
+use std::process::Abort;
 use std::test::Fail;
 
 const TWO_LISTENERS: &str = "\
@@ -21,11 +22,8 @@ fn parts_of(text: &str) -> Option<(&str, &str, &str)> {
     Some((journal, first, second))
 }
 
-// Whose transaction comes first is free.
-#[test]
-fn two_listeners_that_notify(rt: HostRuntime) -> Result<(), Fail> {
-    let text = shown(&rt, rt.alloc(), TWO_LISTENERS)?;
-    let Some((journal, first, second)) = parts_of(text.as_str()) else {
+fn assert_right<R: Abort>(rt: &R, text: &str) -> Result<(), Fail> {
+    let Some((journal, first, second)) = parts_of(text) else {
         return Err(Fail::from("no sections"));
     };
     assert!(rt; journal.starts_with("journal 6\n"));
@@ -44,4 +42,11 @@ fn two_listeners_that_notify(rt: HostRuntime) -> Result<(), Fail> {
     assert!(rt; first.ends_with("\nend mark 9\n"));
     assert!(rt; second.ends_with("\nend mark 9\n"));
     Ok(())
+}
+
+// Whose transaction comes first is free.
+#[test]
+fn two_listeners_that_notify(rt: HostRuntime) -> Result<(), Fail> {
+    let text = shown(&rt, rt.alloc(), TWO_LISTENERS)?;
+    assert_right(&rt, text.as_str())
 }

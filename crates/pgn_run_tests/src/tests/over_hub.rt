@@ -3,12 +3,12 @@ ghost use Rattle.std.specs.Thread.{IsSync, IsSend};
 ghost use Rattle.pgn_session.specs.Runs.{IsReady, IsOver};
 ghost use Rattle.pgn_session.specs.declared.doing.Doing.TheVariants.{Over};
 
-use super::scenario_of;
+use super::opened;
 use pgn_base::{DbOid, Format, Name, Note, Payload};
 use pgn_hub::{Hub, PassView, SeatSetup, Setup};
 use pgn_model::Item;
 use pgn_session::{Session, Step};
-use pgn_threads::{drain, open_on_hub};
+use pgn_threads::drain;
 use pgn_wordhub::WordHub;
 use std::alloc::{AllocError, Global};
 use std::sync::Wait;
@@ -118,8 +118,7 @@ fn read_after_the_block<P: PassView + Send + Drop, H: Hub<Pass = P> + Drop, R: W
     alloc: Global,
 ) -> Result<(bool, bool, bool), Fail> {
     let input = "\\session a 1\nLISTEN c\nBEGIN\nNOTIFY c\nCOMMIT\n\\session b 1\n";
-    let scenario = scenario_of(alloc, input)?;
-    let (hub, mut sessions) = open_on_hub::<H>(alloc, &scenario, 2, 1000, Format::One)?;
+    let (hub, mut sessions) = opened::<H>(alloc, input, 2, 1000)?;
     take_the_first(rt, alloc, &hub, sessions.as_mut_slice())
 }
 
@@ -222,8 +221,8 @@ fn read_as_it_is_drained<P: PassView + Send + Drop, H: Hub<Pass = P> + Drop, R: 
     rt: &R,
     alloc: Global,
 ) -> Result<(bool, bool), Fail> {
-    let scenario = scenario_of(alloc, "\\session a 1\nLISTEN c\n\\session b 1\nNOTIFY c\n")?;
-    let (hub, mut sessions) = open_on_hub::<H>(alloc, &scenario, 2, 1000, Format::One)?;
+    let input = "\\session a 1\nLISTEN c\n\\session b 1\nNOTIFY c\n";
+    let (hub, mut sessions) = opened::<H>(alloc, input, 2, 1000)?;
     end_and_drain(rt, alloc, &hub, sessions.as_mut_slice())
 }
 
@@ -283,10 +282,9 @@ fn publish_side_by_side<
 }
 
 fn note(alloc: Global) -> Result<Note, Fail> {
-    Ok(Note {
-        channel: Name::new(alloc, "c")?,
-        payload: Payload::new(alloc, "")?,
-    })
+    let channel = Name::new(alloc, "c")?;
+    let payload = Payload::new(alloc, "")?;
+    Ok(Note { channel, payload })
 }
 
 // A seat of database 1, whose session may send so many notifications.
@@ -330,8 +328,8 @@ fn publish_and_gather<
 >(rt: &R, alloc: Global, times: u32) -> Result<(u32, u32, u32), Fail>
     requires few { times ≤ 1000 }
 {
-    let (hub, mut first, mut second) = open_passes::<P, H>(alloc, times)?;
     let notes = [note(alloc)?];
+    let (hub, mut first, mut second) = open_passes::<P, H>(alloc, times)?;
     let (by_first, by_second) = publish_side_by_side(
         rt,
         &hub,
@@ -340,9 +338,7 @@ fn publish_and_gather<
         &notes,
         times,
     );
-    let mut passes = Vec::with_capacity(alloc, 2)?;
-    passes.push(first)?;
-    passes.push(second)?;
+    let passes = Vec::from_array(alloc, [first, second])?;
     let roll = hub.gather(passes);
     Ok((by_first, by_second, roll.count))
 }

@@ -2,13 +2,13 @@ ghost use Rattle.std.specs.Prelude.{All};
 ghost use Rattle.std.specs.Thread.{IsSync, IsSend};
 ghost use Rattle.pgn_session.specs.Runs.{IsReady};
 
+use super::opened;
 use super::probe::{Probe, Watch};
-use super::scenario_of;
 use super::turns::awaits_of;
-use pgn_base::{Format, PAGES_DEFAULT};
+use pgn_base::PAGES_DEFAULT;
 use pgn_hub::{Hub, PassView};
 use pgn_session::Session;
-use pgn_threads::{open_on_hub, run_in_turns};
+use pgn_threads::run_in_turns;
 use std::alloc::{AllocError, Global};
 use std::sync::Wait;
 use std::test::Fail;
@@ -37,21 +37,20 @@ fn run_two_groups<P: PassView + Send + Drop, H: Hub<Pass = P> + Sync, R: Threads
     of_first.and(of_second)
 }
 
-// The first two sessions take turns beside the others.
+// The first two sessions take turns beside the others: whether there are so many, and memory sufficed.
 fn run_two_beside<P: PassView + Send + Drop, H: Hub<Pass = P> + Sync, R: Threads + Wait + Sync>(
     rt: &R,
     alloc: Global,
     hub: &H,
     sessions: &mut [Session<P>],
-) -> Result<(), Fail>
+) -> bool
     requires { All (IsReady (H.is_pass hub.now) (H.shape hub.now) P.known) sessions.old }
 {
     if sessions.len() < 2 {
-        return Err(Fail::from("no two sessions"));
+        return false;
     }
     let (first, second) = sessions.split_at_mut(2);
-    run_two_groups(rt, alloc, hub, first, second)?;
-    Ok(())
+    run_two_groups(rt, alloc, hub, first, second).is_ok()
 }
 
 // Two sessions that wait for a flag, of which the first listens, and one that raises it after twelve lines.
@@ -82,20 +81,16 @@ NOTIFY c
 #[test]
 fn sessions_that_take_turns_count_no_more_than_they_sleep(rt: HostRuntime) -> Result<(), Fail> {
     let alloc = rt.alloc();
-    let scenario = scenario_of(alloc, RAISED_LATE)?;
-    let (hub, mut sessions) = open_on_hub::<Probe<Watch<1_000_000>>>(
+    let (hub, mut sessions) = opened::<Probe<Watch<1_000_000>>>(
         alloc,
-        &scenario,
+        RAISED_LATE,
         PAGES_DEFAULT,
         1_000_000,
-        Format::One,
     )?;
-    run_two_beside(&rt, alloc, &hub, sessions.as_mut_slice())?;
+    assert!(rt; run_two_beside(&rt, alloc, &hub, sessions.as_mut_slice()));
     assert!(rt; !hub.is_spent());
-    let mut lines = String::new(alloc);
-    for session in &sessions {
-        lines.push_str(awaits_of(alloc, session)?.as_str())?;
-    }
-    assert_eq!(rt; lines.as_str(), "+await 15\n+await 15\n");
+    drop(hub);
+    let awaits = awaits_of(alloc, &sessions)?;
+    assert_eq!(rt; awaits.as_str(), "+await 15\n+await 15\n");
     Ok(())
 }

@@ -1,4 +1,4 @@
-use super::{AMPLE, CROSSING_FLAGS, Outside, SELF_NOTIFY, comes_of};
+use super::{AMPLE, CROSSING_FLAGS, Outside, SELF_NOTIFY, comes_of, joined};
 use pgn_base::INPUT_BYTES_MAX;
 use std::alloc::{AllocError, Global};
 use std::process::Abort;
@@ -177,7 +177,7 @@ fn written_before(alloc: Global, calls: usize) -> Result<String, Fail> {
         return Ok(String::from_str(alloc, CROSSING_FLAGS_OUTPUT)?);
     }
     let written = CROSSING_FLAGS_OUTPUT.get(..bytes).ok_or("no ASCII")?;
-    Ok(format!(in alloc; "WriteFault: {written}")?)
+    Ok(joined(alloc, "WriteFault: ", written)?)
 }
 
 // What comes of a sink that takes seven bytes at a time, and whose call of this number fails.
@@ -190,13 +190,21 @@ fn write_until<R: Threads + Wait + Sync>(rt: &R, alloc: Global, call: u64) -> Re
     comes_of(rt, alloc, CROSSING_FLAGS.as_bytes(), &outside)
 }
 
+fn is_cut_after<R: Threads + Wait + Sync>(
+    rt: &R,
+    alloc: Global,
+    calls: usize,
+) -> Result<bool, Fail> {
+    let found = write_until(rt, alloc, (calls as u64).saturating_add(1))?;
+    let want = written_before(alloc, calls)?;
+    Ok(found == want)
+}
+
 #[test]
 fn each_write_fails_in_turn(rt: HostRuntime) -> Result<(), Fail> {
     let alloc = rt.alloc();
     for calls in 0..=CROSSING_FLAGS_OUTPUT.len() / 7 + 1 {
-        let found = write_until(&rt, alloc, calls as u64 + 1)?;
-        let want = written_before(alloc, calls)?;
-        assert_eq!(rt; found.as_str(), want.as_str());
+        assert!(rt; is_cut_after(&rt, alloc, calls)?, "after {calls}");
     }
     Ok(())
 }
@@ -232,27 +240,43 @@ fn quotes_in_parts(rt: HostRuntime) -> Result<(), Fail> {
     Ok(())
 }
 
-// A command whose line has so many bytes, at least nine.
-fn long_line(alloc: Global, bytes: usize) -> Result<String, AllocError> {
-    let mut line = String::from_str(alloc, "UNLISTEN")?;
+// Puts a command whose line has so many bytes, at least nine, behind a text.
+fn push_long_line(text: &mut String, bytes: usize) -> Result<(), AllocError> {
+    text.push_str("UNLISTEN")?;
     for _ in 9..bytes {
-        line.push(' ')?;
+        text.push(' ')?;
     }
-    line.push('*')?;
-    Ok(line)
+    text.push('*')
 }
 
-// A script of lines of so many bytes, and what it shows.
-fn long_lines(alloc: Global, sizes: &[usize]) -> Result<(String, String), AllocError> {
-    let mut input = String::from_str(alloc, "\\session a 1\n")?;
-    let mut output = String::from_str(alloc, "journal 0\nsession 1 a db 1 pid 1001\n")?;
+// Puts lines of so many bytes between two texts each behind others.
+fn push_lines(
+    text: &mut String,
+    front: &str,
+    sizes: &[usize],
+    end: &str,
+) -> Result<(), AllocError> {
     for bytes in sizes {
-        let line = long_line(alloc, *bytes)?;
-        input.push_str(format!(in alloc; "{line}\n")?.as_str())?;
-        output.push_str(format!(in alloc; "> {line}\nUNLISTEN\n")?.as_str())?;
+        text.push_str(front)?;
+        push_long_line(text, *bytes)?;
+        text.push_str(end)?;
     }
-    output.push_str("end\n")?;
-    Ok((input, output))
+    Ok(())
+}
+
+// A script of lines of so many bytes.
+fn long_lines(alloc: Global, sizes: &[usize]) -> Result<String, AllocError> {
+    let mut text = String::from_str(alloc, "\\session a 1\n")?;
+    push_lines(&mut text, "", sizes, "\n")?;
+    Ok(text)
+}
+
+// What it shows.
+fn long_output(alloc: Global, sizes: &[usize]) -> Result<String, AllocError> {
+    let mut text = String::from_str(alloc, "journal 0\nsession 1 a db 1 pid 1001\n")?;
+    push_lines(&mut text, "> ", sizes, "\nUNLISTEN\n")?;
+    text.push_str("end\n")?;
+    Ok(text)
 }
 
 // What is kept back comes to 8,192 bytes with the first line. Of the next ones that many bytes, one less and more are left over
@@ -260,12 +284,14 @@ fn long_lines(alloc: Global, sizes: &[usize]) -> Result<(String, String), AllocE
 #[test]
 fn a_text_larger_than_the_buffer(rt: HostRuntime) -> Result<(), Fail> {
     let alloc = rt.alloc();
-    let (input, output) = long_lines(alloc, &[8154, 16_372, 16_371, 20_000, 12])?;
+    let sizes = [8154, 16_372, 16_371, 20_000, 12];
+    let input = long_lines(alloc, &sizes)?;
     let outside = Outside {
         most: 3000,
         ..AMPLE
     };
     let found = comes_of(&rt, alloc, input.as_bytes(), &outside)?;
-    assert!(rt; found == output);
+    drop(input);
+    assert!(rt; found == long_output(alloc, &sizes)?);
     Ok(())
 }

@@ -1,8 +1,6 @@
 use super::probe::{Probe, Watch};
-use super::{scenario_of, shown_over};
-use pgn_base::{Format, PAGES_DEFAULT};
+use super::{ran, shown_over};
 use pgn_run::Print;
-use pgn_threads::{open_on_hub, run_sessions};
 use pgn_wordhub::WordHub;
 use std::alloc::{AllocError, Global};
 use std::test::Fail;
@@ -21,28 +19,21 @@ NOTIFY c
 // Session b sends once a session has slept, and raises the flag that session a awaits once a has read.
 #[test]
 fn a_listener_reads_while_it_sleeps_for_a_flag(rt: HostRuntime) -> Result<(), Fail> {
-    let alloc = rt.alloc();
-    let scenario = scenario_of(alloc, READS_WHILE_IT_WAITS)?;
-    let (hub, mut sessions) = open_on_hub::<Probe<Watch<10_000_000>>>(
-        alloc,
-        &scenario,
-        PAGES_DEFAULT,
+    let (hub, _sessions, ended) = ran::<Probe<Watch<10_000_000>>, HostRuntime>(
+        &rt,
+        rt.alloc(),
+        READS_WHILE_IT_WAITS,
         u64::MAX,
-        Format::One,
     )?;
-    run_sessions(&rt, alloc, &hub, sessions.as_mut_slice())?;
+    assert!(rt; ended);
     assert!(rt; !hub.is_spent());
     Ok(())
 }
 
 // A session that awaits a flag which another one raises after 1,000 lines.
 fn late_flag(alloc: Global) -> Result<String, AllocError> {
-    let mut text = String::from_str(alloc, "\\session a 1\n\\await f\n\\session b 1\n")?;
-    for _ in 0..1000 {
-        text.push_str("NOTIFY c\n")?;
-    }
-    text.push_str("\\signal f\n")?;
-    Ok(text)
+    let notes = "NOTIFY c\n".repeat(alloc, 1000)?;
+    format!(in alloc; "\\session a 1\n\\await f\n\\session b 1\n{notes}\\signal f\n")
 }
 
 // So much patience is a second where it is slept, and some looks where it is counted alone.
