@@ -67,7 +67,19 @@ fn listen_on_c(alloc: Global) -> Option<Actions> {
 // The set of the channel `c`, if memory suffices.
 fn set_of_c(alloc: Global) -> Option<ListenSet> {
     let actions = listen_on_c(alloc)?;
-    ListenSet::new(alloc).with(&actions).ok()
+    let mut set = ListenSet::new(alloc);
+    act(&mut set, actions)?;
+    Some(set)
+}
+
+// Does these actions in place, if memory suffices.
+fn act(set: &mut ListenSet, actions: Actions) -> Option<()> {
+    if set.reserve(actions.as_slice().len()).is_err() {
+        drop(actions);
+        return None;
+    }
+    set.apply(actions);
+    Some(())
 }
 
 // The seat of a session in a database.
