@@ -11,6 +11,7 @@ use pgn_base::{
 use pgn_hub::{Hub, Roll, Setup};
 use pgn_language::Scenario;
 use pgn_live::LiveFault;
+use pgn_memory::MemSink;
 use pgn_wordhub::WordHub;
 use std::alloc::{AllocError, Global};
 use std::sync::atomic::{AtomicU64, Ordering};
