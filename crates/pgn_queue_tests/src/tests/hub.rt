@@ -1,5 +1,5 @@
 //! A hub of two pages for two sessions, and what a session does with its calls.
-ghost use Rattle.std.specs.Prelude.{◌≡◌, ◌≤◌, ◌<◌, length, None, IsSome, IfOk};
+ghost use Rattle.std.specs.Prelude.{◌≡◌, ◌≤◌, ◌<◌, length, None, IsSome, IfOk, IfSome};
 ghost use Rattle.pgn_words.specs.Passes.{known_of};
 ghost use Rattle.pgn_wordhub.specs.Passes.{IsHubPass, hub_shape};
 
@@ -28,32 +28,28 @@ const LARGEST: usize = 7999;
 /// How many notifications each session of a test may send.
 const NOTES: u32 = 4000;
 
-// A notification on the channel `c` whose payload has so many letters.
-fn note(alloc: Global, letters: usize) -> Result<Note, Fail>
-    ensures { IfOk result (λ note. length note.payload ≡ letters) }
+// A notification on the channel `c` whose payload has so many letters, if memory suffices.
+fn note(alloc: Global, letters: usize) -> Option<Note>
+    ensures { IfSome result (λ note. length note.payload ≡ letters) }
 {
     note_on(alloc, "c", letters)
 }
 
 // The same on another channel.
-fn note_on(alloc: Global, channel: &str, letters: usize) -> Result<Note, Fail>
-    ensures { IfOk result (λ note. length note.payload ≡ letters) }
+fn note_on(alloc: Global, channel: &str, letters: usize) -> Option<Note>
+    ensures { IfSome result (λ note. length note.payload ≡ letters) }
 {
-    let channel = name(alloc, channel)?;
+    let channel = Name::new(alloc, channel).ok()?;
     let payload = payload(alloc, letters)?;
-    Ok(Note { channel, payload })
-}
-
-fn name(alloc: Global, text: &str) -> Result<Name, Fail> {
-    Ok(Name::new(alloc, text)?)
+    Some(Note { channel, payload })
 }
 
 // A payload of so many letters.
-fn payload(alloc: Global, letters: usize) -> Result<Payload, Fail>
-    ensures { IfOk result (λ payload. length payload ≡ letters) }
+fn payload(alloc: Global, letters: usize) -> Option<Payload>
+    ensures { IfSome result (λ payload. length payload ≡ letters) }
 {
-    let text = vec![in alloc; b'x'; letters]?;
-    Ok(Payload::new(alloc, str::from_utf8(&text)?)?)
+    let text = vec![in alloc; b'x'; letters].ok()?;
+    Payload::new(alloc, str::from_utf8(&text).ok()?).ok()
 }
 
 // That the channel `c` is listened to, if memory suffices.
@@ -173,7 +169,7 @@ fn publish_one<R: Wait>(
 }
 
 // The same, as a plain number.
-fn send<R: Wait>(rt: &R, hub: &WordHub, pass: &mut WordPass, notes: &[Note; 1]) -> Option<u32>
+fn publish<R: Wait>(rt: &R, hub: &WordHub, pass: &mut WordPass, notes: &[Note; 1]) -> Option<u32>
     requires own { IsHubPass hub.now pass.old }
     ensures own { IsHubPass hub.now pass.new }
     ensures mark { (known_of pass.new).mark ≡ (known_of pass.old).mark }
@@ -185,16 +181,52 @@ fn send<R: Wait>(rt: &R, hub: &WordHub, pass: &mut WordPass, notes: &[Note; 1]) 
     }
 }
 
-// Sends one notification four times.
-fn send_four<R: Wait>(rt: &R, hub: &WordHub, pass: &mut WordPass, notes: &[Note; 1])
+// The same of a notification on a channel whose payload has so many letters, if memory suffices for it.
+fn send_on<R: Wait>(
+    rt: &R,
+    alloc: Global,
+    hub: &WordHub,
+    pass: &mut WordPass,
+    channel: &str,
+    letters: usize,
+) -> Option<u32>
+    requires own { IsHubPass hub.now pass.old }
+    ensures own { IsHubPass hub.now pass.new }
+    ensures mark { (known_of pass.new).mark ≡ (known_of pass.old).mark }
+    ensures session { (known_of pass.new).session ≡ (known_of pass.old).session }
+{
+    match note_on(alloc, channel, letters) {
+        Some(note) => publish(rt, hub, pass, &[note]),
+        None => None,
+    }
+}
+
+// The same on the channel `c`.
+fn send<R: Wait>(
+    rt: &R,
+    alloc: Global,
+    hub: &WordHub,
+    pass: &mut WordPass,
+    letters: usize,
+) -> Option<u32>
+    requires own { IsHubPass hub.now pass.old }
+    ensures own { IsHubPass hub.now pass.new }
+    ensures mark { (known_of pass.new).mark ≡ (known_of pass.old).mark }
+    ensures session { (known_of pass.new).session ≡ (known_of pass.old).session }
+{
+    send_on(rt, alloc, hub, pass, "c", letters)
+}
+
+// Sends a largest notification four times.
+fn send_four<R: Wait>(rt: &R, alloc: Global, hub: &WordHub, pass: &mut WordPass)
     requires own { IsHubPass hub.now pass.old }
     ensures own { IsHubPass hub.now pass.new }
     ensures mark { (known_of pass.new).mark ≡ (known_of pass.old).mark }
 {
-    send(rt, hub, pass, notes);
-    send(rt, hub, pass, notes);
-    send(rt, hub, pass, notes);
-    send(rt, hub, pass, notes);
+    send(rt, alloc, hub, pass, LARGEST);
+    send(rt, alloc, hub, pass, LARGEST);
+    send(rt, alloc, hub, pass, LARGEST);
+    send(rt, alloc, hub, pass, LARGEST);
 }
 
 // Tells that the session listens on the channel `c`, and reads on: the new mark, if memory suffices, and what was received is put

@@ -13,7 +13,6 @@ fn listen_and_read<R: Wait>(
     alloc: Global,
     hub: &WordHub,
     pass: &mut WordPass,
-    notes: &[Note; 1],
 ) -> (bool, Option<(u32, usize)>)
     requires own { IsHubPass hub.now pass.old }
     requires out { (known_of pass.old).mark ≡ None }
@@ -22,7 +21,7 @@ fn listen_and_read<R: Wait>(
     ensures session { (known_of pass.new).session ≡ (known_of pass.old).session }
 {
     listen(alloc, hub, pass);
-    send(rt, hub, pass, notes);
+    send(rt, alloc, hub, pass, 1);
     let woken = hub.woken(pass);
     (woken, receive(alloc, hub, pass))
 }
@@ -45,9 +44,8 @@ fn signal_and_leave<R: Wait>(rt: &R, hub: &WordHub, pass: &mut WordPass) -> (Opt
 #[test]
 fn one_pass_through_every_call(rt: HostRuntime) -> Result<(), Fail> {
     let alloc = rt.alloc();
-    let notes = [note(alloc, 1)?];
     let (hub, mut first, mut second) = open_two(alloc, Format::One)?;
-    let read = listen_and_read(&rt, alloc, &hub, &mut first, &notes);
+    let read = listen_and_read(&rt, alloc, &hub, &mut first);
     assert_eq!(rt; read, (true, Some((4, 1))));
     assert_eq!(rt; advance(&rt, &hub, &mut first), (0, 0, None));
     let done = signal_and_leave(&rt, &hub, &mut first);
@@ -68,10 +66,9 @@ fn numbers_of(enlisted: Option<Enlisted>) -> Option<(u32, u32)> {
 #[test]
 fn a_listener_reads_what_it_sent(rt: HostRuntime) -> Result<(), Fail> {
     let alloc = rt.alloc();
-    let notes = [note(alloc, 1)?];
     let (hub, mut first, _second) = open_two(alloc, Format::One)?;
     assert_eq!(rt; numbers_of(listen(alloc, &hub, &mut first)), Some((3, 3)));
-    assert_eq!(rt; send(&rt, &hub, &mut first, &notes), Some(3));
+    assert_eq!(rt; send(&rt, alloc, &hub, &mut first, 1), Some(3));
     assert!(rt; hub.woken(&mut first));
     assert_eq!(rt; receive(alloc, &hub, &mut first), Some((4, 1)));
     assert!(rt; !hub.woken(&mut first));
@@ -91,11 +88,10 @@ fn is_largest_of_the_second(got: &[Delivery]) -> bool {
 }
 
 fn assert_delivered<R: Wait + Abort>(rt: &R, alloc: Global, format: Format) -> Result<(), Fail> {
-    let notes = [note(alloc, LARGEST)?];
-    let mut got = Vec::new(alloc);
     let (hub, mut first, mut second) = open_two(alloc, format)?;
+    let mut got = Vec::new(alloc);
     hub.enlist(&mut first);
-    send(rt, &hub, &mut second, &notes);
+    send(rt, alloc, &hub, &mut second, LARGEST);
     assert!(rt; read(alloc, &hub, &mut first, &mut got).is_some());
     assert!(rt; is_largest_of_the_second(&got));
     Ok(())
@@ -111,10 +107,9 @@ fn a_delivery_has_its_sender(rt: HostRuntime) -> Result<(), Fail> {
 
 #[test]
 fn flags_keep_the_greatest_number(rt: HostRuntime) -> Result<(), Fail> {
-    let notes = [note(rt.alloc(), 1)?];
     let (hub, mut first, mut second) = open_two(rt.alloc(), Format::One)?;
     assert_eq!(rt; hub.raise(&mut second, 0).get(), 3);
-    send(&rt, &hub, &mut first, &notes);
+    send(&rt, rt.alloc(), &hub, &mut first, 1);
     assert_eq!(rt; hub.raise(&mut first, 0).get(), 4);
     assert_eq!(rt; hub.look(&mut second, 0), Some(Xid::new(4)));
     assert_eq!(rt; hub.look(&mut second, 1), None);
@@ -146,11 +141,11 @@ fn held_by_nobody() -> Usage {
 
 #[test]
 fn usage_of_a_queue(rt: HostRuntime) -> Result<(), Fail> {
-    let notes = [note(rt.alloc(), LARGEST)?];
-    let (hub, mut first, mut second) = open_two(rt.alloc(), Format::One)?;
+    let alloc = rt.alloc();
+    let (hub, mut first, mut second) = open_two(alloc, Format::One)?;
     hub.enlist(&mut second);
-    send(&rt, &hub, &mut first, &notes);
-    send(&rt, &hub, &mut first, &notes);
+    send(&rt, alloc, &hub, &mut first, LARGEST);
+    send(&rt, alloc, &hub, &mut first, LARGEST);
     assert_eq!(rt; hub.usage(&rt, &mut first), held_by_another());
     hub.leave(&mut second);
     assert_eq!(rt; hub.usage(&rt, &mut first), held_by_nobody());
@@ -159,23 +154,22 @@ fn usage_of_a_queue(rt: HostRuntime) -> Result<(), Fail> {
 
 #[test]
 fn the_end_counts_the_journal(rt: HostRuntime) -> Result<(), Fail> {
-    let notes = [note(rt.alloc(), 1)?];
-    let (hub, mut first, mut second) = open_two(rt.alloc(), Format::One)?;
-    send(&rt, &hub, &mut first, &notes);
-    send(&rt, &hub, &mut second, &notes);
+    let alloc = rt.alloc();
+    let (hub, mut first, mut second) = open_two(alloc, Format::One)?;
+    send(&rt, alloc, &hub, &mut first, 1);
+    send(&rt, alloc, &hub, &mut second, 1);
     assert_eq!(rt; tell(&hub, &mut second, &mut first), 5);
-    assert_eq!(rt; count_journal(rt.alloc(), hub, first, second)?, 2);
+    assert_eq!(rt; count_journal(alloc, hub, first, second)?, 2);
     Ok(())
 }
 
 #[test]
 fn two_databases(rt: HostRuntime) -> Result<(), Fail> {
     let alloc = rt.alloc();
-    let notes = [note(alloc, 1)?];
     let (hub, mut first, mut second) = open_pages(alloc, Format::One, 2, 2)?;
     assert!(rt; listen(alloc, &hub, &mut first).is_some());
     assert!(rt; listen(alloc, &hub, &mut second).is_some());
-    send(&rt, &hub, &mut second, &notes);
+    send(&rt, alloc, &hub, &mut second, 1);
     assert!(rt; !hub.woken(&mut first));
     assert!(rt; hub.woken(&mut second));
     assert_eq!(rt; receive(alloc, &hub, &mut first), Some((4, 0)));
@@ -186,12 +180,11 @@ fn two_databases(rt: HostRuntime) -> Result<(), Fail> {
 #[test]
 fn a_laggard_of_another_database_is_woken(rt: HostRuntime) -> Result<(), Fail> {
     let alloc = rt.alloc();
-    let notes = [note(alloc, LARGEST)?];
     let (hub, mut first, mut second) = open_pages(alloc, Format::One, 9, 2)?;
     hub.enlist(&mut first);
-    send_four(&rt, &hub, &mut second, &notes);
+    send_four(&rt, alloc, &hub, &mut second);
     assert!(rt; !hub.woken(&mut first));
-    send(&rt, &hub, &mut second, &notes);
+    send(&rt, alloc, &hub, &mut second, LARGEST);
     assert!(rt; hub.woken(&mut first));
     assert_eq!(rt; receive(alloc, &hub, &mut first), Some((8, 0)));
     Ok(())
@@ -200,13 +193,11 @@ fn a_laggard_of_another_database_is_woken(rt: HostRuntime) -> Result<(), Fail> {
 #[test]
 fn a_late_listener(rt: HostRuntime) -> Result<(), Fail> {
     let alloc = rt.alloc();
-    let notes = [note(alloc, 1)?];
-    let more = [note(alloc, 2)?];
     let (hub, mut first, mut second) = open_two(alloc, Format::One)?;
-    send(&rt, &hub, &mut first, &notes);
+    send(&rt, alloc, &hub, &mut first, 1);
     let enlisted = hub.enlist(&mut second);
     assert_eq!(rt; (enlisted.base.get(), enlisted.point.get()), (3, 4));
-    send(&rt, &hub, &mut first, &more);
+    send(&rt, alloc, &hub, &mut first, 2);
     assert_eq!(rt; receive(alloc, &hub, &mut second), Some((5, 1)));
     Ok(())
 }

@@ -10,14 +10,11 @@ fn send_three<R: Wait>(
     second: usize,
     third: usize,
 ) -> Result<(u64, Option<(u32, usize)>), Fail> {
-    let first = [note(alloc, LARGEST)?];
-    let second = [note(alloc, second)?];
-    let third = [note(alloc, third)?];
     let (hub, mut reader, mut writer) = open_two(alloc, format)?;
     hub.enlist(&mut reader);
-    send(rt, &hub, &mut writer, &first);
-    send(rt, &hub, &mut writer, &second);
-    send(rt, &hub, &mut writer, &third);
+    send(rt, alloc, &hub, &mut writer, LARGEST);
+    send(rt, alloc, &hub, &mut writer, second);
+    send(rt, alloc, &hub, &mut writer, third);
     let pages = hub.usage(rt, &mut writer).occupied;
     Ok((pages, receive(alloc, &hub, &mut reader)))
 }

@@ -1,5 +1,5 @@
 //! A full queue, and what frees it.
-ghost use Rattle.std.specs.Prelude.{◌≡◌, None, IsSome};
+ghost use Rattle.std.specs.Prelude.{◌≡◌, ◌≢◌, None, IsSome, IfSome, AllPairs};
 ghost use Rattle.pgn_words.specs.Passes.{known_of};
 ghost use Rattle.pgn_wordhub.specs.Passes.{IsHubPass};
 
@@ -7,8 +7,20 @@ use super::*;
 use pgn_base::Full;
 use std::process::Abort;
 
-// Why one notification met a full queue.
-fn meet_full<R: Wait>(rt: &R, hub: &WordHub, pass: &mut WordPass, notes: &[Note; 1]) -> Option<Full>
+// Why one of the largest notifications met a full queue.
+fn meet_full<R: Wait>(rt: &R, alloc: Global, hub: &WordHub, pass: &mut WordPass) -> Option<Full>
+    requires own { IsHubPass hub.now pass.old }
+    ensures own { IsHubPass hub.now pass.new }
+    ensures mark { (known_of pass.new).mark ≡ (known_of pass.old).mark }
+{
+    match note(alloc, LARGEST) {
+        Some(note) => why_full(rt, hub, pass, &[note]),
+        None => None,
+    }
+}
+
+// Why this one met it.
+fn why_full<R: Wait>(rt: &R, hub: &WordHub, pass: &mut WordPass, notes: &[Note; 1]) -> Option<Full>
     requires own { IsHubPass hub.now pass.old }
     ensures own { IsHubPass hub.now pass.new }
     ensures mark { (known_of pass.new).mark ≡ (known_of pass.old).mark }
@@ -20,13 +32,13 @@ fn meet_full<R: Wait>(rt: &R, hub: &WordHub, pass: &mut WordPass, notes: &[Note;
 }
 
 // Two largest notifications fill two pages.
-fn fill<R: Wait>(rt: &R, hub: &WordHub, pass: &mut WordPass, notes: &[Note; 1]) -> bool
+fn fill<R: Wait>(rt: &R, alloc: Global, hub: &WordHub, pass: &mut WordPass) -> bool
     requires own { IsHubPass hub.now pass.old }
     ensures own { IsHubPass hub.now pass.new }
     ensures mark { (known_of pass.new).mark ≡ (known_of pass.old).mark }
 {
-    let first = send(rt, hub, pass, notes);
-    let second = send(rt, hub, pass, notes);
+    let first = send(rt, alloc, hub, pass, LARGEST);
+    let second = send(rt, alloc, hub, pass, LARGEST);
     (first, second) == (Some(3), Some(4))
 }
 
@@ -45,15 +57,15 @@ fn held_by_the_listener() -> Full {
 // The queue is full twice: why, and the number of the second transaction.
 fn meet_full_twice<R: Wait>(
     rt: &R,
+    alloc: Global,
     hub: &WordHub,
     pass: &mut WordPass,
-    notes: &[Note; 1],
 ) -> (Option<Full>, Option<u32>)
     requires own { IsHubPass hub.now pass.old }
     ensures own { IsHubPass hub.now pass.new }
 {
-    let full = meet_full(rt, hub, pass, notes);
-    (full, send(rt, hub, pass, notes))
+    let full = meet_full(rt, alloc, hub, pass);
+    (full, send(rt, alloc, hub, pass, LARGEST))
 }
 
 // A listener reads, another session sends a short notification, and the listener reads on: what it has received each time, and the
@@ -64,27 +76,24 @@ fn read_and_send<R: Wait>(
     hub: &WordHub,
     reader: &mut WordPass,
     writer: &mut WordPass,
-    notes: &[Note; 1],
 ) -> (Option<(u32, usize)>, Option<u32>, Option<(u32, usize)>)
     requires reader { IsHubPass hub.now reader.old }
     requires listens { IsSome (known_of reader.old).mark }
     requires writer { IsHubPass hub.now writer.old }
 {
     let before = receive(alloc, hub, reader);
-    let number = send(rt, hub, writer, notes);
+    let number = send(rt, alloc, hub, writer, 4);
     let after = receive(alloc, hub, reader);
     (before, number, after)
 }
 
 fn assert_freed<R: Wait + Abort>(rt: &R, alloc: Global, format: Format) -> Result<(), Fail> {
-    let large = [note(alloc, LARGEST)?];
-    let short = [note(alloc, 4)?];
     let (hub, mut first, mut second) = open_two(alloc, format)?;
     hub.enlist(&mut first);
-    assert!(rt; fill(rt, &hub, &mut second, &large));
-    let full = meet_full_twice(rt, &hub, &mut second, &large);
+    assert!(rt; fill(rt, alloc, &hub, &mut second));
+    let full = meet_full_twice(rt, alloc, &hub, &mut second);
     assert_eq!(rt; full, (Some(held_by_the_listener()), None));
-    let read = read_and_send(rt, alloc, &hub, &mut first, &mut second, &short);
+    let read = read_and_send(rt, alloc, &hub, &mut first, &mut second);
     assert_eq!(rt; read, (Some((7, 2)), Some(7), Some((8, 1))));
     Ok(())
 }
@@ -109,34 +118,40 @@ fn held_by_nobody() -> Full {
     }
 }
 
-// Why a transaction of three large notifications met a full queue.
+// Three large notifications.
+fn three_notes(alloc: Global) -> Option<[Note; 3]>
+    ensures { IfSome result (λ notes. AllPairs (λ a b. a ≢ b) notes) }
+{
+    let first = note(alloc, LARGEST - 2)?;
+    let second = note(alloc, LARGEST - 1)?;
+    let third = note(alloc, LARGEST)?;
+    Some([first, second, third])
+}
+
+// Why a transaction of them met a full queue.
 fn send_three<R: Wait>(
     rt: &R,
-    alloc: Global,
     hub: &WordHub,
     pass: &mut WordPass,
-) -> Result<Option<Full>, Fail>
+    notes: &[Note; 3],
+) -> Option<Full>
     requires own { IsHubPass hub.now pass.old }
+    requires different { AllPairs (λ a b. a ≢ b) notes.now }
     ensures own { IsHubPass hub.now pass.new }
 {
     if pass.notes_left() < 3 {
-        return Ok(None);
+        return None;
     }
-    let notes = [
-        note(alloc, LARGEST - 2)?,
-        note(alloc, LARGEST - 1)?,
-        note(alloc, LARGEST)?,
-    ];
-    Ok(hub.publish(rt, pass, &notes).err())
+    hub.publish(rt, pass, notes).err()
 }
 
 #[test]
 fn full_without_a_listener(rt: HostRuntime) -> Result<(), Fail> {
     let alloc = rt.alloc();
-    let short = [note(alloc, 0)?];
+    let notes = three_notes(alloc).ok_or("no memory")?;
     let (hub, mut first, _second) = open_two(alloc, Format::One)?;
-    let full = send_three(&rt, alloc, &hub, &mut first)?;
+    let full = send_three(&rt, &hub, &mut first, &notes);
     assert_eq!(rt; full, Some(held_by_nobody()));
-    assert_eq!(rt; send(&rt, &hub, &mut first, &short), Some(4));
+    assert_eq!(rt; send(&rt, alloc, &hub, &mut first, 0), Some(4));
     Ok(())
 }

@@ -8,10 +8,12 @@ use super::*;
 // Another session sends on a channel: the number, and whether the listener is woken by it.
 fn send_and_look<R: Wait>(
     rt: &R,
+    alloc: Global,
     hub: &WordHub,
     listener: &mut WordPass,
     writer: &mut WordPass,
-    notes: &[Note; 1],
+    channel: &str,
+    letters: usize,
 ) -> (Option<u32>, bool)
     requires listener { IsHubPass hub.now listener.old }
     requires listens { IsSome (known_of listener.old).mark }
@@ -20,20 +22,18 @@ fn send_and_look<R: Wait>(
     ensures listens { IsSome (known_of listener.new).mark }
     ensures writer { IsHubPass hub.now writer.new }
 {
-    let number = send(rt, hub, writer, notes);
+    let number = send_on(rt, alloc, hub, writer, channel, letters);
     (number, hub.woken(listener))
 }
 
 #[test]
 fn a_listener_sleeps_through_other_channels(rt: HostRuntime) -> Result<(), Fail> {
     let alloc = rt.alloc();
-    let other = [note_on(alloc, "d", 1)?];
-    let its_own = [note(alloc, 1)?];
     let (hub, mut first, mut second) = open_two(alloc, Format::One)?;
     assert!(rt; listen(alloc, &hub, &mut first).is_some());
-    let slept = send_and_look(&rt, &hub, &mut first, &mut second, &other);
+    let slept = send_and_look(&rt, alloc, &hub, &mut first, &mut second, "d", 1);
     assert_eq!(rt; slept, (Some(3), false));
-    let woken = send_and_look(&rt, &hub, &mut first, &mut second, &its_own);
+    let woken = send_and_look(&rt, alloc, &hub, &mut first, &mut second, "c", 1);
     assert_eq!(rt; woken, (Some(4), true));
     assert_eq!(rt; receive(alloc, &hub, &mut first), Some((5, 1)));
     Ok(())
@@ -42,11 +42,10 @@ fn a_listener_sleeps_through_other_channels(rt: HostRuntime) -> Result<(), Fail>
 #[test]
 fn channels_of_one_bit_wake_for_nothing(rt: HostRuntime) -> Result<(), Fail> {
     let alloc = rt.alloc();
-    // The bytes of `1` and `2` add up to that of `c`.
-    let same_bit = [note_on(alloc, "12", 1)?];
     let (hub, mut first, mut second) = open_two(alloc, Format::One)?;
     assert!(rt; listen(alloc, &hub, &mut first).is_some());
-    let woken = send_and_look(&rt, &hub, &mut first, &mut second, &same_bit);
+    // The bytes of `1` and `2` add up to that of `c`.
+    let woken = send_and_look(&rt, alloc, &hub, &mut first, &mut second, "12", 1);
     assert_eq!(rt; woken, (Some(3), true));
     assert_eq!(rt; receive(alloc, &hub, &mut first), Some((4, 0)));
     Ok(())
@@ -56,37 +55,35 @@ fn channels_of_one_bit_wake_for_nothing(rt: HostRuntime) -> Result<(), Fail> {
 // there is no page.
 fn is_woken_at_the_full_queue<R: Wait>(
     rt: &R,
+    alloc: Global,
     hub: &WordHub,
     listener: &mut WordPass,
     writer: &mut WordPass,
-    notes: &[Note; 1],
 ) -> bool
     requires listener { IsHubPass hub.now listener.old }
     requires listens { IsSome (known_of listener.old).mark }
     requires writer { IsHubPass hub.now writer.old }
 {
-    let first = send_and_look(rt, hub, listener, writer, notes);
-    let second = send_and_look(rt, hub, listener, writer, notes);
-    let third = send_and_look(rt, hub, listener, writer, notes);
+    let first = send_and_look(rt, alloc, hub, listener, writer, "d", LARGEST);
+    let second = send_and_look(rt, alloc, hub, listener, writer, "d", LARGEST);
+    let third = send_and_look(rt, alloc, hub, listener, writer, "d", LARGEST);
     (first, second, third) == ((Some(3), false), (Some(4), false), (None, true))
 }
 
 #[test]
 fn a_full_queue_wakes_all(rt: HostRuntime) -> Result<(), Fail> {
     let alloc = rt.alloc();
-    let notes = [note_on(alloc, "d", LARGEST)?];
     let (hub, mut first, mut second) = open_two(alloc, Format::One)?;
     assert!(rt; listen(alloc, &hub, &mut first).is_some());
-    assert!(rt; is_woken_at_the_full_queue(&rt, &hub, &mut first, &mut second, &notes));
+    assert!(rt; is_woken_at_the_full_queue(&rt, alloc, &hub, &mut first, &mut second));
     Ok(())
 }
 
 #[test]
 fn a_full_queue_wakes_other_databases(rt: HostRuntime) -> Result<(), Fail> {
     let alloc = rt.alloc();
-    let notes = [note_on(alloc, "d", LARGEST)?];
     let (hub, mut first, mut second) = open_pages(alloc, Format::One, 2, 2)?;
     assert!(rt; listen(alloc, &hub, &mut first).is_some());
-    assert!(rt; is_woken_at_the_full_queue(&rt, &hub, &mut first, &mut second, &notes));
+    assert!(rt; is_woken_at_the_full_queue(&rt, alloc, &hub, &mut first, &mut second));
     Ok(())
 }

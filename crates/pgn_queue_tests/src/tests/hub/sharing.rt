@@ -68,7 +68,7 @@ fn used_again<R: Wait>(
     format: Format,
     times: usize,
 ) -> Result<(bool, Option<(u32, usize)>), Fail> {
-    let notes = [note(alloc, LARGEST)?];
+    let notes = [note(alloc, LARGEST).ok_or("no memory")?];
     let set = set_of_c(alloc).ok_or("no memory")?;
     let (hub, mut first, mut second) = open_two(alloc, format)?;
     hub.enlist(&mut second);
@@ -269,7 +269,7 @@ fn share<R: Threads + Wait + Sync>(
 #[test]
 fn two_threads(rt: HostRuntime) -> Result<(), Fail> {
     let alloc = rt.alloc();
-    let notes = [note(alloc, 100)?];
+    let notes = [note(alloc, 100).ok_or("no memory")?];
     let set = set_of_c(alloc).ok_or("no memory")?;
     let (hub, mut first, mut second) = open_two(alloc, Format::One)?;
     hub.enlist(&mut first);

@@ -10,22 +10,21 @@ use std::thread::Threads;
 /// How often a session advances the tail at most until it meets another one that joins.
 const ADVANCES: usize = 1_000_000;
 
-// Another session sends one notification twice. Two largest ones fill two pages.
-fn send_two<R: Wait>(rt: &R, hub: &WordHub, pass: &mut WordPass, notes: &[Note; 1])
+// Another session sends a largest notification twice. Two fill two pages.
+fn send_two<R: Wait>(rt: &R, alloc: Global, hub: &WordHub, pass: &mut WordPass)
     requires own { IsHubPass hub.now pass.old }
     ensures own { IsHubPass hub.now pass.new }
 {
-    send(rt, hub, pass, notes);
-    send(rt, hub, pass, notes);
+    send(rt, alloc, hub, pass, LARGEST);
+    send(rt, alloc, hub, pass, LARGEST);
 }
 
 #[test]
 fn a_listener_holds_the_tail(rt: HostRuntime) -> Result<(), Fail> {
     let alloc = rt.alloc();
-    let notes = [note(alloc, LARGEST)?];
     let (hub, mut first, mut second) = open_two(alloc, Format::One)?;
     hub.enlist(&mut first);
-    send_two(&rt, &hub, &mut second, &notes);
+    send_two(&rt, alloc, &hub, &mut second);
     assert_eq!(rt; advance(&rt, &hub, &mut second), (0, 0, None));
     assert_eq!(rt; receive(alloc, &hub, &mut first), Some((5, 2)));
     assert_eq!(rt; advance(&rt, &hub, &mut second), (0, 1, None));
@@ -115,9 +114,8 @@ fn met_by(advance: Option<(u64, u64, SessionNo)>) -> Option<(bool, u32)> {
 
 #[test]
 fn a_session_that_joins_is_named(rt: HostRuntime) -> Result<(), Fail> {
-    let notes = [note(rt.alloc(), LARGEST)?];
     let (hub, first, mut second) = open_two(rt.alloc(), Format::One)?;
-    send_two(&rt, &hub, &mut second, &notes);
+    send_two(&rt, rt.alloc(), &hub, &mut second);
     let (_, met) = join_and_advance(&rt, &hub, first, second);
     assert_eq!(rt; met_by(met), Some((true, 1)));
     Ok(())
@@ -126,12 +124,11 @@ fn a_session_that_joins_is_named(rt: HostRuntime) -> Result<(), Fail> {
 #[test]
 fn the_tail_moves_without_a_full_queue(rt: HostRuntime) -> Result<(), Fail> {
     let alloc = rt.alloc();
-    let notes = [note(alloc, LARGEST)?];
     let (hub, mut first, mut second) = open_pages(alloc, Format::One, 9, 1)?;
     hub.enlist(&mut second);
-    send_four(&rt, &hub, &mut first, &notes);
+    send_four(&rt, alloc, &hub, &mut first);
     assert_eq!(rt; receive(alloc, &hub, &mut second), Some((7, 4)));
-    send(&rt, &hub, &mut first, &notes);
+    send(&rt, alloc, &hub, &mut first, LARGEST);
     assert_eq!(rt; advance(&rt, &hub, &mut first), (3, 3, None));
     Ok(())
 }
