@@ -320,6 +320,25 @@ fn open_passes<P: PassView + Send + Drop, H: Hub<Pass = P> + Drop>(
     Ok((hub, first, second))
 }
 
+// Ends the hub: how many transactions its journal has.
+fn count_journal<P: PassView + Send + Drop, H: Hub<Pass = P> + Drop>(
+    alloc: Global,
+    hub: H,
+    first: P,
+    second: P,
+) -> Result<u32, Fail>
+    requires first { H.is_pass hub first }
+    requires second { H.is_pass hub second }
+    requires first_session { (P.known first).session ≡ 1 }
+    requires second_session { (P.known second).session ≡ 2 }
+    requires seats { length (H.shape hub).seats ≡ 2 }
+{
+    let mut passes = Vec::with_capacity(alloc, 2)?;
+    passes.push(first)?;
+    passes.push(second)?;
+    Ok(hub.gather(passes).count)
+}
+
 // How many transactions two passes have committed, of so many each, and how many the journal has.
 fn publish_and_gather<
     P: PassView + Send + Drop,
@@ -338,9 +357,8 @@ fn publish_and_gather<
         &notes,
         times,
     );
-    let passes = Vec::from_array(alloc, [first, second])?;
-    let roll = hub.gather(passes);
-    Ok((by_first, by_second, roll.count))
+    let count = count_journal(alloc, hub, first, second)?;
+    Ok((by_first, by_second, count))
 }
 
 #[test]
