@@ -52,7 +52,7 @@ pub(super) fn read(format: Format, bytes: &[u8]) -> Read<'_> {
 }
 
 // The bytes of an entry, cell after cell.
-pub(super) fn written(
+fn written(
     alloc: Global,
     format: Format,
     note: &Note,
@@ -67,6 +67,21 @@ pub(super) fn written(
         out.extend_from_slice(&cell.to_le_bytes())?;
     }
     Ok(out)
+}
+
+// The length of a notification's entry, and its bytes.
+pub(super) fn entry_of(
+    alloc: Global,
+    format: Format,
+    note: Note,
+    db: DbOid,
+    xid: Xid,
+    pid: u32,
+) -> Result<(u32, Vec<u8>), AllocError> {
+    let len = entry_len(format, &note);
+    let bytes = written(alloc, format, &note, db, xid, pid);
+    drop(note);
+    Ok((len, bytes?))
 }
 
 // The bytes of a filler of so many bytes, likewise.
@@ -135,8 +150,8 @@ pub(super) fn reads(
 fn an_entry(rt: HostRuntime) -> Result<(), Fail> {
     let alloc = rt.alloc();
     let long = note(alloc, "virtual", "This is the payload")?;
-    assert!(rt; entry_len(Format::One, &long) == 44);
-    let bytes = written(alloc, Format::One, &long, DbOid::new(1), Xid::new(3), 1001)?;
+    let (len, bytes) = entry_of(alloc, Format::One, long, DbOid::new(1), Xid::new(3), 1001)?;
+    assert!(rt; len == 44);
     assert!(rt; bytes.as_slice() == LONG.as_slice());
     assert!(rt; read(Format::One, &LONG) == Ok(LONG_VIEW));
     Ok(())
@@ -146,8 +161,8 @@ fn an_entry(rt: HostRuntime) -> Result<(), Fail> {
 fn a_short_entry(rt: HostRuntime) -> Result<(), Fail> {
     let alloc = rt.alloc();
     let short = note(alloc, "c", "")?;
-    assert!(rt; entry_len(Format::One, &short) == 20);
-    let bytes = written(alloc, Format::One, &short, DbOid::new(7), Xid::new(4), 1003)?;
+    let (len, bytes) = entry_of(alloc, Format::One, short, DbOid::new(7), Xid::new(4), 1003)?;
+    assert!(rt; len == 20);
     assert!(rt; bytes.as_slice() == SHORT.as_slice());
     assert!(rt; read(Format::One, &SHORT) == Ok(SHORT_VIEW));
     Ok(())
@@ -247,23 +262,27 @@ pub(super) fn is_largest(
     let channel = [b'c'; 63];
     let payload = [b'x'; 7999];
     let want = by_hand(alloc, format, len, &channel, &payload)?;
-    Ok(bytes == want.as_slice() && reads(format, bytes, None, &channel, &payload))
+    let same = bytes == want.as_slice();
+    drop(want);
+    Ok(same && reads(format, bytes, None, &channel, &payload))
 }
 
 #[test]
 fn the_largest_entry(rt: HostRuntime) -> Result<(), Fail> {
     let alloc = rt.alloc();
     let largest = largest(alloc)?;
-    assert!(rt; entry_len(Format::One, &largest) == 8080);
-    let bytes = written(
+    let (len, bytes) = entry_of(
         alloc,
         Format::One,
-        &largest,
+        largest,
         DbOid::new(1),
         Xid::new(3),
         1001,
     )?;
-    assert!(rt; is_largest(alloc, Format::One, 8080, &bytes)?);
+    assert!(rt; len == 8080);
+    let same = is_largest(alloc, Format::One, 8080, &bytes);
+    drop(bytes);
+    assert!(rt; same?);
     Ok(())
 }
 
@@ -456,14 +475,24 @@ const TEXTS: [(u32, (&str, usize), (&str, usize), Option<EntryFault>); 4] = [
     (8020, ("c", 1), ("x", 7999), None),
 ];
 
+// The same of texts that are so many times a letter each.
+fn read_repeated(
+    alloc: Global,
+    len: u32,
+    channel: (&str, usize),
+    payload: (&str, usize),
+    fault: Option<EntryFault>,
+) -> Result<bool, AllocError> {
+    let channel = repeated(alloc, channel.0, channel.1, "")?;
+    let payload = repeated(alloc, payload.0, payload.1, "")?;
+    read_by_hand(alloc, len, (channel.as_bytes(), payload.as_bytes()), fault)
+}
+
 #[test]
 fn texts_that_are_too_long(rt: HostRuntime) -> Result<(), Fail> {
-    let alloc = rt.alloc();
     for (len, channel, payload, fault) in TEXTS {
-        let channel = repeated(alloc, channel.0, channel.1, "")?;
-        let payload = repeated(alloc, payload.0, payload.1, "")?;
-        let texts = (channel.as_bytes(), payload.as_bytes());
-        assert!(rt; read_by_hand(alloc, len, texts, fault)?, "at {len}");
+        let read = read_repeated(rt.alloc(), len, channel, payload, fault)?;
+        assert!(rt; read, "at {len}");
     }
     Ok(())
 }

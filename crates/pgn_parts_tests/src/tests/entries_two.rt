@@ -2,11 +2,11 @@
 ghost use Rattle.std.specs.Prelude.{◌<◌, ◌≤◌};
 
 use super::entries::{
-    Change, Read, filled, is_largest, largest, read, read_of_prefix, reads, written,
+    Change, Read, entry_of, filled, is_largest, largest, read, read_of_prefix, reads,
 };
 use super::note;
 use pgn_base::{DbOid, Format, Xid};
-use pgn_entry::{EntryFault, EntryView, entry_len, read_piece};
+use pgn_entry::{EntryFault, EntryView, read_piece};
 use std::process::Abort;
 use std::test::Fail;
 
@@ -56,8 +56,8 @@ const FILLER_VIEW: EntryView<'static> = EntryView::Filler {
 fn an_entry(rt: HostRuntime) -> Result<(), Fail> {
     let alloc = rt.alloc();
     let long = note(alloc, "virtual", "This is the payload")?;
-    assert!(rt; entry_len(Format::Two, &long) == 56);
-    let bytes = written(alloc, Format::Two, &long, DbOid::new(1), Xid::new(3), 1001)?;
+    let (len, bytes) = entry_of(alloc, Format::Two, long, DbOid::new(1), Xid::new(3), 1001)?;
+    assert!(rt; len == 56);
     assert!(rt; bytes.as_slice() == LONG.as_slice());
     assert!(rt; read(Format::Two, &LONG) == Ok(LONG_VIEW));
     Ok(())
@@ -67,8 +67,8 @@ fn an_entry(rt: HostRuntime) -> Result<(), Fail> {
 fn a_short_entry(rt: HostRuntime) -> Result<(), Fail> {
     let alloc = rt.alloc();
     let short = note(alloc, "c", "")?;
-    assert!(rt; entry_len(Format::Two, &short) == 32);
-    let bytes = written(alloc, Format::Two, &short, DbOid::new(7), Xid::new(4), 1003)?;
+    let (len, bytes) = entry_of(alloc, Format::Two, short, DbOid::new(7), Xid::new(4), 1003)?;
+    assert!(rt; len == 32);
     assert!(rt; bytes.as_slice() == SHORT.as_slice());
     assert!(rt; read(Format::Two, &SHORT) == Ok(short_view(4)));
     Ok(())
@@ -145,16 +145,18 @@ fn entry_bytes_refused(rt: HostRuntime) {
 fn the_largest_entry(rt: HostRuntime) -> Result<(), Fail> {
     let alloc = rt.alloc();
     let largest = largest(alloc)?;
-    assert!(rt; entry_len(Format::Two, &largest) == 8088);
-    let bytes = written(
+    let (len, bytes) = entry_of(
         alloc,
         Format::Two,
-        &largest,
+        largest,
         DbOid::new(1),
         Xid::new(3),
         1001,
     )?;
-    assert!(rt; is_largest(alloc, Format::Two, 8088, &bytes)?);
+    assert!(rt; len == 8088);
+    let same = is_largest(alloc, Format::Two, 8088, &bytes);
+    drop(bytes);
+    assert!(rt; same?);
     Ok(())
 }
 

@@ -142,15 +142,24 @@ fn is_planned(from: Place, notes: &[Note], fits: usize, filler: u32, next: Place
     plan_batch(Format::One, from, notes) == Batch { fits, filler, next }
 }
 
+// The same of notifications whose payloads have these lengths.
+fn are_planned(
+    alloc: Global,
+    from: Place,
+    lens: &[usize],
+    fits: usize,
+    filler: u32,
+    next: Place,
+) -> Result<bool, Fail> {
+    let notes = notes(alloc, lens)?;
+    Ok(is_planned(from, &notes, fits, filler, next))
+}
+
 #[test]
 fn batches(rt: HostRuntime) -> Result<(), Fail> {
-    let alloc = rt.alloc();
     for (from, lens, fits, filler, next) in BATCHES {
-        let notes = notes(alloc, lens)?;
-        assert!(rt;
-            is_planned(from, &notes, fits, filler, next),
-            "{from:?} and {lens:?}"
-        );
+        let planned = are_planned(rt.alloc(), from, lens, fits, filler, next)?;
+        assert!(rt; planned, "{from:?} and {lens:?}");
     }
     Ok(())
 }

@@ -7,8 +7,11 @@ use pgn_base::{
 use std::alloc::{AllocError, Global};
 use std::test::Fail;
 
-fn copy_of<T: Copied + Drop>(alloc: Global, value: &T) -> Result<T, AllocError> {
-    value.copy(alloc)
+// A copy that outlives the value.
+fn copy_of<T: Copied + Drop>(alloc: Global, value: T) -> Result<T, AllocError> {
+    let copy = value.copy(alloc);
+    drop(value);
+    copy
 }
 
 // A list of one delivery, of `hello` on the channel `c`.
@@ -22,23 +25,27 @@ fn deliveries(alloc: Global) -> Result<Deliveries, Fail> {
     Ok(deliveries)
 }
 
+// Whether they are one delivery, of this notification.
+fn are_one_of(deliveries: &[Delivery], note: &Note) -> bool {
+    match deliveries {
+        [one] => one.xid == Xid::new(7) && one.pid == 1002 && one.note == *note,
+        _ => false,
+    }
+}
+
 #[test]
 fn a_copy_of_a_delivery(rt: HostRuntime) -> Result<(), Fail> {
     let alloc = rt.alloc();
-    let deliveries = copy_of(alloc, &deliveries(alloc)?)?;
-    let [delivery] = deliveries.as_slice() else {
-        return Err("one delivery was pushed")?;
-    };
-    assert!(rt; delivery.xid == Xid::new(7));
-    assert!(rt; delivery.pid == 1002);
-    assert!(rt; delivery.note == note(alloc, "c", "hello")?);
+    let hello = note(alloc, "c", "hello")?;
+    let deliveries = copy_of(alloc, deliveries(alloc)?)?;
+    assert!(rt; are_one_of(deliveries.as_slice(), &hello));
     Ok(())
 }
 
 #[test]
 fn a_copy_of_a_channel(rt: HostRuntime) -> Result<(), Fail> {
     let alloc = rt.alloc();
-    let channel = copy_of(alloc, &name(alloc, "c")?)?;
+    let channel = copy_of(alloc, name(alloc, "c")?)?;
     assert!(rt; channel.as_bytes() == b"c".as_slice());
     Ok(())
 }
@@ -46,7 +53,7 @@ fn a_copy_of_a_channel(rt: HostRuntime) -> Result<(), Fail> {
 #[test]
 fn a_copy_of_a_payload(rt: HostRuntime) -> Result<(), Fail> {
     let alloc = rt.alloc();
-    let payload = copy_of(alloc, &payload(alloc, "hello")?)?;
+    let payload = copy_of(alloc, payload(alloc, "hello")?)?;
     assert!(rt; payload.as_bytes() == b"hello".as_slice());
     Ok(())
 }
@@ -63,7 +70,7 @@ fn is_no_savepoint(refusal: &Refusal, wanted: &[u8]) -> bool {
 fn a_copy_of_a_refusal(rt: HostRuntime) -> Result<(), Fail> {
     let alloc = rt.alloc();
     let name = name(alloc, "s")?;
-    let refusal = copy_of(alloc, &Refusal::NoSavepoint { name })?;
+    let refusal = copy_of(alloc, Refusal::NoSavepoint { name })?;
     assert!(rt; is_no_savepoint(&refusal, b"s"));
     Ok(())
 }
@@ -75,16 +82,18 @@ fn a_copy_of_a_syntax_error(rt: HostRuntime) -> Result<(), Fail> {
     Ok(())
 }
 
+// Whether a copy of a text of so many letters has these letters.
+fn copy_stays(alloc: Global, length: usize) -> Result<bool, Fail> {
+    let want = repeated(alloc, "p", length, "")?;
+    let copy = copy_of(alloc, Text::new(alloc, &want)?)?;
+    Ok(copy.as_bytes() == want.as_bytes())
+}
+
 // Texts in place and texts that are shared, and a copy that outlives the text that it was made of.
 #[test]
 fn copies_of_texts_stay(rt: HostRuntime) -> Result<(), Fail> {
-    let alloc = rt.alloc();
     for length in [0, 1, 22, 23, 7999] {
-        let want = repeated(alloc, "p", length, "")?;
-        let text = Text::new(alloc, &want)?;
-        let copy = text.copy(alloc)?;
-        drop(text);
-        assert!(rt; copy.as_bytes() == want.as_bytes(), "of {length}");
+        assert!(rt; copy_stays(rt.alloc(), length)?, "of {length}");
     }
     Ok(())
 }
@@ -135,13 +144,17 @@ fn put_name(alloc: Global, set: &mut IndexSet<Name>, text: &str) -> Result<(), F
     Ok(())
 }
 
+fn put_three_names(alloc: Global, set: &mut IndexSet<Name>) -> Result<(), Fail> {
+    put_name(alloc, set, "b")?;
+    put_name(alloc, set, "a")?;
+    put_name(alloc, set, "b")
+}
+
 #[test]
 fn equal_names_are_one_entry(rt: HostRuntime) -> Result<(), Fail> {
     let alloc = rt.alloc();
     let mut set = IndexSet::new(alloc);
-    for text in ["b", "a", "b"] {
-        put_name(alloc, &mut set, text)?;
-    }
+    put_three_names(alloc, &mut set)?;
     assert!(rt; are_named(set.as_slice(), b"b", b"a"));
     Ok(())
 }
@@ -151,13 +164,17 @@ fn put_payload(alloc: Global, set: &mut IndexSet<Payload>, text: &str) -> Result
     Ok(())
 }
 
+fn put_three_payloads(alloc: Global, set: &mut IndexSet<Payload>) -> Result<(), Fail> {
+    put_payload(alloc, set, "")?;
+    put_payload(alloc, set, "a")?;
+    put_payload(alloc, set, "")
+}
+
 #[test]
 fn equal_payloads_are_one_entry(rt: HostRuntime) -> Result<(), Fail> {
     let alloc = rt.alloc();
     let mut set = IndexSet::new(alloc);
-    for text in ["", "a", ""] {
-        put_payload(alloc, &mut set, text)?;
-    }
+    put_three_payloads(alloc, &mut set)?;
     assert!(rt; set.len() == 2);
     Ok(())
 }
@@ -175,13 +192,17 @@ fn are_of_payloads(notes: &[Note], first: &[u8], second: &[u8]) -> bool {
     }
 }
 
+fn put_three_notes(alloc: Global, set: &mut IndexSet<Note>) -> Result<(), Fail> {
+    put_note(alloc, set, "2")?;
+    put_note(alloc, set, "1")?;
+    put_note(alloc, set, "2")
+}
+
 #[test]
 fn notes_differ_by_their_payload(rt: HostRuntime) -> Result<(), Fail> {
     let alloc = rt.alloc();
     let mut set = IndexSet::new(alloc);
-    for payload in ["2", "1", "2"] {
-        put_note(alloc, &mut set, payload)?;
-    }
+    put_three_notes(alloc, &mut set)?;
     assert!(rt; are_of_payloads(set.as_slice(), b"2", b"1"));
     Ok(())
 }

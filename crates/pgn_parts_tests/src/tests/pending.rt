@@ -158,47 +158,68 @@ fn count(alloc: Global, refused: u32) -> Result<Vec<u8>, AllocError> {
 }
 
 // The same behind how often there was no such savepoint.
-fn as_answer(alloc: Global, refused: u32, left: &(Actions, Notes)) -> Result<Vec<u8>, AllocError> {
+fn as_answer(alloc: Global, refused: u32, left: &[u8]) -> Result<Vec<u8>, AllocError> {
     let mut text = count(alloc, refused)?;
-    text.append(&mut as_commands(alloc, left)?)?;
+    text.extend_from_slice(left)?;
     Ok(text)
+}
+
+// What is left where a transaction ends here.
+fn left_of(alloc: Global, pending: Pending) -> Result<Vec<u8>, AllocError> {
+    let left = pending.finish();
+    let text = as_commands(alloc, &left);
+    drop(left);
+    text
 }
 
 // What these commands answer: how often there is no such savepoint, and what is left.
 fn answer(alloc: Global, commands: &str) -> Result<Vec<u8>, Fail> {
     let mut pending = Pending::new(alloc);
-    let refused = tell_all(alloc, &mut pending, commands)?;
-    let left = pending.finish();
-    let text = as_answer(alloc, refused, &left);
-    drop(left);
-    Ok(text?)
+    match tell_all(alloc, &mut pending, commands) {
+        Ok(refused) => Ok(as_answer(alloc, refused, &left_of(alloc, pending)?)?),
+        Err(fail) => {
+            drop(pending);
+            Err(fail)
+        }
+    }
+}
+
+// Whether a row's commands answer what it says.
+fn is_answered(alloc: Global, row: &str) -> Result<bool, Fail> {
+    let (commands, want) = row.split_once(" => ").ok_or("commands and an answer")?;
+    let answer = answer(alloc, commands)?;
+    Ok(answer.as_slice() == want.as_bytes())
 }
 
 #[test]
 fn what_is_left_of_a_transaction(rt: HostRuntime) -> Result<(), Fail> {
     for row in TRANSACTIONS.lines() {
-        let (commands, want) = row.split_once(" => ").ok_or("commands and an answer")?;
-        let answer = answer(rt.alloc(), commands)?;
-        assert!(rt; answer.as_slice() == want.as_bytes(), "{row}");
+        assert!(rt; is_answered(rt.alloc(), row)?, "{row}");
     }
     Ok(())
 }
 
 // What is left of a row's commands, made one after another.
 fn left(alloc: Global, commands: &str) -> Result<Vec<u8>, Fail> {
-    let left = finish_after(alloc, all_calls(alloc, commands)?)?;
+    let calls = all_calls(alloc, commands)?;
+    let left = finish_after(alloc, calls)?;
     let text = as_commands(alloc, &left);
     drop(left);
     Ok(text?)
 }
 
+// Whether that is what the row says.
+fn is_left(alloc: Global, row: &str) -> Result<bool, Fail> {
+    let (commands, answer) = row.split_once(" => ").ok_or("commands and an answer")?;
+    let (_, want) = answer.split_once(": ").ok_or("a count and what is left")?;
+    let left = left(alloc, commands)?;
+    Ok(left.as_slice() == want.as_bytes())
+}
+
 #[test]
 fn what_is_left_after_calls(rt: HostRuntime) -> Result<(), Fail> {
     for row in TRANSACTIONS.lines() {
-        let (commands, answer) = row.split_once(" => ").ok_or("commands and an answer")?;
-        let (_, want) = answer.split_once(": ").ok_or("a count and what is left")?;
-        let left = left(rt.alloc(), commands)?;
-        assert!(rt; left.as_slice() == want.as_bytes(), "{row}");
+        assert!(rt; is_left(rt.alloc(), row)?, "{row}");
     }
     Ok(())
 }
@@ -251,13 +272,19 @@ fn has_number(alloc: Global, note: &Note, level: usize) -> Result<bool, AllocErr
     Ok(note.payload.as_bytes() == payload.as_bytes())
 }
 
+// Asserts that they are numbered from 0 on.
+fn assert_numbered(rt: &impl Abort, alloc: Global, notes: &[Note]) -> Result<(), AllocError> {
+    for (level, note) in notes.iter().enumerate() {
+        assert!(rt; has_number(alloc, note, level)?);
+    }
+    Ok(())
+}
+
 #[test]
 fn three_hundred_nested_savepoints(rt: HostRuntime) -> Result<(), Fail> {
     let alloc = rt.alloc();
     let notes = left_of_levels(&rt, alloc)?;
     assert!(rt; notes.as_slice().len() == 150);
-    for (level, note) in notes.as_slice().iter().enumerate() {
-        assert!(rt; has_number(alloc, note, level)?);
-    }
+    assert_numbered(&rt, alloc, notes.as_slice())?;
     Ok(())
 }

@@ -34,14 +34,19 @@ fn found(alloc: Global, set: &ListenSet, names: &[(usize, &str)]) -> Result<u32,
     Ok(found)
 }
 
-fn all_listened(alloc: Global) -> Result<ListenSet, Fail> {
-    let mut actions = Actions::new(alloc);
-    for (before, letter) in LISTENED {
-        actions.push(Action::Listen(channel(alloc, before, letter)?))?;
+// Puts that channels are listened to behind other actions.
+fn put_listens(alloc: Global, actions: &mut Actions, names: &[(usize, &str)]) -> Result<(), Fail> {
+    for (before, letter) in names {
+        put(actions, Action::Listen(channel(alloc, *before, *letter)?))?;
     }
-    let mut set = ListenSet::new(alloc);
-    act(&mut set, actions)?;
-    Ok(set)
+    Ok(())
+}
+
+fn listen_to_all(alloc: Global, set: &mut ListenSet) -> Result<(), Fail> {
+    let mut actions = Actions::new(alloc);
+    put_listens(alloc, &mut actions, &LISTENED)?;
+    act(set, actions)?;
+    Ok(())
 }
 
 // How many channels a set has, and how many it has of those and of the others.
@@ -52,11 +57,19 @@ fn counts(alloc: Global, set: &ListenSet) -> Result<(usize, u32, u32), AllocErro
     Ok((names, listened, others))
 }
 
+// The same once all are listened to.
+fn counts_of_all(alloc: Global, set: &mut ListenSet) -> Result<(usize, u32, u32), Fail> {
+    listen_to_all(alloc, set)?;
+    Ok(counts(alloc, set)?)
+}
+
 #[test]
 fn channels_that_are_listened_to(rt: HostRuntime) -> Result<(), Fail> {
     let alloc = rt.alloc();
-    let set = all_listened(alloc)?;
-    assert_eq!(rt; counts(alloc, &set)?, (6, 7, 0));
+    let mut set = ListenSet::new(alloc);
+    let counts = counts_of_all(alloc, &mut set);
+    drop(set);
+    assert_eq!(rt; counts?, (6, 7, 0));
     Ok(())
 }
 
@@ -69,16 +82,16 @@ fn put(actions: &mut Actions, action: Action) -> Result<(), AllocError> {
     Ok(())
 }
 
-// That channels are left.
-fn leave(alloc: Global, names: &[(usize, &str)]) -> Result<Actions, Fail> {
-    let mut actions = Actions::new(alloc);
+// Puts that channels are left behind other actions.
+fn put_unlistens(
+    alloc: Global,
+    actions: &mut Actions,
+    names: &[(usize, &str)],
+) -> Result<(), Fail> {
     for (before, letter) in names {
-        put(
-            &mut actions,
-            Action::Unlisten(channel(alloc, *before, *letter)?),
-        )?;
+        put(actions, Action::Unlisten(channel(alloc, *before, *letter)?))?;
     }
-    Ok(actions)
+    Ok(())
 }
 
 // Does these actions in place.
@@ -91,10 +104,11 @@ fn act(set: &mut ListenSet, actions: Actions) -> Result<(), AllocError> {
     Ok(())
 }
 
-fn some_left(alloc: Global) -> Result<ListenSet, Fail> {
-    let mut set = all_listened(alloc)?;
-    act(&mut set, leave(alloc, &LEFT)?)?;
-    Ok(set)
+fn leave_some(alloc: Global, set: &mut ListenSet) -> Result<(), Fail> {
+    let mut actions = Actions::new(alloc);
+    put_unlistens(alloc, &mut actions, &LEFT)?;
+    act(set, actions)?;
+    Ok(())
 }
 
 // Whether they are the four channels that stay: `e`, `c` and two more, of which the last one has 63 bytes.
@@ -109,35 +123,52 @@ fn are_those_that_stay(names: &[Name]) -> bool {
     }
 }
 
+// Of a set of all but some that were left: whether those stay, and how many of all it has.
+fn those_that_stay(alloc: Global, set: &mut ListenSet) -> Result<(bool, u32), Fail> {
+    listen_to_all(alloc, set)?;
+    leave_some(alloc, set)?;
+    let stays = are_those_that_stay(set.names(alloc)?.as_slice());
+    Ok((stays, found(alloc, set, &LISTENED)?))
+}
+
 #[test]
 fn channels_in_order_of_listening(rt: HostRuntime) -> Result<(), Fail> {
     let alloc = rt.alloc();
-    let set = some_left(alloc)?;
-    assert!(rt; are_those_that_stay(set.names(alloc)?.as_slice()));
-    assert!(rt; found(alloc, &set, &LISTENED)? == 5);
+    let mut set = ListenSet::new(alloc);
+    let stays = those_that_stay(alloc, &mut set);
+    drop(set);
+    assert_eq!(rt; stays?, (true, 5));
     Ok(())
 }
 
-// All channels are left, and then one is listened to.
-fn leave_all_but_c(alloc: Global) -> Result<Actions, Fail> {
-    let c = channel(alloc, 0, "c")?;
-    let mut actions = Actions::new(alloc);
-    put(&mut actions, Action::UnlistenAll)?;
-    put(&mut actions, Action::Listen(c))?;
-    Ok(actions)
+// Puts that all channels are left and one is listened to then behind other actions.
+fn put_all_but_c(alloc: Global, actions: &mut Actions) -> Result<(), Fail> {
+    put(actions, Action::UnlistenAll)?;
+    put(actions, Action::Listen(channel(alloc, 0, "c")?))?;
+    Ok(())
 }
 
-fn only_c(alloc: Global) -> Result<ListenSet, Fail> {
-    let mut set = all_listened(alloc)?;
-    act(&mut set, leave_all_but_c(alloc)?)?;
-    Ok(set)
+fn leave_all_but_c(alloc: Global, set: &mut ListenSet) -> Result<(), Fail> {
+    let mut actions = Actions::new(alloc);
+    put_all_but_c(alloc, &mut actions)?;
+    act(set, actions)?;
+    Ok(())
+}
+
+// Whether a set of all has the one once all but it were left, and its counts then.
+fn only_c(alloc: Global, set: &mut ListenSet) -> Result<(bool, (usize, u32, u32)), Fail> {
+    listen_to_all(alloc, set)?;
+    leave_all_but_c(alloc, set)?;
+    let counts = counts(alloc, set)?;
+    Ok((set.contains(b"c"), counts))
 }
 
 #[test]
 fn channels_after_all_were_left(rt: HostRuntime) -> Result<(), Fail> {
     let alloc = rt.alloc();
-    let set = only_c(alloc)?;
-    assert!(rt; set.contains(b"c"));
-    assert_eq!(rt; counts(alloc, &set)?, (1, 2, 0));
+    let mut set = ListenSet::new(alloc);
+    let only = only_c(alloc, &mut set);
+    drop(set);
+    assert_eq!(rt; only?, (true, (1, 2, 0)));
     Ok(())
 }

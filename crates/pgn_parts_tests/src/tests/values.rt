@@ -1,6 +1,6 @@
 use super::repeated;
 use pgn_base::{DbOid, Name, NameFault, Payload, PayloadFault, SessionNo, Xid};
-use std::alloc::Global;
+use std::alloc::{AllocError, Global};
 use std::process::Abort;
 use std::test::Fail;
 
@@ -30,12 +30,23 @@ fn name_fault(rt: &impl Abort, alloc: Global, text: &str) -> Option<NameFault> {
     }
 }
 
+// The same of so many times a piece and what follows.
+fn fault_of_name(
+    rt: &impl Abort,
+    alloc: Global,
+    piece: &str,
+    times: usize,
+    end: &str,
+) -> Result<Option<NameFault>, AllocError> {
+    let text = repeated(alloc, piece, times, end)?;
+    Ok(name_fault(rt, alloc, &text))
+}
+
 #[test]
 fn names_by_their_length_and_zero_bytes(rt: HostRuntime) -> Result<(), Fail> {
-    let alloc = rt.alloc();
     for (piece, times, end, want) in NAMES {
-        let text = repeated(alloc, piece, times, end)?;
-        assert_eq!(rt; name_fault(&rt, alloc, &text), want, "at {text}");
+        let fault = fault_of_name(&rt, rt.alloc(), piece, times, end)?;
+        assert_eq!(rt; fault, want, "at {times} {piece}");
     }
     Ok(())
 }
@@ -64,12 +75,22 @@ fn payload_fault(rt: &impl Abort, alloc: Global, text: &str) -> Option<PayloadFa
     }
 }
 
+// The same of so many letters and what follows.
+fn fault_of_payload(
+    rt: &impl Abort,
+    alloc: Global,
+    times: usize,
+    end: &str,
+) -> Result<Option<PayloadFault>, AllocError> {
+    let text = repeated(alloc, "a", times, end)?;
+    Ok(payload_fault(rt, alloc, &text))
+}
+
 #[test]
 fn payloads_by_their_length_and_zero_bytes(rt: HostRuntime) -> Result<(), Fail> {
-    let alloc = rt.alloc();
     for (times, end, want) in PAYLOADS {
-        let text = repeated(alloc, "a", times, end)?;
-        assert_eq!(rt; payload_fault(&rt, alloc, &text), want, "at {times}");
+        let fault = fault_of_payload(&rt, rt.alloc(), times, end)?;
+        assert_eq!(rt; fault, want, "at {times}");
     }
     Ok(())
 }
