@@ -6,6 +6,7 @@ ghost use Rattle.pgn_wordhub.specs.Passes.{IsHubPass};
 
 use super::*;
 use std::alloc::AllocError;
+use std::process::Abort;
 use std::thread::{Threads, join_mut};
 
 /// How often a session tries.
@@ -67,30 +68,35 @@ fn used_again<R: Wait>(
     alloc: Global,
     format: Format,
     times: usize,
+    notes: &[Note; 1],
+    set: &ListenSet,
 ) -> Result<(bool, Option<(u32, usize)>), Fail> {
-    let notes = [note(alloc, LARGEST).ok_or("no memory")?];
-    let set = set_of_c(alloc).ok_or("no memory")?;
     let (hub, mut first, mut second) = open_two(alloc, format)?;
     hub.enlist(&mut second);
-    let done = rounds(
-        rt,
-        alloc,
-        &hub,
-        &mut first,
-        &mut second,
-        &notes,
-        &set,
-        times,
-    );
+    let done = rounds(rt, alloc, &hub, &mut first, &mut second, notes, set, times);
     Ok((done, receive(alloc, &hub, &mut second)))
+}
+
+// Asserts that these notifications are sent and read in each format.
+fn assert_used_again<R: Wait + Abort>(
+    rt: &R,
+    alloc: Global,
+    notes: &[Note; 1],
+    set: &ListenSet,
+) -> Result<(), Fail> {
+    for (format, times, mark) in [(Format::One, TIMES, 4003), (Format::Two, 40, 43)] {
+        let done = used_again(rt, alloc, format, times, notes, set)?;
+        assert_eq!(rt; done, (true, Some((mark, 0))));
+    }
+    Ok(())
 }
 
 #[test]
 fn pages_are_used_again(rt: HostRuntime) -> Result<(), Fail> {
-    for (format, times, mark) in [(Format::One, TIMES, 4003), (Format::Two, 40, 43)] {
-        let done = used_again(&rt, rt.alloc(), format, times)?;
-        assert_eq!(rt; done, (true, Some((mark, 0))));
-    }
+    let alloc = rt.alloc();
+    let notes = [note(alloc, LARGEST).ok_or("no memory")?];
+    let set = set_of_c(alloc).ok_or("no memory")?;
+    assert_used_again(&rt, alloc, &notes, &set)?;
     Ok(())
 }
 
@@ -266,29 +272,42 @@ fn share<R: Threads + Wait + Sync>(
     read_rest(alloc, hub, second, first, set, second_log)
 }
 
+// They do so over a hub of their own: how many transactions its journal has.
+fn share_a_hub<R: Threads + Wait + Sync + Abort>(
+    rt: &R,
+    alloc: Global,
+    notes: &[Note; 1],
+    set: &ListenSet,
+    first_log: &mut Log,
+    second_log: &mut Log,
+) -> Result<u32, Fail> {
+    let (hub, mut first, mut second) = open_two(alloc, Format::One)?;
+    hub.enlist(&mut first);
+    hub.enlist(&mut second);
+    let done = share(
+        rt,
+        alloc,
+        &hub,
+        &mut first,
+        &mut second,
+        notes,
+        set,
+        first_log,
+        second_log,
+    );
+    assert!(rt; done.is_ok());
+    count_journal(alloc, hub, first, second)
+}
+
 #[test]
 fn two_threads(rt: HostRuntime) -> Result<(), Fail> {
     let alloc = rt.alloc();
     let notes = [note(alloc, 100).ok_or("no memory")?];
     let set = set_of_c(alloc).ok_or("no memory")?;
-    let (hub, mut first, mut second) = open_two(alloc, Format::One)?;
-    hub.enlist(&mut first);
-    hub.enlist(&mut second);
     let (mut a, mut b) = (empty_log(alloc), empty_log(alloc));
-    let done = share(
-        &rt,
-        alloc,
-        &hub,
-        &mut first,
-        &mut second,
-        &notes,
-        &set,
-        &mut a,
-        &mut b,
-    );
-    assert!(rt; done.is_ok());
+    let count = share_a_hub(&rt, alloc, &notes, &set, &mut a, &mut b)?;
     assert!(rt; is_all(&a.got, &a.sent, &b.sent));
     assert!(rt; is_all(&b.got, &a.sent, &b.sent));
-    assert_eq!(rt; count_journal(alloc, hub, first, second)?, 8000);
+    assert_eq!(rt; count, 8000);
     Ok(())
 }
