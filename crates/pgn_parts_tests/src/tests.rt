@@ -1,5 +1,5 @@
-// A module for each part, and four for what `pgn_base` has: values, lists, sets, and the fakes of the outside. Here stands what
-// several of them make.
+// A module for each part; three for what `pgn_base` has, which are values, lists and sets, two for the formats of `pgn_entry`, and
+// `outside` for the fakes of `pgn_memory`. Here stands what several of them make.
 mod entries;
 mod entries_two;
 mod lanes;
