@@ -1,14 +1,15 @@
--- Two conversations.
-use Rattle.std.specs.Prelude.{ℕ, List, [], ◌∷◌, ◌++◌, None, codes}
+-- Four conversations.
+use Rattle.std.specs.Prelude.{ℕ, List, [], ◌∷◌, ◌++◌, Some, None, codes}
 use Rattle.pgn_base.specs.declared.note.Note.{Note}
 use Rattle.pgn_base.specs.declared.answers.Tag.TheVariants as tag
+use Rattle.pgn_base.specs.declared.answers.Warning.TheVariants as warning
 use Rattle.pgn_base.specs.declared.answers.Refusal.TheVariants as refused
 use Rattle.pgn_base.specs.declared.command.Command.TheVariants as command
 use Rattle.pgn_language.specs.declared.scenario.Act.TheVariants.{Run, Quit}
 use Rattle.pgn_language.specs.declared.scenario.ScriptLine.{ScriptLine}
 use Rattle.pgn_language.specs.declared.scenario.Section.{Section}
 use Rattle.pgn_model.specs.declared.item.Item.{Item}
-use Rattle.pgn_model.specs.declared.item.Item.TheVariants.{Line, Enlist, Publish, Leave, Reply, Refuse, Read}
+use Rattle.pgn_model.specs.declared.item.Item.TheVariants.{Line, Enlist, Publish, Leave, Reply, Refuse, Channels, Used, Read}
 
 -- the notification `NOTIFY c, 'x'`
 abbrev pub sent : Note
@@ -48,3 +49,38 @@ second_items = Line 1 ∷ Refuse (refused.Syntax 6) ∷ Line 4294967295 ∷ []
 abbrev pub second_bytes : List ℕ
 second_bytes =
     69 ∷ 0 ∷ 0 ∷ 0 ∷ 50 ∷ (codes "SERROR" ++ 0 ∷ [] ++ codes "VERROR" ++ 0 ∷ [] ++ codes "C42601" ++ 0 ∷ [] ++ codes "Msyntax error at byte 6" ++ 0 ∷ 0 ∷ 90 ∷ 0 ∷ 0 ∷ 0 ∷ 5 ∷ 73 ∷ [])
+
+-- `COMMIT` outside of a block
+abbrev pub third_section : Section
+third_section = conversation (record { line = 1; text = codes "COMMIT"; act = Run command.Commit } ∷ [])
+
+abbrev pub third_items : List Item
+third_items = Line 1 ∷ Reply tag.Commit (Some warning.NotInBlock) ∷ Line 4294967295 ∷ []
+
+-- N with the length 0x43, its fields, C `COMMIT`, and Z
+abbrev pub third_bytes : List ℕ
+third_bytes =
+    78 ∷ 0 ∷ 0 ∷ 0 ∷ 67 ∷ (codes "SWARNING" ++ 0 ∷ [] ++ codes "VWARNING" ++ 0 ∷ [] ++ codes "C25P01" ++ 0 ∷ [] ++ codes "Mthere is no transaction in progress" ++ 0 ∷ 0
+    ∷ 67 ∷ 0 ∷ 0 ∷ 0 ∷ 11 ∷ 67 ∷ 79 ∷ 77 ∷ 77 ∷ 73 ∷ 84 ∷ 0 ∷ 90 ∷ 0 ∷ 0 ∷ 0 ∷ 5 ∷ 73 ∷ [])
+
+-- `LISTEN c`, and both queries
+abbrev pub fourth_section : Section
+fourth_section = conversation (record { line = 1; text = codes "LISTEN c"; act = Run (command.Listen (codes "c")) }
+    ∷ record { line = 2; text = codes "SELECT pg_listening_channels()"; act = Run command.ListeningChannels }
+    ∷ record { line = 3; text = codes "SELECT pg_notification_queue_usage()"; act = Run command.QueueUsage } ∷ [])
+
+-- it listens to `c`, and of 256 pages none is occupied
+abbrev pub fourth_items : List Item
+fourth_items =
+    Line 1 ∷ Enlist 3 3 ∷ Reply tag.Listen None ∷ Line 2 ∷ Channels (codes "c" ∷ []) ∷ Reply (tag.Select 1) None
+    ∷ Line 3 ∷ Used (record { at = 3; occupied = 0; limit = 256; floor_mark = 3; holder = None }) ∷ Reply (tag.Select 1) None ∷ Line 4294967295 ∷ Leave ∷ []
+
+-- C `LISTEN`, Z; T with the length 0x2e, D with `c`, C `SELECT 1`, Z; T with the length 0x34, D with `0/256`, C `SELECT 1`, Z. A column is
+-- of no table, of the type 25, which is text, of no fixed size, and in the format text
+abbrev pub fourth_bytes : List ℕ
+fourth_bytes =
+    67 ∷ 0 ∷ 0 ∷ 0 ∷ 11 ∷ 76 ∷ 73 ∷ 83 ∷ 84 ∷ 69 ∷ 78 ∷ 0 ∷ 90 ∷ 0 ∷ 0 ∷ 0 ∷ 5 ∷ 73
+    ∷ 84 ∷ 0 ∷ 0 ∷ 0 ∷ 46 ∷ 0 ∷ 1 ∷ (codes "pg_listening_channels" ++ 0 ∷ 0 ∷ 0 ∷ 0 ∷ 0 ∷ 0 ∷ 0 ∷ 0 ∷ 0 ∷ 0 ∷ 25 ∷ 255 ∷ 255 ∷ 255 ∷ 255 ∷ 255 ∷ 255 ∷ 0 ∷ 0
+    ∷ 68 ∷ 0 ∷ 0 ∷ 0 ∷ 11 ∷ 0 ∷ 1 ∷ 0 ∷ 0 ∷ 0 ∷ 1 ∷ 99 ∷ 67 ∷ 0 ∷ 0 ∷ 0 ∷ 13 ∷ 83 ∷ 69 ∷ 76 ∷ 69 ∷ 67 ∷ 84 ∷ 32 ∷ 49 ∷ 0 ∷ 90 ∷ 0 ∷ 0 ∷ 0 ∷ 5 ∷ 73
+    ∷ 84 ∷ 0 ∷ 0 ∷ 0 ∷ 52 ∷ 0 ∷ 1 ∷ (codes "pg_notification_queue_usage" ++ 0 ∷ 0 ∷ 0 ∷ 0 ∷ 0 ∷ 0 ∷ 0 ∷ 0 ∷ 0 ∷ 0 ∷ 25 ∷ 255 ∷ 255 ∷ 255 ∷ 255 ∷ 255 ∷ 255 ∷ 0 ∷ 0
+    ∷ 68 ∷ 0 ∷ 0 ∷ 0 ∷ 15 ∷ 0 ∷ 1 ∷ 0 ∷ 0 ∷ 0 ∷ 5 ∷ 48 ∷ 47 ∷ 50 ∷ 53 ∷ 54 ∷ 67 ∷ 0 ∷ 0 ∷ 0 ∷ 13 ∷ 83 ∷ 69 ∷ 76 ∷ 69 ∷ 67 ∷ 84 ∷ 32 ∷ 49 ∷ 0 ∷ 90 ∷ 0 ∷ 0 ∷ 0 ∷ 5 ∷ 73 ∷ []))

@@ -4,5 +4,5 @@ pub mod Server
 pub mod Messages
 -- how they grow
 pub mod Laws
--- two conversations
+-- four conversations
 pub mod Examples

@@ -1,9 +1,11 @@
 ghost use Rattle.std.specs.Prelude.{◌≡◌};
 ghost use Rattle.pgn_messages.specs.Messages.{messages};
-ghost use Rattle.pgn_messages.specs.Examples.{first_bytes, first_items, first_section, second_bytes, second_items, second_section};
+ghost use Rattle.pgn_messages.specs.Examples.{first_bytes, first_items, first_section, second_bytes, second_items, second_section, third_bytes, third_items, third_section, fourth_bytes, fourth_items, fourth_section};
 
-/// Two conversations, byte by byte.
+/// Four conversations, byte by byte.
 pub fn worked_rows()
     ensures first { messages first_section first_items ≡ first_bytes }
     ensures second { messages second_section second_items ≡ second_bytes }
+    ensures third { messages third_section third_items ≡ third_bytes }
+    ensures fourth { messages fourth_section fourth_items ≡ fourth_bytes }
 {}
