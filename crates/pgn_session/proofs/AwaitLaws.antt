@@ -24,7 +24,7 @@ use Rattle.pgn_session.specs.declared.doing.FlagPlan.{FlagPlan}
 use Rattle.pgn_session.specs.declared.doing.Doing.{Doing}
 use Rattle.pgn_session.specs.declared.doing.Doing.TheVariants.{Lines, Awaiting}
 use Rattle.pgn_session.specs.declared.doing.Step.{Step}
-use Rattle.pgn_session.specs.declared.doing.Step.TheVariants.{Did, Waiting}
+use Rattle.pgn_session.specs.declared.doing.Step.TheVariants.{Did, Waiting, Ended}
 use Rattle.pgn_session.specs.Standing.{StandsAt, IsInScript, IsAnswered, IsRested, IsFlagBelow, IsAwaitedIn, IsLookingFor, spare_of}
 use Rattle.pgn_session.specs.Parts.{looked_items}
 use Rattle.pgn_session.specs.Steps.{HasTurned, looked_doing, looked_step}
@@ -224,24 +224,24 @@ found-within k q flag value r w =
 
 -- where the session stands after a turn
 abbrev pub TurnAnswers : Terms → FlagPlan → ℕ → BlockView → List (List ℕ) → Known → List Item → Doing → Step → Type 0
-TurnAnswers terms plan done block set q after doing step = IsAnswered terms plan done block set doing q after × (step ≢ Did → IsRested terms plan done block set doing q after)
+TurnAnswers terms plan done block set q after doing step = IsAnswered terms plan done block set doing q after × (step ≢ Ended)
 
 none-answers : (terms : Terms) (plan : FlagPlan) (done : ℕ) (block : BlockView) (set : List (List ℕ)) (k q : Known) (items : List Item) (flag looks : ℕ) (b : Bool) → nat_lt looks terms.settings.patience ≡ b
     → looks ≤ terms.settings.patience → IsLookingFor terms done block set flag k items → HasFoundNone k q flag
     → TurnAnswers terms plan done block set q (cond b items (items ++ TimedOut looks ∷ [])) (cond b (Awaiting flag looks) Lines) (cond b Waiting Did)
 none-answers terms plan done block set k q items flag looks true e few h r =
     let waits = waiting-rested terms plan done block set k q items h.state flag looks h.stands h.rest h.channels h.here.0 h.here.1 h.here.2 (ltb-true looks terms.settings.patience e) r in
-    (record { state = waits.state; stands = waits.stands; rest = waits.rest; channels = waits.channels; here = waits.here.0 }, λ more. waits)
+    (record { state = waits.state; stands = waits.stands; rest = waits.rest; channels = waits.channels; here = waits.here.0 }, λ (ended : Waiting ≡ Ended). let no : ⊥ = cc in no)
 none-answers terms plan done block set k q items flag looks false e few h r =
     let back : terms.settings.patience ≤ looks = ltb-false looks terms.settings.patience e in
     let all : terms.settings.patience ≡ looks = omega (arith, back, few) in
-    (subst (λ (n : ℕ). IsAnswered terms plan done block set Lines q (items ++ TimedOut n ∷ [])) all (timed_out-answered terms plan done block set k q items h.state flag h.stands h.rest h.channels h.here.0 r), λ more. absurd (more refl))
+    (subst (λ (n : ℕ). IsAnswered terms plan done block set Lines q (items ++ TimedOut n ∷ [])) all (timed_out-answered terms plan done block set k q items h.state flag h.stands h.rest h.channels h.here.0 r), λ (ended : Did ≡ Ended). let no : ⊥ = cc in no)
 
 look-answers : (terms : Terms) (plan : FlagPlan) (done : ℕ) (block : BlockView) (set : List (List ℕ)) (k q : Known) (items : List Item) (flag looks : ℕ) (found : Option ℕ)
     → looks ≤ terms.settings.patience → IsWithin q → IsLookingFor terms done block set flag k items → HasLooked k q flag found
     → TurnAnswers terms plan done block set q (looked_items items looks terms.settings.patience found) (looked_doing flag looks terms.settings.patience found) (looked_step looks terms.settings.patience found)
 look-answers terms plan done block set k q items flag looks (Some value) few w h r =
-    (found-answered terms plan done block set k q items h.state flag value h.stands h.rest h.channels h.here.0 r (found-within k q flag value r w), λ more. absurd (more refl))
+    (found-answered terms plan done block set k q items h.state flag value h.stands h.rest h.channels h.here.0 r (found-within k q flag value r w), λ (ended : Did ≡ Ended). let no : ⊥ = cc in no)
 look-answers terms plan done block set k q items flag looks None few w h r =
     none-answers terms plan done block set k q items flag looks (nat_lt looks terms.settings.patience) refl few h r
 

@@ -1,5 +1,5 @@
 -- What a step of a whole session promises, from what it has done or why it was refused.
-use Rattle.std.proofs.Common.{◌≡◌, ◌≢◌, ◌↔◌, ℕ, ◌+◌, List, ◌∷◌, drop, Result, Ok, Err, IfOk, OnErr, sym, ap, refl, subst}
+use Rattle.std.proofs.Common.{◌≡◌, ◌↔◌, ℕ, ◌+◌, List, ◌∷◌, drop, Result, Ok, Err, IfOk, OnErr, sym, ap, refl, subst}
 use Rattle.pgn_model.specs.declared.item.Item.{Item}
 use Rattle.pgn_hub.specs.declared.known.Known.{Known}
 use Rattle.pgn_language.specs.declared.scenario.Act.{Act}
@@ -56,7 +56,7 @@ line-moved plan session patience lines rest line number act done counted k q bef
     )
 
 pub line-stepped : {P : Type 0} (shape : Shape) (known : P → Known) (old new : Session P) (line : ℕ) (act : Act) (step : Step) → ComesWith old line act → IsSameScript old new → new.done ≡ old.done + 1
-    → HasAnswer shape known new → (step ≢ Did → HasRest shape known new)
+    → HasAnswer shape known new → (step ≡ Ended → HasRest shape known new)
     → HasBegun old.plan old.section.no old.patience line act (known old.pass) (known new.pass) old.items.items new.items.items new.doing step → HasStepped shape known old Lines new step
 line-stepped shape known old new line act step comes same one answered rested begun = record {
   same = same;
@@ -69,7 +69,7 @@ line-stepped shape known old new line act step comes same one answered rested be
 -- a line got its answer, and is done
 pub line-did : {P : Type 0} (shape : Shape) (known : P → Known) (old new : Session P) (line : ℕ) (act : Act) → ComesWith old line act → IsSameScript old new → new.done ≡ old.done + 1
     → HasAnswer shape known new → HasBegun old.plan old.section.no old.patience line act (known old.pass) (known new.pass) old.items.items new.items.items new.doing Did → HasStepped shape known old Lines new Did
-line-did shape known old new line act comes same one answered begun = line-stepped shape known old new line act Did comes same one answered (λ other. absurd (other refl)) begun
+line-did shape known old new line act comes same one answered begun = line-stepped shape known old new line act Did comes same one answered (λ (ended : Did ≡ Ended). absurd (let no : ⊥ = cc in no)) begun
 
 -- a step, by the place that was taken out before it
 pub stepped-from : {P : Type 0} (shape : Shape) (known : P → Known) (s new : Session P) (between stood : Doing) (step : Step) → s.doing ≡ stood

@@ -1,5 +1,5 @@
 -- What holds of a whole session, with what is known of its pass.
-use Rattle.std.specs.Prelude.{◌≡◌, ◌≢◌, ℕ, ◌+◌, ◌∷◌, drop}
+use Rattle.std.specs.Prelude.{◌≡◌, ℕ, ◌+◌, ◌∷◌, drop}
 use Rattle.pgn_hub.specs.declared.known.Known.{Known}
 use Rattle.pgn_language.specs.declared.scenario.Act.{Act}
 use Rattle.pgn_language.specs.declared.scenario.ScriptLine.{ScriptLine}
@@ -7,7 +7,7 @@ use Rattle.pgn_hub.specs.Shape.{Shape}
 use Rattle.pgn_session.specs.declared.session.Session.{Session}
 use Rattle.pgn_session.specs.declared.doing.Doing.{Doing}
 use Rattle.pgn_session.specs.declared.doing.Step.{Step}
-use Rattle.pgn_session.specs.declared.doing.Step.TheVariants.{Did}
+use Rattle.pgn_session.specs.declared.doing.Step.TheVariants.{Ended}
 use Rattle.pgn_session.specs.Standing.{terms_of, IsAnswered, IsRested}
 use Rattle.pgn_session.specs.Steps.{HasMoved, StandsStill}
 
@@ -40,11 +40,11 @@ pub record IsSameScript {P : Type 0} (old new : Session P) : Type 0 where
   pub plan : new.plan ≡ old.plan
   pub patience : new.patience ≡ old.patience
 
--- a step of a session that stood so: each line has its answer, and but for a line that was answered no read was left out
+-- a step of a session that stood so: each line has its answer, and where it is over no read was left out
 pub record HasStepped {P : Type 0} (shape : Shape) (known : P → Known) (old : Session P) (stood : Doing) (new : Session P) (step : Step) : Type 0 where
   pub same : IsSameScript old new
   pub answered : HasAnswer shape known new
-  pub rested : step ≢ Did → HasRest shape known new
+  pub rested : step ≡ Ended → HasRest shape known new
   pub moved : HasMoved old.plan old.section.no old.patience (drop old.done old.section.lines) stood old.done new.done (known old.pass) (known new.pass) old.items.items new.items.items new.doing step
 
 -- a step that was refused: the pass and the trace are as they were, and the session may go on

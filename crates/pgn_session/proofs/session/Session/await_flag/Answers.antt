@@ -5,7 +5,7 @@ use Rattle.pgn_language.specs.declared.scenario.Act.TheVariants.{Await}
 use Rattle.pgn_session.specs.declared.session.Session.{Session}
 use Rattle.pgn_session.specs.Standing.{terms_of}
 use Rattle.pgn_session.specs.Steps.{HasTurned}
-use Rattle.pgn_session.specs.Whole.{HasAnswer, HasRest}
+use Rattle.pgn_session.specs.Whole.{HasAnswer}
 use Rattle.pgn_session.proofs.AwaitLaws.{await-line, turn-answers}
 use Rattle.pgn_session.proofs.WholeLaws.{line-stepped}
 use Rattle.pgn_session.proofs.session.Session.await_flag.Goals as goal
@@ -29,5 +29,5 @@ returns-clause-stepped g c =
     (record { section = ap (λ (x : Session g.row.P.Denot). x.section) same; plan = ap (λ (x : Session g.row.P.Denot). x.plan) same; patience = ap (λ (x : Session g.row.P.Denot). x.patience) same })
     (ap (λ (x : Session g.row.P.Denot). x.done) same)
     (subst (λ (x : Session g.row.P.Denot). HasAnswer shape known x) (sym same) answers.0)
-    (λ other. subst (λ (x : Session g.row.P.Denot). HasRest shape known x) (sym same) (answers.1 other))
+    (λ ended. absurd (answers.1 ended))
     (subst (λ (items : List Item). HasTurned c.args.flag 1 s.patience (known s.pass) (known n.pass) items n.items.items n.doing c.look_for.result) pushed c.look_for.ensures.turned)

@@ -7,6 +7,7 @@ use Rattle.pgn_answers.proofs.SavepointLemmas.{firsts-differ}
 use Rattle.pgn_session.specs.declared.session.Session.{Session}
 use Rattle.pgn_session.specs.declared.doing.Doing.{Doing}
 use Rattle.pgn_session.specs.declared.doing.Doing.TheVariants.{Lines, Committing}
+use Rattle.pgn_session.specs.declared.doing.Step.TheVariants.{Did, Ended}
 use Rattle.pgn_session.specs.Standing.{terms_of, spare_of, IsAnswered, IsRested}
 use Rattle.pgn_session.specs.Steps.{ShowsNext}
 use Rattle.pgn_session.specs.Whole.{RestsAt}
@@ -41,7 +42,7 @@ returns-clause-stepped g c =
     record {
       same = record { section = ap (λ (x : Session g.row.P.Denot). x.section) same; plan = ap (λ (x : Session g.row.P.Denot). x.plan) same; patience = ap (λ (x : Session g.row.P.Denot). x.patience) same };
       answered = subst (λ (d : Doing). IsAnswered (terms_of shape m.section m.patience) m.plan (m.done + 1) m.block c.commit.new.set.channels d q c.commit.new.items.items) (sym between) answers.0;
-      rested = λ other. absurd (other refl);
+      rested = λ (ended : Did ≡ Ended). absurd (let no : ⊥ = cc in no);
       moved = (shows, between, refl, ap (λ (x : Session g.row.P.Denot). x.done + 1) same);
     }
 

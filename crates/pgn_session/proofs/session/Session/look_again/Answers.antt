@@ -3,7 +3,7 @@ use Rattle.pgn_model.specs.declared.item.Item.{Item}
 use Rattle.pgn_session.specs.declared.session.Session.{Session}
 use Rattle.pgn_session.specs.Standing.{terms_of}
 use Rattle.pgn_session.specs.Steps.{HasTurned}
-use Rattle.pgn_session.specs.Whole.{HasAnswer, HasRest}
+use Rattle.pgn_session.specs.Whole.{HasAnswer}
 use Rattle.pgn_session.proofs.AwaitLaws.{await-again, turn-answers}
 use Rattle.pgn_session.proofs.session.Session.look_again.Goals as goal
 
@@ -23,6 +23,6 @@ returns-clause-stepped g c =
     record {
       same = record { section = ap (λ (x : Session g.row.P.Denot). x.section) same; plan = ap (λ (x : Session g.row.P.Denot). x.plan) same; patience = ap (λ (x : Session g.row.P.Denot). x.patience) same };
       answered = subst (λ (x : Session g.row.P.Denot). HasAnswer shape known x) (sym same) answers.0;
-      rested = λ other. subst (λ (x : Session g.row.P.Denot). HasRest shape known x) (sym same) (answers.1 other);
+      rested = λ ended. absurd (answers.1 ended);
       moved = (turned, ap (λ (x : Session g.row.P.Denot). x.done) same);
     }

@@ -17,6 +17,6 @@ returns-clause-stepped g c =
     record {
       same = record { section = ap (λ (x : Session g.row.P.Denot). x.section) same; plan = ap (λ (x : Session g.row.P.Denot). x.plan) same; patience = ap (λ (x : Session g.row.P.Denot). x.patience) same };
       answered = subst (λ (x : Session g.row.P.Denot). HasAnswer shape known x) (sym same) answers;
-      rested = λ other. subst (λ (x : Session g.row.P.Denot). HasRest shape known x) (sym same) rests;
+      rested = λ ended. subst (λ (x : Session g.row.P.Denot). HasRest shape known x) (sym same) rests;
       moved = (c.look_on.ensures.waited, ap (λ (x : Session g.row.P.Denot). x.items.items) same, ap (λ (x : Session g.row.P.Denot). x.done) same);
     }
