@@ -13,6 +13,14 @@
 #   notifications   65,536 lines that notify, and 100 that go wrong and do not count; then one more that notifies
 #   each            BEGIN, 10,000 notifications that differ, COMMIT; then 10,000 equal ones
 #
+# Chosen names: inputs of names that all have one hash where the seed is known, by bench/chosen. Beside each stands an input of the same
+# size whose names do not; the chosen one may take five times its processor time:
+#
+#   savepoints      20,000 savepoints in a block
+#   listens         20,000 LISTENs
+#   notifications   20,000 notifications in a block
+#   channels        `check` of 20,000 notifications, each of its own channel
+#
 # Little memory: sessions that listen, notify, raise a flag each and await the next one's, 1, 8 and 64 of them, with
 # `--patience 100000`, under 60 limits of `ulimit -v` from the least at which the usage line is printed up to 4 GB. Each run has to
 # end with status 0 and as many lines as without a limit, but for those of the reads, or with 6 and nothing written.
@@ -82,6 +90,45 @@ measure_large() {
     large each 0 $((1 + 1 + 10000 + 1 + 2 + 2 * 10000 + 3 + 1)) ''
     written 'print "BEGIN"; for (i = 0; i < 10000; i++) print "NOTIFY c"; print "COMMIT"'
     large each 0 $((1 + 1 + 1 + 1 + 2 + 2 * 10000 + 3 + 1)) ''
+}
+
+# seconds WORD: the least processor seconds of three runs of the input with this word, or 60 where one takes longer
+seconds() {
+    for _ in 1 2 3; do
+        status=0
+        env time -q -a -o "$room/times" -f '%U %S' timeout 60 "$program" "$1" <"$room/input" >"$room/output" 2>"$room/errors" || status=$?
+        case $status in
+        0) ;;
+        124) echo '60 0' >"$room/times" && break ;;
+        *) refused input "$status" ;;
+        esac
+    done
+    awk 'NR == 1 || $1 + $2 < best { best = $1 + $2 } END { printf "%.2f", best }' "$room/times"
+    rm -f -- "$room/times"
+}
+
+# chosen KIND COUNT WORD: the processor time of the plain input and of the chosen one, with this word of the program
+chosen() {
+    times=
+    for names in plain chosen; do
+        "$root/bench/chosen" "$1" "$2" "$names" >"$room/input"
+        if [ "$3" = check ]; then
+            "$program" run <"$room/input" >"$room/output" 2>"$room/errors" || refused input $?
+            { printf '\\output\n' && cat -- "$room/output"; } >>"$room/input"
+        fi
+        times="$times $(seconds "$3")"
+    done
+    printf '%s\n' "$1 $2$times" | awk '{
+        printf "chosen %-14s %6d names %6.2f s plain %6.2f s chosen\n", $1, $2, $3, $4
+        exit $4 > 5 * ($3 > 0.01 ? $3 : 0.01)
+    }' || wrong "$1: chosen names take too long"
+}
+
+measure_chosen() {
+    chosen savepoints 20000 run
+    chosen listens 20000 run
+    chosen notifications 20000 run
+    chosen channels 20000 check
 }
 
 # limited KB WORD ..: a run under a limit of its addresses, with its status in `status`
@@ -180,6 +227,7 @@ measure_closed_reader() {
 measure_hostile() {
     failed=
     measure_large
+    measure_chosen
     measure_memory
     "$root/bench/refuse" "$program" || failed=yes
     measure_closed_reader

@@ -55,9 +55,10 @@
 #
 # With --hostile only bench/hostile.sh is run, with --checked only bench/checked.sh, whose heads say what they are.
 #
-# Seconds are those of the processor, the least of three runs, and depend on the machine's load. Instructions do not. Wall time is
-# the least of three runs too, but of one where two sessions wait for each other in vain. Needs GNU time, awk, Python, taskset, and
-# valgrind for the instructions (without it those are left out).
+# Seconds are those of the processor, the least of three runs, and depend on the machine's load. Instructions do not: where they are
+# counted, bench/entropy.c gives the program the same bytes for its seed in each run. Wall time is the least of three runs too, but of one
+# where two sessions wait for each other in vain. Needs GNU time, awk, Python, taskset, and valgrind with a C compiler for the instructions
+# (without valgrind those are left out).
 set -eu
 
 only=
@@ -106,7 +107,8 @@ counted() {
     fi
     file=$1
     shift
-    valgrind --tool=callgrind --callgrind-out-file=/dev/null --log-file="$room/log" \
+    [ -e "$room/entropy.so" ] || cc -O2 -shared -fPIC -o "$room/entropy.so" "$root/bench/entropy.c"
+    LD_PRELOAD=$room/entropy.so valgrind --tool=callgrind --callgrind-out-file=/dev/null --log-file="$room/log" \
         "$program" run "$@" <"$room/$file" >"$room/output" 2>"$room/errors" || refused "$file" $?
     awk '$2 == "Collected" { print $4 }' "$room/log"
 }

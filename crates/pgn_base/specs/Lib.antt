@@ -6,3 +6,4 @@ pub mod Channels
 pub mod Listening
 pub mod Interest
 pub mod Outside
+pub mod Hashes

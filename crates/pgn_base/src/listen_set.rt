@@ -5,7 +5,7 @@ ghost use Rattle.pgn_base.specs.Listening.{listed, holds, AreOnce, AreThere};
 
 use crate::channel_bits::ChannelBits;
 use crate::in_place::InPlace;
-use crate::{Copied, NAME_BYTES_MAX, Name, Names, Seq};
+use crate::{Copied, NAME_BYTES_MAX, Name, Names, Seed, Seq};
 use indexmap::IndexMap;
 use std::alloc::{AllocError, Global};
 use std::marker::Model;
@@ -28,7 +28,7 @@ pub struct ListenSet {
     // The channels in order. A place is empty where its channel was left.
     places: Vec<Option<Name>>,
     // Where each channel stands.
-    index: IndexMap<Key, usize>,
+    index: IndexMap<Key, usize, Seed>,
     bits: ChannelBits,
     room: usize,
 }
@@ -56,13 +56,13 @@ impl ListenSet {
     ghost use Rattle.pgn_base.specs.Channels.{applied, after_action};
     ghost use Rattle.pgn_base.specs.Interest.{interest};
 
-    /// The empty set. It takes no memory.
-    pub fn new(alloc: Global) -> ListenSet
+    /// The empty set, whose hashes are made with this seed. It takes no memory.
+    pub fn new(alloc: Global, seed: Seed) -> ListenSet
         ensures { result ≡ record { channels = []; room = 0 } }
     {
         ListenSet {
             places: Vec::new(alloc),
-            index: IndexMap::new(alloc),
+            index: IndexMap::with_hasher(alloc, seed),
             bits: ChannelBits::new(),
             room: 0,
         }
@@ -192,6 +192,11 @@ impl ListenSet {
         self.index.is_empty()
     }
 
+    /// What its hashes are made with.
+    pub fn seed(&self) -> Seed {
+        *self.index.hasher()
+    }
+
     /// The channels in order, copied.
     pub fn names(&self, alloc: Global) -> Result<Names, AllocError>
         ensures { IfOk result (λ names. names ≡ self.now.channels) }
@@ -208,7 +213,7 @@ fn empty(place: &mut Option<Name>)
 }
 
 // Puts the channels of these places into an index that is empty and has room for them.
-fn put_all(index: &mut IndexMap<Key, usize>, places: &[Option<Name>])
+fn put_all(index: &mut IndexMap<Key, usize, Seed>, places: &[Option<Name>])
     requires empty { index.old.entries ≡ [] }
     requires room { length places.now ≤ spare index.old }
     requires once { AreOnce (listed places.now) }
@@ -221,7 +226,7 @@ fn put_all(index: &mut IndexMap<Key, usize>, places: &[Option<Name>])
 }
 
 // Puts the channel of one more place into the index of those before.
-fn put(index: &mut IndexMap<Key, usize>, place: &Option<Name>, at: usize)
+fn put(index: &mut IndexMap<Key, usize, Seed>, place: &Option<Name>, at: usize)
     requires { 1 ≤ spare index.old }
     ensures entries { (places : List (Option (List ℕ))) → AreThere places index.old.entries → at ≡ length places → AreOnce (listed (places ++ place.now ∷ [])) → AreThere (places ++ place.now ∷ []) index.new.entries }
     ensures room { spare index.old ≤ spare index.new + 1 }

@@ -21,6 +21,6 @@ idle_view = viewed Idle (kept [] [] [])
 
 -- what is seen of a stage
 abbrev pub view_of : Stage → BlockView
-view_of (stage.Idle alloc) = idle_view
-view_of (stage.InBlock alloc pending) = viewed InBlock pending
-view_of (stage.Failed alloc pending) = viewed Failed pending
+view_of (stage.Idle alloc seed) = idle_view
+view_of (stage.InBlock alloc seed pending) = viewed InBlock pending
+view_of (stage.Failed alloc seed pending) = viewed Failed pending

@@ -8,7 +8,7 @@ ghost use Rattle.pgn_block.specs.Effects.{effect_of, takes_memory};
 use crate::Effect;
 use crate::stage::Stage;
 use pgn_answers::BlockState;
-use pgn_base::Command;
+use pgn_base::{Command, Seed};
 use std::alloc::{AllocError, Global};
 use std::marker::Model;
 
@@ -30,12 +30,12 @@ impl Model for Block {
 }
 
 impl Block {
-    /// No block is open. It takes no memory.
-    pub fn new(alloc: Global) -> Block
+    /// No block is open. Hashes are made with this seed. It takes no memory.
+    pub fn new(alloc: Global, seed: Seed) -> Block
         ensures { result ≡ idle_view }
     {
         Block {
-            stage: Stage::Idle { alloc },
+            stage: Stage::Idle { alloc, seed },
         }
     }
 

@@ -10,19 +10,30 @@ ghost use Rattle.pgn_block.specs.Steps.{Steps, IsStep, failed_view, open_view, o
 use crate::{Effect, Kind};
 use pgn_answers::BlockState;
 use pgn_base::{
-    Action, Actions, Command, Name, Needs, Note, Notes, Refusal, Seq, Tag, Warning, Which,
+    Action, Actions, Command, Name, Needs, Note, Notes, Refusal, Seed, Seq, Tag, Warning, Which,
 };
 use pgn_pending::{NoSuch, Pending};
 use std::alloc::{AllocError, Global};
 use std::mem;
 
 /// The three states of a block, two of them with what is pending in it. In a failed block that is kept, since ROLLBACK TO goes
-/// back to what was before a savepoint. Each has the allocator, from which a new block is made.
+/// back to what was before a savepoint. Each has the allocator and the seed, from which a new block is made.
 #[derive(Drop)]
 pub(crate) enum Stage {
-    Idle { alloc: Global },
-    InBlock { alloc: Global, pending: Pending },
-    Failed { alloc: Global, pending: Pending },
+    Idle {
+        alloc: Global,
+        seed: Seed,
+    },
+    InBlock {
+        alloc: Global,
+        seed: Seed,
+        pending: Pending,
+    },
+    Failed {
+        alloc: Global,
+        seed: Seed,
+        pending: Pending,
+    },
 }
 
 // The commands, by the rows of the table of answers.
@@ -59,10 +70,18 @@ impl Stage {
         ensures { Steps self.old [] (λ _. opens tag (view_of self.old).state) result self.new }
     {
         match self {
-            Stage::Idle { alloc } => {
+            Stage::Idle { alloc, seed } => {
                 let alloc = *alloc;
-                let pending = Pending::new(alloc);
-                drop(mem::replace(self, Stage::InBlock { alloc, pending }));
+                let seed = *seed;
+                let pending = Pending::new(alloc, seed);
+                drop(mem::replace(
+                    self,
+                    Stage::InBlock {
+                        alloc,
+                        seed,
+                        pending,
+                    },
+                ));
                 Effect::Reply { tag, warning: None }
             }
             Stage::InBlock { .. } => Effect::Reply {
@@ -159,7 +178,7 @@ impl Stage {
         ensures err { OnErr result (self.new ≡ self.old) }
     {
         match self {
-            Stage::Idle { alloc } => {
+            Stage::Idle { alloc, .. } => {
                 let actions = only(*alloc, action)?;
                 let notes = Notes::new(*alloc);
                 Ok(Effect::Commit {
@@ -183,7 +202,7 @@ impl Stage {
         ensures err { OnErr result (self.new ≡ self.old) }
     {
         match self {
-            Stage::Idle { alloc } => {
+            Stage::Idle { alloc, .. } => {
                 let notes = only(*alloc, note)?;
                 let actions = Actions::new(*alloc);
                 Ok(Effect::Commit {
@@ -247,7 +266,8 @@ impl Stage {
         ensures left { view_of self.new ≡ idle_view }
     {
         let alloc = self.alloc();
-        mem::replace(self, Stage::Idle { alloc })
+        let seed = self.seed();
+        mem::replace(self, Stage::Idle { alloc, seed })
     }
 
     // The refusal. An open block fails.
@@ -263,31 +283,65 @@ impl Stage {
     fn fail(&mut self)
         ensures { view_of self.new ≡ failed_view (view_of self.old) }
     {
-        let Stage::InBlock { alloc, pending } = self else {
+        let Stage::InBlock {
+            alloc,
+            seed,
+            pending,
+        } = self
+        else {
             return;
         };
         let alloc = *alloc;
-        let pending = mem::replace(pending, Pending::new(alloc));
-        drop(mem::replace(self, Stage::Failed { alloc, pending }));
+        let seed = *seed;
+        let pending = mem::replace(pending, Pending::new(alloc, seed));
+        drop(mem::replace(
+            self,
+            Stage::Failed {
+                alloc,
+                seed,
+                pending,
+            },
+        ));
     }
 
     // A failed block goes on.
     fn reopen(&mut self)
         ensures { view_of self.new ≡ open_view (view_of self.old) }
     {
-        let Stage::Failed { alloc, pending } = self else {
+        let Stage::Failed {
+            alloc,
+            seed,
+            pending,
+        } = self
+        else {
             return;
         };
         let alloc = *alloc;
-        let pending = mem::replace(pending, Pending::new(alloc));
-        drop(mem::replace(self, Stage::InBlock { alloc, pending }));
+        let seed = *seed;
+        let pending = mem::replace(pending, Pending::new(alloc, seed));
+        drop(mem::replace(
+            self,
+            Stage::InBlock {
+                alloc,
+                seed,
+                pending,
+            },
+        ));
     }
 
     // What the next block's memory is taken from.
     fn alloc(&self) -> Global {
         match self {
-            Stage::Idle { alloc } => *alloc,
+            Stage::Idle { alloc, .. } => *alloc,
             Stage::InBlock { alloc, .. } | Stage::Failed { alloc, .. } => *alloc,
+        }
+    }
+
+    // What the next block's hashes are made with.
+    fn seed(&self) -> Seed {
+        match self {
+            Stage::Idle { seed, .. } => *seed,
+            Stage::InBlock { seed, .. } | Stage::Failed { seed, .. } => *seed,
         }
     }
 }

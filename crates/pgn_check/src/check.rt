@@ -12,7 +12,7 @@ use crate::entries::lines_in;
 use crate::held::are_held;
 use crate::journal::read_journal;
 use crate::sections::walk_all;
-use pgn_base::Format;
+use pgn_base::{Format, Seed};
 use pgn_evidence::Evidence;
 use pgn_form::Reading;
 use pgn_language::Scenario;
@@ -29,9 +29,10 @@ pub enum Verdict {
 }
 
 /// Whether a text is the output of a legal run of the scenario, where the queue has at most so many pages and entries of this format,
-/// and an await takes so many looks.
+/// and an await takes so many looks. Hashes are made with this seed.
 pub fn check_output(
     alloc: Global,
+    seed: Seed,
     scenario: &Scenario,
     pages: u32,
     patience: u64,
@@ -43,11 +44,11 @@ pub fn check_output(
     ensures { IfOk result (Judges scenario.now (record { format = format; limit = pages; patience = patience }) out.now) }
 {
     are_held(scenario.sections.as_slice());
-    let reading = match read_journal(alloc, scenario, out)? {
+    let reading = match read_journal(alloc, seed, scenario, out)? {
         Ok(reading) => reading,
         Err(line) => return Ok(Verdict::Illegal { line }),
     };
-    let found = walk_reading(alloc, scenario, pages, patience, format, &reading);
+    let found = walk_reading(alloc, seed, scenario, pages, patience, format, &reading);
     // By a call, before what may return.
     drop(reading);
     match found? {
@@ -59,6 +60,7 @@ pub fn check_output(
 // The first line of all sections that is to blame, if one is, where this was read.
 fn walk_reading(
     alloc: Global,
+    seed: Seed,
     scenario: &Scenario,
     pages: u32,
     patience: u64,
@@ -73,7 +75,7 @@ fn walk_reading(
     requires fits { 2 + lines_in reading.now.journal + length (traces_lines scenario.now.sections reading.now.traces) < 2 ^ 64 }
     ensures { IfOk result (IsFirstBlamed (record { format = format; limit = pages; patience = patience }) scenario.now.sections reading.now.journal reading.now.traces) }
 {
-    let ledger = Ledger::new(alloc, format, reading.journal.as_slice())?;
+    let ledger = Ledger::new(alloc, seed, format, reading.journal.as_slice())?;
     let blamed = walk_sections(alloc, scenario, pages, patience, &ledger, reading);
     drop(ledger);
     blamed
@@ -96,7 +98,7 @@ fn walk_sections(
 {
     let sections = scenario.sections.as_slice();
     let traces = reading.traces.as_slice();
-    let evidence = Evidence::new(alloc, sections, traces)?;
+    let evidence = Evidence::new(alloc, ledger.feed.seed(), sections, traces)?;
     let journal = reading.journal.as_slice();
     let head = 2 + lines_in(journal);
     let blamed = walk_all(

@@ -5,15 +5,16 @@ ghost use Rattle.pgn_model.specs.Legal.{names_section};
 ghost use Rattle.pgn_check.specs.Entries.{first_bad_from, is_good, is_queued, lines_in, repeats_after};
 
 use indexmap::IndexSet;
-use pgn_base::{Copied, Note, SessionNo};
+use pgn_base::{Copied, Note, Seed, SessionNo};
 use pgn_journal::{Fate, Tx};
 use pgn_language::Section;
 use std::alloc::{AllocError, Global};
 
 /// The number of the first line of the first transaction that is not finished or no section's, where the first transaction's first
-/// line is the second of the text.
+/// line is the second of the text. Hashes are made with this seed.
 pub fn first_bad(
     alloc: Global,
+    seed: Seed,
     sections: &[Section],
     journal: &[Tx],
 ) -> Result<Option<usize>, AllocError>
@@ -22,7 +23,7 @@ pub fn first_bad(
 {
     let mut number: usize = 2;
     for tx in journal {
-        if !is_good(alloc, sections, tx)? {
+        if !is_good(alloc, seed, sections, tx)? {
             return Ok(Some(number));
         }
         number += 1 + tx.notes.as_slice().len();
@@ -31,7 +32,7 @@ pub fn first_bad(
 }
 
 // A transaction has notifications, all different, as many were queued as its end asks for, and some section has its session's number.
-fn is_good(alloc: Global, sections: &[Section], tx: &Tx) -> Result<bool, AllocError>
+fn is_good(alloc: Global, seed: Seed, sections: &[Section], tx: &Tx) -> Result<bool, AllocError>
     ensures { IfOk result (λ good. good ≡ is_good sections.now tx.now) }
 {
     if tx.notes.as_slice().is_empty() {
@@ -43,7 +44,7 @@ fn is_good(alloc: Global, sections: &[Section], tx: &Tx) -> Result<bool, AllocEr
     if !names(sections, tx.session) {
         return Ok(false);
     }
-    are_different(alloc, tx.notes.as_slice())
+    are_different(alloc, seed, tx.notes.as_slice())
 }
 
 // All notifications were queued where the transaction committed, and fewer where it was aborted.
@@ -66,20 +67,20 @@ fn names(sections: &[Section], session: SessionNo) -> bool
 
 // No notification stands twice.
 #[tactic(auto, using(crate::proofs::NoteLaws::short_has_none))]
-fn are_different(alloc: Global, notes: &[Note]) -> Result<bool, AllocError>
+fn are_different(alloc: Global, seed: Seed, notes: &[Note]) -> Result<bool, AllocError>
     ensures { IfOk result (λ different. different ≡ not (repeats_after [] notes.now)) }
 {
     if notes.len() < 2 {
         return Ok(true);
     }
-    no_repeat(alloc, notes)
+    no_repeat(alloc, seed, notes)
 }
 
 // The same, by a set of those that stand before.
-fn no_repeat(alloc: Global, notes: &[Note]) -> Result<bool, AllocError>
+fn no_repeat(alloc: Global, seed: Seed, notes: &[Note]) -> Result<bool, AllocError>
     ensures { IfOk result (λ different. different ≡ not (repeats_after [] notes.now)) }
 {
-    let mut seen = IndexSet::new(alloc);
+    let mut seen = IndexSet::with_hasher(alloc, seed);
     for note in notes {
         let note = note.copy(alloc)?;
         if !put(&mut seen, note)? {
@@ -90,7 +91,7 @@ fn no_repeat(alloc: Global, notes: &[Note]) -> Result<bool, AllocError>
 }
 
 // Puts a notification into a set, and tells whether it is new.
-fn put(seen: &mut IndexSet<Note>, note: Note) -> Result<bool, AllocError>
+fn put(seen: &mut IndexSet<Note, Seed>, note: Note) -> Result<bool, AllocError>
     ensures added { IfOk result (λ new. new ≡ not (list_any (same_note note) seen.old.keys)) }
     ensures keys { OnOk result (seen.new.keys ≡ cond (list_any (same_note note) seen.old.keys) seen.old.keys (seen.old.keys ++ note ∷ [])) }
 {

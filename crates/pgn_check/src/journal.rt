@@ -3,15 +3,17 @@ ghost use Rattle.pgn_language.specs.Inputs.{IsSound};
 ghost use Rattle.pgn_check.specs.Entries.{IsBlamedFirst, IsReadSoFar};
 
 use crate::entries::first_bad;
+use pgn_base::Seed;
 use pgn_form::{Reading, read_output};
 use pgn_language::Scenario;
 use std::alloc::{AllocError, Global};
 
 /// What a text shows as an output of the scenario, where each transaction of its journal is finished and some section's; or the
-/// number of the first line that is to blame, from 1, whatever the settings of the run.
+/// number of the first line that is to blame, from 1, whatever the settings of the run. Hashes are made with this seed.
 #[tactic(auto, using(crate::proofs::EntryLaws::read_so_far, crate::proofs::EntryLaws::blamed_in_form, crate::proofs::EntryLaws::blamed_in_journal, crate::proofs::EntryLaws::lines_fit))]
 pub fn read_journal(
     alloc: Global,
+    seed: Seed,
     scenario: &Scenario,
     out: &[u8],
 ) -> Result<Result<Reading, usize>, AllocError>
@@ -24,6 +26,7 @@ pub fn read_journal(
     };
     let bad = first_bad(
         alloc,
+        seed,
         scenario.sections.as_slice(),
         reading.journal.as_slice(),
     )?;

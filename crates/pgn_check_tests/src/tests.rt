@@ -2,17 +2,17 @@ mod changed;
 mod kinds;
 mod walked;
 
-use pgn_base::{Format, PAGES_DEFAULT, PATIENCE_DEFAULT};
+use pgn_base::{Format, PAGES_DEFAULT, PATIENCE_DEFAULT, Seed};
 use pgn_check::{Verdict, check_output, read_journal};
 use pgn_scenario::read_scenario;
 use std::alloc::{AllocError, Global};
 
 // The line that is to blame in an output of a scenario, as far as its form and its journal go, or 0 where none is.
 fn to_blame(alloc: Global, input: &[u8], out: &[u8]) -> Result<usize, AllocError> {
-    let Ok(scenario) = read_scenario(alloc, input)? else {
+    let Ok(scenario) = read_scenario(alloc, Seed::fixed(), input)? else {
         return Ok(usize::MAX);
     };
-    let found = read_journal(alloc, &scenario, out);
+    let found = read_journal(alloc, Seed::fixed(), &scenario, out);
     // Dropped here, by a call: what follows may return.
     drop(scenario);
     match found? {
@@ -26,11 +26,12 @@ fn verdict(alloc: Global, input: &[u8], out: &[u8]) -> Result<usize, AllocError>
     if out.len() > 67_108_864 {
         return Ok(usize::MAX);
     }
-    let Ok(scenario) = read_scenario(alloc, input)? else {
+    let Ok(scenario) = read_scenario(alloc, Seed::fixed(), input)? else {
         return Ok(usize::MAX);
     };
     let found = check_output(
         alloc,
+        Seed::fixed(),
         &scenario,
         PAGES_DEFAULT,
         PATIENCE_DEFAULT,

@@ -6,6 +6,7 @@
 
 mod adapters;
 mod arguments;
+mod drawing;
 mod fault_line;
 mod program;
 #[cfg(test)]
@@ -13,6 +14,7 @@ mod tests;
 
 use adapters::{Input, Output};
 use arguments::words;
+use drawing::drawn;
 use program::program;
 use std::process::ExitCode;
 
@@ -20,6 +22,7 @@ fn main(rt: HostRuntime) -> ExitCode {
     ExitCode::from(program(
         &rt,
         rt.alloc(),
+        drawn(&rt),
         words(&rt),
         &mut Input::new(rt.stdin()),
         &mut Output::new(rt.stdout()),

@@ -13,18 +13,19 @@ ghost use Rattle.pgn_cli.specs.Program.{Ends, IsFaulty, IsRefused, NamesFault, N
 
 use crate::arguments::NoWords;
 use crate::fault_line::fault_line;
-use pgn_base::{Sink, Source};
+use pgn_base::{Seed, Sink, Source};
 use pgn_run::{Status, run_notify};
 use std::alloc::{AllocError, Global};
 use std::sync::Wait;
 use std::thread::Threads;
 
 /// All that the program does once it has its words: it calls `run_notify` over these words, and writes one line to `errors`
-/// where the run is not done. The result is the exit status. Sessions may wait for one another, so that it is not promised that the call
+/// where the run is not done. The result is the exit status. Hashes are made with the seed. Sessions may wait for one another, so that it is not promised that the call
 /// returns.
 pub fn program<S: Source, K: Sink + Send, E: Sink, R: Threads + Wait + Sync>(
     rt: &R,
     alloc: Global,
+    hashes: Seed,
     words: Result<Vec<String>, NoWords>,
     source: &mut S,
     sink: &mut K,
@@ -59,7 +60,7 @@ pub fn program<S: Source, K: Sink + Send, E: Sink, R: Threads + Wait + Sync>(
     ensures right_words { IfOk words (λ words. result ≡ 2 → AreNoCommand (map string_bytes words.items)) }
     ensures other_words { IfOk words (λ words. AreNoCommand (map string_bytes words.items) → result ≢ 6 → result ≡ 2) }
 {
-    let status = status_of(rt, alloc, words, source, sink);
+    let status = status_of(rt, alloc, hashes, words, source, sink);
     let _ = fault_line(errors, &status);
     status.code()
 }
@@ -68,6 +69,7 @@ pub fn program<S: Source, K: Sink + Send, E: Sink, R: Threads + Wait + Sync>(
 fn status_of<S: Source, K: Sink + Send, R: Threads + Wait + Sync>(
     rt: &R,
     alloc: Global,
+    hashes: Seed,
     words: Result<Vec<String>, NoWords>,
     source: &mut S,
     sink: &mut K,
@@ -102,7 +104,7 @@ fn status_of<S: Source, K: Sink + Send, R: Threads + Wait + Sync>(
 {
     match words {
         Ok(words) => {
-            let status = run_words(rt, alloc, words.as_slice(), source, sink);
+            let status = run_words(rt, alloc, hashes, words.as_slice(), source, sink);
             drop(words);
             status
         }
@@ -115,6 +117,7 @@ fn status_of<S: Source, K: Sink + Send, R: Threads + Wait + Sync>(
 fn run_words<S: Source, K: Sink + Send, R: Threads + Wait + Sync>(
     rt: &R,
     alloc: Global,
+    hashes: Seed,
     words: &[String],
     source: &mut S,
     sink: &mut K,
@@ -145,7 +148,7 @@ fn run_words<S: Source, K: Sink + Send, R: Threads + Wait + Sync>(
     ensures other_words { AreNoCommand (map string_bytes words.now) → result ≢ Status.NoMemory → result ≡ Status.BadWords }
 {
     match borrowed(alloc, words) {
-        Ok(words) => run_notify(rt, alloc, words.as_slice(), source, sink),
+        Ok(words) => run_notify(rt, alloc, hashes, words.as_slice(), source, sink),
         Err(AllocError) => Status::NoMemory,
     }
 }

@@ -1,16 +1,19 @@
 use crate::adapters::{Input, Output};
 use crate::arguments::NoWords;
+use crate::drawing::drawn;
 use crate::fault_line::fault_line;
 use crate::program::program;
-use pgn_base::{Failed, Sink, Source, write_all};
+use pgn_base::{Failed, Seed, Sink, Source, write_all};
 use pgn_language::ScenarioFault;
 use pgn_memory::{MemSink, MemSource};
 use pgn_queries::WireFault;
 use pgn_run::Status;
 use std::alloc::{AllocError, Global};
+use std::hash::{BuildHasher, Hasher};
 use std::io;
 use std::io::{ErrorKind, Read, Write};
 use std::process::Abort;
+use std::random::RandomSource;
 use std::sync::Wait;
 use std::test::Fail;
 use std::thread::Threads;
@@ -216,7 +219,7 @@ fn code_of<S: Source, K: Sink + Send, E: Sink, R: Threads + Wait + Sync>(
     sink: &mut K,
     errors: &mut E,
 ) -> u8 {
-    program(rt, alloc, words, source, sink, errors)
+    program(rt, alloc, Seed::fixed(), words, source, sink, errors)
 }
 
 #[test]
@@ -442,4 +445,31 @@ fn adapters_fail_with_their_streams(rt: HostRuntime) {
     assert!(rt; fails(&mut Output::new(Broken { fails: true })));
     assert!(rt; fails(&mut Output::new(Broken { fails: false })));
     assert_eq!(rt; Output::new(Broken { fails: false }).write(b"abc"), Ok(0));
+}
+
+// Gives bytes of 7, or none.
+#[derive(Clone, Copy)]
+struct Bytes {
+    given: bool,
+}
+
+impl RandomSource for Bytes {
+    fn fill_bytes(&self, buf: &mut [u8]) -> io::Result<()> {
+        if !self.given {
+            return Err(io::Error::from(ErrorKind::Unsupported));
+        }
+        buf.fill(7);
+        Ok(())
+    }
+}
+
+fn first_hash(seed: Seed) -> u64 {
+    seed.build_hasher().finish()
+}
+
+#[test]
+fn the_seed_is_drawn_where_there_are_random_bytes(rt: HostRuntime) {
+    let drawn_from = |given| first_hash(drawn(&Bytes { given }));
+    assert_eq!(rt; drawn_from(true), first_hash(Seed::new([7; 16])));
+    assert_eq!(rt; drawn_from(false), first_hash(Seed::fixed()));
 }

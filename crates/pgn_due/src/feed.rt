@@ -6,7 +6,7 @@ ghost use Rattle.pgn_due.specs.Lists.{AreAfter, AreLists};
 
 use crate::lists::{Lists, Topic, first_in, lists_of};
 use crate::sends::Sends;
-use pgn_base::{DbOid, Name};
+use pgn_base::{DbOid, Name, Seed};
 use pgn_journal::Tx;
 use std::alloc::{AllocError, Global};
 
@@ -22,18 +22,23 @@ pub struct Feed<'a> {
 }
 
 impl<'a> Feed<'a> {
-    /// Goes through a journal. It is refused for want of memory alone.
-    pub fn new(alloc: Global, journal: &'a [Tx]) -> Result<Feed<'a>, AllocError>
+    /// Goes through a journal. Hashes are made with this seed. It is refused for want of memory alone.
+    pub fn new(alloc: Global, seed: Seed, journal: &'a [Tx]) -> Result<Feed<'a>, AllocError>
         ensures { IfOk result (λ feed. feed.sends.journal.now ≡ journal.now) }
     {
         let sends = Sends::new(alloc, journal)?;
-        let lists = lists_of(alloc, &sends)?;
+        let lists = lists_of(alloc, seed, &sends)?;
         let after = after_of(alloc, &sends, &lists)?;
         Ok(Feed {
             sends,
             lists,
             after,
         })
+    }
+
+    /// What its hashes are made with.
+    pub fn seed(&self) -> Seed {
+        *self.lists.hasher()
     }
 
     /// The place of the first notification on a channel, from a given place on.

@@ -7,7 +7,7 @@ ghost use Rattle.pgn_due.specs.declared.lists.Topic.{Topic};
 
 use crate::sends::Sends;
 use indexmap::IndexMap;
-use pgn_base::{Copied, DbOid, Name};
+use pgn_base::{Copied, DbOid, Name, Seed};
 use std::alloc::{AllocError, Global};
 
 /// A channel of a database.
@@ -30,13 +30,13 @@ impl Topic {
 }
 
 /// Where the notifications of each channel stand.
-pub type Lists = IndexMap<Topic, Vec<usize>>;
+pub type Lists = IndexMap<Topic, Vec<usize>, Seed>;
 
 /// The lists of what was sent.
-pub fn lists_of(alloc: Global, sends: &Sends) -> Result<Lists, AllocError>
+pub fn lists_of(alloc: Global, seed: Seed, sends: &Sends) -> Result<Lists, AllocError>
     ensures { IfOk result (λ lists. AreLists (sent_in sends.now.journal.now) lists.entries) }
 {
-    let mut lists = IndexMap::new(alloc);
+    let mut lists = IndexMap::with_hasher(alloc, seed);
     for at in 0..sends.len() {
         let sent = sends.at(at);
         let topic = Topic::new(alloc, sent.tx.db, &sent.note.channel)?;

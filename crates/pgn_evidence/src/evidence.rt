@@ -6,7 +6,7 @@ ghost use Rattle.pgn_language.specs.declared.scenario.Section.{Section};
 ghost use Rattle.pgn_model.specs.declared.trace.Trace.{Trace};
 
 use crate::pairs::Pairs;
-use pgn_base::{SessionNo, Xid};
+use pgn_base::{Seed, SessionNo, Xid};
 use pgn_language::{Act, ScriptLine, Section};
 use pgn_model::{Item, Trace};
 use std::alloc::{AllocError, Global};
@@ -19,17 +19,18 @@ pub struct Evidence {
 }
 
 impl Evidence {
-    /// Of a trace for each section.
+    /// Of a trace for each section. Hashes are made with this seed.
     pub fn new(
         alloc: Global,
+        seed: Seed,
         sections: &[Section],
         traces: &[Trace],
     ) -> Result<Evidence, AllocError>
         requires { length sections.now ≡ length traces.now }
         ensures { IfOk result (λ evidence. IsEvidence sections.now traces.now evidence.raised evidence.stood) }
     {
-        let mut raised = Pairs::new(alloc);
-        let mut stood = Pairs::new(alloc);
+        let mut raised = Pairs::new(alloc, seed);
+        let mut stood = Pairs::new(alloc, seed);
         raise_in(&mut raised, sections, traces)?;
         stand_in(&mut stood, traces)?;
         Ok(Evidence { raised, stood })

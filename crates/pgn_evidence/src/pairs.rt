@@ -2,13 +2,14 @@ ghost use Rattle.std.specs.Prelude.{◌≡◌, ◌↔◌, ℕ, List, [], ◌∷�
 ghost use Rattle.pgn_evidence.specs.Pairs.{AreKeys, Gathers, key_of};
 
 use indexmap::IndexSet;
+use pgn_base::Seed;
 use std::alloc::{AllocError, Global};
 use std::marker::Model;
 
 /// Pairs of numbers, hashed.
 #[derive(Drop)]
 pub struct Pairs {
-    keys: IndexSet<u64>,
+    keys: IndexSet<u64, Seed>,
 }
 
 impl Model for Pairs {
@@ -20,12 +21,12 @@ impl Model for Pairs {
 }
 
 impl Pairs {
-    /// None.
-    pub fn new(alloc: Global) -> Pairs
+    /// None. Hashes are made with this seed.
+    pub fn new(alloc: Global, seed: Seed) -> Pairs
         ensures { AreKeys [] result }
     {
         Pairs {
-            keys: IndexSet::new(alloc),
+            keys: IndexSet::with_hasher(alloc, seed),
         }
     }
 

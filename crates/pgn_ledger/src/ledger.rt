@@ -9,7 +9,7 @@ use crate::packing::page_of;
 use crate::places::places_of;
 use crate::queue_use::{is_cut_short, is_held};
 use crate::turns::{Turns, turns_of};
-use pgn_base::{CLEANUP_DELAY_PAGES, FIRST_XID, Format, Full, SessionNo, Usage, Xid};
+use pgn_base::{CLEANUP_DELAY_PAGES, FIRST_XID, Format, Full, Seed, SessionNo, Usage, Xid};
 use pgn_due::Feed;
 use pgn_journal::Tx;
 use std::alloc::{AllocError, Global};
@@ -28,15 +28,20 @@ pub struct Ledger<'a> {
 }
 
 impl<'a> Ledger<'a> {
-    /// Of a journal whose transactions are finished.
-    pub fn new(alloc: Global, format: Format, journal: &'a [Tx]) -> Result<Ledger<'a>, AllocError>
+    /// Of a journal whose transactions are finished. Hashes are made with this seed.
+    pub fn new(
+        alloc: Global,
+        seed: Seed,
+        format: Format,
+        journal: &'a [Tx],
+    ) -> Result<Ledger<'a>, AllocError>
         requires finished { All IsFinished journal.now }
         requires few { next_xid journal.now < 2 ^ 32 }
         requires few_notes { notes_in journal.now < 2 ^ 40 }
         ensures format { IfOk result (λ ledger. ledger.format ≡ format) }
         ensures journal { IfOk result (λ ledger. ledger.journal.now ≡ journal.now) }
     {
-        let feed = Feed::new(alloc, journal)?;
+        let feed = Feed::new(alloc, seed, journal)?;
         let places = places_of(alloc, format, journal)?;
         let turns = turns_of(alloc, journal)?;
         Ok(Ledger {

@@ -3,7 +3,7 @@ ghost use Rattle.pgn_language.specs.Inputs.{AreNumbered, IsSound};
 ghost use Rattle.pgn_live.specs.Playing.{sections_of};
 ghost use Rattle.pgn_session.specs.Runs.{IsReady};
 
-use pgn_base::{Format, PAGES_DEFAULT, Sink};
+use pgn_base::{Format, PAGES_DEFAULT, Seed, Sink};
 use pgn_hub::{Hub, PassView};
 use pgn_language::{Scenario, Section};
 use pgn_live::{LiveFault, run_live};
@@ -23,7 +23,7 @@ mod sinks;
 fn scenario_of(alloc: Global, input: &str) -> Result<Scenario, Fail>
     ensures { IfOk result IsSound }
 {
-    match read_scenario(alloc, input.as_bytes())? {
+    match read_scenario(alloc, Seed::fixed(), input.as_bytes())? {
         Ok(scenario) => Ok(scenario),
         Err(_) => Err(Fail::from("no scenario")),
     }
@@ -41,7 +41,14 @@ fn open<H: Hub + Drop>(
     ensures numbered { IfOk result (λ opened. AreNumbered 1 (sections_of opened.1.items)) }
     ensures few { IfOk result (λ opened. length opened.1.items ≤ 256) }
 {
-    let (hub, sessions) = open_on_hub::<H>(alloc, scenario, PAGES_DEFAULT, patience, Format::One)?;
+    let (hub, sessions) = open_on_hub::<H>(
+        alloc,
+        Seed::fixed(),
+        scenario,
+        PAGES_DEFAULT,
+        patience,
+        Format::One,
+    )?;
     Ok((hub, sessions))
 }
 

@@ -1,4 +1,4 @@
-// A module for each part; three for what `pgn_base` has, which are values, lists and sets, two for the formats of `pgn_entry`, and
+// A module for each part; four for what `pgn_base` has, which are values, lists, sets and seeds, two for the formats of `pgn_entry`, and
 // `outside` for the fakes of `pgn_memory`. Here stands what several of them make.
 mod entries;
 mod entries_two;
@@ -9,6 +9,7 @@ mod merging;
 mod outside;
 mod pending;
 mod scenario;
+mod seeds;
 mod sets;
 mod values;
 

@@ -4,7 +4,7 @@ ghost use Rattle.pgn_pending.specs.Kept.{StandsFor};
 ghost use Rattle.pgn_pending.specs.Calls.{change_of};
 
 use crate::Pending;
-use pgn_base::{Action, Actions, Name, Note, Notes};
+use pgn_base::{Action, Actions, Name, Note, Notes, Seed};
 use std::alloc::{AllocError, Global};
 
 /// A call on a `Pending`, which is a command of a transaction.
@@ -22,13 +22,17 @@ pub enum Call {
     Release(Name),
 }
 
-/// What is left after these calls, one after another. A ROLLBACK TO or RELEASE of a name that no savepoint has is passed over.
+/// What is left after these calls, one after another, where hashes are made with this seed. A ROLLBACK TO or RELEASE of a name that no savepoint has is passed over.
 /// The error is that memory did not suffice for one of them.
-pub fn finish_after(alloc: Global, calls: Vec<Call>) -> Result<(Actions, Notes), AllocError>
+pub fn finish_after(
+    alloc: Global,
+    seed: Seed,
+    calls: Vec<Call>,
+) -> Result<(Actions, Notes), AllocError>
     ensures actions { IfOk result (λ left. left.0 ≡ surviving_actions (map change_of calls.items)) }
     ensures notes { IfOk result (λ left. left.1 ≡ firsts (surviving_notes (map change_of calls.items))) }
 {
-    let mut pending = Pending::new(alloc);
+    let mut pending = Pending::new(alloc, seed);
     for call in calls {
         make(&mut pending, call)?;
     }

@@ -17,7 +17,7 @@
 //! ```
 //! let alloc = rt.alloc();
 //! let name = Name::new(alloc, "s")?;
-//! let mut pending = Pending::new(alloc);
+//! let mut pending = Pending::new(alloc, Seed::fixed());
 //! pending.action(Action::Listen(Name::new(alloc, "c")?))?;
 //! pending.mark(Name::new(alloc, "s")?)?;
 //! pending.note(Note {

@@ -6,7 +6,7 @@ ghost use Rattle.pgn_pending.specs.Kept.{HasHistory, StandsFor, with_note};
 use crate::savepoint::Savepoint;
 use crate::savepoints::Savepoints;
 use indexmap::IndexSet;
-use pgn_base::{Action, Actions, Name, Note, Notes};
+use pgn_base::{Action, Actions, Name, Note, Notes, Seed};
 use std::alloc::{AllocError, Global};
 use std::marker::Model;
 
@@ -14,7 +14,7 @@ use std::marker::Model;
 #[derive(Drop)]
 pub struct Pending {
     actions: Vec<Action>,
-    notes: IndexSet<Note>,
+    notes: IndexSet<Note, Seed>,
     savepoints: Savepoints,
     // Empty, with room for all the notes: what `finish` puts them into.
     room: Vec<Note>,
@@ -37,14 +37,14 @@ impl Model for Pending {
 }
 
 impl Pending {
-    /// What a transaction has at its start: nothing. It takes no memory.
-    pub fn new(alloc: Global) -> Pending
+    /// What a transaction has at its start: nothing. Its hashes are made with this seed. It takes no memory.
+    pub fn new(alloc: Global, seed: Seed) -> Pending
         ensures { StandsFor [] result }
     {
         Pending {
             actions: Vec::new(alloc),
-            notes: IndexSet::new(alloc),
-            savepoints: Savepoints::new(alloc),
+            notes: IndexSet::with_hasher(alloc, seed),
+            savepoints: Savepoints::new(alloc, seed),
             room: Vec::new(alloc),
         }
     }
@@ -129,7 +129,7 @@ impl Pending {
 }
 
 // Puts a notification at the end of a set, unless an equal one is there. A refusal changes nothing.
-fn keep(notes: &mut IndexSet<Note>, note: Note) -> Result<(), AllocError>
+fn keep(notes: &mut IndexSet<Note, Seed>, note: Note) -> Result<(), AllocError>
     ensures keys { OnOk result (notes.new.keys ≡ with_note notes.old.keys note) }
     ensures most { length notes.new.keys ≤ length notes.old.keys + 1 }
     ensures err { OnErr result (notes.new.keys ≡ notes.old.keys) }
@@ -139,7 +139,7 @@ fn keep(notes: &mut IndexSet<Note>, note: Note) -> Result<(), AllocError>
 }
 
 // The notes of a set, put into a list that has room for them.
-fn in_list(set: IndexSet<Note>, room: Vec<Note>) -> Notes
+fn in_list(set: IndexSet<Note, Seed>, room: Vec<Note>) -> Notes
     requires empty { room.items ≡ [] }
     requires fits { length set.keys ≤ vec_capacity room }
     ensures { result ≡ set.keys }

@@ -5,7 +5,7 @@ ghost use Rattle.pgn_pending.specs.declared.savepoint.Savepoint.{Savepoint};
 
 use crate::savepoint::{Savepoint, newest};
 use indexmap::IndexMap;
-use pgn_base::{Copied, Name};
+use pgn_base::{Copied, Name, Seed};
 use std::alloc::{AllocError, Global};
 use std::marker::Model;
 
@@ -17,7 +17,7 @@ const FEW: usize = 32;
 pub(crate) struct Savepoints {
     list: Vec<Savepoint>,
     // How many of those past the first few have each name; a name that none of these has is not there.
-    names: IndexMap<Name, usize>,
+    names: IndexMap<Name, usize, Seed>,
 }
 
 impl Model for Savepoints {
@@ -35,12 +35,12 @@ impl Model for Savepoints {
 
 impl Savepoints {
     /// None stands. It takes no memory.
-    pub(crate) fn new(alloc: Global) -> Savepoints
+    pub(crate) fn new(alloc: Global, seed: Seed) -> Savepoints
         ensures { result ≡ [] }
     {
         Savepoints {
             list: Vec::new(alloc),
-            names: IndexMap::new(alloc),
+            names: IndexMap::with_hasher(alloc, seed),
         }
     }
 
@@ -100,7 +100,7 @@ impl Savepoints {
 }
 
 // How often a name is counted.
-fn count(counts: &IndexMap<Name, usize>, name: &Name) -> usize
+fn count(counts: &IndexMap<Name, usize, Seed>, name: &Name) -> usize
     ensures { result ≡ count_of counts.now.entries name.now }
 {
     match counts.get(name) {
@@ -112,7 +112,7 @@ fn count(counts: &IndexMap<Name, usize>, name: &Name) -> usize
 // Counts the name of a savepoint with so many before it, past the first few. A refusal changes nothing.
 fn count_at(
     alloc: Global,
-    counts: &mut IndexMap<Name, usize>,
+    counts: &mut IndexMap<Name, usize, Seed>,
     before: usize,
     name: &Name,
 ) -> Result<(), AllocError>
@@ -129,7 +129,7 @@ fn count_at(
 // Counts a name once more. A refusal changes nothing.
 fn count_one_more(
     alloc: Global,
-    counts: &mut IndexMap<Name, usize>,
+    counts: &mut IndexMap<Name, usize, Seed>,
     name: &Name,
 ) -> Result<(), AllocError>
     requires { count_of counts.old.entries name.now < usize.MAX }
@@ -142,7 +142,7 @@ fn count_one_more(
 }
 
 // Counts a name once less.
-fn count_one_less(counts: &mut IndexMap<Name, usize>, name: Name)
+fn count_one_less(counts: &mut IndexMap<Name, usize, Seed>, name: Name)
     ensures { CountsLess name counts.old.entries counts.new.entries }
 {
     let count = count(counts, &name);

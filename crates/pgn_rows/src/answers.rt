@@ -1,6 +1,7 @@
 use crate::cases::{cases, lines};
 use crate::lines::command_of;
 use crate::printer::Printer;
+use pgn_base::Seed;
 use pgn_block::{Block, Effect};
 use std::alloc::{AllocError, Global};
 
@@ -31,7 +32,7 @@ fn put_lines(printer: &mut Printer, alloc: Global, lines: &[&[u8]]) {
 
 // The state of a block behind these lines, and what the line is answered there.
 fn put_behind(printer: &mut Printer, alloc: Global, way: &[&[u8]], line: &[u8]) {
-    let mut block = Block::new(alloc);
+    let mut block = Block::new(alloc, Seed::fixed());
     for earlier in way {
         tell(printer, alloc, &mut block, earlier);
     }
@@ -93,7 +94,7 @@ fn put_case(printer: &mut Printer, alloc: Global, case: &[u8]) {
 
 // Each line, and on the same line what it is answered.
 fn put_answers(printer: &mut Printer, alloc: Global, lines: &[&[u8]]) {
-    let mut block = Block::new(alloc);
+    let mut block = Block::new(alloc, Seed::fixed());
     for line in lines {
         printer.bytes(line);
         printer.bytes(b": ");

@@ -1,5 +1,6 @@
 use crate::cases::{cases, written_out};
 use crate::printer::Printer;
+use pgn_base::Seed;
 use pgn_scenario::read_scenario;
 use std::alloc::{AllocError, Global};
 
@@ -31,7 +32,7 @@ fn put_case(printer: &mut Printer, alloc: Global, case: &[u8]) {
 }
 
 fn put_reading(printer: &mut Printer, alloc: Global, input: &[u8]) {
-    match read_scenario(alloc, input) {
+    match read_scenario(alloc, Seed::fixed(), input) {
         Ok(Ok(scenario)) => {
             printer.scenario(&scenario);
             drop(scenario);

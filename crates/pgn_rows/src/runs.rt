@@ -1,5 +1,5 @@
 use crate::row::Outcome;
-use pgn_base::{Sink, Source};
+use pgn_base::{Seed, Sink, Source};
 use pgn_memory::{MemSink, MemSource};
 use pgn_run::{Status, run_notify};
 use std::alloc::{AllocError, Global};
@@ -67,5 +67,5 @@ fn status_of<S: Source, K: Sink + Send, R: Threads + Wait + Sync>(
     source: &mut S,
     sink: &mut K,
 ) -> Status {
-    run_notify(rt, alloc, words, source, sink)
+    run_notify(rt, alloc, Seed::fixed(), words, source, sink)
 }

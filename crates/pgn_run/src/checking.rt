@@ -8,7 +8,7 @@ ghost use Rattle.pgn_run.specs.Run.{HasRead, settings_with};
 use crate::Status;
 use crate::input::{Unread, read_input};
 use crate::parting::parts;
-use pgn_base::{Failed, Format, Sink, Source, write_all};
+use pgn_base::{Failed, Format, Seed, Sink, Source, write_all};
 use pgn_check::{Verdict, check_output};
 use pgn_language::ScenarioFault;
 use pgn_scenario::read_scenario;
@@ -26,6 +26,7 @@ const CHECK_READ_LIMIT: usize = CHECK_BYTES_MAX + 1;
 // program ends with this answer.
 pub(crate) fn check<S: Source, K: Sink>(
     alloc: Global,
+    hashes: Seed,
     pages: u32,
     patience: u64,
     format: Format,
@@ -45,7 +46,15 @@ pub(crate) fn check<S: Source, K: Sink>(
 {
     match read_input(alloc, source, CHECK_READ_LIMIT) {
         Ok(input) => {
-            let status = judge(alloc, input.as_slice(), pages, patience, format, sink);
+            let status = judge(
+                alloc,
+                hashes,
+                input.as_slice(),
+                pages,
+                patience,
+                format,
+                sink,
+            );
             mem::forget(input);
             status
         }
@@ -57,6 +66,7 @@ pub(crate) fn check<S: Source, K: Sink>(
 // Tells of an input that was read whether its output text is that of a legal run.
 fn judge<K: Sink>(
     alloc: Global,
+    hashes: Seed,
     input: &[u8],
     pages: u32,
     patience: u64,
@@ -74,7 +84,7 @@ fn judge<K: Sink>(
     let Some((scenario, output)) = parts(input) else {
         return Status::NoOutput;
     };
-    match verdict_on(alloc, scenario, output, pages, patience, format) {
+    match verdict_on(alloc, hashes, scenario, output, pages, patience, format) {
         Ok(Ok(verdict)) => tell(verdict, sink),
         Ok(Err(fault)) => Status::BadScenario(fault),
         Err(AllocError) => Status::NoMemory,
@@ -85,6 +95,7 @@ fn judge<K: Sink>(
 // answer.
 fn verdict_on(
     alloc: Global,
+    hashes: Seed,
     scenario: &[u8],
     output: &[u8],
     pages: u32,
@@ -95,9 +106,9 @@ fn verdict_on(
     ensures given { IfOk result (λ given. IfOk given (IsVerdictOn (settings_with pages patience format) scenario.now output.now)) }
     ensures fault { IfOk result (λ given. IfErr given (λ fault. ReadsAsScenario scenario.now (Err fault))) }
 {
-    match read_scenario(alloc, scenario)? {
+    match read_scenario(alloc, hashes, scenario)? {
         Ok(scenario) => {
-            let given = check_output(alloc, &scenario, pages, patience, format, output)?;
+            let given = check_output(alloc, hashes, &scenario, pages, patience, format, output)?;
             mem::forget(scenario);
             Ok(Ok(given))
         }

@@ -5,7 +5,7 @@ ghost use Rattle.pgn_session.specs.Whole.{HasRest};
 ghost use Rattle.pgn_wire.specs.Serving.{BeginsEmpty};
 ghost use Rattle.pgn_run.specs.Conversation.{NamesNoFlags, RunsLegally, session_section, wire_plan, wire_shape};
 
-use pgn_base::{DbOid, Format, NOTE_LINES_MAX, Name, PAGES_DEFAULT, SessionNo};
+use pgn_base::{DbOid, Format, NOTE_LINES_MAX, Name, PAGES_DEFAULT, Seed, SessionNo};
 use pgn_hub::{Hub, PassView, SeatSetup, Setup};
 use pgn_language::{Act, LineText, ScriptLine, ScriptLines, Section};
 use pgn_session::{Doing, FlagPlan, Session};
@@ -15,6 +15,7 @@ use std::alloc::{AllocError, Global};
 // A hub for one client, and its session, of which nothing was asked yet.
 pub(crate) fn open<P: PassView + Send + Drop, H: Hub<Pass = P> + Drop>(
     alloc: Global,
+    hashes: Seed,
 ) -> Result<(H, Session<P>), AllocError>
     ensures shape { IfOk result (λ opened. H.shape opened.0 ≡ wire_shape) }
     ensures own { IfOk result (λ opened. H.is_pass opened.0 opened.1.pass) }
@@ -34,7 +35,7 @@ pub(crate) fn open<P: PassView + Send + Drop, H: Hub<Pass = P> + Drop>(
         first_end: 0,
         sessions: 1,
     };
-    let session = Session::new(alloc, pass, section, plan, 1)?;
+    let session = Session::new(alloc, hashes, pass, section, plan, 1)?;
     Ok((hub, session))
 }
 

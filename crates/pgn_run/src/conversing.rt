@@ -7,17 +7,18 @@ ghost use Rattle.pgn_run.specs.Conversation.{BreaksOff, Converses, EndsBy, Stops
 ghost use Rattle.pgn_wire.specs.Serving.{WroteWhole};
 
 use crate::client::{finish, open};
-use pgn_base::{Sink, Source};
+use pgn_base::{Seed, Sink, Source};
 use pgn_hub::{Hub, PassView};
 use pgn_wire::{WireEnd, serve_wire};
 use std::alloc::Global;
 use std::sync::Wait;
 
 /// Serves a client over a hub of this type, which it opens: the session is number 1, of database 1, with a limit of 256 pages. It may
-/// wait for the hub, so that it is not promised that it returns.
+/// wait for the hub, so that it is not promised that it returns. Hashes are made with this seed.
 pub fn converse<P: PassView + Send + Drop, H: Hub<Pass = P> + Drop, R: Wait, S: Source, K: Sink>(
     rt: &R,
     alloc: Global,
+    hashes: Seed,
     source: &mut S,
     sink: &mut K,
 ) -> Result<(), WireEnd>
@@ -30,7 +31,7 @@ pub fn converse<P: PassView + Send + Drop, H: Hub<Pass = P> + Drop, R: Wait, S: 
     ensures sink_later { K.faults sink.old ≤ K.faults sink.new }
     ensures sink_rose { K.faults sink.old < K.faults sink.new → result ≡ Err WireEnd.Write }
 {
-    let Ok((hub, mut session)) = open::<P, H>(alloc) else {
+    let Ok((hub, mut session)) = open::<P, H>(alloc, hashes) else {
         return Err(WireEnd::Memory);
     };
     match serve_wire(rt, alloc, &hub, &mut session, source, sink) {

@@ -15,7 +15,7 @@
 //! let input = Vec::from_slice(alloc, b"\\session a 1\nLISTEN c\n")?;
 //! let mut source = MemSource::new(input, Vec::new(alloc), 100);
 //! let mut sink = MemSink::new(alloc, 1000, Vec::new(alloc), 100)?;
-//! let status = run_notify(&rt, alloc, &["run"], &mut source, &mut sink);
+//! let status = run_notify(&rt, alloc, Seed::fixed(), &["run"], &mut source, &mut sink);
 //! assert!(rt; matches!(status, Status::Done));
 //! let want = b"journal 0\nsession 1 a db 1 pid 1001\n> LISTEN c\n+enlist 3 3\nLISTEN\nend mark 3\n";
 //! assert_eq!(rt; sink.held(), want.as_slice());

@@ -12,7 +12,7 @@ ghost use Rattle.pgn_run.specs.Live.{EarlyOver, EndsOver, LiveOver, SoFarOver, c
 ghost use Rattle.pgn_run.specs.Run.{HasWritten, settings_with};
 
 use crate::Status;
-use pgn_base::{Failed, Format, Sink};
+use pgn_base::{Failed, Format, Seed, Sink};
 use pgn_hub::{Hub, PassView};
 use pgn_journal::Tx;
 use pgn_language::{Scenario, Section};
@@ -30,6 +30,7 @@ use std::thread::Threads;
 pub fn run_scenario_live<H: Hub + Sync + Drop, K: Sink + Send, R: Threads + Wait + Sync>(
     rt: &R,
     alloc: Global,
+    hashes: Seed,
     scenario: &Scenario,
     pages: u32,
     patience: u64,
@@ -51,7 +52,8 @@ pub fn run_scenario_live<H: Hub + Sync + Drop, K: Sink + Send, R: Threads + Wait
     ensures only { (result ≡ Status.Done) ⊎ (result ≡ Status.WriteFault) ⊎ (result ≡ Status.NoMemory) }
     ensures later { K.faults sink.old ≤ K.faults sink.new }
 {
-    let Ok((hub, mut sessions)) = open_on_hub::<H>(alloc, scenario, pages, patience, format) else {
+    let Ok((hub, mut sessions)) = open_on_hub::<H>(alloc, hashes, scenario, pages, patience, format)
+    else {
         return Status::NoMemory;
     };
     let sections = scenario.sections.as_slice();

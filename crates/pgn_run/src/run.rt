@@ -22,7 +22,7 @@ use crate::input::{Unread, read_input};
 use crate::print::Shows;
 use crate::wire::wire;
 use crate::{Print, Status, run_scenario, run_scenario_live};
-use pgn_base::{Format, INPUT_BYTES_MAX, PAGES_MAX, Sink, Source};
+use pgn_base::{Format, INPUT_BYTES_MAX, PAGES_MAX, Seed, Sink, Source};
 use pgn_drill::drill_text;
 use pgn_hub::Hub;
 use pgn_language::Scenario;
@@ -41,11 +41,13 @@ const READ_LIMIT: usize = INPUT_BYTES_MAX + 1;
 /// from the source, runs its sessions side by side, and writes the journal and what each session was answered and received to the sink.
 /// `drill` reads nothing: it makes a scenario, runs it the same way, and writes the summary. `wire` answers each query that it reads, as a
 /// server of PostgreSQL does after start-up, before it reads the next. `check` reads a scenario and an output text, and writes whether this
-/// is the output of a legal run of it, or which line is the first to blame. Sessions may wait for one another, so that it is not promised
+/// is the output of a legal run of it, or which line is the first to blame. Hashes are made with the seed, on which nothing that stands
+/// here depends. Sessions may wait for one another, so that it is not promised
 /// that the call returns; what stands here holds where it does.
 pub fn run_notify<'a, S: Source, K: Sink + Send, R: Threads + Wait + Sync>(
     rt: &R,
     alloc: Global,
+    hashes: Seed,
     words: &'a [&'a str],
     source: &mut S,
     sink: &mut K,
@@ -160,6 +162,7 @@ pub fn run_notify<'a, S: Source, K: Sink + Send, R: Threads + Wait + Sync>(
         ) => run::<S, K, R>(
             rt,
             alloc,
+            hashes,
             pages,
             patience,
             format,
@@ -173,15 +176,15 @@ pub fn run_notify<'a, S: Source, K: Sink + Send, R: Threads + Wait + Sync>(
                 sessions,
                 notes,
             },
-        ) => drill::<K, R>(rt, alloc, seed, sessions, notes, sink),
-        Ok(Asked::Wire) => wire::<R, S, K>(rt, alloc, source, sink),
+        ) => drill::<K, R>(rt, alloc, hashes, seed, sessions, notes, sink),
+        Ok(Asked::Wire) => wire::<R, S, K>(rt, alloc, hashes, source, sink),
         Ok(
             Asked::Check {
                 pages,
                 patience,
                 format,
             },
-        ) => check::<S, K>(alloc, pages, patience, format, source, sink),
+        ) => check::<S, K>(alloc, hashes, pages, patience, format, source, sink),
         Err(WordsFault::BadWords) => Status::BadWords,
         Err(WordsFault::Memory) => Status::NoMemory,
     }
@@ -202,6 +205,7 @@ fn shows_if(live: bool) -> Shows
 fn run<S: Source, K: Sink + Send, R: Threads + Wait + Sync>(
     rt: &R,
     alloc: Global,
+    hashes: Seed,
     pages: u32,
     patience: u64,
     format: Format,
@@ -244,7 +248,7 @@ fn run<S: Source, K: Sink + Send, R: Threads + Wait + Sync>(
 {
     match read_input(alloc, source, READ_LIMIT) {
         Ok(input) => answer::<WordHub, K, R>(
-            rt, alloc, input, pages, patience, format, shows, sink,
+            rt, alloc, hashes, input, pages, patience, format, shows, sink,
         ),
         Err(Unread::Failed) => Status::ReadFault,
         Err(Unread::Memory) => Status::NoMemory,
@@ -255,6 +259,7 @@ fn run<S: Source, K: Sink + Send, R: Threads + Wait + Sync>(
 fn drill<K: Sink + Send, R: Threads + Wait + Sync>(
     rt: &R,
     alloc: Global,
+    hashes: Seed,
     seed: u64,
     sessions: u32,
     notes: u32,
@@ -276,6 +281,7 @@ fn drill<K: Sink + Send, R: Threads + Wait + Sync>(
     match answer::<WordHub, K, R>(
         rt,
         alloc,
+        hashes,
         input,
         PAGES_MAX,
         PATIENCE_MAX,
@@ -293,6 +299,7 @@ fn drill<K: Sink + Send, R: Threads + Wait + Sync>(
 fn answer<H: Hub + Sync + Drop, K: Sink + Send, R: Threads + Wait + Sync>(
     rt: &R,
     alloc: Global,
+    hashes: Seed,
     input: Vec<u8>,
     pages: u32,
     patience: u64,
@@ -307,12 +314,12 @@ fn answer<H: Hub + Sync + Drop, K: Sink + Send, R: Threads + Wait + Sync>(
     ensures later { K.faults sink.old ≤ K.faults sink.new }
     ensures rose { K.faults sink.old < K.faults sink.new → result ≡ Status.WriteFault }
 {
-    let reading = read_scenario(alloc, input.as_slice());
+    let reading = read_scenario(alloc, hashes, input.as_slice());
     drop(input);
     match reading {
         Ok(Ok(scenario)) => {
             let status = play::<H, K, R>(
-                rt, alloc, &scenario, pages, patience, format, shows, sink,
+                rt, alloc, hashes, &scenario, pages, patience, format, shows, sink,
             );
             mem::forget(scenario);
             status
@@ -326,6 +333,7 @@ fn answer<H: Hub + Sync + Drop, K: Sink + Send, R: Threads + Wait + Sync>(
 fn play<H: Hub + Sync + Drop, K: Sink + Send, R: Threads + Wait + Sync>(
     rt: &R,
     alloc: Global,
+    hashes: Seed,
     scenario: &Scenario,
     pages: u32,
     patience: u64,
@@ -344,10 +352,12 @@ fn play<H: Hub + Sync + Drop, K: Sink + Send, R: Threads + Wait + Sync>(
 {
     match shows {
         Shows::AtEnd(print) => {
-            run_scenario::<H, K, R>(rt, alloc, scenario, pages, patience, format, print, sink)
+            run_scenario::<H, K, R>(
+                rt, alloc, hashes, scenario, pages, patience, format, print, sink,
+            )
         }
         Shows::Live => run_scenario_live::<H, K, R>(
-            rt, alloc, scenario, pages, patience, format, sink,
+            rt, alloc, hashes, scenario, pages, patience, format, sink,
         ),
     }
 }

@@ -7,7 +7,7 @@ ghost use Rattle.pgn_model.specs.Text.{brief, text};
 ghost use Rattle.pgn_run.specs.Run.{RunsOver, HasWritten, printed, settings_with};
 
 use crate::{Print, Status};
-use pgn_base::{Failed, Format, Sink};
+use pgn_base::{Failed, Format, Seed, Sink};
 use pgn_drill::{received, summary};
 use pgn_hub::Hub;
 use pgn_language::Scenario;
@@ -19,11 +19,12 @@ use std::sync::Wait;
 use std::thread::Threads;
 
 /// Runs a scenario over a hub of this type, with a limit of so many pages and entries of this format, its sessions side by side, where
-/// an await takes so many looks, made or slept over. Writes what is asked for of the run to the sink. The run is not freed: the program
-/// ends with this answer, and to free it piece by piece is a tenth of it.
+/// an await takes so many looks, made or slept over. Hashes are made with this seed. Writes what is asked for of the run to the sink. The
+/// run is not freed: the program ends with this answer, and to free it piece by piece is a tenth of it.
 pub fn run_scenario<H: Hub + Sync + Drop, K: Sink, R: Threads + Wait + Sync>(
     rt: &R,
     alloc: Global,
+    hashes: Seed,
     scenario: &Scenario,
     pages: u32,
     patience: u64,
@@ -43,7 +44,7 @@ pub fn run_scenario<H: Hub + Sync + Drop, K: Sink, R: Threads + Wait + Sync>(
     ensures only { (result ≡ Status.Done) ⊎ (result ≡ Status.WriteFault) ⊎ (result ≡ Status.NoMemory) }
     ensures later { K.faults sink.old ≤ K.faults sink.new }
 {
-    match run_on_hub::<H, R>(rt, alloc, scenario, pages, patience, format) {
+    match run_on_hub::<H, R>(rt, alloc, hashes, scenario, pages, patience, format) {
         Ok(played) => {
             let status = write_run(scenario, print, &played, sink);
             mem::forget(played);

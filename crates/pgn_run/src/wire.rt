@@ -4,7 +4,7 @@ ghost use Rattle.pgn_run.specs.Run.{AnswersWire, IsOfWire};
 
 use crate::Status;
 use crate::conversing::converse;
-use pgn_base::{Sink, Source};
+use pgn_base::{Seed, Sink, Source};
 use pgn_hub::Hub;
 use pgn_wire::WireEnd;
 use pgn_wordhub::WordHub;
@@ -15,6 +15,7 @@ use std::sync::Wait;
 pub(crate) fn wire<R: Wait, S: Source, K: Sink>(
     rt: &R,
     alloc: Global,
+    hashes: Seed,
     source: &mut S,
     sink: &mut K,
 ) -> Status
@@ -25,7 +26,7 @@ pub(crate) fn wire<R: Wait, S: Source, K: Sink>(
     ensures write_fault { result ≡ Status.WriteFault → Rose (K.faults sink.old) (K.faults sink.new) }
     ensures write_fault_where_due { K.faults sink.old < K.faults sink.new → result ≡ Status.WriteFault }
 {
-    match converse::<<WordHub as Hub>::Pass, WordHub, R, S, K>(rt, alloc, source, sink) {
+    match converse::<<WordHub as Hub>::Pass, WordHub, R, S, K>(rt, alloc, hashes, source, sink) {
         Ok(()) => Status::Done,
         Err(WireEnd::Bad(fault)) => Status::BadWire(fault),
         Err(WireEnd::Read) => Status::ReadFault,

@@ -3,7 +3,7 @@ ghost use Rattle.pgn_base.specs.declared.limits.TheConstants.{PAGES_MAX, PAGES_M
 ghost use Rattle.pgn_language.specs.Inputs.{IsSound};
 ghost use Rattle.pgn_session.specs.Runs.{IsReady};
 
-use pgn_base::{Format, PAGES_DEFAULT, Sink, Source};
+use pgn_base::{Format, PAGES_DEFAULT, Seed, Sink, Source};
 use pgn_hub::Hub;
 use pgn_language::{Scenario, ScenarioFault};
 use pgn_memory::{MemSink, MemSource};
@@ -107,7 +107,7 @@ fn status_of<S: Source, K: Sink + Send, R: Threads + Wait + Sync>(
     source: &mut S,
     sink: &mut K,
 ) -> Status {
-    run_notify(rt, alloc, words, source, sink)
+    run_notify(rt, alloc, Seed::fixed(), words, source, sink)
 }
 
 // What comes of this input.
@@ -173,6 +173,7 @@ fn status_over<H: Hub + Sync + Drop, K: Sink, R: Threads + Wait + Sync>(
     run_scenario::<H, K, R>(
         rt,
         alloc,
+        Seed::fixed(),
         scenario,
         PAGES_DEFAULT,
         patience,
@@ -231,7 +232,14 @@ fn opened<H: Hub + Drop>(
     ensures ready { IfOk result (λ opened. All (IsReady (H.is_pass opened.0) (H.shape opened.0) H.Pass.known) opened.1.items) }
 {
     let scenario = scenario_of(alloc, input)?;
-    let opened = open_on_hub::<H>(alloc, &scenario, pages, patience, Format::One);
+    let opened = open_on_hub::<H>(
+        alloc,
+        Seed::fixed(),
+        &scenario,
+        pages,
+        patience,
+        Format::One,
+    );
     drop(scenario);
     Ok(opened?)
 }
@@ -253,7 +261,7 @@ fn ran<H: Hub + Sync + Drop, R: Threads + Wait + Sync>(
 fn scenario_of(alloc: Global, input: &str) -> Result<Scenario, Fail>
     ensures { IfOk result IsSound }
 {
-    match read_scenario(alloc, input.as_bytes())? {
+    match read_scenario(alloc, Seed::fixed(), input.as_bytes())? {
         Ok(scenario) => Ok(scenario),
         Err(_) => Err(Fail::from("no scenario")),
     }

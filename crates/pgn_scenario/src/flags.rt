@@ -3,7 +3,7 @@ ghost use Rattle.pgn_language.specs.Inputs.{flag_number};
 ghost use Rattle.pgn_scenario.specs.Flags.{no_flags, signalling, awaiting, first_unsignalled};
 
 use indexmap::{IndexMap, IndexSet};
-use pgn_base::{Copied, Name, Names};
+use pgn_base::{Copied, Name, Names, Seed};
 use std::alloc::{AllocError, Global};
 use std::marker::Model;
 
@@ -11,10 +11,10 @@ use std::marker::Model;
 #[derive(Drop)]
 pub struct Flags {
     // In order of first appearance.
-    names: IndexSet<Name>,
-    signalled: IndexSet<Name>,
+    names: IndexSet<Name, Seed>,
+    signalled: IndexSet<Name, Seed>,
     // With the first line that awaits each.
-    awaited: IndexMap<Name, u32>,
+    awaited: IndexMap<Name, u32, Seed>,
 }
 
 impl Model for Flags {
@@ -26,14 +26,14 @@ impl Model for Flags {
 }
 
 impl Flags {
-    /// No flags. It takes no memory.
-    pub fn new(alloc: Global) -> Flags
+    /// No flags. Hashes are made with this seed. It takes no memory.
+    pub fn new(alloc: Global, seed: Seed) -> Flags
         ensures { result ≡ no_flags }
     {
         Flags {
-            names: IndexSet::new(alloc),
-            signalled: IndexSet::new(alloc),
-            awaited: IndexMap::new(alloc),
+            names: IndexSet::with_hasher(alloc, seed),
+            signalled: IndexSet::with_hasher(alloc, seed),
+            awaited: IndexMap::with_hasher(alloc, seed),
         }
     }
 

@@ -8,7 +8,7 @@
 //! `SoFar` has what the lines so far make, to which each line adds or in which it is at fault. Names of sections and of flags are
 //! found by their hash. A line's text is copied once.
 //!
-//! A caller asks `read_scenario(alloc, b"\\session a 1\nLISTEN c\n")` for one section `a` in database 1, with the one line
+//! A caller asks `read_scenario(alloc, seed, b"\\session a 1\nLISTEN c\n")` for one section `a` in database 1, with the one line
 //! `LISTEN c`, whose number is 2.
 #![tactic(auto)]
 

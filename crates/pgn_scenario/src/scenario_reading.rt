@@ -6,16 +6,17 @@ ghost use Rattle.pgn_scenario.specs.Steps.{at_start, outcome, steps};
 
 use crate::lines::first_line;
 use crate::so_far::SoFar;
-use pgn_base::INPUT_BYTES_MAX;
+use pgn_base::{INPUT_BYTES_MAX, Seed};
 use pgn_language::{Scenario, ScenarioFault};
 use std::alloc::{AllocError, Global};
 
 /// The scenario that an input reads as, or its one fault. Each input has exactly one reading, so that this says which in both
 /// directions: `TooLarge` is first; then the lowest line with a fault wins, with the first of its faults in the order of
 /// `ScenarioFault`; `Empty` and `NeverSignalled`, with its lowest line, come only where no line has a fault. Want of memory is the
-/// one refusal.
+/// one refusal. Hashes are made with this seed.
 pub fn read_scenario(
     alloc: Global,
+    seed: Seed,
     bytes: &[u8],
 ) -> Result<Result<Scenario, ScenarioFault>, AllocError>
     ensures reads { IfOk result (ReadsAsScenario bytes.now) }
@@ -24,7 +25,7 @@ pub fn read_scenario(
     if bytes.len() > INPUT_BYTES_MAX {
         return Ok(Err(ScenarioFault::TooLarge));
     }
-    let mut so_far = SoFar::new(alloc);
+    let mut so_far = SoFar::new(alloc, seed);
     let reading = read_all(&mut so_far, alloc, bytes);
     // Dropped here, by a call: what reads may return at each line.
     drop(so_far);

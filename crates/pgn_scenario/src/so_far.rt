@@ -11,7 +11,7 @@ use crate::texts::trimmed;
 use indexmap::IndexSet;
 use memchr::memchr;
 use pgn_base::{
-    Command, Copied, DbOid, FLAGS_MAX, LINE_BYTES_MAX, NOTE_LINES_MAX, Name, SECTIONS_MAX,
+    Command, Copied, DbOid, FLAGS_MAX, LINE_BYTES_MAX, NOTE_LINES_MAX, Name, SECTIONS_MAX, Seed,
     SessionNo,
 };
 use pgn_language::{
@@ -28,7 +28,7 @@ pub struct SoFar {
     done: Sections,
     part: Option<Section>,
     // The names of both.
-    names: IndexSet<Name>,
+    names: IndexSet<Name, Seed>,
     flags: Flags,
     // How many lines notify.
     notes: usize,
@@ -59,15 +59,15 @@ impl Model for SoFar {
 }
 
 impl SoFar {
-    /// What no lines make. It takes no memory.
-    pub fn new(alloc: Global) -> SoFar
+    /// What no lines make. Hashes are made with this seed. It takes no memory.
+    pub fn new(alloc: Global, seed: Seed) -> SoFar
         ensures { result ≡ at_start }
     {
         SoFar {
             done: Sections::new(alloc),
             part: None,
-            names: IndexSet::new(alloc),
-            flags: Flags::new(alloc),
+            names: IndexSet::with_hasher(alloc, seed),
+            flags: Flags::new(alloc, seed),
             notes: 0,
             quit: false,
             line: 1,

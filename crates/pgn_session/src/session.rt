@@ -13,7 +13,7 @@ ghost use Rattle.pgn_session.specs.Runs.{HasGivenUp};
 use crate::reading::read_on;
 use crate::{Doing, FlagPlan, IdleDone};
 use pgn_answers::BlockState;
-use pgn_base::{ListenSet, SessionNo};
+use pgn_base::{ListenSet, Seed, SessionNo};
 use pgn_block::Block;
 use pgn_hub::{Hub, PassView};
 use pgn_language::Section;
@@ -48,10 +48,11 @@ pub struct Session<P> {
 }
 
 impl<P: PassView + Send + Drop> Session<P> {
-    /// A session before the first line of its script, with its pass as the hub was opened. The error is that memory did not
+    /// A session before the first line of its script, with its pass as the hub was opened. Hashes are made with this seed. The error is that memory did not
     /// suffice; the pass and the section are then dropped.
     pub fn new(
         alloc: Global,
+        seed: Seed,
         pass: P,
         section: Section,
         plan: FlagPlan,
@@ -76,8 +77,8 @@ impl<P: PassView + Send + Drop> Session<P> {
             plan,
             patience,
             done: 0,
-            block: Block::new(alloc),
-            set: ListenSet::new(alloc),
+            block: Block::new(alloc, seed),
+            set: ListenSet::new(alloc, seed),
             items,
             doing: Doing::Lines,
         })

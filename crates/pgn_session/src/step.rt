@@ -255,7 +255,7 @@ impl<P: PassView + Send + Drop> Session<P> {
         quit(hub, &mut self.pass, &mut self.items, line);
         raise_end(hub, &mut self.pass, self.section.no, self.plan);
         self.block.drop_block();
-        self.set = ListenSet::new(alloc);
+        self.set = ListenSet::new(alloc, self.set.seed());
         self.done += 1;
         self.doing = Doing::Over;
         Ok(Step::Did)

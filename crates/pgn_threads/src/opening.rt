@@ -5,7 +5,7 @@ ghost use Rattle.pgn_threads.specs.Parts.{part_of, trace_of};
 ghost use Rattle.pgn_session.specs.Runs.{script_of};
 ghost use Rattle.pgn_threads.specs.Opened.{opened_for, script_for, seat_for, IsFit};
 
-use pgn_base::Copied;
+use pgn_base::{Copied, Seed};
 use pgn_hub::{PassView, SeatSetup};
 use pgn_language::Section;
 use pgn_model::Trace;
@@ -29,6 +29,7 @@ pub(crate) fn seats_for(alloc: Global, sections: &[Section]) -> Result<Vec<SeatS
 /// A session for each section, before the first line of its script, with its pass as the hub was opened.
 pub(crate) fn open_sessions<P: PassView + Send + Drop>(
     alloc: Global,
+    seed: Seed,
     passes: Vec<P>,
     sections: &[Section],
     plan: FlagPlan,
@@ -48,7 +49,7 @@ pub(crate) fn open_sessions<P: PassView + Send + Drop>(
             unreachable!();
         };
         let section = section.copy(alloc)?;
-        sessions.push(Session::new(alloc, pass, section, plan, patience)?)?;
+        sessions.push(Session::new(alloc, seed, pass, section, plan, patience)?)?;
     }
     Ok(sessions)
 }

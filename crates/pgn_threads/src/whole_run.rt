@@ -12,7 +12,7 @@ ghost use Rattle.pgn_threads.specs.Opened.{AreOpenedFor, plan_for, script_for, s
 
 use crate::opening::{logs, open_sessions, seats_for};
 use crate::{drain, run_sessions};
-use pgn_base::Format;
+use pgn_base::{Format, Seed};
 use pgn_hub::{Hub, Setup};
 use pgn_journal::Tx;
 use pgn_language::Scenario;
@@ -31,10 +31,12 @@ pub struct Run {
 }
 
 /// Runs a scenario over a hub of this type, which it opens with a limit of so many pages and entries of this format: its sessions run
-/// side by side, as `run_sessions` has it, and an await takes so many looks, made or slept over. The error is that memory did not suffice.
+/// side by side, as `run_sessions` has it, and an await takes so many looks, made or slept over. Hashes are made with this seed. The
+/// error is that memory did not suffice.
 pub fn run_on_hub<H: Hub + Sync + Drop, R: Threads + Wait + Sync>(
     rt: &R,
     alloc: Global,
+    seed: Seed,
     scenario: &Scenario,
     pages: u32,
     patience: u64,
@@ -46,15 +48,16 @@ pub fn run_on_hub<H: Hub + Sync + Drop, R: Threads + Wait + Sync>(
     requires patient { 1 ≤ patience }
     ensures legal { IfOk result (λ run. Legal scenario.now (record { format = format; limit = pages; patience = patience }) run.journal.items run.traces.items) }
 {
-    let (hub, mut sessions) = open_on_hub::<H>(alloc, scenario, pages, patience, format)?;
+    let (hub, mut sessions) = open_on_hub::<H>(alloc, seed, scenario, pages, patience, format)?;
     run_sessions(rt, alloc, &hub, sessions.as_mut_slice())?;
     finish_run(alloc, hub, sessions)
 }
 
 /// Opens a hub of this type for a scenario, with a limit of so many pages and entries of this format, and makes a session for each
-/// section, ready to run, where an await takes so many looks. The error is that memory did not suffice.
+/// section, ready to run, where an await takes so many looks. Hashes are made with this seed. The error is that memory did not suffice.
 pub fn open_on_hub<H: Hub + Drop>(
     alloc: Global,
+    seed: Seed,
     scenario: &Scenario,
     pages: u32,
     patience: u64,
@@ -76,7 +79,7 @@ pub fn open_on_hub<H: Hub + Drop>(
     let seats = seats_for(alloc, sections)?;
     let setup = Setup::new(pages, plan.first_end + plan.sessions, seats, format);
     let (hub, passes) = H::open(alloc, setup)?;
-    let sessions = open_sessions(alloc, passes, sections, plan, patience)?;
+    let sessions = open_sessions(alloc, seed, passes, sections, plan, patience)?;
     Ok((hub, sessions))
 }
 

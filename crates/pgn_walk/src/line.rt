@@ -46,7 +46,8 @@ impl Standing<'_> {
         ensures { BeginsFrom self.old self.new quitting }
     {
         self.block.drop_block();
-        drop(mem::replace(&mut self.set, ListenSet::new(alloc)));
+        let seed = self.set.seed();
+        drop(mem::replace(&mut self.set, ListenSet::new(alloc, seed)));
         self.watch.clear();
         if self.mark.is_some() {
             self.owed.set(ToShow::Quitting);

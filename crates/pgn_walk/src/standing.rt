@@ -5,7 +5,7 @@ ghost use Rattle.pgn_model.specs.Walk.{is_empty_set, start};
 ghost use Rattle.pgn_walk.specs.Standing.{Holds, Leads, behind_rows, has_no_rows};
 
 use indexmap::IndexMap;
-use pgn_base::{DbOid, FIRST_XID, ListenSet, Xid};
+use pgn_base::{DbOid, FIRST_XID, ListenSet, Seed, Xid};
 use pgn_block::Block;
 use pgn_due::{Feed, Watch};
 use pgn_ledger::ToShow;
@@ -26,26 +26,27 @@ pub struct Standing<'a> {
     /// The greatest base, point or end of a read so far, or 0.
     pub greatest: u32,
     /// Each flag that was raised or found, with the greatest number that it showed.
-    pub known: IndexMap<u32, u32>,
+    pub known: IndexMap<u32, u32, Seed>,
     /// What is due next, from the mark on.
     pub watch: Watch<'a>,
 }
 
 impl<'a> Standing<'a> {
-    /// Before the first item, in this database.
+    /// Before the first item, in this database. Hashes are made with the seed of what the journal sent.
     #[tactic(auto, using(crate::proofs::StandingLaws::holds_first))]
     pub fn new(alloc: Global, feed: &'a Feed<'a>, db: DbOid) -> Standing<'a>
         ensures { (section : Section) → section.db ≡ db → Holds section feed.now.sends.journal.now result (start section) }
     {
+        let seed = feed.seed();
         Standing {
             next: 0,
             owed: ToShow::Nothing,
-            block: Block::new(alloc),
-            set: ListenSet::new(alloc),
+            block: Block::new(alloc, seed),
+            set: ListenSet::new(alloc, seed),
             mark: None,
             told: Xid::new(FIRST_XID),
             greatest: 0,
-            known: IndexMap::new(alloc),
+            known: IndexMap::with_hasher(alloc, seed),
             watch: Watch::new(alloc, feed, db),
         }
     }

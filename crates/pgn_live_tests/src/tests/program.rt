@@ -1,5 +1,5 @@
 use super::{SELF_NOTIFY, sink_of, text_of};
-use pgn_base::{Sink, Source};
+use pgn_base::{Seed, Sink, Source};
 use pgn_memory::MemSource;
 use pgn_run::{Status, run_notify};
 use std::alloc::Global;
@@ -32,7 +32,7 @@ fn status_of<S: Source, K: Sink + Send, R: Threads + Wait + Sync>(
     source: &mut S,
     sink: &mut K,
 ) -> Status {
-    run_notify(rt, alloc, &["run", "--live"], source, sink)
+    run_notify(rt, alloc, Seed::fixed(), &["run", "--live"], source, sink)
 }
 
 const OUTPUT: &str = "\

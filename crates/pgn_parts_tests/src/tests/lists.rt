@@ -2,7 +2,8 @@
 use super::{name, note, payload, repeated};
 use indexmap::IndexSet;
 use pgn_base::{
-    Copied, Deliveries, Delivery, ListenSet, Name, Names, Note, Payload, Refusal, Seq, Text, Xid,
+    Copied, Deliveries, Delivery, ListenSet, Name, Names, Note, Payload, Refusal, Seed, Seq, Text,
+    Xid,
 };
 use std::alloc::{AllocError, Global};
 use std::test::Fail;
@@ -135,7 +136,7 @@ fn is_shared_by_threads<T: Send + Sync>(_value: &T) {}
 fn notes_and_sets_go_to_threads(rt: HostRuntime) -> Result<(), Fail> {
     let alloc = rt.alloc();
     is_shared_by_threads(&note(alloc, "c", "")?);
-    is_shared_by_threads(&ListenSet::new(alloc));
+    is_shared_by_threads(&ListenSet::new(alloc, Seed::fixed()));
     Ok(())
 }
 

@@ -1,5 +1,5 @@
 use super::{name, note};
-use pgn_base::{Action, Actions, Name, Note, Notes};
+use pgn_base::{Action, Actions, Name, Note, Notes, Seed};
 use pgn_pending::{Call, NoSuch, Pending, finish_after};
 use std::alloc::{AllocError, Global};
 use std::process::Abort;
@@ -174,7 +174,7 @@ fn left_of(alloc: Global, pending: Pending) -> Result<Vec<u8>, AllocError> {
 
 // What these commands answer: how often there is no such savepoint, and what is left.
 fn answer(alloc: Global, commands: &str) -> Result<Vec<u8>, Fail> {
-    let mut pending = Pending::new(alloc);
+    let mut pending = Pending::new(alloc, Seed::fixed());
     match tell_all(alloc, &mut pending, commands) {
         Ok(refused) => Ok(as_answer(alloc, refused, &left_of(alloc, pending)?)?),
         Err(fail) => {
@@ -202,7 +202,7 @@ fn what_is_left_of_a_transaction(rt: HostRuntime) -> Result<(), Fail> {
 // What is left of a row's commands, made one after another.
 fn left(alloc: Global, commands: &str) -> Result<Vec<u8>, Fail> {
     let calls = all_calls(alloc, commands)?;
-    let left = finish_after(alloc, calls)?;
+    let left = finish_after(alloc, Seed::fixed(), calls)?;
     let text = as_commands(alloc, &left);
     drop(left);
     Ok(text?)
@@ -239,7 +239,7 @@ fn push_level(pending: &mut Pending, alloc: Global, level: usize) -> Result<(), 
 
 // Each of 300 levels sends its number.
 fn levels(alloc: Global) -> Result<Pending, Fail> {
-    let mut pending = Pending::new(alloc);
+    let mut pending = Pending::new(alloc, Seed::fixed());
     for level in 0..300 {
         push_level(&mut pending, alloc, level)?;
     }

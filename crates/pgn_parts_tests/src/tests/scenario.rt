@@ -1,4 +1,4 @@
-use pgn_base::INPUT_BYTES_MAX;
+use pgn_base::{INPUT_BYTES_MAX, Seed};
 use pgn_language::ScenarioFault;
 use pgn_scenario::read_scenario;
 use std::test::Fail;
@@ -12,7 +12,7 @@ fn large_inputs(rt: HostRuntime) -> Result<(), Fail> {
         (INPUT_BYTES_MAX + 1, ScenarioFault::TooLarge),
     ] {
         let input = vec![in alloc; b' '; bytes]?;
-        let reading = read_scenario(alloc, &input)?;
+        let reading = read_scenario(alloc, Seed::fixed(), &input)?;
         assert!(rt; reading.err() == Some(fault), "{bytes}");
     }
     Ok(())

@@ -1,6 +1,6 @@
 // The set of channels that a session listens to.
 use super::{name, repeated};
-use pgn_base::{Action, Actions, ListenSet, Name};
+use pgn_base::{Action, Actions, ListenSet, Name, Seed};
 use std::alloc::{AllocError, Global};
 use std::test::Fail;
 
@@ -66,7 +66,7 @@ fn counts_of_all(alloc: Global, set: &mut ListenSet) -> Result<(usize, u32, u32)
 #[test]
 fn channels_that_are_listened_to(rt: HostRuntime) -> Result<(), Fail> {
     let alloc = rt.alloc();
-    let mut set = ListenSet::new(alloc);
+    let mut set = ListenSet::new(alloc, Seed::fixed());
     let counts = counts_of_all(alloc, &mut set);
     drop(set);
     assert_eq!(rt; counts?, (6, 7, 0));
@@ -134,7 +134,7 @@ fn those_that_stay(alloc: Global, set: &mut ListenSet) -> Result<(bool, u32), Fa
 #[test]
 fn channels_in_order_of_listening(rt: HostRuntime) -> Result<(), Fail> {
     let alloc = rt.alloc();
-    let mut set = ListenSet::new(alloc);
+    let mut set = ListenSet::new(alloc, Seed::fixed());
     let stays = those_that_stay(alloc, &mut set);
     drop(set);
     assert_eq!(rt; stays?, (true, 5));
@@ -166,7 +166,7 @@ fn only_c(alloc: Global, set: &mut ListenSet) -> Result<(bool, (usize, u32, u32)
 #[test]
 fn channels_after_all_were_left(rt: HostRuntime) -> Result<(), Fail> {
     let alloc = rt.alloc();
-    let mut set = ListenSet::new(alloc);
+    let mut set = ListenSet::new(alloc, Seed::fixed());
     let only = only_c(alloc, &mut set);
     drop(set);
     assert_eq!(rt; only?, (true, (1, 2, 0)));

@@ -4,8 +4,8 @@ ghost use Rattle.pgn_words.specs.Passes.{known_of};
 ghost use Rattle.pgn_wordhub.specs.Passes.{IsHubPass, hub_shape};
 
 use pgn_base::{
-    Action, Actions, DbOid, Delivery, Enlisted, Format, ListenSet, Name, Note, Payload, SessionNo,
-    Xid,
+    Action, Actions, DbOid, Delivery, Enlisted, Format, ListenSet, Name, Note, Payload, Seed,
+    SessionNo, Xid,
 };
 use pgn_hub::{Hub, PassView, SeatSetup, Setup};
 use pgn_wordhub::WordHub;
@@ -63,7 +63,7 @@ fn listen_on_c(alloc: Global) -> Option<Actions> {
 // The set of the channel `c`, if memory suffices.
 fn set_of_c(alloc: Global) -> Option<ListenSet> {
     let actions = listen_on_c(alloc)?;
-    let mut set = ListenSet::new(alloc);
+    let mut set = ListenSet::new(alloc, Seed::fixed());
     act(&mut set, actions)?;
     Some(set)
 }

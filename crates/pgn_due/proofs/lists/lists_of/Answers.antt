@@ -8,7 +8,7 @@ use Rattle.pgn_due.proofs.ListLaws.{lists_first, lists_more}
 use Rattle.pgn_due.proofs.lists.lists_of.Goals as goal
 
 pub loop-at-init : goal.loop-at-init
-loop-at-init c = lists_first (sent_in c.args.sends.now.journal.now) c.new-lists.result.entries (search (rules, c.new-lists.ensures.empty))
+loop-at-init c = lists_first (sent_in c.args.sends.now.journal.now) c.with_hasher-lists.result.entries (search (rules, c.with_hasher-lists.ensures.empty))
 
 pub loop-at-preserved : goal.loop-at-preserved
 loop-at-preserved c =
