@@ -19,6 +19,9 @@ pub const FLAGS_MAX: usize = 256;
 /// The most lines of a scenario whose command is NOTIFY or a call of pg_notify.
 pub const NOTE_LINES_MAX: usize = 65_536;
 
+/// The most notifications that all sessions of a queue send. With so many of the longest the places in the queue stay below 2^32.
+pub const HUB_NOTES_MAX: u32 = 1_048_575;
+
 /// The most times that `repeat` in a call of pg_notify repeats its text.
 pub const REPEATS_MAX: u32 = 10_000;
 

@@ -1,5 +1,5 @@
 ghost use Rattle.std.specs.Prelude.{◌≡◌, ◌≤◌, sum_by, vec_len};
-ghost use Rattle.pgn_base.specs.declared.limits.TheConstants.{HUB_FLAGS_MAX, NOTE_LINES_MAX, PAGES_MAX, PAGES_MIN, SECTIONS_MAX};
+ghost use Rattle.pgn_base.specs.declared.limits.TheConstants.{HUB_FLAGS_MAX, HUB_NOTES_MAX, PAGES_MAX, PAGES_MIN, SECTIONS_MAX};
 
 use pgn_base::{DbOid, Format, Seq};
 use std::marker::Model;
@@ -36,14 +36,14 @@ impl Model for Setup {
 impl Setup {
     ghost use Rattle.pgn_hub.specs.Shape.{IsShape};
 
-    /// Pages are 2 to 1,024, flags at most 512, seats 1 to 256, and their notifications together at most 65,536.
+    /// Pages are 2 to 1,024, flags at most 512, seats 1 to 256, and their notifications together at most 1,048,575.
     pub fn new(pages: u32, flags: u32, seats: Vec<SeatSetup>, format: Format) -> Setup
         requires some_pages { PAGES_MIN ≤ pages }
         requires few_pages { pages ≤ PAGES_MAX }
         requires few_flags { flags ≤ HUB_FLAGS_MAX }
         requires some_seats { 1 ≤ vec_len seats }
         requires few_seats { vec_len seats ≤ SECTIONS_MAX }
-        requires few_notes { sum_by (λ seat. seat.notes) seats.items ≤ NOTE_LINES_MAX }
+        requires few_notes { sum_by (λ seat. seat.notes) seats.items ≤ HUB_NOTES_MAX }
         ensures { result ≡ record { pages = pages; flags = flags; seats = seats.items; format = format } }
     {
         Setup {

@@ -7,7 +7,6 @@ use Rattle.std.proofs.lemmas.List.{length-append}
 use Rattle.std.proofs.lemmas.List.Elements.{Contains-append_right}
 use Rattle.std.proofs.lemmas.Map.Made.{Contains-tail}
 use Rattle.std.proofs.lemmas.Str.{IsUtf8-from_is_utf8, is_utf8-from_IsUtf8}
-use Rattle.pgn_base.specs.declared.limits.TheConstants.{NOTE_LINES_MAX}
 use Rattle.pgn_base.specs.declared.command.Command.TheVariants.{Bad}
 use Rattle.pgn_language.specs.declared.scenario.Act.TheVariants.{Run}
 use Rattle.pgn_language.specs.declared.scenario.ScriptLine.{ScriptLine}
@@ -232,7 +231,7 @@ has_line number text = elim (first_lf text) [
 counts : (place : Place) → AreTooMany place ⊎ (AreTooMany place → ⊥)
 counts place = elim (cases_lt QUERIES_MAX place.queries) [
   | inl many ↦ inl (inl many)
-  | inr few ↦ elim (cases_lt NOTE_LINES_MAX place.notes) [
+  | inr few ↦ elim (cases_lt place.most place.notes) [
     | inl many ↦ inl (inr many)
     | inr less ↦ inr (λ many. elim many [ inl more ↦ absurd (omega arith) | inr more ↦ absurd (omega arith) ])
   ]

@@ -8,7 +8,6 @@ use Rattle.std.proofs.lemmas.Bool.{both_ways, eq-eqb}
 use Rattle.std.proofs.lemmas.List.{length-append}
 use Rattle.std.proofs.lemmas.Map.Made.{Contains-tail}
 use Rattle.std.proofs.lemmas.Str.{IsUtf8-from_is_utf8}
-use Rattle.pgn_base.specs.declared.limits.TheConstants.{NOTE_LINES_MAX}
 use Rattle.pgn_base.specs.declared.command.Command.{Command}
 use Rattle.pgn_base.specs.declared.command.Command.TheVariants.{Bad}
 use Rattle.pgn_language.specs.declared.scenario.Act.TheVariants.{Run}
@@ -17,7 +16,7 @@ use Rattle.pgn_language.specs.Grammar.{reading}
 use Rattle.pgn_language.proofs.GrammarLaws.{reading-reads}
 use Rattle.pgn_queries.specs.declared.limits.TheConstants.{QUERIES_MAX}
 use Rattle.pgn_queries.specs.declared.wire_fault.WireFault.{WireFault}
-use Rattle.pgn_queries.specs.declared.wire_fault.WireFault.TheVariants.{BadText}
+use Rattle.pgn_queries.specs.declared.wire_fault.WireFault.TheVariants.{BadText, TooMany}
 use Rattle.pgn_queries.specs.declared.coming.Coming.TheVariants.{Query, Fault}
 use Rattle.pgn_queries.specs.Client as client
 use Rattle.pgn_queries.specs.Client.{IsText, NextIs, body_of}
@@ -52,14 +51,14 @@ comes at head text rest four value short sound =
     (client.QueryIs.HasBody (head ++ (body_of text ++ rest)) head (body_of text ++ rest) Query text rest (5 + length text) (1 + length text) refl (record { four = four; value = value })
     (record { least = omega arith; most = omega arith }) (omega arith) (client.BodyIs.Whole (body_of text ++ rest) text rest refl (omega arith) sound))
 
-few : (place : Place) → place.queries ≤ QUERIES_MAX → place.notes ≤ NOTE_LINES_MAX → AreTooMany place → ⊥
+few : (place : Place) → place.queries ≤ QUERIES_MAX → place.notes ≤ place.most → AreTooMany place → ⊥
 few place counted noted (inl many) = absurd (omega arith)
 few place counted noted (inr many) = absurd (omega arith)
 
 -- a query on one line, and then the others
 pub one_line : (place : Place) (head text rest : List ℕ) (command : Command) (lines : List ScriptLine) (fault : Option WireFault) → length head ≡ 4 → 5 + length text ≡ from_be_bytes w32 head → length text ≤ 65536
     → is_utf8 text ≡ true → has 0 text ≡ false → has 10 text ≡ false → reading text ≡ command
-    → place.queries + 1 ≤ QUERIES_MAX → (after_query place (length text) (Run command)).notes ≤ NOTE_LINES_MAX
+    → place.queries + 1 ≤ QUERIES_MAX → (after_query place (length text) (Run command)).notes ≤ place.most
     → QueriesAre (after_query place (length text) (Run command)) rest lines fault
     → QueriesAre place (81 ∷ (head ++ (body_of text ++ rest))) (query_line (place.queries + 1) text command ∷ lines) fault
 one_line place head text rest command lines fault four value short utf8 no_nul no_lf reads counted noted others =
@@ -68,10 +67,20 @@ one_line place head text rest command lines fault four value short utf8 no_nul n
     queries.QueriesAre.Goes place (81 ∷ (head ++ (body_of text ++ rest))) text rest (query_line (place.queries + 1) text command) lines fault
     (comes place.at head text rest four value short (is_text text utf8 no_nul)) is (few (after_query place (length text) (Run command)) counted noted) others
 
+-- a query on one line with which there are too many
+pub one_more : (place : Place) (head text rest : List ℕ) (command : Command) → length head ≡ 4 → 5 + length text ≡ from_be_bytes w32 head → length text ≤ 65536
+    → is_utf8 text ≡ true → has 0 text ≡ false → has 10 text ≡ false → reading text ≡ command → AreTooMany (after_query place (length text) (Run command))
+    → QueriesAre place (81 ∷ (head ++ (body_of text ++ rest))) [] (Some (TooMany place.at))
+one_more place head text rest command four value short utf8 no_nul no_lf reads many =
+    let is : IsLineOf (place.queries + 1) text (query_line (place.queries + 1) text command) =
+    subst (λ (c : Command). IsLineOf (place.queries + 1) text (query_line (place.queries + 1) text c)) reads (queries.IsLineOf.OneLine text (reading text) (lacks 10 text no_lf) (reading-reads text)) in
+    queries.QueriesAre.Exceeds place (81 ∷ (head ++ (body_of text ++ rest))) text rest (query_line (place.queries + 1) text command)
+    (comes place.at head text rest four value short (is_text text utf8 no_nul)) is many
+
 -- a query with an LF before which there is none, and then the others
 pub several_lines : (place : Place) (head before behind rest : List ℕ) (lines : List ScriptLine) (fault : Option WireFault) → length head ≡ 4 → 5 + length (before ++ 10 ∷ behind) ≡ from_be_bytes w32 head
     → length (before ++ 10 ∷ behind) ≤ 65536 → is_utf8 (before ++ 10 ∷ behind) ≡ true → has 0 (before ++ 10 ∷ behind) ≡ false → has 10 before ≡ false
-    → place.queries + 1 ≤ QUERIES_MAX → place.notes ≤ NOTE_LINES_MAX
+    → place.queries + 1 ≤ QUERIES_MAX → place.notes ≤ place.most
     → QueriesAre (after_query place (length (before ++ 10 ∷ behind)) (Run (Bad (length before)))) rest lines fault
     → QueriesAre place (81 ∷ (head ++ (body_of (before ++ 10 ∷ behind) ++ rest))) (query_line (place.queries + 1) [] (Bad (length before)) ∷ lines) fault
 several_lines place head before behind rest lines fault four value short utf8 no_nul no_lf counted noted others =

@@ -35,6 +35,10 @@ listen_line = query_line 1 (codes "LISTEN c") (command.Listen (codes "c"))
 abbrev pub notify_line : ScriptLine
 notify_line = query_line 2 (codes "NOTIFY c, 'x'") (command.Notify (record { channel = codes "c"; payload = codes "x" }))
 
+-- the line of the second where it comes first
+abbrev pub notify_first : ScriptLine
+notify_first = query_line 1 (codes "NOTIFY c, 'x'") (command.Notify (record { channel = codes "c"; payload = codes "x" }))
+
 -- a body that is text is none, one with two zero bytes, and one with a byte that stands in no UTF-8
 abbrev pub asks_unended : List ℕ
 asks_unended = 81 ∷ 0 ∷ 0 ∷ 0 ∷ 6 ∷ 59 ∷ 59 ∷ []

@@ -1,6 +1,5 @@
 -- All queries of a client.
 use Rattle.std.specs.Prelude.{◌≡◌, ℕ, ◌+◌, ◌*◌, ◌<◌, ◌≤◌, ◌⊎◌, cond, List, [], ◌∷◌, ◌++◌, length, Option, None, Some}
-use Rattle.pgn_base.specs.declared.limits.TheConstants.{NOTE_LINES_MAX}
 use Rattle.pgn_base.specs.declared.command.Command.{Command}
 use Rattle.pgn_base.specs.declared.command.Command.TheVariants.{Bad}
 use Rattle.pgn_language.specs.declared.scenario.Act.{Act}
@@ -28,10 +27,12 @@ pub record Place : Type 0 where
   pub queries : ℕ
   -- how many of them had the command NOTIFY or a call of pg_notify
   pub notes : ℕ
+  -- how many may have
+  pub most : ℕ
 
--- before the first byte
-abbrev pub first_place : Place
-first_place = record { at = 0; queries = 0; notes = 0 }
+-- before the first byte of a client of which so many queries may notify
+abbrev pub first_place : ℕ → Place
+first_place most = record { at = 0; queries = 0; notes = 0; most = most }
 
 -- how many notifying commands an act is
 abbrev pub note_of : Act → ℕ
@@ -39,16 +40,17 @@ note_of act = cond (is_note_act act) 1 0
 
 -- after a query with a text of so many bytes, whose line does this
 abbrev pub after_query : Place → ℕ → Act → Place
-after_query place size act = record { at = place.at + (size + 6); queries = place.queries + 1; notes = place.notes + note_of act }
+after_query place size act = record { at = place.at + (size + 6); queries = place.queries + 1; notes = place.notes + note_of act; most = place.most }
 
 -- there were more queries, or more of them that notify, than a client may ask
 abbrev pub AreTooMany : Place → Type 0
-AreTooMany place = (QUERIES_MAX < place.queries) ⊎ (NOTE_LINES_MAX < place.notes)
+AreTooMany place = (QUERIES_MAX < place.queries) ⊎ (place.most < place.notes)
 
--- a place that a reader can come to: each query so far took at most 65,542 bytes
+-- a place that a reader can come to: each query so far notifies at most once and took at most 65,542 bytes
 pub record IsPlace (place : Place) : Type 0 where
   pub few : place.queries ≤ QUERIES_MAX
-  pub few_notes : place.notes ≤ NOTE_LINES_MAX
+  pub counted : place.notes ≤ place.queries
+  pub few_notes : place.notes ≤ place.most
   pub near : place.at ≤ place.queries * 65542
 
 -- the queries of a client's bytes from a place on, as the lines of a script that are numbered from there, and the fault that ends
@@ -80,6 +82,6 @@ pub record HasPassed (old new : Place) (line : ScriptLine) : Type 0 where
   pub after : new ≡ after_query old (length text) line.act
   pub few : AreTooMany new → ⊥
 
--- a client's bytes have these queries, and this fault
-abbrev pub queries : List ℕ → List ScriptLine → Option WireFault → Type 0
-queries bytes lines fault = QueriesAre first_place bytes lines fault
+-- the bytes of a client of which so many queries may notify have these queries, and this fault
+abbrev pub queries : ℕ → List ℕ → List ScriptLine → Option WireFault → Type 0
+queries most bytes lines fault = QueriesAre (first_place most) bytes lines fault

@@ -10,7 +10,7 @@
 //! ```
 //! let bytes = Vec::from_slice(alloc, b"Q\0\0\0\x0dLISTEN c\0X\0\0\0\x04")?;
 //! let mut source = MemSource::new(bytes, Vec::new(alloc), 1);
-//! let mut queries = Queries::new(alloc);
+//! let mut queries = Queries::new(alloc, 65_536);
 //! let line = queries.next(alloc, &mut source);
 //! assert!(rt; matches!(line, Ok(Some(ScriptLine { act: Act::Run(Command::Listen(_)), .. }))));
 //! ```

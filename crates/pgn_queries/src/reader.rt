@@ -13,7 +13,7 @@ use crate::coming::Coming;
 use crate::limits::QUERIES_MAX;
 use crate::message::{Unread, next_message};
 use memchr::memchr;
-use pgn_base::{Command, NOTE_LINES_MAX, Source};
+use pgn_base::{Command, Source};
 use pgn_command::parse_line;
 use pgn_language::{Act, LineText, ScriptLine};
 use std::alloc::{AllocError, Global};
@@ -36,6 +36,7 @@ pub struct Queries {
     at: u64,
     queries: u32,
     notes: u32,
+    most: u32,
     text: Vec<u8>,
 }
 
@@ -44,20 +45,21 @@ impl Model for Queries {
 
     ghost Value = { Place };
 
-    ghost view = { λ q. record { at = q.at; queries = q.queries; notes = q.notes } };
+    ghost view = { λ q. record { at = q.at; queries = q.queries; notes = q.notes; most = q.most } };
 
-    ghost invariant = { λ q. IsPlace (record { at = q.at; queries = q.queries; notes = q.notes }) };
+    ghost invariant = { λ q. IsPlace (record { at = q.at; queries = q.queries; notes = q.notes; most = q.most }) };
 }
 
 impl Queries {
-    /// Before the first byte. It takes no memory.
-    pub fn new(alloc: Global) -> Queries
-        ensures { result ≡ first_place }
+    /// Before the first byte of a client of which at most so many queries may notify. It takes no memory.
+    pub fn new(alloc: Global, most: u32) -> Queries
+        ensures { result ≡ first_place most }
     {
         Queries {
             at: 0,
             queries: 0,
             notes: 0,
+            most,
             text: Vec::new(alloc),
         }
     }
@@ -106,7 +108,7 @@ impl Queries {
         ensures fault { OnErr result (result ≡ Err (WireFault.TooMany self.old.at)) }
     {
         let notes = self.notes + u32::from(is_note(act));
-        if self.queries == QUERIES_MAX || notes > NOTE_LINES_MAX as u32 {
+        if self.queries == QUERIES_MAX || notes > self.most {
             return Err(WireFault::TooMany { at: self.at });
         }
         self.at += size as u64 + 6;

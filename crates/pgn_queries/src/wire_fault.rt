@@ -10,6 +10,7 @@ pub enum WireFault {
     Truncated { at: u64 },
     /// A Query's body does not end with its only zero byte, or its text is not UTF-8.
     BadText { at: u64 },
-    /// With this Query there are more than 4,294,967,294, or more than 65,536 whose command is NOTIFY or a call of pg_notify.
+    /// With this Query there are more than 4,294,967,294, or more whose command is NOTIFY or a call of pg_notify
+    /// than the client may ask.
     TooMany { at: u64 },
 }

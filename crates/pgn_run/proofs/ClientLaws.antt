@@ -60,7 +60,6 @@ opened-begins s e done doing items = record {
   last = wire_quit;
   lines = ap (λ (section : Section). section.lines) e;
   quits = refl;
-  notes = ap (λ (section : Section). section.note_lines) e;
   begun = done;
   between = doing;
   shown = items;

@@ -3,6 +3,7 @@ use Rattle.std.proofs.Common.{◌≡◌, ℕ, ◌+◌, ◌≤◌, List, [], ◌�
 use Rattle.std.proofs.lemmas.List.Elements.{All-cons}
 use Rattle.std.specs.Io.KnownBytes.{Appends}
 use Rattle.pgn_base.specs.Outside.{AppendsPrefix}
+use Rattle.pgn_base.specs.declared.limits.TheConstants.{NOTE_LINES_MAX}
 use Rattle.pgn_language.specs.declared.scenario.ScriptLine.{ScriptLine}
 use Rattle.pgn_language.specs.declared.scenario.Section.{Section}
 use Rattle.pgn_language.specs.Inputs.{HasFlagBelow, note_lines_of}
@@ -23,8 +24,8 @@ use Rattle.pgn_session.specs.Whole.{HasRest}
 use Rattle.pgn_threads.specs.Laws.{NamesFlagsBelow, RunsAreLegal}
 use Rattle.pgn_threads.specs.Parts.{HasReadAll, HasRunOut, Part, settings_of, trace_of}
 use Rattle.pgn_queries.specs.declared.wire_fault.WireFault.{WireFault}
-use Rattle.pgn_queries.specs.Queries as queries
-use Rattle.pgn_queries.specs.Queries.{IsLineOf, Place, QueriesAre, first_place}
+use Rattle.pgn_queries.specs.Queries as asking
+use Rattle.pgn_queries.specs.Queries.{IsLineOf, Place, QueriesAre, first_place, queries}
 use Rattle.pgn_queries.specs.Script.{wire_quit, wire_section}
 use Rattle.pgn_queries.proofs.EachLaws.{each_has_reading}
 use Rattle.pgn_messages.specs.Messages.{messages}
@@ -70,23 +71,27 @@ finished {P} law shape known s passes count gathered all within is rested over l
 
 -- queries name no flag
 runs-no_flag : (number : ℕ) (text : List ℕ) (line : ScriptLine) → IsLineOf number text line → HasFlagBelow 0 line.act
-runs-no_flag number text _ (queries.IsLineOf.OneLine _ command one_line reads) = tt
-runs-no_flag number text _ (queries.IsLineOf.Lines _ before rest split one_line) = tt
+runs-no_flag number text _ (asking.IsLineOf.OneLine _ command one_line reads) = tt
+runs-no_flag number text _ (asking.IsLineOf.Lines _ before rest split one_line) = tt
 
 abbrev Flagless : ScriptLine → Type 0
 Flagless line = HasFlagBelow 0 line.act
 
 asked-no_flag : (place : Place) (bytes : List ℕ) (lines : List ScriptLine) (fault : Option WireFault) → QueriesAre place bytes lines fault → All Flagless (lines ++ wire_quit ∷ [])
-asked-no_flag place _ _ _ (queries.QueriesAre.Ends _ bytes text rest is) = one Flagless wire_quit tt
-asked-no_flag place _ _ _ (queries.QueriesAre.Fails _ bytes text rest fault is) = one Flagless wire_quit tt
-asked-no_flag place _ _ _ (queries.QueriesAre.Exceeds _ bytes text rest line is of many) = one Flagless wire_quit tt
-asked-no_flag place _ _ _ (queries.QueriesAre.Goes _ bytes text rest line lines fault is of few more) =
-    All-cons Flagless line (lines ++ wire_quit ∷ []) (runs-no_flag (place.queries + 1) text line of) (asked-no_flag (queries.after_query place (length text) line.act) rest lines fault more)
+asked-no_flag place _ _ _ (asking.QueriesAre.Ends _ bytes text rest is) = one Flagless wire_quit tt
+asked-no_flag place _ _ _ (asking.QueriesAre.Fails _ bytes text rest fault is) = one Flagless wire_quit tt
+asked-no_flag place _ _ _ (asking.QueriesAre.Exceeds _ bytes text rest line is of many) = one Flagless wire_quit tt
+asked-no_flag place _ _ _ (asking.QueriesAre.Goes _ bytes text rest line lines fault is of few more) =
+    All-cons Flagless line (lines ++ wire_quit ∷ []) (runs-no_flag (place.queries + 1) text line of) (asked-no_flag (asking.after_query place (length text) line.act) rest lines fault more)
 
 -- the section of a session that was opened for a client
 section-of : {P : Type 0} (old new : Session P) (lines : List ScriptLine) → old.section ≡ session_section [] → IsSameClient old new → new.section.lines ≡ lines ++ wire_quit ∷ [] → new.section ≡ session_section lines
 section-of old new lines begun same split =
     same.section ∙ ap (λ (s : Section). record s { lines = new.section.lines }) begun ∙ ap (λ (ls : List ScriptLine). record (session_section []) { lines = ls }) split
+
+-- its queries are read under the limit of a scenario's lines
+read-of : (section : Section) (lines front : List ScriptLine) (bytes : List ℕ) (fault : Option WireFault) → section ≡ session_section lines → queries section.note_lines bytes front fault → queries NOTE_LINES_MAX bytes front fault
+read-of section lines front bytes fault is reads = subst (λ (s : Section). queries s.note_lines bytes front fault) is reads
 
 -- a trace that is lawful so far
 so_far : {P : Type 0} (shape : Shape) (known : P → Known) (s : Session P) (lines : List ScriptLine) (Q : List Item → Type 0) → shape ≡ wire_shape → s.patience ≡ 1 → s.section ≡ session_section lines
@@ -116,7 +121,7 @@ stopped T shape known (Bad fault) old new bytes held now is begun patience same 
     let section = section-of old new asked.lines begun same asked.split in
     record {
       lines = asked.lines;
-      reads = asked.reads;
+      reads = read-of new.section asked.lines asked.lines bytes (Some fault) section asked.reads;
       so_far = so_far shape known new asked.lines (λ items. Appends held now (messages (wire_section asked.lines) items)) is (same.patience ∙ patience) section stood
           (subst (λ (s : Section). Appends held now (messages s new.items.items)) section written);
     }
@@ -126,7 +131,7 @@ stopped T shape known Read old new bytes held now is begun patience same stood a
       lines = asked.lines;
       more = asked.more;
       fault = asked.fault;
-      reads = asked.reads;
+      reads = read-of new.section asked.lines (asked.lines ++ asked.more) bytes asked.fault section asked.reads;
       so_far = so_far shape known new asked.lines (λ items. Appends held now (messages (wire_section asked.lines) items)) is (same.patience ∙ patience) section stood
           (subst (λ (s : Section). Appends held now (messages s new.items.items)) section written);
     }
@@ -136,7 +141,7 @@ stopped T shape known Write old new bytes held now is begun patience same stood 
       lines = asked.lines;
       more = asked.more;
       fault = asked.fault;
-      reads = asked.reads;
+      reads = read-of new.section asked.lines (asked.lines ++ asked.more) bytes asked.fault section asked.reads;
       so_far = so_far shape known new asked.lines (λ items. AppendsPrefix held now (messages (wire_section asked.lines) items)) is (same.patience ∙ patience) section stood
           (subst (λ (s : Section). AppendsPrefix held now (messages s new.items.items)) section written);
     }
@@ -146,7 +151,7 @@ stopped T shape known Memory old new bytes held now is begun patience same stood
       lines = asked.lines;
       more = asked.more;
       fault = asked.fault;
-      reads = asked.reads;
+      reads = read-of new.section asked.lines (asked.lines ++ asked.more) bytes asked.fault section asked.reads;
       so_far = so_far shape known new asked.lines (WroteWhole held now (wire_section asked.lines)) is (same.patience ∙ patience) section stood
           (wrote-noted (note_lines_of (asked.lines ++ wire_quit ∷ [])) (session_section asked.lines) new.items.items held now (subst (λ (s : Section). WroteWhole held now s new.items.items) section written));
     }
@@ -156,12 +161,12 @@ served : {P : Type 0} (T : Type 0) (x : T) (old new : Session P) (bytes : List �
     → Appends held now (messages new.section new.items.items) → (NamesNoFlags new.section → RunsLegally new.section new.items.items) → EndsBy {T = T} (Ok x) bytes held now
 served T x old new bytes held now begun same asked written runs =
     let section = section-of old new asked.lines begun same asked.split in
-    let run = runs (subst (λ (s : Section). NamesNoFlags s) (sym section) (asked-no_flag first_place bytes asked.lines None asked.reads)) in
+    let run = runs (subst (λ (s : Section). NamesNoFlags s) (sym section) (asked-no_flag (first_place new.section.note_lines) bytes asked.lines None asked.reads)) in
     record {
       lines = asked.lines;
       journal = run.journal;
       trace = run.trace;
-      reads = asked.reads;
+      reads = read-of new.section asked.lines asked.lines bytes None section asked.reads;
       legal = legal-noted (note_lines_of (asked.lines ++ wire_quit ∷ [])) (session_section asked.lines) wire_settings run.journal run.trace
           (subst (λ (s : Section). Legal (record { sections = s ∷ []; flags = [] }) wire_settings run.journal (run.trace ∷ [])) section run.legal);
       output = subst (λ (s : Section). Appends held now (messages s run.trace.items)) section (subst (λ (items : List Item). Appends held now (messages new.section items)) (sym run.shown) written);
@@ -172,7 +177,7 @@ served-short : {P : Type 0} (T : Type 0) (shape : Shape) (known : P → Known) (
     → IsSameClient old new → HasStood shape known new → AsksAll bytes None wire_quit new.section → Appends held now (messages new.section new.items.items) → EndsBy {T = T} (Err Memory) bytes held now
 served-short {P} T shape known old new bytes held now is begun patience same stood asked written =
     stopped {P = P} T shape known Memory old new bytes held now is begun patience same stood
-    (record { lines = asked.lines; split = asked.split; more = []; fault = None; reads = subst (λ (ls : List ScriptLine). QueriesAre first_place bytes ls None) (sym (append-nil asked.lines)) asked.reads })
+    (record { lines = asked.lines; split = asked.split; more = []; fault = None; reads = subst (λ (ls : List ScriptLine). queries new.section.note_lines bytes ls None) (sym (append-nil asked.lines)) asked.reads })
     (record { written = messages new.section new.items.items; whole = record { front = new.items.items; behind = []; split = sym (append-nil new.items.items); line = tt; are = refl }; wrote = written })
 
 -- it was not opened
@@ -182,7 +187,7 @@ none-written (Some xs) = sym (append-nil xs)
 
 not-opened : (T : Type 0) (bytes : List ℕ) (held : Option (List ℕ)) → EndsBy {T = T} (Err Memory) bytes held held
 not-opened T bytes held =
-    let all = each_has_reading first_place bytes in
+    let all = each_has_reading (first_place NOTE_LINES_MAX) bytes in
     record {
       lines = [];
       more = all.0;

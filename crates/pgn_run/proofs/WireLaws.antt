@@ -14,8 +14,8 @@ use Rattle.pgn_run.specs.Conversation.{BreaksOff, Converses, StopsAmong}
 use Rattle.pgn_run.specs.Run.{AnswersWire, EndsIn}
 
 -- bytes end in one way
-one-end : (bytes : List ℕ) (lines : List ScriptLine) (a b : Option WireFault) → queries bytes lines a → EndsIn bytes b → a ≡ b
-one-end bytes lines a b reads h = (one_reading first_place bytes lines h.lines a b reads h.reads).1
+one-end : (bytes : List ℕ) (lines : List ScriptLine) (a b : Option WireFault) → queries NOTE_LINES_MAX bytes lines a → EndsIn bytes b → a ≡ b
+one-end bytes lines a b reads h = (one_reading (first_place NOTE_LINES_MAX) bytes lines h.lines a b reads h.reads).1
 
 module _ (left old new : Option (List ℕ)) (status : Status) (answers : IfSome left (λ bytes. AnswersWire bytes old new status)) where
   -- the answer where it is known

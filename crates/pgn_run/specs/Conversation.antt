@@ -56,7 +56,7 @@ pub record Converses (bytes : List ℕ) (P : List ℕ → Type 0) : Type 0 where
   pub lines : List ScriptLine
   pub journal : List Tx
   pub trace : Trace
-  pub reads : queries bytes lines None
+  pub reads : queries NOTE_LINES_MAX bytes lines None
   pub legal : Legal (wire_scenario lines) wire_settings journal (trace ∷ [])
   pub output : P (messages (wire_section lines) trace.items)
 
@@ -71,7 +71,7 @@ pub record IsSoFar (lines : List ScriptLine) (P : List Item → Type 0) : Type 0
 -- the client asked these queries, and then its bytes are at fault; P holds of the messages of a trace that is lawful so far
 pub record BreaksOff (bytes : List ℕ) (fault : WireFault) (P : List ℕ → Type 0) : Type 0 where
   pub lines : List ScriptLine
-  pub reads : queries bytes lines (Some fault)
+  pub reads : queries NOTE_LINES_MAX bytes lines (Some fault)
   pub so_far : IsSoFar lines (λ items. P (messages (wire_section lines) items))
 
 -- the client asked these queries first, of those that its bytes are; P holds of its section and of a trace that is lawful so far
@@ -79,7 +79,7 @@ pub record StopsAmong (bytes : List ℕ) (P : Section → List Item → Type 0) 
   pub lines : List ScriptLine
   pub more : List ScriptLine
   pub fault : Option WireFault
-  pub reads : queries bytes (lines ++ more) fault
+  pub reads : queries NOTE_LINES_MAX bytes (lines ++ more) fault
   pub so_far : IsSoFar lines (P (wire_section lines))
 
 -- by how a conversation ended: what the client asked, and what stands written

@@ -11,7 +11,7 @@ use Rattle.pgn_model.specs.Legal.{Legal}
 use Rattle.pgn_model.specs.Text.{brief, text}
 use Rattle.pgn_base.specs.declared.format.Format.{Format}
 use Rattle.pgn_base.specs.declared.format.Format.TheVariants.{One}
-use Rattle.pgn_base.specs.declared.limits.TheConstants.{PAGES_MAX}
+use Rattle.pgn_base.specs.declared.limits.TheConstants.{NOTE_LINES_MAX, PAGES_MAX}
 use Rattle.pgn_options.specs.declared.asked.Asked.{Asked}
 use Rattle.pgn_options.specs.declared.asked.Asked.TheVariants.{Run, Drill, Wire, Check}
 use Rattle.pgn_options.specs.declared.limits.TheConstants.{PATIENCE_MAX}
@@ -180,7 +180,7 @@ asked_settings ask = settings_with ask.pages ask.patience ask.format
 -- a client's bytes are queries, and end so: by this fault, or without
 pub record EndsIn (bytes : List ℕ) (fault : Option WireFault) : Type 0 where
   pub lines : List ScriptLine
-  pub reads : queries bytes lines fault
+  pub reads : queries NOTE_LINES_MAX bytes lines fault
 
 -- what each outcome says of a text that was to be written: of what the sink holds and of its count of faults
 abbrev pub HasWritten : List ℕ → Option (List ℕ) → Option (List ℕ) → ℕ → ℕ → Status → Type 0

@@ -32,7 +32,7 @@ notes-append : (xs ys : List ScriptLine) → note_lines_of (xs ++ ys) ≡ note_l
 notes-append xs ys = sum_by-append (λ (l : ScriptLine). cond (is_note_act l.act) 1 0) xs ys
 
 -- no more than a client may ask
-few-notes : (place : Place) (bytes : List ℕ) (lines : List ScriptLine) (fault : Option WireFault) → place.notes ≤ NOTE_LINES_MAX → QueriesAre place bytes lines fault → place.notes + note_lines_of lines ≤ NOTE_LINES_MAX
+few-notes : (place : Place) (bytes : List ℕ) (lines : List ScriptLine) (fault : Option WireFault) → place.notes ≤ place.most → QueriesAre place bytes lines fault → place.notes + note_lines_of lines ≤ place.most
 few-notes place _ _ _ low (queries.QueriesAre.Ends _ bytes text rest is) = omega (arith, low)
 few-notes place _ _ _ low (queries.QueriesAre.Fails _ bytes text rest fault is) = omega (arith, low)
 few-notes place _ _ _ low (queries.QueriesAre.Exceeds _ bytes text rest line is of many) = omega (arith, low)
@@ -40,14 +40,14 @@ few-notes place _ _ _ low (queries.QueriesAre.Goes _ bytes text rest line lines 
     let next : Place = after_query place (length text) line.act in
     let all : note_lines_of (line ∷ lines) ≡ note_lines_of (line ∷ []) + note_lines_of lines = notes-append (line ∷ []) lines in
     let one : note_lines_of (line ∷ []) ≡ note_of line.act = omega arith in
-    elim (cases_lt NOTE_LINES_MAX next.notes) [
+    elim (cases_lt place.most next.notes) [
       | inl many ↦ absurd (few (inr many))
       | inr fits ↦ omega (arith, all, one, few-notes next rest lines fault fits more)
     ]
 
 pub conversation-tells : ConversationTells
-conversation-tells bytes lines fault settings journal other a b reads legal legal' e =
-    let asks : AsksThenQuits (wire_section lines) = record { queries = lines; last = wire_quit; split = refl; run = all-run first_place bytes lines fault reads; quits = refl } in
+conversation-tells most bytes lines fault settings journal other a b fits reads legal legal' e =
+    let asks : AsksThenQuits (wire_section lines) = record { queries = lines; last = wire_quit; split = refl; run = all-run (first_place most) bytes lines fault reads; quits = refl } in
     let all : note_lines_of (lines ++ wire_quit ∷ []) ≡ note_lines_of lines + note_lines_of (wire_quit ∷ []) = notes-append lines (wire_quit ∷ []) in
-    let few : note_lines_of lines ≤ NOTE_LINES_MAX = omega (arith, few-notes first_place bytes lines fault (omega arith) reads) in
+    let few : note_lines_of lines ≤ NOTE_LINES_MAX = omega (arith, fits, few-notes (first_place most) bytes lines fault (omega arith) reads) in
     messages-tell (wire_section lines) settings journal other a b asks (omega (arith, all, few)) legal legal' e

@@ -26,8 +26,8 @@ MessagesTell = (section : Section) (settings : Settings) (journal other : List T
     → Legal (alone section) settings journal (a ∷ []) → Legal (alone section) settings other (b ∷ []) → messages section a.items ≡ messages section b.items
     → (seen a.items ≡ seen b.items) × (map but_queued journal ≡ map but_queued other)
 
--- the same of a client's bytes: two legal runs of the queries that they are
+-- the same of a client's bytes: two legal runs of the queries that they are, of which no more may notify than lines of a scenario
 abbrev pub ConversationTells : Type 0
-ConversationTells = (bytes : List ℕ) (lines : List ScriptLine) (fault : Option WireFault) (settings : Settings) (journal other : List Tx) (a b : Trace) → queries bytes lines fault
+ConversationTells = (most : ℕ) (bytes : List ℕ) (lines : List ScriptLine) (fault : Option WireFault) (settings : Settings) (journal other : List Tx) (a b : Trace) → most ≤ NOTE_LINES_MAX → queries most bytes lines fault
     → Legal (wire_scenario lines) settings journal (a ∷ []) → Legal (wire_scenario lines) settings other (b ∷ [])
     → messages (wire_section lines) a.items ≡ messages (wire_section lines) b.items → (seen a.items ≡ seen b.items) × (map but_queued journal ≡ map but_queued other)

@@ -4,7 +4,6 @@ use Rattle.std.proofs.lemmas.Bool.{cases_lt}
 use Rattle.std.proofs.lemmas.List.{length-append}
 use Rattle.std.proofs.lemmas.List.Sums.{sum_by-append}
 use Rattle.std.specs.Io.KnownBytes.{Appends}
-use Rattle.pgn_base.specs.declared.limits.TheConstants.{NOTE_LINES_MAX}
 use Rattle.pgn_base.specs.declared.command.Command.TheVariants.{Bad as BadCommand}
 use Rattle.pgn_language.specs.declared.scenario.Act.{Act}
 use Rattle.pgn_language.specs.declared.scenario.ScriptLine.{ScriptLine}
@@ -22,8 +21,8 @@ use Rattle.pgn_messages.specs.Messages.{messages}
 use Rattle.pgn_queries.specs.declared.limits.TheConstants.{QUERIES_MAX}
 use Rattle.pgn_queries.specs.declared.wire_fault.WireFault.{WireFault}
 use Rattle.pgn_queries.specs.Client.{OfKnown}
-use Rattle.pgn_queries.specs.Queries as queries
-use Rattle.pgn_queries.specs.Queries.{AreTooMany, Gives, HasPassed, IsLineOf, Place, QueriesAre, after_query, first_place, note_of}
+use Rattle.pgn_queries.specs.Queries as asked
+use Rattle.pgn_queries.specs.Queries.{AreTooMany, Gives, HasPassed, IsLineOf, Place, QueriesAre, after_query, first_place, note_of, queries}
 use Rattle.pgn_queries.proofs.EachLaws.{each_has_reading}
 use Rattle.pgn_wire.specs.declared.wire_end.WireEnd.{WireEnd}
 use Rattle.pgn_wire.specs.declared.wire_end.WireEnd.TheVariants.{Bad, Read, Write, Memory}
@@ -31,8 +30,8 @@ use Rattle.pgn_wire.specs.Serving.{AsksAll, AsksFirst, BeginsEmpty, HasAsked, Ha
 
 -- a query's line runs a command
 runs : (number : ℕ) (text : List ℕ) (line : ScriptLine) → IsLineOf number text line → RunsCommand line
-runs number text _ (queries.IsLineOf.OneLine _ command one reads) = (command, refl)
-runs number text _ (queries.IsLineOf.Lines _ before rest split one) = (BadCommand (length before), refl)
+runs number text _ (asked.IsLineOf.OneLine _ command one reads) = (command, refl)
+runs number text _ (asked.IsLineOf.Lines _ before rest split one) = (BadCommand (length before), refl)
 
 pub passed-runs : (old new : Place) (line : ScriptLine) → HasPassed old new line → RunsCommand line
 passed-runs old new line h = runs (old.queries + 1) h.text line h.is
@@ -61,15 +60,20 @@ notes-fed section line ends =
     let one : note_lines_of (line ∷ []) ≡ note_of line.act = omega arith in
     omega (arith, new, old, more, one)
 
+-- a query leaves the limit as it was
+pub passed-limit : (old new : Place) (line : ScriptLine) → HasPassed old new line → new.most ≡ old.most
+passed-limit old new line h = ap (λ (p : Place). p.most) h.after
+
 -- they are no more than the session may have
-pub passed-few : (old new : Place) (line : ScriptLine) (lines : List ScriptLine) (most : ℕ) → HasPassed old new line → note_lines_of lines ≡ old.notes → most ≡ NOTE_LINES_MAX
+pub passed-few : (old new : Place) (line : ScriptLine) (lines : List ScriptLine) (most : ℕ) → HasPassed old new line → note_lines_of lines ≡ old.notes → old.most ≡ most
     → note_lines_of (line ∷ []) + note_lines_of lines ≤ most
 passed-few old new line lines most h notes e =
     let after : new.notes ≡ old.notes + note_of line.act = ap (λ (p : Place). p.notes) h.after in
     let one : note_lines_of (line ∷ []) ≡ note_of line.act = omega arith in
-    elim (cases_lt NOTE_LINES_MAX new.notes) [
+    let limit : new.most ≡ old.most = passed-limit old new line h in
+    elim (cases_lt new.most new.notes) [
       | inl many ↦ absurd (h.few (inr many))
-      | inr few ↦ omega (arith, few, after, one, notes, e)
+      | inr few ↦ omega (arith, few, limit, after, one, notes, e)
     ]
 
 -- the same client, over two calls
@@ -94,13 +98,14 @@ taken-open old new line is_open taken = record {
 }
 
 -- what was asked first, with one query more
-asks-more : (place next : Place) (front : List ScriptLine) (line : ScriptLine) (bytes left rest : Option (List ℕ)) → OfKnown (Gives place next (Some line)) left rest → OfKnown (AsksFirst place front) bytes left
-    → OfKnown (AsksFirst next (front ++ line ∷ [])) bytes rest
-asks-more place next front line None left rest gives asked = tt
-asks-more place next front line (Some all) None rest gives asked = absurd asked
-asks-more place next front line (Some all) (Some now) None gives asked = absurd gives
-asks-more place next front line (Some all) (Some now) (Some later) gives asked =
-    λ lines fault more. subst (λ (ls : List ScriptLine). QueriesAre first_place all ls fault) (sym (append_assoc front (line ∷ []) lines)) (asked (line ∷ lines) fault (gives lines fault more))
+asks-more : (place next : Place) (front : List ScriptLine) (line : ScriptLine) (bytes left rest : Option (List ℕ)) → next.most ≡ place.most → OfKnown (Gives place next (Some line)) left rest
+    → OfKnown (AsksFirst place front) bytes left → OfKnown (AsksFirst next (front ++ line ∷ [])) bytes rest
+asks-more place next front line None left rest limit gives asked = tt
+asks-more place next front line (Some all) None rest limit gives asked = absurd asked
+asks-more place next front line (Some all) (Some now) None limit gives asked = absurd gives
+asks-more place next front line (Some all) (Some now) (Some later) limit gives asked =
+    λ lines fault more. subst (λ (n : ℕ). queries n all ((front ++ line ∷ []) ++ lines) fault) (sym limit)
+    (subst (λ (ls : List ScriptLine). queries place.most all ls fault) (sym (append_assoc front (line ∷ []) lines)) (asked (line ∷ lines) fault (gives lines fault more)))
 
 -- a query was answered
 pub serving-goes : {P : Type 0} (start old new : Session P) (line : ScriptLine) (place next : Place) (bytes left rest held before now : Option (List ℕ)) → HasPassed place next line
@@ -112,8 +117,8 @@ serving-goes start old new line place next bytes left rest held before now passe
   is_open = taken-open old new line h.is_open taken;
   begun = h.begun;
   notes = ap (λ (s : Section). note_lines_of s.lines) taken.section ∙ notes-fed old.section line h.is_open.ends ∙ ap (λ (n : ℕ). n + note_of line.act) h.notes ∙ sym (ap (λ (p : Place). p.notes) passed.after);
-  most = ap (λ (s : Section). s.note_lines) taken.section ∙ h.most;
-  asked = asks-more place next h.is_open.ends.front line bytes left rest gives h.asked;
+  most = passed-limit place next line passed ∙ h.most ∙ sym (ap (λ (s : Section). s.note_lines) taken.section);
+  asked = asks-more place next h.is_open.ends.front line bytes left rest (passed-limit place next line passed) gives h.asked;
   wrote = written held h.wrote;
 }
 
@@ -121,14 +126,19 @@ serving-goes start old new line place next bytes left rest held before now passe
 same-last : (lines : List ScriptLine) (front : List ScriptLine) (last first : ScriptLine) → lines ≡ front ++ last ∷ [] → last ∷ [] ≡ first ∷ [] → lines ≡ front ++ first ∷ []
 same-last lines front last first e same = e ∙ ap (λ (ls : List ScriptLine). front ++ ls) same
 
+-- these queries and no more, under the limit of the section
+all-queries : (most limit : ℕ) (bytes : List ℕ) (front : List ScriptLine) (fault : Option WireFault) → most ≡ limit → queries most bytes (front ++ []) fault → queries limit bytes front fault
+all-queries most limit bytes front fault e h =
+    subst (λ (n : ℕ). queries n bytes front fault) e (subst (λ (ls : List ScriptLine). queries most bytes ls fault) (append-nil front) h)
+
 -- there was no query more
-asks-all : (place next : Place) (section : Section) (front : List ScriptLine) (last : ScriptLine) (bytes left rest : Option (List ℕ)) → section.lines ≡ front ++ last ∷ []
+asks-all : (place next : Place) (section : Section) (front : List ScriptLine) (last : ScriptLine) (bytes left rest : Option (List ℕ)) → place.most ≡ section.note_lines → section.lines ≡ front ++ last ∷ []
     → OfKnown (Gives place next None) left rest → OfKnown (AsksFirst place front) bytes left → IfSome bytes (λ all. AsksAll all None last section)
-asks-all place next section front last None left rest split gives asked = tt
-asks-all place next section front last (Some all) None rest split gives asked = absurd asked
-asks-all place next section front last (Some all) (Some now) None split gives asked = absurd gives
-asks-all place next section front last (Some all) (Some now) (Some later) split gives asked =
-    record { lines = front; split = split; reads = subst (λ (ls : List ScriptLine). QueriesAre first_place all ls None) (append-nil front) (asked [] None gives) }
+asks-all place next section front last None left rest limit split gives asked = tt
+asks-all place next section front last (Some all) None rest limit split gives asked = absurd asked
+asks-all place next section front last (Some all) (Some now) None limit split gives asked = absurd gives
+asks-all place next section front last (Some all) (Some now) (Some later) limit split gives asked =
+    record { lines = front; split = split; reads = all-queries place.most section.note_lines all front None limit (asked [] None gives) }
 
 pub serving-ends : {P T : Type 0} (x : T) (start s : Session P) (place next : Place) (bytes left rest held now : Option (List ℕ)) → OfKnown (Gives place next None) left rest
     → IsServing start s place bytes left held now → HasEnded {P = P} {T = T} (Ok x) start s bytes held now
@@ -137,25 +147,25 @@ serving-ends x start s place next bytes left rest held now gives h =
     record {
       same = h.same;
       written = h.wrote;
-      asked = λ first e. asks-all place next s.section ends.front first bytes left rest (same-last s.section.lines ends.front ends.last first ends.split (sym h.begun ∙ e)) gives h.asked;
+      asked = λ first e. asks-all place next s.section ends.front first bytes left rest h.most (same-last s.section.lines ends.front ends.last first ends.split (sym h.begun ∙ e)) gives h.asked;
     }
 
 -- a fault came next
-asks-to_fault : (place : Place) (fault : WireFault) (section : Section) (front : List ScriptLine) (last : ScriptLine) (bytes left : Option (List ℕ)) → section.lines ≡ front ++ last ∷ []
+asks-to_fault : (place : Place) (fault : WireFault) (section : Section) (front : List ScriptLine) (last : ScriptLine) (bytes left : Option (List ℕ)) → place.most ≡ section.note_lines → section.lines ≡ front ++ last ∷ []
     → IfSome left (λ now. QueriesAre place now [] (Some fault)) → OfKnown (AsksFirst place front) bytes left → IfSome bytes (λ all. AsksAll all (Some fault) last section)
-asks-to_fault place fault section front last None left split found asked = tt
-asks-to_fault place fault section front last (Some all) None split found asked = absurd asked
-asks-to_fault place fault section front last (Some all) (Some now) split found asked =
-    record { lines = front; split = split; reads = subst (λ (ls : List ScriptLine). QueriesAre first_place all ls (Some fault)) (append-nil front) (asked [] (Some fault) found) }
+asks-to_fault place fault section front last None left limit split found asked = tt
+asks-to_fault place fault section front last (Some all) None limit split found asked = absurd asked
+asks-to_fault place fault section front last (Some all) (Some now) limit split found asked =
+    record { lines = front; split = split; reads = all-queries place.most section.note_lines all front (Some fault) limit (asked [] (Some fault) found) }
 
 -- more was to be asked
-asks-so_far : (place : Place) (section : Section) (front : List ScriptLine) (last : ScriptLine) (bytes left : Option (List ℕ)) → section.lines ≡ front ++ last ∷ []
+asks-so_far : (place : Place) (section : Section) (front : List ScriptLine) (last : ScriptLine) (bytes left : Option (List ℕ)) → place.most ≡ section.note_lines → section.lines ≡ front ++ last ∷ []
     → OfKnown (AsksFirst place front) bytes left → IfSome bytes (λ all. HasAsked all last section)
-asks-so_far place section front last None left split asked = tt
-asks-so_far place section front last (Some all) None split asked = absurd asked
-asks-so_far place section front last (Some all) (Some now) split asked =
+asks-so_far place section front last None left limit split asked = tt
+asks-so_far place section front last (Some all) None limit split asked = absurd asked
+asks-so_far place section front last (Some all) (Some now) limit split asked =
     let more = each_has_reading place now in
-    record { lines = front; split = split; more = more.0; fault = more.1; reads = asked more.0 more.1 more.2 }
+    record { lines = front; split = split; more = more.0; fault = more.1; reads = subst (λ (n : ℕ). queries n all (front ++ more.0) more.1) limit (asked more.0 more.1 more.2) }
 
 -- all that was shown is written
 all-written : (section : Section) (items : List Item) (held now : Option (List ℕ)) → Appends held now (messages section items) → HasWritten {T = Unit {0}} (Err Memory) held now section items
@@ -173,14 +183,14 @@ serving-fails (Bad fault) start s place bytes left held now other found h =
     record {
       same = h.same;
       written = h.wrote;
-      asked = λ first e. asks-to_fault place fault s.section ends.front first bytes left (same-last s.section.lines ends.front ends.last first ends.split (sym h.begun ∙ e)) (found fault refl) h.asked;
+      asked = λ first e. asks-to_fault place fault s.section ends.front first bytes left h.most (same-last s.section.lines ends.front ends.last first ends.split (sym h.begun ∙ e)) (found fault refl) h.asked;
     }
 serving-fails Read start s place bytes left held now other found h =
     let ends = h.is_open.ends in
     record {
       same = h.same;
       written = h.wrote;
-      asked = λ first e. asks-so_far place s.section ends.front first bytes left (same-last s.section.lines ends.front ends.last first ends.split (sym h.begun ∙ e)) h.asked;
+      asked = λ first e. asks-so_far place s.section ends.front first bytes left h.most (same-last s.section.lines ends.front ends.last first ends.split (sym h.begun ∙ e)) h.asked;
     }
 serving-fails Write start s place bytes left held now other found h = absurd (other refl)
 serving-fails Memory start s place bytes left held now other found h =
@@ -188,35 +198,35 @@ serving-fails Memory start s place bytes left held now other found h =
     record {
       same = h.same;
       written = all-written s.section s.items.items held now h.wrote;
-      asked = λ first e. asks-so_far place s.section ends.front first bytes left (same-last s.section.lines ends.front ends.last first ends.split (sym h.begun ∙ e)) h.asked;
+      asked = λ first e. asks-so_far place s.section ends.front first bytes left h.most (same-last s.section.lines ends.front ends.last first ends.split (sym h.begun ∙ e)) h.asked;
     }
 
 -- a query was not answered: it is in the script, or is not
-asks-half : (place next : Place) (old new : Section) (line : ScriptLine) (ends : EndsByQuit old.lines) (first : ScriptLine) (bytes left rest : Option (List ℕ)) → ends.last ∷ [] ≡ first ∷ []
+asks-half : (place next : Place) (old new : Section) (line : ScriptLine) (ends : EndsByQuit old.lines) (first : ScriptLine) (bytes left rest : Option (List ℕ)) → place.most ≡ old.note_lines → next.most ≡ place.most → ends.last ∷ [] ≡ first ∷ []
     → OfKnown (Gives place next (Some line)) left rest → IsFedOrNot old line new → OfKnown (AsksFirst place ends.front) bytes left → IfSome bytes (λ all. HasAsked all first new)
-asks-half place next old new line ends first bytes left rest same gives (inl e) asked =
-    subst (λ (s : Section). IfSome bytes (λ all. HasAsked all first s)) (sym e) (asks-so_far place old ends.front first bytes left (same-last old.lines ends.front ends.last first ends.split same) asked)
-asks-half place next old new line ends first bytes left rest same gives (inr e) asked =
+asks-half place next old new line ends first bytes left rest limit kept same gives (inl e) asked =
+    subst (λ (s : Section). IfSome bytes (λ all. HasAsked all first s)) (sym e) (asks-so_far place old ends.front first bytes left limit (same-last old.lines ends.front ends.last first ends.split same) asked)
+asks-half place next old new line ends first bytes left rest limit kept same gives (inr e) asked =
     subst (λ (s : Section). IfSome bytes (λ all. HasAsked all first s)) (sym e)
-    (asks-so_far next (fed old line) (ends.front ++ line ∷ []) first bytes rest
+    (asks-so_far next (fed old line) (ends.front ++ line ∷ []) first bytes rest (kept ∙ limit)
     (same-last (fed old line).lines (ends.front ++ line ∷ []) ends.last first (fed-split old line ends ∙ sym (append_assoc ends.front (line ∷ []) (ends.last ∷ []))) same)
-    (asks-more place next ends.front line bytes left rest gives asked))
+    (asks-more place next ends.front line bytes left rest kept gives asked))
 
 pub answer-fails : {P T : Type 0} (end : WireEnd) (start old new : Session P) (line : ScriptLine) (place next : Place) (bytes left rest held before now : Option (List ℕ))
-    → (failed (Unit {0}) end ≡ Err Write) ⊎ (failed (Unit {0}) end ≡ Err Memory) → OfKnown (Gives place next (Some line)) left rest → IsFedOrNot old.section line new.section → IsSameClient old new
+    → next.most ≡ place.most → (failed (Unit {0}) end ≡ Err Write) ⊎ (failed (Unit {0}) end ≡ Err Memory) → OfKnown (Gives place next (Some line)) left rest → IsFedOrNot old.section line new.section → IsSameClient old new
     → ((from : Option (List ℕ)) → Appends from before (messages old.section old.items.items) → HasWritten {T = Unit {0}} (Err end) from now new.section new.items.items)
     → IsServing start old place bytes left held before → HasEnded {P = P} {T = T} (Err end) start new bytes held now
-answer-fails (Bad fault) start old new line place next bytes left rest held before now is gives script same written h = absurd (elim is [ inl e ↦ cc | inr e ↦ cc ])
-answer-fails Read start old new line place next bytes left rest held before now is gives script same written h = absurd (elim is [ inl e ↦ cc | inr e ↦ cc ])
-answer-fails Write start old new line place next bytes left rest held before now is gives script same written h = record {
+answer-fails (Bad fault) start old new line place next bytes left rest held before now kept is gives script same written h = absurd (elim is [ inl e ↦ cc | inr e ↦ cc ])
+answer-fails Read start old new line place next bytes left rest held before now kept is gives script same written h = absurd (elim is [ inl e ↦ cc | inr e ↦ cc ])
+answer-fails Write start old new line place next bytes left rest held before now kept is gives script same written h = record {
   same = same-client start old new h.same same;
   written = written held h.wrote;
-  asked = λ first e. asks-half place next old.section new.section line h.is_open.ends first bytes left rest (sym h.begun ∙ e) gives script h.asked;
+  asked = λ first e. asks-half place next old.section new.section line h.is_open.ends first bytes left rest h.most kept (sym h.begun ∙ e) gives script h.asked;
 }
-answer-fails Memory start old new line place next bytes left rest held before now is gives script same written h = record {
+answer-fails Memory start old new line place next bytes left rest held before now kept is gives script same written h = record {
   same = same-client start old new h.same same;
   written = written held h.wrote;
-  asked = λ first e. asks-half place next old.section new.section line h.is_open.ends first bytes left rest (sym h.begun ∙ e) gives script h.asked;
+  asked = λ first e. asks-half place next old.section new.section line h.is_open.ends first bytes left rest h.most kept (sym h.begun ∙ e) gives script h.asked;
 }
 
 -- it is the end of the whole conversation
@@ -230,9 +240,9 @@ failed-as Write start s bytes held now h = record { same = h.same; written = h.w
 failed-as Memory start s bytes held now h = record { same = h.same; written = h.written; asked = h.asked }
 
 -- nothing was asked so far
-asks-none : (front : List ScriptLine) (bytes : Option (List ℕ)) → front ≡ [] → OfKnown (AsksFirst first_place front) bytes bytes
-asks-none front None e = tt
-asks-none front (Some all) e = λ lines fault h. subst (λ (ls : List ScriptLine). QueriesAre first_place all (ls ++ lines) fault) (sym e) h
+asks-none : (most : ℕ) (front : List ScriptLine) (bytes : Option (List ℕ)) → front ≡ [] → OfKnown (AsksFirst (first_place most) front) bytes bytes
+asks-none most front None e = tt
+asks-none most front (Some all) e = λ lines fault h. subst (λ (ls : List ScriptLine). queries most all (ls ++ lines) fault) (sym e) h
 
 writes-none : (held : Option (List ℕ)) (text : List ℕ) → text ≡ [] → Appends held held text
 writes-none None text e = tt
@@ -241,7 +251,7 @@ writes-none (Some xs) text e = sym (ap (λ (l : List ℕ). xs ++ l) e ∙ append
 abbrev pub begins-open : {P : Type 0} (s : Session P) → BeginsEmpty s → IsOpen s
 begins-open s h = record { ends = record { front = []; last = h.last; split = h.lines; quits = h.quits }; begun = h.begun; between = h.between }
 
-pub serving-begins : {P : Type 0} (s : Session P) (bytes held : Option (List ℕ)) → BeginsEmpty s → IsServing s s first_place bytes bytes held held
+pub serving-begins : {P : Type 0} (s : Session P) (bytes held : Option (List ℕ)) → BeginsEmpty s → IsServing s s (first_place s.section.note_lines) bytes bytes held held
 serving-begins {P} s bytes held h =
     let one : note_lines_of (h.last ∷ []) ≡ note_of h.last.act = omega arith in
     let none : note_of h.last.act ≡ 0 = ap note_of h.quits in
@@ -250,8 +260,8 @@ serving-begins {P} s bytes held h =
       is_open = begins-open s h;
       begun = h.lines;
       notes = ap note_lines_of h.lines ∙ one ∙ none;
-      most = h.notes;
-      asked = asks-none [] bytes refl;
+      most = refl;
+      asked = asks-none s.section.note_lines [] bytes refl;
       wrote = writes-none held (messages s.section s.items.items) (ap (λ (is : List Item). messages s.section is) h.shown);
     }
 
@@ -282,7 +292,7 @@ quit-asked first mid new bytes e h last is = subst (λ (s : Section). IfSome byt
 all-asked : (section : Section) (bytes : Option (List ℕ)) (last : ScriptLine) → IfSome bytes (λ all. AsksAll all None last section) → IfSome bytes (λ all. HasAsked all last section)
 all-asked section None last h = tt
 all-asked section (Some all) last h =
-    record { lines = h.lines; split = h.split; more = []; fault = None; reads = subst (λ (ls : List ScriptLine). QueriesAre first_place all ls None) (sym (append-nil h.lines)) h.reads }
+    record { lines = h.lines; split = h.split; more = []; fault = None; reads = subst (λ (ls : List ScriptLine). queries section.note_lines all ls None) (sym (append-nil h.lines)) h.reads }
 
 pub quit-unasked : (first mid new : Section) (bytes : Option (List ℕ)) → new ≡ mid → ((last : ScriptLine) → first.lines ≡ last ∷ [] → IfSome bytes (λ all. AsksAll all None last mid))
     → (last : ScriptLine) → first.lines ≡ last ∷ [] → IfSome bytes (λ all. HasAsked all last new)

@@ -2,7 +2,6 @@
 use Rattle.std.specs.Prelude.{◌≡◌, ℕ, ◌+◌, ◌≤◌, ◌⊎◌, Bool, true, false, List, [], ◌∷◌, ◌++◌, length, Option, None, Some, Result, Ok, Err, IfSome}
 use Rattle.std.specs.Io.KnownBytes.{Appends}
 use Rattle.pgn_base.specs.Outside.{AppendsPrefix}
-use Rattle.pgn_base.specs.declared.limits.TheConstants.{NOTE_LINES_MAX}
 use Rattle.pgn_base.specs.declared.command.Command.{Command}
 use Rattle.pgn_language.specs.declared.scenario.Act.TheVariants.{Run, Quit}
 use Rattle.pgn_language.specs.declared.scenario.ScriptLine.{ScriptLine}
@@ -102,19 +101,19 @@ pub record HasStopped {P : Type 0} (shape : Shape) (known : P → Known) (old ne
   pub line : BeginsByLine behind
   pub same : messages new.section old.items.items ≡ messages old.section old.items.items
 
--- the lines of the section are the queries of these bytes, which end so, and then the last
+-- the lines of the section are the queries of these bytes, which end so, and then the last. As many may notify as the section may
 pub record AsksAll (bytes : List ℕ) (fault : Option WireFault) (last : ScriptLine) (section : Section) : Type 0 where
   pub lines : List ScriptLine
   pub split : section.lines ≡ lines ++ last ∷ []
-  pub reads : queries bytes lines fault
+  pub reads : queries section.note_lines bytes lines fault
 
--- the lines of the section are queries of these bytes, from the first on, and then the last
+-- the lines of the section are queries of these bytes, from the first on, and then the last. As many may notify as the section may
 pub record HasAsked (bytes : List ℕ) (last : ScriptLine) (section : Section) : Type 0 where
   pub lines : List ScriptLine
   pub split : section.lines ≡ lines ++ last ∷ []
   pub more : List ScriptLine
   pub fault : Option WireFault
-  pub reads : queries bytes (lines ++ more) fault
+  pub reads : queries section.note_lines bytes (lines ++ more) fault
 
 -- by how a session ended: all queries were asked, and no fault ends them or this one
 abbrev pub AsksBy : {T : Type 0} → Result T WireEnd → Option (List ℕ) → ScriptLine → Section → Type 0
@@ -124,7 +123,7 @@ AsksBy (Err other) start last section = IfSome start (λ bytes. HasAsked bytes l
 
 -- whatever queries come from this place on, the client's bytes have these lines first and then those
 abbrev pub AsksFirst : Place → List ScriptLine → List ℕ → List ℕ → Type 0
-AsksFirst place front bytes rest = (lines : List ScriptLine) (fault : Option WireFault) → QueriesAre place rest lines fault → queries bytes (front ++ lines) fault
+AsksFirst place front bytes rest = (lines : List ScriptLine) (fault : Option WireFault) → QueriesAre place rest lines fault → queries place.most bytes (front ++ lines) fault
 
 -- a session that was given as `start` has answered all queries up to where the reader stands, and nothing else was written. Before the
 -- first query `bytes` were left to be read and `held` was written
@@ -133,7 +132,7 @@ pub record IsServing {P : Type 0} (start s : Session P) (place : Place) (bytes l
   pub is_open : IsOpen s
   pub begun : start.section.lines ≡ is_open.ends.last ∷ []
   pub notes : note_lines_of s.section.lines ≡ place.notes
-  pub most : s.section.note_lines ≡ NOTE_LINES_MAX
+  pub most : place.most ≡ s.section.note_lines
   pub asked : OfKnown (AsksFirst place is_open.ends.front) bytes left
   pub wrote : Appends held now (messages s.section s.items.items)
 
@@ -149,12 +148,11 @@ TurnsInto {P} (Ok true) start s place bytes left held now = IsServing start s pl
 TurnsInto {P} (Ok false) start s place bytes left held now = HasEnded {P = P} {T = Bool} (Ok false) start s bytes held now
 TurnsInto {P} (Err end) start s place bytes left held now = HasEnded {P = P} {T = Bool} (Err end) start s bytes held now
 
--- a session that may begin: its script is a `\quit`, and it may notify as often as a client may ask
+-- a session that may begin: its script is a `\quit`
 pub record BeginsEmpty {P : Type 0} (s : Session P) : Type 0 where
   pub last : ScriptLine
   pub lines : s.section.lines ≡ last ∷ []
   pub quits : last.act ≡ Quit
-  pub notes : s.section.note_lines ≡ NOTE_LINES_MAX
   pub begun : s.done ≡ 0
   pub between : s.doing ≡ Lines
   pub shown : s.items.items ≡ []

@@ -16,7 +16,7 @@ use std::alloc::Global;
 use std::sync::Wait;
 
 /// Serves a client until it ends: each query is answered before the next is read. The session's script is a `\quit`, before which the
-/// queries are put. At the end the session is over; after an error its trace so far is lawful.
+/// queries are put; as many of them may notify as its section says. At the end the session is over; after an error its trace so far is lawful.
 pub fn serve_wire<P: PassView + Send + Drop, H: Hub<Pass = P>, R: Wait, S: Source, K: Sink>(
     rt: &R,
     alloc: Global,
@@ -81,7 +81,7 @@ fn converse<P: PassView + Send + Drop, H: Hub<Pass = P>, R: Wait, S: Source, K: 
     ensures sink_later { K.faults sink.old ≤ K.faults sink.new }
     ensures sink_rose { K.faults sink.old < K.faults sink.new → result ≡ Err WireEnd.Write }
 {
-    let mut queries = Queries::new(alloc);
+    let mut queries = Queries::new(alloc, session.section.note_lines);
     for _query in 0..u32::MAX {
         match take_turn(rt, alloc, hub, session, &mut queries, source, sink) {
             Ok(true) => {}

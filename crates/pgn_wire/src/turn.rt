@@ -1,6 +1,5 @@
 ghost use Rattle.std.specs.Prelude.{◌≡◌, ℕ, ◌+◌, ◌<◌, ◌≤◌, true, [], List, Option, Ok, Err, Some, IfOk, IfSome, OnOk};
 ghost use Rattle.pgn_base.specs.Outside.{Rose};
-ghost use Rattle.pgn_base.specs.declared.limits.TheConstants.{NOTE_LINES_MAX};
 ghost use Rattle.pgn_language.specs.Inputs.{note_lines_of};
 ghost use Rattle.pgn_queries.specs.declared.wire_fault.WireFault.{WireFault};
 ghost use Rattle.pgn_queries.specs.Client.{OfKnown};
@@ -35,7 +34,7 @@ pub(crate) fn take_turn<P: PassView + Send + Drop, H: Hub<Pass = P>, R: Wait, S:
     requires rested { HasRest (H.shape hub.now) P.known session.old }
     requires between { IsOpen session.old }
     requires notes { note_lines_of session.old.section.lines ≡ queries.old.notes }
-    requires most { session.old.section.note_lines ≡ NOTE_LINES_MAX }
+    requires most { queries.old.most ≡ session.old.section.note_lines }
     ensures own { H.is_pass hub.now session.new.pass }
     ensures stood { HasStood (H.shape hub.now) P.known session.new }
     ensures between { OnOk result (IsOpen session.new) }

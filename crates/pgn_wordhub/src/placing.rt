@@ -145,6 +145,7 @@ impl WordHub {
         ensures own { IsPassOf self.now.queue pass.new }
         ensures view { view_of pass.new ≡ advanced_view (view_of pass.new) (view_of pass.old) }
         ensures writes { HasWritten (view_of pass.old) (view_of pass.new) }
+        ensures at_once { page_of placing.now.at < placing.now.stop + (hub_shape self.now).pages → view_of pass.new ≡ view_of pass.old }
         ensures grows { (view_of pass.old).stop ≤ (view_of pass.new).stop }
         ensures stop { result.0 ≡ (view_of pass.new).stop }
         ensures page { is_some result.1 ≡ false → page_of placing.now.at < result.0 + (hub_shape self.now).pages }

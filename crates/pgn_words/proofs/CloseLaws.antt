@@ -233,7 +233,7 @@ closed_low z id v ws xs fin positive setup f there =
     let l = f.1.0 in
     let counted = l.law.history.counted in
     let left = few_left z l.world.made l.world.past f.0.views id v l.law.budget f.1.1 l.law.history.finished setup in
-    let all : notes_of_seats v.setup.seats ≤ 65536 = let few = l.shape.few_notes in subst (λ (y : Shape). notes_of_seats y.seats ≤ 65536) (sym setup) few in
+    let all : notes_of_seats v.setup.seats ≤ 1048575 = let few = l.shape.few_notes in subst (λ (y : Shape). notes_of_seats y.seats ≤ 1048575) (sym setup) few in
     omega (arith, is, counted, left, all)
 
 pub closes : (z : Shape) (id : ℕ) (v : View) (ws xs : List ℕ) (fin count : ℕ) (all yielded : List WordPass) (head : WordPass) → 0 < v.known.session → Final (Seen (Lawful z) id v) ws xs → get_elem? ws 2 ≡ some fin

@@ -261,7 +261,7 @@ look_flag_allowed z slots id word flag me positive there room =
         let heard_both : IsHeard c.fin g.undecided told = record { most = let a = heard.most in let b = heard_n.most in omega (arith, a, b); decided = λ i waits. let a = heard.decided i waits in let b = heard_n.decided i waits in omega (arith, a, b) } in
         let counted = h.history.counted in
         let left = few_left z g.made g.past views id v h.budget here h.history.finished (setup_of z c g views id v h here positive) in
-        let all : notes_of_seats v.setup.seats ≤ 65536 = let few = shape.few_notes in subst (λ (y : Shape). notes_of_seats y.seats ≤ 65536) (sym (setup_of z c g views id v h here positive)) few in
+        let all : notes_of_seats v.setup.seats ≤ 1048575 = let few = shape.few_notes in subst (λ (y : Shape). notes_of_seats y.seats ≤ 1048575) (sym (setup_of z c g views id v h here positive)) few in
         let raised_mine : All (Raised views) v.known.found = all_front (Raised views) v.known.found (flat_map (λ k. k.found) v.joined) (h.flags.found id v here) in
         let most_mine : All (IsMost c.flags) v.known.raised = all_front (IsMost c.flags) v.known.raised (flat_map (λ k. k.raised) v.joined) (h.flags.most id v here) in
         let no_greater : (pair : ℕ × ℕ) → (3 ≤ pair.1) × (pair.1 ≤ get_or c.flags pair.0 0) → pair.0 ≡ flag → pair.1 ≤ n = λ pair is_low same. let b = is_low.1 in let e : get_or c.flags pair.0 0 ≡ n = ap (λ k. get_or c.flags k 0) same in omega (arith, b, e) in record {

@@ -52,9 +52,9 @@ shown_bound z past session db notes queued fate all finished valid few =
     let here = image_bound z.format past finished in
     let more = after_bound z.format (length (image z.format past)) session db notes queued fate valid in omega (arith, long, here, more, few)
 
-pub shown_low : (z : Shape) (past : List Tx) (session db : ℕ) (notes : List Note) (queued : ℕ) (fate : Fate) → All IsFinished past → All IsNote notes → notes_of past + length notes ≤ 65536
+pub shown_low : (z : Shape) (past : List Tx) (session db : ℕ) (notes : List Note) (queued : ℕ) (fate : Fate) → All IsFinished past → All IsNote notes → notes_of past + length notes ≤ 1048575
     → length (image z.format (past ++ draft session db notes queued fate ∷ [])) < 2 ^ 32
-shown_low z past session db notes queued fate finished valid few = let bound = shown_bound z past session db notes queued fate 65536 finished valid few in omega (arith, bound)
+shown_low z past session db notes queued fate finished valid few = let bound = shown_bound z past session db notes queued fate 1048575 finished valid few in omega (arith, bound)
 
 -- the places of a journal stay where it grows
 pub placed_grows : (format : Format) (past more : List Tx) (fin fin' stop mark at : ℕ) → fin ≡ next_xid past → fin ≤ fin' → IsPlaced format past fin stop mark at → IsPlaced format (past ++ more) fin' stop mark at

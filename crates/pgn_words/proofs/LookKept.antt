@@ -258,7 +258,7 @@ load_tail_allowed z slots id me looker first =
             let most = tail.most in
             let counted = h.history.counted in
             let left = few_left z g.made g.past views id v h.budget here h.history.finished setup in
-            let all : notes_of_seats v.setup.seats ≤ 65536 = let few = shape.few_notes in subst (λ (y : Shape). notes_of_seats y.seats ≤ 65536) (sym setup) few in
+            let all : notes_of_seats v.setup.seats ≤ 1048575 = let few = shape.few_notes in subst (λ (y : Shape). notes_of_seats y.seats ≤ 1048575) (sym setup) few in
             omega (arith, most, counted, left, all);
       };
     })

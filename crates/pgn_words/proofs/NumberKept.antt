@@ -83,7 +83,7 @@ draw_allowed z slots id me notes ready filled valid different few =
     let one : 1 ≤ length notes = some_of notes filled in
     let left : length g.past + me.0.known.notes_left ≤ notes_of_seats me.0.setup.seats = few_left z g.made g.past views id me.0 h.budget here h.history.finished (held_setup z c g views id me.0 h here (ap holds_lock ready)) in
     let size : length me.0.known.seen ≡ length g.past = ap length was.idle.seen_is in
-    let all : notes_of_seats me.0.setup.seats ≤ 65536 = let most = shape.few_notes in subst (λ (x : Shape). notes_of_seats x.seats ≤ 65536) (sym (held_setup z c g views id me.0 h here (ap holds_lock ready))) most in
+    let all : notes_of_seats me.0.setup.seats ≤ 1048575 = let most = shape.few_notes in subst (λ (x : Shape). notes_of_seats x.seats ≤ 1048575) (sym (held_setup z c g views id me.0 h here (ap holds_lock ready))) most in
     let counted = h.history.counted in
     let number : c.xid ≡ next_xid me.0.known.seen = omega (arith, mine, counted, size) in record {
       w = drawn notes me.0;

@@ -204,7 +204,7 @@ load_fin_allowed z slots id me positive =
     allowed z slots id 2 me (λ n. n) (TellsFin (step slots 2 0 0 none) me) (λ shape c g views h here.
     let rest : g.past ≡ me.0.known.seen ++ drop (length me.0.known.seen) g.past = begins-rest me.0.known.seen g.past (h.history.sees id me.0 here) in
     let left = few_left z g.made g.past views id me.0 h.budget here h.history.finished (setup_of z c g views id me.0 h here positive) in
-    let all : notes_of_seats me.0.setup.seats ≤ 65536 = let most = shape.few_notes in subst (λ (x : Shape). notes_of_seats x.seats ≤ 65536) (sym (setup_of z c g views id me.0 h here positive)) most in
+    let all : notes_of_seats me.0.setup.seats ≤ 1048575 = let most = shape.few_notes in subst (λ (x : Shape). notes_of_seats x.seats ≤ 1048575) (sym (setup_of z c g views id me.0 h here positive)) most in
     let counted = h.history.counted in record {
       w = record me.0 { known = record me.0.known { seen = g.past } };
       content = c;

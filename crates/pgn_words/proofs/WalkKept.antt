@@ -166,7 +166,7 @@ begin_walk_allowed z slots id me positive free registered =
     let mine = (h.posts.placed id v here has).1 in
     let counted = h.history.counted in
     let left = few_left z g.made g.past views id v h.budget here h.history.finished setup in
-    let all : notes_of_seats v.setup.seats ≤ 65536 = let most = shape.few_notes in subst (λ (y : Shape). notes_of_seats y.seats ≤ 65536) (sym setup) most in record {
+    let all : notes_of_seats v.setup.seats ≤ 1048575 = let most = shape.few_notes in subst (λ (y : Shape). notes_of_seats y.seats ≤ 1048575) (sym setup) most in record {
       w = moved g.past v.known.mark v.known.marks v.known.owes v.known.set v.post k v;
       content = c;
       world = g;
@@ -200,7 +200,7 @@ begin_walk_allowed z slots id me positive free registered =
 pub shown_few : (z : Shape) (c : Content) (g : World) (views : List View) (id : ℕ) (v : View) → IsShape z → Law z c g views → get_elem? views id ≡ some v → v.setup ≡ z → next_xid g.shown < 2 ^ 32
 shown_few z c g views id v shape h here setup =
     let left = few_left z g.made g.past views id v h.budget here h.history.finished setup in
-    let all : notes_of_seats v.setup.seats ≤ 65536 = let most = shape.few_notes in subst (λ (y : Shape). notes_of_seats y.seats ≤ 65536) (sym setup) most in
+    let all : notes_of_seats v.setup.seats ≤ 1048575 = let most = shape.few_notes in subst (λ (y : Shape). notes_of_seats y.seats ≤ 1048575) (sym setup) most in
     let more = h.history.one_more in omega (arith, left, all, more)
 
 pub show_head_allowed : (z : Shape) (slots id : ℕ) (me : Me ℕ View) → 0 < me.0.known.session → is_walking me.0.walk.stage ≡ true → Allows (Lawful z) slots id me 1 (λ n. n) (TellsShown (step slots 1 0 0 none) me)

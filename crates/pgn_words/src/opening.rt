@@ -1,5 +1,5 @@
 ghost use Rattle.std.specs.Prelude.{◌≡◌, ◌+◌, ◌<◌, ◌≤◌, map, length, All, IfOk};
-ghost use Rattle.pgn_base.specs.declared.limits.TheConstants.{NOTE_LINES_MAX};
+ghost use Rattle.pgn_base.specs.declared.limits.TheConstants.{HUB_NOTES_MAX};
 ghost use Rattle.pgn_hub.specs.Shape.{notes_of_seats, IsShape};
 ghost use Rattle.pgn_hub.specs.Passes.{opened_passes};
 ghost use Rattle.pgn_words.specs.Words.{cells_at, statuses_at, status_words, room_of, row, first_content};
@@ -18,7 +18,7 @@ use std::alloc::{AllocError, Global};
 
 // How many notifications all sessions may send.
 fn notes_of_all(seats: &[SeatSetup]) -> usize
-    requires { notes_of_seats seats.now ≤ NOTE_LINES_MAX }
+    requires { notes_of_seats seats.now ≤ HUB_NOTES_MAX }
     ensures { result ≡ notes_of_seats seats.now }
 {
     let mut all = 0;

@@ -21,7 +21,7 @@ fn asked(alloc: Global, bytes: &[u8], fails: &[u64], most: usize) -> Result<Came
     let bytes = Vec::from_slice(alloc, bytes)?;
     let fails = Vec::from_slice(alloc, fails)?;
     let mut source = MemSource::new(bytes, fails, most.max(1));
-    let mut queries = Queries::new(alloc);
+    let mut queries = Queries::new(alloc, 65_536);
     let mut lines = Vec::new(alloc);
     let end = ask(alloc, &mut source, &mut queries, &mut lines)?;
     Ok(Came { lines, end })
@@ -270,17 +270,21 @@ fn too_many<S: Source>(alloc: Global, queries: &mut Queries, source: &mut S) -> 
     }
 }
 
-// One query more than a client may ask is refused: the message that makes them too many is named.
+// Of a client of which so many queries may notify: one more is refused, and the message that makes them too many is named.
+fn refuses_one_more(alloc: Global, most: u32) -> Result<bool, AllocError> {
+    let bytes = many_queries(alloc, most as usize + 1)?;
+    let mut source = MemSource::new(bytes, Vec::new(alloc), 64);
+    let mut queries = Queries::new(alloc, most);
+    let given = gives(alloc, &mut queries, &mut source, most);
+    Ok(given && too_many(alloc, &mut queries, &mut source) == Some(u64::from(most) * 14))
+}
+
+// As many as a scenario's lines, few, and none.
 #[test]
 fn as_many_notifications_as_a_client_may_ask(rt: HostRuntime) -> Result<(), Fail> {
     let alloc = rt.alloc();
-    let bytes = many_queries(alloc, 65_537)?;
-    let mut source = MemSource::new(bytes, Vec::new(alloc), 64);
-    let mut queries = Queries::new(alloc);
-    assert!(rt; gives(alloc, &mut queries, &mut source, 65_536));
-    assert_eq!(rt;
-        too_many(alloc, &mut queries, &mut source),
-        Some(65_536 * 14)
-    );
+    assert!(rt; refuses_one_more(alloc, 65_536)?);
+    assert!(rt; refuses_one_more(alloc, 1)?);
+    assert!(rt; refuses_one_more(alloc, 0)?);
     Ok(())
 }

@@ -1,6 +1,6 @@
 use Rattle.std.proofs.Common.{Some, None, ap}
 use Rattle.pgn_queries.specs.Queries.{Place}
-use Rattle.pgn_wire.proofs.ServingLaws.{answer-fails, passed-few, passed-most, passed-runs, serving-ends, serving-fails, serving-goes, some-gives, some-passed, taken-open, taken-served}
+use Rattle.pgn_wire.proofs.ServingLaws.{answer-fails, passed-few, passed-limit, passed-most, passed-runs, serving-ends, serving-fails, serving-goes, some-gives, some-passed, taken-open, taken-served}
 use Rattle.pgn_wire.proofs.TakenLaws.{stood-rest}
 use Rattle.pgn_wire.proofs.turn.take_turn.Goals as goal
 
@@ -49,6 +49,7 @@ returns-in-Err-one_query-clause-turned g c =
     let left = g.S.Source.left c.args.source.now in
     let rest = g.S.Source.left c.next_query.new.source in
     λ start bytes held h. answer-fails c.in-Err-one_query.end start c.args.session.now c.one_query.new.session c.in-Ok-Some.line place next bytes left rest held (g.K.Sink.held c.args.sink.now) (g.K.Sink.held c.one_query.new.sink)
+    (passed-limit place next c.in-Ok-Some.line (some-passed place next c.in-Ok-Some.field-0 c.in-Ok-Some.line c.in-Ok-Some.field-0-is c.in-Ok-Some.ensures.passed))
     c.in-Err-one_query.ensures.ends (some-gives place next c.in-Ok-Some.field-0 (Some c.in-Ok-Some.line) left rest c.in-Ok-Some.field-0-is c.in-Ok-Some.ensures.next) c.in-Err-one_query.ensures.script
     c.one_query.ensures.same c.in-Err-one_query.ensures.written h
 

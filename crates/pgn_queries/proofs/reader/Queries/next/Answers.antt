@@ -10,7 +10,7 @@ use Rattle.pgn_queries.proofs.reader.Queries.next.Goals as goal
 
 pub returns-in-Ok-End-clause-next : goal.returns-in-Ok-End-clause-next
 returns-in-Ok-End-clause-next g c =
-    let here : Place = record { at = c.self.inside.at; queries = c.self.inside.queries; notes = c.self.inside.notes } in
+    let here : Place = record { at = c.self.inside.at; queries = c.self.inside.queries; notes = c.self.inside.notes; most = c.self.inside.most } in
     let same : here ≡ c.args.self.now = search rules in
     let start = g.S.Source.left c.args.source.now in
     let end = g.S.Source.left c.next_message.new.source in
@@ -20,7 +20,7 @@ returns-in-Ok-End-clause-next g c =
 
 pub returns-in-Ok-Fault-clause-fault : goal.returns-in-Ok-Fault-clause-fault
 returns-in-Ok-Fault-clause-fault g c fault told =
-    let here : Place = record { at = c.self.inside.at; queries = c.self.inside.queries; notes = c.self.inside.notes } in
+    let here : Place = record { at = c.self.inside.at; queries = c.self.inside.queries; notes = c.self.inside.notes; most = c.self.inside.most } in
     let same : here ≡ c.args.self.now = search rules in
     let found : c.in-Ok-Fault.fault ≡ fault = cc in
     let start = g.S.Source.left c.args.source.now in
@@ -32,7 +32,7 @@ returns-in-Ok-Fault-clause-fault g c fault told =
 
 pub returns-in-Ok-count-clause-next : goal.returns-in-Ok-count-clause-next
 returns-in-Ok-count-clause-next g c =
-    let here : Place = record { at = c.self.inside.at; queries = c.self.inside.queries; notes = c.self.inside.notes } in
+    let here : Place = record { at = c.self.inside.at; queries = c.self.inside.queries; notes = c.self.inside.notes; most = c.self.inside.most } in
     let same : here ≡ c.args.self.now = search rules in
     let start = g.S.Source.left c.args.source.now in
     let end = g.S.Source.left c.next_message.new.source in
@@ -43,7 +43,7 @@ returns-in-Ok-count-clause-next g c =
 
 pub returns-in-Err-clause-fault : goal.returns-in-Err-clause-fault
 returns-in-Err-clause-fault g c fault told =
-    let here : Place = record { at = c.self.inside.at; queries = c.self.inside.queries; notes = c.self.inside.notes } in
+    let here : Place = record { at = c.self.inside.at; queries = c.self.inside.queries; notes = c.self.inside.notes; most = c.self.inside.most } in
     let same : here ≡ c.args.self.now = search rules in
     let found : TooMany here.at ≡ fault = search rules in
     let start = g.S.Source.left c.args.source.now in
