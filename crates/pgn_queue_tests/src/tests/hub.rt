@@ -15,6 +15,7 @@ use std::str;
 use std::sync::Wait;
 use std::test::Fail;
 
+mod bells;
 mod calls;
 mod formats;
 mod full;
