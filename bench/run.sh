@@ -41,6 +41,7 @@
 #   60,000 lines          a session that sends so many, alone; then beside 255 sessions that await the flag which it raises last
 #   a flag after a while  a session that sends 4,000 lines and raises a flag, alone; then beside one that awaits the flag
 #   256 on one processor  255 sessions await a flag that the other one raises after 10,000 lines, all on one processor
+#   255 idle, 10 seconds  255 sessions that listen, beside one that awaits a flag in vain
 #
 # Then come drills, which have a scenario of their own: 8 sessions that send 200 and 1,000 notifications each, and 32 that send 200.
 # Beside each stand the milliseconds of a plain program on the same scenario, with one lock round its queue, on 4 processors. A drill
@@ -51,7 +52,7 @@
 #   60,000 notifications, at its end   self-notify, and the text once the run has ended
 #   60,000 notifications, live         the same with --live; it may take twice the processor time
 #
-# and how soon the lines of a live run are there, by bench/live.
+# and how soon the lines of a live run are there, by bench/live, and what an idle session reads, by bench/idle.
 #
 # With --hostile only bench/hostile.sh is run, with --checked only bench/checked.sh, whose heads say what they are.
 #
@@ -262,6 +263,9 @@ measure_waits() {
     sender one 10000
     waits '256 on one processor' one 3 taskset -c 0
     in_time
+    sessions quiet 1 255
+    printf '\\session waits 1\n\\await f\n\\signal f\n' >>"$room/quiet"
+    waits '255 idle, 10 seconds' quiet 1
 }
 
 # drill PLAIN SEED SESSIONS NOTES: the processor and wall milliseconds of a run of this drill, and those of the plain program
@@ -301,6 +305,7 @@ measure_live() {
         if ($3 > 2 * $1) { print "bench: a live run takes more than twice the processor time" >"/dev/stderr"; exit 1 }
     }'
     "$root/bench/live" "$program"
+    "$root/bench/idle" "$program"
 }
 
 # What long scripts of one session cost.

@@ -18,11 +18,12 @@ use pgn_run::{Status, run_notify};
 use std::alloc::{AllocError, Global};
 use std::sync::Wait;
 use std::thread::Threads;
+use std::time::Clock;
 
 /// All that the program does once it has its words: it calls `run_notify` over these words, and writes one line to `errors`
 /// where the run is not done. The result is the exit status. Hashes are made with the seed. Sessions may wait for one another, so that it is not promised that the call
 /// returns.
-pub fn program<S: Source, K: Sink + Send, E: Sink, R: Threads + Wait + Sync>(
+pub fn program<S: Source, K: Sink + Send, E: Sink, R: Threads + Wait + Clock + Sync>(
     rt: &R,
     alloc: Global,
     hashes: Seed,
@@ -66,7 +67,7 @@ pub fn program<S: Source, K: Sink + Send, E: Sink, R: Threads + Wait + Sync>(
 }
 
 // How a run of these words ends.
-fn status_of<S: Source, K: Sink + Send, R: Threads + Wait + Sync>(
+fn status_of<S: Source, K: Sink + Send, R: Threads + Wait + Clock + Sync>(
     rt: &R,
     alloc: Global,
     hashes: Seed,
@@ -114,7 +115,7 @@ fn status_of<S: Source, K: Sink + Send, R: Threads + Wait + Sync>(
 }
 
 // How a run of words that are there ends.
-fn run_words<S: Source, K: Sink + Send, R: Threads + Wait + Sync>(
+fn run_words<S: Source, K: Sink + Send, R: Threads + Wait + Clock + Sync>(
     rt: &R,
     alloc: Global,
     hashes: Seed,

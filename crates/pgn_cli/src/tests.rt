@@ -17,6 +17,7 @@ use std::random::RandomSource;
 use std::sync::Wait;
 use std::test::Fail;
 use std::thread::Threads;
+use std::time::Clock;
 
 #[test]
 fn one_line_on_standard_error(rt: HostRuntime) -> Result<(), Fail> {
@@ -197,7 +198,7 @@ fn sink_of(alloc: Global, run: &Run<'_>) -> Result<MemSink, AllocError> {
 }
 
 // The exit status, the output and the line on the errors' stream.
-fn ended<R: Threads + Wait + Sync>(
+fn ended<R: Threads + Wait + Clock + Sync>(
     rt: &R,
     alloc: Global,
     run: &Run<'_>,
@@ -211,7 +212,7 @@ fn ended<R: Threads + Wait + Sync>(
 }
 
 // Over any streams: so no clause of the call has to be computed for those in memory.
-fn code_of<S: Source, K: Sink + Send, E: Sink, R: Threads + Wait + Sync>(
+fn code_of<S: Source, K: Sink + Send, E: Sink, R: Threads + Wait + Clock + Sync>(
     rt: &R,
     alloc: Global,
     words: Result<Vec<String>, NoWords>,

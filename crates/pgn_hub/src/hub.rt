@@ -103,6 +103,21 @@ pub trait Hub: Sized {
     fn rest<R: Wait>(&self, rt: &R, flag: u32, time: Duration)
         requires flag { flag < (shape self.now).flags };
 
+    /// The session of this seat is about to doze: what sets its wake, raises a flag or calls the run off from now on rings its bell. Look
+    /// once more at everything before you doze. No clause sees that a bell rings.
+    fn arm(&self, seat: u32)
+        requires seat { seat < length (shape self.now).seats };
+
+    /// Rings the bell of a seat: who dozes there wakes, and who has armed it does not begin to doze. Where nobody armed it, it is a load.
+    fn ring(&self, seat: u32)
+        requires seat { seat < length (shape self.now).seats };
+
+    /// Sleeps until the bell of the session's own seat rings, for so long at most (`Duration::MAX`: until it rings); at once it returns
+    /// where the bell has rung since it was armed, or was not armed. It may return for no reason. No clause sees that the thread sleeps,
+    /// or how long.
+    fn doze<R: Wait>(&self, rt: &R, seat: u32, time: Duration)
+        requires seat { seat < length (shape self.now).seats };
+
     /// Calls the run off: a session was refused memory, and others need not wait for what it would have done. It needs no pass and
     /// does nothing to any.
     fn call_off(&self);

@@ -12,6 +12,7 @@ use pgn_session::{Meeting, Session};
 use std::alloc::{AllocError, Global};
 use std::sync::Wait;
 use std::thread::{Threads, join_mut};
+use std::time::Clock;
 
 // Runs sessions until all are over, each on a thread of its own while threads can be had, and tells what they record; sessions for which
 // no thread can be started take turns on the one that they share. The error is that memory did not suffice for some session, which
@@ -20,7 +21,7 @@ use std::thread::{Threads, join_mut};
 pub(crate) fn play_sessions<
     P: PassView + Send + Drop,
     H: Hub<Pass = P> + Sync,
-    R: Threads + Wait + Sync,
+    R: Threads + Wait + Clock + Sync,
 >(
     rt: &R,
     alloc: Global,
@@ -48,7 +49,7 @@ pub(crate) fn play_sessions<
 
 // Goes on with the lower half of the numbers, where the upper half has no session.
 #[cycle(halves)]
-fn play_lower<P: PassView + Send + Drop, H: Hub<Pass = P> + Sync, R: Threads + Wait + Sync>(
+fn play_lower<P: PassView + Send + Drop, H: Hub<Pass = P> + Sync, R: Threads + Wait + Clock + Sync>(
     rt: &R,
     alloc: Global,
     hub: &H,
@@ -73,7 +74,7 @@ fn play_lower<P: PassView + Send + Drop, H: Hub<Pass = P> + Sync, R: Threads + W
 
 // Runs the sessions of both halves of the numbers side by side. Where they don't meet there is no answer, and nothing was done.
 #[cycle(halves)]
-fn play_apart<P: PassView + Send + Drop, H: Hub<Pass = P> + Sync, R: Threads + Wait + Sync>(
+fn play_apart<P: PassView + Send + Drop, H: Hub<Pass = P> + Sync, R: Threads + Wait + Clock + Sync>(
     rt: &R,
     alloc: Global,
     hub: &H,
@@ -112,7 +113,11 @@ fn play_apart<P: PassView + Send + Drop, H: Hub<Pass = P> + Sync, R: Threads + W
 // Runs two halves side by side, where they meet. Who takes the word decides for both, so that none runs alone; but no contract knows
 // that, so a half that did not run is played in turns where the other one did.
 #[cycle(halves)]
-fn play_halves<P: PassView + Send + Drop, H: Hub<Pass = P> + Sync, R: Threads + Wait + Sync>(
+fn play_halves<
+    P: PassView + Send + Drop,
+    H: Hub<Pass = P> + Sync,
+    R: Threads + Wait + Clock + Sync,
+>(
     rt: &R,
     alloc: Global,
     hub: &H,
@@ -144,7 +149,7 @@ fn play_halves<P: PassView + Send + Drop, H: Hub<Pass = P> + Sync, R: Threads + 
 }
 
 // What sessions have come to that have run; those that have not are played in turns.
-fn play_the_rest<P: PassView + Send + Drop, H: Hub<Pass = P>, R: Wait>(
+fn play_the_rest<P: PassView + Send + Drop, H: Hub<Pass = P>, R: Wait + Clock>(
     rt: &R,
     alloc: Global,
     hub: &H,
@@ -166,7 +171,11 @@ fn play_the_rest<P: PassView + Send + Drop, H: Hub<Pass = P>, R: Wait>(
 
 // Takes each half to a thread of its own, where they meet.
 #[cycle(halves)]
-fn join_halves<P: PassView + Send + Drop, H: Hub<Pass = P> + Sync, R: Threads + Wait + Sync>(
+fn join_halves<
+    P: PassView + Send + Drop,
+    H: Hub<Pass = P> + Sync,
+    R: Threads + Wait + Clock + Sync,
+>(
     rt: &R,
     alloc: Global,
     hub: &H,
@@ -206,7 +215,7 @@ fn join_halves<P: PassView + Send + Drop, H: Hub<Pass = P> + Sync, R: Threads + 
 
 // The half on the new thread. Where the caller could have no thread it calls this itself, after its own half.
 #[cycle(halves)]
-fn arrive<P: PassView + Send + Drop, H: Hub<Pass = P> + Sync, R: Threads + Wait + Sync>(
+fn arrive<P: PassView + Send + Drop, H: Hub<Pass = P> + Sync, R: Threads + Wait + Clock + Sync>(
     rt: &R,
     alloc: Global,
     hub: &H,
@@ -230,7 +239,7 @@ fn arrive<P: PassView + Send + Drop, H: Hub<Pass = P> + Sync, R: Threads + Wait 
 
 // The caller's half, which waits for the other one first.
 #[cycle(halves)]
-fn expect<P: PassView + Send + Drop, H: Hub<Pass = P> + Sync, R: Threads + Wait + Sync>(
+fn expect<P: PassView + Send + Drop, H: Hub<Pass = P> + Sync, R: Threads + Wait + Clock + Sync>(
     rt: &R,
     alloc: Global,
     hub: &H,

@@ -23,6 +23,7 @@ use std::alloc::{AllocError, Global};
 use std::sync::Wait;
 use std::sync::atomic::{AtomicU64, Ordering};
 use std::thread::{Threads, join_mut};
+use std::time::Clock;
 
 // So many sessions may tell.
 const SPAN: u64 = 256;
@@ -43,7 +44,7 @@ pub enum LiveFault {
 pub fn run_live<
     P: PassView + Send + Drop,
     H: Hub<Pass = P> + Sync,
-    R: Threads + Wait + Sync,
+    R: Threads + Wait + Clock + Sync,
     K: Sink + Send,
 >(
     rt: &R,
@@ -104,7 +105,7 @@ fn give_up_first<P: PassView + Send + Drop, H: Hub<Pass = P>>(hub: &H, sessions:
 fn run_to_the_end<
     P: PassView + Send + Drop,
     H: Hub<Pass = P> + Sync,
-    R: Threads + Wait + Sync,
+    R: Threads + Wait + Clock + Sync,
     K: Sink + Send,
 >(
     rt: &R,
@@ -143,7 +144,7 @@ fn run_to_the_end<
 fn play_and_write<
     P: PassView + Send + Drop,
     H: Hub<Pass = P> + Sync,
-    R: Threads + Wait + Sync,
+    R: Threads + Wait + Clock + Sync,
     K: Sink + Send,
 >(
     rt: &R,
@@ -185,7 +186,11 @@ fn play_and_write<
 }
 
 // Runs the sessions, and then sets the end word and wakes the writer, also after a refusal.
-fn play_and_end<P: PassView + Send + Drop, H: Hub<Pass = P> + Sync, R: Threads + Wait + Sync>(
+fn play_and_end<
+    P: PassView + Send + Drop,
+    H: Hub<Pass = P> + Sync,
+    R: Threads + Wait + Clock + Sync,
+>(
     rt: &R,
     alloc: Global,
     hub: &H,

@@ -9,16 +9,17 @@ ghost use Rattle.pgn_session.specs.Runs.{IsHeld, IsLawful, IsOver, IsReady, scri
 use crate::telling::tell;
 use pgn_hub::{Hub, PassView};
 use pgn_outlet::{Outlet, OutletPass};
-use pgn_session::{Session, Step, both_steps, give_up_all, wait_together};
+use pgn_session::{Session, Step, both_steps, give_up_all, wait_together, waits_behind};
 use std::alloc::{AllocError, Global};
 use std::sync::Wait;
+use std::time::Clock;
 
 // So many sessions there are at most.
 const MOST_SESSIONS: usize = 256;
 
 // Runs sessions until all are over, on the caller's thread, where they take turns, and tells what they record. The error is that memory did
 // not suffice for some session, and then each has raised its end flag, or for the queue, and then they are over and have not told all.
-pub(crate) fn play_in_turns<P: PassView + Send + Drop, H: Hub<Pass = P>, R: Wait>(
+pub(crate) fn play_in_turns<P: PassView + Send + Drop, H: Hub<Pass = P>, R: Wait + Clock>(
     rt: &R,
     alloc: Global,
     hub: &H,
@@ -48,7 +49,7 @@ pub(crate) fn play_in_turns<P: PassView + Send + Drop, H: Hub<Pass = P>, R: Wait
 }
 
 // Round after round, until all sessions are over or one is refused memory.
-fn play_rounds<P: PassView + Send + Drop, H: Hub<Pass = P>, R: Wait>(
+fn play_rounds<P: PassView + Send + Drop, H: Hub<Pass = P>, R: Wait + Clock>(
     rt: &R,
     alloc: Global,
     hub: &H,
@@ -66,19 +67,30 @@ fn play_rounds<P: PassView + Send + Drop, H: Hub<Pass = P>, R: Wait>(
 {
     let mut waits = 0;
     for _ in rt.forever() {
+        let before = first_told(told);
         let step = play_round(rt, alloc, hub, outlet, pass, sessions, told)?;
         if step == Step::Ended {
             return Ok(());
         }
+        // What a session tells that waits, it has read.
+        waits = waits_behind(waits, first_told(told) != before);
         waits = wait_together(rt, hub, sessions, step, waits);
     }
     unreachable!()
 }
 
+// How many items of the first session were told.
+fn first_told(told: &[usize]) -> usize {
+    match told {
+        [first, ..] => *first,
+        [] => 0,
+    }
+}
+
 // A turn of each session. Answers Ended where all are over, and Waiting where none did more than wait. After a refusal the others have
 // had their turn too.
 #[cycle(rounds)]
-fn play_round<P: PassView + Send + Drop, H: Hub<Pass = P>, R: Wait>(
+fn play_round<P: PassView + Send + Drop, H: Hub<Pass = P>, R: Wait + Clock>(
     rt: &R,
     alloc: Global,
     hub: &H,
@@ -111,7 +123,7 @@ fn play_round<P: PassView + Send + Drop, H: Hub<Pass = P>, R: Wait>(
 
 // A round of the one half, and then one of the other, also where the first was refused memory.
 #[cycle(rounds)]
-fn play_both<P: PassView + Send + Drop, H: Hub<Pass = P>, R: Wait>(
+fn play_both<P: PassView + Send + Drop, H: Hub<Pass = P>, R: Wait + Clock>(
     rt: &R,
     alloc: Global,
     hub: &H,
@@ -139,7 +151,7 @@ fn play_both<P: PassView + Send + Drop, H: Hub<Pass = P>, R: Wait>(
 }
 
 // A turn of one session, and what it recorded is told, also where the turn was refused memory.
-fn play_turn<P: PassView + Send + Drop, H: Hub<Pass = P>, R: Wait>(
+fn play_turn<P: PassView + Send + Drop, H: Hub<Pass = P>, R: Wait + Clock>(
     rt: &R,
     alloc: Global,
     hub: &H,

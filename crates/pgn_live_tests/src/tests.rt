@@ -15,6 +15,7 @@ use std::alloc::{AllocError, Global};
 use std::sync::Wait;
 use std::test::Fail;
 use std::thread::Threads;
+use std::time::Clock;
 
 mod gate;
 mod program;
@@ -56,7 +57,7 @@ fn open<H: Hub + Drop>(
 fn live<
     P: PassView + Send + Drop,
     H: Hub<Pass = P> + Sync,
-    R: Threads + Wait + Sync,
+    R: Threads + Wait + Clock + Sync,
     K: Sink + Send,
 >(
     rt: &R,

@@ -7,6 +7,7 @@ use std::fs::Files;
 use std::str;
 use std::sync::Wait;
 use std::thread::Threads;
+use std::time::Clock;
 
 // What stands between a scenario and its output.
 const OUTPUT: &[u8] = b"\\output\n";
@@ -20,7 +21,7 @@ const CHANGES: [&str; 3] = ["without", "twice", "behind"];
 /// What `check` says of the outputs of rows, told by the lines of this input. A line with the name of a row is answered with what
 /// `check` says of its output, and with the changes of that by one line that are legal too, though they change the text. A line with
 /// a name, a change and a line's number is answered with what it says of the output with this change.
-pub fn changes_row<R: Files + AllocGlobal + Threads + Wait + Sync>(
+pub fn changes_row<R: Files + AllocGlobal + Threads + Wait + Clock + Sync>(
     rt: &R,
     alloc: Global,
     input: &[u8],
@@ -32,7 +33,7 @@ pub fn changes_row<R: Files + AllocGlobal + Threads + Wait + Sync>(
     printer.into_text()
 }
 
-fn put_lines<R: Files + AllocGlobal + Threads + Wait + Sync>(
+fn put_lines<R: Files + AllocGlobal + Threads + Wait + Clock + Sync>(
     rt: &R,
     alloc: Global,
     printer: &mut Printer,
@@ -45,7 +46,7 @@ fn put_lines<R: Files + AllocGlobal + Threads + Wait + Sync>(
     }
 }
 
-fn put_asked<R: Files + AllocGlobal + Threads + Wait + Sync>(
+fn put_asked<R: Files + AllocGlobal + Threads + Wait + Clock + Sync>(
     rt: &R,
     alloc: Global,
     printer: &mut Printer,
@@ -72,7 +73,7 @@ fn parted(asked: &str) -> (&str, &str) {
     }
 }
 
-fn put_row<R: Threads + Wait + Sync>(
+fn put_row<R: Threads + Wait + Clock + Sync>(
     rt: &R,
     alloc: Global,
     printer: &mut Printer,
@@ -88,7 +89,7 @@ fn put_row<R: Threads + Wait + Sync>(
     }
 }
 
-fn put_lines_of<R: Threads + Wait + Sync>(
+fn put_lines_of<R: Threads + Wait + Clock + Sync>(
     rt: &R,
     alloc: Global,
     printer: &mut Printer,
@@ -151,7 +152,7 @@ struct Checked<'a> {
 }
 
 impl<'a> Checked<'a> {
-    fn put_asked<R: Threads + Wait + Sync>(
+    fn put_asked<R: Threads + Wait + Clock + Sync>(
         &self,
         rt: &R,
         alloc: Global,
@@ -168,7 +169,7 @@ impl<'a> Checked<'a> {
     }
 
     // The answer to the output, and each change by one line that changes the text and is legal.
-    fn put_all<R: Threads + Wait + Sync>(
+    fn put_all<R: Threads + Wait + Clock + Sync>(
         &self,
         rt: &R,
         alloc: Global,
@@ -182,7 +183,7 @@ impl<'a> Checked<'a> {
         }
     }
 
-    fn put_legal_at<R: Threads + Wait + Sync>(
+    fn put_legal_at<R: Threads + Wait + Clock + Sync>(
         &self,
         rt: &R,
         alloc: Global,
@@ -200,7 +201,7 @@ impl<'a> Checked<'a> {
     }
 
     // Whether the output with this change at a place is another text, and legal.
-    fn is_legal_with<R: Threads + Wait + Sync>(
+    fn is_legal_with<R: Threads + Wait + Clock + Sync>(
         &self,
         rt: &R,
         alloc: Global,
@@ -213,7 +214,7 @@ impl<'a> Checked<'a> {
         legal
     }
 
-    fn is_legal<R: Threads + Wait + Sync>(
+    fn is_legal<R: Threads + Wait + Clock + Sync>(
         &self,
         rt: &R,
         alloc: Global,
@@ -229,7 +230,7 @@ impl<'a> Checked<'a> {
     }
 
     // The answer to the output with this change, which has the number of a line behind its name.
-    fn answer_to_change<R: Threads + Wait + Sync>(
+    fn answer_to_change<R: Threads + Wait + Clock + Sync>(
         &self,
         rt: &R,
         alloc: Global,
@@ -246,7 +247,7 @@ impl<'a> Checked<'a> {
     }
 
     // What `check` says of these lines, as the output of the row's scenario.
-    fn answer<R: Threads + Wait + Sync>(
+    fn answer<R: Threads + Wait + Clock + Sync>(
         &self,
         rt: &R,
         alloc: Global,

@@ -12,9 +12,10 @@ use std::alloc::{AllocError, Global};
 use std::fs::Files;
 use std::sync::Wait;
 use std::thread::Threads;
+use std::time::Clock;
 
 /// What is printed of the row of this name: the name alone where the row comes out right.
-pub fn report<R: Files + AllocGlobal + Threads + Wait + Sync>(
+pub fn report<R: Files + AllocGlobal + Threads + Wait + Clock + Sync>(
     rt: &R,
     alloc: Global,
     name: &str,
@@ -42,7 +43,7 @@ fn line(alloc: Global, name: &str, what: &str) -> Result<Vec<u8>, AllocError>
     Ok(text)
 }
 
-fn judged<R: Files + AllocGlobal + Threads + Wait + Sync>(
+fn judged<R: Files + AllocGlobal + Threads + Wait + Clock + Sync>(
     rt: &R,
     alloc: Global,
     name: &str,
@@ -68,7 +69,7 @@ fn judged<R: Files + AllocGlobal + Threads + Wait + Sync>(
 }
 
 // What the row's input comes to, by the ending of its name.
-fn outcome<R: Files + AllocGlobal + Threads + Wait + Sync>(
+fn outcome<R: Files + AllocGlobal + Threads + Wait + Clock + Sync>(
     rt: &R,
     alloc: Global,
     name: &str,
@@ -89,7 +90,7 @@ fn outcome<R: Files + AllocGlobal + Threads + Wait + Sync>(
     })
 }
 
-fn output_of<R: Files + AllocGlobal + Threads + Wait + Sync>(
+fn output_of<R: Files + AllocGlobal + Threads + Wait + Clock + Sync>(
     rt: &R,
     alloc: Global,
     kind: &str,

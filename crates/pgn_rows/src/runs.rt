@@ -5,12 +5,13 @@ use pgn_run::{Status, run_notify};
 use std::alloc::{AllocError, Global};
 use std::sync::Wait;
 use std::thread::Threads;
+use std::time::Clock;
 
 // The room for what a run writes, and how many bytes a read or a write moves at most.
 const ROOM: usize = 1 << 20;
 
 /// What the program comes to over these words and this input.
-pub fn run_row<R: Threads + Wait + Sync>(
+pub fn run_row<R: Threads + Wait + Clock + Sync>(
     rt: &R,
     alloc: Global,
     words: &[String],
@@ -22,7 +23,7 @@ pub fn run_row<R: Threads + Wait + Sync>(
     outcome
 }
 
-fn run_over<R: Threads + Wait + Sync>(
+fn run_over<R: Threads + Wait + Clock + Sync>(
     rt: &R,
     alloc: Global,
     words: &[String],
@@ -34,7 +35,7 @@ fn run_over<R: Threads + Wait + Sync>(
     outcome
 }
 
-fn outcome_of<R: Threads + Wait + Sync>(
+fn outcome_of<R: Threads + Wait + Clock + Sync>(
     rt: &R,
     alloc: Global,
     words: &[String],
@@ -60,7 +61,7 @@ fn borrowed(alloc: Global, words: &[String]) -> Result<Vec<&str>, AllocError> {
 }
 
 // How a run ends, over any source and sink: so no clause of the call has to be computed for those in memory.
-fn status_of<S: Source, K: Sink + Send, R: Threads + Wait + Sync>(
+fn status_of<S: Source, K: Sink + Send, R: Threads + Wait + Clock + Sync>(
     rt: &R,
     alloc: Global,
     words: &[&str],

@@ -24,10 +24,11 @@ use pgn_threads::{Run, finish_run, open_on_hub};
 use std::alloc::{AllocError, Global};
 use std::sync::Wait;
 use std::thread::Threads;
+use std::time::Clock;
 
 /// Runs a scenario as `run_scenario` does, and writes each line of each session as it comes, behind the session's number; then the
 /// journal, and where each session ended.
-pub fn run_scenario_live<H: Hub + Sync + Drop, K: Sink + Send, R: Threads + Wait + Sync>(
+pub fn run_scenario_live<H: Hub + Sync + Drop, K: Sink + Send, R: Threads + Wait + Clock + Sync>(
     rt: &R,
     alloc: Global,
     hashes: Seed,

@@ -33,6 +33,7 @@ use std::alloc::{AllocError, Global};
 use std::mem;
 use std::sync::Wait;
 use std::thread::Threads;
+use std::time::Clock;
 
 // How many bytes of an input are read at most: one more than an input may have.
 const READ_LIMIT: usize = INPUT_BYTES_MAX + 1;
@@ -44,7 +45,7 @@ const READ_LIMIT: usize = INPUT_BYTES_MAX + 1;
 /// is the output of a legal run of it, or which line is the first to blame. Hashes are made with the seed, on which nothing that stands
 /// here depends. Sessions may wait for one another, so that it is not promised
 /// that the call returns; what stands here holds where it does.
-pub fn run_notify<'a, S: Source, K: Sink + Send, R: Threads + Wait + Sync>(
+pub fn run_notify<'a, S: Source, K: Sink + Send, R: Threads + Wait + Clock + Sync>(
     rt: &R,
     alloc: Global,
     hashes: Seed,
@@ -202,7 +203,7 @@ fn shows_if(live: bool) -> Shows
 }
 
 // Reads a scenario and runs it.
-fn run<S: Source, K: Sink + Send, R: Threads + Wait + Sync>(
+fn run<S: Source, K: Sink + Send, R: Threads + Wait + Clock + Sync>(
     rt: &R,
     alloc: Global,
     hashes: Seed,
@@ -256,7 +257,7 @@ fn run<S: Source, K: Sink + Send, R: Threads + Wait + Sync>(
 }
 
 // Makes the scenario of a drill and runs it. It reads as a scenario, which tests show; were it none, the answer would be want of memory.
-fn drill<K: Sink + Send, R: Threads + Wait + Sync>(
+fn drill<K: Sink + Send, R: Threads + Wait + Clock + Sync>(
     rt: &R,
     alloc: Global,
     hashes: Seed,
@@ -296,7 +297,7 @@ fn drill<K: Sink + Send, R: Threads + Wait + Sync>(
 
 // Runs an input that was read, over a hub of this type, and lets the input go once it is a scenario. The scenario is not freed: the
 // program ends with this answer, and to free it piece by piece is no small part of a run.
-fn answer<H: Hub + Sync + Drop, K: Sink + Send, R: Threads + Wait + Sync>(
+fn answer<H: Hub + Sync + Drop, K: Sink + Send, R: Threads + Wait + Clock + Sync>(
     rt: &R,
     alloc: Global,
     hashes: Seed,
@@ -330,7 +331,7 @@ fn answer<H: Hub + Sync + Drop, K: Sink + Send, R: Threads + Wait + Sync>(
 }
 
 // Runs a scenario and shows what is asked for, at the end or as it comes.
-fn play<H: Hub + Sync + Drop, K: Sink + Send, R: Threads + Wait + Sync>(
+fn play<H: Hub + Sync + Drop, K: Sink + Send, R: Threads + Wait + Clock + Sync>(
     rt: &R,
     alloc: Global,
     hashes: Seed,

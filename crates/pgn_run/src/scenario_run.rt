@@ -17,11 +17,12 @@ use std::alloc::Global;
 use std::mem;
 use std::sync::Wait;
 use std::thread::Threads;
+use std::time::Clock;
 
 /// Runs a scenario over a hub of this type, with a limit of so many pages and entries of this format, its sessions side by side, where
 /// an await takes so many looks, made or slept over. Hashes are made with this seed. Writes what is asked for of the run to the sink. The
 /// run is not freed: the program ends with this answer, and to free it piece by piece is a tenth of it.
-pub fn run_scenario<H: Hub + Sync + Drop, K: Sink, R: Threads + Wait + Sync>(
+pub fn run_scenario<H: Hub + Sync + Drop, K: Sink, R: Threads + Wait + Clock + Sync>(
     rt: &R,
     alloc: Global,
     hashes: Seed,

@@ -15,7 +15,9 @@ use std::alloc::{AllocError, Global};
 use std::sync::Wait;
 use std::test::Fail;
 use std::thread::Threads;
+use std::time::Clock;
 
+mod bells;
 mod gate;
 mod interest;
 mod job_table;
@@ -100,7 +102,7 @@ fn ending_of(status: Status) -> &'static str {
 }
 
 // How a run ends, over any source and sink: so no clause of the call has to be computed for those in memory.
-fn status_of<S: Source, K: Sink + Send, R: Threads + Wait + Sync>(
+fn status_of<S: Source, K: Sink + Send, R: Threads + Wait + Clock + Sync>(
     rt: &R,
     alloc: Global,
     words: &[&str],
@@ -111,7 +113,7 @@ fn status_of<S: Source, K: Sink + Send, R: Threads + Wait + Sync>(
 }
 
 // What comes of this input.
-fn comes_of<R: Threads + Wait + Sync>(
+fn comes_of<R: Threads + Wait + Clock + Sync>(
     rt: &R,
     alloc: Global,
     input: &[u8],
@@ -135,12 +137,16 @@ fn sink_of(alloc: Global, outside: &Outside<'_>) -> Result<MemSink, AllocError> 
 }
 
 // What comes of this input where nothing fails.
-fn shown<R: Threads + Wait + Sync>(rt: &R, alloc: Global, input: &str) -> Result<String, Fail> {
+fn shown<R: Threads + Wait + Clock + Sync>(
+    rt: &R,
+    alloc: Global,
+    input: &str,
+) -> Result<String, Fail> {
     comes_of(rt, alloc, input.as_bytes(), &AMPLE)
 }
 
 // What a run that is done writes with two pages, into a sink that has room for so many bytes.
-fn in_two_pages<R: Threads + Wait + Sync>(
+fn in_two_pages<R: Threads + Wait + Clock + Sync>(
     rt: &R,
     alloc: Global,
     input: &str,
@@ -159,7 +165,7 @@ fn in_two_pages<R: Threads + Wait + Sync>(
 }
 
 // How a run of this scenario ends, over a hub of this type and any sink.
-fn status_over<H: Hub + Sync + Drop, K: Sink, R: Threads + Wait + Sync>(
+fn status_over<H: Hub + Sync + Drop, K: Sink, R: Threads + Wait + Clock + Sync>(
     rt: &R,
     alloc: Global,
     scenario: &Scenario,
@@ -184,7 +190,7 @@ fn status_over<H: Hub + Sync + Drop, K: Sink, R: Threads + Wait + Sync>(
 }
 
 // What comes of this input over a hub of this type, with so much patience.
-fn shown_over<H: Hub + Sync + Drop, R: Threads + Wait + Sync>(
+fn shown_over<H: Hub + Sync + Drop, R: Threads + Wait + Clock + Sync>(
     rt: &R,
     alloc: Global,
     input: &str,
@@ -200,7 +206,7 @@ fn shown_over<H: Hub + Sync + Drop, R: Threads + Wait + Sync>(
 }
 
 // The same of this scenario.
-fn shown_of<H: Hub + Sync + Drop, R: Threads + Wait + Sync>(
+fn shown_of<H: Hub + Sync + Drop, R: Threads + Wait + Clock + Sync>(
     rt: &R,
     alloc: Global,
     scenario: &Scenario,
@@ -245,7 +251,7 @@ fn opened<H: Hub + Drop>(
 }
 
 // Runs the sessions of an input over a hub of this type, with so much patience: the hub, the sessions, and whether memory sufficed.
-fn ran<H: Hub + Sync + Drop, R: Threads + Wait + Sync>(
+fn ran<H: Hub + Sync + Drop, R: Threads + Wait + Clock + Sync>(
     rt: &R,
     alloc: Global,
     input: &str,

@@ -46,9 +46,11 @@ mod sleep;
 mod step;
 mod together;
 mod turn;
+mod waiting;
 
 pub use doing::{Doing, FlagPlan, IdleDone, Step};
 pub use meeting::Meeting;
 pub use session::Session;
 pub use together::{give_up_all, wait_together};
 pub use turn::{LONGEST_SLEEP, both_steps};
+pub use waiting::waits_behind;

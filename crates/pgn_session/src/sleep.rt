@@ -12,21 +12,8 @@ use std::time::Duration;
 // Between two looks at a flag a session may sleep. A flag that was raised stays so: where the look behind a sleep finds nothing, no look in
 // that time would have found it. So the sleep counts as one look a microsecond, and the last look that the patience allows is made.
 impl<P: PassView + Send + Drop> Session<P> {
-    /// Sleeps on the flag that the session waits for, and counts the sleep: so many microseconds at most, and not longer than looks of
-    /// its patience are left. A raise ends it. A session that waits for no flag does nothing.
-    pub fn rest<H: Hub<Pass = P>, R: Wait>(&mut self, rt: &R, hub: &H, micros: u64)
-        requires served { IsServedBy (H.shape hub.now) self.old.section self.old.plan }
-        requires answered { HasAnswer (H.shape hub.now) P.known self.old }
-        ensures answered { HasAnswer (H.shape hub.now) P.known self.new }
-        ensures rested { HasRest (H.shape hub.now) P.known self.old → HasRest (H.shape hub.now) P.known self.new }
-        ensures same { self.new ≡ record self.old { doing = slept_doing self.old.patience micros self.old.doing } }
-    {
-        self.sleep_on_flag(rt, hub, micros);
-        self.sleep_over(micros);
-    }
-
-    /// Sleeps on the flag that the session waits for, as `rest` does, and counts nothing: answers for how many microseconds at most, and 0
-    /// where it waits for none.
+    /// Sleeps on the flag that the session waits for, and counts nothing: so many microseconds at most, and not longer than looks of its
+    /// patience are left. A raise ends it. Answers for how many microseconds at most, and 0 where it waits for none.
     pub fn sleep<H: Hub<Pass = P>, R: Wait>(&self, rt: &R, hub: &H, micros: u64) -> u64
         requires served { IsServedBy (H.shape hub.now) self.now.section self.now.plan }
         requires rested { HasRest (H.shape hub.now) P.known self.now }
@@ -37,7 +24,12 @@ impl<P: PassView + Send + Drop> Session<P> {
     }
 
     // Sleeps on the flag that is awaited, or at the end on the first end flag that was not found.
-    fn sleep_on_flag<H: Hub<Pass = P>, R: Wait>(&self, rt: &R, hub: &H, micros: u64) -> u64
+    pub(crate) fn sleep_on_flag<H: Hub<Pass = P>, R: Wait>(
+        &self,
+        rt: &R,
+        hub: &H,
+        micros: u64,
+    ) -> u64
         requires ends { self.now.plan.first_end + self.now.plan.sessions ≤ (H.shape hub.now).flags }
         requires awaited { IsAwaitedBelow (H.shape hub.now).flags self.now.doing }
         ensures { result ≡ slept_for self.now.plan self.now.patience micros self.now.doing }
@@ -46,6 +38,19 @@ impl<P: PassView + Send + Drop> Session<P> {
             Doing::Awaiting { flag, looks } => self.sleep_on(rt, hub, flag, micros, looks),
             Doing::Ending { found, looks } if found < self.plan.sessions => {
                 self.sleep_on(rt, hub, self.plan.first_end + found, micros, looks)
+            }
+            _ => 0,
+        }
+    }
+
+    // How long a sleep of so many microseconds may be: not longer than looks of its patience are left, and 0 where it waits for no flag.
+    pub(crate) fn left_of(&self, micros: u64) -> u64
+        ensures { result ≤ micros }
+    {
+        match self.doing {
+            Doing::Awaiting { looks, .. } => micros.min(self.patience.saturating_sub(looks)),
+            Doing::Ending { found, looks } if found < self.plan.sessions => {
+                micros.min(self.patience.saturating_sub(looks))
             }
             _ => 0,
         }

@@ -1,18 +1,19 @@
-ghost use Rattle.std.specs.Prelude.{◌≡◌, ◌≢◌, ◌≤◌, ℕ, map, All};
+ghost use Rattle.std.specs.Prelude.{◌≡◌, ◌≢◌, ◌≤◌, ℕ, map, length, All};
 ghost use Rattle.pgn_session.specs.Runs.{HasGivenUp, IsHeld, IsReady, script_of, shown_of, slept};
 ghost use Rattle.pgn_session.specs.Standing.{IsServedBy};
 ghost use Rattle.pgn_session.specs.declared.turn.TheConstants.{LONGEST_SLEEP};
 
-use crate::turn::{TURNS_BEFORE_SLEEP, sleep_of};
+use crate::waiting::{sleep_together_of, sleeps_of};
 use crate::{Session, Step};
 use pgn_hub::{Hub, PassView};
 use std::sync::Wait;
 use std::thread;
+use std::time::Clock;
 
 /// Waits after a round of turns of all these sessions on one thread, in which none did more than wait: it gives way behind the first such
 /// rounds, and then it sleeps. `waits` of them came before it in a row; answers how many there are with it, and 0 where the round gave
 /// something.
-pub fn wait_together<P: PassView + Send + Drop, H: Hub<Pass = P>, R: Wait>(
+pub fn wait_together<P: PassView + Send + Drop, H: Hub<Pass = P>, R: Wait + Clock>(
     rt: &R,
     hub: &H,
     sessions: &mut [Session<P>],
@@ -33,8 +34,9 @@ pub fn wait_together<P: PassView + Send + Drop, H: Hub<Pass = P>, R: Wait>(
     waits.saturating_add(1)
 }
 
-// Gives way behind the first rounds in which none did more than wait, and sleeps behind the others.
-fn give_way<P: PassView + Send + Drop, H: Hub<Pass = P>, R: Wait>(
+// Gives way behind the first rounds in which none did more than wait, and sleeps behind the others. Several sessions that share the thread
+// look at all that they wait for at least each millisecond.
+fn give_way<P: PassView + Send + Drop, H: Hub<Pass = P>, R: Wait + Clock>(
     rt: &R,
     hub: &H,
     sessions: &mut [Session<P>],
@@ -44,17 +46,42 @@ fn give_way<P: PassView + Send + Drop, H: Hub<Pass = P>, R: Wait>(
     ensures ready { All (IsReady (H.is_pass hub.now) (H.shape hub.now) P.known) sessions.new }
     ensures waited { (micros : ℕ) × (micros ≤ LONGEST_SLEEP) × (sessions.new ≡ map (slept micros) sessions.old) }
 {
-    if waits < TURNS_BEFORE_SLEEP {
-        thread::yield_now();
+    if sessions.len() == 1 {
+        wait_alone(rt, hub, sessions, waits);
         return;
     }
-    let micros = sleep_of(must_look(sessions), waits - TURNS_BEFORE_SLEEP);
-    rest_together(rt, hub, sessions, micros);
+    let Some(sleeps) = sleeps_of(waits) else {
+        thread::yield_now();
+        return;
+    };
+    rest_together(rt, hub, sessions, sleep_together_of(sleeps));
 }
 
-// Whether a sleep has to be short: more than one session shares the thread, or the only one listens.
-fn must_look<P: PassView + Send + Drop>(sessions: &[Session<P>]) -> bool {
-    sessions.len() != 1 || sessions[0].pass.mark().is_some()
+// Waits as the only session does that its thread has.
+fn wait_alone<P: PassView + Send + Drop, H: Hub<Pass = P>, R: Wait + Clock>(
+    rt: &R,
+    hub: &H,
+    sessions: &mut [Session<P>],
+    waits: u32,
+)
+    requires one { length sessions.old ≡ 1 }
+    requires ready { All (IsReady (H.is_pass hub.now) (H.shape hub.now) P.known) sessions.old }
+    ensures { (micros : ℕ) × (micros ≤ LONGEST_SLEEP) × (sessions.new ≡ map (slept micros) sessions.old) }
+{
+    wait_ready(rt, hub, &mut sessions[0], waits);
+}
+
+// Waits, where the session has rested.
+fn wait_ready<P: PassView + Send + Drop, H: Hub<Pass = P>, R: Wait + Clock>(
+    rt: &R,
+    hub: &H,
+    session: &mut Session<P>,
+    waits: u32,
+)
+    requires ready { IsReady (H.is_pass hub.now) (H.shape hub.now) P.known session.old }
+    ensures { (micros : ℕ) × (micros ≤ LONGEST_SLEEP) × (session.new ≡ slept micros session.old) }
+{
+    session.wait_once(rt, hub, waits);
 }
 
 // Sleeps on the flag of one session, and counts the sleep for each: no flag falls, so no look of any of them would have found more than

@@ -9,18 +9,10 @@ use crate::{Session, Step};
 use pgn_hub::{Hub, PassView};
 use std::alloc::{AllocError, Global};
 use std::sync::Wait;
-use std::thread;
+use std::time::Clock;
 
-// So many turns in a row that did no more than wait give way, and the ones behind them sleep.
-pub(crate) const TURNS_BEFORE_SLEEP: u32 = 64;
-
-// The first sleep, and the longest of a listener, who reads where it was woken meanwhile, in microseconds.
-const FIRST_SLEEP: u64 = 50;
-
-const LISTENER_SLEEP: u64 = 1_000;
-
-/// The longest sleep of a session between two looks at a flag, in microseconds.
-pub const LONGEST_SLEEP: u64 = 16_000;
+/// The longest sleep that a wait counts, in microseconds.
+pub const LONGEST_SLEEP: u64 = 1_000_000;
 
 impl<P: PassView + Send + Drop> Session<P> {
     /// A step, with a read before it where the next line asks for one, and a read behind it where the session was woken, unless it is over.
@@ -49,15 +41,17 @@ impl<P: PassView + Send + Drop> Session<P> {
         Ok(step)
     }
 
-    /// Waits behind a step that gave nothing: it gives way behind the first such steps, and then it sleeps on the flag. `waits` of them
-    /// came before it in a row; answers how many there are with it, and 0 where the step gave something.
-    pub fn wait_after<H: Hub<Pass = P>, R: Wait>(
+    /// Waits behind a step that gave nothing: it gives way behind the first such steps, and then it sleeps. `waits` of them came before
+    /// it in a row; answers how many there are with it, and 0 where the step gave something. Between two such waits the session has to
+    /// look at its flag and at its wake: the one may arm its bell, and the next one doze.
+    pub fn wait_after<H: Hub<Pass = P>, R: Wait + Clock>(
         &mut self,
         rt: &R,
         hub: &H,
         step: Step,
         waits: u32,
     ) -> u32
+        requires own { H.is_pass hub.now self.old.pass }
         requires served { IsServedBy (H.shape hub.now) self.old.section self.old.plan }
         requires answered { HasAnswer (H.shape hub.now) P.known self.old }
         ensures answered { HasAnswer (H.shape hub.now) P.known self.new }
@@ -68,27 +62,9 @@ impl<P: PassView + Send + Drop> Session<P> {
         if step != Step::Waiting {
             return 0;
         }
-        if waits < TURNS_BEFORE_SLEEP {
-            thread::yield_now();
-        } else {
-            let listens = self.pass.mark().is_some();
-            self.rest(rt, hub, sleep_of(listens, waits - TURNS_BEFORE_SLEEP));
-        }
+        self.wait_once(rt, hub, waits);
         waits.saturating_add(1)
     }
-}
-
-// How long a sleep is that has so many before it in a row, in microseconds: twice as long as the one before, up to the longest, which is
-// shorter for a listener, since it has to read meanwhile.
-pub(crate) fn sleep_of(listens: bool, sleeps: u32) -> u64
-    ensures { result ≤ LONGEST_SLEEP }
-{
-    let longest = if listens {
-        LISTENER_SLEEP
-    } else {
-        LONGEST_SLEEP
-    };
-    (FIRST_SLEEP << sleeps.min(9)).min(longest)
 }
 
 /// What two parts of a round of turns come to: Ended where both are over, and Waiting where neither did more than wait.

@@ -11,17 +11,17 @@ use pgn_session::{Meeting, Session};
 use std::alloc::{AllocError, Global};
 use std::sync::Wait;
 use std::thread::{Threads, join_mut};
+use std::time::Clock;
 
 /// Runs sessions until all are over: each has a thread of its own, while threads can be had; sessions for which no thread can be started
 /// take turns on the one that they share. The error is that memory did not suffice for some session. Each is then over or has given
 /// up: it has raised its end flag, so that no other waits for it.
 #[cycle(halves)]
-pub fn run_sessions<P: PassView + Send + Drop, H: Hub<Pass = P> + Sync, R: Threads + Wait + Sync>(
-    rt: &R,
-    alloc: Global,
-    hub: &H,
-    sessions: &mut [Session<P>],
-) -> Result<(), AllocError>
+pub fn run_sessions<
+    P: PassView + Send + Drop,
+    H: Hub<Pass = P> + Sync,
+    R: Threads + Wait + Clock + Sync,
+>(rt: &R, alloc: Global, hub: &H, sessions: &mut [Session<P>]) -> Result<(), AllocError>
     requires ready { All (IsReady (H.is_pass hub.now) (H.shape hub.now) P.known) sessions.old }
     ensures over { OnOk result (All (IsOver (H.is_pass hub.now) (H.shape hub.now) P.known) sessions.new) }
     ensures scripts { map script_of sessions.new ≡ map script_of sessions.old }
@@ -40,7 +40,7 @@ pub fn run_sessions<P: PassView + Send + Drop, H: Hub<Pass = P> + Sync, R: Threa
 
 // Runs the two halves of sessions side by side. Where they don't meet there is no answer, and nothing was done.
 #[cycle(halves)]
-fn run_apart<P: PassView + Send + Drop, H: Hub<Pass = P> + Sync, R: Threads + Wait + Sync>(
+fn run_apart<P: PassView + Send + Drop, H: Hub<Pass = P> + Sync, R: Threads + Wait + Clock + Sync>(
     rt: &R,
     alloc: Global,
     hub: &H,
@@ -57,7 +57,7 @@ fn run_apart<P: PassView + Send + Drop, H: Hub<Pass = P> + Sync, R: Threads + Wa
 // Runs two halves side by side, where they meet. Who takes the word decides for both, so that none runs alone; but no contract knows
 // that, so a half that did not run is played in turns where the other one did.
 #[cycle(halves)]
-fn run_halves<P: PassView + Send + Drop, H: Hub<Pass = P> + Sync, R: Threads + Wait + Sync>(
+fn run_halves<P: PassView + Send + Drop, H: Hub<Pass = P> + Sync, R: Threads + Wait + Clock + Sync>(
     rt: &R,
     alloc: Global,
     hub: &H,
@@ -79,7 +79,7 @@ fn run_halves<P: PassView + Send + Drop, H: Hub<Pass = P> + Sync, R: Threads + W
 }
 
 // What sessions have come to that have run; those that have not are played in turns.
-fn run_the_rest<P: PassView + Send + Drop, H: Hub<Pass = P>, R: Wait>(
+fn run_the_rest<P: PassView + Send + Drop, H: Hub<Pass = P>, R: Wait + Clock>(
     rt: &R,
     alloc: Global,
     hub: &H,
@@ -97,7 +97,11 @@ fn run_the_rest<P: PassView + Send + Drop, H: Hub<Pass = P>, R: Wait>(
 
 // Takes each half to a thread of its own, where they meet.
 #[cycle(halves)]
-fn join_halves<P: PassView + Send + Drop, H: Hub<Pass = P> + Sync, R: Threads + Wait + Sync>(
+fn join_halves<
+    P: PassView + Send + Drop,
+    H: Hub<Pass = P> + Sync,
+    R: Threads + Wait + Clock + Sync,
+>(
     rt: &R,
     alloc: Global,
     hub: &H,
@@ -129,7 +133,7 @@ fn join_halves<P: PassView + Send + Drop, H: Hub<Pass = P> + Sync, R: Threads + 
 
 // The half on the new thread. Where the caller could have no thread it calls this itself, after its own half.
 #[cycle(halves)]
-fn arrive<P: PassView + Send + Drop, H: Hub<Pass = P> + Sync, R: Threads + Wait + Sync>(
+fn arrive<P: PassView + Send + Drop, H: Hub<Pass = P> + Sync, R: Threads + Wait + Clock + Sync>(
     rt: &R,
     alloc: Global,
     hub: &H,
@@ -147,7 +151,7 @@ fn arrive<P: PassView + Send + Drop, H: Hub<Pass = P> + Sync, R: Threads + Wait 
 
 // The caller's half, which waits for the other one first.
 #[cycle(halves)]
-fn expect<P: PassView + Send + Drop, H: Hub<Pass = P> + Sync, R: Threads + Wait + Sync>(
+fn expect<P: PassView + Send + Drop, H: Hub<Pass = P> + Sync, R: Threads + Wait + Clock + Sync>(
     rt: &R,
     alloc: Global,
     hub: &H,

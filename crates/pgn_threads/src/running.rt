@@ -3,12 +3,13 @@ ghost use Rattle.pgn_session.specs.Standing.{IsServedBy};
 ghost use Rattle.pgn_session.specs.Runs.{HasGivenUp, IsReady, IsOver, script_of};
 
 use pgn_hub::{Hub, PassView};
-use pgn_session::{Session, Step};
+use pgn_session::{Session, Step, waits_behind};
 use std::alloc::{AllocError, Global};
 use std::sync::Wait;
+use std::time::Clock;
 
 // Runs one session until it is over. After a refusal it raises its end flag.
-pub(crate) fn run_session<P: PassView + Send + Drop, H: Hub<Pass = P>, R: Wait>(
+pub(crate) fn run_session<P: PassView + Send + Drop, H: Hub<Pass = P>, R: Wait + Clock>(
     rt: &R,
     alloc: Global,
     hub: &H,
@@ -37,7 +38,7 @@ fn give_up<P: PassView + Send + Drop, H: Hub<Pass = P>>(hub: &H, session: &mut S
 }
 
 // Takes step after step, sleeps where it waits, and reads before and between them, until the session is over or is refused memory.
-fn go_on<P: PassView + Send + Drop, H: Hub<Pass = P>, R: Wait>(
+fn go_on<P: PassView + Send + Drop, H: Hub<Pass = P>, R: Wait + Clock>(
     rt: &R,
     alloc: Global,
     hub: &H,
@@ -56,7 +57,8 @@ fn go_on<P: PassView + Send + Drop, H: Hub<Pass = P>, R: Wait>(
             return Ok(());
         }
         waits = session.wait_after(rt, hub, step, waits);
-        let _done = session.idle(alloc, hub)?;
+        let done = session.idle(alloc, hub)?;
+        waits = waits_behind(waits, done.has_read());
     }
     unreachable!()
 }

@@ -5,11 +5,12 @@ use pgn_hub::{Hub, PassView};
 use pgn_session::{Session, Step, both_steps, give_up_all, wait_together};
 use std::alloc::{AllocError, Global};
 use std::sync::Wait;
+use std::time::Clock;
 
 /// Runs sessions until all are over, on the caller's thread: they take turns, a step and a read each, so that none spends its patience on
 /// one that has not begun. The error is that memory did not suffice for some session. Each has then given up: it has raised its
 /// end flag, so that no other waits for it.
-pub fn run_in_turns<P: PassView + Send + Drop, H: Hub<Pass = P>, R: Wait>(
+pub fn run_in_turns<P: PassView + Send + Drop, H: Hub<Pass = P>, R: Wait + Clock>(
     rt: &R,
     alloc: Global,
     hub: &H,
@@ -34,7 +35,7 @@ pub fn run_in_turns<P: PassView + Send + Drop, H: Hub<Pass = P>, R: Wait>(
 }
 
 // Round after round, until all sessions are over or one is refused memory.
-fn take_rounds<P: PassView + Send + Drop, H: Hub<Pass = P>, R: Wait>(
+fn take_rounds<P: PassView + Send + Drop, H: Hub<Pass = P>, R: Wait + Clock>(
     rt: &R,
     alloc: Global,
     hub: &H,
@@ -58,7 +59,7 @@ fn take_rounds<P: PassView + Send + Drop, H: Hub<Pass = P>, R: Wait>(
 
 // A turn of each session. Answers Ended where all are over, and Waiting where none did more than wait. After a refusal the others have
 // had their turn too.
-fn take_round<P: PassView + Send + Drop, H: Hub<Pass = P>, R: Wait>(
+fn take_round<P: PassView + Send + Drop, H: Hub<Pass = P>, R: Wait + Clock>(
     rt: &R,
     alloc: Global,
     hub: &H,

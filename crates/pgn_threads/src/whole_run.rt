@@ -22,6 +22,7 @@ use pgn_session::{FlagPlan, Session};
 use std::alloc::{AllocError, Global};
 use std::sync::Wait;
 use std::thread::Threads;
+use std::time::Clock;
 
 /// A run of a scenario: the journal, and the trace of each session.
 #[derive(Drop)]
@@ -33,7 +34,7 @@ pub struct Run {
 /// Runs a scenario over a hub of this type, which it opens with a limit of so many pages and entries of this format: its sessions run
 /// side by side, as `run_sessions` has it, and an await takes so many looks, made or slept over. Hashes are made with this seed. The
 /// error is that memory did not suffice.
-pub fn run_on_hub<H: Hub + Sync + Drop, R: Threads + Wait + Sync>(
+pub fn run_on_hub<H: Hub + Sync + Drop, R: Threads + Wait + Clock + Sync>(
     rt: &R,
     alloc: Global,
     seed: Seed,

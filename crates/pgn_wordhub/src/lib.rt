@@ -13,6 +13,7 @@
 //! Only `open` and `scan` take memory. `examples` has small cases that the definitions of this crate refuse.
 #![tactic(auto)]
 
+mod bells;
 pub mod examples;
 mod floor;
 mod hub;

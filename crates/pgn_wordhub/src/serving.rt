@@ -5,6 +5,7 @@ ghost use Rattle.pgn_words.specs.Passes.{known_of};
 ghost use Rattle.pgn_wordhub.specs.Passes.{IsHubPass, hub_shape};
 
 use crate::WordHub;
+use crate::bells::Bells;
 use pgn_base::{Delivery, Enlisted, Full, ListenSet, Note, Usage, Xid, are_notes};
 use pgn_hub::{Hub, Roll, SeatSetup, Setup};
 use pgn_journal::interest_of_notes;
@@ -40,6 +41,7 @@ impl Hub for WordHub {
 
     fn open(alloc: Global, setup: Setup) -> Result<(Self, Vec<WordPass>), AllocError> {
         let dbs = databases(alloc, setup.seats())?;
+        let bells = Bells::open(alloc, setup.seats().len())?;
         let pages = setup.pages();
         let format = setup.format();
         let (queue, passes) = WordQueue::open(alloc, &setup)?;
@@ -48,6 +50,7 @@ impl Hub for WordHub {
             pages,
             format,
             dbs,
+            bells,
             called_off: AtomicBool::new(false),
         };
         Ok((hub, passes))
@@ -90,7 +93,9 @@ impl Hub for WordHub {
     }
 
     fn raise(&self, pass: &mut WordPass, flag: u32) -> Xid {
-        self.queue.raise_flag(pass, flag)
+        let told = self.queue.raise_flag(pass, flag);
+        self.bells.ring_all();
+        told
     }
 
     fn look(&self, pass: &mut WordPass, flag: u32) -> Option<Xid> {
@@ -101,8 +106,21 @@ impl Hub for WordHub {
         self.queue.sleep_on_flag(rt, flag, time);
     }
 
+    fn arm(&self, seat: u32) {
+        self.bells.arm(seat);
+    }
+
+    fn ring(&self, seat: u32) {
+        self.bells.ring(seat);
+    }
+
+    fn doze<R: Wait>(&self, rt: &R, seat: u32, time: Duration) {
+        self.bells.doze(rt, seat, time);
+    }
+
     fn call_off(&self) {
         self.called_off.store(true, Ordering::SeqCst);
+        self.bells.ring_all();
     }
 
     fn is_called_off(&self) -> bool {

@@ -136,6 +136,8 @@ impl WordHub {
     {
         if needs {
             self.queue.set_wake(pass, seat);
+            // Behind the wake, so that who arms its bell before this finds the one or hears the other.
+            self.bells.ring(seat);
         }
     }
 

@@ -19,7 +19,7 @@ use std::sync::{Arc, Wait};
 use std::test::Fail;
 use std::thread;
 use std::thread::Threads;
-use std::time::Duration;
+use std::time::{Clock, Duration};
 
 // How many transactions have begun, and how many writes: the first transaction waits for a second one of these.
 #[derive(Drop)]
@@ -136,6 +136,18 @@ impl<const TURNS: u32> Hub for Gate<TURNS> {
         self.hub.rest(rt, flag, time);
     }
 
+    fn arm(&self, seat: u32) {
+        self.hub.arm(seat);
+    }
+
+    fn ring(&self, seat: u32) {
+        self.hub.ring(seat);
+    }
+
+    fn doze<R: Wait>(&self, rt: &R, seat: u32, time: Duration) {
+        self.hub.doze(rt, seat, time);
+    }
+
     fn call_off(&self) {
         self.hub.call_off();
     }
@@ -196,7 +208,7 @@ struct Shown {
 }
 
 // Runs it, written to a sink that takes at most so many bytes a call and fails at these calls.
-fn shown_over<const TURNS: u32, R: Threads + Wait + Sync>(
+fn shown_over<const TURNS: u32, R: Threads + Wait + Clock + Sync>(
     rt: &R,
     alloc: Global,
     most: usize,
@@ -209,7 +221,7 @@ fn shown_over<const TURNS: u32, R: Threads + Wait + Sync>(
 }
 
 // The same of this scenario.
-fn shown_of<const TURNS: u32, R: Threads + Wait + Sync>(
+fn shown_of<const TURNS: u32, R: Threads + Wait + Clock + Sync>(
     rt: &R,
     alloc: Global,
     scenario: &Scenario,

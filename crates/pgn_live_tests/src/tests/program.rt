@@ -6,10 +6,11 @@ use std::alloc::Global;
 use std::sync::Wait;
 use std::test::Fail;
 use std::thread::Threads;
+use std::time::Clock;
 
 // How the program ends that plays this input live, written to a sink which takes at most so many bytes a call and fails at these calls, and
 // what is written then.
-fn played<R: Threads + Wait + Sync>(
+fn played<R: Threads + Wait + Clock + Sync>(
     rt: &R,
     alloc: Global,
     input: &str,
@@ -26,7 +27,7 @@ fn played<R: Threads + Wait + Sync>(
 }
 
 // How the program ends, over any source and sink: so no clause of the call has to be computed for those in memory.
-fn status_of<S: Source, K: Sink + Send, R: Threads + Wait + Sync>(
+fn status_of<S: Source, K: Sink + Send, R: Threads + Wait + Clock + Sync>(
     rt: &R,
     alloc: Global,
     source: &mut S,

@@ -8,10 +8,11 @@ use std::alloc::{AllocError, Global};
 use std::sync::Wait;
 use std::test::Fail;
 use std::thread::Threads;
+use std::time::Clock;
 
 // How sessions of this input end that are written to a sink which takes at most so many bytes a call and fails at these calls, and what is
 // written then.
-fn written<R: Threads + Wait + Sync>(
+fn written<R: Threads + Wait + Clock + Sync>(
     rt: &R,
     alloc: Global,
     input: &str,
@@ -25,7 +26,7 @@ fn written<R: Threads + Wait + Sync>(
 }
 
 // The same of this scenario.
-fn written_of<R: Threads + Wait + Sync>(
+fn written_of<R: Threads + Wait + Clock + Sync>(
     rt: &R,
     alloc: Global,
     scenario: &Scenario,

@@ -15,6 +15,7 @@ use std::str;
 use std::sync::Wait;
 use std::test::Fail;
 
+mod bells;
 mod budget;
 mod calls;
 mod formats;

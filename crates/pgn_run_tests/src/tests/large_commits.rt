@@ -3,6 +3,7 @@ use std::alloc::{AllocError, Global};
 use std::sync::Wait;
 use std::test::Fail;
 use std::thread::Threads;
+use std::time::Clock;
 
 // Puts a number between two texts behind others.
 fn push(
@@ -93,7 +94,7 @@ fn push_different(alloc: Global, block: &mut Block) -> Result<(), AllocError> {
 }
 
 // Whether a run of the block writes what it shows, where so many are sent.
-fn is_written<R: Threads + Wait + Sync>(
+fn is_written<R: Threads + Wait + Clock + Sync>(
     rt: &R,
     alloc: Global,
     block: &Block,

@@ -14,6 +14,7 @@ use std::alloc::{AllocError, Global};
 use std::sync::Wait;
 use std::test::Fail;
 use std::thread::{Threads, join_mut};
+use std::time::Clock;
 
 // One step, and a read where the session is not over and was woken.
 fn turn<P: PassView + Send + Drop, H: Hub<Pass = P>, R: Wait>(
@@ -259,7 +260,7 @@ fn publish_often<P: PassView + Send + Drop, H: Hub<Pass = P>, R: Wait>(
 fn publish_side_by_side<
     P: PassView + Send + Drop,
     H: Hub<Pass = P> + Sync,
-    R: Threads + Wait + Sync,
+    R: Threads + Wait + Clock + Sync,
 >(rt: &R, hub: &H, first: &mut P, second: &mut P, notes: &[Note; 1], times: u32) -> (u32, u32)
     requires first { H.is_pass hub.now first.old }
     requires second { H.is_pass hub.now second.old }
@@ -343,7 +344,7 @@ fn count_journal<P: PassView + Send + Drop, H: Hub<Pass = P> + Drop>(
 fn publish_and_gather<
     P: PassView + Send + Drop,
     H: Hub<Pass = P> + Sync + Drop,
-    R: Threads + Wait + Sync,
+    R: Threads + Wait + Clock + Sync,
 >(rt: &R, alloc: Global, times: u32) -> Result<(u32, u32, u32), Fail>
     requires few { times ≤ 1000 }
 {

@@ -12,13 +12,14 @@ use std::thread;
 use std::time::Duration;
 
 // What has come to pass over a hub: how many transactions have begun, how often sessions have looked whether they were woken, have told
-// their channels, have slept and have read, and how often somebody waited for others in vain.
+// their channels, have slept, have dozed and have read, and how often somebody waited for others in vain.
 #[derive(Drop)]
 pub(super) struct Counts {
     begun: AtomicU64,
     wake_looks: AtomicU64,
     interests: AtomicU64,
     rests: AtomicU64,
+    dozes: AtomicU64,
     reads: AtomicU64,
     spent: AtomicU64,
 }
@@ -30,6 +31,7 @@ impl Counts {
             wake_looks: AtomicU64::new(0),
             interests: AtomicU64::new(0),
             rests: AtomicU64::new(0),
+            dozes: AtomicU64::new(0),
             reads: AtomicU64::new(0),
             spent: AtomicU64::new(0),
         }
@@ -63,6 +65,9 @@ pub(super) trait Pace {
 
     // Before a flag is raised.
     fn raises(counts: &Counts, flag: u32);
+
+    // How long a doze is at most, for which so long was asked.
+    fn dozes(time: Duration) -> Duration;
 }
 
 // The first transaction waits, at most so many turns, until a second one has begun. Once the turns are spent reads find no memory. So it
@@ -81,6 +86,10 @@ impl<const TURNS: u32> Pace for Gate<TURNS> {
     }
 
     fn raises(_counts: &Counts, _flag: u32) {}
+
+    fn dozes(time: Duration) -> Duration {
+        time
+    }
 }
 
 // Transactions wait, at most so many turns, until sessions have slept as often as transactions were begun, and the flag of the second name
@@ -101,6 +110,35 @@ impl<const TURNS: u32> Pace for Watch<TURNS> {
         if flag == 1 {
             counts.wait_for(&counts.reads, 1, TURNS);
         }
+    }
+
+    fn dozes(time: Duration) -> Duration {
+        time
+    }
+}
+
+// The first transaction waits, at most so many turns, until a session dozes, and the flag of the first name in the script is not raised until
+// sessions have read twice. Nobody wakes whom no bell wakes.
+#[derive(Drop)]
+pub(super) struct Rung<const TURNS: u32> {}
+
+impl<const TURNS: u32> Pace for Rung<TURNS> {
+    fn begins(counts: &Counts, _before: u64) {
+        counts.wait_for(&counts.dozes, 1, TURNS);
+    }
+
+    fn finds_memory(_counts: &Counts) -> bool {
+        true
+    }
+
+    fn raises(counts: &Counts, flag: u32) {
+        if flag == 0 {
+            counts.wait_for(&counts.reads, 2, TURNS);
+        }
+    }
+
+    fn dozes(_time: Duration) -> Duration {
+        Duration::MAX
     }
 }
 
@@ -211,6 +249,20 @@ impl<P: Pace> Hub for Probe<P> {
     fn rest<R: Wait>(&self, rt: &R, flag: u32, time: Duration) {
         self.counts.rests.fetch_add(1, Ordering::SeqCst);
         self.hub.rest(rt, flag, time);
+    }
+
+    fn arm(&self, seat: u32) {
+        self.hub.arm(seat);
+    }
+
+    fn ring(&self, seat: u32) {
+        self.hub.ring(seat);
+    }
+
+    fn doze<R: Wait>(&self, rt: &R, seat: u32, time: Duration) {
+        self.counts.rests.fetch_add(1, Ordering::SeqCst);
+        self.counts.dozes.fetch_add(1, Ordering::SeqCst);
+        self.hub.doze(rt, seat, P::dozes(time));
     }
 
     fn call_off(&self) {

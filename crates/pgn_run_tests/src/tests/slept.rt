@@ -13,9 +13,14 @@ use std::alloc::{AllocError, Global};
 use std::sync::Wait;
 use std::test::Fail;
 use std::thread::{Threads, join_mut};
+use std::time::Clock;
 
 // Two groups of sessions side by side, each of which takes turns on a thread of its own.
-fn run_two_groups<P: PassView + Send + Drop, H: Hub<Pass = P> + Sync, R: Threads + Wait + Sync>(
+fn run_two_groups<
+    P: PassView + Send + Drop,
+    H: Hub<Pass = P> + Sync,
+    R: Threads + Wait + Clock + Sync,
+>(
     rt: &R,
     alloc: Global,
     hub: &H,
@@ -38,12 +43,11 @@ fn run_two_groups<P: PassView + Send + Drop, H: Hub<Pass = P> + Sync, R: Threads
 }
 
 // The first two sessions take turns beside the others: whether there are so many, and memory sufficed.
-fn run_two_beside<P: PassView + Send + Drop, H: Hub<Pass = P> + Sync, R: Threads + Wait + Sync>(
-    rt: &R,
-    alloc: Global,
-    hub: &H,
-    sessions: &mut [Session<P>],
-) -> bool
+fn run_two_beside<
+    P: PassView + Send + Drop,
+    H: Hub<Pass = P> + Sync,
+    R: Threads + Wait + Clock + Sync,
+>(rt: &R, alloc: Global, hub: &H, sessions: &mut [Session<P>]) -> bool
     requires { All (IsReady (H.is_pass hub.now) (H.shape hub.now) P.known) sessions.old }
 {
     if sessions.len() < 2 {

@@ -5,6 +5,7 @@ use std::process::Abort;
 use std::sync::Wait;
 use std::test::Fail;
 use std::thread::Threads;
+use std::time::Clock;
 
 // One byte more than an input may have.
 #[test]
@@ -69,7 +70,7 @@ const SIDES: [(Outside<'static>, &str); 6] = [
     (Outside { most: 1, ..AMPLE }, SELF_NOTIFY_OUTPUT),
 ];
 
-fn assert_sides<R: Threads + Wait + Sync + Abort>(
+fn assert_sides<R: Threads + Wait + Clock + Sync + Abort>(
     rt: &R,
     alloc: Global,
     sides: &[(Outside<'_>, &str)],
@@ -143,7 +144,11 @@ end mark 5
 ";
 
 // What comes of a source that gives a byte at a time, and whose call of this number fails.
-fn read_until<R: Threads + Wait + Sync>(rt: &R, alloc: Global, call: u64) -> Result<String, Fail> {
+fn read_until<R: Threads + Wait + Clock + Sync>(
+    rt: &R,
+    alloc: Global,
+    call: u64,
+) -> Result<String, Fail> {
     let outside = Outside {
         read_fails: &[call],
         most: 1,
@@ -181,7 +186,11 @@ fn written_before(alloc: Global, calls: usize) -> Result<String, Fail> {
 }
 
 // What comes of a sink that takes seven bytes at a time, and whose call of this number fails.
-fn write_until<R: Threads + Wait + Sync>(rt: &R, alloc: Global, call: u64) -> Result<String, Fail> {
+fn write_until<R: Threads + Wait + Clock + Sync>(
+    rt: &R,
+    alloc: Global,
+    call: u64,
+) -> Result<String, Fail> {
     let outside = Outside {
         write_fails: &[call],
         most: 7,
@@ -190,7 +199,7 @@ fn write_until<R: Threads + Wait + Sync>(rt: &R, alloc: Global, call: u64) -> Re
     comes_of(rt, alloc, CROSSING_FLAGS.as_bytes(), &outside)
 }
 
-fn is_cut_after<R: Threads + Wait + Sync>(
+fn is_cut_after<R: Threads + Wait + Clock + Sync>(
     rt: &R,
     alloc: Global,
     calls: usize,

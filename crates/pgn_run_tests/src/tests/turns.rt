@@ -8,6 +8,7 @@ use pgn_threads::run_in_turns;
 use std::alloc::{AllocError, Global};
 use std::sync::Wait;
 use std::test::Fail;
+use std::time::Clock;
 
 // Puts out what an await came to, as a line of the output; nothing for other items.
 fn push_await(alloc: Global, lines: &mut String, item: &Item) -> Result<(), AllocError> {
@@ -47,7 +48,11 @@ pub(super) fn awaits_of<P: PassView + Send + Drop>(
 }
 
 // Runs the sessions of an input, which take turns on one thread: what their awaits came to, and how often they slept.
-fn awaits_in_turns<R: Wait>(rt: &R, alloc: Global, input: &str) -> Result<(String, u64), Fail> {
+fn awaits_in_turns<R: Wait + Clock>(
+    rt: &R,
+    alloc: Global,
+    input: &str,
+) -> Result<(String, u64), Fail> {
     let (hub, mut sessions) = opened::<Probe<Watch<0>>>(alloc, input, PAGES_DEFAULT, 1_000_000)?;
     let ended = run_in_turns(rt, alloc, &hub, sessions.as_mut_slice());
     let rests = hub.rests();
