@@ -5,15 +5,20 @@ use pgn_lanes::{behind, first_zero, least};
 // The longest slice that is tried.
 const MOST: usize = 70;
 
+// Whether the least of so many equal words is their word, or none where there is none.
+fn finds_the_word(len: usize, word: u64) -> bool
+    requires { len ≤ 70 }
+{
+    let words = [word; MOST];
+    let want = if len == 0 { None } else { Some(word) };
+    least(&words[..len]) == want
+}
+
 #[test]
 fn least_of_equal_words(rt: HostRuntime) {
     for len in 0..=MOST {
-        let largest = [u64::MAX; MOST];
-        let none = if len == 0 { None } else { Some(u64::MAX) };
-        assert!(rt; least(&largest[..len]) == none, "of {len}, all largest");
-        let nines = [9; MOST];
-        let none = if len == 0 { None } else { Some(9) };
-        assert!(rt; least(&nines[..len]) == none, "of {len}, all equal");
+        assert!(rt; finds_the_word(len, u64::MAX), "of {len}, all largest");
+        assert!(rt; finds_the_word(len, 9), "of {len}, all equal");
     }
 }
 
@@ -29,18 +34,19 @@ fn least_with_fives(len: usize, at: usize, also: usize) -> Option<u64>
     least(&words[..len])
 }
 
+// Whether the least of so many nines is a five at this place, alone and with one in the middle.
+fn finds_the_five(len: usize, at: usize) -> bool
+    requires within { len ≤ 70 }
+    requires place { at < len }
+{
+    least_with_fives(len, at, at) == Some(5) && least_with_fives(len, at, len / 2) == Some(5)
+}
+
 #[test]
 fn least_at_each_place(rt: HostRuntime) {
     for len in 0..=MOST {
         for at in 0..len {
-            assert!(rt;
-                least_with_fives(len, at, at) == Some(5),
-                "of {len}, at {at}"
-            );
-            assert!(rt;
-                least_with_fives(len, at, len / 2) == Some(5),
-                "of {len}, at {at} and in the middle"
-            );
+            assert!(rt; finds_the_five(len, at), "of {len}, at {at}");
         }
     }
 }
@@ -68,15 +74,24 @@ fn first_zero_nowhere(rt: HostRuntime) {
     }
 }
 
+// Whether the first zero of so many other bytes is at this place, alone and with zeros behind it.
+fn finds_the_zero(len: usize, others: u8, at: usize) -> bool
+    requires within { len ≤ 70 }
+    requires place { at < len }
+{
+    zero_between(len, others, at, at + 1) == Some(at)
+        && zero_between(len, others, at, MOST) == Some(at)
+}
+
 #[test]
 fn first_zero_at_each_place(rt: HostRuntime) {
     for len in 0..=MOST {
         for at in 0..len {
             for others in [u8::MAX, 1] {
-                let one = zero_between(len, others, at, at + 1);
-                assert!(rt; one == Some(at), "of {len}, at {at} among {others}");
-                let rest = zero_between(len, others, at, MOST);
-                assert!(rt; rest == Some(at), "of {len}, from {at} on, after {others}");
+                assert!(rt;
+                    finds_the_zero(len, others, at),
+                    "of {len}, at {at} among {others}"
+                );
             }
         }
     }
@@ -124,28 +139,58 @@ fn others(from: usize) -> [u32; 70]
     dbs
 }
 
+// Of so many listeners of the writer's database at the largest position none is marked.
+fn none_is_marked(len: usize) -> bool
+    requires { len ≤ 70 }
+{
+    marks(len, &[1; MOST], u64::MAX, 0, 0, 0) == [0; 2]
+}
+
+// Of other databases four pages before the last one ends all are marked.
+fn all_are_marked(len: usize) -> bool
+    requires { len ≤ 70 }
+{
+    marks(len, &others(len / 2), u64::MAX - 8192, 0, 0, 0) == bits(0, len)
+}
+
+// One cell nearer none is.
+fn none_is_near(len: usize) -> bool
+    requires { len ≤ 70 }
+{
+    marks(len, &others(len / 2), u64::MAX - 8191, 0, 0, 0) == [0; 2]
+}
+
 #[test]
 fn behind_of_equal_positions(rt: HostRuntime) {
     for len in 0..=MOST {
-        let own = marks(len, &[1; MOST], u64::MAX, 0, 0, 0);
-        assert!(rt; own == [0; 2], "of {len}, all largest");
-        // Four pages before the last one ends here.
-        let far = marks(len, &others(len / 2), u64::MAX - 8192, 0, 0, 0);
-        assert!(rt; far == bits(0, len), "of {len}, all equal");
-        let near = marks(len, &others(len / 2), u64::MAX - 8191, 0, 0, 0);
-        assert!(rt; near == [0; 2], "of {len}, nowhere");
+        assert!(rt; none_is_marked(len), "of {len}, all largest");
+        assert!(rt; all_are_marked(len), "of {len}, all equal");
+        assert!(rt; none_is_near(len), "of {len}, nowhere");
     }
+}
+
+// Whether one listener is marked that is a cell behind the others.
+fn one_is_marked(len: usize, at: usize) -> bool
+    requires within { len ≤ 70 }
+    requires place { at < len }
+{
+    marks(len, &[1; MOST], u64::MAX, at, at + 1, u64::MAX - 1) == bits(at, at + 1)
+}
+
+// Whether all from a place on are, that are far behind.
+fn rest_is_marked(len: usize, at: usize) -> bool
+    requires within { len ≤ 70 }
+    requires place { at < len }
+{
+    marks(len, &[1; MOST], u64::MAX, at, MOST, 7) == bits(at, len)
 }
 
 #[test]
 fn behind_at_each_place(rt: HostRuntime) {
-    let dbs = [1; MOST];
     for len in 0..=MOST {
         for at in 0..len {
-            let one = marks(len, &dbs, u64::MAX, at, at + 1, u64::MAX - 1);
-            assert!(rt; one == bits(at, at + 1), "of {len}, at {at}");
-            let rest = marks(len, &dbs, u64::MAX, at, MOST, 7);
-            assert!(rt; rest == bits(at, len), "of {len}, from {at} on");
+            assert!(rt; one_is_marked(len, at), "of {len}, at {at}");
+            assert!(rt; rest_is_marked(len, at), "of {len}, from {at} on");
         }
     }
 }

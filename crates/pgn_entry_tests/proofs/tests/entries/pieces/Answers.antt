@@ -2,7 +2,7 @@ use Rattle.std.proofs.Common.{refl, arith, codes, []}
 use Rattle.pgn_journal.specs.Bytes.{filler, header, spelled, entry_length}
 use Rattle.pgn_journal.specs.Pieces.{AnEntry, AFiller}
 use Rattle.pgn_journal.proofs.PlainNotes.{plain-note}
-use Rattle.pgn_parts_tests.proofs.tests.entries.pieces.Goals as goal
+use Rattle.pgn_entry_tests.proofs.tests.entries.pieces.Goals as goal
 
 pub read_piece-requires : goal.read_piece-requires
 unfolding spelled header entry_length

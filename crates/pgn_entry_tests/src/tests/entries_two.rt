@@ -4,9 +4,9 @@ ghost use Rattle.std.specs.Prelude.{◌<◌, ◌≤◌};
 use super::entries::{
     Change, Read, entry_of, filled, is_largest, largest, read, read_of_prefix, reads,
 };
-use super::note;
 use pgn_base::{DbOid, Format, Xid};
 use pgn_entry::{EntryFault, EntryView, read_piece};
+use pgn_memory::note;
 use std::process::Abort;
 use std::test::Fail;
 

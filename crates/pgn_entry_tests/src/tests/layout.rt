@@ -2,10 +2,10 @@ ghost use Rattle.std.specs.Prelude.{◌^◌, ◌<◌, IfSome};
 ghost use Rattle.pgn_base.specs.declared.format.Format.TheVariants.{One};
 ghost use Rattle.pgn_journal.specs.Packing.{HasRoom};
 
-use super::{name, repeated};
 use pgn_base::{Format, Name, Note, Payload, Xid};
 use pgn_journal::Fate;
 use pgn_layout::{Batch, Pos, advance, plan_batch, status_bits, status_of};
+use pgn_memory::{name, repeated};
 use std::alloc::Global;
 use std::process::Abort;
 use std::test::Fail;
@@ -33,7 +33,7 @@ fn channel(alloc: Global, len: usize) -> Result<Name, Fail> {
 
 fn payload(alloc: Global, len: usize) -> Result<Payload, Fail> {
     let text = repeated(alloc, "x", len, "")?;
-    super::payload(alloc, &text)
+    pgn_memory::payload(alloc, &text)
 }
 
 // A notification whose channel and payload have these lengths.

@@ -1,11 +1,11 @@
 ghost use Rattle.std.specs.Prelude.{◌<◌, ◌≤◌};
 ghost use Rattle.pgn_journal.specs.Bytes.{IsEntryLength};
 
-use super::{name, note, payload, repeated};
 use pgn_base::{CELL_BYTES, DbOid, Format, Name, Note, Payload, Xid};
 use pgn_entry::{
     EntryCells, EntryFault, EntryView, entry_len, filler_cell, read_entry, read_piece,
 };
+use pgn_memory::{name, note, payload, repeated};
 use std::alloc::{AllocError, Global};
 use std::process::Abort;
 use std::test::Fail;
