@@ -15,7 +15,7 @@ use Rattle.pgn_journal.specs.examples.Packing.{virtual_note, virtual_cells}
 use Rattle.pgn_layout.specs.Batches.{padded_to}
 use Rattle.pgn_words.specs.declared.view.View.{View}
 use Rattle.pgn_words.specs.Told.{MayShow, head_stored}
-use Rattle.pgn_queue_tests.specs.Writers.{IsOpenAt, IsShowing}
+use Rattle.pgn_words_tests.specs.Writers.{IsOpenAt, IsShowing}
 use Rattle.pgn_journal.proofs.DraftLaws.{one_more_image}
 
 -- the cells of the entry with a number, by a process

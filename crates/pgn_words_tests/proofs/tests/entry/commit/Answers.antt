@@ -8,8 +8,8 @@ use Rattle.pgn_words.specs.declared.view.Verdict.{Verdict}
 use Rattle.pgn_words.specs.declared.view.Verdict.TheVariants.{Decided}
 use Rattle.pgn_words.specs.Passes.{view_of, shape_of}
 use Rattle.pgn_words.specs.Told.{ended_by, fin_stored}
-use Rattle.pgn_queue_tests.proofs.SeatLaws.{dbs_at, stands_behind, db_here, tested_here, both_concerned, none_seen, first_decided, both_decided}
-use Rattle.pgn_queue_tests.proofs.tests.words.entry.commit.Goals as goal
+use Rattle.pgn_words_tests.proofs.SeatLaws.{dbs_at, stands_behind, db_here, tested_here, both_concerned, none_seen, first_decided, both_decided}
+use Rattle.pgn_words_tests.proofs.tests.entry.commit.Goals as goal
 
 pub wake-requires-clause-unseen : goal.wake-requires-clause-unseen
 wake-requires-clause-unseen c =

@@ -2,7 +2,7 @@ use Rattle.std.proofs.Common.{◌≡◌, ◌+◌, ◌<◌, ◌++◌, List, Optio
 use Rattle.std.proofs.lemmas.List.{take_more, length-map, get_or-map}
 use Rattle.pgn_words.specs.Passes.{view_of}
 use Rattle.pgn_words.specs.Told.{cell_stored}
-use Rattle.pgn_queue_tests.proofs.tests.words.entry.store_cells.Goals as goal
+use Rattle.pgn_words_tests.proofs.tests.entry.store_cells.Goals as goal
 
 pub loop-k-preserved : goal.loop-k-preserved
 loop-k-preserved c =

@@ -8,7 +8,7 @@ ghost use Rattle.pgn_words.specs.Views.{is_settled};
 ghost use Rattle.pgn_words.specs.Positions.{place_or};
 ghost use Rattle.pgn_words.specs.Waking.{concerned_db, verdict_on, verdict_of, wake_set};
 ghost use Rattle.pgn_words.specs.Passes.{IsPassOf, view_of, known_of, shape_of};
-ghost use Rattle.pgn_queue_tests.specs.Writers.{IsOpenAt, IsShowing};
+ghost use Rattle.pgn_words_tests.specs.Writers.{IsOpenAt, IsShowing};
 ghost use Rattle.pgn_words.specs.declared.view.Phase.TheVariants as phases;
 ghost use Rattle.pgn_words.specs.declared.view.Stage.TheVariants as stages;
 ghost use Rattle.pgn_words.specs.declared.view.Verdict.TheVariants as verdicts;

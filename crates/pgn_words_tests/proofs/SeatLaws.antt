@@ -17,7 +17,7 @@ use Rattle.pgn_words.specs.Views.{seat_of, no_seat, AreDecided}
 use Rattle.pgn_words.specs.Positions.{place_or}
 use Rattle.pgn_words.specs.Told.{ended_by, fin_stored}
 use Rattle.pgn_words.specs.Waking.{concerned_db, is_concerned, needs_wake, verdict_on, verdict_of, wake_looked, wake_set}
-use Rattle.pgn_queue_tests.specs.Writers.{IsShowing}
+use Rattle.pgn_words_tests.specs.Writers.{IsShowing}
 
 set_twice : (l : List Verdict) (i : ℕ) (x y : Verdict) → set (set l i x) i y ≡ set l i y
 set_twice [] i x y = refl

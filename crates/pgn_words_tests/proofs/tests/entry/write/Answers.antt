@@ -2,8 +2,8 @@ use Rattle.std.proofs.Common.{List, Option, ℕ, map, Some, ap, ◌∙◌, ⊎_e
 use Rattle.std.proofs.lemmas.List.{length-map}
 use Rattle.pgn_hub.specs.Shape.{Shape}
 use Rattle.pgn_words.specs.Passes.{view_of}
-use Rattle.pgn_queue_tests.proofs.EntryLaws.{entry_written, may_show, is_showing, head_behind}
-use Rattle.pgn_queue_tests.proofs.tests.words.entry.write.Goals as goal
+use Rattle.pgn_words_tests.proofs.EntryLaws.{entry_written, may_show, is_showing, head_behind}
+use Rattle.pgn_words_tests.proofs.tests.entry.write.Goals as goal
 
 pub store_head-requires-clause-shows : goal.store_head-requires-clause-shows
 store_head-requires-clause-shows c =

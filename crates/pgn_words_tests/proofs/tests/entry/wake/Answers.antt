@@ -1,6 +1,6 @@
 use Rattle.pgn_words.specs.Passes.{view_of}
-use Rattle.pgn_queue_tests.proofs.SeatLaws.{wakes_once, decided_by}
-use Rattle.pgn_queue_tests.proofs.tests.words.entry.wake.Goals as goal
+use Rattle.pgn_words_tests.proofs.SeatLaws.{wakes_once, decided_by}
+use Rattle.pgn_words_tests.proofs.tests.entry.wake.Goals as goal
 
 pub set_wake_of-requires-clause-verdict : goal.set_wake_of-requires-clause-verdict
 set_wake_of-requires-clause-verdict c =
