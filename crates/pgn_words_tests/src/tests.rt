@@ -16,6 +16,7 @@ use pgn_hub::{PassView, SeatSetup, Setup};
 use pgn_layout::Pos;
 use pgn_words::{WordPass, WordQueue};
 use std::alloc::Global;
+use std::process::Abort;
 use std::test::Fail;
 
 mod entry;
@@ -174,30 +175,43 @@ fn draw(queue: &WordQueue, pass: &mut WordPass, notes: &[Note; 1]) -> Option<Xid
     Some(queue.draw_xid(pass, notes))
 }
 
-#[test]
-fn a_writer_reads_what_it_stored(rt: HostRuntime) -> Result<(), Fail> {
-    let notes = [note(rt.alloc())?];
-    let (queue, mut first, mut second) = open_two(rt.alloc())?;
-    let Some((head, stop)) = make_ready(&queue, &mut first) else {
-        // Dropped here, by a call: what follows returns.
-        drop((queue, first, second));
+// Asserts that a writer loads what it has stored, while another one finds the lock held.
+fn assert_stored(
+    rt: &impl Abort,
+    queue: &WordQueue,
+    first: &mut WordPass,
+    second: &mut WordPass,
+    notes: &[Note; 1],
+) -> Result<(), Fail>
+    requires first { IsPassOf queue.now first.old }
+    requires first_fresh { IsFresh first.old }
+    requires second { IsPassOf queue.now second.old }
+    requires second_fresh { IsFresh second.old }
+    requires pages { (shape_of queue.now).pages ≡ 2 }
+{
+    let Some((head, stop)) = make_ready(queue, first) else {
         return Err(Fail::from("no lock"));
     };
     assert_eq!(rt; (head.get(), stop), (0, 0));
-    let Some(xid) = draw(&queue, &mut first, &notes) else {
-        drop((queue, first, second));
+    let Some(xid) = draw(queue, first, notes) else {
         return Err(Fail::from("no number"));
     };
     assert_eq!(rt; (xid.get(), first.notes_left()), (3, 1));
     if head.page() >= stop + 2 {
-        drop((queue, first, second));
         return Err(Fail::from("no page"));
     }
     let word = queue.word_of_cell(head);
-    queue.store_cell(&mut first, word, 0x0102_0304);
-    assert_eq!(rt; queue.load_cell(&mut first, head), 0x0102_0304);
-    assert!(rt; queue.try_lock(&mut second).is_err());
+    queue.store_cell(first, word, 0x0102_0304);
+    assert_eq!(rt; queue.load_cell(first, head), 0x0102_0304);
+    assert!(rt; queue.try_lock(second).is_err());
     Ok(())
+}
+
+#[test]
+fn a_writer_reads_what_it_stored(rt: HostRuntime) -> Result<(), Fail> {
+    let notes = [note(rt.alloc())?];
+    let (queue, mut first, mut second) = open_two(rt.alloc())?;
+    assert_stored(&rt, &queue, &mut first, &mut second, &notes)
 }
 
 // It joins with the announced tail as its base, and is a listener.

@@ -7,8 +7,9 @@ ghost use Rattle.pgn_journal.specs.Packing.{image};
 ghost use Rattle.pgn_words.specs.Views.{is_settled};
 ghost use Rattle.pgn_words.specs.Positions.{place_or};
 ghost use Rattle.pgn_words.specs.Waking.{concerned_db, verdict_on, verdict_of, wake_set};
-ghost use Rattle.pgn_words.specs.Passes.{IsPassOf, view_of, known_of, shape_of};
+ghost use Rattle.pgn_words.specs.Passes.{IsPassOf, IsFresh, view_of, known_of, shape_of};
 ghost use Rattle.pgn_words_tests.specs.Writers.{IsOpenAt, IsShowing};
+ghost use Rattle.pgn_words.specs.declared.view.Listen.TheVariants as listens;
 ghost use Rattle.pgn_words.specs.declared.view.Phase.TheVariants as phases;
 ghost use Rattle.pgn_words.specs.declared.view.Stage.TheVariants as stages;
 ghost use Rattle.pgn_words.specs.declared.view.Verdict.TheVariants as verdicts;
@@ -20,6 +21,7 @@ use pgn_journal::Fate;
 use pgn_layout::Pos;
 use pgn_words::{PosWord, WordPass, WordQueue};
 use std::alloc::Global;
+use std::process::Abort;
 use std::test::Fail;
 
 // The cells of the entry of a notification on the channel `virtual`, in database 1, of transaction 3 by process 1001.
@@ -256,31 +258,80 @@ pub(crate) fn shows_entry(queue: &WordQueue, pass: &mut WordPass) -> bool
     true
 }
 
+// Asserts that a listener loads what the head shows, while the writer has not committed it.
+fn assert_shown(
+    rt: &impl Abort,
+    queue: &WordQueue,
+    first: &mut WordPass,
+    second: &mut WordPass,
+    notes: &[Note; 1],
+) -> Result<(), Fail>
+    requires first { IsPassOf queue.now first.old }
+    requires first_fresh { IsFresh first.old }
+    requires second { IsPassOf queue.now second.old }
+    requires second_free { (view_of second.old).phase ≡ phases.Free }
+    requires listens { (view_of second.old).post.listen ≡ listens.Registered }
+    requires pages { (shape_of queue.now).pages ≡ 2 }
+    requires format { (shape_of queue.now).format ≡ One }
+    requires seats { length (shape_of queue.now).seats ≡ 2 }
+    requires dbs { map (λ seat. seat.db) (shape_of queue.now).seats ≡ 1 ∷ 1 ∷ [] }
+    requires notes { notes.now ≡ virtual_note ∷ [] }
+{
+    assert_eq!(rt; queue.begin_walk(second).get(), 3);
+    if queue.try_lock(first).is_err() {
+        return Err(Fail::from("no lock"));
+    }
+    let Some((at, xid)) = begin(queue, first, notes) else {
+        return Err(Fail::from("no number"));
+    };
+    assert_eq!(rt; (at, xid.get()), (0, 3));
+    let Some(by) = holder(queue, second) else {
+        return Err(Fail::from("no holder"));
+    };
+    assert_eq!(rt; by.get(), 1);
+    assert!(rt; write(queue, first, at, xid));
+    assert_eq!(rt; queue.show_head(second).get(), 11);
+    assert!(rt; shows_entry(queue, second));
+    commit(queue, first, xid, Pos::new(at + 11));
+    assert_eq!(rt; first.told().get(), 4);
+    Ok(())
+}
+
 #[test]
 fn a_listener_reads_what_the_head_shows(rt: HostRuntime) -> Result<(), Fail> {
     let notes = [virtual_note(rt.alloc())?];
     let (queue, mut first, mut second) = open_two(rt.alloc())?;
     join(&queue, &mut second);
-    assert_eq!(rt; queue.begin_walk(&mut second).get(), 3);
-    if queue.try_lock(&mut first).is_err() {
-        drop((queue, first, second));
-        return Err(Fail::from("no lock"));
-    }
-    let Some((at, xid)) = begin(&queue, &mut first, &notes) else {
-        drop((queue, first, second));
-        return Err(Fail::from("no number"));
+    assert_shown(&rt, &queue, &mut first, &mut second, &notes)
+}
+
+// Asserts that each commit wakes the listener, which takes the wake once.
+fn assert_woken(
+    rt: &impl Abort,
+    queue: &WordQueue,
+    first: &mut WordPass,
+    second: &mut WordPass,
+    notes: &[Note; 1],
+) -> Result<(), Fail>
+    requires first { IsPassOf queue.now first.old }
+    requires first_fresh { IsFresh first.old }
+    requires second { IsPassOf queue.now second.old }
+    requires second_free { (view_of second.old).phase ≡ phases.Free }
+    requires listens { (view_of second.old).post.listen ≡ listens.Registered }
+    requires pages { (shape_of queue.now).pages ≡ 2 }
+    requires format { (shape_of queue.now).format ≡ One }
+    requires seats { length (shape_of queue.now).seats ≡ 2 }
+    requires dbs { map (λ seat. seat.db) (shape_of queue.now).seats ≡ 1 ∷ 1 ∷ [] }
+    requires notes { notes.now ≡ virtual_note ∷ [] }
+{
+    let Some(true) = publish(queue, first, notes) else {
+        return Err(Fail::from("not published"));
     };
-    assert_eq!(rt; (at, xid.get()), (0, 3));
-    let Some(by) = holder(&queue, &mut second) else {
-        drop((queue, first, second));
-        return Err(Fail::from("no holder"));
-    };
-    assert_eq!(rt; by.get(), 1);
-    assert!(rt; write(&queue, &mut first, at, xid));
-    assert_eq!(rt; queue.show_head(&mut second).get(), 11);
-    assert!(rt; shows_entry(&queue, &mut second));
-    commit(&queue, &mut first, xid, Pos::new(at + 11));
-    assert_eq!(rt; first.told().get(), 4);
+    assert!(rt; queue.take_wake(second));
+    assert!(rt; !queue.take_wake(second));
+    assert_eq!(rt; publish(queue, first, notes), Some(true));
+    assert!(rt; queue.take_wake(second));
+    assert_eq!(rt; first.told().get(), 5);
     Ok(())
 }
 
@@ -289,14 +340,5 @@ fn a_wake_is_taken_and_set_again(rt: HostRuntime) -> Result<(), Fail> {
     let notes = [virtual_note(rt.alloc())?];
     let (queue, mut first, mut second) = open_two(rt.alloc())?;
     join(&queue, &mut second);
-    let Some(true) = publish(&queue, &mut first, &notes) else {
-        drop((queue, first, second));
-        return Err(Fail::from("not published"));
-    };
-    assert!(rt; queue.take_wake(&mut second));
-    assert!(rt; !queue.take_wake(&mut second));
-    assert_eq!(rt; publish(&queue, &mut first, &notes), Some(true));
-    assert!(rt; queue.take_wake(&mut second));
-    assert_eq!(rt; first.told().get(), 5);
-    Ok(())
+    assert_woken(&rt, &queue, &mut first, &mut second, &notes)
 }

@@ -1,7 +1,9 @@
 //! A session joins before the two looks of an advance, and between them.
-ghost use Rattle.std.specs.Prelude.{◌≡◌, ◌^◌, ◌<◌, ◌≤◌, true, length, Some, IfSome};
+ghost use Rattle.std.specs.Prelude.{◌≡◌, ◌^◌, ◌<◌, ◌≤◌, true, length, map, Some, IfSome, [], ◌∷◌};
+ghost use Rattle.pgn_base.specs.declared.format.Format.TheVariants.{One};
+ghost use Rattle.pgn_journal.specs.examples.Packing.{virtual_note};
 ghost use Rattle.pgn_journal.specs.Packing.{image};
-ghost use Rattle.pgn_words.specs.Passes.{IsPassOf, view_of, known_of, shape_of};
+ghost use Rattle.pgn_words.specs.Passes.{IsPassOf, IsFresh, view_of, known_of, shape_of};
 ghost use Rattle.pgn_words.specs.Positions.{packed, mark_in};
 ghost use Rattle.pgn_words.specs.Views.{is_settled, AreDecided};
 ghost use Rattle.pgn_words.specs.declared.view.Listen.TheVariants as listens;
@@ -10,7 +12,7 @@ ghost use Rattle.pgn_words.specs.declared.view.Phase.TheVariants as phases;
 
 use super::entry::{publish, virtual_note};
 use super::{make_ready, open_two};
-use pgn_base::Xid;
+use pgn_base::{Note, Xid};
 use pgn_layout::Pos;
 use pgn_words::{PosWord, WordPass, WordQueue};
 use std::test::Fail;
@@ -158,40 +160,73 @@ fn look_again(queue: &WordQueue, pass: &mut WordPass, joiner: &mut WordPass) -> 
     queue.second_look(pass, 1)
 }
 
+// A session joins between the looks of an advance: what the second look finds once it has its base, and what that base is.
+fn join_between(
+    queue: &WordQueue,
+    first: &mut WordPass,
+    second: &mut WordPass,
+) -> Option<(PosWord, (Xid, Pos))>
+    requires first { IsPassOf queue.now first.old }
+    requires first_fresh { IsFresh first.old }
+    requires second { IsPassOf queue.now second.old }
+    requires second_fresh { IsFresh second.old }
+    requires seats { length (shape_of queue.now).seats ≡ 2 }
+{
+    if !look_once(queue, first) {
+        return None;
+    }
+    queue.mark_joining(second);
+    if !look_at_joiner(queue, first) {
+        return None;
+    }
+    let base = queue.load_base(second);
+    Some((look_again(queue, first, second), base))
+}
+
 #[test]
 fn a_joiner_between_the_looks_is_waited_for(rt: HostRuntime) -> Result<(), Fail> {
     let (queue, mut first, mut second) = open_two(rt.alloc())?;
-    if !look_once(&queue, &mut first) {
-        drop((queue, first, second));
-        return Err(Fail::from("no first look"));
-    }
-    queue.mark_joining(&mut second);
-    if !look_at_joiner(&queue, &mut first) {
-        drop((queue, first, second));
-        return Err(Fail::from("the joiner was not met"));
-    }
-    let (mark, pos) = queue.load_base(&mut second);
-    let found = look_again(&queue, &mut first, &mut second);
+    let met = join_between(&queue, &mut first, &mut second);
+    let (found, (mark, pos)) = met.ok_or("the joiner was not met")?;
     assert!(rt; found == PosWord::At { mark, pos });
     Ok(())
+}
+
+// The same of one that has loaded its base before another one publishes and then looks.
+fn join_before(
+    queue: &WordQueue,
+    first: &mut WordPass,
+    second: &mut WordPass,
+    notes: &[Note; 1],
+) -> Option<(PosWord, (Xid, Pos))>
+    requires first { IsPassOf queue.now first.old }
+    requires first_fresh { IsFresh first.old }
+    requires second { IsPassOf queue.now second.old }
+    requires second_fresh { IsFresh second.old }
+    requires pages { (shape_of queue.now).pages ≡ 2 }
+    requires format { (shape_of queue.now).format ≡ One }
+    requires seats { length (shape_of queue.now).seats ≡ 2 }
+    requires dbs { map (λ seat. seat.db) (shape_of queue.now).seats ≡ 1 ∷ 1 ∷ [] }
+    requires notes { notes.now ≡ virtual_note ∷ [] }
+{
+    queue.mark_joining(second);
+    let base = queue.load_base(second);
+    let Some(true) = publish(queue, first, notes) else {
+        return None;
+    };
+    if !look_once(queue, first) || !look_at_joiner(queue, first) {
+        return None;
+    }
+    Some((look_again(queue, first, second), base))
 }
 
 #[test]
 fn a_joiner_keeps_the_place_that_it_has_loaded(rt: HostRuntime) -> Result<(), Fail> {
     let notes = [virtual_note(rt.alloc())?];
     let (queue, mut first, mut second) = open_two(rt.alloc())?;
-    queue.mark_joining(&mut second);
-    let (mark, pos) = queue.load_base(&mut second);
-    let Some(true) = publish(&queue, &mut first, &notes) else {
-        drop((queue, first, second));
-        return Err(Fail::from("not published"));
-    };
-    if !look_once(&queue, &mut first) || !look_at_joiner(&queue, &mut first) {
-        drop((queue, first, second));
-        return Err(Fail::from("the joiner was not met"));
-    }
+    let met = join_before(&queue, &mut first, &mut second, &notes);
+    let (found, (mark, pos)) = met.ok_or("the joiner was not met")?;
     assert_eq!(rt; (mark.get(), pos.get()), (3, 0));
-    let found = look_again(&queue, &mut first, &mut second);
     assert!(rt; found == PosWord::At { mark, pos });
     Ok(())
 }
