@@ -1,5 +1,5 @@
+use super::opened;
 use super::probe::{Probe, Watch};
-use super::{CROSSING_FLAGS, opened};
 use pgn_base::PAGES_DEFAULT;
 use pgn_hub::PassView;
 use pgn_model::Item;
@@ -57,6 +57,28 @@ fn awaits_in_turns<R: Wait>(rt: &R, alloc: Global, input: &str) -> Result<(Strin
     ended?;
     Ok((awaits?, rests))
 }
+
+// Each session waits for the other one.
+const CROSSING_FLAGS: &str = "\
+\\session a 1
+LISTEN c
+BEGIN
+\\await b1
+NOTIFY c, 'from a'
+COMMIT
+BEGIN
+\\signal a2
+\\await b2
+COMMIT
+\\session b 1
+LISTEN c
+BEGIN
+\\signal b1
+\\await a2
+COMMIT
+NOTIFY c, 'from b'
+\\signal b2
+";
 
 #[test]
 fn sessions_with_crossing_flags_take_turns(rt: HostRuntime) -> Result<(), Fail> {

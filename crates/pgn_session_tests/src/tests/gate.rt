@@ -1,6 +1,6 @@
 use super::probe::{Gate, Probe, Watch};
 use super::turns::awaits_of;
-use super::{SELF_NOTIFY, ran, shown_over};
+use super::{ran, shown_over};
 use pgn_base::PATIENCE_DEFAULT;
 use pgn_drill::drill_text;
 use pgn_run::Print;
@@ -49,6 +49,12 @@ fn a_run_takes_its_sessions_side_by_side(rt: HostRuntime) -> Result<(), Fail> {
     Ok(())
 }
 
+const SELF_NOTIFY: &str = "\
+\\session a 1
+LISTEN c
+NOTIFY c, 'x'
+";
+
 // A text that is made without the hub needs no memory of its reads.
 #[test]
 fn a_run_is_over_its_hub(rt: HostRuntime) -> Result<(), Fail> {
@@ -60,7 +66,7 @@ fn a_run_is_over_its_hub(rt: HostRuntime) -> Result<(), Fail> {
         PATIENCE_DEFAULT,
         Print::Text,
     )?;
-    assert_eq!(rt; text.as_str(), "NoMemory: ");
+    assert_eq!(rt; text.as_str(), "no memory");
     Ok(())
 }
 
@@ -77,7 +83,7 @@ fn a_drill_is_over_its_hub(rt: HostRuntime) -> Result<(), Fail> {
         PATIENCE_DEFAULT,
         print,
     )?;
-    assert_eq!(rt; text.as_str(), "NoMemory: ");
+    assert_eq!(rt; text.as_str(), "no memory");
     Ok(())
 }
 
@@ -123,7 +129,7 @@ fn where_a_session_is_refused_memory_nothing_is_written(rt: HostRuntime) -> Resu
         1000,
         Print::Text,
     )?;
-    assert_eq!(rt; text.as_str(), "NoMemory: ");
+    assert_eq!(rt; text.as_str(), "no memory");
     Ok(())
 }
 
