@@ -1,4 +1,4 @@
-use super::probe::{Gate, Probe, Watch};
+use super::probe::{Gate, Probe, Watch, seen_over};
 use super::turns::awaits_of;
 use super::{ran, shown_over};
 use pgn_base::PATIENCE_DEFAULT;
@@ -15,14 +15,14 @@ NOTIFY c
 
 #[test]
 fn sessions_run_side_by_side(rt: HostRuntime) -> Result<(), Fail> {
-    let (hub, _sessions, ended) = ran::<Probe<Gate<10_000_000>>, HostRuntime>(
+    let seen = seen_over::<Gate<10_000_000>, HostRuntime>(
         &rt,
         rt.alloc(),
         TWO_WRITERS,
         PATIENCE_DEFAULT,
     )?;
-    assert!(rt; ended);
-    assert!(rt; !hub.is_spent());
+    assert!(rt; seen.ended);
+    assert!(rt; !seen.is_spent);
     Ok(())
 }
 
@@ -111,10 +111,13 @@ fn where_a_session_is_refused_memory_the_others_end(rt: HostRuntime) -> Result<(
         ONE_IS_REFUSED,
         3_600_000_000,
     )?;
-    assert!(rt; !ended);
-    assert_eq!(rt; hub.begun(), 1);
+    let begun = hub.begun();
     drop(hub);
-    let awaits = awaits_of(alloc, &sessions)?;
+    let awaits = awaits_of(alloc, &sessions);
+    drop(sessions);
+    assert!(rt; !ended);
+    assert_eq!(rt; begun, 1);
+    let awaits = awaits?;
     assert!(rt; awaits.as_str() == "" || awaits.as_str() == "+await 4\n");
     Ok(())
 }
@@ -144,14 +147,9 @@ LISTEN c
 // script's end begins.
 #[test]
 fn a_session_that_waits_looks_whether_it_was_woken(rt: HostRuntime) -> Result<(), Fail> {
-    let (hub, _sessions, ended) = ran::<Probe<Gate<0>>, HostRuntime>(
-        &rt,
-        rt.alloc(),
-        AWAITS_ITSELF,
-        10,
-    )?;
-    assert!(rt; ended);
-    assert_eq!(rt; hub.wake_looks(), 13);
+    let seen = seen_over::<Gate<0>, HostRuntime>(&rt, rt.alloc(), AWAITS_ITSELF, 10)?;
+    assert!(rt; seen.ended);
+    assert_eq!(rt; seen.wake_looks, 13);
     Ok(())
 }
 
@@ -171,13 +169,8 @@ UNLISTEN d
 // A session tells its channels where its transaction had actions and it listens afterwards, and at no other line: after the first three.
 #[test]
 fn a_session_tells_its_channels_where_it_has_acted(rt: HostRuntime) -> Result<(), Fail> {
-    let (hub, _sessions, ended) = ran::<Probe<Watch<0>>, HostRuntime>(
-        &rt,
-        rt.alloc(),
-        LISTENS_AND_UNLISTENS,
-        10,
-    )?;
-    assert!(rt; ended);
-    assert_eq!(rt; hub.interests(), 3);
+    let seen = seen_over::<Watch<0>, HostRuntime>(&rt, rt.alloc(), LISTENS_AND_UNLISTENS, 10)?;
+    assert!(rt; seen.ended);
+    assert_eq!(rt; seen.interests, 3);
     Ok(())
 }

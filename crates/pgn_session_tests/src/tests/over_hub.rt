@@ -92,8 +92,24 @@ fn has_read_one<P: PassView + Send + Drop>(session: &Session<P>, from: u32, to: 
     mark_of(session) == Some(to) && last_read(session) == Some((from, to, 1))
 }
 
-// The first session listens, sends in a block, and ends the block: whether it has no mark at first, has not read in the block, and
-// has read after it.
+// A session listens, sends in a block, and ends the block: whether it has no mark at first, has not read in the block, and has read
+// after it.
+fn read_in_turns<P: PassView + Send + Drop, H: Hub<Pass = P>, R: Wait>(
+    rt: &R,
+    alloc: Global,
+    hub: &H,
+    session: &mut Session<P>,
+) -> Result<(bool, bool, bool), Fail>
+    requires ready { IsReady (H.is_pass hub.now) (H.shape hub.now) P.known session.old }
+{
+    let unmarked = mark_of(session).is_none();
+    turns(rt, alloc, hub, session, 3)?;
+    let unread = has_not_read(session, 3);
+    turns(rt, alloc, hub, session, 1)?;
+    Ok((unmarked, unread, has_read_one(session, 3, 4)))
+}
+
+// The same of the first of some sessions.
 fn take_the_first<P: PassView + Send + Drop, H: Hub<Pass = P>, R: Wait>(
     rt: &R,
     alloc: Global,
@@ -102,14 +118,10 @@ fn take_the_first<P: PassView + Send + Drop, H: Hub<Pass = P>, R: Wait>(
 ) -> Result<(bool, bool, bool), Fail>
     requires ready { All (IsReady (H.is_pass hub.now) (H.shape hub.now) P.known) sessions.old }
 {
-    let [first, _] = sessions else {
-        return Err(Fail::from("no two sessions"));
-    };
-    let unmarked = mark_of(first).is_none();
-    turns(rt, alloc, hub, first, 3)?;
-    let unread = has_not_read(first, 3);
-    turns(rt, alloc, hub, first, 1)?;
-    Ok((unmarked, unread, has_read_one(first, 3, 4)))
+    if sessions.is_empty() {
+        return Err(Fail::from("no session"));
+    }
+    read_in_turns(rt, alloc, hub, &mut sessions[0])
 }
 
 // The same over a hub of two pages.

@@ -1,6 +1,7 @@
 ghost use Rattle.std.specs.Prelude.{◌≡◌, map, length, All};
 ghost use Rattle.std.specs.List.{range_with_len};
 
+use super::ran;
 use pgn_base::{Delivery, Enlisted, Full, ListenSet, Note, Usage, Xid};
 use pgn_hub::{Hub, PassView, Roll, Setup};
 use pgn_wordhub::WordHub;
@@ -8,7 +9,9 @@ use std::alloc::{AllocError, Global};
 use std::marker::PhantomData;
 use std::sync::atomic::{AtomicU64, Ordering};
 use std::sync::{Arc, Wait};
+use std::test::Fail;
 use std::thread;
+use std::thread::Threads;
 use std::time::Duration;
 
 // What has come to pass over a hub: how many transactions have begun, how often sessions have looked whether they were woken, have told
@@ -117,14 +120,6 @@ impl<P: Pace> Probe<P> {
         self.counts.begun.load(Ordering::SeqCst)
     }
 
-    pub(super) fn wake_looks(&self) -> u64 {
-        self.counts.wake_looks.load(Ordering::SeqCst)
-    }
-
-    pub(super) fn interests(&self) -> u64 {
-        self.counts.interests.load(Ordering::SeqCst)
-    }
-
     pub(super) fn rests(&self) -> u64 {
         self.counts.rests.load(Ordering::SeqCst)
     }
@@ -132,6 +127,41 @@ impl<P: Pace> Probe<P> {
     pub(super) fn is_spent(&self) -> bool {
         self.counts.is_spent()
     }
+
+    fn seen(&self, ended: bool) -> Seen {
+        Seen {
+            ended,
+            is_spent: self.counts.is_spent(),
+            wake_looks: self.counts.wake_looks.load(Ordering::SeqCst),
+            interests: self.counts.interests.load(Ordering::SeqCst),
+        }
+    }
+}
+
+// What sessions came to over a probe: whether memory sufficed, whether somebody waited for others in vain, and how often they looked
+// whether they were woken and told their channels.
+#[derive(Clone, Copy)]
+pub(super) struct Seen {
+    pub(super) ended: bool,
+    pub(super) is_spent: bool,
+    pub(super) wake_looks: u64,
+    pub(super) interests: u64,
+}
+
+// Runs the sessions of an input at this pace, with so much patience. The probe and the sessions are dropped here, once for all tests.
+pub(super) fn seen_over<P: Pace + Sync + Drop, R: Threads + Wait + Sync>(
+    rt: &R,
+    alloc: Global,
+    input: &str,
+    patience: u64,
+) -> Result<Seen, Fail>
+    requires { 1 ≤ patience }
+{
+    let (probe, sessions, ended) = ran::<Probe<P>, R>(rt, alloc, input, patience)?;
+    drop(sessions);
+    let seen = probe.seen(ended);
+    drop(probe);
+    Ok(seen)
 }
 
 impl<P: Pace> Hub for Probe<P> {

@@ -87,10 +87,14 @@ fn sessions_that_take_turns_count_no_more_than_they_sleep(rt: HostRuntime) -> Re
         PAGES_DEFAULT,
         1_000_000,
     )?;
-    assert!(rt; run_two_beside(&rt, alloc, &hub, sessions.as_mut_slice()));
-    assert!(rt; !hub.is_spent());
+    let ended = run_two_beside(&rt, alloc, &hub, sessions.as_mut_slice());
+    let is_spent = hub.is_spent();
     drop(hub);
-    let awaits = awaits_of(alloc, &sessions)?;
+    let awaits = awaits_of(alloc, &sessions);
+    drop(sessions);
+    assert!(rt; ended);
+    assert!(rt; !is_spent);
+    let awaits = awaits?;
     assert_eq!(rt; awaits.as_str(), "+await 15\n+await 15\n");
     Ok(())
 }

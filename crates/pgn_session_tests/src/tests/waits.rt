@@ -1,5 +1,5 @@
-use super::probe::{Probe, Watch};
-use super::{ran, shown_over};
+use super::probe::{Watch, seen_over};
+use super::shown_over;
 use pgn_run::Print;
 use pgn_wordhub::WordHub;
 use std::alloc::{AllocError, Global};
@@ -19,14 +19,14 @@ NOTIFY c
 // Session b sends once a session has slept, and raises the flag that session a awaits once a has read.
 #[test]
 fn a_listener_reads_while_it_sleeps_for_a_flag(rt: HostRuntime) -> Result<(), Fail> {
-    let (hub, _sessions, ended) = ran::<Probe<Watch<10_000_000>>, HostRuntime>(
+    let seen = seen_over::<Watch<10_000_000>, HostRuntime>(
         &rt,
         rt.alloc(),
         READS_WHILE_IT_WAITS,
         u64::MAX,
     )?;
-    assert!(rt; ended);
-    assert!(rt; !hub.is_spent());
+    assert!(rt; seen.ended);
+    assert!(rt; !seen.is_spent);
     Ok(())
 }
 
