@@ -10,8 +10,10 @@
 //! ```
 #![tactic(auto)]
 
+mod made;
 mod memory_sink;
 mod memory_source;
 
+pub use made::{name, note, payload, repeated};
 pub use memory_sink::MemSink;
 pub use memory_source::MemSource;

@@ -1,3 +1,1 @@
-mod EntryLaws
 mod OpenedPair
-mod SeatLaws

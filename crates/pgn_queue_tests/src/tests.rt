@@ -1,2 +1,1 @@
 mod hub;
-mod words;

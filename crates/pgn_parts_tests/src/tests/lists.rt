@@ -1,10 +1,10 @@
 // Copies, lists, and what sets and threads ask of a value.
-use super::{name, note, payload, repeated};
 use indexmap::IndexSet;
 use pgn_base::{
     Copied, Deliveries, Delivery, ListenSet, Name, Names, Note, Payload, Refusal, Seed, Seq, Text,
     Xid,
 };
+use pgn_memory::{name, note, payload, repeated};
 use std::alloc::{AllocError, Global};
 use std::test::Fail;
 

@@ -1,6 +1,6 @@
-use super::note;
 use pgn_base::{DbOid, Full, Notes, SessionNo, Xid};
 use pgn_journal::{Fate, Tx};
+use pgn_memory::note;
 use pgn_merge::merge;
 use pgn_model::{Item, Items, Trace};
 use std::alloc::{AllocError, Global};

@@ -1,5 +1,5 @@
-use super::{name, note};
 use pgn_base::{Action, Actions, Name, Note, Notes, Seed};
+use pgn_memory::{name, note};
 use pgn_pending::{Call, NoSuch, Pending, finish_after};
 use std::alloc::{AllocError, Global};
 use std::process::Abort;
@@ -191,12 +191,16 @@ fn is_answered(alloc: Global, row: &str) -> Result<bool, Fail> {
     Ok(answer.as_slice() == want.as_bytes())
 }
 
-#[test]
-fn what_is_left_of_a_transaction(rt: HostRuntime) -> Result<(), Fail> {
-    for row in TRANSACTIONS.lines() {
-        assert!(rt; is_answered(rt.alloc(), row)?, "{row}");
+fn assert_answered(rt: &impl Abort, alloc: Global, rows: &str) -> Result<(), Fail> {
+    for row in rows.lines() {
+        assert!(rt; is_answered(alloc, row)?, "{row}");
     }
     Ok(())
+}
+
+#[test]
+fn what_is_left_of_a_transaction(rt: HostRuntime) -> Result<(), Fail> {
+    assert_answered(&rt, rt.alloc(), TRANSACTIONS)
 }
 
 // What is left of a row's commands, made one after another.
@@ -216,12 +220,16 @@ fn is_left(alloc: Global, row: &str) -> Result<bool, Fail> {
     Ok(left.as_slice() == want.as_bytes())
 }
 
-#[test]
-fn what_is_left_after_calls(rt: HostRuntime) -> Result<(), Fail> {
-    for row in TRANSACTIONS.lines() {
-        assert!(rt; is_left(rt.alloc(), row)?, "{row}");
+fn assert_left(rt: &impl Abort, alloc: Global, rows: &str) -> Result<(), Fail> {
+    for row in rows.lines() {
+        assert!(rt; is_left(alloc, row)?, "{row}");
     }
     Ok(())
+}
+
+#[test]
+fn what_is_left_after_calls(rt: HostRuntime) -> Result<(), Fail> {
+    assert_left(&rt, rt.alloc(), TRANSACTIONS)
 }
 
 // A notification of this number.

@@ -1,6 +1,6 @@
 // The set of channels that a session listens to.
-use super::{name, repeated};
 use pgn_base::{Action, Actions, ListenSet, Name, Seed};
+use pgn_memory::{name, repeated};
 use std::alloc::{AllocError, Global};
 use std::test::Fail;
 

@@ -1,5 +1,5 @@
-use super::repeated;
 use pgn_base::{DbOid, Name, NameFault, Payload, PayloadFault, SessionNo, Xid};
+use pgn_memory::repeated;
 use std::alloc::{AllocError, Global};
 use std::process::Abort;
 use std::test::Fail;

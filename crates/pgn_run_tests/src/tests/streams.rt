@@ -147,6 +147,7 @@ end mark 5
 fn read_until<R: Threads + Wait + Clock + Sync>(
     rt: &R,
     alloc: Global,
+    input: &str,
     call: u64,
 ) -> Result<String, Fail> {
     let outside = Outside {
@@ -154,34 +155,38 @@ fn read_until<R: Threads + Wait + Clock + Sync>(
         most: 1,
         ..AMPLE
     };
-    comes_of(rt, alloc, CROSSING_FLAGS.as_bytes(), &outside)
+    comes_of(rt, alloc, input.as_bytes(), &outside)
 }
 
-// What is to come of it. A call for each byte is followed by one that finds the end.
-fn wanted_of_read(call: u64) -> &'static str {
-    if call <= CROSSING_FLAGS.len() as u64 + 1 {
-        "ReadFault: "
-    } else {
-        CROSSING_FLAGS_OUTPUT
+// Asserts that each call fails in turn. A call for each byte is followed by one that finds the end.
+fn assert_reads<R: Threads + Wait + Clock + Sync + Abort>(
+    rt: &R,
+    alloc: Global,
+    input: &str,
+    output: &str,
+) -> Result<(), Fail> {
+    let calls = (input.len() as u64).saturating_add(1);
+    for call in 1..=calls {
+        let found = read_until(rt, alloc, input, call)?;
+        assert_eq!(rt; found.as_str(), "ReadFault: ");
     }
+    let found = read_until(rt, alloc, input, calls.saturating_add(1))?;
+    assert_eq!(rt; found.as_str(), output);
+    Ok(())
 }
 
 #[test]
 fn each_read_fails_in_turn(rt: HostRuntime) -> Result<(), Fail> {
-    for call in 1..=CROSSING_FLAGS.len() as u64 + 2 {
-        let found = read_until(&rt, rt.alloc(), call)?;
-        assert_eq!(rt; found.as_str(), wanted_of_read(call));
-    }
-    Ok(())
+    assert_reads(&rt, rt.alloc(), CROSSING_FLAGS, CROSSING_FLAGS_OUTPUT)
 }
 
 // What is to come of a sink that takes seven bytes at a time, where so many calls do not fail and the next one, if there is one, does.
-fn written_before(alloc: Global, calls: usize) -> Result<String, Fail> {
+fn written_before(alloc: Global, output: &str, calls: usize) -> Result<String, Fail> {
     let bytes = calls.saturating_mul(7);
-    if bytes >= CROSSING_FLAGS_OUTPUT.len() {
-        return Ok(String::from_str(alloc, CROSSING_FLAGS_OUTPUT)?);
+    if bytes >= output.len() {
+        return Ok(String::from_str(alloc, output)?);
     }
-    let written = CROSSING_FLAGS_OUTPUT.get(..bytes).ok_or("no ASCII")?;
+    let written = output.get(..bytes).ok_or("no ASCII")?;
     Ok(joined(alloc, "WriteFault: ", written)?)
 }
 
@@ -189,6 +194,7 @@ fn written_before(alloc: Global, calls: usize) -> Result<String, Fail> {
 fn write_until<R: Threads + Wait + Clock + Sync>(
     rt: &R,
     alloc: Global,
+    input: &str,
     call: u64,
 ) -> Result<String, Fail> {
     let outside = Outside {
@@ -196,26 +202,40 @@ fn write_until<R: Threads + Wait + Clock + Sync>(
         most: 7,
         ..AMPLE
     };
-    comes_of(rt, alloc, CROSSING_FLAGS.as_bytes(), &outside)
+    comes_of(rt, alloc, input.as_bytes(), &outside)
 }
 
 fn is_cut_after<R: Threads + Wait + Clock + Sync>(
     rt: &R,
     alloc: Global,
+    input: &str,
+    output: &str,
     calls: usize,
 ) -> Result<bool, Fail> {
-    let found = write_until(rt, alloc, (calls as u64).saturating_add(1))?;
-    let want = written_before(alloc, calls)?;
+    let found = write_until(rt, alloc, input, (calls as u64).saturating_add(1))?;
+    let want = written_before(alloc, output, calls)?;
     Ok(found == want)
+}
+
+// Asserts that each call fails in turn, and then none.
+fn assert_writes<R: Threads + Wait + Clock + Sync + Abort>(
+    rt: &R,
+    alloc: Global,
+    input: &str,
+    output: &str,
+) -> Result<(), Fail> {
+    for calls in 0..=output.len() / 7 + 1 {
+        assert!(rt;
+            is_cut_after(rt, alloc, input, output, calls)?,
+            "after {calls}"
+        );
+    }
+    Ok(())
 }
 
 #[test]
 fn each_write_fails_in_turn(rt: HostRuntime) -> Result<(), Fail> {
-    let alloc = rt.alloc();
-    for calls in 0..=CROSSING_FLAGS_OUTPUT.len() / 7 + 1 {
-        assert!(rt; is_cut_after(&rt, alloc, calls)?, "after {calls}");
-    }
-    Ok(())
+    assert_writes(&rt, rt.alloc(), CROSSING_FLAGS, CROSSING_FLAGS_OUTPUT)
 }
 
 const QUOTES: &str = "\

@@ -23,12 +23,7 @@ fn open_one(alloc: Global) -> Result<(WordHub, WordPass), Fail>
 }
 
 // Sends a notification as often as a hub may, unless one is refused: the number of the last.
-fn send_all<R: Wait>(
-    rt: &R,
-    hub: &WordHub,
-    pass: &mut WordPass,
-    notes: &[Note; 1],
-) -> Option<u32>
+fn send_all<R: Wait>(rt: &R, hub: &WordHub, pass: &mut WordPass, notes: &[Note; 1]) -> Option<u32>
     requires own { IsHubPass hub.now pass.old }
     ensures own { IsHubPass hub.now pass.new }
 {

@@ -121,14 +121,32 @@ fn a_session_that_joins_is_named(rt: HostRuntime) -> Result<(), Fail> {
     Ok(())
 }
 
+// One session sends five largest notifications, and advances the tail; another one, which listens, reads after the fourth: what it has
+// received, and what the advance did.
+fn send_five_and_advance<R: Wait>(
+    rt: &R,
+    alloc: Global,
+    hub: &WordHub,
+    writer: &mut WordPass,
+    reader: &mut WordPass,
+) -> (Option<(u32, usize)>, (u64, u64, Option<SessionNo>))
+    requires writer { IsHubPass hub.now writer.old }
+    requires reader { IsHubPass hub.now reader.old }
+    requires listens { IsSome (known_of reader.old).mark }
+{
+    send_four(rt, alloc, hub, writer);
+    let read = receive(alloc, hub, reader);
+    send(rt, alloc, hub, writer, LARGEST);
+    (read, advance(rt, hub, writer))
+}
+
 #[test]
 fn the_tail_moves_without_a_full_queue(rt: HostRuntime) -> Result<(), Fail> {
     let alloc = rt.alloc();
     let (hub, mut first, mut second) = open_pages(alloc, Format::One, 9, 1)?;
     hub.enlist(&mut second);
-    send_four(&rt, alloc, &hub, &mut first);
-    assert_eq!(rt; receive(alloc, &hub, &mut second), Some((7, 4)));
-    send(&rt, alloc, &hub, &mut first, LARGEST);
-    assert_eq!(rt; advance(&rt, &hub, &mut first), (3, 3, None));
+    let (read, advanced) = send_five_and_advance(&rt, alloc, &hub, &mut first, &mut second);
+    assert_eq!(rt; read, Some((7, 4)));
+    assert_eq!(rt; advanced, (3, 3, None));
     Ok(())
 }

@@ -1,0 +1,176 @@
+use super::probe::{Gate, Probe, Watch, seen_over};
+use super::turns::awaits_of;
+use super::{ran, shown_over};
+use pgn_base::PATIENCE_DEFAULT;
+use pgn_drill::drill_text;
+use pgn_run::Print;
+use std::test::Fail;
+
+const TWO_WRITERS: &str = "\
+\\session a 1
+NOTIFY c
+\\session b 1
+NOTIFY c
+";
+
+#[test]
+fn sessions_run_side_by_side(rt: HostRuntime) -> Result<(), Fail> {
+    let seen = seen_over::<Gate<10_000_000>, HostRuntime>(
+        &rt,
+        rt.alloc(),
+        TWO_WRITERS,
+        PATIENCE_DEFAULT,
+    )?;
+    assert!(rt; seen.ended);
+    assert!(rt; !seen.is_spent);
+    Ok(())
+}
+
+const TWO_LISTENERS: &str = "\
+\\session a 1
+LISTEN c
+NOTIFY c
+\\session b 1
+LISTEN c
+NOTIFY c
+";
+
+#[test]
+fn a_run_takes_its_sessions_side_by_side(rt: HostRuntime) -> Result<(), Fail> {
+    let alloc = rt.alloc();
+    let text = shown_over::<Probe<Gate<10_000_000>>, HostRuntime>(
+        &rt,
+        alloc,
+        TWO_LISTENERS,
+        PATIENCE_DEFAULT,
+        Print::Text,
+    )?;
+    assert!(rt; text.as_str().starts_with("journal 2\n"));
+    Ok(())
+}
+
+const SELF_NOTIFY: &str = "\
+\\session a 1
+LISTEN c
+NOTIFY c, 'x'
+";
+
+// A text that is made without the hub needs no memory of its reads.
+#[test]
+fn a_run_is_over_its_hub(rt: HostRuntime) -> Result<(), Fail> {
+    let alloc = rt.alloc();
+    let text = shown_over::<Probe<Gate<0>>, HostRuntime>(
+        &rt,
+        alloc,
+        SELF_NOTIFY,
+        PATIENCE_DEFAULT,
+        Print::Text,
+    )?;
+    assert_eq!(rt; text.as_str(), "no memory");
+    Ok(())
+}
+
+// Nor does a summary that is reckoned without a run.
+#[test]
+fn a_drill_is_over_its_hub(rt: HostRuntime) -> Result<(), Fail> {
+    let alloc = rt.alloc();
+    let input = drill_text(alloc, 0, 1, 1)?;
+    let print = Print::Summary { seed: 0, notes: 1 };
+    let text = shown_over::<Probe<Gate<0>>, HostRuntime>(
+        &rt,
+        alloc,
+        str::from_utf8(&input)?,
+        PATIENCE_DEFAULT,
+        print,
+    )?;
+    assert_eq!(rt; text.as_str(), "no memory");
+    Ok(())
+}
+
+// The first transaction spends the turns, so that the read of session a after its LISTEN finds no memory: it does not send again, and it
+// raises its second flag never. Session b, which would await this for an hour, is refused too. Of the two it alone has awaits.
+const ONE_IS_REFUSED: &str = "\
+\\session a 1
+NOTIFY d
+\\signal f
+LISTEN c
+NOTIFY c
+\\signal g
+\\session b 1
+\\await f
+\\await g
+NOTIFY d
+";
+
+#[test]
+fn where_a_session_is_refused_memory_the_others_end(rt: HostRuntime) -> Result<(), Fail> {
+    let alloc = rt.alloc();
+    let (hub, sessions, ended) = ran::<Probe<Gate<0>>, HostRuntime>(
+        &rt,
+        alloc,
+        ONE_IS_REFUSED,
+        3_600_000_000,
+    )?;
+    let begun = hub.begun();
+    drop(hub);
+    let awaits = awaits_of(alloc, &sessions);
+    drop(sessions);
+    assert!(rt; !ended);
+    assert_eq!(rt; begun, 1);
+    let awaits = awaits?;
+    assert!(rt; awaits.as_str() == "" || awaits.as_str() == "+await 4\n");
+    Ok(())
+}
+
+// Nothing is written then, of the others neither.
+#[test]
+fn where_a_session_is_refused_memory_nothing_is_written(rt: HostRuntime) -> Result<(), Fail> {
+    let text = shown_over::<Probe<Gate<0>>, HostRuntime>(
+        &rt,
+        rt.alloc(),
+        ONE_IS_REFUSED,
+        1000,
+        Print::Text,
+    )?;
+    assert_eq!(rt; text.as_str(), "no memory");
+    Ok(())
+}
+
+const AWAITS_ITSELF: &str = "\
+\\session a 1
+LISTEN c
+\\await f
+\\signal f
+";
+
+// A listener reads while it waits too: once after LISTEN, after each of the ten looks of the await, after the signal, and as the
+// script's end begins.
+#[test]
+fn a_session_that_waits_looks_whether_it_was_woken(rt: HostRuntime) -> Result<(), Fail> {
+    let seen = seen_over::<Gate<0>, HostRuntime>(&rt, rt.alloc(), AWAITS_ITSELF, 10)?;
+    assert!(rt; seen.ended);
+    assert_eq!(rt; seen.wake_looks, 13);
+    Ok(())
+}
+
+const LISTENS_AND_UNLISTENS: &str = "\
+\\session a 1
+LISTEN c
+BEGIN
+COMMIT
+NOTIFY c
+LISTEN d
+SELECT pg_listening_channels()
+UNLISTEN c
+NOTIFY d
+UNLISTEN d
+";
+
+// A session tells its channels where its transaction had actions and it listens afterwards, and at no other line: after the first three.
+#[test]
+fn a_session_tells_its_channels_where_it_has_acted(rt: HostRuntime) -> Result<(), Fail> {
+    let seen = seen_over::<Watch<0>, HostRuntime>(&rt, rt.alloc(), LISTENS_AND_UNLISTENS, 10)?;
+    assert!(rt; seen.ended);
+    assert_eq!(rt; seen.interests, 3);
+    Ok(())
+}

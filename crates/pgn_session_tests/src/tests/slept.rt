@@ -1,0 +1,104 @@
+ghost use Rattle.std.specs.Prelude.{All};
+ghost use Rattle.std.specs.Thread.{IsSync, IsSend};
+ghost use Rattle.pgn_session.specs.Runs.{IsReady};
+
+use super::opened;
+use super::probe::{Probe, Watch};
+use super::turns::awaits_of;
+use pgn_base::PAGES_DEFAULT;
+use pgn_hub::{Hub, PassView};
+use pgn_session::Session;
+use pgn_threads::run_in_turns;
+use std::alloc::{AllocError, Global};
+use std::sync::Wait;
+use std::test::Fail;
+use std::thread::{Threads, join_mut};
+use std::time::Clock;
+
+// Two groups of sessions side by side, each of which takes turns on a thread of its own.
+fn run_two_groups<
+    P: PassView + Send + Drop,
+    H: Hub<Pass = P> + Sync,
+    R: Threads + Wait + Clock + Sync,
+>(
+    rt: &R,
+    alloc: Global,
+    hub: &H,
+    first: &mut [Session<P>],
+    second: &mut [Session<P>],
+) -> Result<(), AllocError>
+    requires first { All (IsReady (H.is_pass hub.now) (H.shape hub.now) P.known) first.old }
+    requires second { All (IsReady (H.is_pass hub.now) (H.shape hub.now) P.known) second.old }
+{
+    let (of_first, of_second) = join_mut(
+        rt,
+        &mut || -> Result<(), AllocError>
+            requires { IsSync R.row × IsSync H.row × IsSend P.row × All (IsReady (H.is_pass hub.now) (H.shape hub.now) P.known) first.now }
+        { run_in_turns(rt, alloc, hub, first) },
+        &mut || -> Result<(), AllocError>
+            requires { IsSync R.row × IsSync H.row × IsSend P.row × All (IsReady (H.is_pass hub.now) (H.shape hub.now) P.known) second.now }
+        { run_in_turns(rt, alloc, hub, second) },
+    );
+    of_first.and(of_second)
+}
+
+// The first two sessions take turns beside the others: whether there are so many, and memory sufficed.
+fn run_two_beside<
+    P: PassView + Send + Drop,
+    H: Hub<Pass = P> + Sync,
+    R: Threads + Wait + Clock + Sync,
+>(rt: &R, alloc: Global, hub: &H, sessions: &mut [Session<P>]) -> bool
+    requires { All (IsReady (H.is_pass hub.now) (H.shape hub.now) P.known) sessions.old }
+{
+    if sessions.len() < 2 {
+        return false;
+    }
+    let (first, second) = sessions.split_at_mut(2);
+    run_two_groups(rt, alloc, hub, first, second).is_ok()
+}
+
+// Two sessions that wait for a flag, of which the first listens, and one that raises it after twelve lines.
+const RAISED_LATE: &str = "\
+\\session a 1
+LISTEN c
+\\await f
+\\session b 1
+\\await f
+\\session c 1
+NOTIFY c
+NOTIFY c
+NOTIFY c
+NOTIFY c
+NOTIFY c
+NOTIFY c
+NOTIFY c
+NOTIFY c
+NOTIFY c
+NOTIFY c
+NOTIFY c
+NOTIFY c
+\\signal f
+";
+
+// Each line of the third session waits for one more sleep of the first two, twelve in all, which come to some ten milliseconds. So much
+// patience is a second; it would be spent by then if a sleep were counted for longer than it was.
+#[test]
+fn sessions_that_take_turns_count_no_more_than_they_sleep(rt: HostRuntime) -> Result<(), Fail> {
+    let alloc = rt.alloc();
+    let (hub, mut sessions) = opened::<Probe<Watch<1_000_000>>>(
+        alloc,
+        RAISED_LATE,
+        PAGES_DEFAULT,
+        1_000_000,
+    )?;
+    let ended = run_two_beside(&rt, alloc, &hub, sessions.as_mut_slice());
+    let is_spent = hub.is_spent();
+    drop(hub);
+    let awaits = awaits_of(alloc, &sessions);
+    drop(sessions);
+    assert!(rt; ended);
+    assert!(rt; !is_spent);
+    let awaits = awaits?;
+    assert_eq!(rt; awaits.as_str(), "+await 15\n+await 15\n");
+    Ok(())
+}
