@@ -42,6 +42,12 @@ joined-back v =
     let whole : v.count / 2 + (v.count - v.count / 2) ≡ v.count = omega arith in
     ap (λ (n : ℕ). let w : Hand = record v { count = n; sent = v.sent ++ [] } in w) whole ∙ ap (λ (l : List Came). let w : Hand = record v { sent = l } in w) (append-nil v.sent)
 
+-- the two halves of a slice that is longer than the lower half of the numbers
+pub apart-some : {X : Type 0} (span : ℕ) (xs front back : List X) (v : Hand) → 2 ≤ length xs → span / 2 < length xs → length xs ≤ v.count → v.count ≡ span → length front ≡ span / 2 → length back + span / 2 ≡ length xs
+    → (0 < length front) × (0 < length back) × (0 < span / 2) × (0 < span - span / 2)
+apart-some span xs front back v two many fits spans half rest =
+    (omega (arith, two, fits, spans, half), omega (arith, many, rest), omega (arith, two, fits, spans), omega (arith, two, fits, spans))
+
 module _ {P : Type 0} (is_own : P → Type 0) (shape : Shape) (known : P → Known) where
   told-more : (v w : Hand) (s : Session P) → items_of s.section.no w.sent ≡ items_of s.section.no v.sent → HasPlayed is_own shape known v s → HasPlayed is_own shape known w s
   told-more v w s e h = record { stopped = h.stopped; lawful = h.lawful; told = subst (λ (l : List Item). Begins l s.items.items) (sym e) h.told }

@@ -205,6 +205,16 @@ Toward-ends sections traces i section trace t e f h k p =
     Toward-more t p (next (λ ss. joined (ends_lines ss (drop i traces))) sections i section h e ∙ next (λ ts. joined (ends_lines (section ∷ drop (i + 1) sections) ts)) traces i trace k f
     ∙ sym (append_assoc (section_line section ++ 10 ∷ []) (end_line trace.last ++ 10 ∷ []) (joined (ends_lines (drop (i + 1) sections) (drop (i + 1) traces)))))
 
+-- past the last item of a list there are no more lines
+pub lines-end : {A : Type 0} (f : A → List ℕ) (xs : List A) (i : ℕ) → length xs ≤ i → joined (map f (drop i xs)) ≡ []
+lines-end {A} f xs i h = ap (λ (ys : List A). joined (map f ys)) (drop_all i xs h)
+
+pub marked-end : {A : Type 0} (mark : Option ℕ) (f : A → List ℕ) (xs : List A) (i : ℕ) → length xs ≤ i → joined (marked mark (map f (drop i xs))) ≡ []
+marked-end {A} mark f xs i h = ap (λ (ys : List A). joined (marked mark (map f ys))) (drop_all i xs h)
+
+pub flat-end : {A : Type 0} (f : A → List (List ℕ)) (xs : List A) (i : ℕ) → length xs ≤ i → joined (flat_map f (drop i xs)) ≡ []
+flat-end {A} f xs i h = ap (λ (ys : List A). joined (flat_map f ys)) (drop_all i xs h)
+
 no_ends : (sections : List Section) → ends_lines sections [] ≡ []
 no_ends [] = refl
 no_ends (section ∷ sections) = refl

@@ -1,5 +1,7 @@
+use Rattle.std.proofs.Common.{ℕ, ◌-◌, ◌/◌, ap, ◌∙◌}
+use Rattle.pgn_outlet.specs.declared.hand.Hand.{Hand}
 use Rattle.pgn_outlet.specs.Passes.{knows}
-use Rattle.pgn_live.proofs.PlayLaws.{lower-may, lower-ran, left-goes, right-goes, apart-played, halves-ran, may-still}
+use Rattle.pgn_live.proofs.PlayLaws.{lower-may, lower-ran, left-goes, right-goes, apart-played, apart-some, halves-ran, may-still}
 use Rattle.pgn_live.proofs.halves.+halves.Goals as goal
 
 pub play_lower-play_sessions-played-requires-clause-may : goal.play_lower-play_sessions-played-requires-clause-may
@@ -52,3 +54,17 @@ play_halves-play_the_rest-second-requires-clause-may g t c κs within =
 pub play_sessions-play_the_rest-requires-clause-may : goal.play_sessions-play_the_rest-requires-clause-may
 play_sessions-play_the_rest-requires-clause-may g t c κs within =
     may-still (g.H.Hub.is_pass c.args.hub.now) (g.H.Hub.shape c.args.hub.now) g.P.PassView.known c.args.sessions.now c.play_apart-played.new.sessions (knows c.args.pass.now) (knows c.play_apart-played.new.pass) c.play_apart-played.result c.requires.may c.play_apart-played.ensures.played
+
+pub play_lower-play_sessions-played-requires-clause-spans : goal.play_lower-play_sessions-played-requires-clause-spans
+play_lower-play_sessions-played-requires-clause-spans g t c κs o = ap (λ (v : Hand). v.count) c.half-other.ensures.lower ∙ ap (λ (n : ℕ). n / 2) c.requires.spans
+
+pub play_apart-play_halves-played-requires-clause-some : goal.play_apart-play_halves-played-requires-clause-some
+play_apart-play_halves-played-requires-clause-some g t c κs o =
+    let cut = c.split_at_mut-left.ensures in
+    apart-some c.args.span c.args.sessions.now c.split_at_mut-left.result.0.now c.split_at_mut-left.result.1.now (knows c.args.pass.now) c.requires.some c.requires.many c.requires.may.fits c.requires.spans cut.front_len cut.back_len
+
+pub play_apart-play_halves-played-requires-clause-spans : goal.play_apart-play_halves-played-requires-clause-spans
+play_apart-play_halves-played-requires-clause-spans g t c κs o = (
+  ap (λ (v : Hand). v.count) c.half-other.ensures.lower ∙ ap (λ (n : ℕ). n / 2) c.requires.spans,
+  ap (λ (v : Hand). v.count) c.half-other.ensures.upper ∙ ap (λ (n : ℕ). n - n / 2) c.requires.spans,
+)
