@@ -5,3 +5,7 @@ use Rattle.pgn_messages.proofs.examples.worked_rows.Goals as goal
 pub returns-clause-second : goal.returns-clause-second
 unfolding digits
 returns-clause-second c = refl
+
+pub returns-clause-fourth : goal.returns-clause-fourth
+unfolding digits
+returns-clause-fourth c = refl
