@@ -1,5 +1,5 @@
 // A client that is served.
-use pgn_base::{Sink, Source};
+use pgn_base::{Seed, Sink, Source};
 use pgn_hub::Hub;
 use pgn_memory::{MemSink, MemSource};
 use pgn_queries::WireFault;
@@ -24,7 +24,7 @@ pub fn served<R: Wait, S: Source, K: Sink>(
     source: &mut S,
     sink: &mut K,
 ) -> Result<(), WireEnd> {
-    converse::<<WordHub as Hub>::Pass, WordHub, R, S, K>(rt, alloc, source, sink)
+    converse::<<WordHub as Hub>::Pass, WordHub, R, S, K>(rt, alloc, Seed::fixed(), source, sink)
 }
 
 // A side of a conversation: how many bytes a call moves at most, one at least, and which calls fail.
