@@ -1,7 +1,7 @@
 use Rattle.std.proofs.Common.{◌≡◌, rules, Ok, ap}
 use Rattle.pgn_outlet.specs.Passes.{knows}
 use Rattle.pgn_session.specs.declared.doing.Step.TheVariants.{Ended}
-use Rattle.pgn_live.proofs.RoundLaws.{go-again, gone-on, gone-waited, told-count}
+use Rattle.pgn_live.proofs.RoundLaws.{go-again, gone-on, gone-waited, not-gone, told-count}
 use Rattle.pgn_live.proofs.turns.play_rounds.Goals as goal
 
 pub returns-in_err-step-clause-gone : goal.returns-in_err-step-clause-gone
@@ -26,3 +26,29 @@ loop-preserved g c =
       may = go-again (g.H.Hub.is_pass c.args.hub.now) (g.H.Hub.shape c.args.hub.now) g.P.PassView.known c.args.sessions.now c.wait_together-waits.new.sessions c.play_round.new.told (knows c.args.pass.now) (knows c.play_round.new.pass) c.requires.may.row c.requires.may.may waited c.wait_together-waits.ensures.ready;
       gone = waited;
     }
+
+pub loop-init : goal.loop-init
+loop-init g c = record {
+  own = c.requires.own;
+  count = c.requires.count;
+  may = c.requires.may;
+  gone = not-gone (g.H.Hub.is_pass c.args.hub.now) (g.H.Hub.shape c.args.hub.now) g.P.PassView.known c.args.sessions.now c.args.told.now (knows c.args.pass.now) c.requires.may;
+}
+
+pub play_round-requires-clause-own : goal.play_round-requires-clause-own
+play_round-requires-clause-own g c κs within = c.loop.invariant.own
+
+pub play_round-requires-clause-count : goal.play_round-requires-clause-count
+play_round-requires-clause-count g c κs within = c.loop.invariant.count
+
+pub play_round-requires-clause-may : goal.play_round-requires-clause-may
+play_round-requires-clause-may g c κs within = c.loop.invariant.may
+
+pub wait_together-waits-requires-clause-ready : goal.wait_together-waits-requires-clause-ready
+wait_together-waits-requires-clause-ready g c κs within = c.in_ok-step.ensures.ready
+
+pub returns-in_err-step-clause-own : goal.returns-in_err-step-clause-own
+returns-in_err-step-clause-own g c = c.play_round.ensures.own
+
+pub returns-then-eq-clause-own : goal.returns-then-eq-clause-own
+returns-then-eq-clause-own g c = c.play_round.ensures.own
