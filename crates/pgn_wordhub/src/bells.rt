@@ -89,7 +89,7 @@ fn quiet_words(alloc: Global, count: usize) -> Result<Vec<AtomicU64>, AllocError
     ensures { IfOk result (λ words. length words.items ≡ count) }
 {
     let mut words = Vec::with_capacity(alloc, count)?;
-    for _ in 0..count {
+    for _made in 0..count {
         words.push(AtomicU64::new(QUIET))?;
     }
     Ok(words)
