@@ -2,8 +2,4 @@ use Rattle.std.proofs.Common.{◌≡◌, length}
 use Rattle.pgn_wordhub.proofs.bells.quiet_words.Given as goal
 
 abbrev pub invariant-loop-made : goal.invariant-loop-made
-<<<<<<< HEAD
-invariant-loop-made l = length l.words.items ≡ l.made
-=======
 invariant-loop-made l = length l.words.items ≡ l._made
->>>>>>> bells
