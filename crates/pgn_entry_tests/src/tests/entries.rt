@@ -51,6 +51,11 @@ pub(super) fn read(format: Format, bytes: &[u8]) -> Read<'_> {
     read_entry(format, bytes)
 }
 
+// Whether they begin with that, or have that fault.
+pub(super) fn is_read(format: Format, bytes: &[u8], want: Read<'_>) -> bool {
+    read(format, bytes) == want
+}
+
 // The bytes of an entry, cell after cell.
 fn written(
     alloc: Global,
@@ -84,6 +89,22 @@ pub(super) fn entry_of(
     Ok((len, bytes?))
 }
 
+// Whether a notification's entry has these bytes, and their length.
+pub(super) fn is_entry(
+    alloc: Global,
+    format: Format,
+    note: Note,
+    db: DbOid,
+    xid: Xid,
+    pid: u32,
+    want: &[u8],
+) -> Result<bool, AllocError> {
+    let (len, bytes) = entry_of(alloc, format, note, db, xid, pid)?;
+    let same = len as usize == want.len() && bytes.as_slice() == want;
+    drop(bytes);
+    Ok(same)
+}
+
 // The bytes of a filler of so many bytes, likewise.
 pub(super) fn filled(
     alloc: Global,
@@ -102,33 +123,35 @@ pub(super) fn filled(
     Ok(out)
 }
 
-// The number in the four bytes from a place on.
-fn number(bytes: &[u8], at: usize) -> Option<u32> {
-    let [a, b, c, d, ..] = bytes.get(at..)? else {
-        return None;
-    };
-    Some(u32::from_le_bytes([*a, *b, *c, *d]))
+// The number in the four bytes from a place on, or 0 where they end before.
+fn number(bytes: &[u8], at: usize) -> u32 {
+    match bytes.get(at..) {
+        Some([a, b, c, d, ..]) => u32::from_le_bytes([*a, *b, *c, *d]),
+        _ => 0,
+    }
+}
+
+// The transaction and the process that the bytes begin with.
+fn sender_of(format: Format, bytes: &[u8]) -> (u64, u32) {
+    let lower = u64::from(number(bytes, 8));
+    let next = number(bytes, 12);
+    match format {
+        Format::One => (lower, next),
+        Format::Two => ((u64::from(next) << 32) | lower, number(bytes, 16)),
+    }
 }
 
 // The entry of these texts with the numbers that the bytes begin with.
-fn entry<'a>(
-    format: Format,
-    bytes: &[u8],
-    channel: &'a [u8],
-    payload: &'a [u8],
-) -> Option<EntryView<'a>> {
-    let (upper, pid) = match format {
-        Format::One => (0, number(bytes, 12)?),
-        Format::Two => (number(bytes, 12)?, number(bytes, 16)?),
-    };
-    Some(EntryView::Entry {
-        len: number(bytes, 0)?,
-        db: number(bytes, 4)?,
-        xid: (u64::from(upper) << 32) | u64::from(number(bytes, 8)?),
+fn entry<'a>(format: Format, bytes: &[u8], channel: &'a [u8], payload: &'a [u8]) -> EntryView<'a> {
+    let (xid, pid) = sender_of(format, bytes);
+    EntryView::Entry {
+        len: number(bytes, 0),
+        db: number(bytes, 4),
+        xid,
         pid,
         channel,
         payload,
-    })
+    }
 }
 
 // Whether bytes have this fault, or with none begin with the entry of these texts and of their own numbers.
@@ -139,10 +162,9 @@ pub(super) fn reads(
     channel: &[u8],
     payload: &[u8],
 ) -> bool {
-    match (read(format, bytes), fault) {
-        (Err(found), Some(fault)) => found == fault,
-        (Ok(found), None) => Some(found) == entry(format, bytes, channel, payload),
-        _ => false,
+    match fault {
+        Some(fault) => is_read(format, bytes, Err(fault)),
+        None => is_read(format, bytes, Ok(entry(format, bytes, channel, payload))),
     }
 }
 
@@ -150,10 +172,17 @@ pub(super) fn reads(
 fn an_entry(rt: HostRuntime) -> Result<(), Fail> {
     let alloc = rt.alloc();
     let long = note(alloc, "virtual", "This is the payload")?;
-    let (len, bytes) = entry_of(alloc, Format::One, long, DbOid::new(1), Xid::new(3), 1001)?;
-    assert!(rt; len == 44);
-    assert!(rt; bytes.as_slice() == LONG.as_slice());
-    assert!(rt; read(Format::One, &LONG) == Ok(LONG_VIEW));
+    let same = is_entry(
+        alloc,
+        Format::One,
+        long,
+        DbOid::new(1),
+        Xid::new(3),
+        1001,
+        &LONG,
+    )?;
+    assert!(rt; same);
+    assert!(rt; is_read(Format::One, &LONG, Ok(LONG_VIEW)));
     Ok(())
 }
 
@@ -161,18 +190,27 @@ fn an_entry(rt: HostRuntime) -> Result<(), Fail> {
 fn a_short_entry(rt: HostRuntime) -> Result<(), Fail> {
     let alloc = rt.alloc();
     let short = note(alloc, "c", "")?;
-    let (len, bytes) = entry_of(alloc, Format::One, short, DbOid::new(7), Xid::new(4), 1003)?;
-    assert!(rt; len == 20);
-    assert!(rt; bytes.as_slice() == SHORT.as_slice());
-    assert!(rt; read(Format::One, &SHORT) == Ok(SHORT_VIEW));
+    let same = is_entry(
+        alloc,
+        Format::One,
+        short,
+        DbOid::new(7),
+        Xid::new(4),
+        1003,
+        &SHORT,
+    )?;
+    assert!(rt; same);
+    assert!(rt; is_read(Format::One, &SHORT, Ok(SHORT_VIEW)));
     Ok(())
 }
 
 #[test]
 fn a_filler(rt: HostRuntime) -> Result<(), Fail> {
     let bytes = filled(rt.alloc(), Format::One, 20, Xid::new(5), 1002)?;
-    assert!(rt; bytes.as_slice() == FILLER.as_slice());
-    assert!(rt; read(Format::One, &FILLER) == Ok(FILLER_VIEW));
+    let same = bytes.as_slice() == FILLER.as_slice();
+    drop(bytes);
+    assert!(rt; same);
+    assert!(rt; is_read(Format::One, &FILLER, Ok(FILLER_VIEW)));
     Ok(())
 }
 
@@ -204,9 +242,9 @@ const REFUSED: [(&[u8], EntryFault); 4] = [
 
 #[test]
 fn entry_bytes_refused(rt: HostRuntime) {
-    assert!(rt; read(Format::One, &SHORT[..19]) == Err(EntryFault::Short));
+    assert!(rt; is_read(Format::One, &SHORT[..19], Err(EntryFault::Short)));
     for (bytes, fault) in REFUSED {
-        assert!(rt; read(Format::One, bytes) == Err(fault), "{bytes:?}");
+        assert!(rt; is_read(Format::One, bytes, Err(fault)), "{bytes:?}");
     }
 }
 
@@ -226,13 +264,31 @@ pub(super) fn by_hand(
     channel: &[u8],
     payload: &[u8],
 ) -> Result<Vec<u8>, AllocError> {
-    let mut bytes = Vec::from_slice(alloc, &len.to_le_bytes())?;
+    let mut bytes = Vec::new(alloc);
+    match put_by_hand(&mut bytes, format, len, channel, payload) {
+        Ok(()) => Ok(bytes),
+        Err(error) => {
+            drop(bytes);
+            Err(error)
+        }
+    }
+}
+
+// Puts them behind no others.
+fn put_by_hand(
+    bytes: &mut Vec<u8>,
+    format: Format,
+    len: u32,
+    channel: &[u8],
+    payload: &[u8],
+) -> Result<(), AllocError> {
+    bytes.extend_from_slice(&len.to_le_bytes())?;
     bytes.extend_from_slice(sender(format))?;
     bytes.extend_from_slice(channel)?;
     bytes.push(0)?;
     bytes.extend_from_slice(payload)?;
     bytes.resize(len as usize, 0)?;
-    Ok(bytes)
+    Ok(())
 }
 
 // A notification of a longest channel and a longest payload.
@@ -294,7 +350,7 @@ fn the_largest_filler(rt: HostRuntime) -> Result<(), Fail> {
         xid: u64::from(u32::MAX),
         pid: u32::MAX,
     };
-    assert!(rt; read(Format::One, &bytes) == Ok(filler));
+    assert!(rt; is_read(Format::One, &bytes, Ok(filler)));
     Ok(())
 }
 
@@ -306,12 +362,17 @@ fn two_entries() -> [u8; 64] {
     bytes
 }
 
-// What so many bytes of an entry and what follows it read as: the entry, where all of it is there.
-pub(super) fn read_of_prefix<'a>(view: EntryView<'a>, whole: usize, len: usize) -> Read<'a> {
-    if len < whole {
-        Err(EntryFault::Short)
+// Whether bytes are read as this entry where all of it is there, and else are too short.
+pub(super) fn is_prefix_read(
+    format: Format,
+    bytes: &[u8],
+    view: EntryView<'_>,
+    whole: usize,
+) -> bool {
+    if bytes.len() < whole {
+        is_read(format, bytes, Err(EntryFault::Short))
     } else {
-        Ok(view)
+        is_read(format, bytes, Ok(view))
     }
 }
 
@@ -319,16 +380,12 @@ pub(super) fn read_of_prefix<'a>(view: EntryView<'a>, whole: usize, len: usize) 
 fn each_prefix_of_two_entries(rt: HostRuntime) {
     let both = two_entries();
     for len in 0..=64 {
-        assert!(rt;
-            read(Format::One, &both[..len]) == read_of_prefix(LONG_VIEW, 44, len),
-            "at {len}"
-        );
+        let read = is_prefix_read(Format::One, &both[..len], LONG_VIEW, 44);
+        assert!(rt; read, "at {len}");
     }
     for len in 44..=64 {
-        assert!(rt;
-            read(Format::One, &both[44..len]) == read_of_prefix(SHORT_VIEW, 64, len),
-            "at {len}"
-        );
+        let read = is_prefix_read(Format::One, &both[44..len], SHORT_VIEW, 20);
+        assert!(rt; read, "at {len}");
     }
 }
 
@@ -435,16 +492,26 @@ const LENGTHS: [(u32, EntryFault, Read<'static>); 7] = [
     (u32::MAX, EntryFault::Short, Err(EntryFault::Short)),
 ];
 
+// Whether a page of zero bytes after this length is read so, and the first bytes of it have that fault.
+pub(super) fn is_length_read(
+    format: Format,
+    len: u32,
+    few: usize,
+    in_few: EntryFault,
+    in_a_page: Read<'_>,
+) -> bool
+    requires { few ≤ 8192 }
+{
+    let mut bytes = [0; 8192];
+    bytes[..4].copy_from_slice(&len.to_le_bytes());
+    is_read(format, &bytes[..few], Err(in_few)) && is_read(format, &bytes, in_a_page)
+}
+
 #[test]
 fn lengths(rt: HostRuntime) {
     for (len, in_twenty, in_a_page) in LENGTHS {
-        let mut bytes = [0; 8192];
-        bytes[..4].copy_from_slice(&len.to_le_bytes());
-        assert!(rt;
-            read(Format::One, &bytes[..20]) == Err(in_twenty),
-            "at {len}"
-        );
-        assert!(rt; read(Format::One, &bytes) == in_a_page, "at {len}");
+        let read = is_length_read(Format::One, len, 20, in_twenty, in_a_page);
+        assert!(rt; read, "at {len}");
     }
 }
 
@@ -452,7 +519,7 @@ fn lengths(rt: HostRuntime) {
 fn a_length_above_a_page(rt: HostRuntime) {
     let mut bytes = [0; 8196];
     bytes[..4].copy_from_slice(&8196u32.to_le_bytes());
-    assert!(rt; read(Format::One, &bytes) == Err(EntryFault::BadLength));
+    assert!(rt; is_read(Format::One, &bytes, Err(EntryFault::BadLength)));
 }
 
 // Whether bytes of this length with these texts have this fault, or with none read as an entry of them.
@@ -516,30 +583,44 @@ fn texts_that_are_no_utf8(rt: HostRuntime) -> Result<(), Fail> {
     Ok(())
 }
 
+// Whether 24 bytes have wrong padding once one of them is changed.
+fn is_padded_wrong(plain: &[u8], at: usize) -> bool
+    requires { at < 24 }
+{
+    if plain.len() != 24 {
+        return false;
+    }
+    let mut bytes = [0; 24];
+    bytes.copy_from_slice(plain);
+    bytes[at] = 1;
+    is_read(Format::One, &bytes, Err(EntryFault::BadPad))
+}
+
+fn assert_padded_wrong(rt: &impl Abort, plain: &[u8]) {
+    for at in 21..24 {
+        assert!(rt; is_padded_wrong(plain, at), "at {at}");
+    }
+}
+
 #[test]
 fn wrong_padding(rt: HostRuntime) -> Result<(), Fail> {
     let plain = by_hand(rt.alloc(), Format::One, 24, b"c", b"xy")?;
-    assert!(rt; plain.len() == 24);
-    for at in 21..24 {
-        let mut bytes = [0; 24];
-        bytes.copy_from_slice(&plain);
-        bytes[at] = 1;
-        assert!(rt;
-            read(Format::One, &bytes) == Err(EntryFault::BadPad),
-            "at {at}"
-        );
-    }
+    assert_padded_wrong(&rt, &plain);
     Ok(())
+}
+
+// Whether a filler that carries a byte is no text.
+fn is_refused_with(at: usize) -> bool
+    requires { at < 20 }
+{
+    let mut bytes = FILLER;
+    bytes[at] = 1;
+    is_read(Format::One, &bytes, Err(EntryFault::BadText))
 }
 
 #[test]
 fn a_filler_that_carries_a_byte(rt: HostRuntime) {
     for at in 16..20 {
-        let mut bytes = FILLER;
-        bytes[at] = 1;
-        assert!(rt;
-            read(Format::One, &bytes) == Err(EntryFault::BadText),
-            "at {at}"
-        );
+        assert!(rt; is_refused_with(at), "at {at}");
     }
 }

@@ -2,7 +2,8 @@
 ghost use Rattle.std.specs.Prelude.{◌<◌, ◌≤◌};
 
 use super::entries::{
-    Change, Read, entry_of, filled, is_largest, largest, read, read_of_prefix, reads,
+    Change, Read, entry_of, filled, is_entry, is_largest, is_length_read, is_prefix_read, is_read,
+    largest, reads,
 };
 use pgn_base::{DbOid, Format, Xid};
 use pgn_entry::{EntryFault, EntryView, read_piece};
@@ -56,10 +57,17 @@ const FILLER_VIEW: EntryView<'static> = EntryView::Filler {
 fn an_entry(rt: HostRuntime) -> Result<(), Fail> {
     let alloc = rt.alloc();
     let long = note(alloc, "virtual", "This is the payload")?;
-    let (len, bytes) = entry_of(alloc, Format::Two, long, DbOid::new(1), Xid::new(3), 1001)?;
-    assert!(rt; len == 56);
-    assert!(rt; bytes.as_slice() == LONG.as_slice());
-    assert!(rt; read(Format::Two, &LONG) == Ok(LONG_VIEW));
+    let same = is_entry(
+        alloc,
+        Format::Two,
+        long,
+        DbOid::new(1),
+        Xid::new(3),
+        1001,
+        &LONG,
+    )?;
+    assert!(rt; same);
+    assert!(rt; is_read(Format::Two, &LONG, Ok(LONG_VIEW)));
     Ok(())
 }
 
@@ -67,16 +75,29 @@ fn an_entry(rt: HostRuntime) -> Result<(), Fail> {
 fn a_short_entry(rt: HostRuntime) -> Result<(), Fail> {
     let alloc = rt.alloc();
     let short = note(alloc, "c", "")?;
-    let (len, bytes) = entry_of(alloc, Format::Two, short, DbOid::new(7), Xid::new(4), 1003)?;
-    assert!(rt; len == 32);
-    assert!(rt; bytes.as_slice() == SHORT.as_slice());
-    assert!(rt; read(Format::Two, &SHORT) == Ok(short_view(4)));
+    let same = is_entry(
+        alloc,
+        Format::Two,
+        short,
+        DbOid::new(7),
+        Xid::new(4),
+        1003,
+        &SHORT,
+    )?;
+    assert!(rt; same);
+    assert!(rt; is_read(Format::Two, &SHORT, Ok(short_view(4))));
     Ok(())
 }
 
 #[test]
 fn a_number_of_more_than_32_bits(rt: HostRuntime) {
-    assert!(rt; read(Format::Two, &LATE) == Ok(short_view(1_234_567_890_123_456_789)));
+    assert!(rt;
+        is_read(
+            Format::Two,
+            &LATE,
+            Ok(short_view(1_234_567_890_123_456_789))
+        )
+    );
     let mut last = FILLER;
     last[8..16].copy_from_slice(&u64::MAX.to_le_bytes());
     let filler = EntryView::Filler {
@@ -84,14 +105,16 @@ fn a_number_of_more_than_32_bits(rt: HostRuntime) {
         xid: u64::MAX,
         pid: 1002,
     };
-    assert!(rt; read(Format::Two, &last) == Ok(filler));
+    assert!(rt; is_read(Format::Two, &last, Ok(filler)));
 }
 
 #[test]
 fn a_filler(rt: HostRuntime) -> Result<(), Fail> {
     let bytes = filled(rt.alloc(), Format::Two, 32, Xid::new(5), 1002)?;
-    assert!(rt; bytes.as_slice() == FILLER.as_slice());
-    assert!(rt; read(Format::Two, &FILLER) == Ok(FILLER_VIEW));
+    let same = bytes.as_slice() == FILLER.as_slice();
+    drop(bytes);
+    assert!(rt; same);
+    assert!(rt; is_read(Format::Two, &FILLER, Ok(FILLER_VIEW)));
     Ok(())
 }
 
@@ -137,7 +160,7 @@ const REFUSED: [(&[u8], EntryFault); 7] = [
 #[test]
 fn entry_bytes_refused(rt: HostRuntime) {
     for (bytes, fault) in REFUSED {
-        assert!(rt; read(Format::Two, bytes) == Err(fault), "{bytes:?}");
+        assert!(rt; is_read(Format::Two, bytes, Err(fault)), "{bytes:?}");
     }
 }
 
@@ -168,7 +191,7 @@ fn the_largest_filler(rt: HostRuntime) -> Result<(), Fail> {
         xid: u64::from(u32::MAX),
         pid: u32::MAX,
     };
-    assert!(rt; read(Format::Two, &bytes) == Ok(filler));
+    assert!(rt; is_read(Format::Two, &bytes, Ok(filler)));
     Ok(())
 }
 
@@ -184,16 +207,12 @@ fn two_entries() -> [u8; 88] {
 fn each_prefix_of_two_entries(rt: HostRuntime) {
     let both = two_entries();
     for len in 0..=88 {
-        assert!(rt;
-            read(Format::Two, &both[..len]) == read_of_prefix(LONG_VIEW, 56, len),
-            "at {len}"
-        );
+        let read = is_prefix_read(Format::Two, &both[..len], LONG_VIEW, 56);
+        assert!(rt; read, "at {len}");
     }
     for len in 56..=88 {
-        assert!(rt;
-            read(Format::Two, &both[56..len]) == read_of_prefix(short_view(4), 88, len),
-            "at {len}"
-        );
+        let read = is_prefix_read(Format::Two, &both[56..len], short_view(4), 32);
+        assert!(rt; read, "at {len}");
     }
 }
 
@@ -314,13 +333,8 @@ const LENGTHS: [(u32, EntryFault, Option<EntryFault>); 11] = [
 #[test]
 fn lengths(rt: HostRuntime) {
     for (len, in_few, in_page) in LENGTHS {
-        let mut bytes = [0; 8192];
-        bytes[..4].copy_from_slice(&len.to_le_bytes());
-        assert!(rt; read(Format::Two, &bytes[..32]) == Err(in_few), "at {len}");
-        assert!(rt;
-            read(Format::Two, &bytes) == page_read(len, in_page),
-            "at {len}"
-        );
+        let read = is_length_read(Format::Two, len, 32, in_few, page_read(len, in_page));
+        assert!(rt; read, "at {len}");
     }
 }
 
@@ -328,7 +342,7 @@ fn lengths(rt: HostRuntime) {
 fn a_length_above_a_page(rt: HostRuntime) {
     let mut bytes = [0; 8200];
     bytes[..4].copy_from_slice(&8200u32.to_le_bytes());
-    assert!(rt; read(Format::Two, &bytes) == Err(EntryFault::BadLength));
+    assert!(rt; is_read(Format::Two, &bytes, Err(EntryFault::BadLength)));
 }
 
 // A place, and the fault of a filler that has a byte there that is not zero.
@@ -341,12 +355,17 @@ const CARRIED: [(usize, EntryFault); 6] = [
     (31, EntryFault::BadText),
 ];
 
+// Whether a filler that carries a byte has this fault.
+fn is_refused_with(at: usize, fault: EntryFault) -> Result<bool, Fail> {
+    let mut bytes = FILLER;
+    *bytes.get_mut(at).ok_or("a place past the end")? = 1;
+    Ok(is_read(Format::Two, &bytes, Err(fault)))
+}
+
 #[test]
 fn a_filler_that_carries_a_byte(rt: HostRuntime) -> Result<(), Fail> {
     for (at, fault) in CARRIED {
-        let mut bytes = FILLER;
-        *bytes.get_mut(at).ok_or("a place past the end")? = 1;
-        assert!(rt; read(Format::Two, &bytes) == Err(fault), "at {at}");
+        assert!(rt; is_refused_with(at, fault)?, "at {at}");
     }
     Ok(())
 }
