@@ -66,10 +66,14 @@ line-stepped shape known old new line act step comes same one answered rested be
       comes.split comes.number comes.does begun one;
 }
 
+-- who did something is not over by that
+pub did-goes_on : Did ≡ Ended → ⊥
+did-goes_on e = cc
+
 -- a line got its answer, and is done
 pub line-did : {P : Type 0} (shape : Shape) (known : P → Known) (old new : Session P) (line : ℕ) (act : Act) → ComesWith old line act → IsSameScript old new → new.done ≡ old.done + 1
     → HasAnswer shape known new → HasBegun old.plan old.section.no old.patience line act (known old.pass) (known new.pass) old.items.items new.items.items new.doing Did → HasStepped shape known old Lines new Did
-line-did shape known old new line act comes same one answered begun = line-stepped shape known old new line act Did comes same one answered (λ (ended : Did ≡ Ended). absurd (let no : ⊥ = cc in no)) begun
+line-did shape known old new line act comes same one answered begun = line-stepped shape known old new line act Did comes same one answered (λ ended. absurd (did-goes_on ended)) begun
 
 -- a step, by the place that was taken out before it
 pub stepped-from : {P : Type 0} (shape : Shape) (known : P → Known) (s new : Session P) (between stood : Doing) (step : Step) → s.doing ≡ stood

@@ -7,12 +7,12 @@ use Rattle.pgn_answers.proofs.SavepointLemmas.{firsts-differ}
 use Rattle.pgn_session.specs.declared.session.Session.{Session}
 use Rattle.pgn_session.specs.declared.doing.Doing.{Doing}
 use Rattle.pgn_session.specs.declared.doing.Doing.TheVariants.{Lines, Committing}
-use Rattle.pgn_session.specs.declared.doing.Step.TheVariants.{Did, Ended}
 use Rattle.pgn_session.specs.Standing.{terms_of, spare_of, IsAnswered, IsRested}
 use Rattle.pgn_session.specs.Steps.{ShowsNext}
 use Rattle.pgn_session.specs.Whole.{RestsAt}
 use Rattle.pgn_session.proofs.FullLaws.{commit-answered}
 use Rattle.pgn_session.proofs.NextLaws.{some-left, part-fits, when-ok}
+use Rattle.pgn_session.proofs.WholeLaws.{did-goes_on}
 use Rattle.pgn_session.proofs.session.Session.commit.Goals as goal
 
 pub commit-requires-clause-different : goal.commit-requires-clause-different
@@ -42,7 +42,7 @@ returns-clause-stepped g c =
     record {
       same = record { section = ap (λ (x : Session g.row.P.Denot). x.section) same; plan = ap (λ (x : Session g.row.P.Denot). x.plan) same; patience = ap (λ (x : Session g.row.P.Denot). x.patience) same };
       answered = subst (λ (d : Doing). IsAnswered (terms_of shape m.section m.patience) m.plan (m.done + 1) m.block c.commit.new.set.channels d q c.commit.new.items.items) (sym between) answers.0;
-      rested = λ (ended : Did ≡ Ended). absurd (let no : ⊥ = cc in no);
+      rested = λ ended. absurd (did-goes_on ended);
       moved = (shows, between, refl, ap (λ (x : Session g.row.P.Denot). x.done + 1) same);
     }
 
