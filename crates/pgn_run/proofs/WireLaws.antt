@@ -1,6 +1,7 @@
 -- What comes of a client that was served.
 use Rattle.std.proofs.Common.{◌≡◌, ℕ, ◌⊎◌, List, Option, Some, None, IfSome, IsSomeAnd, inl, inr, refl, subst, ap}
 use Rattle.std.specs.Io.KnownBytes.{Appends}
+use Rattle.pgn_base.specs.declared.limits.TheConstants.{NOTE_LINES_MAX}
 use Rattle.pgn_base.specs.Outside.{AppendsPrefix}
 use Rattle.pgn_language.specs.declared.scenario.ScriptLine.{ScriptLine}
 use Rattle.pgn_messages.specs.Messages.{messages}
