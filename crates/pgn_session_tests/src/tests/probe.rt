@@ -1,4 +1,4 @@
-ghost use Rattle.std.specs.Prelude.{◌≡◌, map, length, All};
+ghost use Rattle.std.specs.Prelude.{◌≡◌, ◌≤◌, map, length, All};
 ghost use Rattle.std.specs.List.{range_with_len};
 
 use super::ran;
