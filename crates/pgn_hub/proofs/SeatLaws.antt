@@ -26,9 +26,12 @@ one-within n seat = record {
   marks = All-nil (λ (mark : ℕ). mark ≤ next_xid []);
   first_told = omega arith;
   told = omega arith;
+  told_of_read = tt;
+  told_of_signalled = omega arith;
   own = All-nil (λ (x : ℕ). x < FIRST_XID);
   raised = All-nil (IsPairWithin FIRST_XID);
   found = All-nil (IsPairWithin FIRST_XID);
+  to_read = λ no. tt;
 }
 
 pub opened-within : (n : ℕ) (seats : List SeatSetup) → All IsWithin (opened_passes n seats)

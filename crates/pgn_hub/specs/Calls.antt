@@ -1,6 +1,6 @@
 -- What each call does to what is known of its pass. Of what is known, a call changes what the equation of its record names, and
 -- nothing else; what the pass learns of the journal besides is `more`.
-use Rattle.std.specs.Prelude.{true, ◌≡◌, ◌≢◌, ℕ, ◌+◌, ◌-◌, ◌<◌, ◌≤◌, max, Bool, false, ◌||◌, List, [], ◌∷◌, ◌++◌, length, drop, Option, Some, None, All, Contains, IfSome}
+use Rattle.std.specs.Prelude.{true, ◌≡◌, ◌≢◌, ℕ, ◌+◌, ◌-◌, ◌<◌, ◌≤◌, nat_lt, max, Bool, false, ◌&&◌, ◌||◌, List, [], ◌∷◌, ◌++◌, length, drop, Option, Some, None, is_some, All, Contains, IfSome}
 use Rattle.pgn_base.specs.declared.limits.TheConstants.{FIRST_XID}
 use Rattle.pgn_base.specs.declared.format.Format.{Format}
 use Rattle.pgn_base.specs.declared.note.Note.{Note}
@@ -28,7 +28,7 @@ pub record HasLearned (old new : Known) : Type 0 where
 abbrev pub tx_of : Known → List Note → ℕ → Fate → Tx
 tx_of k notes queued fate = record { session = k.session; db = k.db; notes = notes; queued = queued; fate = fate }
 
--- `publish` answers a number: this transaction is the journal's next, committed; the pass is told of it
+-- `publish` answers a number: this transaction is the journal's next, committed; the pass is told of it, and all wakes are set
 pub record HasPublished (old new : Known) (notes : List Note) (x : ℕ) : Type 0 where
   pub more : List Tx
   pub named : List (ℕ × ℕ)
@@ -38,6 +38,7 @@ pub record HasPublished (old new : Known) (notes : List Note) (x : ℕ) : Type 0
     seen = old.seen ++ more ++ tx_of old notes (length notes) Committed ∷ [];
     own = old.own ++ x ∷ [];
     told = x + 1;
+    signalled = x + 1;
     notes_left = old.notes_left - length notes;
     named = old.named ++ named;
     advance = advance;
@@ -73,9 +74,9 @@ pub record IsFloor (x : ℕ) (met : List (ℕ × ℕ)) (floor : ℕ) (holder : O
   pub least : All (λ pair. floor ≤ pair.1) met
   pub held : IsHolder x met floor holder
 
--- `publish` answers that the queue is full: this transaction is the journal's next, aborted; the pass is told of it. It comes after
--- an advance of this very call, and the head hasn't moved since: what is known of an advance is emptied as the lock is taken and as
--- the head moves. What its looks met is named by this call, and the floor is the least of it
+-- `publish` answers that the queue is full: this transaction is the journal's next, aborted; the pass is told of it, and all wakes are set. It
+-- comes after an advance of this very call, and the head hasn't moved since: what is known of an advance is emptied as the lock is taken
+-- and as the head moves. What its looks met is named by this call, and the floor is the least of it
 pub record HasMetFull (shape : Shape) (old new : Known) (notes : List Note) (full : Full) : Type 0 where
   pub more : List Tx
   pub named : List (ℕ × ℕ)
@@ -84,6 +85,7 @@ pub record HasMetFull (shape : Shape) (old new : Known) (notes : List Note) (ful
     seen = old.seen ++ more ++ tx_of old notes full.queued Aborted ∷ [];
     own = old.own ++ full.xid ∷ [];
     told = full.xid + 1;
+    signalled = full.xid + 1;
     notes_left = old.notes_left - length notes;
     named = old.named ++ named;
     advance = new.advance;
@@ -93,12 +95,14 @@ pub record HasMetFull (shape : Shape) (old new : Known) (notes : List Note) (ful
   pub floor : IsFloor full.xid (met_by new.advance) full.floor_mark full.holder
   pub met : All (Contains named) (met_by new.advance)
 
--- `enlist`: the session is a listener from the point on; its mark is the point, it has told no set, and no read is owed
+-- `enlist`: the session is a listener from the point on, up to which it is told; its mark is the point, it has told no set, and no
+-- read is owed
 pub record HasEnlisted (old new : Known) (got : Enlisted) : Type 0 where
   pub more : List Tx
   pub known : new ≡ record old {
     seen = old.seen ++ more;
     mark = Some got.point;
+    told = max old.told got.point;
     set = [];
     marks = old.marks ++ got.base ∷ [] ++ got.point ∷ [];
     owes = false;
@@ -114,7 +118,8 @@ pub record HasEnlisted (old new : Known) (got : Enlisted) : Type 0 where
 abbrev pub HasInterest : Known → Known → List (List ℕ) → Type 0
 HasInterest old new set = new ≡ record old { set = set; owes = true }
 
--- `scan` answers a number: what was due from the mark up to it is put behind what was there, it is the new mark, and no read is owed
+-- `scan` answers a number: what was due from the mark up to it is put behind what was there, it is the new mark, up to which the pass is
+-- told, and no read is owed
 pub record HasRead (old new : Known) (set : List (List ℕ)) (to : ℕ) (before after : List Delivery) : Type 0 where
   pub more : List Tx
   pub from : ℕ
@@ -122,6 +127,7 @@ pub record HasRead (old new : Known) (set : List (List ℕ)) (to : ℕ) (before 
   pub known : new ≡ record old {
     seen = old.seen ++ more;
     mark = Some to;
+    told = max old.told to;
     marks = old.marks ++ to ∷ [];
     owes = false;
   }
@@ -137,13 +143,13 @@ pub record HasLeft (old new : Known) : Type 0 where
   pub known : new ≡ record old { seen = old.seen ++ more; mark = None }
 
 -- `woken` answers whether its own look found the wake set, or a read was owed; a read is then owed. Where it answers that neither was
--- so, the session need not read up to what it was told of, as far as its database and the set that it has told go
+-- so, the session need not read up to where it knows wakes to be set, as far as its database and the set that it has told go
 pub record HasWoken (format : Format) (old new : Known) (woken : Bool) : Type 0 where
   pub more : List Tx
   pub was_set : Bool
   pub known : new ≡ record old { seen = old.seen ++ more; owes = woken; wake_look = Some (was_set, old.owes) }
   pub cause : woken ≡ (was_set || old.owes)
-  pub near : woken ≡ false → IfSome old.mark (λ mark. Near format (is_due_to old.db old.set) new.seen mark old.told)
+  pub near : woken ≡ false → IfSome old.mark (λ mark. Near format (is_due_to old.db old.set) new.seen mark old.signalled)
 
 -- `raise` answers what the pass was told
 pub record HasRaised (old new : Known) (flag x : ℕ) : Type 0 where
@@ -166,12 +172,18 @@ pub record HasFoundNone (old new : Known) (flag : ℕ) : Type 0 where
   pub not_raised : IsUnknownIn old.raised flag
   pub not_found : IsUnknownIn old.found flag
 
--- `look` finds a number: the pass is told of it, and it is no less than each that the pass has raised or found for the flag
+-- a listener that is told up to a number, of more than before, owes a read
+abbrev pub owes_after : Known → ℕ → Bool
+owes_after k x = k.owes || (is_some k.mark && nat_lt k.told x)
+
+-- `look` finds a number: the pass is told of it, and it is no less than each that the pass has raised or found for the flag. A listener
+-- that is so told of more owes a read, since wakes of it may still have to be set
 pub record HasFound (old new : Known) (flag x : ℕ) : Type 0 where
   pub more : List Tx
   pub known : new ≡ record old {
     seen = old.seen ++ more;
     told = max old.told x;
+    owes = owes_after old x;
     found = old.found ++ (flag, x) ∷ [];
     looks = old.looks + 1;
     flag_look = Some (flag, Some x);
@@ -200,7 +212,13 @@ pub record HasMeasured (shape : Shape) (old new : Known) (usage : Usage) : Type 
 abbrev pub longer : List Tx → List Tx → List Tx
 longer xs ys = xs ++ drop (length xs) ys
 
--- `meet`: one pass hears what another one knows of the journal and was told
+-- `meet`: one pass hears what another one knows of the journal and of wakes, and was told; a listener that is so told of more owes a
+-- read
 pub record HasHeard (from old new : Known) : Type 0 where
   pub more : List Tx
-  pub known : new ≡ record old { seen = longer old.seen from.seen ++ more; told = max old.told from.told }
+  pub known : new ≡ record old {
+    seen = longer old.seen from.seen ++ more;
+    told = max old.told from.told;
+    signalled = max old.signalled from.signalled;
+    owes = owes_after old from.told;
+  }

@@ -67,7 +67,7 @@ quiet = record listening { wake_look = Some (false, false) }
 
 -- session 2 publishes
 abbrev pub published : Known
-published = record opened_2 { seen = tx_3 ∷ []; own = 3 ∷ []; told = 4; notes_left = 6 }
+published = record opened_2 { seen = tx_3 ∷ []; own = 3 ∷ []; told = 4; signalled = 4; notes_left = 6 }
 
 -- session 1, which listens, publishes after it
 abbrev pub also_published : Known
@@ -75,6 +75,7 @@ also_published = record listening {
   seen = tx_3 ∷ (record { session = 1; db = 1; notes = note_a ∷ []; queued = 1; fate = Committed }) ∷ [];
   own = 4 ∷ [];
   told = 5;
+  signalled = 5;
   notes_left = 7;
 }
 
@@ -90,7 +91,7 @@ abbrev pub got_b : Delivery
 got_b = delivery 3 2 note_b
 
 abbrev pub has_read : Known
-has_read = record woken_1 { mark = Some 4; marks = 3 ∷ 3 ∷ 4 ∷ []; owes = false }
+has_read = record woken_1 { mark = Some 4; told = 4; marks = 3 ∷ 3 ∷ 4 ∷ []; owes = false }
 
 -- it leaves
 abbrev pub has_left : Known
@@ -100,9 +101,9 @@ has_left = record has_read { mark = None }
 abbrev pub raised_0 : Known
 raised_0 = record published { raised = (0, 4) ∷ [] }
 
--- session 1 looks at the flag 0 before it has read, and at the flag 1, which nobody raised
+-- session 1 looks at the flag 0 before it has read, and then owes a read; and at the flag 1, which nobody raised
 abbrev pub found_0 : Known
-found_0 = record listening { seen = tx_3 ∷ []; told = 4; found = (0, 4) ∷ []; looks = 1; flag_look = Some (0, Some 4) }
+found_0 = record listening { seen = tx_3 ∷ []; told = 4; owes = true; found = (0, 4) ∷ []; looks = 1; flag_look = Some (0, Some 4) }
 
 abbrev pub found_none : Known
 found_none = record listening { looks = 1; flag_look = Some (1, None) }
@@ -142,7 +143,7 @@ measured_joiner = record published { named = (1, 3) ∷ []; advance = met_joiner
 
 -- session 1 hears what session 2 knows
 abbrev pub heard : Known
-heard = record listening { seen = tx_3 ∷ []; told = 4 }
+heard = record listening { seen = tx_3 ∷ []; told = 4; signalled = 4; owes = true }
 
 -- Another run: two transactions of one long notification each have filled two pages, and a third meets a full queue.
 abbrev pub long_note : List Note
@@ -155,7 +156,7 @@ abbrev pub long_5 : Tx
 long_5 = sent long_note 0 Aborted
 
 abbrev pub before_full : Known
-before_full = record opened_2 { seen = long_3 ∷ long_3 ∷ []; own = 3 ∷ 4 ∷ []; told = 5; notes_left = 6 }
+before_full = record opened_2 { seen = long_3 ∷ long_3 ∷ []; own = 3 ∷ 4 ∷ []; told = 5; signalled = 5; notes_left = 6 }
 
 -- session 1 still stands at the mark 3, on page 0
 abbrev pub full_5 : Full
@@ -166,6 +167,7 @@ after_full = record before_full {
   seen = long_3 ∷ long_3 ∷ long_5 ∷ [];
   own = 3 ∷ 4 ∷ 5 ∷ [];
   told = 6;
+  signalled = 6;
   notes_left = 5;
   named = (1, 3) ∷ (1, 3) ∷ [];
   advance = met_one;
@@ -192,11 +194,11 @@ abbrev pub full_3 : Full
 full_3 = record { xid = 3; queued = 2; head_page = 2; floor_mark = 3; floor_page = 0; holder = None }
 
 abbrev pub larger_full : Known
-larger_full = record opened_2 { seen = sent three_notes 2 Aborted ∷ []; own = 3 ∷ []; told = 4; notes_left = 5; advance = met_nobody }
+larger_full = record opened_2 { seen = sent three_notes 2 Aborted ∷ []; own = 3 ∷ []; told = 4; signalled = 4; notes_left = 5; advance = met_nobody }
 
 -- The end of the first run: session 1 has read and found the flag 0, session 2 has raised it and met session 1 in an advance.
 abbrev pub last_1 : Known
-last_1 = record has_read { told = 4; found = (0, 4) ∷ []; looks = 1; flag_look = Some (0, Some 4) }
+last_1 = record has_read { found = (0, 4) ∷ []; looks = 1; flag_look = Some (0, Some 4) }
 
 abbrev pub last_2 : Known
 last_2 = record measured { raised = (0, 4) ∷ [] }

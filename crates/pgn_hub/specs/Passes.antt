@@ -1,5 +1,5 @@
 -- What is known of a pass as it is opened, and what holds of each pass between calls.
-use Rattle.std.specs.Prelude.{◌≡◌, ℕ, ◌+◌, ◌-◌, ◌<◌, ◌≤◌, false, List, [], ◌∷◌, None, slice_get, All, IfSome, IsSomeAnd}
+use Rattle.std.specs.Prelude.{◌≡◌, ℕ, ◌+◌, ◌-◌, ◌<◌, ◌≤◌, max, false, List, [], ◌∷◌, None, slice_get, All, IfSome, IsSomeAnd}
 use Rattle.pgn_base.specs.declared.limits.TheConstants.{FIRST_XID}
 use Rattle.pgn_hub.specs.declared.setup.SeatSetup.{SeatSetup}
 use Rattle.pgn_hub.specs.declared.known.Known.{Known}
@@ -22,6 +22,7 @@ opened_pass session seat = record {
   mark = None;
   set = [];
   told = FIRST_XID;
+  signalled = FIRST_XID;
   notes_left = seat.notes;
   owes = false;
   raised = [];
@@ -47,13 +48,17 @@ pub record IsWithin (k : Known) : Type 0 where
   -- its marks are within what it has seen of the journal
   pub mark : IfSome k.mark (λ mark. mark ≤ next_xid k.seen)
   pub marks : All (λ mark. mark ≤ next_xid k.seen) k.marks
-  -- what it was told is so too, and is past each transaction of its own
+  -- what it was told is so too, and is past each transaction of its own, each that it has read, and each whose wakes it knows to be set
   pub first_told : FIRST_XID ≤ k.told
   pub told : k.told ≤ next_xid k.seen
+  pub told_of_read : IfSome k.mark (λ mark. mark ≤ k.told)
+  pub told_of_signalled : k.signalled ≤ k.told
   pub own : All (λ x. x < k.told) k.own
   -- it was told of each number that it raised or found
   pub raised : All (IsPairWithin k.told) k.raised
   pub found : All (IsPairWithin k.told) k.found
+  -- a listener that owes no read has read what it was told of, or knows its wakes to be set
+  pub to_read : k.owes ≡ false → IfSome k.mark (λ mark. k.told ≤ max mark k.signalled)
 
 -- the pass is that of a seat: it has the seat's database, and no more notifications left than the seat may send
 pub record IsSeated (shape : Shape) (k : Known) : Type 0 where

@@ -26,6 +26,10 @@ pub fn between_calls()
     ensures within_at_full_queue { All IsWithin (before_full ∷ after_full ∷ both_before_full ∷ both_after_full ∷ []) }
     // It has seen the transaction 3, and wasn't told of it.
     ensures raised_past_told { IsWithin (record woken_1 { raised = (0, 4) ∷ [] }) → ⊥ }
+    ensures read_past_told { IsWithin (record has_read { told = 3 }) → ⊥ }
+    ensures signalled_past_told { IsWithin (record woken_1 { signalled = 4 }) → ⊥ }
+    // A flag has told it of the transaction 3, of which it knows no wake to be set.
+    ensures told_and_owes_nothing { IsWithin (record found_0 { owes = false }) → ⊥ }
     ensures may_enlist { All (λ k. k.mark ≡ None) (opened_1 ∷ opened_2 ∷ has_left ∷ []) }
     ensures may_read { All (λ k. IsSome k.mark) (enlisted ∷ interested ∷ listening ∷ quiet ∷ woken_1 ∷ has_read ∷ found_0 ∷ found_none ∷ heard ∷ []) }
     ensures some_notes { both_notes ≢ [] }
@@ -41,9 +45,10 @@ pub fn publish()
     ensures met { HasPublished opened_2 published both_notes 3 }
     // Session 1 publishes the next one, and hears of the first in this call.
     ensures after_another { HasPublished listening also_published (note_a ∷ []) 4 }
-    ensures as_if_alone { HasPublished listening (record also_published { own = 3 ∷ []; told = 4 }) (note_a ∷ []) 3 → ⊥ }
+    ensures as_if_alone { HasPublished listening (record also_published { own = 3 ∷ []; told = 4; signalled = 4 }) (note_a ∷ []) 3 → ⊥ }
     ensures another_number { HasPublished opened_2 published both_notes 4 → ⊥ }
     ensures not_told { HasPublished opened_2 (record published { told = 3 }) both_notes 3 → ⊥ }
+    ensures not_signalled { HasPublished opened_2 (record published { signalled = 3 }) both_notes 3 → ⊥ }
     ensures not_its_own { HasPublished opened_2 (record published { own = [] }) both_notes 3 → ⊥ }
     ensures not_taken { HasPublished opened_2 (record published { notes_left = 8 }) both_notes 3 → ⊥ }
     ensures mark_moved { HasPublished opened_2 (record published { mark = Some 4 }) both_notes 3 → ⊥ }
@@ -66,7 +71,10 @@ pub fn enlist()
     ensures base_not_kept { HasEnlisted opened_1 (record enlisted { marks = 3 ∷ [] }) first_point → ⊥ }
     ensures base_too_early { HasEnlisted opened_1 (record enlisted { marks = 2 ∷ 3 ∷ [] }) (record first_point { base = 2 }) → ⊥ }
     ensures base_after_point { HasEnlisted opened_1 (record enlisted { marks = 4 ∷ 3 ∷ [] }) (record first_point { base = 4 }) → ⊥ }
-    ensures past_the_journal { HasEnlisted opened_1 (record enlisted { mark = Some 4; marks = 3 ∷ 4 ∷ [] }) (record first_point { point = 4 }) → ⊥ }
+    ensures past_the_journal { HasEnlisted opened_1 (record enlisted { mark = Some 4; told = 4; marks = 3 ∷ 4 ∷ [] }) (record first_point { point = 4 }) → ⊥ }
+    // It begins behind the first transaction, and so is told of it.
+    ensures behind { HasEnlisted (record opened_1 { seen = tx_3 ∷ [] }) (record enlisted { seen = tx_3 ∷ []; mark = Some 4; told = 4; marks = 3 ∷ 4 ∷ [] }) (record first_point { point = 4 }) }
+    ensures not_told { HasEnlisted (record opened_1 { seen = tx_3 ∷ [] }) (record enlisted { seen = tx_3 ∷ []; mark = Some 4; marks = 3 ∷ 4 ∷ [] }) (record first_point { point = 4 }) → ⊥ }
     // The session was told of the first transaction.
     ensures below_told { HasEnlisted (record opened_1 { seen = tx_3 ∷ []; told = 4 }) (record enlisted { seen = tx_3 ∷ []; told = 4 }) first_point → ⊥ }
     // It had seen the first transaction, and wasn't told of it.
@@ -98,11 +106,12 @@ pub fn scan()
     ensures still_owes { HasRead woken_1 (record has_read { owes = true }) (codes "c" ∷ []) 4 [] (got_a ∷ got_b ∷ []) → ⊥ }
     ensures mark_stays { HasRead woken_1 (record has_read { mark = Some 3 }) (codes "c" ∷ []) 4 [] (got_a ∷ got_b ∷ []) → ⊥ }
     ensures not_kept { HasRead woken_1 (record has_read { marks = 3 ∷ 3 ∷ [] }) (codes "c" ∷ []) 4 [] (got_a ∷ got_b ∷ []) → ⊥ }
+    ensures not_told { HasRead woken_1 (record has_read { told = 3 }) (codes "c" ∷ []) 4 [] (got_a ∷ got_b ∷ []) → ⊥ }
     // It had seen the first transaction.
-    ensures below_seen { HasRead woken_1 (record has_read { mark = Some 3; marks = 3 ∷ 3 ∷ 3 ∷ [] }) (codes "c" ∷ []) 3 [] [] → ⊥ }
+    ensures below_seen { HasRead woken_1 (record has_read { mark = Some 3; told = 3; marks = 3 ∷ 3 ∷ 3 ∷ [] }) (codes "c" ∷ []) 3 [] [] → ⊥ }
     // It was told of the first transaction.
-    ensures below_told { HasRead heard (record heard { marks = 3 ∷ 3 ∷ 3 ∷ [] }) (codes "c" ∷ []) 3 [] [] → ⊥ }
-    ensures past_the_journal { HasRead woken_1 (record has_read { mark = Some 5; marks = 3 ∷ 3 ∷ 5 ∷ [] }) (codes "c" ∷ []) 5 [] (got_a ∷ got_b ∷ []) → ⊥ }
+    ensures below_told { HasRead heard (record heard { marks = 3 ∷ 3 ∷ 3 ∷ []; owes = false }) (codes "c" ∷ []) 3 [] [] → ⊥ }
+    ensures past_the_journal { HasRead woken_1 (record has_read { mark = Some 5; told = 5; marks = 3 ∷ 3 ∷ 5 ∷ [] }) (codes "c" ∷ []) 5 [] (got_a ∷ got_b ∷ []) → ⊥ }
     ensures no_listener { HasRead (record woken_1 { mark = None }) has_read (codes "c" ∷ []) 4 [] (got_a ∷ got_b ∷ []) → ⊥ }
     ensures refused { HasLearned woken_1 woken_1 }
     ensures refused_and_paid { HasLearned woken_1 (record woken_1 { owes = false }) → ⊥ }
@@ -127,8 +136,8 @@ pub fn woken()
     ensures unset_and_true { HasWoken One listening (record woken_1 { wake_look = Some (false, false) }) true → ⊥ }
     ensures true_and_not_owed { HasWoken One listening (record woken_1 { owes = false }) true → ⊥ }
     ensures not_shown { HasWoken One listening (record woken_1 { wake_look = None }) true → ⊥ }
-    // It was told of a transaction of its database that it hasn't read, on its channel.
-    ensures due_and_false { HasWoken One heard (record heard { wake_look = Some (false, false) }) false → ⊥ }
+    // It knows that the wakes of a transaction of its database are set, which it hasn't read, on its channel.
+    ensures due_and_false { HasWoken One (record heard { owes = false }) (record heard { owes = false; wake_look = Some (false, false) }) false → ⊥ }
 {}
 
 /// Session 2 raises the flag 0.
@@ -145,6 +154,12 @@ pub fn look()
     ensures found { HasLooked listening found_0 0 (Some 4) }
     ensures none { HasLooked listening found_none 1 None }
     ensures not_told { HasLooked listening (record found_0 { told = 3 }) 0 (Some 4) → ⊥ }
+    ensures owes_nothing { HasLooked listening (record found_0 { owes = false }) 0 (Some 4) → ⊥ }
+    // It has read what the flag tells of.
+    ensures found_behind { HasLooked has_read last_1 0 (Some 4) }
+    ensures owes_for_nothing { HasLooked has_read (record last_1 { owes = true }) 0 (Some 4) → ⊥ }
+    // It is no listener.
+    ensures owes_unheard { HasLooked opened_1 (record found_0 { mark = None; marks = []; set = [] }) 0 (Some 4) → ⊥ }
     ensures not_kept { HasLooked listening (record found_0 { found = [] }) 0 (Some 4) → ⊥ }
     ensures not_counted { HasLooked listening (record found_none { looks = 0 }) 1 None → ⊥ }
     ensures not_shown { HasLooked listening (record found_none { flag_look = Some (0, None) }) 1 None → ⊥ }
@@ -191,6 +206,7 @@ pub fn full()
     ensures committed { HasMetFull two_seats before_full (record after_full { seen = long_3 ∷ long_3 ∷ long_3 ∷ [] }) long_note full_5 → ⊥ }
     ensures another_number { HasMetFull two_seats before_full after_full long_note (record full_5 { xid = 6 }) → ⊥ }
     ensures not_told { HasMetFull two_seats before_full (record after_full { told = 5 }) long_note full_5 → ⊥ }
+    ensures not_signalled { HasMetFull two_seats before_full (record after_full { signalled = 5 }) long_note full_5 → ⊥ }
     ensures not_taken { HasMetFull two_seats before_full (record after_full { notes_left = 6 }) long_note full_5 → ⊥ }
     ensures looked_once { HasMetFull two_seats before_full (record after_full { advance = record met_one { second = [] } }) long_note full_5 → ⊥ }
     ensures seat_left_out { HasMetFull two_seats before_full (record after_full { advance = record met_one { first = Some 3 ∷ [] } }) long_note full_5 → ⊥ }
@@ -215,9 +231,11 @@ pub fn meet()
     ensures nothing_new { HasHeard listening published published }
     ensures not_told { HasHeard published listening (record heard { told = 3 }) → ⊥ }
     ensures told_more { HasHeard published listening (record heard { told = 5 }) → ⊥ }
+    ensures not_signalled { HasHeard published listening (record heard { signalled = 3 }) → ⊥ }
+    ensures owes_nothing { HasHeard published listening (record heard { owes = false }) → ⊥ }
     ensures not_seen { HasHeard published listening (record heard { seen = [] }) → ⊥ }
     ensures loses_seen { HasHeard listening published (record published { seen = [] }) → ⊥ }
-    ensures loses_told { HasHeard listening published (record published { told = 3 }) → ⊥ }
+    ensures loses_told { HasHeard listening published (record published { told = 3; signalled = 3 }) → ⊥ }
     ensures mark_moved { HasHeard published listening (record heard { mark = Some 4 }) → ⊥ }
     ensures takes_its_own { HasHeard published listening (record heard { own = 3 ∷ [] }) → ⊥ }
 {}
@@ -249,5 +267,5 @@ pub fn gather()
 pub fn one_pass_alone()
     ensures reads_nothing { HasRead quiet (record quiet { marks = 3 ∷ 3 ∷ 3 ∷ [] }) (codes "c" ∷ []) 3 [] [] }
     ensures woken_for_nothing { HasWoken One quiet (record quiet { owes = true; wake_look = Some (true, false) }) true }
-    ensures published_twice { HasPublished opened_2 (record published { seen = tx_3 ∷ tx_3 ∷ []; own = 4 ∷ []; told = 5 }) both_notes 4 }
+    ensures published_twice { HasPublished opened_2 (record published { seen = tx_3 ∷ tx_3 ∷ []; own = 4 ∷ []; told = 5; signalled = 5 }) both_notes 4 }
 {}

@@ -17,11 +17,13 @@ pub struct Known {
     pub mark: Option<u64>,
     /// The channels that a listener has told as its set; none before it has told any.
     pub set: LinkedList<Name>,
-    /// Every transaction below this number is finished, and its wakes have been set.
+    /// Every transaction below this number is finished.
     pub told: u64,
+    /// Every transaction below this number is finished, and its wakes have been set.
+    pub signalled: u64,
     /// How many notifications the pass may still send.
     pub notes_left: u64,
-    /// A wake was taken or a set was told, and no read has followed it.
+    /// A wake was taken, a set was told or a flag told a listener of more, and no read has followed it.
     pub owes: bool,
     /// Each flag that the pass raised, and each that it found, with the number.
     pub raised: LinkedList<(u64, u64)>,

@@ -54,8 +54,8 @@ marks-same s t n e h = subst (λ (c : Carried). AreMarksWithin n c.mark c.marks)
 told-step : (terms : Terms) (journal : List Tx) (s : State) (item : Item) → Allowed terms journal s item → IsShownWithin (next_xid journal) item → s.told ≤ next_xid journal → (after_item s item).told ≤ next_xid journal
 told-step terms journal s (Line line) h shown k = told-same (begun s) (at_line s s.rest) (next_xid journal) (carried-line s s.rest) k
 told-step terms journal s (Enlist base point) h shown k =
-    let before : State = record s { mark = Some point; marks = s.marks ++ base ∷ [] ++ point ∷ [] } in
-    told-same before (at_enlist before s.owed) (next_xid journal) (carried-enlist before s.owed) k
+    let before : State = record s { mark = Some point; told = max s.told point; marks = s.marks ++ base ∷ [] ++ point ∷ [] } in
+    told-same before (at_enlist before s.owed) (next_xid journal) (carried-enlist before s.owed) (omega (arith, k, h.in_journal))
 told-step terms journal s (Publish xid notes) h shown k =
     let before : State = record s { told = max s.told (xid + 1) } in
     let there : xid - 3 < length journal = entry-within journal (xid - 3) (IsCommittedBy terms.section notes) h.in_journal in
@@ -76,14 +76,14 @@ told-step terms journal s (Used usage) h shown k =
 told-step terms journal s (Raise value) h shown k = told-same s (at_raise value s s.owed) (next_xid journal) (carried-raise value s s.owed) k
 told-step terms journal s (Found value) h shown k = told-found value s s.owed (next_xid journal) shown k
 told-step terms journal s (TimedOut looks) h shown k = k
-told-step terms journal s (Read from to got) h shown k = k
+told-step terms journal s (Read from to got) h shown k = omega (arith, k, h.in_journal)
 
 -- nor does it make a mark past it
 marks-step : (terms : Terms) (journal : List Tx) (s : State) (item : Item) → Allowed terms journal s item → AreMarksWithin (next_xid journal) s.mark s.marks → AreMarksWithin (next_xid journal) (after_item s item).mark (after_item s item).marks
 marks-step terms journal s (Line line) h k = marks-same (begun s) (at_line s s.rest) (next_xid journal) (carried-line s s.rest) k
 marks-step terms journal s (Enlist base point) h k =
     let n : ℕ = next_xid journal in
-    let before : State = record s { mark = Some point; marks = s.marks ++ base ∷ [] ++ point ∷ [] } in
+    let before : State = record s { mark = Some point; told = max s.told point; marks = s.marks ++ base ∷ [] ++ point ∷ [] } in
     marks-same before (at_enlist before s.owed) n (carried-enlist before s.owed)
     (record { own = h.in_journal; all = two n base point s.marks k.all (omega (arith, h.ordered, h.in_journal)) h.in_journal })
   where
@@ -189,7 +189,7 @@ found-here value s owed n P h k = absurd h
 found-before : (terms : Terms) (journal : List Tx) (s : State) (item : Item) (n : ℕ) → Allowed terms journal s item → AreFoundWithin n (after_item s item).found → IsFoundWithin n item × AreFoundWithin n s.found
 found-before terms journal s (Line line) n h k = (tt, found-same (begun s) (at_line s s.rest) n (carried-line s s.rest) k)
 found-before terms journal s (Enlist base point) n h k =
-    let before : State = record s { mark = Some point; marks = s.marks ++ base ∷ [] ++ point ∷ [] } in
+    let before : State = record s { mark = Some point; told = max s.told point; marks = s.marks ++ base ∷ [] ++ point ∷ [] } in
     (tt, found-same before (at_enlist before s.owed) n (carried-enlist before s.owed) k)
 found-before terms journal s (Publish xid notes) n h k =
     let before : State = record s { told = max s.told (xid + 1) } in
@@ -273,7 +273,7 @@ up_to_date-grows terms journal more s within h = grown s.mark h
     grown (Some m) h = near-grows terms.settings.format (is_due_to terms.section.db s.set) journal more m s.told within h
 
 fresh_at-grows : (terms : Terms) (journal more : List Tx) (s : State) (item : Item) → s.told ≤ next_xid journal → IsFreshAt terms journal s item → IsFreshAt terms (journal ++ more) s item
-fresh_at-grows terms journal more s (Line line) within h = λ idle. up_to_date-grows terms journal more s within (h idle)
+fresh_at-grows terms journal more s (Line line) within h = λ idle. record { up_to_date = up_to_date-grows terms journal more s within (h idle).up_to_date; read_first = (h idle).read_first }
 fresh_at-grows terms journal more s item within h = tt
 
 pub fresh_so_far-grows : FreshSoFarGrows

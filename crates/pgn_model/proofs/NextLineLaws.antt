@@ -21,7 +21,7 @@ use Rattle.pgn_answers.specs.Savepoints.{surviving_notes, firsts, changes_of, li
 use Rattle.pgn_answers.specs.Answers.{Outcome, Commits, Replies, Refuses, Silent, GivesChannels, GivesUsage, answer, next_state, list_after}
 use Rattle.pgn_model.specs.Walk.{Terms, State, Owed, Nothing, Enlisting, Queueing, Leaving, Answering, Listing, Measuring, Raising, Awaiting, Quitting, Ending, Replied, Refused, start, after_item, Allowed, MayRead, leaving_or_answering, queueing_or_settled, settled, at_outcome, at_act, at_line, quitting, IsNext, holder_at, IsCommittedBy, IsAbortedBy, at_enlist, at_publish, at_full, at_leave, at_rows, at_raise}
 use Rattle.pgn_model.specs.Trace.{IsEnd, IsUpToDate, IsFreshAt, state_after}
-use Rattle.pgn_model.specs.laws.NextLine.{StandsFresh, ComesNext, CommitsNext, MayEnlist, MayPublish, MayMeetFull, MayReadTo, outcome_in, kept_tag, is_enlisting, is_leaving, enlist_items, publish_items, leave_items, quit_items, enlisted_mark, enlisted_marks, left_mark, published_told, EmptyStands, StandsFreshGrows, ComesNextGrows, LineReplies, LineRefuses, LineIsSilent, LineIsKept, LineCommits, LineMeetsFull, LineGivesChannels, LineGivesUsage, LineSignals, LineAwaits, AwaitFinds, AwaitTimesOut, LineQuits, IdleReads, AwaitReads, EndReads, NoListenerIsUpToDate, ReaderIsUpToDate, EndIsLawful, EndIsFresh, LastIsPublished, LastMetFull, CommitFinishes, FullFinishes, CommitKeepsFull, FullKeepsFull, QuietIsUpToDate, published_xids, BlockCommits, OneCommits, HoldsGrows, HoldsShows, HoldsWithin, CommitsNextGrows, NoListOutside}
+use Rattle.pgn_model.specs.laws.NextLine.{StandsFresh, ComesNext, CommitsNext, MayEnlist, MayPublish, MayMeetFull, MayReadTo, outcome_in, kept_tag, is_enlisting, is_leaving, enlist_items, publish_items, leave_items, quit_items, enlisted_mark, enlisted_marks, enlisted_told, left_mark, published_told, EmptyStands, StandsFreshGrows, ComesNextGrows, LineReplies, LineRefuses, LineIsSilent, LineIsKept, LineCommits, LineMeetsFull, LineGivesChannels, LineGivesUsage, LineSignals, LineAwaits, AwaitFinds, AwaitTimesOut, LineQuits, IdleReads, AwaitReads, EndReads, NoListenerIsUpToDate, ReaderIsUpToDate, EndIsLawful, EndIsFresh, LastIsPublished, LastMetFull, CommitFinishes, FullFinishes, CommitKeepsFull, FullKeepsFull, QuietIsUpToDate, published_xids, BlockCommits, OneCommits, HoldsGrows, HoldsShows, HoldsWithin, CommitsNextGrows, NoListOutside}
 use Rattle.pgn_journal.proofs.NearLaws.{near-itself, near-shrinks}
 use Rattle.pgn_model.proofs.WalkLaws.{Along-push_at, Stands-push, Stands-grows}
 use Rattle.pgn_model.proofs.GrowingLaws.{up_to_date-grows, fresh_so_far-grows, lawful-shows, state-within, full-grows, Along-keeps}
@@ -62,7 +62,7 @@ comes_next-grows terms journal more s line act lines told h = record {
   answered = h.answered;
   next = h.next;
   does = h.does;
-  up_to_date = λ idle. up_to_date-grows terms journal more s told (h.up_to_date idle);
+  fresh = λ idle. record { up_to_date = up_to_date-grows terms journal more s told (h.fresh idle).up_to_date; read_first = (h.fresh idle).read_first };
 }
 
 -- one more item at the end
@@ -88,7 +88,7 @@ begins : (terms : Terms) (journal : List Tx) (items : List Item) (s : State) (li
 begins terms journal items s line act lines h next =
     let begun : List Item = items ++ Line line.line ∷ [] in
     let is_next : IsNext line.line s.rest = subst (λ (ls : List ScriptLine). IsNext line.line ls) (sym next.next) refl in
-    let one : StandsFresh terms journal begun (at_line s s.rest) = StandsFresh-push terms journal items s (Line line.line) h (record { answered = next.answered; next = is_next }) next.up_to_date in
+    let one : StandsFresh terms journal begun (at_line s s.rest) = StandsFresh-push terms journal items s (Line line.line) h (record { answered = next.answered; next = is_next }) next.fresh in
     let two : StandsFresh terms journal begun (at_line s (line ∷ lines)) = subst (λ (ls : List ScriptLine). StandsFresh terms journal begun (at_line s ls)) next.next one in
     let three : StandsFresh terms journal begun (at_act (record s { rest = lines; owed = Nothing }) line.act) =
     subst (λ (o : Owed). StandsFresh terms journal begun (at_act (record s { rest = lines; owed = o }) line.act)) next.answered two in
@@ -204,7 +204,7 @@ clear-line s (line ∷ lines) h = clear-act s line.act h
 clear-step : (s : State) (item : Item) → IsClear s.block s.changes → IsClear (after_item s item).block (after_item s item).changes
 clear-step s (Line line) h = clear-same (begun s) (at_line s s.rest) (carried-line s s.rest) (clear-line s s.rest h)
 clear-step s (Enlist base point) h =
-    let before : State = record s { mark = Some point; marks = s.marks ++ base ∷ [] ++ point ∷ [] } in
+    let before : State = record s { mark = Some point; told = max s.told point; marks = s.marks ++ base ∷ [] ++ point ∷ [] } in
     clear-same before (at_enlist before s.owed) (carried-enlist before s.owed) h
 clear-step s (Publish xid notes) h =
     let before : State = record s { told = max s.told (xid + 1) } in
@@ -310,10 +310,10 @@ enlists : (terms : Terms) (journal : List Tx) (items : List Item) (s : State) (a
     → (let enlisting : State = record s { owed = Enlisting actions notes ending } in StandsFresh terms journal items (if b then enlisting else queueing_or_settled s actions notes ending))
     → (b ≡ true → MayEnlist journal s.told s.marks base point)
     → StandsFresh terms journal (items ++ cond b (Enlist base point ∷ []) [])
-    (queueing_or_settled (record s { mark = cond b (Some point) s.mark; marks = cond b (s.marks ++ base ∷ [] ++ point ∷ []) s.marks }) actions notes ending)
+    (queueing_or_settled (record s { mark = cond b (Some point) s.mark; told = cond b (max s.told point) s.told; marks = cond b (s.marks ++ base ∷ [] ++ point ∷ []) s.marks }) actions notes ending)
 enlists terms journal items s actions notes ending base point true h may =
     let now : MayEnlist journal s.told s.marks base point = may refl in
-    let after : State = record s { mark = Some point; marks = s.marks ++ base ∷ [] ++ point ∷ [] } in
+    let after : State = record s { mark = Some point; told = max s.told point; marks = s.marks ++ base ∷ [] ++ point ∷ [] } in
     subst (λ (t : State). StandsFresh terms journal (items ++ Enlist base point ∷ []) t) (owed-lost after (Enlisting actions notes ending) actions notes ending)
     (StandsFresh-push terms journal items (record s { owed = Enlisting actions notes ending }) (Enlist base point) h
     (record { expected = tt; from_first = now.from_first; ordered = now.ordered; after_told = now.after_told; after_marks = now.after_marks; in_journal = now.in_journal }) tt)
@@ -324,7 +324,7 @@ commits : (terms : Terms) (journal : List Tx) (items : List Item) (s : State) (l
     → StandsFresh terms journal items s → CommitsNext terms journal s line lines command done actions notes
     → (is_enlisting actions s.mark ≡ true → MayEnlist journal s.told s.marks base point)
     → StandsFresh terms journal (items ++ Line line.line ∷ [] ++ enlist_items actions s.mark base point)
-    (queueing_or_settled (record s { rest = lines; owed = Nothing; block = Idle; changes = []; mark = enlisted_mark actions s.mark point; marks = enlisted_marks actions s.mark s.marks base point }) actions notes (Replied done None))
+    (queueing_or_settled (record s { rest = lines; owed = Nothing; block = Idle; changes = []; mark = enlisted_mark actions s.mark point; told = enlisted_told actions s.mark s.told point; marks = enlisted_marks actions s.mark s.marks base point }) actions notes (Replied done None))
 commits terms journal items s line lines command done actions notes base point h next may =
     let ending : Ending = Replied done None in
     let begun : List Item = items ++ Line line.line ∷ [] in
@@ -339,18 +339,18 @@ commits terms journal items s line lines command done actions notes base point h
 pub line-commits : LineCommits
 line-commits terms journal items s line lines command done actions notes base point xid h next enlist publish =
     let begun : List Item = items ++ Line line.line ∷ [] ++ enlist_items actions s.mark base point in
-    let joined : State = record s { rest = lines; owed = Nothing; block = Idle; changes = []; mark = enlisted_mark actions s.mark point; marks = enlisted_marks actions s.mark s.marks base point } in
+    let joined : State = record s { rest = lines; owed = Nothing; block = Idle; changes = []; mark = enlisted_mark actions s.mark point; told = enlisted_told actions s.mark s.told point; marks = enlisted_marks actions s.mark s.marks base point } in
     let one = commits terms journal items s line lines command done actions notes base point h next enlist in
     let two = publishes terms journal begun joined actions notes (Replied done None) xid one publish in
-    ends terms journal (begun ++ publish_items notes xid) (record joined { told = published_told notes s.told xid; set = applied s.set actions }) (Replied done None) two
+    ends terms journal (begun ++ publish_items notes xid) (record joined { told = published_told notes (enlisted_told actions s.mark s.told point) xid; set = applied s.set actions }) (Replied done None) two
 
 pub line-meets_full : LineMeetsFull
 line-meets_full terms journal items s line lines command done actions notes base point full h next enlist some meet =
     let begun : List Item = items ++ Line line.line ∷ [] ++ enlist_items actions s.mark base point in
-    let joined : State = record s { rest = lines; owed = Nothing; block = Idle; changes = []; mark = enlisted_mark actions s.mark point; marks = enlisted_marks actions s.mark s.marks base point } in
+    let joined : State = record s { rest = lines; owed = Nothing; block = Idle; changes = []; mark = enlisted_mark actions s.mark point; told = enlisted_told actions s.mark s.told point; marks = enlisted_marks actions s.mark s.marks base point } in
     let one = commits terms journal items s line lines command done actions notes base point h next enlist in
     let two = meets terms journal begun joined actions notes (Replied done None) full one some meet in
-    ends terms journal (begun ++ QueueFull full notes ∷ []) (record joined { told = max s.told (full.xid + 1); named = s.named ++ holder_at full.holder full.floor_mark }) (Refused refused.QueueFull) two
+    ends terms journal (begun ++ QueueFull full notes ∷ []) (record joined { told = max (enlisted_told actions s.mark s.told point) (full.xid + 1); named = s.named ++ holder_at full.holder full.floor_mark }) (Refused refused.QueueFull) two
 
 -- the last of a journal
 entry-last : (journal : List Tx) (tx : Tx) (P : Tx → Type 0) → P tx → IsSomeAnd (slice_get (journal ++ tx ∷ []) (length journal)) P
@@ -509,7 +509,7 @@ line-quits terms journal items s line lines h comes = quits terms journal (items
 
 -- a read where the session may read
 reads : (terms : Terms) (journal : List Tx) (items : List Item) (s : State) (from to : ℕ) → StandsFresh terms journal items s → MayRead s s.owed → MayReadTo journal s from to
-    → StandsFresh terms journal (items ++ Read from to (due journal from to terms.section.db s.set) ∷ []) (record s { mark = Some to; marks = s.marks ++ to ∷ [] })
+    → StandsFresh terms journal (items ++ Read from to (due journal from to terms.section.db s.set) ∷ []) (record s { mark = Some to; told = max s.told to; marks = s.marks ++ to ∷ [] })
 reads terms journal items s from to h in_turn may =
     StandsFresh-push terms journal items s (Read from to (due journal from to terms.section.db s.set)) h
     (record { in_turn = in_turn; from_mark = may.from_mark; forward = may.forward; after_told = may.after_told; in_journal = may.in_journal; received = refl }) tt

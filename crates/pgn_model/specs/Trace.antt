@@ -1,7 +1,11 @@
 -- Which traces are lawful, and which leave no read out.
-use Rattle.std.specs.Prelude.{◌≡◌, ℕ, List, [], Option, IfSome, fold}
+use Rattle.std.specs.Prelude.{◌≡◌, ℕ, ◌≤◌, Bool, true, false, List, [], ◌∷◌, Option, IfSome, fold}
 use Rattle.pgn_journal.specs.declared.tx.Tx.{Tx}
+use Rattle.pgn_base.specs.declared.command.Command.TheVariants.{Listen, Begin, Start}
 use Rattle.pgn_answers.specs.declared.block_state.BlockState.TheVariants.{Idle}
+use Rattle.pgn_language.specs.declared.scenario.Act.{Act}
+use Rattle.pgn_language.specs.declared.scenario.Act.TheVariants.{Run}
+use Rattle.pgn_language.specs.declared.scenario.ScriptLine.{ScriptLine}
 use Rattle.pgn_model.specs.declared.item.Item.{Item}
 use Rattle.pgn_model.specs.declared.item.Item.TheVariants.{Line}
 use Rattle.pgn_model.specs.declared.trace.Trace.{Trace}
@@ -35,12 +39,34 @@ pub record TraceOk (terms : Terms) (trace : Trace) (journal : List Tx) : Type 0 
 abbrev pub IsUpToDate : Terms → List Tx → State → Type 0
 IsUpToDate terms journal s = IfSome s.mark (λ mark. Near terms.settings.format (is_due_to terms.section.db s.set) journal mark s.told)
 
--- where a line begins, the one before it left no read out, unless a block is open
+-- the line listens, or opens a block in which a line may
+abbrev pub reads_first : Act → Bool
+reads_first (Run (Listen channel)) = true
+reads_first (Run Begin) = true
+reads_first (Run Start) = true
+reads_first act = false
+
+-- the first of the lines to come is such a one
+abbrev pub next_reads_first : List ScriptLine → Bool
+next_reads_first [] = false
+next_reads_first (line ∷ lines) = reads_first line.act
+
+-- a listener with this mark has read up to what it was told of
+abbrev pub IsReadUp : Option ℕ → ℕ → Type 0
+IsReadUp mark told = IfSome mark (λ own. told ≤ own)
+
+-- a line that is to come may begin outside of a block: the one before it left no read out; where it listens or opens a block, a listener
+-- has read up to what it was told of, so that no notification from before it is received on a channel that it adds
+pub record IsFreshBetween (terms : Terms) (journal : List Tx) (s : State) : Type 0 where
+  pub up_to_date : IsUpToDate terms journal s
+  pub read_first : next_reads_first s.rest ≡ true → IsReadUp s.mark s.told
+
+-- where a line begins outside of a block, it may
 abbrev pub IsFreshAt : Terms → List Tx → State → Item → Type 0
-IsFreshAt terms journal s (Line line) = s.block ≡ Idle → IsUpToDate terms journal s
+IsFreshAt terms journal s (Line line) = s.block ≡ Idle → IsFreshBetween terms journal s
 IsFreshAt terms journal s item = Unit {0}
 
--- no read was left out at the end of any line; after the last line no block is open any more
+-- no read was left out before any line and at the end; after the last line no block is open any more
 pub record Fresh (terms : Terms) (trace : Trace) (journal : List Tx) : Type 0 where
   pub between_lines : Along after_item (IsFreshAt terms journal) (start terms.section) trace.items
   pub at_end : IsUpToDate terms journal (state_after terms trace.items)

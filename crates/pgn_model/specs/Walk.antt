@@ -91,7 +91,8 @@ pub record State : Type 0 where
   pub set : List (List ℕ)
   -- a listener has read everything below this number
   pub mark : Option ℕ
-  -- the session knows that every transaction below this number is finished
+  -- the session knows that every transaction below this number is finished: by its own transactions, by the flags that it found, and by
+  -- where it became a listener and how far it has read
   pub told : ℕ
   -- every base, point and end of a read so far
   pub marks : List ℕ
@@ -220,7 +221,7 @@ holder_at (Some session) mark = (session, mark) ∷ []
 -- the state after an item
 abbrev pub after_item : State → Item → State
 after_item s (Line line) = at_line s s.rest
-after_item s (Enlist base point) = at_enlist (record s { mark = Some point; marks = s.marks ++ base ∷ [] ++ point ∷ [] }) s.owed
+after_item s (Enlist base point) = at_enlist (record s { mark = Some point; told = max s.told point; marks = s.marks ++ base ∷ [] ++ point ∷ [] }) s.owed
 after_item s (Publish xid notes) = at_publish (record s { told = max s.told (xid + 1) }) s.owed
 after_item s (QueueFull full notes) = at_full (record s { told = max s.told (full.xid + 1); named = s.named ++ holder_at full.holder full.floor_mark }) s.owed
 after_item s Leave = at_leave (record s { mark = None }) s.owed
@@ -231,7 +232,7 @@ after_item s (Used usage) = at_rows (record s { named = s.named ++ holder_at usa
 after_item s (Raise value) = at_raise value s s.owed
 after_item s (Found value) = at_found value s s.owed
 after_item s (TimedOut looks) = record s { owed = Nothing }
-after_item s (Read from to got) = record s { mark = Some to; marks = s.marks ++ to ∷ [] }
+after_item s (Read from to got) = record s { mark = Some to; told = max s.told to; marks = s.marks ++ to ∷ [] }
 
 -- a line of this number comes next
 abbrev pub IsNext : ℕ → List ScriptLine → Type 0

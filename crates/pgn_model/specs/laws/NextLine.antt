@@ -34,7 +34,7 @@ use Rattle.pgn_answers.specs.Savepoints.{live_names, surviving_actions, survivin
 use Rattle.pgn_answers.specs.Answers.{Outcome, Commits, Replies, Refuses, Silent, GivesChannels, GivesUsage, answer, list_after}
 use Rattle.pgn_model.specs.Along.{Along}
 use Rattle.pgn_model.specs.Walk.{Terms, State, Nothing, Awaiting, start, after_item, is_empty_set, holder_at, IsCommittedBy, IsAbortedBy, IsGreatest, IsUnknown, Settings}
-use Rattle.pgn_model.specs.Trace.{TraceOk, Fresh, IsUpToDate, IsFreshAt, Stands}
+use Rattle.pgn_model.specs.Trace.{TraceOk, Fresh, IsUpToDate, IsFreshBetween, IsFreshAt, Stands}
 use Rattle.pgn_model.specs.Legal.{IsShownWithin, finished_xids, IsFullThere}
 use Rattle.pgn_journal.specs.Near.{Near}
 use Rattle.pgn_model.specs.laws.Growing.{IsStateWithin}
@@ -51,13 +51,13 @@ pub record HoldsSoFar (terms : Terms) (journal : List Tx) (items : List Item) (s
   pub full : All (IsFullThere terms.settings journal) items
   pub found : All (λ pair. pair.1 ≤ next_xid journal) s.found
 
--- this line of the script, with this act, comes next, and after it these: the line before has its whole answer, and it left no read
--- out, unless a block is open
+-- this line of the script, with this act, comes next, and after it these: the line before has its whole answer, and unless a block is open
+-- the line may begin
 pub record ComesNext (terms : Terms) (journal : List Tx) (s : State) (line : ScriptLine) (act : Act) (lines : List ScriptLine) : Type 0 where
   pub answered : s.owed ≡ Nothing
   pub next : s.rest ≡ line ∷ lines
   pub does : line.act ≡ act
-  pub up_to_date : s.block ≡ Idle → IsUpToDate terms journal s
+  pub fresh : s.block ≡ Idle → IsFreshBetween terms journal s
 
 -- what a command comes to in a state
 abbrev pub outcome_in : State → Command → Outcome
@@ -122,6 +122,10 @@ enlisted_marks actions mark marks base point = cond (is_enlisting actions mark) 
 abbrev pub left_mark : Option ℕ → List (List ℕ) → Option ℕ
 left_mark mark set = cond (is_leaving mark set) None mark
 
+-- what the session was told after the Enlist of a commit, if there is one
+abbrev pub enlisted_told : List Action → Option ℕ → ℕ → ℕ → ℕ
+enlisted_told actions mark told point = cond (is_enlisting actions mark) (max told point) told
+
 -- what the session was told after the Publish of a commit, if there is one
 abbrev pub published_told : List Note → ℕ → ℕ → ℕ
 published_told [] told xid = told
@@ -136,7 +140,7 @@ committed s lines actions notes base point xid = record s {
   changes = [];
   set = applied s.set actions;
   mark = left_mark (enlisted_mark actions s.mark point) (applied s.set actions);
-  told = published_told notes s.told xid;
+  told = published_told notes (enlisted_told actions s.mark s.told point) xid;
   marks = enlisted_marks actions s.mark s.marks base point;
 }
 
@@ -148,7 +152,7 @@ met_full s lines actions base point full = record s {
   block = Idle;
   changes = [];
   mark = left_mark (enlisted_mark actions s.mark point) s.set;
-  told = max s.told (full.xid + 1);
+  told = max (enlisted_told actions s.mark s.told point) (full.xid + 1);
   marks = enlisted_marks actions s.mark s.marks base point;
   named = s.named ++ holder_at full.holder full.floor_mark;
 }
@@ -275,7 +279,7 @@ abbrev pub LineCommits : Type 0
 LineCommits = (terms : Terms) (journal : List Tx) (items : List Item) (s : State) (line : ScriptLine) (lines : List ScriptLine) (command : Command) (done : Tag) (actions : List Action) (notes : List Note) (base point xid : ℕ)
     → StandsFresh terms journal items s → CommitsNext terms journal s line lines command done actions notes
     → (is_enlisting actions s.mark ≡ true → MayEnlist journal s.told s.marks base point)
-    → (notes ≢ [] → MayPublish terms journal s.told (enlisted_mark actions s.mark point) xid notes)
+    → (notes ≢ [] → MayPublish terms journal (enlisted_told actions s.mark s.told point) (enlisted_mark actions s.mark point) xid notes)
     → StandsFresh terms journal
     (items ++ Line line.line ∷ [] ++ enlist_items actions s.mark base point ++ publish_items notes xid ++ leave_items (enlisted_mark actions s.mark point) (applied s.set actions) ++ Reply done None ∷ [])
     (committed s lines actions notes base point xid)
@@ -285,7 +289,7 @@ abbrev pub LineMeetsFull : Type 0
 LineMeetsFull = (terms : Terms) (journal : List Tx) (items : List Item) (s : State) (line : ScriptLine) (lines : List ScriptLine) (command : Command) (done : Tag) (actions : List Action) (notes : List Note) (base point : ℕ) (full : Full)
     → StandsFresh terms journal items s → CommitsNext terms journal s line lines command done actions notes
     → (is_enlisting actions s.mark ≡ true → MayEnlist journal s.told s.marks base point)
-    → notes ≢ [] → MayMeetFull terms journal s.told (enlisted_mark actions s.mark point) full notes
+    → notes ≢ [] → MayMeetFull terms journal (enlisted_told actions s.mark s.told point) (enlisted_mark actions s.mark point) full notes
     → StandsFresh terms journal
     (items ++ Line line.line ∷ [] ++ enlist_items actions s.mark base point ++ QueueFull full notes ∷ [] ++ leave_items (enlisted_mark actions s.mark point) s.set ++ Refuse refused.QueueFull ∷ [])
     (met_full s lines actions base point full)
@@ -374,19 +378,19 @@ LineQuits = (terms : Terms) (journal : List Tx) (items : List Item) (s : State) 
 abbrev pub IdleReads : Type 0
 IdleReads = (terms : Terms) (journal : List Tx) (items : List Item) (s : State) (from to : ℕ)
     → StandsFresh terms journal items s → s.owed ≡ Nothing → s.block ≡ Idle → MayReadTo journal s from to
-    → StandsFresh terms journal (items ++ Read from to (due journal from to terms.section.db s.set) ∷ []) (record s { mark = Some to; marks = s.marks ++ to ∷ [] })
+    → StandsFresh terms journal (items ++ Read from to (due journal from to terms.section.db s.set) ∷ []) (record s { mark = Some to; told = max s.told to; marks = s.marks ++ to ∷ [] })
 
 -- a read while a flag is awaited: in idle
 abbrev pub AwaitReads : Type 0
 AwaitReads = (terms : Terms) (journal : List Tx) (items : List Item) (s : State) (flag from to : ℕ)
     → StandsFresh terms journal items s → s.owed ≡ Awaiting flag → s.block ≡ Idle → MayReadTo journal s from to
-    → StandsFresh terms journal (items ++ Read from to (due journal from to terms.section.db s.set) ∷ []) (record s { mark = Some to; marks = s.marks ++ to ∷ [] })
+    → StandsFresh terms journal (items ++ Read from to (due journal from to terms.section.db s.set) ∷ []) (record s { mark = Some to; told = max s.told to; marks = s.marks ++ to ∷ [] })
 
 -- a read at the script's end, where an open block is dropped: in idle once the end phase has begun, and in finish_read
 abbrev pub EndReads : Type 0
 EndReads = (terms : Terms) (journal : List Tx) (items : List Item) (s : State) (from to : ℕ)
     → StandsFresh terms journal items s → s.owed ≡ Nothing → s.rest ≡ [] → MayReadTo journal s from to
-    → StandsFresh terms journal (items ++ Read from to (due journal from to terms.section.db s.set) ∷ []) (record s { mark = Some to; marks = s.marks ++ to ∷ [] })
+    → StandsFresh terms journal (items ++ Read from to (due journal from to terms.section.db s.set) ∷ []) (record s { mark = Some to; told = max s.told to; marks = s.marks ++ to ∷ [] })
 
 -- who is no listener has nothing to read: in idle, where it answers that the session does not listen
 abbrev pub NoListenerIsUpToDate : Type 0
