@@ -1,5 +1,5 @@
 -- Proofs of the laws of what the calls say.
-use Rattle.std.proofs.Common.{◌≡◌, ℕ, ◌≤◌, max, Bool, true, false, ◌||◌, List, ◌++◌, length, Option, Some, None, IfSome, All, Contains, sym, ap, ◌∙◌, refl, subst, arith, inl, inr, length-append}
+use Rattle.std.proofs.Common.{◌≡◌, ℕ, ◌≤◌, max, Bool, List, ◌++◌, length, Option, Some, None, IfSome, All, Contains, sym, ap, ◌∙◌, subst, arith, inl, inr, length-append}
 use Rattle.std.proofs.lemmas.Bool.{cases_lt}
 use Rattle.std.proofs.lemmas.Option.{IfSome_then}
 use Rattle.std.proofs.lemmas.List.Elements.{All-contains, Contains-append_right}
@@ -21,11 +21,11 @@ read-grows old new set to before after more h =
     h.delivered ∙ ap (λ ds. before ++ ds) (sym (due-grows new.seen more h.from to old.db set h.in_seen)) in
     subst (λ (mark : Option ℕ). IfSome mark (λ from. after ≡ before ++ due (new.seen ++ more) from to old.db set)) (sym h.from_mark) given
 
--- where either of two gives false, the second is
-unowed : (a b : Bool) → (a || b) ≡ false → b ≡ false
-unowed a false h = refl
-unowed false true h = h
-unowed true true h = h
+pub woken-grows : WokenGrows
+woken-grows format old new woken more within h unset =
+    let seen : length new.seen ≡ length (old.seen ++ h.more) = ap (λ (k : Known). length k.seen) h.known in
+    let told : old.told ≤ next_xid new.seen = omega (arith, within.told, seen, length-append old.seen h.more) in
+    IfSome_then old.mark (h.near unset) (λ mark near. near-grows format (is_due_to old.db old.set) new.seen more mark old.told told near)
 
 -- who need not read up to a number need not read up to one that is no greater than it or than the mark
 near-below : (format : Format) (matters : Tx → Bool) (journal : List Tx) (mark told signalled : ℕ) → told ≤ max mark signalled
@@ -35,21 +35,10 @@ near-below format matters journal mark told signalled below near = elim (cases_l
   | inr ge ↦ near-itself format matters journal mark told ge
 ]
 
-near-told : (format : Format) (matters : Tx → Bool) (journal : List Tx) (own : Option ℕ) (told signalled : ℕ) → IfSome own (λ mark. told ≤ max mark signalled)
+pub near-told : (format : Format) (matters : Tx → Bool) (journal : List Tx) (own : Option ℕ) (told signalled : ℕ) → IfSome own (λ mark. told ≤ max mark signalled)
     → IfSome own (λ mark. Near format matters journal mark signalled) → IfSome own (λ mark. Near format matters journal mark told)
 near-told format matters journal None told signalled below near = tt
 near-told format matters journal (Some mark) told signalled below near = near-below format matters journal mark told signalled below near
-
-pub woken-grows : WokenGrows
-woken-grows format old new woken more within h unset =
-    let seen : length new.seen ≡ length (old.seen ++ h.more) = ap (λ (k : Known). length k.seen) h.known in
-    let told : old.told ≤ next_xid new.seen = omega (arith, within.told, seen, length-append old.seen h.more) in
-    let matters : Tx → Bool = is_due_to old.db old.set in
-    -- no read was owed, so it was told no more than it has read or knows the wakes of
-    let owed : old.owes ≡ false = unowed h.was_set old.owes (sym h.cause ∙ unset) in
-    let signalled : old.signalled ≤ next_xid new.seen = omega (arith, told, within.told_of_signalled) in
-    near-told format matters (new.seen ++ more) old.mark old.told old.signalled (within.to_read owed)
-    (IfSome_then old.mark (h.near unset) (λ mark near. near-grows format matters new.seen more mark old.signalled signalled near))
 
 pub full-grows : FullGrows
 full-grows shape old new notes full more h = no_page-grows shape.format shape.pages new.seen more full h.no_page

@@ -143,13 +143,13 @@ pub record HasLeft (old new : Known) : Type 0 where
   pub known : new ≡ record old { seen = old.seen ++ more; mark = None }
 
 -- `woken` answers whether its own look found the wake set, or a read was owed; a read is then owed. Where it answers that neither was
--- so, the session need not read up to where it knows wakes to be set, as far as its database and the set that it has told go
+-- so, the session need not read up to what it was told of, as far as its database and the set that it has told go
 pub record HasWoken (format : Format) (old new : Known) (woken : Bool) : Type 0 where
   pub more : List Tx
   pub was_set : Bool
   pub known : new ≡ record old { seen = old.seen ++ more; owes = woken; wake_look = Some (was_set, old.owes) }
   pub cause : woken ≡ (was_set || old.owes)
-  pub near : woken ≡ false → IfSome old.mark (λ mark. Near format (is_due_to old.db old.set) new.seen mark old.signalled)
+  pub near : woken ≡ false → IfSome old.mark (λ mark. Near format (is_due_to old.db old.set) new.seen mark old.told)
 
 -- `raise` answers what the pass was told
 pub record HasRaised (old new : Known) (flag x : ℕ) : Type 0 where

@@ -136,7 +136,7 @@ pub fn woken()
     ensures unset_and_true { HasWoken One listening (record woken_1 { wake_look = Some (false, false) }) true → ⊥ }
     ensures true_and_not_owed { HasWoken One listening (record woken_1 { owes = false }) true → ⊥ }
     ensures not_shown { HasWoken One listening (record woken_1 { wake_look = None }) true → ⊥ }
-    // It knows that the wakes of a transaction of its database are set, which it hasn't read, on its channel.
+    // It was told of a transaction of its database that it hasn't read, on its channel.
     ensures due_and_false { HasWoken One (record heard { owes = false }) (record heard { owes = false; wake_look = Some (false, false) }) false → ⊥ }
 {}
 

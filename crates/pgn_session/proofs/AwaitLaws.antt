@@ -32,7 +32,7 @@ use Rattle.pgn_session.proofs.FlagLaws.{budget-less}
 use Rattle.pgn_hub.specs.Passes.{IsWithin, IsPairWithin}
 use Rattle.pgn_language.specs.declared.scenario.Section.{Section}
 use Rattle.pgn_session.proofs.KnownLaws.{stands-grows}
-use Rattle.pgn_session.proofs.BlockLaws.{comes}
+use Rattle.pgn_session.proofs.BlockLaws.{comes, reads-nothing}
 
 -- a look that found the flag
 found-answered : (terms : Terms) (plan : FlagPlan) (done : ℕ) (block : BlockView) (set : List (List ℕ)) (k q : Known) (items : List Item) (s : State) (flag value : ℕ)
@@ -167,7 +167,7 @@ pub await-begins : (terms : Terms) (plan : FlagPlan) (done : ℕ) (block : Block
 await-begins terms plan done block set k items line lines flag h e behind does =
     let s : State = h.state in
     let rest : s.rest ≡ line ∷ lines = h.rest ∙ e in
-    let begins : ComesNext terms k.seen s line (Await flag) lines = comes terms plan done block set k items line (Await flag) lines h e does in
+    let begins : ComesNext terms k.seen s line (Await flag) lines = comes terms plan done block set k items line (Await flag) lines h e does (reads-nothing (Await flag) block.state k refl) in
     record {
       state = record s { rest = lines; owed = walk.Awaiting flag };
       stands = record {

@@ -1,5 +1,5 @@
 -- A line that the block alone answers.
-use Rattle.std.proofs.Common.{◌≡◌, ℕ, ◌+◌, ◌≤◌, Bool, true, false, cond, List, [], ◌∷◌, ◌++◌, length, drop, None, All, sym, ap, ◌∙◌, refl, subst, arith}
+use Rattle.std.proofs.Common.{◌≡◌, ℕ, ◌+◌, ◌≤◌, Bool, true, false, true≢false, cond, List, [], ◌∷◌, ◌++◌, length, drop, Option, None, All, sym, ap, ◌∙◌, refl, subst, arith}
 use Rattle.std.proofs.lemmas.List.Sums.{sum_by-cons}
 use Rattle.std.proofs.lemmas.List.Elements.{All-push}
 use Rattle.pgn_base.specs.declared.answers.Tag.TheVariants as tag
@@ -22,6 +22,7 @@ use Rattle.pgn_language.specs.Inputs.{QuitsLast, note_lines_of, is_note_command,
 use Rattle.pgn_answers.specs.Answers.{Outcome, Commits, Replies, Refuses, Silent, GivesChannels, GivesUsage, answer, next_state, list_after, in_state, ignored}
 use Rattle.pgn_model.specs.Walk.{Terms, State, Nothing}
 use Rattle.pgn_model.specs.Legal.{IsFullThere, finished_xids}
+use Rattle.pgn_model.specs.Trace.{IsReadUp, reads_first, next_reads_first}
 use Rattle.pgn_model.specs.laws.NextLine.{StandsFresh, ComesNext, outcome_in}
 use Rattle.pgn_model.proofs.NextLineLaws.{line-replies, line-refuses, line-is_silent, line-gives_channels, finished-more}
 use Rattle.pgn_pending.specs.Kept.{StandsFor}
@@ -31,6 +32,7 @@ use Rattle.pgn_block.specs.declared.effect.Effect.{Effect}
 use Rattle.pgn_session.specs.declared.doing.FlagPlan.{FlagPlan}
 use Rattle.pgn_session.specs.declared.doing.Doing.TheVariants.{Lines}
 use Rattle.pgn_session.specs.Parts.{HasTaken, answered_items, IsToldByBlock}
+use Rattle.pgn_session.specs.FirstRead.{HasReadFor}
 use Rattle.pgn_session.specs.Standing.{IsAnswered, IsRested, spare_of}
 
 -- a command puts a notification into the list where it notifies
@@ -55,8 +57,23 @@ budget-line spare changes c outcome line lines rest left e does h =
 
 -- the next line comes next
 pub comes : (terms : Terms) (plan : FlagPlan) (done : ℕ) (block : BlockView) (set : List (List ℕ)) (k : Known) (items : List Item) (line : ScriptLine) (act : Act) (lines : List ScriptLine)
-    → (h : IsRested terms plan done block set Lines k items) → drop done terms.section.lines ≡ line ∷ lines → line.act ≡ act → ComesNext terms k.seen h.state line act lines
-comes terms plan done block set k items line act lines h e does = record { answered = h.here.0.owes; next = h.rest ∙ e; does = does; up_to_date = h.here.1 }
+    → (h : IsRested terms plan done block set Lines k items) → drop done terms.section.lines ≡ line ∷ lines → line.act ≡ act → HasReadFor act block.state k → ComesNext terms k.seen h.state line act lines
+comes terms plan done block set k items line act lines h e does read = record {
+  answered = h.here.0.owes;
+  next = h.rest ∙ e;
+  does = does;
+  fresh = λ idle. record {
+    up_to_date = h.here.1 idle;
+    read_first = λ first.
+        let reads : reads_first act ≡ true = sym (ap next_reads_first (h.rest ∙ e) ∙ ap reads_first does) ∙ first in
+        subst (λ (mark : Option ℕ). IsReadUp mark h.state.told) (sym h.stands.mark)
+        (subst (λ (told : ℕ). IsReadUp k.mark told) (sym h.here.0.tells.told) (read (sym h.here.0.block_state ∙ idle) reads));
+  };
+}
+
+-- before a line that neither listens nor opens a block nothing is to be read
+pub reads-nothing : (act : Act) (state : BlockState) (k : Known) → reads_first act ≡ false → HasReadFor act state k
+reads-nothing act state k other idle first = absurd (true≢false (sym first ∙ other))
 
 -- a line that shows nothing of the hub, and leads to this state
 after-block : (terms : Terms) (plan : FlagPlan) (done : ℕ) (block next : BlockView) (set : List (List ℕ)) (k : Known) (items after : List Item) (line : ScriptLine) (lines : List ScriptLine) (c : Command) (outcome : Outcome)
@@ -125,30 +142,30 @@ channels-are Failed live set other names e = absurd (let no : ⊥ = cc in no)
 
 -- by what the command comes to
 by-outcome : (terms : Terms) (plan : FlagPlan) (done : ℕ) (block next : BlockView) (set : List (List ℕ)) (k : Known) (items : List Item) (line : ScriptLine) (lines : List ScriptLine) (c : Command) (outcome : Outcome)
-    → (h : IsRested terms plan done block set Lines k items) → drop done terms.section.lines ≡ line ∷ lines → lines ≡ drop (done + 1) terms.section.lines → line.act ≡ Run c
+    → (h : IsRested terms plan done block set Lines k items) → drop done terms.section.lines ≡ line ∷ lines → lines ≡ drop (done + 1) terms.section.lines → line.act ≡ Run c → HasReadFor (Run c) block.state k
     → next.state ≡ next_state block.state outcome → StandsFor (list_after h.state.changes c outcome) next.kept → outcome_in h.state c ≡ outcome
     → IsToldByBlock (effect_of (h.state.changes ++ changes_of c) outcome) → IsAnswered terms plan (done + 1) next set Lines k (answered_items items line.line h.state.set (effect_of (h.state.changes ++ changes_of c) outcome))
-by-outcome terms plan done block next set k items line lines c (Commits done_tag) h e behind does leads leaves is told = absurd told
-by-outcome terms plan done block next set k items line lines c GivesUsage h e behind does leads leaves is told = absurd told
-by-outcome terms plan done block next set k items line lines c (Replies done_tag warning state) h e behind does leads leaves is told =
+by-outcome terms plan done block next set k items line lines c (Commits done_tag) h e behind does read leads leaves is told = absurd told
+by-outcome terms plan done block next set k items line lines c GivesUsage h e behind does read leads leaves is told = absurd told
+by-outcome terms plan done block next set k items line lines c (Replies done_tag warning state) h e behind does read leads leaves is told =
     after-block terms plan done block next set k items (items ++ item.Line line.line ∷ [] ++ item.Reply done_tag warning ∷ []) line lines c (Replies done_tag warning state) h e behind does leads leaves
-    (line-replies terms k.seen items h.state line lines c done_tag warning state h.stands.holds.stands_fresh (comes terms plan done block set k items line (Run c) lines h e does) is)
+    (line-replies terms k.seen items h.state line lines c done_tag warning state h.stands.holds.stands_fresh (comes terms plan done block set k items line (Run c) lines h e does read) is)
     (finished-more (items ++ item.Line line.line ∷ []) (item.Reply done_tag warning ∷ []) refl ∙ finished-more items (item.Line line.line ∷ []) refl)
     (All-push (IsFullThere terms.settings k.seen) (items ++ item.Line line.line ∷ []) (item.Reply done_tag warning) (All-push (IsFullThere terms.settings k.seen) items (item.Line line.line) h.stands.holds.full tt) tt)
-by-outcome terms plan done block next set k items line lines c (Refuses refusal state) h e behind does leads leaves is told =
+by-outcome terms plan done block next set k items line lines c (Refuses refusal state) h e behind does read leads leaves is told =
     after-block terms plan done block next set k items (items ++ item.Line line.line ∷ [] ++ item.Refuse refusal ∷ []) line lines c (Refuses refusal state) h e behind does leads leaves
-    (line-refuses terms k.seen items h.state line lines c refusal state h.stands.holds.stands_fresh (comes terms plan done block set k items line (Run c) lines h e does) is)
+    (line-refuses terms k.seen items h.state line lines c refusal state h.stands.holds.stands_fresh (comes terms plan done block set k items line (Run c) lines h e does read) is)
     (finished-more (items ++ item.Line line.line ∷ []) (item.Refuse refusal ∷ []) refl ∙ finished-more items (item.Line line.line ∷ []) refl)
     (All-push (IsFullThere terms.settings k.seen) (items ++ item.Line line.line ∷ []) (item.Refuse refusal) (All-push (IsFullThere terms.settings k.seen) items (item.Line line.line) h.stands.holds.full tt) tt)
-by-outcome terms plan done block next set k items line lines c Silent h e behind does leads leaves is told =
+by-outcome terms plan done block next set k items line lines c Silent h e behind does read leads leaves is told =
     after-block terms plan done block next set k items (items ++ item.Line line.line ∷ []) line lines c Silent h e behind does leads leaves
-    (line-is_silent terms k.seen items h.state line lines c h.stands.holds.stands_fresh (comes terms plan done block set k items line (Run c) lines h e does) is)
+    (line-is_silent terms k.seen items h.state line lines c h.stands.holds.stands_fresh (comes terms plan done block set k items line (Run c) lines h e does read) is)
     (finished-more items (item.Line line.line ∷ []) refl)
     (All-push (IsFullThere terms.settings k.seen) items (item.Line line.line) h.stands.holds.full tt)
-by-outcome terms plan done block next set k items line lines c (GivesChannels names) h e behind does leads leaves is told =
+by-outcome terms plan done block next set k items line lines c (GivesChannels names) h e behind does read leads leaves is told =
     let s : State = h.state in
     let same : names ≡ s.set = channels-are s.block (live_names s.changes) s.set c names is in
-    let shown = line-gives_channels terms k.seen items s line lines c names h.stands.holds.stands_fresh (comes terms plan done block set k items line (Run c) lines h e does) is in
+    let shown = line-gives_channels terms k.seen items s line lines c names h.stands.holds.stands_fresh (comes terms plan done block set k items line (Run c) lines h e does read) is in
     after-block terms plan done block next set k items (items ++ item.Line line.line ∷ [] ++ item.Channels s.set ∷ [] ++ item.Reply (tag.Select (length s.set)) None ∷ []) line lines c (GivesChannels names) h e behind does leads leaves
     (subst (λ (ns : List (List ℕ)). StandsFresh terms k.seen (items ++ item.Line line.line ∷ [] ++ item.Channels ns ∷ [] ++ item.Reply (tag.Select (length ns)) None ∷ []) (record s { rest = lines; owed = Nothing })) same shown)
     (finished-more (items ++ item.Line line.line ∷ [] ++ item.Channels s.set ∷ []) (item.Reply (tag.Select (length s.set)) None ∷ []) refl
@@ -158,13 +175,13 @@ by-outcome terms plan done block next set k items line lines c (GivesChannels na
 
 -- a line that the block alone answers is answered
 pub block-answered : (terms : Terms) (plan : FlagPlan) (done : ℕ) (block next : BlockView) (set : List (List ℕ)) (k : Known) (items : List Item) (line : ScriptLine) (lines : List ScriptLine) (c : Command) (told : Effect)
-    → IsRested terms plan done block set Lines k items → drop done terms.section.lines ≡ line ∷ lines → lines ≡ drop (done + 1) terms.section.lines → line.act ≡ Run c
+    → IsRested terms plan done block set Lines k items → drop done terms.section.lines ≡ line ∷ lines → lines ≡ drop (done + 1) terms.section.lines → line.act ≡ Run c → HasReadFor (Run c) block.state k
     → HasTaken block c told next → IsToldByBlock told → IsAnswered terms plan (done + 1) next set Lines k (answered_items items line.line set told)
-block-answered terms plan done block next set k items line lines c told h e behind does taken alone =
+block-answered terms plan done block next set k items line lines c told h e behind does read taken alone =
     let s : State = h.state in
     let o : Outcome = answer block.state (live_names s.changes) s.set c in
     let is : outcome_in s c ≡ o = ap (λ (b : BlockState). answer b (live_names s.changes) s.set c) h.here.0.block_state in
     let gives : told ≡ effect_of (s.changes ++ changes_of c) o = taken.gives s.changes s.set h.here.0.list in
     subst (λ (channels : List (List ℕ)). IsAnswered terms plan (done + 1) next set Lines k (answered_items items line.line channels told)) h.channels
     (subst (λ (f : Effect). IsAnswered terms plan (done + 1) next set Lines k (answered_items items line.line s.set f)) (sym gives)
-    (by-outcome terms plan done block next set k items line lines c o h e behind does (taken.leads s.changes s.set h.here.0.list) (taken.leaves s.changes s.set h.here.0.list) is (subst IsToldByBlock gives alone)))
+    (by-outcome terms plan done block next set k items line lines c o h e behind does read (taken.leads s.changes s.set h.here.0.list) (taken.leaves s.changes s.set h.here.0.list) is (subst IsToldByBlock gives alone)))

@@ -23,6 +23,7 @@ use Rattle.pgn_block.specs.declared.effect.Effect.TheVariants as effect
 use Rattle.pgn_session.specs.declared.doing.FlagPlan.{FlagPlan}
 use Rattle.pgn_session.specs.declared.doing.Doing.TheVariants.{Lines, Committing}
 use Rattle.pgn_session.specs.Parts.{HasTaken}
+use Rattle.pgn_session.specs.FirstRead.{HasReadFor}
 use Rattle.pgn_session.specs.Standing.{IsRested}
 use Rattle.pgn_answers.proofs.NotedLemmas.{noted-append, sent-fewer}
 use Rattle.pgn_session.proofs.BlockLaws.{noted-one, comes}
@@ -39,9 +40,9 @@ hands-out changes GivesUsage actions notes done e = absurd (let no : ⊥ = cc in
 
 -- a session whose block has handed out a commit
 pub handed-out : (terms : Terms) (plan : FlagPlan) (done : ℕ) (block next : BlockView) (set : List (List ℕ)) (k : Known) (items : List Item) (line : ScriptLine) (lines : List ScriptLine) (c : Command) (actions : List Action) (notes : List Note) (tag : Tag)
-    → IsRested terms plan done block set Lines k items → drop done terms.section.lines ≡ line ∷ lines → line.act ≡ Run c → HasTaken block c (effect.Commit actions notes tag) next
+    → IsRested terms plan done block set Lines k items → drop done terms.section.lines ≡ line ∷ lines → line.act ≡ Run c → HasReadFor (Run c) block.state k → HasTaken block c (effect.Commit actions notes tag) next
     → IsRested terms plan done next set (Committing actions notes tag) k items
-handed-out terms plan done block next set k items line lines c actions notes tag h e does taken =
+handed-out terms plan done block next set k items line lines c actions notes tag h e does first taken =
     let s : State = h.state in
     let o : Outcome = answer block.state (live_names s.changes) s.set c in
     let is = hands-out (s.changes ++ changes_of c) o actions notes tag (taken.gives s.changes s.set h.here.0.list) in
@@ -61,7 +62,7 @@ handed-out terms plan done block next set k items line lines c actions notes tag
         lines = lines;
         command = c;
         next = record {
-          comes = comes terms plan done block set k items line (Run c) lines h e does;
+          comes = comes terms plan done block set k items line (Run c) lines h e does first;
           commits = ap (λ (b : BlockState). answer b (live_names s.changes) s.set c) h.here.0.block_state ∙ is.0;
           actions_are = is.1;
           notes_are = is.2;

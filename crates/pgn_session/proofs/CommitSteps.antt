@@ -1,5 +1,5 @@
 -- What each step of a commit leaves.
-use Rattle.std.proofs.Common.{◌≡◌, ◌≢◌, ℕ, ◌+◌, ◌-◌, ◌≤◌, ◌==◌, ◌&&◌, not, Bool, true, false, true≢false, cond, List, [], ◌∷◌, ◌++◌, length, drop, Option, Some, None, Result, Ok, Err, IfSome, All, Contains, sym, ap, ◌∙◌, refl, subst, arith, length-append, append-nil, append_assoc}
+use Rattle.std.proofs.Common.{◌≡◌, ◌≢◌, ℕ, ◌+◌, ◌-◌, ◌≤◌, max, ◌==◌, ◌&&◌, not, Bool, true, false, true≢false, cond, List, [], ◌∷◌, ◌++◌, length, drop, Option, Some, None, Result, Ok, Err, IfSome, All, Contains, sym, ap, ◌∙◌, refl, subst, arith, length-append, append-nil, append_assoc}
 use Rattle.std.proofs.lemmas.Bool.Decides.{nat_tests}
 use Rattle.std.proofs.lemmas.Option.{IfSome_then}
 use Rattle.std.proofs.lemmas.List.Elements.{All-weaker, All-contains, Contains-push, Contains-append_left}
@@ -73,7 +73,7 @@ leads-same k q e = record {
 }
 
 pub leads-joined : (k j : Known) (b : Bool) (got : Option Enlisted) → HasJoined b k j got
-    → Leads k j (cond b (Some (point_of got)) k.mark) (cond b (k.marks ++ base_of got ∷ [] ++ point_of got ∷ []) k.marks) k.own k.told k.notes_left
+    → Leads k j (cond b (Some (point_of got)) k.mark) (cond b (k.marks ++ base_of got ∷ [] ++ point_of got ∷ []) k.marks) k.own (cond b (max k.told (point_of got)) k.told) k.notes_left
 leads-joined k j true (Some got) h = record {
   more = h.more;
   seen_is = ap (λ (p : Known). p.seen) h.known;
@@ -330,6 +330,13 @@ left-answered terms plan done block channels f q b telling after t enough leave 
         quits_last = quits;
       };
     }
+
+-- and so is what the session was told
+pub told-joined : (k j : Known) (b : Bool) (got : Option Enlisted) → HasJoined b k j got → k.told ≤ next_xid k.seen → cond b (max k.told (point_of got)) k.told ≤ next_xid j.seen
+told-joined k j true (Some got) h within = omega (arith, h.after_told, h.in_seen)
+told-joined k j true None h within = absurd h
+told-joined k j false (Some got) h within = absurd h
+told-joined k j false None h within = subst (λ (p : Known). k.told ≤ next_xid p.seen) (sym h) within
 
 -- the mark after an Enlist is within what is then known
 pub at-joined : (k j : Known) (b : Bool) (got : Option Enlisted) → HasJoined b k j got → IfSome k.mark (λ m. m ≤ next_xid k.seen) → IfSome (cond b (Some (point_of got)) k.mark) (λ m. m ≤ next_xid j.seen)

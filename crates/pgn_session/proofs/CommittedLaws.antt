@@ -13,7 +13,7 @@ use Rattle.pgn_hub.specs.declared.known.Known.{Known}
 use Rattle.pgn_journal.specs.Journal.{next_xid}
 use Rattle.pgn_hub.specs.Shape.{Shape}
 use Rattle.pgn_model.specs.Walk.{Terms, State}
-use Rattle.pgn_model.specs.laws.NextLine.{is_enlisting, is_leaving, MayEnlist, MayPublish, enlist_items, publish_items, leave_items, published_xids, published_told, enlisted_mark, enlisted_marks, left_mark, HoldsSoFar, StandsFresh, CommitsNext, committed}
+use Rattle.pgn_model.specs.laws.NextLine.{is_enlisting, is_leaving, MayEnlist, MayPublish, enlist_items, publish_items, leave_items, published_xids, published_told, enlisted_mark, enlisted_marks, enlisted_told, left_mark, HoldsSoFar, StandsFresh, CommitsNext, committed}
 use Rattle.pgn_model.specs.Legal.{IsFullThere, finished_xids}
 use Rattle.pgn_model.proofs.NextLineLaws.{holds-grows, holds-within, line-commits, commits_next-grows, commit-finishes, commit-keeps_full}
 use Rattle.pgn_pending.specs.Kept.{StandsFor}
@@ -22,7 +22,7 @@ use Rattle.pgn_session.specs.declared.doing.FlagPlan.{FlagPlan}
 use Rattle.pgn_session.specs.declared.doing.Doing.TheVariants.{Lines}
 use Rattle.pgn_session.specs.Standing.{HaveSameMembers, IsCommitting, IsAnswered, IsAt}
 use Rattle.pgn_session.specs.Commits.{HasCommitted, is_telling, is_full, enlisted_items, sent_items, left_items}
-use Rattle.pgn_session.proofs.CommitSteps.{base_of, point_of, leads-joined, may-enlist, same-enlist, x_of, leads-sent, same-sent, may-publish, members-joined, stood-joined, told-after, left-answered, at-joined}
+use Rattle.pgn_session.proofs.CommitSteps.{base_of, point_of, leads-joined, may-enlist, same-enlist, x_of, leads-sent, same-sent, may-publish, members-joined, stood-joined, told-after, left-answered, at-joined, told-joined}
 
 -- a commit that was not refused
 pub committed-answered : (shape : Shape) (terms : Terms) (plan : FlagPlan) (done : ℕ) (set channels : List (List ℕ)) (k q : Known) (items after : List Item) (actions : List Action) (notes : List Note) (tag : Tag) (block : BlockView)
@@ -41,8 +41,8 @@ committed-answered shape terms plan done set channels k q items after actions no
     let j : Known = c.joined in
     let f : Known = c.finished in
     let one = leads-joined k j b c.enlisted c.has_joined in
-    let len_j : length j.seen ≡ length k.seen + length one.more = ap (λ (txs : List Tx). length txs) one.seen_is ∙ length-append k.seen one.more in
-    let told_j : j.told ≤ next_xid j.seen = omega (arith, one.told_is, within.told, here.tells.told) in
+    let told_k : k.told ≤ next_xid k.seen = omega (arith, within.told, here.tells.told) in
+    let told_j : j.told ≤ next_xid j.seen = omega (arith, one.told_is, told-joined k j b c.enlisted c.has_joined told_k) in
     let two = leads-sent shape j f notes c.sent c.has_sent unfull told_j in
     let more : List Tx = one.more ++ two.more in
     let grown : f.seen ≡ k.seen ++ more = two.seen_is ∙ ap (λ (txs : List Tx). txs ++ two.more) one.seen_is ∙ append_assoc k.seen one.more two.more in
@@ -57,9 +57,12 @@ committed-answered shape terms plan done set channels k q items after actions no
     let mark_f : em ≡ f.mark = em_k ∙ sym one.mark_is ∙ sym two.mark_is in
     let mark_k : IfSome k.mark (λ m. m ≤ next_xid k.seen) = subst (λ (own : Option ℕ). IfSome own (λ m. m ≤ next_xid k.seen)) h.stands.mark within.mark in
     let at : IfSome em (λ m. m ≤ next_xid j.seen) = subst (λ (own : Option ℕ). IfSome own (λ m. m ≤ next_xid j.seen)) (sym em_k) (at-joined k j b c.enlisted c.has_joined mark_k) in
-    let told_s : s.told ≤ next_xid j.seen = omega (arith, within.told, len_j) in
-    let publish : notes ≢ [] → MayPublish terms f.seen s.told em x notes =
-    λ some. may-publish terms shape j f notes c.sent s.told em c.has_sent unfull (one.session_is ∙ h.stands.session) (one.database_is ∙ h.stands.database) told_s at some in
+    let et : ℕ = enlisted_told actions s.mark s.told point in
+    let et_j : et ≡ j.told =
+    ap (λ (n : ℕ). enlisted_told actions s.mark n point) here.tells.told ∙ ap (λ (m : Option ℕ). enlisted_told actions m k.told point) h.stands.mark ∙ sym one.told_is in
+    let told_e : et ≤ next_xid j.seen = omega (arith, et_j, told_j) in
+    let publish : notes ≢ [] → MayPublish terms f.seen et em x notes =
+    λ some. may-publish terms shape j f notes c.sent et em c.has_sent unfull (one.session_is ∙ h.stands.session) (one.database_is ∙ h.stands.database) told_e at some in
     let t : State = committed s here.lines actions notes base point x in
     let law = line-commits terms f.seen items s here.line here.lines here.command tag actions notes base point x g.stands_fresh next enlist publish in
     let chan : applied s.set actions ≡ channels =
@@ -96,7 +99,7 @@ committed-answered shape terms plan done set channels k q items after actions no
     refl
     (sym (ap (λ (v : BlockView). v.state) here.handed_out))
     (subst (λ (v : BlockView). StandsFor [] v.kept) (sym here.handed_out) refl)
-    (ap (λ (n : ℕ). published_told notes n x) (here.tells.told ∙ sym one.told_is) ∙ sym two.told_is)
+    (ap (λ (n : ℕ). published_told notes n x) et_j ∙ sym two.told_is)
     (here.tells.raised ∙ sym one.raised_is ∙ sym two.raised_is)
     (here.tells.found ∙ sym one.found_is ∙ sym two.found_is)
     (omega (arith, here.budget, one.left_is, two.left_is))

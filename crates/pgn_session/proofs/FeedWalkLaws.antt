@@ -238,7 +238,7 @@ pub fed-fresh : (terms : Terms) (lines : List ScriptLine) (journal : List Tx) (i
 fed-fresh terms lines journal [] s front tail more few h = tt
 fed-fresh terms lines journal (Line line ∷ items) s [] tail more few h = absurd (let no : ⊥ = omega (arith, few) in no)
 fed-fresh terms lines journal (Line line ∷ items) s (next ∷ front) tail more few h = (
-  h.0,
+  λ idle. record { up_to_date = (h.0 idle).up_to_date; read_first = (h.0 idle).read_first },
   subst (λ (t : State). Along after_item (IsFreshAt (with_lines lines terms) journal) t items) (sym (act-rest (front ++ more) s next.act))
       (fed-fresh terms lines journal items (at_act s next.act) front tail more (omega (arith, few))
       (subst (λ (t : State). Along after_item (IsFreshAt terms journal) t items) (act-rest (front ++ tail) s next.act) h.1)),

@@ -20,7 +20,7 @@ use Rattle.pgn_session.specs.declared.doing.Doing.{Doing}
 use Rattle.pgn_session.specs.declared.doing.Doing.TheVariants.{Lines}
 use Rattle.pgn_session.specs.Standing.{StandsAt, IsAnswered, IsRested}
 use Rattle.pgn_session.proofs.KnownLaws.{stands-grows}
-use Rattle.pgn_session.proofs.BlockLaws.{comes}
+use Rattle.pgn_session.proofs.BlockLaws.{comes, reads-nothing}
 
 -- the notifications that may still come, as a line is done
 pub budget-less : (line : ScriptLine) (lines rest : List ScriptLine) (noted left : ℕ) → rest ≡ line ∷ lines → noted + note_lines_of rest ≤ left → noted + note_lines_of lines ≤ left
@@ -38,7 +38,7 @@ signal-answered terms plan done block set k q items line lines flag h e behind d
     let g : StandsAt terms (record k { seen = seen }) items s = stands-grows terms k r.more items s h.stands in
     let rest : s.rest ≡ line ∷ lines = h.rest ∙ e in
     let begins : ComesNext terms seen s line (Signal flag) lines =
-    comes_next-grows terms k.seen r.more s line (Signal flag) lines (holds-within terms k.seen items s h.stands.holds).told (comes terms plan done block set k items line (Signal flag) lines h e does) in
+    comes_next-grows terms k.seen r.more s line (Signal flag) lines (holds-within terms k.seen items s h.stands.holds).told (comes terms plan done block set k items line (Signal flag) lines h e does (reads-nothing (Signal flag) block.state k refl)) in
     let after : State = record s { rest = lines; owed = Nothing; raised = s.raised ++ (flag, s.told) ∷ [] } in
     let shown : StandsFresh terms seen (items ++ Line line.line ∷ [] ++ Raise s.told ∷ []) after = line-signals terms seen items s line lines flag g.holds.stands_fresh begins in
     let shown_so : StandsFresh terms seen (items ++ Line line.line ∷ [] ++ Raise k.told ∷ []) after =

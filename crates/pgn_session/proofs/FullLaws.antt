@@ -16,7 +16,7 @@ use Rattle.pgn_hub.specs.declared.known.Known.{Known}
 use Rattle.pgn_journal.specs.Journal.{next_xid}
 use Rattle.pgn_hub.specs.Shape.{Shape}
 use Rattle.pgn_model.specs.Walk.{Terms, State}
-use Rattle.pgn_model.specs.laws.NextLine.{is_enlisting, is_leaving, MayEnlist, enlist_items, leave_items, MayMeetFull, enlisted_mark, enlisted_marks, left_mark, HoldsSoFar, StandsFresh, CommitsNext, met_full}
+use Rattle.pgn_model.specs.laws.NextLine.{is_enlisting, is_leaving, MayEnlist, enlist_items, leave_items, MayMeetFull, enlisted_mark, enlisted_marks, enlisted_told, left_mark, HoldsSoFar, StandsFresh, CommitsNext, met_full}
 use Rattle.pgn_hub.specs.Calls.{HasMetFull, tx_of}
 use Rattle.pgn_journal.specs.QueueUse.{IsFloorFor, NoPage}
 use Rattle.pgn_base.specs.declared.format.Format.{Format}
@@ -36,7 +36,7 @@ use Rattle.pgn_language.specs.declared.scenario.ScriptLine.{ScriptLine}
 use Rattle.std.proofs.lemmas.List.{drop_more, length-drop}
 use Rattle.std.proofs.Math.ListN.{get_or}
 use Rattle.pgn_session.specs.Commits.{HasJoined, HasSent, HasLeftOr, HasCommitted, is_telling, is_full, set_after, enlisted_items, sent_items, left_items, ending_item}
-use Rattle.pgn_session.proofs.CommitSteps.{base_of, point_of, leads-joined, leads-full, may-enlist, same-enlist, members-joined, stood-joined, told-after, left-answered, at-joined}
+use Rattle.pgn_session.proofs.CommitSteps.{base_of, point_of, leads-joined, leads-full, may-enlist, same-enlist, members-joined, stood-joined, told-after, left-answered, at-joined, told-joined}
 use Rattle.pgn_session.proofs.KnownLaws.{named-holder}
 
 -- what met a full queue stands there, aborted
@@ -70,7 +70,8 @@ full-answered shape terms plan done set channels k q items after actions notes t
     let f : Known = c.finished in
     let met : (notes ≢ []) × HasMetFull shape j f notes full = subst (λ (sent : Option (Result ℕ Full)). HasSent shape j f notes sent) is c.has_sent in
     let one = leads-joined k j b c.enlisted c.has_joined in
-    let len_j : length j.seen ≡ length k.seen + length one.more = ap (λ (txs : List Tx). length txs) one.seen_is ∙ length-append k.seen one.more in
+    let told_k : k.told ≤ next_xid k.seen = omega (arith, within.told, here.tells.told) in
+    let told_j : j.told ≤ next_xid j.seen = omega (arith, one.told_is, told-joined k j b c.enlisted c.has_joined told_k) in
     let two = leads-full shape j f notes full met.1 in
     let more : List Tx = one.more ++ two.more in
     let grown : f.seen ≡ k.seen ++ more = two.seen_is ∙ ap (λ (txs : List Tx). txs ++ two.more) one.seen_is ∙ append_assoc k.seen one.more two.more in
@@ -86,9 +87,12 @@ full-answered shape terms plan done set channels k q items after actions notes t
     let mark_f : em ≡ f.mark = em_j ∙ sym two.mark_is in
     let mark_k : IfSome k.mark (λ m. m ≤ next_xid k.seen) = subst (λ (own : Option ℕ). IfSome own (λ m. m ≤ next_xid k.seen)) h.stands.mark within.mark in
     let at : IfSome em (λ m. m ≤ next_xid j.seen) = subst (λ (own : Option ℕ). IfSome own (λ m. m ≤ next_xid j.seen)) (sym em_k) (at-joined k j b c.enlisted c.has_joined mark_k) in
-    let told_s : s.told ≤ next_xid j.seen = omega (arith, within.told, len_j) in
-    let meets : MayMeetFull terms f.seen s.told em full notes =
-    may-meet_full terms shape j f notes full s.told em met.1 (one.session_is ∙ h.stands.session) (one.database_is ∙ h.stands.database) told_s em_j at in
+    let et : ℕ = enlisted_told actions s.mark s.told point in
+    let et_j : et ≡ j.told =
+    ap (λ (n : ℕ). enlisted_told actions s.mark n point) here.tells.told ∙ ap (λ (m : Option ℕ). enlisted_told actions m k.told point) h.stands.mark ∙ sym one.told_is in
+    let told_e : et ≤ next_xid j.seen = omega (arith, et_j, told_j) in
+    let meets : MayMeetFull terms f.seen et em full notes =
+    may-meet_full terms shape j f notes full et em met.1 (one.session_is ∙ h.stands.session) (one.database_is ∙ h.stands.database) told_e em_j at in
     let t : State = met_full s here.lines actions base point full in
     let law = line-meets_full terms f.seen items s here.line here.lines here.command tag actions notes base point full g.stands_fresh next enlist met.0 meets in
     let no_page : NoPage terms.settings.format terms.settings.limit f.seen full =
@@ -104,7 +108,7 @@ full-answered shape terms plan done set channels k q items after actions notes t
     ∙ ap (λ (sent : Option (Result ℕ Full)). begun ++ enlisted_items c.enlisted ++ sent_items sent notes ++ left_items (is_leaving f.mark channels) ++ ending_item sent tag ∷ []) (sym is)
     ∙ sym c.shown in
     let marks_f : cond b (k.marks ++ base ∷ [] ++ point ∷ []) k.marks ≡ f.marks = sym one.marks_are ∙ sym two.marks_are in
-    let after_told : s.told ≤ full.xid = meets.after_told in
+    let after_told : et ≤ full.xid = meets.after_told in
     left-answered terms plan done block channels f q (is_leaving f.mark channels) (is_telling f.mark actions) after t h.stands.patient c.has_left
     (told-after k j f q shape set channels actions notes c.enlisted c.sent (is_leaving f.mark channels) (is_telling f.mark actions)
     (subst (λ (channels : List (List ℕ)). IfSome k.mark (λ _. k.set ≡ channels)) h.channels h.stands.interested) c.has_joined c.has_sent c.channels_are refl c.has_left)

@@ -10,6 +10,8 @@ use Rattle.pgn_hub.specs.Shape.{Shape}
 use Rattle.pgn_session.specs.declared.session.Session.{Session}
 use Rattle.pgn_session.specs.declared.doing.Doing.{Doing}
 use Rattle.pgn_session.specs.declared.doing.Doing.TheVariants.{Lines}
+use Rattle.pgn_model.specs.Trace.{reads_first, next_reads_first}
+use Rattle.pgn_session.specs.FirstRead.{IsToReadFirst, HasReadTold, HasReadFor}
 use Rattle.pgn_session.specs.Standing.{IsFlagBelow}
 use Rattle.pgn_session.specs.Steps.{StandsStill}
 use Rattle.pgn_session.specs.Whole.{ComesWith, HasRest, HasRefused}
@@ -28,6 +30,11 @@ comes-at s now line act is lt there does = record {
   number = refl;
   does = sym does;
 }
+
+-- what is read before such a line is read before this one
+pub read-for : {P : Type 0} (known : P → Known) (s : Session P) (line : ℕ) (act : Act) → s.doing ≡ Lines → ComesWith s line act → (IsToReadFirst s → HasReadTold (known s.pass)) → HasReadFor act s.block.state (known s.pass)
+read-for known s line act place comes read = λ outside reads.
+    read (record { between = place; outside = outside; next = ap next_reads_first comes.split ∙ ap reads_first comes.does ∙ reads })
 
 -- it comes with the act that it has
 pub comes-as : {P : Type 0} (s : Session P) (line : ℕ) (act is : Act) → act ≡ is → ComesWith s line act → ComesWith s line is

@@ -1,5 +1,5 @@
 -- A session that is over: its pass may hear more, its trace is lawful and left no read out.
-use Rattle.std.proofs.Common.{◌≡◌, ℕ, ◌≤◌, max, List, [], ◌++◌, length, drop, Some, Contains, sym, ap, ◌∙◌, refl, subst, arith, append_assoc}
+use Rattle.std.proofs.Common.{◌≡◌, ℕ, ◌≤◌, max, Bool, List, [], ◌++◌, length, drop, Some, Contains, sym, ap, ◌∙◌, refl, subst, arith, append_assoc}
 use Rattle.std.proofs.lemmas.List.Elements.{All-nil}
 use Rattle.pgn_journal.specs.declared.tx.Tx.{Tx}
 use Rattle.pgn_model.specs.declared.item.Item.{Item}
@@ -13,8 +13,8 @@ use Rattle.pgn_model.specs.Trace.{TraceOk, Fresh}
 use Rattle.pgn_model.specs.Legal.{IsFullThere}
 use Rattle.pgn_model.proofs.GrowingLaws.{up_to_date-grows}
 use Rattle.pgn_model.proofs.NextLineLaws.{empty-stands, holds-within, end-is_lawful, end-is_fresh}
-use Rattle.pgn_hub.specs.Passes.{opened_pass}
-use Rattle.pgn_hub.specs.Calls.{HasLearned, HasHeard, longer}
+use Rattle.pgn_hub.specs.Passes.{IsWithin, opened_pass}
+use Rattle.pgn_hub.specs.Calls.{HasLearned, HasHeard, longer, owes_after}
 use Rattle.pgn_block.specs.Views.{BlockView, idle_view}
 use Rattle.pgn_session.specs.declared.doing.FlagPlan.{FlagPlan}
 use Rattle.pgn_session.specs.declared.doing.Doing.{Doing}
@@ -25,9 +25,9 @@ use Rattle.pgn_session.proofs.KnownLaws.{stands-grows}
 use Rattle.pgn_session.proofs.ReadLaws.{read-rested}
 
 -- more of the journal is known, and the pass was told more
-over-more : (terms : Terms) (plan : FlagPlan) (done : ℕ) (block : BlockView) (set : List (List ℕ)) (k : Known) (items : List Item) (more : List Tx) (told : ℕ)
-    → k.told ≤ told → IsRested terms plan done block set Over k items → IsRested terms plan done block set Over (record k { seen = k.seen ++ more; told = told }) items
-over-more terms plan done block set k items more told later h =
+over-more : (terms : Terms) (plan : FlagPlan) (done : ℕ) (block : BlockView) (set : List (List ℕ)) (k : Known) (items : List Item) (more : List Tx) (told signalled : ℕ) (owes : Bool)
+    → k.told ≤ told → IsRested terms plan done block set Over k items → IsRested terms plan done block set Over (record k { seen = k.seen ++ more; told = told; signalled = signalled; owes = owes }) items
+over-more terms plan done block set k items more told signalled owes later h =
     let s : State = h.state in
     let g : StandsAt terms (record k { seen = k.seen ++ more }) items s = stands-grows terms k more items s h.stands in
     record {
@@ -44,16 +44,19 @@ over-more terms plan done block set k items more told later h =
 over-learned : (terms : Terms) (plan : FlagPlan) (done : ℕ) (block : BlockView) (set : List (List ℕ)) (k q : Known) (items : List Item)
     → HasLearned k q → IsRested terms plan done block set Over k items → IsRested terms plan done block set Over q items
 over-learned terms plan done block set k q items l h =
-    subst (λ (p : Known). IsRested terms plan done block set Over p items) (sym l.known) (over-more terms plan done block set k items l.more k.told (omega arith) h)
+    subst (λ (p : Known). IsRested terms plan done block set Over p items) (sym l.known) (over-more terms plan done block set k items l.more k.told k.signalled k.owes (omega arith) h)
 
 over-heard : (terms : Terms) (plan : FlagPlan) (done : ℕ) (block : BlockView) (set : List (List ℕ)) (from k q : Known) (items : List Item)
     → HasHeard from k q → IsRested terms plan done block set Over k items → IsRested terms plan done block set Over q items
 over-heard terms plan done block set from k q items heard h =
     let told : ℕ = max k.told from.told in
+    let signalled : ℕ = max k.signalled from.signalled in
+    let owes : Bool = owes_after k from.told in
     let rest : List Tx = drop (length k.seen) from.seen in
     let grown : longer k.seen from.seen ++ heard.more ≡ k.seen ++ (rest ++ heard.more) = append_assoc k.seen rest heard.more in
-    let e : q ≡ record k { seen = k.seen ++ (rest ++ heard.more); told = told } = heard.known ∙ ap (λ (seen : List Tx). let p : Known = record k { seen = seen; told = told } in p) grown in
-    subst (λ (p : Known). IsRested terms plan done block set Over p items) (sym e) (over-more terms plan done block set k items (rest ++ heard.more) told (omega arith) h)
+    let e : q ≡ record k { seen = k.seen ++ (rest ++ heard.more); told = told; signalled = signalled; owes = owes } =
+    heard.known ∙ ap (λ (seen : List Tx). let p : Known = record k { seen = seen; told = told; signalled = signalled; owes = owes } in p) grown in
+    subst (λ (p : Known). IsRested terms plan done block set Over p items) (sym e) (over-more terms plan done block set k items (rest ++ heard.more) told signalled owes (omega arith) h)
 
 -- at the end
 over-lawful : (terms : Terms) (plan : FlagPlan) (done : ℕ) (block : BlockView) (set : List (List ℕ)) (k : Known) (items : List Item)
@@ -106,16 +109,16 @@ heard-at_end terms plan done block set doing from k q items over heard h =
 
 -- a read at the end
 over-read : (terms : Terms) (plan : FlagPlan) (done : ℕ) (block : BlockView) (set : List (List ℕ)) (k q : Known) (items after : List Item) (from to : ℕ)
-    → HasReadOn k q set from to items after → k.mark ≡ Some from → IsRested terms plan done block set Over k items → IsRested terms plan done block set Over q after
-over-read terms plan done block set k q items after from to r is_from h =
-    read-rested terms plan done block set Over k q items after from to r h.here.0.dropped is_from
+    → HasReadOn k q set from to items after → k.mark ≡ Some from → IsWithin k → IsRested terms plan done block set Over k items → IsRested terms plan done block set Over q after
+over-read terms plan done block set k q items after from to r is_from known h =
+    read-rested terms plan done block set Over k q items after from to r h.here.0.dropped is_from known
     (record { state = h.state; stands = h.stands; rest = h.rest; channels = h.channels; here = h.here.0 })
 
 pub read-at_end : (terms : Terms) (plan : FlagPlan) (done : ℕ) (block : BlockView) (set : List (List ℕ)) (doing : Doing) (k q : Known) (items after : List Item) (from to : ℕ)
-    → doing ≡ Over → HasReadOn k q set from to items after → k.mark ≡ Some from → IsRested terms plan done block set doing k items → IsRested terms plan done block set doing q after
-read-at_end terms plan done block set doing k q items after from to over r is_from h =
+    → doing ≡ Over → HasReadOn k q set from to items after → k.mark ≡ Some from → IsWithin k → IsRested terms plan done block set doing k items → IsRested terms plan done block set doing q after
+read-at_end terms plan done block set doing k q items after from to over r is_from known h =
     subst (λ (d : Doing). IsRested terms plan done block set d q after) (sym over)
-    (over-read terms plan done block set k q items after from to r is_from (subst (λ (d : Doing). IsRested terms plan done block set d k items) over h))
+    (over-read terms plan done block set k q items after from to r is_from known (subst (λ (d : Doing). IsRested terms plan done block set d k items) over h))
 
 pub lawful-at_end : (shape : Shape) (section : Section) (patience : ℕ) (plan : FlagPlan) (done : ℕ) (block : BlockView) (set : List (List ℕ)) (doing : Doing) (k : Known) (items : List Item) (trace : Trace)
     → trace ≡ record { session = section.no; db = section.db; items = items; last = k.mark } → doing ≡ Over → IsRested (terms_of shape section patience) plan done block set doing k items

@@ -21,7 +21,7 @@ use Rattle.pgn_session.specs.Parts.{HasQuitFrom}
 use Rattle.pgn_session.specs.Standing.{StandsAt, IsEndPair, IsAnswered, IsRested, end_flag}
 use Rattle.pgn_session.specs.Steps.{HasQuitAt}
 use Rattle.pgn_session.proofs.KnownLaws.{stands-grows}
-use Rattle.pgn_session.proofs.BlockLaws.{comes}
+use Rattle.pgn_session.proofs.BlockLaws.{comes, reads-nothing}
 use Rattle.pgn_session.proofs.EndLaws.{is-end}
 
 -- who has quit has left, and may have learned of the journal
@@ -64,7 +64,7 @@ quit-rested terms plan done block set k q items after line lines h e behind does
     let g : StandsAt terms (record k { seen = seen }) items s = stands-grows terms (record k { seen = k.seen ++ l.more }) r.raised.more items s grown in
     let rest : s.rest ≡ line ∷ lines = h.rest ∙ e in
     let one : ComesNext terms (k.seen ++ l.more) s line Quit lines =
-    comes_next-grows terms k.seen l.more s line Quit lines (holds-within terms k.seen items s h.stands.holds).told (comes terms plan done block set k items line Quit lines h e does) in
+    comes_next-grows terms k.seen l.more s line Quit lines (holds-within terms k.seen items s h.stands.holds).told (comes terms plan done block set k items line Quit lines h e does (reads-nothing Quit block.state k refl)) in
     let begins : ComesNext terms seen s line Quit lines =
     comes_next-grows terms (k.seen ++ l.more) r.raised.more s line Quit lines (holds-within terms (k.seen ++ l.more) items s grown.holds).told one in
     let t : State = record s { rest = lines; owed = Nothing; block = Idle; changes = []; set = []; mark = None } in

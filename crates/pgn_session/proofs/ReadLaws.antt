@@ -1,5 +1,5 @@
 -- A read that was made, and a session that need not read.
-use Rattle.std.proofs.Common.{◌≡◌, ◌≢◌, ℕ, ◌≤◌, Bool, true, false, cond, nat_lt, ltb-true, ltb-false, List, [], ◌∷◌, ◌++◌, append_assoc, Option, Some, None, IfSome, Contains, sym, ap, ◌∙◌, refl, subst, arith}
+use Rattle.std.proofs.Common.{◌≡◌, ◌≢◌, ℕ, ◌≤◌, max, Bool, true, false, cond, nat_lt, ltb-true, ltb-false, List, [], ◌∷◌, ◌++◌, append_assoc, Option, Some, None, IfSome, Contains, sym, ap, ◌∙◌, refl, subst, arith}
 use Rattle.std.proofs.lemmas.List.Elements.{All-push, All-contains, Contains-push}
 use Rattle.pgn_base.specs.declared.format.Format.{Format}
 use Rattle.pgn_base.specs.declared.note.Delivery.{Delivery}
@@ -16,6 +16,7 @@ use Rattle.pgn_model.specs.Legal.{IsFullThere}
 use Rattle.pgn_model.specs.laws.NextLine.{StandsFresh, MayReadTo}
 use Rattle.pgn_model.proofs.NextLineLaws.{idle-reads, await-reads, end-reads, no_listener-is_up_to_date, reader-is_up_to_date, quiet-is_up_to_date, finished-more}
 use Rattle.pgn_hub.specs.Calls.{HasLearned, HasWoken}
+use Rattle.pgn_hub.specs.Passes.{IsWithin}
 use Rattle.pgn_block.specs.Views.{BlockView}
 use Rattle.pgn_session.specs.declared.doing.FlagPlan.{FlagPlan}
 use Rattle.pgn_session.specs.declared.doing.Doing.{Doing}
@@ -130,34 +131,46 @@ in_block-rested terms plan done block set doing k items busy h = record {
 -- a read may be shown wherever a session has answered and no block is open
 read-shown : (terms : Terms) (plan : FlagPlan) (block : BlockView) (k : Known) (seen : List Tx) (items : List Item) (s : State) (doing : Doing) (from to : ℕ)
     → StandsFresh terms seen items s → block.state ≡ Idle → HasAnswered terms plan block k s doing → MayReadTo seen s from to
-    → StandsFresh terms seen (items ++ Read from to (due seen from to terms.section.db s.set) ∷ []) (record s { mark = Some to; marks = s.marks ++ to ∷ [] })
+    → StandsFresh terms seen (items ++ Read from to (due seen from to terms.section.db s.set) ∷ []) (record s { mark = Some to; told = max s.told to; marks = s.marks ++ to ∷ [] })
 read-shown terms plan block k seen items s Lines from to h idle a may = idle-reads terms seen items s from to h a.owes (a.block_state ∙ idle) may
 read-shown terms plan block k seen items s (Committing actions notes tag) from to h idle a may = absurd a
 read-shown terms plan block k seen items s (Awaiting flag looks) from to h idle a may = await-reads terms seen items s flag from to h a.0.owes (a.0.block_state ∙ idle) may
 read-shown terms plan block k seen items s (Ending found looks) from to h idle a may = end-reads terms seen items s from to h a.0.owes a.0.done may
 read-shown terms plan block k seen items s Over from to h idle a may = end-reads terms seen items s from to h a.owes a.done may
 
--- the mark moves, and nothing else of where the session stands
-answered-moved : (terms : Terms) (plan : FlagPlan) (block : BlockView) (k : Known) (s : State) (mark : Option ℕ) (marks : List ℕ) (doing : Doing)
-    → HasAnswered terms plan block k s doing → HasAnswered terms plan block k (record s { mark = mark; marks = marks }) doing
-answered-moved terms plan block k s mark marks Lines h = record { owes = h.owes; block_state = h.block_state; list = h.list; tells = record { told = h.tells.told; raised = h.tells.raised; found = h.tells.found }; budget = h.budget; quits_last = h.quits_last }
-answered-moved terms plan block k s mark marks (Committing actions notes tag) h = h
-answered-moved terms plan block k s mark marks (Awaiting flag looks) h =
-    (record { owes = h.0.owes; block_state = h.0.block_state; list = h.0.list; tells = record { told = h.0.tells.told; raised = h.0.tells.raised; found = h.0.tells.found }; budget = h.0.budget; quits_last = h.0.quits_last }, h.1, h.2)
-answered-moved terms plan block k s mark marks (Ending found looks) h =
-    (record { owes = h.0.owes; done = h.0.done; dropped = h.0.dropped; tells = record { told = h.0.tells.told; raised = h.0.tells.raised; found = h.0.tells.found } }, h.1, h.2, h.3)
-answered-moved terms plan block k s mark marks Over h = record { owes = h.owes; done = h.done; dropped = h.dropped; tells = record { told = h.tells.told; raised = h.tells.raised; found = h.tells.found } }
+-- the mark moves, and what was told with it, and nothing else of where the session stands
+answered-moved : (terms : Terms) (plan : FlagPlan) (block : BlockView) (k : Known) (s : State) (to : ℕ) (marks : List ℕ) (doing : Doing)
+    → HasAnswered terms plan block k s doing → HasAnswered terms plan block (record k { told = max k.told to }) (record s { mark = Some to; told = max s.told to; marks = marks }) doing
+answered-moved terms plan block k s to marks Lines h =
+    record { owes = h.owes; block_state = h.block_state; list = h.list; tells = record { told = ap (λ (n : ℕ). max n to) h.tells.told; raised = h.tells.raised; found = h.tells.found }; budget = h.budget; quits_last = h.quits_last }
+answered-moved terms plan block k s to marks (Committing actions notes tag) h = h
+answered-moved terms plan block k s to marks (Awaiting flag looks) h = (
+  record {
+    owes = h.0.owes;
+    block_state = h.0.block_state;
+    list = h.0.list;
+    tells = record { told = ap (λ (n : ℕ). max n to) h.0.tells.told; raised = h.0.tells.raised; found = h.0.tells.found };
+    budget = h.0.budget;
+    quits_last = h.0.quits_last;
+  },
+  h.1,
+  h.2,
+)
+answered-moved terms plan block k s to marks (Ending found looks) h =
+    (record { owes = h.0.owes; done = h.0.done; dropped = h.0.dropped; tells = record { told = omega (arith, h.0.tells.told); raised = h.0.tells.raised; found = h.0.tells.found } }, h.1, h.2, h.3)
+answered-moved terms plan block k s to marks Over h =
+    record { owes = h.owes; done = h.done; dropped = h.dropped; tells = record { told = omega (arith, h.tells.told); raised = h.tells.raised; found = h.tells.found } }
 
 -- a read that moved the mark, and one that did not
 reads : (terms : Terms) (plan : FlagPlan) (done : ℕ) (block : BlockView) (set : List (List ℕ)) (doing : Doing) (k : Known) (more : List Tx) (items : List Item) (from to : ℕ) (b : Bool)
-    → nat_lt from to ≡ b → k.mark ≡ Some from → from ≤ to → k.told ≤ to → to ≤ next_xid (k.seen ++ more) → block.state ≡ Idle → IsAnswered terms plan done block set doing k items
-    → IsRested terms plan done block set doing (record k { seen = k.seen ++ more; mark = Some to; marks = k.marks ++ to ∷ []; owes = false })
+    → nat_lt from to ≡ b → k.mark ≡ Some from → from ≤ k.told → from ≤ to → k.told ≤ to → to ≤ next_xid (k.seen ++ more) → block.state ≡ Idle → IsAnswered terms plan done block set doing k items
+    → IsRested terms plan done block set doing (record k { seen = k.seen ++ more; mark = Some to; told = max k.told to; marks = k.marks ++ to ∷ []; owes = false })
     (cond b (items ++ Read from to (due (k.seen ++ more) from to k.db set) ∷ []) items)
-reads terms plan done block set doing k more items from to true e is_from forward after_told within idle h =
+reads terms plan done block set doing k more items from to true e is_from low forward after_told within idle h =
     let seen : List Tx = k.seen ++ more in
     let s : State = h.state in
-    let after : State = record s { mark = Some to; marks = s.marks ++ to ∷ [] } in
-    let q : Known = record k { seen = seen; mark = Some to; marks = k.marks ++ to ∷ []; owes = false } in
+    let after : State = record s { mark = Some to; told = max s.told to; marks = s.marks ++ to ∷ [] } in
+    let q : Known = record k { seen = seen; mark = Some to; told = max k.told to; marks = k.marks ++ to ∷ []; owes = false } in
     let g : StandsAt terms (record k { seen = seen }) items s = stands-grows terms k more items s h.stands in
     let below : s.told ≤ k.told = told-below terms plan block k s doing h.here in
     let told : k.set ≡ s.set = subst (λ (mark : Option ℕ). IfSome mark (λ _. k.set ≡ s.set)) is_from h.stands.interested in
@@ -169,8 +182,8 @@ reads terms plan done block set doing k more items from to true e is_from forwar
     let shown_so : StandsFresh terms seen (items ++ Read from to (due seen from to k.db set) ∷ []) after =
     subst (λ (got : List Delivery). StandsFresh terms seen (items ++ Read from to got ∷ []) after) same shown in
     let there : HasAnswered terms plan block q after doing =
-    answered-moved terms plan block q s (Some to) (s.marks ++ to ∷ []) doing
-    (answered-same terms plan block k q s doing (record { told = refl; raised = refl; found = refl; notes_left = refl }) h.here) in
+    answered-same terms plan block (record k { told = max k.told to }) q after doing (record { told = refl; raised = refl; found = refl; notes_left = refl })
+    (answered-moved terms plan block k s to (s.marks ++ to ∷ []) doing h.here) in
     record {
       state = after;
       stands = record {
@@ -193,10 +206,10 @@ reads terms plan done block set doing k more items from to true e is_from forwar
       channels = h.channels;
       here = answered-rested terms plan block q after doing there (reader-is_up_to_date terms seen after to refl (omega (arith, below, after_told)));
     }
-reads terms plan done block set doing k more items from to false e is_from forward after_told within idle h =
+reads terms plan done block set doing k more items from to false e is_from low forward after_told within idle h =
     let seen : List Tx = k.seen ++ more in
     let s : State = h.state in
-    let q : Known = record k { seen = seen; mark = Some to; marks = k.marks ++ to ∷ []; owes = false } in
+    let q : Known = record k { seen = seen; mark = Some to; told = max k.told to; marks = k.marks ++ to ∷ []; owes = false } in
     let g : StandsAt terms (record k { seen = seen }) items s = stands-grows terms k more items s h.stands in
     let below : s.told ≤ k.told = told-below terms plan block k s doing h.here in
     let told : k.set ≡ s.set = subst (λ (mark : Option ℕ). IfSome mark (λ _. k.set ≡ s.set)) is_from h.stands.interested in
@@ -221,15 +234,16 @@ reads terms plan done block set doing k more items from to false e is_from forwa
       rest = h.rest;
       channels = h.channels;
       here = answered-rested terms plan block q s doing
-          (answered-same terms plan block k q s doing (record { told = refl; raised = refl; found = refl; notes_left = refl }) h.here)
+          (answered-same terms plan block k q s doing (record { told = omega (arith, low, back, after_told); raised = refl; found = refl; notes_left = refl }) h.here)
           (reader-is_up_to_date terms seen s to at (omega (arith, below, after_told)));
     }
 
 -- a session that has read has rested
 pub read-rested : (terms : Terms) (plan : FlagPlan) (done : ℕ) (block : BlockView) (set : List (List ℕ)) (doing : Doing) (k q : Known) (items after : List Item) (from to : ℕ)
-    → HasReadOn k q set from to items after → block.state ≡ Idle → k.mark ≡ Some from → IsAnswered terms plan done block set doing k items → IsRested terms plan done block set doing q after
-read-rested terms plan done block set doing k q items after from to r idle is_from h =
+    → HasReadOn k q set from to items after → block.state ≡ Idle → k.mark ≡ Some from → IsWithin k → IsAnswered terms plan done block set doing k items → IsRested terms plan done block set doing q after
+read-rested terms plan done block set doing k q items after from to r idle is_from known h =
     let read = r.read in
+    let low : from ≤ k.told = subst (λ (mark : Option ℕ). IfSome mark (λ own. own ≤ k.told)) is_from known.told_of_read in
     let same_from : Some read.from ≡ Some from = sym read.from_mark ∙ is_from in
     let starts : read.from ≡ from = cc in
     let seen : q.seen ≡ k.seen ++ read.more = ap (λ (p : Known). p.seen) read.known in
@@ -240,4 +254,4 @@ read-rested terms plan done block set doing k q items after from to r idle is_fr
     let shown : after ≡ with_read items from to (due (k.seen ++ read.more) from to k.db set) = r.shown ∙ ap (λ (ds : List Delivery). with_read items from to ds) got in
     subst (λ (is : List Item). IsRested terms plan done block set doing q is) (sym shown)
     (subst (λ (p : Known). IsRested terms plan done block set doing p (with_read items from to (due (k.seen ++ read.more) from to k.db set))) (sym read.known)
-    (reads terms plan done block set doing k read.more items from to (nat_lt from to) refl is_from forward read.after_told within idle h))
+    (reads terms plan done block set doing k read.more items from to (nat_lt from to) refl is_from low forward read.after_told within idle h))

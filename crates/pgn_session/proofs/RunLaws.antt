@@ -22,6 +22,7 @@ use Rattle.pgn_session.specs.declared.doing.Step.TheVariants.{Did}
 use Rattle.pgn_session.specs.declared.doing.Doing.{Doing}
 use Rattle.pgn_session.specs.declared.doing.Doing.TheVariants.{Lines, Committing}
 use Rattle.pgn_session.specs.Parts.{HasTaken, HasShownUsage, answered_items, IsToldByBlock}
+use Rattle.pgn_session.specs.FirstRead.{HasReadFor}
 use Rattle.pgn_session.specs.Standing.{terms_of, IsAnswered, IsRested}
 use Rattle.pgn_session.specs.Steps.{ShowsLine, IsWithoutHub, IsNoLine}
 use Rattle.pgn_session.specs.Whole.{ComesWith, HasAnswer, HasRest, HasStepped}
@@ -49,16 +50,16 @@ told-shows k q items line set (effect.Query QueueUsage) h is = absurd h
 told-shows k q items line set (effect.Commit actions notes done) h is = absurd h
 
 -- a line that the block alone answers
-pub told-stepped : {P : Type 0} (shape : Shape) (known : P → Known) (s n : Session P) (line : ℕ) (command : Command) (next : BlockView) (e : Effect) (step : Step) → ComesWith s line (Run command) → s.doing ≡ Lines → HasRest shape known s
+pub told-stepped : {P : Type 0} (shape : Shape) (known : P → Known) (s n : Session P) (line : ℕ) (command : Command) (next : BlockView) (e : Effect) (step : Step) → ComesWith s line (Run command) → s.doing ≡ Lines → HasRest shape known s → HasReadFor (Run command) s.block.state (known s.pass)
     → HasTaken s.block command e next → IsToldByBlock e → n ≡ record s { block = next; items = n.items; done = s.done + 1 } → n.items.items ≡ answered_items s.items.items line s.set.channels e → step ≡ Did → HasStepped shape known s Lines n step
-told-stepped {P} shape known s n line command next e step comes between rested taken told same shown did =
+told-stepped {P} shape known s n line command next e step comes between rested first taken told same shown did =
     let terms : Terms = terms_of shape s.section s.patience in
     let at : IsRested terms s.plan s.done s.block s.set.channels Lines (known s.pass) s.items.items =
     subst (λ (d : Doing). IsRested terms s.plan s.done s.block s.set.channels d (known s.pass) s.items.items) between rested in
     let answers : IsAnswered terms s.plan (s.done + 1) next s.set.channels s.doing (known s.pass) n.items.items =
     subst (λ (d : Doing). IsAnswered terms s.plan (s.done + 1) next s.set.channels d (known s.pass) n.items.items) (sym between)
     (subst (λ (is : List Item). IsAnswered terms s.plan (s.done + 1) next s.set.channels Lines (known s.pass) is) (ap (λ (m : ℕ). answered_items s.items.items m s.set.channels e) comes.number ∙ sym shown)
-    (block-answered terms s.plan s.done s.block next s.set.channels (known s.pass) s.items.items comes.next (drop (s.done + 1) s.section.lines) command e at comes.split refl comes.does taken told)) in
+    (block-answered terms s.plan s.done s.block next s.set.channels (known s.pass) s.items.items comes.next (drop (s.done + 1) s.section.lines) command e at comes.split refl comes.does first taken told)) in
     subst (λ (x : Step). HasStepped shape known s Lines n x) (sym did)
     (line-did shape known s n line (Run command) comes
     (record { section = ap (λ (x : Session P). x.section) same; plan = ap (λ (x : Session P). x.plan) same; patience = ap (λ (x : Session P). x.patience) same })
@@ -71,10 +72,10 @@ told-stepped {P} shape known s n line command next e step comes between rested t
     ))
 
 -- a line that is answered by the queue's usage
-pub usage-stepped : {P : Type 0} (shape : Shape) (known : P → Known) (s n : Session P) (line : ℕ) (command : Command) (next : BlockView) (step : Step) → ComesWith s line (Run command) → s.doing ≡ Lines → HasRest shape known s
+pub usage-stepped : {P : Type 0} (shape : Shape) (known : P → Known) (s n : Session P) (line : ℕ) (command : Command) (next : BlockView) (step : Step) → ComesWith s line (Run command) → s.doing ≡ Lines → HasRest shape known s → HasReadFor (Run command) s.block.state (known s.pass)
     → HasTaken s.block command (effect.Query QueueUsage) next → n ≡ record s { pass = n.pass; block = next; items = n.items; done = s.done + 1 } → HasShownUsage shape (known s.pass) (known n.pass) line s.items.items n.items.items → step ≡ Did
     → HasStepped shape known s Lines n step
-usage-stepped {P} shape known s n line command next step comes between rested taken same used did =
+usage-stepped {P} shape known s n line command next step comes between rested first taken same used did =
     let terms : Terms = terms_of shape s.section s.patience in
     let at : IsRested terms s.plan s.done s.block s.set.channels Lines (known s.pass) s.items.items =
     subst (λ (d : Doing). IsRested terms s.plan s.done s.block s.set.channels d (known s.pass) s.items.items) between rested in
@@ -82,7 +83,7 @@ usage-stepped {P} shape known s n line command next step comes between rested ta
     subst (λ (m : ℕ). HasShownUsage shape (known s.pass) (known n.pass) m s.items.items n.items.items) (sym comes.number) used in
     let answers : IsAnswered terms s.plan (s.done + 1) next s.set.channels s.doing (known n.pass) n.items.items =
     subst (λ (d : Doing). IsAnswered terms s.plan (s.done + 1) next s.set.channels d (known n.pass) n.items.items) (sym between)
-    (usage-answered shape terms s.plan s.done s.block next s.set.channels (known s.pass) (known n.pass) s.items.items n.items.items comes.next (drop (s.done + 1) s.section.lines) command at comes.split refl comes.does taken here refl refl) in
+    (usage-answered shape terms s.plan s.done s.block next s.set.channels (known s.pass) (known n.pass) s.items.items n.items.items comes.next (drop (s.done + 1) s.section.lines) command at comes.split refl comes.does first taken here refl refl) in
     subst (λ (x : Step). HasStepped shape known s Lines n x) (sym did)
     (line-did shape known s n line (Run command) comes
     (record { section = ap (λ (x : Session P). x.section) same; plan = ap (λ (x : Session P). x.plan) same; patience = ap (λ (x : Session P). x.patience) same })
@@ -100,10 +101,10 @@ usage-stepped {P} shape known s n line command next step comes between rested ta
 
 -- a commit that the block has handed out
 pub handed-rested : {P : Type 0} (shape : Shape) (known : P → Known) (s : Session P) (line : ℕ) (command : Command) (next : BlockView) (items : List Item) (actions : List Action) (notes : List Note) (done : Tag)
-    → ComesWith s line (Run command) → s.doing ≡ Lines → HasRest shape known s → HasTaken s.block command (effect.Commit actions notes done) next → items ≡ s.items.items
+    → ComesWith s line (Run command) → s.doing ≡ Lines → HasRest shape known s → HasReadFor (Run command) s.block.state (known s.pass) → HasTaken s.block command (effect.Commit actions notes done) next → items ≡ s.items.items
     → IsRested (terms_of shape s.section s.patience) s.plan s.done next s.set.channels (Committing actions notes done) (known s.pass) items
-handed-rested shape known s line command next items actions notes done comes between rested taken same =
+handed-rested shape known s line command next items actions notes done comes between rested first taken same =
     let terms : Terms = terms_of shape s.section s.patience in
     subst (λ (is : List Item). IsRested terms s.plan s.done next s.set.channels (Committing actions notes done) (known s.pass) is) (sym same)
     (handed-out terms s.plan s.done s.block next s.set.channels (known s.pass) s.items.items comes.next (drop (s.done + 1) s.section.lines) command actions notes done
-    (subst (λ (d : Doing). IsRested terms s.plan s.done s.block s.set.channels d (known s.pass) s.items.items) between rested) comes.split comes.does taken)
+    (subst (λ (d : Doing). IsRested terms s.plan s.done s.block s.set.channels d (known s.pass) s.items.items) between rested) comes.split comes.does first taken)

@@ -39,6 +39,7 @@ use Rattle.pgn_block.specs.declared.effect.Effect.TheVariants as effect
 use Rattle.pgn_session.specs.declared.doing.FlagPlan.{FlagPlan}
 use Rattle.pgn_session.specs.declared.doing.Doing.TheVariants.{Lines}
 use Rattle.pgn_session.specs.Parts.{HasTaken, HasShownUsage}
+use Rattle.pgn_session.specs.FirstRead.{HasReadFor}
 use Rattle.pgn_session.specs.Standing.{StandsAt, HaveSameMembers, IsAnswered, IsRested, spare_of}
 use Rattle.pgn_session.proofs.KnownLaws.{stands-grows, named-holder}
 use Rattle.pgn_session.proofs.BlockLaws.{comes, budget-line}
@@ -112,10 +113,10 @@ may-measure terms shape k q usage told mark r format pages session is after at =
 
 -- the usage was shown
 pub usage-answered : (shape : Shape) (terms : Terms) (plan : FlagPlan) (done : ℕ) (block next : BlockView) (set : List (List ℕ)) (k q : Known) (items after : List Item) (line : ScriptLine) (lines : List ScriptLine) (c : Command)
-    → IsRested terms plan done block set Lines k items → drop done terms.section.lines ≡ line ∷ lines → lines ≡ drop (done + 1) terms.section.lines → line.act ≡ Run c
+    → IsRested terms plan done block set Lines k items → drop done terms.section.lines ≡ line ∷ lines → lines ≡ drop (done + 1) terms.section.lines → line.act ≡ Run c → HasReadFor (Run c) block.state k
     → HasTaken block c (effect.Query QueueUsage) next → HasShownUsage shape k q line.line items after → terms.settings.format ≡ shape.format → terms.settings.limit ≡ shape.pages
     → IsAnswered terms plan (done + 1) next set Lines q after
-usage-answered shape terms plan done block next set k q items after line lines c h e behind does taken u format pages =
+usage-answered shape terms plan done block next set k q items after line lines c h e behind does first taken u format pages =
     let s : State = h.state in
     let r = u.measured in
     let usage : Usage = u.usage in
@@ -130,7 +131,7 @@ usage-answered shape terms plan done block next set k q items after line lines c
     let rest : s.rest ≡ line ∷ lines = h.rest ∙ e in
     let within = holds-within terms k.seen items s h.stands.holds in
     let begins : ComesNext terms seen s line (Run c) lines =
-    comes_next-grows terms k.seen r.more s line (Run c) lines within.told (comes terms plan done block set k items line (Run c) lines h e does) in
+    comes_next-grows terms k.seen r.more s line (Run c) lines within.told (comes terms plan done block set k items line (Run c) lines h e does first) in
     let may : MayMeasure terms seen s.told s.mark usage = subst (λ (txs : List Tx). MayMeasure terms txs s.told s.mark usage) whole
     (may-measure terms shape k q usage s.told s.mark r format pages (h.stands.session) h.stands.mark within.told within.mark) in
     let t : State = record s { rest = lines; owed = Nothing; named = s.named ++ holder_at usage.holder usage.floor_mark } in

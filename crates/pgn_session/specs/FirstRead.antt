@@ -1,29 +1,24 @@
 -- Before which lines a session reads with the set that it has.
-use Rattle.std.specs.Prelude.{◌≡◌, Bool, true, false, List, [], ◌∷◌, drop}
-use Rattle.pgn_base.specs.declared.command.Command.TheVariants.{Listen, Begin, Start}
+use Rattle.std.specs.Prelude.{◌≡◌, true, List, drop}
+use Rattle.pgn_answers.specs.declared.block_state.BlockState.{BlockState}
 use Rattle.pgn_answers.specs.declared.block_state.BlockState.TheVariants.{Idle}
 use Rattle.pgn_hub.specs.declared.known.Known.{Known}
 use Rattle.pgn_language.specs.declared.scenario.Act.{Act}
-use Rattle.pgn_language.specs.declared.scenario.Act.TheVariants.{Run}
-use Rattle.pgn_language.specs.declared.scenario.ScriptLine.{ScriptLine}
 use Rattle.pgn_model.specs.declared.item.Item.{Item}
+use Rattle.pgn_model.specs.Trace.{IsReadUp, reads_first, next_reads_first}
 use Rattle.pgn_session.specs.declared.doing.Doing.TheVariants.{Lines}
 use Rattle.pgn_session.specs.declared.session.Session.{Session}
 use Rattle.pgn_session.specs.Parts.{HasFinished}
 
--- the line listens, or opens a block in which a line may
-abbrev pub reads_first : Act → Bool
-reads_first (Run (Listen channel)) = true
-reads_first (Run Begin) = true
-reads_first (Run Start) = true
-reads_first act = false
+-- the listener has read up to what it was told of
+abbrev pub HasReadTold : Known → Type 0
+HasReadTold k = IsReadUp k.mark k.told
 
--- the first of the lines to come is such a one
-abbrev pub next_reads_first : List ScriptLine → Bool
-next_reads_first [] = false
-next_reads_first (line ∷ lines) = reads_first line.act
+-- outside of a block a listener has read up to what it was told of, if it is to before a line that does this
+abbrev pub HasReadFor : Act → BlockState → Known → Type 0
+HasReadFor act state k = state ≡ Idle → reads_first act ≡ true → HasReadTold k
 
--- the session stands between two lines, no block is open, and such a line comes next
+-- the session stands between two lines, no block is open, and a line comes next that listens or opens a block
 pub record IsToReadFirst {P : Type 0} (s : Session P) : Type 0 where
   pub between : s.doing ≡ Lines
   pub outside : s.block.state ≡ Idle

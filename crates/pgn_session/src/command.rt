@@ -1,6 +1,7 @@
 ghost use Rattle.std.specs.Prelude.{◌≡◌, ◌+◌, ◌≤◌, ◌<◌, List, [], ◌∷◌, ◌++◌, None, drop, length, IfOk, OnOk, OnErr, vec_len, vec_capacity};
 ghost use Rattle.pgn_language.specs.declared.scenario.Act.TheVariants as act;
 ghost use Rattle.pgn_language.specs.declared.scenario.ScriptLine.{ScriptLine};
+ghost use Rattle.pgn_session.specs.FirstRead.{HasReadFor};
 ghost use Rattle.pgn_session.specs.declared.doing.Doing.TheVariants as doing;
 ghost use Rattle.pgn_session.specs.Parts.{HasTaken, HasShownUsage};
 ghost use Rattle.pgn_session.specs.Whole.{HasRest, RestsAt, ComesWith, HasStepped, HasRefused};
@@ -30,6 +31,7 @@ impl<P: PassView + Send + Drop> Session<P> {
         requires place { self.old.doing ≡ doing.Lines }
         requires rested { HasRest (H.shape hub.now) P.known self.old }
         requires comes { ComesWith self.old line (act.Run command) }
+        requires read_first { HasReadFor (act.Run command) self.old.block.state (P.known self.old.pass) }
         requires counted { self.old.done < usize.MAX }
         ensures own { H.is_pass hub.now self.new.pass }
         ensures stepped { IfOk result (λ step. HasStepped (H.shape hub.now) P.known self.old doing.Lines self.new step) }

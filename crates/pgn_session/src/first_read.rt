@@ -1,7 +1,8 @@
 ghost use Rattle.std.specs.Prelude.{◌≡◌, ◌↔◌, drop, IsTrue, OnOk, OnErr};
 ghost use Rattle.pgn_answers.specs.declared.block_state.BlockState.TheVariants.{Idle};
 ghost use Rattle.pgn_hub.specs.Calls.{HasLearned};
-ghost use Rattle.pgn_session.specs.FirstRead.{IsToReadFirst, HasReadFirst, reads_first};
+ghost use Rattle.pgn_model.specs.Trace.{reads_first};
+ghost use Rattle.pgn_session.specs.FirstRead.{IsToReadFirst, HasReadFirst, HasReadTold};
 ghost use Rattle.pgn_session.specs.Parts.{Begins, HasFinished};
 ghost use Rattle.pgn_session.specs.Whole.{HasRest};
 
@@ -30,6 +31,7 @@ impl<P: PassView + Send + Drop> Session<P> {
         ensures same { self.new ≡ record self.old { pass = self.new.pass; items = self.new.items } }
         ensures grows { Begins self.old.items.items self.new.items.items }
         ensures read { OnOk result (HasReadFirst self.old (P.known self.old.pass) (P.known self.new.pass) self.new.items.items) }
+        ensures read_up { OnOk result (IsToReadFirst self.new → HasReadTold (P.known self.new.pass)) }
         ensures refused { OnErr result (HasLearned (P.known self.old.pass) (P.known self.new.pass)) }
         ensures unshown { OnErr result (self.new.items.items ≡ self.old.items.items) }
     {
@@ -50,6 +52,7 @@ impl<P: PassView + Send + Drop> Session<P> {
         ensures rested { HasRest (H.shape hub.now) P.known self.new }
         ensures same { self.new ≡ record self.old { pass = self.new.pass; items = self.new.items } }
         ensures finished { OnOk result (HasFinished (P.known self.old.pass) (P.known self.new.pass) self.old.set.channels self.old.items.items self.new.items.items) }
+        ensures read_up { OnOk result (HasReadTold (P.known self.new.pass)) }
         ensures grows { Begins self.old.items.items self.new.items.items }
         ensures refused { OnErr result (HasLearned (P.known self.old.pass) (P.known self.new.pass)) }
         ensures unshown { OnErr result (self.new.items.items ≡ self.old.items.items) }

@@ -1,6 +1,7 @@
 ghost use Rattle.std.specs.Prelude.{◌≡◌, ◌↔◌, ◌⊎◌, ◌+◌, ◌≤◌, ◌<◌, [], ◌∷◌, Ok, drop, length, IfOk, OnOk, OnErr, vec_len, vec_capacity};
 ghost use Rattle.pgn_language.specs.declared.scenario.Act.TheVariants as act;
 ghost use Rattle.pgn_session.specs.declared.doing.Doing.TheVariants as doing;
+ghost use Rattle.pgn_session.specs.FirstRead.{IsToReadFirst, HasReadTold};
 ghost use Rattle.pgn_session.specs.Standing.{IsServedBy};
 ghost use Rattle.pgn_session.specs.Parts.{Begins};
 ghost use Rattle.pgn_session.specs.Steps.{AnswersLine, BeginsEnd, Waits, Ends, HasMoved, HasTurned, HasWaited, StandsStill};
@@ -33,6 +34,7 @@ impl<P: PassView + Send + Drop> Session<P> {
         requires own { H.is_pass hub.now self.old.pass }
         requires served { IsServedBy (H.shape hub.now) self.old.section self.old.plan }
         requires rested { HasRest (H.shape hub.now) P.known self.old }
+        requires read_first { IsToReadFirst self.old → HasReadTold (P.known self.old.pass) }
         ensures own { H.is_pass hub.now self.new.pass }
         ensures same { IsSameScript self.old self.new }
         ensures answered { OnOk result (HasAnswer (H.shape hub.now) P.known self.new) }
@@ -63,6 +65,7 @@ impl<P: PassView + Send + Drop> Session<P> {
         requires own { H.is_pass hub.now self.old.pass }
         requires served { IsServedBy (H.shape hub.now) self.old.section self.old.plan }
         requires rested { HasRest (H.shape hub.now) P.known self.old }
+        requires read_first { IsToReadFirst self.old → HasReadTold (P.known self.old.pass) }
         ensures own { H.is_pass hub.now self.new.pass }
         ensures stepped { IfOk result (λ step. HasStepped (H.shape hub.now) P.known self.old self.old.doing self.new step) }
         ensures refused { OnErr result (HasRefused (H.shape hub.now) P.known self.old self.old.doing self.new) }
@@ -94,6 +97,7 @@ impl<P: PassView + Send + Drop> Session<P> {
         requires served { IsServedBy (H.shape hub.now) self.old.section self.old.plan }
         requires place { self.old.doing ≡ doing.Lines }
         requires rested { HasRest (H.shape hub.now) P.known self.old }
+        requires read_first { IsToReadFirst self.old → HasReadTold (P.known self.old.pass) }
         ensures own { H.is_pass hub.now self.new.pass }
         ensures stepped { IfOk result (λ step. HasStepped (H.shape hub.now) P.known self.old doing.Lines self.new step) }
         ensures refused { OnErr result (HasRefused (H.shape hub.now) P.known self.old doing.Lines self.new) }
@@ -115,6 +119,7 @@ impl<P: PassView + Send + Drop> Session<P> {
         requires served { IsServedBy (H.shape hub.now) self.old.section self.old.plan }
         requires place { self.old.doing ≡ doing.Lines }
         requires rested { HasRest (H.shape hub.now) P.known self.old }
+        requires read_first { IsToReadFirst self.old → HasReadTold (P.known self.old.pass) }
         requires more { self.old.done < length self.old.section.lines }
         requires counted { self.old.done < usize.MAX }
         ensures own { H.is_pass hub.now self.new.pass }

@@ -86,8 +86,8 @@ tail_tried z v l t w from h lock tried free =
     let named = v.known.named ++ tried.named in
     let after : View → View = λ y. let u : View = stop_known from (head_known y) in freed (record u { stop = t.stop; eye = t.eye; known = record u.known { named = u.known.named ++ tried.named; advance = advance } }) in
     let is : w ≡ after (locked seen v) = free ∙ ap freed tried.view ∙ ap after lock.view in
-    let told : ℕ → Known = λ n. record v.known { seen = seen; told = n; named = named; advance = advance } in
-    let known : w.known ≡ told v.known.told = ap (λ (y : View). y.known) is ∙ ap (λ (o : Option ℕ). told (unwrap_or o v.known.told)) h.rest.told in
+    let told : Option ℕ → Known = λ o. record v.known { seen = seen; told = unwrap_or o v.known.told; signalled = unwrap_or o v.known.signalled; named = named; advance = advance } in
+    let known : w.known ≡ told None = ap (λ (y : View). y.known) is ∙ ap told h.rest.told in
     let post : w.post ≡ v.post = ap (λ (y : View). y.post) is in
     let more = calls-keep_within.learned v.known (record v.known { seen = seen }) (record { more = lock.more; known = refl }) h.within in (
       record {
@@ -99,7 +99,7 @@ tail_tried z v l t w from h lock tried free =
           alone = ap (λ (y : View). y.joined) is ∙ h.rest.alone;
           listens = ap (λ (y : Known). y.mark) known ∙ h.rest.listens ∙ sym (ap listens_at post);
         };
-        within = subst IsWithin (sym known) (record { mark = more.mark; marks = more.marks; first_told = more.first_told; told = more.told; own = more.own; raised = more.raised; found = more.found });
+        within = subst IsWithin (sym known) (record { mark = more.mark; marks = more.marks; first_told = more.first_told; told = more.told; told_of_read = more.told_of_read; told_of_signalled = more.told_of_signalled; own = more.own; raised = more.raised; found = more.found; to_read = more.to_read });
         seated = subst (λ (k : Known). IsSeated z k) (sym known) (record { first = h.seated.first; seat = h.seated.seat });
       },
       record {

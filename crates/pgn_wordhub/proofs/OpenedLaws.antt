@@ -30,9 +30,12 @@ opened_within n seat = record {
   marks = All-nil (λ mark. mark ≤ 3);
   first_told = omega arith;
   told = omega arith;
+  told_of_read = tt;
+  told_of_signalled = omega arith;
   own = All-nil (λ x. x < 3);
   raised = All-nil (IsPairWithin 3);
   found = All-nil (IsPairWithin 3);
+  to_read = λ no. tt;
 }
 
 opened_seated : (z : Shape) (k : ℕ) (s : SeatSetup) → k < length z.seats → IsSeated z (opened_pass (1 + k) (get_or z.seats k s))

@@ -98,6 +98,7 @@ ended_known k notes queued fate x more advance = record k {
   seen = k.seen ++ tx_of k notes queued fate ∷ [];
   own = k.own ++ x ∷ [];
   told = x + 1;
+  signalled = x + 1;
   notes_left = k.notes_left - length notes;
   named = k.named ++ more;
   advance = advance;

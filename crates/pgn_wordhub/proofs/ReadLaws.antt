@@ -1,5 +1,5 @@
 -- A read as a whole, and the joining of a listener.
-use Rattle.std.proofs.Common.{◌≡◌, ℕ, ◌+◌, ◌^◌, ◌<◌, ◌≤◌, false, List, [], ◌∷◌, ◌++◌, length, Some, sym, refl, ap, ◌∙◌, subst, arith}
+use Rattle.std.proofs.Common.{◌≡◌, ℕ, ◌+◌, ◌^◌, ◌<◌, ◌≤◌, max, false, List, [], ◌∷◌, ◌++◌, length, Some, sym, refl, ap, ◌∙◌, subst, arith}
 use Rattle.std.proofs.lemmas.List.{length-append, append_assoc}
 use Rattle.pgn_base.specs.declared.format.Format.{Format}
 use Rattle.pgn_base.specs.declared.note.Delivery.{Delivery}
@@ -89,7 +89,7 @@ pub enlists : (z : Shape) (v a b r w u x : View) (m p n h at : ℕ) (got : Enlis
 enlists z v a b r w u x m p n h at got hub e1 base e3 begun shown e6 is_got =
     let seen : List Tx = v.known.seen ++ base.more ++ begun.more in
     let X : View = record v {
-      known = record v.known { seen = seen; mark = Some n; set = []; marks = v.known.marks ++ m ∷ [] ++ n ∷ []; owes = false };
+      known = record v.known { seen = seen; mark = Some n; told = max v.known.told n; set = []; marks = v.known.marks ++ m ∷ [] ++ n ∷ []; owes = false };
       post = record { listen = Registered; mark = n; at = at };
       walk = record { stage = Still; upto = n; shown = shown.shown };
     } in
@@ -109,7 +109,7 @@ enlists z v a b r w u x m p n h at got hub e1 base e3 begun shown e6 is_got =
     let after : next_xid v.known.seen ≤ n = omega (arith, number, long_w, more) in
     let has : calls.HasEnlisted v.known X.known (record { base = m; point = n }) = record {
       more = base.more ++ begun.more;
-      known = ap (λ (txs : List Tx). let k : Known = record v.known { seen = txs; mark = Some n; set = []; marks = v.known.marks ++ m ∷ [] ++ n ∷ []; owes = false } in k) (append_assoc v.known.seen base.more begun.more);
+      known = ap (λ (txs : List Tx). let k : Known = record v.known { seen = txs; mark = Some n; told = max v.known.told n; set = []; marks = v.known.marks ++ m ∷ [] ++ n ∷ []; owes = false } in k) (append_assoc v.known.seen base.more begun.more);
       first = base.placed.first;
       ordered = omega (arith, placed, long_b, number, long_w, more);
       after_told = omega (arith, told, after);

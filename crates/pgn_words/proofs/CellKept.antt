@@ -116,9 +116,9 @@ stores z c g views id v at x h here opened next page stays low =
       looks = looks_keep views id v w here z.format g.past c.fin c.stop g.looked g.target c.tail h.looks refl refl refl refl;
       wakes = wakes_keep views id v w here z.format c.lock c.fin g.past g.undecided g.concerned c.wakes h.wakes refl refl refl refl refl refl refl (λ i. refl) refl refl;
       interests = interests_keep views id v w here g.concerned c.interests h.interests refl refl refl (λ x. x);
-      flags = flags_keep views id v w here c.fin g.undecided c.flags h.flags refl (h.flags.told id v here) refl refl;
+      flags = flags_keep views id v w here c.fin c.flags h.flags refl (h.flags.told id v here) refl refl;
       named = named_keep views id v w here h.named refl refl refl refl refl;
-      taken = taken_keep views id v w here z g.made c.fin g.undecided g.seat g.past h.taken refl refl;
+      taken = taken_keep views id v w here z g.made c.fin g.seat g.past h.taken refl refl;
     }
   where
     in_open : (z : Shape) (stop : ℕ) (past shown : List Tx) (cells : List ℕ) (j : ℕ) (w : View) → w.phase ≡ Open
@@ -273,9 +273,9 @@ shows z c g views id v to shape h here opened may =
       };
       wakes = wakes_keep views id v w here z.format c.lock c.fin g.past g.undecided g.concerned c.wakes h.wakes refl refl refl refl refl refl refl (λ i. refl) refl refl;
       interests = interests_keep views id v w here g.concerned c.interests h.interests refl refl refl (λ x. x);
-      flags = flags_keep views id v w here c.fin g.undecided c.flags h.flags refl (h.flags.told id v here) refl refl;
+      flags = flags_keep views id v w here c.fin c.flags h.flags refl (h.flags.told id v here) refl refl;
       named = named_keep views id v w here h.named refl refl refl refl refl;
-      taken = taken_keep views id v w here z g.made c.fin g.undecided g.seat g.past h.taken refl refl;
+      taken = taken_keep views id v w here z g.made c.fin g.seat g.past h.taken refl refl;
     }
 
 pub store_head_allowed : (z : Shape) (slots id to : ℕ) (me : Me ℕ View) → me.0.phase ≡ Open → MayShow me.0 to → Allows (Lawful z) slots id me 1 (λ _. to) (λ _. TellsHeadStore (step slots 1 to 0 none) me to)

@@ -66,10 +66,10 @@ all_family : (z : Shape) (c : Content) (g : World) (views : List View) (id : ℕ
 all_family z c g views id v h here positive zero k there =
     let seat = h.seats.seated id v here positive in
     subst (λ (x : Known). IsFamily z g.made c.fin g.seat g.past id x) (same_Some v.known k there)
-    (record { sits = seat.sits; positive = positive; was_made = seat.was_made; db_is = seat.db_is; sees = h.history.sees id v here; owns = h.history.owns id v here; own_seen = h.history.own_seen id v here; told = (h.wakes.heard id v here).most })
+    (record { sits = seat.sits; positive = positive; was_made = seat.was_made; db_is = seat.db_is; sees = h.history.sees id v here; owns = h.history.owns id v here; own_seen = h.history.own_seen id v here; told = (h.flags.told id v here).finished })
 all_family z c g views id v h here positive (suc i) k there =
-    let t = at_all (IsTaken z g.made c.fin g.undecided g.seat g.past id v.known.session) v.joined i k (h.taken id v here) there in
-    record { sits = t.sits; positive = t.positive; was_made = t.was_made; db_is = t.db_is; sees = t.sees; owns = t.owns; own_seen = t.own_seen; told = t.heard.most }
+    let t = at_all (IsTaken z g.made c.fin g.seat g.past id v.known.session) v.joined i k (h.taken id v here) there in
+    record { sits = t.sits; positive = t.positive; was_made = t.was_made; db_is = t.db_is; sees = t.sees; owns = t.owns; own_seen = t.own_seen; told = t.told }
 
 -- a list of a list for each
 flat_has : (f : Known → List (ℕ × ℕ)) (ks : List Known) (i : ℕ) (k : Known) (p : ℕ × ℕ) → slice_get ks i ≡ Some k → Contains (f k) p → Contains (flat_map f ks) p

@@ -29,7 +29,7 @@ use Rattle.pgn_words.specs.declared.view.Look.TheVariants.{Idle, First, Second}
 use Rattle.pgn_words.specs.Positions.{mark_in, place_in}
 use Rattle.pgn_words.specs.ListenRule.{Placed, Marks, ShowsPosition, LookIn, LooksBy, Spared}
 use Rattle.pgn_words.specs.declared.view.Verdict.TheVariants.{Unseen}
-use Rattle.pgn_words.specs.WakeRule.{served, passed, Covered, Deems, IsHeard, IsHeeded, Heeds, Signals, ended_in, pending, waits_in, raised_in, found_in, Raised, IsMost, IsTaken}
+use Rattle.pgn_words.specs.WakeRule.{served, passed, Covered, Deems, IsHeard, IsHeeded, IsTold, Heeds, Signals, ended_in, pending, waits_in, raised_in, found_in, Raised, IsMost, IsTaken}
 use Rattle.pgn_words.specs.Rule.{World, KnowsStop, Draws, Holds, IsEnding, WasMade, Fates, Law, Lawful, Keeps, Budget, notes_of, status_at}
 use Rattle.pgn_words.specs.Told.{TellsFinStore, fin_stored}
 use Rattle.pgn_words.proofs.EachLaws.{each_turn, each_keep, changed_at, sum_set, own_further}
@@ -159,8 +159,8 @@ finishes z c g views id v shape h here ended =
             (heeds_still id v here (h.wakes.heeds id v here)) (λ j u other there p. heeds_still j u there p);
         signals = each_turn (Signals g.undecided) (Signals all) views id w h.wakes.signals (λ _ i. ap (λ (y : Shape). waits_in (replicate (seats_of y) Unseen) i) (sym setup)) (λ j u other there p also. absurd (gone j u other there also));
         calm = λ nobody. let is = locked.1 in let positive = locked.2 in absurd (omega (arith, nobody, is, positive));
-        heard = each_turn (λ _ u. IsHeard c.fin g.undecided u.known.told) (λ _ u. IsHeard (c.fin + 1) all u.known.told) views id w h.wakes.heard
-            (heard_still v.known.told (h.wakes.heard id v here)) (λ j u other there p. heard_still u.known.told p);
+        heard = each_turn (λ _ u. IsHeard c.fin g.undecided u.known.signalled) (λ _ u. IsHeard (c.fin + 1) all u.known.signalled) views id w h.wakes.heard
+            (heard_still v.known.signalled (h.wakes.heard id v here)) (λ j u other there p. heard_still u.known.signalled p);
         ended = each_turn (λ _ u. u.ended ≡ ended_in u.phase c.fin) (λ _ u. u.ended ≡ ended_in u.phase (c.fin + 1)) views id w h.wakes.ended
             (let long : length v.known.seen ≡ length g.past = ap length was.seen_is in let next : next_xid v.known.seen + 1 ≡ c.fin + 1 = omega (arith, long, counted) in ap (λ (n : ℕ). Some n) next)
             (λ j u other there p. p ∙ ap (λ q. ended_in q c.fin) (free_holds u.phase (gone j u other there)) ∙ sym (ap (λ q. ended_in q (c.fin + 1)) (free_holds u.phase (gone j u other there))));
@@ -172,19 +172,20 @@ finishes z c g views id v shape h here ended =
             (λ j u other there p. subst (λ (q : Phase). Deems q may u.concerned) (sym (free_holds u.phase (gone j u other there))) tt);
       };
       flags = record {
-        heard = λ f. heard_still (get_or c.flags f 0) (h.flags.heard f);
-        told = each_keep (λ _ u. 3 ≤ u.known.told) views id v w here h.flags.told (λ p. p);
+        finished = λ f. let low = h.flags.finished f in omega (arith, low);
+        told = each_turn (λ _ u. IsTold c.fin u.known.told u.known.signalled) (λ _ u. IsTold (c.fin + 1) u.known.told u.known.signalled) views id w h.flags.told
+            (told_still c.fin v.known.told v.known.signalled (h.flags.told id v here)) (λ j u other there p. told_still c.fin u.known.told u.known.signalled p);
         most = each_keep (λ _ u. All (IsMost c.flags) (raised_in u)) views id v w here h.flags.most (λ p. p);
         source = λ f. ⊎_elim (λ none. inl none) (λ r. inr (raised_keep views id v w here (f, get_or c.flags f 0) refl refl r)) (h.flags.source f);
         found = λ j u there. All-weaker (Raised views) (Raised (set views id w)) (λ x r. raised_keep views id v w here x refl refl r) (found_in u)
             (each_keep (λ _ x. All (Raised views) (found_in x)) views id v w here h.flags.found (λ p. p) j u there);
       };
       named = named_keep views id v w here h.named refl refl refl refl refl;
-      taken = each_turn (λ j u. All (IsTaken z g.made c.fin g.undecided g.seat g.past j u.known.session) u.joined) (λ j u. All (IsTaken z g.made (c.fin + 1) all g.seat now j u.known.session) u.joined) views id w h.taken
-          (All-weaker (IsTaken z g.made c.fin g.undecided g.seat g.past id v.known.session) (IsTaken z g.made (c.fin + 1) all g.seat now id v.known.session)
-          (λ k p. gone_later z g.made c.fin g.undecided all g.seat g.past tx id v.known.session k p (λ same. p.other (sym same ∙ was.session_is))) v.joined (h.taken id v here))
-          (λ j u other there all_gone. All-weaker (IsTaken z g.made c.fin g.undecided g.seat g.past j u.known.session) (IsTaken z g.made (c.fin + 1) all g.seat now j u.known.session)
-          (λ k p. gone_later z g.made c.fin g.undecided all g.seat g.past tx j u.known.session k p (λ same. other (sym p.sits ∙ ap g.seat (sym same ∙ was.session_is) ∙ seated.sits))) u.joined all_gone);
+      taken = each_turn (λ j u. All (IsTaken z g.made c.fin g.seat g.past j u.known.session) u.joined) (λ j u. All (IsTaken z g.made (c.fin + 1) g.seat now j u.known.session) u.joined) views id w h.taken
+          (All-weaker (IsTaken z g.made c.fin g.seat g.past id v.known.session) (IsTaken z g.made (c.fin + 1) g.seat now id v.known.session)
+          (λ k p. gone_later z g.made c.fin g.seat g.past tx id v.known.session k p (λ same. p.other (sym same ∙ was.session_is))) v.joined (h.taken id v here))
+          (λ j u other there all_gone. All-weaker (IsTaken z g.made c.fin g.seat g.past j u.known.session) (IsTaken z g.made (c.fin + 1) g.seat now j u.known.session)
+          (λ k p. gone_later z g.made c.fin g.seat g.past tx j u.known.session k p (λ same. other (sym p.sits ∙ ap g.seat (sym same ∙ was.session_is) ∙ seated.sits))) u.joined all_gone);
     }
   where
     look_grows : (look : Look) (format : Format) (past more : List Tx) (fin fin' looked target tail : ℕ) (eye : Eye) → fin ≡ next_xid past → fin ≤ fin'
@@ -220,9 +221,12 @@ finishes z c g views id v shape h here ended =
         let differs : tx.session == session ≡ false = grind (arith, nat_tests, other) in
         is ∙ sym (append-nil (xids_of session past)) ∙ ap (λ b. xids_of session past ++ cond b (next_xid past ∷ []) []) (sym differs) ∙ sym (xids_go_on.one session past tx)
 
-    gone_later : (z : Shape) (made fin : ℕ) (undecided all : ℕ → Bool) (seat : ℕ → ℕ) (past : List Tx) (tx : Tx) (j session : ℕ) (k : Known) → IsTaken z made fin undecided seat past j session k → (tx.session ≡ k.session → ⊥)
-        → IsTaken z made (fin + 1) all seat (past ++ tx ∷ []) j session k
-    gone_later z made fin undecided all seat past tx j session k p other = record {
+    told_still : (fin told signalled : ℕ) → IsTold fin told signalled → IsTold (fin + 1) told signalled
+    told_still fin told signalled p = record { first = p.first; below = p.below; finished = let low = p.finished in omega (arith, low) }
+
+    gone_later : (z : Shape) (made fin : ℕ) (seat : ℕ → ℕ) (past : List Tx) (tx : Tx) (j session : ℕ) (k : Known) → IsTaken z made fin seat past j session k → (tx.session ≡ k.session → ⊥)
+        → IsTaken z made (fin + 1) seat (past ++ tx ∷ []) j session k
+    gone_later z made fin seat past tx j session k p other = record {
       sits = p.sits;
       positive = p.positive;
       was_made = p.was_made;
@@ -231,7 +235,7 @@ finishes z c g views id v shape h here ended =
       sees = begins-on k.seen past (past ++ tx ∷ []) p.sees (begins-continued past (tx ∷ []));
       own_seen = p.own_seen;
       owns = own_stays k.session k.own past tx p.owns other;
-      heard = record { most = let most = p.heard.most in omega (arith, most); decided = λ i waits. let most = p.heard.most in omega (arith, most) };
+      told = let low = p.told in omega (arith, low);
     }
 
 -- a transaction that has ended counts among those that may be sent

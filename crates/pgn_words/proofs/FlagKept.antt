@@ -1,6 +1,6 @@
 -- The steps on flags keep the rule.
 use Rattle.std.specs.Prelude.{Contains, flat_map}
-use Rattle.std.proofs.Common.{◌≡◌, ◌≢◌, ◌⊎◌, inl, inr, ⊎_elim, ℕ, zero, suc, ◌+◌, ◌<◌, ◌≤◌, max, Bool, true, false, List, [], ◌∷◌, ◌++◌, length, drop, get_or, set, Option, Some, None, All, sym, refl, ap, ◌∙◌, subst, arith, true≢false, length-set, get_or-set_other, get_or-set_same}
+use Rattle.std.proofs.Common.{◌≡◌, ◌≢◌, ◌⊎◌, inl, inr, ⊎_elim, ℕ, zero, suc, ◌+◌, ◌<◌, ◌≤◌, nat_lt, max, Bool, true, false, ◌&&◌, ◌||◌, is_some, List, [], ◌∷◌, ◌++◌, length, drop, get_or, set, Option, Some, None, All, sym, refl, ap, ◌∙◌, subst, arith, true≢false, length-set, get_or-set_other, get_or-set_same}
 use Rattle.std.proofs.lemmas.List.Elements.{All-nil, All-cons, All-head, All-tail, All-weaker, All-contains}
 use mathlib.Core.Option.{some, none}
 use lib.ListN.{get_elem?}
@@ -12,15 +12,16 @@ use Rattle.pgn_journal.proofs.BeginsLaws.{begins-itself, begins-shorter}
 use Rattle.pgn_journal.specs.Journal.{next_xid, xids_of}
 use Rattle.pgn_journal.specs.Packing.{page_start}
 use Rattle.pgn_hub.specs.Shape.{Shape, IsShape, notes_of_seats}
+use Rattle.pgn_hub.specs.Calls.{owes_after}
 use Rattle.pgn_words.specs.declared.view.View.{View}
 use Rattle.pgn_words.specs.Words.{Content, row, room_of, flags_at}
 use Rattle.pgn_words.specs.Views.{holds_lock}
 use Rattle.pgn_words.specs.Waking.{raised, TellsRaised, HasFoundNone, HasFound, TellsLooked}
-use Rattle.pgn_words.specs.WakeRule.{IsHeard, Signals, ended_in, raised_in, found_in, Raised, IsMost}
+use Rattle.pgn_words.specs.WakeRule.{IsHeard, IsTold, Signals, ended_in, raised_in, found_in, Raised, IsMost}
 use Rattle.pgn_words.specs.Rule.{World, HoldsIn, KnowsStop, Holds, Law, Lawful, Keeps, KnowsAll}
 use Rattle.pgn_words.proofs.EachLaws.{each_turn, each_keep, changed_at, own_further}
 use Rattle.pgn_words.proofs.Frames.{seats_keep, locking_keep, numbers_keep, budget_keep, statuses_keep, history_keep}
-use Rattle.pgn_words.proofs.MoreFrames.{someone_keep, posts_keep, walks_keep, looks_keep, heeds_keep, wakes_keep, interests_keep, named_keep, taken_keep}
+use Rattle.pgn_words.proofs.MoreFrames.{someone_keep, posts_keep, walks_keep, looks_keep, heeds_owing, wakes_keep, interests_keep, named_keep, taken_keep}
 use Rattle.pgn_words.proofs.LockKept.{setup_of, few_left, others_hold}
 use Rattle.pgn_words.proofs.StatusKept.{holder_sees}
 use Rattle.pgn_words.proofs.RowLaws.{set_flag_word, get_flag_word}
@@ -60,10 +61,10 @@ raises z c g views id v f x h here positive within is =
     let w : View = raised f v in
     let told = v.known.told in
     let n : ℕ = get_or c.flags f 0 in
-    let first : 3 ≤ told = h.flags.told id v here in
+    let mine_told = h.flags.told id v here in
+    let first : 3 ≤ told = let low = mine_told.first in let below = mine_told.below in omega (arith, low, below) in
     let up : n ≤ x = omega (arith, is) in
-    let heard = h.wakes.heard id v here in
-    let heard_x : IsHeard c.fin g.undecided x = let a = h.flags.heard f in record { most = let p = a.most in let q = heard.most in omega (arith, p, q, is); decided = λ i waits. let p = a.decided i waits in let q = heard.decided i waits in omega (arith, p, q, is) } in
+    let finished_x : x ≤ c.fin = let p = h.flags.finished f in let q = mine_told.finished in omega (arith, p, q, is) in
     let rest : List (ℕ × ℕ) = flat_map (λ k. k.raised) v.joined in
     let still : (pair : ℕ × ℕ) → Raised views pair → Raised (set views id w) pair = λ pair r. someone_keep views id v w here (λ u. Contains (raised_in u) pair) refl (λ p. contains_more v.known.raised rest (f, told) pair p) r in
     let mine : Raised (set views id w) (f, told) = (id, w, changed_at views id v w here, positive, contains_this v.known.raised rest (f, told)) in
@@ -87,8 +88,8 @@ raises z c g views id v f x h here positive within is =
       wakes = wakes_keep views id v w here z.format c.lock c.fin g.past g.undecided g.concerned c.wakes h.wakes refl refl refl refl refl refl refl (λ i. refl) refl refl;
       interests = interests_keep views id v w here g.concerned c.interests h.interests refl refl refl (λ x. x);
       flags = record {
-        heard = λ e. flag_at c.flags f e x within (ℕ_discrete e f) (λ y. IsHeard c.fin g.undecided y) (λ _. heard_x) (λ _. h.flags.heard e);
-        told = each_keep (λ _ u. 3 ≤ u.known.told) views id v w here h.flags.told (λ y. y);
+        finished = λ e. flag_at c.flags f e x within (ℕ_discrete e f) (λ y. y ≤ c.fin) (λ _. finished_x) (λ _. h.flags.finished e);
+        told = each_keep (λ _ u. IsTold c.fin u.known.told u.known.signalled) views id v w here h.flags.told (λ y. y);
         most = each_turn (λ _ u. All (IsMost c.flags) (raised_in u)) (λ _ u. All (IsMost (set c.flags f x)) (raised_in u)) views id w h.flags.most
             (all_more (IsMost (set c.flags f x)) v.known.raised rest (f, told) (All-weaker (IsMost c.flags) (IsMost (set c.flags f x)) grown (raised_in v) (h.flags.most id v here)) top)
             (λ j u other there all. All-weaker (IsMost c.flags) (IsMost (set c.flags f x)) grown (raised_in u) all);
@@ -99,7 +100,7 @@ raises z c g views id v f x h here positive within is =
             (each_keep (λ _ y. All (Raised views) (found_in y)) views id v w here h.flags.found (λ y. y) j u there);
       };
       named = named_keep views id v w here h.named refl refl refl refl refl;
-      taken = taken_keep views id v w here z g.made c.fin g.undecided g.seat g.past h.taken refl refl;
+      taken = taken_keep views id v w here z g.made c.fin g.seat g.past h.taken refl refl;
     }
   where
     source_of : (e : ℕ) → e ≡ f → Dec (get_or c.flags f 0 ≤ v.known.told) → (x ≡ 0) ⊎ Raised (set views id (raised f v)) (e, x)
@@ -137,13 +138,13 @@ raise_flag_allowed z slots id word flag told me positive there room is =
     })
 
 -- the pass, once it has looked at a flag
-abbrev pub flag_seen : List Tx → ℕ → List (ℕ × ℕ) → Option (ℕ × Option ℕ) → View → View
-flag_seen txs told found look v = record v { known = record v.known { seen = txs; told = told; found = found; looks = v.known.looks + 1; flag_look = look } }
+abbrev pub flag_seen : List Tx → ℕ → Bool → List (ℕ × ℕ) → Option (ℕ × Option ℕ) → View → View
+flag_seen txs told owes found look v = record v { known = record v.known { seen = txs; told = told; owes = owes; found = found; looks = v.known.looks + 1; flag_look = look } }
 
-looks_at : (z : Shape) (c : Content) (g : World) (views : List View) (id : ℕ) (v : View) (told : ℕ) (found : List (ℕ × ℕ)) (look : Option (ℕ × Option ℕ)) → Law z c g views → get_elem? views id ≡ some v
-    → IsHeard c.fin g.undecided told → 3 ≤ told → All (Raised views) (found ++ flat_map (λ k. k.found) v.joined) → Law z c g (set views id (flag_seen g.past told found look v))
-looks_at z c g views id v told found look h here heard first raised_all =
-    let w : View = flag_seen g.past told found look v in
+looks_at : (z : Shape) (c : Content) (g : World) (views : List View) (id : ℕ) (v : View) (told : ℕ) (owes : Bool) (found : List (ℕ × ℕ)) (look : Option (ℕ × Option ℕ)) → Law z c g views → get_elem? views id ≡ some v
+    → IsTold c.fin told v.known.signalled → (v.known.owes ≡ true → owes ≡ true) → All (Raised views) (found ++ flat_map (λ k. k.found) v.joined) → Law z c g (set views id (flag_seen g.past told owes found look v))
+looks_at z c g views id v told owes found look h here now owed raised_all =
+    let w : View = flag_seen g.past told owes found look v in
     let still : (pair : ℕ × ℕ) → Raised views pair → Raised (set views id w) pair = λ pair r. someone_keep views id v w here (λ u. Contains (raised_in u) pair) refl (λ p. p) r in record {
       laid = h.laid;
       seats = seats_keep views id v w here z g.made g.seat h.seats refl refl refl refl;
@@ -174,30 +175,36 @@ looks_at z c g views id v told found look h here heard first raised_all =
       looks = looks_keep views id v w here z.format g.past c.fin c.stop g.looked g.target c.tail h.looks refl refl refl refl;
       wakes = record {
         small = h.wakes.small;
-        heeds = heeds_keep views id v w here z.format g.past c.fin g.undecided g.concerned c.wakes h.wakes.heeds refl refl refl refl refl;
+        heeds = heeds_owing views id v w here z.format g.past c.fin g.undecided g.concerned c.wakes h.wakes.heeds refl refl refl refl owed;
         signals = each_keep (Signals g.undecided) views id v w here h.wakes.signals (λ y. y);
         calm = h.wakes.calm;
-        heard = each_keep (λ _ u. IsHeard c.fin g.undecided u.known.told) views id v w here h.wakes.heard (λ _. heard);
+        heard = each_keep (λ _ u. IsHeard c.fin g.undecided u.known.signalled) views id v w here h.wakes.heard (λ y. y);
         ended = each_keep (λ _ u. u.ended ≡ ended_in u.phase c.fin) views id v w here h.wakes.ended (λ y. y);
       };
       interests = interests_keep views id v w here g.concerned c.interests h.interests refl refl refl (λ x. x);
       flags = record {
-        heard = h.flags.heard;
-        told = each_keep (λ _ u. 3 ≤ u.known.told) views id v w here h.flags.told (λ _. first);
+        finished = h.flags.finished;
+        told = each_keep (λ _ u. IsTold c.fin u.known.told u.known.signalled) views id v w here h.flags.told (λ _. now);
         most = each_keep (λ _ u. All (IsMost c.flags) (raised_in u)) views id v w here h.flags.most (λ y. y);
         source = λ e. ⊎_elim (λ none_raised. inl none_raised) (λ r. inr (still (e, get_or c.flags e 0) r)) (h.flags.source e);
         found = λ j u there. All-weaker (Raised views) (Raised (set views id w)) (λ pair r. still pair r) (found_in u)
             (each_turn (λ _ y. All (Raised views) (found_in y)) (λ _ y. All (Raised views) (found_in y)) views id w h.flags.found raised_all (λ k y other theirs all. all) j u there);
       };
       named = named_keep views id v w here h.named refl refl refl refl refl;
-      taken = taken_keep views id v w here z g.made c.fin g.undecided g.seat g.past h.taken refl refl;
+      taken = taken_keep views id v w here z g.made c.fin g.seat g.past h.taken refl refl;
     }
   where
-    by_lock : (b : Bool) → holds_lock v.phase ≡ b → Holds z c.stop g.past g.shown c.cells id v → Holds z c.stop g.past g.shown c.cells id (flag_seen g.past told found look v)
+    by_lock : (b : Bool) → holds_lock v.phase ≡ b → Holds z c.stop g.past g.shown c.cells id v → Holds z c.stop g.past g.shown c.cells id (flag_seen g.past told owes found look v)
     by_lock true e y =
         let same : v.known.seen ≡ g.past = holder_sees v.phase z (λ log. Keeps (room_of z) (page_start c.stop) log c.cells) g.past g.shown v.known.seen v.known.session v.known.db v.pen e y in
         subst (λ (xs : List Tx). HoldsIn v.phase z.format (λ log. Keeps (room_of z) (page_start c.stop) log c.cells) g.past g.shown xs v.known.session v.known.db v.pen) same y
-    by_lock false e y = others_hold z c.stop g.past g.shown c.cells id (flag_seen g.past told found look v) (λ held. true≢false (sym held ∙ e))
+    by_lock false e y = others_hold z c.stop g.past g.shown c.cells id (flag_seen g.past told owes found look v) (λ held. true≢false (sym held ∙ e))
+
+-- who finds no flag owes what he owed
+owes_as_before : (owes listens : Bool) (told : ℕ) → owes ≡ (owes || (listens && nat_lt told 0))
+owes_as_before true listens told = refl
+owes_as_before false true told = refl
+owes_as_before false false told = refl
 
 -- a number that was raised or found for a flag is at most what its word holds
 raised_low : (z : Shape) (c : Content) (g : World) (views : List View) (pair : ℕ × ℕ) → Law z c g views → Raised views pair → (3 ≤ pair.1) × (pair.1 ≤ get_or c.flags pair.0 0)
@@ -225,7 +232,7 @@ look_flag_allowed z slots id word flag me positive there room =
         → Goes z id word me (get_or c.flags flag 0) (TellsLooked (step slots word 0 0 none) me) c views
     by_number shape c g views h here within found (yes none_raised) =
         let v = me.0 in
-        let w : View = flag_seen g.past v.known.told v.known.found (Some (flag, None)) v in
+        let w : View = flag_seen g.past v.known.told v.known.owes v.known.found (Some (flag, None)) v in
         let raised_mine : All (Raised views) v.known.found = all_front (Raised views) v.known.found (flat_map (λ k. k.found) v.joined) (h.flags.found id v here) in
         let most_mine : All (IsMost c.flags) v.known.raised = all_front (IsMost c.flags) v.known.raised (flat_map (λ k. k.raised) v.joined) (h.flags.most id v here) in
         let unraised : (pair : ℕ × ℕ) → (3 ≤ pair.1) × (pair.1 ≤ get_or c.flags pair.0 0) → pair.0 ≢ flag = λ pair low same. let a = low.0 in let b = low.1 in let e : get_or c.flags pair.0 0 ≡ 0 = ap (λ k. get_or c.flags k 0) same ∙ none_raised in omega (arith, a, b, e) in record {
@@ -233,12 +240,12 @@ look_flag_allowed z slots id word flag me positive there room =
           content = c;
           world = g;
           moves = keeps_words c found;
-          law = looks_at z c g views id v v.known.told v.known.found (Some (flag, None)) h here (h.wakes.heard id v here) (h.flags.told id v here) (h.flags.found id v here);
+          law = looks_at z c g views id v v.known.told v.known.owes v.known.found (Some (flag, None)) h here (h.flags.told id v here) (λ o. o) (h.flags.found id v here);
           told = subst (λ (k : ℕ). TellsLooked (step slots word 0 0 none) me k (w, me.1)) (sym (found ∙ none_raised)) (record {
             slots = refl;
             none = λ other is _. subst (λ (f : ℕ). HasFoundNone v f w) (flag_is c g views other h here is) (record {
               more = drop (length v.known.seen) g.past;
-              view = ap (λ (xs : List Tx). flag_seen xs v.known.told v.known.found (Some (flag, None)) v) (learned_more z c g views id v h here);
+              view = ap (λ (xs : List Tx). flag_seen xs v.known.told v.known.owes v.known.found (Some (flag, None)) v) (learned_more z c g views id v h here);
               not_raised = All-weaker (IsMost c.flags) (λ (pair : ℕ × ℕ). pair.0 ≢ flag) unraised v.known.raised most_mine;
               not_found = All-weaker (Raised views) (λ (pair : ℕ × ℕ). pair.0 ≢ flag) (λ pair r. unraised pair (raised_low z c g views pair h r)) v.known.found raised_mine;
             });
@@ -246,6 +253,7 @@ look_flag_allowed z slots id word flag me positive there room =
             first = λ some_number. absurd (some_number refl);
             low = omega arith;
             told = omega arith;
+            owes = owes_as_before v.known.owes (is_some v.known.mark) v.known.told;
             same = record { setup = refl; session = refl; db = refl; mark = refl; told = refl; left = refl; owes = refl; ended = refl; base = refl; at = refl };
           });
         }
@@ -253,12 +261,13 @@ look_flag_allowed z slots id word flag me positive there room =
         let v = me.0 in
         let n : ℕ = get_or c.flags flag 0 in
         let told : ℕ = max v.known.told n in
-        let w : View = flag_seen g.past told (v.known.found ++ (flag, n) ∷ []) (Some (flag, Some n)) v in
+        let owes : Bool = owes_after v.known n in
+        let w : View = flag_seen g.past told owes (v.known.found ++ (flag, n) ∷ []) (Some (flag, Some n)) v in
         let raiser : Raised views (flag, n) = ⊎_elim (λ none_raised. absurd (some_raised none_raised)) (λ r. r) (h.flags.source flag) in
         let low = raised_low z c g views (flag, n) h raiser in
-        let heard_n = h.flags.heard flag in
-        let heard = h.wakes.heard id v here in
-        let heard_both : IsHeard c.fin g.undecided told = record { most = let a = heard.most in let b = heard_n.most in omega (arith, a, b); decided = λ i waits. let a = heard.decided i waits in let b = heard_n.decided i waits in omega (arith, a, b) } in
+        let finished_n = h.flags.finished flag in
+        let now : IsTold c.fin told v.known.signalled =
+        let t = h.flags.told id v here in let below = t.below in let finished = t.finished in record { first = t.first; below = omega (arith, below); finished = omega (arith, finished, finished_n) } in
         let counted = h.history.counted in
         let left = few_left z g.made g.past views id v h.budget here h.history.finished (setup_of z c g views id v h here positive) in
         let all : notes_of_seats v.setup.seats ≤ 1048575 = let few = shape.few_notes in subst (λ (y : Shape). notes_of_seats y.seats ≤ 1048575) (sym (setup_of z c g views id v h here positive)) few in
@@ -269,22 +278,23 @@ look_flag_allowed z slots id word flag me positive there room =
           content = c;
           world = g;
           moves = keeps_words c found;
-          law = looks_at z c g views id v told (v.known.found ++ (flag, n) ∷ []) (Some (flag, Some n)) h here heard_both (let first = h.flags.told id v here in omega (arith, first))
+          law = looks_at z c g views id v told owes (v.known.found ++ (flag, n) ∷ []) (Some (flag, Some n)) h here now (λ owed. ap (λ b. b || (is_some v.known.mark && nat_lt v.known.told n)) owed)
               (all_more (Raised views) v.known.found (flat_map (λ k. k.found) v.joined) (flag, n) (h.flags.found id v here) raiser);
           told = subst (λ (k : ℕ). TellsLooked (step slots word 0 0 none) me k (w, me.1)) (sym found) (record {
             slots = refl;
             none = λ other is none_raised. absurd (some_raised none_raised);
             found = λ other is _. subst (λ (f : ℕ). HasFound v f n w) (flag_is c g views other h here is) (record {
               more = drop (length v.known.seen) g.past;
-              view = ap (λ (xs : List Tx). flag_seen xs told (v.known.found ++ (flag, n) ∷ []) (Some (flag, Some n)) v) (learned_more z c g views id v h here);
+              view = ap (λ (xs : List Tx). flag_seen xs told owes (v.known.found ++ (flag, n) ∷ []) (Some (flag, Some n)) v) (learned_more z c g views id v h here);
               first = low.0;
-              within = let most = heard_n.most in omega (arith, most, counted);
+              within = omega (arith, finished_n, counted);
               after_raised = All-weaker (IsMost c.flags) (λ (pair : ℕ × ℕ). pair.0 ≡ flag → pair.1 ≤ n) no_greater v.known.raised most_mine;
               after_found = All-weaker (Raised views) (λ (pair : ℕ × ℕ). pair.0 ≡ flag → pair.1 ≤ n) (λ pair r. no_greater pair (raised_low z c g views pair h r)) v.known.found raised_mine;
             });
             first = λ _. low.0;
-            low = let most = heard_n.most in omega (arith, most, counted, left, all);
+            low = omega (arith, finished_n, counted, left, all);
             told = refl;
+            owes = refl;
             same = record { setup = refl; session = refl; db = refl; mark = refl; told = refl; left = refl; owes = refl; ended = refl; base = refl; at = refl };
           });
         }

@@ -48,9 +48,9 @@ heads z c g views id v h here held =
       looks = looks_keep views id v w here z.format g.past c.fin c.stop g.looked g.target c.tail h.looks refl refl holds refl;
       wakes = wakes_keep views id v w here z.format c.lock c.fin g.past g.undecided g.concerned c.wakes h.wakes refl refl refl refl refl refl holds (λ i. sym (ap (λ p. pending p (waits_in v.verdicts) i) held)) refl (sym (ap (λ p. ended_in p c.fin) held));
       interests = interests_keep views id v w here g.concerned c.interests h.interests refl refl refl (λ _. tt);
-      flags = flags_keep views id v w here c.fin g.undecided c.flags h.flags refl (h.flags.told id v here) refl refl;
+      flags = flags_keep views id v w here c.fin c.flags h.flags refl (h.flags.told id v here) refl refl;
       named = named_keep views id v w here h.named refl refl refl refl refl;
-      taken = taken_keep views id v w here z g.made c.fin g.undecided g.seat g.past h.taken refl refl;
+      taken = taken_keep views id v w here z g.made c.fin g.seat g.past h.taken refl refl;
     }
 
 pub load_head_allowed : (z : Shape) (slots id : ℕ) (me : Me ℕ View) → me.0.phase ≡ Held → Allows (Lawful z) slots id me 1 (λ n. n) (TellsHead (step slots 1 0 0 none) me)
@@ -92,9 +92,9 @@ readies z c g views id v h here headed =
       looks = looks_keep views id v w here z.format g.past c.fin c.stop g.looked g.target c.tail h.looks refl refl holds refl;
       wakes = wakes_keep views id v w here z.format c.lock c.fin g.past g.undecided g.concerned c.wakes h.wakes refl refl refl refl refl refl holds (λ i. sym (ap (λ p. pending p (waits_in v.verdicts) i) headed)) refl (sym (ap (λ p. ended_in p c.fin) headed));
       interests = interests_keep views id v w here g.concerned c.interests h.interests refl refl refl (λ _. tt);
-      flags = flags_keep views id v w here c.fin g.undecided c.flags h.flags refl (h.flags.told id v here) refl refl;
+      flags = flags_keep views id v w here c.fin c.flags h.flags refl (h.flags.told id v here) refl refl;
       named = named_keep views id v w here h.named refl refl refl refl refl;
-      taken = taken_keep views id v w here z g.made c.fin g.undecided g.seat g.past h.taken refl refl;
+      taken = taken_keep views id v w here z g.made c.fin g.seat g.past h.taken refl refl;
     }
 
 pub load_stop_allowed : (z : Shape) (slots id : ℕ) (me : Me ℕ View) → me.0.phase ≡ Headed → Allows (Lawful z) slots id me 4 (λ n. n) (TellsStop (step slots 4 0 0 none) me)

@@ -51,7 +51,7 @@ store_interest_allowed z slots id word x channels me there positive registered v
       content = record c { interests = set c.interests i x };
       world = g;
       moves = ap (λ e. set (row c) e x) there ∙ set_interest_word z c i x h.laid within;
-      law = turns z c g views id v i v.known.seen v.known.mark v.known.marks true v.known.wake_look channels v.post k c.pos c.wakes (set c.interests i x) h here number
+      law = turns z c g views id v i v.known.told v.known.seen v.known.mark v.known.marks true v.known.wake_look channels v.post k c.pos c.wakes (set c.interests i x) h here number
           (h.history.sees id v here) (omega arith) (λ _. refl)
           refl (λ j other. refl) (h.posts.shows id v here i number)
           (λ _. (h.posts.placed id v here has).1) (λ _ low. h.looks.spared id v here has low)
@@ -162,7 +162,7 @@ loads_interest z c g views id v seat h here signals =
         heeds = each_turn (Heeds z.format g.past c.fin g.undecided g.concerned c.wakes) (Heeds z.format g.past c.fin g.undecided now c.wakes) views id w h.wakes.heeds (heeds id v here (h.wakes.heeds id v here)) (λ j u other there x. heeds j u there x);
         signals = each_keep (Signals g.undecided) views id v w here h.wakes.signals (λ x. x);
         calm = h.wakes.calm;
-        heard = each_keep (λ _ u. IsHeard c.fin g.undecided u.known.told) views id v w here h.wakes.heard (λ x. x);
+        heard = each_keep (λ _ u. IsHeard c.fin g.undecided u.known.signalled) views id v w here h.wakes.heard (λ x. x);
         ended = each_keep (λ _ u. u.ended ≡ ended_in u.phase c.fin) views id v w here h.wakes.ended (λ x. x);
       };
       interests = record {
@@ -171,9 +171,9 @@ loads_interest z c g views id v seat h here signals =
             (subst (λ (q : Phase). Deems q now bs) (sym signals) (λ i. refl))
             (λ j u other there p. subst (λ (q : Phase). Deems q now u.concerned) (sym (free_holds u.phase (gone j u other there))) tt);
       };
-      flags = flags_keep views id v w here c.fin g.undecided c.flags h.flags refl (h.flags.told id v here) refl refl;
+      flags = flags_keep views id v w here c.fin c.flags h.flags refl (h.flags.told id v here) refl refl;
       named = named_keep views id v w here h.named refl refl refl refl refl;
-      taken = taken_keep views id v w here z g.made c.fin g.undecided g.seat g.past h.taken refl refl;
+      taken = taken_keep views id v w here z g.made c.fin g.seat g.past h.taken refl refl;
     }
   where
     by_seat : (format : Format) (matters : Tx → Bool) (past before : List Tx) (last : Tx) (fin i seat wake mark : ℕ) (walks : Bool) (ends : ℕ) (owes : Bool) (undecided old new : ℕ → Bool) (b : Bool) → fin ≡ next_xid past → past ≡ before ++ last ∷ []

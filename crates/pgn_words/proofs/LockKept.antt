@@ -23,7 +23,7 @@ use Rattle.pgn_words.specs.declared.view.Verdict.TheVariants.{Decided}
 use Rattle.pgn_words.specs.Words.{Content, room_of, seats_of}
 use Rattle.pgn_words.specs.Views.{holds_lock, knows_stop, drawn_by, spent_by, fated, may_drop, is_open, AreDecided}
 use Rattle.pgn_words.specs.ListenRule.{LooksBy, Spared}
-use Rattle.pgn_words.specs.WakeRule.{IsHeard, Signals, ended_in, pending, waits_in}
+use Rattle.pgn_words.specs.WakeRule.{IsHeard, IsTold, Signals, ended_in, pending, waits_in}
 use Rattle.pgn_words.specs.Rule.{World, Locks, Locking, Draws, KnowsStop, HoldsIn, Holds, Law, Lawful, Keeps, Budget, notes_of, Fates, KnowsAll}
 use Rattle.pgn_words.specs.Told.{HasLocked, IsLocked, TellsLock, TellsDrop, locked, refused, freed}
 use Rattle.pgn_words.proofs.EachLaws.{each_turn, each_keep, changed_at, own_further}
@@ -166,17 +166,17 @@ takes z c g views id v h here free positive nothing =
         heeds = heeds_keep views id v w here z.format g.past c.fin g.undecided g.concerned c.wakes h.wakes.heeds refl refl refl refl refl;
         signals = each_turn (Signals g.undecided) (Signals g.undecided) views id w h.wakes.signals (λ held i. h.wakes.calm nothing i) (λ j u other there p. p);
         calm = λ nobody. absurd (omega (arith, nobody, positive));
-        heard = each_keep (λ _ u. IsHeard c.fin g.undecided u.known.told) views id v w here h.wakes.heard (λ p. p);
+        heard = each_keep (λ _ u. IsHeard c.fin g.undecided u.known.signalled) views id v w here h.wakes.heard (λ p. p);
         ended = each_keep (λ _ u. u.ended ≡ ended_in u.phase c.fin) views id v w here h.wakes.ended (λ p. p ∙ ap (λ q. ended_in q c.fin) free);
       };
       interests = interests_keep views id v w here g.concerned c.interests h.interests refl refl refl (λ _. tt);
-      flags = flags_keep views id v w here c.fin g.undecided c.flags h.flags refl (h.flags.told id v here) refl refl;
+      flags = flags_keep views id v w here c.fin c.flags h.flags refl (h.flags.told id v here) refl refl;
       named = named_keep views id v w here h.named refl refl refl refl refl;
-      taken = taken_keep views id v w here z g.made c.fin g.undecided g.seat g.past h.taken refl refl;
+      taken = taken_keep views id v w here z g.made c.fin g.seat g.past h.taken refl refl;
     }
 
 -- The holder gives it up.
--- it is told of no more than was heard, once each seat is decided
+-- it knows of no more wakes than were set, once each seat is decided
 told_then : (phase : Phase) (fin : ℕ) (undecided : ℕ → Bool) (told : ℕ) → ((i : ℕ) → undecided i ≡ false) → IsHeard fin undecided told → IsHeard fin undecided (unwrap_or (ended_in phase fin) told)
 told_then Free fin undecided told settled h = h
 told_then Held fin undecided told settled h = h
@@ -186,14 +186,15 @@ told_then Open fin undecided told settled h = h
 told_then Finished fin undecided told settled h = h
 told_then Signalling fin undecided told settled h = record { most = omega arith; decided = λ i waits. absurd (true≢false (sym waits ∙ settled i)) }
 
-first_then : (phase : Phase) (fin told : ℕ) → FIRST_XID ≤ fin → FIRST_XID ≤ told → FIRST_XID ≤ unwrap_or (ended_in phase fin) told
-first_then Free fin told f h = h
-first_then Held fin told f h = h
-first_then Headed fin told f h = h
-first_then Ready fin told f h = h
-first_then Open fin told f h = h
-first_then Finished fin told f h = h
-first_then Signalling fin told f h = f
+-- and it is told of no more than is finished
+finished_then : (phase : Phase) (fin told signalled : ℕ) → FIRST_XID ≤ fin → IsTold fin told signalled → IsTold fin (unwrap_or (ended_in phase fin) told) (unwrap_or (ended_in phase fin) signalled)
+finished_then Free fin told signalled f h = h
+finished_then Held fin told signalled f h = h
+finished_then Headed fin told signalled f h = h
+finished_then Ready fin told signalled f h = h
+finished_then Open fin told signalled f h = h
+finished_then Finished fin told signalled f h = h
+finished_then Signalling fin told signalled f h = record { first = f; below = omega arith; finished = omega arith }
 
 -- no seat is undecided where the holder has none in its list
 all_decided : (phase : Phase) (waits : ℕ → Bool) (i : ℕ) → waits i ≡ false → pending phase waits i ≡ false
@@ -258,15 +259,16 @@ drops z c g views id v h here held nothing even settled =
         heeds = heeds_keep views id v w here z.format g.past c.fin g.undecided g.concerned c.wakes h.wakes.heeds refl refl refl refl refl;
         signals = each_turn (Signals g.undecided) (Signals g.undecided) views id w h.wakes.signals (λ held. absurd (cc)) (λ j u other there p. p);
         calm = λ _. settled;
-        heard = each_keep (λ _ u. IsHeard c.fin g.undecided u.known.told) views id v w here h.wakes.heard (λ p.
-            subst (λ (e : Option ℕ). IsHeard c.fin g.undecided (unwrap_or e v.known.told)) (sym (h.wakes.ended id v here)) (told_then v.phase c.fin g.undecided v.known.told settled p));
+        heard = each_keep (λ _ u. IsHeard c.fin g.undecided u.known.signalled) views id v w here h.wakes.heard (λ p.
+            subst (λ (e : Option ℕ). IsHeard c.fin g.undecided (unwrap_or e v.known.signalled)) (sym (h.wakes.ended id v here)) (told_then v.phase c.fin g.undecided v.known.signalled settled p));
         ended = each_turn (λ _ u. u.ended ≡ ended_in u.phase c.fin) (λ _ u. u.ended ≡ ended_in u.phase c.fin) views id w h.wakes.ended refl (λ j u other there p. p);
       };
       interests = interests_keep views id v w here g.concerned c.interests h.interests refl refl refl (λ _. tt);
-      flags = flags_keep views id v w here c.fin g.undecided c.flags h.flags refl
-          (subst (λ (e : Option ℕ). FIRST_XID ≤ unwrap_or e v.known.told) (sym (h.wakes.ended id v here)) (first_then v.phase c.fin v.known.told (let counted = h.history.counted in omega (arith, counted)) (h.flags.told id v here))) refl refl;
+      flags = flags_keep views id v w here c.fin c.flags h.flags refl
+          (subst (λ (e : Option ℕ). IsTold c.fin (unwrap_or e v.known.told) (unwrap_or e v.known.signalled)) (sym (h.wakes.ended id v here))
+          (finished_then v.phase c.fin v.known.told v.known.signalled (let counted = h.history.counted in omega (arith, counted)) (h.flags.told id v here))) refl refl;
       named = named_keep views id v w here h.named refl refl refl refl refl;
-      taken = taken_keep views id v w here z g.made c.fin g.undecided g.seat g.past h.taken refl refl;
+      taken = taken_keep views id v w here z g.made c.fin g.seat g.past h.taken refl refl;
     }
 
 -- nobody waits in a list in which nobody does
@@ -358,9 +360,9 @@ refuses z c g views id v by h here =
       looks = looks_keep views id v w here z.format g.past c.fin c.stop g.looked g.target c.tail h.looks refl refl refl refl;
       wakes = wakes_keep views id v w here z.format c.lock c.fin g.past g.undecided g.concerned c.wakes h.wakes refl refl refl refl refl refl refl (λ i. refl) refl refl;
       interests = interests_keep views id v w here g.concerned c.interests h.interests refl refl refl (λ x. x);
-      flags = flags_keep views id v w here c.fin g.undecided c.flags h.flags refl (h.flags.told id v here) refl refl;
+      flags = flags_keep views id v w here c.fin c.flags h.flags refl (h.flags.told id v here) refl refl;
       named = named_keep views id v w here h.named refl refl refl refl refl;
-      taken = taken_keep views id v w here z g.made c.fin g.undecided g.seat g.past h.taken refl refl;
+      taken = taken_keep views id v w here z g.made c.fin g.seat g.past h.taken refl refl;
     }
 
 -- the same, whatever is found

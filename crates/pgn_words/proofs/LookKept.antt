@@ -88,13 +88,13 @@ gazes z c g views id v e ns a tail l y h here held placed looks spares aims abov
       };
       wakes = wakes_keep views id v w here z.format c.lock c.fin g.past g.undecided g.concerned c.wakes h.wakes refl refl refl refl refl refl refl (λ i. refl) refl refl;
       interests = interests_keep views id v w here g.concerned c.interests h.interests refl refl refl (λ x. x);
-      flags = flags_keep views id v w here c.fin g.undecided c.flags h.flags refl (h.flags.told id v here) refl refl;
+      flags = flags_keep views id v w here c.fin c.flags h.flags refl (h.flags.told id v here) refl refl;
       named = record {
         current = each_keep (λ _ u. u.post.listen ≡ Registered → IsLast u.known.marks u.post.mark) views id v w here h.named.current (λ x. x);
         named = λ j u there. All-weaker (Marked views) (Marked (set views id w)) (λ pair x. someone_keep views id v w here (MarkedBy pair) refl (λ y. y) x) (named_in u)
             (each_turn (λ _ x. All (Marked views) (named_in x)) (λ _ x. All (Marked views) (named_in x)) views id w h.named.named named (λ k x other theirs old. old) j u there);
       };
-      taken = taken_keep views id v w here z g.made c.fin g.undecided g.seat g.past h.taken refl refl;
+      taken = taken_keep views id v w here z g.made c.fin g.seat g.past h.taken refl refl;
     }
 
 -- the marks that a pass has met, with some more

@@ -24,8 +24,21 @@ use Rattle.pgn_words.specs.Views.{holds_lock, is_walking}
 use Rattle.pgn_words.specs.Positions.{shown_as, word_of, listens_at, is_placed}
 use Rattle.pgn_words.specs.Each.{Each, Someone, Keeps}
 use Rattle.pgn_words.specs.ListenRule.{IsPlaced, Placed, Marks, ShowsPosition, Posts, Walking, Bounds, Walks, LookIn, LooksBy, Spared, Looks}
-use Rattle.pgn_words.specs.WakeRule.{served, passed, waits_in, pending, ended_in, IsHeard, IsHeeded, Heeds, Signals, Wakes, Covered, Deems, Interests, raised_in, found_in, named_in, Raised, IsMost, Flags, IsMarkedBy, MarkedBy, Marked, IsLast, Named, IsTaken, Taken}
+use Rattle.pgn_words.specs.WakeRule.{served, passed, waits_in, pending, ended_in, IsHeard, IsHeeded, Heeds, Signals, Wakes, Covered, Deems, Interests, raised_in, found_in, named_in, Raised, IsMost, IsTold, Flags, IsMarkedBy, MarkedBy, Marked, IsLast, Named, IsTaken, Taken}
 use Rattle.pgn_words.proofs.EachLaws.{each_keep, changed_at}
+
+-- who owes a read still, or owes one now, is heeded as before
+owing : (format : Format) (matters : Tx → Bool) (past : List Tx) (by upto wake mark : ℕ) (walks : Bool) (ends : ℕ) (old new : Bool) → (old ≡ true → new ≡ true)
+    → IsHeeded format matters past by upto wake mark walks ends old → IsHeeded format matters past by upto wake mark walks ends new
+owing format matters past by upto wake mark walks ends old new owes h = record {
+  still = ⊎_elim (λ woken. inl woken) (λ r. inr (⊎_elim (λ owed. inl (owes owed)) (λ near. inr near) r)) h.still;
+  walked = h.walked;
+}
+
+-- whatever a pass was told, another may have been told of nothing
+pub told_first : (fin told signalled : ℕ) → IsTold fin told signalled → IsTold fin FIRST_XID FIRST_XID
+told_first fin told signalled h =
+    let first = h.first in let below = h.below in let finished = h.finished in record { first = omega arith; below = omega arith; finished = omega (arith, first, below, finished) }
 
 module _ (views : List View) (id : ℕ) (v w : View) (here : get_elem? views id ≡ some v) where
   -- a pass that has something is still there
@@ -79,18 +92,23 @@ module _ (views : List View) (id : ℕ) (v w : View) (here : get_elem? views id 
     above = h.above;
   }
 
-  pub heeds_keep : (format : Format) (past : List Tx) (fin : ℕ) (undecided concerned : ℕ → Bool) (wakes : List ℕ) → Each (Heeds format past fin undecided concerned wakes) views
-      → w.known.session ≡ v.known.session → w.post ≡ v.post → w.walk ≡ v.walk → is_due_to w.known.db w.known.set ≡ is_due_to v.known.db v.known.set → w.known.owes ≡ v.known.owes
+  pub heeds_owing : (format : Format) (past : List Tx) (fin : ℕ) (undecided concerned : ℕ → Bool) (wakes : List ℕ) → Each (Heeds format past fin undecided concerned wakes) views
+      → w.known.session ≡ v.known.session → w.post ≡ v.post → w.walk ≡ v.walk → is_due_to w.known.db w.known.set ≡ is_due_to v.known.db v.known.set → (v.known.owes ≡ true → w.known.owes ≡ true)
       → Each (Heeds format past fin undecided concerned wakes) (set views id w)
-  heeds_keep format past fin undecided concerned wakes h session post walk due owes =
+  heeds_owing format past fin undecided concerned wakes h session post walk due owes =
       each_keep (Heeds format past fin undecided concerned wakes) views id v w here h (λ p.
       subst (λ (q : Post). q.listen ≡ Registered → (i : ℕ) → w.known.session ≡ i + 1
       → IsHeeded format (is_due_to w.known.db w.known.set) past (passed undecided concerned fin i) (served undecided fin i) (get_or wakes i 0) q.mark (is_walking w.walk.stage) w.walk.upto w.known.owes) (sym post)
       (λ registered i number.
       subst (λ (k : Walk). IsHeeded format (is_due_to w.known.db w.known.set) past (passed undecided concerned fin i) (served undecided fin i) (get_or wakes i 0) v.post.mark (is_walking k.stage) k.upto w.known.owes) (sym walk)
-      (subst (λ (o : Bool). IsHeeded format (is_due_to w.known.db w.known.set) past (passed undecided concerned fin i) (served undecided fin i) (get_or wakes i 0) v.post.mark (is_walking v.walk.stage) v.walk.upto o) (sym owes)
+      (owing format (is_due_to w.known.db w.known.set) past (passed undecided concerned fin i) (served undecided fin i) (get_or wakes i 0) v.post.mark (is_walking v.walk.stage) v.walk.upto v.known.owes w.known.owes owes
       (subst (λ (matters : Tx → Bool). IsHeeded format matters past (passed undecided concerned fin i) (served undecided fin i) (get_or wakes i 0) v.post.mark (is_walking v.walk.stage) v.walk.upto v.known.owes) (sym due)
       (p registered i (sym session ∙ number))))))
+
+  pub heeds_keep : (format : Format) (past : List Tx) (fin : ℕ) (undecided concerned : ℕ → Bool) (wakes : List ℕ) → Each (Heeds format past fin undecided concerned wakes) views
+      → w.known.session ≡ v.known.session → w.post ≡ v.post → w.walk ≡ v.walk → is_due_to w.known.db w.known.set ≡ is_due_to v.known.db v.known.set → w.known.owes ≡ v.known.owes
+      → Each (Heeds format past fin undecided concerned wakes) (set views id w)
+  heeds_keep format past fin undecided concerned wakes h session post walk due owes = heeds_owing format past fin undecided concerned wakes h session post walk due (λ o. owes ∙ o)
 
   pub interests_keep : (concerned : ℕ → Bool) (interests : List ℕ) → Interests concerned interests views → w.known.session ≡ v.known.session → w.post ≡ v.post → w.known.set ≡ v.known.set
       → (Deems v.phase concerned v.concerned → Deems w.phase concerned w.concerned) → Interests concerned interests (set views id w)
@@ -102,26 +120,26 @@ module _ (views : List View) (id : ℕ) (v w : View) (here : get_elem? views id 
   }
 
   pub wakes_keep : (format : Format) (lock fin : ℕ) (past : List Tx) (undecided concerned : ℕ → Bool) (wakes : List ℕ) → Wakes format lock fin past undecided concerned wakes views
-      → w.known.session ≡ v.known.session → w.post ≡ v.post → w.walk ≡ v.walk → is_due_to w.known.db w.known.set ≡ is_due_to v.known.db v.known.set → w.known.owes ≡ v.known.owes → w.known.told ≡ v.known.told
+      → w.known.session ≡ v.known.session → w.post ≡ v.post → w.walk ≡ v.walk → is_due_to w.known.db w.known.set ≡ is_due_to v.known.db v.known.set → w.known.owes ≡ v.known.owes → w.known.signalled ≡ v.known.signalled
       → holds_lock w.phase ≡ holds_lock v.phase → ((i : ℕ) → pending w.phase (waits_in w.verdicts) i ≡ pending v.phase (waits_in v.verdicts) i)
       → w.ended ≡ v.ended → ended_in w.phase fin ≡ ended_in v.phase fin → Wakes format lock fin past undecided concerned wakes (set views id w)
-  wakes_keep format lock fin past undecided concerned wakes h session post walk due owes told holds waits ended ends = record {
+  wakes_keep format lock fin past undecided concerned wakes h session post walk due owes signalled holds waits ended ends = record {
     small = h.small;
     heeds = heeds_keep format past fin undecided concerned wakes h.heeds session post walk due owes;
     signals = each_keep (Signals undecided) views id v w here h.signals (λ p held i. p (sym holds ∙ held) i ∙ sym (waits i));
     calm = h.calm;
-    heard = each_keep (λ _ u. IsHeard fin undecided u.known.told) views id v w here h.heard (λ p. subst (λ (n : ℕ). IsHeard fin undecided n) (sym told) p);
+    heard = each_keep (λ _ u. IsHeard fin undecided u.known.signalled) views id v w here h.heard (λ p. subst (λ (n : ℕ). IsHeard fin undecided n) (sym signalled) p);
     ended = each_keep (λ _ u. u.ended ≡ ended_in u.phase fin) views id v w here h.ended (λ p. ended ∙ p ∙ sym ends);
   }
 
   pub raised_keep : (pair : ℕ × ℕ) → w.known.session ≡ v.known.session → raised_in w ≡ raised_in v → Raised views pair → Raised (set views id w) pair
   raised_keep pair session raised r = someone_keep (λ u. Contains (raised_in u) pair) session (λ p. subst (λ (l : List (ℕ × ℕ)). Contains l pair) (sym raised) p) r
 
-  pub flags_keep : (fin : ℕ) (undecided : ℕ → Bool) (flags : List ℕ) → Flags fin undecided flags views → w.known.session ≡ v.known.session → FIRST_XID ≤ w.known.told
-      → raised_in w ≡ raised_in v → found_in w ≡ found_in v → Flags fin undecided flags (set views id w)
-  flags_keep fin undecided flags h session told raised found = record {
-    heard = h.heard;
-    told = each_keep (λ _ u. FIRST_XID ≤ u.known.told) views id v w here h.told (λ p. told);
+  pub flags_keep : (fin : ℕ) (flags : List ℕ) → Flags fin flags views → w.known.session ≡ v.known.session → IsTold fin w.known.told w.known.signalled
+      → raised_in w ≡ raised_in v → found_in w ≡ found_in v → Flags fin flags (set views id w)
+  flags_keep fin flags h session told raised found = record {
+    finished = h.finished;
+    told = each_keep (λ _ u. IsTold fin u.known.told u.known.signalled) views id v w here h.told (λ p. told);
     most = each_keep (λ _ u. All (IsMost flags) (raised_in u)) views id v w here h.most (λ p. subst (λ (l : List (ℕ × ℕ)). All (IsMost flags) l) (sym raised) p);
     source = λ f. ⊎_elim (λ none. inl none) (λ r. inr (raised_keep (f, get_or flags f 0) session raised r)) (h.source f);
     found = λ j u there. All-weaker (Raised views) (Raised (set views id w)) (λ x r. raised_keep x session raised r) (found_in u)
@@ -146,9 +164,9 @@ module _ (views : List View) (id : ℕ) (v w : View) (here : get_elem? views id 
       same = ap (λ (l : List (ℕ × ℕ)). l ++ flat_map (λ (k : Known). k.named) w.joined) named
           ∙ ap (λ (ks : List Known). v.known.named ++ flat_map (λ (k : Known). k.named) ks) gone
 
-  pub taken_keep : (z : Shape) (made fin : ℕ) (undecided : ℕ → Bool) (seat : ℕ → ℕ) (past : List Tx) → Taken z made fin undecided seat past views → w.known.session ≡ v.known.session → w.joined ≡ v.joined
-      → Taken z made fin undecided seat past (set views id w)
-  taken_keep z made fin undecided seat past h session gone =
-      each_keep (λ j u. All (IsTaken z made fin undecided seat past j u.known.session) u.joined) views id v w here h (λ p.
-      subst (λ (n : ℕ). All (IsTaken z made fin undecided seat past id n) w.joined) (sym session)
-      (subst (λ (l : List Known). All (IsTaken z made fin undecided seat past id v.known.session) l) (sym gone) p))
+  pub taken_keep : (z : Shape) (made fin : ℕ) (seat : ℕ → ℕ) (past : List Tx) → Taken z made fin seat past views → w.known.session ≡ v.known.session → w.joined ≡ v.joined
+      → Taken z made fin seat past (set views id w)
+  taken_keep z made fin seat past h session gone =
+      each_keep (λ j u. All (IsTaken z made fin seat past j u.known.session) u.joined) views id v w here h (λ p.
+      subst (λ (n : ℕ). All (IsTaken z made fin seat past id n) w.joined) (sym session)
+      (subst (λ (l : List Known). All (IsTaken z made fin seat past id v.known.session) l) (sym gone) p))

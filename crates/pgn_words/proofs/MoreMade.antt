@@ -6,17 +6,17 @@ use Rattle.atomic_table.proofs.Lists.{at_longer}
 use Rattle.pgn_words.specs.declared.view.View.{View}
 use Rattle.pgn_words.specs.declared.view.Listen.TheVariants.{Registered}
 use Rattle.pgn_words.specs.Each.{Someone}
-use Rattle.pgn_words.specs.WakeRule.{raised_in, found_in, named_in, Raised, IsMost, Flags, MarkedBy, Marked, Named, IsLast}
+use Rattle.pgn_words.specs.WakeRule.{raised_in, found_in, named_in, Raised, IsMost, IsTold, Flags, MarkedBy, Marked, Named, IsLast}
 use Rattle.pgn_words.proofs.EachLaws.{each_made}
 
 module _ (views : List View) (w : View) where
   pub someone_more : (P : View → Type 0) → Someone P views → Someone P (views ++ w ∷ [])
   someone_more P (j, u, there, positive, p) = (j, u, at_longer views (w ∷ []) j u there, positive, p)
 
-  pub flags_more : (fin : ℕ) (undecided : ℕ → Bool) (flags : List ℕ) → Flags fin undecided flags views → 3 ≤ w.known.told → raised_in w ≡ [] → found_in w ≡ [] → Flags fin undecided flags (views ++ w ∷ [])
-  flags_more fin undecided flags h first raised found = record {
-    heard = h.heard;
-    told = each_made (λ _ u. 3 ≤ u.known.told) views w h.told first;
+  pub flags_more : (fin : ℕ) (flags : List ℕ) → Flags fin flags views → IsTold fin w.known.told w.known.signalled → raised_in w ≡ [] → found_in w ≡ [] → Flags fin flags (views ++ w ∷ [])
+  flags_more fin flags h told raised found = record {
+    finished = h.finished;
+    told = each_made (λ _ u. IsTold fin u.known.told u.known.signalled) views w h.told told;
     most = each_made (λ _ u. All (IsMost flags) (raised_in u)) views w h.most (subst (λ (l : List (ℕ × ℕ)). All (IsMost flags) l) (sym raised) (All-nil (IsMost flags)));
     source = λ f. ⊎_elim (λ none. inl none) (λ r. inr (someone_more (λ u. Contains (raised_in u) (f, get_or flags f 0)) r)) (h.source f);
     found = λ j u there. All-weaker (Raised views) (Raised (views ++ w ∷ [])) (λ x r. someone_more (λ y. Contains (raised_in y) x) r) (found_in u)

@@ -1,6 +1,6 @@
 -- The writing of a note, and the joining of one, keep the rule.
 use Rattle.std.specs.Prelude.{Contains}
-use Rattle.std.proofs.Common.{◌≡◌, ◌≢◌, ⊎_elim, inl, inr, get_or, ℕ, ◌+◌, ◌<◌, ◌≤◌, ◌==◌, max, Bool, true, false, cond, List, [], ◌∷◌, ◌++◌, length, drop, set, All, sym, refl, ap, ◌∙◌, subst, arith}
+use Rattle.std.proofs.Common.{◌≡◌, ◌≢◌, ⊎_elim, inl, inr, get_or, ℕ, ◌+◌, ◌<◌, ◌≤◌, ◌==◌, nat_lt, max, Bool, true, false, ◌&&◌, ◌||◌, is_some, cond, List, [], ◌∷◌, ◌++◌, length, drop, set, All, sym, refl, ap, ◌∙◌, subst, arith}
 use Rattle.std.proofs.lemmas.List.{append-nil, drop_all, length-append}
 use Rattle.std.proofs.lemmas.List.Elements.{All-nil, All-head, All-tail, All-weaker}
 use Rattle.std.proofs.lemmas.Bool.Decides.{nat_tests}
@@ -14,16 +14,18 @@ use Rattle.pgn_journal.specs.Begins.{Begins}
 use Rattle.pgn_journal.proofs.BeginsLaws.{begins-none, begins-rest, begins-alike}
 use Rattle.pgn_journal.specs.Journal.{next_xid, xids_from, xids_of}
 use Rattle.pgn_hub.specs.Shape.{Shape}
+use Rattle.pgn_hub.specs.Calls.{owes_after}
 use Rattle.pgn_words.specs.declared.view.View.{View}
 use Rattle.pgn_words.specs.Words.{Content, room_of}
 use Rattle.pgn_words.specs.Views.{holds_lock, spent_by}
 use Rattle.pgn_words.specs.declared.view.Listen.TheVariants.{Registered}
 use Rattle.pgn_words.specs.Each.{Someone}
 use Rattle.pgn_words.specs.ListenRule.{Placed, Marks, ShowsPosition, Walking, Bounds, LooksBy, Spared}
-use Rattle.pgn_words.specs.WakeRule.{IsHeard, Heeds, Covered, Deems, Signals, ended_in, raised_in, found_in, named_in, Raised, IsMost, MarkedBy, Marked, IsTaken, IsLast}
+use Rattle.pgn_words.specs.WakeRule.{IsHeard, IsTold, Heeds, Covered, Deems, Signals, ended_in, raised_in, found_in, named_in, Raised, IsMost, MarkedBy, Marked, IsTaken, IsLast}
 use Rattle.pgn_words.specs.Rule.{World, Seated, Makes, Locks, WasMade, Draws, KnowsStop, Holds, Fates, Law, Lawful, KnowsAll}
 use Rattle.pgn_words.specs.Told.{noted, joined, longer, spent_view}
 use Rattle.pgn_words.proofs.EachLaws.{each_turn, each_made, sum_set, sum_made}
+use Rattle.pgn_words.proofs.MoreFrames.{told_first}
 use Rattle.pgn_words.proofs.MoreMade.{flags_more, named_more, someone_more}
 use Rattle.pgn_words.proofs.StatusKept.{hears}
 
@@ -108,13 +110,13 @@ notes z c g views id v h here =
         heeds = each_made (Heeds z.format g.past c.fin g.undecided g.concerned c.wakes) views w h.wakes.heeds (λ registered. absurd (cc));
         signals = each_made (Signals g.undecided) views w h.wakes.signals (λ held. absurd (cc));
         calm = h.wakes.calm;
-        heard = each_made (λ _ u. IsHeard c.fin g.undecided u.known.told) views w h.wakes.heard (h.wakes.heard id v here);
+        heard = each_made (λ _ u. IsHeard c.fin g.undecided u.known.signalled) views w h.wakes.heard (h.wakes.heard id v here);
         ended = each_made (λ _ u. u.ended ≡ ended_in u.phase c.fin) views w h.wakes.ended refl;
       };
       interests = record { covered = each_made (Covered c.interests) views w h.interests.covered (λ registered. absurd (cc)); deems = each_made (λ _ u. Deems u.phase g.concerned u.concerned) views w h.interests.deems tt };
-      flags = flags_more views w c.fin g.undecided c.flags h.flags (h.flags.told id v here) refl refl;
+      flags = flags_more views w c.fin c.flags h.flags (h.flags.told id v here) refl refl;
       named = named_more views w h.named (λ registered. absurd (cc)) refl;
-      taken = each_made (λ j u. All (IsTaken z g.made c.fin g.undecided g.seat g.past j u.known.session) u.joined) views w h.taken (All-nil (IsTaken z g.made c.fin g.undecided g.seat g.past (length views) 0));
+      taken = each_made (λ j u. All (IsTaken z g.made c.fin g.seat g.past j u.known.session) u.joined) views w h.taken (All-nil (IsTaken z g.made c.fin g.seat g.past (length views) 0));
     }
 
 pub note_allowed : (z : Shape) (id : ℕ) (v : View) → Splits (Lawful z) id v v (noted v)
@@ -129,7 +131,7 @@ note_allowed z id v s holds here = record {
 -- a view that is no session's is spent
 spends : (z : Shape) (c : Content) (g : World) (views : List View) (id : ℕ) (v : View) → Law z c g views → get_elem? views id ≡ some v → v.known.session ≡ 0 → Law z c g (set views id spent_view)
 spends z c g views id v h here number =
-    let heard_first : IsHeard c.fin g.undecided 3 = let t = h.wakes.heard id v here in let first = h.flags.told id v here in record { most = let most = t.most in omega (arith, most, first); decided = λ i waits. let low = t.decided i waits in omega (arith, low, first) } in
+    let heard_first : IsHeard c.fin g.undecided 3 = let t = h.wakes.heard id v here in let first = (h.flags.told id v here).first in record { most = let most = t.most in omega (arith, most, first); decided = λ i waits. let low = t.decided i waits in omega (arith, low, first) } in
     let w : View = spent_view in record {
       laid = h.laid;
       seats = record {
@@ -200,7 +202,7 @@ spends z c g views id v h here number =
         heeds = each_turn (Heeds z.format g.past c.fin g.undecided g.concerned c.wakes) (Heeds z.format g.past c.fin g.undecided g.concerned c.wakes) views id w h.wakes.heeds (λ registered. absurd (cc)) (λ j u other there p. p);
         signals = each_turn (Signals g.undecided) (Signals g.undecided) views id w h.wakes.signals (λ held. absurd (cc)) (λ j u other there p. p);
         calm = h.wakes.calm;
-        heard = each_turn (λ _ u. IsHeard c.fin g.undecided u.known.told) (λ _ u. IsHeard c.fin g.undecided u.known.told) views id w h.wakes.heard heard_first (λ j u other there p. p);
+        heard = each_turn (λ _ u. IsHeard c.fin g.undecided u.known.signalled) (λ _ u. IsHeard c.fin g.undecided u.known.signalled) views id w h.wakes.heard heard_first (λ j u other there p. p);
         ended = each_turn (λ _ u. u.ended ≡ ended_in u.phase c.fin) (λ _ u. u.ended ≡ ended_in u.phase c.fin) views id w h.wakes.ended refl (λ j u other there p. p);
       };
       interests = record {
@@ -208,8 +210,8 @@ spends z c g views id v h here number =
         deems = each_turn (λ _ u. Deems u.phase g.concerned u.concerned) (λ _ u. Deems u.phase g.concerned u.concerned) views id w h.interests.deems tt (λ j u other there p. p);
       };
       flags = record {
-        heard = h.flags.heard;
-        told = each_turn (λ _ u. 3 ≤ u.known.told) (λ _ u. 3 ≤ u.known.told) views id w h.flags.told (omega arith) (λ j u other there p. p);
+        finished = h.flags.finished;
+        told = each_turn (λ _ u. IsTold c.fin u.known.told u.known.signalled) (λ _ u. IsTold c.fin u.known.told u.known.signalled) views id w h.flags.told (told_first c.fin v.known.told v.known.signalled (h.flags.told id v here)) (λ j u other there p. p);
         most = each_turn (λ _ u. All (IsMost c.flags) (raised_in u)) (λ _ u. All (IsMost c.flags) (raised_in u)) views id w h.flags.most (All-nil (IsMost c.flags)) (λ j u other there p. p);
         source = λ f. ⊎_elim (λ none. inl none) (λ r. inr (someone_else views id v w here number (λ u. Contains (raised_in u) (f, get_or c.flags f 0)) r)) (h.flags.source f);
         found = λ j u there. All-weaker (Raised views) (Raised (set views id w)) (λ x r. someone_else views id v w here number (λ u. Contains (raised_in u) x) r) (found_in u)
@@ -220,8 +222,8 @@ spends z c g views id v h here number =
         named = λ j u there. All-weaker (Marked views) (Marked (set views id w)) (λ x m. someone_else views id v w here number (MarkedBy x) m) (named_in u)
             (each_turn (λ _ x. All (Marked views) (named_in x)) (λ _ x. All (Marked views) (named_in x)) views id w h.named.named (All-nil (Marked views)) (λ k x other there p. p) j u there);
       };
-      taken = each_turn (λ j u. All (IsTaken z g.made c.fin g.undecided g.seat g.past j u.known.session) u.joined) (λ j u. All (IsTaken z g.made c.fin g.undecided g.seat g.past j u.known.session) u.joined) views id w h.taken
-          (All-nil (IsTaken z g.made c.fin g.undecided g.seat g.past id 0)) (λ j u other there p. p);
+      taken = each_turn (λ j u. All (IsTaken z g.made c.fin g.seat g.past j u.known.session) u.joined) (λ j u. All (IsTaken z g.made c.fin g.seat g.past j u.known.session) u.joined) views id w h.taken
+          (All-nil (IsTaken z g.made c.fin g.seat g.past id 0)) (λ j u other there p. p);
     }
 
 -- of two prefixes of a list the longer one is a prefix
@@ -242,11 +244,12 @@ join_allowed z id other v w number s holds here apart there =
     let note : Begins w.known.seen holds.world.past = holds.law.history.sees other w theirs in
     let begins : Begins seen holds.world.past = by_lock (holds_lock v.phase) v.known.seen (longer v.known.seen w.known.seen) holds.world.past mine (longer_begins v.known.seen w.known.seen holds.world.past mine note) in
     let law : Law z holds.content holds.world (set s.views id (joined v w)) =
-    hears z holds.content holds.world s.views id v seen (max v.known.told w.known.told) holds.law here begins
+    hears z holds.content holds.world s.views id v seen (max v.known.told w.known.told) (max v.known.signalled w.known.signalled) (owes_after v.known w.known.told) holds.law here begins
     (no_shorter (holds_lock v.phase) v.known.seen w.known.seen)
     (λ held. ap (λ b. cond b v.known.seen (longer v.known.seen w.known.seen)) held)
-    (heard_max holds.content.fin holds.world.undecided v.known.told w.known.told (holds.law.wakes.heard id v here) (holds.law.wakes.heard other w theirs))
-    (let first = holds.law.flags.told id v here in omega (arith, first)) in record {
+    (λ owed. ap (λ b. b || (is_some v.known.mark && nat_lt v.known.told w.known.told)) owed)
+    (heard_max holds.content.fin holds.world.undecided v.known.signalled w.known.signalled (holds.law.wakes.heard id v here) (holds.law.wakes.heard other w theirs))
+    (told_max holds.content.fin v.known.told v.known.signalled w.known.told w.known.signalled (holds.law.flags.told id v here) (holds.law.flags.told other w theirs)) in record {
       shape = holds.shape;
       content = holds.content;
       world = holds.world;
@@ -261,6 +264,11 @@ join_allowed z id other v w number s holds here apart there =
     no_shorter : (b : Bool) (xs ys : List Tx) → length xs ≤ length (cond b xs (longer xs ys))
     no_shorter true xs ys = omega arith
     no_shorter false xs ys = omega (arith, length-append xs (drop (length xs) ys))
+
+    told_max : (fin a x b y : ℕ) → IsTold fin a x → IsTold fin b y → IsTold fin (max a b) (max x y)
+    told_max fin a x b y p q =
+        let first = p.first in let below = p.below in let other = q.below in let finished = p.finished in let ended = q.finished in
+        record { first = omega (arith, first); below = omega (arith, below, other); finished = omega (arith, finished, ended) }
 
     heard_max : (fin : ℕ) (undecided : ℕ → Bool) (m n : ℕ) → IsHeard fin undecided m → IsHeard fin undecided n → IsHeard fin undecided (max m n)
     heard_max fin undecided m n p q = record { most = let a = p.most in let b = q.most in omega (arith, a, b); decided = λ i waits. let a = p.decided i waits in let b = q.decided i waits in omega (arith, a, b) }

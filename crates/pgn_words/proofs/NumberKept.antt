@@ -69,9 +69,9 @@ draws z c g views id v notes h here ready filled valid different few =
       };
       wakes = wakes_keep views id v w here z.format c.lock c.fin g.past g.undecided g.concerned c.wakes h.wakes refl refl refl refl refl refl (sym held) (λ i. sym (ap (λ p. pending p (waits_in v.verdicts) i) ready)) refl (sym (ap (λ p. ended_in p c.fin) ready));
       interests = interests_keep views id v w here g.concerned c.interests h.interests refl refl refl (λ _. tt);
-      flags = flags_keep views id v w here c.fin g.undecided c.flags h.flags refl (h.flags.told id v here) refl refl;
+      flags = flags_keep views id v w here c.fin c.flags h.flags refl (h.flags.told id v here) refl refl;
       named = named_keep views id v w here h.named refl refl refl refl refl;
-      taken = taken_keep views id v w here z g.made c.fin g.undecided g.seat g.past h.taken refl refl;
+      taken = taken_keep views id v w here z g.made c.fin g.seat g.past h.taken refl refl;
     }
 
 pub draw_allowed : (z : Shape) (slots id : ℕ) (me : Me ℕ View) (notes : List Note) → me.0.phase ≡ Ready → notes ≢ [] → All IsNote notes → AllPairs (λ a b. a ≢ b) notes → length notes ≤ me.0.known.notes_left

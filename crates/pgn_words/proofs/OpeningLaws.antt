@@ -16,7 +16,7 @@ use Rattle.pgn_words.specs.Words.{row, seats_of, status_words, room_of, word_cou
 use Rattle.pgn_words.specs.Views.{first_view, seat_of, spent_by}
 use Rattle.pgn_words.specs.declared.view.Listen.TheVariants.{Registered}
 use Rattle.pgn_words.specs.ListenRule.{Placed, Marks, ShowsPosition, Walking, Bounds, LooksBy, Spared}
-use Rattle.pgn_words.specs.WakeRule.{IsHeard, Heeds, Covered, Deems, Signals, ended_in, raised_in, found_in, named_in, Raised, IsMost, Marked, IsTaken, IsLast}
+use Rattle.pgn_words.specs.WakeRule.{IsHeard, IsTold, Heeds, Covered, Deems, Signals, ended_in, raised_in, found_in, named_in, Raised, IsMost, Marked, IsTaken, IsLast}
 use Rattle.pgn_words.specs.Rule.{World, Seated, Makes, Locks, WasMade, Draws, KnowsStop, Holds, Law, Lawful, Fates, status_at}
 use Rattle.pgn_layout.specs.Status.{status_word, status_in}
 use Rattle.pgn_layout.proofs.StatusLaws.{none_is_set}
@@ -131,7 +131,7 @@ opens_law z shape some_db db_fits = record {
     heeds = each_one (Heeds z.format [] 3 (λ i. false) (λ i. false) (replicate (seats_of z) 0)) (first_view z) (λ registered. absurd (cc));
     signals = each_one (Signals (λ i. false)) (first_view z) (λ held. absurd (cc));
     calm = λ _ i. refl;
-    heard = each_one (λ _ u. IsHeard 3 (λ i. false) u.known.told) (first_view z) (record { most = omega arith; decided = λ i waits. absurd (cc) });
+    heard = each_one (λ _ u. IsHeard 3 (λ i. false) u.known.signalled) (first_view z) (record { most = omega arith; decided = λ i waits. absurd (cc) });
     ended = each_one (λ _ u. u.ended ≡ ended_in u.phase 3) (first_view z) refl;
   };
   interests = record {
@@ -139,8 +139,8 @@ opens_law z shape some_db db_fits = record {
     deems = each_one (λ _ u. Deems u.phase (λ i. false) u.concerned) (first_view z) tt;
   };
   flags = record {
-    heard = λ f. let none = zero_is z.flags f in record { most = omega (arith, none); decided = λ i waits. absurd (cc) };
-    told = each_one (λ _ u. 3 ≤ u.known.told) (first_view z) (omega arith);
+    finished = λ f. let none = zero_is z.flags f in omega (arith, none);
+    told = each_one (λ _ u. IsTold 3 u.known.told u.known.signalled) (first_view z) (record { first = omega arith; below = omega arith; finished = omega arith });
     most = each_one (λ _ u. All (IsMost (replicate z.flags 0)) (raised_in u)) (first_view z) (All-nil (IsMost (replicate z.flags 0)));
     source = λ f. inl (zero_is z.flags f);
     found = each_one (λ _ u. All (Raised (first_view z ∷ [])) (found_in u)) (first_view z) (All-nil (Raised (first_view z ∷ [])));
@@ -149,7 +149,7 @@ opens_law z shape some_db db_fits = record {
     current = each_one (λ _ u. u.post.listen ≡ Registered → IsLast u.known.marks u.post.mark) (first_view z) (λ registered. absurd (cc));
     named = each_one (λ _ u. All (Marked (first_view z ∷ [])) (named_in u)) (first_view z) (All-nil (Marked (first_view z ∷ [])));
   };
-  taken = each_one (λ j u. All (IsTaken z 1 3 (λ i. false) (λ n. 0) [] j u.known.session) u.joined) (first_view z) (All-nil (IsTaken z 1 3 (λ i. false) (λ n. 0) [] 0 1));
+  taken = each_one (λ j u. All (IsTaken z 1 3 (λ n. 0) [] j u.known.session) u.joined) (first_view z) (All-nil (IsTaken z 1 3 (λ n. 0) [] 0 1));
 }
 
 pub opens : (z : Shape) (words : List ℕ) → IsShape z → 0 < (seat_of z 1).db → (seat_of z 1).db < 2 ^ 32 → words ≡ row (first_content z) → Lawful z (opening words [] (first_view z))

@@ -23,7 +23,7 @@ use Rattle.pgn_words.specs.Rule.{World, IsSeated, Seated, Makes, Locks, Locking,
 use Rattle.pgn_words.specs.Told.{after_making, made_by}
 use Rattle.pgn_words.proofs.EachLaws.{each_turn, each_keep, each_made, sum_set, sum_made}
 use Rattle.pgn_words.proofs.Frames.{locking_keep}
-use Rattle.pgn_words.proofs.MoreFrames.{someone_keep, posts_keep, flags_keep, named_keep}
+use Rattle.pgn_words.proofs.MoreFrames.{told_first, someone_keep, posts_keep, flags_keep, named_keep}
 use Rattle.pgn_words.proofs.MoreMade.{someone_more, flags_more, named_more}
 
 -- the seats, with one more
@@ -63,7 +63,7 @@ makes z c g views id v h here mine room some_db db_fits =
     let made : v.made ≡ g.made = me.1 in
     let long : length (set views id left) ≡ length views = length-set views id left in
     let keep : (n : ℕ) → n ≤ g.made → seat_more g.made (length views) g.seat n ≡ g.seat n = λ n low. seat_before g.made (length views) n g.seat low in
-    let heard_first : IsHeard c.fin g.undecided 3 = let t = h.wakes.heard id v here in let first = h.flags.told id v here in record { most = let most = t.most in omega (arith, most, first); decided = λ i waits. let low = t.decided i waits in omega (arith, low, first) } in
+    let heard_first : IsHeard c.fin g.undecided 3 = let t = h.wakes.heard id v here in let first = (h.flags.told id v here).first in record { most = let most = t.most in omega (arith, most, first); decided = λ i waits. let low = t.decided i waits in omega (arith, low, first) } in
     let locking : Locking c.lock g.holder (set views id left) = locking_keep views id v left here c.lock g.holder h.locking refl refl in record {
       laid = h.laid;
       seats = record {
@@ -144,28 +144,28 @@ makes z c g views id v h here mine room some_db db_fits =
         heeds = each_made (Heeds z.format g.past c.fin g.undecided g.concerned c.wakes) (set views id left) right (each_keep (Heeds z.format g.past c.fin g.undecided g.concerned c.wakes) views id v left here h.wakes.heeds (λ p. p)) (λ registered. absurd (cc));
         signals = each_made (Signals g.undecided) (set views id left) right (each_keep (Signals g.undecided) views id v left here h.wakes.signals (λ p. p)) (λ held. absurd (cc));
         calm = h.wakes.calm;
-        heard = each_made (λ _ u. IsHeard c.fin g.undecided u.known.told) (set views id left) right (each_keep (λ _ u. IsHeard c.fin g.undecided u.known.told) views id v left here h.wakes.heard (λ p. p)) heard_first;
+        heard = each_made (λ _ u. IsHeard c.fin g.undecided u.known.signalled) (set views id left) right (each_keep (λ _ u. IsHeard c.fin g.undecided u.known.signalled) views id v left here h.wakes.heard (λ p. p)) heard_first;
         ended = each_made (λ _ u. u.ended ≡ ended_in u.phase c.fin) (set views id left) right (each_keep (λ _ u. u.ended ≡ ended_in u.phase c.fin) views id v left here h.wakes.ended (λ p. p)) refl;
       };
       interests = record {
         covered = each_made (Covered c.interests) (set views id left) right (each_keep (Covered c.interests) views id v left here h.interests.covered (λ p. p)) (λ registered. absurd (cc));
         deems = each_made (λ _ u. Deems u.phase g.concerned u.concerned) (set views id left) right (each_keep (λ _ u. Deems u.phase g.concerned u.concerned) views id v left here h.interests.deems (λ p. p)) tt;
       };
-      flags = flags_more (set views id left) right c.fin g.undecided c.flags (flags_keep views id v left here c.fin g.undecided c.flags h.flags refl (h.flags.told id v here) refl refl) (omega arith) refl refl;
+      flags = flags_more (set views id left) right c.fin c.flags (flags_keep views id v left here c.fin c.flags h.flags refl (h.flags.told id v here) refl refl) (told_first c.fin v.known.told v.known.signalled (h.flags.told id v here)) refl refl;
       named = named_more (set views id left) right (named_keep views id v left here h.named refl refl refl refl refl) (λ registered. absurd (cc)) refl;
-      taken = each_made (λ j u. All (IsTaken z (g.made + 1) c.fin g.undecided (seat_more g.made (length views) g.seat) g.past j u.known.session) u.joined) (set views id left) right
-          (each_turn (λ j u. All (IsTaken z g.made c.fin g.undecided g.seat g.past j u.known.session) u.joined) (λ j u. All (IsTaken z (g.made + 1) c.fin g.undecided (seat_more g.made (length views) g.seat) g.past j u.known.session) u.joined) views id left h.taken
-          (gone_more z g.made c.fin g.undecided (length views) g.seat g.past id v.known.session v.joined keep (h.taken id v here))
-          (λ j u other there all. gone_more z g.made c.fin g.undecided (length views) g.seat g.past j u.known.session u.joined keep all))
-          (All-nil (IsTaken z (g.made + 1) c.fin g.undecided (seat_more g.made (length views) g.seat) g.past (length (set views id left)) (g.made + 1)));
+      taken = each_made (λ j u. All (IsTaken z (g.made + 1) c.fin (seat_more g.made (length views) g.seat) g.past j u.known.session) u.joined) (set views id left) right
+          (each_turn (λ j u. All (IsTaken z g.made c.fin g.seat g.past j u.known.session) u.joined) (λ j u. All (IsTaken z (g.made + 1) c.fin (seat_more g.made (length views) g.seat) g.past j u.known.session) u.joined) views id left h.taken
+          (gone_more z g.made c.fin (length views) g.seat g.past id v.known.session v.joined keep (h.taken id v here))
+          (λ j u other there all. gone_more z g.made c.fin (length views) g.seat g.past j u.known.session u.joined keep all))
+          (All-nil (IsTaken z (g.made + 1) c.fin (seat_more g.made (length views) g.seat) g.past (length (set views id left)) (g.made + 1)));
     }
   where
     more : (z : Shape) (made at : ℕ) (seat : ℕ → ℕ) (j : ℕ) (u : View) → ((n : ℕ) → n ≤ made → seat_more made at seat n ≡ seat n) → IsSeated z made seat j u → IsSeated z (made + 1) (seat_more made at seat) j u
     more z made at seat j u keep s = record { sits = keep u.known.session s.was_made ∙ s.sits; was_made = let low = s.was_made in omega (arith, low); db_is = s.db_is; some_db = s.some_db; db_fits = s.db_fits; setup_is = s.setup_is }
 
-    gone_more : (z : Shape) (made fin : ℕ) (undecided : ℕ → Bool) (at : ℕ) (seat : ℕ → ℕ) (past : List Tx) (j session : ℕ) (gone : List Known) → ((n : ℕ) → n ≤ made → seat_more made at seat n ≡ seat n)
-        → All (IsTaken z made fin undecided seat past j session) gone → All (IsTaken z (made + 1) fin undecided (seat_more made at seat) past j session) gone
-    gone_more z made fin undecided at seat past j session gone keep all = All-weaker (IsTaken z made fin undecided seat past j session) (IsTaken z (made + 1) fin undecided (seat_more made at seat) past j session) (λ k p. record {
+    gone_more : (z : Shape) (made fin : ℕ) (at : ℕ) (seat : ℕ → ℕ) (past : List Tx) (j session : ℕ) (gone : List Known) → ((n : ℕ) → n ≤ made → seat_more made at seat n ≡ seat n)
+        → All (IsTaken z made fin seat past j session) gone → All (IsTaken z (made + 1) fin (seat_more made at seat) past j session) gone
+    gone_more z made fin at seat past j session gone keep all = All-weaker (IsTaken z made fin seat past j session) (IsTaken z (made + 1) fin (seat_more made at seat) past j session) (λ k p. record {
       sits = keep k.session p.was_made ∙ p.sits;
       positive = p.positive;
       was_made = let low = p.was_made in omega (arith, low);
@@ -174,7 +174,7 @@ makes z c g views id v h here mine room some_db db_fits =
       sees = p.sees;
       owns = p.owns;
       own_seen = p.own_seen;
-      heard = p.heard;
+      told = p.told;
     }) gone all
 
     seat_is : (z : Shape) (made : ℕ) (seat : ℕ → ℕ) (j : ℕ) (u : View) → Seated z made seat j u → u.known.session ≡ 1 → seat 1 ≡ j

@@ -9,7 +9,7 @@ use Rattle.pgn_hub.specs.Examples.{two_seats, tx_3, published}
 use Rattle.pgn_words.specs.Views.{no_eye}
 use Rattle.pgn_words.specs.Rule.{Keeps, Locks, Draws, KnowsAll}
 use Rattle.pgn_words.specs.ListenRule.{IsPlaced, ShowsPosition, Marks, Spared, IsSecond}
-use Rattle.pgn_words.specs.WakeRule.{IsHeard, Signals, Covered, Deems, IsMost, IsLast, IsTaken}
+use Rattle.pgn_words.specs.WakeRule.{IsHeard, Signals, Covered, Deems, IsMost, IsTold, IsLast, IsTaken}
 use Rattle.pgn_words.specs.Each.{Someone}
 use Rattle.pgn_words.specs.Examples.{listener, listens_on_c, holder}
 use Rattle.pgn_words.specs.declared.view.Phase.TheVariants.{Signalling}
@@ -69,11 +69,17 @@ nobody_knows (zero, v, there, positive, knows) =
     ⊎_elim (λ seen. let long : 0 ≡ 1 = ap length seen in omega (arith, long)) (λ gone. let within = gone.2 in omega (arith, within)) all
 nobody_knows (suc j, v, there, positive, knows) = absurd (some-ne-none v (sym there))
 
-pub not_taken_too_early : IsTaken two_seats 2 4 (λ i. true) (λ n. 0) (tx_3 ∷ []) 0 1 published → ⊥
-not_taken_too_early h = let low = h.heard.decided 0 refl in omega (arith, low)
+pub not_taken_too_early : IsTaken two_seats 2 3 (λ n. 0) (tx_3 ∷ []) 0 1 published → ⊥
+not_taken_too_early h = let low = h.told in omega (arith, low)
+
+pub not_told_too_much : IsTold 3 4 3 → ⊥
+not_told_too_much h = let low = h.finished in omega (arith, low)
+
+pub not_signalled_untold : IsTold 4 3 4 → ⊥
+not_signalled_untold h = let low = h.below in omega (arith, low)
 
 pub ruleset refused_writers = (no_other_cell, no_other_holder, not_drawn_twice)
 
 pub ruleset refused_listeners = (not_too_late, no_page_gone, not_hidden, not_without_mark, not_before_target, no_other_target)
 
-pub ruleset refused_wakes = (not_heard_too_early, not_undecided, not_uncovered, not_deemed, no_earlier_mark, nobody_knows, not_taken_too_early, no_greater)
+pub ruleset refused_wakes = (not_heard_too_early, not_undecided, not_uncovered, not_deemed, no_earlier_mark, nobody_knows, not_taken_too_early, not_told_too_much, not_signalled_untold, no_greater)

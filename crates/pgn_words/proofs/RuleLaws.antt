@@ -3,7 +3,7 @@ use Rattle.std.proofs.Common.{◌≡◌, length, ⊎_elim, true≢false, sym, ap
 use Rattle.pgn_journal.specs.Due.{is_due_to}
 use Rattle.pgn_words.specs.Views.{knows_stop}
 use Rattle.pgn_words.specs.WakeRule.{served, passed}
-use Rattle.pgn_words.specs.Laws.{WalksReadTheJournal, PagesAreSpared, NoWakeIsLost, FlagsAreHeard, ToldIsHeard}
+use Rattle.pgn_words.specs.Laws.{WalksReadTheJournal, PagesAreSpared, NoWakeIsLost, FlagsAreFinished, ToldIsFinished, SignalledIsHeard}
 use Rattle.pgn_words.specs.declared.view.Phase.TheVariants.{Open}
 use Rattle.pgn_words.proofs.HeadKept.{phase_holds}
 use Rattle.pgn_words.proofs.NearSteps.{served_near}
@@ -27,13 +27,16 @@ no_wake_lost z c g views j i v h there registered number unset nothing_owed =
     (λ set_now. absurd (unset set_now))
     (λ r. ⊎_elim
     (λ owed. absurd (true≢false (sym owed ∙ nothing_owed)))
-    (λ near. served_near z.format (is_due_to v.known.db v.known.set) g.past v.post.mark (passed g.undecided g.concerned c.fin i) (served g.undecided c.fin i) v.known.told
-    (heard_passed c.fin g.undecided g.concerned i v.known.told (h.wakes.heard j v there)) (heard_served c.fin g.undecided i v.known.told (h.wakes.heard j v there)) near)
+    (λ near. served_near z.format (is_due_to v.known.db v.known.set) g.past v.post.mark (passed g.undecided g.concerned c.fin i) (served g.undecided c.fin i) v.known.signalled
+    (heard_passed c.fin g.undecided g.concerned i v.known.signalled (h.wakes.heard j v there)) (heard_served c.fin g.undecided i v.known.signalled (h.wakes.heard j v there)) near)
     r)
     (h.wakes.heeds j v there registered i number).still
 
-pub flags_heard : FlagsAreHeard
-flags_heard z c g views f h = h.flags.heard f
+pub flags_finished : FlagsAreFinished
+flags_finished z c g views f h = h.flags.finished f
 
-pub told_heard : ToldIsHeard
-told_heard z c g views j v h there = h.wakes.heard j v there
+pub told_finished : ToldIsFinished
+told_finished z c g views j v h there = (h.flags.told j v there).finished
+
+pub signalled_heard : SignalledIsHeard
+signalled_heard z c g views j v h there = h.wakes.heard j v there

@@ -263,9 +263,9 @@ frees z c g views id v page h here held may =
       looks = let looks = looks_keep views id v w here z.format g.past c.fin c.stop g.looked g.target c.tail h.looks refl refl refl refl in record { looking = looks.looking; spared = looks.spared; aims = h.looks.aims; above = omega (arith, page_is) };
       wakes = wakes_keep views id v w here z.format c.lock c.fin g.past g.undecided g.concerned c.wakes h.wakes refl refl refl refl refl refl refl (λ i. refl) refl refl;
       interests = interests_keep views id v w here g.concerned c.interests h.interests refl refl refl (λ x. x);
-      flags = flags_keep views id v w here c.fin g.undecided c.flags h.flags refl (h.flags.told id v here) refl refl;
+      flags = flags_keep views id v w here c.fin c.flags h.flags refl (h.flags.told id v here) refl refl;
       named = named_keep views id v w here h.named refl refl refl refl refl;
-      taken = taken_keep views id v w here z g.made c.fin g.undecided g.seat g.past h.taken refl refl;
+      taken = taken_keep views id v w here z g.made c.fin g.seat g.past h.taken refl refl;
     }
 
 pub store_stop_allowed : (z : Shape) (slots id page : ℕ) (me : Me ℕ View) → may_look me.0.phase ≡ true → MayFree me.0 page → Allows (Lawful z) slots id me 4 (λ _. page) (λ _. TellsStopStore (step slots 4 page 0 none) me page)

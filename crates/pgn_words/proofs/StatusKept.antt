@@ -21,12 +21,12 @@ use Rattle.pgn_words.specs.declared.view.Pen.{Pen}
 use Rattle.pgn_words.specs.declared.view.Phase.TheVariants.{Free, Held, Headed, Ready, Open, Finished, Signalling}
 use Rattle.pgn_words.specs.Words.{Content, row, room_of, statuses_at, status_words}
 use Rattle.pgn_words.specs.Views.{holds_lock, knows_stop, drawn_by, fated}
-use Rattle.pgn_words.specs.WakeRule.{IsHeard, Signals, ended_in, pending, waits_in}
+use Rattle.pgn_words.specs.WakeRule.{IsHeard, IsTold, Signals, ended_in, pending, waits_in}
 use Rattle.pgn_words.specs.Rule.{World, KnowsStop, HoldsIn, Holds, IsWriting, Fates, Law, Lawful, Keeps, status_at}
 use Rattle.pgn_words.specs.Told.{TellsStatusSet, TellsFin, TellsStatus, MayEnd, ended_by}
 use Rattle.pgn_words.proofs.EachLaws.{each_turn, each_keep, own_further}
 use Rattle.pgn_words.proofs.Frames.{seats_keep, locking_keep, history_keep, numbers_keep, budget_keep, statuses_keep, whole_keep}
-use Rattle.pgn_words.proofs.MoreFrames.{posts_keep, walks_keep, looks_keep, heeds_keep, wakes_keep, interests_keep, flags_keep, named_keep, taken_keep}
+use Rattle.pgn_words.proofs.MoreFrames.{posts_keep, walks_keep, looks_keep, heeds_owing, wakes_keep, interests_keep, flags_keep, named_keep, taken_keep}
 use Rattle.pgn_words.proofs.LockKept.{held_setup, setup_of, alone, others_hold, few_left, few_txs}
 use Rattle.pgn_words.proofs.HeadKept.{phase_holds}
 use Rattle.pgn_words.proofs.RowLaws.{set_status_word, get_status_word}
@@ -103,9 +103,9 @@ ends z c g views id v tx x h here opened may notes session db number within =
       looks = looks_keep views id v w here z.format g.past c.fin c.stop g.looked g.target c.tail h.looks refl refl (sym held) refl;
       wakes = wakes_keep views id v w here z.format c.lock c.fin g.past g.undecided g.concerned c.wakes h.wakes refl refl refl refl refl refl (sym held) (λ i. sym (ap (λ p. pending p (waits_in v.verdicts) i) opened)) refl (sym (ap (λ p. ended_in p c.fin) opened));
       interests = interests_keep views id v w here g.concerned c.interests h.interests refl refl refl (λ _. tt);
-      flags = flags_keep views id v w here c.fin g.undecided c.flags h.flags refl (h.flags.told id v here) refl refl;
+      flags = flags_keep views id v w here c.fin c.flags h.flags refl (h.flags.told id v here) refl refl;
       named = named_keep views id v w here h.named refl refl refl refl refl;
-      taken = taken_keep views id v w here z g.made c.fin g.undecided g.seat g.past h.taken refl refl;
+      taken = taken_keep views id v w here z g.made c.fin g.seat g.past h.taken refl refl;
     }
   where
     entry_low : (past : List Tx) (y : ℕ) (one : Tx) → entry past y ≡ Some one → 3 ≤ y → y < next_xid past
@@ -149,11 +149,12 @@ holder_sees Open z keeps past shown seen session db pen held h = h.seen_is
 holder_sees Finished z keeps past shown seen session db pen held h = h.seen_is
 holder_sees Signalling z keeps past shown seen session db pen held h = h.idle.seen_is
 
--- the pass learns more of the journal, where it does not hold the lock, and is told more
-pub hears : (z : Shape) (c : Content) (g : World) (views : List View) (id : ℕ) (v : View) (txs : List Tx) (told : ℕ) → Law z c g views → get_elem? views id ≡ some v
-    → Begins txs g.past → length v.known.seen ≤ length txs → (holds_lock v.phase ≡ true → txs ≡ v.known.seen) → IsHeard c.fin g.undecided told → 3 ≤ told → Law z c g (set views id (record v { known = record v.known { seen = txs; told = told } }))
-hears z c g views id v txs told h here begins longer same heard first =
-    let w : View = record v { known = record v.known { seen = txs; told = told } } in record {
+-- the pass learns more of the journal, where it does not hold the lock, is told more, and owes a read that it owed
+pub hears : (z : Shape) (c : Content) (g : World) (views : List View) (id : ℕ) (v : View) (txs : List Tx) (told signalled : ℕ) (owes : Bool) → Law z c g views → get_elem? views id ≡ some v
+    → Begins txs g.past → length v.known.seen ≤ length txs → (holds_lock v.phase ≡ true → txs ≡ v.known.seen) → (v.known.owes ≡ true → owes ≡ true) → IsHeard c.fin g.undecided signalled → IsTold c.fin told signalled
+    → Law z c g (set views id (record v { known = record v.known { seen = txs; told = told; signalled = signalled; owes = owes } }))
+hears z c g views id v txs told signalled owes h here begins longer same owed heard first =
+    let w : View = record v { known = record v.known { seen = txs; told = told; signalled = signalled; owes = owes } } in record {
       laid = h.laid;
       seats = seats_keep views id v w here z g.made g.seat h.seats refl refl refl refl;
       locking = locking_keep views id v w here c.lock g.holder h.locking refl refl;
@@ -183,21 +184,21 @@ hears z c g views id v txs told h here begins longer same heard first =
       looks = looks_keep views id v w here z.format g.past c.fin c.stop g.looked g.target c.tail h.looks refl refl refl refl;
       wakes = record {
         small = h.wakes.small;
-        heeds = heeds_keep views id v w here z.format g.past c.fin g.undecided g.concerned c.wakes h.wakes.heeds refl refl refl refl refl;
+        heeds = heeds_owing views id v w here z.format g.past c.fin g.undecided g.concerned c.wakes h.wakes.heeds refl refl refl refl owed;
         signals = each_keep (Signals g.undecided) views id v w here h.wakes.signals (λ p. p);
         calm = h.wakes.calm;
-        heard = each_keep (λ _ u. IsHeard c.fin g.undecided u.known.told) views id v w here h.wakes.heard (λ p. heard);
+        heard = each_keep (λ _ u. IsHeard c.fin g.undecided u.known.signalled) views id v w here h.wakes.heard (λ p. heard);
         ended = each_keep (λ _ u. u.ended ≡ ended_in u.phase c.fin) views id v w here h.wakes.ended (λ p. p);
       };
       interests = interests_keep views id v w here g.concerned c.interests h.interests refl refl refl (λ x. x);
-      flags = flags_keep views id v w here c.fin g.undecided c.flags h.flags refl first refl refl;
+      flags = flags_keep views id v w here c.fin c.flags h.flags refl first refl refl;
       named = named_keep views id v w here h.named refl refl refl refl refl;
-      taken = taken_keep views id v w here z g.made c.fin g.undecided g.seat g.past h.taken refl refl;
+      taken = taken_keep views id v w here z g.made c.fin g.seat g.past h.taken refl refl;
     }
   where
-    by_lock : (b : Bool) → holds_lock v.phase ≡ b → Holds z c.stop g.past g.shown c.cells id v → Holds z c.stop g.past g.shown c.cells id (record v { known = record v.known { seen = txs; told = told } })
+    by_lock : (b : Bool) → holds_lock v.phase ≡ b → Holds z c.stop g.past g.shown c.cells id v → Holds z c.stop g.past g.shown c.cells id (record v { known = record v.known { seen = txs; told = told; signalled = signalled; owes = owes } })
     by_lock true e p = subst (λ (xs : List Tx). HoldsIn v.phase z.format (λ log. Keeps (room_of z) (page_start c.stop) log c.cells) g.past g.shown xs v.known.session v.known.db v.pen) (sym (same e)) p
-    by_lock false e p = others_hold z c.stop g.past g.shown c.cells id (record v { known = record v.known { seen = txs; told = told } }) (λ held. true≢false (sym held ∙ e))
+    by_lock false e p = others_hold z c.stop g.past g.shown c.cells id (record v { known = record v.known { seen = txs; told = told; signalled = signalled; owes = owes } }) (λ held. true≢false (sym held ∙ e))
 
 pub load_fin_allowed : (z : Shape) (slots id : ℕ) (me : Me ℕ View) → 0 < me.0.known.session → Allows (Lawful z) slots id me 2 (λ n. n) (TellsFin (step slots 2 0 0 none) me)
 load_fin_allowed z slots id me positive =
@@ -210,10 +211,10 @@ load_fin_allowed z slots id me positive =
       content = c;
       world = g;
       moves = refl;
-      law = hears z c g views id me.0 g.past me.0.known.told h here (begins-itself g.past)
+      law = hears z c g views id me.0 g.past me.0.known.told me.0.known.signalled me.0.known.owes h here (begins-itself g.past)
           (begins-shorter me.0.known.seen g.past (h.history.sees id me.0 here))
           (λ held. sym (holder_sees me.0.phase z (λ log. Keeps (room_of z) (page_start c.stop) log c.cells) g.past g.shown me.0.known.seen me.0.known.session me.0.known.db me.0.pen held (h.holding.holds id me.0 here)))
-          (h.wakes.heard id me.0 here) (h.flags.told id me.0 here);
+          (λ owed. owed) (h.wakes.heard id me.0 here) (h.flags.told id me.0 here);
       told = record {
         slots = refl;
         heard = record {

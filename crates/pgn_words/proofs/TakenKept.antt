@@ -21,9 +21,10 @@ use Rattle.pgn_words.specs.Positions.{shown_as, word_of}
 use Rattle.pgn_words.specs.Told.{spent_view}
 use Rattle.pgn_words.specs.Closing.{taken_in}
 use Rattle.pgn_words.specs.ListenRule.{Placed, Marks, ShowsPosition, Walking, Bounds, LooksBy, Spared}
-use Rattle.pgn_words.specs.WakeRule.{IsHeard, Heeds, Covered, Deems, Signals, ended_in, raised_in, found_in, named_in, Raised, IsMost, IsMarkedBy, MarkedBy, Marked, IsTaken, IsLast}
+use Rattle.pgn_words.specs.WakeRule.{IsHeard, IsTold, Heeds, Covered, Deems, Signals, ended_in, raised_in, found_in, named_in, Raised, IsMost, IsMarkedBy, MarkedBy, Marked, IsTaken, IsLast}
 use Rattle.pgn_words.specs.Rule.{World, Seated, Makes, Locks, Draws, KnowsStop, Holds, Fates, Law, Lawful, KnowsAll}
 use Rattle.pgn_words.proofs.EachLaws.{sum_set}
+use Rattle.pgn_words.proofs.MoreFrames.{told_first}
 use Rattle.pgn_words.proofs.NoteKept.{none_of_no}
 use Rattle.pgn_words.proofs.TakenLaws.{seat_moved, seat_stays, seat_goes, each_two, seen_at, someone_two, any_left, any_right, all_taken, has_mine, has_theirs}
 
@@ -40,7 +41,7 @@ takes_in z c g views id other v u h here there apart mine_positive positive free
     let theirs = h.seats.seated other u there positive in
     let stays : (n at : ℕ) → g.seat n ≡ at → at ≢ other → seat_moved other id g.seat n ≡ at = λ n at is ne. seat_stays other id g.seat n at is ne in
     let mine_at : seat_moved other id g.seat v.known.session ≡ id = stays v.known.session id seat.sits (λ same. apart (sym same)) in
-    let heard_first : IsHeard c.fin g.undecided 3 = let t = h.wakes.heard id v here in let first = h.flags.told id v here in record { most = let most = t.most in omega (arith, most, first); decided = λ i waits. let low = t.decided i waits in omega (arith, low, first) } in
+    let heard_first : IsHeard c.fin g.undecided 3 = let t = h.wakes.heard id v here in let first = (h.flags.told id v here).first in record { most = let most = t.most in omega (arith, most, first); decided = λ i waits. let low = t.decided i waits in omega (arith, low, first) } in
     let raised_on : (pair : ℕ × ℕ) → Raised views pair → Raised (set (set views id w) other spent_view) pair = λ pair r.
     someone_two views id other v u w here there apart (λ x. Contains (raised_in x) pair) mine_positive
     (λ p. has_mine (λ k. k.raised) v.known.raised v.joined u.joined u.known pair p) (λ p. has_theirs (λ k. k.raised) v.known.raised v.joined u.joined u.known pair p) r in
@@ -135,7 +136,7 @@ takes_in z c g views id other v u h here there apart mine_positive positive free
         heeds = each_two views id other v u w here there apart (Heeds z.format g.past c.fin g.undecided g.concerned c.wakes) (Heeds z.format g.past c.fin g.undecided g.concerned c.wakes) h.wakes.heeds (h.wakes.heeds id v here) (λ registered. absurd (cc)) (λ j x off off_other at p. p);
         signals = each_two views id other v u w here there apart (Signals g.undecided) (Signals g.undecided) h.wakes.signals (h.wakes.signals id v here) (λ held. absurd (cc)) (λ j x off off_other at p. p);
         calm = h.wakes.calm;
-        heard = each_two views id other v u w here there apart (λ _ x. IsHeard c.fin g.undecided x.known.told) (λ _ x. IsHeard c.fin g.undecided x.known.told) h.wakes.heard (h.wakes.heard id v here) heard_first (λ j x off off_other at p. p);
+        heard = each_two views id other v u w here there apart (λ _ x. IsHeard c.fin g.undecided x.known.signalled) (λ _ x. IsHeard c.fin g.undecided x.known.signalled) h.wakes.heard (h.wakes.heard id v here) heard_first (λ j x off off_other at p. p);
         ended = each_two views id other v u w here there apart (λ _ x. x.ended ≡ ended_in x.phase c.fin) (λ _ x. x.ended ≡ ended_in x.phase c.fin) h.wakes.ended (h.wakes.ended id v here) refl (λ j x off off_other at p. p);
       };
       interests = record {
@@ -143,8 +144,8 @@ takes_in z c g views id other v u h here there apart mine_positive positive free
         deems = each_two views id other v u w here there apart (λ _ x. Deems x.phase g.concerned x.concerned) (λ _ x. Deems x.phase g.concerned x.concerned) h.interests.deems (h.interests.deems id v here) tt (λ j x off off_other at p. p);
       };
       flags = record {
-        heard = h.flags.heard;
-        told = each_two views id other v u w here there apart (λ _ x. 3 ≤ x.known.told) (λ _ x. 3 ≤ x.known.told) h.flags.told (h.flags.told id v here) (omega arith) (λ j x off off_other at p. p);
+        finished = h.flags.finished;
+        told = each_two views id other v u w here there apart (λ _ x. IsTold c.fin x.known.told x.known.signalled) (λ _ x. IsTold c.fin x.known.told x.known.signalled) h.flags.told (h.flags.told id v here) (told_first c.fin v.known.told v.known.signalled (h.flags.told id v here)) (λ j x off off_other at p. p);
         most = each_two views id other v u w here there apart (λ _ x. All (IsMost c.flags) (raised_in x)) (λ _ x. All (IsMost c.flags) (raised_in x)) h.flags.most
             (all_taken (IsMost c.flags) (λ k. k.raised) v.known.raised v.joined u.joined u.known (h.flags.most id v here) (h.flags.most other u there)) (All-nil (IsMost c.flags)) (λ j x off off_other at p. p);
         source = λ f. ⊎_elim (λ none_raised. inl none_raised) (λ r. inr (raised_on (f, get_or c.flags f 0) r)) (h.flags.source f);
@@ -160,12 +161,12 @@ takes_in z c g views id other v u h here there apart mine_positive positive free
             (All-nil (Marked (set (set views id w) other spent_view)))
             (λ j x off off_other at p. All-weaker (Marked views) (Marked (set (set views id w) other spent_view)) marked_on (named_in x) p);
       };
-      taken = each_two views id other v u w here there apart (λ j x. All (IsTaken z g.made c.fin g.undecided g.seat g.past j x.known.session) x.joined) (λ j x. All (IsTaken z g.made c.fin g.undecided (seat_moved other id g.seat) g.past j x.known.session) x.joined) h.taken
-          (all_joined (IsTaken z g.made c.fin g.undecided (seat_moved other id g.seat) g.past id v.known.session) v.joined u.joined u.known
-          (All-weaker (IsTaken z g.made c.fin g.undecided g.seat g.past id v.known.session) (IsTaken z g.made c.fin g.undecided (seat_moved other id g.seat) g.past id v.known.session)
-          (λ k p. record { sits = stays k.session id p.sits (λ same. apart (sym same)); positive = p.positive; was_made = p.was_made; other = p.other; db_is = p.db_is; sees = p.sees; owns = p.owns; own_seen = p.own_seen; heard = p.heard }) v.joined (h.taken id v here))
-          (All-weaker (IsTaken z g.made c.fin g.undecided g.seat g.past other u.known.session) (IsTaken z g.made c.fin g.undecided (seat_moved other id g.seat) g.past id v.known.session)
-          (λ k p. record { sits = seat_goes other id g.seat k.session p.sits; positive = p.positive; was_made = p.was_made; other = λ same. apart (sym p.sits ∙ ap g.seat same ∙ seat.sits); db_is = p.db_is; sees = p.sees; owns = p.owns; own_seen = p.own_seen; heard = p.heard }) u.joined (h.taken other u there))
+      taken = each_two views id other v u w here there apart (λ j x. All (IsTaken z g.made c.fin g.seat g.past j x.known.session) x.joined) (λ j x. All (IsTaken z g.made c.fin (seat_moved other id g.seat) g.past j x.known.session) x.joined) h.taken
+          (all_joined (IsTaken z g.made c.fin (seat_moved other id g.seat) g.past id v.known.session) v.joined u.joined u.known
+          (All-weaker (IsTaken z g.made c.fin g.seat g.past id v.known.session) (IsTaken z g.made c.fin (seat_moved other id g.seat) g.past id v.known.session)
+          (λ k p. record { sits = stays k.session id p.sits (λ same. apart (sym same)); positive = p.positive; was_made = p.was_made; other = p.other; db_is = p.db_is; sees = p.sees; owns = p.owns; own_seen = p.own_seen; told = p.told }) v.joined (h.taken id v here))
+          (All-weaker (IsTaken z g.made c.fin g.seat g.past other u.known.session) (IsTaken z g.made c.fin (seat_moved other id g.seat) g.past id v.known.session)
+          (λ k p. record { sits = seat_goes other id g.seat k.session p.sits; positive = p.positive; was_made = p.was_made; other = λ same. apart (sym p.sits ∙ ap g.seat same ∙ seat.sits); db_is = p.db_is; sees = p.sees; owns = p.owns; own_seen = p.own_seen; told = p.told }) u.joined (h.taken other u there))
           (record {
             sits = seat_goes other id g.seat u.known.session theirs.sits;
             positive = positive;
@@ -175,11 +176,11 @@ takes_in z c g views id other v u h here there apart mine_positive positive free
             sees = h.history.sees other u there;
             owns = h.history.owns other u there;
             own_seen = h.history.own_seen other u there;
-            heard = h.wakes.heard other u there;
+            told = (h.flags.told other u there).finished;
           }))
-          (All-nil (IsTaken z g.made c.fin g.undecided (seat_moved other id g.seat) g.past other 0))
-          (λ j x off off_other at all. All-weaker (IsTaken z g.made c.fin g.undecided g.seat g.past j x.known.session) (IsTaken z g.made c.fin g.undecided (seat_moved other id g.seat) g.past j x.known.session)
-          (λ k p. record { sits = stays k.session j p.sits off_other; positive = p.positive; was_made = p.was_made; other = p.other; db_is = p.db_is; sees = p.sees; owns = p.owns; own_seen = p.own_seen; heard = p.heard }) x.joined all);
+          (All-nil (IsTaken z g.made c.fin (seat_moved other id g.seat) g.past other 0))
+          (λ j x off off_other at all. All-weaker (IsTaken z g.made c.fin g.seat g.past j x.known.session) (IsTaken z g.made c.fin (seat_moved other id g.seat) g.past j x.known.session)
+          (λ k p. record { sits = stays k.session j p.sits off_other; positive = p.positive; was_made = p.was_made; other = p.other; db_is = p.db_is; sees = p.sees; owns = p.owns; own_seen = p.own_seen; told = p.told }) x.joined all);
     }
 
 pub take_in_allowed : (z : Shape) (id other : ℕ) (v u : View) → 0 < v.known.session → 0 < u.known.session → u.phase ≡ Free → u.post.listen ≡ Out → Joins (Lawful z) id v other u (taken_in v u) spent_view

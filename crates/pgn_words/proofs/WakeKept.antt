@@ -90,7 +90,7 @@ take_wake_allowed z slots id word me there positive registered =
     let owes : Bool = not (n == 0) || v.known.owes in
     let look : Option (Bool × Bool) = Some (not (n == 0), v.known.owes) in
     let k : Rattle.pgn_words.specs.declared.view.Walk.Walk = record v.walk { stage = Still } in
-    let w : View = turned g.past v.known.mark v.known.marks owes look v.known.set v.post k v in
+    let w : View = turned v.known.told g.past v.known.mark v.known.marks owes look v.known.set v.post k v in
     let setup : v.setup ≡ z = setup_of z c g views id v h here positive in
     let has : is_placed v.post.listen ≡ true = ap is_placed registered in
     let heeded = h.wakes.heeds id v here registered i number in
@@ -99,7 +99,7 @@ take_wake_allowed z slots id word me there positive registered =
       content = record c { wakes = set c.wakes i 0 };
       world = g;
       moves = ap (λ e. set (row c) e 0) there ∙ set_wake_word z c i 0 h.laid within;
-      law = turns z c g views id v i g.past v.known.mark v.known.marks owes look v.known.set v.post k c.pos (set c.wakes i 0) c.interests h here number
+      law = turns z c g views id v i v.known.told g.past v.known.mark v.known.marks owes look v.known.set v.post k c.pos (set c.wakes i 0) c.interests h here number
           (begins-itself g.past) (begins-shorter v.known.seen g.past (h.history.sees id v here))
           (λ held. sym (holder_sees v.phase z (λ log. Keeps (room_of z) (page_start c.stop) log c.cells) g.past g.shown v.known.seen v.known.session v.known.db v.pen held (h.holding.holds id v here)))
           refl (λ j other. refl) (h.posts.shows id v here i number)
@@ -109,18 +109,18 @@ take_wake_allowed z slots id word me there positive registered =
           (length-set c.wakes i 0) (λ j other. get_or-set_other c.wakes i j 0 0 other) (let none_now = get_or-set_same c.wakes i 0 0 within in omega (arith, none_now))
           refl (λ j other. refl) (λ _. h.interests.covered id v here registered i number)
           (λ _. record { still = inr rest; walked = λ walks. absurd (cc) })
-          (λ m x. x) (h.named.current id v here);
+          (λ m x. x) (h.named.current id v here) (h.flags.told id v here);
       told = subst (λ (e : ℕ). TellsTaken (step slots word 0 0 none) me e (w, me.1)) (sym found) (record {
         slots = refl;
         taken = record {
           more = drop (length v.known.seen) g.past;
-          view = ap (λ (xs : List Tx). turned xs v.known.mark v.known.marks owes look v.known.set v.post k v) (learned_more z c g views id v h here);
+          view = ap (λ (xs : List Tx). turned v.known.told xs v.known.mark v.known.marks owes look v.known.set v.post k v) (learned_more z c g views id v h here);
           near = λ none_owed.
-              subst (λ (y : Shape). Near y.format (is_due_to v.known.db v.known.set) g.past v.post.mark v.known.told) (sym setup)
+              subst (λ (y : Shape). Near y.format (is_due_to v.known.db v.known.set) g.past v.post.mark v.known.signalled) (sym setup)
               (⊎_elim
               (λ some_owed. absurd (true≢false (sym some_owed ∙ none_owed)))
-              (λ near. served_near z.format (is_due_to v.known.db v.known.set) g.past v.post.mark (passed g.undecided g.concerned c.fin i) (served g.undecided c.fin i) v.known.told
-              (heard_passed c.fin g.undecided g.concerned i v.known.told (h.wakes.heard id v here)) (heard_served c.fin g.undecided i v.known.told (h.wakes.heard id v here)) near)
+              (λ near. served_near z.format (is_due_to v.known.db v.known.set) g.past v.post.mark (passed g.undecided g.concerned c.fin i) (served g.undecided c.fin i) v.known.signalled
+              (heard_passed c.fin g.undecided g.concerned i v.known.signalled (h.wakes.heard id v here)) (heard_served c.fin g.undecided i v.known.signalled (h.wakes.heard id v here)) near)
               rest);
         };
         kept = (refl, refl);
@@ -137,8 +137,7 @@ decides z c g views id v us ws h here signals long small fewer heeds =
     let held : holds_lock v.phase ≡ true = ap holds_lock signals in
     let locked = h.locking.locks id v here held in
     let gone : (j : ℕ) (u : View) → j ≢ id → get_elem? views j ≡ some u → holds_lock u.phase ≡ true → ⊥ = alone c.lock g.holder views id v h.locking here held in
-    let heard : (n : ℕ) → IsHeard c.fin g.undecided n → IsHeard c.fin (waits_in us) n = λ n p. record { most = p.most; decided = λ i waits. p.decided i (fewer i waits) } in
-    let flags = flags_keep views id v w here c.fin g.undecided c.flags h.flags refl (h.flags.told id v here) refl refl in record {
+    let heard : (n : ℕ) → IsHeard c.fin g.undecided n → IsHeard c.fin (waits_in us) n = λ n p. record { most = p.most; decided = λ i waits. p.decided i (fewer i waits) } in record {
       laid = record { pos_long = h.laid.pos_long; wakes_long = long ∙ h.laid.wakes_long; interests_long = h.laid.interests_long; flags_long = h.laid.flags_long; statuses_long = h.laid.statuses_long; cells_long = h.laid.cells_long };
       seats = seats_keep views id v w here z g.made g.seat h.seats refl refl refl refl;
       locking = locking_keep views id v w here c.lock g.holder h.locking refl refl;
@@ -159,15 +158,13 @@ decides z c g views id v us ws h here signals long small fewer heeds =
         heeds = each_turn (Heeds z.format g.past c.fin g.undecided g.concerned c.wakes) (Heeds z.format g.past c.fin (waits_in us) g.concerned ws) views id w h.wakes.heeds (heeds id v here (h.wakes.heeds id v here)) (λ j u other there x. heeds j u there x);
         signals = each_turn (Signals g.undecided) (Signals (waits_in us)) views id w h.wakes.signals (λ _ i. sym (ap (λ p. pending p (waits_in us) i) signals)) (λ j u other there x also. absurd (gone j u other there also));
         calm = λ nobody. let is = locked.1 in let positive = locked.2 in absurd (omega (arith, nobody, is, positive));
-        heard = each_turn (λ _ u. IsHeard c.fin g.undecided u.known.told) (λ _ u. IsHeard c.fin (waits_in us) u.known.told) views id w h.wakes.heard (heard v.known.told (h.wakes.heard id v here)) (λ j u other there p. heard u.known.told p);
+        heard = each_turn (λ _ u. IsHeard c.fin g.undecided u.known.signalled) (λ _ u. IsHeard c.fin (waits_in us) u.known.signalled) views id w h.wakes.heard (heard v.known.signalled (h.wakes.heard id v here)) (λ j u other there p. heard u.known.signalled p);
         ended = each_keep (λ _ u. u.ended ≡ ended_in u.phase c.fin) views id v w here h.wakes.ended (λ x. x);
       };
       interests = interests_keep views id v w here g.concerned c.interests h.interests refl refl refl (λ x. x);
-      flags = record { heard = λ f. heard (get_or c.flags f 0) (flags.heard f); told = flags.told; most = flags.most; source = flags.source; found = flags.found };
+      flags = flags_keep views id v w here c.fin c.flags h.flags refl (h.flags.told id v here) refl refl;
       named = named_keep views id v w here h.named refl refl refl refl refl;
-      taken = λ j u there. All-weaker (IsTaken z g.made c.fin g.undecided g.seat g.past j u.known.session) (IsTaken z g.made c.fin (waits_in us) g.seat g.past j u.known.session)
-          (λ k p. record { sits = p.sits; positive = p.positive; was_made = p.was_made; other = p.other; db_is = p.db_is; sees = p.sees; owns = p.owns; own_seen = p.own_seen; heard = heard k.told p.heard }) u.joined
-          (taken_keep views id v w here z g.made c.fin g.undecided g.seat g.past h.taken refl refl j u there);
+      taken = taken_keep views id v w here z g.made c.fin g.seat g.past h.taken refl refl;
     }
 
 -- a listener at another seat is served as before

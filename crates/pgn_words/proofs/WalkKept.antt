@@ -1,6 +1,6 @@
 -- The steps of a listener keep the rule: joining, its walks through the cells, and leaving.
 use Rattle.std.specs.Prelude.{Contains}
-use Rattle.std.proofs.Common.{◌≡◌, ℕ, ◌+◌, ◌-◌, ◌%◌, ◌^◌, ◌<◌, ◌≤◌, true, false, List, [], ◌∷◌, ◌++◌, length, drop, get_or, set, Some, None, slice_get, sym, refl, ap, ◌∙◌, subst, arith, ⊎_elim, inl, inr, true≢false, length-set, get_or-set_other, get_or-set_same}
+use Rattle.std.proofs.Common.{◌≡◌, ℕ, ◌+◌, ◌-◌, ◌%◌, ◌^◌, ◌<◌, ◌≤◌, max, true, false, List, [], ◌∷◌, ◌++◌, length, drop, get_or, set, Some, None, slice_get, sym, refl, ap, ◌∙◌, subst, arith, ⊎_elim, inl, inr, true≢false, length-set, get_or-set_other, get_or-set_same}
 use Rattle.std.specs.Int.{bit_at}
 use Rattle.std.proofs.lemmas.List.Elements.{All-nil}
 use Rattle.std.proofs.lemmas.Grind.{common_steps}
@@ -34,7 +34,7 @@ use Rattle.pgn_words.proofs.LockKept.{setup_of, few_left}
 use Rattle.pgn_words.proofs.StatusKept.{holder_sees}
 use Rattle.pgn_words.proofs.NearSteps.{near_itself_served}
 use Rattle.pgn_words.proofs.RowLaws.{set_pos, get_cell}
-use Rattle.pgn_words.proofs.PostKept.{moved, moves}
+use Rattle.pgn_words.proofs.PostKept.{moved, moves, moves_on}
 use Rattle.pgn_words.proofs.Meets.{allowed}
 
 -- a session has a position
@@ -294,7 +294,7 @@ store_forward_allowed z slots id word x at me own positive shown place_is low va
       content = record c { pos = set c.pos i x };
       world = g;
       moves = ap (λ n. set (row c) n x) there ∙ set_pos z c i x within;
-      law = moves z c g views id v i v.known.seen (Some v.walk.upto) (v.known.marks ++ v.walk.upto ∷ []) false v.known.set q (record v.walk { stage = Still }) (set c.pos i x) h here number
+      law = moves_on z c g views id v i (max v.known.told v.walk.upto) v.known.seen (Some v.walk.upto) (v.known.marks ++ v.walk.upto ∷ []) false v.known.set q (record v.walk { stage = Still }) (set c.pos i x) h here number
           sees (omega arith) (λ _. refl)
           (length-set c.pos i x) (λ j other. get_or-set_other c.pos i j x 0 other)
           (get_or-set_same c.pos i x 0 within ∙ value ∙ ap (λ (l : Listen). word_of (shown_as l v.walk.upto at)) (sym registered))
@@ -304,7 +304,8 @@ store_forward_allowed z slots id word x at me own positive shown place_is low va
           (λ walks. absurd (cc)) (λ ends. absurd (cc))
           (λ _. h.interests.covered id v here registered i number)
           (λ _. let heeded = h.wakes.heeds id v here registered i number in record { still = ⊎_elim (λ set_now. inl set_now) (λ near. inr (inr near)) (heeded.walked (ap is_walking shown)); walked = λ walks. absurd (cc) })
-          (λ n y. has_still v.known.marks v.walk.upto n y) (λ _. (v.known.marks, refl));
+          (λ n y. has_still v.known.marks v.walk.upto n y) (λ _. (v.known.marks, refl))
+          (let t = h.flags.told id v here in let below = t.below in let finished = t.finished in record { first = t.first; below = omega (arith, below); finished = omega (arith, finished, seen, further, counted) });
       told = record { slots = refl; view = ap (λ n. forwarded n v) (sym part) };
     })
 

@@ -40,15 +40,19 @@ PagesAreSpared = (z : Shape) (c : Content) (g : World) (views : List View) (id :
     → (at old : ℕ) → page_of at < v.stop + z.pages → page_of at ≡ page_of (length v.pen.cells) → old + ring_pages z ≡ page_of at
     → (j : ℕ) (u : View) → get_elem? views j ≡ some u → is_placed u.post.listen ≡ true → old < page_of u.post.at
 
--- a listener whose wake is not set, and that owes no read, need not read up to what it was told, as far as its channels go
+-- a listener whose wake is not set, and that owes no read, need not read up to where it knows wakes to be set, as far as its channels go
 abbrev pub NoWakeIsLost : Type 0
 NoWakeIsLost = (z : Shape) (c : Content) (g : World) (views : List View) (j i : ℕ) (v : View) → Law z c g views → get_elem? views j ≡ some v → v.post.listen ≡ Registered → v.known.session ≡ i + 1
-    → get_or c.wakes i 0 ≢ 1 → v.known.owes ≡ false → Near z.format (is_due_to v.known.db v.known.set) g.past v.post.mark v.known.told
+    → get_or c.wakes i 0 ≢ 1 → v.known.owes ≡ false → Near z.format (is_due_to v.known.db v.known.set) g.past v.post.mark v.known.signalled
 
--- all wakes are set of the transactions below the number that a flag shows
-abbrev pub FlagsAreHeard : Type 0
-FlagsAreHeard = (z : Shape) (c : Content) (g : World) (views : List View) (f : ℕ) → Law z c g views → IsHeard c.fin g.undecided (get_or c.flags f 0)
+-- the transactions below the number that a flag shows are finished
+abbrev pub FlagsAreFinished : Type 0
+FlagsAreFinished = (z : Shape) (c : Content) (g : World) (views : List View) (f : ℕ) → Law z c g views → get_or c.flags f 0 ≤ c.fin
 
--- and of those below what a pass was told
-abbrev pub ToldIsHeard : Type 0
-ToldIsHeard = (z : Shape) (c : Content) (g : World) (views : List View) (j : ℕ) (v : View) → Law z c g views → get_elem? views j ≡ some v → IsHeard c.fin g.undecided v.known.told
+-- and so are those below what a pass was told
+abbrev pub ToldIsFinished : Type 0
+ToldIsFinished = (z : Shape) (c : Content) (g : World) (views : List View) (j : ℕ) (v : View) → Law z c g views → get_elem? views j ≡ some v → v.known.told ≤ c.fin
+
+-- all wakes are set of the transactions below the number up to which a pass knows them to be
+abbrev pub SignalledIsHeard : Type 0
+SignalledIsHeard = (z : Shape) (c : Content) (g : World) (views : List View) (j : ℕ) (v : View) → Law z c g views → get_elem? views j ≡ some v → IsHeard c.fin g.undecided v.known.signalled

@@ -1,5 +1,5 @@
 -- Listeners: what each of their steps makes of the pass, and what it tells.
-use Rattle.std.specs.Prelude.{◌≡◌, ℕ, ◌+◌, ◌%◌, ◌^◌, ◌<◌, ◌≤◌, List, [], ◌∷◌, ◌++◌, length, slice_get, Some, None, All, true, false}
+use Rattle.std.specs.Prelude.{◌≡◌, ℕ, ◌+◌, ◌%◌, ◌^◌, ◌<◌, ◌≤◌, max, List, [], ◌∷◌, ◌++◌, length, slice_get, Some, None, All, true, false}
 use Rattle.atomic_table.specs.Table.{Step}
 use Rattle.pgn_journal.specs.declared.tx.Tx.{Tx}
 use Rattle.pgn_journal.specs.Begins.{Begins}
@@ -90,10 +90,10 @@ pub record TellsShownCell (s : Step ℕ) (v : Mine) (n : ℕ) (w : Mine) : Type 
   pub value : (at x : ℕ) → s.word ≡ cells_at v.0.setup + at % room_of v.0.setup → v.0.post.at ≤ at
       → slice_get (image v.0.setup.format v.0.walk.shown) at ≡ Some (Some x) → n ≡ x
 
--- it has come to the mark that it went to, at a place, and owes nothing
+-- it has come to the mark that it went to, up to which it is told, at a place, and owes nothing
 abbrev pub forwarded : ℕ → View → View
 forwarded at v = record v {
-  known = record v.known { mark = Some v.walk.upto; marks = v.known.marks ++ v.walk.upto ∷ []; owes = false };
+  known = record v.known { mark = Some v.walk.upto; told = max v.known.told v.walk.upto; marks = v.known.marks ++ v.walk.upto ∷ []; owes = false };
   post = record v.post { mark = v.walk.upto; at = at };
   walk = record v.walk { stage = Still };
 }

@@ -225,9 +225,9 @@ pub record Law (z : Shape) (c : Content) (g : World) (views : List View) : Type 
   pub looks : Looks z.format g.past c.fin c.stop g.looked g.target c.tail views
   pub wakes : Wakes z.format c.lock c.fin g.past g.undecided g.concerned c.wakes views
   pub interests : Interests g.concerned c.interests views
-  pub flags : Flags c.fin g.undecided c.flags views
+  pub flags : Flags c.fin c.flags views
   pub named : Named views
-  pub taken : Taken z g.made c.fin g.undecided g.seat g.past views
+  pub taken : Taken z g.made c.fin g.seat g.past views
 
 -- the rule
 pub record Lawful (z : Shape) (s : State ℕ View) : Type 0 where

@@ -11,6 +11,7 @@ use Rattle.pgn_journal.specs.Journal.{next_xid, entry, IsFinished}
 use Rattle.pgn_journal.specs.Packing.{page_of, page_start, image}
 use Rattle.pgn_journal.specs.Pieces.{draft}
 use Rattle.pgn_hub.specs.Shape.{notes_of_seats}
+use Rattle.pgn_hub.specs.Calls.{owes_after}
 use Rattle.pgn_layout.specs.Batches.{padded_to}
 use Rattle.pgn_hub.specs.Passes.{no_advance, opened_pass}
 use Rattle.pgn_words.specs.declared.view.View.{View}
@@ -66,9 +67,9 @@ pub record TellsLock (s : Step ℕ) (v : Mine) (n : ℕ) (w : Mine) : Type 0 whe
   pub free : n ≡ 0 → HasLocked v.0 w.0
   pub locked : n ≢ 0 → (w.0 ≡ refused n v.0) × IsLocked v.0 n
 
--- the pass gives the lock up; where it has finished a transaction, it is told of it
+-- the pass gives the lock up; where it has finished a transaction, it is told of it, and all wakes are set
 abbrev pub freed : View → View
-freed v = record v { phase = Free; ended = None; verdicts = []; concerned = []; known = record v.known { told = unwrap_or v.ended v.known.told } }
+freed v = record v { phase = Free; ended = None; verdicts = []; concerned = []; known = record v.known { told = unwrap_or v.ended v.known.told; signalled = unwrap_or v.ended v.known.signalled } }
 
 -- what the drop of the lock tells
 pub record TellsDrop (s : Step ℕ) (v : Mine) (n : ℕ) (w : Mine) : Type 0 where
@@ -233,7 +234,7 @@ spent_view = record (opened_view no_setup 0) { known = opened_pass 0 no_seat }
 
 -- of a note nothing is known but what is in it
 abbrev pub noted : View → View
-noted v = record spent_view { known = record (opened_pass 0 no_seat) { seen = v.known.seen; told = v.known.told } }
+noted v = record spent_view { known = record (opened_pass 0 no_seat) { seen = v.known.seen; told = v.known.told; signalled = v.known.signalled } }
 
 -- the first list, and then what the second has beyond its length
 abbrev pub longer : List Tx → List Tx → List Tx
@@ -241,7 +242,14 @@ longer xs ys = xs ++ drop (length xs) ys
 
 -- the pass has learned what is in a note. The holder's journal stays
 abbrev pub joined : View → View → View
-joined v w = record v { known = record v.known { seen = cond (holds_lock v.phase) v.known.seen (longer v.known.seen w.known.seen); told = max v.known.told w.known.told } }
+joined v w = record v {
+  known = record v.known {
+    seen = cond (holds_lock v.phase) v.known.seen (longer v.known.seen w.known.seen);
+    told = max v.known.told w.known.told;
+    signalled = max v.known.signalled w.known.signalled;
+    owes = owes_after v.known w.known.told;
+  };
+}
 
 -- one more pass is made
 abbrev pub after_making : View → View

@@ -84,7 +84,7 @@ pub record Wakes (format : Format) (lock fin : ℕ) (past : List Tx) (undecided 
   pub heeds : Each (Heeds format past fin undecided concerned wakes) views
   pub signals : Each (Signals undecided) views
   pub calm : lock ≡ 0 → (i : ℕ) → undecided i ≡ false
-  pub heard : Each (λ _ v. IsHeard fin undecided v.known.told) views
+  pub heard : Each (λ _ v. IsHeard fin undecided v.known.signalled) views
   pub ended : Each (λ _ v. v.ended ≡ ended_in v.phase fin) views
 
 -- the word of a listener's seat has the bit of each channel that it has told
@@ -126,10 +126,17 @@ Raised views pair = Someone (λ v. Contains (raised_in v) pair) views
 abbrev pub IsMost : List ℕ → ℕ × ℕ → Type 0
 IsMost flags pair = (FIRST_XID ≤ pair.1) × (pair.1 ≤ get_or flags pair.0 0)
 
+-- the transactions below what a pass was told are finished, and it knows the wakes to be set of no more than of these
+pub record IsTold (fin told signalled : ℕ) : Type 0 where
+  pub first : FIRST_XID ≤ signalled
+  pub below : signalled ≤ told
+  pub finished : told ≤ fin
+
 -- each flag's word holds the greatest number with which it was raised, and 0 where it was not
-pub record Flags (fin : ℕ) (undecided : ℕ → Bool) (flags : List ℕ) (views : List View) : Type 0 where
-  pub heard : (f : ℕ) → IsHeard fin undecided (get_or flags f 0)
-  pub told : Each (λ _ v. FIRST_XID ≤ v.known.told) views
+pub record Flags (fin : ℕ) (flags : List ℕ) (views : List View) : Type 0 where
+  -- the transactions below it are finished
+  pub finished : (f : ℕ) → get_or flags f 0 ≤ fin
+  pub told : Each (λ _ v. IsTold fin v.known.told v.known.signalled) views
   pub most : Each (λ _ v. All (IsMost flags) (raised_in v)) views
   pub source : (f : ℕ) → (get_or flags f 0 ≡ 0) ⊎ Raised views (f, get_or flags f 0)
   pub found : Each (λ _ v. All (Raised views) (found_in v)) views
@@ -156,7 +163,7 @@ pub record Named (views : List View) : Type 0 where
   pub named : Each (λ _ v. All (Marked views) (named_in v)) views
 
 -- a pass that was taken in is that of another session, it has its seat's database, and knows what a pass knows
-pub record IsTaken (z : Shape) (made fin : ℕ) (undecided : ℕ → Bool) (seat : ℕ → ℕ) (past : List Tx) (j session : ℕ) (k : Known) : Type 0 where
+pub record IsTaken (z : Shape) (made fin : ℕ) (seat : ℕ → ℕ) (past : List Tx) (j session : ℕ) (k : Known) : Type 0 where
   pub sits : seat k.session ≡ j
   pub positive : 0 < k.session
   pub was_made : k.session ≤ made
@@ -165,8 +172,8 @@ pub record IsTaken (z : Shape) (made fin : ℕ) (undecided : ℕ → Bool) (seat
   pub sees : Begins k.seen past
   pub owns : k.own ≡ xids_of k.session past
   pub own_seen : All (λ x. x < next_xid k.seen) k.own
-  pub heard : IsHeard fin undecided k.told
+  pub told : k.told ≤ fin
 
 -- each pass that was taken in is so, at the seat of the pass that took it
-abbrev pub Taken : Shape → ℕ → ℕ → (ℕ → Bool) → (ℕ → ℕ) → List Tx → List View → Type 0
-Taken z made fin undecided seat past views = Each (λ j v. All (IsTaken z made fin undecided seat past j v.known.session) v.joined) views
+abbrev pub Taken : Shape → ℕ → ℕ → (ℕ → ℕ) → List Tx → List View → Type 0
+Taken z made fin seat past views = Each (λ j v. All (IsTaken z made fin seat past j v.known.session) v.joined) views

@@ -8,6 +8,7 @@ use Rattle.pgn_journal.specs.Journal.{next_xid, is_committed}
 use Rattle.pgn_journal.specs.Due.{is_due_to}
 use Rattle.pgn_journal.specs.Near.{Near}
 use Rattle.pgn_journal.specs.Packing.{image}
+use Rattle.pgn_hub.specs.Calls.{owes_after}
 use Rattle.pgn_words.specs.declared.pos_word.PosWord.{PosWord}
 use Rattle.pgn_words.specs.declared.view.View.{View}
 use Rattle.pgn_words.specs.declared.view.Verdict.{Verdict}
@@ -20,14 +21,14 @@ use Rattle.pgn_words.specs.Looking.{TellsPosition}
 use Rattle.pgn_words.specs.Told.{Mine, IsSamePass}
 
 -- The pass has taken its wake. It owes a read where the wake was set or a read was owed; and where neither was so, the journal has
--- nothing for its channels that it need read, up to what it was told.
+-- nothing for its channels that it need read, up to where it knows wakes to be set.
 pub record HasTaken (v : View) (was_set : Bool) (w : View) : Type 0 where
   pub more : List Tx
   pub view : w ≡ record v {
     known = record v.known { seen = v.known.seen ++ more; owes = was_set || v.known.owes; wake_look = Some (was_set, v.known.owes) };
     walk = record v.walk { stage = Still };
   }
-  pub near : (was_set || v.known.owes) ≡ false → Near v.setup.format (is_due_to v.known.db v.known.set) w.known.seen v.post.mark v.known.told
+  pub near : (was_set || v.known.owes) ≡ false → Near v.setup.format (is_due_to v.known.db v.known.set) w.known.seen v.post.mark v.known.signalled
 
 -- what the taking of a wake tells
 pub record TellsTaken (s : Step ℕ) (v : Mine) (n : ℕ) (w : Mine) : Type 0 where
@@ -101,13 +102,15 @@ pub record HasFoundNone (v : View) (flag : ℕ) (w : View) : Type 0 where
   pub not_raised : All (λ pair. pair.0 ≢ flag) v.known.raised
   pub not_found : All (λ pair. pair.0 ≢ flag) v.known.found
 
--- The pass has found a number at the flag: it is told of it, knows the journal up to it, and has raised or found no greater one for the flag.
+-- The pass has found a number at the flag: it is told of it, and of a listener that is so told of more a read is owed; it knows the journal
+-- up to it, and has raised or found no greater one for the flag.
 pub record HasFound (v : View) (flag x : ℕ) (w : View) : Type 0 where
   pub more : List Tx
   pub view : w ≡ record v {
     known = record v.known {
       seen = v.known.seen ++ more;
       told = max v.known.told x;
+      owes = owes_after v.known x;
       found = v.known.found ++ (flag, x) ∷ [];
       looks = v.known.looks + 1;
       flag_look = Some (flag, Some x);
@@ -130,6 +133,7 @@ pub record TellsLooked (s : Step ℕ) (v : Mine) (n : ℕ) (w : Mine) : Type 0 w
   pub found : (flag : ℕ) → s.word ≡ flags_at v.0.setup + flag → n ≢ 0 → HasFound v.0 flag n w.0
   pub first : n ≢ 0 → FIRST_XID ≤ n
   pub low : n < 2 ^ 32
-  -- what it shows of itself stays, but for what it was told
+  -- what it shows of itself stays, but for what it was told and whether it owes a read
   pub told : w.0.known.told ≡ max v.0.known.told n
-  pub same : IsSamePass v.0 (record w.0 { known = record w.0.known { told = v.0.known.told } })
+  pub owes : w.0.known.owes ≡ owes_after v.0.known n
+  pub same : IsSamePass v.0 (record w.0 { known = record w.0.known { told = v.0.known.told; owes = v.0.known.owes } })

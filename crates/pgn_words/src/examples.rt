@@ -4,7 +4,7 @@ ghost use Rattle.pgn_hub.specs.Examples.{two_seats, tx_3, published};
 ghost use Rattle.pgn_words.specs.Views.{no_eye};
 ghost use Rattle.pgn_words.specs.Rule.{Keeps, Locks, Draws, KnowsAll};
 ghost use Rattle.pgn_words.specs.ListenRule.{IsPlaced, ShowsPosition, Marks, Spared, IsSecond};
-ghost use Rattle.pgn_words.specs.WakeRule.{IsHeard, Signals, Covered, Deems, IsMost, IsLast, IsTaken};
+ghost use Rattle.pgn_words.specs.WakeRule.{IsHeard, Signals, Covered, Deems, IsMost, IsTold, IsLast, IsTaken};
 ghost use Rattle.pgn_words.specs.Each.{Someone};
 ghost use Rattle.pgn_words.specs.Examples.{listener, listens_on_c, holder};
 ghost use Rattle.pgn_words.specs.declared.view.Phase.TheVariants.{Signalling};
@@ -51,8 +51,11 @@ pub fn wakes()
     ensures earlier_mark { IsLast (3 ∷ 4 ∷ []) 3 → ⊥ }
     // No pass knows the whole journal.
     ensures nobody_knows { Someone (KnowsAll (tx_3 ∷ [])) (listener ∷ []) → ⊥ }
-    // A pass that was taken in was told of a transaction after which some seat is undecided.
-    ensures taken_too_early { IsTaken two_seats 2 4 (λ i. true) (λ n. 0) (tx_3 ∷ []) 0 1 published → ⊥ }
+    // A pass that was taken in was told of a transaction that is not finished.
+    ensures taken_too_early { IsTaken two_seats 2 3 (λ n. 0) (tx_3 ∷ []) 0 1 published → ⊥ }
+    // A pass was told of one that is not finished, or knows the wakes to be set of one that it was not told of.
+    ensures told_too_much { IsTold 3 4 3 → ⊥ }
+    ensures signalled_untold { IsTold 4 3 4 → ⊥ }
     // A flag was raised with a greater number than its word holds.
     ensures greater { IsMost (3 ∷ []) (0, 4) → ⊥ }
 {}

@@ -3,7 +3,7 @@ ghost use Rattle.pgn_words.specs.Words.{flags_at as first_flag, word_count};
 ghost use Rattle.pgn_words.specs.Passes.{IsPassOf, view_of, known_of, shape_of};
 ghost use Rattle.pgn_words.specs.Waking.{raised, HasLooked};
 
-use crate::meeting::later_of;
+use crate::meeting::{later_of, owes_after};
 use crate::pass::{WordPass, WordQueue};
 use crate::plays::{LookFlag, RaiseFlag};
 use pgn_base::Xid;
@@ -39,7 +39,8 @@ impl WordQueue {
         pass.told
     }
 
-    /// The greatest number that a flag was raised with, if it was raised. The pass is told of it.
+    /// The greatest number that a flag was raised with, if it was raised. The pass is told of it, and a listener that is so told of more
+    /// owes a read: its wakes may still have to be set.
     ///
     /// - *flag*: a hub's `look` asks its own caller for one of the flags that there are.
     pub fn look_flag(&self, pass: &mut WordPass, flag: u32) -> Option<Xid>
@@ -54,6 +55,7 @@ impl WordQueue {
             return None;
         }
         let found = Xid::new(found as u32);
+        pass.owes = owes_after(pass.owes, pass.mark.is_some(), pass.told, found);
         pass.told = later_of(pass.told, found);
         Some(found)
     }

@@ -1,4 +1,4 @@
-ghost use Rattle.pgn_words.specs.Laws.{WalksReadTheJournal, WalksReadTheFinished, WalksEndInTime, PagesAreSpared, NoWakeIsLost, FlagsAreHeard, ToldIsHeard};
+ghost use Rattle.pgn_words.specs.Laws.{WalksReadTheJournal, WalksReadTheFinished, WalksEndInTime, PagesAreSpared, NoWakeIsLost, FlagsAreFinished, ToldIsFinished, SignalledIsHeard};
 
 /// What follows from the rule.
 pub fn rule()
@@ -11,7 +11,9 @@ pub fn rule()
     ensures pages { PagesAreSpared }
     // Who is not woken and owes no read need not read.
     ensures wakes { NoWakeIsLost }
-    // All wakes are set of what a flag shows, and of what a pass was told.
-    ensures flags { FlagsAreHeard }
-    ensures told { ToldIsHeard }
+    // What a flag shows and what a pass was told is finished.
+    ensures flags { FlagsAreFinished }
+    ensures told { ToldIsFinished }
+    // All wakes are set of what a pass knows to be signalled.
+    ensures signalled { SignalledIsHeard }
 {}

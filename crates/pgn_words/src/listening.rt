@@ -7,6 +7,7 @@ ghost use Rattle.pgn_words.specs.declared.view.Listen.TheVariants as listens;
 ghost use Rattle.pgn_words.specs.declared.view.Phase.TheVariants as phases;
 ghost use Rattle.pgn_words.specs.declared.view.Stage.TheVariants as stages;
 
+use crate::meeting::later_of;
 use crate::pass::{WordPass, WordQueue};
 use crate::plays::{LoadBase, MarkJoining, StoreForward, StoreOut, StoreValid};
 use crate::pos_word::{parts_of, word_of};
@@ -97,6 +98,7 @@ impl WordQueue {
             .shared
             .store::<StoreForward>(&mut pass.seat, word, position);
         pass.mark = Some(mark);
+        pass.told = later_of(pass.told, mark);
         pass.base = mark;
         pass.at = pos;
         pass.owes = false;

@@ -1,4 +1,4 @@
-ghost use Rattle.std.specs.Prelude.{◌≡◌, max};
+ghost use Rattle.std.specs.Prelude.{◌≡◌, ◌&&◌, ◌||◌, nat_lt, max};
 ghost use Rattle.pgn_words.specs.Passes.{IsPassOf, IsNoteOf, view_of, noted_view};
 ghost use Rattle.pgn_words.specs.Told.{noted, joined};
 
@@ -11,6 +11,13 @@ pub(crate) fn later_of(a: Xid, b: Xid) -> Xid
     ensures { result ≡ max a b }
 {
     if a.get() < b.get() { b } else { a }
+}
+
+// Whether a read is owed once the pass is told up to a number: it was owed before, or a listener is told of more.
+pub(crate) fn owes_after(owes: bool, listens: bool, told: Xid, now: Xid) -> bool
+    ensures { result ≡ (owes || (listens && nat_lt told now)) }
+{
+    owes || (listens && told.get() < now.get())
 }
 
 impl WordQueue {
@@ -44,6 +51,7 @@ impl WordQueue {
         self.table
             .shared
             .join_seat::<JoinNote>(&mut pass.seat, seat);
+        pass.owes = owes_after(pass.owes, pass.mark.is_some(), pass.told, told);
         pass.told = later_of(pass.told, told);
     }
 }

@@ -1,4 +1,4 @@
-use Rattle.pgn_words.proofs.RuleLaws.{walks_read, pages_spared, no_wake_lost, flags_heard, told_heard}
+use Rattle.pgn_words.proofs.RuleLaws.{walks_read, pages_spared, no_wake_lost, flags_finished, told_finished, signalled_heard}
 use Rattle.pgn_words.proofs.WayLaws.{walks_read_finished, walks_end_in_time}
 use Rattle.pgn_words.proofs.laws.rule.Goals as goal
 
@@ -18,7 +18,10 @@ pub returns-clause-wakes : goal.returns-clause-wakes
 returns-clause-wakes c = no_wake_lost
 
 pub returns-clause-flags : goal.returns-clause-flags
-returns-clause-flags c = flags_heard
+returns-clause-flags c = flags_finished
 
 pub returns-clause-told : goal.returns-clause-told
-returns-clause-told c = told_heard
+returns-clause-told c = told_finished
+
+pub returns-clause-signalled : goal.returns-clause-signalled
+returns-clause-signalled c = signalled_heard

@@ -1,10 +1,15 @@
 use Rattle.pgn_language.specs.declared.scenario.Act.TheVariants.{Run, Signal, Await, Quit}
 use Rattle.pgn_session.proofs.KnownLaws.{on-err}
-use Rattle.pgn_session.proofs.NextLaws.{comes-as, comes-below, refused-still}
+use Rattle.pgn_session.proofs.NextLaws.{comes-as, comes-below, read-for, refused-still}
 use Rattle.pgn_session.proofs.session.Session.begin_line.Goals as goal
 
 pub run-requires-clause-comes : goal.run-requires-clause-comes
 run-requires-clause-comes g c κs within = comes-as c.args.self.now c.in_ok-line.line c.in_ok-line.act (Run c.in-Run.command) c.in-Run.is c.in_ok-line.ensures
+
+pub run-requires-clause-read_first : goal.run-requires-clause-read_first
+run-requires-clause-read_first g c κs within =
+    let s = c.args.self.now in
+    read-for g.P.PassView.known s c.in_ok-line.line (Run c.in-Run.command) c.requires.place (comes-as s c.in_ok-line.line c.in_ok-line.act (Run c.in-Run.command) c.in-Run.is c.in_ok-line.ensures) c.requires.read_first
 
 pub signal-requires-clause-comes : goal.signal-requires-clause-comes
 signal-requires-clause-comes g c κs within = comes-as c.args.self.now c.in_ok-line.line c.in_ok-line.act (Signal c.in-Signal.flag) c.in-Signal.is c.in_ok-line.ensures

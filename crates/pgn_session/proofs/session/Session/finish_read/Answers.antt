@@ -14,7 +14,7 @@ pub returns-clause-rested : goal.returns-clause-rested
 returns-clause-rested g c =
     let s = c.args.self.now in
     read-at_end (terms_of (g.H.Hub.shape c.args.hub.now) s.section s.patience) s.plan s.done s.block s.set.channels s.doing (g.P.PassView.known s.pass) (g.P.PassView.known c.read_on.new.pass) s.items.items c.read_on.new.items.items c.in-Some.from c.in_ok-_to._to
-    c.requires.over c.in_ok-_to.ensures.read (sym c.in-Some.ensures) c.requires.rested
+    c.requires.over c.in_ok-_to.ensures.read (sym c.in-Some.ensures) (g.met.H.Hub.within c.args.hub.now s.pass c.requires.own) c.requires.rested
 
 pub read_on-requires-clause-interested : goal.read_on-requires-clause-interested
 read_on-requires-clause-interested g c κs within =

@@ -13,6 +13,10 @@ next_line-requires-clause-rested g c κs within =
     let stood : s.doing ≡ c.replace.new.dest = sym c.replace.ensures.value ∙ c.in-Lines.is ∙ sym c.replace.ensures.after in
     subst (λ (d : Doing). IsRested (terms_of (g.H.Hub.shape c.args.hub.now) s.section s.patience) s.plan s.done s.block s.set.channels d (g.P.PassView.known s.pass) s.items.items) stood c.requires.rested
 
+pub next_line-requires-clause-read_first : goal.next_line-requires-clause-read_first
+next_line-requires-clause-read_first g c κs within first =
+    c.requires.read_first (record { between = sym c.replace.ensures.value ∙ c.in-Lines.is; outside = first.outside; next = first.next })
+
 pub commit-requires-clause-rested : goal.commit-requires-clause-rested
 commit-requires-clause-rested g c κs within =
     let s = c.args.self.now in

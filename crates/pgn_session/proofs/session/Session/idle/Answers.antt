@@ -38,7 +38,7 @@ returns-clause-rested g c =
     let terms = terms_of (g.H.Hub.shape c.args.hub.now) s.section s.patience in
     let woken = woken-answered terms s.plan s.done s.block s.set.channels s.doing (g.P.PassView.known s.pass) (g.P.PassView.known c.woken.new.pass) s.items.items _ c.woken.ensures.woken c.requires.answered in
     read-rested terms s.plan s.done s.block s.set.channels s.doing (g.P.PassView.known c.woken.new.pass) (g.P.PassView.known c.read_on.new.pass) s.items.items c.read_on.new.items.items c.in-Some.from c.in_ok-to.to
-    c.in_ok-to.ensures.read (search rules) (ap (λ (k : Known). k.mark) c.woken.ensures.woken.known ∙ sym c.in-Some.ensures) woken
+    c.in_ok-to.ensures.read (search rules) (ap (λ (k : Known). k.mark) c.woken.ensures.woken.known ∙ sym c.in-Some.ensures) (g.met.H.Hub.within c.args.hub.now c.woken.new.pass c.woken.ensures.own) woken
 
 pub read_on-requires-clause-interested : goal.read_on-requires-clause-interested
 read_on-requires-clause-interested g c κs within =

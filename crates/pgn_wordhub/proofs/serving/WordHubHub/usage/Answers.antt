@@ -35,6 +35,6 @@ returns-clause-used g c =
     let m = view_of c.measure-usage.new.pass in
     let locked = c.lock.ensures.locked in
     let ended : m.ended ≡ None = ap (λ (y : View). y.ended) c.measure-usage.ensures.view ∙ ap (λ (y : View). y.ended) locked.view ∙ c.requires.own.view.rest.told in
-    let same : (view_of c.drop_lock.new.pass).known ≡ m.known = ap (λ (y : View). y.known) c.drop_lock.ensures.view ∙ ap (λ o. record m.known { told = unwrap_or o m.known.told }) ended in
+    let same : (view_of c.drop_lock.new.pass).known ≡ m.known = ap (λ (y : View). y.known) c.drop_lock.ensures.view ∙ ap (λ o. record m.known { told = unwrap_or o m.known.told; signalled = unwrap_or o m.known.signalled }) ended in
     subst (λ (x : Known). HasMeasured z v.known x c.measure-usage.result) (sym same)
     (measured_from z v.known l.known m.known locked.more c.measure-usage.result (ap (λ (y : View). y.known) locked.view) c.measure-usage.ensures.measured)
