@@ -1,4 +1,4 @@
--- Proof that who has read up to what every pass was told of has read the whole journal.
+-- Proof that who has read up to where every pass knows wakes to be set has read the whole journal.
 use Rattle.std.proofs.Common.{◌≡◌, ℕ, zero, suc, ◌+◌, ◌-◌, ◌<◌, ◌≤◌, Bool, true, false, cond, ◌==◌, List, [], ◌∷◌, length, Option, Some, None, IfSome, IsSomeAnd, slice_get, slice_index_or, All, Contains, sym, ap, refl, subst, arith, eq-eqb}
 use Rattle.std.proofs.lemmas.Option.{IfSome_then}
 use Rattle.std.proofs.lemmas.List.Elements.{All-contains, Contains-append_right}
@@ -33,24 +33,24 @@ some-at [] k P d h = absurd h
 some-at (pass ∷ passes) zero P d h = (omega arith, h)
 some-at (pass ∷ passes) (suc k) P d h = let rest = some-at passes k P d h in (omega (arith, rest.0), rest.1)
 
--- some pass was told of the last transaction
+-- some pass knows the wakes of the last transaction to be set
 last-told : (passes : List Known) (count n : ℕ) (d : Known) (mark : ℕ) (first : Tx) (g : Gathered passes count) → All IsWithin passes → length g.journal ≡ suc n
-    → All (λ other. other.told ≤ mark) passes → FIRST_XID + suc n ≤ mark
+    → All (λ other. other.signalled ≤ mark) passes → FIRST_XID + suc n ≤ mark
 last-told passes count n d mark first g within is reads =
     let tx : Tx = slice_index_or g.journal n first in
     let by = some-at passes (tx.session - 1) (λ k. IsBy k tx) d (g.by_pass n first (omega (arith, is))) in
     let k : Known = slice_index_or passes (tx.session - 1) d in
     let among : Contains (xids_of k.session g.journal) (FIRST_XID + n) = number-among k.session FIRST_XID g.journal n first (omega (arith, is)) by.1.session in
     let own : Contains k.own (FIRST_XID + n) = subst (λ (xs : List ℕ). Contains xs (FIRST_XID + n)) (sym (g.own (tx.session - 1) d by.0)) among in
-    let told : FIRST_XID + n < k.told = All-contains (λ x. x < k.told) k.own (FIRST_XID + n) (within (tx.session - 1) d by.0).own own in
+    let told : FIRST_XID + n < k.signalled = All-contains (λ x. x < k.signalled) k.own (FIRST_XID + n) (within (tx.session - 1) d by.0).own own in
     omega (arith, told, reads (tx.session - 1) d by.0)
 
--- a listener that has read up to what every pass was told of stands at the journal's end or past it
+-- a listener that has read up to where every pass knows wakes to be set stands at the journal's end or past it
 at-end : (passes : List Known) (count : ℕ) (k : ℕ) (d : Known) (mark : ℕ) (g : Gathered passes count) → All IsWithin passes → k < length passes
-    → All (λ other. other.told ≤ mark) passes → (journal : List Tx) → g.journal ≡ journal → FIRST_XID + count ≤ mark
+    → All (λ other. other.signalled ≤ mark) passes → (journal : List Tx) → g.journal ≡ journal → FIRST_XID + count ≤ mark
 at-end passes count k d mark g within lt reads [] is =
     let none : length g.journal ≡ 0 = ap length is in
-    omega (arith, none, g.counted, (within k d lt).first_told, reads k d lt)
+    omega (arith, none, g.counted, (within k d lt).first, reads k d lt)
 at-end passes count k d mark g within lt reads (first ∷ rest) is =
     let some : length g.journal ≡ suc (length rest) = ap length is in
     omega (arith, some, g.counted, last-told passes count (length rest) d mark first g within some reads)

@@ -24,11 +24,11 @@ one-within : (n : ℕ) (seat : SeatSetup) → IsWithin (opened_pass n seat)
 one-within n seat = record {
   mark = tt;
   marks = All-nil (λ (mark : ℕ). mark ≤ next_xid []);
-  first_told = omega arith;
-  told = omega arith;
-  told_of_read = tt;
-  told_of_signalled = omega arith;
+  first = omega arith;
   own = All-nil (λ (x : ℕ). x < FIRST_XID);
+  signalled = omega arith;
+  told_of_read = tt;
+  told = omega arith;
   raised = All-nil (IsPairWithin FIRST_XID);
   found = All-nil (IsPairWithin FIRST_XID);
   to_read = λ no. tt;

@@ -33,16 +33,16 @@ abbrev IsToRead : Bool → Option ℕ → ℕ → ℕ → Type 0
 IsToRead owes mark told signalled = owes ≡ false → IfSome mark (λ own. told ≤ max own signalled)
 
 -- a pass that has seen more, and was told of no less
-pub seen-more : (k : Known) (seen : List Tx) (told signalled : ℕ) (owes : Bool) → length k.seen ≤ length seen → k.told ≤ told → told ≤ next_xid seen → signalled ≤ told
+pub seen-more : (k : Known) (seen : List Tx) (told signalled : ℕ) (owes : Bool) → length k.seen ≤ length seen → k.told ≤ told → told ≤ next_xid seen → k.signalled ≤ signalled → signalled ≤ told
     → IsToRead owes k.mark told signalled → IsWithin k → IsWithin (record k { seen = seen; told = told; signalled = signalled; owes = owes })
-seen-more k seen told signalled owes longer_seen more_told within below to_read w = record {
+seen-more k seen told signalled owes longer_seen more_told within more_signalled below to_read w = record {
   mark = mark-more (next_xid k.seen) (next_xid seen) k.mark (omega (arith, longer_seen)) w.mark;
   marks = marks-more (next_xid k.seen) (next_xid seen) k.marks (omega (arith, longer_seen)) w.marks;
-  first_told = omega (arith, w.first_told, more_told);
+  first = omega (arith, w.first, more_signalled);
   told = within;
   told_of_read = mark-more k.told told k.mark more_told w.told_of_read;
-  told_of_signalled = below;
-  own = own-more k.told told k.own more_told w.own;
+  signalled = below;
+  own = own-more k.signalled signalled k.own more_signalled w.own;
   raised = pairs-more k.told told k.raised more_told w.raised;
   found = pairs-more k.told told k.found more_told w.found;
   to_read = to_read;
@@ -52,7 +52,7 @@ seen-more k seen told signalled owes longer_seen more_told within below to_read 
 learned-more : (k : Known) (more : List Tx) → IsWithin k → IsWithin (record k { seen = k.seen ++ more })
 learned-more k more w =
     seen-more k (k.seen ++ more) k.told k.signalled k.owes (omega (arith, length-append k.seen more)) (omega arith) (omega (arith, w.told, length-append k.seen more))
-    w.told_of_signalled w.to_read w
+    (omega arith) w.signalled w.to_read w
 
 -- who knows the wakes of all that it was told of has nothing to read of it
 all-signalled : (owes : Bool) (mark : Option ℕ) (told : ℕ) → IsToRead owes mark told told
@@ -66,15 +66,15 @@ finished k more tx x is w =
     let whole = length-append (k.seen ++ more) (tx ∷ []) in
     let part : length (k.seen ++ more) ≡ length k.seen + length more = length-append k.seen more in
     let s : IsWithin (record k { seen = k.seen ++ more ++ tx ∷ []; told = x + 1; signalled = x + 1 }) =
-    seen-more k (k.seen ++ more ++ tx ∷ []) (x + 1) (x + 1) k.owes (omega (arith, whole)) (omega (arith, is, part, w.told)) (omega (arith, is, part, whole)) (omega arith)
+    seen-more k (k.seen ++ more ++ tx ∷ []) (x + 1) (x + 1) k.owes (omega (arith, whole)) (omega (arith, is, part, w.told)) (omega (arith, is, part, whole)) (omega (arith, is, part, w.told, w.signalled)) (omega arith)
     (all-signalled k.owes k.mark (x + 1)) w in
     record {
       mark = s.mark;
       marks = s.marks;
-      first_told = s.first_told;
+      first = s.first;
       told = s.told;
       told_of_read = s.told_of_read;
-      told_of_signalled = s.told_of_signalled;
+      signalled = s.signalled;
       own = one-more (λ y. y < x + 1) k.own x s.own (omega arith);
       raised = s.raised;
       found = s.found;
@@ -121,11 +121,11 @@ stands-at k more mark set marks within after all w =
     record {
       mark = within;
       marks = all;
-      first_told = omega (arith, w.first_told);
+      first = w.first;
       told = omega (arith, after, within);
       told_of_read = omega arith;
-      told_of_signalled = omega (arith, w.told_of_signalled);
-      own = own-more k.told (max k.told mark) k.own up w.own;
+      signalled = omega (arith, w.signalled);
+      own = w.own;
       raised = pairs-more k.told (max k.told mark) k.raised up w.raised;
       found = pairs-more k.told (max k.told mark) k.found up w.found;
       to_read = λ no. omega (arith, after);
@@ -139,10 +139,10 @@ calls-keep_within = record {
       subst IsWithin (sym h.known) (record {
         mark = f.mark;
         marks = f.marks;
-        first_told = f.first_told;
+        first = f.first;
         told = f.told;
         told_of_read = f.told_of_read;
-        told_of_signalled = f.told_of_signalled;
+        signalled = f.signalled;
         own = f.own;
         raised = f.raised;
         found = f.found;
@@ -153,10 +153,10 @@ calls-keep_within = record {
       subst IsWithin (sym h.known) (record {
         mark = f.mark;
         marks = f.marks;
-        first_told = f.first_told;
+        first = f.first;
         told = f.told;
         told_of_read = f.told_of_read;
-        told_of_signalled = f.told_of_signalled;
+        signalled = f.signalled;
         own = f.own;
         raised = f.raised;
         found = f.found;
@@ -174,10 +174,10 @@ calls-keep_within = record {
       subst IsWithin (sym h) (record {
         mark = w.mark;
         marks = w.marks;
-        first_told = w.first_told;
+        first = w.first;
         told = w.told;
         told_of_read = w.told_of_read;
-        told_of_signalled = w.told_of_signalled;
+        signalled = w.signalled;
         own = w.own;
         raised = w.raised;
         found = w.found;
@@ -194,10 +194,10 @@ calls-keep_within = record {
       subst IsWithin (sym h.known) (record {
         mark = tt;
         marks = l.marks;
-        first_told = l.first_told;
+        first = l.first;
         told = l.told;
         told_of_read = tt;
-        told_of_signalled = l.told_of_signalled;
+        signalled = l.signalled;
         own = l.own;
         raised = l.raised;
         found = l.found;
@@ -208,10 +208,10 @@ calls-keep_within = record {
       subst IsWithin (sym h.known) (record {
         mark = l.mark;
         marks = l.marks;
-        first_told = l.first_told;
+        first = l.first;
         told = l.told;
         told_of_read = l.told_of_read;
-        told_of_signalled = l.told_of_signalled;
+        signalled = l.signalled;
         own = l.own;
         raised = l.raised;
         found = l.found;
@@ -222,10 +222,10 @@ calls-keep_within = record {
       subst IsWithin (sym h.known) (record {
         mark = l.mark;
         marks = l.marks;
-        first_told = l.first_told;
+        first = l.first;
         told = l.told;
         told_of_read = l.told_of_read;
-        told_of_signalled = l.told_of_signalled;
+        signalled = l.signalled;
         own = l.own;
         raised = one-more (IsPairWithin old.told) old.raised (flag, x) l.raised (omega (arith, h.shown));
         found = l.found;
@@ -236,10 +236,10 @@ calls-keep_within = record {
       subst IsWithin (sym h.known) (record {
         mark = l.mark;
         marks = l.marks;
-        first_told = l.first_told;
+        first = l.first;
         told = l.told;
         told_of_read = l.told_of_read;
-        told_of_signalled = l.told_of_signalled;
+        signalled = l.signalled;
         own = l.own;
         raised = l.raised;
         found = l.found;
@@ -249,14 +249,14 @@ calls-keep_within = record {
       let seen : length new.seen ≡ length (old.seen ++ h.more) = ap (λ (k : Known). length k.seen) h.known in
       let l = seen-more old (old.seen ++ h.more) (max old.told x) old.signalled (owes_after old x) (omega (arith, length-append old.seen h.more)) (omega arith)
       (max-within old.told x (next_xid (old.seen ++ h.more)) (omega (arith, w.told, length-append old.seen h.more)) (omega (arith, below, seen)))
-      (omega (arith, w.told_of_signalled)) (told-on old.owes old.mark old.told old.signalled x old.signalled (omega arith) w.to_read) w in
+      (omega arith) (omega (arith, w.signalled)) (told-on old.owes old.mark old.told old.signalled x old.signalled (omega arith) w.to_read) w in
       subst IsWithin (sym h.known) (record {
         mark = l.mark;
         marks = l.marks;
-        first_told = l.first_told;
+        first = l.first;
         told = l.told;
         told_of_read = l.told_of_read;
-        told_of_signalled = l.told_of_signalled;
+        signalled = l.signalled;
         own = l.own;
         raised = l.raised;
         found = one-more (IsPairWithin (max old.told x)) old.found (flag, x) l.found (omega arith);
@@ -267,10 +267,10 @@ calls-keep_within = record {
       subst IsWithin (sym h.known) (record {
         mark = l.mark;
         marks = l.marks;
-        first_told = l.first_told;
+        first = l.first;
         told = l.told;
         told_of_read = l.told_of_read;
-        told_of_signalled = l.told_of_signalled;
+        signalled = l.signalled;
         own = l.own;
         raised = l.raised;
         found = l.found;
@@ -280,6 +280,6 @@ calls-keep_within = record {
       subst IsWithin (sym h.known) (seen-more old (longer old.seen from.seen ++ h.more) (max old.told from.told) (max old.signalled from.signalled) (owes_after old from.told)
       (longer-first old.seen from.seen h.more) (omega arith)
       (max-within old.told from.told (next_xid (longer old.seen from.seen ++ h.more)) (omega (arith, w.told, longer-first old.seen from.seen h.more)) (omega (arith, wf.told, longer-second old.seen from.seen h.more)))
-      (omega (arith, w.told_of_signalled, wf.told_of_signalled))
+      (omega arith) (omega (arith, w.signalled, wf.signalled))
       (told-on old.owes old.mark old.told old.signalled from.told (max old.signalled from.signalled) (omega arith) w.to_read) w);
 }

@@ -149,8 +149,9 @@ pub record OwnFloors : Type 0 where
   pub of_usage : (session : ℕ) (shape : Shape) (old new : Known) (usage : Usage) → old.session ≡ session → HasMeasured shape old new usage
       → IsFloorFor session old.mark usage.floor_mark usage.holder
 
--- where all passes are gathered, and each listener has read up to what every pass was told of, each has read the whole journal
+-- where all passes are gathered, and each listener has read up to where every pass knows wakes to be set, each has read the whole
+-- journal
 abbrev pub LastReads : Type 0
 LastReads = (passes : List Known) (count : ℕ) → Gathered passes count → All IsWithin passes
-    → All (λ k. IfSome k.mark (λ mark. All (λ other. other.told ≤ mark) passes)) passes
+    → All (λ k. IfSome k.mark (λ mark. All (λ other. other.signalled ≤ mark) passes)) passes
     → All (λ k. IfSome k.mark (λ mark. mark ≡ FIRST_XID + count)) passes

@@ -48,12 +48,13 @@ pub record IsWithin (k : Known) : Type 0 where
   -- its marks are within what it has seen of the journal
   pub mark : IfSome k.mark (λ mark. mark ≤ next_xid k.seen)
   pub marks : All (λ mark. mark ≤ next_xid k.seen) k.marks
-  -- what it was told is so too, and is past each transaction of its own, each that it has read, and each whose wakes it knows to be set
-  pub first_told : FIRST_XID ≤ k.told
-  pub told : k.told ≤ next_xid k.seen
+  -- it knows the wakes of each transaction of its own to be set
+  pub first : FIRST_XID ≤ k.signalled
+  pub own : All (λ x. x < k.signalled) k.own
+  -- it was told of each transaction whose wakes it knows to be set and of each that it has read, and of none that it has not seen
+  pub signalled : k.signalled ≤ k.told
   pub told_of_read : IfSome k.mark (λ mark. mark ≤ k.told)
-  pub told_of_signalled : k.signalled ≤ k.told
-  pub own : All (λ x. x < k.told) k.own
+  pub told : k.told ≤ next_xid k.seen
   -- it was told of each number that it raised or found
   pub raised : All (IsPairWithin k.told) k.raised
   pub found : All (IsPairWithin k.told) k.found

@@ -28,6 +28,7 @@ pub fn between_calls()
     ensures raised_past_told { IsWithin (record woken_1 { raised = (0, 4) ∷ [] }) → ⊥ }
     ensures read_past_told { IsWithin (record has_read { told = 3 }) → ⊥ }
     ensures signalled_past_told { IsWithin (record woken_1 { signalled = 4 }) → ⊥ }
+    ensures own_past_signalled { IsWithin (record published { signalled = 3 }) → ⊥ }
     // A flag has told it of the transaction 3, of which it knows no wake to be set.
     ensures told_and_owes_nothing { IsWithin (record found_0 { owes = false }) → ⊥ }
     ensures may_enlist { All (λ k. k.mark ≡ None) (opened_1 ∷ opened_2 ∷ has_left ∷ []) }

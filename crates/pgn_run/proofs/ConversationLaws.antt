@@ -44,7 +44,7 @@ run-over : RunsAreLegal → (shape : Shape) (section : Section) (k : Known) (ite
     → HasRunOut shape wire_plan 1 (record { section = section; known = k; items = items }) → k.mark ≡ None → RunsLegally section items
 run-over law shape section k items count gathered is number names out left =
     let part : Part = record { section = section; known = k; items = items } in
-    let up : HasReadAll (k ∷ []) k = subst (λ (m : Option ℕ). IfSome m (λ mark. All (λ (other : Known). other.told ≤ mark) (k ∷ []))) (sym left) tt in
+    let up : HasReadAll (k ∷ []) k = subst (λ (m : Option ℕ). IfSome m (λ mark. All (λ (other : Known). other.signalled ≤ mark) (k ∷ []))) (sym left) tt in
     let legal = law (record { sections = section ∷ []; flags = [] }) shape wire_plan 1 (part ∷ []) count gathered refl (number, tt) (one (NamesFlagsBelow 0) section names) (one (HasRunOut shape wire_plan 1) part out) (one (HasReadAll (k ∷ [])) k up) in
     record {
       journal = gathered.journal;

@@ -10,13 +10,13 @@ use Rattle.pgn_hub.specs.Shape.{Shape}
 use Rattle.pgn_session.specs.declared.session.Session.{Session}
 use Rattle.pgn_threads.specs.Parts.{HasReadAll}
 use Rattle.pgn_session.specs.Runs.{IsOver, Script, script_of, shown_of}
-use Rattle.pgn_threads.specs.Drain.{passes_of, tolds_of, heard_up, heard_down, Rises, AreTop, HasReadOwn, AreOver, HaveHeardUp, HaveHeardDown, HaveRead, MayEndWithRead, EachMayEndWithRead, MayReadAt, FirstMayEndWithRead}
+use Rattle.pgn_threads.specs.Drain.{passes_of, signals_of, heard_up, heard_down, Rises, AreTop, HasReadOwn, AreOver, HaveHeardUp, HaveHeardDown, HaveRead, MayEndWithRead, EachMayEndWithRead, MayReadAt, FirstMayEndWithRead}
 use Rattle.pgn_threads.proofs.ToldLaws.{rises-first, rises-on, rises-top, tops-on}
 use Rattle.pgn_threads.proofs.LastReadLaws.{all-read}
 
 module _ {P : Type 0} (is_own : P → Type 0) (shape : Shape) (known : P → Known) (old : List (Session P)) where
-  tolds-length : (sessions : List (Session P)) → length (tolds_of known sessions) ≡ length sessions
-  tolds-length sessions = length-map sessions (λ (s : Session P). (known s.pass).told)
+  signals-length : (sessions : List (Session P)) → length (signals_of known sessions) ≡ length sessions
+  signals-length sessions = length-map sessions (λ (s : Session P). (known s.pass).signalled)
 
   still-on : (mid new : List (Session P)) → AreOver is_own shape known old mid → All (IsOver is_own shape known) new → map script_of new ≡ map script_of mid → AreOver is_own shape known old new
   still-on mid new h over same = record {
@@ -46,16 +46,16 @@ module _ {P : Type 0} (is_own : P → Type 0) (shape : Shape) (known : P → Kno
       })
 
   pub up-first : All (IsOver is_own shape known) old → HaveHeardUp is_own shape known old old 1
-  up-first over = record { still = record { over = over; scripts = refl; count = refl }; first = omega arith; last = omega arith; rises = rises-first (tolds_of known old); shown = refl }
+  up-first over = record { still = record { over = over; scripts = refl; count = refl }; first = omega arith; last = omega arith; rises = rises-first (signals_of known old); shown = refl }
 
   pub up-next : (mid new : List (Session P)) (i : ℕ) → i < length old → HaveHeardUp is_own shape known old mid i → All (IsOver is_own shape known) new → map script_of new ≡ map script_of mid
-      → tolds_of known new ≡ heard_up (tolds_of known mid) i → map shown_of new ≡ map shown_of mid → HaveHeardUp is_own shape known old new (i + 1)
+      → signals_of known new ≡ heard_up (signals_of known mid) i → map shown_of new ≡ map shown_of mid → HaveHeardUp is_own shape known old new (i + 1)
   up-next mid new i lt h over same told shown = record {
     shown = shown ∙ h.shown;
     still = still-on mid new h.still over same;
     first = omega arith;
     last = omega (arith, lt);
-    rises = subst (λ (ts : List ℕ). Rises ts (i + 1)) (sym told) (rises-on (tolds_of known mid) i (omega (arith, h.first)) (omega (arith, lt, tolds-length mid, h.still.count)) h.rises);
+    rises = subst (λ (ts : List ℕ). Rises ts (i + 1)) (sym told) (rises-on (signals_of known mid) i (omega (arith, h.first)) (omega (arith, lt, signals-length mid, h.still.count)) h.rises);
   }
 
   pub up-last : (mid : List (Session P)) (i : ℕ) → length old ≤ i → HaveHeardUp is_own shape known old mid i → HaveHeardDown is_own shape known old mid 1
@@ -63,32 +63,32 @@ module _ {P : Type 0} (is_own : P → Type 0) (shape : Shape) (known : P → Kno
     shown = h.shown;
     still = h.still;
     first = omega arith;
-    tops = rises-top (tolds_of known mid) (length old) i (tolds-length mid ∙ h.still.count) past h.last h.rises;
+    tops = rises-top (signals_of known mid) (length old) i (signals-length mid ∙ h.still.count) past h.last h.rises;
   }
 
   pub down-next : (mid new : List (Session P)) (k : ℕ) → k < length old → HaveHeardDown is_own shape known old mid k → All (IsOver is_own shape known) new → map script_of new ≡ map script_of mid
-      → tolds_of known new ≡ heard_down (tolds_of known mid) (length old - k) → map shown_of new ≡ map shown_of mid → HaveHeardDown is_own shape known old new (k + 1)
+      → signals_of known new ≡ heard_down (signals_of known mid) (length old - k) → map shown_of new ≡ map shown_of mid → HaveHeardDown is_own shape known old new (k + 1)
   down-next mid new k lt h over same told shown =
       let place : (length old - k) - 1 ≡ length old - (k + 1) = omega arith in
       record {
         shown = shown ∙ h.shown;
         still = still-on mid new h.still over same;
         first = omega arith;
-        tops = subst (λ (n : ℕ). AreTop (tolds_of known new) n) place
+        tops = subst (λ (n : ℕ). AreTop (signals_of known new) n) place
             (subst (λ (ts : List ℕ). AreTop ts ((length old - k) - 1)) (sym told)
-            (tops-on (tolds_of known mid) (length old - k) (omega (arith, lt)) (omega (arith, lt, h.first, tolds-length mid, h.still.count)) h.tops));
+            (tops-on (signals_of known mid) (length old - k) (omega (arith, lt)) (omega (arith, lt, h.first, signals-length mid, h.still.count)) h.tops));
       }
 
   pub down-last : (mid : List (Session P)) (k : ℕ) → length old ≤ k → HaveHeardDown is_own shape known old mid k → HaveRead is_own shape known old mid 0
   down-last mid k past h = record {
     shown = subst (λ (lists : List (List Item)). FirstMayEndWithRead 0 (map shown_of old) lists) (sym h.shown) (first-none (map shown_of old));
     still = h.still;
-    tops = subst (λ (n : ℕ). AreTop (tolds_of known mid) n) (omega (arith, past)) h.tops;
+    tops = subst (λ (n : ℕ). AreTop (signals_of known mid) n) (omega (arith, past)) h.tops;
     read = All-nil HasReadOwn;
   }
 
   pub read-next : (mid new : List (Session P)) (i : ℕ) → i < length old → HaveRead is_own shape known old mid i → All (IsOver is_own shape known) new → map script_of new ≡ map script_of mid
-      → tolds_of known new ≡ tolds_of known mid → All HasReadOwn (take (i + 1) (passes_of known new)) → MayReadAt i (map shown_of mid) (map shown_of new) → HaveRead is_own shape known old new (i + 1)
+      → signals_of known new ≡ signals_of known mid → All HasReadOwn (take (i + 1) (passes_of known new)) → MayReadAt i (map shown_of mid) (map shown_of new) → HaveRead is_own shape known old new (i + 1)
   read-next mid new i lt h over same told read shown = record {
     shown = first-more (map shown_of old) (map shown_of mid) (map shown_of new) i (omega (arith, lt, length-map old (λ (s : Session P). shown_of s))) h.shown shown;
     still = still-on mid new h.still over same;

@@ -1,4 +1,4 @@
--- Sessions that read once more, and then have read up to what every one was told.
+-- Sessions that read once more, and then have read up to where every one knows wakes to be set.
 use Rattle.std.proofs.Common.{◌≡◌, inl, inr, Bool, true, false, cond, ◌++◌, ℕ, zero, suc, ◌+◌, ◌<◌, ◌≤◌, List, [], ◌∷◌, length, set, get_or, map, take, Option, None, Some, IfSome, All, sym, ap, ◌∙◌, refl, subst, arith}
 use Rattle.std.proofs.lemmas.Option.{IfSome_then}
 use Rattle.std.specs.Prelude.{nat_lt}
@@ -10,29 +10,30 @@ use Rattle.pgn_model.specs.declared.item.Item.{Item}
 use Rattle.pgn_model.specs.declared.item.Item.TheVariants.{Read}
 use Rattle.pgn_hub.specs.declared.known.Known.{Known}
 use Rattle.pgn_hub.specs.Shape.{Shape}
+use Rattle.pgn_hub.specs.Passes.{IsWithin}
 use Rattle.pgn_session.specs.declared.session.Session.{Session}
 use Rattle.pgn_session.specs.Parts.{HasFinished, HasFinishedFrom}
 use Rattle.pgn_session.specs.Whole.{HasRest}
 use Rattle.pgn_threads.specs.Parts.{HasReadAll}
 use Rattle.pgn_session.specs.Runs.{IsOver, script_of, shown_of}
-use Rattle.pgn_threads.specs.Drain.{passes_of, tolds_of, told_at, AreTop, HasReadOwn, MayEndWithRead, MayReadAt}
+use Rattle.pgn_threads.specs.Drain.{passes_of, signals_of, told_at, AreTop, HasReadOwn, MayEndWithRead, MayReadAt}
 
--- what a session was told is as it was, and it has read up to that
+-- what a session knows of wakes is as it was, and it has read up to that
 record HasReadUp (old new : Known) : Type 0 where
-  same : new.told ≡ old.told
+  same : new.signalled ≡ old.signalled
   read : HasReadOwn new
 
-finished-up : (old new : Known) (set : List (List ℕ)) (before after : List Item) → HasFinished old new set before after → HasReadUp old new
-finished-up old new set before after h = by old.mark refl h
+finished-up : (old new : Known) (set : List (List ℕ)) (before after : List Item) → IsWithin old → HasFinished old new set before after → HasReadUp old new
+finished-up old new set before after within h = by old.mark refl h
   where
     by : (mark : Option ℕ) → old.mark ≡ mark → HasFinishedFrom mark old new set before after → HasReadUp old new
-    by None e h = record { same = ap (λ (k : Known). k.told) h.0; read = subst (λ (mark : Option ℕ). IfSome mark (λ m. new.told ≤ m)) (sym (ap (λ (k : Known). k.mark) h.0 ∙ e)) tt }
+    by None e h = record { same = ap (λ (k : Known). k.signalled) h.0; read = subst (λ (mark : Option ℕ). IfSome mark (λ m. new.signalled ≤ m)) (sym (ap (λ (k : Known). k.mark) h.0 ∙ e)) tt }
     by (Some from) e h =
         let read = h.1.read in
-        let told : new.told ≡ old.told = ap (λ (k : Known). k.told) read.known in
+        let signalled : new.signalled ≡ old.signalled = ap (λ (k : Known). k.signalled) read.known in
         record {
-          same = told;
-          read = subst (λ (mark : Option ℕ). IfSome mark (λ m. new.told ≤ m)) (sym (ap (λ (k : Known). k.mark) read.known)) (omega (arith, told, read.after_told));
+          same = signalled;
+          read = subst (λ (mark : Option ℕ). IfSome mark (λ m. new.signalled ≤ m)) (sym (ap (λ (k : Known). k.mark) read.known)) (omega (arith, signalled, within.signalled, read.after_told));
         }
 
 -- the items are as they were, or a read has come behind them
@@ -47,7 +48,7 @@ finished-shown old new set before after h = by old.mark h
     by None e = inl e.1
     by (Some from) e = moved from e.0 e.1.got (nat_lt from e.0) e.1.shown
 
-module _ {P : Type 0} (is_own : P → Type 0) (shape : Shape) (known : P → Known) (sessions : List (Session P)) (i : ℕ) (d s : Session P) (lt : i < length sessions) (own : is_own s.pass) (rested : HasRest shape known s)
+module _ {P : Type 0} (is_own : P → Type 0) (shape : Shape) (known : P → Known) (sessions : List (Session P)) (i : ℕ) (d s : Session P) (lt : i < length sessions) (within : IsWithin (known (get_or sessions i d).pass)) (own : is_own s.pass) (rested : HasRest shape known s)
     (same : s ≡ record (get_or sessions i d) { pass = s.pass; items = s.items }) (finished : HasFinished (known (get_or sessions i d).pass) (known s.pass) (get_or sessions i d).set.channels (get_or sessions i d).items.items s.items.items) where
   pub read-over : All (IsOver is_own shape known) sessions → All (IsOver is_own shape known) (set sessions i s)
   read-over h =
@@ -57,8 +58,8 @@ module _ {P : Type 0} (is_own : P → Type 0) (shape : Shape) (known : P → Kno
   pub read-scripts : map script_of (set sessions i s) ≡ map script_of sessions
   read-scripts = map-set_same (λ (t : Session P). script_of t) sessions i s d (ap (λ (t : Session P). script_of t) same)
 
-  pub read-told : tolds_of known (set sessions i s) ≡ tolds_of known sessions
-  read-told = map-set_same (λ (t : Session P). (known t.pass).told) sessions i s d (finished-up (known (get_or sessions i d).pass) (known s.pass) (get_or sessions i d).set.channels (get_or sessions i d).items.items s.items.items finished).same
+  pub read-signals : signals_of known (set sessions i s) ≡ signals_of known sessions
+  read-signals = map-set_same (λ (t : Session P). (known t.pass).signalled) sessions i s d (finished-up (known (get_or sessions i d).pass) (known s.pass) (get_or sessions i d).set.channels (get_or sessions i d).items.items s.items.items within finished).same
 
   pub read-shown : MayReadAt i (map shown_of sessions) (map shown_of (set sessions i s))
   read-shown = record {
@@ -73,7 +74,7 @@ module _ {P : Type 0} (is_own : P → Type 0) (shape : Shape) (known : P → Kno
   read-more h = more sessions i lt h
     where
       up : HasReadOwn (known s.pass)
-      up = (finished-up (known (get_or sessions i d).pass) (known s.pass) (get_or sessions i d).set.channels (get_or sessions i d).items.items s.items.items finished).read
+      up = (finished-up (known (get_or sessions i d).pass) (known s.pass) (get_or sessions i d).set.channels (get_or sessions i d).items.items s.items.items within finished).read
 
       taken : (ss : List (Session P)) (k : ℕ) → k < length ss → take k (passes_of known (set ss k s)) ≡ take k (passes_of known ss)
       taken [] k less = absurd (omega (arith, less))
@@ -96,18 +97,18 @@ module _ {P : Type 0} (is_own : P → Type 0) (shape : Shape) (known : P → Kno
           (subst (λ (ks : List Known). All HasReadOwn ks) (sym (taken ss k less)) before)
           (subst HasReadOwn (sym (there ss k (known s.pass) less)) up)
 
--- the told of each pass
-told-of : {P : Type 0} (known : P → Known) (sessions : List (Session P)) (k : ℕ) (d : Known) → k < length (passes_of known sessions) → (get_or (passes_of known sessions) k d).told ≡ told_at (tolds_of known sessions) k
-told-of known [] k d lt = absurd (omega (arith, lt))
-told-of known (s ∷ sessions) zero d lt = refl
-told-of known (s ∷ sessions) (suc k) d lt = told-of known sessions k d (omega (arith, lt))
+-- the number of each pass
+signals-at : {P : Type 0} (known : P → Known) (sessions : List (Session P)) (k : ℕ) (d : Known) → k < length (passes_of known sessions) → (get_or (passes_of known sessions) k d).signalled ≡ told_at (signals_of known sessions) k
+signals-at known [] k d lt = absurd (omega (arith, lt))
+signals-at known (s ∷ sessions) zero d lt = refl
+signals-at known (s ∷ sessions) (suc k) d lt = signals-at known sessions k d (omega (arith, lt))
 
-same-length : {P : Type 0} (known : P → Known) (sessions : List (Session P)) → length (passes_of known sessions) ≡ length (tolds_of known sessions)
+same-length : {P : Type 0} (known : P → Known) (sessions : List (Session P)) → length (passes_of known sessions) ≡ length (signals_of known sessions)
 same-length known [] = refl
 same-length known (s ∷ sessions) = ap suc (same-length known sessions)
 
--- where nobody was told more than any other, who has read up to what it was told has read up to what all were
-pub all-read : {P : Type 0} (known : P → Known) (sessions : List (Session P)) (n : ℕ) → length (passes_of known sessions) ≤ n → AreTop (tolds_of known sessions) 0 → All HasReadOwn (take n (passes_of known sessions))
+-- where nobody knows more of wakes than any other, who has read up to what it knows has read up to what all know
+pub all-read : {P : Type 0} (known : P → Known) (sessions : List (Session P)) (n : ℕ) → length (passes_of known sessions) ≤ n → AreTop (signals_of known sessions) 0 → All HasReadOwn (take n (passes_of known sessions))
     → All (HasReadAll (passes_of known sessions)) (passes_of known sessions)
 all-read known sessions n le tops read = λ k d lt.
     let passes : List Known = passes_of known sessions in
@@ -117,7 +118,7 @@ all-read known sessions n le tops read = λ k d lt.
     omega (
       arith,
       up,
-      told-of known sessions k d lt,
-      told-of known sessions j e less,
+      signals-at known sessions k d lt,
+      signals-at known sessions j e less,
       tops k (omega arith) (omega (arith, lt, same-length known sessions)) j (omega (arith, less, same-length known sessions)),
     ))

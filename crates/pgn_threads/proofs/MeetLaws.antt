@@ -11,7 +11,7 @@ use Rattle.pgn_session.specs.Standing.{terms_of}
 use Rattle.pgn_session.specs.Whole.{HasRest}
 use Rattle.pgn_session.proofs.OverLaws.{learned-at_end}
 use Rattle.pgn_session.specs.Runs.{IsOver, script_of, shown_of}
-use Rattle.pgn_threads.specs.Drain.{tolds_of, told_at, heard_up, heard_down}
+use Rattle.pgn_threads.specs.Drain.{signals_of, told_at, heard_up, heard_down}
 
 -- two neighbours are put anew, one in each half
 mended : {X : Type 0} (xs : List X) (p : ℕ) (a b : X) → suc p < length xs → set (take (suc p) xs) p a ++ set (drop (suc p) xs) 0 b ≡ set (set xs p a) (suc p) b
@@ -46,8 +46,8 @@ pub record HaveMet {P : Type 0} (is_own : P → Type 0) (shape : Shape) (known :
   pub into_same : into_new ≡ record into { pass = into_new.pass }
 
 module _ {P : Type 0} (is_own : P → Type 0) (shape : Shape) (known : P → Known) where
-  abbrev told : Session P → ℕ
-  told s = (known s.pass).told
+  abbrev signals : Session P → ℕ
+  signals s = (known s.pass).signalled
 
   from-over : (from from_new into into_new : Session P) → HaveMet is_own shape known from from_new into into_new → IsOver is_own shape known from → IsOver is_own shape known from_new
   from-over from from_new into into_new m h = over-learned is_own shape known from from_new m.from_own m.told m.from_same h
@@ -55,11 +55,11 @@ module _ {P : Type 0} (is_own : P → Type 0) (shape : Shape) (known : P → Kno
   into-over : (from from_new into into_new : Session P) → HaveMet is_own shape known from from_new into into_new → IsOver is_own shape known into → IsOver is_own shape known into_new
   into-over from from_new into into_new m h = over-rested is_own shape known into into_new m.into_own m.into_rested m.into_same h
 
-  from-told : (from from_new into into_new : Session P) → HaveMet is_own shape known from from_new into into_new → told from_new ≡ told from
-  from-told from from_new into into_new m = ap (λ (k : Known). k.told) m.told.known
+  from-signals : (from from_new into into_new : Session P) → HaveMet is_own shape known from from_new into into_new → signals from_new ≡ signals from
+  from-signals from from_new into into_new m = ap (λ (k : Known). k.signalled) m.told.known
 
-  into-told : (from from_new into into_new : Session P) → HaveMet is_own shape known from from_new into into_new → told into_new ≡ max (told into) (told from)
-  into-told from from_new into into_new m = ap (λ (k : Known). k.told) m.heard.known
+  into-signals : (from from_new into into_new : Session P) → HaveMet is_own shape known from from_new into into_new → signals into_new ≡ max (signals into) (signals from)
+  into-signals from from_new into into_new m = ap (λ (k : Known). k.signalled) m.heard.known
 
   from-script : (from from_new into into_new : Session P) → HaveMet is_own shape known from from_new into into_new → script_of from_new ≡ script_of from
   from-script from from_new into into_new m = ap (λ (s : Session P). script_of s) m.from_same
@@ -95,11 +95,11 @@ module _ {P : Type 0} (is_own : P → Type 0) (shape : Shape) (known : P → Kno
       (All-set (IsOver is_own shape known) (take (suc p) sessions) p a ha (All-take (IsOver is_own shape known) (suc p) sessions h))
       (All-set (IsOver is_own shape known) (drop (suc p) sessions) 0 b hb (All-drop (IsOver is_own shape known) (suc p) sessions h))
 
-  -- the told of a place
-  told-there : (sessions : List (Session P)) (k : ℕ) (d : Session P) → k < length sessions → told_at (tolds_of known sessions) k ≡ told (get_or sessions k d)
-  told-there [] k d lt = absurd (omega (arith, lt))
-  told-there (s ∷ sessions) zero d lt = refl
-  told-there (s ∷ sessions) (suc k) d lt = told-there sessions k d (omega (arith, lt))
+  -- the number of a place
+  signals-there : (sessions : List (Session P)) (k : ℕ) (d : Session P) → k < length sessions → told_at (signals_of known sessions) k ≡ signals (get_or sessions k d)
+  signals-there [] k d lt = absurd (omega (arith, lt))
+  signals-there (s ∷ sessions) zero d lt = refl
+  signals-there (s ∷ sessions) (suc k) d lt = signals-there sessions k d (omega (arith, lt))
 
   module _ (sessions : List (Session P)) (p : ℕ) (d a b : Session P) (lt : suc p < length sessions) where
     -- up the list: the first tells, the second hears
@@ -117,17 +117,17 @@ module _ {P : Type 0} (is_own : P → Type 0) (shape : Shape) (known : P → Kno
       up-shown =
           neighbours-same (λ (s : Session P). shown_of s) sessions p a b d lt (from-shown (get_or sessions p d) a (get_or sessions (suc p) d) b m) (into-shown (get_or sessions p d) a (get_or sessions (suc p) d) b m)
 
-      pub up-told : tolds_of known (set (take (suc p) sessions) p a ++ set (drop (suc p) sessions) 0 b) ≡ heard_up (tolds_of known sessions) (suc p)
-      up-told =
-          let ts : List ℕ = tolds_of known sessions in
-          let first : told_at ts p ≡ told a = told-there sessions p d (omega (arith, lt)) ∙ sym (from-told (get_or sessions p d) a (get_or sessions (suc p) d) b m) in
-          let second : told b ≡ max (told_at ts (suc p)) (told_at ts (suc p - 1)) =
-          into-told (get_or sessions p d) a (get_or sessions (suc p) d) b m
-          ∙ ap (λ (n : ℕ). max n (told (get_or sessions p d))) (sym (told-there sessions (suc p) d lt))
-          ∙ ap (λ (n : ℕ). max (told_at ts (suc p)) n) (sym (told-there sessions p d (omega (arith, lt))))
+      pub up-signals : signals_of known (set (take (suc p) sessions) p a ++ set (drop (suc p) sessions) 0 b) ≡ heard_up (signals_of known sessions) (suc p)
+      up-signals =
+          let ts : List ℕ = signals_of known sessions in
+          let first : told_at ts p ≡ signals a = signals-there sessions p d (omega (arith, lt)) ∙ sym (from-signals (get_or sessions p d) a (get_or sessions (suc p) d) b m) in
+          let second : signals b ≡ max (told_at ts (suc p)) (told_at ts (suc p - 1)) =
+          into-signals (get_or sessions p d) a (get_or sessions (suc p) d) b m
+          ∙ ap (λ (n : ℕ). max n (signals (get_or sessions p d))) (sym (signals-there sessions (suc p) d lt))
+          ∙ ap (λ (n : ℕ). max (told_at ts (suc p)) n) (sym (signals-there sessions p d (omega (arith, lt))))
           ∙ ap (λ (n : ℕ). max (told_at ts (suc p)) (told_at ts n)) (omega arith) in
-          neighbours told sessions p a b lt
-          ∙ ap (λ (xs : List ℕ). set xs (suc p) (told b)) (ap (λ (n : ℕ). set ts p n) (sym first) ∙ set-get_or ts p 0)
+          neighbours signals sessions p a b lt
+          ∙ ap (λ (xs : List ℕ). set xs (suc p) (signals b)) (ap (λ (n : ℕ). set ts p n) (sym first) ∙ set-get_or ts p 0)
           ∙ ap (λ (n : ℕ). set ts (suc p) n) second
 
     -- down the list: the second tells, the first hears
@@ -145,19 +145,19 @@ module _ {P : Type 0} (is_own : P → Type 0) (shape : Shape) (known : P → Kno
       down-shown =
           neighbours-same (λ (s : Session P). shown_of s) sessions p a b d lt (into-shown (get_or sessions (suc p) d) b (get_or sessions p d) a m) (from-shown (get_or sessions (suc p) d) b (get_or sessions p d) a m)
 
-      pub down-told : tolds_of known (set (take (suc p) sessions) p a ++ set (drop (suc p) sessions) 0 b) ≡ heard_down (tolds_of known sessions) (suc p)
-      down-told =
-          let ts : List ℕ = tolds_of known sessions in
+      pub down-signals : signals_of known (set (take (suc p) sessions) p a ++ set (drop (suc p) sessions) 0 b) ≡ heard_down (signals_of known sessions) (suc p)
+      down-signals =
+          let ts : List ℕ = signals_of known sessions in
           let top : ℕ = max (told_at ts (suc p - 1)) (told_at ts (suc p)) in
-          let second : told b ≡ told_at ts (suc p) = from-told (get_or sessions (suc p) d) b (get_or sessions p d) a m ∙ sym (told-there sessions (suc p) d lt) in
-          let first : told a ≡ top =
-          into-told (get_or sessions (suc p) d) b (get_or sessions p d) a m
-          ∙ ap (λ (n : ℕ). max n (told (get_or sessions (suc p) d))) (sym (told-there sessions p d (omega (arith, lt))))
-          ∙ ap (λ (n : ℕ). max (told_at ts p) n) (sym (told-there sessions (suc p) d lt))
+          let second : signals b ≡ told_at ts (suc p) = from-signals (get_or sessions (suc p) d) b (get_or sessions p d) a m ∙ sym (signals-there sessions (suc p) d lt) in
+          let first : signals a ≡ top =
+          into-signals (get_or sessions (suc p) d) b (get_or sessions p d) a m
+          ∙ ap (λ (n : ℕ). max n (signals (get_or sessions (suc p) d))) (sym (signals-there sessions p d (omega (arith, lt))))
+          ∙ ap (λ (n : ℕ). max (told_at ts p) n) (sym (signals-there sessions (suc p) d lt))
           ∙ ap (λ (n : ℕ). max (told_at ts n) (told_at ts (suc p))) (omega arith) in
           let there : told_at (set ts p top) (suc p) ≡ told_at ts (suc p) = get_or-set_other ts p (suc p) top 0 (λ e. no-loop p e) in
-          neighbours told sessions p a b lt
-          ∙ ap (λ (n : ℕ). set (set ts p n) (suc p) (told b)) first
+          neighbours signals sessions p a b lt
+          ∙ ap (λ (n : ℕ). set (set ts p n) (suc p) (signals b)) first
           ∙ ap (λ (n : ℕ). set (set ts p top) (suc p) n) (second ∙ sym there)
           ∙ set-get_or (set ts p top) (suc p) 0
           ∙ ap (λ (n : ℕ). set ts n top) (omega arith)
@@ -169,7 +169,7 @@ module _ {P : Type 0} (is_own : P → Type 0) (shape : Shape) (known : P → Kno
 pub record HaveGoneOn {P : Type 0} (is_own : P → Type 0) (shape : Shape) (known : P → Known) (old new : List (Session P)) (tolds : List ℕ) : Type 0 where
   pub over : All (IsOver is_own shape known) new
   pub scripts : map script_of new ≡ map script_of old
-  pub told : tolds_of known new ≡ tolds
+  pub signals : signals_of known new ≡ tolds
   pub shown : map shown_of new ≡ map shown_of old
 
 module _ {P : Type 0} (is_own : P → Type 0) (shape : Shape) (known : P → Known) (sessions : List (Session P)) (d e a b : Session P) where
@@ -181,43 +181,43 @@ module _ {P : Type 0} (is_own : P → Type 0) (shape : Shape) (known : P → Kno
   back-at p lt = get_or-drop (suc p) sessions 0 e ∙ ap (λ (n : ℕ). get_or sessions n e) (omega arith) ∙ get_or_default sessions (suc p) e d lt
 
   up-at : (i : ℕ) → 0 < i → i < length sessions → HaveMet is_own shape known (get_or (take i sessions) (i - 1) d) a (get_or (drop i sessions) 0 e) b → All (IsOver is_own shape known) sessions
-      → HaveGoneOn is_own shape known sessions (set (take i sessions) (i - 1) a ++ set (drop i sessions) 0 b) (heard_up (tolds_of known sessions) i)
+      → HaveGoneOn is_own shape known sessions (set (take i sessions) (i - 1) a ++ set (drop i sessions) 0 b) (heard_up (signals_of known sessions) i)
   up-at zero first lt m h = absurd (omega (arith, first))
   up-at (suc p) first lt m h =
       let place : suc p - 1 ≡ p = omega arith in
       let met : HaveMet is_own shape known (get_or sessions p d) a (get_or sessions (suc p) d) b =
       subst (λ (s : Session P). HaveMet is_own shape known s a (get_or sessions (suc p) d) b) (ap (λ (n : ℕ). get_or (take (suc p) sessions) n d) place ∙ front-at p lt)
       (subst (λ (s : Session P). HaveMet is_own shape known (get_or (take (suc p) sessions) (suc p - 1) d) a s b) (back-at p lt) m) in
-      subst (λ (n : ℕ). HaveGoneOn is_own shape known sessions (set (take (suc p) sessions) n a ++ set (drop (suc p) sessions) 0 b) (heard_up (tolds_of known sessions) (suc p))) (sym place)
-      (record { over = up-over is_own shape known sessions p d a b lt met h; scripts = up-scripts is_own shape known sessions p d a b lt met; told = up-told is_own shape known sessions p d a b lt met; shown = up-shown is_own shape known sessions p d a b lt met })
+      subst (λ (n : ℕ). HaveGoneOn is_own shape known sessions (set (take (suc p) sessions) n a ++ set (drop (suc p) sessions) 0 b) (heard_up (signals_of known sessions) (suc p))) (sym place)
+      (record { over = up-over is_own shape known sessions p d a b lt met h; scripts = up-scripts is_own shape known sessions p d a b lt met; signals = up-signals is_own shape known sessions p d a b lt met; shown = up-shown is_own shape known sessions p d a b lt met })
 
   down-at : (i : ℕ) → 0 < i → i < length sessions → HaveMet is_own shape known (get_or (drop i sessions) 0 e) b (get_or (take i sessions) (i - 1) d) a → All (IsOver is_own shape known) sessions
-      → HaveGoneOn is_own shape known sessions (set (take i sessions) (i - 1) a ++ set (drop i sessions) 0 b) (heard_down (tolds_of known sessions) i)
+      → HaveGoneOn is_own shape known sessions (set (take i sessions) (i - 1) a ++ set (drop i sessions) 0 b) (heard_down (signals_of known sessions) i)
   down-at zero first lt m h = absurd (omega (arith, first))
   down-at (suc p) first lt m h =
       let place : suc p - 1 ≡ p = omega arith in
       let met : HaveMet is_own shape known (get_or sessions (suc p) d) b (get_or sessions p d) a =
       subst (λ (s : Session P). HaveMet is_own shape known (get_or sessions (suc p) d) b s a) (ap (λ (n : ℕ). get_or (take (suc p) sessions) n d) place ∙ front-at p lt)
       (subst (λ (s : Session P). HaveMet is_own shape known s b (get_or (take (suc p) sessions) (suc p - 1) d) a) (back-at p lt) m) in
-      subst (λ (n : ℕ). HaveGoneOn is_own shape known sessions (set (take (suc p) sessions) n a ++ set (drop (suc p) sessions) 0 b) (heard_down (tolds_of known sessions) (suc p))) (sym place)
-      (record { over = down-over is_own shape known sessions p d a b lt met h; scripts = down-scripts is_own shape known sessions p d a b lt met; told = down-told is_own shape known sessions p d a b lt met; shown = down-shown is_own shape known sessions p d a b lt met })
+      subst (λ (n : ℕ). HaveGoneOn is_own shape known sessions (set (take (suc p) sessions) n a ++ set (drop (suc p) sessions) 0 b) (heard_down (signals_of known sessions) (suc p))) (sym place)
+      (record { over = down-over is_own shape known sessions p d a b lt met h; scripts = down-scripts is_own shape known sessions p d a b lt met; signals = down-signals is_own shape known sessions p d a b lt met; shown = down-shown is_own shape known sessions p d a b lt met })
 
   pub up-all : (front back : List (Session P)) (i : ℕ) → front ≡ take i sessions → back ≡ drop i sessions → 0 < i → i < length sessions
       → HaveMet is_own shape known (get_or front (i - 1) d) a (get_or back 0 e) b → All (IsOver is_own shape known) sessions
-      → HaveGoneOn is_own shape known sessions (set front (i - 1) a ++ set back 0 b) (heard_up (tolds_of known sessions) i)
+      → HaveGoneOn is_own shape known sessions (set front (i - 1) a ++ set back 0 b) (heard_up (signals_of known sessions) i)
   up-all front back i ef eb first lt =
       subst (λ (f : List (Session P)). HaveMet is_own shape known (get_or f (i - 1) d) a (get_or back 0 e) b → All (IsOver is_own shape known) sessions
-      → HaveGoneOn is_own shape known sessions (set f (i - 1) a ++ set back 0 b) (heard_up (tolds_of known sessions) i)) (sym ef)
+      → HaveGoneOn is_own shape known sessions (set f (i - 1) a ++ set back 0 b) (heard_up (signals_of known sessions) i)) (sym ef)
       (subst (λ (k : List (Session P)). HaveMet is_own shape known (get_or (take i sessions) (i - 1) d) a (get_or k 0 e) b → All (IsOver is_own shape known) sessions
-      → HaveGoneOn is_own shape known sessions (set (take i sessions) (i - 1) a ++ set k 0 b) (heard_up (tolds_of known sessions) i)) (sym eb)
+      → HaveGoneOn is_own shape known sessions (set (take i sessions) (i - 1) a ++ set k 0 b) (heard_up (signals_of known sessions) i)) (sym eb)
       (up-at i first lt))
 
   pub down-all : (front back : List (Session P)) (i : ℕ) → front ≡ take i sessions → back ≡ drop i sessions → 0 < i → i < length sessions
       → HaveMet is_own shape known (get_or back 0 e) b (get_or front (i - 1) d) a → All (IsOver is_own shape known) sessions
-      → HaveGoneOn is_own shape known sessions (set front (i - 1) a ++ set back 0 b) (heard_down (tolds_of known sessions) i)
+      → HaveGoneOn is_own shape known sessions (set front (i - 1) a ++ set back 0 b) (heard_down (signals_of known sessions) i)
   down-all front back i ef eb first lt =
       subst (λ (f : List (Session P)). HaveMet is_own shape known (get_or back 0 e) b (get_or f (i - 1) d) a → All (IsOver is_own shape known) sessions
-      → HaveGoneOn is_own shape known sessions (set f (i - 1) a ++ set back 0 b) (heard_down (tolds_of known sessions) i)) (sym ef)
+      → HaveGoneOn is_own shape known sessions (set f (i - 1) a ++ set back 0 b) (heard_down (signals_of known sessions) i)) (sym ef)
       (subst (λ (k : List (Session P)). HaveMet is_own shape known (get_or k 0 e) b (get_or (take i sessions) (i - 1) d) a → All (IsOver is_own shape known) sessions
-      → HaveGoneOn is_own shape known sessions (set (take i sessions) (i - 1) a ++ set k 0 b) (heard_down (tolds_of known sessions) i)) (sym eb)
+      → HaveGoneOn is_own shape known sessions (set (take i sessions) (i - 1) a ++ set k 0 b) (heard_down (signals_of known sessions) i)) (sym eb)
       (down-at i first lt))

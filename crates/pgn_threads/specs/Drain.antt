@@ -12,11 +12,11 @@ use Rattle.pgn_session.specs.Runs.{IsOver, script_of, shown_of}
 abbrev pub passes_of : {P : Type 0} → (P → Known) → List (Session P) → List Known
 passes_of known sessions = map (λ s. known s.pass) sessions
 
--- what each was told
-abbrev pub tolds_of : {P : Type 0} → (P → Known) → List (Session P) → List ℕ
-tolds_of known sessions = map (λ s. (known s.pass).told) sessions
+-- up to where each knows wakes to be set
+abbrev pub signals_of : {P : Type 0} → (P → Known) → List (Session P) → List ℕ
+signals_of known sessions = map (λ s. (known s.pass).signalled) sessions
 
--- what was told to the one at this place
+-- the number of the one at this place
 abbrev pub told_at : List ℕ → ℕ → ℕ
 told_at tolds place = get_or tolds place 0
 
@@ -28,17 +28,17 @@ heard_up tolds place = set tolds place (max (told_at tolds place) (told_at tolds
 abbrev pub heard_down : List ℕ → ℕ → List ℕ
 heard_down tolds place = set tolds (place - 1) (max (told_at tolds (place - 1)) (told_at tolds place))
 
--- of those before this place nobody was told more than the last
+-- of those before this place nobody has a greater number than the last
 abbrev pub Rises : List ℕ → ℕ → Type 0
 Rises tolds place = (j : ℕ) → j < place → told_at tolds j ≤ told_at tolds (place - 1)
 
--- nobody was told more than any of those from this place on
+-- nobody has a greater number than any of those from this place on
 abbrev pub AreTop : List ℕ → ℕ → Type 0
 AreTop tolds place = (j : ℕ) → place ≤ j → j < length tolds → (h : ℕ) → h < length tolds → told_at tolds h ≤ told_at tolds j
 
--- a session that still listens has read up to what it was told itself
+-- a session that still listens has read up to where it knows wakes to be set itself
 abbrev pub HasReadOwn : Known → Type 0
-HasReadOwn k = IfSome k.mark (λ mark. k.told ≤ mark)
+HasReadOwn k = IfSome k.mark (λ mark. k.signalled ≤ mark)
 
 -- a read has come behind the items
 pub record EndsWithRead (before after : List Item) : Type 0 where
@@ -79,19 +79,19 @@ pub record HaveHeardUp {P : Type 0} (is_own : P → Type 0) (shape : Shape) (kno
   pub still : AreOver is_own shape known old new
   pub first : 1 ≤ place
   pub last : place ≤ max 1 (length old)
-  pub rises : Rises (tolds_of known new) place
+  pub rises : Rises (signals_of known new) place
   pub shown : map shown_of new ≡ map shown_of old
 
 -- and then down to this place each from the one behind it: so many have
 pub record HaveHeardDown {P : Type 0} (is_own : P → Type 0) (shape : Shape) (known : P → Known) (old new : List (Session P)) (count : ℕ) : Type 0 where
   pub still : AreOver is_own shape known old new
   pub first : 1 ≤ count
-  pub tops : AreTop (tolds_of known new) (length old - count)
+  pub tops : AreTop (signals_of known new) (length old - count)
   pub shown : map shown_of new ≡ map shown_of old
 
 -- and then the first ones, so many, have read once more
 pub record HaveRead {P : Type 0} (is_own : P → Type 0) (shape : Shape) (known : P → Known) (old new : List (Session P)) (count : ℕ) : Type 0 where
   pub still : AreOver is_own shape known old new
-  pub tops : AreTop (tolds_of known new) 0
+  pub tops : AreTop (signals_of known new) 0
   pub read : All HasReadOwn (take count (passes_of known new))
   pub shown : FirstMayEndWithRead count (map shown_of old) (map shown_of new)

@@ -13,7 +13,7 @@ use Rattle.pgn_threads.specs.Parts.{Part, settings_of, trace_of, HasRunOut, HasR
 abbrev pub NamesFlagsBelow : ℕ → Section → Type 0
 NamesFlagsBelow flags section = All (λ line. HasFlagBelow flags line.act) section.lines
 
--- where all sessions are over, each that still listens has read up to what every one was told, and the passes were gathered, the
+-- where all sessions are over, each that still listens has read up to where every one knows wakes to be set, and the passes were gathered, the
 -- journal and the traces are a legal run of the scenario; the end flags stand behind those that the scripts name
 abbrev pub RunsAreLegal : Type 0
 RunsAreLegal = (scenario : Scenario) (shape : Shape) (plan : FlagPlan) (patience : ℕ) (parts : List Part) (count : ℕ) (gathered : Gathered (map (λ part. part.known) parts) count)

@@ -38,6 +38,6 @@ pub record HasRunOut (shape : Shape) (plan : FlagPlan) (patience : ℕ) (part : 
   pub rested : IsRested (terms_of shape part.section patience) plan done block set Over part.known part.items
   pub within : IsWithin part.known
 
--- a session that still listens has read up to what each was told
+-- a session that still listens has read up to where each knows wakes to be set
 abbrev pub HasReadAll : List Known → Known → Type 0
-HasReadAll passes k = IfSome k.mark (λ mark. All (λ other. other.told ≤ mark) passes)
+HasReadAll passes k = IfSome k.mark (λ mark. All (λ other. other.signalled ≤ mark) passes)

@@ -1,14 +1,14 @@
 ghost use Rattle.std.specs.Prelude.{◌≡◌, ◌<◌, ◌+◌, map, take, length, OnOk, All};
 ghost use Rattle.pgn_threads.specs.Parts.{HasReadAll};
 ghost use Rattle.pgn_session.specs.Runs.{IsOver, script_of, shown_of};
-ghost use Rattle.pgn_threads.specs.Drain.{passes_of, tolds_of, heard_up, heard_down, EachMayEndWithRead, HasReadOwn, MayReadAt};
+ghost use Rattle.pgn_threads.specs.Drain.{passes_of, signals_of, heard_up, heard_down, EachMayEndWithRead, HasReadOwn, MayReadAt};
 
 use pgn_hub::{Hub, PassView};
 use pgn_session::Session;
 use std::alloc::{AllocError, Global};
 
-/// Lets sessions that are over hear from each other what each was told, and then lets each that still listens read once more: it
-/// then has read up to what every one of them was told. The error is that memory did not suffice.
+/// Lets sessions that are over hear from each other what each knows of wakes, and then lets each that still listens read once more: it
+/// then has read up to where every one of them knows wakes to be set. The error is that memory did not suffice.
 pub fn drain<P: PassView + Send + Drop, H: Hub<Pass = P>>(
     alloc: Global,
     hub: &H,
@@ -43,7 +43,7 @@ fn hear_up<P: PassView + Send + Drop, H: Hub<Pass = P>>(
     requires place { (0 < i) × (i < length sessions.old) }
     ensures over { All (IsOver (H.is_pass hub.now) (H.shape hub.now) P.known) sessions.new }
     ensures scripts { map script_of sessions.new ≡ map script_of sessions.old }
-    ensures told { tolds_of P.known sessions.new ≡ heard_up (tolds_of P.known sessions.old) i }
+    ensures signals { signals_of P.known sessions.new ≡ heard_up (signals_of P.known sessions.old) i }
     ensures shown { map shown_of sessions.new ≡ map shown_of sessions.old }
 {
     let (front, back) = sessions.split_at_mut(i);
@@ -60,7 +60,7 @@ fn hear_down<P: PassView + Send + Drop, H: Hub<Pass = P>>(
     requires place { (0 < i) × (i < length sessions.old) }
     ensures over { All (IsOver (H.is_pass hub.now) (H.shape hub.now) P.known) sessions.new }
     ensures scripts { map script_of sessions.new ≡ map script_of sessions.old }
-    ensures told { tolds_of P.known sessions.new ≡ heard_down (tolds_of P.known sessions.old) i }
+    ensures signals { signals_of P.known sessions.new ≡ heard_down (signals_of P.known sessions.old) i }
     ensures shown { map shown_of sessions.new ≡ map shown_of sessions.old }
 {
     let (front, back) = sessions.split_at_mut(i);
@@ -80,7 +80,7 @@ fn read_last<P: PassView + Send + Drop, H: Hub<Pass = P>>(
     requires before { All HasReadOwn (take i (passes_of P.known sessions.old)) }
     ensures over { OnOk result (All (IsOver (H.is_pass hub.now) (H.shape hub.now) P.known) sessions.new) }
     ensures scripts { OnOk result (map script_of sessions.new ≡ map script_of sessions.old) }
-    ensures told { OnOk result (tolds_of P.known sessions.new ≡ tolds_of P.known sessions.old) }
+    ensures signals { OnOk result (signals_of P.known sessions.new ≡ signals_of P.known sessions.old) }
     ensures read { OnOk result (All HasReadOwn (take (i + 1) (passes_of P.known sessions.new))) }
     ensures shown { OnOk result (MayReadAt i (map shown_of sessions.old) (map shown_of sessions.new)) }
 {

@@ -1,5 +1,5 @@
 -- A query that was taken, and a session that was stopped.
-use Rattle.std.proofs.Common.{◌≡◌, ℕ, ◌+◌, ◌≤◌, Bool, true, false, cond, List, [], ◌∷◌, ◌++◌, length, drop, Option, Result, Ok, Err, OnOk, OnErr, IfSome, Some, None, sym, ap, ◌∙◌, subst, refl, append_assoc, append-nil}
+use Rattle.std.proofs.Common.{◌≡◌, ℕ, ◌+◌, ◌≤◌, Bool, true, false, true≢false, cond, List, [], ◌∷◌, ◌++◌, length, drop, Option, Result, Ok, Err, OnOk, OnErr, IfSome, Some, None, sym, ap, ◌∙◌, subst, refl, append_assoc, append-nil}
 use Rattle.std.proofs.lemmas.List.{length-append}
 use Rattle.std.specs.Prelude.{nat_lt}
 use Rattle.std.specs.List.{list_any}
@@ -12,6 +12,7 @@ use Rattle.pgn_language.specs.declared.scenario.Section.{Section}
 use Rattle.pgn_model.specs.declared.item.Item.{Item}
 use Rattle.pgn_model.specs.declared.item.Item.TheVariants.{Line, Read}
 use Rattle.pgn_model.specs.Walk.{Terms, State}
+use Rattle.pgn_model.specs.Trace.{IsReadUp, next_reads_first, reads_first, state_after}
 use Rattle.pgn_hub.specs.declared.known.Known.{Known}
 use Rattle.pgn_hub.specs.Shape.{Shape}
 use Rattle.pgn_block.specs.Views.{BlockView}
@@ -35,7 +36,8 @@ use Rattle.pgn_messages.specs.Messages.{act_command, answer_messages, messages, 
 use Rattle.pgn_messages.specs.Laws.{after, begins_line}
 use Rattle.pgn_messages.proofs.GrowLaws.{query_answers, others_are_silent}
 use Rattle.pgn_messages.proofs.RestLaws.{line_is_put_in, one_line_begins}
-use Rattle.pgn_wire.specs.Serving.{HasStood, HasStopped, HasTaken, IsOpen, IsReadUp, RunsCommand}
+use Rattle.pgn_session.specs.FirstRead.{HasReadTold, IsToReadFirst}
+use Rattle.pgn_wire.specs.Serving.{BeginsEmpty, HasReadOutside, HasStood, HasStopped, HasTaken, IsOpen, RunsCommand}
 
 -- the lines that are to come after the items so far
 rest-at : (terms : Terms) (done : ℕ) (set : List (List ℕ)) (k : Known) (items : List Item) (P : State → Type 0) → IsAt terms done set k items P
@@ -317,16 +319,27 @@ quit-read-refused {P} shape known old two new step stood_open same moved kept un
     stopped-behind shape known old new stood_open.ends.last.line (quit_items quit_moved.mark) (stood-answer shape known new answer) (unshown ∙ quit_moved.shown)
     (ap (λ (s : Section). messages s old.items.items) (ap (λ (s : Session P). s.section) kept ∙ same.section))
 
--- a listener that has read first has read up
-read-up_from : (mark : Option ℕ) (k l : Known) (set : List (List ℕ)) (before after : List Item) → k.mark ≡ mark → HasFinishedFrom mark k l set before after → IsReadUp l
-read-up_from None k l set before after e h = subst (λ (m : Option ℕ). IfSome m (λ n. l.told ≤ n)) (sym (ap (λ (n : Known). n.mark) h.0 ∙ e)) tt
-read-up_from (Some from) k l set before after e h =
-    subst (λ (m : Option ℕ). IfSome m (λ n. l.told ≤ n)) (sym (ap (λ (n : Known). n.mark) h.1.read.known))
-    (subst (λ (told : ℕ). told ≤ h.0) (sym (ap (λ (n : Known). n.told) h.1.read.known)) h.1.read.after_told)
+-- before the `\quit` nothing is to be read
+pub quit-unread : {P : Type 0} (s : Session P) → IsOpen s → IsToReadFirst s → ⊥
+quit-unread s stood_open first =
+    let ends = stood_open.ends in
+    let none : next_reads_first (drop s.done s.section.lines) ≡ false =
+    ap next_reads_first (open-comes s.section.lines s.done ends stood_open.begun) ∙ ap reads_first ends.quits in
+    true≢false (sym first.next ∙ none)
 
-pub read-up : {T E : Type 0} (r : Result T E) (k l : Known) (set : List (List ℕ)) (before after : List Item) → OnOk r (HasFinished k l set before after) → OnOk r (IsReadUp l)
-read-up (Ok x) k l set before after h = read-up_from k.mark k l set before after refl h
-read-up (Err e) k l set before after h = tt
+-- a line that was put in changes nothing of what was read
+pub fed-read : {P : Type 0} (known : P → Known) (old once : Session P) (line : ScriptLine) → once ≡ record old { section = fed old.section line } → HasReadOutside known old
+    → IsToReadFirst once → HasReadTold (known once.pass)
+fed-read {P} known old once line e read first =
+    subst (λ (s : Session P). HasReadTold (known s.pass)) (sym e) (read (sym (ap (λ (s : Session P). s.block.state) e) ∙ first.outside))
+
+-- a session that may begin is no listener
+pub begins-read : {P : Type 0} (shape : Shape) (known : P → Known) (s : Session P) → HasRest shape known s → BeginsEmpty s → HasReadOutside known s
+begins-read shape known s h begins =
+    let terms : Terms = terms_of shape s.section s.patience in
+    let none : ◌≡◌ {A = Option ℕ} None (known s.pass).mark =
+    ap (λ (items : List Item). (state_after terms items).mark) (sym begins.shown) ∙ ap (λ (t : State). t.mark) h.stands.holds.stands_fresh.stands.state ∙ h.stands.mark in
+    λ idle. subst (λ (mark : Option ℕ). IsReadUp mark (known s.pass).told) none tt
 
 pub whatever : {T E : Type 0} (r : Result T E) (P Q : Type 0) → OnOk r Q → OnOk r (P → Q)
 whatever (Ok x) P Q h = λ p. h

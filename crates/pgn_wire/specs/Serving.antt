@@ -3,6 +3,7 @@ use Rattle.std.specs.Prelude.{◌≡◌, ℕ, ◌+◌, ◌≤◌, ◌⊎◌, Boo
 use Rattle.std.specs.Io.KnownBytes.{Appends}
 use Rattle.pgn_base.specs.Outside.{AppendsPrefix}
 use Rattle.pgn_base.specs.declared.command.Command.{Command}
+use Rattle.pgn_answers.specs.declared.block_state.BlockState.TheVariants.{Idle}
 use Rattle.pgn_language.specs.declared.scenario.Act.TheVariants.{Run, Quit}
 use Rattle.pgn_language.specs.declared.scenario.ScriptLine.{ScriptLine}
 use Rattle.pgn_language.specs.declared.scenario.Section.{Section}
@@ -16,6 +17,7 @@ use Rattle.pgn_session.specs.declared.session.Session.{Session}
 use Rattle.pgn_session.specs.declared.doing.Doing.TheVariants.{Lines}
 use Rattle.pgn_session.specs.Standing.{StandsAt, terms_of}
 use Rattle.pgn_session.specs.Feed.{EndsByQuit, fed}
+use Rattle.pgn_session.specs.FirstRead.{HasReadTold}
 use Rattle.pgn_queries.specs.declared.wire_fault.WireFault.{WireFault}
 use Rattle.pgn_queries.specs.Client.{OfKnown}
 use Rattle.pgn_queries.specs.Queries.{Place, QueriesAre, queries}
@@ -34,9 +36,9 @@ pub record IsOpen {P : Type 0} (s : Session P) : Type 0 where
   pub begun : s.done ≡ length ends.front
   pub between : s.doing ≡ Lines
 
--- a listener has read up to what it was told of
-abbrev pub IsReadUp : Known → Type 0
-IsReadUp k = IfSome k.mark (λ mark. k.told ≤ mark)
+-- outside of a block a listener has read up to what it was told of
+abbrev pub HasReadOutside : {P : Type 0} → (P → Known) → Session P → Type 0
+HasReadOutside known s = s.block.state ≡ Idle → HasReadTold (known s.pass)
 
 -- the line runs a command
 abbrev pub RunsCommand : ScriptLine → Type 0

@@ -6,7 +6,7 @@ ghost use Rattle.pgn_language.specs.Inputs.{note_lines_of};
 ghost use Rattle.pgn_messages.specs.Messages.{answer_messages, messages};
 ghost use Rattle.pgn_session.specs.Standing.{IsServedBy};
 ghost use Rattle.pgn_session.specs.Whole.{HasRest};
-ghost use Rattle.pgn_wire.specs.Serving.{AreWhole, HasStood, HasTaken, HasWritten, IsFedOrNot, IsOpen, IsSameClient, RunsCommand};
+ghost use Rattle.pgn_wire.specs.Serving.{AreWhole, HasReadOutside, HasStood, HasTaken, HasWritten, IsFedOrNot, IsOpen, IsSameClient, RunsCommand};
 
 use crate::WireEnd;
 use crate::taking::take_query;
@@ -30,6 +30,7 @@ pub(crate) fn one_query<P: PassView + Send + Drop, H: Hub<Pass = P>, R: Wait, K:
     requires own { H.is_pass hub.now session.old.pass }
     requires served { IsServedBy (H.shape hub.now) session.old.section session.old.plan }
     requires rested { HasRest (H.shape hub.now) P.known session.old }
+    requires read_up { HasReadOutside P.known session.old }
     requires between { IsOpen session.old }
     requires runs { RunsCommand line }
     requires few { note_lines_of (line ∷ []) + note_lines_of session.old.section.lines ≤ session.old.section.note_lines }
@@ -37,6 +38,7 @@ pub(crate) fn one_query<P: PassView + Send + Drop, H: Hub<Pass = P>, R: Wait, K:
     ensures same { IsSameClient session.old session.new }
     ensures taken { OnOk result (HasTaken session.old line session.new) }
     ensures rested { OnOk result (HasRest (H.shape hub.now) P.known session.new) }
+    ensures read_up { OnOk result (HasReadOutside P.known session.new) }
     ensures stood { HasStood (H.shape hub.now) P.known session.new }
     ensures script { OnErr result (IsFedOrNot session.old.section line session.new.section) }
     ensures written { (held : Option (List ℕ)) → Appends held (K.held sink.old) (messages session.old.section session.old.items.items) → HasWritten result held (K.held sink.new) session.new.section session.new.items.items }
@@ -67,6 +69,7 @@ fn answered<P: PassView + Send + Drop, H: Hub<Pass = P>, R: Wait>(
     requires own { H.is_pass hub.now session.old.pass }
     requires served { IsServedBy (H.shape hub.now) session.old.section session.old.plan }
     requires rested { HasRest (H.shape hub.now) P.known session.old }
+    requires read_up { HasReadOutside P.known session.old }
     requires between { IsOpen session.old }
     requires runs { RunsCommand line }
     requires few { note_lines_of (line ∷ []) + note_lines_of session.old.section.lines ≤ session.old.section.note_lines }
@@ -74,6 +77,7 @@ fn answered<P: PassView + Send + Drop, H: Hub<Pass = P>, R: Wait>(
     ensures same { IsSameClient session.old session.new }
     ensures taken { OnOk result (HasTaken session.old line session.new) }
     ensures rested { OnOk result (HasRest (H.shape hub.now) P.known session.new) }
+    ensures read_up { OnOk result (HasReadOutside P.known session.new) }
     ensures stood { HasStood (H.shape hub.now) P.known session.new }
     ensures script { OnErr result (IsFedOrNot session.old.section line session.new.section) }
     ensures answer { IfOk result (λ bytes. messages session.new.section session.new.items.items ≡ messages session.old.section session.old.items.items ++ bytes) }

@@ -3,7 +3,7 @@ ghost use Rattle.pgn_language.specs.declared.scenario.ScriptLine.{ScriptLine};
 ghost use Rattle.pgn_base.specs.Outside.{Rose};
 ghost use Rattle.pgn_session.specs.Standing.{IsServedBy};
 ghost use Rattle.pgn_session.specs.Whole.{HasRest};
-ghost use Rattle.pgn_wire.specs.Serving.{AsksBy, BeginsEmpty, HasEnded, HasStood, HasWritten, IsOpen, IsSameClient};
+ghost use Rattle.pgn_wire.specs.Serving.{AsksBy, BeginsEmpty, HasEnded, HasReadOutside, HasStood, HasWritten, IsOpen, IsSameClient};
 
 use crate::WireEnd;
 use crate::quitting::quit;
@@ -67,6 +67,7 @@ fn converse<P: PassView + Send + Drop, H: Hub<Pass = P>, R: Wait, S: Source, K: 
     requires own { H.is_pass hub.now session.old.pass }
     requires served { IsServedBy (H.shape hub.now) session.old.section session.old.plan }
     requires rested { HasRest (H.shape hub.now) P.known session.old }
+    requires read_up { HasReadOutside P.known session.old }
     requires begins { BeginsEmpty session.old }
     ensures own { H.is_pass hub.now session.new.pass }
     ensures stood { HasStood (H.shape hub.now) P.known session.new }

@@ -1,10 +1,9 @@
 ghost use Rattle.std.specs.Prelude.{◌≡◌, ◌+◌, ◌≤◌, [], ◌∷◌, OnOk, OnErr};
-ghost use Rattle.pgn_answers.specs.declared.block_state.BlockState.TheVariants.{Idle};
 ghost use Rattle.pgn_language.specs.Inputs.{note_lines_of};
 ghost use Rattle.pgn_session.specs.Standing.{IsServedBy};
 ghost use Rattle.pgn_session.specs.Parts.{Begins};
 ghost use Rattle.pgn_session.specs.Whole.{HasAnswer, HasRest};
-ghost use Rattle.pgn_wire.specs.Serving.{HasStood, HasStopped, HasTaken, IsFedOrNot, IsOpen, IsReadUp, IsSameClient, RunsCommand};
+ghost use Rattle.pgn_wire.specs.Serving.{HasReadOutside, HasStood, HasStopped, HasTaken, IsFedOrNot, IsOpen, IsSameClient, RunsCommand};
 
 use pgn_answers::BlockState;
 use pgn_hub::{Hub, PassView};
@@ -24,6 +23,7 @@ pub(crate) fn take_query<P: PassView + Send + Drop, H: Hub<Pass = P>, R: Wait>(
     requires own { H.is_pass hub.now session.old.pass }
     requires served { IsServedBy (H.shape hub.now) session.old.section session.old.plan }
     requires rested { HasRest (H.shape hub.now) P.known session.old }
+    requires read_up { HasReadOutside P.known session.old }
     requires between { IsOpen session.old }
     requires runs { RunsCommand line }
     requires few { note_lines_of (line ∷ []) + note_lines_of session.old.section.lines ≤ session.old.section.note_lines }
@@ -31,6 +31,7 @@ pub(crate) fn take_query<P: PassView + Send + Drop, H: Hub<Pass = P>, R: Wait>(
     ensures same { IsSameClient session.old session.new }
     ensures taken { OnOk result (HasTaken session.old line session.new) }
     ensures rested { OnOk result (HasRest (H.shape hub.now) P.known session.new) }
+    ensures read_up { OnOk result (HasReadOutside P.known session.new) }
     ensures stopped { OnErr result (HasStopped (H.shape hub.now) P.known session.old session.new) }
     ensures script { OnErr result (IsFedOrNot session.old.section line session.new.section) }
 {
@@ -54,7 +55,7 @@ fn read_behind<P: PassView + Send + Drop, H: Hub<Pass = P>>(
     ensures grows { Begins session.old.items.items session.new.items.items }
     ensures rested { OnOk result (HasRest (H.shape hub.now) P.known session.new) }
     ensures stood { HasStood (H.shape hub.now) P.known session.new }
-    ensures read_up { OnOk result (session.new.block.state ≡ Idle → IsReadUp (P.known session.new.pass)) }
+    ensures read_up { OnOk result (HasReadOutside P.known session.new) }
 {
     let _done = session.idle(alloc, hub)?;
     read_up(alloc, hub, session)
@@ -73,7 +74,7 @@ fn read_up<P: PassView + Send + Drop, H: Hub<Pass = P>>(
     ensures same { session.new ≡ record session.old { pass = session.new.pass; items = session.new.items } }
     ensures grows { Begins session.old.items.items session.new.items.items }
     ensures rested { HasRest (H.shape hub.now) P.known session.new }
-    ensures read_up { OnOk result (session.new.block.state ≡ Idle → IsReadUp (P.known session.new.pass)) }
+    ensures read_up { OnOk result (HasReadOutside P.known session.new) }
 {
     if session.block.state() != BlockState::Idle {
         return Ok(());

@@ -7,7 +7,7 @@ ghost use Rattle.pgn_queries.specs.Queries.{Gives, HasPassed, QueriesAre};
 ghost use Rattle.pgn_session.specs.declared.session.Session.{Session};
 ghost use Rattle.pgn_session.specs.Standing.{IsServedBy};
 ghost use Rattle.pgn_session.specs.Whole.{HasRest};
-ghost use Rattle.pgn_wire.specs.Serving.{HasStood, IsOpen, IsServing, TurnsInto};
+ghost use Rattle.pgn_wire.specs.Serving.{HasReadOutside, HasStood, IsOpen, IsServing, TurnsInto};
 
 use crate::WireEnd;
 use crate::answering::one_query;
@@ -32,6 +32,7 @@ pub(crate) fn take_turn<P: PassView + Send + Drop, H: Hub<Pass = P>, R: Wait, S:
     requires own { H.is_pass hub.now session.old.pass }
     requires served { IsServedBy (H.shape hub.now) session.old.section session.old.plan }
     requires rested { HasRest (H.shape hub.now) P.known session.old }
+    requires read_up { HasReadOutside P.known session.old }
     requires between { IsOpen session.old }
     requires notes { note_lines_of session.old.section.lines ≡ queries.old.notes }
     requires most { queries.old.most ≡ session.old.section.note_lines }
@@ -40,6 +41,7 @@ pub(crate) fn take_turn<P: PassView + Send + Drop, H: Hub<Pass = P>, R: Wait, S:
     ensures between { OnOk result (IsOpen session.new) }
     ensures served { OnOk result (IsServedBy (H.shape hub.now) session.new.section session.new.plan) }
     ensures rested { OnOk result (HasRest (H.shape hub.now) P.known session.new) }
+    ensures read_up { OnOk result (HasReadOutside P.known session.new) }
     ensures counted { result ≡ Ok true → queries.new.queries ≡ queries.old.queries + 1 }
     ensures few { result ≡ Ok true → queries.new.queries ≤ 4294967294 }
     // Whatever it was given first: what held of it so far goes on to hold, or it has ended.

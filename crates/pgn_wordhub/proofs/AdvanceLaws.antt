@@ -99,7 +99,7 @@ tail_tried z v l t w from h lock tried free =
           alone = ap (λ (y : View). y.joined) is ∙ h.rest.alone;
           listens = ap (λ (y : Known). y.mark) known ∙ h.rest.listens ∙ sym (ap listens_at post);
         };
-        within = subst IsWithin (sym known) (record { mark = more.mark; marks = more.marks; first_told = more.first_told; told = more.told; told_of_read = more.told_of_read; told_of_signalled = more.told_of_signalled; own = more.own; raised = more.raised; found = more.found; to_read = more.to_read });
+        within = subst IsWithin (sym known) (record { mark = more.mark; marks = more.marks; first = more.first; signalled = more.signalled; told = more.told; told_of_read = more.told_of_read; own = more.own; raised = more.raised; found = more.found; to_read = more.to_read });
         seated = subst (λ (k : Known). IsSeated z k) (sym known) (record { first = h.seated.first; seat = h.seated.seat });
       },
       record {

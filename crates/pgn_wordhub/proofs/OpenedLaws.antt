@@ -28,11 +28,11 @@ opened_within : (n : ℕ) (seat : SeatSetup) → IsWithin (opened_pass n seat)
 opened_within n seat = record {
   mark = tt;
   marks = All-nil (λ mark. mark ≤ 3);
-  first_told = omega arith;
-  told = omega arith;
-  told_of_read = tt;
-  told_of_signalled = omega arith;
+  first = omega arith;
   own = All-nil (λ x. x < 3);
+  signalled = omega arith;
+  told_of_read = tt;
+  told = omega arith;
   raised = All-nil (IsPairWithin 3);
   found = All-nil (IsPairWithin 3);
   to_read = λ no. tt;

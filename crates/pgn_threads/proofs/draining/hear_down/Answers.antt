@@ -38,12 +38,12 @@ returns-clause-scripts g c =
     (record { from_own = c.meet.ensures.own; into_own = c.meet.ensures.into_own; into_rested = c.meet.ensures.rested; told = c.meet.ensures.told; heard = c.meet.ensures.heard; from_same = c.meet.ensures.same; into_same = c.meet.ensures.into_same })
     c.requires.over).scripts
 
-pub returns-clause-told : goal.returns-clause-told
-returns-clause-told g c =
+pub returns-clause-signals : goal.returns-clause-signals
+returns-clause-signals g c =
     (down-all (g.H.Hub.is_pass c.args.hub.now) (g.H.Hub.shape c.args.hub.now) g.P.PassView.known c.args.sessions.now c.index-front-i.result c.index-back-0.result c.meet.new.into c.meet.new.self
     c.split_at_mut-front.result.0.now c.split_at_mut-front.result.1.now c.args.i c.split_at_mut-front.ensures.front c.split_at_mut-front.ensures.back c.requires.place.0 c.requires.place.1
     (record { from_own = c.meet.ensures.own; into_own = c.meet.ensures.into_own; into_rested = c.meet.ensures.rested; told = c.meet.ensures.told; heard = c.meet.ensures.heard; from_same = c.meet.ensures.same; into_same = c.meet.ensures.into_same })
-    c.requires.over).told
+    c.requires.over).signals
 
 pub returns-clause-shown : goal.returns-clause-shown
 returns-clause-shown g c =

@@ -13,6 +13,7 @@ loop-query-init g c =
       own = c.requires.own;
       served = c.requires.served;
       rested = c.requires.rested;
+      read_up = c.requires.read_up;
       serving = subst (λ (place : Place). IsServing s s place left left held held) (sym c.new-queries.ensures) (serving-begins s left held c.requires.begins);
       counted = ap (λ (place : Place). place.queries) c.new-queries.ensures;
       few = (let none : c.new-queries.result.queries ≡ 0 = ap (λ (place : Place). place.queries) c.new-queries.ensures in omega (arith, none));
@@ -39,6 +40,7 @@ loop-query-preserved g c =
       own = c.take_turn.ensures.own;
       served = c.in-Ok-true.ensures.served;
       rested = c.in-Ok-true.ensures.rested;
+      read_up = c.in-Ok-true.ensures.read_up;
       serving = went-on c.in-Ok-true.field-0 first c.take_turn.new.session c.take_turn.new.queries left (g.S.Source.left c.take_turn.new.source) held (g.K.Sink.held c.take_turn.new.sink) went
           (c.in-Ok-true.ensures.turned first left held c.loop-query.invariant.serving);
       counted = c.in-Ok-true.ensures.counted (ap Ok went) ∙ ap (λ (n : ℕ). n + 1) c.loop-query.invariant.counted;

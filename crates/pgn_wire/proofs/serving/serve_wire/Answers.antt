@@ -1,9 +1,12 @@
 use Rattle.std.proofs.Common.{List, ℕ, refl, subst, sym}
 use Rattle.std.specs.Io.KnownBytes.{Appends}
 use Rattle.pgn_wire.proofs.ServingLaws.{quit-asked, quit-same, quit-unasked}
-use Rattle.pgn_wire.proofs.TakenLaws.{stood-rest}
+use Rattle.pgn_wire.proofs.TakenLaws.{begins-read, stood-rest}
 use Rattle.pgn_wire.proofs.WrittenLaws.{stopped-wrote}
 use Rattle.pgn_wire.proofs.serving.serve_wire.Goals as goal
+
+pub converse-requires-clause-read_up : goal.converse-requires-clause-read_up
+converse-requires-clause-read_up g c κs within = begins-read (g.H.Hub.shape c.args.hub.now) g.P.PassView.known c.args.session.now c.requires.rested c.requires.begins
 
 pub returns-in-Ok-quit-clause-same : goal.returns-in-Ok-quit-clause-same
 returns-in-Ok-quit-clause-same g c = quit-same c.args.session.now c.converse.new.session c.quit.new.session c.in-Ok.ensures.ended.same c.quit.ensures.same

@@ -1,5 +1,8 @@
-use Rattle.pgn_wire.proofs.TakenLaws.{on_err, query-between, query-taken, step-refused, read-refused}
+use Rattle.pgn_wire.proofs.TakenLaws.{fed-read, on_err, query-between, query-taken, step-refused, read-refused}
 use Rattle.pgn_wire.proofs.taking.take_query.Goals as goal
+
+pub step-requires-clause-read_first : goal.step-requires-clause-read_first
+step-requires-clause-read_first g c κs within = fed-read g.P.PassView.known c.args.session.now c.feed.new.self c.args.line c.in_ok-feed.ensures.fed c.requires.read_up
 
 pub returns-in_err-_step-clause-stopped : goal.returns-in_err-_step-clause-stopped
 returns-in_err-_step-clause-stopped g c =
