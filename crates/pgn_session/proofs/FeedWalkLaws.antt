@@ -105,7 +105,7 @@ found-rest value rest s owed = refl
 -- an item that begins no line
 after-rest : (rest : List ScriptLine) (s : State) (item : Item) → IsNoLine item → after_item (with_rest rest s) item ≡ with_rest rest (after_item s item)
 after-rest rest s (Line line) none = absurd none
-after-rest rest s (Enlist base point) none = enlist-rest rest (record s { mark = Some point; marks = s.marks ++ base ∷ [] ++ point ∷ [] }) s.owed
+after-rest rest s (Enlist base point) none = enlist-rest rest (record s { mark = Some point; told = max s.told point; marks = s.marks ++ base ∷ [] ++ point ∷ [] }) s.owed
 after-rest rest s (Publish xid notes) none = publish-rest rest (record s { told = max s.told (xid + 1) }) s.owed
 after-rest rest s (QueueFull full notes) none = full-rest rest (record s { told = max s.told (full.xid + 1); named = s.named ++ holder_at full.holder full.floor_mark }) s.owed
 after-rest rest s Leave none = leave-rest rest (record s { mark = None }) s.owed

@@ -104,7 +104,7 @@ module _ (n : ℕ) where
 
   flags-item : (s : State) (item : Item) → AreFlagsBelow n s → AreFlagsBelow n (after_item s item)
   flags-item s (Line line) h = flags-line s s.rest h.rest h
-  flags-item s (Enlist base point) h = flags-enlist (record s { mark = _; marks = _ }) s.owed (record { rest = h.rest; owed = h.owed; found = h.found })
+  flags-item s (Enlist base point) h = flags-enlist (record s { mark = _; told = _; marks = _ }) s.owed (record { rest = h.rest; owed = h.owed; found = h.found })
   flags-item s (Publish xid notes) h = flags-publish (record s { told = _ }) s.owed (record { rest = h.rest; owed = h.owed; found = h.found })
   flags-item s (QueueFull full notes) h = flags-full (record s { told = _; named = _ }) s.owed (record { rest = h.rest; owed = h.owed; found = h.found })
   flags-item s Leave h = flags-leave (record s { mark = _ }) s.owed (record { rest = h.rest; owed = h.owed; found = h.found })

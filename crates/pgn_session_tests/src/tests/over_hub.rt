@@ -16,7 +16,7 @@ use std::test::Fail;
 use std::thread::{Threads, join_mut};
 use std::time::Clock;
 
-// One step, and a read where the session is not over and was woken.
+// One step, with a read before it where the line asks for one, and a read where the session is not over and was woken.
 fn turn<P: PassView + Send + Drop, H: Hub<Pass = P>, R: Wait>(
     rt: &R,
     alloc: Global,
@@ -27,6 +27,7 @@ fn turn<P: PassView + Send + Drop, H: Hub<Pass = P>, R: Wait>(
     ensures ready { OnOk result (IsReady (H.is_pass hub.now) (H.shape hub.now) P.known session.new) }
     ensures over { result ≡ Ok Step.Ended → session.new.doing ≡ Over }
 {
+    session.read_before_line(alloc, hub)?;
     let step = session.step(rt, alloc, hub)?;
     if step != Step::Ended {
         let _done = session.idle(alloc, hub)?;
