@@ -31,7 +31,7 @@ one-within n seat = record {
   told = omega arith;
   raised = All-nil (IsPairWithin FIRST_XID);
   found = All-nil (IsPairWithin FIRST_XID);
-  to_read = λ no. tt;
+  to_read = λ unowed. tt;
 }
 
 pub opened-within : (n : ℕ) (seats : List SeatSetup) → All IsWithin (opened_passes n seats)

@@ -56,8 +56,8 @@ learned-more k more w =
 
 -- who knows the wakes of all that it was told of has nothing to read of it
 all-signalled : (owes : Bool) (mark : Option ℕ) (told : ℕ) → IsToRead owes mark told told
-all-signalled owes None told no = tt
-all-signalled owes (Some own) told no = omega arith
+all-signalled owes None told unowed = tt
+all-signalled owes (Some own) told unowed = omega arith
 
 -- a pass that has finished the journal's next transaction
 finished : (k : Known) (more : List Tx) (tx : Tx) (x : ℕ) → x ≡ next_xid (k.seen ++ more) → IsWithin k
@@ -93,14 +93,14 @@ second-no true true h = h
 
 -- a read that is owed is none that is not
 no-owed : (mark : Option ℕ) (told signalled : ℕ) → true ≡ false → IfSome mark (λ own. told ≤ max own signalled)
-no-owed mark told signalled yes = absurd (true≢false yes)
+no-owed mark told signalled unowed = absurd (true≢false unowed)
 
 -- a listener that is told up to a number, and then owes no read
 told-on : (owes : Bool) (mark : Option ℕ) (told signalled x more : ℕ) → signalled ≤ more → IsToRead owes mark told signalled
     → IsToRead (owes || (is_some mark && nat_lt told x)) mark (max told x) more
-told-on owes None told signalled x more up h no = tt
-told-on owes (Some own) told signalled x more up h no =
-    omega (arith, up, h (first-no owes (nat_lt told x) no), ltb-false told x (second-no owes (nat_lt told x) no))
+told-on owes None told signalled x more up h unowed = tt
+told-on owes (Some own) told signalled x more up h unowed =
+    omega (arith, up, h (first-no owes (nat_lt told x) unowed), ltb-false told x (second-no owes (nat_lt told x) unowed))
 
 -- the longer of two is as long as each
 longer-first : (xs ys more : List Tx) → length xs ≤ length (longer xs ys ++ more)
@@ -128,7 +128,7 @@ stands-at k more mark set marks within after all w =
       own = w.own;
       raised = pairs-more k.told (max k.told mark) k.raised up w.raised;
       found = pairs-more k.told (max k.told mark) k.found up w.found;
-      to_read = λ no. omega (arith, after);
+      to_read = λ unowed. omega (arith, after);
     }
 
 pub calls-keep_within : CallsKeepWithin
@@ -181,7 +181,7 @@ calls-keep_within = record {
         own = w.own;
         raised = w.raised;
         found = w.found;
-        to_read = λ yes. no-owed old.mark old.told old.signalled yes;
+        to_read = λ unowed. no-owed old.mark old.told old.signalled unowed;
       });
   read = λ old new set to before after h w.
       let l = learned-more old h.more w in
@@ -201,7 +201,7 @@ calls-keep_within = record {
         own = l.own;
         raised = l.raised;
         found = l.found;
-        to_read = λ no. tt;
+        to_read = λ unowed. tt;
       });
   woken = λ format old new woken h w.
       let l = learned-more old h.more w in
@@ -215,7 +215,7 @@ calls-keep_within = record {
         own = l.own;
         raised = l.raised;
         found = l.found;
-        to_read = λ no. l.to_read (second-no h.was_set old.owes (sym h.cause ∙ no));
+        to_read = λ unowed. l.to_read (second-no h.was_set old.owes (sym h.cause ∙ unowed));
       });
   raised = λ old new flag x h w.
       let l = learned-more old h.more w in

@@ -35,7 +35,7 @@ opened_within n seat = record {
   told = omega arith;
   raised = All-nil (IsPairWithin 3);
   found = All-nil (IsPairWithin 3);
-  to_read = λ no. tt;
+  to_read = λ unowed. tt;
 }
 
 opened_seated : (z : Shape) (k : ℕ) (s : SeatSetup) → k < length z.seats → IsSeated z (opened_pass (1 + k) (get_or z.seats k s))
