@@ -2,6 +2,7 @@
 use Rattle.std.specs.Prelude.{Contains, flat_map}
 use Rattle.std.proofs.Common.{◌≡◌, ◌≢◌, ◌⊎◌, inl, inr, ⊎_elim, ℕ, zero, suc, ◌+◌, ◌<◌, ◌≤◌, nat_lt, max, Bool, true, false, ◌&&◌, ◌||◌, is_some, List, [], ◌∷◌, ◌++◌, length, drop, get_or, set, Option, Some, None, All, sym, refl, ap, ◌∙◌, subst, arith, true≢false, length-set, get_or-set_other, get_or-set_same}
 use Rattle.std.proofs.lemmas.List.Elements.{All-nil, All-cons, All-head, All-tail, All-weaker, All-contains}
+use Rattle.std.proofs.lemmas.Bool.Decides.{nat_tests}
 use mathlib.Core.Option.{some, none}
 use lib.ListN.{get_elem?}
 use native.Mathlib.Decide.{ℕ_discrete, dec_le}
@@ -203,7 +204,7 @@ looks_at z c g views id v told owes found look h here now owed raised_all =
 -- who finds no flag owes what he owed
 owes_as_before : (owes listens : Bool) (told : ℕ) → owes ≡ (owes || (listens && nat_lt told 0))
 owes_as_before true listens told = refl
-owes_as_before false true told = refl
+owes_as_before false true told = let none : nat_lt told 0 ≡ false = grind (arith, nat_tests) in sym none
 owes_as_before false false told = refl
 
 -- a number that was raised or found for a flag is at most what its word holds

@@ -61,7 +61,7 @@ store_interest_allowed z slots id word x channels me there positive registered v
           (length-set c.interests i x) (λ j other. get_or-set_other c.interests i j x 0 other)
           (λ _. subst (λ (bits : ℕ). Covers bits channels) (sym (get_or-set_same c.interests i x 0 within ∙ value)) (interest-covers channels))
           (λ _. record { still = inr (inl refl); walked = λ walks. absurd (cc) })
-          (λ n y. y) (h.named.current id v here);
+          (λ n y. y) (h.named.current id v here) (h.flags.told id v here);
       told = record { slots = refl; view = refl };
     })
 
