@@ -24,7 +24,7 @@ use Rattle.pgn_messages.specs.Laws.{after, begins_line, LineIsPutIn, OneLineBegi
 use Rattle.pgn_messages.proofs.GrowLaws.{within}
 
 -- a state with other lines to come
-abbrev with_rest : List ScriptLine → State → State
+abbrev pub with_rest : List ScriptLine → State → State
 with_rest rest s = record s { rest = rest }
 
 leaving-rest : (rest : List ScriptLine) (s : State) (ending : Ending) → leaving_or_answering (with_rest rest s) ending ≡ with_rest rest (leaving_or_answering s ending)
@@ -70,7 +70,8 @@ quitting-rest rest s = either (is_some s.mark)
     either true = refl
     either false = refl
 
-act-rest : (rest : List ScriptLine) (s : State) (act : Act) → at_act (with_rest rest s) act ≡ with_rest rest (at_act s act)
+-- a line does the same, whatever lines are to come behind it
+pub act-rest : (rest : List ScriptLine) (s : State) (act : Act) → at_act (with_rest rest s) act ≡ with_rest rest (at_act s act)
 act-rest rest s (Run command) =
     let outcome : Outcome = answer s.block (live_names s.changes) s.set command in
     owing-rest rest (record s { block = next_state s.block outcome; changes = list_after s.changes command outcome }) (s.changes ++ changes_of command) outcome
@@ -170,7 +171,7 @@ found-rest rest value s walk.Quitting = refl
 found-rest rest value s walk.Barred = refl
 
 -- an item that begins no line does the same, whatever lines are to come
-after-rest : (rest : List ScriptLine) (s : State) (shown : Item) → begins_line shown ≡ false → after_item (with_rest rest s) shown ≡ with_rest rest (after_item s shown)
+pub after-rest : (rest : List ScriptLine) (s : State) (shown : Item) → begins_line shown ≡ false → after_item (with_rest rest s) shown ≡ with_rest rest (after_item s shown)
 after-rest rest s (item.Line n) h = absurd (cc)
 after-rest rest s (item.Enlist base point) h = enlist-rest rest (record s { mark = Some point; told = max s.told point; marks = s.marks ++ base ∷ [] ++ point ∷ [] }) s.owed
 after-rest rest s (item.Publish xid notes) h = publish-rest rest (record s { told = max s.told (xid + 1) }) s.owed

@@ -1,4 +1,4 @@
--- Four conversations.
+-- Four conversations, and an error that ends one.
 use Rattle.std.specs.Prelude.{ℕ, List, [], ◌∷◌, ◌++◌, Some, None, codes}
 use Rattle.pgn_base.specs.declared.note.Note.{Note}
 use Rattle.pgn_base.specs.declared.answers.Tag.TheVariants as tag
@@ -84,3 +84,7 @@ fourth_bytes =
     ∷ 68 ∷ 0 ∷ 0 ∷ 0 ∷ 11 ∷ 0 ∷ 1 ∷ 0 ∷ 0 ∷ 0 ∷ 1 ∷ 99 ∷ 67 ∷ 0 ∷ 0 ∷ 0 ∷ 13 ∷ 83 ∷ 69 ∷ 76 ∷ 69 ∷ 67 ∷ 84 ∷ 32 ∷ 49 ∷ 0 ∷ 90 ∷ 0 ∷ 0 ∷ 0 ∷ 5 ∷ 73
     ∷ 84 ∷ 0 ∷ 0 ∷ 0 ∷ 52 ∷ 0 ∷ 1 ∷ (codes "pg_notification_queue_usage" ++ 0 ∷ 0 ∷ 0 ∷ 0 ∷ 0 ∷ 0 ∷ 0 ∷ 0 ∷ 0 ∷ 0 ∷ 25 ∷ 255 ∷ 255 ∷ 255 ∷ 255 ∷ 255 ∷ 255 ∷ 0 ∷ 0
     ∷ 68 ∷ 0 ∷ 0 ∷ 0 ∷ 15 ∷ 0 ∷ 1 ∷ 0 ∷ 0 ∷ 0 ∷ 5 ∷ 48 ∷ 47 ∷ 50 ∷ 53 ∷ 54 ∷ 67 ∷ 0 ∷ 0 ∷ 0 ∷ 13 ∷ 83 ∷ 69 ∷ 76 ∷ 69 ∷ 67 ∷ 84 ∷ 32 ∷ 49 ∷ 0 ∷ 90 ∷ 0 ∷ 0 ∷ 0 ∷ 5 ∷ 73 ∷ []))
+
+-- E with the length 0x27, its fields, of which the severity is FATAL
+abbrev pub fatal_bytes : List ℕ
+fatal_bytes = 69 ∷ 0 ∷ 0 ∷ 0 ∷ 39 ∷ (codes "SFATAL" ++ 0 ∷ [] ++ codes "VFATAL" ++ 0 ∷ [] ++ codes "C08P01" ++ 0 ∷ [] ++ codes "Mbad message" ++ 0 ∷ 0 ∷ [])

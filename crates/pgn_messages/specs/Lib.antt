@@ -4,5 +4,5 @@ pub mod Server
 pub mod Messages
 -- how they grow
 pub mod Laws
--- four conversations
+-- four conversations, and an error that ends one
 pub mod Examples

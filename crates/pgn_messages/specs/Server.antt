@@ -41,6 +41,10 @@ notice warning = message 78 (fields (codes "WARNING") (warning_code warning) (wa
 abbrev pub error : Refusal → List ℕ
 error refusal = message 69 (fields (codes "ERROR") (refusal_code refusal) (refusal_message refusal))
 
+-- E: ErrorResponse of the severity FATAL, behind which the server ends the conversation
+abbrev pub fatal : List ℕ → List ℕ → List ℕ
+fatal code text = message 69 (fields (codes "FATAL") code text)
+
 -- what is said of a column behind its name: no table and no place in one, the type text with its size and modifier, and the format
 abbrev pub column : List ℕ
 column = four 0 ++ two 0 ++ four 25 ++ two 65535 ++ four 4294967295 ++ two 0

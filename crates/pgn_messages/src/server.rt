@@ -1,7 +1,7 @@
 #![tactic(auto, using(crate::proofs::BytesLaws::joins))]
 
 ghost use Rattle.std.specs.Prelude.{◌≡◌, ◌+◌, ◌≤◌, [], ◌++◌, codes, flat_map, length, OnOk};
-ghost use Rattle.pgn_messages.specs.Server.{column, columns, complete, empty_query, error, fields, message, notice, notification, ready, row, share};
+ghost use Rattle.pgn_messages.specs.Server.{column, columns, complete, empty_query, error, fatal, fields, message, notice, notification, ready, row, share};
 
 use crate::bytes::Bytes;
 use crate::texts::{
@@ -54,6 +54,15 @@ impl Bytes {
     {
         let text = text_of_refusal(alloc, refusal)?;
         self.fields(b'E', b"ERROR", code_of_refusal(refusal), text.as_slice())
+    }
+
+    /// Puts an error of the severity FATAL with this code and this text at the end. The server ends the conversation behind it.
+    pub fn put_fatal(&mut self, code: &[u8], text: &[u8]) -> Result<(), AllocError>
+        requires code { length code.now ≤ 10 }
+        requires text { length text.now ≤ 100 }
+        ensures { OnOk result (self.new ≡ self.old ++ fatal code.now text.now) }
+    {
+        self.fields(b'E', b"FATAL", code, text)
     }
 
     /// Puts the description of one column with this name at the end.

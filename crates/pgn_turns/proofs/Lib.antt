@@ -1,0 +1,12 @@
+-- how turns grow
+pub mod GrowLaws
+-- turns and the walk over a trace
+pub mod WalkLaws
+-- where an item stands
+pub mod PlaceLaws
+-- all that may be told
+pub mod ToldLaws
+-- the script
+pub mod ScriptLaws
+-- one query, with a read behind it or without
+mod ExampleLaws

@@ -1,0 +1,8 @@
+use Rattle.pgn_turns.proofs.GrowLaws.{turns_grow, said_stays}
+use Rattle.pgn_turns.proofs.laws.growth.Goals as goal
+
+pub returns-clause-turns_grow : goal.returns-clause-turns_grow
+returns-clause-turns_grow c = turns_grow
+
+pub returns-clause-said_stays : goal.returns-clause-said_stays
+returns-clause-said_stays c = said_stays

@@ -1,0 +1,11 @@
+use Rattle.pgn_turns.proofs.ToldLaws.{one_end_is_told, one_query_is_told, reads_are_heard}
+use Rattle.pgn_turns.proofs.laws.telling.Goals as goal
+
+pub returns-clause-reads_are_heard : goal.returns-clause-reads_are_heard
+returns-clause-reads_are_heard c = reads_are_heard
+
+pub returns-clause-one_query_is_told : goal.returns-clause-one_query_is_told
+returns-clause-one_query_is_told c = one_query_is_told
+
+pub returns-clause-one_end_is_told : goal.returns-clause-one_end_is_told
+returns-clause-one_end_is_told c = one_end_is_told

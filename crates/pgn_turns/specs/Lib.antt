@@ -1,0 +1,8 @@
+-- what a seat is asked, and its script
+pub mod Asks
+-- a session's trace in turns, and what is told of them
+pub mod Turns
+-- how turns grow, and what they make of a trace
+pub mod Laws
+-- worked examples
+pub mod Examples
