@@ -13,24 +13,24 @@ finish_read-requires-clause-rested g c κs within = (c.requires.over c.args.i c.
 pub returns-clause-over : goal.returns-clause-over
 returns-clause-over g c =
     read-over (g.H.Hub.is_pass c.args.hub.now) (g.H.Hub.shape c.args.hub.now) g.P.PassView.known c.args.sessions.now c.args.i c.index-sessions-i.result c.finish_read.new.self c.requires.place
-    (g.met.H.Hub.within c.args.hub.now c.index-sessions-i.result.pass (c.requires.over c.args.i c.index-sessions-i.result c.requires.place).own) c.finish_read.ensures.own c.finish_read.ensures.rested c.finish_read.ensures.same c.in_ok-finish_read.ensures.finished c.requires.over
+    (g.met.H.Hub.within c.args.hub.now _ (c.requires.over c.args.i c.index-sessions-i.result c.requires.place).own) c.finish_read.ensures.own c.finish_read.ensures.rested c.finish_read.ensures.same c.in_ok-finish_read.ensures.finished c.requires.over
 
 pub returns-clause-scripts : goal.returns-clause-scripts
 returns-clause-scripts g c =
     read-scripts (g.H.Hub.is_pass c.args.hub.now) (g.H.Hub.shape c.args.hub.now) g.P.PassView.known c.args.sessions.now c.args.i c.index-sessions-i.result c.finish_read.new.self c.requires.place
-    (g.met.H.Hub.within c.args.hub.now c.index-sessions-i.result.pass (c.requires.over c.args.i c.index-sessions-i.result c.requires.place).own) c.finish_read.ensures.own c.finish_read.ensures.rested c.finish_read.ensures.same c.in_ok-finish_read.ensures.finished
+    (g.met.H.Hub.within c.args.hub.now _ (c.requires.over c.args.i c.index-sessions-i.result c.requires.place).own) c.finish_read.ensures.own c.finish_read.ensures.rested c.finish_read.ensures.same c.in_ok-finish_read.ensures.finished
 
 pub returns-clause-signals : goal.returns-clause-signals
 returns-clause-signals g c =
     read-signals (g.H.Hub.is_pass c.args.hub.now) (g.H.Hub.shape c.args.hub.now) g.P.PassView.known c.args.sessions.now c.args.i c.index-sessions-i.result c.finish_read.new.self c.requires.place
-    (g.met.H.Hub.within c.args.hub.now c.index-sessions-i.result.pass (c.requires.over c.args.i c.index-sessions-i.result c.requires.place).own) c.finish_read.ensures.own c.finish_read.ensures.rested c.finish_read.ensures.same c.in_ok-finish_read.ensures.finished
+    (g.met.H.Hub.within c.args.hub.now _ (c.requires.over c.args.i c.index-sessions-i.result c.requires.place).own) c.finish_read.ensures.own c.finish_read.ensures.rested c.finish_read.ensures.same c.in_ok-finish_read.ensures.finished
 
 pub returns-clause-read : goal.returns-clause-read
 returns-clause-read g c =
     read-more (g.H.Hub.is_pass c.args.hub.now) (g.H.Hub.shape c.args.hub.now) g.P.PassView.known c.args.sessions.now c.args.i c.index-sessions-i.result c.finish_read.new.self c.requires.place
-    (g.met.H.Hub.within c.args.hub.now c.index-sessions-i.result.pass (c.requires.over c.args.i c.index-sessions-i.result c.requires.place).own) c.finish_read.ensures.own c.finish_read.ensures.rested c.finish_read.ensures.same c.in_ok-finish_read.ensures.finished c.requires.before
+    (g.met.H.Hub.within c.args.hub.now _ (c.requires.over c.args.i c.index-sessions-i.result c.requires.place).own) c.finish_read.ensures.own c.finish_read.ensures.rested c.finish_read.ensures.same c.in_ok-finish_read.ensures.finished c.requires.before
 
 pub returns-clause-shown : goal.returns-clause-shown
 returns-clause-shown g c =
     read-shown (g.H.Hub.is_pass c.args.hub.now) (g.H.Hub.shape c.args.hub.now) g.P.PassView.known c.args.sessions.now c.args.i c.index-sessions-i.result c.finish_read.new.self c.requires.place
-    (g.met.H.Hub.within c.args.hub.now c.index-sessions-i.result.pass (c.requires.over c.args.i c.index-sessions-i.result c.requires.place).own) c.finish_read.ensures.own c.finish_read.ensures.rested c.finish_read.ensures.same c.in_ok-finish_read.ensures.finished
+    (g.met.H.Hub.within c.args.hub.now _ (c.requires.over c.args.i c.index-sessions-i.result c.requires.place).own) c.finish_read.ensures.own c.finish_read.ensures.rested c.finish_read.ensures.same c.in_ok-finish_read.ensures.finished
