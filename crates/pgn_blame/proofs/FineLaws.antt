@@ -313,10 +313,10 @@ module _ (terms : Terms) (journal : List Tx) where
   fine-item : (s : State) (item : Item) → Allowed terms journal s item → IsShortItem item → IsFine s → IsFine (after_item s item)
   fine-item s (Line n) k few h = fine-line s n s.rest h h.rest k.next
   fine-item s (Enlist base point) k few h =
-      let t : State = record s { mark = Some point; marks = s.marks ++ base ∷ [] ++ point ∷ [] } in
+      let t : State = record s { mark = Some point; told = max s.told point; marks = s.marks ++ base ∷ [] ++ point ∷ [] } in
       let low : Low point = omega (arith, k.from_first, k.ordered) in
       let marks : All Low t.marks = one-more Low (s.marks ++ base ∷ []) point (one-more Low s.marks base h.marks k.from_first) low in
-      fine-enlist t s.owed (record { rest = h.rest; changes = h.changes; set = h.set; told = h.told; mark = low; marks = marks; raised = h.raised; owed = h.owed }) h.owed
+      fine-enlist t s.owed (record { rest = h.rest; changes = h.changes; set = h.set; told = omega (arith, h.told); mark = low; marks = marks; raised = h.raised; owed = h.owed }) h.owed
   fine-item s (Publish xid notes) k few h =
       let t : State = record s { told = max s.told (xid + 1) } in
       fine-publish t s.owed (record { rest = h.rest; changes = h.changes; set = h.set; told = omega (arith, h.told); mark = h.mark; marks = h.marks; raised = h.raised; owed = h.owed }) h.owed
@@ -337,7 +337,7 @@ module _ (terms : Terms) (journal : List Tx) where
   fine-item s (TimedOut looks) k few h = fine-owed s Nothing h tt
   fine-item s (Read from to got) k few h =
       let low : Low to = low_to s.mark h.mark k.from_mark in
-      record { rest = h.rest; changes = h.changes; set = h.set; told = h.told; mark = low; marks = one-more Low s.marks to h.marks low; raised = h.raised; owed = h.owed }
+      record { rest = h.rest; changes = h.changes; set = h.set; told = omega (arith, h.told); mark = low; marks = one-more Low s.marks to h.marks low; raised = h.raised; owed = h.owed }
     where
       low_to : (mark : Option ℕ) → IfSome mark Low → mark ≡ Some from → Low to
       low_to None m is = absurd (let none : ⊥ = cc in none)

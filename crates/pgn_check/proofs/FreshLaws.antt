@@ -1,5 +1,5 @@
 -- Whether a read was left out.
-use Rattle.std.proofs.Common.{◌≡◌, ◌↔◌, ℕ, ◌+◌, ◌<◌, Bool, true, false, List, Option, Some, None, sym, ◌∙◌, refl, subst}
+use Rattle.std.proofs.Common.{◌≡◌, ◌↔◌, ℕ, ◌+◌, ◌<◌, Bool, true, false, List, Option, Some, None, sym, ◌∙◌, ap, drop, refl, subst}
 use Rattle.std.specs.Prelude.{IfSome}
 use Rattle.std.specs.List.{list_any}
 use Rattle.std.proofs.lemmas.Bool.{false≢true}
@@ -15,11 +15,11 @@ use Rattle.pgn_language.specs.declared.scenario.Section.{Section}
 use Rattle.pgn_model.specs.declared.item.Item.{Item}
 use Rattle.pgn_model.specs.declared.item.Item.TheVariants as item
 use Rattle.pgn_model.specs.Walk.{State, Terms}
-use Rattle.pgn_model.specs.Trace.{IsFreshAt, IsUpToDate}
+use Rattle.pgn_model.specs.Trace.{IsFreshAt, IsFreshBetween, IsReadUp, IsUpToDate, next_reads_first}
 use Rattle.pgn_walk.specs.declared.standing.Standing.{Standing}
 use Rattle.pgn_evidence.specs.Evidence.{begins_line}
 use Rattle.pgn_walk.specs.Standing.{Holds}
-use Rattle.pgn_check.specs.Fresh.{Asks}
+use Rattle.pgn_check.specs.Fresh.{Asks, HasReadFirst}
 
 -- Whether anything is due.
 
@@ -84,12 +84,31 @@ fresh_in_block terms journal s other shut = tt
 pub fresh_open : (terms : Terms) (journal : List Tx) (at : Standing) (i : Item) (b : Bool) → (b ≡ true) ↔ (at.block.state ≡ Idle) → b ≡ false → Asks terms.section journal at true (λ s. IsFreshAt terms journal s i)
 fresh_open terms journal at i b test off s h = (λ _. fresh_in_block terms journal s i (λ idle. false≢true (sym off ∙ test.1 (sym h.block ∙ idle))), λ _. refl)
 
-fresh_line : (terms : Terms) (journal : List Tx) (s : State) (i : Item) → begins_line i ≡ true → s.block ≡ Idle → IsUpToDate terms journal s ↔ IsFreshAt terms journal s i
-fresh_line terms journal s (item.Line n) h idle = (λ up. λ _. up, λ f. f idle)
+fresh_line : (terms : Terms) (journal : List Tx) (s : State) (i : Item) → begins_line i ≡ true → s.block ≡ Idle → IsFreshBetween terms journal s ↔ IsFreshAt terms journal s i
+fresh_line terms journal s (item.Line n) h idle = (λ between. λ _. between, λ f. f idle)
 fresh_line terms journal s other h idle = absurd (false≢true h)
 
-pub fresh_by : (terms : Terms) (journal : List Tx) (at : Standing) (i : Item) (b d : Bool) → begins_line i ≡ true → (b ≡ true) ↔ (at.block.state ≡ Idle) → b ≡ true → Asks terms.section journal at d (λ s. IsUpToDate terms journal s)
-    → Asks terms.section journal at d (λ s. IsFreshAt terms journal s i)
-fresh_by terms journal at i b d line test idle asks s h =
+pub fresh_late : (terms : Terms) (journal : List Tx) (at : Standing) (i : Item) (b d : Bool) → begins_line i ≡ true → (b ≡ true) ↔ (at.block.state ≡ Idle) → b ≡ true → Asks terms.section journal at d (λ s. IsUpToDate terms journal s) → d ≡ false
+    → Asks terms.section journal at false (λ s. IsFreshAt terms journal s i)
+fresh_late terms journal at i b d line test idle asks late s h =
     let same = fresh_line terms journal s i line (h.block ∙ test.0 idle) in
-    (λ t. same.0 ((asks s h).0 t), λ f. (asks s h).1 (same.1 f))
+    (λ t. absurd (false≢true t), λ f. absurd (false≢true (sym late ∙ (asks s h).1 (same.1 f).up_to_date)))
+
+pub fresh_by : (terms : Terms) (journal : List Tx) (at : Standing) (i : Item) (b d e : Bool) → begins_line i ≡ true → (b ≡ true) ↔ (at.block.state ≡ Idle) → b ≡ true → Asks terms.section journal at d (λ s. IsUpToDate terms journal s) → d ≡ true
+    → Asks terms.section journal at e HasReadFirst → Asks terms.section journal at e (λ s. IsFreshAt terms journal s i)
+fresh_by terms journal at i b d e line test idle asks up first s h =
+    let same = fresh_line terms journal s i line (h.block ∙ test.0 idle) in
+    (λ t. same.0 (record { up_to_date = (asks s h).0 up; read_first = (first s h).0 t }), λ f. (first s h).1 (same.1 f).read_first)
+
+-- Before a line that listens or opens a block.
+
+pub first_none : (section : Section) (journal : List Tx) (at : Standing) (b : Bool) → b ≡ next_reads_first (drop at.next section.lines) → b ≡ false → Asks section journal at true HasReadFirst
+first_none section journal at b test off s h = (λ _. λ next. absurd (false≢true (sym off ∙ test ∙ ap next_reads_first (sym h.rest) ∙ next)), λ _. refl)
+
+pub first_by : (section : Section) (journal : List Tx) (at : Standing) (b d : Bool) → b ≡ next_reads_first (drop at.next section.lines) → b ≡ true → (d ≡ true) ↔ IsReadUp at.mark at.told → Asks section journal at d HasReadFirst
+first_by section journal at b d test on up s h =
+    let next : next_reads_first s.rest ≡ true = ap next_reads_first h.rest ∙ sym test ∙ on in
+    (
+      λ t. λ _. subst (λ (told : ℕ). IsReadUp s.mark told) (sym h.told) (subst (λ (m : Option ℕ). IsReadUp m at.told) (sym h.mark) (up.0 t)),
+      λ f. up.1 (subst (λ (m : Option ℕ). IsReadUp m at.told) h.mark (subst (λ (told : ℕ). IsReadUp s.mark told) h.told (f next))),
+    )

@@ -169,7 +169,7 @@ module _ (terms : Terms) (journal : List Tx) (sections : List Section) (traces :
     -- Where the lines lie.
 
     fresh-start : (item : Item) → IsFreshAt terms journal (ready (start terms.section)) item
-    fresh-start (Line n) = λ idle. tt
+    fresh-start (Line n) = λ idle. record { up_to_date = tt; read_first = λ reads. tt }
     fresh-start item = tt
 
     trace-length : length (trace_lines terms.section trace) ≡ lines_of_items lines trace.items + 2

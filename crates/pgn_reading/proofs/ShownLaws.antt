@@ -133,7 +133,7 @@ finds-none owed item h = refl
 item-adds : (s : State) (item : Item) → Adds s item (after_item s item)
 item-adds s (Line n) = adds s (record s { rest = (at_line s s.rest).rest }) (at_line s s.rest) (Line n) (keeps-line s s.rest) (sym (append-nil s.marks)) (sym (append-nil s.named)) refl (finds-none s.owed (Line n) refl)
 item-adds s (Enlist base point) =
-    let t : State = record s { mark = Some point; marks = s.marks ++ base ∷ [] ++ point ∷ [] } in
+    let t : State = record s { mark = Some point; told = max s.told point; marks = s.marks ++ base ∷ [] ++ point ∷ [] } in
     adds s t (at_enlist t s.owed) (Enlist base point) (keeps-enlist t s.owed) (append_assoc s.marks (base ∷ []) (point ∷ [])) (sym (append-nil s.named)) refl (finds-none s.owed (Enlist base point) refl)
 item-adds s (Publish xid notes) =
     let t : State = record s { told = max s.told (xid + 1) } in
@@ -162,7 +162,7 @@ item-adds s (Found value) = by s.owed refl
     by owed e = record { marks = sym (append-nil s.marks); found = sym (append-nil s.found) ∙ ap (λ (o : Owed). s.found ++ found_shown o (Found value)) (sym e); named = sym (append-nil s.named) }
 item-adds s (TimedOut looks) = adds s s (record s { owed = Nothing }) (TimedOut looks) (keeps-owed s Nothing) (sym (append-nil s.marks)) (sym (append-nil s.named)) refl (finds-none s.owed (TimedOut looks) refl)
 item-adds s (Read from to got) =
-    let t : State = record s { mark = Some to; marks = s.marks ++ to ∷ [] } in
+    let t : State = record s { mark = Some to; told = max s.told to; marks = s.marks ++ to ∷ [] } in
     adds s t t (Read from to got) (keeps-owed t t.owed) refl (sym (append-nil s.named)) refl (finds-none s.owed (Read from to got) refl)
 
 pub marks-are_shown : MarksAreShown
@@ -315,7 +315,7 @@ module _ (terms : Terms) (journal : List Tx) where
   unfolding is_plain is_raising
   plain-calm s (Line n) e h = absurd (let none : ⊥ = cc in none)
   plain-calm s (Enlist base point) e h =
-      let t : State = record s { mark = Some point; marks = s.marks ++ base ∷ [] ++ point ∷ [] } in
+      let t : State = record s { mark = Some point; told = max s.told point; marks = s.marks ++ base ∷ [] ++ point ∷ [] } in
       calm s t (at_enlist t s.owed) (keeps-enlist t s.owed) refl refl (calm-enlist t s.owed h.expected)
   plain-calm s (Publish xid notes) e h =
       let t : State = record s { told = max s.told (xid + 1) } in
@@ -388,7 +388,7 @@ rest-raised value s owed = refl
 
 pub item-rest : (s : State) (item : Item) → (after_item s item).rest ≡ lines_left s.rest item
 item-rest s (Line n) = line-rest s s.rest refl
-item-rest s (Enlist base point) = (keeps-enlist (record s { mark = Some point; marks = s.marks ++ base ∷ [] ++ point ∷ [] }) s.owed).rest
+item-rest s (Enlist base point) = (keeps-enlist (record s { mark = Some point; told = max s.told point; marks = s.marks ++ base ∷ [] ++ point ∷ [] }) s.owed).rest
 item-rest s (Publish xid notes) = (keeps-publish (record s { told = max s.told (xid + 1) }) s.owed).rest
 item-rest s (QueueFull full notes) = (keeps-full (record s { told = max s.told (full.xid + 1); named = s.named ++ holder_at full.holder full.floor_mark }) s.owed).rest
 item-rest s Leave = (keeps-leave (record s { mark = None }) s.owed).rest

@@ -157,7 +157,7 @@ enlist_never terms journal old new base point no_one = moves_not terms journal o
 pub enlist_on : (terms : Terms) (journal : List Tx) (old new : Standing) (watch : Watch) (base point : ℕ) (b : Bool) (actions : List Action) (notes : List Note) (ending : Ending)
     → (b ≡ true) ↔ ((base ≤ point) × (old.told ≤ point) × (old.greatest ≤ point) × (point ≤ next_xid journal)) → b ≡ true → 3 ≤ base → old.owed ≡ show.Enlisting actions notes ending
     → ((journal : List Tx) (db : ℕ) (before : List (List ℕ)) (was : Option ℕ) → IsWatch journal db before was old.watch → IsWatch journal db old.set.channels (Some point) watch)
-    → Leads (record old { owed = show.Nothing; mark = Some point; greatest = point; watch = watch }) new (λ s. queueing_or_settled s actions notes (ending_of ending)) → Moves terms journal old (item.Enlist base point) true new
+    → Leads (record old { owed = show.Nothing; mark = Some point; told = point; greatest = point; watch = watch }) new (λ s. queueing_or_settled s actions notes (ending_of ending)) → Moves terms journal old (item.Enlist base point) true new
 enlist_on terms journal old new watch base point b actions notes ending test is first e begins on =
     let t = test.0 is in
     moves_on terms journal old new (item.Enlist base point)
@@ -170,15 +170,15 @@ enlist_on terms journal old new watch base point b actions notes ending test is 
       in_journal = t.3;
     })
     (λ s h.
-    let marked : State = record s { mark = Some point; marks = s.marks ++ base ∷ [] ++ point ∷ [] } in
-    let stands : Holds terms.section journal (record old { owed = show.Nothing; mark = Some point; greatest = point; watch = watch }) (record marked { owed = walk.Nothing }) = record {
+    let marked : State = record s { mark = Some point; told = max s.told point; marks = s.marks ++ base ∷ [] ++ point ∷ [] } in
+    let stands : Holds terms.section journal (record old { owed = show.Nothing; mark = Some point; told = point; greatest = point; watch = watch }) (record marked { owed = walk.Nothing }) = record {
       rest = h.rest;
       owed = refl;
       block = h.block;
       changes = h.changes;
       set = h.set;
       mark = refl;
-      told = h.told;
+      told = omega (arith, h.told, t.1);
       marks = two_marks s.marks old.greatest base point h.marks t.2 t.0;
       flags = h.flags;
       watch = begins journal terms.section.db old.set.channels old.mark h.watch;

@@ -117,10 +117,10 @@ read_other terms journal old new watch from to got d f first reach far takes off
     false≢true (sym off ∙ (takes_there terms journal old watch from to got d f s first reach far takes h).0.1 allowed.received))
 
 pub read_on : (terms : Terms) (journal : List Tx) (old : Standing) (watch : Watch) (from to : ℕ) (got : List Delivery) (b d f : Bool) → 3 ≤ from → b ≡ may_read old terms.section → b ≡ true → (d ≡ true) ↔ Reaches old journal from to → d ≡ true
-    → Takes to got old.watch f watch → f ≡ true → Moves terms journal old (item.Read from to got) true (record old { mark = Some to; greatest = max old.greatest to; watch = watch })
+    → Takes to got old.watch f watch → f ≡ true → Moves terms journal old (item.Read from to got) true (record old { mark = Some to; told = to; greatest = max old.greatest to; watch = watch })
 read_on terms journal old watch from to got b d f first test is reach far takes same =
     let t = reach.0 far in
-    moves_on terms journal old (record old { mark = Some to; greatest = max old.greatest to; watch = watch }) (item.Read from to got)
+    moves_on terms journal old (record old { mark = Some to; told = to; greatest = max old.greatest to; watch = watch }) (item.Read from to got)
     (λ s h. record {
       in_turn = subst (MayRead s) (sym h.owed) (may_at s old.owed old.block.state terms.section.lines old.next h.block h.rest (sym test ∙ is));
       from_mark = h.mark ∙ t.0;
@@ -136,7 +136,7 @@ read_on terms journal old watch from to got b d f first test is reach far takes 
       changes = h.changes;
       set = h.set;
       mark = refl;
-      told = h.told;
+      told = omega (arith, h.told, t.2);
       marks = one_mark s.marks old.greatest (max old.greatest to) to h.marks refl;
       flags = h.flags;
       watch = (takes_there terms journal old watch from to got d f s first reach far takes h).1 same;

@@ -77,14 +77,15 @@ impl Standing<'_> {
             && point.get() <= ledger.next_xid()
     }
 
-    // The mark is here, and it is the greatest.
-    fn stand_at(&mut self, mark: Xid) -> Result<(), AllocError>
-        ensures stands { OnOk result (self.new ≡ record self.old { mark = Some mark; greatest = mark; watch = self.new.watch }) }
-        ensures watches { OnOk result ((journal : List Tx) (db : ℕ) (before : List (List ℕ)) (was : Option ℕ) → IsWatch journal db before was self.old.watch → IsWatch journal db self.old.set.channels (Some mark) self.new.watch) }
+    // The mark is here, and it is the greatest; everything before it is known to be finished.
+    fn stand_at(&mut self, point: Xid) -> Result<(), AllocError>
+        ensures stands { OnOk result (self.new ≡ record self.old { mark = Some point; told = point; greatest = point; watch = self.new.watch }) }
+        ensures watches { OnOk result ((journal : List Tx) (db : ℕ) (before : List (List ℕ)) (was : Option ℕ) → IsWatch journal db before was self.old.watch → IsWatch journal db self.old.set.channels (Some point) self.new.watch) }
     {
-        self.watch.begin(&self.set, mark)?;
-        self.mark = Some(mark);
-        self.greatest = mark.get();
+        self.watch.begin(&self.set, point)?;
+        self.mark = Some(point);
+        self.told = point;
+        self.greatest = point.get();
         Ok(())
     }
 
@@ -399,12 +400,13 @@ impl Standing<'_> {
         }
     }
 
-    // The mark is here.
-    fn come_to(&mut self, mark: Xid)
-        ensures { self.new ≡ record self.old { mark = Some mark; greatest = max self.old.greatest mark } }
+    // The mark is here, and everything before it is known to be finished.
+    fn come_to(&mut self, to: Xid)
+        ensures { self.new ≡ record self.old { mark = Some to; told = to; greatest = max self.old.greatest to } }
     {
-        self.mark = Some(mark);
-        self.greatest = self.greatest.max(mark.get());
+        self.mark = Some(to);
+        self.told = to;
+        self.greatest = self.greatest.max(to.get());
     }
 }
 

@@ -37,7 +37,7 @@ fn lines_of_a_session(rt: HostRuntime) -> Result<(), Fail> {
 }
 
 // Scenarios with outputs, and the line that is to blame in each, or 0.
-const WHOLE: [(&str, &str, usize); 10] = [
+const WHOLE: [(&str, &str, usize); 13] = [
     (
         "\\session a 1\nLISTEN c\nNOTIFY c, 'x'\nBEGIN\n",
         "journal 1\nxid 3 session 1 commit 1\n  \"c\", 'x'\nsession 1 a db 1 pid 1001\n> LISTEN c\n+enlist 3 3\nLISTEN\n> NOTIFY c, 'x'\n+publish 3\nNOTIFY\n+read 3 4\n  3 1001 \"c\", 'x'\n> BEGIN\nBEGIN\nend mark 4\n",
@@ -47,6 +47,21 @@ const WHOLE: [(&str, &str, usize); 10] = [
         "\\session a 1\nLISTEN c\nNOTIFY c, 'x'\nBEGIN\n",
         "journal 1\nxid 3 session 1 commit 1\n  \"c\", 'x'\nsession 1 a db 1 pid 1001\n> LISTEN c\n+enlist 3 3\nLISTEN\n> NOTIFY c, 'x'\n+publish 3\nNOTIFY\n> BEGIN\nBEGIN\nend mark 4\n",
         10,
+    ),
+    (
+        "\\session a 1\nLISTEN c\nNOTIFY d, 'x'\nBEGIN\n",
+        "journal 1\nxid 3 session 1 commit 1\n  \"d\", 'x'\nsession 1 a db 1 pid 1001\n> LISTEN c\n+enlist 3 3\nLISTEN\n> NOTIFY d, 'x'\n+publish 3\nNOTIFY\n+read 3 4\n> BEGIN\nBEGIN\nend mark 4\n",
+        0,
+    ),
+    (
+        "\\session a 1\nLISTEN c\nNOTIFY d, 'x'\nBEGIN\n",
+        "journal 1\nxid 3 session 1 commit 1\n  \"d\", 'x'\nsession 1 a db 1 pid 1001\n> LISTEN c\n+enlist 3 3\nLISTEN\n> NOTIFY d, 'x'\n+publish 3\nNOTIFY\n> BEGIN\nBEGIN\n+read 3 4\nend mark 4\n",
+        10,
+    ),
+    (
+        "\\session a 1\nLISTEN c\nNOTIFY d, 'x'\nUNLISTEN e\n",
+        "journal 1\nxid 3 session 1 commit 1\n  \"d\", 'x'\nsession 1 a db 1 pid 1001\n> LISTEN c\n+enlist 3 3\nLISTEN\n> NOTIFY d, 'x'\n+publish 3\nNOTIFY\n> UNLISTEN e\nUNLISTEN\n+read 3 4\nend mark 4\n",
+        0,
     ),
     (
         "\\session a 1\nNOTIFY c, 'x'\nNOTIFY c, 'x'\n",
