@@ -1,2 +1,4 @@
 -- the scenario of a drill
 pub mod Drill
+-- it reads as one
+pub mod Laws

@@ -14,6 +14,7 @@
 
 mod counts;
 mod five_lines;
+pub mod laws;
 mod scenario;
 
 pub use counts::received;

@@ -1,5 +1,5 @@
 -- From the text of a run that was written to what is said of the run of a scenario, and from that to what is said of its input.
-use Rattle.std.proofs.Common.{◌≡◌, ℕ, ◌⊎◌, List, Option, Result, Ok, sym, subst, refl, inl, inr}
+use Rattle.std.proofs.Common.{◌≡◌, ℕ, ◌⊎◌, List, Option, Result, Ok, Err, sym, subst, ◌∙◌, refl, inl, inr}
 use Rattle.std.specs.Io.KnownBytes.{Appends}
 use Rattle.pgn_base.specs.Outside.{AppendsPrefix, Rose}
 use Rattle.pgn_journal.specs.declared.tx.Tx.{Tx}
@@ -7,6 +7,7 @@ use Rattle.pgn_language.specs.declared.scenario.Scenario.{Scenario}
 use Rattle.pgn_language.specs.declared.scenario.ScenarioFault.{ScenarioFault}
 use Rattle.pgn_model.specs.declared.trace.Trace.{Trace}
 use Rattle.pgn_language.specs.Inputs.{ReadsAsScenario}
+use Rattle.pgn_language.proofs.InputLaws.{reads-input}
 use Rattle.pgn_queries.specs.declared.wire_fault.WireFault.{WireFault}
 use Rattle.pgn_model.specs.Legal.{Legal}
 use Rattle.pgn_model.specs.Walk.{Settings}
@@ -95,6 +96,21 @@ live-answers-over settings input scenario old new before now CheckTooLarge reads
 -- a reading of the same bytes
 pub reads-same : (a b : List ℕ) (r s : Result Scenario ScenarioFault) → a ≡ b → r ≡ s → ReadsAsScenario a r → ReadsAsScenario b s
 reads-same a b r s e f h = subst (λ (bytes : List ℕ). ReadsAsScenario bytes s) e (subst (λ (read : Result Scenario ScenarioFault). ReadsAsScenario a read) f h)
+
+-- what reads as a scenario has no fault
+one-reading : (input : List ℕ) (scenario : Scenario) (fault : ScenarioFault) → ReadsAsScenario input (Ok scenario) → ReadsAsScenario input (Err fault) → ⊥
+one-reading input scenario fault h k =
+    let both : Ok scenario ≡ Err fault = sym (reads-input input (Ok scenario) h) ∙ reads-input input (Err fault) k in
+    cc
+
+-- so a drill is done, its writing failed, or memory did not suffice
+pub drill-answers : (print : Print) (settings : Settings) (input : List ℕ) (scenario : Scenario) (old new : Option (List ℕ)) (before now : ℕ) (status : Status) → ReadsAsScenario input (Ok scenario)
+    → Answers (AtEnd print) settings input old new before now status → (status ≡ Done) ⊎ (status ≡ WriteFault) ⊎ (status ≡ NoMemory)
+drill-answers print settings input scenario old new before now Done reads says = inl refl
+drill-answers print settings input scenario old new before now WriteFault reads says = inr (inl refl)
+drill-answers print settings input scenario old new before now NoMemory reads says = inr (inr refl)
+drill-answers print settings input scenario old new before now (BadScenario fault) reads says = absurd (one-reading input scenario fault reads says.0)
+drill-answers print settings input scenario old new before now other reads says = absurd says
 
 -- without a fault it is done, or memory did not suffice
 pub drill-completes : (status : Status) (Fault : Type 0) → (status ≡ Done) ⊎ (status ≡ WriteFault) ⊎ (status ≡ NoMemory) → (status ≡ WriteFault → Fault) → ¬ Fault

@@ -6,3 +6,5 @@ pub mod Conversation
 pub mod Live
 -- what the call of the program says
 pub mod Run
+-- a live text, for examples
+pub mod Examples

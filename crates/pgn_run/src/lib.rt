@@ -25,6 +25,7 @@
 mod checking;
 mod client;
 mod conversing;
+pub mod examples;
 mod input;
 mod live_run;
 mod parting;

@@ -5,6 +5,7 @@ ghost use Rattle.pgn_base.specs.declared.limits.TheConstants.{PAGES_MAX, PAGES_M
 ghost use Rattle.pgn_language.specs.declared.scenario.Scenario.{Scenario};
 ghost use Rattle.pgn_language.specs.declared.scenario.ScenarioFault.{ScenarioFault};
 ghost use Rattle.pgn_language.specs.Inputs.{IsSound, ReadsAsScenario};
+ghost use Rattle.pgn_options.specs.declared.limits.TheConstants.{DRILL_NOTES_MAX, DRILL_SESSIONS_MAX};
 ghost use Rattle.pgn_options.specs.Words.{AreNoCommand};
 ghost use Rattle.pgn_drill.specs.Drill.{drill};
 ghost use Rattle.pgn_messages.specs.Messages.{messages};
@@ -256,7 +257,7 @@ fn run<S: Source, K: Sink + Send, R: Threads + Wait + Clock + Sync>(
     }
 }
 
-// Makes the scenario of a drill and runs it. It reads as a scenario, which tests show; were it none, the answer would be want of memory.
+// Makes the scenario of a drill and runs it. A text of so many sessions and notifications reads as a scenario.
 fn drill<K: Sink + Send, R: Threads + Wait + Clock + Sync>(
     rt: &R,
     alloc: Global,
@@ -266,6 +267,9 @@ fn drill<K: Sink + Send, R: Threads + Wait + Clock + Sync>(
     notes: u32,
     sink: &mut K,
 ) -> Status
+    requires some_sessions { 1 ≤ sessions }
+    requires few_sessions { sessions ≤ DRILL_SESSIONS_MAX }
+    requires few_notes { notes ≤ DRILL_NOTES_MAX }
     ensures done { result ≡ Status.Done
         → Runs (Summary seed notes) drill_settings (drill seed sessions notes) (Appends (K.held sink.old) (K.held sink.new)) }
     ensures write_fault { result ≡ Status.WriteFault → Rose (K.faults sink.old) (K.faults sink.new) }
@@ -279,7 +283,7 @@ fn drill<K: Sink + Send, R: Threads + Wait + Clock + Sync>(
         return Status::NoMemory;
     };
     let shows = Shows::AtEnd(Print::Summary { seed, notes });
-    match answer::<WordHub, K, R>(
+    answer::<WordHub, K, R>(
         rt,
         alloc,
         hashes,
@@ -289,10 +293,7 @@ fn drill<K: Sink + Send, R: Threads + Wait + Clock + Sync>(
         Format::One,
         shows,
         sink,
-    ) {
-        Status::BadScenario(_) => Status::NoMemory,
-        status => status,
-    }
+    )
 }
 
 // Runs an input that was read, over a hub of this type, and lets the input go once it is a scenario. The scenario is not freed: the

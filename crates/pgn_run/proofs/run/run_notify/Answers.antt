@@ -27,6 +27,15 @@ run-requires-clause-few_pages g c κs within = (subst IsWithin c.in-Ok-Run.field
 pub run-requires-clause-patient : goal.run-requires-clause-patient
 run-requires-clause-patient g c κs within = (subst IsWithin c.in-Ok-Run.field-0-is c.in-Ok-Run.ensures.within).2
 
+pub drill-requires-clause-some_sessions : goal.drill-requires-clause-some_sessions
+drill-requires-clause-some_sessions g c κs within = (subst IsWithin c.in-Ok-Drill.field-0-is c.in-Ok-Drill.ensures.within).0
+
+pub drill-requires-clause-few_sessions : goal.drill-requires-clause-few_sessions
+drill-requires-clause-few_sessions g c κs within = (subst IsWithin c.in-Ok-Drill.field-0-is c.in-Ok-Drill.ensures.within).1
+
+pub drill-requires-clause-few_notes : goal.drill-requires-clause-few_notes
+drill-requires-clause-few_notes g c κs within = (subst IsWithin c.in-Ok-Drill.field-0-is c.in-Ok-Drill.ensures.within).3
+
 pub returns-in-Ok-Run-clause-done : goal.returns-in-Ok-Run-clause-done
 returns-in-Ok-Run-clause-done g c = λ e. record {
   asked = Run c.in-Ok-Run.pages c.in-Ok-Run.patience c.in-Ok-Run.format c.in-Ok-Run.live;
