@@ -161,14 +161,14 @@ terminate_comes at bytes = elim (cases_lt (length bytes) 4) [
 ]
 
 -- a message comes, or the end, or a fault
-record NextComes (at : ℕ) (bytes : List ℕ) : Type 0 where
-  coming : Coming
-  text : List ℕ
-  rest : List ℕ
-  is : NextIs at coming text bytes rest
-  less : coming ≡ Query → length rest < length bytes
+pub record NextComes (at : ℕ) (bytes : List ℕ) : Type 0 where
+  pub coming : Coming
+  pub text : List ℕ
+  pub rest : List ℕ
+  pub is : NextIs at coming text bytes rest
+  pub less : coming ≡ Query → length rest < length bytes
 
-next_comes : (at : ℕ) (bytes : List ℕ) → NextComes at bytes
+pub next_comes : (at : ℕ) (bytes : List ℕ) → NextComes at bytes
 next_comes at [] = record { coming = End; text = []; rest = []; is = client.NextIs.Ended [] [] refl; less = λ e. absurd (cc) }
 next_comes at (letter ∷ more) = elim (cases_Bool (letter == 81)) [
   | inl e ↦
@@ -221,14 +221,14 @@ first_lf (x ∷ xs) = elim (cases_Bool (x == 10)) [
 ]
 
 -- a text has a line
-has_line : (number : ℕ) (text : List ℕ) → (line : ScriptLine) × IsLineOf number text line
+pub has_line : (number : ℕ) (text : List ℕ) → (line : ScriptLine) × IsLineOf number text line
 has_line number text = elim (first_lf text) [
   | inl one ↦ (record { line = number; text = text; act = Run (reading text) }, queries.IsLineOf.OneLine text (reading text) one (reading-reads text))
   | inr lf ↦ (record { line = number; text = []; act = Run (Bad (length lf.before)) }, queries.IsLineOf.Lines text lf.before lf.rest lf.split lf.one)
 ]
 
 -- there are too many queries, or not
-counts : (place : Place) → AreTooMany place ⊎ (AreTooMany place → ⊥)
+pub counts : (place : Place) → AreTooMany place ⊎ (AreTooMany place → ⊥)
 counts place = elim (cases_lt QUERIES_MAX place.queries) [
   | inl many ↦ inl (inl many)
   | inr few ↦ elim (cases_lt place.most place.notes) [

@@ -33,7 +33,7 @@ or_false : (a b : Bool) → (a || b) ≡ false → (a ≡ false) × (b ≡ false
 or_false true b h = absurd (cc)
 or_false false b h = (refl, h)
 
-lacks : (x : ℕ) (text : List ℕ) → has x text ≡ false → Contains text x → ⊥
+pub lacks : (x : ℕ) (text : List ℕ) → has x text ≡ false → Contains text x → ⊥
 lacks x [] h c = absurd (omega (arith, c.1))
 lacks x (b ∷ text) h c =
     let parts = or_false (b == x) (has x text) h in
@@ -43,7 +43,7 @@ pub is_text : (text : List ℕ) → is_utf8 text ≡ true → has 0 text ≡ fal
 is_text text utf8 no_nul = record { utf8 = IsUtf8-from_is_utf8 text utf8; no_nul = lacks 0 text no_nul }
 
 -- a query comes
-comes : (at : ℕ) (head text rest : List ℕ) → length head ≡ 4 → 5 + length text ≡ from_be_bytes w32 head → length text ≤ 65536 → IsText text
+pub comes : (at : ℕ) (head text rest : List ℕ) → length head ≡ 4 → 5 + length text ≡ from_be_bytes w32 head → length text ≤ 65536 → IsText text
     → NextIs at Query text (81 ∷ (head ++ (body_of text ++ rest))) rest
 comes at head text rest four value short sound =
     let sizes : length (body_of text) ≡ length text + 1 = length-append text (0 ∷ []) in
@@ -51,7 +51,7 @@ comes at head text rest four value short sound =
     (client.QueryIs.HasBody (head ++ (body_of text ++ rest)) head (body_of text ++ rest) Query text rest (5 + length text) (1 + length text) refl (record { four = four; value = value })
     (record { least = omega arith; most = omega arith }) (omega arith) (client.BodyIs.Whole (body_of text ++ rest) text rest refl (omega arith) sound))
 
-few : (place : Place) → place.queries ≤ QUERIES_MAX → place.notes ≤ place.most → AreTooMany place → ⊥
+pub few : (place : Place) → place.queries ≤ QUERIES_MAX → place.notes ≤ place.most → AreTooMany place → ⊥
 few place counted noted (inl many) = absurd (omega arith)
 few place counted noted (inr many) = absurd (omega arith)
 

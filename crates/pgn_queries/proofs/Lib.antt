@@ -7,6 +7,6 @@ pub mod OneLaws
 -- each list of bytes has a reading
 pub mod EachLaws
 -- readings of bytes that are known
-mod ExampleLaws
+pub mod ExampleLaws
 -- what the bytes of the examples read as
-mod ExampleReadings
+pub mod ExampleReadings

@@ -41,10 +41,10 @@ too_short bytes head behind len e tells few =
     omega arith
 
 -- what comes is the same, and so are a query's text and what is behind it
-record Same (coming other : Coming) (text words rest more : List ℕ) : Type 0 where
-  first : coming ≡ other
-  texts : coming ≡ Query → text ≡ words
-  rests : coming ≡ Query → rest ≡ more
+pub record Same (coming other : Coming) (text words rest more : List ℕ) : Type 0 where
+  pub first : coming ≡ other
+  pub texts : coming ≡ Query → text ≡ words
+  pub rests : coming ≡ Query → rest ≡ more
 
 pub not_query : (fault : WireFault) → Fault fault ≡ Query → ⊥
 not_query fault e = cc
@@ -118,7 +118,7 @@ no_first x xs zs e f = let len : 0 ≡ suc (length xs) = ap length (sym e ∙ f)
 letters_differ : (x : ℕ) → x ≡ 88 → x ≡ 81 → ⊥
 letters_differ x e f = omega arith
 
-next_one : (at : ℕ) (coming other : Coming) (text words bytes rest more : List ℕ) → NextIs at coming text bytes rest → NextIs at other words bytes more → Same coming other text words rest more
+pub next_one : (at : ℕ) (coming other : Coming) (text words bytes rest more : List ℕ) → NextIs at coming text bytes rest → NextIs at other words bytes more → Same coming other text words rest more
 next_one at _ _ _ _ bytes _ _ (client.NextIs.Ended _ t e) (client.NextIs.Ended _ u f) = record { first = refl; texts = λ q. absurd (cc); rests = λ q. refl }
 next_one at _ _ _ _ bytes _ _ (client.NextIs.Ended _ t e) (client.NextIs.NoType letter _ behind u s f q x) = absurd (no_first letter behind bytes e f)
 next_one at _ _ _ _ bytes _ _ (client.NextIs.Ended _ t e) (client.NextIs.Terminates _ behind c u s f is) = absurd (no_first 88 behind bytes e f)
@@ -171,13 +171,13 @@ line_one number text _ _ (queries.IsLineOf.Lines _ front rest e clean) (queries.
     ap (λ (t : List ℕ). let l : ScriptLine = record { line = number; text = []; act = Run (Bad (length t)) } in l) (before_lf front other rest more clean tidy (sym e ∙ f))
 
 -- with the next query there are too many, by the one reading and by the other
-same_place : (place : Place) (bytes text words rest more : List ℕ) (line other : ScriptLine) → NextIs place.at Query text bytes rest → NextIs place.at Query words bytes more
+pub same_place : (place : Place) (bytes text words rest more : List ℕ) (line other : ScriptLine) → NextIs place.at Query text bytes rest → NextIs place.at Query words bytes more
     → IsLineOf (place.queries + 1) text line → IsLineOf (place.queries + 1) words other → (text ≡ words) × (rest ≡ more) × (line ≡ other)
 same_place place bytes text words rest more line other next coming is so =
     let one = next_one place.at Query Query text words bytes rest more next coming in
     (one.texts refl, one.rests refl, line_one (place.queries + 1) text line other is (subst (λ (t : List ℕ). IsLineOf (place.queries + 1) t other) (sym (one.texts refl)) so))
 
-same_after : (place : Place) (text words : List ℕ) (line other : ScriptLine) → text ≡ words → line ≡ other → after_query place (length text) line.act ≡ after_query place (length words) other.act
+pub same_after : (place : Place) (text words : List ℕ) (line other : ScriptLine) → text ≡ words → line ≡ other → after_query place (length text) line.act ≡ after_query place (length words) other.act
 same_after place text words line other e f = ap (λ (t : List ℕ). after_query place (length t) line.act) e ∙ ap (λ (l : ScriptLine). after_query place (length words) l.act) f
 
 -- two readings are the same
