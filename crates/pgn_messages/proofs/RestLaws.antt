@@ -172,7 +172,7 @@ found-rest rest value s walk.Barred = refl
 -- an item that begins no line does the same, whatever lines are to come
 after-rest : (rest : List ScriptLine) (s : State) (shown : Item) → begins_line shown ≡ false → after_item (with_rest rest s) shown ≡ with_rest rest (after_item s shown)
 after-rest rest s (item.Line n) h = absurd (cc)
-after-rest rest s (item.Enlist base point) h = enlist-rest rest (record s { mark = Some point; marks = s.marks ++ base ∷ [] ++ point ∷ [] }) s.owed
+after-rest rest s (item.Enlist base point) h = enlist-rest rest (record s { mark = Some point; told = max s.told point; marks = s.marks ++ base ∷ [] ++ point ∷ [] }) s.owed
 after-rest rest s (item.Publish xid notes) h = publish-rest rest (record s { told = max s.told (xid + 1) }) s.owed
 after-rest rest s (item.QueueFull full notes) h = full-rest rest (record s { told = max s.told (full.xid + 1); named = s.named ++ holder_at full.holder full.floor_mark }) s.owed
 after-rest rest s item.Leave h = leave-rest rest (record s { mark = None }) s.owed
