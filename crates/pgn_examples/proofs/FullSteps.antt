@@ -16,6 +16,7 @@ use Rattle.pgn_journal.specs.Due.{is_due_to}
 use Rattle.pgn_journal.specs.Near.{Near}
 use Rattle.pgn_journal.specs.QueueUse.{NoPage}
 use Rattle.pgn_examples.specs.FullQueue.{many, long_note, last_one, full_run_journal, larger_run_journal}
+use Rattle.pgn_journal.proofs.NearLaws.{near-itself}
 use Rattle.pgn_journal.proofs.PackingLemmas.{first_place, place_folds}
 use Rattle.pgn_journal.proofs.PlainNotes.{is_plain, plain-note}
 
@@ -127,11 +128,8 @@ full_at_6 = record {
 }
 
 -- a listener at the end has no need to read
-pub near_end : Near One (is_due_to 1 (codes "c" ∷ [])) full_run_journal 8 7
-near_end =
-    let seven : page_of (place One full_run_journal 7) ≡ 2 = ap page_of full_7 in
-    let eight : page_of (place One full_run_journal 8) ≡ 2 = ap page_of full_8 in
-    record { nothing_due = refl; few_pages = omega (arith, seven, eight) }
+pub near_end : Near One (is_due_to 1 (codes "c" ∷ [])) full_run_journal 8 8
+near_end = near-itself One (is_due_to 1 (codes "c" ∷ [])) full_run_journal 8 8 (omega arith)
 
 larger_first : place One larger_run_journal 3 ≡ 0
 larger_first = first_place One larger_run_journal

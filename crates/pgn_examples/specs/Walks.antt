@@ -16,7 +16,7 @@ use Rattle.pgn_language.specs.declared.scenario.ScriptLine.{ScriptLine}
 use Rattle.pgn_language.specs.declared.scenario.Section.{Section}
 use Rattle.pgn_language.specs.declared.scenario.Scenario.{Scenario}
 use Rattle.pgn_model.specs.declared.item.Item.{Item}
-use Rattle.pgn_model.specs.declared.item.Item.TheVariants.{Line, Enlist, Publish, Reply, Read}
+use Rattle.pgn_model.specs.declared.item.Item.TheVariants.{Line, Enlist, Publish, Reply, Found, Read}
 use Rattle.pgn_model.specs.declared.trace.Trace.{Trace}
 use Rattle.pgn_base.specs.declared.format.Format.TheVariants.{Two}
 use Rattle.pgn_base.specs.declared.queue_answers.Full.{Full}
@@ -239,6 +239,30 @@ listener_again = record (start (walker [])) { owed = Enlisting [] [] (Replied ta
 -- a listener in a block that was told of more than it has read
 abbrev pub behind_in_block : State
 behind_in_block = record (start (walker [])) { block = InBlock; mark = Some 3; told = 4 }
+
+-- a journal of another session's transaction on the channel `d`
+abbrev pub d_journal : List Tx
+d_journal = other_tx (on_d (codes "2") ∷ []) ∷ []
+
+-- a listener on the channel `c` that was told of more than it has read, and whose next line is this command
+abbrev pub behind_before : Command → State
+behind_before command = record (start (walker (runs 4 command ∷ []))) { set = c_name ∷ []; mark = Some 3; told = 4 }
+
+-- LISTEN c; \await f; LISTEN d
+abbrev pub listen_await_listen : List ScriptLine
+listen_await_listen = listen_then (Await 0) ++ runs 4 (command.Listen (codes "d")) ∷ []
+
+-- its items up to the flag, which is found behind a transaction on the channel `d`
+abbrev pub listen_await_front : List Item
+listen_await_front = enlisted 2 3 3 ++ Line 3 ∷ Found 4 ∷ []
+
+-- and all of them, where it reads only behind LISTEN d
+abbrev pub reads_behind : List Item
+reads_behind = listen_await_front ++ answered 4 tag.Listen ++ Read 3 4 (delivered 3 1006 (on_d (codes "2")) ∷ []) ∷ []
+
+-- and where it reads before that line
+abbrev pub reads_before : List Item
+reads_before = listen_await_front ++ Read 3 4 [] ∷ answered 4 tag.Listen
 
 -- BEGIN; BEGIN
 abbrev pub begin_twice : List ScriptLine

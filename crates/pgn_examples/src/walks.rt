@@ -3,6 +3,7 @@ ghost use Rattle.pgn_base.specs.declared.answers.Tag.TheVariants as tag;
 ghost use Rattle.pgn_base.specs.declared.answers.Warning.TheVariants.{AlreadyInBlock};
 ghost use Rattle.pgn_base.specs.declared.answers.Refusal.TheVariants as refusal;
 ghost use Rattle.pgn_base.specs.declared.command.Command.TheVariants as command;
+ghost use Rattle.pgn_answers.specs.declared.block_state.BlockState.TheVariants.{InBlock};
 ghost use Rattle.pgn_language.specs.declared.scenario.Act.TheVariants.{Run, Signal, Await, Quit};
 ghost use Rattle.pgn_model.specs.declared.item.Item.TheVariants.{Line, Enlist, Publish, QueueFull, Used, Leave, Reply, Refuse, Channels, Raise, Found, TimedOut, Read};
 ghost use Rattle.pgn_model.specs.Walk.{start, Enlists, Settings, default_settings};
@@ -17,7 +18,7 @@ ghost use Rattle.pgn_journal.specs.Journal.{IsFinished, is_committed_in};
 ghost use Rattle.pgn_journal.specs.Due.{is_due_to};
 ghost use Rattle.pgn_journal.specs.Near.{Near};
 ghost use Rattle.pgn_model.specs.Legal.{Legal, IsShownWithin, finished_xids};
-ghost use Rattle.pgn_examples.specs.Walks.{on_c, on_d, x_note, c_name, walker, its_terms, its_trace, IsTraceOf, IsRefused, IsFresh, sent_by, own_tx, other_tx, delivered, answered, enlisted, published, listen_notify, notify_alone, notify_listen, listen_alone, listen_again, listen_again_items, never_listens, never_listens_items, block_lines, block_front, block_items, block_journal, joining_lines, joining_front, joining_items, joining_journal, left_open, held_back, other_journal, own_journal, mixed_journal, mixed_due, mixed_front, aborted_journal, own_front, own_read, listen_then, listen_await_begin, listen_then_nothing, listener_again, behind_in_block, begin_twice, empty_line, listen_unlisten, listen_twice, notify_twice, listen_notify_begin, roll_back, y_note, y_journal, two_own_journal, repeats, repeats_journal, repeats_due, listen_notify_listen, sender, listener_trace, one_delivery, sender_trace, silent_trace, IsRun, alone, two_sent, pages_journal, settings_of_two, full_at, usage_at, two_blocks, two_blocks_items, two_blocks_journal, listen_in_block, listen_in_block_front, unlisten_one, unlisten_one_front, both_journal, pg_notify_alone};
+ghost use Rattle.pgn_examples.specs.Walks.{on_c, on_d, x_note, c_name, walker, its_terms, its_trace, IsTraceOf, IsRefused, IsFresh, sent_by, own_tx, other_tx, delivered, answered, enlisted, published, listen_notify, notify_alone, notify_listen, listen_alone, listen_again, listen_again_items, never_listens, never_listens_items, block_lines, block_front, block_items, block_journal, joining_lines, joining_front, joining_items, joining_journal, left_open, held_back, other_journal, own_journal, mixed_journal, mixed_due, mixed_front, aborted_journal, own_front, own_read, listen_then, listen_await_begin, listen_then_nothing, listener_again, behind_in_block, d_journal, behind_before, listen_await_listen, listen_await_front, reads_behind, reads_before, begin_twice, empty_line, listen_unlisten, listen_twice, notify_twice, listen_notify_begin, roll_back, y_note, y_journal, two_own_journal, repeats, repeats_journal, repeats_due, listen_notify_listen, sender, listener_trace, one_delivery, sender_trace, silent_trace, IsRun, alone, two_sent, pages_journal, settings_of_two, full_at, usage_at, two_blocks, two_blocks_items, two_blocks_journal, listen_in_block, listen_in_block_front, unlisten_one, unlisten_one_front, both_journal, pg_notify_alone};
 
 /// Traces of lines outside blocks: who listens already does not enlist again, and a read comes between lines or at the end.
 pub fn lawful_walks()
@@ -155,6 +156,28 @@ pub fn missing_reads()
     ensures at_the_end { IsFresh listen_notify own_journal own_front (Some 3) → ⊥ }
     ensures between_lines { IsFresh listen_notify_begin own_journal (own_front ++ answered 4 tag.Begin) (Some 3) → ⊥ }
     ensures in_a_block { IsFreshAt (its_terms []) own_journal behind_in_block (Line 4) }
+{}
+
+/// Outside of a block a listener reads up to what it was told of before a line that listens or opens a block, and need not before
+/// another, where nothing is due to it.
+pub fn first_reads()
+    ensures listen { IsFreshAt (its_terms []) d_journal (behind_before (command.Listen (codes "d"))) (Line 4) → ⊥ }
+    ensures begin { IsFreshAt (its_terms []) d_journal (behind_before command.Begin) (Line 4) → ⊥ }
+    ensures start { IsFreshAt (its_terms []) d_journal (behind_before command.Start) (Line 4) → ⊥ }
+    ensures notify { IsFreshAt (its_terms []) d_journal (behind_before (command.Notify x_note)) (Line 4) }
+    ensures has_read { IsFreshAt (its_terms []) d_journal (record (behind_before (command.Listen (codes "d"))) { mark = Some 4 }) (Line 4) }
+    ensures no_listener { IsFreshAt (its_terms []) d_journal (record (behind_before (command.Listen (codes "d"))) { mark = None }) (Line 4) }
+    ensures in_a_block { IsFreshAt (its_terms []) d_journal (record (behind_before (command.Listen (codes "d"))) { block = InBlock }) (Line 4) }
+{}
+
+/// Who listens on a channel behind what was sent on it, and knows so by a flag, does not receive that. In a trace where it does, each
+/// item is allowed, but the read before LISTEN was left out.
+pub fn listens_behind_what_was_sent()
+    ensures lawful { IsTraceOf listen_await_listen d_journal reads_behind (Some 4) }
+    ensures left_out { IsFresh listen_await_listen d_journal reads_behind (Some 4) → ⊥ }
+    ensures at_its_line { IsFreshAt (its_terms listen_await_listen) d_journal (state_after (its_terms listen_await_listen) listen_await_front) (Line 4) → ⊥ }
+    ensures lawful_before { IsTraceOf listen_await_listen d_journal reads_before (Some 4) }
+    ensures read_before { IsFresh listen_await_listen d_journal reads_before (Some 4) }
 {}
 
 /// What holds where the command line sets nothing.

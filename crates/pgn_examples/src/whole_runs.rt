@@ -48,10 +48,13 @@ pub fn other_flags()
     ensures one_look_more { IsRefused other_flags_known [] (Line 2 ∷ Raise 3 ∷ Line 3 ∷ Found 3 ∷ Line 4 ∷ TimedOut 10000001 ∷ []) None }
 {}
 
-/// Neither its point, nor a read, nor a usage tells a session of more: the flag is raised as before.
-pub fn what_tells_nothing()
-    ensures point { IsTraceOf (listen_then (Signal 0)) other_journal (enlisted 2 3 4 ++ Line 3 ∷ Raise 3 ∷ []) (Some 4) }
-    ensures read { IsTraceOf (listen_then (Signal 0)) other_journal (enlisted 2 3 3 ++ other_read ∷ Line 3 ∷ Raise 3 ∷ []) (Some 4) }
+/// A session is told of what its point and its reads have shown to be finished, and raises a flag with that number. With a lower one, who
+/// finds the flag could commit what was read before, or send what a listener misses. A usage tells it nothing.
+pub fn what_tells()
+    ensures point { IsTraceOf (listen_then (Signal 0)) other_journal (enlisted 2 3 4 ++ Line 3 ∷ Raise 4 ∷ []) (Some 4) }
+    ensures below_point { IsRefused (listen_then (Signal 0)) other_journal (enlisted 2 3 4 ++ Line 3 ∷ Raise 3 ∷ []) (Some 4) }
+    ensures read { IsTraceOf (listen_then (Signal 0)) other_journal (enlisted 2 3 3 ++ other_read ∷ Line 3 ∷ Raise 4 ∷ []) (Some 4) }
+    ensures below_read { IsRefused (listen_then (Signal 0)) other_journal (enlisted 2 3 3 ++ other_read ∷ Line 3 ∷ Raise 3 ∷ []) (Some 4) }
     ensures usage { IsTraceOf usage_signal other_journal (used 2 (none_in_use 4 4 None) ++ Line 3 ∷ Raise 3 ∷ []) None }
 {}
 
@@ -185,7 +188,7 @@ pub fn reads_in_lines()
     ensures in_block { IsRefused await_in_block other_journal (enlisted 2 3 3 ++ answered 3 tag.Begin ++ Line 4 ∷ other_read ∷ Found 4 ∷ []) (Some 4) }
     ensures in_failed { IsRefused listener_failed other_journal (listener_failed_front ++ other_read ∷ answered 5 tag.Rollback) (Some 4) }
     ensures in_await_in_failed { IsRefused await_in_failed other_journal (listener_failed_front ++ Line 5 ∷ other_read ∷ Found 4 ∷ answered 6 tag.Rollback) (Some 4) }
-    ensures before_raise { IsRefused (listen_then (Signal 0)) other_journal (enlisted 2 3 3 ++ Line 3 ∷ other_read ∷ Raise 3 ∷ []) (Some 4) }
+    ensures before_raise { IsRefused (listen_then (Signal 0)) other_journal (enlisted 2 3 3 ++ Line 3 ∷ other_read ∷ Raise 4 ∷ []) (Some 4) }
     ensures before_publish { IsRefused listen_notify_block other_and_own (answered 2 tag.Begin ++ answered 3 tag.Listen ++ answered 4 tag.Notify ++ Line 5 ∷ Enlist 3 3 ∷ Read 3 4 [] ∷ Publish 4 (x_note ∷ []) ∷ Reply tag.Commit None ∷ []) (Some 4) }
     ensures before_rows { IsRefused (listen_then (Run command.ListeningChannels)) other_journal (enlisted 2 3 3 ++ Line 3 ∷ other_read ∷ Channels (c_name ∷ []) ∷ Reply (tag.Select 1) None ∷ []) (Some 4) }
     ensures before_usage { IsRefused listen_usage other_journal (enlisted 2 3 3 ++ Line 3 ∷ other_read ∷ Used (none_in_use 4 4 None) ∷ Reply (tag.Select 1) None ∷ []) (Some 4) }

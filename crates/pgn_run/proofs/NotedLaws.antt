@@ -47,7 +47,7 @@ allowed-noted n terms journal s (Read from to got) h =
     record { in_turn = h.in_turn; from_mark = h.from_mark; forward = h.forward; after_told = h.after_told; in_journal = h.in_journal; received = h.received }
 
 fresh_at-noted : (n : ℕ) (terms : Terms) (journal : List Tx) (s : State) (item : Item) → IsFreshAt terms journal s item → IsFreshAt (noted n terms) journal s item
-fresh_at-noted n terms journal s (Line line) h = h
+fresh_at-noted n terms journal s (Line line) h = λ idle. record { up_to_date = (h idle).up_to_date; read_first = (h idle).read_first }
 fresh_at-noted n terms journal s (Enlist base point) h = h
 fresh_at-noted n terms journal s (Publish xid notes) h = h
 fresh_at-noted n terms journal s (QueueFull full notes) h = h

@@ -102,8 +102,8 @@ module _ (s t : State) (like : plain s ≡ plain t) where
   pub enlist-like : (actions : List Action) (notes : List Note) (ending : Ending) (b p b' p' : ℕ) → s.owed ≡ walk.Enlisting actions notes ending
       → plain (after_item s (item.Enlist b p)) ≡ plain (after_item t (item.Enlist b' p'))
   enlist-like actions notes ending b p b' p' e =
-      let before : State = record s { mark = Some p; marks = s.marks ++ b ∷ [] ++ p ∷ [] } in
-      let before' : State = record t { mark = Some p'; marks = t.marks ++ b' ∷ [] ++ p' ∷ [] } in
+      let before : State = record s { mark = Some p; told = max s.told p; marks = s.marks ++ b ∷ [] ++ p ∷ [] } in
+      let before' : State = record t { mark = Some p'; told = max t.told p'; marks = t.marks ++ b' ∷ [] ++ p' ∷ [] } in
       ap (λ (o : Owed). plain (at_enlist before o)) e ∙ queueing-plain before actions notes ending
       ∙ ap (λ (u : State). queueing_or_settled (record u { mark = Some 0 }) actions notes ending) like
       ∙ sym (queueing-plain before' actions notes ending) ∙ ap (λ (o : Owed). plain (at_enlist before' o)) (sym (owed-like ∙ e))

@@ -234,7 +234,7 @@ module _ (terms : Terms) (journal other : List Tx) where
       let fy = subst (λ (o : Owed). Fits o y) (owed-like s t like ∙ owed) (fits terms other t y h.lawful.0) in
       let i : Item = Enlist fx.0 fx.1 in
       let j : Item = Enlist fy.0 fy.1 in
-      let before : State = record s { mark = Some fx.1; marks = s.marks ++ fx.0 ∷ [] ++ fx.1 ∷ [] } in
+      let before : State = record s { mark = Some fx.1; told = max s.told fx.1; marks = s.marks ++ fx.0 ∷ [] ++ fx.1 ∷ [] } in
       at-items (Pair c s t xs ys) x y i j fx.2 fy.2
       (onward c lines s t xs ys i j (after_item s i).owed refl refl refl refl refl rest (enlist-like s t like actions notes ending fx.0 fx.1 fy.0 fy.1 owed) refl
       (commit-tells c lines next (after_item s i).owed (subst (λ (o : Owed). IsCommit (at_enlist before o).owed) (sym owed) (queueing-commits before actions notes ending replied)))) g h e

@@ -76,20 +76,20 @@ sound = record {
 sent-valid : All IsNote (sent ∷ [])
 sent-valid = All-cons IsNote sent [] (plain-note sent refl refl (omega arith) (omega arith) (omega arith)) (All-nil IsNote)
 
--- the listener has read everything below 4, and was told of nothing from there on
-none-left : (settings : Settings) → Near settings.format (is_due_to listener.db (codes "c" ∷ [])) one_sent 4 3
-none-left settings = near-itself settings.format (is_due_to listener.db (codes "c" ∷ [])) one_sent 4 3 (omega arith)
+-- the listener has read everything that it was told of
+none-left : (settings : Settings) → Near settings.format (is_due_to listener.db (codes "c" ∷ [])) one_sent 4 4
+none-left settings = near-itself settings.format (is_due_to listener.db (codes "c" ∷ [])) one_sent 4 4 (omega arith)
 
 pub received-legal : (settings : Settings) → Legal side_by_side settings one_sent (receives ∷ sends ∷ [])
 received-legal settings =
     let valid : All IsNote (sent ∷ []) = sent-valid in
-    let near : Near settings.format (is_due_to listener.db (codes "c" ∷ [])) one_sent 4 3 = none-left settings in
+    let near : Near settings.format (is_due_to listener.db (codes "c" ∷ [])) one_sent 4 4 = none-left settings in
     search rules
 
 pub missed-legal : (settings : Settings) → Legal side_by_side settings one_sent (misses ∷ sends ∷ [])
 missed-legal settings =
     let valid : All IsNote (sent ∷ []) = sent-valid in
-    let near : Near settings.format (is_due_to listener.db (codes "c" ∷ [])) one_sent 4 3 = none-left settings in
+    let near : Near settings.format (is_due_to listener.db (codes "c" ∷ [])) one_sent 4 4 = none-left settings in
     search rules
 
 pub received-shown : text side_by_side one_sent (receives ∷ sends ∷ []) ≡ received_text

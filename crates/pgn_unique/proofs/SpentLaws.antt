@@ -211,7 +211,7 @@ keeps-found value s P owed h = absurd h
 item-spends : (terms : Terms) (journal : List Tx) (s : State) (item : Item) → Allowed terms journal s item → Spends s item (after_item s item)
 item-spends terms journal s (Line n) h = line-spends s n s.rest refl (ap owed_notes h.answered) h.next
 item-spends terms journal s (Enlist base point) h =
-    let before : State = record s { mark = Some point; marks = s.marks ++ base ∷ [] ++ point ∷ [] } in
+    let before : State = record s { mark = Some point; told = max s.told point; marks = s.marks ++ base ∷ [] ++ point ∷ [] } in
     let k = keeps-enlist before s.owed h.expected in
     spends-none s (at_enlist before s.owed) (Enlist base point) (owed_notes s.owed) (record { rest = k.rest; changes = k.changes; named = k.named; owes = k.owes }) refl refl (omega arith)
 item-spends terms journal s (Publish xid notes) h =

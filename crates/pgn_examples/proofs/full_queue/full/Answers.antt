@@ -41,7 +41,8 @@ sender_lawful =
 
 -- the sender never listens
 sender_fresh : Along after_item (IsFreshAt sender_terms full_run_journal) (start full_sender) full_sender_trace.items
-sender_fresh = (λ e. tt, (tt, (λ e. tt, (tt, (tt, (λ e. tt, (tt, (tt, (λ e. tt, (tt, (tt, (λ e. tt, (tt, (tt, (λ e. tt, (tt, (λ e. tt, (tt, (λ e. tt, (tt, (tt, tt)))))))))))))))))))))
+sender_fresh =
+    (λ e. record { up_to_date = tt; read_first = λ r. tt }, (tt, (λ e. record { up_to_date = tt; read_first = λ r. tt }, (tt, (tt, (λ e. record { up_to_date = tt; read_first = λ r. tt }, (tt, (tt, (λ e. record { up_to_date = tt; read_first = λ r. tt }, (tt, (tt, (λ e. record { up_to_date = tt; read_first = λ r. tt }, (tt, (tt, (λ e. record { up_to_date = tt; read_first = λ r. tt }, (tt, (λ e. record { up_to_date = tt; read_first = λ r. tt }, (tt, (λ e. record { up_to_date = tt; read_first = λ r. tt }, (tt, (tt, tt)))))))))))))))))))))
 
 pub returns-clause-legal : goal.returns-clause-legal
 returns-clause-legal c = record {

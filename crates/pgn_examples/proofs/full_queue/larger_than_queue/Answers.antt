@@ -57,7 +57,8 @@ trace_lawful =
 trace_fresh : Along after_item (IsFreshAt terms larger_run_journal) (start larger_section) items
 trace_fresh =
     Along-append after_item (IsFreshAt terms larger_run_journal) (start larger_section) (take 9 items) (drop 9 items) (search rules)
-    (subst (λ (s : State). Along after_item (IsFreshAt terms larger_run_journal) s (drop 9 items)) (sym commit-state) (search rules))
+    (subst (λ (s : State). Along after_item (IsFreshAt terms larger_run_journal) s (drop 9 items)) (sym commit-state)
+    (tt, (tt, (λ idle. record { up_to_date = tt; read_first = λ reads. tt }, (tt, (tt, tt))))))
 
 -- the end of a trace in this state
 abbrev end_at : State → List End

@@ -28,7 +28,7 @@ x_valid = record {
 }
 
 pub returns-clause-lawful : goal.returns-clause-lawful
-returns-clause-lawful c = let valid : All IsNote (x_note ∷ []) = All-cons IsNote x_note [] x_valid (All-nil IsNote) in let near : Near One (is_due_to 7 (c_name ∷ [])) other_journal 4 3 = near-itself One (is_due_to 7 (c_name ∷ [])) other_journal 4 3 (omega arith) in search rules
+returns-clause-lawful c = let valid : All IsNote (x_note ∷ []) = All-cons IsNote x_note [] x_valid (All-nil IsNote) in let near : Near One (is_due_to 7 (c_name ∷ [])) other_journal 4 4 = near-itself One (is_due_to 7 (c_name ∷ [])) other_journal 4 4 (omega arith) in search rules
 
 pub returns-clause-a_trace_is_missing : goal.returns-clause-a_trace_is_missing
 returns-clause-a_trace_is_missing c = λ h. h.lawful.1
@@ -55,4 +55,4 @@ pub returns-clause-an_entry_is_not_finished : goal.returns-clause-an_entry_is_no
 returns-clause-an_entry_is_not_finished c = λ h. let e = (All-head IsFinished (two_sent (x_note ∷ []) 0 Committed) [] h.finished).queueing in absurd (omega (arith, e))
 
 pub returns-clause-a_read_is_left_out : goal.returns-clause-a_read_is_left_out
-returns-clause-a_read_is_left_out c = λ h. let e = (h.fresh.0.between_lines.1.1.1.1.1.1.0 refl).nothing_due in cc
+returns-clause-a_read_is_left_out c = λ h. let e = (h.fresh.0.between_lines.1.1.1.1.1.1.0 refl).up_to_date.nothing_due in cc
