@@ -6,6 +6,8 @@ pub mod WalkLaws
 pub mod PlaceLaws
 -- all that may be told
 pub mod ToldLaws
+-- what is told where all turns are answers
+pub mod MessageLaws
 -- the script
 pub mod ScriptLaws
 -- one query, with a read behind it or without

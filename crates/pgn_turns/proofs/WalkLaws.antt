@@ -20,7 +20,7 @@ use Rattle.pgn_turns.specs.Turns.{Turn, Answers, Hears, Leaves, IsPlain, IsRead,
 use Rattle.pgn_turns.specs.Laws.{TurnsWalk}
 
 -- items that begin no line leave those to come as they are
-rest-along : (rest : List ScriptLine) (s : State) (items : List Item) → list_any begins_line items ≡ false → fold after_item (with_rest rest s) items ≡ with_rest rest (fold after_item s items)
+pub rest-along : (rest : List ScriptLine) (s : State) (items : List Item) → list_any begins_line items ≡ false → fold after_item (with_rest rest s) items ≡ with_rest rest (fold after_item s items)
 rest-along rest s [] h = refl
 rest-along rest s (item ∷ items) h =
     let parts = first_false (begins_line item) (list_any begins_line items) h in

@@ -1,11 +1,12 @@
 -- How turns grow, and what they make of a trace.
 use Rattle.std.specs.Prelude.{◌≡◌, ℕ, ◌+◌, ◌≤◌, false, List, [], ◌∷◌, ◌++◌, length, Option, Some, None, All, flat_map, map}
+use Rattle.std.specs.List.{list_any}
 use Rattle.pgn_language.specs.declared.scenario.ScriptLine.{ScriptLine}
 use Rattle.pgn_language.specs.declared.scenario.Section.{Section}
 use Rattle.pgn_language.specs.Inputs.{Rise, QuitsLast}
 use Rattle.pgn_model.specs.declared.item.Item.{Item}
 use Rattle.pgn_model.specs.declared.item.Item.TheVariants.{Line}
-use Rattle.pgn_messages.specs.Messages.{answer_messages}
+use Rattle.pgn_messages.specs.Messages.{answer_messages, messages}
 use Rattle.pgn_messages.specs.Laws.{after, begins_line}
 use Rattle.pgn_turns.specs.declared.asked.Asked.{Asked}
 use Rattle.pgn_turns.specs.declared.asked.Ask.{Ask}
@@ -84,6 +85,17 @@ OneQueryIsTold = (query : Asked) (front reads : List Item) (last : Item) (signs 
 abbrev pub OneEndIsTold : Type 0
 OneEndIsTold = (parting : Parting) (line n : ℕ) (items : List Item) (signs : List (Option ℕ)) → MayBeTold (End line parting ∷ []) (Line n ∷ items) signs
     → (reads : List Item) × (signs ≡ map Some (farewell parting) ++ None ∷ map Some (flat_map heard reads))
+
+-- the turn answers a query
+abbrev pub IsAnswer : Turn → Type 0
+IsAnswer (Answers query more) = list_any begins_line more ≡ false
+IsAnswer (Hears reads) = ⊥
+IsAnswer (Leaves parting line rolled unlistened) = ⊥
+
+-- where all turns do, what is told are the messages of the section's trace
+abbrev pub AnswersAreMessages : Type 0
+AnswersAreMessages = (section : Section) (turns : List Turn) (rest : List ScriptLine) → section.lines ≡ lines_of turns ++ rest → All IsAnswer turns
+    → said turns ≡ map Some (messages section (items_of turns))
 
 -- the numbers of a script's lines rise, where what is asked is numbered and there are not too many lines; and its `\quit` is the last
 abbrev pub ScriptRises : Type 0

@@ -1,4 +1,4 @@
-ghost use Rattle.pgn_turns.specs.Laws.{OneEndIsTold, OneQueryIsTold, OthersAreAskedFor, ReadsAreHeard, SaidStays, ScriptRises, StandsBehindLine, TurnsGrow, TurnsWalk};
+ghost use Rattle.pgn_turns.specs.Laws.{AnswersAreMessages, OneEndIsTold, OneQueryIsTold, OthersAreAskedFor, ReadsAreHeard, SaidStays, ScriptRises, StandsBehindLine, TurnsGrow, TurnsWalk};
 
 /// How turns grow.
 pub fn growth()
@@ -26,6 +26,8 @@ pub fn telling()
     ensures one_query_is_told { OneQueryIsTold }
     // Of one end: why the server ends the conversation, if it does, and the end.
     ensures one_end_is_told { OneEndIsTold }
+    // Where each turn answers a query: the messages of the trace.
+    ensures answers_are_messages { AnswersAreMessages }
 {}
 
 /// The script of what is asked.

@@ -1,0 +1,10 @@
+-- bytes have one list of frames
+pub mod FrameLaws
+-- signs have one list of asks
+pub mod AskLaws
+-- the numbers of what is asked
+pub mod NumberLaws
+-- messages with more behind them
+pub mod MoreLaws
+-- the frames and the queries of the examples
+mod ExampleLaws

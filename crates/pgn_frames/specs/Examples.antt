@@ -1,0 +1,40 @@
+-- Frames, and what seats are asked by them.
+use Rattle.std.specs.Prelude.{ℕ, List, [], ◌∷◌, ◌++◌, Option, Some, None, codes, map}
+use Rattle.pgn_base.specs.declared.command.Command.TheVariants as command
+use Rattle.pgn_turns.specs.declared.asked.Asked.{Asked}
+use Rattle.pgn_turns.specs.declared.asked.Ask.{Ask}
+use Rattle.pgn_turns.specs.declared.asked.Ask.TheVariants.{Query, End}
+use Rattle.pgn_turns.specs.declared.asked.Parting.TheVariants.{Plain}
+use Rattle.pgn_queries.specs.Examples.{asks_listen}
+use Rattle.pgn_frames.specs.Frames.{Frame}
+
+-- two bytes of seat 1, the end of the client of seat 2, and one more byte of seat 1
+abbrev pub three_frames : List ℕ
+three_frames = 0 ∷ 1 ∷ 0 ∷ 2 ∷ 81 ∷ 0 ∷ 0 ∷ 2 ∷ 0 ∷ 0 ∷ 0 ∷ 1 ∷ 0 ∷ 1 ∷ 88 ∷ []
+
+abbrev pub frame_of : ℕ → List ℕ → Frame
+frame_of seat bytes = record { seat = seat; bytes = bytes }
+
+abbrev pub frames_of_three : List Frame
+frames_of_three = frame_of 1 (81 ∷ 0 ∷ []) ∷ frame_of 2 [] ∷ frame_of 1 (88 ∷ []) ∷ []
+
+-- a frame of seat 3, of seat 0, and of seat 1 with one byte less than it says
+abbrev pub of_seat_3 : List ℕ
+of_seat_3 = 0 ∷ 3 ∷ 0 ∷ 0 ∷ []
+
+abbrev pub of_seat_0 : List ℕ
+of_seat_0 = 0 ∷ 0 ∷ 0 ∷ 0 ∷ []
+
+abbrev pub cut_frame : List ℕ
+cut_frame = 0 ∷ 1 ∷ 0 ∷ 2 ∷ 81 ∷ []
+
+-- `LISTEN c`, as the line of this number
+abbrev pub listen_at : ℕ → Asked
+listen_at line = record { line = line; text = codes "LISTEN c"; command = command.Listen (codes "c") }
+
+-- a client asks `LISTEN c` and ends, and the next one asks it too
+abbrev pub two_clients : List (Option ℕ)
+two_clients = map Some asks_listen ++ None ∷ map Some asks_listen
+
+abbrev pub two_asks : List Ask
+two_asks = Query (listen_at 1) ∷ End 2 Plain ∷ Query (listen_at 4) ∷ []

@@ -1,0 +1,12 @@
+//! What comes in frames from the clients of all seats, and what each seat is asked.
+//!
+//! `FramesAre` in `specs/Frames` takes an input apart into frames, and `signs_of` gives what of them is a seat's, sign by sign: the bytes of
+//! its clients, and their ends. `SeatAsks` in `specs/Clients` says what a seat is asked by its signs. `laws` has that each input is taken
+//! apart in one way.
+#![tactic(auto)]
+
+pub mod examples;
+mod frame_fault;
+pub mod laws;
+
+pub use frame_fault::FrameFault;
