@@ -1,13 +1,12 @@
 -- What the lines of a drill say in all: the sections that they begin, the flags that they name and signal, and how many there are.
-use Rattle.std.proofs.Common.{◌≡◌, ℕ, zero, suc, ◌+◌, ◌*◌, ◌-◌, ◌/◌, ◌%◌, ◌<◌, ◌≤◌, ◌==◌, Bool, true, false, cond, List, [], ◌∷◌, ◌++◌, length, codes, decimal, filter_map, count_by, Option, None, Some, refl, sym, ap, subst, ◌∙◌, arith, append-nil, length-append}
+use Rattle.std.proofs.Common.{◌≡◌, ℕ, zero, suc, ◌+◌, ◌*◌, ◌-◌, ◌/◌, ◌%◌, ◌<◌, ◌≤◌, ◌==◌, Bool, true, false, cond, List, [], ◌∷◌, ◌++◌, length, codes, decimal, filter_map, count_by, Option, refl, ap, subst, ◌∙◌, arith, append-nil, length-append}
 use Rattle.std.specs.List.{cons_option}
 use Rattle.std.proofs.lemmas.Bool.{cond_both}
 use Rattle.std.proofs.lemmas.List.Elements.{filter_map-append}
 use Rattle.std.proofs.lemmas.List.Sums.{sum_by-append, sum_by-cons}
-use Rattle.pgn_base.specs.declared.command.Command.TheVariants as command
 use Rattle.pgn_language.specs.Lines.{Says, NoMeta, Quits, says}
 use Rattle.pgn_language.specs.Inputs.{all_say, named_flag, notifies, opened_name, section_names, signalled_flag}
-use Rattle.pgn_drill.specs.Drill.{await_line, block_lines, draw, next_state, note_lines, notify_line, opening_lines, sent_lines, session_lines, state_after, up_to}
+use Rattle.pgn_drill.specs.Drill.{await_line, block_lines, draw, note_lines, notify_line, opening_lines, sent_lines, session_lines, state_after, up_to}
 use Rattle.pgn_drill.proofs.LineLaws.{state_after-more}
 use Rattle.pgn_drill.proofs.SayLaws.{IsLine, await-line, begin-line, commit-line, gone-line, listen-line, note-line, rollback-line, savepoint-line, session-line, signal-line}
 

@@ -1,6 +1,5 @@
 -- Lines that are put at the end of a text, one after another.
-use Rattle.std.proofs.Common.{◌≡◌, ◌∙◌, ℕ, ◌+◌, ◌*◌, ◌-◌, ◌%◌, List, [], ◌∷◌, ◌++◌, refl, ap, sym, subst, append_assoc, append-nil, add-one, arith, suc}
-use Rattle.std.specs.Prelude.{flat_map}
+use Rattle.std.proofs.Common.{◌≡◌, ◌∙◌, ℕ, ◌+◌, ◌*◌, ◌-◌, List, [], ◌∷◌, ◌++◌, refl, ap, sym, subst, append_assoc, append-nil, add-one, arith}
 use Rattle.pgn_model.specs.Text.{joined}
 use Rattle.std.proofs.Math.Nat.{suc-mul}
 use Rattle.pgn_drill.specs.Drill.{AddsLines, next_state, opening_lines, sent_lines, session_lines, state_after, up_to}

@@ -1,5 +1,5 @@
 -- The text of a drill reads as a scenario.
-use Rattle.std.proofs.Common.{◌≡◌, ℕ, zero, suc, ◌+◌, ◌-◌, ◌*◌, ◌<◌, ◌≤◌, ◌==◌, ◌⊎◌, Bool, true, false, cond, not, ◌||◌, inl, inr, List, [], ◌∷◌, ◌++◌, length, codes, decimal, bytes_eq, filter_map, flat_map, fold, count_by, nat_lt, Option, None, Some, Ok, refl, sym, ap, subst, ◌∙◌, arith, append_assoc, length-append, true≢false}
+use Rattle.std.proofs.Common.{◌≡◌, ℕ, zero, suc, ◌+◌, ◌-◌, ◌*◌, ◌<◌, ◌≤◌, ◌==◌, Bool, true, false, cond, not, ◌||◌, inl, inr, List, [], ◌∷◌, ◌++◌, length, codes, decimal, bytes_eq, filter_map, fold, count_by, nat_lt, Option, None, Some, Ok, refl, sym, ap, subst, ◌∙◌, arith, append_assoc, length-append}
 use Rattle.std.specs.List.{cons_option, list_all, list_any, position_from}
 use Rattle.std.specs.Str.{is_utf8}
 use Rattle.std.specs.Str.Lossy.{utf8_valid_len}
@@ -12,20 +12,19 @@ use Rattle.std.proofs.lemmas.List.Sums.{fold-append, sum_by-append}
 use Rattle.std.proofs.lemmas.Slice.Eq.{bytes_eq-Decides}
 use Rattle.pgn_base.specs.declared.limits.TheConstants.{FLAGS_MAX, INPUT_BYTES_MAX, LINE_BYTES_MAX, NOTE_LINES_MAX, SECTIONS_MAX}
 use Rattle.pgn_base.specs.Names.{has_name}
-use Rattle.pgn_base.specs.declared.command.Command.{Command}
 use Rattle.pgn_language.specs.declared.scenario.Scenario.{Scenario}
 use Rattle.pgn_language.specs.declared.scenario.ScenarioFault.{ScenarioFault}
 use Rattle.pgn_language.specs.declared.scenario.ScenarioFault.TheVariants as fault
 use Rattle.pgn_language.specs.Lines.{Says, SaysNothing, Opens, Runs, Signals, Awaits, Quits, NoMeta, lines_of, says}
-use Rattle.pgn_language.specs.Inputs.{Faultless, HaveNoFault, ReadsAsScenario, all_say, are_too_many, fault_of, fault_said, flags_of, has_quit, has_section, is_bad_meta, is_opening, is_quit, is_unsignalled, lacks_session, line_number, line_start, named_flag, notifies, opened_name, repeats_name, scenario_of, section_names, signalled_flag, unsignalled, with_name}
+use Rattle.pgn_language.specs.Inputs.{Faultless, HaveNoFault, ReadsAsScenario, all_say, are_too_many, fault_of, fault_said, flags_of, has_quit, has_section, is_bad_meta, is_opening, is_quit, is_unsignalled, lacks_session, line_number, line_start, named_flag, notifies, opened_name, repeats_name, scenario_of, section_names, unsignalled, with_name}
 use Rattle.pgn_language.specs.laws.Inputs.{lacks}
 use Rattle.pgn_language.proofs.LineLaws.{lines-cut}
 use Rattle.pgn_model.specs.Text.{joined}
 use Rattle.pgn_drill.specs.Drill.{drill, session_lines, up_to}
 use Rattle.pgn_drill.specs.Laws.{DrillReads}
 use Rattle.pgn_drill.proofs.DigitLaws.{printed-lacks, printed-utf8}
-use Rattle.pgn_drill.proofs.SayLaws.{IsLine, last-of, session-line}
-use Rattle.pgn_drill.proofs.GistLaws.{AreFair, Gist, IsFair, drill-gist, flag_at, flags_in, flags_to, is_kept, name_at, names_to, say-append}
+use Rattle.pgn_drill.proofs.SayLaws.{last-of, session-line}
+use Rattle.pgn_drill.proofs.GistLaws.{AreFair, IsFair, drill-gist, flag_at, flags_in, flags_to, is_kept, name_at, names_to, say-append}
 
 -- Names: no two sessions have one.
 
@@ -387,9 +386,10 @@ drill-sound seed sessions notes some few noted =
 lines-read : (text : List ℕ) (lines : List (List ℕ)) → lines_of text ≡ lines → length text ≤ INPUT_BYTES_MAX → AreSound lines → unsignalled (all_say lines) ≡ None
     → (scenario : Scenario) × ReadsAsScenario text (Ok scenario)
 lines-read text lines cut within sound signalled =
-    let there : has_section (all_say lines) ≡ true = has-section lines sound.first in
-    (scenario_of (lines_of text),
-    Faultless within (subst HaveNoFault (sym cut) (sound-none lines sound)) (ap (λ (l : List (List ℕ)). has_section (all_say l)) cut ∙ there) (ap (λ (l : List (List ℕ)). unsignalled (all_say l)) cut ∙ signalled))
+    let there : has_section (all_say lines) ≡ true = has-section lines sound.first in (
+      scenario_of (lines_of text),
+      Faultless within (subst HaveNoFault (sym cut) (sound-none lines sound)) (ap (λ (l : List (List ℕ)). has_section (all_say l)) cut ∙ there) (ap (λ (l : List (List ℕ)). unsignalled (all_say l)) cut ∙ signalled),
+    )
 
 pub drill-reads : DrillReads
 drill-reads seed sessions notes some few noted =

@@ -1,5 +1,5 @@
 -- The five lines of a drill, written one after another.
-use Rattle.std.proofs.Common.{◌≡◌, ◌∙◌, ℕ, ◌<◌, ◌≤◌, List, [], ◌∷◌, ◌++◌, Option, Some, None, Result, length, not, refl, sym, subst, append_assoc, append-nil, arith, codes}
+use Rattle.std.proofs.Common.{◌≡◌, ℕ, ◌<◌, ◌≤◌, List, [], ◌++◌, Option, Some, None, Result, length, not, subst, append_assoc, append-nil, arith, codes}
 use Rattle.std.specs.Prelude.{MatchOption, count_by, decimal, unwrap_or}
 use Rattle.std.specs.Io.KnownBytes.{Appends}
 use Rattle.pgn_base.specs.Outside.{AppendsPrefix, Writes}

@@ -1,5 +1,5 @@
 -- Command lines, and what they ask for.
-use Rattle.std.specs.Prelude.{ℕ, true, false, List, [], ◌∷◌, Option, None, Some, codes}
+use Rattle.std.specs.Prelude.{ℕ, true, false, List, [], ◌∷◌, ◌++◌, Option, None, Some, codes}
 use Rattle.pgn_base.specs.declared.format.Format.TheVariants.{One, Two}
 use Rattle.pgn_options.specs.declared.asked.Asked.{Asked}
 use Rattle.pgn_options.specs.declared.asked.Asked.TheVariants.{Run, Drill, Check}
@@ -174,3 +174,21 @@ wrong_words =
 -- the scenario of the least drill
 abbrev pub least_drill : List ℕ
 least_drill = codes "\\session d1 1\nLISTEN c1\nBEGIN\n\\signal up1\n\\await up1\nCOMMIT\nBEGIN\nSAVEPOINT s\nNOTIFY gone\nROLLBACK TO s\nNOTIFY c1, '167951807'\nCOMMIT\n"
+
+-- the sections of the drill 7 4 2: the first sends an even number and then an odd one
+abbrev pub first_of_four : List ℕ
+first_of_four = codes "\\session d1 1\nLISTEN c1\nBEGIN\n\\signal up1\n\\await up1\n\\await up2\n\\await up3\n\\await up4\nCOMMIT\nNOTIFY c1, '1059165278'\nBEGIN\nSAVEPOINT s\nNOTIFY gone\nROLLBACK TO s\nNOTIFY c2, '2052263231'\nCOMMIT\n"
+
+-- the second sends two odd ones
+abbrev pub second_of_four : List ℕ
+second_of_four = codes "\\session d2 1\nLISTEN c2\nBEGIN\n\\signal up2\n\\await up1\n\\await up2\n\\await up3\n\\await up4\nCOMMIT\nBEGIN\nSAVEPOINT s\nNOTIFY gone\nROLLBACK TO s\nNOTIFY c1, '1946856753'\nCOMMIT\nBEGIN\nSAVEPOINT s\nNOTIFY gone\nROLLBACK TO s\nNOTIFY c2, '585718673'\nCOMMIT\n"
+
+-- and the last two
+abbrev pub last_of_four : List ℕ
+last_of_four =
+    codes "\\session d3 1\nLISTEN c3\nBEGIN\n\\signal up3\n\\await up1\n\\await up2\n\\await up3\n\\await up4\nCOMMIT\nBEGIN\nSAVEPOINT s\nNOTIFY gone\nROLLBACK TO s\nNOTIFY c1, '572045545'\nCOMMIT\nBEGIN\nSAVEPOINT s\nNOTIFY gone\nROLLBACK TO s\nNOTIFY c2, '297257219'\nCOMMIT\n"
+    ++ codes "\\session d4 1\nLISTEN c0\nBEGIN\n\\signal up4\n\\await up1\n\\await up2\n\\await up3\n\\await up4\nCOMMIT\nNOTIFY c1, '865189864'\nNOTIFY c2, '691615764'\n"
+
+-- the second, were it to draw the numbers of the first once more
+abbrev pub drawn_anew : List ℕ
+drawn_anew = codes "\\session d2 1\nLISTEN c2\nBEGIN\n\\signal up2\n\\await up1\n\\await up2\n\\await up3\n\\await up4\nCOMMIT\nNOTIFY c1, '1059165278'\nBEGIN\nSAVEPOINT s\nNOTIFY gone\nROLLBACK TO s\nNOTIFY c2, '2052263231'\nCOMMIT\n"

@@ -1,9 +1,9 @@
-ghost use Rattle.std.specs.Prelude.{◌≡◌, true, map, not, is_some, Some};
+ghost use Rattle.std.specs.Prelude.{◌≡◌, ◌++◌, true, map, not, is_some, Some};
 ghost use Rattle.std.specs.List.{list_all};
 ghost use Rattle.pgn_options.specs.declared.asked.Asked.TheVariants.{Wire};
 ghost use Rattle.pgn_options.specs.Words.{asked_by};
 ghost use Rattle.pgn_drill.specs.Drill.{drill};
-ghost use Rattle.pgn_examples.specs.CommandLines.{checks, limits_of_checks, runs_with_limits, limits_of_runs, drills, numbers_of_drills, wrong_numbers, wrong_words, least_drill, wires};
+ghost use Rattle.pgn_examples.specs.CommandLines.{checks, limits_of_checks, runs_with_limits, limits_of_runs, drills, numbers_of_drills, wrong_numbers, wrong_words, least_drill, first_of_four, second_of_four, last_of_four, drawn_anew, wires};
 
 /// Words that are a command, and what they ask for.
 pub fn commands()
@@ -19,7 +19,13 @@ pub fn no_commands()
     ensures words { list_all (λ words. not (is_some (asked_by words))) wrong_words ≡ true }
 {}
 
-/// The scenario of a drill.
+/// The scenario of the least drill.
 pub fn drill_of_one()
     ensures { drill 0 1 1 ≡ least_drill }
+{}
+
+/// The scenario of a drill of four sessions, each of which draws on where the one before it stopped.
+pub fn drill_of_four()
+    ensures whole { drill 7 4 2 ≡ first_of_four ++ second_of_four ++ last_of_four }
+    ensures drawn_once { drill 7 4 2 ≡ first_of_four ++ drawn_anew ++ last_of_four → ⊥ }
 {}
