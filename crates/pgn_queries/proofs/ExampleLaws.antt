@@ -51,7 +51,7 @@ comes at head text rest four value short sound =
     (client.QueryIs.HasBody (head ++ (body_of text ++ rest)) head (body_of text ++ rest) Query text rest (5 + length text) (1 + length text) refl (record { four = four; value = value })
     (record { least = omega arith; most = omega arith }) (omega arith) (client.BodyIs.Whole (body_of text ++ rest) text rest refl (omega arith) sound))
 
-few : (place : Place) → place.queries ≤ QUERIES_MAX → place.notes ≤ place.most → AreTooMany place → ⊥
+pub few : (place : Place) → place.queries ≤ QUERIES_MAX → place.notes ≤ place.most → AreTooMany place → ⊥
 few place counted noted (inl many) = absurd (omega arith)
 few place counted noted (inr many) = absurd (omega arith)
 

@@ -9,4 +9,4 @@ pub mod EachLaws
 -- readings of bytes that are known
 mod ExampleLaws
 -- what the bytes of the examples read as
-mod ExampleReadings
+pub mod ExampleReadings
