@@ -1,5 +1,5 @@
 -- What the bytes of the examples read as.
-use Rattle.std.proofs.Common.{◌≡◌, ◌+◌, [], ◌∷◌, ◌++◌, None, Option, Some, List, refl, arith, ℕ, ◌<◌, ◌≤◌, length, sym, append-nil, inr}
+use Rattle.std.proofs.Common.{◌≡◌, ◌+◌, [], ◌∷◌, ◌++◌, None, Option, Some, List, refl, arith, ℕ, ◌<◌, ◌≤◌, length, sym, append-nil, inl, inr}
 use Rattle.std.specs.Prelude.{codes}
 use lib.Utf8.{encode}
 use Rattle.std.specs.Str.{is_utf8, chars}
@@ -13,7 +13,7 @@ use Rattle.pgn_queries.specs.declared.coming.Coming.TheVariants.{End, Fault}
 use Rattle.pgn_queries.specs.Client as client
 use Rattle.pgn_queries.specs.Queries as are
 use Rattle.pgn_queries.specs.Queries.{Place, QueriesAre, first_place, queries}
-use Rattle.pgn_queries.specs.Examples.{asks_lf, asks_listen, asks_no_utf8, asks_nothing, asks_notify, asks_two_ends, asks_unended, listen_line, notify_first, notify_line, query_line, terminates}
+use Rattle.pgn_queries.specs.Examples.{asks_lf, asks_listen, asks_no_utf8, asks_nothing, asks_notify, asks_two_ends, asks_unended, listen_line, notify_first, notify_line, place_after, query_line, terminates}
 use Rattle.std.proofs.lemmas.Bool.{both_ways}
 use Rattle.std.proofs.lemmas.Str.{is_utf8-from_IsUtf8}
 use Rattle.pgn_queries.proofs.ExampleLaws.{one_line, one_more, several_lines, bad_body}
@@ -62,6 +62,9 @@ two_queries = listens (asks_notify ++ terminates) (notify_line ∷ []) None (not
 pub ended_by_the_source : queries NOTE_LINES_MAX (asks_listen ++ asks_notify) (listen_line ∷ notify_line ∷ []) None
 ended_by_the_source = listens asks_notify (notify_line ∷ []) None (notifies [] [] None (ended (place_at 33 2 1)))
 
+pub one_query : queries NOTE_LINES_MAX asks_listen (listen_line ∷ []) None
+one_query = listens [] [] None (ended (place_at 14 1 0))
+
 pub behind_a_terminate : queries NOTE_LINES_MAX (terminates ++ asks_listen) [] None
 behind_a_terminate = terminated (first_place NOTE_LINES_MAX) asks_listen
 
@@ -92,6 +95,15 @@ two = notifies_by 2 0 0 0 asks_notify (notify_line ∷ []) None (omega arith) (o
 
 pub none : queries 0 asks_notify [] (Some (TooMany 0))
 none = exceeds_by 0 0 0 0 [] (omega arith)
+
+-- the greatest number of queries
+pub greatest : QueriesAre (place_after 4294967293 0 0) asks_nothing (query_line 4294967294 [] command.Empty ∷ []) None
+unfolding table cut is_utf8 chars encode
+greatest = one_line (place_after 4294967293 0 0) (0 ∷ 0 ∷ 0 ∷ 5 ∷ []) [] [] command.Empty [] None refl refl (omega arith) refl refl refl refl (omega arith) (omega arith) (ended (limited_at 0 6 4294967294 0))
+
+pub one_query_more : QueriesAre (place_after 4294967294 0 0) asks_nothing [] (Some (TooMany 0))
+unfolding table cut is_utf8 chars encode
+one_query_more = one_more (place_after 4294967294 0 0) (0 ∷ 0 ∷ 0 ∷ 5 ∷ []) [] [] command.Empty refl refl (omega arith) refl refl refl refl (inl (omega arith))
 
 -- faults
 bad_type : (place : Place) → QueriesAre place (80 ∷ []) [] (Some (BadType place.at))

@@ -5,6 +5,7 @@ use Rattle.pgn_base.specs.declared.command.Command.TheVariants as command
 use Rattle.pgn_language.specs.declared.scenario.Act.TheVariants.{Run, Quit}
 use Rattle.pgn_language.specs.declared.scenario.ScriptLine.{ScriptLine}
 use Rattle.pgn_language.specs.declared.scenario.Section.{Section}
+use Rattle.pgn_queries.specs.Queries.{Place}
 
 -- a Query `LISTEN c`, and one `NOTIFY c, 'x'`
 abbrev pub asks_listen : List ℕ
@@ -58,3 +59,7 @@ asks_section = record {
   lines = listen_line ∷ notify_line ∷ record { line = 4294967295; text = codes "\\quit"; act = Quit } ∷ [];
   note_lines = 1;
 }
+
+-- a reader after so many queries, of which so many notified, where so many may
+abbrev pub place_after : ℕ → ℕ → ℕ → Place
+place_after counted noted most = record { at = 0; queries = counted; notes = noted; most = most }

@@ -4,9 +4,9 @@ ghost use Rattle.pgn_base.specs.declared.command.Command.TheVariants as command;
 ghost use Rattle.pgn_language.specs.declared.scenario.ScriptLine.{ScriptLine};
 ghost use Rattle.pgn_queries.specs.declared.wire_fault.WireFault.{WireFault};
 ghost use Rattle.pgn_queries.specs.declared.wire_fault.WireFault.TheVariants.{BadLength, BadText, BadType, TooMany, Truncated};
-ghost use Rattle.pgn_queries.specs.Queries.{queries};
+ghost use Rattle.pgn_queries.specs.Queries.{AreTooMany, QueriesAre, queries};
 ghost use Rattle.pgn_queries.specs.Script.{wire_scenario};
-ghost use Rattle.pgn_queries.specs.Examples.{asks_lf, asks_listen, asks_no_utf8, asks_nothing, asks_notify, asks_two_ends, asks_unended, asks_section, listen_line, notify_first, notify_line, query_line, terminates};
+ghost use Rattle.pgn_queries.specs.Examples.{asks_lf, asks_listen, asks_no_utf8, asks_nothing, asks_notify, asks_two_ends, asks_unended, asks_section, listen_line, notify_first, notify_line, place_after, query_line, terminates};
 
 /// Conversations, and what they read as.
 pub fn conversations()
@@ -50,6 +50,18 @@ pub fn limits()
     // One too many is not let through, nor the last that may be asked refused.
     ensures one_too_many { queries 1 (asks_notify ++ asks_notify) (notify_first ∷ notify_line ∷ []) None → ⊥ }
     ensures one_too_few { (lines : List ScriptLine) → queries 2 (asks_notify ++ asks_notify) lines (Some (TooMany 19)) → ⊥ }
+{}
+
+/// Places with which there are too many queries, or too many that notify, and places with which there are not.
+pub fn too_many()
+    ensures notes { AreTooMany (place_after 2 2 1) }
+    ensures notes_within { AreTooMany (place_after 2 1 1) → ⊥ }
+    ensures queries { AreTooMany (place_after 4294967295 0 1) }
+    ensures queries_within { AreTooMany (place_after 4294967294 1 1) → ⊥ }
+    // The query that is one too many is at fault though it does not notify, and the one before it is not.
+    ensures greatest { QueriesAre (place_after 4294967293 0 0) asks_nothing (query_line 4294967294 [] command.Empty ∷ []) None }
+    ensures one_query_more { QueriesAre (place_after 4294967294 0 0) asks_nothing [] (Some (TooMany 0)) }
+    ensures let_through { (lines : List ScriptLine) → QueriesAre (place_after 4294967294 0 0) asks_nothing lines None → ⊥ }
 {}
 
 /// Readings that these bytes have not.

@@ -1,18 +1,18 @@
 -- A run given back from what is seen of it, and two outputs with a line to blame.
-use Rattle.std.proofs.Common.{◌≡◌, false, inl, List, [], ◌∷◌, get_or, None, codes, refl, ap, arith, rules}
+use Rattle.std.proofs.Common.{◌≡◌, false, inl, List, [], ◌∷◌, ◌++◌, get_or, None, codes, refl, ap, arith, rules}
 use Rattle.std.specs.Fmt.{digits}
 use Rattle.std.specs.List.{list_any}
 use Rattle.pgn_base.specs.declared.note.Note.{Note}
 use Rattle.pgn_base.specs.declared.answers.Tag.TheVariants as tag
 use Rattle.pgn_journal.specs.Journal.{entries_between}
 use Rattle.pgn_journal.specs.Due.{is_due_to}
-use Rattle.pgn_model.specs.declared.item.Item.TheVariants.{Publish, Reply}
+use Rattle.pgn_model.specs.declared.item.Item.TheVariants.{Line, Publish, Reply}
 use Rattle.pgn_model.specs.Walk.{start, Allowed}
 use Rattle.pgn_model.specs.Trace.{IsLawful, IsUpToDate}
 use Rattle.pgn_model.specs.Text.{text}
 use Rattle.pgn_reading.specs.Completed.{ready, whole, walked, completed}
-use Rattle.pgn_reading.specs.Blame.{Comes, Refused, LeftOutLast}
-use Rattle.pgn_reading.specs.Examples.{self, self_notify, sent, note, receives, run_seen, run_unread, run_text, changed_text, unread_text, codes_x, codes_y, terms, before_commit, ItsCommitIsRefused, ItsReadIsMissing}
+use Rattle.pgn_reading.specs.Blame.{Comes, Refused, LeftOut, LeftOutLast}
+use Rattle.pgn_reading.specs.Examples.{self, self_notify, sent, note, receives, run_seen, run_unread, run_text, changed_text, unread_text, codes_x, codes_y, terms, before_commit, notifies, self_on, terms_on, ItsCommitIsRefused, ItsReadIsLeftOut, ItsReadIsMissing, MayBegin}
 
 pub run-shown : text self_notify (sent codes_x) (run_seen ∷ []) ≡ run_text
 unfolding digits
@@ -52,3 +52,18 @@ read-is_missing =
     let late : IsUpToDate terms (sent codes_x) (walked (start self) run_unread.items) → ⊥ =
     λ h. let due : list_any (is_due_to 1 (codes "c" ∷ [])) (entries_between (sent codes_x) 3 4) ≡ false = h.nothing_due in let none : ⊥ = cc in none in
     LeftOutLast (walked (start self) run_unread.items) comes-to_unread_end (inl refl) late
+
+-- the same before a third line
+pub third-is_late : MayBegin (notifies []) → ⊥
+third-is_late h = let due : list_any (is_due_to 1 (codes "c" ∷ [])) (entries_between (sent codes_x) 3 4) ≡ false = (h refl).nothing_due in let none : ⊥ = cc in none
+
+late-lawful : IsLawful terms_on (sent codes_x) (completed (start self_on) (notifies []))
+late-lawful = search rules
+
+pub read-is_left_out : ItsReadIsLeftOut
+unfolding digits
+read-is_left_out =
+    LeftOut (notifies []) (Reply tag.Begin None ∷ []) (Line 4) (walked (start self_on) (notifies [])) refl (record { lawful = late-lawful; state = refl }) third-is_late
+
+pub third-may_begin : MayBegin (notifies [] ++ receives)
+third-may_begin = search rules

@@ -11,7 +11,9 @@ use Rattle.pgn_language.specs.declared.scenario.Scenario.{Scenario}
 use Rattle.pgn_model.specs.declared.item.Item.{Item}
 use Rattle.pgn_model.specs.declared.item.Item.TheVariants.{Line, Enlist, Publish, Reply, Read}
 use Rattle.pgn_model.specs.declared.trace.Trace.{Trace}
-use Rattle.pgn_model.specs.Walk.{Terms, default_settings}
+use Rattle.pgn_model.specs.Walk.{Terms, default_settings, start}
+use Rattle.pgn_model.specs.Trace.{IsFreshAt}
+use Rattle.pgn_reading.specs.Completed.{ready, walked}
 use Rattle.pgn_reading.specs.Blame.{BlamesTrace}
 
 -- the notification with this payload on the channel `c`
@@ -99,6 +101,25 @@ terms = record { section = self; settings = default_settings }
 -- the items before the commit
 abbrev pub before_commit : List Item
 before_commit = Line 2 ∷ Enlist 3 3 ∷ Reply tag.Listen None ∷ Line 3 ∷ []
+
+-- the same session with a third line, `BEGIN`
+abbrev pub self_on : Section
+self_on = record self { lines = self.lines ++ record { line = 4; text = codes "BEGIN"; act = Run command.Begin } ∷ [] }
+
+abbrev pub terms_on : Terms
+terms_on = record { section = self_on; settings = default_settings }
+
+-- its trace, of which the read before the third line is left out
+abbrev pub run_late : Trace
+run_late = trace_of (notifies [] ++ Line 4 ∷ Reply tag.Begin None ∷ [])
+
+-- the last line before the third script line, the tenth, is to blame
+abbrev pub ItsReadIsLeftOut : Type 0
+ItsReadIsLeftOut = BlamesTrace terms_on (sent codes_x) (self_on ∷ []) (run_late ∷ []) 4 run_late 10
+
+-- after these items the third line may begin: no read is left out before it
+abbrev pub MayBegin : List Item → Type 0
+MayBegin items = IsFreshAt terms_on (sent codes_x) (ready (walked (start self_on) items)) (Line 4)
 
 -- where the journal has another payload the line of the commit, the ninth, is to blame
 abbrev pub ItsCommitIsRefused : Type 0

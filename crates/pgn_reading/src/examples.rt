@@ -1,11 +1,11 @@
-ghost use Rattle.std.specs.Prelude.{◌≡◌, [], ◌∷◌};
+ghost use Rattle.std.specs.Prelude.{◌≡◌, [], ◌∷◌, ◌++◌};
 ghost use Rattle.pgn_model.specs.Text.{text};
 ghost use Rattle.pgn_reading.specs.Completed.{seen};
 ghost use Rattle.pgn_reading.specs.WalkLaws.{completed_trace};
 ghost use Rattle.pgn_model.specs.Walk.{default_settings};
 ghost use Rattle.pgn_reading.specs.Form.{BreaksForm};
 ghost use Rattle.pgn_reading.specs.Blame.{IsLegalText, IsLeastBlamed};
-ghost use Rattle.pgn_reading.specs.Examples.{self, self_notify, sent, run, run_seen, run_unread, run_text, changed_text, unread_text, one_line_text, zero_text, unended_text, codes_x, codes_y, ItsCommitIsRefused, ItsReadIsMissing};
+ghost use Rattle.pgn_reading.specs.Examples.{self, self_notify, sent, run, run_seen, run_unread, run_text, changed_text, unread_text, one_line_text, zero_text, unended_text, codes_x, codes_y, notifies, receives, ItsCommitIsRefused, ItsReadIsLeftOut, ItsReadIsMissing, MayBegin};
 
 /// What is seen of a run's trace, and the run given back.
 pub fn given_back()
@@ -20,6 +20,13 @@ pub fn changed()
     ensures payload_refused { ItsCommitIsRefused }
     ensures unread_shown { text self_notify (sent codes_x) (run_unread ∷ []) ≡ unread_text }
     ensures unread { ItsReadIsMissing }
+{}
+
+/// A read that was left out before a line, and one that was not.
+pub fn left_out()
+    ensures blamed { ItsReadIsLeftOut }
+    ensures unread { MayBegin (notifies []) → ⊥ }
+    ensures read { MayBegin (notifies [] ++ receives) }
 {}
 
 /// The output of the run is that of a legal run, and texts that are no outputs.

@@ -1,2 +1,4 @@
 -- what holds of a session that serves a client
 pub mod Serving
+-- an answer, for examples
+pub mod Examples

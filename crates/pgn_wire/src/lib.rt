@@ -9,6 +9,7 @@
 #![tactic(auto)]
 
 mod answering;
+pub mod examples;
 mod quitting;
 mod serving;
 mod taking;

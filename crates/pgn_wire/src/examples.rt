@@ -1,0 +1,28 @@
+//! What stands written of an answer, how far a listener has read, and which queries a script has; beside each what is refused.
+ghost use Rattle.std.specs.Prelude.{[], ◌∷◌, ◌++◌, None};
+ghost use Rattle.pgn_hub.specs.Examples.{listening};
+ghost use Rattle.pgn_queries.specs.Examples.{asks_listen, asks_notify, listen_line, notify_line};
+ghost use Rattle.pgn_messages.specs.Examples.{conversation, quits};
+ghost use Rattle.pgn_wire.specs.Serving.{AreWhole, AsksAll, HasAsked, IsReadUp};
+ghost use Rattle.pgn_wire.specs.Examples.{half_answer, listens, whole_answer};
+
+/// Of an answer all stands written or nothing.
+pub fn answers()
+    ensures whole { AreWhole (conversation (listen_line ∷ [])) listens whole_answer }
+    ensures nothing { AreWhole (conversation (listen_line ∷ [])) listens [] }
+    ensures half { AreWhole (conversation (listen_line ∷ [])) listens half_answer → ⊥ }
+{}
+
+/// A listener has read up to what it was told of, or has not.
+pub fn read_up()
+    ensures met { IsReadUp listening }
+    ensures told_of_more { IsReadUp (record listening { told = 4 }) → ⊥ }
+{}
+
+/// A script has all queries of a client, or the first of them.
+pub fn asked()
+    ensures all { AsksAll (asks_listen ++ asks_notify) None quits (conversation (listen_line ∷ notify_line ∷ [])) }
+    ensures one_left_out { AsksAll (asks_listen ++ asks_notify) None quits (conversation (listen_line ∷ [])) → ⊥ }
+    ensures first { HasAsked (asks_listen ++ asks_notify) quits (conversation (listen_line ∷ [])) }
+    ensures never_asked { HasAsked asks_listen quits (conversation (listen_line ∷ notify_line ∷ [])) → ⊥ }
+{}
