@@ -55,7 +55,7 @@ read-is_missing =
 
 -- the same before a third line
 pub third-is_late : MayBegin (notifies []) → ⊥
-third-is_late h = let due : list_any (is_due_to 1 (codes "c" ∷ [])) (entries_between (sent codes_x) 3 4) ≡ false = (h refl).nothing_due in let none : ⊥ = cc in none
+third-is_late h = let due : list_any (is_due_to 1 (codes "c" ∷ [])) (entries_between (sent codes_x) 3 4) ≡ false = (h refl).up_to_date.nothing_due in let none : ⊥ = cc in none
 
 late-lawful : IsLawful terms_on (sent codes_x) (completed (start self_on) (notifies []))
 late-lawful = search rules
