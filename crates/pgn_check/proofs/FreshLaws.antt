@@ -107,8 +107,7 @@ first_none section journal at b test off s h = (λ _. λ next. absurd (false≢t
 
 pub first_by : (section : Section) (journal : List Tx) (at : Standing) (b d : Bool) → b ≡ next_reads_first (drop at.next section.lines) → b ≡ true → (d ≡ true) ↔ IsReadUp at.mark at.told → Asks section journal at d HasReadFirst
 first_by section journal at b d test on up s h =
-    let next : next_reads_first s.rest ≡ true = ap next_reads_first h.rest ∙ sym test ∙ on in
-    (
+    let next : next_reads_first s.rest ≡ true = ap next_reads_first h.rest ∙ sym test ∙ on in (
       λ t. λ _. subst (λ (told : ℕ). IsReadUp s.mark told) (sym h.told) (subst (λ (m : Option ℕ). IsReadUp m at.told) (sym h.mark) (up.0 t)),
       λ f. up.1 (subst (λ (m : Option ℕ). IsReadUp m at.told) h.mark (subst (λ (told : ℕ). IsReadUp s.mark told) h.told (f next))),
     )

@@ -270,7 +270,7 @@ found value s owed h = h
 -- after an item
 after : (s : State) (item : Item) → HasOneLines s → HasOneLines (after_item s item)
 after s (Line n) h = at-this_line s s.rest h h.rest
-after s (Enlist base point) h = enlisted (record s { mark = Some point; marks = s.marks ++ base ∷ [] ++ point ∷ [] }) s.owed (record { rest = h.rest; changes = h.changes; set = h.set; owed = h.owed }) h.owed
+after s (Enlist base point) h = enlisted (record s { mark = Some point; told = max s.told point; marks = s.marks ++ base ∷ [] ++ point ∷ [] }) s.owed (record { rest = h.rest; changes = h.changes; set = h.set; owed = h.owed }) h.owed
 after s (Publish xid notes) h = published (record s { told = max s.told (xid + 1) }) s.owed (record { rest = h.rest; changes = h.changes; set = h.set; owed = h.owed }) h.owed
 after s (QueueFull full notes) h =
     was-full (record s { told = max s.told (full.xid + 1); named = s.named ++ holder_at full.holder full.floor_mark }) s.owed (record { rest = h.rest; changes = h.changes; set = h.set; owed = h.owed }) h.owed
