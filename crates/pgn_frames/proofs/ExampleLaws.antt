@@ -1,5 +1,5 @@
 -- The frames and the queries of the examples.
-use Rattle.std.proofs.Common.{◌≡◌, ℕ, ◌==◌, ◌+◌, ◌≤◌, true, false, List, [], ◌∷◌, ◌++◌, length, Option, Some, None, subst, refl, arith}
+use Rattle.std.proofs.Common.{◌≡◌, ℕ, ◌==◌, ◌+◌, ◌≤◌, true, false, List, [], ◌∷◌, ◌++◌, length, Option, Some, None, subst, refl, arith, inr}
 use Rattle.std.specs.Prelude.{codes, map}
 use Rattle.std.specs.Str.{is_utf8, chars}
 use Rattle.std.specs.Int.{w32, from_be_bytes}
@@ -14,15 +14,15 @@ use Rattle.pgn_language.specs.Grammar.{cut, reading, table}
 use Rattle.pgn_language.proofs.GrammarLaws.{reading-reads}
 use Rattle.pgn_queries.specs.declared.limits.TheConstants.{QUERIES_MAX}
 use Rattle.pgn_queries.specs.declared.wire_fault.WireFault.{WireFault}
-use Rattle.pgn_queries.specs.declared.wire_fault.WireFault.TheVariants.{BadText, Truncated}
+use Rattle.pgn_queries.specs.declared.wire_fault.WireFault.TheVariants.{BadText, TooMany, Truncated}
 use Rattle.pgn_queries.specs.declared.coming.Coming.TheVariants.{Fault}
 use Rattle.pgn_queries.specs.Client as client
 use Rattle.pgn_queries.specs.Client.{body_of}
 use Rattle.pgn_queries.specs.Queries as queries
 use Rattle.pgn_queries.specs.Queries.{IsLineOf, Place, QueriesAre, after_query, first_place}
-use Rattle.pgn_queries.specs.Examples.{asks_listen, asks_two_ends, query_line, terminates}
+use Rattle.pgn_queries.specs.Examples.{asks_listen, asks_notify, asks_two_ends, query_line, terminates}
 use Rattle.pgn_queries.proofs.ExampleLaws.{comes, few, has, is_text, lacks}
-use Rattle.pgn_queries.proofs.ExampleReadings.{place_at, two_zero_bytes}
+use Rattle.pgn_queries.proofs.ExampleReadings.{limited_at, place_at, two_zero_bytes}
 use Rattle.pgn_turns.specs.declared.asked.Ask.TheVariants.{End, Query}
 use Rattle.pgn_turns.specs.declared.asked.Parting.TheVariants.{Plain, Refused}
 use Rattle.pgn_frames.specs.declared.frame_fault.FrameFault.{FrameFault}
@@ -82,6 +82,26 @@ unfolding table cut is_utf8 chars encode
 listens before fits =
     asks_line (place_at 0 before 0) (0 ∷ 0 ∷ 0 ∷ 13 ∷ []) (codes "LISTEN c") [] (command.Listen (codes "c")) [] Open refl refl (omega arith) refl refl refl refl fits (omega arith)
     (clients.ClientAsks.Stops (place_at 14 (before + 1) 0) [] refl)
+
+-- the line of `NOTIFY c, 'x'`
+abbrev pub notify_line : ℕ → ScriptLine
+notify_line number = query_line number (codes "NOTIFY c, 'x'") (command.Notify (record { channel = codes "c"; payload = codes "x" }))
+
+-- a first one, where one may notify, and a second
+pub notifies_once : ClientAsks (limited_at 1 0 0 0) asks_notify (notify_line 1 ∷ []) Open
+unfolding table cut is_utf8 chars encode
+notifies_once =
+    asks_line (limited_at 1 0 0 0) (0 ∷ 0 ∷ 0 ∷ 18 ∷ []) (codes "NOTIFY c, 'x'") [] (command.Notify (record { channel = codes "c"; payload = codes "x" })) [] Open refl refl (omega arith) refl refl refl refl
+    (omega arith) (omega arith) (clients.ClientAsks.Stops (limited_at 1 19 1 1) [] refl)
+
+pub notifies_again : ClientAsks (limited_at 1 0 3 1) asks_notify [] (Faulty (TooMany 0))
+unfolding table cut is_utf8 chars encode
+notifies_again =
+    let text : List ℕ = codes "NOTIFY c, 'x'" in
+    let is : IsLineOf 4 text (notify_line 4) =
+    subst (λ (c : Command). IsLineOf 4 text (query_line 4 text c)) (let same : reading text ≡ command.Notify (record { channel = codes "c"; payload = codes "x" }) = refl in same)
+    (queries.IsLineOf.OneLine text (reading text) (lacks 10 text refl) (reading-reads text)) in
+    clients.ClientAsks.Exceeds (limited_at 1 0 3 1) asks_notify text [] (notify_line 4) (comes 0 (0 ∷ 0 ∷ 0 ∷ 18 ∷ []) text [] refl refl (omega arith) (is_text text refl refl)) is (inr (omega arith))
 
 pub stopped : (place : Place) → ClientAsks place [] [] Open
 stopped place = clients.ClientAsks.Stops place [] refl

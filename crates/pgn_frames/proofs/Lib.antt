@@ -1,5 +1,7 @@
 -- bytes have one list of frames
 pub mod FrameLaws
+-- what comes next, as it is read
+pub mod ArrivalLaws
 -- signs have one list of asks
 pub mod AskLaws
 -- the numbers of what is asked

@@ -32,6 +32,10 @@ cut_frame = 0 ∷ 1 ∷ 0 ∷ 2 ∷ 81 ∷ []
 abbrev pub listen_at : ℕ → Asked
 listen_at line = record { line = line; text = codes "LISTEN c"; command = command.Listen (codes "c") }
 
+-- `NOTIFY c, 'x'` likewise
+abbrev pub notify_at : ℕ → Asked
+notify_at line = record { line = line; text = codes "NOTIFY c, 'x'"; command = command.Notify (record { channel = codes "c"; payload = codes "x" }) }
+
 -- a client asks `LISTEN c` and ends, and the next one asks it too
 abbrev pub two_clients : List (Option ℕ)
 two_clients = map Some asks_listen ++ None ∷ map Some asks_listen

@@ -1,15 +1,15 @@
 ghost use Rattle.std.specs.Prelude.{◌≡◌, [], ◌∷◌, ◌++◌, map, take, List, None, Option, Some};
 ghost use Rattle.pgn_base.specs.declared.limits.TheConstants.{NOTE_LINES_MAX};
-ghost use Rattle.pgn_queries.specs.Examples.{asks_listen, asks_two_ends, terminates};
+ghost use Rattle.pgn_queries.specs.Examples.{asks_listen, asks_notify, asks_two_ends, terminates};
 ghost use Rattle.pgn_queries.specs.Queries.{first_place};
 ghost use Rattle.pgn_turns.specs.declared.asked.Ask.{Ask};
 ghost use Rattle.pgn_turns.specs.declared.asked.Ask.TheVariants.{End, Query};
-ghost use Rattle.pgn_turns.specs.declared.asked.Parting.TheVariants.{Plain, Refused};
+ghost use Rattle.pgn_turns.specs.declared.asked.Parting.TheVariants.{Plain, Refused, Spent};
 ghost use Rattle.pgn_frames.specs.declared.frame_fault.FrameFault.{FrameFault};
 ghost use Rattle.pgn_frames.specs.declared.frame_fault.FrameFault.TheVariants.{CutFrame, NoSeat};
 ghost use Rattle.pgn_frames.specs.Frames.{Frame, FramesAre, signs_of};
 ghost use Rattle.pgn_frames.specs.Clients.{SeatAsks};
-ghost use Rattle.pgn_frames.specs.Examples.{cut_frame, frame_of, frames_of_three, listen_at, of_seat_0, of_seat_3, three_frames, two_asks, two_clients};
+ghost use Rattle.pgn_frames.specs.Examples.{cut_frame, frame_of, frames_of_three, listen_at, notify_at, of_seat_0, of_seat_3, three_frames, two_asks, two_clients};
 
 /// Inputs and their frames, where there are two seats.
 pub fn frames()
@@ -21,6 +21,7 @@ pub fn frames()
     // The input may end between frames alone.
     ensures cut_body { FramesAre 2 0 cut_frame [] (Some (CutFrame 0)) }
     ensures cut_head { FramesAre 2 0 (0 ∷ 2 ∷ 0 ∷ 0 ∷ 0 ∷ 1 ∷ []) (frame_of 2 [] ∷ []) (Some (CutFrame 4)) }
+    ensures cut_behind { FramesAre 2 0 (0 ∷ 1 ∷ 0 ∷ 2 ∷ 81 ∷ 0 ∷ 0 ∷ []) (frame_of 1 (81 ∷ 0 ∷ []) ∷ []) (Some (CutFrame 6)) }
 {}
 
 /// Frames that these inputs have not.
@@ -47,10 +48,14 @@ pub fn asked()
     ensures two_of_them { SeatAsks (first_place NOTE_LINES_MAX) two_clients two_asks }
     // A Terminate is an end; behind it nothing is looked at up to the end that the shim sends.
     ensures by_a_terminate { SeatAsks (first_place NOTE_LINES_MAX) (map Some (terminates ++ asks_listen)) (End 1 Plain ∷ []) }
+    ensures behind_its_end { SeatAsks (first_place NOTE_LINES_MAX) (map Some (terminates ++ asks_listen) ++ None ∷ map Some asks_listen) (End 1 Plain ∷ Query (listen_at 3) ∷ []) }
     // So is a fault, and a client that ends without a byte.
     ensures by_a_fault { SeatAsks (first_place NOTE_LINES_MAX) (map Some asks_two_ends) (End 1 Refused ∷ []) }
     ensures no_byte { SeatAsks (first_place NOTE_LINES_MAX) (None ∷ []) (End 1 Plain ∷ []) }
-    // The last message may be cut by the end of the input.
+    // As many may notify as may of one client, all clients together.
+    ensures notes_go_on { SeatAsks (first_place 1) (map Some asks_notify ++ None ∷ map Some asks_notify) (Query (notify_at 1) ∷ End 2 Plain ∷ End 4 Spent ∷ []) }
+    // A message that the client's end cuts is a fault. One that the end of the input cuts is not asked.
+    ensures cut_by_its_end { SeatAsks (first_place NOTE_LINES_MAX) (map Some (take 7 asks_listen) ++ None ∷ []) (End 1 Refused ∷ []) }
     ensures cut { SeatAsks (first_place NOTE_LINES_MAX) (map Some (take 7 asks_listen)) [] }
 {}
 

@@ -2,11 +2,13 @@
 //!
 //! `FramesAre` in `specs/Frames` takes an input apart into frames, and `signs_of` gives what of them is a seat's, sign by sign: the bytes of
 //! its clients, and their ends. `SeatAsks` in `specs/Clients` says what a seat is asked by its signs. `laws` has that each input is taken
-//! apart in one way.
+//! apart in one way. `next_frame` reads one frame after another from any source.
 #![tactic(auto)]
 
 pub mod examples;
 mod frame_fault;
+mod framing;
 pub mod laws;
 
 pub use frame_fault::FrameFault;
+pub use framing::{Arrival, NoFrame, next_frame};

@@ -26,20 +26,20 @@ OfKnown-then P Q R (Some xs) (Some ys) None f h k = absurd k
 OfKnown-then P Q R (Some xs) (Some ys) (Some zs) f h k = f xs ys zs h k
 
 -- bytes were read
-OfKnown-read : (P : List ℕ → List ℕ → Type 0) (a b : Option (List ℕ)) (bytes : List ℕ) → Consumes a b bytes → ((rest : List ℕ) → P (bytes ++ rest) rest) → OfKnown P a b
+pub OfKnown-read : (P : List ℕ → List ℕ → Type 0) (a b : Option (List ℕ)) (bytes : List ℕ) → Consumes a b bytes → ((rest : List ℕ) → P (bytes ++ rest) rest) → OfKnown P a b
 OfKnown-read P None b bytes h f = tt
 OfKnown-read P (Some xs) None bytes h f = absurd h
 OfKnown-read P (Some xs) (Some ys) bytes h f = subst (λ (zs : List ℕ). P zs ys) (sym h) (f ys)
 
 -- bytes were read, and there are no more
-OfKnown-last : (P : List ℕ → List ℕ → Type 0) (a b : Option (List ℕ)) (bytes : List ℕ) → Consumes a b bytes → IsAtEnd b → P bytes [] → OfKnown P a b
+pub OfKnown-last : (P : List ℕ → List ℕ → Type 0) (a b : Option (List ℕ)) (bytes : List ℕ) → Consumes a b bytes → IsAtEnd b → P bytes [] → OfKnown P a b
 OfKnown-last P None b bytes h e p = tt
 OfKnown-last P (Some xs) None bytes h e p = absurd h
 OfKnown-last P (Some xs) (Some ys) bytes h e p =
     subst (λ (zs : List ℕ). P xs zs) (sym e) (subst (λ (zs : List ℕ). P zs []) (sym (h ∙ ap (λ (zs : List ℕ). bytes ++ zs) e ∙ append-nil bytes)) p)
 
 -- bytes were read, and more behind them
-OfKnown-behind : (P Q : List ℕ → List ℕ → Type 0) (a b c : Option (List ℕ)) (bytes : List ℕ) → Consumes a b bytes → ((ys zs : List ℕ) → Q ys zs → P (bytes ++ ys) zs) → OfKnown Q b c → OfKnown P a c
+pub OfKnown-behind : (P Q : List ℕ → List ℕ → Type 0) (a b c : Option (List ℕ)) (bytes : List ℕ) → Consumes a b bytes → ((ys zs : List ℕ) → Q ys zs → P (bytes ++ ys) zs) → OfKnown Q b c → OfKnown P a c
 OfKnown-behind P Q None b c bytes h f k = tt
 OfKnown-behind P Q (Some xs) None c bytes h f k = absurd h
 OfKnown-behind P Q (Some xs) (Some ys) None bytes h f k = absurd k

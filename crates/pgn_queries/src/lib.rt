@@ -25,6 +25,7 @@ mod message;
 mod reader;
 mod wire_fault;
 
+pub use full_read::read_full;
 pub use limits::{QUERIES_MAX, QUERY_LENGTH_MAX, QUERY_LENGTH_MIN, TERMINATE_LENGTH};
 pub use reader::{NoQuery, Queries};
 pub use wire_fault::WireFault;

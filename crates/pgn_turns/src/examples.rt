@@ -1,5 +1,7 @@
 ghost use Rattle.std.specs.Prelude.{◌≡◌, [], ◌∷◌, ◌++◌, map, List, None, Some};
 ghost use Rattle.pgn_base.specs.declared.answers.Tag.TheVariants as tag;
+ghost use Rattle.pgn_base.specs.declared.command.Command.TheVariants as command;
+ghost use Rattle.pgn_language.specs.Grammar.{ReadsAs};
 ghost use Rattle.pgn_journal.specs.declared.tx.Tx.{Tx};
 ghost use Rattle.pgn_model.specs.declared.item.Item.TheVariants as item;
 ghost use Rattle.pgn_model.specs.Trace.{IsLawful};
@@ -7,7 +9,7 @@ ghost use Rattle.pgn_model.specs.Walk.{default_settings};
 ghost use Rattle.pgn_turns.specs.declared.asked.Ask.TheVariants.{End, Query};
 ghost use Rattle.pgn_turns.specs.declared.asked.Parting.TheVariants.{Plain, Refused, Spent};
 ghost use Rattle.pgn_turns.specs.Asks.{GoOnFrom, line_of, rollback_line, script_of, seat_quit, unlisten_line};
-ghost use Rattle.pgn_turns.specs.Turns.{Answers, Hears, IsPlain, MayBeTold};
+ghost use Rattle.pgn_turns.specs.Turns.{Answers, Hears, IsPlain, Leaves, MayBeTold};
 ghost use Rattle.pgn_turns.specs.Examples.{begin, begin_bytes, between_items, call, call_items, early_items, idle_items, in_block_items, left_asks, left_items, listen, listen_bytes, notify, other_bytes, own_bytes, own_items, refused_bytes, rowless_bytes, seat_section, second_notify, spent_bytes, two_clients};
 
 /// Traces of seats, and what their clients are told of them, byte by byte.
@@ -44,6 +46,9 @@ pub fn refused()
     ensures read_in_block { (journal : List Tx) → IsLawful (record { section = seat_section (Query listen ∷ Query begin ∷ []); settings = default_settings }) journal in_block_items → ⊥ }
     // An answer in which another line begins.
     ensures two_lines { IsPlain (Answers listen (item.Reply tag.Listen None ∷ item.Line 2 ∷ [])) → ⊥ }
+    // So in the answers to the lines that set a seat back.
+    ensures three_lines { IsPlain (Leaves Plain 1 (item.Line 2 ∷ []) []) → ⊥ }
+    ensures four_lines { IsPlain (Leaves Plain 1 [] (item.Line 3 ∷ [])) → ⊥ }
     // A reply that was not asked for.
     ensures reply_between { IsPlain (Hears (item.Reply tag.Listen None ∷ [])) → ⊥ }
 {}
@@ -52,6 +57,9 @@ pub fn refused()
 pub fn scripts()
     ensures met { script_of two_clients ≡ line_of listen ∷ rollback_line 2 ∷ unlisten_line 3 ∷ line_of second_notify ∷ seat_quit ∷ [] }
     ensures numbered { GoOnFrom 1 two_clients }
+    // The texts of the two lines read as what these do.
+    ensures reads_rollback { ReadsAs (rollback_line 1).text command.Rollback }
+    ensures reads_unlisten { ReadsAs (unlisten_line 1).text command.UnlistenAll }
     // The two lines are counted.
     ensures numbers_lost { GoOnFrom 1 (Query listen ∷ End 2 Plain ∷ Query (record second_notify { line = 3 }) ∷ []) → ⊥ }
     // An end has both of them, in a block or not.

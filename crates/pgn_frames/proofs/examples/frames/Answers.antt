@@ -26,3 +26,8 @@ pub returns-clause-cut_head : goal.returns-clause-cut_head
 returns-clause-cut_head c =
     goes 2 0 (0 ∷ 2 ∷ 0 ∷ 0 ∷ []) [] (0 ∷ 1 ∷ []) 2 [] (Some (CutFrame 4)) (record { four = refl; of_seat = refl; of_size = refl }) (record { least = omega arith; most = omega arith })
     (frames.FramesAre.Fails 4 (0 ∷ 1 ∷ []) [] (CutFrame 4) (frames.NextFrame.CutHead (0 ∷ 1 ∷ []) [] (omega arith) (omega arith)))
+
+pub returns-clause-cut_behind : goal.returns-clause-cut_behind
+returns-clause-cut_behind c =
+    goes 2 0 (0 ∷ 1 ∷ 0 ∷ 2 ∷ []) (81 ∷ 0 ∷ []) (0 ∷ []) 1 [] (Some (CutFrame 6)) (record { four = refl; of_seat = refl; of_size = refl }) (record { least = omega arith; most = omega arith })
+    (frames.FramesAre.Fails 6 (0 ∷ []) [] (CutFrame 6) (frames.NextFrame.CutHead (0 ∷ []) [] (omega arith) (omega arith)))

@@ -17,5 +17,11 @@ returns-clause-read_in_block c journal h =
 pub returns-clause-two_lines : goal.returns-clause-two_lines
 returns-clause-two_lines c h = let plain : true ≡ false = h in absurd (cc)
 
+pub returns-clause-three_lines : goal.returns-clause-three_lines
+returns-clause-three_lines c h = let plain : true ≡ false = h.0 in absurd (cc)
+
+pub returns-clause-four_lines : goal.returns-clause-four_lines
+returns-clause-four_lines c h = let plain : true ≡ false = h.1 in absurd (cc)
+
 pub returns-clause-reply_between : goal.returns-clause-reply_between
 returns-clause-reply_between c h = All-head IsRead (Reply tag.Listen None) [] h

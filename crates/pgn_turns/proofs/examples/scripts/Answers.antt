@@ -1,4 +1,8 @@
-use Rattle.std.proofs.Common.{length, ap, refl}
+use Rattle.std.proofs.Common.{◌≡◌, codes, length, ap, refl, subst}
+use Rattle.pgn_base.specs.declared.command.Command.{Command}
+use Rattle.pgn_base.specs.declared.command.Command.TheVariants.{Rollback, UnlistenAll}
+use Rattle.pgn_language.specs.Grammar.{ReadsAs, cut, reading, table}
+use Rattle.pgn_language.proofs.GrammarLaws.{reading-reads}
 use Rattle.pgn_turns.proofs.ExampleLaws.{apart}
 use Rattle.pgn_turns.proofs.examples.scripts.Goals as goal
 
@@ -13,3 +17,11 @@ returns-clause-numbers_lost c h = apart 3 4 refl h.1.1.0
 
 pub returns-clause-no_unlisten : goal.returns-clause-no_unlisten
 returns-clause-no_unlisten c e = apart 3 2 refl (ap length e)
+
+pub returns-clause-reads_rollback : goal.returns-clause-reads_rollback
+unfolding table cut
+returns-clause-reads_rollback c = subst (λ (command : Command). ReadsAs (codes "ROLLBACK") command) (let same : reading (codes "ROLLBACK") ≡ Rollback = refl in same) (reading-reads (codes "ROLLBACK"))
+
+pub returns-clause-reads_unlisten : goal.returns-clause-reads_unlisten
+unfolding table cut
+returns-clause-reads_unlisten c = subst (λ (command : Command). ReadsAs (codes "UNLISTEN *") command) (let same : reading (codes "UNLISTEN *") ≡ UnlistenAll = refl in same) (reading-reads (codes "UNLISTEN *"))
