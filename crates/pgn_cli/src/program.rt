@@ -7,7 +7,7 @@ ghost use Rattle.pgn_messages.specs.Messages.{messages};
 ghost use Rattle.pgn_queries.specs.declared.wire_fault.WireFault.{WireFault};
 ghost use Rattle.pgn_wire.specs.Serving.{WroteWhole};
 ghost use Rattle.pgn_run.specs.Checking.{HasNoOutput, IsTooLarge};
-ghost use Rattle.pgn_run.specs.Conversation.{BreaksOff, StopsAmong};
+ghost use Rattle.pgn_run.specs.Conversation.{BreaksOff, StopsAmong, StopsBetween};
 ghost use Rattle.pgn_run.specs.Run.{AskToCheck, AskToRunLive, AskToWire, Performs, PerformsInPart, SoFarRuns, asked_settings, settings_with};
 ghost use Rattle.pgn_cli.specs.Program.{Ends, IsFaulty, IsRefused, NamesFault, NamesWireFault, SaysIllegal};
 
@@ -49,7 +49,7 @@ pub fn program<S: Source, K: Sink + Send, E: Sink, R: Threads + Wait + Clock + S
     ensures refused_writes_nothing { (result ≡ 2) ⊎ (result ≡ 3) ⊎ (result ≡ 9) ⊎ (result ≡ 11) → K.held sink.new ≡ K.held sink.old }
     ensures read_fault_writes_nothing { IfOk words (λ words. ¬ AskToWire (map string_bytes words.items)) → result ≡ 4 → K.held sink.new ≡ K.held sink.old }
     ensures read_fault_writes_answers { IfOk words (λ words. AskToWire (map string_bytes words.items) → result ≡ 4
-        → IfSome (S.left source.old) (λ bytes. StopsAmong bytes (λ section items. Appends (K.held sink.old) (K.held sink.new) (messages section items)))) }
+        → IfSome (S.left source.old) (λ bytes. StopsBetween bytes (Appends (K.held sink.old) (K.held sink.new)))) }
     ensures no_memory_writes_nothing { IfOk words (λ words. ¬ AskToRunLive (map string_bytes words.items)) → IfOk words (λ words. ¬ AskToWire (map string_bytes words.items))
         → result ≡ 6 → K.held sink.new ≡ K.held sink.old }
     ensures no_memory_writes_first_lines { IfOk words (λ words. (ask : AskToRunLive (map string_bytes words.items)) → result ≡ 6
@@ -91,7 +91,7 @@ fn status_of<S: Source, K: Sink + Send, R: Threads + Wait + Clock + Sync>(
     ensures refused_writes_nothing { IsRefused result → K.held sink.new ≡ K.held sink.old }
     ensures read_fault_writes_nothing { IfOk words (λ words. ¬ AskToWire (map string_bytes words.items)) → result ≡ Status.ReadFault → K.held sink.new ≡ K.held sink.old }
     ensures read_fault_writes_answers { IfOk words (λ words. AskToWire (map string_bytes words.items) → result ≡ Status.ReadFault
-        → IfSome (S.left source.old) (λ bytes. StopsAmong bytes (λ section items. Appends (K.held sink.old) (K.held sink.new) (messages section items)))) }
+        → IfSome (S.left source.old) (λ bytes. StopsBetween bytes (Appends (K.held sink.old) (K.held sink.new)))) }
     ensures no_memory_writes_nothing { IfOk words (λ words. ¬ AskToRunLive (map string_bytes words.items)) → IfOk words (λ words. ¬ AskToWire (map string_bytes words.items))
         → result ≡ Status.NoMemory → K.held sink.new ≡ K.held sink.old }
     ensures no_memory_writes_first_lines { IfOk words (λ words. (ask : AskToRunLive (map string_bytes words.items)) → result ≡ Status.NoMemory
@@ -139,7 +139,7 @@ fn run_words<S: Source, K: Sink + Send, R: Threads + Wait + Clock + Sync>(
     ensures refused_writes_nothing { IsRefused result → K.held sink.new ≡ K.held sink.old }
     ensures read_fault_writes_nothing { ¬ AskToWire (map string_bytes words.now) → result ≡ Status.ReadFault → K.held sink.new ≡ K.held sink.old }
     ensures read_fault_writes_answers { AskToWire (map string_bytes words.now) → result ≡ Status.ReadFault
-        → IfSome (S.left source.old) (λ bytes. StopsAmong bytes (λ section items. Appends (K.held sink.old) (K.held sink.new) (messages section items))) }
+        → IfSome (S.left source.old) (λ bytes. StopsBetween bytes (Appends (K.held sink.old) (K.held sink.new))) }
     ensures no_memory_writes_nothing { ¬ AskToRunLive (map string_bytes words.now) → ¬ AskToWire (map string_bytes words.now) → result ≡ Status.NoMemory → K.held sink.new ≡ K.held sink.old }
     ensures no_memory_writes_first_lines { (ask : AskToRunLive (map string_bytes words.now)) → result ≡ Status.NoMemory
         → (K.held sink.new ≡ K.held sink.old) ⊎ IfSome (S.left source.old) (λ input. SoFarRuns (settings_with ask.pages ask.patience ask.format) input (Appends (K.held sink.old) (K.held sink.new))) }

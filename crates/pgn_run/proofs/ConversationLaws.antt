@@ -1,6 +1,7 @@
 -- How a conversation ends.
-use Rattle.std.proofs.Common.{◌≡◌, ℕ, ◌+◌, ◌≤◌, List, [], ◌∷◌, ◌++◌, length, map, All, Option, Some, None, IfSome, Ok, Err, sym, ap, ◌∙◌, subst, refl, arith, append-nil}
+use Rattle.std.proofs.Common.{◌≡◌, ℕ, ◌+◌, ◌≤◌, List, [], ◌∷◌, ◌++◌, length, map, All, Option, Some, None, IfSome, Ok, Err, drop, sym, ap, ◌∙◌, subst, refl, arith, append-nil, length-append}
 use Rattle.std.proofs.lemmas.List.Elements.{All-cons}
+use Rattle.std.proofs.Math.Seq.{drop-append_seam}
 use Rattle.std.specs.Io.KnownBytes.{Appends}
 use Rattle.pgn_base.specs.Outside.{AppendsPrefix}
 use Rattle.pgn_base.specs.declared.limits.TheConstants.{NOTE_LINES_MAX}
@@ -8,7 +9,8 @@ use Rattle.pgn_language.specs.declared.scenario.ScriptLine.{ScriptLine}
 use Rattle.pgn_language.specs.declared.scenario.Section.{Section}
 use Rattle.pgn_language.specs.Inputs.{HasFlagBelow, note_lines_of}
 use Rattle.pgn_model.specs.declared.item.Item.{Item}
-use Rattle.pgn_model.specs.Walk.{Terms, start}
+use Rattle.pgn_model.specs.Trace.{IsUpToDate}
+use Rattle.pgn_model.specs.Walk.{State, Terms, start}
 use Rattle.pgn_model.specs.Legal.{Legal}
 use Rattle.pgn_model.specs.laws.NextLine.{HoldsSoFar}
 use Rattle.pgn_hub.specs.declared.known.Known.{Known}
@@ -17,10 +19,10 @@ use Rattle.pgn_hub.specs.Passes.{IsWithin}
 use Rattle.pgn_hub.specs.Shape.{Shape}
 use Rattle.pgn_session.specs.declared.session.Session.{Session}
 use Rattle.pgn_session.specs.declared.doing.Doing.{Doing}
-use Rattle.pgn_session.specs.declared.doing.Doing.TheVariants.{Over}
+use Rattle.pgn_session.specs.declared.doing.Doing.TheVariants.{Lines, Over}
 use Rattle.pgn_session.specs.declared.doing.FlagPlan.{FlagPlan}
 use Rattle.pgn_session.specs.Standing.{IsRested, terms_of}
-use Rattle.pgn_session.specs.Whole.{HasRest}
+use Rattle.pgn_session.specs.Whole.{HasRest, RestsAt}
 use Rattle.pgn_threads.specs.Laws.{NamesFlagsBelow, RunsAreLegal}
 use Rattle.pgn_threads.specs.Parts.{HasReadAll, HasRunOut, Part, settings_of, trace_of}
 use Rattle.pgn_queries.specs.declared.wire_fault.WireFault.{WireFault}
@@ -31,9 +33,9 @@ use Rattle.pgn_queries.proofs.EachLaws.{each_has_reading}
 use Rattle.pgn_messages.specs.Messages.{messages}
 use Rattle.pgn_wire.specs.declared.wire_end.WireEnd.{WireEnd}
 use Rattle.pgn_wire.specs.declared.wire_end.WireEnd.TheVariants.{Bad, Read, Write, Memory}
-use Rattle.pgn_wire.specs.Serving.{AsksAll, AsksBy, HasStood, HasWritten, IsSameClient, WroteWhole}
+use Rattle.pgn_wire.specs.Serving.{AsksAll, AsksBy, HasAnsweredAll, HasStood, HasWritten, IsSameClient, WhereAsked, WroteWhole}
 use Rattle.pgn_run.proofs.NotedLaws.{holds-noted, legal-noted, with_notes}
-use Rattle.pgn_run.specs.Conversation.{EndsBy, IsSoFar, NamesNoFlags, RunsLegally, session_section, wire_plan, wire_settings, wire_shape}
+use Rattle.pgn_run.specs.Conversation.{EndsBy, IsAnsweredSoFar, IsSoFar, NamesNoFlags, RunsLegally, session_section, wire_plan, wire_settings, wire_shape}
 
 -- a list of one
 one : {T : Type 0} (P : T → Type 0) (x : T) → P x → All P (x ∷ [])
@@ -109,6 +111,36 @@ so_far shape known s lines Q is patience section stood q =
       output = q;
     }
 
+-- what is to come of a script whose queries have all begun
+to-come : (lines front : List ScriptLine) (last : ScriptLine) (done : ℕ) → lines ++ wire_quit ∷ [] ≡ front ++ last ∷ [] → done ≡ length front → drop done (lines ++ wire_quit ∷ []) ≡ wire_quit ∷ []
+to-come lines front last done e begun =
+    let mine : length (lines ++ wire_quit ∷ []) ≡ length lines + 1 = length-append lines (wire_quit ∷ []) in
+    let theirs : length (front ++ last ∷ []) ≡ length front + 1 = length-append front (last ∷ []) in
+    let same : length (lines ++ wire_quit ∷ []) ≡ length (front ++ last ∷ []) = ap length e in
+    let count : done ≡ length lines = omega (arith, mine, theirs, same, begun) in
+    ap (λ (n : ℕ). drop n (lines ++ wire_quit ∷ [])) count ∙ drop-append_seam lines (wire_quit ∷ [])
+
+-- the trace of a session that has answered all that was asked
+answered-so_far : {P : Type 0} (shape : Shape) (known : P → Known) (s : Session P) (lines : List ScriptLine) (Q : List Item → Type 0) → shape ≡ wire_shape → s.patience ≡ 1 → s.section ≡ session_section lines
+    → HasAnsweredAll shape known s → Q s.items.items → IsAnsweredSoFar lines Q
+answered-so_far shape known s lines Q is patience section h q =
+    let count : ℕ = note_lines_of (lines ++ wire_quit ∷ []) in
+    let given : Terms = record { section = session_section lines; settings = wire_settings } in
+    let terms : terms_of shape s.section s.patience ≡ given =
+    ap (λ (t : Shape). terms_of t s.section s.patience) is ∙ ap (λ (n : ℕ). terms_of wire_shape s.section n) patience ∙ ap (λ (part : Section). terms_of wire_shape part 1) section in
+    let at : RestsAt shape known s Lines = subst (λ (doing : Doing). RestsAt shape known s doing) h.is_open.between h.rested in
+    let script : s.section.lines ≡ lines ++ wire_quit ∷ [] = ap (λ (part : Section). part.lines) section in
+    record {
+      journal = (known s.pass).seen;
+      items = s.items.items;
+      state = at.state;
+      holds = holds-noted count given (known s.pass).seen s.items.items at.state (subst (λ (t : Terms). HoldsSoFar t (known s.pass).seen s.items.items at.state) terms at.stands.holds);
+      rest = at.rest ∙ ap (λ (ls : List ScriptLine). drop s.done ls) script ∙ to-come lines h.is_open.ends.front h.is_open.ends.last s.done (sym script ∙ h.is_open.ends.split) h.is_open.begun;
+      answered = at.here.0.owes;
+      up_to_date = λ idle. subst (λ (t : Terms). IsUpToDate t (known s.pass).seen at.state) terms (at.here.1 idle);
+      output = q;
+    }
+
 -- what stands written is the same with another count
 wrote-noted : (n : ℕ) (section : Section) (items : List Item) (held now : Option (List ℕ)) → WroteWhole held now section items → WroteWhole held now (with_notes n section) items
 wrote-noted n section items held now h =
@@ -116,26 +148,26 @@ wrote-noted n section items held now h =
 
 -- a session was served, and stopped
 stopped : {P : Type 0} (T : Type 0) (shape : Shape) (known : P → Known) (end : WireEnd) (old new : Session P) (bytes : List ℕ) (held now : Option (List ℕ)) → shape ≡ wire_shape → old.section ≡ session_section [] → old.patience ≡ 1
-    → IsSameClient old new → HasStood shape known new → AsksBy {T = T} (Err end) (Some bytes) wire_quit new.section → HasWritten {T = T} (Err end) held now new.section new.items.items → EndsBy {T = T} (Err end) bytes held now
-stopped T shape known (Bad fault) old new bytes held now is begun patience same stood asked written =
+    → IsSameClient old new → HasStood shape known new → WhereAsked end (HasAnsweredAll shape known new) → AsksBy {T = T} (Err end) (Some bytes) wire_quit new.section → HasWritten {T = T} (Err end) held now new.section new.items.items → EndsBy {T = T} (Err end) bytes held now
+stopped T shape known (Bad fault) old new bytes held now is begun patience same stood answered asked written =
     let section = section-of old new asked.lines begun same asked.split in
     record {
       lines = asked.lines;
       reads = read-of new.section asked.lines asked.lines bytes (Some fault) section asked.reads;
-      so_far = so_far shape known new asked.lines (λ items. Appends held now (messages (wire_section asked.lines) items)) is (same.patience ∙ patience) section stood
+      so_far = answered-so_far shape known new asked.lines (λ items. Appends held now (messages (wire_section asked.lines) items)) is (same.patience ∙ patience) section answered
           (subst (λ (s : Section). Appends held now (messages s new.items.items)) section written);
     }
-stopped T shape known Read old new bytes held now is begun patience same stood asked written =
+stopped T shape known Read old new bytes held now is begun patience same stood answered asked written =
     let section = section-of old new asked.lines begun same asked.split in
     record {
       lines = asked.lines;
       more = asked.more;
       fault = asked.fault;
       reads = read-of new.section asked.lines (asked.lines ++ asked.more) bytes asked.fault section asked.reads;
-      so_far = so_far shape known new asked.lines (λ items. Appends held now (messages (wire_section asked.lines) items)) is (same.patience ∙ patience) section stood
+      so_far = answered-so_far shape known new asked.lines (λ items. Appends held now (messages (wire_section asked.lines) items)) is (same.patience ∙ patience) section answered
           (subst (λ (s : Section). Appends held now (messages s new.items.items)) section written);
     }
-stopped T shape known Write old new bytes held now is begun patience same stood asked written =
+stopped T shape known Write old new bytes held now is begun patience same stood answered asked written =
     let section = section-of old new asked.lines begun same asked.split in
     record {
       lines = asked.lines;
@@ -145,7 +177,7 @@ stopped T shape known Write old new bytes held now is begun patience same stood 
       so_far = so_far shape known new asked.lines (λ items. AppendsPrefix held now (messages (wire_section asked.lines) items)) is (same.patience ∙ patience) section stood
           (subst (λ (s : Section). AppendsPrefix held now (messages s new.items.items)) section written);
     }
-stopped T shape known Memory old new bytes held now is begun patience same stood asked written =
+stopped T shape known Memory old new bytes held now is begun patience same stood answered asked written =
     let section = section-of old new asked.lines begun same asked.split in
     record {
       lines = asked.lines;
@@ -176,7 +208,7 @@ served T x old new bytes held now begun same asked written runs =
 served-short : {P : Type 0} (T : Type 0) (shape : Shape) (known : P → Known) (old new : Session P) (bytes : List ℕ) (held now : Option (List ℕ)) → shape ≡ wire_shape → old.section ≡ session_section [] → old.patience ≡ 1
     → IsSameClient old new → HasStood shape known new → AsksAll bytes None wire_quit new.section → Appends held now (messages new.section new.items.items) → EndsBy {T = T} (Err Memory) bytes held now
 served-short {P} T shape known old new bytes held now is begun patience same stood asked written =
-    stopped {P = P} T shape known Memory old new bytes held now is begun patience same stood
+    stopped {P = P} T shape known Memory old new bytes held now is begun patience same stood tt
     (record { lines = asked.lines; split = asked.split; more = []; fault = None; reads = subst (λ (ls : List ScriptLine). queries new.section.note_lines bytes ls None) (sym (append-nil asked.lines)) asked.reads })
     (record { written = messages new.section new.items.items; whole = record { front = new.items.items; behind = []; split = sym (append-nil new.items.items); line = tt; are = refl }; wrote = written })
 
@@ -204,11 +236,11 @@ not-opened T bytes held =
 
 -- the same of a source that may tell its bytes
 pub stopped-known : {P : Type 0} (shape : Shape) (known : P → Known) (end : WireEnd) (old new : Session P) (left held now : Option (List ℕ)) → shape ≡ wire_shape → old.section ≡ session_section [] → old.patience ≡ 1
-    → IsSameClient old new → HasStood shape known new → ((last : ScriptLine) → old.section.lines ≡ last ∷ [] → AsksBy {T = Unit {0}} (Err end) left last new.section)
+    → IsSameClient old new → HasStood shape known new → WhereAsked end (HasAnsweredAll shape known new) → ((last : ScriptLine) → old.section.lines ≡ last ∷ [] → AsksBy {T = Unit {0}} (Err end) left last new.section)
     → HasWritten {T = Unit {0}} (Err end) held now new.section new.items.items → IfSome left (λ bytes. EndsBy {T = Unit {0}} (Err end) bytes held now)
-stopped-known shape known end old new None held now is begun patience same stood asked written = tt
-stopped-known shape known end old new (Some bytes) held now is begun patience same stood asked written =
-    stopped (Unit {0}) shape known end old new bytes held now is begun patience same stood (asked wire_quit (ap (λ (s : Section). s.lines) begun)) written
+stopped-known shape known end old new None held now is begun patience same stood answered asked written = tt
+stopped-known shape known end old new (Some bytes) held now is begun patience same stood answered asked written =
+    stopped (Unit {0}) shape known end old new bytes held now is begun patience same stood answered (asked wire_quit (ap (λ (s : Section). s.lines) begun)) written
 
 pub served-known : {P : Type 0} (old new : Session P) (left held now : Option (List ℕ)) → old.section ≡ session_section [] → IsSameClient old new
     → ((last : ScriptLine) → old.section.lines ≡ last ∷ [] → IfSome left (λ bytes. AsksAll bytes None last new.section)) → Appends held now (messages new.section new.items.items)

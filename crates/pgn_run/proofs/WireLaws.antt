@@ -11,7 +11,7 @@ use Rattle.pgn_queries.proofs.OneLaws.{one_reading}
 use Rattle.pgn_wire.specs.Serving.{WroteWhole}
 use Rattle.pgn_run.specs.declared.status.Status.{Status}
 use Rattle.pgn_run.specs.declared.status.Status.TheVariants.{Done, BadWords, BadScenario, ReadFault, WriteFault, NoMemory, BadWire, Illegal, NoOutput, CheckTooLarge}
-use Rattle.pgn_run.specs.Conversation.{BreaksOff, Converses, StopsAmong}
+use Rattle.pgn_run.specs.Conversation.{BreaksOff, Converses, StopsAmong, StopsBetween}
 use Rattle.pgn_run.specs.Run.{AnswersWire, EndsIn}
 
 -- bytes end in one way
@@ -29,7 +29,7 @@ module _ (left old new : Option (List ℕ)) (status : Status) (answers : IfSome 
   pub bad-wire : (fault : WireFault) → status ≡ BadWire fault → IfSome left (λ bytes. BreaksOff bytes fault (Appends old new))
   bad-wire fault e = answered (BadWire fault) e
 
-  pub read-wire : status ≡ ReadFault → IfSome left (λ bytes. StopsAmong bytes (λ section items. Appends old new (messages section items)))
+  pub read-wire : status ≡ ReadFault → IfSome left (λ bytes. StopsBetween bytes (Appends old new))
   read-wire e = answered ReadFault e
 
   pub write-wire : status ≡ WriteFault → IfSome left (λ bytes. StopsAmong bytes (λ section items. AppendsPrefix old new (messages section items)))

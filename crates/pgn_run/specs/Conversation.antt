@@ -5,19 +5,21 @@ use Rattle.pgn_base.specs.Outside.{AppendsPrefix}
 use Rattle.pgn_base.specs.declared.format.Format.TheVariants.{One}
 use Rattle.pgn_base.specs.declared.limits.TheConstants.{NOTE_LINES_MAX, PAGES_DEFAULT}
 use Rattle.pgn_journal.specs.declared.tx.Tx.{Tx}
+use Rattle.pgn_answers.specs.declared.block_state.BlockState.TheVariants.{Idle}
 use Rattle.pgn_language.specs.declared.scenario.ScriptLine.{ScriptLine}
 use Rattle.pgn_language.specs.declared.scenario.Section.{Section}
 use Rattle.pgn_language.specs.Inputs.{HasFlagBelow}
 use Rattle.pgn_model.specs.declared.item.Item.{Item}
 use Rattle.pgn_model.specs.declared.trace.Trace.{Trace}
-use Rattle.pgn_model.specs.Walk.{Settings, State, Terms}
+use Rattle.pgn_model.specs.Walk.{Settings, State, Terms, Nothing}
 use Rattle.pgn_model.specs.Legal.{Legal}
+use Rattle.pgn_model.specs.Trace.{IsUpToDate}
 use Rattle.pgn_model.specs.laws.NextLine.{HoldsSoFar}
 use Rattle.pgn_hub.specs.Shape.{Shape}
 use Rattle.pgn_session.specs.declared.doing.FlagPlan.{FlagPlan}
 use Rattle.pgn_queries.specs.declared.wire_fault.WireFault.{WireFault}
 use Rattle.pgn_queries.specs.Queries.{queries}
-use Rattle.pgn_queries.specs.Script.{wire_scenario, wire_section}
+use Rattle.pgn_queries.specs.Script.{wire_quit, wire_scenario, wire_section}
 use Rattle.pgn_messages.specs.Messages.{messages}
 use Rattle.pgn_wire.specs.declared.wire_end.WireEnd.{WireEnd}
 use Rattle.pgn_wire.specs.declared.wire_end.WireEnd.TheVariants.{Bad, Read, Write, Memory}
@@ -68,11 +70,30 @@ pub record IsSoFar (lines : List ScriptLine) (P : List Item → Type 0) : Type 0
   pub holds : HoldsSoFar (wire_terms lines) journal items state
   pub output : P items
 
--- the client asked these queries, and then its bytes are at fault; P holds of the messages of a trace that is lawful so far
+-- besides, each of these queries has its whole answer, and no read was left out: nothing is to come but the end
+pub record IsAnsweredSoFar (lines : List ScriptLine) (P : List Item → Type 0) : Type 0 where
+  pub journal : List Tx
+  pub items : List Item
+  pub state : State
+  pub holds : HoldsSoFar (wire_terms lines) journal items state
+  pub rest : state.rest ≡ wire_quit ∷ []
+  pub answered : state.owed ≡ Nothing
+  pub up_to_date : state.block ≡ Idle → IsUpToDate (wire_terms lines) journal state
+  pub output : P items
+
+-- the client asked these queries, and then its bytes are at fault; P holds of the messages of a trace that answers them all
 pub record BreaksOff (bytes : List ℕ) (fault : WireFault) (P : List ℕ → Type 0) : Type 0 where
   pub lines : List ScriptLine
   pub reads : queries NOTE_LINES_MAX bytes lines (Some fault)
-  pub so_far : IsSoFar lines (λ items. P (messages (wire_section lines) items))
+  pub so_far : IsAnsweredSoFar lines (λ items. P (messages (wire_section lines) items))
+
+-- the client asked these queries first, of those that its bytes are; P holds of the messages of a trace that answers them all
+pub record StopsBetween (bytes : List ℕ) (P : List ℕ → Type 0) : Type 0 where
+  pub lines : List ScriptLine
+  pub more : List ScriptLine
+  pub fault : Option WireFault
+  pub reads : queries NOTE_LINES_MAX bytes (lines ++ more) fault
+  pub so_far : IsAnsweredSoFar lines (λ items. P (messages (wire_section lines) items))
 
 -- the client asked these queries first, of those that its bytes are; P holds of its section and of a trace that is lawful so far
 pub record StopsAmong (bytes : List ℕ) (P : Section → List Item → Type 0) : Type 0 where
@@ -86,6 +107,6 @@ pub record StopsAmong (bytes : List ℕ) (P : Section → List Item → Type 0) 
 abbrev pub EndsBy : {T : Type 0} → Result T WireEnd → List ℕ → Option (List ℕ) → Option (List ℕ) → Type 0
 EndsBy (Ok x) bytes old new = Converses bytes (Appends old new)
 EndsBy (Err (Bad fault)) bytes old new = BreaksOff bytes fault (Appends old new)
-EndsBy (Err Read) bytes old new = StopsAmong bytes (λ section items. Appends old new (messages section items))
+EndsBy (Err Read) bytes old new = StopsBetween bytes (Appends old new)
 EndsBy (Err Write) bytes old new = StopsAmong bytes (λ section items. AppendsPrefix old new (messages section items))
 EndsBy (Err Memory) bytes old new = StopsAmong bytes (WroteWhole old new)

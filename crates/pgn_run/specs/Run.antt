@@ -24,7 +24,7 @@ use Rattle.pgn_language.specs.declared.scenario.ScriptLine.{ScriptLine}
 use Rattle.pgn_messages.specs.Messages.{messages}
 use Rattle.pgn_wire.specs.Serving.{WroteWhole}
 use Rattle.pgn_run.specs.Checking.{IsJudged, Tells, verdict_text}
-use Rattle.pgn_run.specs.Conversation.{BreaksOff, Converses, StopsAmong}
+use Rattle.pgn_run.specs.Conversation.{BreaksOff, Converses, StopsAmong, StopsBetween}
 use Rattle.pgn_run.specs.Live.{EarlyOver, LiveOver, SoFarOver}
 use Rattle.pgn_run.specs.declared.print.Shows.{Shows}
 use Rattle.pgn_run.specs.declared.print.Shows.TheVariants.{AtEnd, Live}
@@ -219,7 +219,7 @@ IsOfWire status = ⊥
 abbrev pub AnswersWire : List ℕ → Option (List ℕ) → Option (List ℕ) → Status → Type 0
 AnswersWire bytes old new Done = Converses bytes (Appends old new)
 AnswersWire bytes old new (BadWire fault) = BreaksOff bytes fault (Appends old new)
-AnswersWire bytes old new ReadFault = StopsAmong bytes (λ section items. Appends old new (messages section items))
+AnswersWire bytes old new ReadFault = StopsBetween bytes (Appends old new)
 AnswersWire bytes old new WriteFault = StopsAmong bytes (λ section items. AppendsPrefix old new (messages section items))
 AnswersWire bytes old new NoMemory = StopsAmong bytes (WroteWhole old new)
 AnswersWire bytes old new status = ⊥

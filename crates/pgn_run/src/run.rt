@@ -13,7 +13,7 @@ ghost use Rattle.pgn_check.specs.declared.check.Verdict.TheVariants as verdict;
 ghost use Rattle.pgn_queries.specs.declared.wire_fault.WireFault.{WireFault};
 ghost use Rattle.pgn_wire.specs.Serving.{WroteWhole};
 ghost use Rattle.pgn_run.specs.Checking.{HasFault, HasNoOutput, IsJudged, IsTooLarge, verdict_text};
-ghost use Rattle.pgn_run.specs.Conversation.{BreaksOff, StopsAmong};
+ghost use Rattle.pgn_run.specs.Conversation.{BreaksOff, StopsAmong, StopsBetween};
 ghost use Rattle.pgn_run.specs.declared.print.Print.{Print};
 ghost use Rattle.pgn_run.specs.declared.print.Print.TheVariants.{Summary};
 ghost use Rattle.pgn_run.specs.Run.{Answers, AskToCheck, AskToDrill, AskToRun, AskToRunLive, AskToWire, EndsIn, HasRead, IsOfRun, IsShownSoFar, Performs, PerformsInPart, Runs, Shown, ShownInPart, SoFarRuns, asked_settings, drill_settings, settings_with, shows_if};
@@ -105,7 +105,7 @@ pub fn run_notify<'a, S: Source, K: Sink + Send, R: Threads + Wait + Clock + Syn
     ensures read_fault_where_due { S.faults source.old < S.faults source.new → result ≡ Status.ReadFault }
     ensures read_fault_writes_nothing { ¬ AskToWire (map (λ word. word.now) words.now) → result ≡ Status.ReadFault → K.held sink.new ≡ K.held sink.old }
     ensures read_fault_writes_answers { AskToWire (map (λ word. word.now) words.now) → result ≡ Status.ReadFault → IfSome (S.left source.old) (λ bytes.
-        StopsAmong bytes (λ section items. Appends (K.held sink.old) (K.held sink.new) (messages section items))) }
+        StopsBetween bytes (Appends (K.held sink.old) (K.held sink.new))) }
 
     ensures write_fault { result ≡ Status.WriteFault → Rose (K.faults sink.old) (K.faults sink.new) }
     ensures write_fault_where_due { K.faults sink.old < K.faults sink.new → result ≡ Status.WriteFault }

@@ -26,7 +26,7 @@ use Rattle.pgn_queries.specs.Queries.{AreTooMany, Gives, HasPassed, IsLineOf, Pl
 use Rattle.pgn_queries.proofs.EachLaws.{each_has_reading}
 use Rattle.pgn_wire.specs.declared.wire_end.WireEnd.{WireEnd}
 use Rattle.pgn_wire.specs.declared.wire_end.WireEnd.TheVariants.{Bad, Read, Write, Memory}
-use Rattle.pgn_wire.specs.Serving.{AsksAll, AsksFirst, BeginsEmpty, HasAsked, HasEnded, HasTaken, HasWritten, IsFedOrNot, IsOpen, IsSameClient, IsServing, RunsCommand, TurnsInto}
+use Rattle.pgn_wire.specs.Serving.{AsksAll, AsksFirst, BeginsEmpty, HasAsked, HasEnded, HasTaken, HasWritten, IsFedOrNot, IsOpen, IsSameClient, IsServing, RunsCommand, TurnsInto, WhereAsked}
 
 -- a query's line runs a command
 runs : (number : ℕ) (text : List ℕ) (line : ScriptLine) → IsLineOf number text line → RunsCommand line
@@ -228,6 +228,19 @@ answer-fails Memory start old new line place next bytes left rest held before no
   written = written held h.wrote;
   asked = λ first e. asks-half place next old.section new.section line h.is_open.ends first bytes left rest h.most kept (sym h.begun ∙ e) gives script h.asked;
 }
+
+-- where it may have been asked still, this held; and where an answer failed it was not
+pub where-asked : (end : WireEnd) (P : Type 0) → P → WhereAsked end P
+where-asked (Bad fault) P h = h
+where-asked Read P h = h
+where-asked Write P h = tt
+where-asked Memory P h = tt
+
+pub never-asked : (end : WireEnd) (P : Type 0) → (failed (Unit {0}) end ≡ Err Write) ⊎ (failed (Unit {0}) end ≡ Err Memory) → WhereAsked end P
+never-asked (Bad fault) P is = absurd (elim is [ inl e ↦ cc | inr e ↦ cc ])
+never-asked Read P is = absurd (elim is [ inl e ↦ cc | inr e ↦ cc ])
+never-asked Write P is = tt
+never-asked Memory P is = tt
 
 -- it is the end of the whole conversation
 pub ended-as : {P T U : Type 0} (x : T) (y : U) (start s : Session P) (bytes held now : Option (List ℕ)) → HasEnded {P = P} {T = T} (Ok x) start s bytes held now → HasEnded {P = P} {T = U} (Ok y) start s bytes held now

@@ -1,5 +1,5 @@
 -- A query that was taken, and a session that was stopped.
-use Rattle.std.proofs.Common.{◌≡◌, ℕ, ◌+◌, ◌≤◌, Bool, true, false, true≢false, cond, List, [], ◌∷◌, ◌++◌, length, drop, Option, Result, Ok, Err, OnOk, OnErr, IfSome, Some, None, sym, ap, ◌∙◌, subst, refl, append_assoc, append-nil}
+use Rattle.std.proofs.Common.{◌≡◌, ℕ, ◌+◌, Bool, true, false, true≢false, cond, List, [], ◌∷◌, ◌++◌, length, drop, Option, Result, Ok, Err, OnOk, OnErr, Some, None, sym, ap, ◌∙◌, subst, refl, append_assoc, append-nil}
 use Rattle.std.proofs.lemmas.List.{length-append}
 use Rattle.std.specs.Prelude.{nat_lt}
 use Rattle.std.specs.List.{list_any}
@@ -23,7 +23,7 @@ use Rattle.pgn_session.specs.declared.doing.Doing.TheVariants.{Lines, Over}
 use Rattle.pgn_session.specs.Standing.{IsAt, IsRested, terms_of}
 use Rattle.pgn_session.specs.Whole.{HasAnswer, HasRest, IsSameScript}
 use Rattle.pgn_session.specs.Steps.{HasBegun, HasMoved}
-use Rattle.pgn_session.specs.Parts.{Begins, HasFinished, HasFinishedFrom, HasIdled, HasQuitFrom}
+use Rattle.pgn_session.specs.Parts.{Begins, HasIdled, HasQuitFrom}
 use Rattle.pgn_session.specs.declared.doing.Step.{Step}
 use Rattle.pgn_session.specs.declared.doing.IdleDone.{IdleDone}
 use Rattle.pgn_session.specs.declared.doing.IdleDone.TheVariants as idled

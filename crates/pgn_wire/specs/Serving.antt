@@ -1,5 +1,5 @@
 -- What holds of a session that answers the queries of a client.
-use Rattle.std.specs.Prelude.{◌≡◌, ℕ, ◌+◌, ◌≤◌, ◌⊎◌, Bool, true, false, List, [], ◌∷◌, ◌++◌, length, Option, None, Some, Result, Ok, Err, IfSome}
+use Rattle.std.specs.Prelude.{◌≡◌, ℕ, ◌+◌, ◌⊎◌, Bool, true, false, List, [], ◌∷◌, ◌++◌, length, Option, None, Some, Result, Ok, Err, IfSome}
 use Rattle.std.specs.Io.KnownBytes.{Appends}
 use Rattle.pgn_base.specs.Outside.{AppendsPrefix}
 use Rattle.pgn_base.specs.declared.command.Command.{Command}
@@ -16,6 +16,7 @@ use Rattle.pgn_hub.specs.Shape.{Shape}
 use Rattle.pgn_session.specs.declared.session.Session.{Session}
 use Rattle.pgn_session.specs.declared.doing.Doing.TheVariants.{Lines}
 use Rattle.pgn_session.specs.Standing.{StandsAt, terms_of}
+use Rattle.pgn_session.specs.Whole.{HasRest}
 use Rattle.pgn_session.specs.Feed.{EndsByQuit, fed}
 use Rattle.pgn_session.specs.FirstRead.{HasReadTold}
 use Rattle.pgn_queries.specs.declared.wire_fault.WireFault.{WireFault}
@@ -35,6 +36,17 @@ pub record IsOpen {P : Type 0} (s : Session P) : Type 0 where
   pub ends : EndsByQuit s.section.lines
   pub begun : s.done ≡ length ends.front
   pub between : s.doing ≡ Lines
+
+-- each query that was asked has its whole answer, and no read was left out: but for the `\quit` the script is done
+pub record HasAnsweredAll {P : Type 0} (shape : Shape) (known : P → Known) (s : Session P) : Type 0 where
+  pub is_open : IsOpen s
+  pub rested : HasRest shape known s
+
+-- P holds where the client was still asked: its bytes are at fault, or the source failed
+abbrev pub WhereAsked : WireEnd → Type 0 → Type 0
+WhereAsked (Bad fault) P = P
+WhereAsked Read P = P
+WhereAsked end P = Unit {0}
 
 -- outside of a block a listener has read up to what it was told of
 abbrev pub HasReadOutside : {P : Type 0} → (P → Known) → Session P → Type 0

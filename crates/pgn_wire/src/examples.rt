@@ -3,7 +3,8 @@ ghost use Rattle.std.specs.Prelude.{[], ◌∷◌, ◌++◌, None};
 ghost use Rattle.pgn_hub.specs.Examples.{listening};
 ghost use Rattle.pgn_queries.specs.Examples.{asks_listen, asks_notify, listen_line, notify_line};
 ghost use Rattle.pgn_messages.specs.Examples.{conversation, quits};
-ghost use Rattle.pgn_wire.specs.Serving.{AreWhole, AsksAll, HasAsked, IsReadUp};
+ghost use Rattle.pgn_session.specs.FirstRead.{HasReadTold};
+ghost use Rattle.pgn_wire.specs.Serving.{AreWhole, AsksAll, HasAsked};
 ghost use Rattle.pgn_wire.specs.Examples.{half_answer, listens, whole_answer};
 
 /// Of an answer all stands written or nothing.
@@ -15,8 +16,8 @@ pub fn answers()
 
 /// A listener has read up to what it was told of, or has not.
 pub fn read_up()
-    ensures met { IsReadUp listening }
-    ensures told_of_more { IsReadUp (record listening { told = 4 }) → ⊥ }
+    ensures met { HasReadTold listening }
+    ensures told_of_more { HasReadTold (record listening { told = 4 }) → ⊥ }
 {}
 
 /// A script has all queries of a client, or the first of them.

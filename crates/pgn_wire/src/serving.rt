@@ -1,9 +1,9 @@
-ghost use Rattle.std.specs.Prelude.{◌≡◌, ◌<◌, ◌≤◌, [], ◌∷◌, Err, None, OnOk};
+ghost use Rattle.std.specs.Prelude.{◌≡◌, ◌<◌, ◌≤◌, [], ◌∷◌, Err, None, OnOk, IfErr};
 ghost use Rattle.pgn_language.specs.declared.scenario.ScriptLine.{ScriptLine};
 ghost use Rattle.pgn_base.specs.Outside.{Rose};
 ghost use Rattle.pgn_session.specs.Standing.{IsServedBy};
 ghost use Rattle.pgn_session.specs.Whole.{HasRest};
-ghost use Rattle.pgn_wire.specs.Serving.{AsksBy, BeginsEmpty, HasEnded, HasReadOutside, HasStood, HasWritten, IsOpen, IsSameClient};
+ghost use Rattle.pgn_wire.specs.Serving.{AsksBy, BeginsEmpty, HasAnsweredAll, HasEnded, HasReadOutside, HasStood, HasWritten, IsOpen, IsSameClient, WhereAsked};
 
 use crate::WireEnd;
 use crate::quitting::quit;
@@ -36,6 +36,8 @@ pub fn serve_wire<P: PassView + Send + Drop, H: Hub<Pass = P>, R: Wait, S: Sourc
     ensures over { OnOk result (session.new.doing ≡ Doing.Over) }
     ensures left { OnOk result ((P.known session.new.pass).mark ≡ None) }
     ensures rested { OnOk result (HasRest (H.shape hub.now) P.known session.new) }
+    // Where the client's bytes are at fault or the source failed, each query before has its whole answer.
+    ensures answered { IfErr result (λ end. WhereAsked end (HasAnsweredAll (H.shape hub.now) P.known session.new)) }
     // What stands written, and which queries were asked, by how it ended.
     ensures written { HasWritten result (K.held sink.old) (K.held sink.new) session.new.section session.new.items.items }
     ensures asked { (last : ScriptLine) → session.old.section.lines ≡ last ∷ [] → AsksBy result (S.left source.old) last session.new.section }
@@ -74,6 +76,7 @@ fn converse<P: PassView + Send + Drop, H: Hub<Pass = P>, R: Wait, S: Source, K: 
     ensures between { OnOk result (IsOpen session.new) }
     ensures served { OnOk result (IsServedBy (H.shape hub.now) session.new.section session.new.plan) }
     ensures rested { OnOk result (HasRest (H.shape hub.now) P.known session.new) }
+    ensures answered { IfErr result (λ end. WhereAsked end (HasAnsweredAll (H.shape hub.now) P.known session.new)) }
     ensures ended { HasEnded result session.old session.new (S.left source.old) (K.held sink.old) (K.held sink.new) }
     ensures read { result ≡ Err WireEnd.Read → Rose (S.faults source.old) (S.faults source.new) }
     ensures write { result ≡ Err WireEnd.Write → Rose (K.faults sink.old) (K.faults sink.new) }

@@ -1,4 +1,4 @@
-ghost use Rattle.std.specs.Prelude.{◌≡◌, ℕ, ◌+◌, ◌<◌, ◌≤◌, true, [], List, Option, Ok, Err, Some, IfOk, IfSome, OnOk};
+ghost use Rattle.std.specs.Prelude.{◌≡◌, ℕ, ◌+◌, ◌<◌, ◌≤◌, true, [], List, Option, Ok, Err, Some, IfOk, IfErr, IfSome, OnOk};
 ghost use Rattle.pgn_base.specs.Outside.{Rose};
 ghost use Rattle.pgn_language.specs.Inputs.{note_lines_of};
 ghost use Rattle.pgn_queries.specs.declared.wire_fault.WireFault.{WireFault};
@@ -7,7 +7,7 @@ ghost use Rattle.pgn_queries.specs.Queries.{Gives, HasPassed, QueriesAre};
 ghost use Rattle.pgn_session.specs.declared.session.Session.{Session};
 ghost use Rattle.pgn_session.specs.Standing.{IsServedBy};
 ghost use Rattle.pgn_session.specs.Whole.{HasRest};
-ghost use Rattle.pgn_wire.specs.Serving.{HasReadOutside, HasStood, IsOpen, IsServing, TurnsInto};
+ghost use Rattle.pgn_wire.specs.Serving.{HasAnsweredAll, HasReadOutside, HasStood, IsOpen, IsServing, TurnsInto, WhereAsked};
 
 use crate::WireEnd;
 use crate::answering::one_query;
@@ -42,6 +42,7 @@ pub(crate) fn take_turn<P: PassView + Send + Drop, H: Hub<Pass = P>, R: Wait, S:
     ensures served { OnOk result (IsServedBy (H.shape hub.now) session.new.section session.new.plan) }
     ensures rested { OnOk result (HasRest (H.shape hub.now) P.known session.new) }
     ensures read_up { OnOk result (HasReadOutside P.known session.new) }
+    ensures answered { IfErr result (λ end. WhereAsked end (HasAnsweredAll (H.shape hub.now) P.known session.new)) }
     ensures counted { result ≡ Ok true → queries.new.queries ≡ queries.old.queries + 1 }
     ensures few { result ≡ Ok true → queries.new.queries ≤ 4294967294 }
     // Whatever it was given first: what held of it so far goes on to hold, or it has ended.

@@ -17,4 +17,4 @@ returns-in-Err-finish-clause-ends g c =
 pub returns-in-Err-clause-ends : goal.returns-in-Err-clause-ends
 returns-in-Err-clause-ends g c =
     stopped-known (g.H.Hub.shape c.in-Ok.hub) g.P.PassView.known c.in-Err.end c.in-Ok.session c.serve_wire.new.session (g.S.Source.left c.args.source.now) (g.K.Sink.held c.args.sink.now) (g.K.Sink.held c.serve_wire.new.sink)
-    c.in-Ok.ensures.shape c.in-Ok.ensures.section c.in-Ok.ensures.patience c.in-Err.ensures.same c.in-Err.ensures.stood c.in-Err.ensures.asked c.in-Err.ensures.written
+    c.in-Ok.ensures.shape c.in-Ok.ensures.section c.in-Ok.ensures.patience c.in-Err.ensures.same c.in-Err.ensures.stood c.in-Err.ensures.answered c.in-Err.ensures.asked c.in-Err.ensures.written

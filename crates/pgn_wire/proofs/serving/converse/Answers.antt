@@ -61,3 +61,6 @@ pub returns-in-Err-clause-ended : goal.returns-in-Err-clause-ended
 returns-in-Err-clause-ended g c =
     failed-as c.in-Err.end c.args.session.now c.take_turn.new.session (g.S.Source.left c.args.source.now) (g.K.Sink.held c.args.sink.now) (g.K.Sink.held c.take_turn.new.sink)
     (c.in-Err.ensures.turned c.args.session.now (g.S.Source.left c.args.source.now) (g.K.Sink.held c.args.sink.now) c.loop-query.invariant.serving)
+
+pub returns-in-Err-clause-answered : goal.returns-in-Err-clause-answered
+returns-in-Err-clause-answered g c = c.in-Err.ensures.answered

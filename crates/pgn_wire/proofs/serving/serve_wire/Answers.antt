@@ -45,3 +45,6 @@ returns-in-Err-clause-written g c = c.in-Err.ensures.ended.written
 
 pub returns-in-Err-clause-asked : goal.returns-in-Err-clause-asked
 returns-in-Err-clause-asked g c = c.in-Err.ensures.ended.asked
+
+pub returns-in-Err-clause-answered : goal.returns-in-Err-clause-answered
+returns-in-Err-clause-answered g c = c.in-Err.ensures.answered

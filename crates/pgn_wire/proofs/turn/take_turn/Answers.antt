@@ -1,6 +1,6 @@
 use Rattle.std.proofs.Common.{Some, None, ap}
 use Rattle.pgn_queries.specs.Queries.{Place}
-use Rattle.pgn_wire.proofs.ServingLaws.{answer-fails, passed-few, passed-limit, passed-most, passed-runs, serving-ends, serving-fails, serving-goes, some-gives, some-passed, taken-open, taken-served}
+use Rattle.pgn_wire.proofs.ServingLaws.{answer-fails, never-asked, passed-few, passed-limit, passed-most, passed-runs, serving-ends, serving-fails, serving-goes, some-gives, some-passed, taken-open, taken-served, where-asked}
 use Rattle.pgn_wire.proofs.TakenLaws.{stood-rest}
 use Rattle.pgn_wire.proofs.turn.take_turn.Goals as goal
 
@@ -68,3 +68,9 @@ returns-in-Ok-None-clause-turned g c =
 pub returns-in-Err-clause-turned : goal.returns-in-Err-clause-turned
 returns-in-Err-clause-turned g c =
     λ start bytes held h. serving-fails c.in-Err.end start c.args.session.now c.args.queries.now bytes (g.S.Source.left c.args.source.now) held (g.K.Sink.held c.args.sink.now) c.in-Err.ensures.other c.in-Err.ensures.fault h
+
+pub returns-in-Err-one_query-clause-answered : goal.returns-in-Err-one_query-clause-answered
+returns-in-Err-one_query-clause-answered g c = never-asked c.in-Err-one_query.end _ c.in-Err-one_query.ensures.ends
+
+pub returns-in-Err-clause-answered : goal.returns-in-Err-clause-answered
+returns-in-Err-clause-answered g c = where-asked c.in-Err.end _ (record { is_open = c.requires.between; rested = c.requires.rested })
