@@ -1,5 +1,7 @@
 -- bytes have one list of frames
 pub mod FrameLaws
+-- frames that are put together
+pub mod TogetherLaws
 -- what comes next, as it is read
 pub mod ArrivalLaws
 -- signs have one list of asks

@@ -1,6 +1,6 @@
 -- What comes in frames, and which signs of each seat stand in them.
 use Rattle.std.specs.Prelude.{◌≡◌, ℕ, ◌+◌, ◌<◌, ◌≤◌, ◌==◌, cond, List, [], ◌∷◌, ◌++◌, length, take, drop, map, Option, Some, None}
-use Rattle.std.specs.Int.{w16, from_be_bytes}
+use Rattle.std.specs.Int.{w16, from_be_bytes, to_be_bytes}
 use Rattle.pgn_frames.specs.declared.frame_fault.FrameFault.{FrameFault}
 use Rattle.pgn_frames.specs.declared.frame_fault.FrameFault.TheVariants.{CutFrame, NoSeat}
 
@@ -58,3 +58,12 @@ signs_in (byte ∷ bytes) = map Some (byte ∷ bytes)
 abbrev pub signs_of : ℕ → List Frame → List (Option ℕ)
 signs_of seat [] = []
 signs_of seat (frame ∷ frames) = cond (frame.seat == seat) (signs_in frame.bytes) [] ++ signs_of seat frames
+
+-- a frame that can be written: it is of a seat, and its head can tell how many bytes it has
+pub record IsFrame (seats : ℕ) (frame : Frame) : Type 0 where
+  pub seat : IsSeat seats frame.seat
+  pub few : length frame.bytes ≤ 65535
+
+-- the bytes that it is written by
+abbrev pub frame_bytes : Frame → List ℕ
+frame_bytes frame = (to_be_bytes w16 frame.seat ++ to_be_bytes w16 (length frame.bytes)) ++ frame.bytes

@@ -1,5 +1,5 @@
 -- Each input has one reading.
-use Rattle.std.specs.Prelude.{◌≡◌, ℕ, ◌+◌, ◌<◌, List, ◌++◌, length, Option}
+use Rattle.std.specs.Prelude.{◌≡◌, ℕ, ◌+◌, ◌<◌, List, ◌++◌, length, Option, ◌≤◌, ◌∷◌, None, All, flat_map}
 use Rattle.pgn_language.specs.declared.scenario.ScriptLine.{ScriptLine}
 use Rattle.pgn_queries.specs.declared.wire_fault.WireFault.TheVariants.{Truncated}
 use Rattle.pgn_queries.specs.declared.coming.Coming.{Coming}
@@ -9,7 +9,7 @@ use Rattle.pgn_queries.specs.Queries.{Place, QueriesAre}
 use Rattle.pgn_turns.specs.declared.asked.Ask.{Ask}
 use Rattle.pgn_turns.specs.Asks.{GoOnFrom}
 use Rattle.pgn_frames.specs.declared.frame_fault.FrameFault.{FrameFault}
-use Rattle.pgn_frames.specs.Frames.{Frame, FramesAre}
+use Rattle.pgn_frames.specs.Frames.{Frame, FramesAre, IsFrame, frame_bytes, signs_of}
 use Rattle.pgn_frames.specs.Clients.{Close, ClientAsks, SeatAsks, fault_of}
 
 -- bytes have frames, and end by a fault or without
@@ -20,6 +20,15 @@ EachHasFrames = (seats at : ℕ) (bytes : List ℕ) → (frames : List Frame) ×
 abbrev pub OneFraming : Type 0
 OneFraming = (seats at : ℕ) (bytes : List ℕ) (frames others : List Frame) (fault other : Option FrameFault) → FramesAre seats at bytes frames fault → FramesAre seats at bytes others other
     → (frames ≡ others) × (fault ≡ other)
+
+-- frames are read as they were written
+abbrev pub FramesReadBack : Type 0
+FramesReadBack = (seats at : ℕ) (frames : List Frame) → seats ≤ 65535 → All (IsFrame seats) frames → FramesAre seats at (flat_map frame_bytes frames) frames None
+
+-- a frame may be cut in two, neither of them empty: the signs of each seat are the same
+abbrev pub CutsChangeNoSign : Type 0
+CutsChangeNoSign = (seat of : ℕ) (front back : List ℕ) (frames : List Frame) → 0 < length front → 0 < length back
+    → signs_of seat (record { seat = of; bytes = front ++ back } ∷ frames) ≡ signs_of seat (record { seat = of; bytes = front } ∷ record { seat = of; bytes = back } ∷ frames)
 
 -- a client's queries are those of its bytes, with their fault
 abbrev pub AreQueries : Type 0

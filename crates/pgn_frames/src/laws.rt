@@ -1,9 +1,17 @@
-ghost use Rattle.pgn_frames.specs.Laws.{AreQueries, EachHasFrames, EachIsAsked, MoreMayFollow, NumbersGoOn, OneAsking, OneFraming};
+ghost use Rattle.pgn_frames.specs.Laws.{AreQueries, CutsChangeNoSign, EachHasFrames, EachIsAsked, FramesReadBack, MoreMayFollow, NumbersGoOn, OneAsking, OneFraming};
 
 /// An input's bytes have frames, and no others.
 pub fn one_framing()
     ensures some { EachHasFrames }
     ensures one { OneFraming }
+{}
+
+/// Frames are put together.
+pub fn together()
+    // What is written frame by frame is read so.
+    ensures read_back { FramesReadBack }
+    // Where a client's bytes are cut into frames leaves no sign.
+    ensures cuts { CutsChangeNoSign }
 {}
 
 /// A seat is asked something by the signs of its frames, and nothing else.
