@@ -1,0 +1,2 @@
+-- what workers are and come to
+pub mod Parts
