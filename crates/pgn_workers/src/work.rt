@@ -1,15 +1,10 @@
-ghost use Rattle.std.specs.Prelude.{◌≡◌, ℕ, ◌<◌, List, [], ◌∷◌, ◌++◌, length, Ok, Result, OnOk, All};
+ghost use Rattle.std.specs.Prelude.{◌≡◌, List, ◌++◌, length, Result, All};
 ghost use Rattle.std.specs.Result.{result_and};
 ghost use Rattle.std.specs.declared.alloc.AllocError.{AllocError};
-ghost use Rattle.pgn_workers.specs.Parts.{Part, part, AreOfHalves, HasTakenRounds, StandsFor};
+ghost use Rattle.pgn_workers.specs.Parts.{Part, part, AreOfHalves, StandsFor};
 
-use crate::Turn;
-use std::alloc::AllocError;
-use std::sync::Wait;
-use std::time::Clock;
-
-/// Work that many workers do, a turn each, again and again until all are over. A part of the workers has a hand, which they share: what they
-/// have in common while they take turns on one thread. The work itself all threads share.
+/// What workers are and come to that take turns again and again until all are over. A part of the workers has a hand, which they share: what
+/// they have in common while they take turns on one thread. Who takes a turn stands in `Job`.
 pub trait Work<W, A> {
     /// The part may begin.
     ghost begins: { Self → Part W A → Type 0 };
@@ -33,37 +28,6 @@ pub trait Work<W, A> {
 
     /// The hands of two parts were made one.
     ghost joined: { Self → A → A → A → Type 0 };
-
-    /// A turn of one worker. The error is that memory did not suffice.
-    fn turn<R: Wait>(&self, rt: &R, worker: &mut W, hand: &mut A) -> Result<Turn, AllocError>
-        requires { goes self.now (part (worker.old ∷ []) hand.old) }
-        ensures took { took self.now (part (worker.old ∷ []) hand.old) (part (worker.new ∷ []) hand.new) }
-        ensures ready { OnOk result (ready self.now worker.new) }
-        ensures over { result ≡ Ok Turn.Ended → over self.now worker.new };
-
-    /// Waits behind a round in which nothing was done, and that so many such rounds came before in a row: answers how many there are with
-    /// it.
-    fn wait<R: Wait + Clock>(
-        &self,
-        rt: &R,
-        workers: &mut [W],
-        hand: &A,
-        heard: bool,
-        waits: u32,
-    ) -> u32
-        requires { goes self.now (part workers.old hand.now) }
-        ensures took { took self.now (part workers.old hand.now) (part workers.new hand.now) }
-        ensures ready { All (ready self.now) workers.new };
-
-    /// Ends a part whose workers are all over, or one of which was refused: answers what it has come to.
-    fn end(
-        &self,
-        workers: &mut [W],
-        hand: &A,
-        rounds: Result<(), AllocError>,
-    ) -> Result<(), AllocError>
-        requires { (old : Part W A) × HasTakenRounds (begins self.now) (took self.now) (over self.now) old (part workers.old hand.now) rounds }
-        ensures { (old : Part W A) → HasTakenRounds (begins self.now) (took self.now) (over self.now) old (part workers.old hand.now) rounds → ran self.now old (part workers.new hand.now) result };
 
     /// Cuts the hand of workers that have not begun: it becomes that of the first of them, so many, and the answer is that of the others.
     fn cut(&self, hand: &mut A, size: usize) -> A

@@ -14,7 +14,7 @@ run_apart-join-requires g t c =
       right = part right c.cut-other.result;
       right_new = part c.run_halves-answer.new.right c.run_halves-answer.new.other;
       answer = c.run_halves-answer.result;
-      halves = c.cut-other.ensures left right refl (subst (λ (ws : List g.row.W.Denot). g.C.Work.begins c.args.work.now (part ws c.args.hand.now)) c.split_at_mut-left.ensures.value c.requires.begins);
+      halves = c.cut-other.ensures left right refl (subst (λ (ws : List g.row.W.Denot). g.C.Work.begins c.args.job.now.work (part ws c.args.hand.now)) c.split_at_mut-left.ensures.value c.requires.begins);
       came_to = c.run_halves-answer.ensures;
       first_hand = refl;
       second_hand = refl;
@@ -25,17 +25,17 @@ run_apart-returns g t c =
     let left = c.split_at_mut-left.result.0.now in
     let right = c.split_at_mut-left.result.1.now in
     let cut = c.split_at_mut-left.ensures.value in
-    let begins = g.C.Work.begins c.args.work.now in
-    let ran = g.C.Work.ran c.args.work.now in
+    let begins = g.C.Work.begins c.args.job.now.work in
+    let ran = g.C.Work.ran c.args.job.now.work in
     subst (λ (ws : List g.row.W.Denot). MayStillRun begins ran (part ws c.args.hand.now) (part (c.run_halves-answer.new.left ++ c.run_halves-answer.new.right) c.join.new.hand) c.run_halves-answer.result) (sym cut)
-    (by-halves begins ran (g.C.Work.cut_in c.args.work.now) (g.C.Work.joined c.args.work.now) c.laws.ensures.ran_both c.laws.ensures.ran_neither
+    (by-halves begins ran (g.C.Work.cut_in c.args.job.now.work) (g.C.Work.joined c.args.job.now.work) c.laws.ensures.ran_both c.laws.ensures.ran_neither
     (part (left ++ right) c.args.hand.now) (part left c.cut-other.new.hand) (part c.run_halves-answer.new.left c.run_halves-answer.new.hand) (part right c.cut-other.result) (part c.run_halves-answer.new.right c.run_halves-answer.new.other)
     c.join.new.hand c.run_halves-answer.result
     (c.cut-other.ensures left right refl (subst (λ (ws : List g.row.W.Denot). begins (part ws c.args.hand.now)) cut c.requires.begins)) c.run_halves-answer.ensures c.join.ensures)
 
 pub run_halves-returns-in-None-Some : goal.run_halves-returns-in-None-Some
 run_halves-returns-in-None-Some g t c =
-    let ran = g.C.Work.ran c.args.work.now in
+    let ran = g.C.Work.ran c.args.job.now.work in
     record {
       first = c.run_in_turns.result;
       second = c.in-None-Some.second;
@@ -47,7 +47,7 @@ run_halves-returns-in-None-Some g t c =
 
 pub run_halves-returns-in-Some-Some : goal.run_halves-returns-in-Some-Some
 run_halves-returns-in-Some-Some g t c =
-    let ran = g.C.Work.ran c.args.work.now in
+    let ran = g.C.Work.ran c.args.job.now.work in
     record {
       first = c.in-Some-Some.first;
       second = c.in-Some-Some.second;
@@ -58,7 +58,7 @@ run_halves-returns-in-Some-Some g t c =
 
 pub run_halves-returns-in-Some-None : goal.run_halves-returns-in-Some-None
 run_halves-returns-in-Some-None g t c =
-    let ran = g.C.Work.ran c.args.work.now in
+    let ran = g.C.Work.ran c.args.job.now.work in
     record {
       first = c.in-Some-None.first;
       second = c.run_in_turns-in-Some-None.result;
