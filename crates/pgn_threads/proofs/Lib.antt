@@ -5,7 +5,6 @@ pub mod ListLemmas
 mod MeetLaws
 mod OpenLaws
 mod RunLaws
-mod RunningLaws
 mod ToldLaws
-mod TurnLaws
 pub mod WholeLaws
+mod WorkLaws

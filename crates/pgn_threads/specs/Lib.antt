@@ -2,6 +2,8 @@
 pub mod Parts
 -- what holds of whole sessions
 pub mod Whole
+-- sessions as workers
+pub mod Work
 -- how sessions that are over hear from each other
 pub mod Drain
 -- what the sessions of a scenario are given

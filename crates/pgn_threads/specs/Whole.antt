@@ -1,5 +1,5 @@
 -- What holds of whole sessions that have run.
-use Rattle.std.specs.Prelude.{◌≡◌, List, map, All, Any, Option, Some, None, Result, OnOk, OnErr}
+use Rattle.std.specs.Prelude.{◌≡◌, List, map, All, Any, Result, OnOk, OnErr}
 use Rattle.pgn_hub.specs.declared.known.Known.{Known}
 use Rattle.pgn_hub.specs.Shape.{Shape}
 use Rattle.pgn_session.specs.declared.session.Session.{Session}
@@ -12,8 +12,3 @@ pub record HaveRun {P A E : Type 0} (is_own : P → Type 0) (shape : Shape) (kno
   pub scripts : map script_of new ≡ map script_of old
   pub stopped : All (HasStopped is_own shape known) new
   pub gave_up : OnErr r (Any (HasGivenUp known) new)
-
--- sessions have run, where there is an answer, and are as they were where there is none
-abbrev pub MayHaveRun : {P A E : Type 0} → (P → Type 0) → Shape → (P → Known) → List (Session P) → List (Session P) → Option (Result A E) → Type 0
-MayHaveRun is_own shape known old new None = new ≡ old
-MayHaveRun is_own shape known old new (Some r) = HaveRun is_own shape known old new r

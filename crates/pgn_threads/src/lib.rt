@@ -27,14 +27,12 @@
 #![tactic(auto)]
 
 mod draining;
-mod halves;
+mod hub_sessions;
 pub mod laws;
 mod opening;
 mod running;
-mod turns;
 mod whole_run;
 
 pub use draining::drain;
-pub use halves::run_sessions;
-pub use turns::run_in_turns;
+pub use running::{run_in_turns, run_sessions};
 pub use whole_run::{Run, finish_run, open_on_hub, run_on_hub};

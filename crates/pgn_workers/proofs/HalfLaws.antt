@@ -1,0 +1,27 @@
+-- Two halves that have run, or neither.
+use Rattle.std.proofs.Common.{◌≡◌, List, ◌++◌, Option, Some, None, Result, sym, subst}
+use Rattle.std.specs.Result.{result_and}
+use Rattle.pgn_workers.specs.Parts.{Part, part, HalvesMayHaveRun, MayHaveRun, MayStillRun, StandsFor}
+
+module _ {W A X : Type 0} (ran : Part W A → Part W A → X → Type 0) (old new : Part W A) where
+  -- a half that has run, and one that has not
+  pub has-run : (o : Option X) (answer : X) → o ≡ Some answer → MayHaveRun ran old new o → ran old new answer
+  has-run o answer is may = subst (λ (x : Option X). MayHaveRun ran old new x) is may
+
+  pub runs-still : (o : Option X) (last : Part W A) (answer : X) → o ≡ None → MayHaveRun ran old new o → ran new last answer → ran old last answer
+  runs-still o last answer is may now =
+      let same : new ≡ old = subst (λ (x : Option X). MayHaveRun ran old new x) is may in
+      subst (λ (p : Part W A). ran p last answer) same now
+
+module _ {W A X E : Type 0} (begins : Part W A → Type 0) (ran : Part W A → Part W A → Result X E → Type 0) (cut : Part W A → Part W A → Part W A → Type 0) (joined : A → A → A → Type 0)
+    (ran_both : (p l l_new r r_new : Part W A) (h : A) (a b : Result X E) → cut p l r → ran l l_new a → ran r r_new b → joined l_new.hand r_new.hand h → ran p (part (l_new.workers ++ r_new.workers) h) (result_and a b))
+    (ran_neither : (p l r : Part W A) (h : A) → cut p l r → joined l.hand r.hand h → StandsFor begins ran p (part (l.workers ++ r.workers) h)) where
+  -- what a part comes to by its halves
+  pub by-halves : (p l l_new r r_new : Part W A) (h : A) (o : Option (Result X E)) → cut p l r → HalvesMayHaveRun ran l l_new r r_new o → joined l_new.hand r_new.hand h
+      → MayStillRun begins ran p (part (l_new.workers ++ r_new.workers) h) o
+  by-halves p l l_new r r_new h None halves same made =
+      subst (λ (x : Part W A). joined x.hand r_new.hand h → StandsFor begins ran p (part (x.workers ++ r_new.workers) h)) (sym same.0)
+      (subst (λ (y : Part W A). joined l.hand y.hand h → StandsFor begins ran p (part (l.workers ++ y.workers) h)) (sym same.1) (ran_neither p l r h halves)) made
+  by-halves p l l_new r r_new h (Some answer) halves both made =
+      subst (λ (a : Result X E). ran p (part (l_new.workers ++ r_new.workers) h) a) (sym both.answers)
+      (ran_both p l l_new r r_new h both.first both.second halves both.left_ran both.right_ran made)

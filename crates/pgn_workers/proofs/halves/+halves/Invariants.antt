@@ -1,0 +1,26 @@
+use Rattle.std.proofs.Common.{length, ◌+◌, ◌*◌}
+use Rattle.pgn_workers.proofs.halves.+halves.Given as goal
+
+abbrev pub decreases-run : goal.decreases-run
+decreases-run g l = 7 * length l.workers.now + 3
+
+abbrev pub decreases-run_apart : goal.decreases-run_apart
+decreases-run_apart g l = 7 * length l.workers.now + 2
+
+abbrev pub decreases-run_halves : goal.decreases-run_halves
+decreases-run_halves g l = 7 * (length l.left.now + length l.right.now) + 1
+
+abbrev pub decreases-join_halves : goal.decreases-join_halves
+decreases-join_halves g l = 7 * (length l.left.now + length l.right.now)
+
+abbrev pub decreases-join_halves-join_mut+arg2 : goal.decreases-join_halves-join_mut+arg2
+decreases-join_halves-join_mut+arg2 g l = 7 * length l.left.now + 5
+
+abbrev pub decreases-join_halves-join_mut+arg3 : goal.decreases-join_halves-join_mut+arg3
+decreases-join_halves-join_mut+arg3 g l = 7 * length l.right.now + 5
+
+abbrev pub decreases-arrive : goal.decreases-arrive
+decreases-arrive g l = 7 * length l.workers.now + 4
+
+abbrev pub decreases-expect : goal.decreases-expect
+decreases-expect g l = 7 * length l.workers.now + 4

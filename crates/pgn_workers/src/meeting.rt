@@ -1,0 +1,65 @@
+use std::sync::Wait;
+use std::sync::atomic::{AtomicU64, Ordering};
+use std::thread;
+use std::time::Duration;
+
+// What is in the word: nothing yet; that the half on the new thread has come; or that the caller has gone on without it.
+const NOBODY: u64 = 0;
+
+const HERE: u64 = 1;
+
+const GONE: u64 = 2;
+
+// How often the caller looks for the new thread: it gives way behind the first looks, and sleeps behind the others until the word changes
+// or a millisecond is over.
+const LOOKS_TO_MEET: u32 = 200;
+
+const LOOKS_BEFORE_SLEEP: u32 = 16;
+
+// A word on which two halves of some work meet before either begins: the one on a new thread, and the caller's. Where no thread could be
+// had they don't meet, and neither begins. No contract knows who was first at the word.
+#[derive(Drop)]
+pub(crate) struct Meeting {
+    word: AtomicU64,
+}
+
+impl Meeting {
+    // One to which nobody has come.
+    pub(crate) fn new() -> Meeting {
+        Meeting {
+            word: AtomicU64::new(NOBODY),
+        }
+    }
+
+    // The half on the new thread: whether it may begin, since the caller has not gone on without it.
+    pub(crate) fn comes(&self) -> bool {
+        takes(&self.word, HERE)
+    }
+
+    // The caller's half, which waits for the other one: whether it may begin, since that one has come in time.
+    pub(crate) fn expects<R: Wait>(&self, rt: &R) -> bool {
+        is_met(rt, &self.word) || !takes(&self.word, GONE)
+    }
+}
+
+// Whether the other half comes in time.
+fn is_met<R: Wait>(rt: &R, word: &AtomicU64) -> bool {
+    for looks in 0..LOOKS_TO_MEET {
+        if word.load(Ordering::SeqCst) != NOBODY {
+            return true;
+        }
+        if looks < LOOKS_BEFORE_SLEEP {
+            thread::yield_now();
+        } else {
+            word.park_timeout(rt, NOBODY as u32, Duration::from_millis(1));
+        }
+    }
+    false
+}
+
+// Puts this into the word, where nothing is in it yet, and wakes who sleeps on it.
+fn takes(word: &AtomicU64, who: u64) -> bool {
+    let taken = word.compare_exchange(NOBODY, who, Ordering::SeqCst, Ordering::SeqCst);
+    word.wake_all();
+    taken.is_ok()
+}
