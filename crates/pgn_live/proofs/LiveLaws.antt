@@ -11,13 +11,8 @@ use Rattle.pgn_hub.specs.Shape.{Shape}
 use Rattle.pgn_language.specs.declared.scenario.Section.{Section}
 use Rattle.pgn_language.specs.Inputs.{AreNumbered}
 use Rattle.pgn_model.specs.declared.item.Item.{Item}
-use Rattle.pgn_outlet.specs.declared.came.Came.{Came}
-use Rattle.pgn_outlet.specs.declared.hand.Hand.{Hand}
-use Rattle.pgn_outlet.specs.Cames.{items_in, items_of}
 use Rattle.pgn_outlet.specs.Passes.{HasAll}
-use Rattle.pgn_outlet.specs.Examples.{line_of}
 use Rattle.pgn_outlet.specs.Rule.{MayPush, sender, taker, taken_over}
-use Rattle.pgn_outlet.proofs.CameLaws.{items_of-append, none_of_other}
 use Rattle.pgn_session.specs.declared.session.Session.{Session}
 use Rattle.pgn_session.specs.Parts.{Begins}
 use Rattle.pgn_session.specs.Runs.{HasStopped, IsLawful, IsOver}
@@ -26,8 +21,11 @@ use Rattle.pgn_live.specs.declared.lives.LiveFault.TheVariants.{Write, Memory}
 use Rattle.pgn_text.specs.declared.out.Out.{Out}
 use Rattle.pgn_text.specs.Rendering.{Puts}
 use Rattle.pgn_text.proofs.PutsLaws.{Puts-none, Puts-same, Puts-trans, Writes-from_Puts}
+use Rattle.pgn_live.specs.Cames.{Came, Hand, items_in, items_of}
+use Rattle.pgn_live.specs.Examples.{line_of}
 use Rattle.pgn_live.specs.Lives.{answer_of, log_of, logs_of, tagged, AreFirst, AreWhole, CameTo, ComesFirst, ComesWhole, IsNumber, Wrote}
 use Rattle.pgn_live.specs.Playing.{sections_of, HasPlayed, HasPlayedOut, HavePlayed}
+use Rattle.pgn_live.proofs.CameLaws.{items_of-append, items_same, none_of_other}
 use Rattle.pgn_live.proofs.RowLaws.{same-length, sections-same}
 use Rattle.pgn_live.proofs.WriteLaws.{stand-fresh, tagged-append}
 
@@ -41,8 +39,8 @@ no-number : (n : ℕ) (cames : List Came) → All (λ came. IsNumber came.sessio
 no-number n cames numbers out =
     came-none n cames (All-weaker (λ (c : Came). IsNumber c.session) (λ (c : Came). c.session ≢ n) (λ c number e. out (subst IsNumber e number)) cames numbers)
 
-in-own : (n : ℕ) (came : Came) → came.session ≡ n → items_in n came ≡ came.items
-in-own n came e = ap (λ b. cond b came.items []) (eq-eqb came.session n e)
+in-own : (n : ℕ) (came : Came) → came.session ≡ n → items_in n came ≡ came.what
+in-own n came e = ap (λ b. cond b came.what []) (eq-eqb came.session n e)
 
 module _ {P : Type 0} (told : Session P → Came) (named : (s : Session P) → (told s).session ≡ s.section.no) where
   -- of what is told of each session, that which a number has
@@ -67,7 +65,7 @@ record Found {P : Type 0} (told : Session P → Came) (Q : Session P → Type 0)
   number : session.section.no ≡ n
   has : Q session
   shown : items_of n (logs_of xs) ≡ session.items.items
-  tells : items_of n (map told xs) ≡ (told session).items
+  tells : items_of n (map told xs) ≡ (told session).what
 
 module _ {P : Type 0} (told : Session P → Came) (named : (s : Session P) → (told s).session ≡ s.section.no) (Q : Session P → Type 0) where
   found : (n k : ℕ) (xs : List (Session P)) → AreNumbered k (sections_of xs) → k ≤ n → n < k + length xs → All Q xs → Found told Q n xs
@@ -83,7 +81,7 @@ module _ {P : Type 0} (told : Session P → Came) (named : (s : Session P) → (
             number = e;
             has = All-head Q x xs all;
             shown = ap (λ (l : List Item). l ++ items_of n (logs_of xs)) (in-own n (log_of x) e) ∙ ap (λ (l : List Item). x.items.items ++ l) (told-none (λ (s : Session P). log_of s) (λ s. refl) n (k + 1) xs numbered.1 before) ∙ append-nil x.items.items;
-            tells = ap (λ (l : List Item). l ++ items_of n (map told xs)) (in-own n (told x) (named x ∙ e)) ∙ ap (λ (l : List Item). (told x).items ++ l) (told-none told named n (k + 1) xs numbered.1 before) ∙ append-nil (told x).items;
+            tells = ap (λ (l : List Item). l ++ items_of n (map told xs)) (in-own n (told x) (named x ∙ e)) ∙ ap (λ (l : List Item). (told x).what ++ l) (told-none told named n (k + 1) xs numbered.1 before) ∙ append-nil (told x).what;
           }
       either behind (inr apart) =
           let is : x.section.no ≡ k = numbered.0 in
@@ -166,7 +164,7 @@ module _ {P A E : Type 0} (is_own : P → Type 0) (shape : Shape) (known : P →
 
   -- what of a session did not come
   abbrev rest_of : Session P → Came
-  rest_of s = record { session = s.section.no; items = drop (length (items_of s.section.no cames)) s.items.items }
+  rest_of s = record { session = s.section.no; what = drop (length (items_of s.section.no cames)) s.items.items }
 
   rests-came : AreWhole (logs_of new) (cames ++ map rest_of new)
   rests-came n = items_of-append n cames (map rest_of new) ∙ at (place n (length new))
@@ -245,7 +243,7 @@ pub came-out : {S : Type 0} (held : S → Option (List ℕ)) (faults : S → ℕ
     → Wrote held faults sections t₀ t₁ s₀ o₀ s₁ o₁ → Wrote held faults sections c w s₁ o₁ s₂ o₂ → HasAll w → o₀.kept ≡ [] → o₀.so_far ≡ Ok tt → OnOk o₂.so_far (o₂.kept ≡ []) → CameOut held faults sections v w s₀ s₂ o₂.so_far
 came-out held faults sections v t₀ t₁ c w s₀ s₁ s₂ o₀ o₁ o₂ sends takes closed f g has none fine sent = record {
   numbers = subst (λ (l : List Came). All (λ (came : Came). IsNumber came.session) l) (sym got) all_numbers;
-  has_all = λ n number. has n (subst (λ (x : Hand). MayPush x n) (sym w_is) (number.0, (let most : n ≤ 256 = number.1 in omega (arith, most)))) ∙ ap (λ (x : Hand). items_of n x.sent) w_is;
+  has_all = λ n number. items_same n w.got w.sent (has n (subst (λ (x : Hand). MayPush x n) (sym w_is) (number.0, (let most : n ≤ 256 = number.1 in omega (arith, most))))) ∙ ap (λ (x : Hand). items_of n x.sent) w_is;
   writes = subst (λ (l : List Came). Writes (held s₀) (held s₂) o₂.so_far (tagged sections l)) (sym got) (Writes-from_Puts none fine puts (Puts-none held faults s₂ o₂) sent);
   cause = puts.cause (faults s₀) (subst (λ (r : Result Unit Failed). HasCause (faults s₀) (faults s₀) r) (sym fine) (record { later = omega arith; failed = tt; passed = refl }));
 }

@@ -6,13 +6,12 @@ use Rattle.std.proofs.lemmas.List.{get_or-set_same, get_or-set_other, length-set
 use Rattle.std.proofs.lemmas.List.Elements.{All-nil, All-cons, All-append}
 use Rattle.pgn_language.specs.declared.scenario.Section.{Section}
 use Rattle.pgn_model.specs.Text.{joined}
-use Rattle.pgn_outlet.specs.declared.came.Came.{Came}
-use Rattle.pgn_outlet.specs.declared.hand.Hand.{Hand}
 use Rattle.pgn_outlet.specs.Rule.{with_got}
 use Rattle.pgn_text.specs.declared.line_cursor.LineCursor.{LineCursor}
 use Rattle.pgn_text.specs.declared.out.Out.{Out}
 use Rattle.pgn_text.specs.Rendering.{HasPassed, Puts, lines_of}
 use Rattle.pgn_text.proofs.PutsLaws.{Puts-none, Puts-trans, Puts-same, joined-append}
+use Rattle.pgn_live.specs.Cames.{Came, Hand}
 use Rattle.pgn_live.specs.Lives.{came_lines, tagged, IsFresh, IsNumber, StandIn, Wrote}
 
 -- the text of two parts

@@ -1,3 +1,5 @@
+-- what comes of sessions
+pub mod Cames
 -- what a session has told
 pub mod Telling
 -- what holds of sessions that run and tell
@@ -6,3 +8,7 @@ pub mod Playing
 pub mod Turns
 -- what is written while they run
 pub mod Lives
+-- what holds of them as workers
+pub mod Workers
+-- data of the examples
+pub mod Examples

@@ -9,12 +9,10 @@ use Rattle.pgn_language.specs.declared.scenario.Section.{Section}
 use Rattle.pgn_model.specs.declared.item.Item.{Item}
 use Rattle.pgn_model.specs.declared.trace.Trace.{Trace}
 use Rattle.pgn_model.specs.Text.{joined}
-use Rattle.pgn_outlet.specs.declared.came.Came.{Came}
-use Rattle.pgn_outlet.specs.declared.hand.Hand.{Hand}
-use Rattle.pgn_outlet.specs.Cames.{items_of}
 use Rattle.pgn_session.specs.declared.session.Session.{Session}
 use Rattle.pgn_session.specs.Parts.{Begins}
 use Rattle.pgn_session.specs.Runs.{HasStopped, IsLawful, IsOver}
+use Rattle.pgn_live.specs.Cames.{Came, Hand, items_of}
 use Rattle.pgn_live.specs.declared.lives.LiveFault.{LiveFault}
 use Rattle.pgn_live.specs.declared.lives.LiveFault.TheVariants.{Write, Memory}
 use Rattle.pgn_text.specs.declared.line_cursor.LineCursor.{LineCursor}
@@ -23,7 +21,7 @@ use Rattle.pgn_text.specs.Rendering.{HasPassed, Puts, lines_of, marked_items}
 
 -- the lines of what came of a session, each behind its number
 abbrev pub came_lines : List Section → Came → List (List ℕ)
-came_lines sections came = marked_items (Some came.session) (lines_of came.session sections) came.items
+came_lines sections came = marked_items (Some came.session) (lines_of came.session sections) came.what
 
 -- the text of all that came
 abbrev pub tagged : List Section → List Came → List ℕ
@@ -31,14 +29,14 @@ tagged sections cames = joined (flat_map (came_lines sections) cames)
 
 -- such items of a session
 abbrev pub came_from : ℕ → List Item → Came
-came_from n items = record { session = n; items = items }
+came_from n items = record { session = n; what = items }
 
 -- what a session has recorded, as if it came in one piece; a trace
 abbrev pub log_of : {P : Type 0} → Session P → Came
-log_of s = record { session = s.section.no; items = s.items.items }
+log_of s = record { session = s.section.no; what = s.items.items }
 
 abbrev pub log_of_trace : Trace → Came
-log_of_trace trace = record { session = trace.session; items = trace.items }
+log_of_trace trace = record { session = trace.session; what = trace.items }
 
 abbrev pub logs_of : {P : Type 0} → List (Session P) → List Came
 logs_of sessions = map log_of sessions

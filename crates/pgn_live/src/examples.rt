@@ -1,6 +1,6 @@
 ghost use Rattle.std.specs.Prelude.{[], ◌∷◌, ◌++◌};
+ghost use Rattle.pgn_live.specs.Examples.{line_of};
 ghost use Rattle.pgn_live.specs.Lives.{AreFirst, AreWhole};
-ghost use Rattle.pgn_outlet.specs.Examples.{line_of};
 
 /// Two sessions, of which each has begun two lines: they may be mixed.
 pub fn met()

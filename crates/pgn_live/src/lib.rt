@@ -12,10 +12,9 @@
 #![tactic(auto)]
 
 pub mod examples;
-mod halves;
+mod live_sessions;
 mod lives;
 mod telling;
-mod turns;
 mod writing;
 
 pub use lives::{LiveFault, run_live};

@@ -1,32 +1,33 @@
-ghost use Rattle.std.specs.Prelude.{◌≡◌, ◌<◌, ◌≤◌, true, map, length, Err, OnOk, All};
+ghost use Rattle.std.specs.Prelude.{◌≡◌, ◌<◌, ◌≤◌, true, map, length, Err, OnOk, OnErr, All};
 ghost use Rattle.std.specs.Io.KnownBytes.{Appends};
 ghost use Rattle.std.specs.Thread.{IsSync, IsSend};
 ghost use Rattle.pgn_base.specs.Outside.{AppendsPrefix, HasCause, Rose, Writes};
 ghost use Rattle.pgn_language.specs.Inputs.{AreNumbered};
 ghost use Rattle.pgn_live.specs.Lives.{CameTo, ComesFirst, ComesWhole, StandIn, Wrote, answer_of, logs_of};
-ghost use Rattle.pgn_live.specs.Playing.{HavePlayed, MayPlay, sections_of};
+ghost use Rattle.pgn_live.specs.Playing.{HavePlayed, IsNoneTold, MayPlay, sections_of};
+ghost use Rattle.pgn_live.specs.Turns.{HasToldTurn, HaveEnded, IsToldBy};
 ghost use Rattle.pgn_outlet.specs.Passes.{IsPassOf, knows};
-ghost use Rattle.pgn_outlet.specs.Rule.{sender};
+ghost use Rattle.pgn_outlet.specs.Rule.{MayPush, sender};
 ghost use Rattle.pgn_outlet.specs.Rule as rule;
-ghost use Rattle.pgn_session.specs.Runs.{HasStopped, IsLawful, IsOver, IsReady, script_of};
+ghost use Rattle.pgn_session.specs.Runs.{HasStopped, IsHeld, IsLawful, IsOver, IsReady, script_of, shown_of};
 
-use crate::halves::play_sessions;
+use crate::live_sessions::{LiveSessions, end_all, take_turn};
+use crate::telling::Telling;
 use crate::writing::{cursors_for, write_rest, write_until};
 use crossbeam_utils::CachePadded;
 use pgn_base::{Failed, Sink};
 use pgn_hub::{Hub, PassView};
 use pgn_language::Section;
+use pgn_model::Items;
 use pgn_outlet::{Outlet, OutletPass};
-use pgn_session::{Session, give_up_all};
+use pgn_session::{Session, Step, give_up_all, wait_together, waits_behind};
 use pgn_text::{LineCursor, Out};
+use pgn_workers::{Job, Pause, Turn, run};
 use std::alloc::{AllocError, Global};
 use std::sync::Wait;
 use std::sync::atomic::{AtomicU64, Ordering};
 use std::thread::{Threads, join_mut};
 use std::time::Clock;
-
-// So many sessions may tell.
-const SPAN: u64 = 256;
 
 /// Why sessions that ran live did not come to a good end.
 #[derive(Clone, Copy, Debug, PartialEq, Eq)]
@@ -111,9 +112,9 @@ fn run_to_the_end<
     rt: &R,
     alloc: Global,
     hub: &H,
-    outlet: Outlet,
-    mut pass: OutletPass,
-    mut taker: OutletPass,
+    outlet: Outlet<Items>,
+    pass: OutletPass<Items>,
+    mut taker: OutletPass<Items>,
     sections: &[Section],
     cursors: &mut [LineCursor],
     sessions: &mut [Session<P>],
@@ -130,9 +131,21 @@ fn run_to_the_end<
     ensures came { CameTo (H.is_pass hub.now) (H.shape hub.now) P.known K.held K.faults sections.now sessions.new sink.old sink.new result }
 {
     let mut out = Out::new();
+    let mut telling = Telling::new(pass);
     let played = play_and_write(
-        rt, alloc, hub, &outlet, &mut pass, &mut taker, sections, cursors, sessions, &mut out, sink,
+        rt,
+        alloc,
+        hub,
+        &outlet,
+        &mut telling,
+        &mut taker,
+        sections,
+        cursors,
+        sessions,
+        &mut out,
+        sink,
     );
+    let Telling { mut pass, .. } = telling;
     outlet.close(&mut pass, taker);
     write_rest(rt, &outlet, &mut pass, sections, cursors, &mut out, sink);
     outlet.destroy();
@@ -150,23 +163,23 @@ fn play_and_write<
     rt: &R,
     alloc: Global,
     hub: &H,
-    outlet: &Outlet,
-    pass: &mut OutletPass,
-    taker: &mut OutletPass,
+    outlet: &Outlet<Items>,
+    telling: &mut Telling,
+    taker: &mut OutletPass<Items>,
     sections: &[Section],
     cursors: &mut [LineCursor],
     sessions: &mut [Session<P>],
     out: &mut Out,
     sink: &mut K,
 ) -> Result<(), AllocError>
-    requires own { IsPassOf outlet.now pass.old × IsPassOf outlet.now taker.old }
-    requires spans { (knows pass.old).count ≡ SPAN }
-    requires may { MayPlay (H.is_pass hub.now) (H.shape hub.now) P.known sessions.old (knows pass.old) }
+    requires own { IsPassOf outlet.now telling.old.pass × IsPassOf outlet.now taker.old }
+    requires may { MayPlay (H.is_pass hub.now) (H.shape hub.now) P.known sessions.old (knows telling.old.pass) }
+    requires none { IsNoneTold telling.old.told }
     requires takes { (knows taker.old).takes ≡ true }
     requires stand { StandIn sections.now cursors.old }
-    ensures own { IsPassOf outlet.now pass.new × IsPassOf outlet.now taker.new }
+    ensures own { IsPassOf outlet.now telling.new.pass × IsPassOf outlet.now taker.new }
     ensures stand { StandIn sections.now cursors.new }
-    ensures played { HavePlayed (H.is_pass hub.now) (H.shape hub.now) P.known sessions.old sessions.new (knows pass.old) (knows pass.new) result }
+    ensures played { HavePlayed (H.is_pass hub.now) (H.shape hub.now) P.known sessions.old sessions.new (knows telling.old.pass) (knows telling.new.pass) result }
     ensures wrote { Wrote K.held K.faults sections.now (knows taker.old) (knows taker.new) sink.old out.old sink.new out.new }
 {
     let padded = CachePadded::new(AtomicU64::new(0));
@@ -178,9 +191,9 @@ fn play_and_write<
             ensures { IsPassOf outlet.entry.now taker.exit.now × StandIn sections.entry.now cursors.exit.now × Wrote K.held K.faults sections.entry.now (knows taker.entry.now) (knows taker.exit.now) sink.entry.now out.entry.now sink.exit.now out.exit.now }
         { write_until(rt, end, outlet, taker, sections, cursors, out, sink) },
         &mut || -> Result<(), AllocError>
-            requires { IsSync R.row × IsSync H.row × IsSend P.row × IsPassOf outlet.now pass.now × ((knows pass.now).count ≡ SPAN) × MayPlay (H.is_pass hub.now) (H.shape hub.now) P.known sessions.now (knows pass.now) }
-            ensures { IsPassOf outlet.entry.now pass.exit.now × HavePlayed (H.is_pass hub.entry.now) (H.shape hub.entry.now) P.known sessions.entry.now sessions.exit.now (knows pass.entry.now) (knows pass.exit.now) result }
-        { play_and_end(rt, alloc, hub, end, outlet, pass, sessions) },
+            requires { IsSync R.row × IsSync H.row × IsSend P.row × IsPassOf outlet.now telling.now.pass × MayPlay (H.is_pass hub.now) (H.shape hub.now) P.known sessions.now (knows telling.now.pass) × IsNoneTold telling.now.told }
+            ensures { IsPassOf outlet.entry.now telling.exit.now.pass × HavePlayed (H.is_pass hub.entry.now) (H.shape hub.entry.now) P.known sessions.entry.now sessions.exit.now (knows telling.entry.now.pass) (knows telling.exit.now.pass) result }
+        { play_and_end(rt, alloc, hub, end, outlet, telling, sessions) },
     );
     played
 }
@@ -195,20 +208,64 @@ fn play_and_end<
     alloc: Global,
     hub: &H,
     end: &AtomicU64,
-    outlet: &Outlet,
-    pass: &mut OutletPass,
+    outlet: &Outlet<Items>,
+    telling: &mut Telling,
     sessions: &mut [Session<P>],
 ) -> Result<(), AllocError>
-    requires own { IsPassOf outlet.now pass.old }
-    requires spans { (knows pass.old).count ≡ SPAN }
-    requires may { MayPlay (H.is_pass hub.now) (H.shape hub.now) P.known sessions.old (knows pass.old) }
-    ensures own { IsPassOf outlet.now pass.new }
-    ensures played { HavePlayed (H.is_pass hub.now) (H.shape hub.now) P.known sessions.old sessions.new (knows pass.old) (knows pass.new) result }
+    requires own { IsPassOf outlet.now telling.old.pass }
+    requires may { MayPlay (H.is_pass hub.now) (H.shape hub.now) P.known sessions.old (knows telling.old.pass) }
+    requires none { IsNoneTold telling.old.told }
+    ensures own { IsPassOf outlet.now telling.new.pass }
+    ensures played { HavePlayed (H.is_pass hub.now) (H.shape hub.now) P.known sessions.old sessions.new (knows telling.old.pass) (knows telling.new.pass) result }
 {
-    let played = play_sessions(rt, alloc, hub, outlet, pass, SPAN, sessions);
+    let played = play(rt, alloc, hub, outlet, telling, sessions);
     end.store(1, Ordering::SeqCst);
     end.wake_all();
     played
+}
+
+// Runs the sessions, on threads while they can be had.
+fn play<P: PassView + Send + Drop, H: Hub<Pass = P> + Sync, R: Threads + Wait + Clock + Sync>(
+    rt: &R,
+    alloc: Global,
+    hub: &H,
+    outlet: &Outlet<Items>,
+    telling: &mut Telling,
+    sessions: &mut [Session<P>],
+) -> Result<(), AllocError>
+    requires own { IsPassOf outlet.now telling.old.pass }
+    requires may { MayPlay (H.is_pass hub.now) (H.shape hub.now) P.known sessions.old (knows telling.old.pass) }
+    requires none { IsNoneTold telling.old.told }
+    ensures own { IsPassOf outlet.now telling.new.pass }
+    ensures played { HavePlayed (H.is_pass hub.now) (H.shape hub.now) P.known sessions.old sessions.new (knows telling.old.pass) (knows telling.new.pass) result }
+{
+    let turn = |session: &mut Session<P>, telling: &mut Telling| -> Result<Turn, AllocError>
+        requires { IsPassOf outlet.now telling.now.pass × IsReady (H.is_pass hub.now) (H.shape hub.now) P.known session.now × MayPush (knows telling.now.pass) session.now.section.no × IsToldBy telling.now.told (knows telling.now.pass) session.now }
+        ensures { IsPassOf outlet.entry.now telling.exit.now.pass × HasToldTurn (H.is_pass hub.entry.now) (H.shape hub.entry.now) P.known session.entry.now session.exit.now telling.entry.now.told telling.exit.now.told (knows telling.entry.now.pass) (knows telling.exit.now.pass) result }
+    { take_turn(rt, alloc, hub, outlet, session, telling) };
+    let wait = |sessions: &mut [Session<P>], telling: &mut Telling, pause: Pause| -> u32
+        requires { All (IsReady (H.is_pass hub.now) (H.shape hub.now) P.known) sessions.now }
+        ensures { (telling.exit.now ≡ telling.entry.now) × All (IsReady (H.is_pass hub.entry.now) (H.shape hub.entry.now) P.known) sessions.exit.now × (map script_of sessions.exit.now ≡ map script_of sessions.entry.now) × (map shown_of sessions.exit.now ≡ map shown_of sessions.entry.now) }
+    {
+        let _telling = telling;
+        let waits = waits_behind(pause.waits, pause.heard);
+        wait_together(rt, hub, sessions, Step::Waiting, waits)
+    };
+    let end = |sessions: &mut [Session<P>], telling: &mut Telling, rounds: Result<
+        (),
+        AllocError,
+    >| -> Result<(), AllocError>
+        requires { OnErr rounds (All (IsHeld (H.is_pass hub.now) (H.shape hub.now)) sessions.now) }
+        ensures { (telling.exit.now ≡ telling.entry.now) × HaveEnded P.known sessions.entry.now sessions.exit.now telling.entry.now.told rounds result }
+    { end_all(hub, sessions, &telling.told, rounds) };
+    let work = LiveSessions { hub, outlet };
+    let job = Job {
+        work,
+        turn,
+        wait,
+        end,
+    };
+    run(rt, &job, sessions, telling)
 }
 
 // What a run has come to whose writes and whose sessions have come to this.

@@ -1,5 +1,6 @@
-ghost use Rattle.std.specs.Prelude.{◌≡◌, IfOk, OnOk, OnErr};
-ghost use Rattle.pgn_live.specs.Telling.{IsTold, HasPushedFor};
+ghost use Rattle.std.specs.Prelude.{◌≡◌, ℕ, IfOk, OnOk, OnErr};
+ghost use Rattle.pgn_live.specs.Playing.{IsNoneTold};
+ghost use Rattle.pgn_live.specs.Telling.{IsTold, HasToldFor, told_of};
 ghost use Rattle.pgn_outlet.specs.Passes.{IsPassOf, knows};
 ghost use Rattle.pgn_outlet.specs.Rule.{MayPush, with_sent};
 
@@ -9,30 +10,70 @@ use pgn_outlet::{Came, Outlet, OutletPass};
 use std::alloc::{AllocError, Global};
 use std::sync::Wait;
 
-// Pushes what a session has recorded and not told yet, of which so many items were told: answers how many are told then. Where memory does
-// not suffice nothing is pushed, and the next call tries again from the same item on.
+// A place for each session by its number, which is at most 256.
+pub(crate) const PLACES: usize = 257;
+
+/// What sessions tell by that share a thread: a pass for their numbers, and how many items of each were told.
+#[derive(Drop)]
+pub(crate) struct Telling {
+    pub(crate) pass: OutletPass<Items>,
+    pub(crate) told: [usize; PLACES],
+}
+
+impl Telling {
+    /// One by which nothing was told.
+    pub(crate) fn new(pass: OutletPass<Items>) -> Telling
+        ensures pass { result.pass ≡ pass }
+        ensures none { IsNoneTold result.told }
+    {
+        Telling {
+            pass,
+            told: [0; PLACES],
+        }
+    }
+}
+
+/// How many items of a session were told.
+pub(crate) fn told_so_far(told: &[usize; PLACES], session: SessionNo) -> usize
+    ensures { result ≡ told_of told.now session }
+{
+    told[session.get() as usize]
+}
+
+/// Pushes what a session has recorded and not told yet, and answers whether anything was told. Where memory does not suffice nothing is pushed,
+/// and the next call tries again from the same item on.
 pub(crate) fn tell<R: Wait>(
     rt: &R,
     alloc: Global,
-    outlet: &Outlet,
-    pass: &mut OutletPass,
+    outlet: &Outlet<Items>,
+    telling: &mut Telling,
     session: SessionNo,
     items: &[Item],
-    told: usize,
-) -> usize
-    requires own { IsPassOf outlet.now pass.old }
-    requires may { MayPush (knows pass.old) session }
-    requires told { IsTold session items.now told (knows pass.old) }
-    ensures own { IsPassOf outlet.now pass.new }
-    ensures told { IsTold session items.now result (knows pass.new) }
-    ensures pushed { HasPushedFor session (knows pass.old) (knows pass.new) }
+) -> bool
+    requires own { IsPassOf outlet.now telling.old.pass }
+    requires may { MayPush (knows telling.old.pass) session }
+    requires told { IsTold session items.now (told_of telling.old.told session) (knows telling.old.pass) }
+    ensures own { IsPassOf outlet.now telling.new.pass }
+    ensures told { IsTold session items.now (told_of telling.new.told session) (knows telling.new.pass) }
+    ensures alone { HasToldFor session telling.old.told telling.new.told (knows telling.old.pass) (knows telling.new.pass) }
 {
+    let told = told_so_far(&telling.told, session);
     if told >= items.len() {
-        return told;
+        return false;
     }
-    match push_copies(rt, alloc, outlet, pass, session, &items[told..]) {
-        Ok(()) => items.len(),
-        Err(_) => told,
+    match push_copies(
+        rt,
+        alloc,
+        outlet,
+        &mut telling.pass,
+        session,
+        &items[told..],
+    ) {
+        Ok(()) => {
+            telling.told[session.get() as usize] = items.len();
+            true
+        }
+        Err(_) => false,
     }
 }
 
@@ -40,19 +81,19 @@ pub(crate) fn tell<R: Wait>(
 fn push_copies<R: Wait>(
     rt: &R,
     alloc: Global,
-    outlet: &Outlet,
-    pass: &mut OutletPass,
+    outlet: &Outlet<Items>,
+    pass: &mut OutletPass<Items>,
     session: SessionNo,
     items: &[Item],
 ) -> Result<(), AllocError>
     requires own { IsPassOf outlet.now pass.old }
     requires may { MayPush (knows pass.old) session }
     ensures own { IsPassOf outlet.now pass.new }
-    ensures pushed { OnOk result (knows pass.new ≡ with_sent (knows pass.old) (record { session = session; items = items.now })) }
+    ensures pushed { OnOk result (knows pass.new ≡ with_sent (knows pass.old) (record { session = session; what = items.now })) }
     ensures refused { OnErr result (knows pass.new ≡ knows pass.old) }
 {
-    let items = copies(alloc, items)?;
-    outlet.push(rt, pass, Came { session, items })
+    let what = copies(alloc, items)?;
+    outlet.push(rt, pass, Came { session, what })
 }
 
 // Copies of items.

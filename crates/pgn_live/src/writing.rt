@@ -8,7 +8,7 @@ ghost use Rattle.pgn_text.specs.Rendering.{Puts};
 
 use pgn_base::{SessionNo, Sink};
 use pgn_language::Section;
-use pgn_model::Item;
+use pgn_model::{Item, Items};
 use pgn_outlet::{Came, Outlet, OutletPass};
 use pgn_text::{LineCursor, Out, lines_of};
 use std::alloc::{AllocError, Global};
@@ -44,7 +44,7 @@ pub fn write_items<K: Sink>(
     session: SessionNo,
     items: &[Item],
 )
-    ensures { Puts K.held K.faults sink.old out.old sink.new out.new (tagged sections.now (record { session = session; items = items.now } ∷ [])) }
+    ensures { Puts K.held K.faults sink.old out.old sink.new out.new (tagged sections.now (record { session = session; what = items.now } ∷ [])) }
 {
     let number = session.get();
     let lines = lines_of(sections, number);
@@ -57,7 +57,7 @@ fn write_came<K: Sink>(
     out: &mut Out,
     sections: &[Section],
     cursors: &mut [LineCursor],
-    came: &Came,
+    came: &Came<Items>,
 )
     requires stand { StandIn sections.now cursors.old }
     ensures stand { StandIn sections.now cursors.new }
@@ -73,7 +73,7 @@ fn write_came<K: Sink>(
             lines,
             &mut LineCursor::new(),
             Some(number),
-            came.items.as_slice(),
+            came.what.as_slice(),
         );
         return;
     }
@@ -82,15 +82,15 @@ fn write_came<K: Sink>(
         lines,
         &mut cursors[place],
         Some(number),
-        came.items.as_slice(),
+        came.what.as_slice(),
     );
 }
 
 // Takes what has come and gives its lines out; where nothing has, it sends what is kept back. Answers whether anything had come.
 fn write_next<R: Wait, K: Sink>(
     rt: &R,
-    outlet: &Outlet,
-    pass: &mut OutletPass,
+    outlet: &Outlet<Items>,
+    pass: &mut OutletPass<Items>,
     sections: &[Section],
     cursors: &mut [LineCursor],
     out: &mut Out,
@@ -122,8 +122,8 @@ fn write_next<R: Wait, K: Sink>(
 pub(crate) fn write_until<R: Wait, K: Sink>(
     rt: &R,
     end: &AtomicU64,
-    outlet: &Outlet,
-    pass: &mut OutletPass,
+    outlet: &Outlet<Items>,
+    pass: &mut OutletPass<Items>,
     sections: &[Section],
     cursors: &mut [LineCursor],
     out: &mut Out,
@@ -167,8 +167,8 @@ fn wait_for_more<R: Wait>(rt: &R, end: &AtomicU64, empty: u32) -> u32 {
 // Writes all that is left, and sends what is kept back.
 pub(crate) fn write_rest<R: Wait, K: Sink>(
     rt: &R,
-    outlet: &Outlet,
-    pass: &mut OutletPass,
+    outlet: &Outlet<Items>,
+    pass: &mut OutletPass<Items>,
     sections: &[Section],
     cursors: &mut [LineCursor],
     out: &mut Out,

@@ -19,6 +19,7 @@ use std::time::Clock;
 
 mod gate;
 mod program;
+mod queue;
 mod sinks;
 
 fn scenario_of(alloc: Global, input: &str) -> Result<Scenario, Fail>

@@ -1,43 +1,42 @@
--- Two sessions that have pushed a line each.
+-- Two sessions that have pushed a number each.
 use Rattle.std.proofs.Common.{◌≡◌, ℕ, zero, suc, ◌==◌, true, false, true≢false, cond, List, [], ◌∷◌, ◌++◌, sym, refl, ap, subst, arith}
 use mathlib.Core.Option.{some-injective, some-ne-none}
-use Rattle.pgn_model.specs.declared.item.Item.{Item}
 use Rattle.pgn_outlet.specs.declared.came.Came.{Came}
 use Rattle.pgn_outlet.specs.declared.hand.Hand.{Hand}
-use Rattle.pgn_outlet.specs.Cames.{items_of}
+use Rattle.pgn_outlet.specs.Cames.{what_of}
 use Rattle.pgn_outlet.specs.Rule.{Fits, Each, Comes, hand}
-use Rattle.pgn_outlet.specs.Examples.{line_of}
+use Rattle.pgn_outlet.specs.Examples.{number_of}
 use Rattle.pgn_outlet.proofs.CameLaws.{none_of_other}
 
 abbrev owner : ℕ → ℕ
 owner n = cond (n == 2) 1 0
 
-abbrev all : List Came
-all = line_of 1 3 ∷ line_of 2 5 ∷ []
+abbrev all : List (Came ℕ)
+all = number_of 1 3 ∷ number_of 2 5 ∷ []
 
-abbrev first : Hand
-first = hand 1 1 (line_of 1 3 ∷ []) false []
+abbrev first : Hand ℕ
+first = hand 1 1 (number_of 1 3 ∷ []) false []
 
-abbrev second : Hand
-second = hand 2 1 (line_of 2 5 ∷ []) false []
+abbrev second : Hand ℕ
+second = hand 2 1 (number_of 2 5 ∷ []) false []
 
-abbrev third : Hand
-third = hand 1 0 [] true (line_of 1 3 ∷ [])
+abbrev third : Hand ℕ
+third = hand 1 0 [] true (number_of 1 3 ∷ [])
 
-abbrev Holds : ℕ → Hand → Type 0
-Holds port v = Fits owner 2 (line_of 1 3 ∷ []) all port v
+abbrev Holds : ℕ → Hand ℕ → Type 0
+Holds port v = Fits owner 2 (number_of 1 3 ∷ []) all port v
 
 first_fits : Holds 0 first
 first_fits = record {
-  owns = λ n mine. let low = mine.0 in let high = mine.1 in let e : 1 ≡ n = omega (arith, low, high) in subst (λ (m : ℕ). (owner m ≡ 0) × (items_of m all ≡ items_of m first.sent)) e (refl, refl);
-  others = λ n out. ap (λ (l : List Item). l ++ []) (none_of_other n (line_of 1 3) (λ e. out (omega (arith, e), omega (arith, e))));
+  owns = λ n mine. let low = mine.0 in let high = mine.1 in let e : 1 ≡ n = omega (arith, low, high) in subst (λ (m : ℕ). (owner m ≡ 0) × (what_of m all ≡ what_of m first.sent)) e (refl, refl);
+  others = λ n out. ap (λ (l : List ℕ). l ++ []) (none_of_other n (number_of 1 3) (λ e. out (omega (arith, e), omega (arith, e))));
   has = λ takes. absurd (true≢false (sym takes));
 }
 
 second_fits : Holds 1 second
 second_fits = record {
-  owns = λ n mine. let low = mine.0 in let high = mine.1 in let e : 2 ≡ n = omega (arith, low, high) in subst (λ (m : ℕ). (owner m ≡ 1) × (items_of m all ≡ items_of m second.sent)) e (refl, refl);
-  others = λ n out. ap (λ (l : List Item). l ++ []) (none_of_other n (line_of 2 5) (λ e. out (omega (arith, e), omega (arith, e))));
+  owns = λ n mine. let low = mine.0 in let high = mine.1 in let e : 2 ≡ n = omega (arith, low, high) in subst (λ (m : ℕ). (owner m ≡ 1) × (what_of m all ≡ what_of m second.sent)) e (refl, refl);
+  others = λ n out. ap (λ (l : List ℕ). l ++ []) (none_of_other n (number_of 2 5) (λ e. out (omega (arith, e), omega (arith, e))));
   has = λ takes. absurd (true≢false (sym takes));
 }
 
@@ -49,10 +48,10 @@ third_fits = record {
 }
 
 each_fits : Each Holds (first ∷ second ∷ third ∷ [])
-each_fits zero v e = subst (λ (x : Hand). Holds 0 x) (some-injective first v e) first_fits
-each_fits (suc zero) v e = subst (λ (x : Hand). Holds 1 x) (some-injective second v e) second_fits
-each_fits (suc (suc zero)) v e = subst (λ (x : Hand). Holds 2 x) (some-injective third v e) third_fits
+each_fits zero v e = subst (λ (x : Hand ℕ). Holds 0 x) (some-injective first v e) first_fits
+each_fits (suc zero) v e = subst (λ (x : Hand ℕ). Holds 1 x) (some-injective second v e) second_fits
+each_fits (suc (suc zero)) v e = subst (λ (x : Hand ℕ). Holds 2 x) (some-injective third v e) third_fits
 each_fits (suc (suc (suc j))) v e = absurd (some-ne-none v (sym e))
 
-pub two_lines : Comes (line_of 2 5 ∷ []) (first ∷ second ∷ third ∷ [])
-two_lines = record { owner = owner; taker = 2; taken = line_of 1 3 ∷ []; fits = each_fits }
+pub two_numbers : Comes (number_of 2 5 ∷ []) (first ∷ second ∷ third ∷ [])
+two_numbers = record { owner = owner; taker = 2; taken = number_of 1 3 ∷ []; fits = each_fits }

@@ -1,13 +1,11 @@
 -- What a queue carries, by session.
-use Rattle.std.specs.Prelude.{ℕ, ◌==◌, cond, List, [], ◌∷◌, ◌++◌}
-use Rattle.pgn_model.specs.declared.item.Item.{Item}
+use Rattle.std.specs.Prelude.{ℕ, ◌==◌, cond, List, [], ◌∷◌, flat_map}
 use Rattle.pgn_outlet.specs.declared.came.Came.{Came}
 
--- the items of session n in one of them
-abbrev pub items_in : ℕ → Came → List Item
-items_in n came = cond (came.session == n) came.items []
+-- what one push carries, where it is for session n
+abbrev pub what_in : {T : Type 0} → ℕ → Came T → List T
+what_in n came = cond (came.session == n) (came.what ∷ []) []
 
--- the items of session n among them, in order
-abbrev pub items_of : ℕ → List Came → List Item
-items_of n [] = []
-items_of n (came ∷ cames) = items_in n came ++ items_of n cames
+-- what these carry for session n, in order
+abbrev pub what_of : {T : Type 0} → ℕ → List (Came T) → List T
+what_of n cames = flat_map (what_in n) cames

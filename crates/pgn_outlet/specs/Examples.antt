@@ -1,8 +1,7 @@
 -- Data of the examples.
-use Rattle.std.specs.Prelude.{ℕ, [], ◌∷◌}
-use Rattle.pgn_model.specs.declared.item.Item.TheVariants.{Line}
+use Rattle.std.specs.Prelude.{ℕ}
 use Rattle.pgn_outlet.specs.declared.came.Came.{Came}
 
--- a session has begun a line of its script
-abbrev pub line_of : ℕ → ℕ → Came
-line_of session line = record { session = session; items = Line line ∷ [] }
+-- a number was pushed for a session
+abbrev pub number_of : ℕ → ℕ → Came ℕ
+number_of session number = record { session = session; what = number }

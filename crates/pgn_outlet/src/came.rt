@@ -1,9 +1,8 @@
 use pgn_base::SessionNo;
-use pgn_model::Items;
 
-/// What one step of a session, or one read, has recorded.
+/// What one push carries, and for which session.
 #[derive(Drop)]
-pub struct Came {
+pub struct Came<T> {
     pub session: SessionNo,
-    pub items: Items,
+    pub what: T,
 }

@@ -1,24 +1,25 @@
-ghost use Rattle.std.specs.Prelude.{◌≡◌, ◌+◌, true, [], IfOk, OnOk, OnErr, IfSome, IfNone};
+ghost use Rattle.std.specs.Prelude.{◌≡◌, ◌+◌, ◌≤◌, true, [], IfOk, OnOk, OnErr, IfSome, IfNone};
 ghost use Rattle.pgn_outlet.specs.Rule.{MayPush, lower, upper, joined, taken_over, with_sent, with_got, sender, taker};
 ghost use Rattle.pgn_outlet.specs.Passes.{IsPassOf, knows, HasAll};
 
-use crate::plays::{Got, Halves, InOrder, Roles, Sent};
+use crate::plays::{Both, Cut, Got, InOrder, Roles, Sent, Size};
 use crate::{Came, Hand};
 use crossbeam_queue::{RuledSegQueue, SegPass};
 use std::alloc::{AllocError, Global};
+use std::marker::Brand;
 use std::sync::Wait;
 
-/// A queue of what sessions record, from their workers to a writer. It is ended by `destroy`.
-pub struct Outlet {
-    queue: RuledSegQueue<Came, Hand, InOrder>,
+/// A queue of what is pushed for sessions, from those who push to one who takes. It is ended by `destroy`.
+pub struct Outlet<T> {
+    queue: RuledSegQueue<Came<T>, Hand<T>, InOrder>,
 }
 
-/// A worker's or a writer's right to step on the queue, and what it has done there. It has no bytes.
-pub type OutletPass = SegPass<Came, Hand>;
+/// A right to step on the queue, and what was done there by it. It has no bytes.
+pub type OutletPass<T> = SegPass<Came<T>, Hand<T>>;
 
-impl Outlet {
+impl<T: Drop> Outlet<T> {
     /// An empty queue, a pass that may push for every session, and one that takes. The error is that memory did not suffice.
-    pub fn open(alloc: Global) -> Result<(Outlet, OutletPass, OutletPass), AllocError>
+    pub fn open(alloc: Global) -> Result<(Outlet<T>, OutletPass<T>, OutletPass<T>), AllocError>
         ensures own { IfOk result (λ opened. IsPassOf opened.0 opened.1 × IsPassOf opened.0 opened.2) }
         ensures pushes { IfOk result (λ opened. knows opened.1 ≡ sender) }
         ensures takes { IfOk result (λ opened. knows opened.2 ≡ taker) }
@@ -28,30 +29,45 @@ impl Outlet {
         Ok((Outlet { queue }, pass, other))
     }
 
-    /// Splits a pass that has pushed nothing yet: it keeps the lower half of its sessions by their numbers, and the answer has the
+    /// Cuts a pass that has pushed nothing yet: it keeps the first of its sessions by their numbers, so many, and the answer has the
     /// others.
-    pub fn half(&self, pass: &mut OutletPass) -> OutletPass
+    pub fn cut(&self, pass: &mut OutletPass<T>, size: u64) -> OutletPass<T>
         requires own { IsPassOf self.now pass.old }
         requires unused { (knows pass.old).sent ≡ [] }
+        requires fits { size ≤ (knows pass.old).count }
         ensures own { IsPassOf self.now pass.new × IsPassOf self.now result }
-        ensures lower { knows pass.new ≡ lower (knows pass.old) }
-        ensures upper { knows result ≡ upper (knows pass.old) }
+        ensures lower { knows pass.new ≡ lower size (knows pass.old) }
+        ensures upper { knows result ≡ upper size (knows pass.old) }
     {
-        self.queue.another::<Halves>(pass)
+        self.cut_as::<Brand>(pass, size)
+    }
+
+    // The same, where the proof is told of the size. The step itself needs none.
+    fn cut_as<N: Size>(&self, pass: &mut OutletPass<T>, size: u64) -> OutletPass<T>
+        requires given { N.size ≡ size }
+        requires own { IsPassOf self.now pass.old }
+        requires unused { (knows pass.old).sent ≡ [] }
+        requires fits { size ≤ (knows pass.old).count }
+        ensures own { IsPassOf self.now pass.new × IsPassOf self.now result }
+        ensures lower { knows pass.new ≡ lower size (knows pass.old) }
+        ensures upper { knows result ≡ upper size (knows pass.old) }
+    {
+        let _size = size;
+        self.queue.another::<Cut<N>>(pass)
     }
 
     /// Makes one pass of two whose sessions are neighbours by their numbers.
-    pub fn whole(&self, pass: &mut OutletPass, other: OutletPass)
+    pub fn whole(&self, pass: &mut OutletPass<T>, other: OutletPass<T>)
         requires own { IsPassOf self.now pass.old × IsPassOf self.now other }
         requires neighbours { (knows other).first ≡ (knows pass.old).first + (knows pass.old).count }
         ensures own { IsPassOf self.now pass.new }
         ensures joined { knows pass.new ≡ joined (knows pass.old) (knows other) }
     {
-        self.queue.absorb::<Halves>(pass, other);
+        self.queue.absorb::<Both>(pass, other);
     }
 
     /// Gives a pass the part of the one that takes.
-    pub fn close(&self, pass: &mut OutletPass, other: OutletPass)
+    pub fn close(&self, pass: &mut OutletPass<T>, other: OutletPass<T>)
         requires own { IsPassOf self.now pass.old × IsPassOf self.now other }
         requires takes { (knows other).takes ≡ true }
         ensures own { IsPassOf self.now pass.new }
@@ -60,8 +76,8 @@ impl Outlet {
         self.queue.absorb::<Roles>(pass, other);
     }
 
-    /// Puts what a session has recorded behind what was put before. The error is that memory did not suffice; nothing was put then.
-    pub fn push<R: Wait>(&self, rt: &R, pass: &mut OutletPass, came: Came) -> Result<(), AllocError>
+    /// Puts something for a session behind what was put before. The error is that memory did not suffice; nothing was put then.
+    pub fn push<R: Wait>(&self, rt: &R, pass: &mut OutletPass<T>, came: Came<T>) -> Result<(), AllocError>
         requires own { IsPassOf self.now pass.old }
         requires may { MayPush (knows pass.old) came.session }
         ensures own { IsPassOf self.now pass.new }
@@ -75,7 +91,7 @@ impl Outlet {
     }
 
     /// Takes the foremost of what was put and not taken. Where there is nothing, the pass has taken all that it may have pushed itself.
-    pub fn take<R: Wait>(&self, rt: &R, pass: &mut OutletPass) -> Option<Came>
+    pub fn take<R: Wait>(&self, rt: &R, pass: &mut OutletPass<T>) -> Option<Came<T>>
         requires own { IsPassOf self.now pass.old }
         requires takes { (knows pass.old).takes ≡ true }
         ensures own { IsPassOf self.now pass.new }

@@ -4,11 +4,12 @@ ghost use Rattle.pgn_outlet.specs.Rule.{Comes, first_hand, lower, upper, sends_a
 
 use crate::{Came, Hand};
 use crossbeam_queue::protocol::{Join, Lesson, Outcome, Protocol, Split};
+use std::marker::{Brand, PhantomData};
 
 // The rule that every step keeps.
 pub struct InOrder;
 
-impl Protocol<Came, Hand> for InOrder {
+impl<T> Protocol<Came<T>, Hand<T>> for InOrder {
     ghost holds = { Comes };
 
     ghost first = { first_hand };
@@ -17,28 +18,44 @@ impl Protocol<Came, Hand> for InOrder {
 // One pass pushes and the other takes.
 pub(crate) struct Roles;
 
-impl Split<Hand> for Roles {
+impl<T> Split<Hand<T>> for Roles {
     ghost left = { sends_alone };
 
     ghost right = { takes_alone };
 }
 
-impl Join<Hand> for Roles {
+impl<T> Join<Hand<T>> for Roles {
     ghost both = { taken_over };
 
     ghost spent = { spent };
 }
 
-// Each pass pushes for half of the sessions.
-pub(crate) struct Halves;
+// How many sessions a pass keeps that is cut. It is no operand of the step, so the caller gives it to the proof.
+pub(crate) trait Size {
+    ghost use Rattle.std.specs.Prelude.{ℕ};
 
-impl Split<Hand> for Halves {
-    ghost left = { lower };
-
-    ghost right = { upper };
+    ghost size: { ℕ };
 }
 
-impl Join<Hand> for Halves {
+impl Size for Brand {
+    ghost size = { 0 };
+}
+
+// One pass pushes for the first sessions, so many, and the other for the rest.
+pub(crate) struct Cut<N> {
+    size: PhantomData<N>,
+}
+
+impl<T, N: Size> Split<Hand<T>> for Cut<N> {
+    ghost left = { lower N.size };
+
+    ghost right = { upper N.size };
+}
+
+// One pass pushes for the sessions of two.
+pub(crate) struct Both;
+
+impl<T> Join<Hand<T>> for Both {
     ghost both = { joined };
 
     ghost spent = { spent };
@@ -47,17 +64,17 @@ impl Join<Hand> for Halves {
 // The pass has pushed this.
 pub(crate) struct Sent;
 
-impl Outcome<Came, Hand> for Sent {
+impl<T> Outcome<Came<T>, Hand<T>> for Sent {
     ghost then = { λ v came w. w ≡ with_sent v came };
 }
 
 // The pass has taken this.
 pub(crate) struct Got;
 
-impl Outcome<Came, Hand> for Got {
+impl<T> Outcome<Came<T>, Hand<T>> for Got {
     ghost then = { λ v came w. w ≡ with_got v came };
 }
 
-impl Lesson<Came, Hand> for Got {
+impl<T> Lesson<Came<T>, Hand<T>> for Got {
     ghost fact = { HasAllBut };
 }

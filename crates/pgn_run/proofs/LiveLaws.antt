@@ -26,14 +26,13 @@ use Rattle.pgn_run.specs.declared.status.Status.TheVariants.{Done, WriteFault}
 use Rattle.pgn_run.specs.Run.{HasWritten, settings_with}
 use Rattle.pgn_model.specs.declared.item.Item.{Item}
 use Rattle.pgn_model.specs.declared.trace.Trace.{Trace}
-use Rattle.pgn_outlet.specs.declared.came.Came.{Came}
-use Rattle.pgn_outlet.specs.Cames.{items_of}
-use Rattle.pgn_outlet.proofs.CameLaws.{items_of-append}
 use Rattle.pgn_threads.specs.Drain.{EachMayEndWithRead, MayEndWithRead}
+use Rattle.pgn_live.specs.Cames.{Came, items_of}
 use Rattle.pgn_live.specs.Lives.{AreWhole, ComesFirst, ComesWhole, came_from, log_of_trace, logs_of, tagged}
 use Rattle.pgn_live.specs.declared.lives.LiveFault.{LiveFault}
 use Rattle.pgn_live.specs.declared.lives.LiveFault.TheVariants.{Write}
 use Rattle.pgn_live.specs.Playing.{sections_of}
+use Rattle.pgn_live.proofs.CameLaws.{items_of-append}
 use Rattle.pgn_live.proofs.WriteLaws.{tagged-append}
 use Rattle.pgn_run.specs.Live.{AreLawfulLogs, EarlyOver, EndsOver, LiveOver, SoFarOver, counts_of, end_text, lasts}
 

@@ -9,11 +9,11 @@ use Rattle.pgn_model.specs.Legal.{Legal}
 use Rattle.pgn_model.specs.Text.{joined, journal_lines}
 use Rattle.pgn_model.specs.Walk.{Settings}
 use Rattle.pgn_hub.specs.Shape.{Shape}
-use Rattle.pgn_outlet.specs.declared.came.Came.{Came}
 use Rattle.pgn_session.specs.declared.session.Session.{Session}
 use Rattle.pgn_text.specs.Rendering.{ends_lines}
 use Rattle.pgn_threads.specs.Opened.{AreOpenedFor}
 use Rattle.pgn_session.specs.Runs.{AreLawful}
+use Rattle.pgn_live.specs.Cames.{Came}
 use Rattle.pgn_live.specs.Lives.{AreFirst, AreWhole, came_from, log_of_trace, logs_of, tagged}
 
 -- what stands behind the lines of the sessions: the journal, and where each session ended
@@ -39,7 +39,7 @@ AreLawfulLogs settings [] [] = Unit {0}
 AreLawfulLogs settings [] (log ∷ logs) = ⊥
 AreLawfulLogs settings (section ∷ sections) [] = ⊥
 AreLawfulLogs settings (section ∷ sections) (log ∷ logs) =
-    (log.session ≡ section.no) × AreLawful (record { section = section; settings = settings }) log.items × AreLawfulLogs settings sections logs
+    (log.session ≡ section.no) × AreLawful (record { section = section; settings = settings }) log.what × AreLawfulLogs settings sections logs
 
 -- P holds of the lines of what has come of it: all, in each session's order
 pub record EarlyOver (scenario : Scenario) (settings : Settings) (P : List ℕ → Type 0) : Type 0 where

@@ -13,9 +13,8 @@ use Rattle.pgn_language.specs.declared.scenario.Section.{Section}
 use Rattle.pgn_model.specs.declared.item.Item.{Item}
 use Rattle.pgn_model.specs.Text.{item_lines}
 use Rattle.pgn_reading.proofs.FieldLaws.{AreDigits, digits-decimal}
-use Rattle.pgn_outlet.specs.declared.came.Came.{Came}
-use Rattle.pgn_outlet.specs.Cames.{items_in, items_of}
 use Rattle.pgn_text.specs.Rendering.{mark_of, marked, marked_items, lines_of}
+use Rattle.pgn_live.specs.Cames.{Came, items_in, items_of}
 use Rattle.pgn_live.specs.Lives.{came_lines}
 use Rattle.pgn_sorted.specs.Sorting.{behind, lines_from, is_marked}
 
@@ -136,16 +135,16 @@ none-of_these m n lines items hm hn apart =
 
 -- nothing came of it, or its session is not numbered too high
 abbrev pub IsFew : Came → Type 0
-IsFew came = (came.session < 2 ^ 64) ⊎ (came.items ≡ [])
+IsFew came = (came.session < 2 ^ 64) ⊎ (came.what ≡ [])
 
 lines-of_one : (n : ℕ) (sections : List Section) (came : Came) → n < 2 ^ 64 → IsFew came → lines_from n (came_lines sections came) ≡ flat_map (item_lines (lines_of n sections)) (items_in n came)
 lines-of_one n sections came hn few = by (came.session == n) refl few
   where
-    by : (b : Bool) → (came.session == n) ≡ b → IsFew came → lines_from n (came_lines sections came) ≡ flat_map (item_lines (lines_of n sections)) (cond b came.items [])
+    by : (b : Bool) → (came.session == n) ≡ b → IsFew came → lines_from n (came_lines sections came) ≡ flat_map (item_lines (lines_of n sections)) (cond b came.what [])
     by true is h =
-        subst (λ (m : ℕ). lines_from n (marked_items (Some m) (lines_of m sections) came.items) ≡ flat_map (item_lines (lines_of n sections)) came.items) (sym (eqb-true came.session n is))
-        (mine n (lines_of n sections) came.items)
-    by false is (inl low) = none-of_these came.session n (lines_of came.session sections) came.items low hn (eqb-false came.session n is)
+        subst (λ (m : ℕ). lines_from n (marked_items (Some m) (lines_of m sections) came.what) ≡ flat_map (item_lines (lines_of n sections)) came.what) (sym (eqb-true came.session n is))
+        (mine n (lines_of n sections) came.what)
+    by false is (inl low) = none-of_these came.session n (lines_of came.session sections) came.what low hn (eqb-false came.session n is)
     by false is (inr none) = ap (λ (items : List Item). lines_from n (marked_items (Some came.session) (lines_of came.session sections) items)) none
 
 pub lines-of_all : (n : ℕ) (sections : List Section) (cames : List Came) → n < 2 ^ 64 → All IsFew cames → lines_from n (flat_map (came_lines sections) cames) ≡ flat_map (item_lines (lines_of n sections)) (items_of n cames)
@@ -158,7 +157,7 @@ lines-of_all n sections (came ∷ cames) hn few =
 
 -- the lines of one have what those of its items have behind its mark
 pub all-of_one : (P Q : List ℕ → Type 0) (sections : List Section) (came : Came) → IsFew came → (came.session < 2 ^ 64 → (line : List ℕ) → P line → Q (mark_of (Some came.session) ++ line))
-    → All P (flat_map (item_lines (lines_of came.session sections)) came.items) → All Q (came_lines sections came)
-all-of_one P Q sections came (inl low) each h = all-marked P Q came.session (lines_of came.session sections) came.items (each low) h
+    → All P (flat_map (item_lines (lines_of came.session sections)) came.what) → All Q (came_lines sections came)
+all-of_one P Q sections came (inl low) each h = all-marked P Q came.session (lines_of came.session sections) came.what (each low) h
 all-of_one P Q sections came (inr none) each h =
     subst (λ (items : List Item). All Q (marked_items (Some came.session) (lines_of came.session sections) items)) (sym none) (All-nil Q)

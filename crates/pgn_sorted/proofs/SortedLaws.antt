@@ -22,9 +22,8 @@ use Rattle.pgn_model.specs.Trace.{TraceOk}
 use Rattle.pgn_model.specs.Legal.{EachTrace, Legal}
 use Rattle.pgn_model.specs.Text.{joined, note_line, entry_lines, entries_lines, journal_lines, item_lines, section_line, end_line, trace_lines, traces_lines, text_lines, text}
 use Rattle.pgn_reading.proofs.FieldLaws.{AreDigits, digits-decimal}
-use Rattle.pgn_outlet.specs.declared.came.Came.{Came}
-use Rattle.pgn_outlet.specs.Cames.{items_in, items_of}
 use Rattle.pgn_text.specs.Rendering.{mark_of, lines_of, ends_lines}
+use Rattle.pgn_live.specs.Cames.{Came, items_in, items_of}
 use Rattle.pgn_live.specs.Lives.{AreWhole, came_lines, log_of_trace}
 use Rattle.pgn_run.specs.Live.{live_text}
 use Rattle.pgn_unique.proofs.JournalLines.{joined-append}
@@ -120,10 +119,10 @@ not-same : (m n : ℕ) → (m ≡ n → ⊥) → (m == n) ≡ false
 not-same m n apart = elim (eqb_tells m n) [ inl s ↦ absurd (apart s.1) | inr s ↦ s.0 ]
 
 in-other : (n : ℕ) (came : Came) → (came.session ≡ n → ⊥) → items_in n came ≡ []
-in-other n came apart = ap (λ (b : Bool). cond b came.items []) (not-same came.session n apart)
+in-other n came apart = ap (λ (b : Bool). cond b came.what []) (not-same came.session n apart)
 
-in-own : (n : ℕ) (came : Came) → came.session ≡ n → items_in n came ≡ came.items
-in-own n came same = ap (λ (b : Bool). cond b came.items []) (eq-eqb came.session n same)
+in-own : (n : ℕ) (came : Came) → came.session ≡ n → items_in n came ≡ came.what
+in-own n came same = ap (λ (b : Bool). cond b came.what []) (eq-eqb came.session n same)
 
 none-of : (n : ℕ) (cames : List Came) → All (λ came. came.session ≡ n → ⊥) cames → items_of n cames ≡ []
 none-of n [] h = refl
@@ -131,11 +130,11 @@ none-of n (came ∷ cames) h =
     ap (λ (items : List Item). items ++ items_of n cames) (in-other n came (All-head (λ c. c.session ≡ n → ⊥) came cames h)) ∙ none-of n cames (All-tail (λ c. c.session ≡ n → ⊥) came cames h)
 
 -- what the items of a session have, where parts have it too, those of each that came of it have
-parts-of : (R : List Item → Type 0) → ((xs ys : List Item) → R (xs ++ ys) → R xs × R ys) → (n : ℕ) (cames : List Came) → R (items_of n cames) → All (λ came. came.session ≡ n → R came.items) cames
-parts-of R split n [] h = All-nil (λ (c : Came). c.session ≡ n → R c.items)
+parts-of : (R : List Item → Type 0) → ((xs ys : List Item) → R (xs ++ ys) → R xs × R ys) → (n : ℕ) (cames : List Came) → R (items_of n cames) → All (λ came. came.session ≡ n → R came.what) cames
+parts-of R split n [] h = All-nil (λ (c : Came). c.session ≡ n → R c.what)
 parts-of R split n (came ∷ cames) h =
     let two = split (items_in n came) (items_of n cames) h in
-    All-cons (λ (c : Came). c.session ≡ n → R c.items) came cames (λ same. subst R (in-own n came same) two.0) (parts-of R split n cames two.1)
+    All-cons (λ (c : Came). c.session ≡ n → R c.what) came cames (λ same. subst R (in-own n came same) two.0) (parts-of R split n cames two.1)
 
 split-none : (xs ys : List Item) → xs ++ ys ≡ [] → (xs ≡ []) × (ys ≡ [])
 split-none [] ys e = (refl, e)
@@ -276,14 +275,14 @@ module _ (scenario : Scenario) (settings : Settings) (journal : List Tx) (traces
           let f = item_lines (lines_of n scenario.sections) in
           all-parts Clean (flat_map f xs) (flat_map f ys) (subst (λ (lines : List (List ℕ)). All Clean lines) (flat_map-append f xs ys) h)
 
-      parts : (k : ℕ) (d : Came) → k < length cames → Has (get_or cames k d).session (get_or cames k d).items
+      parts : (k : ℕ) (d : Came) → k < length cames → Has (get_or cames k d).session (get_or cames k d).what
       parts k d lt =
           let n : ℕ = (get_or cames k d).session in
           let behind_journal : All Clean (traces_lines scenario.sections traces) = (all-parts Clean (journal_lines journal) (traces_lines scenario.sections traces) text-clean).1 in
           let recorded : Has n (items_of n cames) = subst (Has n) (sym (whole n)) (lines-have settings journal Clean 1 scenario.sections traces sound.numbered legal.lawful behind_journal n) in
           parts-of (Has n) (split n) n cames recorded k d lt refl
 
-      one : (c : Came) → IsFew c → Has c.session c.items → All Clean (came_lines scenario.sections c)
+      one : (c : Came) → IsFew c → Has c.session c.what → All Clean (came_lines scenario.sections c)
       one c low h = all-of_one Clean Clean scenario.sections c low (λ low line h. mark-clean c.session line low h) h
 
   end-clean : All Clean end

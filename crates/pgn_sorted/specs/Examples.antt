@@ -1,7 +1,7 @@
 -- Live outputs of one run, and what sorting them gives.
 use Rattle.std.specs.Prelude.{ℕ, List, [], ◌∷◌, codes}
 use Rattle.pgn_model.specs.declared.trace.Trace.{Trace}
-use Rattle.pgn_outlet.specs.declared.came.Came.{Came}
+use Rattle.pgn_live.specs.Cames.{Came}
 use Rattle.pgn_live.specs.Lives.{came_from}
 use Rattle.pgn_unique.specs.Examples.{receives, sends, listens_from, received_items}
 

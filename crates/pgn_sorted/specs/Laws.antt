@@ -8,7 +8,7 @@ use Rattle.pgn_model.specs.declared.trace.Trace.{Trace}
 use Rattle.pgn_model.specs.Walk.{Settings}
 use Rattle.pgn_model.specs.Legal.{EachTrace, Legal}
 use Rattle.pgn_model.specs.Text.{item_lines, text, text_lines}
-use Rattle.pgn_outlet.specs.declared.came.Came.{Came}
+use Rattle.pgn_live.specs.Cames.{Came}
 use Rattle.pgn_live.specs.Lives.{AreWhole, log_of_trace}
 use Rattle.pgn_run.specs.Live.{live_text}
 use Rattle.pgn_sorted.specs.Sorting.{lines_from, sorted}

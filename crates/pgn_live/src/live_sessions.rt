@@ -1,0 +1,124 @@
+ghost use Rattle.std.specs.Prelude.{◌≡◌, true, OnErr, All};
+ghost use Rattle.pgn_live.specs.Turns.{HasToldTurn, HaveEnded, IsToldBy, IsWhollyToldBy};
+ghost use Rattle.pgn_outlet.specs.Passes.{IsPassOf, knows};
+ghost use Rattle.pgn_outlet.specs.Rule.{MayPush};
+ghost use Rattle.pgn_session.specs.Runs.{IsHeld, IsReady};
+
+use crate::telling::{PLACES, Telling, tell, told_so_far};
+use pgn_hub::{Hub, PassView};
+use pgn_model::Items;
+use pgn_outlet::Outlet;
+use pgn_session::{Session, Step, give_up_all};
+use pgn_workers::{Turn, Work};
+use std::alloc::{AllocError, Global};
+use std::sync::Wait;
+
+// The sessions of a hub, as workers that tell what they record. Those of one thread share what they tell by.
+#[derive(Drop)]
+pub(crate) struct LiveSessions<'a, H> {
+    pub(crate) hub: &'a H,
+    pub(crate) outlet: &'a Outlet<Items>,
+}
+
+impl<P: PassView + Send + Drop, H: Hub<Pass = P>> Work<Session<P>, Telling>
+    for LiveSessions<'_, H> {
+    ghost use Rattle.pgn_session.specs.Runs.{IsOver, IsReady};
+    ghost use Rattle.pgn_live.specs.Workers.{HandsWereJoined, PartHasGone, PartHasPlayed, PartMayGo, PartMayPlay, PartWasCut};
+
+    ghost begins = { λ c p. PartMayPlay (H.is_pass c.hub.now) (H.shape c.hub.now) P.known c.outlet.now p };
+
+    ghost goes = { λ c p. PartMayGo (H.is_pass c.hub.now) (H.shape c.hub.now) P.known c.outlet.now p };
+
+    ghost took = { λ c p q. PartHasGone (H.is_pass c.hub.now) (H.shape c.hub.now) c.outlet.now p q };
+
+    ghost ready = { λ c s. IsReady (H.is_pass c.hub.now) (H.shape c.hub.now) P.known s };
+
+    ghost over = { λ c s. IsOver (H.is_pass c.hub.now) (H.shape c.hub.now) P.known s };
+
+    ghost ran = { λ c p q answer. PartHasPlayed (H.is_pass c.hub.now) (H.shape c.hub.now) P.known c.outlet.now p q answer };
+
+    ghost cut_in = { λ c p l r. PartWasCut (H.is_pass c.hub.now) (H.shape c.hub.now) P.known c.outlet.now p l r };
+
+    ghost joined = { λ c l r h. HandsWereJoined c.outlet.now l r h };
+
+    fn cut(&self, hand: &mut Telling, size: usize) -> Telling {
+        Telling::new(self.outlet.cut(&mut hand.pass, size as u64))
+    }
+
+    fn join(&self, hand: &mut Telling, other: Telling) {
+        let Telling { pass, .. } = other;
+        self.outlet.whole(&mut hand.pass, pass);
+    }
+
+    fn laws(&self) {}
+}
+
+// A turn of a session, and what it recorded is told, also where the turn was refused memory. What it has told while it waited, it has heard.
+pub(crate) fn take_turn<P: PassView + Send + Drop, H: Hub<Pass = P>, R: Wait>(
+    rt: &R,
+    alloc: Global,
+    hub: &H,
+    outlet: &Outlet<Items>,
+    session: &mut Session<P>,
+    telling: &mut Telling,
+) -> Result<Turn, AllocError>
+    requires own { IsPassOf outlet.now telling.old.pass }
+    requires ready { IsReady (H.is_pass hub.now) (H.shape hub.now) P.known session.old }
+    requires may { MayPush (knows telling.old.pass) session.old.section.no }
+    requires told { IsToldBy telling.old.told (knows telling.old.pass) session.old }
+    ensures own { IsPassOf outlet.now telling.new.pass }
+    ensures told { HasToldTurn (H.is_pass hub.now) (H.shape hub.now) P.known session.old session.new telling.old.told telling.new.told (knows telling.old.pass) (knows telling.new.pass) result }
+{
+    let step = session.turn(rt, alloc, hub);
+    let items = session.items.as_slice();
+    let heard = tell(rt, alloc, outlet, telling, session.section.no, items);
+    Ok(as_turn(step?, heard))
+}
+
+// A step of a session as a turn. Where it waited, it may have heard something.
+fn as_turn(step: Step, heard: bool) -> Turn
+    ensures { result ≡ Turn.Ended → step ≡ Step.Ended }
+{
+    match step {
+        Step::Did => Turn::Did,
+        Step::Waiting => Turn::waited(heard),
+        Step::Ended => Turn::Ended,
+    }
+}
+
+// The end of sessions that are over, or one of which was refused memory: then all raise their end flags. The error is also that not all
+// was told.
+pub(crate) fn end_all<P: PassView + Send + Drop, H: Hub<Pass = P>>(
+    hub: &H,
+    sessions: &mut [Session<P>],
+    told: &[usize; PLACES],
+    rounds: Result<(), AllocError>,
+) -> Result<(), AllocError>
+    requires held { OnErr rounds (All (IsHeld (H.is_pass hub.now) (H.shape hub.now)) sessions.old) }
+    ensures { HaveEnded P.known sessions.old sessions.new told.now rounds result }
+{
+    match rounds {
+        Ok(()) => {
+            if have_told(sessions, told) {
+                return Ok(());
+            }
+            Err(AllocError)
+        }
+        Err(_) => {
+            give_up_all(hub, sessions);
+            Err(AllocError)
+        }
+    }
+}
+
+// Whether of each session so many items were told as it has recorded.
+fn have_told<P: PassView + Send + Drop>(sessions: &[Session<P>], told: &[usize; PLACES]) -> bool
+    ensures { result ≡ true → All (IsWhollyToldBy told.now) sessions.now }
+{
+    for session in sessions {
+        if session.items.len() > told_so_far(told, session.section.no) {
+            return false;
+        }
+    }
+    true
+}
