@@ -1,8 +1,8 @@
 -- A message is told by its own bytes, whatever follows them.
-use Rattle.std.proofs.Common.{◌≡◌, ℕ, ◌<◌, List, [], ◌∷◌, ◌++◌, length, subst, refl, ap, ◌∙◌, arith, append_assoc}
-use Rattle.pgn_queries.specs.declared.wire_fault.WireFault.TheVariants.{BadLength, BadText, BadType, Truncated}
+use Rattle.std.proofs.Common.{◌≡◌, ℕ, ◌<◌, List, ◌++◌, length, subst, refl, ap, ◌∙◌, arith, append_assoc}
+use Rattle.pgn_queries.specs.declared.wire_fault.WireFault.TheVariants.{Truncated}
 use Rattle.pgn_queries.specs.declared.coming.Coming.{Coming}
-use Rattle.pgn_queries.specs.declared.coming.Coming.TheVariants.{End, Query, Fault}
+use Rattle.pgn_queries.specs.declared.coming.Coming.TheVariants.{End, Fault}
 use Rattle.pgn_queries.specs.Client as client
 use Rattle.pgn_queries.specs.Client.{BodyIs, NextIs, QueryIs, TerminateIs, body_of}
 use Rattle.pgn_frames.specs.Laws.{IsTold, MoreMayFollow}

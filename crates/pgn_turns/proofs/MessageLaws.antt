@@ -1,5 +1,5 @@
 -- Where all turns are answers, what is told are the messages of the trace.
-use Rattle.std.proofs.Common.{◌≡◌, ℕ, Bool, false, List, [], ◌∷◌, ◌++◌, All, Option, Some, None, sym, ap, ◌∙◌, refl, append_assoc, append-nil}
+use Rattle.std.proofs.Common.{◌≡◌, ℕ, false, List, [], ◌∷◌, ◌++◌, All, Option, Some, None, sym, ap, ◌∙◌, refl, append_assoc, append-nil}
 use Rattle.std.specs.Prelude.{fold, flat_map, map}
 use Rattle.std.specs.List.{list_any}
 use Rattle.std.proofs.lemmas.List.{map-append}
@@ -11,7 +11,7 @@ use Rattle.pgn_model.specs.declared.item.Item.{Item}
 use Rattle.pgn_model.specs.declared.item.Item.TheVariants.{Line}
 use Rattle.pgn_model.specs.Walk.{State, after_item, at_act}
 use Rattle.pgn_messages.specs.Server.{ready}
-use Rattle.pgn_messages.specs.Messages.{answer_messages, current_command, first_message, item_messages, line_begins, messages_from, next_command, step_messages}
+use Rattle.pgn_messages.specs.Messages.{answer_messages, current_command, first_message, item_messages, line_begins, messages_from, next_command}
 use Rattle.pgn_messages.specs.Laws.{begins_line}
 use Rattle.pgn_messages.proofs.GrowLaws.{first_false, within}
 use Rattle.pgn_messages.proofs.RestLaws.{act-rest, with_rest}

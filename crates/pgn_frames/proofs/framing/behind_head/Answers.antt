@@ -1,4 +1,4 @@
-use Rattle.std.proofs.Common.{◌≡◌, ◌≤◌, ℕ, drop, rules, arith, ◌∙◌}
+use Rattle.std.proofs.Common.{◌≡◌, drop, rules, arith}
 use Rattle.std.specs.Int.{from_be_bytes, w16}
 use Rattle.pgn_frames.specs.Frames.{IsSeat}
 use Rattle.pgn_frames.proofs.ArrivalLaws.{CutBody-known, Whole-known}
