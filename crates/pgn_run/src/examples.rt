@@ -1,11 +1,11 @@
 //! How an input of `check` is parted, what is written live, and what a client's trace may be so far; beside each what is refused.
 ghost use Rattle.std.specs.Prelude.{◌≡◌, [], ◌∷◌, ◌++◌, None, Some, codes};
 ghost use Rattle.pgn_base.specs.declared.answers.Tag.TheVariants as tag;
-ghost use Rattle.pgn_model.specs.declared.item.Item.TheVariants.{Reply};
+ghost use Rattle.pgn_model.specs.declared.item.Item.TheVariants.{Line, Reply};
 ghost use Rattle.pgn_live.specs.Lives.{came_from};
 ghost use Rattle.pgn_queries.specs.Examples.{listen_line};
 ghost use Rattle.pgn_run.specs.Checking.{parts_of};
-ghost use Rattle.pgn_run.specs.Conversation.{IsSoFar};
+ghost use Rattle.pgn_run.specs.Conversation.{IsAnsweredSoFar, IsSoFar};
 ghost use Rattle.pgn_run.specs.Live.{end_text, live_text};
 ghost use Rattle.pgn_run.specs.Examples.{came_text, client, ended, ended_text, listens, listens_on, one_sent};
 
@@ -34,4 +34,8 @@ pub fn so_far()
     // No answer comes before its query, nor one to a query that was not asked.
     ensures answer_first { IsSoFar (listen_line ∷ []) (λ items. items ≡ Reply tag.Listen None ∷ []) → ⊥ }
     ensures not_asked { IsSoFar [] (λ items. items ≡ listens) → ⊥ }
+    // Before a fault of its bytes it has the whole answer.
+    ensures all_answered { IsAnsweredSoFar (listen_line ∷ []) (λ items. items ≡ listens) }
+    ensures none_answered { IsAnsweredSoFar (listen_line ∷ []) (λ items. items ≡ []) → ⊥ }
+    ensures half_answered { IsAnsweredSoFar (listen_line ∷ []) (λ items. items ≡ Line 1 ∷ []) → ⊥ }
 {}
