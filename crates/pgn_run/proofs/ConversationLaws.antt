@@ -10,7 +10,7 @@ use Rattle.pgn_language.specs.declared.scenario.Section.{Section}
 use Rattle.pgn_language.specs.Inputs.{HasFlagBelow, note_lines_of}
 use Rattle.pgn_model.specs.declared.item.Item.{Item}
 use Rattle.pgn_model.specs.Trace.{IsUpToDate}
-use Rattle.pgn_model.specs.Walk.{State, Terms, start}
+use Rattle.pgn_model.specs.Walk.{Terms, start}
 use Rattle.pgn_model.specs.Legal.{Legal}
 use Rattle.pgn_model.specs.laws.NextLine.{HoldsSoFar}
 use Rattle.pgn_hub.specs.declared.known.Known.{Known}
