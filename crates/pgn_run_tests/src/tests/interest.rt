@@ -2,21 +2,33 @@ use super::{in_order, in_two_pages, shown};
 use std::str;
 use std::test::Fail;
 
-// A listener waits while another session notifies on a channel to which it does not listen, and then on its own.
+// A listener waits while another session notifies on a channel to which it does not listen, sixteen times, and then on its own. No flag
+// tells it meanwhile of the sixteen, since who finds one reads.
 const ONE_CHANNEL: &str = "\
 \\session l 1
 LISTEN c
 \\signal up
 \\await s1
-\\signal go
-\\await s2
 \\session s 1
 \\await up
 NOTIFY d, 'x'
-\\signal s1
-\\await go
+NOTIFY d, 'x'
+NOTIFY d, 'x'
+NOTIFY d, 'x'
+NOTIFY d, 'x'
+NOTIFY d, 'x'
+NOTIFY d, 'x'
+NOTIFY d, 'x'
+NOTIFY d, 'x'
+NOTIFY d, 'x'
+NOTIFY d, 'x'
+NOTIFY d, 'x'
+NOTIFY d, 'x'
+NOTIFY d, 'x'
+NOTIFY d, 'x'
+NOTIFY d, 'x'
 NOTIFY c, 'y'
-\\signal s2
+\\signal s1
 ";
 
 // How often a text has a part.
@@ -24,14 +36,14 @@ fn times(text: &str, part: &str) -> usize {
     text.split(part).count().saturating_sub(1)
 }
 
-// Where the listener reads is free, but not before the second notification.
+// Where the listener reads is free, but not before the last notification.
 #[test]
 fn a_listener_is_woken_by_its_channel_alone(rt: HostRuntime) -> Result<(), Fail> {
     let text = shown(&rt, rt.alloc(), ONE_CHANNEL)?;
     let reads = [
-        "> \\signal go\n",
-        "+read 3 5\n  4 1002 \"c\", 'y'\n",
-        "end mark 5\n",
+        "> \\signal up\n",
+        "+read 3 20\n  19 1002 \"c\", 'y'\n",
+        "end mark 20\n",
     ];
     assert!(rt; in_order(text.as_str(), &reads));
     assert_eq!(rt; times(text.as_str(), "+read "), 1);
