@@ -77,7 +77,12 @@ impl<T: Drop> Outlet<T> {
     }
 
     /// Puts something for a session behind what was put before. The error is that memory did not suffice; nothing was put then.
-    pub fn push<R: Wait>(&self, rt: &R, pass: &mut OutletPass<T>, came: Came<T>) -> Result<(), AllocError>
+    pub fn push<R: Wait>(
+        &self,
+        rt: &R,
+        pass: &mut OutletPass<T>,
+        came: Came<T>,
+    ) -> Result<(), AllocError>
         requires own { IsPassOf self.now pass.old }
         requires may { MayPush (knows pass.old) came.session }
         ensures own { IsPassOf self.now pass.new }

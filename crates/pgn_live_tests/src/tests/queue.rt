@@ -25,11 +25,7 @@ fn push<R: Wait>(
 }
 
 // Takes a number, and whose it is.
-fn take<R: Wait>(
-    rt: &R,
-    outlet: &Outlet<u64>,
-    pass: &mut OutletPass<u64>,
-) -> Option<(u32, u64)>
+fn take<R: Wait>(rt: &R, outlet: &Outlet<u64>, pass: &mut OutletPass<u64>) -> Option<(u32, u64)>
     requires own { IsPassOf outlet.now pass.old }
     requires takes { (knows pass.old).takes ≡ true }
     ensures own { IsPassOf outlet.now pass.new }
