@@ -1,0 +1,4 @@
+-- what a desk has done
+pub mod Serving
+-- desks side by side
+pub mod Desks
