@@ -1,6 +1,13 @@
 //! The clients of seats, one after another, each seat served by one session.
 #![tactic(auto)]
 
+mod answering;
 mod desk;
+mod hearing;
+mod lines;
+mod quitting;
+mod resetting;
+mod telling;
+mod turn;
 
 pub use desk::{Desk, Inbox};
