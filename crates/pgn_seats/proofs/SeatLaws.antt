@@ -12,7 +12,7 @@ use Rattle.pgn_outlet.specs.declared.came.Came.{Came}
 use Rattle.pgn_outlet.specs.declared.hand.Hand.{Hand}
 use Rattle.pgn_outlet.specs.declared.outlet.Outlet.{Outlet}
 use Rattle.pgn_outlet.specs.Cames.{what_of}
-use Rattle.pgn_outlet.specs.Passes.{IsPassOf, knows}
+use Rattle.pgn_outlet.specs.Passes.{IsPassOf, Pass, knows}
 use Rattle.pgn_session.specs.declared.session.Session.{Session}
 use Rattle.pgn_session.specs.declared.doing.Doing.{Doing}
 use Rattle.pgn_session.specs.declared.doing.Doing.TheVariants.{Lines, Over}
@@ -109,14 +109,14 @@ module _ {P : Type 0} (is_own : P → Type 0) (shape : Shape) (known : P → Kno
   inbox-kept old new asks no h = record {
     some = subst (λ (n : ℕ). 1 ≤ n) (sym no) h.some;
     within = subst (λ (n : ℕ). n ≤ length inboxes) (sym no) h.within;
-    own = λ d. subst (λ (n : ℕ). IsPassOf (get_or inboxes (n - 1) d) new.asks) (sym no) (subst (λ pass. IsPassOf (get_or inboxes (old.session.section.no - 1) d) pass) (sym asks) (h.own d));
-    takes = ap (λ pass. (knows pass).takes) asks ∙ h.takes;
+    own = λ d. subst (λ (n : ℕ). IsPassOf (get_or inboxes (n - 1) d) new.asks) (sym no) (subst (λ (pass : Pass (Option Ask)). IsPassOf (get_or inboxes (old.session.section.no - 1) d) pass) (sym asks) (h.own d));
+    takes = ap (λ (pass : Pass (Option Ask)). (knows pass).takes) asks ∙ h.takes;
   }
 
   -- what was taken by the same client
   pub taken-kept : (old new : Desk P) → new.asks ≡ old.asks → new.session.section.no ≡ old.session.section.no
       → taken new.session.section.no (knows new.asks) ≡ taken old.session.section.no (knows old.asks)
-  taken-kept old new asks no = ap (λ (n : ℕ). taken n (knows new.asks)) no ∙ ap (λ pass. taken old.session.section.no (knows pass)) asks
+  taken-kept old new asks no = ap (λ (n : ℕ). taken n (knows new.asks)) no ∙ ap (λ (pass : Pass (Option Ask)). taken old.session.section.no (knows pass)) asks
 
   -- it has quit
   pub quit-served : (desk : Desk P) (tells : Hand Saying) (turns : List Turn) → is_own desk.session.pass → HasRest shape known desk.session → desk.session.doing ≡ Over → (known desk.session.pass).mark ≡ None
@@ -126,8 +126,8 @@ module _ {P : Type 0} (is_own : P → Type 0) (shape : Shape) (known : P → Kno
       record { own = own; rested = rested; over = over; left = left; inbox = inbox; turns = turns; quits = quits; asked = asked; told = told }
 
   -- a desk that may begin serves, where nothing was told for it
-  pub begins-serves : (desk : Desk P) (tells : Hand Saying) → MayBegin is_own shape known inboxes desk → what_of desk.session.section.no tells.sent ≡ [] → Serves is_own shape known inboxes desk tells
-  begins-serves desk tells h none =
+  pub serves-begins : (desk : Desk P) (tells : Hand Saying) → MayBegin is_own shape known inboxes desk → tells.sent ≡ [] → Serves is_own shape known inboxes desk tells
+  serves-begins desk tells h none =
       let lines : desk.session.section.lines ≡ seat_quit ∷ [] = h.begins.lines ∙ ap (λ (line : ScriptLine). line ∷ []) h.quits in
       record {
         own = h.own;
@@ -139,7 +139,7 @@ module _ {P : Type 0} (is_own : P → Type 0) (shape : Shape) (known : P → Kno
         turns = [];
         in_turns = record { plain = All-nil IsPlain; lines = lines; items = h.begins.shown };
         asked = ap (λ (cames : List (Came (Option Ask))). what_of desk.session.section.no cames) h.untaken;
-        told = ap all_told none;
+        told = ap (λ (cames : List (Came Saying)). all_told (what_of desk.session.section.no cames)) none;
       }
 
 -- what is asked besides

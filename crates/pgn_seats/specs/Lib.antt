@@ -4,3 +4,5 @@ pub mod Serving
 pub mod Working
 -- desks side by side
 pub mod Desks
+-- examples
+pub mod Examples

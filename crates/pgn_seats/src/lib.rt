@@ -3,6 +3,7 @@
 
 mod answering;
 mod desk;
+pub mod examples;
 mod hearing;
 mod lines;
 mod quitting;
