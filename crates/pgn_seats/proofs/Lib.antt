@@ -1,0 +1,8 @@
+-- what a pass knows that has told something
+pub mod SayLaws
+-- a session over the parts of a turn
+pub mod WorkLaws
+-- what was done and told
+pub mod DoneLaws
+-- a desk over a turn
+pub mod SeatLaws
