@@ -10,4 +10,6 @@ pub type Inbox = Outlet<Option<Ask>>;
 pub struct Desk<P> {
     pub session: Session<P>,
     pub asks: OutletPass<Option<Ask>>,
+    /// So many lines of the session's script notify.
+    pub notes: u32,
 }
