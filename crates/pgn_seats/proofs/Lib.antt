@@ -1,0 +1,4 @@
+pub mod DeskHalfLaws
+pub mod DeskRowLaws
+pub mod DeskTurnLaws
+pub mod DeskWorkLaws

@@ -22,9 +22,8 @@ use Rattle.pgn_seats.specs.Serving.{HasPushedFor, HasToldFirst, IsSeated}
 use Rattle.pgn_seats.specs.Desks.{AreSameClients, HaveServed, MayServe, sections_of}
 
 -- the desk's number is that of a seat of the hub
-pub record HasSeat {P : Type 0} (shape : Shape) (desk : Desk P) : Type 0 where
-  pub some : 1 ≤ desk.session.section.no
-  pub within : desk.session.section.no ≤ length shape.seats
+abbrev pub HasSeat : {P : Type 0} → Shape → Desk P → Type 0
+HasSeat shape desk = (1 ≤ desk.session.section.no) × (desk.session.section.no ≤ length shape.seats)
 
 -- a desk serves or has served its seat; once one that tells by the same pass was refused, it has told whole turns
 abbrev pub StandsBy : {P : Type 0} → (P → Type 0) → Shape → (P → Known) → List (Outlet (Option Ask)) → Bool → Hand Saying → Desk P → Type 0
