@@ -86,10 +86,13 @@ pub(crate) fn turn_at<P: PassView + Send + Drop, H: Hub<Pass = P>, R: Wait>(
         desk,
         &mut tells.pass,
     );
-    if turn.is_err() {
-        tells.refused = true;
+    match turn {
+        Ok(turn) => Ok(turn),
+        Err(_) => {
+            tells.refused = true;
+            Err(AllocError)
+        }
     }
-    turn
 }
 
 // A wait behind a round in which nothing was done. Behind the first one the bell of the first desk is armed, and each looks once more; behind the
