@@ -1,9 +1,15 @@
 //! The clients of seats, one after another, each seat served by one session.
 #![tactic(auto)]
 
+mod answering;
 mod desk;
 mod desks;
+mod hearing;
+mod lines;
+mod quitting;
+mod resetting;
 mod serving;
+mod telling;
 mod tells;
 mod turn;
 
