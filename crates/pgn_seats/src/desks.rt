@@ -58,7 +58,7 @@ impl<P: PassView + Send + Drop, H: Hub<Pass = P>> Work<Desk<P>, Tells> for Servi
     fn laws(&self) {}
 }
 
-// A turn of a desk. Once one of those that share a thread was refused memory, or the service was called off, each is refused.
+// A turn of a desk. Once one of those that share a thread was refused memory, or ends since another was, each is refused.
 pub(crate) fn turn_at<P: PassView + Send + Drop, H: Hub<Pass = P>, R: Wait>(
     rt: &R,
     alloc: Global,
@@ -72,8 +72,7 @@ pub(crate) fn turn_at<P: PassView + Send + Drop, H: Hub<Pass = P>, R: Wait>(
     ensures own { IsPassOf service.now.outbox.now tells.new.pass }
     ensures turned { HasTakenTurn (H.is_pass service.now.hub.now) (H.shape service.now.hub.now) P.known service.now.inboxes.now desk.old desk.new tells.old.refused tells.new.refused (knows tells.old.pass) (knows tells.new.pass) result }
 {
-    if tells.refused || service.hub.is_called_off() {
-        tells.refused = true;
+    if tells.refused {
         return Err(AllocError);
     }
     let turn = take_turn(
