@@ -197,9 +197,14 @@ module _ {P : Type 0} (is_own : P → Type 0) (shape : Shape) (known : P → Kno
     ended = λ ended. absurd (cc);
   }
 
-  pub not-turned : {E : Type 0} (d : Desk P) (a : Bool) (v : Hand Saying) (e : E) → StandsBy is_own shape known inboxes a v d → HasTakenTurn {E = E} is_own shape known inboxes d d a true v v (Err e)
-  not-turned d a v e stands =
-      turned-refused d d a v v e (record { section = refl; plan = refl; patience = refl }) (record { same = refl; others = λ m apart. refl }) (stands-first a v d stands)
+  pub not-turned : {E : Type 0} (d : Desk P) (a : Bool) (v : Hand Saying) (e : E) → StandsBy is_own shape known inboxes a v d → HasTakenTurn {E = E} is_own shape known inboxes d d a a v v (Err e)
+  not-turned d a v e stands = record {
+    same = record { section = refl; plan = refl; patience = refl };
+    alone = record { same = refl; others = λ m apart. refl };
+    stands = stands;
+    stays = λ fine. fine;
+    ended = λ ended. absurd (cc);
+  }
 
   -- the first part of a round, and the second behind it
   pub left-go : (left right : List (Desk P)) (a : Bool) (v : Hand Saying) → MayGo is_own shape known inboxes (left ++ right) a v → MayGo is_own shape known inboxes left a v
