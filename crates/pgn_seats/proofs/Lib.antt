@@ -6,3 +6,7 @@ pub mod WorkLaws
 pub mod DoneLaws
 -- a desk over a turn
 pub mod SeatLaws
+pub mod DeskHalfLaws
+pub mod DeskRowLaws
+pub mod DeskTurnLaws
+pub mod DeskWorkLaws

@@ -6,3 +6,5 @@ pub mod Working
 pub mod Desks
 -- examples
 pub mod Examples
+-- desks as workers
+pub mod Workers
