@@ -9,6 +9,8 @@ pub mod examples;
 mod frame_fault;
 mod framing;
 pub mod laws;
+mod writing;
 
 pub use frame_fault::FrameFault;
 pub use framing::{Arrival, NoFrame, next_frame};
+pub use writing::{write_over, write_rest, write_until};
