@@ -29,9 +29,9 @@ abbrev pub flag_rule : Text → Rule
 flag_rule name = record (new_rule name) { long = Some name; action = Some SetTrue }
 
 -- a command with all options: those that it does not take are refused once they are read
-abbrev pub options_app : Optioned → App
-options_app which =
-    with_rule (with_rule (with_rule (with_rule (with_rule (new_app (word_of which)) (option_rule (codes "pages") (parser.Unsigned PAGES_MIN PAGES_MAX)))
+abbrev pub options_app : Text → App
+options_app name =
+    with_rule (with_rule (with_rule (with_rule (with_rule (new_app name) (option_rule (codes "pages") (parser.Unsigned PAGES_MIN PAGES_MAX)))
     (option_rule (codes "patience") (parser.Unsigned 1 PATIENCE_MAX)))
     (option_rule (codes "format") (parser.Unsigned 1 2)))
     (option_rule (codes "seats") (parser.Unsigned 1 SEATS_MAX)))
@@ -63,7 +63,7 @@ plain_app = with_subcommand (with_subcommand (record { top = program_shape; subs
 
 -- the program with its commands
 abbrev pub program_app : App
-program_app = with_subcommand (with_subcommand (with_subcommand plain_app (options_app OfRun).top) (options_app OfCheck).top) (options_app OfServe).top
+program_app = with_subcommand (with_subcommand (with_subcommand plain_app (options_app (word_of OfRun)).top) (options_app (word_of OfCheck)).top) (options_app (word_of OfServe)).top
 
 -- a number was found for an argument, or none was
 abbrev pub IsFoundAs : ℕ → ℕ → Text → List Row → Option ℕ → Type 0

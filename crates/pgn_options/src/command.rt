@@ -4,7 +4,6 @@ ghost use Rattle.clap.specs.Walk.{rule_of};
 ghost use Rattle.clap.specs.declared.builder.command.Command.TheViews.{out-Command};
 ghost use Rattle.clap.specs.declared.builder.value_parser.ValueParser.TheVariants.{Unsigned};
 ghost use Rattle.pgn_options.specs.Parse.{drill_app, flag_rule, option_rule, options_app, plain_app, program_app, program_shape, seed_max, wire_app, word_rule};
-ghost use Rattle.pgn_options.specs.Words.{OfCheck, OfRun, OfServe, Optioned, word_of};
 ghost use Rattle.pgn_base.specs.declared.limits.TheConstants.{PAGES_MAX, PAGES_MIN};
 ghost use Rattle.pgn_options.specs.declared.limits.TheConstants.{DRILL_NOTES_MAX, DRILL_SESSIONS_MAX, PATIENCE_MAX, SEATS_MAX};
 
@@ -38,7 +37,7 @@ fn with_options<'a>(
     command: Command<'a>,
     name: &'a str,
 ) -> Result<Command<'a>, AllocError>
-    ensures { (which : Optioned) → name.now ≡ word_of which → IfOk result (λ whole. app_of whole ≡ with_subcommand (app_of command.entry) (options_app which).top) }
+    ensures { IfOk result (λ whole. app_of whole ≡ with_subcommand (app_of command.entry) (options_app name.now).top) }
 {
     match options(alloc, name) {
         Ok(below) => with_command(command, below),
@@ -71,7 +70,7 @@ fn with_command<'a>(command: Command<'a>, below: Command<'a>) -> Result<Command<
 
 // A command with all options.
 fn options<'a>(alloc: Global, name: &'a str) -> Result<Command<'a>, AllocError>
-    ensures app { (which : Optioned) → name.now ≡ word_of which → IfOk result (λ command. app_of command ≡ options_app which) }
+    ensures app { IfOk result (λ command. app_of command ≡ options_app name.now) }
     ensures local { IfOk result (λ command. (out-Command command).has_globals ≡ false) }
 {
     let command = Command::new(alloc, name);
