@@ -19,7 +19,7 @@ use Rattle.pgn_frames.specs.Writing.{Carry, Gave, Wrote}
 use Rattle.pgn_frames.proofs.SignLaws.{signs_of-append}
 
 -- signs of a seat, or none
-own_or_none : (own : Bool) → [] ≡ cond own ([] {A = Option ℕ}) []
+own_or_none : (own : Bool) → let none : List (Option ℕ) = [] in none ≡ cond own none none
 own_or_none true = refl
 own_or_none false = refl
 
@@ -34,6 +34,17 @@ told_one false what = refl
 -- the signs of what came in two parts
 told-append : (n : ℕ) (xs ys : List (Came Saying)) → all_told (what_of n (xs ++ ys)) ≡ all_told (what_of n xs) ++ all_told (what_of n ys)
 told-append n xs ys = ap all_told (what_of-append n xs ys) ∙ flat_map-append signs_told (what_of n xs) (what_of n ys)
+
+-- the signs of a frame that has bytes
+signs_of_bytes : (bytes : List ℕ) → 0 < length bytes → signs_in bytes ≡ map Some bytes
+signs_of_bytes [] some = absurd (omega arith)
+signs_of_bytes (byte ∷ bytes) some = refl
+
+-- with frames of the rest, all bytes of a seat are given out
+pub record GaveBut {S : Type 0} (held : S → Option (List ℕ)) (faults : S → ℕ) (seat : ℕ) (bytes rest : List ℕ) (s₀ : S) (o₀ : Out) (s₁ : S) (o₁ : Out) : Type 0 where
+  pub done : List ℕ
+  pub parts : done ++ rest ≡ bytes
+  pub gave : Gave held faults seat (map Some done) s₀ o₀ s₁ o₁
 
 module _ {S : Type 0} (held : S → Option (List ℕ)) (faults : S → ℕ) where
   -- no frame
@@ -84,22 +95,13 @@ module _ {S : Type 0} (held : S → Option (List ℕ)) (faults : S → ℕ) wher
       Gave-same seat (map Some saying.bytes.items) (signs_told saying) s₀ s₁ o₀ o₁
       (sym (append-nil (map Some saying.bytes.items)) ∙ ap (λ (b : Bool). map Some saying.bytes.items ++ cond b (None ∷ []) []) (sym goes)) f
 
-  -- with frames of the rest, all bytes of a seat are given out
-  pub record GaveBut (seat : ℕ) (bytes rest : List ℕ) (s₀ : S) (o₀ : Out) (s₁ : S) (o₁ : Out) : Type 0 where
-    pub done : List ℕ
-    pub parts : done ++ rest ≡ bytes
-    pub gave : Gave held faults seat (map Some done) s₀ o₀ s₁ o₁
-
-  pub GaveBut-none : (seat : ℕ) (bytes : List ℕ) (sink : S) (out : Out) → GaveBut seat bytes bytes sink out sink out
+  -- no byte yet
+  pub GaveBut-none : (seat : ℕ) (bytes : List ℕ) (sink : S) (out : Out) → GaveBut held faults seat bytes bytes sink out sink out
   GaveBut-none seat bytes sink out = record { done = []; parts = refl; gave = Gave-none seat sink out }
 
-  -- the signs of a frame that has bytes
-  signs_of_bytes : (bytes : List ℕ) → 0 < length bytes → signs_in bytes ≡ map Some bytes
-  signs_of_bytes [] some = absurd (omega arith)
-  signs_of_bytes (byte ∷ bytes) some = refl
-
-  pub GaveBut-more : (seat : ℕ) (bytes rest piece behind : List ℕ) (s₀ s₁ s₂ : S) (o₀ o₁ o₂ : Out) → GaveBut seat bytes rest s₀ o₀ s₁ o₁ → Gave held faults seat (signs_in piece) s₁ o₁ s₂ o₂
-      → 0 < length piece → piece ++ behind ≡ rest → GaveBut seat bytes behind s₀ o₀ s₂ o₂
+  -- a piece more
+  pub GaveBut-more : (seat : ℕ) (bytes rest piece behind : List ℕ) (s₀ s₁ s₂ : S) (o₀ o₁ o₂ : Out) → GaveBut held faults seat bytes rest s₀ o₀ s₁ o₁ → Gave held faults seat (signs_in piece) s₁ o₁ s₂ o₂
+      → 0 < length piece → piece ++ behind ≡ rest → GaveBut held faults seat bytes behind s₀ o₀ s₂ o₂
   GaveBut-more seat bytes rest piece behind s₀ s₁ s₂ o₀ o₁ o₂ f g some parts =
       let both : Gave held faults seat (map Some f.done ++ signs_in piece) s₀ o₀ s₂ o₂ = Gave-trans seat (map Some f.done) (signs_in piece) s₀ s₁ s₂ o₀ o₁ o₂ f.gave g in record {
         done = f.done ++ piece;
@@ -108,7 +110,8 @@ module _ {S : Type 0} (held : S → Option (List ℕ)) (faults : S → ℕ) wher
             (ap (λ (l : List (Option ℕ)). map Some f.done ++ l) (signs_of_bytes piece some) ∙ sym (map-append Some f.done piece)) both;
       }
 
-  pub GaveBut-all : (seat : ℕ) (bytes rest : List ℕ) (s₀ s₁ : S) (o₀ o₁ : Out) → rest ≡ [] → GaveBut seat bytes rest s₀ o₀ s₁ o₁ → Gave held faults seat (map Some bytes) s₀ o₀ s₁ o₁
+  -- all of them
+  pub GaveBut-all : (seat : ℕ) (bytes rest : List ℕ) (s₀ s₁ : S) (o₀ o₁ : Out) → rest ≡ [] → GaveBut held faults seat bytes rest s₀ o₀ s₁ o₁ → Gave held faults seat (map Some bytes) s₀ o₀ s₁ o₁
   GaveBut-all seat bytes rest s₀ s₁ o₀ o₁ none f =
       Gave-same seat (map Some f.done) (map Some bytes) s₀ s₁ o₀ o₁ (ap (map Some) (sym (append-nil f.done) ∙ ap (λ (l : List ℕ). f.done ++ l) (sym none) ∙ f.parts)) f.gave
 
