@@ -43,7 +43,7 @@ wire_fault_text fault = byte_fault (at_of fault) (codes ": bad message\n")
 -- the line of an outcome, and nothing where the run is done
 abbrev pub fault_text : Status → List ℕ
 fault_text Done = []
-fault_text BadWords = codes "usage: pgnotify run [--pages N] [--patience N] [--format N] [--live] or pgnotify drill SEED SESSIONS NOTES or pgnotify wire or pgnotify check [--pages N] [--patience N] [--format N]\n"
+fault_text BadWords = codes "usage: pgnotify run [--pages N] [--patience N] [--format N] [--live] or pgnotify drill SEED SESSIONS NOTES or pgnotify wire or pgnotify serve [--seats N] or pgnotify check [--pages N] [--patience N] [--format N]\n"
 fault_text (BadScenario fault) = scenario_fault_text fault
 fault_text ReadFault = codes "pgnotify: read failed\n"
 fault_text WriteFault = codes "pgnotify: write failed\n"

@@ -18,7 +18,7 @@ pub fn fault_line<K: Sink>(sink: &mut K, status: &Status) -> Result<(), Failed>
         Status::Done => Ok(()),
         Status::BadWords => write_all(
             sink,
-            b"usage: pgnotify run [--pages N] [--patience N] [--format N] [--live] or pgnotify drill SEED SESSIONS NOTES or pgnotify wire or pgnotify check [--pages N] [--patience N] [--format N]\n",
+            b"usage: pgnotify run [--pages N] [--patience N] [--format N] [--live] or pgnotify drill SEED SESSIONS NOTES or pgnotify wire or pgnotify serve [--seats N] or pgnotify check [--pages N] [--patience N] [--format N]\n",
         ),
         Status::BadScenario(fault) => scenario_fault_line(sink, *fault),
         Status::ReadFault => write_all(sink, b"pgnotify: read failed\n"),

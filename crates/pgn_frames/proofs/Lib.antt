@@ -10,5 +10,9 @@ pub mod AskLaws
 pub mod NumberLaws
 -- messages with more behind them
 pub mod MoreLaws
+-- the signs of a seat, in frames that grow
+pub mod SignLaws
+-- what the writer has taken and given out
+pub mod WriteLaws
 -- the frames and the queries of the examples
 mod ExampleLaws

@@ -13,8 +13,10 @@ pub mod laws;
 mod message;
 mod reading;
 mod taking;
+mod writing;
 
 pub use caller::Caller;
 pub use frame_fault::FrameFault;
 pub use framing::{Arrival, NoFrame, next_frame};
 pub use reading::read_frames;
+pub use writing::{write_over, write_rest, write_until};

@@ -17,6 +17,7 @@ use std::test::Fail;
 use std::thread::Threads;
 use std::time::Clock;
 
+mod bell;
 mod gate;
 mod over_hub;
 mod program;
