@@ -30,6 +30,7 @@ pub record MayBegin {P : Type 0} (is_own : P → Type 0) (shape : Shape) (known 
   pub quits : begins.last ≡ seat_quit
   pub inbox : HasInbox inboxes desk
   pub untaken : (knows desk.asks).got ≡ []
+  pub counted : desk.notes ≡ 0
 
 -- desks that may begin, numbered from the first number of a pass on and not more than its numbers; they tell by that pass, which has pushed nothing
 pub record MayServe {P : Type 0} (is_own : P → Type 0) (shape : Shape) (known : P → Known) (inboxes : List (Outlet (Option Ask))) (desks : List (Desk P)) (v : Hand Saying) : Type 0 where
