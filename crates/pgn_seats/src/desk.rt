@@ -12,6 +12,4 @@ pub struct Desk<P> {
     pub asks: OutletPass<Option<Ask>>,
     /// So many lines of the session's script notify.
     pub notes: u32,
-    /// Whether it has armed its bell, and is to doze where there is still nothing to do.
-    pub armed: bool,
 }
