@@ -25,6 +25,7 @@ pub fn fault_line<K: Sink>(sink: &mut K, status: &Status) -> Result<(), Failed>
         Status::WriteFault => write_all(sink, b"pgnotify: write failed\n"),
         Status::NoMemory => write_all(sink, b"pgnotify: out of memory\n"),
         Status::BadWire(fault) => wire_fault_line(sink, *fault),
+        Status::BadFrame(_) => write_all(sink, b"pgnotify: bad frame\n"),
         Status::Illegal { .. } => write_all(sink, b"pgnotify: output is not legal\n"),
         Status::NoOutput => write_all(sink, b"pgnotify: no output part\n"),
         Status::CheckTooLarge => write_all(
