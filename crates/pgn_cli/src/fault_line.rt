@@ -1,9 +1,10 @@
 ghost use Rattle.std.specs.Prelude.{◌≡◌, ◌++◌, decimal, codes};
 ghost use Rattle.pgn_base.specs.Outside.{Writes, HasCause};
-ghost use Rattle.pgn_cli.specs.FaultLine.{at_of, byte_fault, fault_text, line_fault, scenario_fault_text, wire_fault_text};
+ghost use Rattle.pgn_cli.specs.FaultLine.{at_of, byte_fault, fault_text, frame_at, frame_fault_text, line_fault, scenario_fault_text, wire_fault_text};
 
 use itoa::Buffer;
 use pgn_base::{Failed, Sink, write_all};
+use pgn_frames::FrameFault;
 use pgn_language::ScenarioFault;
 use pgn_queries::WireFault;
 use pgn_run::Status;
@@ -25,7 +26,7 @@ pub fn fault_line<K: Sink>(sink: &mut K, status: &Status) -> Result<(), Failed>
         Status::WriteFault => write_all(sink, b"pgnotify: write failed\n"),
         Status::NoMemory => write_all(sink, b"pgnotify: out of memory\n"),
         Status::BadWire(fault) => wire_fault_line(sink, *fault),
-        Status::BadFrame(_) => write_all(sink, b"pgnotify: bad frame\n"),
+        Status::BadFrame(fault) => frame_fault_line(sink, *fault),
         Status::Illegal { .. } => write_all(sink, b"pgnotify: output is not legal\n"),
         Status::NoOutput => write_all(sink, b"pgnotify: no output part\n"),
         Status::CheckTooLarge => write_all(
@@ -79,6 +80,27 @@ fn wire_fault_line<K: Sink>(sink: &mut K, fault: WireFault) -> Result<(), Failed
     ensures cause { HasCause (K.faults sink.old) (K.faults sink.new) result }
 {
     numbered(sink, b"pgnotify: byte ", offset(fault), b": bad message\n")
+}
+
+fn frame_fault_line<K: Sink>(sink: &mut K, fault: FrameFault) -> Result<(), Failed>
+    ensures bytes { Writes (K.held sink.old) (K.held sink.new) result (frame_fault_text fault) }
+    ensures cause { HasCause (K.faults sink.old) (K.faults sink.new) result }
+{
+    numbered(
+        sink,
+        b"pgnotify: byte ",
+        frame_offset(fault),
+        b": bad frame\n",
+    )
+}
+
+// The place of the frame that is refused, in bytes.
+fn frame_offset(fault: FrameFault) -> u64
+    ensures { result ≡ frame_at fault }
+{
+    match fault {
+        FrameFault::CutFrame { at } | FrameFault::NoSeat { at } => at,
+    }
 }
 
 // The place of the message that is refused, in bytes.
