@@ -6,3 +6,5 @@ pub mod WorkLaws
 pub mod DoneLaws
 -- a desk over a turn
 pub mod SeatLaws
+-- why examples are refused
+mod ExampleLaws
