@@ -1,6 +1,6 @@
 -- What was done and told of what was asked, over the parts of a turn.
-use Rattle.std.proofs.Common.{◌≡◌, ℕ, ◌+◌, false, List, [], ◌∷◌, ◌++◌, All, Option, Some, None, map, sym, ap, ◌∙◌, refl, subst, fold, append_assoc, append-nil}
-use Rattle.std.specs.Prelude.{flat_map}
+use Rattle.std.proofs.Common.{◌≡◌, ℕ, ◌+◌, false, List, [], ◌∷◌, ◌++◌, All, Option, Some, None, sym, ap, ◌∙◌, refl, subst, append_assoc, append-nil}
+use Rattle.std.specs.Prelude.{flat_map, fold, map}
 use Rattle.std.specs.List.{list_any}
 use Rattle.std.proofs.lemmas.List.Elements.{All-nil, All-cons, All-append}
 use Rattle.pgn_answers.specs.declared.block_state.BlockState.{BlockState}

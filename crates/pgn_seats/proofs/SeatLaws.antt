@@ -1,5 +1,6 @@
 -- A desk that serves, or has served, over a turn.
-use Rattle.std.proofs.Common.{◌≡◌, ℕ, ◌-◌, ◌≤◌, true, List, [], ◌∷◌, ◌++◌, length, get_or, All, Option, Some, None, map, sym, ap, ◌∙◌, refl, subst, append-nil, inl, inr}
+use Rattle.std.proofs.Common.{◌≡◌, ℕ, ◌-◌, ◌≤◌, true, List, [], ◌∷◌, ◌++◌, length, get_or, All, Option, Some, None, sym, ap, ◌∙◌, refl, subst, append-nil, inl, inr}
+use Rattle.std.specs.Prelude.{map}
 use Rattle.std.proofs.lemmas.List.{map-append}
 use Rattle.std.proofs.lemmas.List.Elements.{All-nil}
 use Rattle.pgn_language.specs.declared.scenario.ScriptLine.{ScriptLine}

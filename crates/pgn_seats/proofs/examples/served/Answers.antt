@@ -1,4 +1,5 @@
-use Rattle.std.proofs.Common.{◌≡◌, List, [], ◌∷◌, ◌++◌, length, Option, Some, None, map, sym, ◌∙◌, refl, arith, ap}
+use Rattle.std.proofs.Common.{◌≡◌, List, [], ◌∷◌, ◌++◌, length, Option, Some, None, sym, ◌∙◌, refl, arith, ap}
+use Rattle.std.specs.Prelude.{map}
 use Rattle.std.proofs.lemmas.List.{same_from_push}
 use Rattle.pgn_language.specs.declared.scenario.ScriptLine.{ScriptLine}
 use Rattle.pgn_session.specs.declared.doing.Doing.TheVariants.{Lines, Over}
