@@ -64,8 +64,11 @@ shown-stays old new e begins asks tells h = record {
   told = ap (λ (s : Section). all_told (what_of s.no tells.sent)) e ∙ h.told;
 }
 
+pub read-stays : {P : Type 0} (old new : Session P) → new ≡ record old { pass = new.pass; items = new.items } → Begins old.items.items new.items.items → StaysDone old new
+read-stays {P} old new e begins asks tells h = shown-stays old new (ap (λ (s : Session P). s.section) e) begins asks tells h
+
 -- how a script ends of which the first lines are these
-quits : (lines front : List ScriptLine) → lines ≡ front ++ seat_quit ∷ [] → EndsByQuit lines
+abbrev quits : (lines front : List ScriptLine) → lines ≡ front ++ seat_quit ∷ [] → EndsByQuit lines
 quits lines front e = record { front = front; last = seat_quit; split = e; quits = refl }
 
 -- a line that was put in stands behind those of the turns
