@@ -226,3 +226,10 @@ both-ran old mid new number h e k f = record {
   one_more = k.one_line;
   section = f ∙ ap (λ (s : Section). fed s (unlisten_line (number + 1))) e;
 }
+
+pub set-back : {P : Type 0} (old mid new : Session P) (number next : ℕ) (first second : ScriptLine) → first ≡ rollback_line number → second ≡ unlisten_line next → next ≡ number + 1
+    → HasRun old first mid → mid.section ≡ fed old.section first → new.section ≡ fed mid.section second → HasRun mid second new → HasSetBack old number new
+set-back old mid new number next first second e f n h k section ran =
+    let line : second ≡ unlisten_line (number + 1) = f ∙ ap unlisten_line n in
+    both-ran old mid new number (subst (λ (l : ScriptLine). HasRun old l mid) e h) (k ∙ ap (λ (l : ScriptLine). fed old.section l) e) (subst (λ (l : ScriptLine). HasRun mid l new) line ran)
+    (section ∙ ap (λ (l : ScriptLine). fed mid.section l) line)

@@ -18,3 +18,12 @@ ok_then (Err e) P Q f p = tt
 pub err_then : {T E : Type 0} (r : Result T E) (P Q : Type 0) → (P → Q) → OnErr r P → OnErr r Q
 err_then (Ok x) P Q f p = tt
 err_then (Err e) P Q f p = f p
+
+pub ok_both : {T E : Type 0} (r : Result T E) (P Q R : Type 0) → (P → Q → R) → OnOk r P → OnOk r Q → OnOk r R
+ok_both (Ok x) P Q R f p q = f p q
+ok_both (Err e) P Q R f p q = tt
+
+-- by either answer
+pub by_either : {T E : Type 0} (r : Result T E) (P : Type 0) → OnOk r P → OnErr r P → P
+by_either (Ok x) P p q = p
+by_either (Err e) P p q = q

@@ -1,6 +1,7 @@
 use Rattle.std.proofs.Common.{◌≡◌, [], ◌∷◌, ap, sym, ◌∙◌, refl}
 use Rattle.pgn_language.specs.declared.scenario.Section.{Section}
 use Rattle.pgn_language.specs.Inputs.{note_lines_of}
+use Rattle.pgn_outlet.specs.Passes.{knows}
 use Rattle.pgn_session.proofs.OpenLaws.{quit-same, same-client}
 use Rattle.pgn_turns.specs.Asks.{line_of}
 use Rattle.pgn_seats.proofs.DoneLaws.{done-first, put-done, same-stays}
@@ -15,7 +16,7 @@ put_query-requires-clause-is_open g c κs within = c.requires.work.is_open
 pub hear_before-requires-clause-may : goal.hear_before-requires-clause-may
 hear_before-requires-clause-may g c κs within =
     let fed = client-fed c.args.desk.now.session c.put_query.new.session (line_of c.args.query.now) c.in_ok-put_query.ensures.fed in
-    may-at _ _ _ (sym (client-no c.args.desk.now.session c.put_query.new.session fed)) c.requires.may
+    may-at _ _ (knows c.args.tells.now) (sym (client-no c.args.desk.now.session c.put_query.new.session fed)) c.requires.may
 
 pub hear_before-requires-clause-line : goal.hear_before-requires-clause-line
 hear_before-requires-clause-line g c κs within =
@@ -30,7 +31,7 @@ run_query-requires-clause-may g c κs within =
     let fed = client-fed c.args.desk.now.session c.put_query.new.session (line_of c.args.query.now) c.in_ok-put_query.ensures.fed in
     let read = client-read c.put_query.new.session c.hear_before.new.session c.hear_before.ensures.same in
     let all = same-client c.args.desk.now.session c.put_query.new.session c.hear_before.new.session fed read in
-    may-at _ _ _ (sym (client-no c.args.desk.now.session c.hear_before.new.session all)) (may-still _ _ _ _ c.hear_before.ensures.alone c.requires.may)
+    may-at _ _ (knows c.hear_before.new.tells) (sym (client-no c.args.desk.now.session c.hear_before.new.session all)) (may-still _ _ (knows c.args.tells.now) (knows c.hear_before.new.tells) c.hear_before.ensures.alone c.requires.may)
 
 pub run_query-requires-clause-line : goal.run_query-requires-clause-line
 run_query-requires-clause-line g c κs within =

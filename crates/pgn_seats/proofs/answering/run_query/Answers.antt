@@ -1,5 +1,6 @@
 use Rattle.std.proofs.Common.{◌≡◌, ◌<◌, [], ◌∷◌, length, ap, sym, refl, rules}
 use Rattle.pgn_turns.specs.Asks.{line_of}
+use Rattle.pgn_outlet.specs.Passes.{knows}
 use Rattle.pgn_seats.proofs.DoneLaws.{done-first, first-untold, run-done}
 use Rattle.pgn_seats.proofs.ResultLaws.{err_then, ok_then, on_err, on_ok}
 use Rattle.pgn_seats.proofs.SayLaws.{may-at, pushed-at, pushed-same}
@@ -10,10 +11,10 @@ pub run_line-requires-clause-line : goal.run_line-requires-clause-line
 run_line-requires-clause-line g c κs within = (line_of c.args.query.now, c.requires.line)
 
 pub say_answer-requires-clause-may : goal.say_answer-requires-clause-may
-say_answer-requires-clause-may g c κs within = may-at _ _ _ (sym (no-script c.args.session.now c.run_line.new.session c.run_line.ensures.same)) c.requires.may
+say_answer-requires-clause-may g c = may-at _ _ (knows c.args.tells.now) (sym (no-script c.args.session.now c.run_line.new.session c.run_line.ensures.same)) c.requires.may
 
 pub say_answer-requires-clause-shown : goal.say_answer-requires-clause-shown
-say_answer-requires-clause-shown g c κs within =
+say_answer-requires-clause-shown g c =
     let from : c.len-from.result ≡ length c.args.session.now.items.items = search rules in
     ran-within c.args.session.now c.run_line.new.session (line_of c.args.query.now) c.len-from.result from (c.in_ok-run_line.ensures.ran (line_of c.args.query.now) c.requires.line.before c.requires.line.runs)
 

@@ -1,4 +1,5 @@
-use Rattle.std.proofs.Common.{◌≡◌, ◌≤◌, length, ap, sym, arith, rules}
+use Rattle.std.proofs.Common.{◌≡◌, ◌≤◌, length, ap, sym, refl, arith, rules}
+use Rattle.pgn_outlet.specs.Passes.{knows}
 use Rattle.pgn_session.proofs.GrowthLaws.{none-more}
 use Rattle.pgn_session.proofs.LawfulLaws.{rest-lawful}
 use Rattle.pgn_session.proofs.LineTakenLaws.{first-shows}
@@ -15,10 +16,10 @@ pub read_before_line-requires-clause-rested : goal.read_before_line-requires-cla
 read_before_line-requires-clause-rested g c κs within = c.requires.line.1.rested
 
 pub say_heard-requires-clause-may : goal.say_heard-requires-clause-may
-say_heard-requires-clause-may g c κs within = may-at _ _ _ (sym (no-read c.args.session.now c.read_before_line.new.self c.read_before_line.ensures.same)) c.requires.may
+say_heard-requires-clause-may g c = may-at _ _ (knows c.args.tells.now) (sym (no-read c.args.session.now c.read_before_line.new.self c.read_before_line.ensures.same)) c.requires.may
 
 pub say_heard-requires-clause-within : goal.say_heard-requires-clause-within
-say_heard-requires-clause-within g c κs within =
+say_heard-requires-clause-within g c =
     let from : c.len-from.result ≡ length c.args.session.now.items.items = search rules in
     within-grown c.len-from.result _ _ from c.read_before_line.ensures.grows
 

@@ -1,4 +1,5 @@
-use Rattle.std.proofs.Common.{◌≡◌, ◌≤◌, length, ap, sym, refl, arith, rules}
+use Rattle.std.proofs.Common.{◌≡◌, ◌≤◌, [], length, ap, sym, refl, arith, rules}
+use Rattle.pgn_outlet.specs.Passes.{knows}
 use Rattle.pgn_session.proofs.LawfulLaws.{answer-lawful, rest-lawful}
 use Rattle.pgn_session.proofs.LineTakenLaws.{idle-shows}
 use Rattle.pgn_seats.proofs.DoneLaws.{done-first, first-untold, read-done, read-stays}
@@ -7,18 +8,18 @@ use Rattle.pgn_seats.proofs.SayLaws.{may-at, pushed-at, pushed-same}
 use Rattle.pgn_seats.proofs.WorkLaws.{no-read, rest-answers, within-grown, work-read}
 use Rattle.pgn_seats.proofs.hearing.hear_woken.Goals as goal
 
-pub idle-done-requires-clause-own : goal.idle-done-requires-clause-own
-idle-done-requires-clause-own g c κs within = c.requires.work.own
+pub idle-requires-clause-own : goal.idle-requires-clause-own
+idle-requires-clause-own g c κs within = c.requires.work.own
 
-pub idle-done-requires-clause-answered : goal.idle-done-requires-clause-answered
-idle-done-requires-clause-answered g c κs within =
+pub idle-requires-clause-answered : goal.idle-requires-clause-answered
+idle-requires-clause-answered g c κs within =
     rest-answers (g.H.Hub.shape c.args.hub.now) g.P.PassView.known c.args.session.now c.requires.work.is_open.between c.requires.work.rested
 
 pub say_heard-requires-clause-may : goal.say_heard-requires-clause-may
-say_heard-requires-clause-may g c κs within = may-at _ _ _ (sym (no-read c.args.session.now c.idle.new.self c.idle.ensures.same)) c.requires.may
+say_heard-requires-clause-may g c = may-at _ _ (knows c.args.tells.now) (sym (no-read c.args.session.now c.idle.new.self c.idle.ensures.same)) c.requires.may
 
 pub say_heard-requires-clause-within : goal.say_heard-requires-clause-within
-say_heard-requires-clause-within g c κs within =
+say_heard-requires-clause-within g c =
     let from : c.len-from.result ≡ length c.args.session.now.items.items = search rules in
     within-grown c.len-from.result _ _ from c.idle.ensures.grows
 

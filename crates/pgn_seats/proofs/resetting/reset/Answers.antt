@@ -1,4 +1,5 @@
 use Rattle.std.proofs.Common.{◌≡◌, [], sym, refl}
+use Rattle.pgn_outlet.specs.Passes.{knows}
 use Rattle.pgn_seats.proofs.DoneLaws.{done-first, first-untold, leaves-done}
 use Rattle.pgn_seats.proofs.ResultLaws.{err_then, ok_then, on_err, on_ok}
 use Rattle.pgn_seats.proofs.SayLaws.{may-at, pushed-at, pushed-same}
@@ -6,7 +7,7 @@ use Rattle.pgn_seats.proofs.WorkLaws.{client-no}
 use Rattle.pgn_seats.proofs.resetting.reset.Goals as goal
 
 pub say_end-requires-clause-may : goal.say_end-requires-clause-may
-say_end-requires-clause-may g c κs within = may-at _ _ _ (sym (client-no c.args.desk.now.session c.set_back.new.session c.set_back.ensures.same)) c.requires.may
+say_end-requires-clause-may g c = may-at _ _ (knows c.args.tells.now) (sym (client-no c.args.desk.now.session c.set_back.new.session c.set_back.ensures.same)) c.requires.may
 
 pub returns-in_err-set_back-clause-alone : goal.returns-in_err-set_back-clause-alone
 returns-in_err-set_back-clause-alone g c = pushed-same _ _ _ refl
