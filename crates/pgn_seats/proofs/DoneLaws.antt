@@ -1,6 +1,8 @@
 -- What was done and told of what was asked, over the parts of a turn.
-use Rattle.std.proofs.Common.{◌≡◌, ℕ, ◌+◌, false, List, [], ◌∷◌, ◌++◌, All, Option, Some, None, map, sym, ap, ◌∙◌, refl, subst, fold, append_assoc, append-nil}
-use Rattle.std.specs.Prelude.{flat_map}
+use Rattle.std.proofs.Common.{◌≡◌, ℕ, ◌+◌, false, List, [], ◌∷◌, ◌++◌, length, drop, All, Option, Some, None, sym, ap, ◌∙◌, refl, subst, append_assoc, append-nil}
+use Rattle.std.specs.Prelude.{flat_map, fold, map}
+use Rattle.std.proofs.lemmas.List.{length-append}
+use lib.Seq.{drop-append_seam}
 use Rattle.std.specs.List.{list_any}
 use Rattle.std.proofs.lemmas.List.Elements.{All-nil, All-cons, All-append}
 use Rattle.pgn_answers.specs.declared.block_state.BlockState.{BlockState}
@@ -17,6 +19,7 @@ use Rattle.pgn_outlet.specs.Cames.{what_of}
 use Rattle.pgn_session.specs.declared.session.Session.{Session}
 use Rattle.pgn_session.specs.declared.doing.Doing.TheVariants.{Lines}
 use Rattle.pgn_session.specs.Feed.{EndsByQuit, fed}
+use Rattle.pgn_session.specs.Open.{ShowsRead}
 use Rattle.pgn_session.specs.Parts.{Begins}
 use Rattle.pgn_session.specs.Whole.{HasRest}
 use Rattle.pgn_session.proofs.FeedLaws.{fed-split}
@@ -32,7 +35,8 @@ use Rattle.pgn_turns.specs.Sayings.{all_told}
 use Rattle.pgn_turns.specs.Turns.{Turn, Answers, Hears, IsPlain, IsRead, Leaves, after_turn, after_turns, asks_of, bytes_of, farewell, heard, items_of, lines_of, said}
 use Rattle.pgn_turns.proofs.GrowLaws.{turns_grow}
 use Rattle.pgn_turns.proofs.WalkLaws.{turns_walk}
-use Rattle.pgn_seats.specs.Working.{HasDone, HasDoneFirst, HasRun, HasSaid, HasSetBack, StaysDone}
+use Rattle.pgn_seats.specs.Working.{HasDone, HasDoneFirst, HasRun, HasSaid, HasSetBack, IsAtWork, StaysDone}
+use Rattle.pgn_seats.proofs.WorkLaws.{reads-are}
 
 -- what was done whole was done first
 pub done-first : {P : Type 0} (rest : List ScriptLine) (asks : List Ask) (s : Session P) (tells : Hand Saying) → HasDone rest asks s tells → HasDoneFirst asks s tells
@@ -60,8 +64,11 @@ shown-stays old new e begins asks tells h = record {
   told = ap (λ (s : Section). all_told (what_of s.no tells.sent)) e ∙ h.told;
 }
 
+pub read-stays : {P : Type 0} (old new : Session P) → new ≡ record old { pass = new.pass; items = new.items } → Begins old.items.items new.items.items → StaysDone old new
+read-stays {P} old new e begins asks tells h = shown-stays old new (ap (λ (s : Session P). s.section) e) begins asks tells h
+
 -- how a script ends of which the first lines are these
-quits : (lines front : List ScriptLine) → lines ≡ front ++ seat_quit ∷ [] → EndsByQuit lines
+abbrev quits : (lines front : List ScriptLine) → lines ≡ front ++ seat_quit ∷ [] → EndsByQuit lines
 quits lines front e = record { front = front; last = seat_quit; split = e; quits = refl }
 
 -- a line that was put in stands behind those of the turns
@@ -103,7 +110,7 @@ plain-more turns turn all one = All-append IsPlain turns (turn ∷ []) all (All-
 
 -- reads were heard and told
 pub hears-done : {P : Type 0} (rest : List ScriptLine) (asks : List Ask) (old new : Session P) (before after : Hand Saying) (reads : List Item) → HasDone rest asks old before
-    → new ≡ record old { pass = new.pass; items = new.items } → new.items.items ≡ old.items.items ++ reads → All IsRead reads → HasSaid old.section.no (map Some (flat_map heard reads)) before after
+    → new ≡ record old { pass = new.pass; items = new.items } → new.items.items ≡ old.items.items ++ reads → All IsRead reads → HasSaid new.section.no (map Some (flat_map heard reads)) before after
     → HasDone rest asks new after
 hears-done {P} rest asks old new before after reads h e shown are told =
     let grown : HasTurnMore h.turns (Hears reads) = turns_grow h.turns (Hears reads) in
@@ -113,8 +120,21 @@ hears-done {P} rest asks old new before after reads h e shown are told =
       asked = grown.asks ∙ append-nil (asks_of h.turns) ∙ h.asked;
       lines = ap (λ (s : Session P). s.section.lines) e ∙ h.lines ∙ ap (λ (ls : List ScriptLine). ls ++ (rest ++ seat_quit ∷ [])) (sym (grown.lines ∙ append-nil (lines_of h.turns)));
       items = shown ∙ ap (λ (is : List Item). is ++ reads) h.items ∙ sym grown.items;
-      told = ap (λ (s : Session P). all_told (what_of s.section.no after.sent)) e ∙ told ∙ ap (λ (l : List (Option ℕ)). l ++ map Some (flat_map heard reads)) h.told ∙ sym grown.signs;
+      told = told
+          ∙ ap (λ (s : Session P). all_told (what_of s.section.no before.sent) ++ map Some (flat_map heard reads)) e
+          ∙ ap (λ (l : List (Option ℕ)). l ++ map Some (flat_map heard reads)) h.told
+          ∙ sym grown.signs;
     }
+
+-- a read that was shown behind the first items, and was told from there on
+pub read-done : {P : Type 0} (rest : List ScriptLine) (asks : List Ask) (old new : Session P) (before after : Hand Saying) (from : ℕ) → HasDone rest asks old before
+    → new ≡ record old { pass = new.pass; items = new.items } → ShowsRead old.items.items new.items.items → from ≡ length old.items.items
+    → HasSaid new.section.no (map Some (flat_map heard (drop from new.items.items))) before after → HasDone rest asks new after
+read-done rest asks old new before after from h e shows place told =
+    let reads : drop from new.items.items ≡ shows.reads =
+    ap (λ (n : ℕ). drop n new.items.items) place ∙ ap (λ (is : List Item). drop (length old.items.items) is) shows.shown ∙ drop-append_seam old.items.items shows.reads in
+    hears-done rest asks old new before after shows.reads h e shows.shown (reads-are shows.reads shows.are)
+    (subst (λ (is : List Item). HasSaid new.section.no (map Some (flat_map heard is)) before after) reads told)
 
 -- the state of the block behind the answer is the session's
 answer-state : {P : Type 0} (shape : Shape) (known : P → Known) (new : Session P) (turns : List Turn) (turn : Turn) → new.doing ≡ Lines → HasRest shape known new → All IsPlain (turns ++ turn ∷ [])
@@ -152,6 +172,24 @@ answers-done shape known asks query old new before after more h e shown silent b
           ∙ sym grown.signs;
     }
 
+-- what stands behind a line
+behind-line : (xs : List Item) (x : Item) (ys : List Item) → drop (length xs + 1) (xs ++ x ∷ ys) ≡ ys
+behind-line xs x ys =
+    let long : length xs + 1 ≡ length (xs ++ x ∷ []) = sym (length-append xs (x ∷ [])) in
+    ap (λ (n : ℕ). drop n (xs ++ x ∷ ys)) long
+    ∙ ap (λ (is : List Item). drop (length (xs ++ x ∷ [])) is) (sym (append_assoc xs (x ∷ []) ys))
+    ∙ drop-append_seam (xs ++ x ∷ []) ys
+
+-- a line that was shown behind the first items was answered, and told from there on
+pub run-done : {P : Type 0} (is_own : P → Type 0) (shape : Shape) (known : P → Known) (asks : List Ask) (query : Asked) (old new : Session P) (before after : Hand Saying) (from : ℕ) → HasDone (line_of query ∷ []) asks old before
+    → new.section ≡ old.section → HasRun old (line_of query) new → IsAtWork is_own shape known new → from ≡ length old.items.items
+    → HasSaid new.section.no (map Some (bytes_of (Answers query (drop (from + 1) new.items.items)) new.block.state)) before after → HasDone [] (asks ++ Query query ∷ []) new after
+run-done is_own shape known asks query old new before after from h e run work place told =
+    let more : drop (from + 1) new.items.items ≡ run.more =
+    ap (λ (n : ℕ). drop (n + 1) new.items.items) place ∙ ap (λ (is : List Item). drop (length old.items.items + 1) is) run.shown ∙ behind-line old.items.items (Line query.line) run.more in
+    answers-done shape known asks query old new before after run.more h e run.shown run.one_line work.is_open.between work.rested
+    (subst (λ (is : List Item). HasSaid new.section.no (map Some (bytes_of (Answers query is) new.block.state)) before after) more told)
+
 -- the two lines that set a seat back stand behind those of the turns
 set_back-lines : (section : Section) (number : ℕ) (front : List ScriptLine) → section.lines ≡ front ++ seat_quit ∷ []
     → (fed (fed section (rollback_line number)) (unlisten_line (number + 1))).lines ≡ (front ++ (rollback_line number ∷ unlisten_line (number + 1) ∷ [])) ++ seat_quit ∷ []
@@ -188,3 +226,10 @@ both-ran old mid new number h e k f = record {
   one_more = k.one_line;
   section = f ∙ ap (λ (s : Section). fed s (unlisten_line (number + 1))) e;
 }
+
+pub set-back : {P : Type 0} (old mid new : Session P) (number next : ℕ) (first second : ScriptLine) → first ≡ rollback_line number → second ≡ unlisten_line next → next ≡ number + 1
+    → HasRun old first mid → mid.section ≡ fed old.section first → new.section ≡ fed mid.section second → HasRun mid second new → HasSetBack old number new
+set-back old mid new number next first second e f n h k section ran =
+    let line : second ≡ unlisten_line (number + 1) = f ∙ ap unlisten_line n in
+    both-ran old mid new number (subst (λ (l : ScriptLine). HasRun old l mid) e h) (k ∙ ap (λ (l : ScriptLine). fed old.section l) e) (subst (λ (l : ScriptLine). HasRun mid l new) line ran)
+    (section ∙ ap (λ (l : ScriptLine). fed mid.section l) line)

@@ -1,3 +1,5 @@
+-- what holds by an answer
+pub mod ResultLaws
 -- what a pass knows that has told something
 pub mod SayLaws
 -- a session over the parts of a turn
@@ -10,3 +12,5 @@ pub mod DeskHalfLaws
 pub mod DeskRowLaws
 pub mod DeskTurnLaws
 pub mod DeskWorkLaws
+-- why examples are refused
+mod ExampleLaws

@@ -1,5 +1,6 @@
 -- A desk that serves, or has served, over a turn.
-use Rattle.std.proofs.Common.{◌≡◌, ℕ, ◌-◌, ◌≤◌, true, List, [], ◌∷◌, ◌++◌, length, get_or, All, Option, Some, None, map, sym, ap, ◌∙◌, refl, subst, append-nil, inl, inr}
+use Rattle.std.proofs.Common.{◌≡◌, ℕ, ◌-◌, ◌≤◌, true, List, [], ◌∷◌, ◌++◌, length, get_or, All, Option, Some, None, sym, ap, ◌∙◌, refl, subst, append-nil, inl, inr}
+use Rattle.std.specs.Prelude.{map}
 use Rattle.std.proofs.lemmas.List.{map-append}
 use Rattle.std.proofs.lemmas.List.Elements.{All-nil}
 use Rattle.pgn_language.specs.declared.scenario.ScriptLine.{ScriptLine}
@@ -29,7 +30,7 @@ use Rattle.pgn_turns.specs.Turns.{Turn, IsPlain, asks_of, items_of, lines_of, sa
 use Rattle.pgn_seats.specs.declared.desk.Desk.{Desk}
 use Rattle.pgn_seats.specs.Desks.{MayBegin}
 use Rattle.pgn_seats.specs.Serving.{HasInbox, HasQuitBehind, HasServed, HasToldFirst, IsInTurns, IsSeated, Serves, taken}
-use Rattle.pgn_seats.specs.Working.{HasDone, HasDoneFirst, IsAtWork, StaysDone}
+use Rattle.pgn_seats.specs.Working.{GoesOn, HasDone, HasDoneFirst, IsAtWork, with_ask}
 use Rattle.pgn_seats.proofs.DoneLaws.{done-first}
 use Rattle.pgn_seats.proofs.WorkLaws.{client-no}
 
@@ -106,17 +107,17 @@ module _ {P : Type 0} (is_own : P → Type 0) (shape : Shape) (known : P → Kno
 
   -- the inbox of the same client
   pub inbox-kept : (old new : Desk P) → new.asks ≡ old.asks → new.session.section.no ≡ old.session.section.no → HasInbox inboxes old → HasInbox inboxes new
-  inbox-kept old new asks no h = record {
-    some = subst (λ (n : ℕ). 1 ≤ n) (sym no) h.some;
-    within = subst (λ (n : ℕ). n ≤ length inboxes) (sym no) h.within;
-    own = λ d. subst (λ (n : ℕ). IsPassOf (get_or inboxes (n - 1) d) new.asks) (sym no) (subst (λ (pass : Pass (Option Ask)). IsPassOf (get_or inboxes (old.session.section.no - 1) d) pass) (sym asks) (h.own d));
+  inbox-kept old new asks number h = record {
+    some = subst (λ (n : ℕ). 1 ≤ n) (sym number) h.some;
+    within = subst (λ (n : ℕ). n ≤ length inboxes) (sym number) h.within;
+    own = λ d. subst (λ (n : ℕ). IsPassOf (get_or inboxes (n - 1) d) new.asks) (sym number) (subst (λ (pass : Pass (Option Ask)). IsPassOf (get_or inboxes (old.session.section.no - 1) d) pass) (sym asks) (h.own d));
     takes = ap (λ (pass : Pass (Option Ask)). (knows pass).takes) asks ∙ h.takes;
   }
 
   -- what was taken by the same client
   pub taken-kept : (old new : Desk P) → new.asks ≡ old.asks → new.session.section.no ≡ old.session.section.no
       → taken new.session.section.no (knows new.asks) ≡ taken old.session.section.no (knows old.asks)
-  taken-kept old new asks no = ap (λ (n : ℕ). taken n (knows new.asks)) no ∙ ap (λ (pass : Pass (Option Ask)). taken old.session.section.no (knows pass)) asks
+  taken-kept old new asks number = ap (λ (n : ℕ). taken n (knows new.asks)) number ∙ ap (λ (pass : Pass (Option Ask)). taken old.session.section.no (knows pass)) asks
 
   -- it has quit
   pub quit-served : (desk : Desk P) (tells : Hand Saying) (turns : List Turn) → is_own desk.session.pass → HasRest shape known desk.session → desk.session.doing ≡ Over → (known desk.session.pass).mark ≡ None
@@ -124,6 +125,27 @@ module _ {P : Type 0} (is_own : P → Type 0) (shape : Shape) (known : P → Kno
       → all_told (what_of desk.session.section.no tells.sent) ≡ said turns → HasServed is_own shape known inboxes desk tells
   quit-served desk tells turns own rested over left inbox quits asked told =
       record { own = own; rested = rested; over = over; left = left; inbox = inbox; turns = turns; quits = quits; asked = asked; told = told }
+
+  -- what holds of a desk after a turn, by what its session has done
+  pub first-seat : (old new : Desk P) (asks : Pass (Option Ask)) (others : List (Option Ask)) (before after : Hand Saying) → (h : Serves is_own shape known inboxes old before) → HasInbox inboxes (record old { asks = asks })
+      → taken old.session.section.no (knows asks) ≡ map Some (asks_of h.turns) ++ others → new.asks ≡ asks → new.session.section.no ≡ old.session.section.no → IsLawful shape new.session
+      → HasDoneFirst (asks_of h.turns) new.session after → HasToldFirst shape inboxes new after
+  first-seat old new asks others before after h inbox took same number lawful first =
+      first-told new after (asks_of h.turns) others lawful (inbox-kept (record old { asks = asks }) new same number inbox) first (taken-kept (record old { asks = asks }) new same number ∙ took)
+
+  pub more-serves : (old new : Desk P) (asks : Pass (Option Ask)) (ask : Option Ask) (before after : Hand Saying) → (h : Serves is_own shape known inboxes old before) → HasInbox inboxes (record old { asks = asks })
+      → taken old.session.section.no (knows asks) ≡ map Some (with_ask (asks_of h.turns) ask) → new.asks ≡ asks → new.session.section.no ≡ old.session.section.no → new.notes ≡ note_lines_of new.session.section.lines
+      → IsAtWork is_own shape known new.session → GoesOn [] [] ask old.session new.session before after → Serves is_own shape known inboxes new after
+  more-serves old new asks ask before after h inbox took same number counted work went =
+      done-serves new after (with_ask (asks_of h.turns) ask) work counted (inbox-kept (record old { asks = asks }) new same number inbox) (went (asks_of h.turns) (serves-done old before h))
+      (taken-kept (record old { asks = asks }) new same number ∙ took)
+
+  pub quit-serves : (old new : Desk P) (asks : Pass (Option Ask)) (tells : Hand Saying) → (h : Serves is_own shape known inboxes old tells) → HasInbox inboxes (record old { asks = asks })
+      → taken old.session.section.no (knows asks) ≡ map Some (asks_of h.turns) ++ None ∷ [] → new.asks ≡ asks → new.session.section.no ≡ old.session.section.no → is_own new.session.pass → HasRest shape known new.session
+      → new.session.doing ≡ Over → (known new.session.pass).mark ≡ None → HasQuitBehind new.session h.turns → HasServed is_own shape known inboxes new tells
+  quit-serves old new asks tells h inbox took same number own rested over left quits =
+      quit-served new tells h.turns own rested over left (inbox-kept (record old { asks = asks }) new same number inbox) quits (taken-kept (record old { asks = asks }) new same number ∙ took)
+      (ap (λ (n : ℕ). all_told (what_of n tells.sent)) number ∙ h.told)
 
   -- a desk that may begin serves, where nothing was told for it
   pub serves-begins : (desk : Desk P) (tells : Hand Saying) → MayBegin is_own shape known inboxes desk → tells.sent ≡ [] → Serves is_own shape known inboxes desk tells

@@ -1,5 +1,5 @@
 -- A session at work, over the parts of a turn.
-use Rattle.std.proofs.Common.{◌≡◌, ℕ, ◌+◌, ◌<◌, Bool, false, true≢false, List, [], ◌∷◌, ◌++◌, length, drop, Option, Some, None, All, sym, ap, ◌∙◌, refl, subst, arith, append_assoc, append-nil}
+use Rattle.std.proofs.Common.{◌≡◌, ℕ, ◌+◌, ◌<◌, ◌≤◌, Bool, cond, false, true≢false, List, [], ◌∷◌, ◌++◌, length, drop, Option, Some, None, All, sym, ap, ◌∙◌, refl, subst, arith, append_assoc, append-nil}
 use Rattle.std.specs.Prelude.{◌||◌}
 use Rattle.std.specs.List.{list_any}
 use Rattle.std.proofs.lemmas.List.{length-append}
@@ -7,14 +7,13 @@ use Rattle.std.proofs.lemmas.List.Elements.{All-nil, All-cons, All-head, All-tai
 use Rattle.pgn_language.specs.declared.scenario.Act.TheVariants.{Quit, Run}
 use Rattle.pgn_language.specs.declared.scenario.ScriptLine.{ScriptLine}
 use Rattle.pgn_language.specs.declared.scenario.Section.{Section}
+use Rattle.pgn_language.specs.Inputs.{is_note_act, note_lines_of}
 use Rattle.pgn_model.specs.declared.item.Item.{Item}
 use Rattle.pgn_model.specs.declared.item.Item.TheVariants.{Leave, Line}
-use Rattle.pgn_model.specs.Walk.{Terms}
 use Rattle.pgn_model.specs.laws.NextLine.{quit_items}
 use Rattle.pgn_model.specs.Trace.{next_reads_first, reads_first}
 use Rattle.pgn_hub.specs.declared.known.Known.{Known}
 use Rattle.pgn_hub.specs.Shape.{Shape}
-use Rattle.pgn_block.specs.Views.{BlockView}
 use Rattle.pgn_messages.specs.Laws.{begins_line}
 use Rattle.pgn_session.specs.declared.session.Session.{Session}
 use Rattle.pgn_session.specs.declared.doing.Doing.{Doing}
@@ -25,14 +24,17 @@ use Rattle.pgn_session.specs.declared.doing.Step.{Step}
 use Rattle.pgn_session.specs.Feed.{EndsByQuit, fed}
 use Rattle.pgn_session.specs.FirstRead.{IsToReadFirst}
 use Rattle.pgn_session.specs.Open.{IsBefore, IsOpen, IsReadAtMost, IsSameClient, RunsCommand}
-use Rattle.pgn_session.specs.Parts.{HasIdled}
-use Rattle.pgn_session.specs.Standing.{IsAnswered, IsRested, IsServedBy, terms_of}
+use Rattle.pgn_session.specs.Parts.{Begins, HasIdled}
+use Rattle.pgn_session.specs.Runs.{IsLawful}
+use Rattle.pgn_session.specs.Standing.{IsServedBy}
 use Rattle.pgn_session.specs.Steps.{IsNoLine}
-use Rattle.pgn_session.specs.Whole.{HasAnswer, HasRest, IsSameScript}
+use Rattle.pgn_session.specs.Whole.{AnswersAt, HasAnswer, HasRest, IsSameScript, RestsAt}
+use Rattle.pgn_session.proofs.LawfulLaws.{rest-lawful}
 use Rattle.pgn_session.proofs.LineTakenLaws.{Moves, idle-shows, line-moved, read-all, reads-no_line}
-use Rattle.pgn_session.proofs.OpenLaws.{before-comes, before-open, fed-before, fed-runs_served, read-before}
+use Rattle.pgn_session.proofs.OpenLaws.{before-comes, before-open, fed-before, fed-runs_served, notes-fed, read-before}
 use Rattle.pgn_session.proofs.OpenQuitLaws.{quit-taken}
-use Rattle.pgn_turns.specs.Asks.{seat_quit}
+use Rattle.pgn_turns.specs.declared.asked.Asked.{Asked}
+use Rattle.pgn_turns.specs.Asks.{line_of, seat_quit}
 use Rattle.pgn_turns.specs.Turns.{Turn, IsRead, items_of, lines_of}
 use Rattle.pgn_seats.specs.Serving.{HasQuitBehind, IsInTurns}
 use Rattle.pgn_seats.specs.Working.{HasRun, IsAtLine, IsAtWork}
@@ -44,6 +46,9 @@ client-fed {P} old new line e = record {
   plan = ap (λ (s : Session P). s.plan) e;
   patience = ap (λ (s : Session P). s.patience) e;
 }
+
+pub fed-section : {P : Type 0} (old new : Session P) (line : ScriptLine) → new ≡ record old { section = fed old.section line } → new.section ≡ fed old.section line
+fed-section {P} old new line e = ap (λ (s : Session P). s.section) e
 
 pub client-same : {P : Type 0} (old new : Session P) → new ≡ old → IsSameClient old new
 client-same {P} old new e = subst (λ (s : Session P). IsSameClient old s) (sym e) (record { section = refl; plan = refl; patience = refl })
@@ -58,6 +63,21 @@ client-read {P} old new e = record {
 -- it has the same number
 pub client-no : {P : Type 0} (old new : Session P) → IsSameClient old new → new.section.no ≡ old.section.no
 client-no old new h = ap (λ (s : Section). s.no) h.section
+
+pub no-read : {P : Type 0} (old new : Session P) → new ≡ record old { pass = new.pass; items = new.items } → new.section.no ≡ old.section.no
+no-read {P} old new e = ap (λ (s : Session P). s.section.no) e
+
+pub no-script : {P : Type 0} (old new : Session P) → IsSameScript old new → new.section.no ≡ old.section.no
+no-script old new h = ap (λ (s : Section). s.no) h.section
+
+pub notes-read : {P : Type 0} (old new : Session P) → new ≡ record old { pass = new.pass; items = new.items } → note_lines_of old.section.lines ≡ note_lines_of new.section.lines
+notes-read {P} old new e = ap (λ (s : Session P). note_lines_of s.section.lines) (sym e)
+
+-- a place in items that have grown
+pub within-grown : (from : ℕ) (before after : List Item) → from ≡ length before → Begins before after → from ≤ length after
+within-grown from before after e grows =
+    let long : length after ≡ length (before ++ grows.more) = ap (λ (is : List Item). length is) grows.split in
+    omega (arith, e, long, length-append before grows.more)
 
 -- the script stays over a read
 pub script-read : {P : Type 0} (old two new : Session P) → IsSameScript old two → new ≡ record two { pass = new.pass; items = new.items } → IsSameScript old new
@@ -76,6 +96,24 @@ open-quits s h =
 -- who runs a command does not quit
 pub runs-on : (line : ScriptLine) → RunsCommand line → line.act ≡ Quit → ⊥
 runs-on line runs is = let both : Run runs.0 ≡ Quit = sym runs.1 ∙ is in let no : ⊥ = cc in no
+
+-- how many notify
+pub few-notes : (line : ScriptLine) (lines : List ScriptLine) (more notes most : ℕ) → more ≡ cond (is_note_act line.act) 1 0 → notes ≡ note_lines_of lines → more + notes ≤ most
+    → note_lines_of (line ∷ []) + note_lines_of lines ≤ most
+few-notes line lines more notes most e f few =
+    let one : note_lines_of (line ∷ []) ≡ cond (is_note_act line.act) 1 0 = omega arith in
+    omega (arith, one, e, f, few)
+
+pub more-notes : {P : Type 0} (old new : Session P) (line : ScriptLine) (more notes : ℕ) → IsOpen old → more ≡ cond (is_note_act line.act) 1 0 → notes ≡ note_lines_of old.section.lines
+    → new ≡ record old { section = fed old.section line } → notes + more ≡ note_lines_of new.section.lines
+more-notes {P} old new line more notes is_open e f put =
+    let one : note_lines_of (line ∷ []) ≡ cond (is_note_act line.act) 1 0 = omega arith in
+    let all : note_lines_of new.section.lines ≡ note_lines_of (fed old.section line).lines = ap (λ (s : Session P). note_lines_of s.section.lines) put in
+    omega (arith, one, e, f, all, notes-fed old.section line is_open.ends)
+
+-- the line of a query runs its command
+pub query-runs : (query : Asked) (line : ScriptLine) → line ≡ line_of query → RunsCommand line
+query-runs query line e = (query.command, ap (λ (l : ScriptLine). l.act) e)
 
 -- a line was put in
 pub line-put : {P : Type 0} (is_own : P → Type 0) (shape : Shape) (known : P → Known) (old new : Session P) (line : ScriptLine) → RunsCommand line → IsAtWork is_own shape known old
@@ -153,21 +191,29 @@ line-ran shape known old two new line step done before runs moved idled =
       one_line = no-lines (run.more ++ behind.reads) (All-append IsNoLine run.more behind.reads run.one_line (reads-no_line behind.reads behind.are));
     }
 
+pub ran-within : {P : Type 0} (old new : Session P) (line : ScriptLine) (from : ℕ) → from ≡ length old.items.items → HasRun old line new → from < length new.items.items
+ran-within old new line from e h =
+    let long : length new.items.items ≡ length (old.items.items ++ Line line.line ∷ h.more) = ap (λ (is : List Item). length is) h.shown in
+    omega (arith, e, long, length-append old.items.items (Line line.line ∷ h.more))
+
+-- the same behind a line that was put in
+pub ran-behind : {P : Type 0} (old mid new : Session P) (line : ScriptLine) → mid ≡ record old { section = fed old.section line } → HasRun mid line new → HasRun old line new
+ran-behind {P} old mid new line e h = record { more = h.more; shown = h.shown ∙ ap (λ (s : Session P). s.items.items ++ Line line.line ∷ h.more) e; one_line = h.one_line }
+
+-- a session that is as it was has a lawful trace
+pub lawful-same : {P : Type 0} (shape : Shape) (known : P → Known) (old new : Session P) → new ≡ old → HasRest shape known old → IsLawful shape new
+lawful-same {P} shape known old new e h = subst (λ (s : Session P). IsLawful shape s) (sym e) (rest-lawful shape known old h)
+
 -- a read is what is heard between two lines
 pub reads-are : (reads : List Item) → IsReadAtMost reads → All IsRead reads
 reads-are reads are = read-all IsRead (λ from to got. tt) reads are
 
 -- a session that has rested between two lines has answered
-rest-as_answer : (terms : Terms) (plan : FlagPlan) (done : ℕ) (block : BlockView) (set : List (List ℕ)) (doing : Doing) (k : Known) (items : List Item) → doing ≡ Lines
-    → IsRested terms plan done block set doing k items → IsAnswered terms plan done block set doing k items
-rest-as_answer terms plan done block set doing k items e h =
-    let rested : IsRested terms plan done block set Lines k items = subst (λ (d : Doing). IsRested terms plan done block set d k items) e h in
-    let answered : IsAnswered terms plan done block set Lines k items =
-    record { state = rested.state; stands = rested.stands; rest = rested.rest; channels = rested.channels; here = rested.here.0 } in
-    subst (λ (d : Doing). IsAnswered terms plan done block set d k items) (sym e) answered
-
 pub rest-answers : {P : Type 0} (shape : Shape) (known : P → Known) (s : Session P) → s.doing ≡ Lines → HasRest shape known s → HasAnswer shape known s
-rest-answers shape known s e h = rest-as_answer (terms_of shape s.section s.patience) s.plan s.done s.block s.set.channels s.doing (known s.pass) s.items.items e h
+rest-answers shape known s e h =
+    let rested : RestsAt shape known s Lines = subst (λ (d : Doing). RestsAt shape known s d) e h in
+    let answered : AnswersAt shape known s Lines = record { state = rested.state; stands = rested.stands; rest = rested.rest; channels = rested.channels; here = rested.here.0 } in
+    subst (λ (d : Doing). AnswersAt shape known s d) (sym e) answered
 
 -- what quitting shows is no read
 quit-unread : (mark : Option ℕ) → All (λ (item : Item). IsRead item → ⊥) (quit_items mark)

@@ -1,10 +1,10 @@
-ghost use Rattle.std.specs.Prelude.{◌≡◌, ◌↔◌, ◌-◌, ◌≤◌, Ok, None, Option, Some, true, [], ◌∷◌, ◌++◌, IfNone, IfSome, IsTrue, OnOk, get_or, length};
+ghost use Rattle.std.specs.Prelude.{◌≡◌, ◌↔◌, ◌-◌, ◌≤◌, Ok, None, Option, Some, true, [], ◌∷◌, ◌++◌, IfNone, IfSome, IsTrue, OnErr, OnOk, get_or, length};
 ghost use Rattle.pgn_outlet.specs.declared.outlet.Outlet.{Outlet};
 ghost use Rattle.pgn_outlet.specs.Passes.{IsPassOf, knows};
 ghost use Rattle.pgn_outlet.specs.Rule.{MayPush};
 ghost use Rattle.pgn_language.specs.Inputs.{note_lines_of};
 ghost use Rattle.pgn_seats.specs.Serving.{HasPushedFor, HasServed, HasToldFirst, IsSeated, Serves, taken};
-ghost use Rattle.pgn_seats.specs.Working.{Goes, IsAtWork};
+ghost use Rattle.pgn_seats.specs.Working.{GoesOn, StopsFirst, IsAtWork};
 ghost use Rattle.pgn_session.specs.Open.{IsSameClient};
 ghost use Rattle.pgn_session.specs.Runs.{IsLawful};
 ghost use Rattle.pgn_turns.specs.declared.asked.Ask.{Ask};
@@ -145,7 +145,8 @@ fn serve<P: PassView + Send + Drop, H: Hub<Pass = P>, R: Wait>(
     ensures lawful { IsLawful (H.shape hub.now) desk.new.session }
     ensures counted { desk.new.notes ≡ note_lines_of desk.new.session.section.lines }
     ensures work { OnOk result (IsAtWork (H.is_pass hub.now) (H.shape hub.now) P.known desk.new.session) }
-    ensures goes { Goes result [] [] (Some ask.now) desk.old.session desk.new.session (knows tells.old) (knows tells.new) }
+    ensures went { OnOk result (GoesOn [] [] (Some ask.now) desk.old.session desk.new.session (knows tells.old) (knows tells.new)) }
+    ensures stopped { OnErr result (StopsFirst [] desk.old.session desk.new.session (knows tells.old) (knows tells.new)) }
 {
     match ask {
         Ask::Query(query) => answer(rt, alloc, hub, outbox, bell, desk, query, tells),
