@@ -1,11 +1,10 @@
-ghost use Rattle.std.specs.Prelude.{◌≡◌, ◌-◌, ◌≤◌, true, [], ◌∷◌, length, get_or, IfOk};
+ghost use Rattle.std.specs.Prelude.{◌≡◌, ◌≤◌, [], ◌∷◌, length, IfOk};
 ghost use Rattle.pgn_hub.specs.Passes.{opened_pass};
 ghost use Rattle.pgn_outlet.specs.Passes.{IsPassOf, knows};
 ghost use Rattle.pgn_outlet.specs.Rule.{sender, taker};
-ghost use Rattle.pgn_outlet.specs.declared.outlet.Outlet as outlet;
 ghost use Rattle.pgn_seats.specs.Desks.{MayBegin, MayServe};
+ghost use Rattle.pgn_seats_tests.specs.Rights.{IsOfInbox, MayAsk, MayHear, test_seat};
 ghost use Rattle.pgn_turns.specs.Asks.{seat_quit};
-ghost use Rattle.pgn_turns.specs.declared.asked.Ask as ask;
 ghost use Rattle.pgn_words.specs.Passes.{known_of};
 ghost use Rattle.pgn_wordhub.specs.Passes.{IsHubPass, hub_shape};
 
@@ -28,13 +27,29 @@ mod hearing;
 /// How many notifications each seat of a test may send.
 const NOTES: u32 = 20_000;
 
-// What is common to who asks two seats and hears what they tell: the hub, the seats' inboxes, what they tell by, and its bell.
+// What two seats share with who asks them and hears what they tell: the hub, their inboxes, what they tell by, and its bell.
 #[derive(Drop)]
 struct Board<'a> {
     hub: &'a WordHub,
     inboxes: &'a [Inbox],
     outbox: &'a Outlet<Saying>,
     bell: &'a Bell,
+}
+
+// The passes of who asks the two seats, and hears what they tell.
+#[derive(Drop)]
+struct Asker {
+    first: OutletPass<Option<Ask>>,
+    second: OutletPass<Option<Ask>>,
+    takes: OutletPass<Saying>,
+}
+
+// The passes of the two seats.
+#[derive(Drop)]
+struct Parts {
+    first: OutletPass<Option<Ask>>,
+    second: OutletPass<Option<Ask>>,
+    tells: OutletPass<Saying>,
 }
 
 // Asks a seat, and rings its bell. `None` says that nothing more will be asked.
@@ -46,11 +61,9 @@ fn ask<R: Wait>(
     what: Option<Ask>,
 ) -> Result<(), AllocError>
     requires seat { (1 ≤ seat) × (seat ≤ 2) }
-    requires seats { (length board.now.inboxes.now ≡ 2) × (length (hub_shape board.now.hub.now).seats ≡ 2) }
-    requires own { (d : outlet.Outlet (Option ask.Ask)) → IsPassOf (get_or board.now.inboxes.now (seat - 1) d) pass.old }
-    requires all { ((knows pass.old).first ≡ 1) × ((knows pass.old).count ≡ 256) }
-    ensures own { (d : outlet.Outlet (Option ask.Ask)) → IsPassOf (get_or board.now.inboxes.now (seat - 1) d) pass.new }
-    ensures all { ((knows pass.new).first ≡ 1) × ((knows pass.new).count ≡ 256) }
+    requires two { (length board.now.inboxes.now ≡ 2) × (length (hub_shape board.now.hub.now).seats ≡ 2) }
+    requires may { MayAsk board.now.inboxes.now seat pass.old }
+    ensures may { MayAsk board.now.inboxes.now seat pass.new }
 {
     let session = SessionNo::new(seat);
     board.inboxes[seat as usize - 1].push(rt, pass, Came { session, what })?;
@@ -60,10 +73,8 @@ fn ask<R: Wait>(
 
 // What is told next, and to whom.
 fn told<R: Wait>(rt: &R, board: &Board<'_>, pass: &mut OutletPass<Saying>) -> Came<Saying>
-    requires own { IsPassOf board.now.outbox.now pass.old }
-    requires takes { (knows pass.old).takes ≡ true }
-    ensures own { IsPassOf board.now.outbox.now pass.new }
-    ensures takes { (knows pass.new).takes ≡ true }
+    requires { MayHear board.now.outbox.now pass.old }
+    ensures { MayHear board.now.outbox.now pass.new }
 {
     for _ in rt.forever() {
         board.bell.arm();
@@ -108,7 +119,7 @@ fn query(alloc: Global, line: u32, text: &str, command: Command) -> Result<Ask, 
 
 // A seat of database 1.
 fn seat() -> SeatSetup
-    ensures { result ≡ record { db = 1; notes = 20000 } }
+    ensures { result ≡ test_seat }
 {
     SeatSetup {
         db: DbOid::new(1),
@@ -119,7 +130,7 @@ fn seat() -> SeatSetup
 // What a hub of two seats is opened for.
 fn setup(alloc: Global) -> Result<Setup, Fail>
     ensures flags { IfOk result (λ setup. setup.flags ≡ 2) }
-    ensures seats { IfOk result (λ setup. setup.seats ≡ (record { db = 1; notes = 20000 }) ∷ (record { db = 1; notes = 20000 }) ∷ []) }
+    ensures seats { IfOk result (λ setup. setup.seats ≡ test_seat ∷ test_seat ∷ []) }
 {
     let mut seats = Vec::with_capacity(alloc, 2)?;
     seats.push(seat())?;
@@ -132,10 +143,10 @@ fn open_hub(alloc: Global) -> Result<(WordHub, WordPass, WordPass), Fail>
     ensures flags { IfOk result (λ opened. (hub_shape opened.0).flags ≡ 2) }
     ensures seats { IfOk result (λ opened. length (hub_shape opened.0).seats ≡ 2) }
     ensures own { IfOk result (λ opened. IsHubPass opened.0 opened.1 × IsHubPass opened.0 opened.2) }
-    ensures first { IfOk result (λ opened. known_of opened.1 ≡ opened_pass 1 (record { db = 1; notes = 20000 })) }
-    ensures second { IfOk result (λ opened. known_of opened.2 ≡ opened_pass 2 (record { db = 1; notes = 20000 })) }
+    ensures opened { IfOk result (λ opened. (known_of opened.1 ≡ opened_pass 1 test_seat) × (known_of opened.2 ≡ opened_pass 2 test_seat)) }
 {
-    let (hub, mut passes) = WordHub::open(alloc, setup(alloc)?)?;
+    let setup = setup(alloc)?;
+    let (hub, mut passes) = WordHub::open(alloc, setup)?;
     let Some(second) = passes.pop() else {
         return Err(Fail::from("no pass"));
     };
@@ -162,48 +173,98 @@ fn section(alloc: Global, no: u32) -> Result<Section, Fail>
     })
 }
 
-// The session of a seat.
-fn session(alloc: Global, no: u32, pass: WordPass) -> Result<Session<WordPass>, Fail> {
-    let plan = FlagPlan {
-        first_end: 0,
-        sessions: 2,
-    };
-    let session = Session::new(
-        alloc,
-        Seed::fixed(),
-        pass,
-        section(alloc, no)?,
-        plan,
-        1,
-    )?;
-    Ok(session)
-}
-
 // The desk of a seat.
 fn desk(
     alloc: Global,
-    hub: &WordHub,
-    inboxes: &[Inbox],
+    board: &Board<'_>,
     no: u32,
     pass: WordPass,
     asks: OutletPass<Option<Ask>>,
 ) -> Result<Desk<WordPass>, Fail>
     requires number { (1 ≤ no) × (no ≤ 2) }
-    requires flags { (hub_shape hub.now).flags ≡ 2 }
-    requires own { IsHubPass hub.now pass }
-    requires opened { known_of pass ≡ opened_pass no (record { db = 1; notes = 20000 }) }
-    requires inboxes { length inboxes.now ≡ 2 }
-    requires inbox { (d : outlet.Outlet (Option ask.Ask)) → IsPassOf (get_or inboxes.now (no - 1) d) asks }
+    requires two { length board.now.inboxes.now ≡ 2 }
+    requires flags { (hub_shape board.now.hub.now).flags ≡ 2 }
+    requires own { IsHubPass board.now.hub.now pass }
+    requires opened { known_of pass ≡ opened_pass no test_seat }
+    requires inbox { IsOfInbox board.now.inboxes.now no asks }
     requires takes { knows asks ≡ taker }
-    ensures may { IfOk result (MayBegin (IsHubPass hub.now) (hub_shape hub.now) known_of inboxes.now) }
+    ensures may { IfOk result (MayBegin (IsHubPass board.now.hub.now) (hub_shape board.now.hub.now) known_of board.now.inboxes.now) }
     ensures number { IfOk result (λ desk. desk.session.section.no ≡ no) }
 {
-    let _hub = hub;
-    let _inboxes = inboxes;
-    let session = session(alloc, no, pass)?;
+    let _board = board;
+    let plan = FlagPlan {
+        first_end: 0,
+        sessions: 2,
+    };
+    let section = section(alloc, no)?;
+    let session = Session::new(alloc, Seed::fixed(), pass, section, plan, 1)?;
     Ok(Desk {
         session,
         asks,
         notes: 0,
     })
+}
+
+// The inboxes of two seats, what they tell by, and the passes of it all.
+fn open_outlets(alloc: Global) -> Result<([Inbox; 2], Outlet<Saying>, Parts, Asker), AllocError>
+    ensures first { IfOk result (λ o. MayAsk o.0 1 o.3.first × IsOfInbox o.0 1 o.2.first × (knows o.2.first ≡ taker)) }
+    ensures second { IfOk result (λ o. MayAsk o.0 2 o.3.second × IsOfInbox o.0 2 o.2.second × (knows o.2.second ≡ taker)) }
+    ensures tells { IfOk result (λ o. MayHear o.1 o.3.takes × IsPassOf o.1 o.2.tells × (knows o.2.tells ≡ sender)) }
+{
+    let (outbox, tells, takes) = Outlet::open(alloc)?;
+    let Ok((one, first, takes_1)) = Outlet::open(alloc) else {
+        drop(tells);
+        drop(takes);
+        outbox.destroy();
+        return Err(AllocError);
+    };
+    let Ok((two, second, takes_2)) = Outlet::open(alloc) else {
+        drop(tells);
+        drop(takes);
+        drop(first);
+        drop(takes_1);
+        outbox.destroy();
+        one.destroy();
+        return Err(AllocError);
+    };
+    let parts = Parts {
+        first: takes_1,
+        second: takes_2,
+        tells,
+    };
+    let asker = Asker {
+        first,
+        second,
+        takes,
+    };
+    Ok(([one, two], outbox, parts, asker))
+}
+
+// The desks of two seats, and by what they tell.
+fn open_desks(
+    alloc: Global,
+    board: &Board<'_>,
+    pass_1: WordPass,
+    pass_2: WordPass,
+    parts: Parts,
+) -> Result<(Vec<Desk<WordPass>>, Tells), Fail>
+    requires two { length board.now.inboxes.now ≡ 2 }
+    requires flags { (hub_shape board.now.hub.now).flags ≡ 2 }
+    requires own { IsHubPass board.now.hub.now pass_1 × IsHubPass board.now.hub.now pass_2 }
+    requires opened { (known_of pass_1 ≡ opened_pass 1 test_seat) × (known_of pass_2 ≡ opened_pass 2 test_seat) }
+    requires first { IsOfInbox board.now.inboxes.now 1 parts.first × (knows parts.first ≡ taker) }
+    requires second { IsOfInbox board.now.inboxes.now 2 parts.second × (knows parts.second ≡ taker) }
+    requires tells { IsPassOf board.now.outbox.now parts.tells × (knows parts.tells ≡ sender) }
+    ensures own { IfOk result (λ opened. IsPassOf board.now.outbox.now opened.1.pass) }
+    ensures may { IfOk result (λ opened. MayServe (IsHubPass board.now.hub.now) (hub_shape board.now.hub.now) known_of board.now.inboxes.now opened.0.items (knows opened.1.pass)) }
+{
+    let Parts {
+        first,
+        second,
+        tells,
+    } = parts;
+    let mut desks = Vec::with_capacity(alloc, 2)?;
+    desks.push(desk(alloc, board, 1, pass_1, first)?)?;
+    desks.push(desk(alloc, board, 2, pass_2, second)?)?;
+    Ok((desks, Tells::new(tells)))
 }
