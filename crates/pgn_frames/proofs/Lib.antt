@@ -12,3 +12,11 @@ pub mod NumberLaws
 pub mod MoreLaws
 -- the frames and the queries of the examples
 mod ExampleLaws
+-- bytes that are fewer than their head says
+pub mod CutLaws
+-- how a reader goes on from where it stands with a seat
+pub mod StandLaws
+-- what callers have put
+pub mod CallerLaws
+-- frame after frame, for all seats
+pub mod ReadingLaws
