@@ -130,6 +130,7 @@ impl Queries {
         ensures passed { OnOk result (self.new ≡ after_query self.old size act.now) }
         ensures few { OnOk result (AreTooMany (after_query self.old size act.now) → ⊥) }
         ensures many { OnErr result (AreTooMany (after_query self.old size act.now)) }
+        ensures stays { OnErr result (self.new ≡ self.old) }
         ensures fault { OnErr result (result ≡ Err (WireFault.TooMany self.old.at)) }
     {
         let notes = self.notes + u32::from(is_note(act));
