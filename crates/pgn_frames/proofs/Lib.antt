@@ -16,3 +16,11 @@ pub mod SignLaws
 pub mod WriteLaws
 -- the frames and the queries of the examples
 mod ExampleLaws
+-- bytes that are fewer than their head says
+pub mod CutLaws
+-- how a reader goes on from where it stands with a seat
+pub mod StandLaws
+-- what callers have put
+pub mod CallerLaws
+-- frame after frame, for all seats
+pub mod ReadingLaws

@@ -45,7 +45,12 @@ pub(crate) fn is_cut(bytes: &[u8]) -> bool
         return true;
     }
     match bytes[0] {
-        b'Q' => bytes.len() < 5 || is_cut_body(bytes),
+        b'Q' => {
+            if bytes.len() < 5 {
+                return true;
+            }
+            is_cut_body(bytes)
+        }
         b'X' => bytes.len() < 5,
         _ => false,
     }

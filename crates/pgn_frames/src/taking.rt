@@ -211,9 +211,9 @@ fn take_whole<R: Wait>(
     ensures begun { caller.new.begun.items ≡ caller.old.begun.items }
 {
     let mut at = 0;
-    while !caller.left {
+    'messages: while !caller.left {
         match take_message(rt, alloc, inbox, seat, caller, &bytes[at..]) {
-            Ok(0) => break,
+            Ok(0) => return Ok(at),
             Ok(n) => at += n,
             Err(AllocError) => return Err(AllocError),
         }

@@ -83,7 +83,7 @@ pub record HasPassed (old new : Place) (line : ScriptLine) : Type 0 where
   pub few : AreTooMany new → ⊥
 
 -- by its message, which comes next of these bytes, and these others behind it
-pub record Passes (old new : Place) (line : ScriptLine) (bytes rest : List ℕ) : Type 0 where
+pub record TookQuery (old new : Place) (line : ScriptLine) (bytes rest : List ℕ) : Type 0 where
   pub text : List ℕ
   pub next : NextIs old.at Query text bytes rest
   pub is : IsLineOf (old.queries + 1) text line

@@ -6,7 +6,7 @@ ghost use Rattle.pgn_language.specs.declared.scenario.Act.TheVariants.{Run};
 ghost use Rattle.pgn_language.specs.Inputs.{IsOneLine, is_note_act};
 ghost use Rattle.pgn_queries.specs.declared.wire_fault.WireFault.{WireFault};
 ghost use Rattle.pgn_queries.specs.Client.{IsQueryText, OfKnown};
-ghost use Rattle.pgn_queries.specs.Queries.{AreTooMany, Gives, HasPassed, IsLineOf, Passes, QueriesAre, after_query, first_place};
+ghost use Rattle.pgn_queries.specs.Queries.{AreTooMany, Gives, HasPassed, IsLineOf, QueriesAre, TookQuery, after_query, first_place};
 
 use crate::WireFault;
 use crate::coming::Coming;
@@ -75,7 +75,7 @@ impl Queries {
         ensures next { IfOk result (λ next. OfKnown (Gives self.old self.new next) (S.left source.old) (S.left source.new)) }
         ensures passed { IfOk result (λ next. IfSome next (HasPassed self.old self.new)) }
         // What it took of the source is that query's message.
-        ensures took { IfOk result (λ next. IfSome next (λ line. OfKnown (Passes self.old self.new line) (S.left source.old) (S.left source.new))) }
+        ensures took { IfOk result (λ next. IfSome next (λ line. OfKnown (TookQuery self.old self.new line) (S.left source.old) (S.left source.new))) }
         // Where it gives no query, it stands where it stood.
         ensures ended { result ≡ Ok None → self.new ≡ self.old }
         ensures stays { OnErr result (self.new ≡ self.old) }
@@ -130,6 +130,7 @@ impl Queries {
         ensures passed { OnOk result (self.new ≡ after_query self.old size act.now) }
         ensures few { OnOk result (AreTooMany (after_query self.old size act.now) → ⊥) }
         ensures many { OnErr result (AreTooMany (after_query self.old size act.now)) }
+        ensures stays { OnErr result (self.new ≡ self.old) }
         ensures fault { OnErr result (result ≡ Err (WireFault.TooMany self.old.at)) }
     {
         let notes = self.notes + u32::from(is_note(act));
