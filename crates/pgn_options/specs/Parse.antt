@@ -28,14 +28,16 @@ word_rule name numbers = record (new_rule name) { action = Some Set; parser = So
 abbrev pub flag_rule : Text → Rule
 flag_rule name = record (new_rule name) { long = Some name; action = Some SetTrue }
 
+-- a command with the options of a queue
+abbrev pub queue_app : Text → App
+queue_app name =
+    with_rule (with_rule (with_rule (new_app name) (option_rule (codes "pages") (parser.Unsigned PAGES_MIN PAGES_MAX)))
+    (option_rule (codes "patience") (parser.Unsigned 1 PATIENCE_MAX)))
+    (option_rule (codes "format") (parser.Unsigned 1 2))
+
 -- a command with all options: those that it does not take are refused once they are read
 abbrev pub options_app : Text → App
-options_app name =
-    with_rule (with_rule (with_rule (with_rule (with_rule (new_app name) (option_rule (codes "pages") (parser.Unsigned PAGES_MIN PAGES_MAX)))
-    (option_rule (codes "patience") (parser.Unsigned 1 PATIENCE_MAX)))
-    (option_rule (codes "format") (parser.Unsigned 1 2)))
-    (option_rule (codes "seats") (parser.Unsigned 1 SEATS_MAX)))
-    (flag_rule (codes "live"))
+options_app name = with_rule (with_rule (queue_app name) (option_rule (codes "seats") (parser.Unsigned 1 SEATS_MAX))) (flag_rule (codes "live"))
 
 -- `drill`
 abbrev pub drill_app : App

@@ -3,7 +3,7 @@ ghost use Rattle.clap.specs.Simple.{app_of, shape_of, with_rule, with_subcommand
 ghost use Rattle.clap.specs.Walk.{rule_of};
 ghost use Rattle.clap.specs.declared.builder.command.Command.TheViews.{out-Command};
 ghost use Rattle.clap.specs.declared.builder.value_parser.ValueParser.TheVariants.{Unsigned};
-ghost use Rattle.pgn_options.specs.Parse.{drill_app, flag_rule, option_rule, options_app, plain_app, program_app, program_shape, seed_max, wire_app, word_rule};
+ghost use Rattle.pgn_options.specs.Parse.{drill_app, flag_rule, option_rule, options_app, plain_app, program_app, program_shape, queue_app, seed_max, wire_app, word_rule};
 ghost use Rattle.pgn_base.specs.declared.limits.TheConstants.{PAGES_MAX, PAGES_MIN};
 ghost use Rattle.pgn_options.specs.declared.limits.TheConstants.{DRILL_NOTES_MAX, DRILL_SESSIONS_MAX, PATIENCE_MAX, SEATS_MAX};
 
@@ -73,12 +73,20 @@ fn options<'a>(alloc: Global, name: &'a str) -> Result<Command<'a>, AllocError>
     ensures app { IfOk result (λ command. app_of command ≡ options_app name.now) }
     ensures local { IfOk result (λ command. (out-Command command).has_globals ≡ false) }
 {
+    let command = queue_options(alloc, name)?;
+    let command = with_argument(command, option(alloc, "seats", seats()))?;
+    with_argument(command, flag(alloc, "live"))
+}
+
+// A command with the options of a queue.
+fn queue_options<'a>(alloc: Global, name: &'a str) -> Result<Command<'a>, AllocError>
+    ensures app { IfOk result (λ command. app_of command ≡ queue_app name.now) }
+    ensures local { IfOk result (λ command. (out-Command command).has_globals ≡ false) }
+{
     let command = Command::new(alloc, name);
     let command = with_argument(command, option(alloc, "pages", pages()))?;
     let command = with_argument(command, option(alloc, "patience", patience()))?;
-    let command = with_argument(command, option(alloc, "format", formats()))?;
-    let command = with_argument(command, option(alloc, "seats", seats()))?;
-    with_argument(command, flag(alloc, "live"))
+    with_argument(command, option(alloc, "format", formats()))
 }
 
 fn drill<'a>(alloc: Global) -> Result<Command<'a>, AllocError>

@@ -15,3 +15,7 @@ loop-preserved g c = record {
   takes = c.write_next.ensures.takes;
   wrote = Wrote-trans g.K.Sink.held g.K.Sink.faults (knows c.args.pass.now) (knows c.loop.pass) (knows c.write_next.new.pass) c.args.sink.now c.loop.sink c.write_next.new.sink c.args.out.now c.loop.out c.write_next.new.out c.loop.invariant.wrote c.write_next.ensures.wrote;
 }
+
+pub returns-then-load-ne0-clause-wrote : goal.returns-then-load-ne0-clause-wrote
+returns-then-load-ne0-clause-wrote g c =
+    Wrote-trans g.K.Sink.held g.K.Sink.faults (knows c.args.pass.now) (knows c.loop.pass) (knows c.write_next.new.pass) c.args.sink.now c.loop.sink c.write_next.new.sink c.args.out.now c.loop.out c.write_next.new.out c.loop.invariant.wrote c.write_next.ensures.wrote
