@@ -18,6 +18,7 @@ use std::thread::Threads;
 use std::time::Clock;
 
 mod gate;
+mod over_hub;
 mod program;
 mod queue;
 mod sinks;
