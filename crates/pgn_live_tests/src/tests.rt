@@ -19,6 +19,7 @@ use std::time::Clock;
 
 mod bell;
 mod gate;
+mod over_hub;
 mod program;
 mod queue;
 mod sinks;

@@ -1,6 +1,5 @@
 -- A service: the clients of seats, on one queue.
-use Rattle.std.specs.Prelude.{◌≡◌, ◌⊎◌, ℕ, ◌+◌, ◌-◌, ◌/◌, List, [], ◌∷◌, ◌++◌, length, map, slice_index, flat_map, codes, decimal, Option, Some, None, All}
-use Rattle.std.specs.List.{range_with_len}
+use Rattle.std.specs.Prelude.{◌≡◌, ◌⊎◌, ℕ, ◌+◌, ◌-◌, ◌/◌, List, [], ◌∷◌, ◌++◌, length, map, get_or, flat_map, codes, decimal, Option, Some, None, All}
 use Rattle.pgn_base.specs.declared.format.Format.TheVariants.{One}
 use Rattle.pgn_base.specs.declared.limits.TheConstants.{HUB_NOTES_MAX, PAGES_DEFAULT}
 use Rattle.pgn_journal.specs.declared.tx.Tx.{Tx}
@@ -38,6 +37,13 @@ sections_from seats seat (asks ∷ others) = seat_section seats seat (script_of 
 abbrev pub service_scenario : List (List Ask) → Scenario
 service_scenario asks = record { sections = sections_from (length asks) 1 asks; flags = [] }
 
+-- what a seat is asked, and the items of its trace
+abbrev pub asks_at : List (List Ask) → ℕ → List Ask
+asks_at asks seat = get_or asks (seat - 1) []
+
+abbrev pub items_at : List Trace → ℕ → List Item
+items_at traces seat = get_or (map (λ trace. trace.items) traces) (seat - 1) []
+
 abbrev pub service_settings : Settings
 service_settings = record { format = One; limit = PAGES_DEFAULT; patience = 1 }
 
@@ -54,13 +60,13 @@ pub record IsToldOf (asks : List Ask) (trace : List Item) (signs : List (Option 
 pub record RunsSeats (seats : ℕ) (frames : List Frame) (P : List ℕ → Type 0) : Type 0 where
   pub asks : List (List Ask)
   pub each : length asks ≡ seats
-  pub asked : (seat : ℕ) → IsSeat seats seat → SeatAsks (first_place (seat_notes seats)) (signs_of seat frames) (slice_index asks (seat - 1))
+  pub asked : (seat : ℕ) → IsSeat seats seat → SeatAsks (first_place (seat_notes seats)) (signs_of seat frames) (asks_at asks seat)
   pub journal : List Tx
   pub traces : List Trace
   pub legal : Legal (service_scenario asks) service_settings journal traces
   pub outs : List Frame
   pub can_be_written : All (IsFrame 256) outs
-  pub told : (seat : ℕ) → IsSeat seats seat → IsToldOf (slice_index asks (seat - 1)) (slice_index traces (seat - 1)).items (signs_of seat outs)
+  pub told : (seat : ℕ) → IsSeat seats seat → IsToldOf (asks_at asks seat) (items_at traces seat) (signs_of seat outs)
   pub nobody_else : (seat : ℕ) → (IsSeat seats seat → ⊥) → signs_of seat outs ≡ []
   pub output : P (flat_map frame_bytes outs)
 
@@ -104,9 +110,13 @@ pub record StopsServing (seats : ℕ) (bytes : List ℕ) (P : List ℕ → Type 
   pub are : FramesAre seats 0 bytes (frames ++ others) fault
   pub asks : List (List Ask)
   pub each : length asks ≡ seats
-  pub asked : (seat : ℕ) → IsSeat seats seat → SeatAsks (first_place (seat_notes seats)) (signs_of seat frames) (slice_index asks (seat - 1))
+  pub asked : (seat : ℕ) → IsSeat seats seat → SeatAsks (first_place (seat_notes seats)) (signs_of seat frames) (asks_at asks seat)
   pub outs : List Frame
   pub can_be_written : All (IsFrame 256) outs
-  pub told : (seat : ℕ) → IsSeat seats seat → IsToldFirst seats seat (slice_index asks (seat - 1)) (signs_of seat outs)
+  pub told : (seat : ℕ) → IsSeat seats seat → IsToldFirst seats seat (asks_at asks seat) (signs_of seat outs)
   pub nobody_else : (seat : ℕ) → (IsSeat seats seat → ⊥) → signs_of seat outs ≡ []
   pub output : P (flat_map frame_bytes outs) ⊎ P (flat_map frame_bytes outs ++ over_frame)
+
+-- the first of the input's frames were served, whole or until memory did not suffice
+abbrev pub ServesInPart : ℕ → List ℕ → (List ℕ → Type 0) → Type 0
+ServesInPart seats bytes P = ServesFirst seats bytes P ⊎ StopsServing seats bytes P

@@ -1,5 +1,6 @@
 -- Desks side by side: what they are before they begin, and once they have run.
 use Rattle.std.specs.Prelude.{◌≡◌, ℕ, ◌+◌, ◌<◌, ◌≤◌, List, [], ◌∷◌, length, map, All, Option, Result, OnOk}
+use Rattle.std.specs.List.{AllZip}
 use Rattle.pgn_hub.specs.declared.known.Known.{Known}
 use Rattle.pgn_hub.specs.Shape.{Shape}
 use Rattle.pgn_language.specs.declared.scenario.Section.{Section}
@@ -30,6 +31,7 @@ pub record MayBegin {P : Type 0} (is_own : P → Type 0) (shape : Shape) (known 
   pub quits : begins.last ≡ seat_quit
   pub inbox : HasInbox inboxes desk
   pub untaken : (knows desk.asks).got ≡ []
+  pub counted : desk.notes ≡ 0
 
 -- desks that may begin, numbered from the first number of a pass on and not more than its numbers; they tell by that pass, which has pushed nothing
 pub record MayServe {P : Type 0} (is_own : P → Type 0) (shape : Shape) (known : P → Known) (inboxes : List (Outlet (Option Ask))) (desks : List (Desk P)) (v : Hand Saying) : Type 0 where
@@ -39,9 +41,8 @@ pub record MayServe {P : Type 0} (is_own : P → Type 0) (shape : Shape) (known 
   pub unused : v.sent ≡ []
 
 -- desk by desk, the client is the same
-pub data AreSameClients {P : Type 0} : List (Desk P) → List (Desk P) → Type 0 where
-  NoDesks : AreSameClients [] []
-  MoreDesks : (old new : Desk P) (olds news : List (Desk P)) → IsSameClient old.session new.session → AreSameClients olds news → AreSameClients (old ∷ olds) (new ∷ news)
+abbrev pub AreSameClients : {P : Type 0} → List (Desk P) → List (Desk P) → Type 0
+AreSameClients old new = AllZip (λ desk later. IsSameClient desk.session later.session) old new
 
 -- such desks have run: each has told whole turns and pushed nothing else, and where the answer is no refusal each has served to its end
 pub record HaveServed {P A E : Type 0} (is_own : P → Type 0) (shape : Shape) (known : P → Known) (inboxes : List (Outlet (Option Ask))) (old new : List (Desk P)) (before after : Hand Saying) (r : Result A E) : Type 0 where

@@ -2,3 +2,5 @@
 pub mod Serving
 -- desks side by side
 pub mod Desks
+-- desks as workers
+pub mod Workers

@@ -1,8 +1,9 @@
 -- What a desk has done: its session's script and trace in turns, what it has taken from its inbox, and what it has told.
-use Rattle.std.specs.Prelude.{◌≡◌, ℕ, ◌-◌, ◌≤◌, ◌⊎◌, true, List, [], ◌∷◌, ◌++◌, length, map, slice_index, Option, Some, None, All, Result, Ok, OnOk}
+use Rattle.std.specs.Prelude.{◌≡◌, ℕ, ◌-◌, ◌≤◌, ◌⊎◌, true, List, [], ◌∷◌, ◌++◌, length, map, get_or, Option, Some, None, All, Result, Ok, OnOk}
 use Rattle.pgn_hub.specs.declared.known.Known.{Known}
 use Rattle.pgn_hub.specs.Shape.{Shape}
 use Rattle.pgn_language.specs.declared.scenario.ScriptLine.{ScriptLine}
+use Rattle.pgn_language.specs.Inputs.{note_lines_of}
 use Rattle.pgn_model.specs.declared.item.Item.{Item}
 use Rattle.pgn_model.specs.declared.item.Item.TheVariants.{Line}
 use Rattle.pgn_session.specs.declared.session.Session.{Session}
@@ -22,15 +23,15 @@ use Rattle.pgn_turns.specs.Sayings.{all_told}
 use Rattle.pgn_turns.specs.Turns.{Turn, IsPlain, IsRead, asks_of, items_of, lines_of, said}
 use Rattle.pgn_seats.specs.declared.desk.Desk.{Desk}
 
--- what was taken from an inbox, in order
-abbrev pub taken : Hand (Option Ask) → List (Option Ask)
-taken v = map (λ came. came.what) v.got
+-- what was taken from the inbox of seat n, in order
+abbrev pub taken : ℕ → Hand (Option Ask) → List (Option Ask)
+taken n v = what_of n v.got
 
 -- the desk's number is that of one of the inboxes, and from that one it takes
 pub record HasInbox {P : Type 0} (inboxes : List (Outlet (Option Ask))) (desk : Desk P) : Type 0 where
   pub some : 1 ≤ desk.session.section.no
   pub within : desk.session.section.no ≤ length inboxes
-  pub own : IsPassOf (slice_index inboxes (desk.session.section.no - 1)) desk.asks
+  pub own : (d : Outlet (Option Ask)) → IsPassOf (get_or inboxes (desk.session.section.no - 1) d) desk.asks
   pub takes : (knows desk.asks).takes ≡ true
 
 -- the script and the trace of a session are those of these turns so far, with the `\quit` still to come
@@ -45,10 +46,11 @@ pub record Serves {P : Type 0} (is_own : P → Type 0) (shape : Shape) (known : 
   pub served : IsServedBy shape desk.session.section desk.session.plan
   pub rested : HasRest shape known desk.session
   pub is_open : IsOpen desk.session
+  pub counted : desk.notes ≡ note_lines_of desk.session.section.lines
   pub inbox : HasInbox inboxes desk
   pub turns : List Turn
   pub in_turns : IsInTurns desk.session turns
-  pub asked : taken (knows desk.asks) ≡ map Some (asks_of turns)
+  pub asked : taken desk.session.section.no (knows desk.asks) ≡ map Some (asks_of turns)
   pub told : all_told (what_of desk.session.section.no tells.sent) ≡ said turns
 
 -- a session whose script is done: behind the items of its turns stand the `\quit` and what that does, which is no read
@@ -68,7 +70,7 @@ pub record HasServed {P : Type 0} (is_own : P → Type 0) (shape : Shape) (known
   pub inbox : HasInbox inboxes desk
   pub turns : List Turn
   pub quits : HasQuitBehind desk.session turns
-  pub asked : taken (knows desk.asks) ≡ map Some (asks_of turns) ++ None ∷ []
+  pub asked : taken desk.session.section.no (knows desk.asks) ≡ map Some (asks_of turns) ++ None ∷ []
   pub told : all_told (what_of desk.session.section.no tells.sent) ≡ said turns
 
 -- it serves, or has served
@@ -87,7 +89,7 @@ pub record HasToldFirst {P : Type 0} (shape : Shape) (inboxes : List (Outlet (Op
   pub rest : List ScriptLine
   pub lines : desk.session.section.lines ≡ lines_of turns ++ rest
   pub others : List (Option Ask)
-  pub asked : taken (knows desk.asks) ≡ map Some (asks_of turns) ++ others
+  pub asked : taken desk.session.section.no (knows desk.asks) ≡ map Some (asks_of turns) ++ others
   pub told : all_told (what_of desk.session.section.no tells.sent) ≡ said turns
 
 -- a pass may have pushed for number n, and has pushed nothing for others

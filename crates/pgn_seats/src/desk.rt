@@ -10,6 +10,6 @@ pub type Inbox = Outlet<Option<Ask>>;
 pub struct Desk<P> {
     pub session: Session<P>,
     pub asks: OutletPass<Option<Ask>>,
-    /// Whether it has armed its bell, and is to doze where there is still nothing to do.
-    pub armed: bool,
+    /// So many lines of the session's script notify.
+    pub notes: u32,
 }
