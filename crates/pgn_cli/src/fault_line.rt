@@ -1,6 +1,6 @@
 ghost use Rattle.std.specs.Prelude.{◌≡◌, ◌++◌, decimal, codes};
 ghost use Rattle.pgn_base.specs.Outside.{Writes, HasCause};
-ghost use Rattle.pgn_cli.specs.FaultLine.{at_of, byte_fault, fault_text, frame_at, frame_fault_text, line_fault, scenario_fault_text, wire_fault_text};
+ghost use Rattle.pgn_cli.specs.FaultLine.{at_of, at_of_frame, byte_fault, fault_text, frame_fault_text, line_fault, scenario_fault_text, wire_fault_text};
 
 use itoa::Buffer;
 use pgn_base::{Failed, Sink, write_all};
@@ -26,13 +26,13 @@ pub fn fault_line<K: Sink>(sink: &mut K, status: &Status) -> Result<(), Failed>
         Status::WriteFault => write_all(sink, b"pgnotify: write failed\n"),
         Status::NoMemory => write_all(sink, b"pgnotify: out of memory\n"),
         Status::BadWire(fault) => wire_fault_line(sink, *fault),
-        Status::BadFrame(fault) => frame_fault_line(sink, *fault),
         Status::Illegal { .. } => write_all(sink, b"pgnotify: output is not legal\n"),
         Status::NoOutput => write_all(sink, b"pgnotify: no output part\n"),
         Status::CheckTooLarge => write_all(
             sink,
             b"pgnotify: check input is larger than 67108864 bytes\n",
         ),
+        Status::BadFrame(fault) => frame_fault_line(sink, *fault),
     }
 }
 
@@ -82,6 +82,19 @@ fn wire_fault_line<K: Sink>(sink: &mut K, fault: WireFault) -> Result<(), Failed
     numbered(sink, b"pgnotify: byte ", offset(fault), b": bad message\n")
 }
 
+// The place of the message that is refused, in bytes.
+fn offset(fault: WireFault) -> u64
+    ensures { result ≡ at_of fault }
+{
+    match fault {
+        WireFault::BadType { at } => at,
+        WireFault::BadLength { at } => at,
+        WireFault::Truncated { at } => at,
+        WireFault::BadText { at } => at,
+        WireFault::TooMany { at } => at,
+    }
+}
+
 fn frame_fault_line<K: Sink>(sink: &mut K, fault: FrameFault) -> Result<(), Failed>
     ensures bytes { Writes (K.held sink.old) (K.held sink.new) result (frame_fault_text fault) }
     ensures cause { HasCause (K.faults sink.old) (K.faults sink.new) result }
@@ -96,23 +109,11 @@ fn frame_fault_line<K: Sink>(sink: &mut K, fault: FrameFault) -> Result<(), Fail
 
 // The place of the frame that is refused, in bytes.
 fn frame_offset(fault: FrameFault) -> u64
-    ensures { result ≡ frame_at fault }
+    ensures { result ≡ at_of_frame fault }
 {
     match fault {
-        FrameFault::CutFrame { at } | FrameFault::NoSeat { at } => at,
-    }
-}
-
-// The place of the message that is refused, in bytes.
-fn offset(fault: WireFault) -> u64
-    ensures { result ≡ at_of fault }
-{
-    match fault {
-        WireFault::BadType { at } => at,
-        WireFault::BadLength { at } => at,
-        WireFault::Truncated { at } => at,
-        WireFault::BadText { at } => at,
-        WireFault::TooMany { at } => at,
+        FrameFault::CutFrame { at } => at,
+        FrameFault::NoSeat { at } => at,
     }
 }
 

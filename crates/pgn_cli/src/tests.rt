@@ -4,6 +4,7 @@ use crate::drawing::drawn;
 use crate::fault_line::fault_line;
 use crate::program::program;
 use pgn_base::{Failed, Seed, Sink, Source, write_all};
+use pgn_frames::FrameFault;
 use pgn_language::ScenarioFault;
 use pgn_memory::{MemSink, MemSource};
 use pgn_queries::WireFault;
@@ -21,7 +22,7 @@ use std::time::Clock;
 
 #[test]
 fn one_line_on_standard_error(rt: HostRuntime) -> Result<(), Fail> {
-    let table: [(Status, u8, &[u8]); 19] = [
+    let table: [(Status, u8, &[u8]); 21] = [
         (Status::Done, 0, b""),
         (
             Status::BadWords,
@@ -97,6 +98,16 @@ fn one_line_on_standard_error(rt: HostRuntime) -> Result<(), Fail> {
             11,
             b"pgnotify: check input is larger than 67108864 bytes\n",
         ),
+        (
+            Status::BadFrame(FrameFault::CutFrame { at: 6 }),
+            12,
+            b"pgnotify: byte 6: bad frame\n",
+        ),
+        (
+            Status::BadFrame(FrameFault::NoSeat { at: 4_294_967_300 }),
+            12,
+            b"pgnotify: byte 4294967300: bad frame\n",
+        ),
     ];
     for (status, code, line) in table {
         let sink = line_of(rt.alloc(), &status)?;
@@ -108,7 +119,7 @@ fn one_line_on_standard_error(rt: HostRuntime) -> Result<(), Fail> {
 
 // What is written for a status.
 fn line_of(alloc: Global, status: &Status) -> Result<MemSink, Fail> {
-    let mut sink = MemSink::new(alloc, 200, Vec::new(alloc), 7)?;
+    let mut sink = MemSink::new(alloc, 250, Vec::new(alloc), 7)?;
     match put_line(&mut sink, status) {
         Ok(()) => Ok(sink),
         Err(Failed) => {
