@@ -1,8 +1,7 @@
 -- Why examples are refused.
-use Rattle.std.proofs.Common.{◌≡◌, ℕ, List, [], ◌∷◌, ◌++◌, Option, Some, None, sym, ap, ◌∙◌, refl}
+use Rattle.std.proofs.Common.{◌≡◌, ℕ, List, [], ◌∷◌, ◌++◌, Option, Some, None, sym, ap, refl}
 use Rattle.std.specs.Prelude.{flat_map, fold, map}
 use Rattle.pgn_model.specs.Walk.{State, after_item}
-use Rattle.pgn_language.specs.declared.scenario.ScriptLine.{ScriptLine}
 use Rattle.pgn_turns.specs.declared.asked.Ask.{Ask}
 use Rattle.pgn_turns.specs.declared.asked.Ask.TheVariants.{End, Query}
 use Rattle.pgn_turns.specs.declared.asked.Parting.{Parting}

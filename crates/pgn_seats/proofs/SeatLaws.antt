@@ -1,5 +1,5 @@
 -- A desk that serves, or has served, over a turn.
-use Rattle.std.proofs.Common.{◌≡◌, ℕ, ◌-◌, ◌≤◌, true, List, [], ◌∷◌, ◌++◌, length, get_or, All, Option, Some, None, sym, ap, ◌∙◌, refl, subst, append-nil, inl, inr}
+use Rattle.std.proofs.Common.{◌≡◌, ℕ, ◌-◌, ◌≤◌, List, [], ◌∷◌, ◌++◌, length, get_or, Option, Some, None, sym, ap, ◌∙◌, refl, subst, append-nil, inl, inr}
 use Rattle.std.specs.Prelude.{map}
 use Rattle.std.proofs.lemmas.List.{map-append}
 use Rattle.std.proofs.lemmas.List.Elements.{All-nil}
@@ -26,13 +26,12 @@ use Rattle.pgn_turns.specs.declared.asked.Ask.{Ask}
 use Rattle.pgn_turns.specs.declared.saying.Saying.{Saying}
 use Rattle.pgn_turns.specs.Asks.{seat_quit}
 use Rattle.pgn_turns.specs.Sayings.{all_told}
-use Rattle.pgn_turns.specs.Turns.{Turn, IsPlain, asks_of, items_of, lines_of, said}
+use Rattle.pgn_turns.specs.Turns.{Turn, IsPlain, asks_of, said}
 use Rattle.pgn_seats.specs.declared.desk.Desk.{Desk}
 use Rattle.pgn_seats.specs.Desks.{MayBegin}
-use Rattle.pgn_seats.specs.Serving.{HasInbox, HasQuitBehind, HasServed, HasToldFirst, IsInTurns, IsSeated, Serves, taken}
+use Rattle.pgn_seats.specs.Serving.{HasInbox, HasQuitBehind, HasServed, HasToldFirst, IsSeated, Serves, taken}
 use Rattle.pgn_seats.specs.Working.{GoesOn, HasDone, HasDoneFirst, IsAtWork, with_ask}
 use Rattle.pgn_seats.proofs.DoneLaws.{done-first}
-use Rattle.pgn_seats.proofs.WorkLaws.{client-no}
 
 module _ {P : Type 0} (is_own : P → Type 0) (shape : Shape) (known : P → Known) (inboxes : List (Outlet (Option Ask))) where
   -- what a serving desk's session is, and what it has done

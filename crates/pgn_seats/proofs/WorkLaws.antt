@@ -1,5 +1,5 @@
 -- A session at work, over the parts of a turn.
-use Rattle.std.proofs.Common.{◌≡◌, ℕ, ◌+◌, ◌<◌, ◌≤◌, Bool, cond, false, true≢false, List, [], ◌∷◌, ◌++◌, length, drop, Option, Some, None, All, sym, ap, ◌∙◌, refl, subst, arith, append_assoc, append-nil}
+use Rattle.std.proofs.Common.{◌≡◌, ℕ, ◌+◌, ◌<◌, ◌≤◌, Bool, cond, false, true≢false, List, [], ◌∷◌, ◌++◌, length, drop, Option, Some, None, All, sym, ap, ◌∙◌, refl, subst, arith, append_assoc}
 use Rattle.std.specs.Prelude.{◌||◌}
 use Rattle.std.specs.List.{list_any}
 use Rattle.std.proofs.lemmas.List.{length-append}
@@ -35,7 +35,7 @@ use Rattle.pgn_session.proofs.OpenLaws.{before-comes, before-open, fed-before, f
 use Rattle.pgn_session.proofs.OpenQuitLaws.{quit-taken}
 use Rattle.pgn_turns.specs.declared.asked.Asked.{Asked}
 use Rattle.pgn_turns.specs.Asks.{line_of, seat_quit}
-use Rattle.pgn_turns.specs.Turns.{Turn, IsRead, items_of, lines_of}
+use Rattle.pgn_turns.specs.Turns.{Turn, IsRead, lines_of}
 use Rattle.pgn_seats.specs.Serving.{HasQuitBehind, IsInTurns}
 use Rattle.pgn_seats.specs.Working.{HasRun, IsAtLine, IsAtWork}
 

@@ -1,4 +1,4 @@
-use Rattle.std.proofs.Common.{◌≡◌, [], ◌∷◌, ap, sym, ◌∙◌, refl}
+use Rattle.std.proofs.Common.{[], ◌∷◌, ap, sym, ◌∙◌, refl}
 use Rattle.pgn_language.specs.declared.scenario.Section.{Section}
 use Rattle.pgn_language.specs.Inputs.{note_lines_of}
 use Rattle.pgn_outlet.specs.Passes.{knows}
@@ -40,7 +40,7 @@ run_query-requires-clause-line g c κs within =
     (c.args.query.now.command, refl) c.requires.work c.in_ok-put_query.ensures.fed (c.in_ok-put_query.ensures.rested shape c.requires.work.rested))
 
 pub returns-in_err-put_query-clause-alone : goal.returns-in_err-put_query-clause-alone
-returns-in_err-put_query-clause-alone g c = pushed-same _ _ _ refl
+returns-in_err-put_query-clause-alone g c = pushed-same c.args.desk.now.session.section.no (knows c.args.tells.now) (knows c.args.tells.now) refl
 
 pub returns-in_err-put_query-clause-same : goal.returns-in_err-put_query-clause-same
 returns-in_err-put_query-clause-same g c = client-same c.args.desk.now.session c.put_query.new.session c.in_err-put_query.ensures.unchanged
@@ -51,7 +51,7 @@ returns-in_err-put_query-clause-lawful g c =
 
 pub returns-in_err-put_query-clause-stopped : goal.returns-in_err-put_query-clause-stopped
 returns-in_err-put_query-clause-stopped g c =
-    on_err c.from_residual.result _ (λ asks h. same-stays c.args.desk.now.session c.put_query.new.session c.in_err-put_query.ensures.unchanged asks _ (done-first [] asks c.args.desk.now.session _ h))
+    on_err c.from_residual.result _ (λ asks h. same-stays c.args.desk.now.session c.put_query.new.session c.in_err-put_query.ensures.unchanged asks (knows c.args.tells.now) (done-first [] asks c.args.desk.now.session (knows c.args.tells.now) h))
 
 pub returns-in_err-hear_before-clause-alone : goal.returns-in_err-hear_before-clause-alone
 returns-in_err-hear_before-clause-alone g c =
@@ -70,7 +70,7 @@ pub returns-in_err-hear_before-clause-stopped : goal.returns-in_err-hear_before-
 returns-in_err-hear_before-clause-stopped g c =
     let line = line_of c.args.query.now in
     on_err c.from_residual-in_err-hear_before.result _
-    (λ asks h. c.in_err-hear_before.ensures.stopped (line ∷ []) asks (put-done asks c.args.desk.now.session c.put_query.new.session _ line c.in_ok-put_query.ensures.fed h))
+    (λ asks h. c.in_err-hear_before.ensures.stopped (line ∷ []) asks (put-done asks c.args.desk.now.session c.put_query.new.session (knows c.args.tells.now) line c.in_ok-put_query.ensures.fed h))
 
 pub returns-clause-alone : goal.returns-clause-alone
 returns-clause-alone g c =
@@ -95,10 +95,10 @@ pub returns-clause-went : goal.returns-clause-went
 returns-clause-went g c =
     let line = line_of c.args.query.now in
     ok_then c.run_query.result _ _
-    (λ went asks h. went asks (c.in_ok-hear_before.ensures.went (line ∷ []) asks (put-done asks c.args.desk.now.session c.put_query.new.session _ line c.in_ok-put_query.ensures.fed h))) c.run_query.ensures.went
+    (λ went asks h. went asks (c.in_ok-hear_before.ensures.went (line ∷ []) asks (put-done asks c.args.desk.now.session c.put_query.new.session (knows c.args.tells.now) line c.in_ok-put_query.ensures.fed h))) c.run_query.ensures.went
 
 pub returns-clause-stopped : goal.returns-clause-stopped
 returns-clause-stopped g c =
     let line = line_of c.args.query.now in
     err_then c.run_query.result _ _
-    (λ stopped asks h. stopped asks (c.in_ok-hear_before.ensures.went (line ∷ []) asks (put-done asks c.args.desk.now.session c.put_query.new.session _ line c.in_ok-put_query.ensures.fed h))) c.run_query.ensures.stopped
+    (λ stopped asks h. stopped asks (c.in_ok-hear_before.ensures.went (line ∷ []) asks (put-done asks c.args.desk.now.session c.put_query.new.session (knows c.args.tells.now) line c.in_ok-put_query.ensures.fed h))) c.run_query.ensures.stopped

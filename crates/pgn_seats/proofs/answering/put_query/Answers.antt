@@ -1,4 +1,3 @@
-use Rattle.std.proofs.Common.{refl}
 use Rattle.pgn_seats.proofs.WorkLaws.{query-runs}
 use Rattle.pgn_seats.proofs.answering.put_query.Goals as goal
 

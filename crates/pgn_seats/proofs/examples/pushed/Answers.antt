@@ -1,5 +1,4 @@
-use Rattle.std.proofs.Common.{◌≡◌, List, [], ◌∷◌, refl, arith}
-use Rattle.pgn_turns.specs.declared.saying.Saying.{Saying}
+use Rattle.std.proofs.Common.{◌≡◌, [], ◌∷◌, refl, arith}
 use Rattle.pgn_seats.specs.Examples.{for_seat, told}
 use Rattle.pgn_seats.proofs.SayLaws.{pushed-one}
 use Rattle.pgn_seats.proofs.examples.pushed.Goals as goal

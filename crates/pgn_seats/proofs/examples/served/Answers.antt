@@ -1,12 +1,10 @@
-use Rattle.std.proofs.Common.{◌≡◌, List, [], ◌∷◌, ◌++◌, length, Option, Some, None, sym, ◌∙◌, refl, arith, ap}
+use Rattle.std.proofs.Common.{◌≡◌, List, [], ◌∷◌, ◌++◌, length, Some, None, sym, ◌∙◌, arith, ap}
 use Rattle.std.specs.Prelude.{map}
 use Rattle.std.proofs.lemmas.List.{same_from_push}
 use Rattle.pgn_language.specs.declared.scenario.ScriptLine.{ScriptLine}
 use Rattle.pgn_session.specs.declared.doing.Doing.TheVariants.{Lines, Over}
-use Rattle.pgn_turns.specs.declared.asked.Ask.{Ask}
 use Rattle.pgn_turns.specs.declared.asked.Ask.TheVariants.{End, Query}
 use Rattle.pgn_turns.specs.declared.asked.Parting.TheVariants.{Plain}
-use Rattle.pgn_turns.specs.declared.saying.Saying.{Saying}
 use Rattle.pgn_turns.specs.Asks.{line_of, seat_quit}
 use Rattle.pgn_turns.specs.Examples.{listen}
 use Rattle.pgn_turns.specs.Sayings.{all_told}

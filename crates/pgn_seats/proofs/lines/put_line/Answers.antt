@@ -1,7 +1,4 @@
-use Rattle.std.proofs.Common.{◌≡◌, ◌+◌, ◌≤◌, cond, ap, sym, ◌∙◌, arith, rules}
-use Rattle.pgn_language.specs.Inputs.{is_note_act, note_lines_of}
-use Rattle.pgn_session.specs.declared.session.Session.{Session}
-use Rattle.pgn_session.proofs.OpenLaws.{notes-fed}
+use Rattle.std.proofs.Common.{rules}
 use Rattle.pgn_seats.proofs.WorkLaws.{few-notes, more-notes, open-quits, runs-on}
 use Rattle.pgn_seats.proofs.lines.put_line.Goals as goal
 

@@ -1,4 +1,4 @@
-use Rattle.std.proofs.Common.{◌≡◌, ℕ, List, [], ◌∷◌, ◌++◌, Option, Some, None, sym, ap, ◌∙◌, refl, inl, inr, append-nil}
+use Rattle.std.proofs.Common.{[], ◌∷◌, ◌++◌, Option, Some, None, sym, ap, ◌∙◌, refl, inl, inr, append-nil}
 use Rattle.std.specs.Prelude.{map}
 use Rattle.pgn_outlet.specs.Passes.{knows}
 use Rattle.pgn_turns.specs.declared.asked.Ask.{Ask}
@@ -7,7 +7,7 @@ use Rattle.pgn_seats.specs.Serving.{HasInbox, taken}
 use Rattle.pgn_seats.proofs.DoneLaws.{done-first}
 use Rattle.pgn_seats.proofs.ResultLaws.{by_either, err_then, ok_both, ok_then}
 use Rattle.pgn_seats.proofs.SeatLaws.{asked-also, asked-more, first-seat, more-serves, quit-serves, served-told, serves-done, serves-told}
-use Rattle.pgn_seats.proofs.WorkLaws.{client-no, client-read, no-read, no-script, notes-read}
+use Rattle.pgn_seats.proofs.WorkLaws.{client-no, no-read, no-script, notes-read}
 use Rattle.pgn_seats.proofs.turn.serve_next.Goals as goal
 
 pub returns-in-Ok-clause-seated : goal.returns-in-Ok-clause-seated
