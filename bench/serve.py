@@ -214,8 +214,7 @@ class Server:
         data = os.path.join(self.folder, 'data')
         words = ['-U', 'me', '-A', 'trust', '-E', 'UTF8', '--locale=C', '-N']
         subprocess.run([self.found + '/initdb', '-D', data, *words], check=True, stdout=subprocess.DEVNULL, **whose)
-        settings = dict(listen_addresses='127.0.0.1', port=self.port, unix_socket_directories=self.folder, max_connections=300, fsync='off',
-                        synchronous_commit='off', shared_buffers='128MB')
+        settings = dict(listen_addresses='127.0.0.1', port=self.port, unix_socket_directories=self.folder, max_connections=300)
         words = [word for name, value in settings.items() for word in ('-c', f'{name}={value}')]
         self.log = open(os.path.join(self.folder, 'log'), 'wb')
         self.process = subprocess.Popen([self.found + '/postgres', '-D', data, *words], stdout=self.log, stderr=self.log, **whose)
