@@ -433,22 +433,30 @@ def not_answered(shim):
     for text, due in (('LISTEN c', 1024), (f"NOTIFY c, '{60000 * 'x'}'", 18)):
         with tempfile.NamedTemporaryFile() as file:
             stalled = Shim(4, '--program', f"sh -c 'cat >>{file.name}'")
-            wire, whole = stalled.enter(), query(text)
-            wire.socket.setblocking(False)
-            with contextlib.suppress(BlockingIOError):
-                for _ in range(2000):
-                    wire.socket.send(whole)
-            size, until = due * len(whole), time.monotonic() + WAIT
-            while os.path.getsize(file.name) < size and time.monotonic() < until:
-                time.sleep(0.05)
-            time.sleep(QUIET)
-            frames, passed = file.read(), b''
-            while frames:
-                seat, length = struct.unpack('!HH', frames[:4])
-                check(seat == 1 and length, 'a frame of seat', seat, 'of', length)
-                passed, frames = passed + frames[4:4 + length], frames[4 + length:]
-            check(passed == whole * due, f'{len(passed) / len(whole)} queries were passed on, due: {due}')
-            stalled.stop()
+            try:
+                passed, whole = passed_on(stalled, file, query(text), due), query(text)
+                check(passed == whole * due, f'{len(passed) / len(whole)} queries were passed on, due: {due}')
+            finally:
+                stalled.stop()
+
+
+def passed_on(stalled, file, whole, due):
+    """What is passed on of many queries, where so many are due."""
+    wire = stalled.enter()
+    wire.socket.setblocking(False)
+    with contextlib.suppress(BlockingIOError):
+        for _ in range(2000):
+            wire.socket.send(whole)
+    until = time.monotonic() + WAIT
+    while os.path.getsize(file.name) < due * len(whole) and time.monotonic() < until:
+        time.sleep(0.05)
+    time.sleep(QUIET)
+    frames, passed = file.read(), b''
+    while frames:
+        seat, length = struct.unpack('!HH', frames[:4])
+        check(seat == 1 and length, 'a frame of seat', seat, 'of', length)
+        passed, frames = passed + frames[4:4 + length], frames[4 + length:]
+    return passed
 
 
 def does_not_read(shim):
