@@ -81,35 +81,38 @@ class Frames:
         return self.clients, 1000 + self.clients
 
     def send(self, client, data):
-        pieces = [data[at:at + 65535] for at in range(0, len(data), 65535)]
-        data = b''.join(FRAME.pack(client, len(piece)) + piece for piece in pieces)
-        while data:
-            data = data[os.write(self.into, data):]
+        for at in range(0, len(data), 65535):
+            piece = data[at:at + 65535]
+            piece = FRAME.pack(client, len(piece)) + piece
+            while piece:
+                piece = piece[os.write(self.into, piece):]
 
     def take(self, sizes):
         """Waits until so many bytes have come for each of these clients, and takes them."""
-        left = dict(sizes)
-        for client in left:
-            left[client] -= sum(map(len, self.came[client]))
-        while any(size > 0 for size in left.values()):
-            data = os.read(self.out, 1 << 18)
+        left = {client: size - sum(map(len, self.came[client])) for client, size in sizes.items()}
+        due = sum(size > 0 for size in left.values())
+        while due:
+            data = os.read(self.out, 1 << 16)
             if not data:
                 sys.exit('bench: the program has ended')
-            data, at = self.rest + data, 0
-            end = len(data)
+            if self.rest:
+                data = self.rest + data
+            at, end = 0, len(data)
             while end - at >= 4:
                 client, size = FRAME.unpack_from(data, at)
-                if at + 4 + size > end:
+                to = at + 4 + size
+                if to > end:
                     break
-                self.came[client].append(data[at + 4:at + 4 + size])
+                self.came[client].append(data[at + 4:to])
                 if client in left:
+                    due -= 0 < left[client] <= size
                     left[client] -= size
-                at += 4 + size
+                at = to
             self.rest = data[at:]
         taken = {}
-        for client in sizes:
+        for client, size in sizes.items():
             whole = b''.join(self.came[client])
-            taken[client], self.came[client] = whole[:sizes[client]], [whole[sizes[client]:]]
+            taken[client], self.came[client] = whole[:size], [whole[size:]]
         return taken
 
     def pid(self):
