@@ -136,6 +136,7 @@ client() {
 
 port=$server
 if [ -z "$server" ]; then
+    : >"$room/port"
     "$root/tools/serve" 0 ${program:+--program "$program"} >"$room/port" 2>"$room/log" &
     shim=$!
     # A program that has to be built is built meanwhile.
@@ -150,8 +151,9 @@ for name; do
 done
 if [ -n "$shim" ] && ! kill -0 "$shim" 2>"$room/said"; then
     echo 'clients: tools/serve has ended by itself' >&2
-    cat -- "$room/log" >&2
     failed=$((failed + 1))
 fi
+# Where one failed, what the shim said may tell why.
+[ "$failed" -eq 0 ] || [ -z "$shim" ] || cat -- "$room/log" >&2
 echo "clients: $passed passed, $failed failed, $skipped skipped"
 [ "$failed" -eq 0 ]

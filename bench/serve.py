@@ -81,35 +81,38 @@ class Frames:
         return self.clients, 1000 + self.clients
 
     def send(self, client, data):
-        pieces = [data[at:at + 65535] for at in range(0, len(data), 65535)]
-        data = b''.join(FRAME.pack(client, len(piece)) + piece for piece in pieces)
-        while data:
-            data = data[os.write(self.into, data):]
+        for at in range(0, len(data), 65535):
+            piece = data[at:at + 65535]
+            piece = FRAME.pack(client, len(piece)) + piece
+            while piece:
+                piece = piece[os.write(self.into, piece):]
 
     def take(self, sizes):
         """Waits until so many bytes have come for each of these clients, and takes them."""
-        left = dict(sizes)
-        for client in left:
-            left[client] -= sum(map(len, self.came[client]))
-        while any(size > 0 for size in left.values()):
-            data = os.read(self.out, 1 << 18)
+        left = {client: size - sum(map(len, self.came[client])) for client, size in sizes.items()}
+        due = sum(size > 0 for size in left.values())
+        while due:
+            data = os.read(self.out, 1 << 16)
             if not data:
                 sys.exit('bench: the program has ended')
-            data, at = self.rest + data, 0
-            end = len(data)
+            if self.rest:
+                data = self.rest + data
+            at, end = 0, len(data)
             while end - at >= 4:
                 client, size = FRAME.unpack_from(data, at)
-                if at + 4 + size > end:
+                to = at + 4 + size
+                if to > end:
                     break
-                self.came[client].append(data[at + 4:at + 4 + size])
+                self.came[client].append(data[at + 4:to])
                 if client in left:
+                    due -= 0 < left[client] <= size
                     left[client] -= size
-                at += 4 + size
+                at = to
             self.rest = data[at:]
         taken = {}
-        for client in sizes:
+        for client, size in sizes.items():
             whole = b''.join(self.came[client])
-            taken[client], self.came[client] = whole[:sizes[client]], [whole[sizes[client]:]]
+            taken[client], self.came[client] = whole[:size], [whole[size:]]
         return taken
 
     def pid(self):
@@ -214,8 +217,7 @@ class Server:
         data = os.path.join(self.folder, 'data')
         words = ['-U', 'me', '-A', 'trust', '-E', 'UTF8', '--locale=C', '-N']
         subprocess.run([self.found + '/initdb', '-D', data, *words], check=True, stdout=subprocess.DEVNULL, **whose)
-        settings = dict(listen_addresses='127.0.0.1', port=self.port, unix_socket_directories=self.folder, max_connections=300, fsync='off',
-                        synchronous_commit='off', shared_buffers='128MB')
+        settings = dict(listen_addresses='127.0.0.1', port=self.port, unix_socket_directories=self.folder, max_connections=300)
         words = [word for name, value in settings.items() for word in ('-c', f'{name}={value}')]
         self.log = open(os.path.join(self.folder, 'log'), 'wb')
         self.process = subprocess.Popen([self.found + '/postgres', '-D', data, *words], stdout=self.log, stderr=self.log, **whose)

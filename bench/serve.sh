@@ -11,7 +11,7 @@
 # through a socket of 127.0.0.1. With parts only these are measured. COMMAND stands in place of ./pgnotify. --quick takes a tenth of each.
 #
 # The server is that of Debian's postgresql-15, under /usr/lib/postgresql. It is started in a temporary folder, as another user where this
-# one is root, on a port of its own, and with fsync and synchronous_commit off, since the service keeps nothing on a disk either. Where it
-# is not there its figures are left out. What comes is compared byte by byte with what is due. Times depend on the machine's load: let
-# nothing else run.
+# one is root, on a port of its own, with its settings as they come, but for 300 connections; a NOTIFY waits for no disk. Where it is not
+# there its figures are left out. What comes is compared byte by byte with what is due. Times depend on the machine's load: let nothing
+# else run.
 exec python3 "$(dirname -- "$0")/serve.py" "$@"

@@ -143,9 +143,9 @@ class Shim:
 
     is_server = False
 
-    def __init__(self, seats):
+    def __init__(self, seats, *more):
         self.log = tempfile.TemporaryFile('w+')
-        self.process = subprocess.Popen([*SERVE, '0', '--seats', str(seats)], stdout=subprocess.PIPE, stderr=self.log, text=True)
+        self.process = subprocess.Popen([*SERVE, '0', '--seats', str(seats), *more], stdout=subprocess.PIPE, stderr=self.log, text=True)
         self.port = int(self.process.stdout.readline().split()[-1])
         self.wires = []
 
@@ -169,6 +169,9 @@ class Shim:
         status = self.process.wait(WAIT)
         self.process.stdout.close()
         check(status == 0, 'tools/serve ended with status', status)
+        self.log.seek(0)
+        said = self.log.read()
+        check('Traceback' not in said and 'exception' not in said, 'tools/serve said:', said[-300:])
 
 
 class Server(Shim):
@@ -258,11 +261,16 @@ def in_one_go(shim):
 
 
 def ahead(shim):
-    """More queries at once than the shim passes on, and no answer is read before all are sent."""
+    """More queries at once than the shim passes on, and no answer is read before all are sent; then the same, and no more is sent."""
     wire, count = shim.enter(), 5000
-    wire.send(*[query(f'LISTEN c{number % 7}') if number % 2 else query('') for number in range(count)])
-    wire.take('IZCZ' * (count // 2))
-    wire.quiet()
+    for is_last in (False, True):
+        wire.send(*[query(f'LISTEN c{number % 7}') if number % 2 else query('') for number in range(count)])
+        if is_last:
+            wire.socket.shutdown(socket.SHUT_WR)
+        wire.take('IZCZ' * (count // 2))
+        if not is_last:
+            wire.quiet()
+    wire.ended()
 
 
 def half_and_gone(shim):
@@ -420,6 +428,37 @@ def databases(shim):
     check(shim.enter('further7').pid == 1002, 'another seat')
 
 
+def not_answered(shim):
+    """Passed on are 1,024 queries or 1 MB of a client to a program that does not answer. This one keeps what it reads in a file."""
+    for text, due in (('LISTEN c', 1024), (f"NOTIFY c, '{60000 * 'x'}'", 18)):
+        with tempfile.NamedTemporaryFile() as file:
+            stalled = Shim(4, '--program', f"sh -c 'cat >>{file.name}'")
+            try:
+                passed, whole = passed_on(stalled, file, query(text), due), query(text)
+                check(passed == whole * due, f'{len(passed) / len(whole)} queries were passed on, due: {due}')
+            finally:
+                stalled.stop()
+
+
+def passed_on(stalled, file, whole, due):
+    """What is passed on of many queries, where so many are due."""
+    wire = stalled.enter()
+    wire.socket.setblocking(False)
+    with contextlib.suppress(BlockingIOError):
+        for _ in range(2000):
+            wire.socket.send(whole)
+    until = time.monotonic() + WAIT
+    while os.path.getsize(file.name) < due * len(whole) and time.monotonic() < until:
+        time.sleep(0.05)
+    time.sleep(QUIET)
+    frames, passed = file.read(), b''
+    while frames:
+        seat, length = struct.unpack('!HH', frames[:4])
+        check(seat == 1 and length, 'a frame of seat', seat, 'of', length)
+        passed, frames = passed + frames[4:4 + length], frames[4 + length:]
+    return passed
+
+
 def does_not_read(shim):
     """Kept for it are 16 MB, and what the kernel takes. What it is told then is whole, in order, and ends with the reason."""
     one, other, count = shim.wire(receive=4096).enter(), shim.enter(), 3600
@@ -525,6 +564,7 @@ CASES = ((idle, 'a notification comes to an idle client, without a ReadyForQuery
          (least_given, 'seats are given out in turn', False, 4),
          (reset, 'who comes next listens to nothing', False, 4),
          (databases, 'a service for each database, 16 at most', False, 4),
+         (not_answered, 'queries that are not answered wait', False, 4),
          (does_not_read, 'a client that does not read is closed', False, 4),
          (full_queue, 'a listener that goes makes room in the queue', False, 4),
          (service_ends, 'a service that ends tells its clients', False, 4),
