@@ -1746,24 +1746,38 @@ class Proofs:
                         self.given.setdefault(key, []).extend((function, number) for function in functions)
         return self.given
 
-    def functions(self, file):
-        """The functions that a file of answers is about."""
-        names, found = file.module, []
-        for item in self.project.free.get(names[-2], []) + self.project.by_name.get(names[-2], []):
-            between = names[len(item.file.module):-2]
-            is_here = item.file.crate == file.crate and item.file.module == names[:len(item.file.module)] and not item.in_trait
-            if is_here and between == ((item.owner + (named(item.trait) if item.trait else ''),) if item.owner else ()):
-                found.append(item)
-        return found
+    def functions(self, file, answer=None):
+        """The functions that a file of answers, or one of its answers, is about."""
+        name = file.module[-2]
+        if name.startswith('+'):  # functions that call each other
+            found = [item for item in self.project.items if item.kind == 'function' and item.file.crate == file.crate and self.cycle(item) == name]
+            if found:
+                return [item for item in found if answer is None or answer.name.startswith(item.name + '-')] or found
+        name = name.lstrip('+')
+        return [item for item in self.project.free.get(name, []) + self.project.by_name.get(name, [])
+                if item.file.crate == file.crate and not item.in_trait and file.module[:-1] in self.folders(item)]
+
+    def cycle(self, function):
+        """The folder of the functions that call each other, of which this is one."""
+        lines = function.file.lines[function.first - 1:function.line]
+        return next(('+' + name for line in lines for name in re.findall(r'#\[cycle\((\w+)\)\]', line)), None)
+
+    def folders(self, function):
+        """Where the answers for a function may stand: by its file, or by that of its type."""
+        words = ''.join('Unit' if token.text == '(' else token.text for token in function.trait or []
+                        if token.text == '(' or token.kind == 'id' and token.text not in function.generics)
+        owner = (function.owner + words,) if function.owner else ()
+        modules = [function.file.module] + ([function.owner_item.file.module] if function.owner_item is not None else [])
+        last = [self.cycle(function)] if self.cycle(function) else [function.name, '+' + function.name]  # which calls itself
+        return [(*module, *owner, name) for module in modules for name in last]
 
     def answers(self, function):
         """The answers that were written for a function."""
         found = []
-        for end in ('Answers', 'Invariants'):
-            owner = function.owner and function.owner + (named(function.trait) if function.trait else '')
-            names = [*function.file.module, *([owner] if owner else []), function.name, end]
-            file = self.file(f'crates/{function.file.crate}/proofs/{"/".join(names)}.antt')
-            found += [item for item in file.items if item.kind == 'answer'] if file is not None else []
+        for names in dict.fromkeys(self.folders(function)):
+            for end in ('Answers', 'Invariants'):
+                file = self.file(f'crates/{function.file.crate}/proofs/{"/".join(names)}/{end}.antt')
+                found += [item for item in file.items if item.kind == 'answer' and function in self.functions(file, item)] if file is not None else []
         return found
 
 
