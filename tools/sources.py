@@ -1613,7 +1613,8 @@ def ghost_places(file, tokens):
         return set(range(len(tokens)))
     places = set()
     for i, token in enumerate(tokens):
-        if token.text in ('requires', 'ensures', 'decreases') or token.text == 'ghost' and tokens[i + 1].text != 'use':
+        if token.text in ('requires', 'ensures', 'decreases') or token.text == 'ghost' and tokens[i + 1].text != 'use' \
+                or token.text == 'by' and tokens[i - 1].text == '}':
             start = next((k for k in range(i + 1, min(i + 4, len(tokens))) if tokens[k].text == '{'), None)
             if start is not None:
                 places.update(range(start, closing(tokens, start)))
