@@ -1,5 +1,5 @@
 -- What callers have put.
-use Rattle.std.proofs.Common.{◌≡◌, ℕ, ◌+◌, ◌-◌, ◌<◌, ◌≤◌, Bool, true, false, List, [], ◌∷◌, ◌++◌, length, drop, Option, Some, None, Result, Ok, Err, OnOk, OnErr, IfOk, sym, ap, ◌∙◌, subst, refl, arith, inl, inr, append_assoc, append-nil}
+use Rattle.std.proofs.Common.{◌≡◌, ℕ, ◌+◌, ◌-◌, ◌<◌, ◌≤◌, Bool, true, false, List, [], ◌∷◌, ◌++◌, length, drop, Option, Some, None, Result, Ok, Err, OnOk, OnErr, IfOk, is_err, sym, ap, ◌∙◌, subst, refl, arith, inl, inr, append_assoc, append-nil}
 use Rattle.std.specs.Prelude.{map}
 use Rattle.std.proofs.lemmas.List.{map-append, drop-drop}
 use lib.Seq.{drop-length}
@@ -32,6 +32,14 @@ on_err (Err e) P Q f h = f h
 pub err_any : {A E : Type 0} (r : Result A E) (P : Type 0) → P → OnErr r P
 err_any (Ok a) P h = tt
 err_any (Err e) P h = h
+
+pub err_of : {A E : Type 0} (r : Result A E) (P : Type 0) → is_err r ≡ true → OnErr r P → P
+err_of (Ok a) P e h = absurd (cc)
+err_of (Err x) P e h = h
+
+pub ok_of : {A E : Type 0} (r : Result A E) (P : Type 0) → is_err r ≡ false → OnOk r P → P
+ok_of (Ok a) P e h = h
+ok_of (Err x) P e h = absurd (cc)
 
 pub if_ok-both : {A E : Type 0} (r : Result A E) (P R : Type 0) (Q : A → Type 0) → ((a : A) → P → R → Q a) → OnOk r P → OnOk r R → IfOk r Q
 if_ok-both (Ok a) P R Q f h k = f a h k

@@ -1,5 +1,5 @@
 -- Frame after frame, for all seats.
-use Rattle.std.proofs.Common.{◌≡◌, ◌≢◌, ℕ, ◌+◌, ◌-◌, ◌<◌, ◌≤◌, ◌==◌, ◌⊎◌, cond, false, List, [], ◌∷◌, ◌++◌, length, get_or, set, Option, Some, None, Result, Ok, Err, sym, ap, ◌∙◌, subst, refl, arith, inl, inr, append_assoc, append-nil}
+use Rattle.std.proofs.Common.{◌≡◌, ◌≢◌, ℕ, ◌+◌, ◌-◌, ◌<◌, ◌≤◌, ◌==◌, ◌⊎◌, cond, false, List, [], ◌∷◌, ◌++◌, length, get_or, set, Option, Some, None, Result, Ok, Err, IfOk, sym, ap, ◌∙◌, subst, refl, arith, inl, inr, append_assoc, append-nil}
 use Rattle.std.specs.Prelude.{map}
 use Rattle.std.proofs.lemmas.Bool.{cases_eq, cases_lt, eq-eqb, ne_eqb}
 use Rattle.std.proofs.lemmas.List.{map-append, get_or_default, get_or-set_same, get_or-set_other, length-set}
@@ -19,7 +19,7 @@ use Rattle.pgn_frames.specs.Callers.{AskOn, HasCome, IsUnfinished, Takes, TakesF
 use Rattle.pgn_frames.specs.Clients.{SeatAsks}
 use Rattle.pgn_frames.specs.Frames as frame
 use Rattle.pgn_frames.specs.Frames.{Comes, Frame, FramesAre, IsSeat, NextFrame, Over, Wrong, signs_in, signs_of}
-use Rattle.pgn_frames.specs.Reading.{AreBefore, AreEnded, AreFirstFrames, AreFrames, Begins, Calls, CallsOn, DoesAt, EachSeat, HasPutAll, HasPutFirst, HasReadAll, HasReadFirst, HasReadSome, IsEnded, IsKept, MayCall, OwnsInbox, Reads, ReadsAll, ReadsFirst, ReadsTo, has_put}
+use Rattle.pgn_frames.specs.Reading.{AreBefore, AreEnded, AreFirstFrames, AreFrames, Begins, Calls, CallsOn, DoesAt, EachSeat, HasPutAll, HasPutFirst, HasReadAll, HasReadFirst, HasReadSome, IsEnded, IsKept, MayCall, OwnsInbox, Reads, ReadsAll, ReadsFirst, ReadsTo, TurnsInto, has_put}
 use Rattle.pgn_frames.proofs.FrameLaws.{each_has_frames}
 use Rattle.pgn_frames.proofs.StandLaws.{HasCome-then, nothing_more}
 use Rattle.pgn_frames.proofs.CallerLaws.{First-all, may-put, put-then}
@@ -409,3 +409,23 @@ Told-some most n a inboxes olds news (Err Failed) other h on ended = record {
   asked = ended_some most n h.frames inboxes olds news h.asked on ended;
 }
 Told-some most n a inboxes olds news (Err Memory) other h on ended = absurd (other refl)
+
+pub Told-done : (most : ℕ) (a : Option (List ℕ)) (inboxes : List (Outlet (Option Ask))) (olds news : List Caller) (r : Result (Option FrameFault) NoFrame) → ReadsTo r most a inboxes olds
+    → EachSeat CallsOn inboxes olds → AreEnded (length olds) inboxes olds news → IfOk r (λ fault. HasReadAll most a inboxes news fault)
+Told-done most a inboxes olds news (Ok fault) h on ended = Told-all most a inboxes olds news fault h on ended
+Told-done most a inboxes olds news (Err none) h on ended = tt
+
+pub Told-failed : (most : ℕ) (a : Option (List ℕ)) (inboxes : List (Outlet (Option Ask))) (olds news : List Caller) (r : Result (Option FrameFault) NoFrame) → r ≡ Err Failed → ReadsTo r most a inboxes olds
+    → EachSeat CallsOn inboxes olds → AreEnded (length olds) inboxes olds news → HasReadFirst most a inboxes news
+Told-failed most a inboxes olds news r e h on ended =
+    Told-first most a inboxes olds news (subst (λ (x : Result (Option FrameFault) NoFrame). ReadsTo x most a inboxes olds) e h) on ended
+
+-- by why no frame came
+pub Turns-none : (most at : ℕ) (a b c : Option (List ℕ)) (inboxes : List (Outlet (Option Ask))) (callers : List Caller) (none : NoFrame) → Reads most at a b inboxes callers → EachSeat CallsOn inboxes callers
+    → TurnsInto (Err none) most at a c inboxes callers
+Turns-none most at a b c inboxes callers Failed h on = Reads-first most at a b inboxes callers h
+Turns-none most at a b c inboxes callers Memory h on = Reads-refused most at a b inboxes callers h on
+
+pub Turns-to : (most at : ℕ) (a b : Option (List ℕ)) (inboxes : List (Outlet (Option Ask))) (callers : List Caller) (none : NoFrame) → TurnsInto (Err none) most at a b inboxes callers → ReadsTo (Err none) most a inboxes callers
+Turns-to most at a b inboxes callers Failed h = h
+Turns-to most at a b inboxes callers Memory h = h
