@@ -261,7 +261,7 @@ told_at j k seat inboxes olds news inbox d old new e here lt each number own is 
     let now : get_or (set news k new) j e ≡ new = ap (λ (i : ℕ). get_or (set news k new) i e) here ∙ get_or-set_same news k new e lt in record {
       own = subst (λ (c : Caller). IsPassOf (get_or inboxes j d) c.asks) (sym now) (subst (λ (o : Outlet (Option Ask)). IsPassOf o new.asks) box ended.own);
       put = ap (λ (c : Caller). knows c.asks) now ∙ ended.put ∙ ap (λ (n : ℕ). with_put n (knows old.asks) (None ∷ [])) place
-      ∙ ap (λ (v : Hand (Option Ask)). with_put (j + 1) v (None ∷ [])) (ap (λ (c : Caller). knows c.asks) was ∙ same);
+          ∙ ap (λ (v : Hand (Option Ask)). with_put (j + 1) v (None ∷ [])) (ap (λ (c : Caller). knows c.asks) was ∙ same);
     }
 
 pub ended_more : (k seat : ℕ) (inboxes : List (Outlet (Option Ask))) (olds news : List Caller) (inbox : Outlet (Option Ask)) (old new : Caller) → AreEnded k inboxes olds news → k < length olds → seat ≡ k + 1

@@ -2,7 +2,7 @@
 ghost use Rattle.std.specs.Prelude.{◌≡◌, ℕ, true, length, IfOk};
 ghost use Rattle.pgn_outlet.specs.Passes.{IsPassOf, knows};
 ghost use Rattle.pgn_wordhub.specs.Passes.{hub_shape};
-ghost use Rattle.pgn_frames.specs.Reading.{Begins, MayCall};
+ghost use Rattle.pgn_frames.specs.Reading.{MayCall};
 
 use pgn_base::{DbOid, Format, Source};
 use pgn_frames::{Caller, FrameFault, NoFrame, read_frames};
@@ -65,7 +65,12 @@ fn read_from<R: Wait, S: Source>(
             taken(rt, alloc, &second, &mut other),
             taken(rt, alloc, &third, &mut last),
         ) {
-            (Ok(first), Ok(second), Ok(third)) => Ok(Came { first, second, third, end }),
+            (Ok(first), Ok(second), Ok(third)) => Ok(Came {
+                first,
+                second,
+                third,
+                end,
+            }),
             _ => Err(AllocError),
         },
         Err(AllocError) => Err(AllocError),
@@ -105,7 +110,10 @@ fn open_hub(alloc: Global) -> Result<WordHub, AllocError>
 fn seat() -> SeatSetup
     ensures { result.notes ≡ 2 }
 {
-    SeatSetup { db: DbOid::new(1), notes: NOTES }
+    SeatSetup {
+        db: DbOid::new(1),
+        notes: NOTES,
+    }
 }
 
 // What stands in an inbox, a piece each: a query's number and text, an end's number and how the client parted, and a point behind all of it.

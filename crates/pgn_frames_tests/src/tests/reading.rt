@@ -64,7 +64,9 @@ fn by_bytes(alloc: Global) -> Result<Vec<u8>, AllocError> {
 }
 
 fn is_talk(came: &Came) -> bool {
-    came.first.as_str() == FIRST && came.second.as_str() == SECOND && came.third.as_str() == "."
+    came.first.as_str() == FIRST
+        && came.second.as_str() == SECOND
+        && came.third.as_str() == "."
         && matches!(came.end, Ok(None))
 }
 
@@ -93,7 +95,12 @@ fn a_frame_a_byte(rt: HostRuntime) -> Result<(), Fail> {
 }
 
 // What comes of these frames at seat 1, and a seat that never spoke ends.
-fn at_first<R: Wait>(rt: &R, alloc: Global, bodies: &[&[u8]], tail: &[u8]) -> Result<Came, AllocError> {
+fn at_first<R: Wait>(
+    rt: &R,
+    alloc: Global,
+    bodies: &[&[u8]],
+    tail: &[u8],
+) -> Result<Came, AllocError> {
     let mut bytes = Vec::new(alloc);
     for body in bodies {
         put(&mut bytes, 1, body)?;
@@ -113,7 +120,10 @@ fn a_client_ends(rt: HostRuntime) -> Result<(), Fail> {
     let came = at_first(&rt, alloc, &[TERMINATE, LISTEN, b"", LISTEN], b"")?;
     assert_eq!(rt; came.first.as_str(), "1 plain; 3 LISTEN c; .");
     let came = at_first(&rt, alloc, &[NOTIFY, NOTIFY, NOTIFY, LISTEN], b"")?;
-    assert_eq!(rt; came.first.as_str(), "1 NOTIFY c, 'x'; 2 NOTIFY c, 'x'; 3 spent; .");
+    assert_eq!(rt;
+        came.first.as_str(),
+        "1 NOTIFY c, 'x'; 2 NOTIFY c, 'x'; 3 spent; ."
+    );
     Ok(())
 }
 
