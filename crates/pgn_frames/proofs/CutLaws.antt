@@ -44,6 +44,4 @@ four_behind (a ∷ b ∷ c ∷ d ∷ e ∷ more) head = refl
 
 pub ruleset cut_laws = (Cut-none, Cut-terminate, Cut-query)
 
-pub ruleset body_laws = (Cut-body)
-
 pub ruleset four_laws = (four_behind)

@@ -1,4 +1,9 @@
-//! Seats whose callers read frames, and what stands in their inboxes then.
+//! Three seats whose callers read frames, and what stands in their inboxes then.
+ghost use Rattle.std.specs.Prelude.{◌≡◌, ℕ, true, length, IfOk};
+ghost use Rattle.pgn_outlet.specs.Passes.{IsPassOf, knows};
+ghost use Rattle.pgn_wordhub.specs.Passes.{hub_shape};
+ghost use Rattle.pgn_frames.specs.Reading.{MayCall};
+
 use pgn_base::{DbOid, Format, Source};
 use pgn_frames::{Caller, FrameFault, NoFrame, read_frames};
 use pgn_hub::{Hub, SeatSetup, Setup};
@@ -18,37 +23,58 @@ const NOTES: u32 = 2;
 // What was put for each seat, as text, and how the frames ended.
 #[derive(Drop)]
 struct Came {
-    asks: Vec<String>,
+    first: String,
+    second: String,
+    third: String,
     end: Result<Option<FrameFault>, NoFrame>,
 }
 
-// Reads frames from these bytes, at most so many a read, where there are three seats.
+// Reads frames from these bytes, at most so many a read.
 fn read<R: Wait>(rt: &R, alloc: Global, bytes: &[u8], most: usize) -> Result<Came, AllocError> {
     let bytes = Vec::from_slice(alloc, bytes)?;
     let mut source = MemSource::new(bytes, Vec::new(alloc), most.max(1));
     read_from(rt, alloc, &mut source)
 }
 
-fn read_from<R: Wait, S: Source>(rt: &R, alloc: Global, source: &mut S) -> Result<Came, AllocError> {
-    let (first, one, own) = Outlet::open(alloc)?;
-    let Ok((second, two, other)) = Outlet::open(alloc) else {
+fn read_from<R: Wait, S: Source>(
+    rt: &R,
+    alloc: Global,
+    source: &mut S,
+) -> Result<Came, AllocError> {
+    let (first, one, mut own) = Outlet::open(alloc)?;
+    let Ok((second, two, mut other)) = Outlet::open(alloc) else {
         first.destroy();
         return Err(AllocError);
     };
-    let Ok((third, three, last)) = Outlet::open(alloc) else {
+    let Ok((third, three, mut last)) = Outlet::open(alloc) else {
         first.destroy();
         second.destroy();
         return Err(AllocError);
     };
-    let mut callers = [
+    let callers = [
         Caller::new(alloc, one, NOTES),
         Caller::new(alloc, two, NOTES),
         Caller::new(alloc, three, NOTES),
     ];
-    let mut takers = [own, other, last];
     let inboxes = [first, second, third];
-    let came = read_in(rt, alloc, source, &inboxes, &mut callers, &mut takers);
+    let read = read_in(rt, alloc, source, &inboxes, callers);
     let [first, second, third] = inboxes;
+    let came = match read {
+        Ok(end) => match (
+            taken(rt, alloc, &first, &mut own),
+            taken(rt, alloc, &second, &mut other),
+            taken(rt, alloc, &third, &mut last),
+        ) {
+            (Ok(first), Ok(second), Ok(third)) => Ok(Came {
+                first,
+                second,
+                third,
+                end,
+            }),
+            _ => Err(AllocError),
+        },
+        Err(AllocError) => Err(AllocError),
+    };
     first.destroy();
     second.destroy();
     third.destroy();
@@ -60,55 +86,74 @@ fn read_in<R: Wait, S: Source>(
     alloc: Global,
     source: &mut S,
     inboxes: &[Outlet<Option<Ask>>],
-    callers: &mut [Caller],
-    takers: &mut [OutletPass<Option<Ask>>],
-) -> Result<Came, AllocError> {
+    mut callers: [Caller; 3],
+) -> Result<Result<Option<FrameFault>, NoFrame>, AllocError>
+    requires { (most : ℕ) × MayCall most inboxes.now callers.entry }
+{
     let hub = open_hub(alloc)?;
-    let end = read_frames(rt, alloc, &hub, inboxes, callers, source);
-    let mut asks = Vec::new(alloc);
-    for k in 0..inboxes.len() {
-        let text = taken(rt, alloc, &inboxes[k], &mut takers[k])?;
-        asks.push(text)?;
-    }
-    Ok(Came { asks, end })
+    Ok(read_frames(rt, alloc, &hub, inboxes, &mut callers, source))
 }
 
 // A hub for three sessions.
-fn open_hub(alloc: Global) -> Result<WordHub, AllocError> {
+fn open_hub(alloc: Global) -> Result<WordHub, AllocError>
+    ensures { IfOk result (λ hub. length (hub_shape hub).seats ≡ 3) }
+{
     let mut seats = Vec::with_capacity(alloc, 3)?;
-    for _ in 0..3 {
-        seats.push(SeatSetup { db: DbOid::new(1), notes: NOTES })?;
-    }
+    seats.push(seat())?;
+    seats.push(seat())?;
+    seats.push(seat())?;
     let (hub, passes) = WordHub::open(alloc, Setup::new(2, 0, seats, Format::One))?;
     drop(passes);
     Ok(hub)
 }
 
-// What stands in an inbox, a piece each: a query's number and text, an end's number and letter, and a point behind all of it.
-fn taken<R: Wait>(rt: &R, alloc: Global, inbox: &Outlet<Option<Ask>>, taker: &mut OutletPass<Option<Ask>>) -> Result<String, AllocError> {
+fn seat() -> SeatSetup
+    ensures { result.notes ≡ 2 }
+{
+    SeatSetup {
+        db: DbOid::new(1),
+        notes: NOTES,
+    }
+}
+
+// What stands in an inbox, a piece each: a query's number and text, an end's number and how the client parted, and a point behind all of it.
+fn taken<R: Wait>(
+    rt: &R,
+    alloc: Global,
+    inbox: &Outlet<Option<Ask>>,
+    taker: &mut OutletPass<Option<Ask>>,
+) -> Result<String, AllocError>
+    requires own { IsPassOf inbox.now taker.old }
+    requires takes { (knows taker.old).takes ≡ true }
+{
     let mut text = String::new(alloc);
     for _ in 0..100 {
         let Some(came) = inbox.take(rt, taker) else {
             return Ok(text);
         };
-        match came.what {
-            Some(Ask::Query(query)) => {
-                let line = query.line;
-                let words = String::from_utf8_lossy(alloc, query.text.as_bytes())?;
-                let piece = format!(in alloc; "{line} {words}; ")?;
-                text.push_str(&piece)?;
-            }
-            Some(Ask::End { line, parting }) => {
-                let how = match parting {
-                    Parting::Plain => "plain",
-                    Parting::Refused => "refused",
-                    Parting::Spent => "spent",
-                };
-                let piece = format!(in alloc; "{line} {how}; ")?;
-                text.push_str(&piece)?;
-            }
-            None => text.push_str(".")?,
-        }
+        put_words(alloc, &mut text, &came.what)?;
     }
     Ok(text)
+}
+
+// Puts one of them.
+fn put_words(alloc: Global, text: &mut String, what: &Option<Ask>) -> Result<(), AllocError> {
+    match what {
+        Some(Ask::Query(query)) => {
+            let line = query.line;
+            let words = String::from_utf8_lossy(alloc, query.text.as_bytes())?;
+            let piece = format!(in alloc; "{line} {words}; ")?;
+            text.push_str(&piece)
+        }
+        Some(Ask::End { line, parting }) => {
+            let how = match parting {
+                Parting::Plain => "plain",
+                Parting::Refused => "refused",
+                Parting::Spent => "spent",
+            };
+            let piece = format!(in alloc; "{line} {how}; ")?;
+            text.push_str(&piece)
+        }
+        None => text.push_str("."),
+    }
 }
