@@ -229,7 +229,7 @@ fn sit<P: PassView + Send + Drop>(
         asks,
         notes: 0,
     })?;
-    seating.callers.push(Caller::new(notes_for(seats), put))?;
+    seating.callers.push(Caller::new(alloc, put, notes_for(seats)))?;
     Ok(())
 }
 
