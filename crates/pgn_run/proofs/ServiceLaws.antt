@@ -2,7 +2,7 @@
 use Rattle.std.proofs.Common.{◌≡◌, ◌⊎◌, inl, inr, ℕ, zero, suc, Bool, true, false, ◌+◌, ◌-◌, ◌<◌, ◌≤◌, cond, List, [], ◌∷◌, ◌++◌, length, map, get_or, drop, flat_map, All, Option, Some, None, IfSome, Result, Ok, Err, OnOk, sym, ap, ◌∙◌, refl, subst, arith, append-nil, append_assoc}
 use Rattle.std.specs.declared.alloc.AllocError.{AllocError}
 use Rattle.std.specs.Io.KnownBytes.{Appends}
-use Rattle.std.proofs.lemmas.Bool.{cases_lt, ne_eqb}
+use Rattle.std.proofs.lemmas.Bool.{cases_lt, eq-eqb, ne_eqb}
 use Rattle.std.proofs.lemmas.List.{length-map}
 use Rattle.std.proofs.lemmas.List.Elements.{All-append, All-cons, All-head, All-map, All-nil, All-same, All-tail}
 use Rattle.pgn_base.specs.declared.source.Failed.{Failed}
@@ -47,16 +47,17 @@ use Rattle.pgn_frames.specs.declared.framing.NoFrame.{NoFrame}
 use Rattle.pgn_frames.specs.declared.framing.NoFrame.TheVariants as none
 use Rattle.pgn_frames.specs.Clients.{SeatAsks}
 use Rattle.pgn_frames.specs.Frames.{Frame, FramesAre, IsFrame, IsSeat, frame_bytes, signs_in, signs_of}
-use Rattle.pgn_frames.specs.Reading.{HasPutAll, HasPutFirst, HasRead, IsStillCaller, put}
+use Rattle.pgn_frames.specs.Callers.{carried}
+use Rattle.pgn_frames.specs.Reading as reading
 use Rattle.pgn_run.specs.declared.service.ServiceEnd.{ServiceEnd}
 use Rattle.pgn_run.specs.declared.service.ServiceEnd.TheVariants as end
-use Rattle.pgn_run.specs.Arms.{CarryAll, HasReadBy, HasToldBy, with_over}
+use Rattle.pgn_run.specs.Arms.{CarryAll, HasRead, HasReadBy, HasToldBy, with_over}
 use Rattle.pgn_run.specs.Closing.{HasGathered, HasTakenFirst, HaveTakenFirst}
 use Rattle.pgn_run.specs.Ending.{EndsService, end_of}
 use Rattle.pgn_run.specs.Seats.{AreGiven, IsGiven, IsOpened, service_plan, service_shape}
 use Rattle.pgn_run.specs.Service.{IsToldFirst, IsToldOf, RunsSeats, ServesAll, ServesFirst, ServesInPart, StopsServing, asks_at, items_at, over_frame, seat_notes, seat_section, sections_from, service_scenario, service_settings}
 use Rattle.pgn_run.proofs.SeatingLaws.{box-count, caller-count, desk-count, given-at, opened-given}
-use Rattle.pgn_run.proofs.ClosingLaws.{given-still, same-count, still-callers}
+use Rattle.pgn_run.proofs.ClosingLaws.{IsStillCaller, given-still, same-count, still-callers}
 
 -- Lists.
 
@@ -109,6 +110,39 @@ signs-none seat [] out all = refl
 signs-none seat (f ∷ outs) out all =
     let own = (All-head (IsFrame 256) f outs all).seat in
     ap (λ (b : Bool). cond b (signs_in f.bytes) [] ++ signs_of seat outs) (ne_eqb f.seat seat (λ e. out (subst (λ (n : ℕ). IsSeat 256 n) e own))) ∙ signs-none seat outs out (All-tail (IsFrame 256) f outs all)
+
+-- What was put.
+
+abbrev put : ℕ → Hand (Option Ask) → List (Option Ask)
+put seat v = what_of seat v.sent
+
+-- all that these signs ask was put, and behind it that nothing more will be asked; the first of it was
+record HasPutAll (most : ℕ) (signs : List (Option ℕ)) (now : List (Option Ask)) : Type 0 where
+  pub asks : List Ask
+  pub asked : SeatAsks (first_place most) signs asks
+  pub all : now ≡ map Some asks ++ None ∷ []
+
+record HasPutFirst (most : ℕ) (signs : List (Option ℕ)) (now : List (Option Ask)) : Type 0 where
+  pub asks : List Ask
+  pub asked : SeatAsks (first_place most) signs asks
+  pub others : List (Option Ask)
+  pub first : map Some asks ++ None ∷ [] ≡ now ++ others
+
+of-carried : (seat : ℕ) (whats : List (Option Ask)) → what_of seat (carried seat whats) ≡ whats
+of-carried seat [] = refl
+of-carried seat (what ∷ whats) =
+    ap (λ (b : Bool). cond b (what ∷ []) [] ++ what_of seat (carried seat whats)) (eq-eqb seat seat refl) ∙ ap (λ (l : List (Option Ask)). what ∷ l) (of-carried seat whats)
+
+put-all : (most seat : ℕ) (frames : List Frame) (inbox : Outlet (Option Ask)) (caller : Caller) → reading.HasPutAll most frames seat inbox caller → HasPutAll most (signs_of seat frames) (put seat (knows caller.asks))
+put-all most seat frames inbox caller h = record { asks = h.asks; asked = h.asked; all = ap (λ (v : Hand (Option Ask)). what_of seat v.sent) h.put ∙ of-carried seat (map Some h.asks ++ None ∷ []) }
+
+put-some : (most seat : ℕ) (frames : List Frame) (inbox : Outlet (Option Ask)) (caller : Caller) → reading.HasPutFirst most frames seat inbox caller → HasPutFirst most (signs_of seat frames) (put seat (knows caller.asks))
+put-some most seat frames inbox caller h = record {
+  asks = h.asks;
+  asked = h.asked;
+  others = h.others;
+  first = h.first ∙ ap (λ (l : List (Option Ask)). l ++ h.others) (sym (ap (λ (v : Hand (Option Ask)). what_of seat v.sent) h.put ∙ of-carried seat h.now));
+}
 
 -- Sections.
 
@@ -225,7 +259,7 @@ module _ {P K : Type 0} (is_own : P → Type 0) (shape : Shape) (known : P → K
           ∙ ap all_told (told.ran.others seat (λ low high. out (record { least = low; most = omega (arith, high, desk-count is_own shape known seats boxes old old_callers opened) })))
 
   -- What of it is told where the whole service is not a legal run.
-  module _ (bytes : List ℕ) (res : Result (Option FrameFault) NoFrame) (read : HasRead most (Some bytes) callers boxes res) where
+  module _ (bytes : List ℕ) (res : Result (Option FrameFault) NoFrame) (read : HasRead most (Some bytes) boxes callers res) where
     still : (k : ℕ) (s : AtSeat k) → k < seats → MayPush (knows s.caller.asks) (1 + k)
     still k s lt =
         let caller = still-callers most (Some bytes) callers boxes res read k (box k lt) s.caller (omega (arith, lt, calls-count)) in
@@ -342,6 +376,13 @@ module _ {P K : Type 0} (is_own : P → Type 0) (shape : Shape) (known : P → K
       heard : (k : ℕ) (e : Desk P) → k < length desks → HasHeardAll knowns (known (get_or desks k e).session.pass)
       heard k e lt = subst (λ (m : Option ℕ). IfSome m (λ mark. All (λ (other : Known). other.signalled ≤ mark) knowns)) (sym (all-served k e lt).left) tt
 
+      -- what a seat is asked by these frames, was told, and had as its script
+      abbrev IsOf : List Frame → ℕ → List Ask → Type 0
+      IsOf frames k asks =
+          SeatAsks (first_place most) (signs_of (1 + k) frames) asks
+          × (((e : Desk P) → IsToldOf asks (get_or desks k e).session.items.items (signs_of (1 + k) outs))
+          × ((e : Desk P) → (get_or desks k e).session.section ≡ seat_section seats (1 + k) (script_of asks)))
+
       pub runs : (frames : List Frame) → ((k : ℕ) (c : Caller) → k < length callers → HasPutAll most (signs_of (k + 1) frames) (put (k + 1) (knows (get_or callers k c).asks))) → (Q : List ℕ → Type 0) → Q (flat_map frame_bytes outs) → RunsSeats seats frames Q
       runs frames asked Q output = record {
         asks = all.0;
@@ -369,13 +410,7 @@ module _ {P K : Type 0} (is_own : P → Type 0) (shape : Shape) (known : P → K
           below : (seat : ℕ) → IsSeat seats seat → seat - 1 < seats
           below seat is = let l : 1 ≤ seat = is.least in let m : seat ≤ seats = is.most in omega (arith, l, m)
 
-          abbrev IsOf : ℕ → List Ask → Type 0
-          IsOf k asks =
-              SeatAsks (first_place most) (signs_of (1 + k) frames) asks
-              × (((e : Desk P) → IsToldOf asks (get_or desks k e).session.items.items (signs_of (1 + k) outs))
-              × ((e : Desk P) → (get_or desks k e).session.section ≡ seat_section seats (1 + k) (script_of asks)))
-
-          one : (k : ℕ) → k < seats → (asks : List Ask) × IsOf k asks
+          one : (k : ℕ) → k < seats → (asks : List Ask) × IsOf frames k asks
           one k lt =
               let s = at-seat k lt in
               let p = put-is k s lt in
@@ -402,8 +437,8 @@ module _ {P K : Type 0} (is_own : P → Type 0) (shape : Shape) (known : P → K
                 ),
               )
 
-          all : (asks : List (List Ask)) × (length asks ≡ seats) × ((k : ℕ) (d : List Ask) → k < seats → IsOf k (get_or asks k d))
-          all = chosen IsOf seats one
+          all : (asks : List (List Ask)) × (length asks ≡ seats) × ((k : ℕ) (d : List Ask) → k < seats → IsOf frames k (get_or asks k d))
+          all = chosen (IsOf frames) seats one
 
           whole : Gathered knowns gathered.count
           whole = subst (λ (ks : List Known). Gathered ks gathered.count) (knowns-are known desks) gathered.gathered
@@ -438,44 +473,48 @@ module _ {P K : Type 0} (is_own : P → Type 0) (shape : Shape) (known : P → K
   abbrev most : ℕ
   most = seat_notes seats
 
-  at-stop : (so_far : Result Unit Failed) (told : Told so_far) (res : Result (Option FrameFault) NoFrame) → HasRead most (Some bytes) callers boxes res → (Q : List ℕ → Type 0) → Q (with_over told.over told.outs) → StopsServing seats bytes Q
+  -- an inbox
+  a-box : (k : ℕ) → k < length callers → Outlet (Option Ask)
+  a-box k lt = (element boxes k (omega (arith, lt, as-many, box-count is_own shape known seats boxes old old_callers opened))).0
+
+  at-stop : (so_far : Result Unit Failed) (told : Told so_far) (res : Result (Option FrameFault) NoFrame) → HasRead most (Some bytes) boxes callers res → (Q : List ℕ → Type 0) → Q (with_over told.over told.outs) → StopsServing seats bytes Q
   at-stop so_far told (Ok fault) read Q h =
       stops is_own shape known seats boxes old desks old_callers callers held faults sink sink_now so_far served few opened told count took bytes (Ok fault) read read.frames [] fault
       (subst (λ (n : ℕ). FramesAre n 0 bytes (read.frames ++ []) fault) as-many (subst (λ (fs : List Frame). FramesAre (length callers) 0 bytes fs fault) (sym (append-nil read.frames)) read.are))
-      (λ k c lt. put-first most (signs_of (k + 1) read.frames) (put (k + 1) (knows (get_or callers k c).asks)) (read.asked k c lt)) Q (over-or-not told.over told.outs Q h)
+      (λ k c lt. put-first most (signs_of (k + 1) read.frames) (put (k + 1) (knows (get_or callers k c).asks)) (put-all most (k + 1) read.frames (get_or boxes k (a-box k lt)) (get_or callers k c) (read.asked k (a-box k lt) c lt))) Q (over-or-not told.over told.outs Q h)
   at-stop so_far told (Err none.Failed) read Q h =
       stops is_own shape known seats boxes old desks old_callers callers held faults sink sink_now so_far served few opened told count took bytes (Err none.Failed) read read.frames read.are.more read.are.fault
       (subst (λ (n : ℕ). FramesAre n 0 bytes (read.frames ++ read.are.more) read.are.fault) as-many read.are.are)
-      (λ k c lt. put-first most (signs_of (k + 1) read.frames) (put (k + 1) (knows (get_or callers k c).asks)) (read.asked k c lt)) Q (over-or-not told.over told.outs Q h)
+      (λ k c lt. put-first most (signs_of (k + 1) read.frames) (put (k + 1) (knows (get_or callers k c).asks)) (put-all most (k + 1) read.frames (get_or boxes k (a-box k lt)) (get_or callers k c) (read.asked k (a-box k lt) c lt))) Q (over-or-not told.over told.outs Q h)
   at-stop so_far told (Err none.Memory) read Q h =
       stops is_own shape known seats boxes old desks old_callers callers held faults sink sink_now so_far served few opened told count took bytes (Err none.Memory) read read.frames read.are.more read.are.fault
-      (subst (λ (n : ℕ). FramesAre n 0 bytes (read.frames ++ read.are.more) read.are.fault) as-many read.are.are) read.asked Q (over-or-not told.over told.outs Q h)
+      (subst (λ (n : ℕ). FramesAre n 0 bytes (read.frames ++ read.are.more) read.are.fault) as-many read.are.are) (λ k c lt. put-some most (k + 1) read.frames (get_or boxes k (a-box k lt)) (get_or callers k c) (read.asked k (a-box k lt) c lt)) Q (over-or-not told.over told.outs Q h)
 
   -- nothing says that the service is over, where all have served
   whole-text : (so_far : Result Unit Failed) (told : Told so_far) → served ≡ Ok tt → (Q : List ℕ → Type 0) → Q (with_over told.over told.outs) → Q (flat_map frame_bytes told.outs)
   whole-text so_far told fine Q h = not-over told.over told.outs Q (λ e. subst (λ (r : Result Unit AllocError). OnOk r ⊥) fine (told.refused e)) h
 
-  at-end : (so_far : Result Unit Failed) (told : Told so_far) (fault : Option FrameFault) → HasRead most (Some bytes) callers boxes (Ok fault) → served ≡ Ok tt → HasGathered known desks → (Q : List ℕ → Type 0) → Q (with_over told.over told.outs) → ServesAll seats bytes fault Q
+  at-end : (so_far : Result Unit Failed) (told : Told so_far) (fault : Option FrameFault) → HasRead most (Some bytes) boxes callers (Ok fault) → served ≡ Ok tt → HasGathered known desks → (Q : List ℕ → Type 0) → Q (with_over told.over told.outs) → ServesAll seats bytes fault Q
   at-end so_far told fault read fine gathered Q h = record {
     frames = read.frames;
     are = subst (λ (n : ℕ). FramesAre n 0 bytes read.frames fault) as-many read.are;
-    served = runs is_own shape known seats boxes old desks old_callers callers held faults sink sink_now so_far served few opened told count took bytes (Ok fault) read law fine gathered read.frames read.asked Q (whole-text so_far told fine Q h);
+    served = runs is_own shape known seats boxes old desks old_callers callers held faults sink sink_now so_far served few opened told count took bytes (Ok fault) read law fine gathered read.frames (λ k c lt. put-all most (k + 1) read.frames (get_or boxes k (a-box k lt)) (get_or callers k c) (read.asked k (a-box k lt) c lt)) Q (whole-text so_far told fine Q h);
   }
 
-  at-fault : (so_far : Result Unit Failed) (told : Told so_far) → HasRead most (Some bytes) callers boxes (Err none.Failed) → served ≡ Ok tt → HasGathered known desks → (Q : List ℕ → Type 0) → Q (with_over told.over told.outs) → ServesFirst seats bytes Q
+  at-fault : (so_far : Result Unit Failed) (told : Told so_far) → HasRead most (Some bytes) boxes callers (Err none.Failed) → served ≡ Ok tt → HasGathered known desks → (Q : List ℕ → Type 0) → Q (with_over told.over told.outs) → ServesFirst seats bytes Q
   at-fault so_far told read fine gathered Q h = record {
     frames = read.frames;
     more = read.are.more;
     fault = read.are.fault;
     are = subst (λ (n : ℕ). FramesAre n 0 bytes (read.frames ++ read.are.more) read.are.fault) as-many read.are.are;
-    served = runs is_own shape known seats boxes old desks old_callers callers held faults sink sink_now so_far served few opened told count took bytes (Err none.Failed) read law fine gathered read.frames read.asked Q (whole-text so_far told fine Q h);
+    served = runs is_own shape known seats boxes old desks old_callers callers held faults sink sink_now so_far served few opened told count took bytes (Err none.Failed) read law fine gathered read.frames (λ k c lt. put-all most (k + 1) read.frames (get_or boxes k (a-box k lt)) (get_or callers k c) (read.asked k (a-box k lt) c lt)) Q (whole-text so_far told fine Q h);
   }
 
   -- all frames served are the first of them
   all-first : (fault : Option FrameFault) (Q : List ℕ → Type 0) → ServesAll seats bytes fault Q → ServesFirst seats bytes Q
   all-first fault Q h = record { frames = h.frames; more = []; fault = fault; are = subst (λ (fs : List Frame). FramesAre seats 0 bytes fs fault) (sym (append-nil h.frames)) h.are; served = h.served }
 
-  pub ends : (so_far : Result Unit Failed) (told : Told so_far) (ran : Result Unit AllocError) (res : Result (Option FrameFault) NoFrame) → HasRead most (Some bytes) callers boxes res → OnOk ran (served ≡ Ok tt) → OnOk ran (HasGathered known desks)
+  pub ends : (so_far : Result Unit Failed) (told : Told so_far) (ran : Result Unit AllocError) (res : Result (Option FrameFault) NoFrame) → HasRead most (Some bytes) boxes callers res → OnOk ran (served ≡ Ok tt) → OnOk ran (HasGathered known desks)
       → EndsService seats (end_of so_far ran res) bytes (held sink) (held sink_now)
   ends (Err d) told (Err e) res read fine gathered = inr (at-stop (Err d) told res read (AppendsPrefix (held sink) (held sink_now)) told.writes)
   ends (Err d) told (Ok x) (Ok fault) read fine gathered = inl (all-first fault (AppendsPrefix (held sink) (held sink_now)) (at-end (Err d) told fault read fine gathered (AppendsPrefix (held sink) (held sink_now)) told.writes))
@@ -490,7 +529,7 @@ module _ {P K : Type 0} (is_own : P → Type 0) (shape : Shape) (known : P → K
 -- the same of a source that may tell its bytes
 pub ends-known : {P K : Type 0} (is_own : P → Type 0) (shape : Shape) (known : P → Known) (seats : ℕ) (boxes : List (Outlet (Option Ask))) (old desks : List (Desk P)) (old_callers callers : List Caller) (held : K → Option (List ℕ)) (faults : K → ℕ)
     (sink sink_now : K) (left : Option (List ℕ)) (so_far : Result Unit Failed) (served ran : Result Unit AllocError) (res : Result (Option FrameFault) NoFrame) → seats ≤ 256 → IsOpened is_own shape known seats boxes old old_callers
-    → HasToldBy is_own shape known boxes old desks held faults sink sink_now (so_far, served) → length callers ≡ length old_callers → HasRead (seat_notes seats) left callers boxes res → HaveTakenFirst desks callers → RunsAreLegal
+    → HasToldBy is_own shape known boxes old desks held faults sink sink_now (so_far, served) → length callers ≡ length old_callers → HasRead (seat_notes seats) left boxes callers res → HaveTakenFirst desks callers → RunsAreLegal
     → OnOk ran (served ≡ Ok tt) → OnOk ran (HasGathered known desks) → IfSome left (λ bytes. EndsService seats (end_of so_far ran res) bytes (held sink) (held sink_now))
 ends-known is_own shape known seats boxes old desks old_callers callers held faults sink sink_now None so_far served ran res few opened told count read took law fine gathered = tt
 ends-known is_own shape known seats boxes old desks old_callers callers held faults sink sink_now (Some bytes) so_far served ran res few opened told count read took law fine gathered =

@@ -4,7 +4,7 @@ ghost use Rattle.pgn_outlet.specs.Passes.{IsPassOf, knows};
 ghost use Rattle.pgn_outlet.specs.Rule as rule;
 ghost use Rattle.pgn_text.specs.Rendering.{Puts};
 ghost use Rattle.pgn_seats.specs.Desks.{HaveServed, MayServe};
-ghost use Rattle.pgn_frames.specs.Reading.{HasRead, MayCall};
+ghost use Rattle.pgn_frames.specs.Reading.{MayCall};
 ghost use Rattle.pgn_frames.specs.Writing.{Wrote};
 ghost use Rattle.pgn_run.specs.Arms.{HasReadBy, HasToldBy, HasWrittenRest};
 ghost use Rattle.pgn_run.specs.Service.{over_frame};
@@ -77,7 +77,7 @@ pub(crate) fn run_arms<
 )
     requires may { MayServe (H.is_pass hub.now) (H.shape hub.now) P.known inboxes.now desks.old rule.sender }
     requires call { (most : ℕ) × MayCall most inboxes.now callers.old }
-    requires seats { length callers.old ≡ length (H.shape hub.now).seats }
+    requires seats { length (H.shape hub.now).seats ≡ length callers.old }
     ensures told { HasToldBy (H.is_pass hub.now) (H.shape hub.now) P.known inboxes.now desks.old desks.new K.held K.faults sink.old sink.new result.0 }
     ensures read { HasReadBy S.left S.faults inboxes.now callers.old callers.new source.old source.new result.1 }
 {
@@ -89,7 +89,7 @@ pub(crate) fn run_arms<
             ensures { HasToldBy (H.is_pass hub.entry.now) (H.shape hub.entry.now) P.known inboxes.entry.now desks.entry.now desks.exit.now K.held K.faults sink.entry.now sink.exit.now result }
         { serve_and_write(rt, alloc, hub, inboxes, &meeting, desks, sink) },
         &mut || -> Result<Option<FrameFault>, NoFrame>
-            requires { ((most : ℕ) × MayCall most inboxes.now callers.now) × (length callers.now ≡ length (H.shape hub.now).seats) }
+            requires { ((most : ℕ) × MayCall most inboxes.now callers.now) × (length (H.shape hub.now).seats ≡ length callers.now) }
             ensures { HasReadBy S.left S.faults inboxes.entry.now callers.entry.now callers.exit.now source.entry.now source.exit.now result }
         { read_where_met(rt, alloc, hub, inboxes, &meeting, callers, source) },
     )
@@ -107,7 +107,7 @@ fn read_where_met<H: Hub, R: Wait, S: Source>(
     source: &mut S,
 ) -> Result<Option<FrameFault>, NoFrame>
     requires call { (most : ℕ) × MayCall most inboxes.now callers.old }
-    requires seats { length callers.old ≡ length (H.shape hub.now).seats }
+    requires seats { length (H.shape hub.now).seats ≡ length callers.old }
     ensures { HasReadBy S.left S.faults inboxes.now callers.old callers.new source.old source.new result }
 {
     if !meeting.expects(rt) {
@@ -173,7 +173,6 @@ fn is_over(begun: bool, served: Result<(), AllocError>) -> bool
 }
 
 // Writes what is left in an outbox once the desks are done, and ends it.
-#[tactic(auto, using(crate::proofs::ArmLaws::rest_laws))]
 fn write_to_the_end<R: Wait, K: Sink>(
     rt: &R,
     outbox: Outlet<Saying>,
