@@ -11,10 +11,11 @@ use Rattle.pgn_model.specs.Walk.{Settings}
 use Rattle.pgn_run.specs.Checking.{HasFault, IsJudged, verdict_text}
 use Rattle.pgn_run.specs.Conversation.{BreaksOff}
 use Rattle.pgn_run.specs.declared.status.Status.{Status}
-use Rattle.pgn_run.specs.declared.status.Status.TheVariants.{Done, BadWords, BadScenario, ReadFault, WriteFault, NoMemory, BadWire, Illegal, NoOutput, CheckTooLarge}
+use Rattle.pgn_run.specs.declared.status.Status.TheVariants.{Done, BadWords, BadScenario, ReadFault, WriteFault, NoMemory, BadWire, Illegal, NoOutput, CheckTooLarge, BadFrame}
+use Rattle.pgn_frames.specs.declared.frame_fault.FrameFault.{FrameFault}
 use Rattle.pgn_run.specs.Run.{AskToCheck, asked_settings, code_of}
 use Rattle.pgn_cli.specs.FaultLine.{fault_text}
-use Rattle.pgn_cli.specs.Program.{IsFaulty, IsRefused, NamesFault, NamesWireFault, SaysIllegal}
+use Rattle.pgn_cli.specs.Program.{IsFaulty, IsRefused, NamesFault, NamesWireFault, SaysBadFrame, SaysIllegal, ServesUpTo}
 
 -- a whole text is a prefix of itself
 whole-prefix : (old new : Option (List ℕ)) (text : List ℕ) → Appends old new text → AppendsPrefix old new text
@@ -81,6 +82,7 @@ names-fault (Some input) old new (BadWire fault) code is line reads three = absu
 names-fault (Some input) old new (Illegal n) code is line reads three = absurd (omega (arith, is, three))
 names-fault (Some input) old new NoOutput code is line reads three = absurd (omega (arith, is, three))
 names-fault (Some input) old new CheckTooLarge code is line reads three = absurd (omega (arith, is, three))
+names-fault (Some input) old new (BadFrame found) code is line reads three = absurd (omega (arith, is, three))
 
 -- and so does that of a client's
 pub names-wire : (Asked : Type 0) (left held now old new : Option (List ℕ)) (status : Status) (code : ℕ) → code ≡ code_of status → AppendsPrefix old new (fault_text status)
@@ -94,6 +96,7 @@ names-wire Asked left held now old new NoMemory code is line breaks ten = absurd
 names-wire Asked left held now old new (Illegal n) code is line breaks ten = absurd (omega (arith, is, ten))
 names-wire Asked left held now old new NoOutput code is line breaks ten = absurd (omega (arith, is, ten))
 names-wire Asked left held now old new CheckTooLarge code is line breaks ten = absurd (omega (arith, is, ten))
+names-wire Asked left held now old new (BadFrame found) code is line breaks ten = absurd (omega (arith, is, ten))
 names-wire Asked None held now old new (BadWire fault) code is line breaks ten = ((breaks fault refl).0, tt)
 names-wire Asked (Some bytes) held now old new (BadWire fault) code is line breaks ten =
     let broke = breaks fault refl in
@@ -112,6 +115,7 @@ refused-keeps old new (BadWire fault) words scenario none large refused = absurd
 refused-keeps old new (Illegal line) words scenario none large refused = absurd refused
 refused-keeps old new NoOutput words scenario none large refused = none refl
 refused-keeps old new CheckTooLarge words scenario none large refused = large refl
+refused-keeps old new (BadFrame fault) words scenario none large refused = absurd refused
 
 -- a code that is another than these four
 four-codes : (n code : ℕ) → code ≡ n → n ≢ 2 → n ≢ 3 → n ≢ 9 → n ≢ 11 → (code ≡ 2) ⊎ (code ≡ 3) ⊎ (code ≡ 9) ⊎ (code ≡ 11) → ⊥
@@ -129,6 +133,7 @@ refused-code BadWords code is some = tt
 refused-code (BadScenario found) code is some = tt
 refused-code NoOutput code is some = tt
 refused-code CheckTooLarge code is some = tt
+refused-code (BadFrame found) code is some = absurd (four-codes 12 code is (omega arith) (omega arith) (omega arith) (omega arith) some)
 refused-code Done code is some = absurd (four-codes 0 code is (omega arith) (omega arith) (omega arith) (omega arith) some)
 refused-code ReadFault code is some = absurd (four-codes 4 code is (omega arith) (omega arith) (omega arith) (omega arith) some)
 refused-code WriteFault code is some = absurd (four-codes 5 code is (omega arith) (omega arith) (omega arith) (omega arith) some)
@@ -148,6 +153,7 @@ read-fault-code (BadWire found) code is four = absurd (omega (arith, is, four))
 read-fault-code (Illegal line) code is four = absurd (omega (arith, is, four))
 read-fault-code NoOutput code is four = absurd (omega (arith, is, four))
 read-fault-code CheckTooLarge code is four = absurd (omega (arith, is, four))
+read-fault-code (BadFrame found) code is four = absurd (omega (arith, is, four))
 
 -- the status of a write that failed
 pub write-fault-code : (status : Status) (code : ℕ) → code ≡ code_of status → code ≡ 5 → status ≡ WriteFault
@@ -161,6 +167,7 @@ write-fault-code (BadWire found) code is five = absurd (omega (arith, is, five))
 write-fault-code (Illegal line) code is five = absurd (omega (arith, is, five))
 write-fault-code NoOutput code is five = absurd (omega (arith, is, five))
 write-fault-code CheckTooLarge code is five = absurd (omega (arith, is, five))
+write-fault-code (BadFrame found) code is five = absurd (omega (arith, is, five))
 
 -- the status of want of memory
 pub memory-code : (status : Status) (code : ℕ) → code ≡ code_of status → code ≡ 6 → status ≡ NoMemory
@@ -174,6 +181,7 @@ memory-code (BadWire found) code is six = absurd (omega (arith, is, six))
 memory-code (Illegal line) code is six = absurd (omega (arith, is, six))
 memory-code NoOutput code is six = absurd (omega (arith, is, six))
 memory-code CheckTooLarge code is six = absurd (omega (arith, is, six))
+memory-code (BadFrame found) code is six = absurd (omega (arith, is, six))
 
 -- what words ask for, where that status says what they have come to
 pub memory-lines : {T E : Type 0} (words : Result T E) (Asks : T → Type 0) (P : (t : T) → Asks t → Type 0) (status : Status) (code : ℕ) → code ≡ code_of status
@@ -198,6 +206,7 @@ illegal-code (BadWire found) code is eight = absurd (omega (arith, is, eight))
 illegal-code (Illegal line) code is eight = (line, refl)
 illegal-code NoOutput code is eight = absurd (omega (arith, is, eight))
 illegal-code CheckTooLarge code is eight = absurd (omega (arith, is, eight))
+illegal-code (BadFrame found) code is eight = absurd (omega (arith, is, eight))
 
 -- of an input without an output part
 pub no-output-code : (status : Status) (code : ℕ) → code ≡ code_of status → code ≡ 9 → status ≡ NoOutput
@@ -211,6 +220,7 @@ no-output-code (BadWire found) code is nine = absurd (omega (arith, is, nine))
 no-output-code (Illegal line) code is nine = absurd (omega (arith, is, nine))
 no-output-code NoOutput code is nine = refl
 no-output-code CheckTooLarge code is nine = absurd (omega (arith, is, nine))
+no-output-code (BadFrame found) code is nine = absurd (omega (arith, is, nine))
 
 -- of one that is too large to be checked
 pub too-large-code : (status : Status) (code : ℕ) → code ≡ code_of status → code ≡ 11 → status ≡ CheckTooLarge
@@ -224,6 +234,7 @@ too-large-code (BadWire found) code is eleven = absurd (omega (arith, is, eleven
 too-large-code (Illegal line) code is eleven = absurd (omega (arith, is, eleven))
 too-large-code NoOutput code is eleven = absurd (omega (arith, is, eleven))
 too-large-code CheckTooLarge code is eleven = refl
+too-large-code (BadFrame found) code is eleven = absurd (omega (arith, is, eleven))
 
 -- where the fault of an input may lie
 pub faulty-either : (left : Option (List ℕ)) (fault : ScenarioFault) (A B : Type 0) → (A × IfSome left (λ input. ReadsAsScenario input (Err fault))) ⊎ (B × IfSome left (λ input. HasFault input fault))
@@ -244,3 +255,54 @@ pub says-for : (words others : List (List ℕ)) (left old new : Option (List ℕ
 says-for words others left old new line h e =
     subst (λ (ws : List (List ℕ)). (ask : AskToCheck ws) × IfSome left (SaysIllegal (asked_settings ask) old new)) e
     (h.0, says-illegal (asked_settings h.0) left old new line h.1)
+
+-- of frames that are at fault
+frame-code : (status : Status) (code : ℕ) → code ≡ code_of status → code ≡ 12 → (fault : FrameFault) × (status ≡ BadFrame fault)
+frame-code Done code is twelve = absurd (omega (arith, is, twelve))
+frame-code BadWords code is twelve = absurd (omega (arith, is, twelve))
+frame-code (BadScenario found) code is twelve = absurd (omega (arith, is, twelve))
+frame-code ReadFault code is twelve = absurd (omega (arith, is, twelve))
+frame-code WriteFault code is twelve = absurd (omega (arith, is, twelve))
+frame-code NoMemory code is twelve = absurd (omega (arith, is, twelve))
+frame-code (BadWire found) code is twelve = absurd (omega (arith, is, twelve))
+frame-code (Illegal line) code is twelve = absurd (omega (arith, is, twelve))
+frame-code NoOutput code is twelve = absurd (omega (arith, is, twelve))
+frame-code CheckTooLarge code is twelve = absurd (omega (arith, is, twelve))
+frame-code (BadFrame fault) code is twelve = (fault, refl)
+
+-- it names the fault
+frame-said : (words : List (List ℕ)) (fault : FrameFault) (left held now old new : Option (List ℕ)) → AppendsPrefix old new (fault_text (BadFrame fault)) → ServesUpTo words fault left held now
+    → SaysBadFrame words left held now old new
+frame-said words fault None held now old new line served = (served.0, tt)
+frame-said words fault (Some bytes) held now old new line served = (served.0, record { fault = fault; served = served.1; line = line })
+
+frame-at : {T E : Type 0} (r : Result T E) (of : T → List (List ℕ)) (fault : FrameFault) (left held now old new : Option (List ℕ)) → AppendsPrefix old new (fault_text (BadFrame fault))
+    → IsOkAnd r (λ (w : T). ServesUpTo (of w) fault left held now) → IsOkAnd r (λ (w : T). SaysBadFrame (of w) left held now old new)
+frame-at (Ok w) of fault left held now old new line served = frame-said (of w) fault left held now old new line served
+frame-at (Err e) of fault left held now old new line served = absurd served
+
+pub names-frame : {T E : Type 0} (words : Result T E) (of : T → List (List ℕ)) (left held now old new : Option (List ℕ)) (status : Status) (code : ℕ) → code ≡ code_of status → AppendsPrefix old new (fault_text status)
+    → ((fault : FrameFault) → status ≡ BadFrame fault → IsOkAnd words (λ (w : T). ServesUpTo (of w) fault left held now)) → code ≡ 12 → IsOkAnd words (λ (w : T). SaysBadFrame (of w) left held now old new)
+names-frame words of left held now old new status code is line serves twelve =
+    let found = frame-code status code is twelve in
+    frame-at words of found.0 left held now old new (subst (λ (s : Status). AppendsPrefix old new (fault_text s)) found.1 line) (serves found.0 found.1)
+
+-- what that status says of words that are there
+pub if-read : {T E : Type 0} (words : Result T E) (P : T → Type 0) (status : Status) (code : ℕ) → code ≡ code_of status
+    → IfOk words (λ (w : T). status ≡ ReadFault → P w) → IfOk words (λ (w : T). code ≡ 4 → P w)
+if-read (Ok w) P status code is h = λ four. h (read-fault-code status code is four)
+if-read (Err e) P status code is h = h
+
+pub if-memory : {T E : Type 0} (words : Result T E) (P : T → Type 0) (status : Status) (code : ℕ) → code ≡ code_of status
+    → IfOk words (λ (w : T). status ≡ NoMemory → P w) → IfOk words (λ (w : T). code ≡ 6 → P w)
+if-memory (Ok w) P status code is h = λ six. h (memory-code status code is six)
+if-memory (Err e) P status code is h = h
+
+-- one of three statuses
+pub served-codes : {T E : Type 0} (words : Result T E) (Asks : T → Type 0) (R : Type 0) (status : Status) (code : ℕ) → code ≡ code_of status
+    → IfOk words (λ (w : T). Asks w → R → (status ≡ ReadFault) ⊎ (status ≡ WriteFault) ⊎ (status ≡ NoMemory)) → IfOk words (λ (w : T). Asks w → R → (code ≡ 4) ⊎ (code ≡ 5) ⊎ (code ≡ 6))
+served-codes (Ok w) Asks R status code is h = λ ask rose. elim (h ask rose) [
+  | inl e ↦ inl (is ∙ ap code_of e)
+  | inr more ↦ elim more [ inl e ↦ inr (inl (is ∙ ap code_of e)) | inr e ↦ inr (inr (is ∙ ap code_of e)) ]
+]
+served-codes (Err e) Asks R status code is h = h

@@ -1,11 +1,13 @@
 -- The line on standard error.
 use Rattle.std.specs.Prelude.{ℕ, List, [], ◌++◌, codes, decimal}
 use Rattle.pgn_run.specs.declared.status.Status.{Status}
-use Rattle.pgn_run.specs.declared.status.Status.TheVariants.{Done, BadWords, BadScenario, ReadFault, WriteFault, NoMemory, BadWire, Illegal, NoOutput, CheckTooLarge}
+use Rattle.pgn_run.specs.declared.status.Status.TheVariants.{Done, BadWords, BadScenario, ReadFault, WriteFault, NoMemory, BadWire, Illegal, NoOutput, CheckTooLarge, BadFrame}
 use Rattle.pgn_language.specs.declared.scenario.ScenarioFault.{ScenarioFault}
 use Rattle.pgn_language.specs.declared.scenario.ScenarioFault.TheVariants.{TooLarge, LineTooLong, NotUtf8, NulByte, BadMeta, NoSession, SameName, TooMany, Empty, NeverSignalled}
 use Rattle.pgn_queries.specs.declared.wire_fault.WireFault.{WireFault}
 use Rattle.pgn_queries.specs.declared.wire_fault.WireFault.TheVariants.{BadType, BadLength, Truncated, BadText, TooMany as TooManyQueries}
+use Rattle.pgn_frames.specs.declared.frame_fault.FrameFault.{FrameFault}
+use Rattle.pgn_frames.specs.declared.frame_fault.FrameFault.TheVariants.{CutFrame, NoSeat}
 
 -- what is wrong at a line
 abbrev pub line_fault : ℕ → List ℕ → List ℕ
@@ -40,10 +42,19 @@ at_of (TooManyQueries at) = at
 abbrev pub wire_fault_text : WireFault → List ℕ
 wire_fault_text fault = byte_fault (at_of fault) (codes ": bad message\n")
 
+-- the offset of the frame that is refused
+abbrev pub at_of_frame : FrameFault → ℕ
+at_of_frame (CutFrame at) = at
+at_of_frame (NoSeat at) = at
+
+-- where frames are at fault
+abbrev pub frame_fault_text : FrameFault → List ℕ
+frame_fault_text fault = byte_fault (at_of_frame fault) (codes ": bad frame\n")
+
 -- the line of an outcome, and nothing where the run is done
 abbrev pub fault_text : Status → List ℕ
 fault_text Done = []
-fault_text BadWords = codes "usage: pgnotify run [--pages N] [--patience N] [--format N] [--live] or pgnotify drill SEED SESSIONS NOTES or pgnotify wire or pgnotify check [--pages N] [--patience N] [--format N]\n"
+fault_text BadWords = codes "usage: pgnotify run [--pages N] [--patience N] [--format N] [--live] or pgnotify drill SEED SESSIONS NOTES or pgnotify wire or pgnotify serve [--seats N] or pgnotify check [--pages N] [--patience N] [--format N]\n"
 fault_text (BadScenario fault) = scenario_fault_text fault
 fault_text ReadFault = codes "pgnotify: read failed\n"
 fault_text WriteFault = codes "pgnotify: write failed\n"
@@ -52,3 +63,4 @@ fault_text (BadWire fault) = wire_fault_text fault
 fault_text (Illegal line) = codes "pgnotify: output is not legal\n"
 fault_text NoOutput = codes "pgnotify: no output part\n"
 fault_text CheckTooLarge = codes "pgnotify: check input is larger than 67108864 bytes\n"
+fault_text (BadFrame fault) = frame_fault_text fault

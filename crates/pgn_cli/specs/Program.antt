@@ -1,5 +1,5 @@
 -- How the program ends.
-use Rattle.std.specs.Prelude.{◌≡◌, ◌⊎◌, ℕ, List, Option, Err}
+use Rattle.std.specs.Prelude.{◌≡◌, ◌⊎◌, ℕ, List, Option, Some, Err, IfSome}
 use Rattle.std.specs.Io.KnownBytes.{Appends}
 use Rattle.std.specs.declared.io.ErrorKind.{ErrorKind}
 use Rattle.std.specs.declared.io.ErrorKind.TheVariants.{OutOfMemory}
@@ -13,8 +13,10 @@ use Rattle.pgn_run.specs.Checking.{HasFault, IsJudged, verdict_text}
 use Rattle.pgn_run.specs.Conversation.{BreaksOff}
 use Rattle.pgn_run.specs.declared.status.Status.{Status}
 use Rattle.pgn_run.specs.declared.status.Status.TheVariants.{BadWords, BadScenario, NoOutput, CheckTooLarge}
-use Rattle.pgn_run.specs.Run.{code_of}
-use Rattle.pgn_cli.specs.FaultLine.{fault_text, scenario_fault_text, wire_fault_text}
+use Rattle.pgn_frames.specs.declared.frame_fault.FrameFault.{FrameFault}
+use Rattle.pgn_run.specs.Service.{ServesAll, ServesFirst, StopsServing}
+use Rattle.pgn_run.specs.Run.{AskToServe, code_of}
+use Rattle.pgn_cli.specs.FaultLine.{fault_text, frame_fault_text, scenario_fault_text, wire_fault_text}
 use Rattle.pgn_cli.specs.declared.arguments.NoWords.{NoWords}
 use Rattle.pgn_cli.specs.declared.arguments.NoWords.TheVariants.{Memory, NotText}
 
@@ -60,3 +62,24 @@ pub record SaysIllegal (settings : Settings) (old new : Option (List ℕ)) (inpu
   pub line : ℕ
   pub judged : IsJudged settings input (verdict.Illegal line)
   pub output : Appends old new (verdict_text (verdict.Illegal line))
+
+-- the words ask to serve, what was read for the clients of seats has this fault, and all frames before were served
+abbrev pub ServesUpTo : List (List ℕ) → FrameFault → Option (List ℕ) → Option (List ℕ) → Option (List ℕ) → Type 0
+ServesUpTo words fault left held now = (ask : AskToServe words) × IfSome left (λ bytes. ServesAll ask.seats bytes (Some fault) (Appends held now))
+
+-- frames are at fault, all before were served, and the line of the fault was written to the errors, or a prefix of that line
+pub record NamesFrameFault (seats : ℕ) (held now old new : Option (List ℕ)) (bytes : List ℕ) : Type 0 where
+  pub fault : FrameFault
+  pub served : ServesAll seats bytes (Some fault) (Appends held now)
+  pub line : AppendsPrefix old new (frame_fault_text fault)
+
+abbrev pub SaysBadFrame : List (List ℕ) → Option (List ℕ) → Option (List ℕ) → Option (List ℕ) → Option (List ℕ) → Option (List ℕ) → Type 0
+SaysBadFrame words left held now old new = (ask : AskToServe words) × IfSome left (NamesFrameFault ask.seats held now old new)
+
+-- where the words ask to serve, the first frames were served
+abbrev pub ServedFirst : List (List ℕ) → Option (List ℕ) → Option (List ℕ) → Option (List ℕ) → Type 0
+ServedFirst words left held now = (ask : AskToServe words) → IfSome left (λ bytes. ServesFirst ask.seats bytes (Appends held now))
+
+-- where they do, nothing was written, or whole turns
+abbrev pub ServedInPart : List (List ℕ) → Option (List ℕ) → Option (List ℕ) → Option (List ℕ) → Type 0
+ServedInPart words left held now = (ask : AskToServe words) → (now ≡ held) ⊎ IfSome left (λ bytes. StopsServing ask.seats bytes (Appends held now))

@@ -1,9 +1,10 @@
 ghost use Rattle.std.specs.Prelude.{◌≡◌, ◌++◌, decimal, codes};
 ghost use Rattle.pgn_base.specs.Outside.{Writes, HasCause};
-ghost use Rattle.pgn_cli.specs.FaultLine.{at_of, byte_fault, fault_text, line_fault, scenario_fault_text, wire_fault_text};
+ghost use Rattle.pgn_cli.specs.FaultLine.{at_of, at_of_frame, byte_fault, fault_text, frame_fault_text, line_fault, scenario_fault_text, wire_fault_text};
 
 use itoa::Buffer;
 use pgn_base::{Failed, Sink, write_all};
+use pgn_frames::FrameFault;
 use pgn_language::ScenarioFault;
 use pgn_queries::WireFault;
 use pgn_run::Status;
@@ -18,7 +19,7 @@ pub fn fault_line<K: Sink>(sink: &mut K, status: &Status) -> Result<(), Failed>
         Status::Done => Ok(()),
         Status::BadWords => write_all(
             sink,
-            b"usage: pgnotify run [--pages N] [--patience N] [--format N] [--live] or pgnotify drill SEED SESSIONS NOTES or pgnotify wire or pgnotify check [--pages N] [--patience N] [--format N]\n",
+            b"usage: pgnotify run [--pages N] [--patience N] [--format N] [--live] or pgnotify drill SEED SESSIONS NOTES or pgnotify wire or pgnotify serve [--seats N] or pgnotify check [--pages N] [--patience N] [--format N]\n",
         ),
         Status::BadScenario(fault) => scenario_fault_line(sink, *fault),
         Status::ReadFault => write_all(sink, b"pgnotify: read failed\n"),
@@ -31,6 +32,7 @@ pub fn fault_line<K: Sink>(sink: &mut K, status: &Status) -> Result<(), Failed>
             sink,
             b"pgnotify: check input is larger than 67108864 bytes\n",
         ),
+        Status::BadFrame(fault) => frame_fault_line(sink, *fault),
     }
 }
 
@@ -90,6 +92,28 @@ fn offset(fault: WireFault) -> u64
         WireFault::Truncated { at } => at,
         WireFault::BadText { at } => at,
         WireFault::TooMany { at } => at,
+    }
+}
+
+fn frame_fault_line<K: Sink>(sink: &mut K, fault: FrameFault) -> Result<(), Failed>
+    ensures bytes { Writes (K.held sink.old) (K.held sink.new) result (frame_fault_text fault) }
+    ensures cause { HasCause (K.faults sink.old) (K.faults sink.new) result }
+{
+    numbered(
+        sink,
+        b"pgnotify: byte ",
+        frame_offset(fault),
+        b": bad frame\n",
+    )
+}
+
+// The place of the frame that is refused, in bytes.
+fn frame_offset(fault: FrameFault) -> u64
+    ensures { result ≡ at_of_frame fault }
+{
+    match fault {
+        FrameFault::CutFrame { at } => at,
+        FrameFault::NoSeat { at } => at,
     }
 }
 

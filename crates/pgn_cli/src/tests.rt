@@ -4,6 +4,7 @@ use crate::drawing::drawn;
 use crate::fault_line::fault_line;
 use crate::program::program;
 use pgn_base::{Failed, Seed, Sink, Source, write_all};
+use pgn_frames::FrameFault;
 use pgn_language::ScenarioFault;
 use pgn_memory::{MemSink, MemSource};
 use pgn_queries::WireFault;
@@ -21,12 +22,12 @@ use std::time::Clock;
 
 #[test]
 fn one_line_on_standard_error(rt: HostRuntime) -> Result<(), Fail> {
-    let table: [(Status, u8, &[u8]); 19] = [
+    let table: [(Status, u8, &[u8]); 21] = [
         (Status::Done, 0, b""),
         (
             Status::BadWords,
             2,
-            b"usage: pgnotify run [--pages N] [--patience N] [--format N] [--live] or pgnotify drill SEED SESSIONS NOTES or pgnotify wire or pgnotify check [--pages N] [--patience N] [--format N]\n",
+            b"usage: pgnotify run [--pages N] [--patience N] [--format N] [--live] or pgnotify drill SEED SESSIONS NOTES or pgnotify wire or pgnotify serve [--seats N] or pgnotify check [--pages N] [--patience N] [--format N]\n",
         ),
         (
             Status::BadScenario(ScenarioFault::TooLarge),
@@ -97,6 +98,16 @@ fn one_line_on_standard_error(rt: HostRuntime) -> Result<(), Fail> {
             11,
             b"pgnotify: check input is larger than 67108864 bytes\n",
         ),
+        (
+            Status::BadFrame(FrameFault::CutFrame { at: 6 }),
+            12,
+            b"pgnotify: byte 6: bad frame\n",
+        ),
+        (
+            Status::BadFrame(FrameFault::NoSeat { at: 4_294_967_300 }),
+            12,
+            b"pgnotify: byte 4294967300: bad frame\n",
+        ),
     ];
     for (status, code, line) in table {
         let sink = line_of(rt.alloc(), &status)?;
@@ -108,7 +119,7 @@ fn one_line_on_standard_error(rt: HostRuntime) -> Result<(), Fail> {
 
 // What is written for a status.
 fn line_of(alloc: Global, status: &Status) -> Result<MemSink, Fail> {
-    let mut sink = MemSink::new(alloc, 200, Vec::new(alloc), 7)?;
+    let mut sink = MemSink::new(alloc, 250, Vec::new(alloc), 7)?;
     match put_line(&mut sink, status) {
         Ok(()) => Ok(sink),
         Err(Failed) => {
@@ -143,7 +154,7 @@ const ASKS: &str = "Q\0\0\0\x0dLISTEN c\0";
 const ANSWERED: &str = "C\0\0\0\x0bLISTEN\0Z\0\0\0\x05I";
 
 const USAGE: &str =
-    "usage: pgnotify run [--pages N] [--patience N] [--format N] [--live] or pgnotify drill SEED SESSIONS NOTES or pgnotify wire or pgnotify check [--pages N] [--patience N] [--format N]\n";
+    "usage: pgnotify run [--pages N] [--patience N] [--format N] [--live] or pgnotify drill SEED SESSIONS NOTES or pgnotify wire or pgnotify serve [--seats N] or pgnotify check [--pages N] [--patience N] [--format N]\n";
 
 // What the program is run on: its words, its input, the read and the write that fail, and how many bytes the errors take.
 #[derive(Clone, Copy)]
@@ -160,7 +171,7 @@ const PLAIN: Run<'static> = Run {
     input: SCRIPT,
     failing_read: 0,
     failing_write: 0,
-    errors: 200,
+    errors: 250,
 };
 
 fn push_texts(alloc: Global, texts: &mut Vec<String>, words: &[&str]) -> Result<(), AllocError> {

@@ -2,7 +2,7 @@
 use Rattle.std.specs.Prelude.{ℕ, true, false, List, [], ◌∷◌, ◌++◌, Option, None, Some, codes}
 use Rattle.pgn_base.specs.declared.format.Format.TheVariants.{One, Two}
 use Rattle.pgn_options.specs.declared.asked.Asked.{Asked}
-use Rattle.pgn_options.specs.declared.asked.Asked.TheVariants.{Run, Drill, Check}
+use Rattle.pgn_options.specs.declared.asked.Asked.TheVariants.{Run, Drill, Check, Serve}
 
 abbrev pub Line : Type 0
 Line = List (List ℕ)
@@ -92,6 +92,19 @@ limits_of_checks =
     ∷ Some (Check 1024 5 One)
     ∷ []
 
+-- `serve`, with and without a number of seats
+abbrev pub serves : List Line
+serves =
+    (codes "serve" ∷ [])
+    ∷ (codes "serve" ∷ codes "--" ∷ [])
+    ∷ (codes "serve" ∷ codes "--seats" ∷ codes "1" ∷ [])
+    ∷ (codes "serve" ∷ codes "--seats=256" ∷ [])
+    ∷ (codes "serve" ∷ codes "--seats" ∷ codes "+016" ∷ codes "--" ∷ [])
+    ∷ []
+
+abbrev pub seats_of_serves : List (Option Asked)
+seats_of_serves = Some (Serve 64) ∷ Some (Serve 64) ∷ Some (Serve 1) ∷ Some (Serve 256) ∷ Some (Serve 16) ∷ []
+
 -- words of which one number is out of its range, or none
 abbrev pub wrong_numbers : List Line
 wrong_numbers =
@@ -118,6 +131,10 @@ wrong_numbers =
     ∷ (codes "drill" ∷ codes "0" ∷ codes "1" ∷ codes "1001" ∷ [])
     ∷ (codes "drill" ∷ codes "18446744073709551616" ∷ codes "1" ∷ codes "1" ∷ [])
     ∷ (codes "drill" ∷ codes "-0" ∷ codes "1" ∷ codes "1" ∷ [])
+    ∷ (codes "serve" ∷ codes "--seats" ∷ codes "0" ∷ [])
+    ∷ (codes "serve" ∷ codes "--seats=257" ∷ [])
+    ∷ (codes "serve" ∷ codes "--seats" ∷ codes "ten" ∷ [])
+    ∷ (codes "serve" ∷ codes "--seats=" ∷ [])
     ∷ []
 
 -- words of which one is too many, too few, or in a wrong place
@@ -169,6 +186,21 @@ wrong_words =
     ∷ (codes "check" ∷ codes "check" ∷ [])
     ∷ (codes "check" ∷ codes "--format" ∷ [])
     ∷ (codes "Check" ∷ [])
+    ∷ (codes "serve" ∷ codes "--seats" ∷ [])
+    ∷ (codes "serve" ∷ codes "16" ∷ [])
+    ∷ (codes "serve" ∷ codes "--seats=2" ∷ codes "--seats=2" ∷ [])
+    ∷ (codes "serve" ∷ codes "--" ∷ codes "--seats=2" ∷ [])
+    ∷ (codes "serve" ∷ codes "--seat" ∷ codes "2" ∷ [])
+    ∷ (codes "serve" ∷ codes "--pages" ∷ codes "2" ∷ [])
+    ∷ (codes "serve" ∷ codes "--patience=5" ∷ [])
+    ∷ (codes "serve" ∷ codes "--format=1" ∷ codes "--seats=2" ∷ [])
+    ∷ (codes "serve" ∷ codes "--live" ∷ [])
+    ∷ (codes "serve" ∷ codes "serve" ∷ [])
+    ∷ (codes "Serve" ∷ [])
+    ∷ (codes "run" ∷ codes "--seats" ∷ codes "2" ∷ [])
+    ∷ (codes "check" ∷ codes "--seats=2" ∷ [])
+    ∷ (codes "wire" ∷ codes "--seats=2" ∷ [])
+    ∷ (codes "drill" ∷ codes "--seats=2" ∷ codes "0" ∷ codes "1" ∷ codes "1" ∷ [])
     ∷ []
 
 -- the scenario of the least drill

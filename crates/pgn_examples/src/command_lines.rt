@@ -3,7 +3,7 @@ ghost use Rattle.std.specs.List.{list_all};
 ghost use Rattle.pgn_options.specs.declared.asked.Asked.TheVariants.{Wire};
 ghost use Rattle.pgn_options.specs.Words.{asked_by};
 ghost use Rattle.pgn_drill.specs.Drill.{drill};
-ghost use Rattle.pgn_examples.specs.CommandLines.{checks, limits_of_checks, runs_with_limits, limits_of_runs, drills, numbers_of_drills, wrong_numbers, wrong_words, least_drill, first_of_four, second_of_four, last_of_four, drawn_anew, wires};
+ghost use Rattle.pgn_examples.specs.CommandLines.{checks, limits_of_checks, runs_with_limits, limits_of_runs, drills, numbers_of_drills, wrong_numbers, wrong_words, least_drill, first_of_four, second_of_four, last_of_four, drawn_anew, wires, serves, seats_of_serves};
 
 /// Words that are a command, and what they ask for.
 pub fn commands()
@@ -11,6 +11,7 @@ pub fn commands()
     ensures drills { map asked_by drills ≡ numbers_of_drills }
     ensures checks { map asked_by checks ≡ limits_of_checks }
     ensures wires { map asked_by wires ≡ map (λ line. Some Wire) wires }
+    ensures serves { map asked_by serves ≡ seats_of_serves }
 {}
 
 /// Words that are none.

@@ -105,7 +105,7 @@ no_body_end at size _ _ bytes _ (client.BodyIs.Cut _ t r few) e = cc
 no_body_end at size _ _ bytes _ (client.BodyIs.Bad _ body more t r f len none) e = cc
 no_body_end at size _ _ bytes _ (client.BodyIs.Whole _ t r f len sound) e = cc
 
-no_query_end : (at : ℕ) (coming : Coming) (text bytes rest : List ℕ) → QueryIs at coming text bytes rest → coming ≡ End → ⊥
+pub no_query_end : (at : ℕ) (coming : Coming) (text bytes rest : List ℕ) → QueryIs at coming text bytes rest → coming ≡ End → ⊥
 no_query_end at _ _ bytes _ (client.QueryIs.CutHead _ t r few) e = cc
 no_query_end at _ _ bytes _ (client.QueryIs.BadHead _ head more t r len f tells wrong) e = cc
 no_query_end at _ _ bytes _ (client.QueryIs.HasBody _ head more c t r len size f tells fits sized body) e = no_body_end at size c t more r body e
@@ -197,11 +197,11 @@ pub one_asking : OneAsking
 one_asking place signs asks others h k = asking_one place signs asks others h k
 
 -- signs up to the first end
-record Cut (signs : List (Option ℕ)) : Type 0 where
-  bytes : List ℕ
-  behind : (signs ≡ map Some bytes) ⊎ ((others : List (Option ℕ)) × (signs ≡ map Some bytes ++ None ∷ others) × (length others < length signs))
+pub record Cut (signs : List (Option ℕ)) : Type 0 where
+  pub bytes : List ℕ
+  pub behind : (signs ≡ map Some bytes) ⊎ ((others : List (Option ℕ)) × (signs ≡ map Some bytes ++ None ∷ others) × (length others < length signs))
 
-cut : (signs : List (Option ℕ)) → Cut signs
+pub cut : (signs : List (Option ℕ)) → Cut signs
 cut [] = record { bytes = []; behind = inl refl }
 cut (None ∷ signs) = record { bytes = []; behind = inr (signs, refl, omega arith) }
 cut (Some x ∷ signs) =

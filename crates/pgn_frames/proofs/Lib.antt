@@ -10,5 +10,17 @@ pub mod AskLaws
 pub mod NumberLaws
 -- messages with more behind them
 pub mod MoreLaws
+-- the signs of a seat, in frames that grow
+pub mod SignLaws
+-- what the writer has taken and given out
+pub mod WriteLaws
 -- the frames and the queries of the examples
 mod ExampleLaws
+-- bytes that are fewer than their head says
+pub mod CutLaws
+-- how a reader goes on from where it stands with a seat
+pub mod StandLaws
+-- what callers have put
+pub mod CallerLaws
+-- frame after frame, for all seats
+pub mod ReadingLaws

@@ -8,7 +8,7 @@ use Rattle.pgn_queries.specs.Client.{BodyIs, NextIs, QueryIs, TerminateIs, body_
 use Rattle.pgn_frames.specs.Laws.{IsTold, MoreMayFollow}
 
 -- two parts, and what is behind them
-behind : (bytes front rest more : List ℕ) → bytes ≡ front ++ rest → bytes ++ more ≡ front ++ (rest ++ more)
+pub behind : (bytes front rest more : List ℕ) → bytes ≡ front ++ rest → bytes ++ more ≡ front ++ (rest ++ more)
 behind bytes front rest more e = ap (λ (xs : List ℕ). xs ++ more) e ∙ append_assoc front rest more
 
 body_more : (at size : ℕ) (coming : Coming) (text bytes rest more : List ℕ) → BodyIs at size coming text bytes rest → (coming ≡ Fault (Truncated at) → ⊥)
@@ -24,7 +24,7 @@ query_more at _ _ bytes _ more (client.QueryIs.BadHead _ head m t r len e tells 
 query_more at _ _ bytes _ more (client.QueryIs.HasBody _ head m c t r len size e tells fits sized body) whole =
     client.QueryIs.HasBody (bytes ++ more) head (m ++ more) c t (r ++ more) len size (behind bytes head m more e) tells fits sized (body_more at size c t m r more body whole)
 
-terminate_more : (at : ℕ) (coming : Coming) (bytes rest more : List ℕ) → TerminateIs at coming bytes rest → (coming ≡ Fault (Truncated at) → ⊥) → TerminateIs at coming (bytes ++ more) (rest ++ more)
+pub terminate_more : (at : ℕ) (coming : Coming) (bytes rest more : List ℕ) → TerminateIs at coming bytes rest → (coming ≡ Fault (Truncated at) → ⊥) → TerminateIs at coming (bytes ++ more) (rest ++ more)
 terminate_more at _ bytes _ more (client.TerminateIs.CutHead _ r few) whole = absurd (whole refl)
 terminate_more at _ bytes _ more (client.TerminateIs.BadHead _ head m r len e tells wrong) whole =
     client.TerminateIs.BadHead (bytes ++ more) head (m ++ more) (r ++ more) len (behind bytes head m more e) tells wrong

@@ -1,9 +1,9 @@
-ghost use Rattle.std.specs.Prelude.{◌≡◌, ◌<◌, ◌≤◌, ◌++◌, drop, length, take, IfOk, OnOk};
+ghost use Rattle.std.specs.Prelude.{◌≡◌, ℕ, ◌<◌, ◌≤◌, ◌++◌, drop, length, take, IfOk, OnOk};
 ghost use Rattle.std.specs.Int.{from_be_bytes, w16};
 ghost use Rattle.std.specs.Io.KnownBytes.{Consumes, IsAtEnd};
 ghost use Rattle.pgn_base.specs.Outside.{Rose};
 ghost use Rattle.pgn_queries.specs.Client.{OfKnown};
-ghost use Rattle.pgn_frames.specs.Frames.{NextFrame};
+ghost use Rattle.pgn_frames.specs.Frames.{IsSeat, NextFrame};
 ghost use Rattle.pgn_frames.specs.Arrivals.{framing_of};
 
 use crate::FrameFault;
@@ -38,6 +38,7 @@ pub fn next_frame<S: Source>(
     body: &mut Vec<u8>,
 ) -> Result<Arrival, NoFrame>
     ensures next { IfOk result (λ arrival. OfKnown (NextFrame seats at (framing_of arrival body.new.items)) (S.left source.old) (S.left source.new)) }
+    ensures seat { (seat : ℕ) → result ≡ Ok (Arrival.Frame seat) → IsSeat seats seat }
     ensures later { S.faults source.old ≤ S.faults source.new }
     ensures failed { result ≡ Err NoFrame.Failed → Rose (S.faults source.old) (S.faults source.new) }
     ensures rose { S.faults source.old < S.faults source.new → result ≡ Err NoFrame.Failed }
@@ -62,6 +63,7 @@ fn behind_head<S: Source>(
 ) -> Result<Arrival, NoFrame>
     requires { length head.now ≡ 4 }
     ensures next { IfOk result (λ arrival. OfKnown (λ bytes rest. NextFrame seats at (framing_of arrival body.new.items) (head.now ++ bytes) rest) (S.left source.old) (S.left source.new)) }
+    ensures seat { (seat : ℕ) → result ≡ Ok (Arrival.Frame seat) → IsSeat seats seat }
     ensures later { S.faults source.old ≤ S.faults source.new }
     ensures failed { result ≡ Err NoFrame.Failed → Rose (S.faults source.old) (S.faults source.new) }
     ensures rose { S.faults source.old < S.faults source.new → result ≡ Err NoFrame.Failed }

@@ -5,10 +5,18 @@
 //! apart in one way. `next_frame` reads one frame after another from any source.
 #![tactic(auto)]
 
+mod caller;
 pub mod examples;
 mod frame_fault;
 mod framing;
 pub mod laws;
+mod message;
+mod reading;
+mod taking;
+mod writing;
 
+pub use caller::Caller;
 pub use frame_fault::FrameFault;
 pub use framing::{Arrival, NoFrame, next_frame};
+pub use reading::read_frames;
+pub use writing::{write_over, write_rest, write_until};

@@ -2,7 +2,7 @@
 //!
 //! `run_live` runs sessions until all are over, as a run does: halves of them on threads, down to one session a thread, and in turns where
 //! no thread can be had. Behind each turn a session tells what it has recorded, by a pass of an `Outlet` of `pgn_outlet`; a writer beside
-//! the sessions takes it and writes its lines, each behind the session's number. Where it finds nothing it sends what it has kept back, so
+//! the sessions, whose bell is rung, takes it and writes its lines, each behind the session's number. Where it finds nothing it sends what it has kept back, so
 //! that at rest a line is out at once, and under load many go in one write.
 //!
 //! What is written is, of each session, its trace, in order, each item once, and the lines of different sessions are mixed as they came. A
@@ -14,6 +14,7 @@
 pub mod examples;
 mod live_sessions;
 mod lives;
+mod relay;
 mod telling;
 mod writing;
 

@@ -4,6 +4,7 @@ ghost use Rattle.pgn_outlet.specs.Passes.{IsPassOf, knows};
 ghost use Rattle.pgn_outlet.specs.Rule.{MayPush};
 ghost use Rattle.pgn_session.specs.Runs.{IsHeld, IsReady};
 
+use crate::relay::Relay;
 use crate::telling::{PLACES, Telling, tell, told_so_far};
 use pgn_hub::{Hub, PassView};
 use pgn_model::Items;
@@ -53,11 +54,12 @@ impl<P: PassView + Send + Drop, H: Hub<Pass = P>> Work<Session<P>, Telling>
     fn laws(&self) {}
 }
 
-// A turn of a session, and what it recorded is told, also where the turn was refused memory. What it has told while it waited, it has heard.
+// A turn of a session, and what it recorded is told, and the writer's bell rung, also where the turn was refused memory. What it has told while it waited, it has heard.
 pub(crate) fn take_turn<P: PassView + Send + Drop, H: Hub<Pass = P>, R: Wait>(
     rt: &R,
     alloc: Global,
     hub: &H,
+    relay: &Relay,
     outlet: &Outlet<Items>,
     session: &mut Session<P>,
     telling: &mut Telling,
@@ -72,6 +74,9 @@ pub(crate) fn take_turn<P: PassView + Send + Drop, H: Hub<Pass = P>, R: Wait>(
     let step = session.turn(rt, alloc, hub);
     let items = session.items.as_slice();
     let heard = tell(rt, alloc, outlet, telling, session.section.no, items);
+    if heard {
+        relay.tell();
+    }
     Ok(as_turn(step?, heard))
 }
 

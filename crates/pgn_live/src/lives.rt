@@ -12,9 +12,9 @@ ghost use Rattle.pgn_outlet.specs.Rule as rule;
 ghost use Rattle.pgn_session.specs.Runs.{HasStopped, IsHeld, IsLawful, IsOver, IsReady, script_of, shown_of};
 
 use crate::live_sessions::{LiveSessions, end_all, take_turn};
+use crate::relay::Relay;
 use crate::telling::Telling;
 use crate::writing::{cursors_for, write_rest, write_until};
-use crossbeam_utils::CachePadded;
 use pgn_base::{Failed, Sink};
 use pgn_hub::{Hub, PassView};
 use pgn_language::Section;
@@ -25,7 +25,6 @@ use pgn_text::{LineCursor, Out};
 use pgn_workers::{Job, Pause, Turn, run};
 use std::alloc::{AllocError, Global};
 use std::sync::Wait;
-use std::sync::atomic::{AtomicU64, Ordering};
 use std::thread::{Threads, join_mut};
 use std::time::Clock;
 
@@ -182,23 +181,23 @@ fn play_and_write<
     ensures played { HavePlayed (H.is_pass hub.now) (H.shape hub.now) P.known sessions.old sessions.new (knows telling.old.pass) (knows telling.new.pass) result }
     ensures wrote { Wrote K.held K.faults sections.now (knows taker.old) (knows taker.new) sink.old out.old sink.new out.new }
 {
-    let padded = CachePadded::new(AtomicU64::new(0));
-    let end: &AtomicU64 = &padded;
+    let relay = Relay::new();
+    let relay = &relay;
     let ((), played) = join_mut(
         rt,
         &mut || -> ()
             requires { IsSync R.row × IsSend K.row × IsPassOf outlet.now taker.now × ((knows taker.now).takes ≡ true) × StandIn sections.now cursors.now }
             ensures { IsPassOf outlet.entry.now taker.exit.now × StandIn sections.entry.now cursors.exit.now × Wrote K.held K.faults sections.entry.now (knows taker.entry.now) (knows taker.exit.now) sink.entry.now out.entry.now sink.exit.now out.exit.now }
-        { write_until(rt, end, outlet, taker, sections, cursors, out, sink) },
+        { write_until(rt, relay, outlet, taker, sections, cursors, out, sink) },
         &mut || -> Result<(), AllocError>
             requires { IsSync R.row × IsSync H.row × IsSend P.row × IsPassOf outlet.now telling.now.pass × MayPlay (H.is_pass hub.now) (H.shape hub.now) P.known sessions.now (knows telling.now.pass) × IsNoneTold telling.now.told }
             ensures { IsPassOf outlet.entry.now telling.exit.now.pass × HavePlayed (H.is_pass hub.entry.now) (H.shape hub.entry.now) P.known sessions.entry.now sessions.exit.now (knows telling.entry.now.pass) (knows telling.exit.now.pass) result }
-        { play_and_end(rt, alloc, hub, end, outlet, telling, sessions) },
+        { play_and_end(rt, alloc, hub, relay, outlet, telling, sessions) },
     );
     played
 }
 
-// Runs the sessions, and then sets the end word and wakes the writer, also after a refusal.
+// Runs the sessions, and then tells the writer that they are done, also after a refusal.
 fn play_and_end<
     P: PassView + Send + Drop,
     H: Hub<Pass = P> + Sync,
@@ -207,7 +206,7 @@ fn play_and_end<
     rt: &R,
     alloc: Global,
     hub: &H,
-    end: &AtomicU64,
+    relay: &Relay,
     outlet: &Outlet<Items>,
     telling: &mut Telling,
     sessions: &mut [Session<P>],
@@ -218,9 +217,8 @@ fn play_and_end<
     ensures own { IsPassOf outlet.now telling.new.pass }
     ensures played { HavePlayed (H.is_pass hub.now) (H.shape hub.now) P.known sessions.old sessions.new (knows telling.old.pass) (knows telling.new.pass) result }
 {
-    let played = play(rt, alloc, hub, outlet, telling, sessions);
-    end.store(1, Ordering::SeqCst);
-    end.wake_all();
+    let played = play(rt, alloc, hub, relay, outlet, telling, sessions);
+    relay.end();
     played
 }
 
@@ -229,6 +227,7 @@ fn play<P: PassView + Send + Drop, H: Hub<Pass = P> + Sync, R: Threads + Wait + 
     rt: &R,
     alloc: Global,
     hub: &H,
+    relay: &Relay,
     outlet: &Outlet<Items>,
     telling: &mut Telling,
     sessions: &mut [Session<P>],
@@ -242,7 +241,7 @@ fn play<P: PassView + Send + Drop, H: Hub<Pass = P> + Sync, R: Threads + Wait + 
     let turn = |session: &mut Session<P>, telling: &mut Telling| -> Result<Turn, AllocError>
         requires { IsPassOf outlet.now telling.now.pass × IsReady (H.is_pass hub.now) (H.shape hub.now) P.known session.now × MayPush (knows telling.now.pass) session.now.section.no × IsToldBy telling.now.told (knows telling.now.pass) session.now }
         ensures { IsPassOf outlet.entry.now telling.exit.now.pass × HasToldTurn (H.is_pass hub.entry.now) (H.shape hub.entry.now) P.known session.entry.now session.exit.now telling.entry.now.told telling.exit.now.told (knows telling.entry.now.pass) (knows telling.exit.now.pass) result }
-    { take_turn(rt, alloc, hub, outlet, session, telling) };
+    { take_turn(rt, alloc, hub, relay, outlet, session, telling) };
     let wait = |sessions: &mut [Session<P>], telling: &mut Telling, pause: Pause| -> u32
         requires { All (IsReady (H.is_pass hub.now) (H.shape hub.now) P.known) sessions.now }
         ensures { (telling.exit.now ≡ telling.entry.now) × All (IsReady (H.is_pass hub.entry.now) (H.shape hub.entry.now) P.known) sessions.exit.now × (map script_of sessions.exit.now ≡ map script_of sessions.entry.now) × (map shown_of sessions.exit.now ≡ map shown_of sessions.entry.now) }

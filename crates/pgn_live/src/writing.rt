@@ -6,6 +6,7 @@ ghost use Rattle.pgn_model.specs.Text.{joined};
 ghost use Rattle.pgn_outlet.specs.Passes.{HasAll, IsPassOf, knows};
 ghost use Rattle.pgn_text.specs.Rendering.{Puts};
 
+use crate::relay::Relay;
 use pgn_base::{SessionNo, Sink};
 use pgn_language::Section;
 use pgn_model::{Item, Items};
@@ -13,17 +14,11 @@ use pgn_outlet::{Came, Outlet, OutletPass};
 use pgn_text::{LineCursor, Out, lines_of};
 use std::alloc::{AllocError, Global};
 use std::sync::Wait;
-use std::sync::atomic::{AtomicU64, Ordering};
 use std::thread;
-use std::time::Duration;
 
-// Looks at an empty queue give way at first, so many of them, and all behind them sleep: so many microseconds, and twice as long behind
-// each that slept in vain, up to the longest. So what comes in a steady flow is written in pieces, and not in a race for each line.
-const LOOKS_BEFORE_SLEEP: u32 = 64;
-
-const FIRST_SLEEP: u64 = 50;
-
-const LONGEST_SLEEP: u64 = 1_000;
+// Looks at an empty queue give way at first, so many of them; behind those the writer arms its bell, looks once more, and dozes. So what
+// comes in a steady flow is written in pieces, and not in a race for each line.
+const LOOKS_BEFORE_DOZE: u32 = 64;
 
 // A place before the first line for each section.
 pub(crate) fn cursors_for(alloc: Global, count: usize) -> Result<Vec<LineCursor>, AllocError>
@@ -118,10 +113,10 @@ fn write_next<R: Wait, K: Sink>(
     }
 }
 
-// Writes what comes until the sessions are done, which is when the end word is set, and nothing is left for now.
+// Writes what comes until the sessions are done and nothing is left for now.
 pub(crate) fn write_until<R: Wait, K: Sink>(
     rt: &R,
-    end: &AtomicU64,
+    relay: &Relay,
     outlet: &Outlet<Items>,
     pass: &mut OutletPass<Items>,
     sections: &[Section],
@@ -140,28 +135,30 @@ pub(crate) fn write_until<R: Wait, K: Sink>(
     let mut empty = 0;
     for _ in rt.forever() {
         if write_next(rt, outlet, pass, sections, cursors, out, sink) {
-            empty = empty.min(LOOKS_BEFORE_SLEEP);
+            empty = 0;
             continue;
         }
-        if end.load(Ordering::SeqCst) != 0 {
+        if relay.has_ended() {
             return;
         }
-        empty = wait_for_more(rt, end, empty);
+        empty = wait_for_more(rt, relay, empty);
     }
     unreachable!()
 }
 
-// Waits behind a look at an empty queue: it gives way behind the first such looks, and then it sleeps until the end word is set or the time
-// is over. So many such looks are counted before it; answers how many are with it.
-fn wait_for_more<R: Wait>(rt: &R, end: &AtomicU64, empty: u32) -> u32 {
-    if empty < LOOKS_BEFORE_SLEEP {
+// Waits behind a look at an empty queue: it gives way behind the first such looks, arms the bell behind the next one, and dozes behind the
+// one that found nothing all the same. So many such looks are counted before it; answers how many are with it.
+fn wait_for_more<R: Wait>(rt: &R, relay: &Relay, empty: u32) -> u32 {
+    if empty < LOOKS_BEFORE_DOZE {
         thread::yield_now();
-    } else {
-        let sleeps = (empty - LOOKS_BEFORE_SLEEP).min(9);
-        let micros = (FIRST_SLEEP << sleeps).min(LONGEST_SLEEP);
-        end.park_timeout(rt, 0, Duration::from_micros(micros));
+        return empty + 1;
     }
-    empty.saturating_add(1)
+    if empty == LOOKS_BEFORE_DOZE {
+        relay.arm();
+        return empty + 1;
+    }
+    relay.doze(rt);
+    LOOKS_BEFORE_DOZE
 }
 
 // Writes all that is left, and sends what is kept back.

@@ -17,7 +17,9 @@ use std::test::Fail;
 use std::thread::Threads;
 use std::time::Clock;
 
+mod bell;
 mod gate;
+mod over_hub;
 mod program;
 mod queue;
 mod sinks;

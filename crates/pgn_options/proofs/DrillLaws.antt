@@ -12,7 +12,7 @@ use Rattle.clap.specs.declared.builder.value_parser.ValueParser.TheVariants.{Uns
 use Rattle.clap.specs.declared.parser.matches.ValueSource.TheVariants.{CommandLine}
 use Rattle.clap.specs.declared.error.kind.ErrorKind.TheVariants.{UnknownArgument}
 use Rattle.pgn_options.specs.declared.asked.Asked.{Asked}
-use Rattle.pgn_options.specs.declared.asked.Asked.TheVariants.{Run, Drill, Wire, Check}
+use Rattle.pgn_options.specs.declared.asked.Asked.TheVariants.{Run, Drill, Wire, Check, Serve}
 use Rattle.pgn_options.specs.Words.{drill_of, drill_with, number_in, without_dashes}
 use Rattle.pgn_options.proofs.NumberLaws.{either, hyphen, passed, refused}
 use Rattle.pgn_options.proofs.TotalLaws.{Agrees, agrees-step, both-none, ending, found, or-first, or-second, total, total-nil, wrong-step}
@@ -77,6 +77,7 @@ row place word = record { id = name_of place; values = word ∷ []; count = None
 abbrev pub IsDrill : Asked → List Row → Type 0
 IsDrill (Run pages patience format live) rows = ⊥
 IsDrill (Check pages patience format) rows = ⊥
+IsDrill (Serve seats) rows = ⊥
 IsDrill (Drill seed sessions notes) rows =
     (a : Text) × (b : Text) × (c : Text) × (rows ≡ row Seed a ∷ row Sessions b ∷ row Notes c ∷ [])
     × (number_of Seed a ≡ Some seed) × (number_of Sessions b ≡ Some sessions) × (number_of Notes c ≡ Some notes)

@@ -15,8 +15,9 @@ use Rattle.clap.specs.declared.builder.value_parser.ValueParser.TheVariants.{Boo
 use Rattle.clap.specs.declared.parser.matches.ValueSource.{ValueSource}
 use Rattle.clap.specs.declared.parser.matches.ValueSource.TheVariants.{CommandLine, DefaultValue}
 use Rattle.clap.specs.declared.error.kind.ErrorKind.TheVariants.{ArgumentConflict, InvalidValue, TooManyValues, UnknownArgument}
+use Rattle.pgn_options.specs.declared.options.Options.{Options}
 use Rattle.pgn_options.specs.Parse.{FindsOptions, IsFoundAs, IsFoundFlag}
-use Rattle.pgn_options.specs.Words.{FormatNumber, Key, Options, Pages, Patience, Nothing, behind_equals, by_word, if_last, key_named, live_unless_set, no_options, number_in, options_after, says_behind, says_of, with_live, with_option}
+use Rattle.pgn_options.specs.Words.{FormatNumber, Key, OfRun, Optioned, Pages, Patience, Seats, Nothing, behind_equals, by_word, if_last, key_named, live_unless_set, no_options, number_in, options_after, says_behind, says_of, with_live, with_option, word_of}
 use Rattle.pgn_options.proofs.NumberLaws.{either, hyphen, passed, refused}
 use Rattle.pgn_options.proofs.TotalLaws.{Agrees, agrees-step, both-none, ending, found, later-step, or-first, total, total-nil, walk_end, wrong-step}
 use Rattle.pgn_options.proofs.FormLaws.{Form, IsNoLong, dashes, form, long, plain, short}
@@ -25,16 +26,19 @@ abbrev least_of : Key → ℕ
 least_of Pages = 2
 least_of Patience = 1
 least_of FormatNumber = 1
+least_of Seats = 1
 
 abbrev most_of : Key → ℕ
 most_of Pages = 1024
 most_of Patience = 1000000000
 most_of FormatNumber = 2
+most_of Seats = 256
 
 abbrev name_of : Key → Text
 name_of Pages = codes "pages"
 name_of Patience = codes "patience"
 name_of FormatNumber = codes "format"
+name_of Seats = codes "seats"
 
 -- the number that a word is for an option
 abbrev number_of : Key → Text → Option ℕ
@@ -61,11 +65,11 @@ live_rule = record (new_rule (codes "live")) {
 }
 
 abbrev rules : List Rule
-rules = rule Pages ∷ rule Patience ∷ rule FormatNumber ∷ live_rule ∷ []
+rules = rule Pages ∷ rule Patience ∷ rule FormatNumber ∷ rule Seats ∷ live_rule ∷ []
 
--- a command with the options of `run`, as it is built
-abbrev pub options_built : Text → Shape
-options_built name = record (new_shape name) {
+-- a command with all options, as it is built
+abbrev pub options_built : Optioned → Shape
+options_built which = record (new_shape (word_of which)) {
   rules = rules;
   no_binary_name = true;
   disable_help_flag = true;
@@ -75,7 +79,7 @@ options_built name = record (new_shape name) {
 
 -- `run` as it is built
 abbrev pub run_built : Shape
-run_built = options_built (codes "run")
+run_built = options_built OfRun
 
 -- an option that is given: its word and its number, or `--live`
 pub data Use : Type 0 where
@@ -104,6 +108,7 @@ abbrev value_if : Key → Key → ℕ → Option ℕ → Option ℕ
 value_if Pages Pages n rest = Some n
 value_if Patience Patience n rest = Some n
 value_if FormatNumber FormatNumber n rest = Some n
+value_if Seats Seats n rest = Some n
 value_if key other n rest = rest
 
 -- the number that is given for an option
@@ -119,7 +124,7 @@ is_live (number key word n e ∷ uses) = is_live uses
 is_live (live ∷ uses) = true
 
 abbrev pub options_for : List Use → Options
-options_for uses = record { pages = value_of Pages uses; patience = value_of Patience uses; format = value_of FormatNumber uses; live = is_live uses }
+options_for uses = record { pages = value_of Pages uses; patience = value_of Patience uses; format = value_of FormatNumber uses; seats = value_of Seats uses; live = is_live uses }
 
 -- P of the options that were found
 abbrev pub IsUsed : Options → List Row → Type 0
@@ -132,23 +137,33 @@ has-number Pages [] = refl
 has-number Pages (number Pages word n e ∷ uses) = refl
 has-number Pages (number Patience word n e ∷ uses) = has-number Pages uses
 has-number Pages (number FormatNumber word n e ∷ uses) = has-number Pages uses
+has-number Pages (number Seats word n e ∷ uses) = has-number Pages uses
 has-number Pages (live ∷ uses) = has-number Pages uses
 has-number Patience [] = refl
 has-number Patience (number Pages word n e ∷ uses) = has-number Patience uses
 has-number Patience (number Patience word n e ∷ uses) = refl
 has-number Patience (number FormatNumber word n e ∷ uses) = has-number Patience uses
+has-number Patience (number Seats word n e ∷ uses) = has-number Patience uses
 has-number Patience (live ∷ uses) = has-number Patience uses
 has-number FormatNumber [] = refl
 has-number FormatNumber (number Pages word n e ∷ uses) = has-number FormatNumber uses
 has-number FormatNumber (number Patience word n e ∷ uses) = has-number FormatNumber uses
 has-number FormatNumber (number FormatNumber word n e ∷ uses) = refl
+has-number FormatNumber (number Seats word n e ∷ uses) = has-number FormatNumber uses
 has-number FormatNumber (live ∷ uses) = has-number FormatNumber uses
+has-number Seats [] = refl
+has-number Seats (number Pages word n e ∷ uses) = has-number Seats uses
+has-number Seats (number Patience word n e ∷ uses) = has-number Seats uses
+has-number Seats (number FormatNumber word n e ∷ uses) = has-number Seats uses
+has-number Seats (number Seats word n e ∷ uses) = refl
+has-number Seats (live ∷ uses) = has-number Seats uses
 
 has-live : (uses : List Use) → has_row (codes "live") (rows_for uses) ≡ is_live uses
 has-live [] = refl
 has-live (number Pages word n e ∷ uses) = has-live uses
 has-live (number Patience word n e ∷ uses) = has-live uses
 has-live (number FormatNumber word n e ∷ uses) = has-live uses
+has-live (number Seats word n e ∷ uses) = has-live uses
 has-live (live ∷ uses) = refl
 
 -- what there is no row for comes at the end
@@ -186,18 +201,27 @@ number-push : (key : Key) (word : Text) (n : ℕ) (e : number_of key word ≡ So
 number-push Pages word n e [] none = refl
 number-push Patience word n e [] none = refl
 number-push FormatNumber word n e [] none = refl
+number-push Seats word n e [] none = refl
 number-push Pages word n e (number Pages other m d ∷ uses) none = absurd (cc)
 number-push Pages word n e (number Patience other m d ∷ uses) none = number-push Pages word n e uses none
 number-push Pages word n e (number FormatNumber other m d ∷ uses) none = number-push Pages word n e uses none
+number-push Pages word n e (number Seats other m d ∷ uses) none = number-push Pages word n e uses none
 number-push Pages word n e (live ∷ uses) none = number-push Pages word n e uses none
 number-push Patience word n e (number Pages other m d ∷ uses) none = number-push Patience word n e uses none
 number-push Patience word n e (number Patience other m d ∷ uses) none = absurd (cc)
 number-push Patience word n e (number FormatNumber other m d ∷ uses) none = number-push Patience word n e uses none
+number-push Patience word n e (number Seats other m d ∷ uses) none = number-push Patience word n e uses none
 number-push Patience word n e (live ∷ uses) none = number-push Patience word n e uses none
 number-push FormatNumber word n e (number Pages other m d ∷ uses) none = number-push FormatNumber word n e uses none
 number-push FormatNumber word n e (number Patience other m d ∷ uses) none = number-push FormatNumber word n e uses none
 number-push FormatNumber word n e (number FormatNumber other m d ∷ uses) none = absurd (cc)
+number-push FormatNumber word n e (number Seats other m d ∷ uses) none = number-push FormatNumber word n e uses none
 number-push FormatNumber word n e (live ∷ uses) none = number-push FormatNumber word n e uses none
+number-push Seats word n e (number Pages other m d ∷ uses) none = number-push Seats word n e uses none
+number-push Seats word n e (number Patience other m d ∷ uses) none = number-push Seats word n e uses none
+number-push Seats word n e (number FormatNumber other m d ∷ uses) none = number-push Seats word n e uses none
+number-push Seats word n e (number Seats other m d ∷ uses) none = absurd (cc)
+number-push Seats word n e (live ∷ uses) none = number-push Seats word n e uses none
 
 -- what another option has stays
 value-push : (key : Key) (last : Use) (uses : List Use) → value_of key (last ∷ []) ≡ None → value_of key (uses ++ last ∷ []) ≡ value_of key uses
@@ -215,12 +239,13 @@ live-on [] = refl
 live-on (number key word n e ∷ uses) = live-on uses
 live-on (live ∷ uses) = refl
 
-abbrev made : Option ℕ → Option ℕ → Option ℕ → Bool → Options
-made pages patience format on = record { pages = pages; patience = patience; format = format; live = on }
+abbrev made : Option ℕ → Option ℕ → Option ℕ → Option ℕ → Bool → Options
+made pages patience format seats on = record { pages = pages; patience = patience; format = format; seats = seats; live = on }
 
-options-same : (a b c d f g : Option ℕ) (x y : Bool) → a ≡ b → c ≡ d → f ≡ g → x ≡ y → made a c f x ≡ made b d g y
-options-same a b c d f g x y p q s r =
-    ap (λ (o : Option ℕ). made o c f x) p ∙ ap (λ (o : Option ℕ). made b o f x) q ∙ ap (λ (o : Option ℕ). made b d o x) s ∙ ap (λ (o : Bool). made b d g o) r
+options-same : (a b c d f g h k : Option ℕ) (x y : Bool) → a ≡ b → c ≡ d → f ≡ g → h ≡ k → x ≡ y → made a c f h x ≡ made b d g k y
+options-same a b c d f g h k x y p q s r t =
+    ap (λ (o : Option ℕ). made o c f h x) p ∙ ap (λ (o : Option ℕ). made b o f h x) q ∙ ap (λ (o : Option ℕ). made b d o h x) s ∙ ap (λ (o : Option ℕ). made b d g o x) r
+    ∙ ap (λ (o : Bool). made b d g k o) t
 
 -- One use of an option.
 
@@ -239,11 +264,13 @@ fault-is : (key : Key) (word : Text) (before : List Use) (b : Bool) → has_row 
 fault-is Pages word before b e = ap (λ (there : Bool). fault_if there Pages word) e
 fault-is Patience word before b e = ap (λ (there : Bool). fault_if there Patience word) e
 fault-is FormatNumber word before b e = ap (λ (there : Bool). fault_if there FormatNumber word) e
+fault-is Seats word before b e = ap (λ (there : Bool). fault_if there Seats word) e
 
 most-fits : (key : Key) → most_of key ≤ 18446744073709551615
 most-fits Pages = omega arith
 most-fits Patience = omega arith
 most-fits FormatNumber = omega arith
+most-fits Seats = omega arith
 
 -- a second value is refused
 again : (key : Key) (word : Text) (before : List Use) (m : ℕ) → value_of key before ≡ Some m → use_of key word before ≡ [] → ⊥
@@ -272,7 +299,7 @@ took Pages word before = go (value_of Pages before) refl (number_of Pages word) 
       read Pages word before n t e,
       before ++ number Pages word n e ∷ [],
       used-number Pages word n e before (has-number Pages before ∙ ap is_some t),
-      options-same _ _ _ _ _ _ _ _ (number-push Pages word n e before t) (value-push Patience (number Pages word n e) before refl) (value-push FormatNumber (number Pages word n e) before refl) (live-push Pages word n e before),
+      options-same _ _ _ _ _ _ _ _ _ _ (number-push Pages word n e before t) (value-push Patience (number Pages word n e) before refl) (value-push FormatNumber (number Pages word n e) before refl) (value-push Seats (number Pages word n e) before refl) (live-push Pages word n e before),
     )
 took Patience word before = go (value_of Patience before) refl (number_of Patience word) refl
   where
@@ -284,7 +311,7 @@ took Patience word before = go (value_of Patience before) refl (number_of Patien
       read Patience word before n t e,
       before ++ number Patience word n e ∷ [],
       used-number Patience word n e before (has-number Patience before ∙ ap is_some t),
-      options-same _ _ _ _ _ _ _ _ (value-push Pages (number Patience word n e) before refl) (number-push Patience word n e before t) (value-push FormatNumber (number Patience word n e) before refl) (live-push Patience word n e before),
+      options-same _ _ _ _ _ _ _ _ _ _ (value-push Pages (number Patience word n e) before refl) (number-push Patience word n e before t) (value-push FormatNumber (number Patience word n e) before refl) (value-push Seats (number Patience word n e) before refl) (live-push Patience word n e before),
     )
 took FormatNumber word before = go (value_of FormatNumber before) refl (number_of FormatNumber word) refl
   where
@@ -296,7 +323,19 @@ took FormatNumber word before = go (value_of FormatNumber before) refl (number_o
       read FormatNumber word before n t e,
       before ++ number FormatNumber word n e ∷ [],
       used-number FormatNumber word n e before (has-number FormatNumber before ∙ ap is_some t),
-      options-same _ _ _ _ _ _ _ _ (value-push Pages (number FormatNumber word n e) before refl) (value-push Patience (number FormatNumber word n e) before refl) (number-push FormatNumber word n e before t) (live-push FormatNumber word n e before),
+      options-same _ _ _ _ _ _ _ _ _ _ (value-push Pages (number FormatNumber word n e) before refl) (value-push Patience (number FormatNumber word n e) before refl) (number-push FormatNumber word n e before t) (value-push Seats (number FormatNumber word n e) before refl) (live-push FormatNumber word n e before),
+    )
+took Seats word before = go (value_of Seats before) refl (number_of Seats word) refl
+  where
+    go : (there : Option ℕ) → value_of Seats before ≡ there → (o : Option ℕ) → number_of Seats word ≡ o
+        → Takes Seats word before (cond (is_some there) None (option_map (λ n. record (options_for before) { seats = Some n }) o))
+    go (Some m) t o e = again Seats word before m t
+    go None t None e = unread Seats word before t e
+    go None t (Some n) e = (
+      read Seats word before n t e,
+      before ++ number Seats word n e ∷ [],
+      used-number Seats word n e before (has-number Seats before ∙ ap is_some t),
+      options-same _ _ _ _ _ _ _ _ _ _ (value-push Pages (number Seats word n e) before refl) (value-push Patience (number Seats word n e) before refl) (value-push FormatNumber (number Seats word n e) before refl) (number-push Seats word n e before t) (live-push Seats word n e before),
     )
 
 abbrev live_use : List Use → Kinds
@@ -318,7 +357,7 @@ took-live before = go (is_live before) refl
       live-fault before false (has-live before ∙ t),
       before ++ live ∷ [],
       used-live before (has-live before ∙ t),
-      options-same _ _ _ _ _ _ _ _ (value-push Pages live before refl) (value-push Patience live before refl) (value-push FormatNumber live before refl) (live-on before),
+      options-same _ _ _ _ _ _ _ _ _ _ (value-push Pages live before refl) (value-push Patience live before refl) (value-push FormatNumber live before refl) (value-push Seats live before refl) (live-on before),
     )
 
 -- no word that begins with a hyphen is a value
@@ -338,6 +377,11 @@ no-value FormatNumber bytes given = go (is_some given.format)
     go : (b : Bool) → cond b None (option_map (λ (n : ℕ). record given { format = Some n }) (number_in 1 2 (45 ∷ bytes))) ≡ None
     go true = refl
     go false = ap (option_map (λ (n : ℕ). record given { format = Some n })) (hyphen 1 2 bytes)
+no-value Seats bytes given = go (is_some given.seats)
+  where
+    go : (b : Bool) → cond b None (option_map (λ (n : ℕ). record given { seats = Some n }) (number_in 1 256 (45 ∷ bytes))) ≡ None
+    go true = refl
+    go false = ap (option_map (λ (n : ℕ). record given { seats = Some n })) (hyphen 1 256 bytes)
 
 -- The end of the words.
 
@@ -356,10 +400,14 @@ unfolding defaults_fault
 defaults-none rows =
     let second = with_default rows (rule Pages) in
     let third = with_default second (rule Patience) in
-    let last = with_default third (rule FormatNumber) in
-    ap (λ (k : Kinds). or_else k (or_else (default_fault second (rule Patience)) (or_else (default_fault third (rule FormatNumber)) (or_else (default_fault last live_rule) [])))) (default-none Pages rows)
-    ∙ ap (λ (k : Kinds). or_else k (or_else (default_fault third (rule FormatNumber)) (or_else (default_fault last live_rule) []))) (default-none Patience second)
-    ∙ both-none _ _ (default-none FormatNumber third) (live-default-none last)
+    let fourth = with_default third (rule FormatNumber) in
+    let last = with_default fourth (rule Seats) in
+    ap
+    (λ (k : Kinds). or_else k (or_else (default_fault second (rule Patience)) (or_else (default_fault third (rule FormatNumber)) (or_else (default_fault fourth (rule Seats)) (or_else (default_fault last live_rule) [])))))
+    (default-none Pages rows)
+    ∙ ap (λ (k : Kinds). or_else k (or_else (default_fault third (rule FormatNumber)) (or_else (default_fault fourth (rule Seats)) (or_else (default_fault last live_rule) [])))) (default-none Patience second)
+    ∙ ap (λ (k : Kinds). or_else k (or_else (default_fault fourth (rule Seats)) (or_else (default_fault last live_rule) []))) (default-none FormatNumber third)
+    ∙ both-none _ _ (default-none Seats fourth) (live-default-none last)
 
 abbrev held : List Row → Option (Text × List Text) → Held
 held rows pending = record { rows = rows; pending = pending; skip = 0 }
@@ -435,15 +483,17 @@ arg_of None name = cond (bytes_eq (codes "live") name) (Some live_rule) None
 arg_of (Some key) name = Some (rule key)
 
 arg-named : (name : Text) → arg_by_long rules name ≡ arg_of (key_named name) name
-arg-named name = go (bytes_eq (codes "pages") name) (bytes_eq (codes "patience") name) (bytes_eq (codes "format") name) (bytes_eq (codes "live") name) refl refl refl refl
+arg-named name =
+    go (bytes_eq (codes "pages") name) (bytes_eq (codes "patience") name) (bytes_eq (codes "format") name) (bytes_eq (codes "seats") name) (bytes_eq (codes "live") name) refl refl refl refl refl
   where
-    go : (a b c l : Bool) → bytes_eq (codes "pages") name ≡ a → bytes_eq (codes "patience") name ≡ b → bytes_eq (codes "format") name ≡ c → bytes_eq (codes "live") name ≡ l
+    go : (a b c i l : Bool) → bytes_eq (codes "pages") name ≡ a → bytes_eq (codes "patience") name ≡ b → bytes_eq (codes "format") name ≡ c → bytes_eq (codes "seats") name ≡ i → bytes_eq (codes "live") name ≡ l
         → arg_by_long rules name ≡ arg_of (key_named name) name
-    go true b c l e d f g = rw e refl
-    go false true c l e d f g = rw (e, d) refl
-    go false false true l e d f g = rw (e, d, f) refl
-    go false false false true e d f g = rw (e, d, f, g) refl
-    go false false false false e d f g = rw (e, d, f, g) refl
+    go true b c i l e d f g h = rw e refl
+    go false true c i l e d f g h = rw (e, d) refl
+    go false false true i l e d f g h = rw (e, d, f) refl
+    go false false false true l e d f g h = rw (e, d, f, g) refl
+    go false false false false true e d f g h = rw (e, d, f, g, h) refl
+    go false false false false false e d f g h = rw (e, d, f, g, h) refl
 
 module _ (rows : List Row) (pending : Option (Text × List Text)) (z : ℕ) (zs : Text) where
   abbrev the_word : Text
@@ -554,6 +604,7 @@ waiting-fault : (rows : List Row) (key : Key) → settle_fault rules false (held
 waiting-fault rows Pages = refl
 waiting-fault rows Patience = refl
 waiting-fault rows FormatNumber = refl
+waiting-fault rows Seats = refl
 
 -- the word is its value
 value-turn : (rows : List Row) (key : Key) (w : Text) → IsNoLong w → short_of w ≡ None → turn_fault run_built [] (waits_at rows key) w ≡ []
@@ -564,6 +615,7 @@ unfolding walked
 value-walk rows Pages w apart s = rw (apart.not_dashes, apart.no_long, s) refl
 value-walk rows Patience w apart s = rw (apart.not_dashes, apart.no_long, s) refl
 value-walk rows FormatNumber w apart s = rw (apart.not_dashes, apart.no_long, s) refl
+value-walk rows Seats w apart s = rw (apart.not_dashes, apart.no_long, s) refl
 
 -- a short flag is no option, and a word that is none of UTF-8 no number
 waiting-short : (rows : List Row) (key : Key) (y : ℕ) (ys : Text) (words : List Text) → (y == 45) ≡ false
@@ -576,6 +628,7 @@ waiting-short rows key y ys words differs later = go (slice_get (chars (y ∷ ys
     comes Pages c = rw (differs, differs, c) refl
     comes Patience c = rw (differs, differs, c) refl
     comes FormatNumber c = rw (differs, differs, c) refl
+    comes Seats c = rw (differs, differs, c) refl
 
     go : (o : Option ℕ) → slice_get (chars (y ∷ ys)) 0 ≡ o → total run_built (waits_at rows key) ((45 ∷ y ∷ ys) ∷ words) ≡ [] → ⊥
     go None c = later-step IsUsed run_built (waits_at rows key) (at rows (Some (name_of key, (45 ∷ y ∷ ys) ∷ []))) (45 ∷ y ∷ ys) words (comes key c) later
@@ -624,11 +677,13 @@ settle-filled : (rows : List Row) (key : Key) (w : Text) → settle_fault rules 
 settle-filled rows Pages w = refl
 settle-filled rows Patience w = refl
 settle-filled rows FormatNumber w = refl
+settle-filled rows Seats w = refl
 
 settled-filled : (rows : List Row) (key : Key) (w : Text) → settled rules (held rows (Some (name_of key, w ∷ []))) ≡ held (used (rule key) (w ∷ []) rows) None
 settled-filled rows Pages w = refl
 settled-filled rows Patience w = refl
 settled-filled rows FormatNumber w = refl
+settled-filled rows Seats w = refl
 
 held-rows : (a b : List Row) → a ≡ b → held a None ≡ held b None
 held-rows a b e = ap (λ (rows : List Row). held rows None) e
@@ -771,25 +826,25 @@ claims [] = (
 claims (w ∷ words) = (idle-word w words (claims words).0 (claims words).1 (form w), waits-word w words (claims words).0 (form w))
 
 -- what `clap` makes of the words of `run`
-pub run-agrees : (words : List Text)
+run-agrees : (words : List Text)
     → Agrees IsUsed (options_after words no_options None) (total run_built (walk_from nothing_held) words) (found run_built (walk_from nothing_held) words)
 run-agrees words = (claims words).0 [] None [] (record { fine = refl; same = refl })
 
--- What `clap` makes of the words of a command of another name with these options: the name makes no difference.
+-- What `clap` makes of the words of another command with these options: the name makes no difference.
 
-walk-renamed : (name : Text) (w : Walk) (words : List Text) → walk_fault (options_built name) [] w words ≡ walk_fault run_built [] w words
+walk-renamed : (which : Optioned) (w : Walk) (words : List Text) → walk_fault (options_built which) [] w words ≡ walk_fault run_built [] w words
 unfolding walk_fault
-walk-renamed name w [] = refl
-walk-renamed name w (word ∷ words) =
-    ap (λ (k : Kinds). or_else (turn_fault run_built [] w word) k) (walk-renamed name (walked rules [] w word) words)
+walk-renamed which w [] = refl
+walk-renamed which w (word ∷ words) =
+    ap (λ (k : Kinds). or_else (turn_fault run_built [] w word) k) (walk-renamed which (walked rules [] w word) words)
 
-total-renamed : (name : Text) (words : List Text) → total (options_built name) (walk_from nothing_held) words ≡ total run_built (walk_from nothing_held) words
-total-renamed name words = ap (λ (k : Kinds). or_else k (ending run_built (walk_end run_built (walk_from nothing_held) words))) (walk-renamed name (walk_from nothing_held) words)
+total-renamed : (which : Optioned) (words : List Text) → total (options_built which) (walk_from nothing_held) words ≡ total run_built (walk_from nothing_held) words
+total-renamed which words = ap (λ (k : Kinds). or_else k (ending run_built (walk_end run_built (walk_from nothing_held) words))) (walk-renamed which (walk_from nothing_held) words)
 
-pub options-agree : (name : Text) (words : List Text)
-    → Agrees IsUsed (options_after words no_options None) (total (options_built name) (walk_from nothing_held) words) (found (options_built name) (walk_from nothing_held) words)
-options-agree name words =
-    subst (λ (k : Kinds). Agrees IsUsed (options_after words no_options None) k (found run_built (walk_from nothing_held) words)) (sym (total-renamed name words)) (run-agrees words)
+pub options-agree : (which : Optioned) (words : List Text)
+    → Agrees IsUsed (options_after words no_options None) (total (options_built which) (walk_from nothing_held) words) (found (options_built which) (walk_from nothing_held) words)
+options-agree which words =
+    subst (λ (k : Kinds). Agrees IsUsed (options_after words no_options None) k (found run_built (walk_from nothing_held) words)) (sym (total-renamed which words)) (run-agrees words)
 
 -- What is found of them.
 
@@ -815,9 +870,10 @@ with-live uses false e =
 
 at-end : (uses : List Use) → rows_at_end uses ≡ rows_for uses ++ live_default (is_live uses)
 at-end uses =
-    ap (λ (rows : List Row). with_default (with_default (with_default rows (rule Patience)) (rule FormatNumber)) live_rule) (no-default Pages (rows_for uses))
-    ∙ ap (λ (rows : List Row). with_default (with_default rows (rule FormatNumber)) live_rule) (no-default Patience (rows_for uses))
-    ∙ ap (λ (rows : List Row). with_default rows live_rule) (no-default FormatNumber (rows_for uses))
+    ap (λ (rows : List Row). with_default (with_default (with_default (with_default rows (rule Patience)) (rule FormatNumber)) (rule Seats)) live_rule) (no-default Pages (rows_for uses))
+    ∙ ap (λ (rows : List Row). with_default (with_default (with_default rows (rule FormatNumber)) (rule Seats)) live_rule) (no-default Patience (rows_for uses))
+    ∙ ap (λ (rows : List Row). with_default (with_default rows (rule Seats)) live_rule) (no-default FormatNumber (rows_for uses))
+    ∙ ap (λ (rows : List Row). with_default rows live_rule) (no-default Seats (rows_for uses))
     ∙ with-live uses (is_live uses) refl
 
 found-number : (key : Key) (uses : List Use) (rest : List Row) → one_of (name_of key) rest ≡ None → IsFoundAs (least_of key) (most_of key) (name_of key) (rows_for uses ++ rest) (value_of key uses)
@@ -825,23 +881,33 @@ found-number Pages [] rest none = none
 found-number Pages (number Pages word n e ∷ uses) rest none = (word, refl, e)
 found-number Pages (number Patience word n e ∷ uses) rest none = found-number Pages uses rest none
 found-number Pages (number FormatNumber word n e ∷ uses) rest none = found-number Pages uses rest none
+found-number Pages (number Seats word n e ∷ uses) rest none = found-number Pages uses rest none
 found-number Pages (live ∷ uses) rest none = found-number Pages uses rest none
 found-number Patience [] rest none = none
 found-number Patience (number Pages word n e ∷ uses) rest none = found-number Patience uses rest none
 found-number Patience (number Patience word n e ∷ uses) rest none = (word, refl, e)
 found-number Patience (number FormatNumber word n e ∷ uses) rest none = found-number Patience uses rest none
+found-number Patience (number Seats word n e ∷ uses) rest none = found-number Patience uses rest none
 found-number Patience (live ∷ uses) rest none = found-number Patience uses rest none
 found-number FormatNumber [] rest none = none
 found-number FormatNumber (number Pages word n e ∷ uses) rest none = found-number FormatNumber uses rest none
 found-number FormatNumber (number Patience word n e ∷ uses) rest none = found-number FormatNumber uses rest none
 found-number FormatNumber (number FormatNumber word n e ∷ uses) rest none = (word, refl, e)
+found-number FormatNumber (number Seats word n e ∷ uses) rest none = found-number FormatNumber uses rest none
 found-number FormatNumber (live ∷ uses) rest none = found-number FormatNumber uses rest none
+found-number Seats [] rest none = none
+found-number Seats (number Pages word n e ∷ uses) rest none = found-number Seats uses rest none
+found-number Seats (number Patience word n e ∷ uses) rest none = found-number Seats uses rest none
+found-number Seats (number FormatNumber word n e ∷ uses) rest none = found-number Seats uses rest none
+found-number Seats (number Seats word n e ∷ uses) rest none = (word, refl, e)
+found-number Seats (live ∷ uses) rest none = found-number Seats uses rest none
 
 found-live : (uses : List Use) (rest : List Row) → (is_live uses ≡ false → one_of (codes "live") rest ≡ Some (codes "false")) → IsFoundFlag (codes "live") (rows_for uses ++ rest) (is_live uses)
 found-live [] rest none = none refl
 found-live (number Pages word n e ∷ uses) rest none = found-live uses rest none
 found-live (number Patience word n e ∷ uses) rest none = found-live uses rest none
 found-live (number FormatNumber word n e ∷ uses) rest none = found-live uses rest none
+found-live (number Seats word n e ∷ uses) rest none = found-live uses rest none
 found-live (live ∷ uses) rest none = refl
 
 no-number : (key : Key) (b : Bool) → one_of (name_of key) (live_default b) ≡ None
@@ -851,6 +917,8 @@ no-number Patience true = refl
 no-number Patience false = refl
 no-number FormatNumber true = refl
 no-number FormatNumber false = refl
+no-number Seats true = refl
+no-number Seats false = refl
 
 not-live : (b : Bool) → b ≡ false → one_of (codes "live") (live_default b) ≡ Some (codes "false")
 not-live true e = absurd (cc)
@@ -863,5 +931,6 @@ options-found now =
       pages = found-number Pages now (live_default (is_live now)) (no-number Pages (is_live now));
       patience = found-number Patience now (live_default (is_live now)) (no-number Patience (is_live now));
       format = found-number FormatNumber now (live_default (is_live now)) (no-number FormatNumber (is_live now));
+      seats = found-number Seats now (live_default (is_live now)) (no-number Seats (is_live now));
       live = found-live now (live_default (is_live now)) (not-live (is_live now));
     })

@@ -7,7 +7,7 @@ use Rattle.clap.specs.Walk.{Row, Text, Walk, bundle_met, nothing_held, walk_from
 use Rattle.clap.specs.Simple.{Shape, new_shape}
 use Rattle.clap.specs.declared.error.kind.ErrorKind.TheVariants.{UnknownArgument}
 use Rattle.pgn_options.specs.declared.asked.Asked.{Asked}
-use Rattle.pgn_options.specs.declared.asked.Asked.TheVariants.{Run, Drill, Wire, Check}
+use Rattle.pgn_options.specs.declared.asked.Asked.TheVariants.{Run, Drill, Wire, Check, Serve}
 use Rattle.pgn_options.specs.Words.{wire_of, without_dashes}
 use Rattle.pgn_options.proofs.TotalLaws.{Agrees, agrees-step, found, total, total-nil, wrong-step}
 use Rattle.pgn_options.proofs.FormLaws.{Form, dashes, form, long, plain, short}
@@ -25,6 +25,7 @@ wire_built = record (new_shape (codes "wire")) {
 abbrev pub IsWire : Asked → List Row → Type 0
 IsWire (Run pages patience format live) rows = ⊥
 IsWire (Check pages patience format) rows = ⊥
+IsWire (Serve seats) rows = ⊥
 IsWire (Drill seed sessions notes) rows = ⊥
 IsWire Wire rows = Unit {0}
 

@@ -13,14 +13,15 @@ use Rattle.clap.specs.declared.error.kind.ErrorKind.{ErrorKind}
 use Rattle.clap.specs.declared.error.kind.ErrorKind.TheVariants.{MissingSubcommand, OutOfMemory, UnknownArgument, InvalidSubcommand}
 use Rattle.clap.proofs.FaultLemmas.{stopped_fault}
 use Rattle.pgn_options.specs.declared.asked.Asked.{Asked}
-use Rattle.pgn_options.specs.declared.asked.Asked.TheVariants.{Run, Drill, Wire, Check}
+use Rattle.pgn_options.specs.declared.asked.Asked.TheVariants.{Run, Drill, Wire, Check, Serve}
+use Rattle.pgn_options.specs.declared.options.Options.{Options}
 use Rattle.pgn_options.specs.declared.reading.WordsFault.{WordsFault}
 use Rattle.pgn_options.specs.declared.reading.WordsFault.TheVariants.{BadWords, Memory}
-use Rattle.pgn_options.specs.Parse.{Finds, FindsCheck, FindsDrill, FindsLive, FindsNumbers, FindsOptions, FindsRun, FindsTooMuch, FindsWire, program_app, program_shape}
-use Rattle.pgn_options.specs.Words.{AreNoCommand, AskFor, IsWithin, Options, asked_by, check_asked, check_with, drill_asked, drill_of, no_options, options_after, run_asked, run_with, wire_asked, wire_of, without_dashes}
+use Rattle.pgn_options.specs.Parse.{Finds, FindsDrill, FindsNumbers, FindsOptions, FindsOthers, FindsTooMuch, FindsWire, FindsWith, program_app, program_shape}
+use Rattle.pgn_options.specs.Words.{AreNoCommand, AskFor, IsWithin, OfCheck, OfRun, OfServe, Optioned, asked_by, asked_with, drill_asked, drill_of, no_options, options_after, options_asked, wire_asked, wire_of, without_dashes, word_of}
 use Rattle.pgn_options.proofs.TotalLaws.{Agrees, found, or-first, or-none, or-second, total}
 use Rattle.pgn_options.proofs.FormLaws.{Form, dashes, form, long, plain, short}
-use Rattle.pgn_options.proofs.RunLaws.{IsUsed, options-agree, options-found, options_built, options_for, run-agrees, run_built}
+use Rattle.pgn_options.proofs.RunLaws.{IsUsed, options-agree, options-found, options_built, options_for}
 use Rattle.pgn_options.proofs.FindLaws.{finds-within}
 use Rattle.pgn_options.proofs.DrillLaws.{IsDrill, drill-agrees, drill_built}
 use Rattle.pgn_options.proofs.WireLaws.{IsWire, wire-agrees, wire_built}
@@ -28,18 +29,14 @@ use Rattle.pgn_options.proofs.WireLaws.{IsWire, wire-agrees, wire_built}
 abbrev program_built : Shape
 program_built = record program_shape { is_leaf = false; is_built = true }
 
--- `check` as it is built
-abbrev check_built : Shape
-check_built = options_built (codes "check")
-
 abbrev app : App
-app = record { top = program_built; subs = run_built ∷ drill_built ∷ wire_built ∷ check_built ∷ [] }
+app = record { top = program_built; subs = drill_built ∷ wire_built ∷ options_built OfRun ∷ options_built OfCheck ∷ options_built OfServe ∷ [] }
 
 built-is : built program_app ≡ app
 built-is = refl
 
 abbrev names : Names
-names = (codes "run", []) ∷ (codes "drill", []) ∷ (codes "wire", []) ∷ (codes "check", []) ∷ []
+names = (codes "drill", []) ∷ (codes "wire", []) ∷ (codes "run", []) ∷ (codes "check", []) ∷ (codes "serve", []) ∷ []
 
 abbrev start : Walk
 start = walk_from nothing_held
@@ -90,13 +87,17 @@ command-found : (name : Text) (words : List Text) → walked [] names start name
 command-found name words comes =
     ap (λ (w : Walk). entered app (fold (walked [] names) w words).stopped) comes ∙ ap (λ (w : Walk). entered app w.stopped) (stopped-walk start name [] words)
 
-run-fault : (words : List Text) → fault_of program_app (codes "run" ∷ words) ≡ total run_built start words
+options-fault : (which : Optioned) (words : List Text) → fault_of program_app (word_of which ∷ words) ≡ total (options_built which) start words
 unfolding walked walk_fault defaults_fault
-run-fault words = command-fault (codes "run") words run_built refl refl refl
+options-fault OfRun words = command-fault (codes "run") words (options_built OfRun) refl refl refl
+options-fault OfCheck words = command-fault (codes "check") words (options_built OfCheck) refl refl refl
+options-fault OfServe words = command-fault (codes "serve") words (options_built OfServe) refl refl refl
 
-run-found : (words : List Text) → subcommand_of program_app (codes "run" ∷ words) ≡ Some (codes "run", found run_built start words)
+options-are-found : (which : Optioned) (words : List Text) → subcommand_of program_app (word_of which ∷ words) ≡ Some (word_of which, found (options_built which) start words)
 unfolding walked
-run-found words = command-found (codes "run") words refl
+options-are-found OfRun words = command-found (codes "run") words refl
+options-are-found OfCheck words = command-found (codes "check") words refl
+options-are-found OfServe words = command-found (codes "serve") words refl
 
 drill-fault : (words : List Text) → fault_of program_app (codes "drill" ∷ words) ≡ total drill_built start words
 unfolding walked walk_fault defaults_fault
@@ -114,26 +115,22 @@ wire-found : (words : List Text) → subcommand_of program_app (codes "wire" ∷
 unfolding walked
 wire-found words = command-found (codes "wire") words refl
 
-check-fault : (words : List Text) → fault_of program_app (codes "check" ∷ words) ≡ total check_built start words
-unfolding walked walk_fault defaults_fault
-check-fault words = command-fault (codes "check") words check_built refl refl refl
-
-check-found : (words : List Text) → subcommand_of program_app (codes "check" ∷ words) ≡ Some (codes "check", found check_built start words)
-unfolding walked
-check-found words = command-found (codes "check") words refl
-
 -- What is found of it.
 
-run-comes : (words : List Text) → Comes (run_asked words) (fault_of program_app (codes "run" ∷ words)) (subcommand_of program_app (codes "run" ∷ words))
-run-comes words = go (options_after words no_options None) _ _ _ (run-fault words) (run-found words) (run-agrees words)
+options-come : (which : Optioned) (words : List Text) → Comes (options_asked which words) (fault_of program_app (word_of which ∷ words)) (subcommand_of program_app (word_of which ∷ words))
+options-come which words = go (options_after words no_options None) _ _ _ (options-fault which words) (options-are-found which words) (options-agree which words)
   where
-    go : (o : Option Options) (kinds : Kinds) (sub : Option (Text × List Row)) (rows : List Row) → kinds ≡ total run_built start words → sub ≡ Some (codes "run", rows)
-        → Agrees IsUsed o (total run_built start words) rows → Comes (option_map run_with o) kinds sub
+    taken : (given : Options) (o : Option Asked) → asked_with which given ≡ o → (kinds : Kinds) (sub : Option (Text × List Row)) (rows : List Row) → kinds ≡ [] → sub ≡ Some (word_of which, rows)
+        → FindsOptions rows given → Comes o kinds sub
+    taken given None e kinds sub rows k s f = λ _. subst FindsTooMuch (sym s) (FindsOthers which rows given f e)
+    taken given (Some asked) e kinds sub rows k s f = (k, subst (λ (x : Option (Text × List Row)). Finds x asked) (sym s) (FindsWith which rows given asked f e))
+
+    go : (o : Option Options) (kinds : Kinds) (sub : Option (Text × List Row)) (rows : List Row) → kinds ≡ total (options_built which) start words → sub ≡ Some (word_of which, rows)
+        → Agrees IsUsed o (total (options_built which) start words) rows → Comes (option_and_then (asked_with which) o) kinds sub
     go None kinds sub rows k s h = λ e. absurd (h (sym k ∙ e))
     go (Some given) kinds sub rows k s h =
         let options : FindsOptions rows (options_for h.1.0) = subst (λ (r : List Row). FindsOptions r (options_for h.1.0)) (sym h.1.1) (options-found h.1.0) in
-        let given_options = subst (λ (g : Options). FindsOptions rows g) h.1.2 options in
-        (k ∙ h.0, subst (λ (x : Option (Text × List Row)). Finds x (run_with given)) (sym s) (FindsRun rows given given_options))
+        taken given (asked_with which given) refl kinds sub rows (k ∙ h.0) s (subst (λ (g : Options). FindsOptions rows g) h.1.2 options)
 
 drill-comes : (words : List Text) → Comes (drill_asked words) (fault_of program_app (codes "drill" ∷ words)) (subcommand_of program_app (codes "drill" ∷ words))
 drill-comes words = go (drill_of (without_dashes words)) _ _ _ (drill-fault words) (drill-found words) (drill-agrees words)
@@ -144,6 +141,7 @@ drill-comes words = go (drill_of (without_dashes words)) _ _ _ (drill-fault word
     go (Some (Run pages patience format live)) kinds sub rows k s h = absurd h.1
     go (Some Wire) kinds sub rows k s h = absurd h.1
     go (Some (Check pages patience format)) kinds sub rows k s h = absurd h.1
+    go (Some (Serve seats)) kinds sub rows k s h = absurd h.1
     go (Some (Drill seed sessions notes)) kinds sub rows k s h =
         let there : FindsNumbers rows seed sessions notes =
         subst (λ (r : List Row). FindsNumbers r seed sessions notes) (sym h.1.3)
@@ -160,21 +158,7 @@ wire-comes words = go (wire_of (without_dashes words)) _ _ _ (wire-fault words) 
     go (Some (Drill seed sessions notes)) kinds sub rows k s h = absurd h.1
     go (Some Wire) kinds sub rows k s h = (k ∙ h.0, subst (λ (x : Option (Text × List Row)). Finds x Wire) (sym s) (FindsWire rows))
     go (Some (Check pages patience format)) kinds sub rows k s h = absurd h.1
-
-check-comes : (words : List Text) → Comes (check_asked words) (fault_of program_app (codes "check" ∷ words)) (subcommand_of program_app (codes "check" ∷ words))
-check-comes words = go (options_after words no_options None) _ _ _ (check-fault words) (check-found words) (options-agree (codes "check") words)
-  where
-    taken : (given : Options) (o : Option Asked) → check_with given ≡ o → (kinds : Kinds) (sub : Option (Text × List Row)) (rows : List Row) → kinds ≡ [] → sub ≡ Some (codes "check", rows)
-        → FindsOptions rows given → Comes o kinds sub
-    taken given None e kinds sub rows k s f = λ _. subst FindsTooMuch (sym s) (FindsLive rows given f e)
-    taken given (Some asked) e kinds sub rows k s f = (k, subst (λ (x : Option (Text × List Row)). Finds x asked) (sym s) (FindsCheck rows given asked f e))
-
-    go : (o : Option Options) (kinds : Kinds) (sub : Option (Text × List Row)) (rows : List Row) → kinds ≡ total check_built start words → sub ≡ Some (codes "check", rows)
-        → Agrees IsUsed o (total check_built start words) rows → Comes (option_and_then check_with o) kinds sub
-    go None kinds sub rows k s h = λ e. absurd (h (sym k ∙ e))
-    go (Some given) kinds sub rows k s h =
-        let options : FindsOptions rows (options_for h.1.0) = subst (λ (r : List Row). FindsOptions r (options_for h.1.0)) (sym h.1.1) (options-found h.1.0) in
-        taken given (check_with given) refl kinds sub rows (k ∙ h.0) s (subst (λ (g : Options). FindsOptions rows g) h.1.2 options)
+    go (Some (Serve seats)) kinds sub rows k s h = absurd h.1
 
 -- Other first words.
 
@@ -210,37 +194,40 @@ module _ (words : List Text) where
   turn-wrong : (w : Text) → (turn_fault program_built names start w ≡ [] → ⊥) → fault_of program_app (w ∷ words) ≡ [] → ⊥
   turn-wrong w wrong e = wrong (walk-parts start w words (walk-first (w ∷ words) e)).0
 
-  other-wrong : (w : Text) → Form w → bytes_eq (codes "run") w ≡ false → bytes_eq (codes "drill") w ≡ false → bytes_eq (codes "wire") w ≡ false → bytes_eq (codes "check") w ≡ false → fault_of program_app (w ∷ words) ≡ [] → ⊥
+  other-wrong : (w : Text) → Form w → bytes_eq (codes "run") w ≡ false → bytes_eq (codes "drill") w ≡ false → bytes_eq (codes "wire") w ≡ false → bytes_eq (codes "check") w ≡ false
+      → bytes_eq (codes "serve") w ≡ false → fault_of program_app (w ∷ words) ≡ [] → ⊥
   unfolding flags_fault bundle_met
-  other-wrong _ (plain w apart s) run drill wire check =
-      turn-wrong w (λ e. let is : turn_fault program_built names start w ≡ UnknownArgument ∷ InvalidSubcommand ∷ [] = rw (run, drill, wire, check, apart.not_dashes, apart.no_long, s) refl in cc)
-  other-wrong _ (short y ys differs) run drill wire check = turn-wrong (45 ∷ y ∷ ys) (go (slice_get (chars (y ∷ ys)) 0) refl)
+  other-wrong _ (plain w apart s) run drill wire check serve =
+      turn-wrong w (λ e. let is : turn_fault program_built names start w ≡ UnknownArgument ∷ InvalidSubcommand ∷ [] = rw (run, drill, wire, check, serve, apart.not_dashes, apart.no_long, s) refl in cc)
+  other-wrong _ (short y ys differs) run drill wire check serve = turn-wrong (45 ∷ y ∷ ys) (go (slice_get (chars (y ∷ ys)) 0) refl)
     where
       go : (o : Option ℕ) → slice_get (chars (y ∷ ys)) 0 ≡ o → turn_fault program_built names start (45 ∷ y ∷ ys) ≡ [] → ⊥
       go None c e = let is : turn_fault program_built names start (45 ∷ y ∷ ys) ≡ UnknownArgument ∷ InvalidSubcommand ∷ [] = rw (differs, differs, c) refl in cc
       go (Some x) c e = let is : turn_fault program_built names start (45 ∷ y ∷ ys) ≡ UnknownArgument ∷ [] = rw (differs, differs, c) refl in cc
-  other-wrong _ dashes run drill wire check = dashes-fault words
-  other-wrong _ (long z zs) run drill wire check = turn-wrong (45 ∷ 45 ∷ z ∷ zs) (λ e. let bad : UnknownArgument ∷ [] ≡ [] = e in cc)
+  other-wrong _ dashes run drill wire check serve = dashes-fault words
+  other-wrong _ (long z zs) run drill wire check serve = turn-wrong (45 ∷ 45 ∷ z ∷ zs) (λ e. let bad : UnknownArgument ∷ [] ≡ [] = e in cc)
+
+-- what is found where the first word is this command
+abbrev ComesAs : List Text → Option Asked → Text → Type 0
+ComesAs words asked name = Comes asked (fault_of program_app (name ∷ words)) (subcommand_of program_app (name ∷ words))
 
 words-come : (words : List Text) → Comes (asked_by words) (fault_of program_app words) (subcommand_of program_app words)
 words-come [] = λ e. let bad = sym nothing-fault ∙ e in absurd (cc)
-words-come (w ∷ words) = go (bytes_eq (codes "run") w) (bytes_eq (codes "drill") w) (bytes_eq (codes "wire") w) (bytes_eq (codes "check") w) refl refl refl refl
+words-come (w ∷ words) =
+    go (bytes_eq (codes "run") w) (bytes_eq (codes "drill") w) (bytes_eq (codes "wire") w) (bytes_eq (codes "check") w) (bytes_eq (codes "serve") w) refl refl refl refl refl
   where
-    go : (a b c i : Bool) → bytes_eq (codes "run") w ≡ a → bytes_eq (codes "drill") w ≡ b → bytes_eq (codes "wire") w ≡ c → bytes_eq (codes "check") w ≡ i
-        → Comes (cond a (run_asked words) (cond b (drill_asked words) (cond c (wire_asked words) (cond i (check_asked words) None)))) (fault_of program_app (w ∷ words)) (subcommand_of program_app (w ∷ words))
-    go true b c i e d f g =
-        subst (λ (x : Text). Comes (run_asked words) (fault_of program_app (x ∷ words)) (subcommand_of program_app (x ∷ words)))
-        ((bytes_eq-Decides (codes "run") w).0 e) (run-comes words)
-    go false true c i e d f g =
-        subst (λ (x : Text). Comes (drill_asked words) (fault_of program_app (x ∷ words)) (subcommand_of program_app (x ∷ words)))
-        ((bytes_eq-Decides (codes "drill") w).0 d) (drill-comes words)
-    go false false true i e d f g =
-        subst (λ (x : Text). Comes (wire_asked words) (fault_of program_app (x ∷ words)) (subcommand_of program_app (x ∷ words)))
-        ((bytes_eq-Decides (codes "wire") w).0 f) (wire-comes words)
-    go false false false true e d f g =
-        subst (λ (x : Text). Comes (check_asked words) (fault_of program_app (x ∷ words)) (subcommand_of program_app (x ∷ words)))
-        ((bytes_eq-Decides (codes "check") w).0 g) (check-comes words)
-    go false false false false e d f g = λ is. absurd (other-wrong words w (form w) e d f g is)
+    as_named : (name : Text) (asked : Option Asked) → bytes_eq name w ≡ true → ComesAs words asked name → ComesAs words asked w
+    as_named name asked e h = subst (ComesAs words asked) ((bytes_eq-Decides name w).0 e) h
+
+    go : (a b c i v : Bool) → bytes_eq (codes "run") w ≡ a → bytes_eq (codes "drill") w ≡ b → bytes_eq (codes "wire") w ≡ c → bytes_eq (codes "check") w ≡ i → bytes_eq (codes "serve") w ≡ v
+        → ComesAs words
+        (cond a (options_asked OfRun words) (cond b (drill_asked words) (cond c (wire_asked words) (cond i (options_asked OfCheck words) (cond v (options_asked OfServe words) None))))) w
+    go true b c i v e d f g h = as_named (codes "run") (options_asked OfRun words) e (options-come OfRun words)
+    go false true c i v e d f g h = as_named (codes "drill") (drill_asked words) d (drill-comes words)
+    go false false true i v e d f g h = as_named (codes "wire") (wire_asked words) f (wire-comes words)
+    go false false false true v e d f g h = as_named (codes "check") (options_asked OfCheck words) g (options-come OfCheck words)
+    go false false false false true e d f g h = as_named (codes "serve") (options_asked OfServe words) h (options-come OfServe words)
+    go false false false false false e d f g h = λ is. absurd (other-wrong words w (form w) e d f g h is)
 
 -- What a parse answers.
 

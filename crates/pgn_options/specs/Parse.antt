@@ -8,8 +8,9 @@ use Rattle.clap.specs.Simple.{App, Shape, new_app, new_rule, with_rule, with_sub
 use Rattle.pgn_base.specs.declared.limits.TheConstants.{PAGES_MIN, PAGES_MAX}
 use Rattle.pgn_options.specs.declared.asked.Asked.{Asked}
 use Rattle.pgn_options.specs.declared.asked.Asked.TheVariants.{Drill, Wire}
-use Rattle.pgn_options.specs.declared.limits.TheConstants.{DRILL_NOTES_MAX, DRILL_SESSIONS_MAX, PATIENCE_MAX}
-use Rattle.pgn_options.specs.Words.{Options, check_with, number_in, run_with}
+use Rattle.pgn_options.specs.declared.limits.TheConstants.{DRILL_NOTES_MAX, DRILL_SESSIONS_MAX, PATIENCE_MAX, SEATS_MAX}
+use Rattle.pgn_options.specs.declared.options.Options.{Options}
+use Rattle.pgn_options.specs.Words.{OfCheck, OfRun, OfServe, Optioned, asked_with, number_in, word_of}
 
 -- the greatest seed
 abbrev pub seed_max : ℕ
@@ -27,21 +28,16 @@ word_rule name numbers = record (new_rule name) { action = Some Set; parser = So
 abbrev pub flag_rule : Text → Rule
 flag_rule name = record (new_rule name) { long = Some name; action = Some SetTrue }
 
--- a command with the options of `run`
-abbrev pub options_app : Text → App
-options_app name =
-    with_rule (with_rule (with_rule (with_rule (new_app name) (option_rule (codes "pages") (parser.Unsigned PAGES_MIN PAGES_MAX)))
+-- a command with the options of a queue
+abbrev pub queue_app : Text → App
+queue_app name =
+    with_rule (with_rule (with_rule (new_app name) (option_rule (codes "pages") (parser.Unsigned PAGES_MIN PAGES_MAX)))
     (option_rule (codes "patience") (parser.Unsigned 1 PATIENCE_MAX)))
-    (option_rule (codes "format") (parser.Unsigned 1 2)))
-    (flag_rule (codes "live"))
+    (option_rule (codes "format") (parser.Unsigned 1 2))
 
--- `run`
-abbrev pub run_app : App
-run_app = options_app (codes "run")
-
--- `check`, which takes the same options: `--live` is refused once they are read
-abbrev pub check_app : App
-check_app = options_app (codes "check")
+-- a command with all options: those that it does not take are refused once they are read
+abbrev pub options_app : Text → App
+options_app name = with_rule (with_rule (queue_app name) (option_rule (codes "seats") (parser.Unsigned 1 SEATS_MAX))) (flag_rule (codes "live"))
 
 -- `drill`
 abbrev pub drill_app : App
@@ -54,7 +50,7 @@ drill_app =
 abbrev pub wire_app : App
 wire_app = new_app (codes "wire")
 
--- the program: it has no words of its own, and one of these four has to follow
+-- the program: it has no words of its own, and one of these has to follow
 abbrev pub program_shape : Shape
 program_shape = record (new_app (codes "pgnotify")).top {
   no_binary_name = true;
@@ -63,13 +59,13 @@ program_shape = record (new_app (codes "pgnotify")).top {
   subcommand_required = true;
 }
 
--- the program with the commands that play a scenario
-abbrev pub playing_app : App
-playing_app = with_subcommand (with_subcommand (record { top = program_shape; subs = [] }) run_app.top) drill_app.top
+-- the program with the commands that have no options
+abbrev pub plain_app : App
+plain_app = with_subcommand (with_subcommand (record { top = program_shape; subs = [] }) drill_app.top) wire_app.top
 
 -- the program with its commands
 abbrev pub program_app : App
-program_app = with_subcommand (with_subcommand playing_app wire_app.top) check_app.top
+program_app = with_subcommand (with_subcommand (with_subcommand plain_app (options_app (word_of OfRun)).top) (options_app (word_of OfCheck)).top) (options_app (word_of OfServe)).top
 
 -- a number was found for an argument, or none was
 abbrev pub IsFoundAs : ℕ → ℕ → Text → List Row → Option ℕ → Type 0
@@ -80,11 +76,12 @@ IsFoundAs least most name rows number =
 abbrev pub IsFoundFlag : Text → List Row → Bool → Type 0
 IsFoundFlag name rows given = one_of name rows ≡ Some (cond given (codes "true") (codes "false"))
 
--- the options of `run` that were found
+-- the options that were found
 pub record FindsOptions (rows : List Row) (given : Options) : Type 0 where
   pub pages : IsFoundAs PAGES_MIN PAGES_MAX (codes "pages") rows given.pages
   pub patience : IsFoundAs 1 PATIENCE_MAX (codes "patience") rows given.patience
   pub format : IsFoundAs 1 2 (codes "format") rows given.format
+  pub seats : IsFoundAs 1 SEATS_MAX (codes "seats") rows given.seats
   pub live : IsFoundFlag (codes "live") rows given.live
 
 -- the numbers of a drill that were found
@@ -95,11 +92,10 @@ pub record FindsNumbers (rows : List Row) (seed sessions notes : ℕ) : Type 0 w
 
 -- a command was found, and asks for this
 pub data Finds : Option (Text × List Row) → Asked → Type 0 where
-  FindsRun : (rows : List Row) (given : Options) → FindsOptions rows given → Finds (Some (codes "run", rows)) (run_with given)
+  FindsWith : (which : Optioned) (rows : List Row) (given : Options) (asked : Asked) → FindsOptions rows given → asked_with which given ≡ Some asked → Finds (Some (word_of which, rows)) asked
   FindsDrill : (rows : List Row) (seed sessions notes : ℕ) → FindsNumbers rows seed sessions notes → Finds (Some (codes "drill", rows)) (Drill seed sessions notes)
   FindsWire : (rows : List Row) → Finds (Some (codes "wire", rows)) Wire
-  FindsCheck : (rows : List Row) (given : Options) (asked : Asked) → FindsOptions rows given → check_with given ≡ Some asked → Finds (Some (codes "check", rows)) asked
 
--- `check` was found with options that it does not take
+-- a command was found with options that it does not take
 pub data FindsTooMuch : Option (Text × List Row) → Type 0 where
-  FindsLive : (rows : List Row) (given : Options) → FindsOptions rows given → check_with given ≡ None → FindsTooMuch (Some (codes "check", rows))
+  FindsOthers : (which : Optioned) (rows : List Row) (given : Options) → FindsOptions rows given → asked_with which given ≡ None → FindsTooMuch (Some (word_of which, rows))

@@ -1,5 +1,5 @@
 -- What the words of the command line ask for: one of the commands, with its numbers.
-use Rattle.std.specs.Prelude.{◌≡◌, ◌≤◌, ℕ, ◌==◌, ◌&&◌, Bool, true, false, cond, nat_le, nat_lt, List, [], ◌∷◌, length, take, drop, Option, None, Some, option_map, option_and_then, unwrap_or, is_some, codes}
+use Rattle.std.specs.Prelude.{◌≡◌, ◌≤◌, ℕ, ◌==◌, ◌&&◌, ◌||◌, Bool, true, false, cond, nat_le, nat_lt, List, [], ◌∷◌, length, take, drop, Option, None, Some, option_map, option_and_then, unwrap_or, is_some, codes}
 use Rattle.std.specs.List.{before_first, after_first, list_all, list_any}
 use Rattle.std.specs.Char.{digit_value}
 use Rattle.std.specs.Str.{bytes_eq}
@@ -7,9 +7,10 @@ use Rattle.std.specs.Str.Parse.{digits_value, without_leading_plus}
 use Rattle.pgn_base.specs.declared.format.Format.{Format}
 use Rattle.pgn_base.specs.declared.format.Format.TheVariants.{One, Two}
 use Rattle.pgn_base.specs.declared.limits.TheConstants.{PAGES_DEFAULT, PAGES_MIN, PAGES_MAX, PATIENCE_DEFAULT}
-use Rattle.pgn_options.specs.declared.limits.TheConstants.{DRILL_NOTES_MAX, DRILL_SESSIONS_MAX, PATIENCE_MAX}
+use Rattle.pgn_options.specs.declared.limits.TheConstants.{DRILL_NOTES_MAX, DRILL_SESSIONS_MAX, PATIENCE_MAX, SEATS_DEFAULT, SEATS_MAX}
 use Rattle.pgn_options.specs.declared.asked.Asked.{Asked}
-use Rattle.pgn_options.specs.declared.asked.Asked.TheVariants.{Run, Drill, Wire, Check}
+use Rattle.pgn_options.specs.declared.asked.Asked.TheVariants.{Run, Drill, Wire, Check, Serve}
+use Rattle.pgn_options.specs.declared.options.Options.{Options}
 
 -- Numbers.
 
@@ -24,30 +25,25 @@ number_in least most word =
     let number = digits_value 10 digits in
     cond (are_digits digits && (nat_le least number && nat_le number most)) (Some number) None
 
--- The words of `run`.
+-- The options.
 
 -- an option that has a value
 pub data Key : Type 0 where
   Pages : Key
   Patience : Key
   FormatNumber : Key
-
--- the values of the options that are given, and whether `--live` is
-pub record Options : Type 0 where
-  pub pages : Option ℕ
-  pub patience : Option ℕ
-  pub format : Option ℕ
-  pub live : Bool
+  Seats : Key
 
 -- no option is given
 abbrev pub no_options : Options
-no_options = record { pages = None; patience = None; format = None; live = false }
+no_options = record { pages = None; patience = None; format = None; seats = None; live = false }
 
 -- an option that is not given yet gets this word as its value
 abbrev pub with_option : Key → List ℕ → Options → Option Options
 with_option Pages word given = cond (is_some given.pages) None (option_map (λ n. record given { pages = Some n }) (number_in PAGES_MIN PAGES_MAX word))
 with_option Patience word given = cond (is_some given.patience) None (option_map (λ n. record given { patience = Some n }) (number_in 1 PATIENCE_MAX word))
 with_option FormatNumber word given = cond (is_some given.format) None (option_map (λ n. record given { format = Some n }) (number_in 1 2 word))
+with_option Seats word given = cond (is_some given.seats) None (option_map (λ n. record given { seats = Some n }) (number_in 1 SEATS_MAX word))
 
 -- `--live`, which is not given yet
 abbrev pub with_live : Options → Option Options
@@ -58,7 +54,8 @@ abbrev pub key_named : List ℕ → Option Key
 key_named name =
     cond (bytes_eq (codes "pages") name) (Some Pages)
     (cond (bytes_eq (codes "patience") name) (Some Patience)
-    (cond (bytes_eq (codes "format") name) (Some FormatNumber) None))
+    (cond (bytes_eq (codes "format") name) (Some FormatNumber)
+    (cond (bytes_eq (codes "seats") name) (Some Seats) None)))
 
 -- what a word says where no option waits for its value
 pub data Says : Type 0 where
@@ -70,7 +67,7 @@ pub data Says : Type 0 where
   Sets : Key → List ℕ → Says
   -- `--live`
   GoesLive : Says
-  -- nothing that `run` takes
+  -- nothing that names an option
   Nothing : Says
 
 -- an option with the value in the same word, where there is one
@@ -126,18 +123,48 @@ options_after [] given (Some key) = None
 options_after (word ∷ words) given None = by_word (says word) words given (options_after words)
 options_after (word ∷ words) given (Some key) = option_and_then (λ more. options_after words more None) (with_option key word given)
 
+-- The words of the commands that have options.
+
 -- the format of this number
 abbrev pub format_numbered : ℕ → Format
 format_numbered number = cond (number == 2) Two One
 
--- `run` with these options: the default stands for one that is not given
-abbrev pub run_with : Options → Asked
+-- `run` with these options: the default stands for one that is not given. It does not take `--seats`
+abbrev pub run_with : Options → Option Asked
 run_with given =
-    Run (unwrap_or given.pages PAGES_DEFAULT) (unwrap_or given.patience PATIENCE_DEFAULT) (format_numbered (unwrap_or given.format 1)) given.live
+    cond (is_some given.seats) None
+    (Some (Run (unwrap_or given.pages PAGES_DEFAULT) (unwrap_or given.patience PATIENCE_DEFAULT) (format_numbered (unwrap_or given.format 1)) given.live))
 
--- what `run` and these words ask for
-abbrev pub run_asked : List (List ℕ) → Option Asked
-run_asked words = option_map run_with (options_after words no_options None)
+-- `check`, which takes neither `--seats` nor `--live`
+abbrev pub check_with : Options → Option Asked
+check_with given =
+    cond (is_some given.seats || given.live) None
+    (Some (Check (unwrap_or given.pages PAGES_DEFAULT) (unwrap_or given.patience PATIENCE_DEFAULT) (format_numbered (unwrap_or given.format 1))))
+
+-- `serve`, which takes `--seats` alone
+abbrev pub serve_with : Options → Option Asked
+serve_with given =
+    cond (is_some given.pages || (is_some given.patience || (is_some given.format || given.live))) None (Some (Serve (unwrap_or given.seats SEATS_DEFAULT)))
+
+-- a command that has options
+pub data Optioned : Type 0 where
+  OfRun : Optioned
+  OfCheck : Optioned
+  OfServe : Optioned
+
+abbrev pub word_of : Optioned → List ℕ
+word_of OfRun = codes "run"
+word_of OfCheck = codes "check"
+word_of OfServe = codes "serve"
+
+abbrev pub asked_with : Optioned → Options → Option Asked
+asked_with OfRun given = run_with given
+asked_with OfCheck given = check_with given
+asked_with OfServe given = serve_with given
+
+-- what it and these words ask for
+abbrev pub options_asked : Optioned → List (List ℕ) → Option Asked
+options_asked which words = option_and_then (asked_with which) (options_after words no_options None)
 
 -- The words of `drill`.
 
@@ -172,27 +199,16 @@ wire_of (word ∷ words) = None
 abbrev pub wire_asked : List (List ℕ) → Option Asked
 wire_asked words = wire_of (without_dashes words)
 
--- The words of `check`.
-
--- `check` with these options, which are those of `run` but for `--live`
-abbrev pub check_with : Options → Option Asked
-check_with given =
-    cond given.live None
-    (Some (Check (unwrap_or given.pages PAGES_DEFAULT) (unwrap_or given.patience PATIENCE_DEFAULT) (format_numbered (unwrap_or given.format 1))))
-
--- what `check` and these words ask for
-abbrev pub check_asked : List (List ℕ) → Option Asked
-check_asked words = option_and_then check_with (options_after words no_options None)
-
 -- All words.
 
 -- what the first word and those after it ask for
 abbrev pub command_asked : List ℕ → List (List ℕ) → Option Asked
 command_asked name words =
-    cond (bytes_eq (codes "run") name) (run_asked words)
+    cond (bytes_eq (word_of OfRun) name) (options_asked OfRun words)
     (cond (bytes_eq (codes "drill") name) (drill_asked words)
     (cond (bytes_eq (codes "wire") name) (wire_asked words)
-    (cond (bytes_eq (codes "check") name) (check_asked words) None)))
+    (cond (bytes_eq (word_of OfCheck) name) (options_asked OfCheck words)
+    (cond (bytes_eq (word_of OfServe) name) (options_asked OfServe words) None))))
 
 -- what words ask for, where they are a command
 abbrev pub asked_by : List (List ℕ) → Option Asked
@@ -213,3 +229,4 @@ IsWithin (Run pages patience format live) = (PAGES_MIN ≤ pages) × (pages ≤ 
 IsWithin (Drill seed sessions notes) = (1 ≤ sessions) × (sessions ≤ DRILL_SESSIONS_MAX) × (1 ≤ notes) × (notes ≤ DRILL_NOTES_MAX)
 IsWithin Wire = Unit {0}
 IsWithin (Check pages patience format) = (PAGES_MIN ≤ pages) × (pages ≤ PAGES_MAX) × (1 ≤ patience) × (patience ≤ PATIENCE_MAX)
+IsWithin (Serve seats) = (1 ≤ seats) × (seats ≤ SEATS_MAX)

@@ -26,4 +26,8 @@ pub enum Asked {
         patience: u64,
         format: Format,
     },
+    /// To serve clients of PostgreSQL's protocol 3.0 on one queue, at so many seats, by frames.
+    Serve {
+        seats: u32,
+    },
 }

@@ -3,11 +3,11 @@ ghost use Rattle.clap.specs.Simple.{app_of, shape_of, with_rule, with_subcommand
 ghost use Rattle.clap.specs.Walk.{rule_of};
 ghost use Rattle.clap.specs.declared.builder.command.Command.TheViews.{out-Command};
 ghost use Rattle.clap.specs.declared.builder.value_parser.ValueParser.TheVariants.{Unsigned};
-ghost use Rattle.pgn_options.specs.Parse.{check_app, drill_app, flag_rule, option_rule, options_app, playing_app, program_app, program_shape, run_app, seed_max, wire_app, word_rule};
+ghost use Rattle.pgn_options.specs.Parse.{drill_app, flag_rule, option_rule, options_app, plain_app, program_app, program_shape, queue_app, seed_max, wire_app, word_rule};
 ghost use Rattle.pgn_base.specs.declared.limits.TheConstants.{PAGES_MAX, PAGES_MIN};
-ghost use Rattle.pgn_options.specs.declared.limits.TheConstants.{DRILL_NOTES_MAX, DRILL_SESSIONS_MAX, PATIENCE_MAX};
+ghost use Rattle.pgn_options.specs.declared.limits.TheConstants.{DRILL_NOTES_MAX, DRILL_SESSIONS_MAX, PATIENCE_MAX, SEATS_MAX};
 
-use crate::{DRILL_NOTES_MAX, DRILL_SESSIONS_MAX, PATIENCE_MAX};
+use crate::{DRILL_NOTES_MAX, DRILL_SESSIONS_MAX, PATIENCE_MAX, SEATS_MAX};
 use clap::builder::ValueParser;
 use clap::{Arg, ArgAction, Command, value_parser};
 use pgn_base::{PAGES_MAX, PAGES_MIN};
@@ -17,27 +17,32 @@ use std::alloc::{AllocError, Global};
 pub(crate) fn command<'a>(alloc: Global) -> Result<Command<'a>, AllocError>
     ensures { IfOk result (λ command. app_of command ≡ program_app) }
 {
-    let command = playing(alloc)?;
-    let command = with_command(command, wire(alloc))?;
-    match options(alloc, "check") {
-        Ok(check) => with_command(command, check),
-        Err(AllocError) => {
-            // Dropped here, by a call: there are several ways out.
-            drop(command);
-            Err(AllocError)
-        }
-    }
+    let command = with_options(alloc, plain(alloc)?, "run")?;
+    let command = with_options(alloc, command, "check")?;
+    with_options(alloc, command, "serve")
 }
 
-// The program with `run` and `drill` alone.
-fn playing<'a>(alloc: Global) -> Result<Command<'a>, AllocError>
-    ensures { IfOk result (λ command. app_of command ≡ playing_app) }
+// The program with the commands that have no options.
+fn plain<'a>(alloc: Global) -> Result<Command<'a>, AllocError>
+    ensures { IfOk result (λ command. app_of command ≡ plain_app) }
 {
-    let run = options(alloc, "run")?;
-    let command = with_command(program(alloc), run)?;
-    match drill(alloc) {
-        Ok(drill) => with_command(command, drill),
+    let drill = drill(alloc)?;
+    let command = with_command(program(alloc), drill)?;
+    with_command(command, wire(alloc))
+}
+
+// A program with a command of this name more, which has all options.
+fn with_options<'a>(
+    alloc: Global,
+    command: Command<'a>,
+    name: &'a str,
+) -> Result<Command<'a>, AllocError>
+    ensures { IfOk result (λ whole. app_of whole ≡ with_subcommand (app_of command.entry) (options_app name.now).top) }
+{
+    match options(alloc, name) {
+        Ok(below) => with_command(command, below),
         Err(AllocError) => {
+            // Dropped here, by a call: there are several ways out.
             drop(command);
             Err(AllocError)
         }
@@ -63,16 +68,25 @@ fn with_command<'a>(command: Command<'a>, below: Command<'a>) -> Result<Command<
     command.subcommand(below)
 }
 
-// A command with the options of `run`.
+// A command with all options.
 fn options<'a>(alloc: Global, name: &'a str) -> Result<Command<'a>, AllocError>
     ensures app { IfOk result (λ command. app_of command ≡ options_app name.now) }
+    ensures local { IfOk result (λ command. (out-Command command).has_globals ≡ false) }
+{
+    let command = queue_options(alloc, name)?;
+    let command = with_argument(command, option(alloc, "seats", seats()))?;
+    with_argument(command, flag(alloc, "live"))
+}
+
+// A command with the options of a queue.
+fn queue_options<'a>(alloc: Global, name: &'a str) -> Result<Command<'a>, AllocError>
+    ensures app { IfOk result (λ command. app_of command ≡ queue_app name.now) }
     ensures local { IfOk result (λ command. (out-Command command).has_globals ≡ false) }
 {
     let command = Command::new(alloc, name);
     let command = with_argument(command, option(alloc, "pages", pages()))?;
     let command = with_argument(command, option(alloc, "patience", patience()))?;
-    let command = with_argument(command, option(alloc, "format", formats()))?;
-    with_argument(command, flag(alloc, "live"))
+    with_argument(command, option(alloc, "format", formats()))
 }
 
 fn drill<'a>(alloc: Global) -> Result<Command<'a>, AllocError>
@@ -118,6 +132,12 @@ fn formats<'a>() -> ValueParser<'a>
     ensures { result ≡ Unsigned 1 2 }
 {
     value_parser!(u64).range(1..=2)
+}
+
+fn seats<'a>() -> ValueParser<'a>
+    ensures { result ≡ Unsigned 1 SEATS_MAX }
+{
+    value_parser!(u64).range(1..=SEATS_MAX as i64)
 }
 
 fn seed<'a>() -> ValueParser<'a>

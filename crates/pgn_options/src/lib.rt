@@ -16,8 +16,9 @@
 mod asked;
 mod command;
 mod limits;
+mod options;
 mod reading;
 
 pub use asked::Asked;
-pub use limits::{DRILL_NOTES_MAX, DRILL_SESSIONS_MAX, PATIENCE_MAX};
+pub use limits::{DRILL_NOTES_MAX, DRILL_SESSIONS_MAX, PATIENCE_MAX, SEATS_DEFAULT, SEATS_MAX};
 pub use reading::{WordsFault, read_words};

@@ -6,3 +6,9 @@ pub const DRILL_SESSIONS_MAX: u32 = 32;
 
 /// The most notifications of each session of a drill.
 pub const DRILL_NOTES_MAX: u32 = 1_000;
+
+/// The most seats of a service.
+pub const SEATS_MAX: u32 = 256;
+
+/// The seats of a service where nothing is said.
+pub const SEATS_DEFAULT: u32 = 64;

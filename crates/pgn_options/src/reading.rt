@@ -1,15 +1,17 @@
-ghost use Rattle.std.specs.Prelude.{◌≡◌, ◌≢◌, ◌≤◌, ◌<◌, ℕ, Bool, codes, List, Option, Ok, Some, None, Err, map, IfOk, MatchOption, option_map, unwrap_or};
+ghost use Rattle.std.specs.Prelude.{◌≡◌, ◌≢◌, ◌≤◌, ◌<◌, ℕ, Bool, codes, List, Option, Ok, Some, None, Err, map, IfOk, option_map, unwrap_or};
 ghost use Rattle.clap.specs.Matches.{found_of};
 ghost use Rattle.clap.specs.Walk.{one_of, rows_of};
 ghost use Rattle.clap.specs.Simple.{subcommand_rows_of};
 ghost use Rattle.clap.specs.declared.error.kind.ErrorKind.TheVariants.{OutOfMemory};
 ghost use Rattle.pgn_options.specs.declared.asked.Asked.{Asked};
 ghost use Rattle.pgn_options.specs.declared.asked.Asked.TheVariants.{Drill};
+ghost use Rattle.pgn_options.specs.declared.options.Options.{Options};
 ghost use Rattle.pgn_options.specs.Parse.{Finds, FindsNumbers, FindsOptions, FindsTooMuch, IsFoundAs, IsFoundFlag};
-ghost use Rattle.pgn_options.specs.Words.{AreNoCommand, AskFor, IsWithin, Options, check_with, format_numbered, number_in, run_with};
+ghost use Rattle.pgn_options.specs.Words.{AreNoCommand, AskFor, IsWithin, check_with, format_numbered, number_in, run_with, serve_with};
 
-use crate::Asked;
 use crate::command::command;
+use crate::options::Options;
+use crate::{Asked, SEATS_DEFAULT};
 use clap::ArgMatches;
 use clap::error::ErrorKind;
 use pgn_base::{Format, PAGES_DEFAULT, PATIENCE_DEFAULT};
@@ -58,51 +60,70 @@ fn asked_of(matches: &ArgMatches<'_>) -> Result<Asked, WordsFault>
         return Err(WordsFault::BadWords);
     };
     if name == "run" {
-        Ok(run_of(found))
+        run_of(&options_of(found)).ok_or(WordsFault::BadWords)
     } else if name == "drill" {
         drill_of(found)
     } else if name == "wire" {
         Ok(Asked::Wire)
+    } else if name == "check" {
+        check_of(&options_of(found)).ok_or(WordsFault::BadWords)
     } else {
-        check_of(found)
+        serve_of(&options_of(found)).ok_or(WordsFault::BadWords)
     }
 }
 
-fn run_of(found: &ArgMatches<'_>) -> Asked
-    ensures { (given : Options) → FindsOptions (rows_of (found_of found.now)) given → result ≡ run_with given }
+// The options that were found.
+fn options_of(found: &ArgMatches<'_>) -> Options
+    ensures { (given : Options) → FindsOptions (rows_of (found_of found.now)) given → result ≡ given }
 {
-    let pages = match number_of(found, "pages") {
-        Some(pages) => small(pages),
-        None => PAGES_DEFAULT,
-    };
-    let patience = number_of(found, "patience").unwrap_or(PATIENCE_DEFAULT);
-    let format = format_of(number_of(found, "format"));
-    let live = live_of(found);
-    Asked::Run {
-        pages,
-        patience,
-        format,
-        live,
+    Options {
+        pages: small_of(found, "pages"),
+        patience: number_of(found, "patience"),
+        format: number_of(found, "format"),
+        seats: small_of(found, "seats"),
+        live: live_of(found),
     }
+}
+
+// What `run` asks for with these options. It does not take `--seats`.
+fn run_of(given: &Options) -> Option<Asked>
+    ensures { result ≡ run_with given.now }
+{
+    if given.seats.is_some() {
+        return None;
+    }
+    Some(Asked::Run {
+        pages: given.pages.unwrap_or(PAGES_DEFAULT),
+        patience: given.patience.unwrap_or(PATIENCE_DEFAULT),
+        format: format_of(given.format),
+        live: given.live,
+    })
 }
 
 // `check` takes the options of `run` but for `--live`.
-fn check_of(found: &ArgMatches<'_>) -> Result<Asked, WordsFault>
-    ensures { (given : Options) → FindsOptions (rows_of (found_of found.now)) given → MatchOption (check_with given) (result ≡ Err WordsFault.BadWords) (λ asked. result ≡ Ok asked) }
+fn check_of(given: &Options) -> Option<Asked>
+    ensures { result ≡ check_with given.now }
 {
-    match run_of(found) {
-        Asked::Run {
-            pages,
-            patience,
-            format,
-            live: false,
-        } => Ok(Asked::Check {
-            pages,
-            patience,
-            format,
-        }),
-        _ => Err(WordsFault::BadWords),
+    if given.seats.is_some() || given.live {
+        return None;
     }
+    Some(Asked::Check {
+        pages: given.pages.unwrap_or(PAGES_DEFAULT),
+        patience: given.patience.unwrap_or(PATIENCE_DEFAULT),
+        format: format_of(given.format),
+    })
+}
+
+// `serve` takes `--seats` alone.
+fn serve_of(given: &Options) -> Option<Asked>
+    ensures { result ≡ serve_with given.now }
+{
+    if given.pages.is_some() || given.patience.is_some() || given.format.is_some() || given.live {
+        return None;
+    }
+    Some(Asked::Serve {
+        seats: given.seats.unwrap_or(SEATS_DEFAULT),
+    })
 }
 
 // The format of this number; the first where none is given.
@@ -146,6 +167,16 @@ fn number_of(found: &ArgMatches<'_>, id: &str) -> Option<u64>
     ensures { (least most : ℕ) (number : Option ℕ) → most ≤ 18446744073709551615 → IsFoundAs least most id.now (rows_of (found_of found.now)) number → result ≡ number }
 {
     found.get_one::<u64>(id)
+}
+
+// The same where it is one of 32 bits.
+fn small_of(found: &ArgMatches<'_>, id: &str) -> Option<u32>
+    ensures { (least most : ℕ) (number : Option ℕ) → most ≤ 4294967295 → IsFoundAs least most id.now (rows_of (found_of found.now)) number → result ≡ number }
+{
+    match number_of(found, id) {
+        Some(number) => Some(small(number)),
+        None => None,
+    }
 }
 
 // A number of 32 bits, as it is.

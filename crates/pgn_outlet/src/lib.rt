@@ -28,12 +28,14 @@
 //! ```
 #![tactic(auto)]
 
+mod bell;
 mod came;
 pub mod examples;
 mod hand;
 mod outlet;
 mod plays;
 
+pub use bell::Bell;
 pub use came::Came;
 pub use hand::Hand;
 pub use outlet::{Outlet, OutletPass};

@@ -13,7 +13,7 @@ use Rattle.pgn_queries.specs.declared.wire_fault.WireFault.TheVariants.{TooMany}
 use Rattle.pgn_queries.specs.declared.coming.Coming.TheVariants.{End, Query, Fault}
 use Rattle.pgn_queries.specs.Client.{NextIs, OfKnown}
 use Rattle.pgn_queries.specs.Queries as queries
-use Rattle.pgn_queries.specs.Queries.{Place, IsLineOf, AreTooMany, QueriesAre, Gives, after_query}
+use Rattle.pgn_queries.specs.Queries.{Place, IsLineOf, AreTooMany, TookQuery, QueriesAre, Gives, after_query}
 
 -- there is no more
 pub Gives-none : (old new : Place) (text : List ℕ) (a b : Option (List ℕ)) → OfKnown (NextIs old.at End text) a b → OfKnown (Gives old new None) a b
@@ -28,6 +28,13 @@ Gives-line old new text line None b h is few e = tt
 Gives-line old new text line (Some xs) None h is few e = absurd h
 Gives-line old new text line (Some xs) (Some ys) h is few e =
     λ lines fault more. queries.QueriesAre.Goes old xs text ys line lines fault h is few (subst (λ (place : Place). QueriesAre place ys lines fault) e more)
+
+-- its message was taken
+pub TookQuery-known : (old new : Place) (text : List ℕ) (line : ScriptLine) (a b : Option (List ℕ)) → OfKnown (NextIs old.at Query text) a b → IsLineOf (old.queries + 1) text line
+    → (AreTooMany (after_query old (length text) line.act) → ⊥) → new ≡ after_query old (length text) line.act → OfKnown (TookQuery old new line) a b
+TookQuery-known old new text line None b h is few e = tt
+TookQuery-known old new text line (Some xs) None h is few e = absurd h
+TookQuery-known old new text line (Some xs) (Some ys) h is few e = record { text = text; next = h; is = is; after = e; few = subst (λ (place : Place). AreTooMany place → ⊥) (sym e) few }
 
 -- a fault
 pub Fails-known : (old : Place) (text : List ℕ) (found : WireFault) (a b : Option (List ℕ)) → OfKnown (NextIs old.at (Fault found) text) a b → IfSome a (λ bytes. QueriesAre old bytes [] (Some found))

@@ -82,6 +82,14 @@ pub record HasPassed (old new : Place) (line : ScriptLine) : Type 0 where
   pub after : new ≡ after_query old (length text) line.act
   pub few : AreTooMany new → ⊥
 
+-- by its message, which comes next of these bytes, and these others behind it
+pub record TookQuery (old new : Place) (line : ScriptLine) (bytes rest : List ℕ) : Type 0 where
+  pub text : List ℕ
+  pub next : NextIs old.at Query text bytes rest
+  pub is : IsLineOf (old.queries + 1) text line
+  pub after : new ≡ after_query old (length text) line.act
+  pub few : AreTooMany new → ⊥
+
 -- the bytes of a client of which so many queries may notify have these queries, and this fault
 abbrev pub queries : ℕ → List ℕ → List ScriptLine → Option WireFault → Type 0
 queries most bytes lines fault = QueriesAre (first_place most) bytes lines fault

@@ -1,4 +1,4 @@
-ghost use Rattle.std.specs.Prelude.{◌≡◌, ◌<◌, ◌≤◌, ◌+◌, [], length, Err, Some, IfOk, IfSome, OnErr, OnOk};
+ghost use Rattle.std.specs.Prelude.{◌≡◌, ◌<◌, ◌≤◌, ◌+◌, [], length, Err, Some, IfNone, IfOk, IfSome, OnErr, OnOk, OnSome};
 ghost use Rattle.pgn_base.specs.Outside.{Rose};
 ghost use Rattle.pgn_base.specs.declared.limits.TheConstants.{LINE_BYTES_MAX};
 ghost use Rattle.pgn_base.specs.declared.command.Command.TheVariants.{Bad};
@@ -6,7 +6,7 @@ ghost use Rattle.pgn_language.specs.declared.scenario.Act.TheVariants.{Run};
 ghost use Rattle.pgn_language.specs.Inputs.{IsOneLine, is_note_act};
 ghost use Rattle.pgn_queries.specs.declared.wire_fault.WireFault.{WireFault};
 ghost use Rattle.pgn_queries.specs.Client.{IsQueryText, OfKnown};
-ghost use Rattle.pgn_queries.specs.Queries.{AreTooMany, Gives, HasPassed, IsLineOf, QueriesAre, after_query, first_place};
+ghost use Rattle.pgn_queries.specs.Queries.{AreTooMany, Gives, HasPassed, IsLineOf, QueriesAre, TookQuery, after_query, first_place};
 
 use crate::WireFault;
 use crate::coming::Coming;
@@ -30,7 +30,7 @@ pub enum NoQuery {
 }
 
 /// The queries of a client, one at a time. It keeps the memory of the longest text so far, and reads no byte ahead, so that a client
-/// that waits for an answer is not waited for. Contracts see where it stands. After an error it is of no more use.
+/// that waits for an answer is not waited for. Contracts see where it stands. After an error only `next_client` is of use.
 #[derive(Drop)]
 pub struct Queries {
     at: u64,
@@ -74,6 +74,11 @@ impl Queries {
     ) -> Result<Option<ScriptLine>, NoQuery>
         ensures next { IfOk result (λ next. OfKnown (Gives self.old self.new next) (S.left source.old) (S.left source.new)) }
         ensures passed { IfOk result (λ next. IfSome next (HasPassed self.old self.new)) }
+        // What it took of the source is that query's message.
+        ensures took { IfOk result (λ next. IfSome next (λ line. OfKnown (TookQuery self.old self.new line) (S.left source.old) (S.left source.new))) }
+        // Where it gives no query, it stands where it stood.
+        ensures ended { result ≡ Ok None → self.new ≡ self.old }
+        ensures stays { OnErr result (self.new ≡ self.old) }
         ensures fault { (fault : WireFault) → result ≡ Err (NoQuery.Fault fault) → IfSome (S.left source.old) (λ bytes. QueriesAre self.old bytes [] (Some fault)) }
         ensures later { S.faults source.old ≤ S.faults source.new }
         ensures failed { result ≡ Err NoQuery.Failed → Rose (S.faults source.old) (S.faults source.new) }
@@ -99,12 +104,33 @@ impl Queries {
         }
     }
 
+    /// Goes on to the bytes of another client, behind the end of the one before: the offset begins anew, and the numbers go on behind
+    /// those of two lines. Answers the number of the first of the two; there is none, and nothing has changed, where they would be greater
+    /// than a line of a query may have. The memory of the longest text is given back.
+    pub fn next_client(&mut self, alloc: Global) -> Option<u32>
+        ensures line { IfSome result (λ line. line ≡ self.old.queries + 1) }
+        ensures fits { IfSome result (λ line. line < QUERIES_MAX) }
+        ensures next { OnSome result (self.new ≡ record self.old { at = 0; queries = self.old.queries + 2 }) }
+        ensures many { IfNone result (QUERIES_MAX < self.old.queries + 2) }
+        ensures stays { IfNone result (self.new ≡ self.old) }
+    {
+        if self.queries > QUERIES_MAX - 2 {
+            return None;
+        }
+        let line = self.queries + 1;
+        self.at = 0;
+        self.queries += 2;
+        self.text = Vec::new(alloc);
+        Some(line)
+    }
+
     // Passes a query with a text of so many bytes, unless there are too many with it.
     fn count(&mut self, size: usize, act: &Act) -> Result<(), WireFault>
         requires { size ≤ LINE_BYTES_MAX }
         ensures passed { OnOk result (self.new ≡ after_query self.old size act.now) }
         ensures few { OnOk result (AreTooMany (after_query self.old size act.now) → ⊥) }
         ensures many { OnErr result (AreTooMany (after_query self.old size act.now)) }
+        ensures stays { OnErr result (self.new ≡ self.old) }
         ensures fault { OnErr result (result ≡ Err (WireFault.TooMany self.old.at)) }
     {
         let notes = self.notes + u32::from(is_note(act));

@@ -82,6 +82,10 @@ fn put_numbers(printer: &mut Printer, asked: Asked) {
             patience,
             format,
         } => put_settings(printer, b"check", pages, patience, format),
+        Asked::Serve { seats } => {
+            printer.bytes(b"serve");
+            put_number(printer, u64::from(seats));
+        }
     }
 }
 

@@ -2,9 +2,9 @@
 use Rattle.std.proofs.Common.{◌≡◌, ◌∙◌, ℕ, Bool, true, false, List, Some, None, refl, sym, ap}
 use Rattle.pgn_base.specs.declared.format.Format.{Format}
 use Rattle.pgn_options.specs.declared.asked.Asked.{Asked}
-use Rattle.pgn_options.specs.declared.asked.Asked.TheVariants.{Run, Drill, Wire, Check}
+use Rattle.pgn_options.specs.declared.asked.Asked.TheVariants.{Run, Drill, Wire, Serve, Check}
 use Rattle.pgn_options.specs.Words.{AreNoCommand, AskFor}
-use Rattle.pgn_run.specs.Run.{AskToCheck, AskToDrill, AskToRun, AskToRunLive, AskToWire, asked_settings, settings_with, shows_if}
+use Rattle.pgn_run.specs.Run.{AskToCheck, AskToDrill, AskToRun, AskToRunLive, AskToServe, AskToWire, asked_settings, settings_with, shows_if}
 use Rattle.pgn_run.specs.declared.print.Print.TheVariants.{Text}
 use Rattle.pgn_run.specs.declared.print.Shows.TheVariants.{AtEnd}
 
@@ -93,3 +93,35 @@ same-check words pages patience format ask e =
     let b : ask.patience ≡ patience = cc in
     let f : ask.format ≡ format = cc in
     ap (λ (n : ℕ). settings_with n ask.patience ask.format) a ∙ ap (λ (n : ℕ). settings_with pages n ask.format) b ∙ ap (λ (g : Format). settings_with pages patience g) f
+
+-- words that ask to serve seats ask for nothing else
+pub serve-no_run : (words : List (List ℕ)) (seats : ℕ) → AskFor words (Serve seats) → AskToRun words → ⊥
+serve-no_run words seats e other = let bad : Some (Serve seats) ≡ Some (Run other.pages other.patience other.format other.live) = sym e ∙ other.asks in cc
+
+pub serve-no_drill : (words : List (List ℕ)) (seats : ℕ) → AskFor words (Serve seats) → AskToDrill words → ⊥
+serve-no_drill words seats e other = let bad : Some (Serve seats) ≡ Some (Drill other.seed other.sessions other.notes) = sym e ∙ other.asks in cc
+
+pub serve-no_wire : (words : List (List ℕ)) (seats : ℕ) → AskFor words (Serve seats) → AskToWire words → ⊥
+serve-no_wire words seats e other = let bad : Some (Serve seats) ≡ Some Wire = sym e ∙ other in cc
+
+pub serve-no_check : (words : List (List ℕ)) (seats : ℕ) → AskFor words (Serve seats) → AskToCheck words → ⊥
+serve-no_check words seats e other = let bad : Some (Serve seats) ≡ Some (Check other.pages other.patience other.format) = sym e ∙ other.asks in cc
+
+pub run-no_serve : (words : List (List ℕ)) (pages patience : ℕ) (format : Format) (live : Bool) → AskFor words (Run pages patience format live) → AskToServe words → ⊥
+run-no_serve words pages patience format live e other = serve-no_run words other.seats other.asks (record { pages = pages; patience = patience; format = format; live = live; asks = e })
+
+pub drill-no_serve : (words : List (List ℕ)) (seed sessions notes : ℕ) → AskFor words (Drill seed sessions notes) → AskToServe words → ⊥
+drill-no_serve words seed sessions notes e other = serve-no_drill words other.seats other.asks (record { seed = seed; sessions = sessions; notes = notes; asks = e })
+
+pub wire-no_serve : (words : List (List ℕ)) → AskToWire words → AskToServe words → ⊥
+wire-no_serve words e other = serve-no_wire words other.seats other.asks e
+
+pub check-no_serve : (words : List (List ℕ)) (pages patience : ℕ) (format : Format) → AskFor words (Check pages patience format) → AskToServe words → ⊥
+check-no_serve words pages patience format e other = serve-no_check words other.seats other.asks (record { pages = pages; patience = patience; format = format; asks = e })
+
+pub none-serves : (words : List (List ℕ)) → AreNoCommand words → AskToServe words → ⊥
+none-serves words none other = no-other words (Serve other.seats) other.asks none
+
+-- and give one number of them
+pub same-seats : (words : List (List ℕ)) (seats : ℕ) (ask : AskToServe words) → AskFor words (Serve seats) → ask.seats ≡ seats
+same-seats words seats ask e = let same : Some (Serve ask.seats) ≡ Some (Serve seats) = sym ask.asks ∙ e in cc

@@ -11,7 +11,7 @@ use Rattle.pgn_check.specs.declared.check.Verdict.TheVariants as verdict
 use Rattle.pgn_check.specs.Verdicts.{Judges}
 use Rattle.pgn_run.specs.declared.checking.TheConstants.{CHECK_BYTES_MAX}
 use Rattle.pgn_run.specs.declared.status.Status.{Status}
-use Rattle.pgn_run.specs.declared.status.Status.TheVariants.{Done, BadWords, BadScenario, ReadFault, WriteFault, NoMemory, BadWire, Illegal, NoOutput, CheckTooLarge}
+use Rattle.pgn_run.specs.declared.status.Status.TheVariants.{Done, BadWords, BadScenario, ReadFault, WriteFault, NoMemory, BadWire, BadFrame, Illegal, NoOutput, CheckTooLarge}
 use Rattle.pgn_run.specs.Checking.{AnswersCheck, HasFault, HasNoOutput, HasTold, IsJudged, IsOfCheck, IsTooLarge, IsUntold, IsVerdictOn, Parts, Tells, parts_of, status_of, verdict_text}
 use Rattle.pgn_run.proofs.RunLaws.{if-some, one-reading, whole}
 
@@ -75,6 +75,7 @@ told-answers settings input verdict.Legal old new before now ReadFault judged to
 told-answers settings input verdict.Legal old new before now WriteFault judged told = (record { given = verdict.Legal; judged = judged; output = told.0 }, told.1)
 told-answers settings input verdict.Legal old new before now NoMemory judged told = absurd (let bad = told.0 in cc)
 told-answers settings input verdict.Legal old new before now (BadWire fault) judged told = absurd (let bad = told.0 in cc)
+told-answers settings input verdict.Legal old new before now (BadFrame fault) judged told = absurd (let bad = told.0 in cc)
 told-answers settings input verdict.Legal old new before now (Illegal line) judged told = absurd (let bad = told.0 in cc)
 told-answers settings input verdict.Legal old new before now NoOutput judged told = absurd (let bad = told.0 in cc)
 told-answers settings input verdict.Legal old new before now CheckTooLarge judged told = absurd (let bad = told.0 in cc)
@@ -85,6 +86,7 @@ told-answers settings input (verdict.Illegal n) old new before now ReadFault jud
 told-answers settings input (verdict.Illegal n) old new before now WriteFault judged told = (record { given = verdict.Illegal n; judged = judged; output = told.0 }, told.1)
 told-answers settings input (verdict.Illegal n) old new before now NoMemory judged told = absurd (let bad = told.0 in cc)
 told-answers settings input (verdict.Illegal n) old new before now (BadWire fault) judged told = absurd (let bad = told.0 in cc)
+told-answers settings input (verdict.Illegal n) old new before now (BadFrame fault) judged told = absurd (let bad = told.0 in cc)
 told-answers settings input (verdict.Illegal n) old new before now (Illegal line) judged told =
     let same : n ≡ line = let is = told.0 in cc in
     (subst (λ (l : ℕ). IsJudged settings input (verdict.Illegal l)) same judged, subst (λ (l : ℕ). Appends old new (verdict_text (verdict.Illegal l))) same told.1)
@@ -128,6 +130,7 @@ answers-whole settings xs input old new before now ReadFault e h = h
 answers-whole settings xs input old new before now WriteFault e h = (record { given = h.0.given; judged = judged-whole settings xs input h.0.given e h.0.judged; output = h.0.output }, h.1)
 answers-whole settings xs input old new before now NoMemory e h = h
 answers-whole settings xs input old new before now (BadWire fault) e h = absurd h
+answers-whole settings xs input old new before now (BadFrame fault) e h = absurd h
 answers-whole settings xs input old new before now (Illegal line) e h = (judged-whole settings xs input (verdict.Illegal line) e h.0, h.1)
 answers-whole settings xs input old new before now NoOutput e h = (subst (λ (bytes : List ℕ). HasNoOutput bytes) (within xs input e h.0.fits) h.0, h.1)
 answers-whole settings xs input old new before now CheckTooLarge e h = (large-whole xs input e h.0, h.1)
@@ -155,6 +158,7 @@ own-answer settings input old new before now ReadFault h = tt
 own-answer settings input old new before now WriteFault h = tt
 own-answer settings input old new before now NoMemory h = tt
 own-answer settings input old new before now (BadWire fault) h = h
+own-answer settings input old new before now (BadFrame fault) h = h
 own-answer settings input old new before now (Illegal line) h = tt
 own-answer settings input old new before now NoOutput h = tt
 own-answer settings input old new before now CheckTooLarge h = tt
@@ -167,6 +171,7 @@ untold-same settings input old new before now ReadFault h untold = h
 untold-same settings input old new before now WriteFault h untold = absurd untold
 untold-same settings input old new before now NoMemory h untold = h
 untold-same settings input old new before now (BadWire fault) h untold = absurd h
+untold-same settings input old new before now (BadFrame fault) h untold = absurd h
 untold-same settings input old new before now (Illegal line) h untold = absurd untold
 untold-same settings input old new before now NoOutput h untold = h.1
 untold-same settings input old new before now CheckTooLarge h untold = h.1
@@ -212,6 +217,7 @@ verdict-due settings (Some xs) old new before now ReadFault given Reads answers 
 verdict-due settings (Some xs) old new before now WriteFault given Reads answers judged read no_read no_write = absurd (no_write answers.1)
 verdict-due settings (Some xs) old new before now NoMemory given Reads answers judged read no_read no_write = inr refl
 verdict-due settings (Some xs) old new before now (BadWire fault) given Reads answers judged read no_read no_write = absurd answers
+verdict-due settings (Some xs) old new before now (BadFrame fault) given Reads answers judged read no_read no_write = absurd answers
 verdict-due settings (Some xs) old new before now (Illegal line) given Reads answers judged read no_read no_write =
     inl (ap status_of (judged-once settings xs (verdict.Illegal line) given answers.0 judged))
 verdict-due settings (Some xs) old new before now NoOutput given Reads answers judged read no_read no_write = absurd (no-parts xs judged.parts judged.parted answers.0.none)
@@ -229,6 +235,7 @@ fault-due settings (Some xs) old new before now ReadFault fault Reads answers fa
 fault-due settings (Some xs) old new before now WriteFault fault Reads answers faulty read no_read = absurd (judged-no-fault settings xs answers.0.given fault answers.0.judged faulty)
 fault-due settings (Some xs) old new before now NoMemory fault Reads answers faulty read no_read = inr refl
 fault-due settings (Some xs) old new before now (BadWire other) fault Reads answers faulty read no_read = absurd answers
+fault-due settings (Some xs) old new before now (BadFrame other) fault Reads answers faulty read no_read = absurd answers
 fault-due settings (Some xs) old new before now (Illegal line) fault Reads answers faulty read no_read = absurd (judged-no-fault settings xs (verdict.Illegal line) fault answers.0 faulty)
 fault-due settings (Some xs) old new before now NoOutput fault Reads answers faulty read no_read = absurd (no-parts xs faulty.parts faulty.parted answers.0.none)
 fault-due settings (Some xs) old new before now CheckTooLarge fault Reads answers faulty read no_read = absurd (omega (arith, faulty.fits, answers.0))
@@ -245,6 +252,7 @@ none-due settings (Some xs) old new before now ReadFault Reads answers none read
 none-due settings (Some xs) old new before now WriteFault Reads answers none read no_read = absurd (no-parts xs answers.0.judged.parts answers.0.judged.parted none.none)
 none-due settings (Some xs) old new before now NoMemory Reads answers none read no_read = inr refl
 none-due settings (Some xs) old new before now (BadWire other) Reads answers none read no_read = absurd answers
+none-due settings (Some xs) old new before now (BadFrame other) Reads answers none read no_read = absurd answers
 none-due settings (Some xs) old new before now (Illegal line) Reads answers none read no_read = absurd (no-parts xs answers.0.parts answers.0.parted none.none)
 none-due settings (Some xs) old new before now NoOutput Reads answers none read no_read = inl refl
 none-due settings (Some xs) old new before now CheckTooLarge Reads answers none read no_read = absurd (omega (arith, none.fits, answers.0))
@@ -261,6 +269,7 @@ large-due settings (Some xs) old new before now ReadFault Reads answers large re
 large-due settings (Some xs) old new before now WriteFault Reads answers large read no_read = absurd (omega (arith, answers.0.judged.fits, large))
 large-due settings (Some xs) old new before now NoMemory Reads answers large read no_read = inr refl
 large-due settings (Some xs) old new before now (BadWire other) Reads answers large read no_read = absurd answers
+large-due settings (Some xs) old new before now (BadFrame other) Reads answers large read no_read = absurd answers
 large-due settings (Some xs) old new before now (Illegal line) Reads answers large read no_read = absurd (omega (arith, answers.0.fits, large))
 large-due settings (Some xs) old new before now NoOutput Reads answers large read no_read = absurd (omega (arith, answers.0.fits, large))
 large-due settings (Some xs) old new before now CheckTooLarge Reads answers large read no_read = inl refl

@@ -16,7 +16,7 @@ use Rattle.pgn_session.specs.declared.doing.FlagPlan.{FlagPlan}
 use Rattle.pgn_session.specs.Standing.{IsFlagBelow, IsServedBy}
 use Rattle.pgn_session.specs.Whole.{HasRest}
 use Rattle.pgn_queries.specs.Script.{wire_quit}
-use Rattle.pgn_wire.specs.Serving.{BeginsEmpty}
+use Rattle.pgn_session.specs.Open.{BeginsEmpty}
 use Rattle.pgn_run.specs.Conversation.{session_section, wire_plan, wire_shape}
 
 -- one pass is known

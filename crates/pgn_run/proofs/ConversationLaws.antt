@@ -33,7 +33,8 @@ use Rattle.pgn_queries.proofs.EachLaws.{each_has_reading}
 use Rattle.pgn_messages.specs.Messages.{messages}
 use Rattle.pgn_wire.specs.declared.wire_end.WireEnd.{WireEnd}
 use Rattle.pgn_wire.specs.declared.wire_end.WireEnd.TheVariants.{Bad, Read, Write, Memory}
-use Rattle.pgn_wire.specs.Serving.{AsksAll, AsksBy, HasAnsweredAll, HasStood, HasWritten, IsSameClient, WhereAsked, WroteWhole}
+use Rattle.pgn_session.specs.Open.{HasStood, IsSameClient}
+use Rattle.pgn_wire.specs.Serving.{AsksAll, AsksBy, HasAnsweredAll, HasWritten, WhereAsked, WroteWhole}
 use Rattle.pgn_run.proofs.NotedLaws.{holds-noted, legal-noted, with_notes}
 use Rattle.pgn_run.specs.Conversation.{EndsBy, IsAnsweredSoFar, IsSoFar, NamesNoFlags, RunsLegally, session_section, wire_plan, wire_settings, wire_shape}
 

@@ -14,3 +14,13 @@ pub mod WireLaws
 pub mod PartingLaws
 -- what comes of it
 pub mod CheckingLaws
+-- what is opened for the seats of a service
+pub mod SeatingLaws
+-- what its arms come to
+pub mod ArmLaws
+-- how it is closed
+pub mod ClosingLaws
+-- what it comes to whole
+pub mod ServiceLaws
+-- what comes of it
+pub mod ServeLaws

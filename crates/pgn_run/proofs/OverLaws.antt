@@ -8,11 +8,12 @@ use Rattle.pgn_language.specs.declared.scenario.ScenarioFault.{ScenarioFault}
 use Rattle.pgn_model.specs.declared.trace.Trace.{Trace}
 use Rattle.pgn_language.specs.Inputs.{ReadsAsScenario}
 use Rattle.pgn_language.proofs.InputLaws.{reads-input}
+use Rattle.pgn_frames.specs.declared.frame_fault.FrameFault.{FrameFault}
 use Rattle.pgn_queries.specs.declared.wire_fault.WireFault.{WireFault}
 use Rattle.pgn_model.specs.Legal.{Legal}
 use Rattle.pgn_model.specs.Walk.{Settings}
 use Rattle.pgn_run.specs.declared.status.Status.{Status}
-use Rattle.pgn_run.specs.declared.status.Status.TheVariants.{Done, BadWords, BadScenario, ReadFault, WriteFault, NoMemory, BadWire, Illegal, NoOutput, CheckTooLarge}
+use Rattle.pgn_run.specs.declared.status.Status.TheVariants.{Done, BadWords, BadScenario, ReadFault, WriteFault, NoMemory, BadWire, BadFrame, Illegal, NoOutput, CheckTooLarge}
 use Rattle.pgn_run.specs.Run.{Runs, RunsOver, HasWritten, Answers, IsOfRun, printed}
 use Rattle.pgn_run.specs.Live.{EarlyOver, LiveOver, SoFarOver}
 use Rattle.pgn_run.specs.declared.print.Shows.TheVariants.{AtEnd, Live}
@@ -48,6 +49,7 @@ only-over all old new before now ReadFault written = absurd written
 only-over all old new before now WriteFault written = inr (inl refl)
 only-over all old new before now NoMemory written = inr (inr refl)
 only-over all old new before now (BadWire fault) written = absurd written
+only-over all old new before now (BadFrame fault) written = absurd written
 only-over all old new before now (Illegal line) written = absurd written
 only-over all old new before now NoOutput written = absurd written
 only-over all old new before now CheckTooLarge written = absurd written
@@ -68,6 +70,7 @@ answers-over print settings input scenario old new before now BadWords reads don
 answers-over print settings input scenario old new before now (BadScenario fault) reads done rose prefix memory only = absurd (elim only [ inl e ↦ cc | inr other ↦ elim other [ inl e ↦ cc | inr f ↦ cc ] ])
 answers-over print settings input scenario old new before now ReadFault reads done rose prefix memory only = absurd (elim only [ inl e ↦ cc | inr other ↦ elim other [ inl e ↦ cc | inr f ↦ cc ] ])
 answers-over print settings input scenario old new before now (BadWire fault) reads done rose prefix memory only = absurd (elim only [ inl e ↦ cc | inr other ↦ elim other [ inl e ↦ cc | inr f ↦ cc ] ])
+answers-over print settings input scenario old new before now (BadFrame fault) reads done rose prefix memory only = absurd (elim only [ inl e ↦ cc | inr other ↦ elim other [ inl e ↦ cc | inr f ↦ cc ] ])
 answers-over print settings input scenario old new before now (Illegal line) reads done rose prefix memory only = absurd (elim only [ inl e ↦ cc | inr other ↦ elim other [ inl e ↦ cc | inr f ↦ cc ] ])
 answers-over print settings input scenario old new before now NoOutput reads done rose prefix memory only = absurd (elim only [ inl e ↦ cc | inr other ↦ elim other [ inl e ↦ cc | inr f ↦ cc ] ])
 answers-over print settings input scenario old new before now CheckTooLarge reads done rose prefix memory only = absurd (elim only [ inl e ↦ cc | inr other ↦ elim other [ inl e ↦ cc | inr f ↦ cc ] ])
@@ -89,6 +92,7 @@ live-answers-over settings input scenario old new before now BadWords reads done
 live-answers-over settings input scenario old new before now (BadScenario fault) reads done rose prefix memory only = absurd (elim only [ inl e ↦ cc | inr other ↦ elim other [ inl e ↦ cc | inr f ↦ cc ] ])
 live-answers-over settings input scenario old new before now ReadFault reads done rose prefix memory only = absurd (elim only [ inl e ↦ cc | inr other ↦ elim other [ inl e ↦ cc | inr f ↦ cc ] ])
 live-answers-over settings input scenario old new before now (BadWire fault) reads done rose prefix memory only = absurd (elim only [ inl e ↦ cc | inr other ↦ elim other [ inl e ↦ cc | inr f ↦ cc ] ])
+live-answers-over settings input scenario old new before now (BadFrame fault) reads done rose prefix memory only = absurd (elim only [ inl e ↦ cc | inr other ↦ elim other [ inl e ↦ cc | inr f ↦ cc ] ])
 live-answers-over settings input scenario old new before now (Illegal line) reads done rose prefix memory only = absurd (elim only [ inl e ↦ cc | inr other ↦ elim other [ inl e ↦ cc | inr f ↦ cc ] ])
 live-answers-over settings input scenario old new before now NoOutput reads done rose prefix memory only = absurd (elim only [ inl e ↦ cc | inr other ↦ elim other [ inl e ↦ cc | inr f ↦ cc ] ])
 live-answers-over settings input scenario old new before now CheckTooLarge reads done rose prefix memory only = absurd (elim only [ inl e ↦ cc | inr other ↦ elim other [ inl e ↦ cc | inr f ↦ cc ] ])
@@ -138,3 +142,6 @@ not-read-fault status only e = elim only [ inl d ↦ cc | inr other ↦ elim oth
 
 pub not-bad-wire : (status : Status) (fault : WireFault) → (status ≡ Done) ⊎ (status ≡ WriteFault) ⊎ (status ≡ NoMemory) → status ≡ BadWire fault → ⊥
 not-bad-wire status fault only e = elim only [ inl d ↦ cc | inr other ↦ elim other [ inl f ↦ cc | inr m ↦ cc ] ]
+
+pub not-bad-frame : (status : Status) (fault : FrameFault) → (status ≡ Done) ⊎ (status ≡ WriteFault) ⊎ (status ≡ NoMemory) → status ≡ BadFrame fault → ⊥
+not-bad-frame status fault only e = elim only [ inl d ↦ cc | inr other ↦ elim other [ inl f ↦ cc | inr m ↦ cc ] ]

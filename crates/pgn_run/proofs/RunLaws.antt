@@ -10,7 +10,7 @@ use Rattle.pgn_language.specs.declared.scenario.ScenarioFault.TheVariants.{TooLa
 use Rattle.pgn_language.specs.Inputs.{ReadsAsScenario, Large}
 use Rattle.pgn_language.proofs.InputLaws.{reads-input}
 use Rattle.pgn_run.specs.declared.status.Status.{Status}
-use Rattle.pgn_run.specs.declared.status.Status.TheVariants.{Done, BadWords, BadScenario, ReadFault, WriteFault, NoMemory, BadWire, Illegal, NoOutput, CheckTooLarge}
+use Rattle.pgn_run.specs.declared.status.Status.TheVariants.{Done, BadWords, BadScenario, ReadFault, WriteFault, NoMemory, BadWire, BadFrame, Illegal, NoOutput, CheckTooLarge}
 use Rattle.pgn_run.specs.Run.{Answers, EarlyRuns, IsOfRun, IsShownSoFar, LiveRuns, Runs, Shown, ShownInPart, SoFarRuns}
 use Rattle.pgn_run.specs.declared.print.Shows.{Shows}
 use Rattle.pgn_run.specs.declared.print.Shows.TheVariants.{AtEnd, Live}
@@ -130,6 +130,7 @@ module _ (shows : Shows) (settings : Settings) (left : Option (List ℕ)) (input
       go WriteFault h = tt
       go NoMemory h = tt
       go (BadWire fault) h = h
+      go (BadFrame fault) h = h
       go (Illegal line) h = h
       go NoOutput h = h
       go CheckTooLarge h = h
@@ -162,6 +163,7 @@ reads-done shows settings (Some xs) input old new before now ReadFault scenario 
 reads-done shows settings (Some xs) input old new before now WriteFault scenario bytes answers reads rose = absurd (rose answers.1)
 reads-done shows settings (Some xs) input old new before now NoMemory scenario bytes answers reads rose = inr refl
 reads-done shows settings (Some xs) input old new before now (BadWire fault) scenario bytes answers reads rose = absurd answers
+reads-done shows settings (Some xs) input old new before now (BadFrame fault) scenario bytes answers reads rose = absurd answers
 reads-done shows settings (Some xs) input old new before now (Illegal line) scenario bytes answers reads rose = absurd answers
 reads-done shows settings (Some xs) input old new before now NoOutput scenario bytes answers reads rose = absurd answers
 reads-done shows settings (Some xs) input old new before now CheckTooLarge scenario bytes answers reads rose = absurd answers
@@ -182,6 +184,7 @@ faulty-refused shows settings (Some xs) input old new before now WriteFault faul
     absurd (no-fault xs run.0 fault (reads-whole xs input (Ok run.0) bytes run.1) reads)
 faulty-refused shows settings (Some xs) input old new before now NoMemory fault bytes answers reads = inr refl
 faulty-refused shows settings (Some xs) input old new before now (BadWire other) fault bytes answers reads = absurd answers
+faulty-refused shows settings (Some xs) input old new before now (BadFrame other) fault bytes answers reads = absurd answers
 faulty-refused shows settings (Some xs) input old new before now (Illegal line) fault bytes answers reads = absurd answers
 faulty-refused shows settings (Some xs) input old new before now NoOutput fault bytes answers reads = absurd answers
 faulty-refused shows settings (Some xs) input old new before now CheckTooLarge fault bytes answers reads = absurd answers

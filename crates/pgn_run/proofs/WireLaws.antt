@@ -10,7 +10,7 @@ use Rattle.pgn_queries.specs.Queries.{first_place, queries}
 use Rattle.pgn_queries.proofs.OneLaws.{one_reading}
 use Rattle.pgn_wire.specs.Serving.{WroteWhole}
 use Rattle.pgn_run.specs.declared.status.Status.{Status}
-use Rattle.pgn_run.specs.declared.status.Status.TheVariants.{Done, BadWords, BadScenario, ReadFault, WriteFault, NoMemory, BadWire, Illegal, NoOutput, CheckTooLarge}
+use Rattle.pgn_run.specs.declared.status.Status.TheVariants.{Done, BadWords, BadScenario, ReadFault, WriteFault, NoMemory, BadWire, BadFrame, Illegal, NoOutput, CheckTooLarge}
 use Rattle.pgn_run.specs.Conversation.{BreaksOff, Converses, StopsAmong, StopsBetween}
 use Rattle.pgn_run.specs.Run.{AnswersWire, EndsIn}
 
@@ -48,6 +48,7 @@ wire-refused (Some bytes) old new Done fault Reads Writes answers ends read writ
 wire-refused (Some bytes) old new BadWords fault Reads Writes answers ends read write no_read no_write = absurd answers
 wire-refused (Some bytes) old new (Illegal line) fault Reads Writes answers ends read write no_read no_write = absurd answers
 wire-refused (Some bytes) old new NoOutput fault Reads Writes answers ends read write no_read no_write = absurd answers
+wire-refused (Some bytes) old new (BadFrame other) fault Reads Writes answers ends read write no_read no_write = absurd answers
 wire-refused (Some bytes) old new CheckTooLarge fault Reads Writes answers ends read write no_read no_write = absurd answers
 wire-refused (Some bytes) old new (BadScenario other) fault Reads Writes answers ends read write no_read no_write = absurd answers
 wire-refused (Some bytes) old new ReadFault fault Reads Writes answers ends read write no_read no_write = absurd (no_read (read refl))
@@ -66,6 +67,7 @@ wire-completes (Some bytes) old new Done Reads Writes answers ends read write no
 wire-completes (Some bytes) old new BadWords Reads Writes answers ends read write no_read no_write = absurd answers
 wire-completes (Some bytes) old new (Illegal line) Reads Writes answers ends read write no_read no_write = absurd answers
 wire-completes (Some bytes) old new NoOutput Reads Writes answers ends read write no_read no_write = absurd answers
+wire-completes (Some bytes) old new (BadFrame other) Reads Writes answers ends read write no_read no_write = absurd answers
 wire-completes (Some bytes) old new CheckTooLarge Reads Writes answers ends read write no_read no_write = absurd answers
 wire-completes (Some bytes) old new (BadScenario other) Reads Writes answers ends read write no_read no_write = absurd answers
 wire-completes (Some bytes) old new ReadFault Reads Writes answers ends read write no_read no_write = absurd (no_read (read refl))

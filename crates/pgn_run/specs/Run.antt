@@ -1,5 +1,5 @@
 -- What the call of the program says of its input and its output.
-use Rattle.std.specs.Prelude.{◌≡◌, ◌⊎◌, ℕ, Bool, true, false, List, Option, Ok, Err, IfSome}
+use Rattle.std.specs.Prelude.{◌≡◌, ◌⊎◌, ℕ, Bool, true, false, List, Option, Ok, Err, None, Some, IfSome}
 use Rattle.std.specs.Io.KnownBytes.{Appends}
 use Rattle.pgn_base.specs.Outside.{AppendsPrefix, Rose}
 use Rattle.pgn_journal.specs.declared.tx.Tx.{Tx}
@@ -13,7 +13,7 @@ use Rattle.pgn_base.specs.declared.format.Format.{Format}
 use Rattle.pgn_base.specs.declared.format.Format.TheVariants.{One}
 use Rattle.pgn_base.specs.declared.limits.TheConstants.{NOTE_LINES_MAX, PAGES_MAX}
 use Rattle.pgn_options.specs.declared.asked.Asked.{Asked}
-use Rattle.pgn_options.specs.declared.asked.Asked.TheVariants.{Run, Drill, Wire, Check}
+use Rattle.pgn_options.specs.declared.asked.Asked.TheVariants.{Run, Drill, Wire, Serve, Check}
 use Rattle.pgn_options.specs.declared.limits.TheConstants.{PATIENCE_MAX}
 use Rattle.pgn_options.specs.Words.{AskFor}
 use Rattle.pgn_drill.specs.Drill.{drill}
@@ -25,13 +25,16 @@ use Rattle.pgn_messages.specs.Messages.{messages}
 use Rattle.pgn_wire.specs.Serving.{WroteWhole}
 use Rattle.pgn_run.specs.Checking.{IsJudged, Tells, verdict_text}
 use Rattle.pgn_run.specs.Conversation.{BreaksOff, Converses, StopsAmong, StopsBetween}
+use Rattle.pgn_frames.specs.declared.frame_fault.FrameFault.{FrameFault}
+use Rattle.pgn_frames.specs.Frames.{Frame, FramesAre}
+use Rattle.pgn_run.specs.Service.{ServesAll, ServesFirst, ServesInPart, StopsServing}
 use Rattle.pgn_run.specs.Live.{EarlyOver, LiveOver, SoFarOver}
 use Rattle.pgn_run.specs.declared.print.Shows.{Shows}
 use Rattle.pgn_run.specs.declared.print.Shows.TheVariants.{AtEnd, Live}
 use Rattle.pgn_run.specs.declared.print.Print.{Print}
 use Rattle.pgn_run.specs.declared.print.Print.TheVariants.{Text, Summary}
 use Rattle.pgn_run.specs.declared.status.Status.{Status}
-use Rattle.pgn_run.specs.declared.status.Status.TheVariants.{Done, BadWords, BadScenario, ReadFault, WriteFault, NoMemory, BadWire, Illegal, NoOutput, CheckTooLarge}
+use Rattle.pgn_run.specs.declared.status.Status.TheVariants.{Done, BadWords, BadScenario, ReadFault, WriteFault, NoMemory, BadWire, BadFrame, Illegal, NoOutput, CheckTooLarge}
 
 -- the exit status of each outcome
 abbrev pub code_of : Status → ℕ
@@ -45,6 +48,7 @@ code_of (Illegal line) = 8
 code_of NoOutput = 9
 code_of (BadWire fault) = 10
 code_of CheckTooLarge = 11
+code_of (BadFrame fault) = 12
 
 -- the terms of a run with a limit of so many pages, where an await takes so many looks, with entries of this format
 abbrev pub settings_with : ℕ → ℕ → Format → Settings
@@ -119,6 +123,7 @@ abbrev pub Fulfils : Asked → Option (List ℕ) → (List ℕ → Type 0) → T
 Fulfils (Run pages patience format live) left P = IfSome left (λ input. Shown (shows_if live) (settings_with pages patience format) input P)
 Fulfils (Drill seed sessions notes) left P = Runs (Summary seed notes) drill_settings (drill seed sessions notes) P
 Fulfils Wire left P = IfSome left (λ bytes. Converses bytes P)
+Fulfils (Serve seats) left P = IfSome left (λ bytes. ServesAll seats bytes None P)
 Fulfils (Check pages patience format) left P =
     IfSome left (λ input. IsJudged (settings_with pages patience format) input verdict.Legal × P (verdict_text verdict.Legal))
 
@@ -133,6 +138,7 @@ abbrev pub FulfilsInPart : Asked → Option (List ℕ) → (List ℕ → Type 0)
 FulfilsInPart (Run pages patience format live) left P = IfSome left (λ input. ShownInPart (shows_if live) (settings_with pages patience format) input P)
 FulfilsInPart (Drill seed sessions notes) left P = Runs (Summary seed notes) drill_settings (drill seed sessions notes) P
 FulfilsInPart Wire left P = IfSome left (λ bytes. StopsAmong bytes (λ section items. P (messages section items)))
+FulfilsInPart (Serve seats) left P = IfSome left (λ bytes. ServesInPart seats bytes P)
 FulfilsInPart (Check pages patience format) left P = IfSome left (λ input. Tells (settings_with pages patience format) input P)
 
 pub record PerformsInPart (words : List (List ℕ)) (left : Option (List ℕ)) (P : List ℕ → Type 0) : Type 0 where
@@ -166,6 +172,11 @@ pub record AskToDrill (words : List (List ℕ)) : Type 0 where
 abbrev pub AskToWire : List (List ℕ) → Type 0
 AskToWire words = AskFor words Wire
 
+-- the words ask to serve the clients of seats
+pub record AskToServe (words : List (List ℕ)) : Type 0 where
+  pub seats : ℕ
+  pub asks : AskFor words (Serve seats)
+
 -- the words ask to check what is read
 pub record AskToCheck (words : List (List ℕ)) : Type 0 where
   pub pages : ℕ
@@ -181,6 +192,11 @@ asked_settings ask = settings_with ask.pages ask.patience ask.format
 pub record EndsIn (bytes : List ℕ) (fault : Option WireFault) : Type 0 where
   pub lines : List ScriptLine
   pub reads : queries NOTE_LINES_MAX bytes lines fault
+
+-- an input of so many seats has frames, and ends so: by this fault, or without
+pub record HasFrames (seats : ℕ) (bytes : List ℕ) (fault : Option FrameFault) : Type 0 where
+  pub frames : List Frame
+  pub are : FramesAre seats 0 bytes frames fault
 
 -- what each outcome says of a text that was to be written: of what the sink holds and of its count of faults
 abbrev pub HasWritten : List ℕ → Option (List ℕ) → Option (List ℕ) → ℕ → ℕ → Status → Type 0
@@ -223,6 +239,24 @@ AnswersWire bytes old new ReadFault = StopsBetween bytes (Appends old new)
 AnswersWire bytes old new WriteFault = StopsAmong bytes (λ section items. AppendsPrefix old new (messages section items))
 AnswersWire bytes old new NoMemory = StopsAmong bytes (WroteWhole old new)
 AnswersWire bytes old new status = ⊥
+
+-- those that `serve` may have
+abbrev pub IsOfServe : Status → Type 0
+IsOfServe Done = Unit {0}
+IsOfServe ReadFault = Unit {0}
+IsOfServe WriteFault = Unit {0}
+IsOfServe NoMemory = Unit {0}
+IsOfServe (BadFrame fault) = Unit {0}
+IsOfServe status = ⊥
+
+-- what each outcome says of what the clients of seats sent, and of what the sink holds
+abbrev pub AnswersServe : ℕ → List ℕ → Option (List ℕ) → Option (List ℕ) → Status → Type 0
+AnswersServe seats bytes old new Done = ServesAll seats bytes None (Appends old new)
+AnswersServe seats bytes old new (BadFrame fault) = ServesAll seats bytes (Some fault) (Appends old new)
+AnswersServe seats bytes old new ReadFault = ServesFirst seats bytes (Appends old new)
+AnswersServe seats bytes old new WriteFault = ServesInPart seats bytes (AppendsPrefix old new)
+AnswersServe seats bytes old new NoMemory = (new ≡ old) ⊎ StopsServing seats bytes (Appends old new)
+AnswersServe seats bytes old new status = ⊥
 
 -- the outcomes after which the whole input was read
 abbrev pub HasRead : Status → Type 0

@@ -2,7 +2,7 @@ ghost use Rattle.std.specs.Prelude.{◌≡◌, [], ◌∷◌, None, length, IfOk
 ghost use Rattle.pgn_hub.specs.Passes.{IsWithin};
 ghost use Rattle.pgn_session.specs.Standing.{IsServedBy};
 ghost use Rattle.pgn_session.specs.Whole.{HasRest};
-ghost use Rattle.pgn_wire.specs.Serving.{BeginsEmpty};
+ghost use Rattle.pgn_session.specs.Open.{BeginsEmpty};
 ghost use Rattle.pgn_run.specs.Conversation.{NamesNoFlags, RunsLegally, session_section, wire_plan, wire_shape};
 
 use pgn_base::{DbOid, Format, NOTE_LINES_MAX, Name, PAGES_DEFAULT, Seed, SessionNo};

@@ -22,8 +22,10 @@
 //! ```
 #![tactic(auto)]
 
+mod arms;
 mod checking;
 mod client;
+mod closing;
 mod conversing;
 pub mod examples;
 mod input;
@@ -32,6 +34,9 @@ mod parting;
 mod print;
 mod run;
 mod scenario_run;
+mod seating;
+mod serve;
+mod service;
 mod status;
 mod wire;
 
@@ -40,4 +45,5 @@ pub use live_run::run_scenario_live;
 pub use print::Print;
 pub use run::run_notify;
 pub use scenario_run::run_scenario;
+pub use service::{ServiceEnd, run_service};
 pub use status::Status;

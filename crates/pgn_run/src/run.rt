@@ -12,15 +12,18 @@ ghost use Rattle.pgn_messages.specs.Messages.{messages};
 ghost use Rattle.pgn_check.specs.declared.check.Verdict.TheVariants as verdict;
 ghost use Rattle.pgn_queries.specs.declared.wire_fault.WireFault.{WireFault};
 ghost use Rattle.pgn_wire.specs.Serving.{WroteWhole};
+ghost use Rattle.pgn_frames.specs.declared.frame_fault.FrameFault.{FrameFault};
+ghost use Rattle.pgn_run.specs.Service.{ServesAll, ServesFirst, StopsServing};
 ghost use Rattle.pgn_run.specs.Checking.{HasFault, HasNoOutput, IsJudged, IsTooLarge, verdict_text};
 ghost use Rattle.pgn_run.specs.Conversation.{BreaksOff, StopsAmong, StopsBetween};
 ghost use Rattle.pgn_run.specs.declared.print.Print.{Print};
 ghost use Rattle.pgn_run.specs.declared.print.Print.TheVariants.{Summary};
-ghost use Rattle.pgn_run.specs.Run.{Answers, AskToCheck, AskToDrill, AskToRun, AskToRunLive, AskToWire, EndsIn, HasRead, IsOfRun, IsShownSoFar, Performs, PerformsInPart, Runs, Shown, ShownInPart, SoFarRuns, asked_settings, drill_settings, settings_with, shows_if};
+ghost use Rattle.pgn_run.specs.Run.{Answers, AskToCheck, AskToDrill, AskToRun, AskToRunLive, AskToServe, AskToWire, EndsIn, HasFrames, HasRead, IsOfRun, IsShownSoFar, Performs, PerformsInPart, Runs, Shown, ShownInPart, SoFarRuns, asked_settings, drill_settings, settings_with, shows_if};
 
 use crate::checking::{CHECK_BYTES_MAX, check};
 use crate::input::{Unread, read_input};
 use crate::print::Shows;
+use crate::serve::serve;
 use crate::wire::wire;
 use crate::{Print, Status, run_scenario, run_scenario_live};
 use pgn_base::{Format, INPUT_BYTES_MAX, PAGES_MAX, Seed, Sink, Source};
@@ -42,7 +45,8 @@ const READ_LIMIT: usize = INPUT_BYTES_MAX + 1;
 /// Does all that the program does between its words and its exit status. `words` are those after the program's name. `run` reads a scenario
 /// from the source, runs its sessions side by side, and writes the journal and what each session was answered and received to the sink.
 /// `drill` reads nothing: it makes a scenario, runs it the same way, and writes the summary. `wire` answers each query that it reads, as a
-/// server of PostgreSQL does after start-up, before it reads the next. `check` reads a scenario and an output text, and writes whether this
+/// server of PostgreSQL does after start-up, before it reads the next. `serve` serves the clients of many seats at once on one queue, whose
+/// frames it reads and writes. `check` reads a scenario and an output text, and writes whether this
 /// is the output of a legal run of it, or which line is the first to blame. Hashes are made with the seed, on which nothing that stands
 /// here depends. Sessions may wait for one another, so that it is not promised
 /// that the call returns; what stands here holds where it does.
@@ -55,8 +59,9 @@ pub fn run_notify<'a, S: Source, K: Sink + Send, R: Threads + Wait + Clock + Syn
     sink: &mut K,
 ) -> Status
     // The headline: what was left reads as a scenario, and the text of a legal run of it was written; or the summary of a drill; or what
-    // was left are the queries of a client, and the messages of a legal run of them were written; or it is a scenario with the output of
-    // a legal run of it, and that was said.
+    // was left are the queries of a client, and the messages of a legal run of them were written; or frames of the clients of seats, there
+    // is a legal run of what they asked, and each was told what its seat's trace says, whole and in order; or it is a scenario with the
+    // output of a legal run of it, and that was said.
     ensures done { result ≡ Status.Done → Performs (map (λ word. word.now) words.now) (S.left source.old) (Appends (K.held sink.old) (K.held sink.new)) }
     ensures done_reads_all { AskToRun (map (λ word. word.now) words.now) → result ≡ Status.Done → OnSome (S.left source.old) (IsAtEnd (S.left source.new)) }
 
@@ -101,22 +106,28 @@ pub fn run_notify<'a, S: Source, K: Sink + Send, R: Threads + Wait + Clock + Syn
         → (result ≡ Status.CheckTooLarge) ⊎ (result ≡ Status.NoMemory) }
     ensures check_too_large_writes_nothing { result ≡ Status.CheckTooLarge → K.held sink.new ≡ K.held sink.old }
 
-    ensures read_fault { result ≡ Status.ReadFault → (AskToRun (map (λ word. word.now) words.now) ⊎ AskToWire (map (λ word. word.now) words.now) ⊎ AskToCheck (map (λ word. word.now) words.now)) × Rose (S.faults source.old) (S.faults source.new) }
-    ensures read_fault_where_due { S.faults source.old < S.faults source.new → result ≡ Status.ReadFault }
-    ensures read_fault_writes_nothing { ¬ AskToWire (map (λ word. word.now) words.now) → result ≡ Status.ReadFault → K.held sink.new ≡ K.held sink.old }
+    ensures read_fault { result ≡ Status.ReadFault → (AskToRun (map (λ word. word.now) words.now) ⊎ AskToWire (map (λ word. word.now) words.now) ⊎ AskToCheck (map (λ word. word.now) words.now) ⊎ AskToServe (map (λ word. word.now) words.now)) × Rose (S.faults source.old) (S.faults source.new) }
+    ensures read_fault_where_due { ¬ AskToServe (map (λ word. word.now) words.now) → S.faults source.old < S.faults source.new → result ≡ Status.ReadFault }
+    // Of a service both a read and a write may fail in one run.
+    ensures read_fault_where_served { AskToServe (map (λ word. word.now) words.now) → S.faults source.old < S.faults source.new → (result ≡ Status.ReadFault) ⊎ (result ≡ Status.WriteFault) ⊎ (result ≡ Status.NoMemory) }
+    ensures read_fault_writes_nothing { ¬ AskToWire (map (λ word. word.now) words.now) → ¬ AskToServe (map (λ word. word.now) words.now) → result ≡ Status.ReadFault → K.held sink.new ≡ K.held sink.old }
     ensures read_fault_writes_answers { AskToWire (map (λ word. word.now) words.now) → result ≡ Status.ReadFault → IfSome (S.left source.old) (λ bytes.
         StopsBetween bytes (Appends (K.held sink.old) (K.held sink.new))) }
+    ensures read_fault_writes_what_was_told { (ask : AskToServe (map (λ word. word.now) words.now)) → result ≡ Status.ReadFault → IfSome (S.left source.old) (λ bytes.
+        ServesFirst ask.seats bytes (Appends (K.held sink.old) (K.held sink.new))) }
 
     ensures write_fault { result ≡ Status.WriteFault → Rose (K.faults sink.old) (K.faults sink.new) }
     ensures write_fault_where_due { K.faults sink.old < K.faults sink.new → result ≡ Status.WriteFault }
     ensures write_fault_writes_a_prefix { result ≡ Status.WriteFault
         → PerformsInPart (map (λ word. word.now) words.now) (S.left source.old) (AppendsPrefix (K.held sink.old) (K.held sink.new)) }
 
-    ensures no_memory_writes_nothing { ¬ AskToRunLive (map (λ word. word.now) words.now) → ¬ AskToWire (map (λ word. word.now) words.now) → result ≡ Status.NoMemory → K.held sink.new ≡ K.held sink.old }
+    ensures no_memory_writes_nothing { ¬ AskToRunLive (map (λ word. word.now) words.now) → ¬ AskToWire (map (λ word. word.now) words.now) → ¬ AskToServe (map (λ word. word.now) words.now) → result ≡ Status.NoMemory → K.held sink.new ≡ K.held sink.old }
     ensures no_memory_writes_first_lines { (ask : AskToRunLive (map (λ word. word.now) words.now)) → result ≡ Status.NoMemory
         → (K.held sink.new ≡ K.held sink.old) ⊎ IfSome (S.left source.old) (λ input. SoFarRuns (settings_with ask.pages ask.patience ask.format) input (Appends (K.held sink.old) (K.held sink.new))) }
     ensures no_memory_writes_whole_answers { AskToWire (map (λ word. word.now) words.now) → result ≡ Status.NoMemory → IfSome (S.left source.old) (λ bytes.
         StopsAmong bytes (WroteWhole (K.held sink.old) (K.held sink.new))) }
+    ensures no_memory_writes_whole_turns { (ask : AskToServe (map (λ word. word.now) words.now)) → result ≡ Status.NoMemory
+        → (K.held sink.new ≡ K.held sink.old) ⊎ IfSome (S.left source.old) (λ bytes. StopsServing ask.seats bytes (Appends (K.held sink.old) (K.held sink.new))) }
 
     // The bytes of a client have this fault, and what it asked before was answered.
     ensures bad_wire { (fault : WireFault) → result ≡ Status.BadWire fault
@@ -126,6 +137,15 @@ pub fn run_notify<'a, S: Source, K: Sink + Send, R: Threads + Wait + Clock + Syn
         → ¬ Rose (S.faults source.old) (S.faults source.new)
         → ¬ Rose (K.faults sink.old) (K.faults sink.new)
         → (result ≡ Status.BadWire fault) ⊎ (result ≡ Status.NoMemory) }
+
+    // What was read for the clients of seats has this fault, and all frames before were served.
+    ensures bad_frame { (fault : FrameFault) → result ≡ Status.BadFrame fault
+        → (ask : AskToServe (map (λ word. word.now) words.now)) × IfSome (S.left source.old) (λ bytes. ServesAll ask.seats bytes (Some fault) (Appends (K.held sink.old) (K.held sink.new))) }
+    ensures bad_frame_where_due { (fault : FrameFault) (ask : AskToServe (map (λ word. word.now) words.now))
+        → IsSomeAnd (S.left source.old) (λ bytes. HasFrames ask.seats bytes (Some fault))
+        → ¬ Rose (S.faults source.old) (S.faults source.new)
+        → ¬ Rose (K.faults sink.old) (K.faults sink.new)
+        → (result ≡ Status.BadFrame fault) ⊎ (result ≡ Status.NoMemory) }
 
     // What was left is what was read and then what is left now; all of it was read, or its first 16,777,217 bytes.
     ensures what_was_read { AskToRun (map (λ word. word.now) words.now) → HasRead result → IfSome (S.left source.old) (λ left.
@@ -142,6 +162,11 @@ pub fn run_notify<'a, S: Source, K: Sink + Send, R: Threads + Wait + Clock + Syn
         → (result ≡ Status.Done) ⊎ (result ≡ Status.NoMemory) }
     ensures wire_complete { AskToWire (map (λ word. word.now) words.now)
         → IsSomeAnd (S.left source.old) (λ bytes. EndsIn bytes None)
+        → ¬ Rose (S.faults source.old) (S.faults source.new)
+        → ¬ Rose (K.faults sink.old) (K.faults sink.new)
+        → (result ≡ Status.Done) ⊎ (result ≡ Status.NoMemory) }
+    ensures serve_complete { (ask : AskToServe (map (λ word. word.now) words.now))
+        → IsSomeAnd (S.left source.old) (λ bytes. HasFrames ask.seats bytes None)
         → ¬ Rose (S.faults source.old) (S.faults source.new)
         → ¬ Rose (K.faults sink.old) (K.faults sink.new)
         → (result ≡ Status.Done) ⊎ (result ≡ Status.NoMemory) }
@@ -180,6 +205,7 @@ pub fn run_notify<'a, S: Source, K: Sink + Send, R: Threads + Wait + Clock + Syn
             },
         ) => drill::<K, R>(rt, alloc, hashes, seed, sessions, notes, sink),
         Ok(Asked::Wire) => wire::<R, S, K>(rt, alloc, hashes, source, sink),
+        Ok(Asked::Serve { seats }) => serve::<R, S, K>(rt, alloc, hashes, seats, source, sink),
         Ok(
             Asked::Check {
                 pages,

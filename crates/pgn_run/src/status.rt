@@ -1,3 +1,4 @@
+use pgn_frames::FrameFault;
 use pgn_language::ScenarioFault;
 use pgn_queries::WireFault;
 
@@ -12,9 +13,10 @@ pub enum Status {
     BadScenario(ScenarioFault),
     /// The source failed.
     ReadFault,
-    /// The sink failed; a prefix of the output was written, or of a live run of the lines of what its sessions did.
+    /// The sink failed; a prefix of the output was written, or of a live run of the lines of what its sessions did, or of what the clients of
+    /// `serve` were told.
     WriteFault,
-    /// Memory did not suffice; nothing was written, or of a live run its first lines, or of `wire` whole answers.
+    /// Memory did not suffice; nothing was written, or of a live run its first lines, of `wire` whole answers, or of `serve` whole turns.
     NoMemory,
     /// What a client of the wire sent is at fault; what it asked before was answered.
     BadWire(WireFault),
@@ -24,13 +26,15 @@ pub enum Status {
     NoOutput,
     /// The input of `check` is too large.
     CheckTooLarge,
+    /// What `serve` reads is at fault; the frames before were served.
+    BadFrame(FrameFault),
 }
 
 impl Status {
     ghost use Rattle.std.specs.Prelude.{◌≡◌};
     ghost use Rattle.pgn_run.specs.Run.{code_of};
 
-    /// The program's exit status: 0, 2 to 6, or 8 to 11.
+    /// The program's exit status: 0, 2 to 6, or 8 to 12.
     pub fn code(&self) -> u8
         ensures { result ≡ code_of self.now }
     {
@@ -45,6 +49,7 @@ impl Status {
             Status::NoOutput => 9,
             Status::BadWire(_) => 10,
             Status::CheckTooLarge => 11,
+            Status::BadFrame(_) => 12,
         }
     }
 }

@@ -82,6 +82,7 @@ fn ending_of(status: Status) -> &'static str {
         Status::Illegal { .. } => "Illegal: ",
         Status::NoOutput => "NoOutput: ",
         Status::CheckTooLarge => "CheckTooLarge: ",
+        Status::BadFrame(_) => "BadFrame: ",
     }
 }
 

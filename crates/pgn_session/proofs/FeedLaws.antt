@@ -84,7 +84,7 @@ quits-fed (l ∷ front) last line goes_on h = (λ e. absurd (some front (h.0 e))
     some (l ∷ front) is = let no : ⊥ = cc in no
 
 -- how many of the lines notify
-notes-append : (xs ys : List ScriptLine) → note_lines_of (xs ++ ys) ≡ note_lines_of xs + note_lines_of ys
+pub notes-append : (xs ys : List ScriptLine) → note_lines_of (xs ++ ys) ≡ note_lines_of xs + note_lines_of ys
 notes-append xs ys = sum_by-append (λ (l : ScriptLine). cond (is_note_act l.act) 1 0) xs ys
 
 -- the trace so far shows the lines that have begun

@@ -48,5 +48,11 @@ pub mod LawfulLaws
 pub mod FeedWalkLaws
 -- a session whose script has grown
 pub mod FeedLaws
+-- a script that is open, and a line that was put into it
+pub mod OpenLaws
+-- a line with a command, taken from it
+pub mod LineTakenLaws
+-- its `\quit`
+pub mod OpenQuitLaws
 -- why examples are refused
 mod ExampleLemmas

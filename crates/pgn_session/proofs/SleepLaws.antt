@@ -58,22 +58,12 @@ rest-slept {P} shape known old new micros same h =
     (record { state = h.state; stands = h.stands; rest = h.rest; channels = h.channels; here = slept-rested (terms_of shape old.section old.patience) old.plan old.block (known old.pass) h.state micros old.doing h.here })
 
 -- the flag that it awaits is one of the hub's
-answered-below : (shape : Shape) (terms : Terms) (plan : FlagPlan) (block : BlockView) (k : Known) (s : State) (doing : Doing) → IsServedBy shape terms.section plan → HasAnswered terms plan block k s doing → IsAwaitedBelow shape.flags doing
-answered-below shape terms plan block k s Lines served h = tt
-answered-below shape terms plan block k s (Committing actions notes tag) served h = tt
-answered-below shape terms plan block k s (Awaiting flag looks) served h = awaited-below terms.section shape.flags flag served.acts h.2
-answered-below shape terms plan block k s (Ending found looks) served h = tt
-answered-below shape terms plan block k s Over served h = tt
-
 rested-below : (shape : Shape) (terms : Terms) (plan : FlagPlan) (block : BlockView) (k : Known) (s : State) (doing : Doing) → IsServedBy shape terms.section plan → HasRested terms plan block k s doing → IsAwaitedBelow shape.flags doing
 rested-below shape terms plan block k s Lines served h = tt
 rested-below shape terms plan block k s (Committing actions notes tag) served h = tt
 rested-below shape terms plan block k s (Awaiting flag looks) served h = awaited-below terms.section shape.flags flag served.acts h.0.2
 rested-below shape terms plan block k s (Ending found looks) served h = tt
 rested-below shape terms plan block k s Over served h = tt
-
-pub answer-below : {P : Type 0} (shape : Shape) (known : P → Known) (s : Session P) → IsServedBy shape s.section s.plan → HasAnswer shape known s → IsAwaitedBelow shape.flags s.doing
-answer-below shape known s served h = answered-below shape (terms_of shape s.section s.patience) s.plan s.block (known s.pass) h.state s.doing served h.here
 
 pub rest-below : {P : Type 0} (shape : Shape) (known : P → Known) (s : Session P) → IsServedBy shape s.section s.plan → HasRest shape known s → IsAwaitedBelow shape.flags s.doing
 rest-below shape known s served h = rested-below shape (terms_of shape s.section s.patience) s.plan s.block (known s.pass) h.state s.doing served h.here

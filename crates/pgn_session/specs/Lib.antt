@@ -18,3 +18,5 @@ pub mod Examples
 pub mod Feed
 -- before which lines a session reads
 pub mod FirstRead
+-- a script that is open: a line is put in, taken, and the next may come
+pub mod Open

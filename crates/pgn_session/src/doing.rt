@@ -56,13 +56,3 @@ pub enum IdleDone {
     /// It was woken, and has read up to this number, and not this number.
     Read { to: Xid },
 }
-
-impl IdleDone {
-    /// Whether it has read.
-    pub fn has_read(&self) -> bool {
-        match self {
-            IdleDone::Read { .. } => true,
-            _ => false,
-        }
-    }
-}

@@ -6,6 +6,7 @@ ghost use Rattle.pgn_session.specs.Steps.{HasTurned, ShowsLine, AnswersLine, Wai
 ghost use Rattle.pgn_session.specs.Sleep.{slept_doing, slept_for};
 ghost use Rattle.pgn_session.specs.Feed.{EndsByQuit, fed};
 ghost use Rattle.pgn_session.specs.Examples.{two_sessions, begin_line, commit_line, quit_line, quits};
+ghost use Rattle.pgn_session.specs.Open.{RunsCommand, ShowsRead};
 
 use crate::{Doing, Step};
 use pgn_base::Tag;
@@ -95,4 +96,15 @@ pub fn refused()
     ensures handed_out { StandsStill Doing.Lines (Doing.Committing [] [] Tag.Commit) }
     ensures looked { StandsStill (Doing.Awaiting 1 1) (Doing.Awaiting 1 2) → ⊥ }
     ensures at_the_end { StandsStill (Doing.Ending 0 0) (Doing.Ending 0 0) → ⊥ }
+{}
+
+/// What is put into an open script, and what is read before it and behind it: a line with a command, and a read at most.
+pub fn taken()
+    ensures runs { RunsCommand begin_line }
+    ensures quits { RunsCommand quit_line → ⊥ }
+    ensures nothing { ShowsRead (Item.Line 1 ∷ []) (Item.Line 1 ∷ []) }
+    ensures read { ShowsRead (Item.Line 1 ∷ []) (Item.Line 1 ∷ Item.Read 3 4 [] ∷ []) }
+    ensures line { ShowsRead [] (Item.Line 1 ∷ []) → ⊥ }
+    ensures two_reads { ShowsRead [] (Item.Read 3 4 [] ∷ Item.Read 4 5 [] ∷ []) → ⊥ }
+    ensures forgets { ShowsRead (Item.Line 1 ∷ []) [] → ⊥ }
 {}

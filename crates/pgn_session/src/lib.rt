@@ -8,8 +8,8 @@
 //! `new` makes a session that has rested. `step` takes it from `HasRest` to `HasAnswer`, and only where it is over or the step was
 //! refused has it rested still; `idle` leads from `HasAnswer` to `HasRest`, so that a session that waits reads between its looks.
 //! Before a `step`, `read_before_line` reads with the set as it is, where the next line may add a channel.
-//! Between `step` and `idle`, or behind `idle`, a session that waits may `rest`: it sleeps on its flag, which counts as looks. `turn` is
-//! a step with both reads, and `wait_after` a wait that becomes longer.
+//! Between `step` and `idle`, or behind `idle`, a session that waits may `sleep` on its flag, and `sleep_over` counts that as looks. `turn` is
+//! a step with both reads, and `wait_together` a wait that becomes longer, of all sessions that share a thread.
 //! After a step that ended, `finish_read` reads once more and `into_log` gives the trace. A refused `step` may be made again, or the
 //! session calls `give_up`. `meet` lets another session hear what this one knows.
 //!
@@ -39,7 +39,6 @@ pub mod examples;
 mod feeding;
 mod first_read;
 mod line;
-mod meeting;
 mod reading;
 mod session;
 mod sleep;
@@ -49,8 +48,7 @@ mod turn;
 mod waiting;
 
 pub use doing::{Doing, FlagPlan, IdleDone, Step};
-pub use meeting::Meeting;
 pub use session::Session;
 pub use together::{give_up_all, wait_together};
-pub use turn::{LONGEST_SLEEP, both_steps};
+pub use turn::LONGEST_SLEEP;
 pub use waiting::waits_behind;

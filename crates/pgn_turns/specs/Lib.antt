@@ -2,6 +2,8 @@
 pub mod Asks
 -- a session's trace in turns, and what is told of them
 pub mod Turns
+-- what clients are told, piece by piece
+pub mod Sayings
 -- how turns grow, and what they make of a trace
 pub mod Laws
 -- worked examples

@@ -13,8 +13,10 @@ mod asked;
 pub mod examples;
 pub mod laws;
 mod lines;
+mod saying;
 mod telling;
 
 pub use asked::{Ask, Asked, Parting};
 pub use lines::{quit_at_end, rollback_at, unlisten_at};
+pub use saying::Saying;
 pub use telling::{tell_answer, tell_parting, tell_reads};

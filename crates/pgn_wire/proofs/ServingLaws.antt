@@ -1,22 +1,19 @@
 -- A client that is served, a query at a time.
-use Rattle.std.proofs.Common.{◌≡◌, ℕ, ◌+◌, ◌<◌, ◌≤◌, ◌⊎◌, inl, inr, Bool, true, false, cond, List, [], ◌∷◌, ◌++◌, length, Option, Some, None, IfSome, Result, Ok, Err, sym, ap, ◌∙◌, subst, refl, arith, append_assoc, append-nil}
+use Rattle.std.proofs.Common.{◌≡◌, ℕ, ◌+◌, ◌<◌, ◌≤◌, ◌⊎◌, inl, inr, Bool, true, false, List, [], ◌∷◌, ◌++◌, length, Option, Some, None, IfSome, Result, Ok, Err, sym, ap, ◌∙◌, subst, refl, arith, append_assoc, append-nil}
 use Rattle.std.proofs.lemmas.Bool.{cases_lt}
-use Rattle.std.proofs.lemmas.List.{length-append}
-use Rattle.std.proofs.lemmas.List.Sums.{sum_by-append}
 use Rattle.std.specs.Io.KnownBytes.{Appends}
 use Rattle.pgn_base.specs.declared.command.Command.TheVariants.{Bad as BadCommand}
-use Rattle.pgn_language.specs.declared.scenario.Act.{Act}
 use Rattle.pgn_language.specs.declared.scenario.ScriptLine.{ScriptLine}
 use Rattle.pgn_language.specs.declared.scenario.Section.{Section}
-use Rattle.pgn_language.specs.Inputs.{is_note_act, note_lines_of}
+use Rattle.pgn_language.specs.Inputs.{note_lines_of}
 use Rattle.pgn_model.specs.declared.item.Item.{Item}
 use Rattle.pgn_hub.specs.Shape.{Shape}
 use Rattle.pgn_session.specs.declared.session.Session.{Session}
-use Rattle.pgn_session.specs.declared.doing.FlagPlan.{FlagPlan}
-use Rattle.pgn_session.specs.Standing.{IsFlagBelow, IsServedBy}
+use Rattle.pgn_session.specs.Standing.{IsServedBy}
 use Rattle.pgn_session.specs.Feed.{EndsByQuit, fed}
-use Rattle.pgn_session.specs.Whole.{IsSameScript}
-use Rattle.pgn_session.proofs.FeedLaws.{fed-split, fed-served}
+use Rattle.pgn_session.proofs.FeedLaws.{fed-split}
+use Rattle.pgn_session.proofs.OpenLaws.{begins-open, fed-runs_served, notes-fed, same-client}
+use Rattle.pgn_session.proofs.LineTakenLaws.{line-open}
 use Rattle.pgn_messages.specs.Messages.{messages}
 use Rattle.pgn_queries.specs.declared.limits.TheConstants.{QUERIES_MAX}
 use Rattle.pgn_queries.specs.declared.wire_fault.WireFault.{WireFault}
@@ -26,7 +23,8 @@ use Rattle.pgn_queries.specs.Queries.{AreTooMany, Gives, HasPassed, IsLineOf, Pl
 use Rattle.pgn_queries.proofs.EachLaws.{each_has_reading}
 use Rattle.pgn_wire.specs.declared.wire_end.WireEnd.{WireEnd}
 use Rattle.pgn_wire.specs.declared.wire_end.WireEnd.TheVariants.{Bad, Read, Write, Memory}
-use Rattle.pgn_wire.specs.Serving.{AsksAll, AsksFirst, BeginsEmpty, HasAsked, HasEnded, HasTaken, HasWritten, IsFedOrNot, IsOpen, IsSameClient, IsServing, RunsCommand, TurnsInto, WhereAsked}
+use Rattle.pgn_session.specs.Open.{BeginsEmpty, IsFedOrNot, IsOpen, IsSameClient, RunsCommand}
+use Rattle.pgn_wire.specs.Serving.{AsksAll, AsksFirst, HasAsked, HasEnded, HasTaken, HasWritten, IsServing, TurnsInto, WhereAsked}
 
 -- a query's line runs a command
 runs : (number : ℕ) (text : List ℕ) (line : ScriptLine) → IsLineOf number text line → RunsCommand line
@@ -36,29 +34,14 @@ runs number text _ (asked.IsLineOf.Lines _ before rest split one) = (BadCommand 
 pub passed-runs : (old new : Place) (line : ScriptLine) → HasPassed old new line → RunsCommand line
 passed-runs old new line h = runs (old.queries + 1) h.text line h.is
 
--- so no flag stands in it
-runs-flagless : (flags : ℕ) (line : ScriptLine) → RunsCommand line → IsFlagBelow flags line.act
-runs-flagless flags line h = subst (λ (act : Act). IsFlagBelow flags act) (sym h.1) tt
-
+-- a hub that served the session serves it still
 pub taken-served : {P : Type 0} (shape : Shape) (old new : Session P) (line : ScriptLine) → IsOpen old → RunsCommand line → HasTaken old line new → IsSameClient old new
     → IsServedBy shape old.section old.plan → IsServedBy shape new.section new.plan
-taken-served shape old new line is_open h taken same served =
-    subst (λ (plan : FlagPlan). IsServedBy shape new.section plan) (sym same.plan)
-    (subst (λ (section : Section). IsServedBy shape section old.plan) (sym taken.section)
-    (fed-served shape old.section old.plan line is_open.ends (runs-flagless shape.flags line h) served))
+taken-served shape old new line is_open h taken same served = fed-runs_served shape old new line is_open h taken.section same served
 
--- how many of the lines notify
-pub notes-append : (xs ys : List ScriptLine) → note_lines_of (xs ++ ys) ≡ note_lines_of xs + note_lines_of ys
-notes-append xs ys = sum_by-append (λ (l : ScriptLine). cond (is_note_act l.act) 1 0) xs ys
-
--- with one more
-notes-fed : (section : Section) (line : ScriptLine) → EndsByQuit section.lines → note_lines_of (fed section line).lines ≡ note_lines_of section.lines + note_of line.act
-notes-fed section line ends =
-    let new : note_lines_of (fed section line).lines ≡ note_lines_of ends.front + note_lines_of (line ∷ ends.last ∷ []) = ap note_lines_of (fed-split section line ends) ∙ notes-append ends.front (line ∷ ends.last ∷ []) in
-    let old : note_lines_of section.lines ≡ note_lines_of ends.front + note_lines_of (ends.last ∷ []) = ap note_lines_of ends.split ∙ notes-append ends.front (ends.last ∷ []) in
-    let more : note_lines_of (line ∷ ends.last ∷ []) ≡ note_lines_of (line ∷ []) + note_lines_of (ends.last ∷ []) = notes-append (line ∷ []) (ends.last ∷ []) in
-    let one : note_lines_of (line ∷ []) ≡ note_of line.act = omega arith in
-    omega (arith, new, old, more, one)
+-- a line notifies, or does not
+one-note : (line : ScriptLine) → note_lines_of (line ∷ []) ≡ note_of line.act
+one-note line = omega arith
 
 -- a query leaves the limit as it was
 pub passed-limit : (old new : Place) (line : ScriptLine) → HasPassed old new line → new.most ≡ old.most
@@ -69,33 +52,16 @@ pub passed-few : (old new : Place) (line : ScriptLine) (lines : List ScriptLine)
     → note_lines_of (line ∷ []) + note_lines_of lines ≤ most
 passed-few old new line lines most h notes e =
     let after : new.notes ≡ old.notes + note_of line.act = ap (λ (p : Place). p.notes) h.after in
-    let one : note_lines_of (line ∷ []) ≡ note_of line.act = omega arith in
+    let one : note_lines_of (line ∷ []) ≡ note_of line.act = one-note line in
     let limit : new.most ≡ old.most = passed-limit old new line h in
     elim (cases_lt new.most new.notes) [
       | inl many ↦ absurd (h.few (inr many))
       | inr few ↦ omega (arith, few, limit, after, one, notes, e)
     ]
 
--- the same client, over two calls
-pub same-client : {P : Type 0} (a b c : Session P) → IsSameClient a b → IsSameClient b c → IsSameClient a c
-same-client a b c h k = record {
-  section = k.section ∙ ap (λ (s : Section). record s { lines = c.section.lines }) h.section;
-  plan = k.plan ∙ h.plan;
-  patience = k.patience ∙ h.patience;
-}
-
 -- a session that has taken a query is open again
 abbrev pub taken-open : {P : Type 0} (old new : Session P) (line : ScriptLine) → IsOpen old → HasTaken old line new → IsOpen new
-taken-open old new line is_open taken = record {
-  ends = record {
-    front = is_open.ends.front ++ line ∷ [];
-    last = is_open.ends.last;
-    split = ap (λ (s : Section). s.lines) taken.section ∙ fed-split old.section line is_open.ends ∙ sym (append_assoc is_open.ends.front (line ∷ []) (is_open.ends.last ∷ []));
-    quits = is_open.ends.quits;
-  };
-  begun = taken.counted ∙ ap (λ (n : ℕ). n + 1) is_open.begun ∙ sym (length-append is_open.ends.front (line ∷ []));
-  between = taken.between;
-}
+taken-open old new line is_open taken = line-open old new line is_open taken.section taken.counted taken.between
 
 -- what was asked first, with one query more
 asks-more : (place next : Place) (front : List ScriptLine) (line : ScriptLine) (bytes left rest : Option (List ℕ)) → next.most ≡ place.most → OfKnown (Gives place next (Some line)) left rest
@@ -116,7 +82,8 @@ serving-goes start old new line place next bytes left rest held before now passe
   same = same-client start old new h.same same;
   is_open = taken-open old new line h.is_open taken;
   begun = h.begun;
-  notes = ap (λ (s : Section). note_lines_of s.lines) taken.section ∙ notes-fed old.section line h.is_open.ends ∙ ap (λ (n : ℕ). n + note_of line.act) h.notes ∙ sym (ap (λ (p : Place). p.notes) passed.after);
+  notes = ap (λ (s : Section). note_lines_of s.lines) taken.section ∙ notes-fed old.section line h.is_open.ends ∙ ap (λ (n : ℕ). note_lines_of old.section.lines + n) (one-note line)
+      ∙ ap (λ (n : ℕ). n + note_of line.act) h.notes ∙ sym (ap (λ (p : Place). p.notes) passed.after);
   most = passed-limit place next line passed ∙ h.most ∙ sym (ap (λ (s : Section). s.note_lines) taken.section);
   asked = asks-more place next h.is_open.ends.front line bytes left rest (passed-limit place next line passed) gives h.asked;
   wrote = written held h.wrote;
@@ -261,18 +228,14 @@ writes-none : (held : Option (List ℕ)) (text : List ℕ) → text ≡ [] → A
 writes-none None text e = tt
 writes-none (Some xs) text e = sym (ap (λ (l : List ℕ). xs ++ l) e ∙ append-nil xs)
 
-abbrev pub begins-open : {P : Type 0} (s : Session P) → BeginsEmpty s → IsOpen s
-begins-open s h = record { ends = record { front = []; last = h.last; split = h.lines; quits = h.quits }; begun = h.begun; between = h.between }
-
 pub serving-begins : {P : Type 0} (s : Session P) (bytes held : Option (List ℕ)) → BeginsEmpty s → IsServing s s (first_place s.section.note_lines) bytes bytes held held
 serving-begins {P} s bytes held h =
-    let one : note_lines_of (h.last ∷ []) ≡ note_of h.last.act = omega arith in
     let none : note_of h.last.act ≡ 0 = ap note_of h.quits in
     record {
       same = record { section = refl; plan = refl; patience = refl };
       is_open = begins-open s h;
       begun = h.lines;
-      notes = ap note_lines_of h.lines ∙ one ∙ none;
+      notes = ap note_lines_of h.lines ∙ one-note h.last ∙ none;
       most = refl;
       asked = asks-none s.section.note_lines [] bytes refl;
       wrote = writes-none held (messages s.section s.items.items) (ap (λ (is : List Item). messages s.section is) h.shown);
@@ -289,14 +252,7 @@ some-gives old new next given left rest e h = subst (λ (n : Option ScriptLine).
 pub unrisen : (before now : ℕ) (P : Type 0) → before ≤ now → (before < now → P) → (P → ⊥) → now ≡ before
 unrisen before now P later rose none = elim (cases_lt before now) [ inl less ↦ absurd (none (rose less)) | inr same ↦ omega (arith, later, same) ]
 
--- after the `\quit` it is the same client, and as much was asked
-pub quit-same : {P : Type 0} (a b c : Session P) → IsSameClient a b → IsSameScript b c → IsSameClient a c
-quit-same a b c h k = record {
-  section = k.section ∙ h.section ∙ ap (λ (s : Section). record a.section { lines = s.lines }) (sym k.section);
-  plan = k.plan ∙ h.plan;
-  patience = k.patience ∙ h.patience;
-}
-
+-- after the `\quit` as much was asked
 pub quit-asked : (first mid new : Section) (bytes : Option (List ℕ)) → new ≡ mid → ((last : ScriptLine) → first.lines ≡ last ∷ [] → IfSome bytes (λ all. AsksAll all None last mid))
     → (last : ScriptLine) → first.lines ≡ last ∷ [] → IfSome bytes (λ all. AsksAll all None last new)
 quit-asked first mid new bytes e h last is = subst (λ (s : Section). IfSome bytes (λ all. AsksAll all None last s)) (sym e) (h last is)

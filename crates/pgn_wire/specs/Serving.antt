@@ -1,41 +1,27 @@
 -- What holds of a session that answers the queries of a client.
-use Rattle.std.specs.Prelude.{◌≡◌, ℕ, ◌+◌, ◌⊎◌, Bool, true, false, List, [], ◌∷◌, ◌++◌, length, Option, None, Some, Result, Ok, Err, IfSome}
+use Rattle.std.specs.Prelude.{◌≡◌, ℕ, ◌+◌, Bool, true, false, List, [], ◌∷◌, ◌++◌, Option, None, Some, Result, Ok, Err, IfSome}
 use Rattle.std.specs.Io.KnownBytes.{Appends}
 use Rattle.pgn_base.specs.Outside.{AppendsPrefix}
 use Rattle.pgn_base.specs.declared.command.Command.{Command}
-use Rattle.pgn_answers.specs.declared.block_state.BlockState.TheVariants.{Idle}
-use Rattle.pgn_language.specs.declared.scenario.Act.TheVariants.{Run, Quit}
+use Rattle.pgn_language.specs.declared.scenario.Act.TheVariants.{Run}
 use Rattle.pgn_language.specs.declared.scenario.ScriptLine.{ScriptLine}
 use Rattle.pgn_language.specs.declared.scenario.Section.{Section}
 use Rattle.pgn_language.specs.Inputs.{note_lines_of}
 use Rattle.pgn_model.specs.declared.item.Item.{Item}
 use Rattle.pgn_model.specs.declared.item.Item.TheVariants.{Line}
-use Rattle.pgn_model.specs.Walk.{State}
 use Rattle.pgn_hub.specs.declared.known.Known.{Known}
 use Rattle.pgn_hub.specs.Shape.{Shape}
 use Rattle.pgn_session.specs.declared.session.Session.{Session}
 use Rattle.pgn_session.specs.declared.doing.Doing.TheVariants.{Lines}
-use Rattle.pgn_session.specs.Standing.{StandsAt, terms_of}
 use Rattle.pgn_session.specs.Whole.{HasRest}
-use Rattle.pgn_session.specs.Feed.{EndsByQuit, fed}
-use Rattle.pgn_session.specs.FirstRead.{HasReadTold}
+use Rattle.pgn_session.specs.Feed.{fed}
+use Rattle.pgn_session.specs.Open.{HasStood, IsOpen, IsSameClient}
 use Rattle.pgn_queries.specs.declared.wire_fault.WireFault.{WireFault}
 use Rattle.pgn_queries.specs.Client.{OfKnown}
 use Rattle.pgn_queries.specs.Queries.{Place, QueriesAre, queries}
 use Rattle.pgn_messages.specs.Messages.{answer_messages, messages}
 use Rattle.pgn_wire.specs.declared.wire_end.WireEnd.{WireEnd}
 use Rattle.pgn_wire.specs.declared.wire_end.WireEnd.TheVariants.{Bad, Read, Write, Memory}
-
--- the session's trace so far is lawful over what its pass has seen, and shows what the pass knows
-pub record HasStood {P : Type 0} (shape : Shape) (known : P → Known) (s : Session P) : Type 0 where
-  pub state : State
-  pub stands : StandsAt (terms_of shape s.section s.patience) (known s.pass) s.items.items state
-
--- the session stands between two lines, and all but the `\quit` that ends its script have begun
-pub record IsOpen {P : Type 0} (s : Session P) : Type 0 where
-  pub ends : EndsByQuit s.section.lines
-  pub begun : s.done ≡ length ends.front
-  pub between : s.doing ≡ Lines
 
 -- each query that was asked has its whole answer, and no read was left out: but for the `\quit` the script is done
 pub record HasAnsweredAll {P : Type 0} (shape : Shape) (known : P → Known) (s : Session P) : Type 0 where
@@ -47,20 +33,6 @@ abbrev pub WhereAsked : WireEnd → Type 0 → Type 0
 WhereAsked (Bad fault) P = P
 WhereAsked Read P = P
 WhereAsked end P = Unit {0}
-
--- outside of a block a listener has read up to what it was told of
-abbrev pub HasReadOutside : {P : Type 0} → (P → Known) → Session P → Type 0
-HasReadOutside known s = s.block.state ≡ Idle → HasReadTold (known s.pass)
-
--- the line runs a command
-abbrev pub RunsCommand : ScriptLine → Type 0
-RunsCommand line = (command : Command) × (line.act ≡ Run command)
-
--- nothing of what the session was given has changed but its script
-pub record IsSameClient {P : Type 0} (old new : Session P) : Type 0 where
-  pub section : new.section ≡ record old.section { lines = new.section.lines }
-  pub plan : new.plan ≡ old.plan
-  pub patience : new.patience ≡ old.patience
 
 -- the first of the items begins a line, if there is one
 abbrev pub BeginsByLine : List Item → Type 0
@@ -102,10 +74,6 @@ pub record HasTaken {P : Type 0} (old : Session P) (line : ScriptLine) (new : Se
   pub answers : messages new.section new.items.items ≡ messages old.section old.items.items ++ answer_messages command more new.block.state
   pub counted : new.done ≡ old.done + 1
   pub between : new.doing ≡ Lines
-
--- the script is as it was, or has the line more
-abbrev pub IsFedOrNot : Section → ScriptLine → Section → Type 0
-IsFedOrNot old line new = (new ≡ old) ⊎ (new ≡ fed old line)
 
 -- memory did not suffice: the trace is lawful so far, no message of the items so far has changed, and what is behind them begins by a line
 pub record HasStopped {P : Type 0} (shape : Shape) (known : P → Known) (old new : Session P) : Type 0 where
@@ -161,12 +129,3 @@ abbrev pub TurnsInto : {P : Type 0} → Result Bool WireEnd → Session P → Se
 TurnsInto {P} (Ok true) start s place bytes left held now = IsServing start s place bytes left held now
 TurnsInto {P} (Ok false) start s place bytes left held now = HasEnded {P = P} {T = Bool} (Ok false) start s bytes held now
 TurnsInto {P} (Err end) start s place bytes left held now = HasEnded {P = P} {T = Bool} (Err end) start s bytes held now
-
--- a session that may begin: its script is a `\quit`
-pub record BeginsEmpty {P : Type 0} (s : Session P) : Type 0 where
-  pub last : ScriptLine
-  pub lines : s.section.lines ≡ last ∷ []
-  pub quits : last.act ≡ Quit
-  pub begun : s.done ≡ 0
-  pub between : s.doing ≡ Lines
-  pub shown : s.items.items ≡ []

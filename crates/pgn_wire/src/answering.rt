@@ -6,7 +6,8 @@ ghost use Rattle.pgn_language.specs.Inputs.{note_lines_of};
 ghost use Rattle.pgn_messages.specs.Messages.{answer_messages, messages};
 ghost use Rattle.pgn_session.specs.Standing.{IsServedBy};
 ghost use Rattle.pgn_session.specs.Whole.{HasRest};
-ghost use Rattle.pgn_wire.specs.Serving.{AreWhole, HasReadOutside, HasStood, HasTaken, HasWritten, IsFedOrNot, IsOpen, IsSameClient, RunsCommand};
+ghost use Rattle.pgn_session.specs.Open.{HasReadOutside, HasStood, IsFedOrNot, IsOpen, IsSameClient, RunsCommand};
+ghost use Rattle.pgn_wire.specs.Serving.{AreWhole, HasTaken, HasWritten};
 
 use crate::WireEnd;
 use crate::taking::take_query;

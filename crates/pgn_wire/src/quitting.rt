@@ -2,7 +2,8 @@ ghost use Rattle.std.specs.Prelude.{◌≡◌, None, OnOk, OnErr};
 ghost use Rattle.pgn_messages.specs.Messages.{messages};
 ghost use Rattle.pgn_session.specs.Standing.{IsServedBy};
 ghost use Rattle.pgn_session.specs.Whole.{HasRest, IsSameScript};
-ghost use Rattle.pgn_wire.specs.Serving.{HasStopped, IsOpen};
+ghost use Rattle.pgn_session.specs.Open.{IsOpen};
+ghost use Rattle.pgn_wire.specs.Serving.{HasStopped};
 
 use pgn_hub::{Hub, PassView};
 use pgn_session::{Doing, Session};

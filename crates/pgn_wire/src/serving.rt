@@ -3,7 +3,8 @@ ghost use Rattle.pgn_language.specs.declared.scenario.ScriptLine.{ScriptLine};
 ghost use Rattle.pgn_base.specs.Outside.{Rose};
 ghost use Rattle.pgn_session.specs.Standing.{IsServedBy};
 ghost use Rattle.pgn_session.specs.Whole.{HasRest};
-ghost use Rattle.pgn_wire.specs.Serving.{AsksBy, BeginsEmpty, HasAnsweredAll, HasEnded, HasReadOutside, HasStood, HasWritten, IsOpen, IsSameClient, WhereAsked};
+ghost use Rattle.pgn_session.specs.Open.{BeginsEmpty, HasReadOutside, HasStood, IsOpen, IsSameClient};
+ghost use Rattle.pgn_wire.specs.Serving.{AsksBy, HasAnsweredAll, HasEnded, HasWritten, WhereAsked};
 
 use crate::WireEnd;
 use crate::quitting::quit;

@@ -3,7 +3,8 @@ ghost use Rattle.pgn_language.specs.Inputs.{note_lines_of};
 ghost use Rattle.pgn_session.specs.Standing.{IsServedBy};
 ghost use Rattle.pgn_session.specs.Parts.{Begins};
 ghost use Rattle.pgn_session.specs.Whole.{HasAnswer, HasRest};
-ghost use Rattle.pgn_wire.specs.Serving.{HasReadOutside, HasStood, HasStopped, HasTaken, IsFedOrNot, IsOpen, IsSameClient, RunsCommand};
+ghost use Rattle.pgn_session.specs.Open.{HasReadOutside, HasStood, IsFedOrNot, IsOpen, IsSameClient, RunsCommand};
+ghost use Rattle.pgn_wire.specs.Serving.{HasStopped, HasTaken};
 
 use pgn_answers::BlockState;
 use pgn_hub::{Hub, PassView};

@@ -7,7 +7,8 @@ ghost use Rattle.pgn_queries.specs.Queries.{Gives, HasPassed, QueriesAre};
 ghost use Rattle.pgn_session.specs.declared.session.Session.{Session};
 ghost use Rattle.pgn_session.specs.Standing.{IsServedBy};
 ghost use Rattle.pgn_session.specs.Whole.{HasRest};
-ghost use Rattle.pgn_wire.specs.Serving.{HasAnsweredAll, HasReadOutside, HasStood, IsOpen, IsServing, TurnsInto, WhereAsked};
+ghost use Rattle.pgn_session.specs.Open.{HasReadOutside, HasStood, IsOpen};
+ghost use Rattle.pgn_wire.specs.Serving.{HasAnsweredAll, IsServing, TurnsInto, WhereAsked};
 
 use crate::WireEnd;
 use crate::answering::one_query;

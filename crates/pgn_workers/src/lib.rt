@@ -17,6 +17,7 @@ mod work;
 
 pub use halves::run;
 pub use job::{Job, Pause};
+pub use meeting::Meeting;
 pub use rounds::run_in_turns;
 pub use turn::Turn;
 pub use work::Work;

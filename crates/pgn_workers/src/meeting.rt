@@ -16,28 +16,30 @@ const LOOKS_TO_MEET: u32 = 200;
 
 const LOOKS_BEFORE_SLEEP: u32 = 16;
 
-// A word on which two halves of some work meet before either begins: the one on a new thread, and the caller's. Where no thread could be
-// had they don't meet, and neither begins. No contract knows who was first at the word.
+/// A word on which two arms of some work meet before either begins: the one on a new thread, which calls `comes`, and the caller's, which
+/// calls `expects`. Where no thread could be had they don't meet, and neither begins: a join then runs the first arm behind the second, and
+/// `comes` tells it that it is too late. Each of the two is called once. No contract knows who was first at the word.
 #[derive(Drop)]
-pub(crate) struct Meeting {
+pub struct Meeting {
     word: AtomicU64,
 }
 
 impl Meeting {
-    // One to which nobody has come.
-    pub(crate) fn new() -> Meeting {
+    /// One to which nobody has come.
+    pub fn new() -> Meeting {
         Meeting {
             word: AtomicU64::new(NOBODY),
         }
     }
 
-    // The half on the new thread: whether it may begin, since the caller has not gone on without it.
-    pub(crate) fn comes(&self) -> bool {
+    /// The arm on the new thread: whether it may begin, since the caller has not gone on without it.
+    pub fn comes(&self) -> bool {
         takes(&self.word, HERE)
     }
 
-    // The caller's half, which waits for the other one: whether it may begin, since that one has come in time.
-    pub(crate) fn expects<R: Wait>(&self, rt: &R) -> bool {
+    /// The caller's arm, which waits for the other one, 200 looks long and at most a millisecond a look: whether it may begin, since that
+    /// one has come in time.
+    pub fn expects<R: Wait>(&self, rt: &R) -> bool {
         is_met(rt, &self.word) || !takes(&self.word, GONE)
     }
 }

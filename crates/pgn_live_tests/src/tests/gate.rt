@@ -31,7 +31,7 @@ struct Counts {
 // A word hub whose first transaction waits, at most so many turns, until something else has begun. Once the turns are spent its reads find
 // no memory; with no turns they are spent at once.
 #[derive(Drop)]
-struct Gate<const TURNS: u32> {
+pub(super) struct Gate<const TURNS: u32> {
     hub: WordHub,
     counts: Arc<Counts, Global>,
 }
@@ -257,6 +257,51 @@ fn shown_of<const TURNS: u32, R: Threads + Wait + Clock + Sync>(
     })
 }
 
+// How sessions of this scenario end over a gate, and whether they have spent its turns: a sink lets nobody go on.
+fn ran_over<const TURNS: u32, R: Threads + Wait + Clock + Sync>(
+    rt: &R,
+    alloc: Global,
+    scenario: &Scenario,
+) -> Result<(Result<(), LiveFault>, bool), Fail>
+    requires { IsSound scenario.now }
+{
+    let mut sink = sink_of(alloc, 1 << 12, &[])?;
+    let (hub, mut sessions) = open::<Gate<TURNS>>(alloc, scenario, PATIENCE_DEFAULT)?;
+    let sections = scenario.sections.as_slice();
+    let ended = live(
+        rt,
+        alloc,
+        &hub,
+        sections,
+        sessions.as_mut_slice(),
+        &mut sink,
+    );
+    let is_spent = hub.is_spent();
+    drop(sessions);
+    drop(hub);
+    Ok((ended, is_spent))
+}
+
+pub(super) const TWO_LISTENERS: &str = "\
+\\session a 1
+LISTEN c
+NOTIFY c
+\\session b 1
+LISTEN c
+NOTIFY c
+";
+
+// The first transaction waits for the other session's: on one thread it would spend its turns, and the reads find no memory.
+#[test]
+fn live_sessions_run_side_by_side(rt: HostRuntime) -> Result<(), Fail> {
+    let alloc = rt.alloc();
+    let scenario = scenario_of(alloc, TWO_LISTENERS)?;
+    let ran = ran_over::<10_000_000, HostRuntime>(&rt, alloc, &scenario);
+    drop(scenario);
+    assert!(rt; ran? == (Ok(()), false));
+    Ok(())
+}
+
 // A line is written while its session runs: else the transaction spends its turns, and the read behind it finds no memory.
 #[test]
 fn a_line_is_written_while_its_session_runs(rt: HostRuntime) -> Result<(), Fail> {
@@ -288,7 +333,7 @@ fn a_failed_write_is_told_before_want_of_memory(rt: HostRuntime) -> Result<(), F
     Ok(())
 }
 
-const LINES_BEFORE_THE_READ: &str = "\
+pub(super) const LINES_BEFORE_THE_READ: &str = "\
 1| > LISTEN c
 1| +enlist 3 3
 1| LISTEN

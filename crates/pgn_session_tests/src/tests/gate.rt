@@ -1,9 +1,13 @@
 use super::probe::{Gate, Probe, Watch, seen_over};
 use super::turns::awaits_of;
 use super::{ran, shown_over};
-use pgn_base::PATIENCE_DEFAULT;
+use pgn_base::{PATIENCE_DEFAULT, Seed, Sink, Source};
 use pgn_drill::drill_text;
-use pgn_run::Print;
+use pgn_hub::Hub;
+use pgn_memory::{MemSink, MemSource};
+use pgn_run::{Print, converse};
+use std::alloc::Global;
+use std::sync::Wait;
 use std::test::Fail;
 
 const TWO_WRITERS: &str = "\
@@ -84,6 +88,39 @@ fn a_drill_is_over_its_hub(rt: HostRuntime) -> Result<(), Fail> {
         print,
     )?;
     assert_eq!(rt; text.as_str(), "no memory");
+    Ok(())
+}
+
+// A client asks `LISTEN c` and `NOTIFY c, 'x'`, and terminates.
+const TALK: &[u8] = b"Q\0\0\0\x0dLISTEN c\0Q\0\0\0\x12NOTIFY c, 'x'\0X\0\0\0\x04";
+
+// C `LISTEN` and Z.
+const FIRST_ANSWER: &[u8] = b"C\0\0\0\x0bLISTEN\0Z\0\0\0\x05I";
+
+// Whether it is served to its end, over a hub of this type, any source and any sink.
+fn is_served<H: Hub + Drop, R: Wait, S: Source, K: Sink>(
+    rt: &R,
+    alloc: Global,
+    source: &mut S,
+    sink: &mut K,
+) -> bool {
+    converse::<H::Pass, H, R, S, K>(rt, alloc, Seed::fixed(), source, sink).is_ok()
+}
+
+// The read behind the second query finds no memory, so that nothing of its answer is written.
+#[test]
+fn a_conversation_is_over_its_hub(rt: HostRuntime) -> Result<(), Fail> {
+    let alloc = rt.alloc();
+    let mut source = MemSource::new(Vec::from_slice(alloc, TALK)?, Vec::new(alloc), 100);
+    let mut sink = MemSink::new(alloc, 100, Vec::new(alloc), 100)?;
+    let served = is_served::<Probe<Gate<0>>, HostRuntime, MemSource, MemSink>(
+        &rt,
+        alloc,
+        &mut source,
+        &mut sink,
+    );
+    assert!(rt; !served);
+    assert!(rt; sink.held() == FIRST_ANSWER);
     Ok(())
 }
 

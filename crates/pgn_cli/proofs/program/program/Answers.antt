@@ -1,4 +1,6 @@
-use Rattle.pgn_cli.proofs.EndLaws.{written-prefix, written-whole, code-of_words, illegal-code, memory-code, memory-lines, names-fault, names-wire, no-output-code, read-fault-code, read-lines, refused-code, too-large-code, write-fault-code}
+use Rattle.std.proofs.Common.{◌∙◌, ap, map, string_bytes}
+use Rattle.pgn_run.specs.Run.{code_of}
+use Rattle.pgn_cli.proofs.EndLaws.{written-prefix, written-whole, code-of_words, illegal-code, memory-code, memory-lines, if-memory, if-read, names-fault, names-frame, names-wire, no-output-code, read-fault-code, read-lines, refused-code, served-codes, too-large-code, write-fault-code}
 use Rattle.pgn_cli.proofs.program.program.Goals as goal
 
 pub returns-clause-ends : goal.returns-clause-ends
@@ -22,7 +24,7 @@ pub returns-clause-refused_writes_nothing : goal.returns-clause-refused_writes_n
 returns-clause-refused_writes_nothing g c some = c.status_of-status.ensures.refused_writes_nothing (refused-code c.status_of-status.result _ c.code.ensures some)
 
 pub returns-clause-no_memory_writes_nothing : goal.returns-clause-no_memory_writes_nothing
-returns-clause-no_memory_writes_nothing g c once other six = c.status_of-status.ensures.no_memory_writes_nothing once other (memory-code c.status_of-status.result _ c.code.ensures six)
+returns-clause-no_memory_writes_nothing g c once other served six = c.status_of-status.ensures.no_memory_writes_nothing once other served (memory-code c.status_of-status.result _ c.code.ensures six)
 
 pub returns-clause-no_memory_writes_first_lines : goal.returns-clause-no_memory_writes_first_lines
 returns-clause-no_memory_writes_first_lines g c = memory-lines c.args.words _ _ c.status_of-status.result _ c.code.ensures c.status_of-status.ensures.no_memory_writes_first_lines
@@ -31,7 +33,7 @@ pub returns-clause-no_memory_writes_whole_answers : goal.returns-clause-no_memor
 returns-clause-no_memory_writes_whole_answers g c = memory-lines c.args.words _ _ c.status_of-status.result _ c.code.ensures c.status_of-status.ensures.no_memory_writes_whole_answers
 
 pub returns-clause-read_fault_writes_nothing : goal.returns-clause-read_fault_writes_nothing
-returns-clause-read_fault_writes_nothing g c other four = c.status_of-status.ensures.read_fault_writes_nothing other (read-fault-code c.status_of-status.result _ c.code.ensures four)
+returns-clause-read_fault_writes_nothing g c other served four = c.status_of-status.ensures.read_fault_writes_nothing other served (read-fault-code c.status_of-status.result _ c.code.ensures four)
 
 pub returns-clause-read_fault_writes_answers : goal.returns-clause-read_fault_writes_answers
 returns-clause-read_fault_writes_answers g c = read-lines c.args.words _ _ c.status_of-status.result _ c.code.ensures c.status_of-status.ensures.read_fault_writes_answers
@@ -49,3 +51,20 @@ returns-clause-no_output g c nine = c.status_of-status.ensures.no_output (no-out
 
 pub returns-clause-check_too_large : goal.returns-clause-check_too_large
 returns-clause-check_too_large g c eleven = c.status_of-status.ensures.check_too_large (too-large-code c.status_of-status.result _ c.code.ensures eleven)
+
+pub returns-clause-bad_frame : goal.returns-clause-bad_frame
+returns-clause-bad_frame g c =
+    names-frame c.args.words (λ words. map string_bytes words.items) (g.S.Source.left c.args.source.now) (g.K.Sink.held c.args.sink.now) (g.K.Sink.held c.status_of-status.new.sink) (g.E.Sink.held c.args.errors.now)
+    (g.E.Sink.held c.fault_line.new.sink) c.status_of-status.result _ c.code.ensures (written-prefix _ _ c.fault_line.result _ c.fault_line.ensures.bytes) c.status_of-status.ensures.bad_frame
+
+pub returns-clause-read_fault_where_due : goal.returns-clause-read_fault_where_due
+returns-clause-read_fault_where_due g c other rose = c.code.ensures ∙ ap code_of (c.status_of-status.ensures.read_fault_where_due other rose)
+
+pub returns-clause-read_fault_where_served : goal.returns-clause-read_fault_where_served
+returns-clause-read_fault_where_served g c = served-codes c.args.words _ _ c.status_of-status.result _ c.code.ensures c.status_of-status.ensures.read_fault_where_served
+
+pub returns-clause-read_fault_writes_what_was_told : goal.returns-clause-read_fault_writes_what_was_told
+returns-clause-read_fault_writes_what_was_told g c = if-read c.args.words _ c.status_of-status.result _ c.code.ensures c.status_of-status.ensures.read_fault_writes_what_was_told
+
+pub returns-clause-no_memory_writes_whole_turns : goal.returns-clause-no_memory_writes_whole_turns
+returns-clause-no_memory_writes_whole_turns g c = if-memory c.args.words _ c.status_of-status.result _ c.code.ensures c.status_of-status.ensures.no_memory_writes_whole_turns

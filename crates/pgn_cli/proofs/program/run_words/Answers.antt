@@ -2,9 +2,10 @@ use Rattle.std.proofs.Common.{◌≡◌, ◌⊎◌, ℕ, List, map, string_bytes
 use Rattle.std.specs.Io.KnownBytes.{Appends}
 use Rattle.pgn_base.specs.Outside.{AppendsPrefix}
 use Rattle.pgn_options.specs.Words.{AreNoCommand}
-use Rattle.pgn_run.specs.Run.{AskToCheck, AskToRunLive, AskToWire, Performs, PerformsInPart, SoFarRuns, settings_with}
+use Rattle.pgn_run.specs.Run.{AskToCheck, AskToRunLive, AskToServe, AskToWire, Performs, PerformsInPart, SoFarRuns, settings_with}
 use Rattle.pgn_run.specs.declared.status.Status.TheVariants.{NoMemory}
 use Rattle.pgn_run.proofs.ConversationLaws.{unopened-known}
+use Rattle.pgn_cli.specs.Program.{ServedFirst, ServedInPart, ServesUpTo}
 use Rattle.pgn_cli.proofs.EndLaws.{faulty-either, lent-words, not-words, of-words, refused-keeps, says-for}
 use Rattle.pgn_cli.proofs.program.run_words.Goals as goal
 
@@ -45,8 +46,8 @@ returns-in-Ok-clause-refused_writes_nothing g c =
 pub returns-in-Ok-clause-no_memory_writes_nothing : goal.returns-in-Ok-clause-no_memory_writes_nothing
 returns-in-Ok-clause-no_memory_writes_nothing g c =
     let same : map (λ text. text.now) c.as_slice.result.now ≡ map string_bytes c.args.words.now = lent-words _ _ _ _ c.as_slice.ensures.value c.in-Ok.ensures in
-    λ once other e.
-    c.run_notify.ensures.no_memory_writes_nothing (not-words (λ (ws : List (List ℕ)). AskToRunLive ws) _ _ same once) (not-words (λ (ws : List (List ℕ)). AskToWire ws) _ _ same other) e
+    λ once other served e.
+    c.run_notify.ensures.no_memory_writes_nothing (not-words (λ (ws : List (List ℕ)). AskToRunLive ws) _ _ same once) (not-words (λ (ws : List (List ℕ)). AskToWire ws) _ _ same other) (not-words (λ (ws : List (List ℕ)). AskToServe ws) _ _ same served) e
 
 pub returns-in-Ok-clause-no_memory_writes_first_lines : goal.returns-in-Ok-clause-no_memory_writes_first_lines
 returns-in-Ok-clause-no_memory_writes_first_lines g c =
@@ -57,7 +58,7 @@ returns-in-Ok-clause-no_memory_writes_first_lines g c =
 pub returns-in-Ok-clause-read_fault_writes_nothing : goal.returns-in-Ok-clause-read_fault_writes_nothing
 returns-in-Ok-clause-read_fault_writes_nothing g c =
     let same : map (λ text. text.now) c.as_slice.result.now ≡ map string_bytes c.args.words.now = lent-words _ _ _ _ c.as_slice.ensures.value c.in-Ok.ensures in
-    λ other e. c.run_notify.ensures.read_fault_writes_nothing (not-words (λ (ws : List (List ℕ)). AskToWire ws) _ _ same other) e
+    λ other served e. c.run_notify.ensures.read_fault_writes_nothing (not-words (λ (ws : List (List ℕ)). AskToWire ws) _ _ same other) (not-words (λ (ws : List (List ℕ)). AskToServe ws) _ _ same served) e
 
 pub returns-in-Ok-clause-read_fault_writes_answers : goal.returns-in-Ok-clause-read_fault_writes_answers
 returns-in-Ok-clause-read_fault_writes_answers g c =
@@ -92,3 +93,28 @@ pub returns-in-Ok-clause-check_too_large : goal.returns-in-Ok-clause-check_too_l
 returns-in-Ok-clause-check_too_large g c =
     let same : map (λ text. text.now) c.as_slice.result.now ≡ map string_bytes c.args.words.now = lent-words _ _ _ _ c.as_slice.ensures.value c.in-Ok.ensures in
     λ e. let known = c.run_notify.ensures.check_too_large e in (of-words (λ (ws : List (List ℕ)). AskToCheck ws) _ _ same known.0, known.1)
+
+pub returns-in-Ok-clause-bad_frame : goal.returns-in-Ok-clause-bad_frame
+returns-in-Ok-clause-bad_frame g c =
+    let same : map (λ text. text.now) c.as_slice.result.now ≡ map string_bytes c.args.words.now = lent-words _ _ _ _ c.as_slice.ensures.value c.in-Ok.ensures in
+    λ fault e. of-words (λ (ws : List (List ℕ)). ServesUpTo ws fault (g.S.Source.left c.args.source.now) (g.K.Sink.held c.args.sink.now) (g.K.Sink.held c.run_notify.new.sink)) _ _ same (c.run_notify.ensures.bad_frame fault e)
+
+pub returns-in-Ok-clause-read_fault_where_due : goal.returns-in-Ok-clause-read_fault_where_due
+returns-in-Ok-clause-read_fault_where_due g c =
+    let same : map (λ text. text.now) c.as_slice.result.now ≡ map string_bytes c.args.words.now = lent-words _ _ _ _ c.as_slice.ensures.value c.in-Ok.ensures in
+    λ served rose. c.run_notify.ensures.read_fault_where_due (not-words (λ (ws : List (List ℕ)). AskToServe ws) _ _ same served) rose
+
+pub returns-in-Ok-clause-read_fault_where_served : goal.returns-in-Ok-clause-read_fault_where_served
+returns-in-Ok-clause-read_fault_where_served g c =
+    let same : map (λ text. text.now) c.as_slice.result.now ≡ map string_bytes c.args.words.now = lent-words _ _ _ _ c.as_slice.ensures.value c.in-Ok.ensures in
+    λ ask rose. c.run_notify.ensures.read_fault_where_served (of-words (λ (ws : List (List ℕ)). AskToServe ws) _ _ (sym same) ask) rose
+
+pub returns-in-Ok-clause-read_fault_writes_what_was_told : goal.returns-in-Ok-clause-read_fault_writes_what_was_told
+returns-in-Ok-clause-read_fault_writes_what_was_told g c =
+    let same : map (λ text. text.now) c.as_slice.result.now ≡ map string_bytes c.args.words.now = lent-words _ _ _ _ c.as_slice.ensures.value c.in-Ok.ensures in
+    λ e. of-words (λ (ws : List (List ℕ)). ServedFirst ws (g.S.Source.left c.args.source.now) (g.K.Sink.held c.args.sink.now) (g.K.Sink.held c.run_notify.new.sink)) _ _ same (λ ask. c.run_notify.ensures.read_fault_writes_what_was_told ask e)
+
+pub returns-in-Ok-clause-no_memory_writes_whole_turns : goal.returns-in-Ok-clause-no_memory_writes_whole_turns
+returns-in-Ok-clause-no_memory_writes_whole_turns g c =
+    let same : map (λ text. text.now) c.as_slice.result.now ≡ map string_bytes c.args.words.now = lent-words _ _ _ _ c.as_slice.ensures.value c.in-Ok.ensures in
+    λ e. of-words (λ (ws : List (List ℕ)). ServedInPart ws (g.S.Source.left c.args.source.now) (g.K.Sink.held c.args.sink.now) (g.K.Sink.held c.run_notify.new.sink)) _ _ same (λ ask. c.run_notify.ensures.no_memory_writes_whole_turns ask e)

@@ -2,9 +2,9 @@ use Rattle.std.proofs.Common.{◌≡◌, ◌⊎◌, ℕ, List, map, string_bytes
 use Rattle.std.specs.Io.KnownBytes.{Appends}
 use Rattle.pgn_base.specs.Outside.{AppendsPrefix}
 use Rattle.pgn_options.specs.Words.{AreNoCommand}
-use Rattle.pgn_run.specs.Run.{AskToCheck, AskToRunLive, AskToWire, Performs, PerformsInPart, SoFarRuns, asked_settings, settings_with}
+use Rattle.pgn_run.specs.Run.{AskToCheck, AskToRunLive, AskToServe, AskToWire, Performs, PerformsInPart, SoFarRuns, asked_settings, settings_with}
 use Rattle.pgn_run.specs.declared.status.Status.TheVariants.{NoMemory}
-use Rattle.pgn_cli.specs.Program.{SaysIllegal}
+use Rattle.pgn_cli.specs.Program.{SaysIllegal, ServedFirst, ServedInPart, ServesUpTo}
 use Rattle.pgn_cli.proofs.EndLaws.{if-ok, is-ok-and, not-words, of-ok, of-words}
 use Rattle.pgn_cli.proofs.program.status_of.Goals as goal
 
@@ -31,8 +31,8 @@ returns-in-Ok-clause-other_words g c =
 pub returns-in-Ok-clause-no_memory_writes_nothing : goal.returns-in-Ok-clause-no_memory_writes_nothing
 returns-in-Ok-clause-no_memory_writes_nothing g c =
     let same : map string_bytes c.as_slice.result.now ≡ map string_bytes c.in-Ok.words.items = ap (λ ws. map string_bytes ws) c.as_slice.ensures.value in
-    λ once other e.
-    c.run_words-status.ensures.no_memory_writes_nothing (not-words (λ (ws : List (List ℕ)). AskToRunLive ws) _ _ same (of-ok c.args.words c.in-Ok.words _ c.in-Ok.is once)) (not-words (λ (ws : List (List ℕ)). AskToWire ws) _ _ same (of-ok c.args.words c.in-Ok.words _ c.in-Ok.is other)) e
+    λ once other served e.
+    c.run_words-status.ensures.no_memory_writes_nothing (not-words (λ (ws : List (List ℕ)). AskToRunLive ws) _ _ same (of-ok c.args.words c.in-Ok.words _ c.in-Ok.is once)) (not-words (λ (ws : List (List ℕ)). AskToWire ws) _ _ same (of-ok c.args.words c.in-Ok.words _ c.in-Ok.is other)) (not-words (λ (ws : List (List ℕ)). AskToServe ws) _ _ same (of-ok c.args.words c.in-Ok.words _ c.in-Ok.is served)) e
 
 pub returns-in-Ok-clause-no_memory_writes_first_lines : goal.returns-in-Ok-clause-no_memory_writes_first_lines
 returns-in-Ok-clause-no_memory_writes_first_lines g c =
@@ -44,7 +44,7 @@ returns-in-Ok-clause-no_memory_writes_first_lines g c =
 pub returns-in-Ok-clause-read_fault_writes_nothing : goal.returns-in-Ok-clause-read_fault_writes_nothing
 returns-in-Ok-clause-read_fault_writes_nothing g c =
     let same : map string_bytes c.as_slice.result.now ≡ map string_bytes c.in-Ok.words.items = ap (λ ws. map string_bytes ws) c.as_slice.ensures.value in
-    λ other e. c.run_words-status.ensures.read_fault_writes_nothing (not-words (λ (ws : List (List ℕ)). AskToWire ws) _ _ same (of-ok c.args.words c.in-Ok.words _ c.in-Ok.is other)) e
+    λ other served e. c.run_words-status.ensures.read_fault_writes_nothing (not-words (λ (ws : List (List ℕ)). AskToWire ws) _ _ same (of-ok c.args.words c.in-Ok.words _ c.in-Ok.is other)) (not-words (λ (ws : List (List ℕ)). AskToServe ws) _ _ same (of-ok c.args.words c.in-Ok.words _ c.in-Ok.is served)) e
 
 pub returns-in-Ok-clause-read_fault_writes_answers : goal.returns-in-Ok-clause-read_fault_writes_answers
 returns-in-Ok-clause-read_fault_writes_answers g c =
@@ -75,3 +75,28 @@ pub returns-in-Ok-clause-check_too_large : goal.returns-in-Ok-clause-check_too_l
 returns-in-Ok-clause-check_too_large g c =
     let same : map string_bytes c.as_slice.result.now ≡ map string_bytes c.in-Ok.words.items = ap (λ ws. map string_bytes ws) c.as_slice.ensures.value in
     λ e. let known = c.run_words-status.ensures.check_too_large e in (is-ok-and c.args.words c.in-Ok.words _ c.in-Ok.is (of-words (λ (ws : List (List ℕ)). AskToCheck ws) _ _ same known.0), known.1)
+
+pub returns-in-Ok-clause-bad_frame : goal.returns-in-Ok-clause-bad_frame
+returns-in-Ok-clause-bad_frame g c =
+    let same : map string_bytes c.as_slice.result.now ≡ map string_bytes c.in-Ok.words.items = ap (λ ws. map string_bytes ws) c.as_slice.ensures.value in
+    λ fault e. is-ok-and c.args.words c.in-Ok.words _ c.in-Ok.is (of-words (λ (ws : List (List ℕ)). ServesUpTo ws fault (g.S.Source.left c.args.source.now) (g.K.Sink.held c.args.sink.now) (g.K.Sink.held c.run_words-status.new.sink)) _ _ same (c.run_words-status.ensures.bad_frame fault e))
+
+pub returns-in-Ok-clause-read_fault_where_due : goal.returns-in-Ok-clause-read_fault_where_due
+returns-in-Ok-clause-read_fault_where_due g c =
+    let same : map string_bytes c.as_slice.result.now ≡ map string_bytes c.in-Ok.words.items = ap (λ ws. map string_bytes ws) c.as_slice.ensures.value in
+    λ served rose. c.run_words-status.ensures.read_fault_where_due (not-words (λ (ws : List (List ℕ)). AskToServe ws) _ _ same (of-ok c.args.words c.in-Ok.words _ c.in-Ok.is served)) rose
+
+pub returns-in-Ok-clause-read_fault_where_served : goal.returns-in-Ok-clause-read_fault_where_served
+returns-in-Ok-clause-read_fault_where_served g c =
+    let same : map string_bytes c.as_slice.result.now ≡ map string_bytes c.in-Ok.words.items = ap (λ ws. map string_bytes ws) c.as_slice.ensures.value in
+    if-ok c.args.words c.in-Ok.words _ c.in-Ok.is (λ ask rose. c.run_words-status.ensures.read_fault_where_served (of-words (λ (ws : List (List ℕ)). AskToServe ws) _ _ (sym same) ask) rose)
+
+pub returns-in-Ok-clause-read_fault_writes_what_was_told : goal.returns-in-Ok-clause-read_fault_writes_what_was_told
+returns-in-Ok-clause-read_fault_writes_what_was_told g c =
+    let same : map string_bytes c.as_slice.result.now ≡ map string_bytes c.in-Ok.words.items = ap (λ ws. map string_bytes ws) c.as_slice.ensures.value in
+    if-ok c.args.words c.in-Ok.words _ c.in-Ok.is (λ e. of-words (λ (ws : List (List ℕ)). ServedFirst ws (g.S.Source.left c.args.source.now) (g.K.Sink.held c.args.sink.now) (g.K.Sink.held c.run_words-status.new.sink)) _ _ same (c.run_words-status.ensures.read_fault_writes_what_was_told e))
+
+pub returns-in-Ok-clause-no_memory_writes_whole_turns : goal.returns-in-Ok-clause-no_memory_writes_whole_turns
+returns-in-Ok-clause-no_memory_writes_whole_turns g c =
+    let same : map string_bytes c.as_slice.result.now ≡ map string_bytes c.in-Ok.words.items = ap (λ ws. map string_bytes ws) c.as_slice.ensures.value in
+    if-ok c.args.words c.in-Ok.words _ c.in-Ok.is (λ e. of-words (λ (ws : List (List ℕ)). ServedInPart ws (g.S.Source.left c.args.source.now) (g.K.Sink.held c.args.sink.now) (g.K.Sink.held c.run_words-status.new.sink)) _ _ same (c.run_words-status.ensures.no_memory_writes_whole_turns e))

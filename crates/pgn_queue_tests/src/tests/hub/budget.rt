@@ -5,9 +5,6 @@ ghost use Rattle.pgn_wordhub.specs.Passes.{IsHubPass};
 use super::*;
 use pgn_base::{HUB_NOTES_MAX, PAGES_MAX};
 
-/// How many the session sends: to send all takes a minute in a test.
-const SENT: u32 = 10_000;
-
 // A hub for one session, which may send all of them.
 fn open_one(alloc: Global) -> Result<(WordHub, WordPass), Fail>
     ensures own { IfOk result (λ opened. IsHubPass opened.0 opened.1) }
@@ -25,13 +22,13 @@ fn open_one(alloc: Global) -> Result<(WordHub, WordPass), Fail>
     Ok((hub, pass))
 }
 
-// Sends so many notifications, unless one is refused: the number of the last.
-fn send_many<R: Wait>(rt: &R, hub: &WordHub, pass: &mut WordPass, notes: &[Note; 1]) -> Option<u32>
+// Sends all of them, a transaction each, unless one is refused: the number of the last transaction.
+fn send_all<R: Wait>(rt: &R, hub: &WordHub, pass: &mut WordPass, notes: &[Note; 1]) -> Option<u32>
     requires own { IsHubPass hub.now pass.old }
     ensures own { IsHubPass hub.now pass.new }
 {
     let mut last = None;
-    'notes: for _ in 0..SENT {
+    'notes: for _ in 0..HUB_NOTES_MAX {
         last = publish(rt, hub, pass, notes);
         if last.is_none() {
             return None;
@@ -40,14 +37,14 @@ fn send_many<R: Wait>(rt: &R, hub: &WordHub, pass: &mut WordPass, notes: &[Note;
     last
 }
 
-// The number of the last, and how many are left.
+// The first transaction is number 3. None is left behind the last.
 #[test]
-fn a_hub_opens_for_all_that_it_may_send(rt: HostRuntime) -> Result<(), Fail> {
+fn a_hub_sends_the_last_that_it_may(rt: HostRuntime) -> Result<(), Fail> {
     let alloc = rt.alloc();
     let (hub, mut pass) = open_one(alloc)?;
     let notes = [note(alloc, 1).ok_or("no memory")?];
-    let last = send_many(&rt, &hub, &mut pass, &notes);
-    assert_eq!(rt; last, Some(10_002));
-    assert_eq!(rt; pass.notes_left(), HUB_NOTES_MAX - SENT);
+    let last = send_all(&rt, &hub, &mut pass, &notes);
+    assert_eq!(rt; last, Some(1_048_577));
+    assert_eq!(rt; pass.notes_left(), 0);
     Ok(())
 }

@@ -1,5 +1,6 @@
 use Rattle.std.proofs.Common.{rules, inl, inr, refl, ◌≡◌, length}
-use Rattle.pgn_wire.proofs.TakenLaws.{on_err, stood-rest}
+use Rattle.pgn_session.proofs.OpenLaws.{stood-rest}
+use Rattle.pgn_wire.proofs.TakenLaws.{on_err}
 use Rattle.pgn_wire.proofs.WrittenLaws.{answer-made, on_made, same-whole, some-behind, stopped-whole, taken-whole}
 use Rattle.pgn_wire.proofs.answering.answered.Goals as goal
 

@@ -1,4 +1,6 @@
-use Rattle.pgn_wire.proofs.TakenLaws.{on_err, quit-unread, quit-is-over, quit-is-silent, quit-leaves_queue, quit-refused, quit-read-refused}
+use Rattle.pgn_session.proofs.OpenLaws.{quit-unread}
+use Rattle.pgn_session.proofs.OpenQuitLaws.{quit-taken}
+use Rattle.pgn_wire.proofs.TakenLaws.{on_err, quit-is-silent, quit-refused, quit-read-refused}
 use Rattle.pgn_wire.proofs.quitting.quit.Goals as goal
 
 pub step-requires-clause-read_first : goal.step-requires-clause-read_first
@@ -18,7 +20,9 @@ returns-in_err-_done-clause-stopped g c =
     c.in_err-_done.ensures.unshown c.in_err-_done.ensures.refused)
 
 pub returns-clause-over : goal.returns-clause-over
-returns-clause-over g c = quit-is-over g.P.PassView.known c.args.session.now c.step.new.self c.idle.new.self c.in_ok-_step._step c.requires.between c.in_ok-_step.ensures.moved c.idle.ensures.same
+returns-clause-over g c =
+    let shape = g.H.Hub.shape c.args.hub.now in
+    (quit-taken shape g.P.PassView.known c.args.session.now c.step.new.self c.idle.new.self c.in_ok-_step._step c.in_ok-_done._done c.requires.between c.in_ok-_step.ensures.moved c.idle.ensures.same c.in_ok-_done.ensures.idled).over
 
 pub returns-clause-silent : goal.returns-clause-silent
 returns-clause-silent g c =
@@ -29,4 +33,4 @@ returns-clause-silent g c =
 pub returns-clause-left : goal.returns-clause-left
 returns-clause-left g c =
     let shape = g.H.Hub.shape c.args.hub.now in
-    quit-leaves_queue shape g.P.PassView.known c.args.session.now c.step.new.self c.idle.new.self c.in_ok-_step._step c.in_ok-_done._done c.requires.between c.in_ok-_step.ensures.moved c.in_ok-_done.ensures.idled
+    (quit-taken shape g.P.PassView.known c.args.session.now c.step.new.self c.idle.new.self c.in_ok-_step._step c.in_ok-_done._done c.requires.between c.in_ok-_step.ensures.moved c.idle.ensures.same c.in_ok-_done.ensures.idled).left

@@ -1,7 +1,8 @@
 use Rattle.std.proofs.Common.{◌≡◌, ◌≤◌}
 use Rattle.pgn_session.specs.Standing.{IsServedBy}
 use Rattle.pgn_session.specs.Whole.{HasRest}
-use Rattle.pgn_wire.specs.Serving.{HasReadOutside, IsServing}
+use Rattle.pgn_session.specs.Open.{HasReadOutside}
+use Rattle.pgn_wire.specs.Serving.{IsServing}
 use Rattle.pgn_wire.proofs.serving.converse.Given as goal
 
 -- the client was served so far

@@ -1,7 +1,7 @@
 use Rattle.std.proofs.Common.{List, ℕ, refl, subst, sym}
 use Rattle.std.specs.Io.KnownBytes.{Appends}
-use Rattle.pgn_wire.proofs.ServingLaws.{quit-asked, quit-same, quit-unasked}
-use Rattle.pgn_wire.proofs.TakenLaws.{begins-read, stood-rest}
+use Rattle.pgn_session.proofs.OpenLaws.{begins-read, quit-same, stood-rest}
+use Rattle.pgn_wire.proofs.ServingLaws.{quit-asked, quit-unasked}
 use Rattle.pgn_wire.proofs.WrittenLaws.{stopped-wrote}
 use Rattle.pgn_wire.proofs.serving.serve_wire.Goals as goal
 

@@ -1,4 +1,5 @@
-use Rattle.pgn_wire.proofs.TakenLaws.{fed-read, on_err, query-between, query-taken, step-refused, read-refused}
+use Rattle.pgn_session.proofs.OpenLaws.{fed-read}
+use Rattle.pgn_wire.proofs.TakenLaws.{on_err, query-between, query-taken, step-refused, read-refused}
 use Rattle.pgn_wire.proofs.taking.take_query.Goals as goal
 
 pub step-requires-clause-read_first : goal.step-requires-clause-read_first

@@ -1,7 +1,7 @@
 use Rattle.std.proofs.Common.{Some, None, ap}
 use Rattle.pgn_queries.specs.Queries.{Place}
 use Rattle.pgn_wire.proofs.ServingLaws.{answer-fails, never-asked, passed-few, passed-limit, passed-most, passed-runs, serving-ends, serving-fails, serving-goes, some-gives, some-passed, taken-open, taken-served, where-asked}
-use Rattle.pgn_wire.proofs.TakenLaws.{stood-rest}
+use Rattle.pgn_session.proofs.OpenLaws.{stood-rest}
 use Rattle.pgn_wire.proofs.turn.take_turn.Goals as goal
 
 pub one_query-requires-clause-runs : goal.one_query-requires-clause-runs

@@ -4,8 +4,8 @@ use Rattle.pgn_queries.specs.declared.wire_fault.WireFault.TheVariants.{TooMany}
 use Rattle.pgn_queries.specs.declared.coming.Coming.{Coming}
 use Rattle.pgn_queries.specs.declared.coming.Coming.TheVariants.{End, Query, Fault}
 use Rattle.pgn_queries.specs.Client.{NextIs, OfKnown}
-use Rattle.pgn_queries.specs.Queries.{Gives, Place, QueriesAre}
-use Rattle.pgn_queries.proofs.QueryLaws.{Gives-none, Gives-line, Fails-known, Exceeds-known}
+use Rattle.pgn_queries.specs.Queries.{Gives, TookQuery, Place, QueriesAre}
+use Rattle.pgn_queries.proofs.QueryLaws.{Gives-none, Gives-line, TookQuery-known, Fails-known, Exceeds-known}
 use Rattle.pgn_queries.proofs.reader.Queries.next.Goals as goal
 
 pub returns-in-Ok-End-clause-next : goal.returns-in-Ok-End-clause-next
@@ -40,6 +40,17 @@ returns-in-Ok-count-clause-next g c =
     let next = subst (λ (coming : Coming). OfKnown (NextIs here.at coming c.next_message.new.text.items) start end) is c.in-Ok-Query.ensures.next in
     subst (λ (place : Place). OfKnown (Gives place c.count.new.self (Some c.in-Ok.line)) start end) same
     (Gives-line here c.count.new.self c.next_message.new.text.items c.in-Ok.line start end next (search rules) (search rules) (search rules))
+
+pub returns-in-Ok-count-clause-took : goal.returns-in-Ok-count-clause-took
+returns-in-Ok-count-clause-took g c =
+    let here : Place = record { at = c.self.inside.at; queries = c.self.inside.queries; notes = c.self.inside.notes; most = c.self.inside.most } in
+    let same : here ≡ c.args.self.now = search rules in
+    let start = g.S.Source.left c.args.source.now in
+    let end = g.S.Source.left c.next_message.new.source in
+    let is : c.in-Ok-Query.field-0 ≡ Query = search rules in
+    let next = subst (λ (coming : Coming). OfKnown (NextIs here.at coming c.next_message.new.text.items) start end) is c.in-Ok-Query.ensures.next in
+    subst (λ (place : Place). OfKnown (TookQuery place c.count.new.self c.in-Ok.line) start end) same
+    (TookQuery-known here c.count.new.self c.next_message.new.text.items c.in-Ok.line start end next (search rules) (search rules) (search rules))
 
 pub returns-in-Err-clause-fault : goal.returns-in-Err-clause-fault
 returns-in-Err-clause-fault g c fault told =

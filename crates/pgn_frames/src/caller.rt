@@ -1,0 +1,36 @@
+ghost use Rattle.std.specs.Prelude.{◌≡◌};
+ghost use Rattle.pgn_frames.specs.Callers.{first_stand, stand_of};
+
+use pgn_outlet::OutletPass;
+use pgn_queries::Queries;
+use pgn_turns::Ask;
+use std::alloc::Global;
+
+/// The clients of a seat, one after another, as their bytes come. It keeps at most one message that is not whole yet, and gives its memory
+/// back once it is, and that of the longest text of a client at the client's end.
+#[derive(Drop)]
+pub struct Caller {
+    /// The pass by which it puts into its seat's inbox.
+    pub asks: OutletPass<Option<Ask>>,
+    /// Where the next message begins.
+    pub(crate) queries: Queries,
+    /// The bytes of a message that is not whole.
+    pub(crate) begun: Vec<u8>,
+    /// Whether its client has left, by a Terminate or a fault: what comes of it up to its end is passed over.
+    pub(crate) left: bool,
+}
+
+impl Caller {
+    /// Before the first byte of a seat's first client. So many queries of all its clients together may notify. It takes no memory.
+    pub fn new(alloc: Global, asks: OutletPass<Option<Ask>>, most: u32) -> Caller
+        ensures pass { result.asks ≡ asks }
+        ensures first { stand_of result ≡ first_stand most }
+    {
+        Caller {
+            asks,
+            queries: Queries::new(alloc, most),
+            begun: Vec::new(alloc),
+            left: false,
+        }
+    }
+}

@@ -1,5 +1,0 @@
-use Rattle.pgn_wordhub.specs.Passes.{IsHubPass}
-use Rattle.pgn_queue_tests.proofs.tests.hub.budget.send_many.Given as goal
-
-abbrev pub invariant-notes : goal.invariant-notes
-invariant-notes g l = IsHubPass l.hub l.pass

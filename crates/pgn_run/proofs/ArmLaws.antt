@@ -1,0 +1,185 @@
+-- What the arms of a service come to.
+use Rattle.std.proofs.Common.{◌≡◌, ℕ, Bool, true, ◌+◌, ◌<◌, ◌≤◌, cond, List, [], ◌∷◌, ◌++◌, length, flat_map, get_or, map, All, Option, Some, None, IfSome, Result, Ok, Err, OnOk, ◌==◌, sym, ap, ◌∙◌, refl, subst, arith, append-nil, append_assoc}
+use Rattle.std.specs.List.{AllZip}
+use Rattle.std.proofs.lemmas.Grind.{flat_map-append}
+use Rattle.std.proofs.lemmas.List.Elements.{All-nil, All-append, All-weaker}
+use Rattle.std.specs.declared.alloc.AllocError.{AllocError}
+use Rattle.pgn_base.specs.declared.source.Failed.{Failed}
+use Rattle.pgn_base.specs.Outside.{HasCause, Rose, Writes}
+use Rattle.pgn_hub.specs.declared.known.Known.{Known}
+use Rattle.pgn_hub.specs.Shape.{Shape}
+use Rattle.pgn_outlet.specs.declared.came.Came.{Came}
+use Rattle.pgn_outlet.specs.declared.hand.Hand.{Hand}
+use Rattle.pgn_outlet.specs.declared.outlet.Outlet.{Outlet}
+use Rattle.pgn_outlet.specs.Cames.{what_in, what_of}
+use Rattle.pgn_outlet.specs.Passes.{HasAll, knows}
+use Rattle.pgn_outlet.specs.Rule.{MayPush, sender, taken_over, taker}
+use Rattle.pgn_text.specs.declared.out.Out.{Out}
+use Rattle.pgn_text.specs.Rendering.{Puts}
+use Rattle.pgn_text.proofs.PutsLaws.{Puts-none, Puts-same, Puts-trans, Writes-from_Puts}
+use Rattle.pgn_queries.specs.Queries.{first_place}
+use Rattle.pgn_turns.specs.declared.asked.Ask.{Ask}
+use Rattle.pgn_turns.specs.declared.saying.Saying.{Saying}
+use Rattle.pgn_turns.specs.Sayings.{all_told, signs_told}
+use Rattle.pgn_turns.specs.Turns.{Turn, IsPlain}
+use Rattle.pgn_session.specs.Open.{IsSameClient}
+use Rattle.pgn_seats.specs.declared.desk.Desk.{Desk}
+use Rattle.pgn_seats.specs.Desks.{AreSameClients, HaveServed, MayBegin, MayServe}
+use Rattle.pgn_seats.specs.Serving.{HasToldFirst, taken}
+use Rattle.pgn_frames.specs.declared.caller.Caller.{Caller}
+use Rattle.pgn_frames.specs.declared.framing.NoFrame.TheVariants as none
+use Rattle.pgn_frames.specs.Clients.{ClientAsks, Open, SeatAsks}
+use Rattle.pgn_frames.specs.Frames.{Frame, FramesAre, IsFrame, frame_bytes, signs_in, signs_of}
+use Rattle.pgn_frames.specs.Reading.{AreFirstFrames, HasPutFirst, HasRead, IsNewCaller, IsStillCaller, MayCall, put}
+use Rattle.pgn_frames.specs.Writing.{Carry, Wrote}
+use Rattle.pgn_frames.proofs.FrameLaws.{each_has_frames}
+use Rattle.pgn_run.specs.Arms.{CarryAll, HasReadBy, HasToldBy, HasWrittenRest, with_over}
+use Rattle.pgn_run.specs.Service.{over_frame}
+
+-- Nothing was read.
+
+first-of : (seats : ℕ) (bytes : Option (List ℕ)) → AreFirstFrames seats bytes []
+first-of seats None = record { more = []; fault = None; are = tt }
+first-of seats (Some all) =
+    let found = each_has_frames seats 0 all in
+    record { more = found.0; fault = found.1; are = found.2 }
+
+asked-nothing : (most : ℕ) → SeatAsks (first_place most) [] []
+asked-nothing most = SeatAsks.Last (first_place most) [] [] [] Open refl (ClientAsks.Stops (first_place most) [] refl)
+
+still-caller : (most : ℕ) (inbox : Outlet (Option Ask)) (caller : Caller) → IsNewCaller most inbox caller → IsStillCaller inbox caller
+still-caller most inbox caller h = record {
+  own = h.own;
+  same = h.unused ∙ ap (λ (v : Hand (Option Ask)). let w : Hand (Option Ask) = record sender { sent = v.sent } in w) (sym h.unused);
+}
+
+put-nothing : (most seat : ℕ) (v : Hand (Option Ask)) → v ≡ sender → HasPutFirst most [] (put seat v)
+put-nothing most seat v unused = record {
+  asks = [];
+  asked = asked-nothing most;
+  others = None ∷ [];
+  first = ap (λ (v : Hand (Option Ask)). what_of seat v.sent ++ None ∷ []) (sym unused);
+}
+
+-- there is an inbox
+an-inbox : (inboxes : List (Outlet (Option Ask))) (k : ℕ) (c : Caller) → 0 < length inboxes → Outlet (Option Ask)
+an-inbox [] k c some = absurd (omega (arith, some))
+an-inbox (inbox ∷ inboxes) k c some = inbox
+
+pub nothing-read : {S : Type 0} (left : S → Option (List ℕ)) (faults : S → ℕ) (inboxes : List (Outlet (Option Ask))) (callers : List Caller) (source : S) → HasReadBy left faults inboxes callers callers source source (Err none.Memory)
+nothing-read left faults inboxes callers source = record {
+  read = λ most may. record {
+    frames = [];
+    are = first-of (length callers) (left source);
+    own = λ k o c lt. still-caller most (get_or inboxes k o) (get_or callers k c) (may.begins k o c lt);
+    asked = λ k c lt. put-nothing most (k + 1) (knows (get_or callers k c).asks) (may.begins k (an-inbox inboxes k c (omega (arith, may.each, lt))) c lt).unused;
+  };
+  count = refl;
+  later = omega arith;
+  failed = λ e. absurd (let bad : Err none.Memory ≡ Err none.Failed = e in cc);
+  rose = λ lt. absurd (omega (arith, lt));
+}
+
+pub ruleset read_laws = (nothing-read)
+
+-- Nothing was served.
+
+begun-told : {P : Type 0} (is_own : P → Type 0) (shape : Shape) (known : P → Known) (inboxes : List (Outlet (Option Ask))) (v : Hand Saying) (desk : Desk P) → v.sent ≡ [] → MayBegin is_own shape known inboxes desk → HasToldFirst shape inboxes desk v
+begun-told is_own shape known inboxes v desk unused h = record {
+  lawful = record { journal = (known desk.session.pass).seen; state = h.rested.state; holds = h.rested.stands.holds };
+  inbox = h.inbox;
+  turns = [];
+  plain = All-nil IsPlain;
+  more = desk.session.items.items;
+  items = refl;
+  rest = desk.session.section.lines;
+  lines = refl;
+  others = taken desk.session.section.no (knows desk.asks);
+  asked = refl;
+  told = ap (λ (sent : List (Came Saying)). all_told (what_of desk.session.section.no sent)) unused;
+}
+
+same-clients : {P : Type 0} (desks : List (Desk P)) → AreSameClients desks desks
+same-clients [] = tt
+same-clients (desk ∷ desks) = (record { section = refl; plan = refl; patience = refl }, same-clients desks)
+
+pub nothing-served : {P A E : Type 0} (is_own : P → Type 0) (shape : Shape) (known : P → Known) (inboxes : List (Outlet (Option Ask))) (desks : List (Desk P)) (v : Hand Saying) (e : E) → MayServe is_own shape known inboxes desks v
+    → HaveServed {A = A} is_own shape known inboxes desks desks v v (Err e)
+nothing-served is_own shape known inboxes desks v e may = record {
+  clients = same-clients desks;
+  told = All-weaker (MayBegin is_own shape known inboxes) (λ (desk : Desk _). HasToldFirst shape inboxes desk v) (λ desk. begun-told is_own shape known inboxes v desk may.unused) desks may.begin;
+  served = tt;
+  same = refl;
+  others = λ m out. ap (λ (sent : List (Came Saying)). what_of m sent) may.unused;
+}
+
+pub ruleset served_laws = (nothing-served)
+
+-- What is written.
+
+pub signs_of-append : (seat : ℕ) (xs ys : List Frame) → signs_of seat (xs ++ ys) ≡ signs_of seat xs ++ signs_of seat ys
+signs_of-append seat [] ys = refl
+signs_of-append seat (x ∷ xs) ys =
+    let own : List (Option ℕ) = cond (x.seat == seat) (signs_in x.bytes) [] in
+    ap (λ (rest : List (Option ℕ)). own ++ rest) (signs_of-append seat xs ys) ∙ sym (append_assoc own (signs_of seat xs) (signs_of seat ys))
+
+module _ {S : Type 0} (held : S → Option (List ℕ)) (faults : S → ℕ) where
+  pub wrote-none : (v : Hand Saying) (sink : S) (out : Out) → Wrote held faults v v sink out sink out
+  wrote-none v sink out = record {
+    more = [];
+    got = ap (λ (l : List (Came Saying)). let w : Hand Saying = record v { got = l } in w) (sym (append-nil v.got));
+    frames = [];
+    carry = record { can_be_written = All-nil (IsFrame 256); signs = λ seat. refl };
+    puts = Puts-none held faults sink out;
+  }
+
+  -- what is left once all was told
+  pub rest-written : (v t c w : Hand Saying) (s₀ s₁ s₂ : S) (o₀ o₁ o₂ : Out) (over : Bool) → c ≡ taken_over v t → Wrote held faults c w s₀ o₀ s₁ o₁ → HasAll w → Puts held faults s₁ o₁ s₂ o₂ (cond over over_frame [])
+      → OnOk o₂.so_far (o₂.kept ≡ []) → HasWrittenRest held faults v t o₀ s₀ s₂ over o₂.so_far
+  rest-written v t c w s₀ s₁ s₂ o₀ o₁ o₂ over closed f has puts sent =
+      let w_is : w ≡ record v { takes = true; got = t.got ++ f.more } = f.got ∙ ap (λ (x : Hand Saying). let y : Hand Saying = record x { got = x.got ++ f.more } in y) closed in
+      record {
+        more = f.more;
+        all = λ seat may.
+            sym (ap (λ (x : Hand Saying). what_of seat x.got) w_is) ∙ has seat (subst (λ (x : Hand Saying). MayPush x seat) (sym w_is) may) ∙ ap (λ (x : Hand Saying). what_of seat x.sent) w_is;
+        outs = f.frames;
+        carry = f.carry;
+        out_now = o₂;
+        puts = Puts-trans f.puts puts;
+        sent = sent;
+        is = refl;
+      }
+
+  -- what all writes come to
+  pub told-by : {P : Type 0} (is_own : P → Type 0) (shape : Shape) (known : P → Known) (inboxes : List (Outlet (Option Ask))) (old new : List (Desk P)) (u v t₀ t₁ : Hand Saying) (s₀ s₁ s₂ : S) (o₀ o₁ : Out) (over : Bool)
+      (so_far : Result Unit Failed) (served : Result Unit AllocError) → u ≡ sender → HaveServed is_own shape known inboxes old new u v served → t₀ ≡ taker → Wrote held faults t₀ t₁ s₀ o₀ s₁ o₁ → HasWrittenRest held faults v t₁ o₁ s₁ s₂ over so_far
+      → o₀.kept ≡ [] → o₀.so_far ≡ Ok tt → (over ≡ true → OnOk served ⊥) → HasToldBy is_own shape known inboxes old new held faults s₀ s₂ (so_far, served)
+  told-by is_own shape known inboxes old new u v t₀ t₁ s₀ s₁ s₂ o₀ o₁ over so_far served sends ran takes f r none fine refused = record {
+    after = v;
+    ran = subst (λ (x : Hand Saying). HaveServed is_own shape known inboxes old new x v served) sends ran;
+    outs = f.frames ++ r.outs;
+    carry = record {
+      can_be_written = All-append (IsFrame 256) f.frames r.outs f.carry.can_be_written r.carry.can_be_written;
+      signs = λ seat may.
+          signs_of-append seat f.frames r.outs
+          ∙ ap (λ (x : List (Option ℕ) × List (Option ℕ)). x.0 ++ x.1) (λ i. (f.carry.signs seat i, r.carry.signs seat i))
+          ∙ sym (flat_map-append signs_told (what_of seat f.more) (what_of seat r.more))
+          ∙ ap all_told (sym (flat_map-append (what_in seat) f.more r.more) ∙ ap (λ (l : List (Came Saying)). what_of seat (l ++ r.more)) (sym got) ∙ r.all seat may);
+    };
+    over = over;
+    refused = refused;
+    writes = subst (λ (x : Result Unit Failed). Writes (held s₀) (held s₂) x (with_over over (f.frames ++ r.outs))) (sym r.is) (Writes-from_Puts none fine puts (Puts-none held faults s₂ r.out_now) r.sent);
+    cause = subst (λ (x : Result Unit Failed). HasCause (faults s₀) (faults s₂) x) (sym r.is)
+        (puts.cause (faults s₀) (subst (λ (x : Result Unit Failed). HasCause (faults s₀) (faults s₀) x) (sym fine) (record { later = omega arith; failed = tt; passed = refl })));
+  }
+    where
+      got : t₁.got ≡ f.more
+      got = ap (λ (x : Hand Saying). x.got) f.got ∙ ap (λ (x : Hand Saying). x.got ++ f.more) takes
+
+      text : flat_map frame_bytes f.frames ++ with_over over r.outs ≡ with_over over (f.frames ++ r.outs)
+      text = sym (append_assoc (flat_map frame_bytes f.frames) (flat_map frame_bytes r.outs) (cond over over_frame [])) ∙ ap (λ (l : List ℕ). l ++ cond over over_frame []) (sym (flat_map-append frame_bytes f.frames r.outs))
+
+      puts : Puts held faults s₀ o₀ s₂ r.out_now (with_over over (f.frames ++ r.outs))
+      puts = Puts-same {held = held} {faults = faults} text (Puts-trans f.puts r.puts)
+
+pub ruleset wrote_laws = (wrote-none)

@@ -1,0 +1,92 @@
+-- What a session has done for what its desk was asked so far, what was told of it, and how each part of a turn carries that on.
+use Rattle.std.specs.Prelude.{◌≡◌, ℕ, ◌+◌, false, List, [], ◌∷◌, ◌++◌, Option, None, Some, All}
+use Rattle.std.specs.List.{list_any}
+use Rattle.pgn_hub.specs.declared.known.Known.{Known}
+use Rattle.pgn_hub.specs.Shape.{Shape}
+use Rattle.pgn_language.specs.declared.scenario.ScriptLine.{ScriptLine}
+use Rattle.pgn_model.specs.declared.item.Item.{Item}
+use Rattle.pgn_model.specs.declared.item.Item.TheVariants.{Line}
+use Rattle.pgn_messages.specs.Laws.{begins_line}
+use Rattle.pgn_session.specs.declared.session.Session.{Session}
+use Rattle.pgn_session.specs.Feed.{fed}
+use Rattle.pgn_session.specs.Open.{IsBefore, IsOpen, RunsCommand}
+use Rattle.pgn_session.specs.Standing.{IsServedBy}
+use Rattle.pgn_session.specs.Whole.{HasRest}
+use Rattle.pgn_outlet.specs.declared.hand.Hand.{Hand}
+use Rattle.pgn_outlet.specs.Cames.{what_of}
+use Rattle.pgn_turns.specs.declared.asked.Ask.{Ask}
+use Rattle.pgn_turns.specs.declared.saying.Saying.{Saying}
+use Rattle.pgn_turns.specs.Asks.{rollback_line, seat_quit, unlisten_line}
+use Rattle.pgn_turns.specs.Sayings.{all_told}
+use Rattle.pgn_turns.specs.Turns.{Turn, IsPlain, asks_of, items_of, lines_of, said}
+
+-- a session at work: its pass is the hub's, which has each flag that it may name, it left no read out, and its script is open
+pub record IsAtWork {P : Type 0} (is_own : P → Type 0) (shape : Shape) (known : P → Known) (s : Session P) : Type 0 where
+  pub own : is_own s.pass
+  pub served : IsServedBy shape s.section s.plan
+  pub rested : HasRest shape known s
+  pub is_open : IsOpen s
+
+-- the same, where this line is to come before the `\quit`
+pub record IsAtLine {P : Type 0} (is_own : P → Type 0) (shape : Shape) (known : P → Known) (line : ScriptLine) (s : Session P) : Type 0 where
+  pub own : is_own s.pass
+  pub served : IsServedBy shape s.section s.plan
+  pub rested : HasRest shape known s
+  pub before : IsBefore s line
+  pub runs : RunsCommand line
+
+-- the session has run a line: it and its items stand behind what was shown, and no other line begins among them
+pub record HasRun {P : Type 0} (old : Session P) (line : ScriptLine) (new : Session P) : Type 0 where
+  pub more : List Item
+  pub shown : new.items.items ≡ old.items.items ++ Line line.line ∷ more
+  pub one_line : list_any begins_line more ≡ false
+
+-- the session has run the two lines that set a seat back, which were put into its script
+pub record HasSetBack {P : Type 0} (old : Session P) (number : ℕ) (new : Session P) : Type 0 where
+  pub rolled : List Item
+  pub unlistened : List Item
+  pub shown : new.items.items ≡ old.items.items ++ (Line number ∷ rolled ++ Line (number + 1) ∷ unlistened)
+  pub one_line : list_any begins_line rolled ≡ false
+  pub one_more : list_any begins_line unlistened ≡ false
+  pub section : new.section ≡ fed (fed old.section (rollback_line number)) (unlisten_line (number + 1))
+
+-- all that was asked, and nothing else, was done in turns, and they are what was told. These lines are to come, and then the `\quit`
+pub record HasDone {P : Type 0} (rest : List ScriptLine) (asks : List Ask) (s : Session P) (tells : Hand Saying) : Type 0 where
+  pub turns : List Turn
+  pub plain : All IsPlain turns
+  pub asked : asks_of turns ≡ asks
+  pub lines : s.section.lines ≡ lines_of turns ++ (rest ++ seat_quit ∷ [])
+  pub items : s.items.items ≡ items_of turns
+  pub told : all_told (what_of s.section.no tells.sent) ≡ said turns
+
+-- it was, and of what followed nothing was told
+pub record HasDoneFirst {P : Type 0} (asks : List Ask) (s : Session P) (tells : Hand Saying) : Type 0 where
+  pub turns : List Turn
+  pub plain : All IsPlain turns
+  pub asked : asks_of turns ≡ asks
+  pub rest : List ScriptLine
+  pub lines : s.section.lines ≡ lines_of turns ++ (rest ++ seat_quit ∷ [])
+  pub more : List Item
+  pub items : s.items.items ≡ items_of turns ++ more
+  pub told : all_told (what_of s.section.no tells.sent) ≡ said turns
+
+-- whatever was done first stays done first
+abbrev pub StaysDone : {P : Type 0} → Session P → Session P → Type 0
+StaysDone old new = (asks : List Ask) (tells : Hand Saying) → HasDoneFirst asks old tells → HasDoneFirst asks new tells
+
+-- what was asked, and this besides, if it is one
+abbrev pub with_ask : List Ask → Option Ask → List Ask
+with_ask asks None = asks
+with_ask asks (Some ask) = asks ++ ask ∷ []
+
+-- a part of a turn that was done: all that was asked is done and told still, and this besides
+abbrev pub GoesOn : {P : Type 0} → List ScriptLine → List ScriptLine → Option Ask → Session P → Session P → Hand Saying → Hand Saying → Type 0
+GoesOn rest next asked old new before after = (asks : List Ask) → HasDone rest asks old before → HasDone next (with_ask asks asked) new after
+
+-- a part for which memory did not suffice: all that was asked was done first
+abbrev pub StopsFirst : {P : Type 0} → List ScriptLine → Session P → Session P → Hand Saying → Hand Saying → Type 0
+StopsFirst rest old new before after = (asks : List Ask) → HasDone rest asks old before → HasDoneFirst asks new after
+
+-- what was told for number n grew by these signs
+abbrev pub HasSaid : ℕ → List (Option ℕ) → Hand Saying → Hand Saying → Type 0
+HasSaid n signs old new = all_told (what_of n new.sent) ≡ all_told (what_of n old.sent) ++ signs

@@ -1,0 +1,15 @@
+use pgn_outlet::{Outlet, OutletPass};
+use pgn_session::Session;
+use pgn_turns::Ask;
+
+/// What a seat is asked, in order; `None` stands behind all of it, where nothing more will be asked.
+pub type Inbox = Outlet<Option<Ask>>;
+
+/// A seat's session, and the pass by which it takes what the seat is asked.
+#[derive(Drop)]
+pub struct Desk<P> {
+    pub session: Session<P>,
+    pub asks: OutletPass<Option<Ask>>,
+    /// So many lines of the session's script notify.
+    pub notes: u32,
+}

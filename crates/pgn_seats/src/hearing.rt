@@ -1,0 +1,108 @@
+ghost use Rattle.std.specs.Prelude.{◌≡◌, ◌≢◌, None, [], List, Ok, OnErr, OnOk};
+ghost use Rattle.pgn_language.specs.declared.scenario.ScriptLine.{ScriptLine};
+ghost use Rattle.pgn_outlet.specs.Passes.{IsPassOf, knows};
+ghost use Rattle.pgn_outlet.specs.Rule.{MayPush};
+ghost use Rattle.pgn_seats.specs.Serving.{HasPushedFor};
+ghost use Rattle.pgn_seats.specs.Working.{GoesOn, StopsFirst, IsAtLine, IsAtWork};
+ghost use Rattle.pgn_session.specs.FirstRead.{HasReadTold, IsToReadFirst};
+ghost use Rattle.pgn_session.specs.Runs.{IsLawful};
+
+use crate::telling::say_heard;
+use pgn_hub::{Hub, PassView};
+use pgn_outlet::{Bell, Outlet, OutletPass};
+use pgn_session::{IdleDone, Session};
+use pgn_turns::Saying;
+use pgn_workers::Turn;
+use std::alloc::{AllocError, Global};
+use std::sync::Wait;
+
+// Reads before the line that is to come, if it listens or opens a block, and tells what was heard.
+pub(crate) fn hear_before<P: PassView + Send + Drop, H: Hub<Pass = P>, R: Wait>(
+    rt: &R,
+    alloc: Global,
+    hub: &H,
+    outbox: &Outlet<Saying>,
+    bell: &Bell,
+    session: &mut Session<P>,
+    tells: &mut OutletPass<Saying>,
+) -> Result<(), AllocError>
+    requires own { IsPassOf outbox.now tells.old }
+    requires may { MayPush (knows tells.old) session.old.section.no }
+    requires line { (line : ScriptLine) × IsAtLine (H.is_pass hub.now) (H.shape hub.now) P.known line session.old }
+    ensures own { IsPassOf outbox.now tells.new }
+    ensures alone { HasPushedFor session.old.section.no (knows tells.old) (knows tells.new) }
+    ensures same { session.new ≡ record session.old { pass = session.new.pass; items = session.new.items } }
+    ensures lawful { IsLawful (H.shape hub.now) session.new }
+    ensures line { (line : ScriptLine) → IsAtLine (H.is_pass hub.now) (H.shape hub.now) P.known line session.old → IsAtLine (H.is_pass hub.now) (H.shape hub.now) P.known line session.new }
+    ensures read_up { OnOk result (IsToReadFirst session.new → HasReadTold (P.known session.new.pass)) }
+    ensures went { (rest : List ScriptLine) → OnOk result (GoesOn rest rest None session.old session.new (knows tells.old) (knows tells.new)) }
+    ensures stopped { (rest : List ScriptLine) → OnErr result (StopsFirst rest session.old session.new (knows tells.old) (knows tells.new)) }
+{
+    let from = session.items.len();
+    session.read_before_line(alloc, hub)?;
+    say_heard(rt, alloc, outbox, bell, session, from, tells)
+}
+
+// Where nothing is asked: reads where the session was woken, and tells what was heard. The error is also that the run was called off.
+pub(crate) fn listen<P: PassView + Send + Drop, H: Hub<Pass = P>, R: Wait>(
+    rt: &R,
+    alloc: Global,
+    hub: &H,
+    outbox: &Outlet<Saying>,
+    bell: &Bell,
+    session: &mut Session<P>,
+    tells: &mut OutletPass<Saying>,
+) -> Result<Turn, AllocError>
+    requires own { IsPassOf outbox.now tells.old }
+    requires may { MayPush (knows tells.old) session.old.section.no }
+    requires work { IsAtWork (H.is_pass hub.now) (H.shape hub.now) P.known session.old }
+    ensures own { IsPassOf outbox.now tells.new }
+    ensures alone { HasPushedFor session.old.section.no (knows tells.old) (knows tells.new) }
+    ensures same { session.new ≡ record session.old { pass = session.new.pass; items = session.new.items } }
+    ensures lawful { IsLawful (H.shape hub.now) session.new }
+    ensures work { OnOk result (IsAtWork (H.is_pass hub.now) (H.shape hub.now) P.known session.new) }
+    ensures went { OnOk result (GoesOn [] [] None session.old session.new (knows tells.old) (knows tells.new)) }
+    ensures stopped { OnErr result (StopsFirst [] session.old session.new (knows tells.old) (knows tells.new)) }
+    ensures waits { result ≢ Ok Turn.Ended }
+{
+    let heard = hear_woken(rt, alloc, hub, outbox, bell, session, tells)?;
+    if !heard && hub.is_called_off() {
+        return Err(AllocError);
+    }
+    Ok(Turn::waited(heard))
+}
+
+// Reads where the session was woken, and tells what was heard: answers whether it has read.
+fn hear_woken<P: PassView + Send + Drop, H: Hub<Pass = P>, R: Wait>(
+    rt: &R,
+    alloc: Global,
+    hub: &H,
+    outbox: &Outlet<Saying>,
+    bell: &Bell,
+    session: &mut Session<P>,
+    tells: &mut OutletPass<Saying>,
+) -> Result<bool, AllocError>
+    requires own { IsPassOf outbox.now tells.old }
+    requires may { MayPush (knows tells.old) session.old.section.no }
+    requires work { IsAtWork (H.is_pass hub.now) (H.shape hub.now) P.known session.old }
+    ensures own { IsPassOf outbox.now tells.new }
+    ensures alone { HasPushedFor session.old.section.no (knows tells.old) (knows tells.new) }
+    ensures same { session.new ≡ record session.old { pass = session.new.pass; items = session.new.items } }
+    ensures lawful { IsLawful (H.shape hub.now) session.new }
+    ensures work { OnOk result (IsAtWork (H.is_pass hub.now) (H.shape hub.now) P.known session.new) }
+    ensures went { OnOk result (GoesOn [] [] None session.old session.new (knows tells.old) (knows tells.new)) }
+    ensures stopped { OnErr result (StopsFirst [] session.old session.new (knows tells.old) (knows tells.new)) }
+{
+    let from = session.items.len();
+    let done = session.idle(alloc, hub)?;
+    say_heard(rt, alloc, outbox, bell, session, from, tells)?;
+    Ok(has_read(done))
+}
+
+// Whether an idle session has read.
+fn has_read(done: IdleDone) -> bool {
+    match done {
+        IdleDone::Read { .. } => true,
+        _ => false,
+    }
+}

@@ -1,0 +1,2 @@
+-- who may ask a seat, and who may hear
+pub mod Rights

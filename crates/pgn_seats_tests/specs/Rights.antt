@@ -1,0 +1,26 @@
+-- Who may ask a seat of two, and who may take what is told.
+use Rattle.std.specs.Prelude.{◌≡◌, ℕ, ◌-◌, true, List, [], ◌∷◌, length, get_or, Option}
+use Rattle.pgn_hub.specs.declared.setup.SeatSetup.{SeatSetup}
+use Rattle.pgn_outlet.specs.declared.outlet.Outlet.{Outlet}
+use Rattle.pgn_outlet.specs.Passes.{Pass, IsPassOf, knows}
+use Rattle.pgn_turns.specs.declared.asked.Ask.{Ask}
+use Rattle.pgn_turns.specs.declared.saying.Saying.{Saying}
+
+-- the pass is one of the seat's inbox
+abbrev pub IsOfInbox : List (Outlet (Option Ask)) → ℕ → Pass (Option Ask) → Type 0
+IsOfInbox inboxes seat pass = (d : Outlet (Option Ask)) → IsPassOf (get_or inboxes (seat - 1) d) pass
+
+-- by it the seat may be asked
+pub record MayAsk (inboxes : List (Outlet (Option Ask))) (seat : ℕ) (pass : Pass (Option Ask)) : Type 0 where
+  pub own : IsOfInbox inboxes seat pass
+  pub first : (knows pass).first ≡ 1
+  pub count : (knows pass).count ≡ 256
+
+-- by it what is told may be taken
+pub record MayHear (outbox : Outlet Saying) (pass : Pass Saying) : Type 0 where
+  pub own : IsPassOf outbox pass
+  pub takes : (knows pass).takes ≡ true
+
+-- a seat of database 1
+abbrev pub test_seat : SeatSetup
+test_seat = record { db = 1; notes = 20000 }
