@@ -1633,12 +1633,16 @@ class ProofFile(File):
         super().__init__(path, order)
         self.is_spec, self.members, self.named = True, {}, None
         self.has_answers = self.module[-1] in ('Answers', 'Invariants')
-        starts, is_module, item = [], False, None
+        starts, depths, item, self.over = [], [0], None, {}
         for i, line in enumerate(self.lines):
-            is_outer = bool(re.match(r'[^\s-]|-[^-]', line))
-            is_module = line.startswith('module ') if is_outer else is_module
-            if is_outer or is_module and re.match(r'  ([^\s-]|-[^-])', line):
+            depth = len(line) - len(line.lstrip())
+            if not line.strip() or re.match(r' *--', line):
+                continue
+            while depths[-1] > depth:
+                depths.pop()
+            if depths[-1] == depth:
                 starts.append(i)
+                depths += [depth + 2] if line.startswith('module ', depth) else []  # what stands in a module
         for start, stop in zip(starts, starts[1:] + [len(self.lines)]):
             while stop > start + 1 and (not self.lines[stop - 1].strip() or re.match(r' *--', self.lines[stop - 1])):
                 stop -= 1
@@ -1651,11 +1655,15 @@ class ProofFile(File):
             if 'use' in (tokens[0].text, tokens[1].text):
                 self.ghosts.update(use_paths(tokens[1 if tokens[0].text == 'use' else 2:]))
             return item
-        if self.lines[line - 1].startswith('module '):
-            self.over = Item('module', 'what a module is over', self, line, line)
-            self.over.parts.append(('statement', tokens[2:]))
-            self.over.inner = []
-            self.items.append(self.over)
+        depth = len(self.lines[line - 1]) - len(self.lines[line - 1].lstrip())
+        if tokens[0].text == 'module':
+            module = Item('module', 'what a module is over', self, line, line)
+            module.parts.append(('statement', tokens[2:]))
+            module.inner = []
+            self.items.append(module)
+            if depth:
+                self.over[depth].inner.append(module)
+            self.over[depth + 2] = module
             return None
         at = next((i + 1 for i, token in enumerate(tokens) if head and token.text == head.group(2)), 0)
         if head and (head.group(1) or tokens[at].text == ':'):
@@ -1665,8 +1673,8 @@ class ProofFile(File):
             item.parts.append(('proof' if head.group(1) == 'ruleset' else 'statement', tokens[at:]))
             self.items.append(item)
             self.members[item.name] = item
-            if self.lines[line - 1].startswith(' '):
-                self.over.inner.append(item)
+            if depth:
+                self.over[depth].inner.append(item)
             if head.group(1) == 'data':
                 self.members.update((token.text, item) for token in tokens[at:] if token.text[0].isupper() and self.lines[token.line - 1].strip().startswith(token.text + ' :'))
         elif item is not None:
