@@ -1,5 +1,5 @@
 -- Frame after frame, for all seats.
-use Rattle.std.proofs.Common.{◌≡◌, ◌≢◌, ℕ, ◌+◌, ◌-◌, ◌<◌, ◌≤◌, ◌==◌, ◌⊎◌, cond, false, List, [], ◌∷◌, ◌++◌, length, get_or, set, Option, Some, None, Result, Ok, Err, IfOk, sym, ap, ◌∙◌, subst, refl, arith, inl, inr, append_assoc, append-nil}
+use Rattle.std.proofs.Common.{◌≡◌, ◌≢◌, ℕ, ◌+◌, ◌-◌, ◌<◌, ◌≤◌, ◌==◌, cond, List, [], ◌∷◌, ◌++◌, length, get_or, set, Option, Some, None, Result, Ok, Err, IfOk, sym, ap, ◌∙◌, subst, refl, arith, inl, inr, append_assoc, append-nil}
 use Rattle.std.specs.Prelude.{map}
 use Rattle.std.proofs.lemmas.Bool.{cases_eq, cases_lt, eq-eqb, ne_eqb}
 use Rattle.std.proofs.lemmas.List.{map-append, get_or_default, get_or-set_same, get_or-set_other, length-set}
@@ -15,11 +15,11 @@ use Rattle.pgn_frames.specs.declared.frame_fault.FrameFault.{FrameFault}
 use Rattle.pgn_frames.specs.declared.framing.NoFrame.{NoFrame}
 use Rattle.pgn_frames.specs.declared.framing.NoFrame.TheVariants.{Failed, Memory}
 use Rattle.pgn_frames.specs.declared.caller.Caller.{Caller}
-use Rattle.pgn_frames.specs.Callers.{AskOn, HasCome, IsUnfinished, Takes, TakesFirst, Waits, carried, first_stand, stand_of, with_put}
+use Rattle.pgn_frames.specs.Callers.{AskOn, HasCome, IsUnfinished, Takes, TakesFirst, Waits, first_stand, stand_of, with_put}
 use Rattle.pgn_frames.specs.Clients.{SeatAsks}
 use Rattle.pgn_frames.specs.Frames as frame
 use Rattle.pgn_frames.specs.Frames.{Comes, Frame, FramesAre, IsSeat, NextFrame, Over, Wrong, signs_in, signs_of}
-use Rattle.pgn_frames.specs.Reading.{AreBefore, AreEnded, AreFirstFrames, AreFrames, Begins, Calls, CallsOn, DoesAt, EachSeat, HasPutAll, HasPutFirst, HasReadAll, HasReadFirst, HasReadSome, IsEnded, IsKept, MayCall, OwnsInbox, Reads, ReadsAll, ReadsFirst, ReadsTo, TurnsInto, has_put}
+use Rattle.pgn_frames.specs.Reading.{AreBefore, AreEnded, AreFirstFrames, AreFrames, Begins, Calls, CallsOn, DoesAt, EachSeat, HasPutAll, HasPutFirst, HasReadAll, HasReadFirst, HasReadSome, IsEnded, IsKept, MayCall, OwnsInbox, Reads, ReadsAll, ReadsFirst, ReadsTo, TurnsInto}
 use Rattle.pgn_frames.proofs.FrameLaws.{each_has_frames}
 use Rattle.pgn_frames.proofs.StandLaws.{HasCome-then, nothing_more}
 use Rattle.pgn_frames.proofs.CallerLaws.{First-all, may-put, put-then}

@@ -1,5 +1,5 @@
 -- How a reader goes on from where it stands with a seat: by bytes, by a query, by a client's end.
-use Rattle.std.proofs.Common.{◌≡◌, ℕ, ◌+◌, ◌-◌, ◌<◌, ◌⊎◌, Bool, true, false, List, [], ◌∷◌, ◌++◌, length, drop, Option, Some, None, sym, ap, ◌∙◌, subst, refl, arith, inl, inr, append_assoc, append-nil, cond, zero-add}
+use Rattle.std.proofs.Common.{◌≡◌, ℕ, ◌+◌, ◌-◌, ◌<◌, Bool, true, false, List, [], ◌∷◌, ◌++◌, length, drop, Option, Some, None, sym, ap, ◌∙◌, subst, refl, arith, inl, inr, append_assoc, append-nil, cond, zero-add}
 use Rattle.std.specs.Prelude.{map}
 use Rattle.std.proofs.lemmas.List.{map-append, length-append}
 use Rattle.std.proofs.lemmas.List.Sums.{sum_by-append}
@@ -22,14 +22,14 @@ use Rattle.pgn_queries.proofs.OneLaws.{terminate_asks_nothing}
 use Rattle.pgn_turns.specs.declared.asked.Ask.{Ask}
 use Rattle.pgn_turns.specs.declared.asked.Ask.TheVariants as ask
 use Rattle.pgn_turns.specs.declared.asked.Parting.{Parting}
-use Rattle.pgn_turns.specs.declared.asked.Parting.TheVariants.{Plain, Refused, Spent}
+use Rattle.pgn_turns.specs.declared.asked.Parting.TheVariants.{Refused, Spent}
 use Rattle.pgn_frames.specs.Clients as clients
 use Rattle.pgn_frames.specs.Clients.{ClientAsks, Close, Open, Left, Faulty, SeatAsks, asks_for, last_end, next_client, next_line, parting_of}
 use Rattle.pgn_frames.specs.Callers as callers
 use Rattle.pgn_frames.specs.Callers.{AskBehind, AskFrom, AskOn, HasCome, IsCut, IsUnfinished, Stand, behind_end, parting_behind, parting_by}
 use Rattle.pgn_frames.specs.Laws.{IsTold}
 use Rattle.pgn_frames.proofs.AskLaws.{cut, each_is_asked, no_query_end}
-use Rattle.pgn_frames.proofs.MoreLaws.{behind, more_may_follow, terminate_more}
+use Rattle.pgn_frames.proofs.MoreLaws.{more_may_follow, terminate_more}
 
 -- signs ask something there
 asks_from : (left : Bool) (place : Place) (begun : List ℕ) (signs : List (Option ℕ)) → (others : List Ask) × AskFrom left place begun signs others

@@ -2,7 +2,7 @@
 ghost use Rattle.std.specs.Prelude.{◌≡◌, ℕ, true, length, IfOk};
 ghost use Rattle.pgn_outlet.specs.Passes.{IsPassOf, knows};
 ghost use Rattle.pgn_wordhub.specs.Passes.{hub_shape};
-ghost use Rattle.pgn_frames.specs.Reading.{MayCall};
+ghost use Rattle.pgn_frames.specs.Reading.{Begins, MayCall};
 
 use pgn_base::{DbOid, Format, Source};
 use pgn_frames::{Caller, FrameFault, NoFrame, read_frames};
@@ -41,23 +41,18 @@ fn read_from<R: Wait, S: Source>(
     alloc: Global,
     source: &mut S,
 ) -> Result<Came, AllocError> {
-    let (first, one, mut own) = Outlet::open(alloc)?;
-    let Ok((second, two, mut other)) = Outlet::open(alloc) else {
+    let (first, one, mut own) = open_seat(alloc)?;
+    let Ok((second, two, mut other)) = open_seat(alloc) else {
         first.destroy();
         return Err(AllocError);
     };
-    let Ok((third, three, mut last)) = Outlet::open(alloc) else {
+    let Ok((third, three, mut last)) = open_seat(alloc) else {
         first.destroy();
         second.destroy();
         return Err(AllocError);
     };
-    let callers = [
-        Caller::new(alloc, one, NOTES),
-        Caller::new(alloc, two, NOTES),
-        Caller::new(alloc, three, NOTES),
-    ];
     let inboxes = [first, second, third];
-    let read = read_in(rt, alloc, source, &inboxes, callers);
+    let read = read_in(rt, alloc, source, &inboxes, [one, two, three]);
     let [first, second, third] = inboxes;
     let came = match read {
         Ok(end) => match (
@@ -81,6 +76,18 @@ fn read_from<R: Wait, S: Source>(
     came
 }
 
+// A seat's inbox, its caller, and the pass that takes.
+fn open_seat(
+    alloc: Global,
+) -> Result<(Outlet<Option<Ask>>, Caller, OutletPass<Option<Ask>>), AllocError>
+    ensures begins { IfOk result (λ seat. (number : ℕ) → Begins 2 number seat.0 seat.1) }
+    ensures own { IfOk result (λ seat. IsPassOf seat.0 seat.2) }
+    ensures takes { IfOk result (λ seat. (knows seat.2).takes ≡ true) }
+{
+    let (inbox, pass, taker) = Outlet::open(alloc)?;
+    Ok((inbox, Caller::new(alloc, pass, NOTES), taker))
+}
+
 fn read_in<R: Wait, S: Source>(
     rt: &R,
     alloc: Global,
@@ -88,7 +95,7 @@ fn read_in<R: Wait, S: Source>(
     inboxes: &[Outlet<Option<Ask>>],
     mut callers: [Caller; 3],
 ) -> Result<Result<Option<FrameFault>, NoFrame>, AllocError>
-    requires { (most : ℕ) × MayCall most inboxes.now callers.entry }
+    requires { (most : ℕ) × MayCall most inboxes.now callers }
 {
     let hub = open_hub(alloc)?;
     Ok(read_frames(rt, alloc, &hub, inboxes, &mut callers, source))

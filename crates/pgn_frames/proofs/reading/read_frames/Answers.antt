@@ -2,7 +2,7 @@ use Rattle.std.proofs.Common.{◌≡◌, ◌≤◌, ℕ, length, true, false, Op
 use Rattle.pgn_frames.specs.declared.frame_fault.FrameFault.{FrameFault}
 use Rattle.pgn_frames.specs.declared.framing.NoFrame.{NoFrame}
 use Rattle.pgn_frames.specs.declared.framing.NoFrame.TheVariants.{Memory}
-use Rattle.pgn_frames.specs.Reading.{AreEnded, CallsOn, EachSeat, ReadsTo}
+use Rattle.pgn_frames.specs.Reading.{AreEnded, ReadsTo}
 use Rattle.pgn_frames.proofs.CallerLaws.{err_of, ok_of}
 use Rattle.pgn_frames.proofs.ReadingLaws.{Reads-none, Told-done, Told-failed, Told-some, on_none}
 use Rattle.pgn_frames.proofs.reading.read_frames.Goals as goal

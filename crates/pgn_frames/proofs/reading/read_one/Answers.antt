@@ -1,4 +1,4 @@
-use Rattle.std.proofs.Common.{◌≡◌, ℕ, List, length, Option, Result, Ok, rules, sym, ap, subst}
+use Rattle.std.proofs.Common.{◌≡◌, ℕ, List, length, Result, Ok, rules, sym, ap, subst}
 use Rattle.pgn_queries.specs.Client.{OfKnown}
 use Rattle.pgn_frames.specs.declared.framing.Arrival.{Arrival}
 use Rattle.pgn_frames.specs.declared.framing.Arrival.TheVariants as arrival

@@ -1,4 +1,4 @@
-use Rattle.std.proofs.Common.{◌≡◌, ◌+◌, rules, arith, refl}
+use Rattle.std.proofs.Common.{rules, arith}
 use Rattle.pgn_frames.proofs.ReadingLaws.{ended_kept, ended_more, ended_none}
 use Rattle.pgn_frames.proofs.reading.tell_end.Goals as goal
 

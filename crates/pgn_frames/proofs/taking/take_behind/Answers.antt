@@ -1,5 +1,4 @@
-use Rattle.std.proofs.Common.{◌≡◌, ◌++◌, ℕ, List, map, drop, Option, Some, rules, refl, sym, ap, ◌∙◌, subst}
-use Rattle.pgn_queries.specs.Queries.{Place}
+use Rattle.std.proofs.Common.{◌≡◌, ◌++◌, ℕ, List, map, drop, Some, rules, refl, ap, ◌∙◌, subst}
 use Rattle.pgn_frames.specs.declared.caller.Caller.{Caller}
 use Rattle.pgn_frames.specs.Callers.{IsUnfinished, TakesBytes, TakesFirst}
 use Rattle.pgn_frames.proofs.CallerLaws.{First-bytes, FirstBytes-all, Takes-bytes, err_any}

@@ -1,4 +1,4 @@
-use Rattle.std.proofs.Common.{◌≡◌, ◌++◌, ℕ, List, [], map, Option, Some, refl, sym, ap, subst}
+use Rattle.std.proofs.Common.{◌≡◌, ◌++◌, ℕ, List, map, Some, refl, sym, ap, subst}
 use Rattle.pgn_frames.specs.declared.caller.Caller.{Caller}
 use Rattle.pgn_frames.specs.Callers.{TakesFirst, TakesFirstBytes}
 use Rattle.pgn_frames.proofs.CallerLaws.{First-bytes, FirstBytes-all, err_any}

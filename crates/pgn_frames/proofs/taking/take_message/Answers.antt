@@ -1,4 +1,4 @@
-use Rattle.std.proofs.Common.{◌≡◌, ◌-◌, ◌<◌, ℕ, true, rules, arith, refl, sym, ap, length, [], Option, Some, None, IfSome, Result, Ok, Err, subst}
+use Rattle.std.proofs.Common.{◌≡◌, ◌-◌, ◌<◌, true, rules, arith, refl, sym, ap, length, [], Option, Some, None, IfSome, Result, Ok, Err, subst}
 use Rattle.pgn_language.specs.declared.scenario.ScriptLine.{ScriptLine}
 use Rattle.pgn_queries.specs.declared.reader.NoQuery.{NoQuery}
 use Rattle.pgn_queries.specs.declared.reader.NoQuery.TheVariants.{Fault}

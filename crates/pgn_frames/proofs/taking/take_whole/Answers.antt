@@ -1,4 +1,4 @@
-use Rattle.std.proofs.Common.{◌≡◌, ◌-◌, ◌+◌, ◌≤◌, ℕ, List, length, map, take, drop, length-drop, Option, Some, rules, arith, refl, ap, ◌∙◌, subst}
+use Rattle.std.proofs.Common.{◌≡◌, ◌-◌, ◌+◌, ◌≤◌, ℕ, List, length, map, take, drop, length-drop, Some, rules, arith, refl, ap, ◌∙◌, subst}
 use Rattle.std.proofs.lemmas.List.{take_all}
 use Rattle.pgn_outlet.specs.Passes.{knows}
 use Rattle.pgn_turns.specs.declared.asked.Ask.{Ask}
