@@ -6,7 +6,7 @@ use Rattle.std.proofs.lemmas.Bool.{cases_lt, eq-eqb, ne_eqb}
 use Rattle.std.proofs.lemmas.List.{length-map}
 use Rattle.std.proofs.lemmas.List.Elements.{All-append, All-cons, All-head, All-map, All-nil, All-same, All-tail}
 use Rattle.pgn_base.specs.declared.source.Failed.{Failed}
-use Rattle.pgn_base.specs.Outside.{AppendsPrefix, Writes}
+use Rattle.pgn_base.specs.Outside.{AppendsPrefix, HasCause, Rose, Writes}
 use Rattle.pgn_journal.specs.declared.tx.Tx.{Tx}
 use Rattle.pgn_language.specs.declared.scenario.ScriptLine.{ScriptLine}
 use Rattle.pgn_language.specs.declared.scenario.Section.{Section}
@@ -36,7 +36,7 @@ use Rattle.pgn_queries.specs.Queries.{first_place}
 use Rattle.pgn_turns.specs.declared.asked.Ask.{Ask}
 use Rattle.pgn_turns.specs.declared.asked.Ask.TheVariants.{Query, End}
 use Rattle.pgn_turns.specs.declared.saying.Saying.{Saying}
-use Rattle.pgn_turns.specs.Asks.{lines_for, script_of, seat_quit}
+use Rattle.pgn_turns.specs.Asks.{line_of, lines_for, rollback_line, script_of, seat_quit, unlisten_line}
 use Rattle.pgn_turns.specs.Sayings.{all_told}
 use Rattle.pgn_turns.specs.Turns.{asks_of, items_of}
 use Rattle.pgn_seats.specs.declared.desk.Desk.{Desk}
@@ -88,19 +88,16 @@ element (x ∷ xs) zero lt = (x, λ d. refl)
 element (x ∷ xs) (suc k) lt = element xs k (omega (arith, lt))
 
 -- where there is something for each place, there is a list of it
+chosen-at : {B : Type 0} (Q : ℕ → B → Type 0) (m : ℕ) (b : B) → Q 0 b → (bs : List B) → ((k : ℕ) (d : B) → k < m → Q (suc k) (get_or bs k d)) → (k : ℕ) (d : B) → k < suc m → Q k (get_or (b ∷ bs) k d)
+chosen-at Q m b q bs h zero d lt = q
+chosen-at Q m b q bs h (suc k) d lt = h k d (omega (arith, lt))
+
 chosen : {B : Type 0} (Q : ℕ → B → Type 0) (m : ℕ) → ((k : ℕ) → k < m → (b : B) × Q k b) → (bs : List B) × (length bs ≡ m) × ((k : ℕ) (d : B) → k < m → Q k (get_or bs k d))
 chosen Q zero f = ([], refl, λ k d lt. absurd (omega (arith, lt)))
-chosen {B} Q (suc m) f = (one.0 ∷ more.0, ap suc more.1, at)
-  where
-    one : (b : B) × Q 0 b
-    one = f 0 (omega arith)
-
-    more : (bs : List B) × (length bs ≡ m) × ((k : ℕ) (d : B) → k < m → Q (suc k) (get_or bs k d))
-    more = chosen (λ k b. Q (suc k) b) m (λ k lt. f (suc k) (omega (arith, lt)))
-
-    at : (k : ℕ) (d : B) → k < suc m → Q k (get_or (one.0 ∷ more.0) k d)
-    at zero d lt = one.1
-    at (suc k) d lt = more.2 k d (omega (arith, lt))
+chosen Q (suc m) f =
+    let one = f 0 (omega arith) in
+    let more = chosen (λ k b. Q (suc k) b) m (λ k lt. f (suc k) (omega (arith, lt))) in
+    (one.0 ∷ more.0, ap suc more.1, chosen-at Q m one.0 one.1 more.0 more.2)
 
 -- Frames.
 
@@ -147,8 +144,8 @@ put-some most seat frames inbox caller h = record {
 -- Sections.
 
 flagless-of : (ask : Ask) → All (λ line. HasFlagBelow 0 line.act) (lines_for ask)
-flagless-of (Query query) = All-cons (λ (line : ScriptLine). HasFlagBelow 0 line.act) _ [] tt (All-nil (λ (line : ScriptLine). HasFlagBelow 0 line.act))
-flagless-of (End line parting) = All-cons (λ (l : ScriptLine). HasFlagBelow 0 l.act) _ _ tt (All-cons (λ (l : ScriptLine). HasFlagBelow 0 l.act) _ [] tt (All-nil (λ (l : ScriptLine). HasFlagBelow 0 l.act)))
+flagless-of (Query query) = All-cons (λ (line : ScriptLine). HasFlagBelow 0 line.act) (line_of query) [] tt (All-nil (λ (line : ScriptLine). HasFlagBelow 0 line.act))
+flagless-of (End line parting) = All-cons (λ (l : ScriptLine). HasFlagBelow 0 l.act) (rollback_line line) (unlisten_line (line + 1) ∷ []) tt (All-cons (λ (l : ScriptLine). HasFlagBelow 0 l.act) (unlisten_line (line + 1)) [] tt (All-nil (λ (l : ScriptLine). HasFlagBelow 0 l.act)))
 
 flagless-lines : (asks : List Ask) → All (λ line. HasFlagBelow 0 line.act) (flat_map lines_for asks)
 flagless-lines [] = All-nil (λ (line : ScriptLine). HasFlagBelow 0 line.act)
@@ -538,3 +535,35 @@ ends-known is_own shape known seats boxes old desks old_callers callers held fau
 pub unopened : (left held : Option (List ℕ)) (seats : ℕ) → IfSome left (λ bytes. EndsService {T = Unit {0}} seats (Err end.Memory) bytes held held)
 unopened None held seats = tt
 unopened (Some bytes) held seats = inl refl
+
+-- Causes.
+
+module _ {A B E : Type 0} where
+  pub read-cause : (so_far : Result A Failed) (ran : Result B E) (res : Result (Option FrameFault) NoFrame) → end_of so_far ran res ≡ Err end.Read → res ≡ Err none.Failed
+  read-cause (Err d) ran res e = absurd (let bad : Err end.Write ≡ Err end.Read = e in cc)
+  read-cause (Ok a) (Err x) res e = absurd (let bad : Err end.Memory ≡ Err end.Read = e in cc)
+  read-cause (Ok a) (Ok b) (Err none.Memory) e = absurd (let bad : Err end.Memory ≡ Err end.Read = e in cc)
+  read-cause (Ok a) (Ok b) (Err none.Failed) e = refl
+  read-cause (Ok a) (Ok b) (Ok (Some fault)) e = absurd (let bad : Err (end.Bad fault) ≡ Err end.Read = e in cc)
+  read-cause (Ok a) (Ok b) (Ok None) e = absurd (let bad : Ok tt ≡ Err end.Read = e in cc)
+
+  pub write-cause : (before now : ℕ) (so_far : Result A Failed) (ran : Result B E) (res : Result (Option FrameFault) NoFrame) → HasCause before now so_far → end_of so_far ran res ≡ Err end.Write → Rose before now
+  write-cause before now (Err d) ran res cause e = cause.failed
+  write-cause before now (Ok a) (Err x) res cause e = absurd (let bad : Err end.Memory ≡ Err end.Write = e in cc)
+  write-cause before now (Ok a) (Ok b) (Err none.Memory) cause e = absurd (let bad : Err end.Memory ≡ Err end.Write = e in cc)
+  write-cause before now (Ok a) (Ok b) (Err none.Failed) cause e = absurd (let bad : Err end.Read ≡ Err end.Write = e in cc)
+  write-cause before now (Ok a) (Ok b) (Ok (Some fault)) cause e = absurd (let bad : Err (end.Bad fault) ≡ Err end.Write = e in cc)
+  write-cause before now (Ok a) (Ok b) (Ok None) cause e = absurd (let bad : Ok tt ≡ Err end.Write = e in cc)
+
+  pub write-due : (before now : ℕ) (so_far : Result A Failed) (ran : Result B E) (res : Result (Option FrameFault) NoFrame) → HasCause before now so_far → before < now → end_of so_far ran res ≡ Err end.Write
+  write-due before now (Err d) ran res cause lt = refl
+  write-due before now (Ok a) ran res cause lt = absurd (let same : now ≡ before = cause.passed in omega (arith, lt, same))
+
+  pub fault-due : (so_far : Result A Failed) (ran : Result B E) (res : Result (Option FrameFault) NoFrame) → (res ≡ Err none.Failed) ⊎ (res ≡ Err none.Memory)
+      → (end_of so_far ran res ≡ Err end.Read) ⊎ (end_of so_far ran res ≡ Err end.Write) ⊎ (end_of so_far ran res ≡ Err end.Memory)
+  fault-due (Err d) ran res e = inr (inl refl)
+  fault-due (Ok a) (Err x) res e = inr (inr refl)
+  fault-due (Ok a) (Ok b) (Err none.Memory) e = inr (inr refl)
+  fault-due (Ok a) (Ok b) (Err none.Failed) e = inl refl
+  fault-due (Ok a) (Ok b) (Ok fault) (inl e) = absurd (let bad : Ok fault ≡ Err none.Failed = e in cc)
+  fault-due (Ok a) (Ok b) (Ok fault) (inr e) = absurd (let bad : Ok fault ≡ Err none.Memory = e in cc)
