@@ -7,7 +7,9 @@ use Rattle.std.proofs.lemmas.Bool.{cases_lt}
 use Rattle.std.proofs.lemmas.Grind.{flat_map-append}
 use Rattle.std.proofs.lemmas.List.{map-append}
 use Rattle.std.proofs.Math.Seq.{drop-cons}
-use Rattle.std.proofs.lemmas.List.Elements.{All-head, All-tail, length_all_zip}
+use Rattle.std.proofs.lemmas.List.Elements.{All-cons, All-head, All-map, All-nil, All-same, All-tail, length_all_zip}
+use Rattle.pgn_hub.specs.Gathered.{Gathered}
+use Rattle.pgn_hub.specs.Passes.{IsWithin}
 use Rattle.pgn_hub.specs.declared.known.Known.{Known}
 use Rattle.pgn_hub.specs.Shape.{Shape}
 use Rattle.pgn_language.specs.declared.scenario.ScriptLine.{ScriptLine}
@@ -32,7 +34,7 @@ use Rattle.pgn_frames.specs.declared.framing.NoFrame.TheVariants as none
 use Rattle.pgn_frames.specs.Reading.{HasPutAll, HasPutFirst}
 use Rattle.pgn_outlet.specs.Rule.{sender}
 use Rattle.pgn_run.specs.Arms.{HasRead}
-use Rattle.pgn_run.specs.Closing.{AreOver, HasTakenFirst, HasTakenRest, HaveTakenFirst, MayClose, MayCloseAll}
+use Rattle.pgn_run.specs.Closing.{AreOver, HasGathered, HasTakenFirst, HasTakenRest, HaveTakenFirst, MayClose, MayCloseAll}
 use Rattle.pgn_run.specs.Seats.{AreGiven, IsGiven, service_plan}
 use Rattle.pgn_run.specs.Service.{seat_section}
 use Rattle.pgn_run.proofs.SeatingLaws.{given-at}
@@ -202,4 +204,31 @@ module _ {P : Type 0} (is_own : P → Type 0) (shape : Shape) (known : P → Kno
   are-over desks d s given served = record {
     own = λ k e lt. (served k e lt).own;
     order = in-order 1 desks given served ∙ ap (λ (n : ℕ). range_with_len 1 n) (d ∙ sym s);
+  }
+
+-- The passes that are gathered.
+
+twice : {A B C : Type 0} (f : B → C) (g : A → B) (xs : List A) → map f (map g xs) ≡ map (λ x. f (g x)) xs
+twice f g [] = refl
+twice {C = C} f g (x ∷ xs) = ap (λ (l : List C). f (g x) ∷ l) (twice f g xs)
+
+of-map : {A B : Type 0} (Q : B → Type 0) (f : A → B) (xs : List A) → All Q (map f xs) → All (λ x. Q (f x)) xs
+of-map {A} Q f [] h = All-nil (λ (x : A). Q (f x))
+of-map {A} Q f (x ∷ xs) h = All-cons (λ (y : A). Q (f y)) x xs (All-head Q (f x) (map f xs) h) (of-map Q f xs (All-tail Q (f x) (map f xs) h))
+
+module _ {P : Type 0} (known : P → Known) (desks : List (Desk P)) (passes : List P) (is : passes ≡ map (λ desk. desk.session.pass) desks) where
+  pub own-all : (is_own : P → Type 0) (shape : Shape) (r : Result Unit AllocError) → OnOk r (AreOver is_own shape known desks) → OnOk r (All is_own passes)
+  own-all is_own shape (Err x) h = tt
+  own-all is_own shape (Ok x) h = All-same is_own passes (map (λ (desk : Desk P). desk.session.pass) desks) is (All-map is_own (λ (desk : Desk P). desk.session.pass) desks h.own)
+
+  pub order-all : (is_own : P → Type 0) (shape : Shape) (r : Result Unit AllocError) → OnOk r (AreOver is_own shape known desks) → OnOk r (map (λ pass. (known pass).session) passes ≡ range_with_len 1 (length shape.seats))
+  order-all is_own shape (Err x) h = tt
+  order-all is_own shape (Ok x) h = ap (λ (ps : List P). map (λ (pass : P). (known pass).session) ps) is ∙ twice (λ (pass : P). (known pass).session) (λ (desk : Desk P). desk.session.pass) desks ∙ h.order
+
+  pub gathered-all : (r : Result Unit AllocError) → OnOk r ((count : ℕ) × Gathered (map known passes) count) → OnOk r (All (λ pass. IsWithin (known pass)) passes) → OnOk r (HasGathered known desks)
+  gathered-all (Err x) g h = tt
+  gathered-all (Ok x) g h = record {
+    count = g.0;
+    gathered = subst (λ (ks : List Known). Gathered ks g.0) (ap (λ (ps : List P). map known ps) is ∙ twice known (λ (desk : Desk P). desk.session.pass) desks) g.1;
+    within = of-map (λ (pass : P). IsWithin (known pass)) (λ (desk : Desk P). desk.session.pass) desks (All-same (λ (pass : P). IsWithin (known pass)) (map (λ (desk : Desk P). desk.session.pass) desks) passes (sym is) h);
   }

@@ -59,6 +59,9 @@ opened-length : (n : ℕ) (setups : List SeatSetup) → length (opened_passes n 
 opened-length n [] = refl
 opened-length n (setup ∷ setups) = ap suc (opened-length (n + 1) setups)
 
+pub passes-count : {P : Type 0} (known : P → Known) (seats : ℕ) (passes : List P) (setups : List SeatSetup) → map known passes ≡ opened_passes 1 setups → setups ≡ (service_shape seats).seats → length passes ≡ seats
+passes-count known seats passes setups e is = omega (arith, length-map passes known, ap (λ (ks : List Known). length ks) e, opened-length 1 setups, seat-count seats setups is)
+
 pub one-left : {P : Type 0} (known : P → Known) (seats place : ℕ) (left : List P) → place < seats → AreLeft known seats place left → 0 < length left
 one-left known seats place left lt h =
     omega (arith, lt, h.count, length-map left known, ap (λ (ks : List Known). length ks) h.are, opened-length (place + 1) (replicate h.more (service_seat seats)), length-replicate h.more (service_seat seats))

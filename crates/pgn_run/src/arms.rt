@@ -9,6 +9,7 @@ ghost use Rattle.pgn_frames.specs.Writing.{Wrote};
 ghost use Rattle.pgn_run.specs.Arms.{HasReadBy, HasToldBy, HasWrittenRest};
 ghost use Rattle.pgn_run.specs.Service.{over_frame};
 
+use crate::start::Start;
 use pgn_base::{Failed, Sink, Source};
 use pgn_frames::{
     Caller,
@@ -24,7 +25,6 @@ use pgn_outlet::{Bell, Outlet, OutletPass};
 use pgn_seats::{Desk, Inbox, Tells, serve_seats};
 use pgn_text::Out;
 use pgn_turns::Saying;
-use pgn_workers::Meeting;
 use std::alloc::{AllocError, Global};
 use std::sync::Wait;
 use std::sync::atomic::{AtomicU64, Ordering};
@@ -40,7 +40,7 @@ struct Hall<'a, H> {
     inboxes: &'a [Inbox],
     outbox: &'a Outlet<Saying>,
     // On which they meet the reader.
-    meeting: &'a Meeting,
+    meeting: &'a Start,
     // Set once the desks are done; then the bell is rung.
     end: AtomicU64,
     bell: Bell,
@@ -81,7 +81,7 @@ pub(crate) fn run_arms<
     ensures told { HasToldBy (H.is_pass hub.now) (H.shape hub.now) P.known inboxes.now desks.old desks.new K.held K.faults sink.old sink.new result.0 }
     ensures read { HasReadBy S.left S.faults inboxes.now callers.old callers.new source.old source.new result.1 }
 {
-    let meeting = Meeting::new();
+    let meeting = Start::new();
     join_mut(
         rt,
         &mut || -> Told
@@ -102,7 +102,7 @@ fn read_where_met<H: Hub, R: Wait, S: Source>(
     alloc: Global,
     hub: &H,
     inboxes: &[Inbox],
-    meeting: &Meeting,
+    meeting: &Start,
     callers: &mut [Caller],
     source: &mut S,
 ) -> Result<Option<FrameFault>, NoFrame>
@@ -129,7 +129,7 @@ fn serve_and_write<
     alloc: Global,
     hub: &H,
     inboxes: &[Inbox],
-    meeting: &Meeting,
+    meeting: &Start,
     desks: &mut [Desk<P>],
     sink: &mut K,
 ) -> Told
@@ -230,7 +230,7 @@ fn serve_beside<
     ensures served { HaveServed (H.is_pass hall.now.hub.now) (H.shape hall.now.hub.now) P.known hall.now.inboxes.now desks.old desks.new (knows tells.old.pass) (knows tells.new.pass) result.0 }
     ensures wrote { Wrote K.held K.faults (knows writing.old.takes) (knows writing.new.takes) sink.old writing.old.out sink.new writing.new.out }
 {
-    let met = Meeting::new();
+    let met = Start::new();
     let ((), served) = join_mut(
         rt,
         &mut || -> ()
@@ -250,7 +250,7 @@ fn serve_beside<
 fn write_where_met<H: Hub + Sync, R: Wait, K: Sink>(
     rt: &R,
     hall: &Hall<'_, H>,
-    met: &Meeting,
+    met: &Start,
     writing: &mut Writing,
     sink: &mut K,
 )
@@ -282,7 +282,7 @@ fn serve_and_end<
     rt: &R,
     alloc: Global,
     hall: &Hall<'_, H>,
-    met: &Meeting,
+    met: &Start,
     desks: &mut [Desk<P>],
     tells: &mut Tells,
 ) -> (Result<(), AllocError>, bool)
@@ -307,7 +307,7 @@ fn serve_where_met<
     rt: &R,
     alloc: Global,
     hall: &Hall<'_, H>,
-    met: &Meeting,
+    met: &Start,
     desks: &mut [Desk<P>],
     tells: &mut Tells,
 ) -> (Result<(), AllocError>, bool)
