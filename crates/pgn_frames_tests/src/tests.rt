@@ -1,8 +1,9 @@
 //! Three seats whose callers read frames, and what stands in their inboxes then.
-ghost use Rattle.std.specs.Prelude.{◌≡◌, ℕ, true, length, IfOk};
+ghost use Rattle.std.specs.Prelude.{◌≡◌, ℕ, true, [], length, IfOk};
 ghost use Rattle.pgn_outlet.specs.Passes.{IsPassOf, knows};
 ghost use Rattle.pgn_wordhub.specs.Passes.{hub_shape};
-ghost use Rattle.pgn_frames.specs.Reading.{Begins, MayCall};
+ghost use Rattle.pgn_frames_tests.specs.Seats.{GivesSeat};
+ghost use Rattle.pgn_frames.specs.Reading.{MayCall};
 
 use pgn_base::{DbOid, Format, Source};
 use pgn_frames::{Caller, FrameFault, NoFrame, read_frames};
@@ -41,51 +42,58 @@ fn read_from<R: Wait, S: Source>(
     alloc: Global,
     source: &mut S,
 ) -> Result<Came, AllocError> {
-    let (first, one, mut own) = open_seat(alloc)?;
-    let Ok((second, two, mut other)) = open_seat(alloc) else {
-        first.destroy();
-        return Err(AllocError);
-    };
-    let Ok((third, three, mut last)) = open_seat(alloc) else {
-        first.destroy();
-        second.destroy();
-        return Err(AllocError);
-    };
-    let inboxes = [first, second, third];
-    let read = read_in(rt, alloc, source, &inboxes, [one, two, three]);
-    let [first, second, third] = inboxes;
-    let came = match read {
-        Ok(end) => match (
-            taken(rt, alloc, &first, &mut own),
-            taken(rt, alloc, &second, &mut other),
-            taken(rt, alloc, &third, &mut last),
-        ) {
-            (Ok(first), Ok(second), Ok(third)) => Ok(Came {
-                first,
-                second,
-                third,
-                end,
-            }),
-            _ => Err(AllocError),
-        },
-        Err(AllocError) => Err(AllocError),
-    };
-    first.destroy();
-    second.destroy();
-    third.destroy();
+    let mut inboxes = Vec::new(alloc);
+    let came = read_into(rt, alloc, source, &mut inboxes);
+    destroy_all(inboxes);
     came
 }
 
-// A seat's inbox, its caller, and the pass that takes.
+// Drops what was not taken, and gives the memory back.
+fn destroy_all(mut inboxes: Vec<Outlet<Option<Ask>>>) {
+    while let Some(inbox) = inboxes.pop() {
+        inbox.destroy();
+    }
+    inboxes.destroy_empty();
+}
+
+fn read_into<R: Wait, S: Source>(
+    rt: &R,
+    alloc: Global,
+    source: &mut S,
+    inboxes: &mut Vec<Outlet<Option<Ask>>>,
+) -> Result<Came, AllocError>
+    requires { inboxes.old.items ≡ [] }
+{
+    let (one, mut own) = open_seat(alloc, inboxes)?;
+    let (two, mut other) = open_seat(alloc, inboxes)?;
+    let (three, mut last) = open_seat(alloc, inboxes)?;
+    let end = read_in(rt, alloc, source, inboxes.as_slice(), [one, two, three])?;
+    let first = taken(rt, alloc, &inboxes[0], &mut own)?;
+    let second = taken(rt, alloc, &inboxes[1], &mut other)?;
+    let third = taken(rt, alloc, &inboxes[2], &mut last)?;
+    Ok(Came {
+        first,
+        second,
+        third,
+        end,
+    })
+}
+
+// Opens a seat's inbox behind the others: its caller, and the pass that takes.
 fn open_seat(
     alloc: Global,
-) -> Result<(Outlet<Option<Ask>>, Caller, OutletPass<Option<Ask>>), AllocError>
-    ensures begins { IfOk result (λ seat. (number : ℕ) → Begins 2 number seat.0 seat.1) }
-    ensures own { IfOk result (λ seat. IsPassOf seat.0 seat.2) }
-    ensures takes { IfOk result (λ seat. (knows seat.2).takes ≡ true) }
+    inboxes: &mut Vec<Outlet<Option<Ask>>>,
+) -> Result<(Caller, OutletPass<Option<Ask>>), AllocError>
+    ensures { IfOk result (λ seat. GivesSeat inboxes.old.items inboxes.new.items seat.0 seat.1) }
 {
     let (inbox, pass, taker) = Outlet::open(alloc)?;
-    Ok((inbox, Caller::new(alloc, pass, NOTES), taker))
+    match inboxes.push(inbox) {
+        Ok(()) => Ok((Caller::new(alloc, pass, NOTES), taker)),
+        Err(failed) => {
+            failed.value.destroy();
+            Err(AllocError)
+        }
+    }
 }
 
 fn read_in<R: Wait, S: Source>(
