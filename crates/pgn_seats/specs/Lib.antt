@@ -6,3 +6,5 @@ pub mod Working
 pub mod Desks
 -- desks as workers
 pub mod Workers
+-- examples
+pub mod Examples

@@ -1,5 +1,5 @@
 -- What a desk has done: its session's script and trace in turns, what it has taken from its inbox, and what it has told.
-use Rattle.std.specs.Prelude.{◌≡◌, ℕ, ◌-◌, ◌≤◌, ◌⊎◌, true, List, [], ◌∷◌, ◌++◌, length, map, get_or, Option, Some, None, All, Result, Ok, OnOk}
+use Rattle.std.specs.Prelude.{◌≡◌, ℕ, ◌-◌, ◌≤◌, ◌⊎◌, true, List, [], ◌∷◌, ◌++◌, length, map, get_or, Option, Some, None, All}
 use Rattle.pgn_hub.specs.declared.known.Known.{Known}
 use Rattle.pgn_hub.specs.Shape.{Shape}
 use Rattle.pgn_language.specs.declared.scenario.ScriptLine.{ScriptLine}
@@ -8,7 +8,7 @@ use Rattle.pgn_model.specs.declared.item.Item.{Item}
 use Rattle.pgn_model.specs.declared.item.Item.TheVariants.{Line}
 use Rattle.pgn_session.specs.declared.session.Session.{Session}
 use Rattle.pgn_session.specs.declared.doing.Doing.TheVariants.{Over}
-use Rattle.pgn_session.specs.Open.{IsOpen, IsSameClient}
+use Rattle.pgn_session.specs.Open.{IsOpen}
 use Rattle.pgn_session.specs.Runs.{IsLawful}
 use Rattle.pgn_session.specs.Standing.{IsServedBy}
 use Rattle.pgn_session.specs.Whole.{HasRest}

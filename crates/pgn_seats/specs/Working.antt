@@ -1,5 +1,5 @@
 -- What a session has done for what its desk was asked so far, what was told of it, and how each part of a turn carries that on.
-use Rattle.std.specs.Prelude.{◌≡◌, ℕ, ◌+◌, false, List, [], ◌∷◌, ◌++◌, Option, None, Some, All, Result, Ok, Err}
+use Rattle.std.specs.Prelude.{◌≡◌, ℕ, ◌+◌, false, List, [], ◌∷◌, ◌++◌, Option, None, Some, All}
 use Rattle.std.specs.List.{list_any}
 use Rattle.pgn_hub.specs.declared.known.Known.{Known}
 use Rattle.pgn_hub.specs.Shape.{Shape}
@@ -79,10 +79,13 @@ abbrev pub with_ask : List Ask → Option Ask → List Ask
 with_ask asks None = asks
 with_ask asks (Some ask) = asks ++ ask ∷ []
 
--- a part of a turn, by its answer: all that was asked is done and told still, and this besides; or memory did not suffice, and it was done first
-abbrev pub Goes : {P A E : Type 0} → Result A E → List ScriptLine → List ScriptLine → Option Ask → Session P → Session P → Hand Saying → Hand Saying → Type 0
-Goes (Ok x) rest next asked old new before after = (asks : List Ask) → HasDone rest asks old before → HasDone next (with_ask asks asked) new after
-Goes (Err e) rest next asked old new before after = (asks : List Ask) → HasDone rest asks old before → HasDoneFirst asks new after
+-- a part of a turn that was done: all that was asked is done and told still, and this besides
+abbrev pub GoesOn : {P : Type 0} → List ScriptLine → List ScriptLine → Option Ask → Session P → Session P → Hand Saying → Hand Saying → Type 0
+GoesOn rest next asked old new before after = (asks : List Ask) → HasDone rest asks old before → HasDone next (with_ask asks asked) new after
+
+-- a part for which memory did not suffice: all that was asked was done first
+abbrev pub StopsFirst : {P : Type 0} → List ScriptLine → Session P → Session P → Hand Saying → Hand Saying → Type 0
+StopsFirst rest old new before after = (asks : List Ask) → HasDone rest asks old before → HasDoneFirst asks new after
 
 -- what was told for number n grew by these signs
 abbrev pub HasSaid : ℕ → List (Option ℕ) → Hand Saying → Hand Saying → Type 0

@@ -4,7 +4,7 @@ ghost use Rattle.pgn_language.specs.Inputs.{note_lines_of};
 ghost use Rattle.pgn_outlet.specs.Passes.{IsPassOf, knows};
 ghost use Rattle.pgn_outlet.specs.Rule.{MayPush};
 ghost use Rattle.pgn_seats.specs.Serving.{HasPushedFor};
-ghost use Rattle.pgn_seats.specs.Working.{Goes, IsAtLine, IsAtWork};
+ghost use Rattle.pgn_seats.specs.Working.{GoesOn, StopsFirst, IsAtLine, IsAtWork};
 ghost use Rattle.pgn_session.specs.Feed.{fed};
 ghost use Rattle.pgn_session.specs.FirstRead.{HasReadTold, IsToReadFirst};
 ghost use Rattle.pgn_session.specs.Open.{IsOpen, IsSameClient};
@@ -46,7 +46,8 @@ pub(crate) fn answer<P: PassView + Send + Drop, H: Hub<Pass = P>, R: Wait>(
     ensures lawful { IsLawful (H.shape hub.now) desk.new.session }
     ensures counted { desk.new.notes ≡ note_lines_of desk.new.session.section.lines }
     ensures work { OnOk result (IsAtWork (H.is_pass hub.now) (H.shape hub.now) P.known desk.new.session) }
-    ensures goes { Goes result [] [] (Some (Query query.now)) desk.old.session desk.new.session (knows tells.old) (knows tells.new) }
+    ensures went { OnOk result (GoesOn [] [] (Some (Query query.now)) desk.old.session desk.new.session (knows tells.old) (knows tells.new)) }
+    ensures stopped { OnErr result (StopsFirst [] desk.old.session desk.new.session (knows tells.old) (knows tells.new)) }
 {
     put_query(alloc, &mut desk.session, &mut desk.notes, query)?;
     hear_before(rt, alloc, hub, outbox, bell, &mut desk.session, tells)?;
@@ -100,7 +101,8 @@ fn run_query<P: PassView + Send + Drop, H: Hub<Pass = P>, R: Wait>(
     ensures same { IsSameScript session.old session.new }
     ensures lawful { IsLawful (H.shape hub.now) session.new }
     ensures work { OnOk result (IsAtWork (H.is_pass hub.now) (H.shape hub.now) P.known session.new) }
-    ensures goes { Goes result (line_of query.now ∷ []) [] (Some (Query query.now)) session.old session.new (knows tells.old) (knows tells.new) }
+    ensures went { OnOk result (GoesOn (line_of query.now ∷ []) [] (Some (Query query.now)) session.old session.new (knows tells.old) (knows tells.new)) }
+    ensures stopped { OnErr result (StopsFirst (line_of query.now ∷ []) session.old session.new (knows tells.old) (knows tells.new)) }
 {
     let from = session.items.len();
     run_line(rt, alloc, hub, session)?;

@@ -1,9 +1,9 @@
-ghost use Rattle.std.specs.Prelude.{◌≡◌, ◌≢◌, None, [], List, Ok, OnOk};
+ghost use Rattle.std.specs.Prelude.{◌≡◌, ◌≢◌, None, [], List, Ok, OnErr, OnOk};
 ghost use Rattle.pgn_language.specs.declared.scenario.ScriptLine.{ScriptLine};
 ghost use Rattle.pgn_outlet.specs.Passes.{IsPassOf, knows};
 ghost use Rattle.pgn_outlet.specs.Rule.{MayPush};
 ghost use Rattle.pgn_seats.specs.Serving.{HasPushedFor};
-ghost use Rattle.pgn_seats.specs.Working.{Goes, IsAtLine, IsAtWork};
+ghost use Rattle.pgn_seats.specs.Working.{GoesOn, StopsFirst, IsAtLine, IsAtWork};
 ghost use Rattle.pgn_session.specs.FirstRead.{HasReadTold, IsToReadFirst};
 ghost use Rattle.pgn_session.specs.Runs.{IsLawful};
 
@@ -35,7 +35,8 @@ pub(crate) fn hear_before<P: PassView + Send + Drop, H: Hub<Pass = P>, R: Wait>(
     ensures lawful { IsLawful (H.shape hub.now) session.new }
     ensures line { (line : ScriptLine) → IsAtLine (H.is_pass hub.now) (H.shape hub.now) P.known line session.old → IsAtLine (H.is_pass hub.now) (H.shape hub.now) P.known line session.new }
     ensures read_up { OnOk result (IsToReadFirst session.new → HasReadTold (P.known session.new.pass)) }
-    ensures goes { (rest : List ScriptLine) → Goes result rest rest None session.old session.new (knows tells.old) (knows tells.new) }
+    ensures went { (rest : List ScriptLine) → OnOk result (GoesOn rest rest None session.old session.new (knows tells.old) (knows tells.new)) }
+    ensures stopped { (rest : List ScriptLine) → OnErr result (StopsFirst rest session.old session.new (knows tells.old) (knows tells.new)) }
 {
     let from = session.items.len();
     session.read_before_line(alloc, hub)?;
@@ -60,7 +61,8 @@ pub(crate) fn listen<P: PassView + Send + Drop, H: Hub<Pass = P>, R: Wait>(
     ensures same { session.new ≡ record session.old { pass = session.new.pass; items = session.new.items } }
     ensures lawful { IsLawful (H.shape hub.now) session.new }
     ensures work { OnOk result (IsAtWork (H.is_pass hub.now) (H.shape hub.now) P.known session.new) }
-    ensures goes { Goes result [] [] None session.old session.new (knows tells.old) (knows tells.new) }
+    ensures went { OnOk result (GoesOn [] [] None session.old session.new (knows tells.old) (knows tells.new)) }
+    ensures stopped { OnErr result (StopsFirst [] session.old session.new (knows tells.old) (knows tells.new)) }
     ensures waits { result ≢ Ok Turn.Ended }
 {
     let heard = hear_woken(rt, alloc, hub, outbox, bell, session, tells)?;
@@ -88,7 +90,8 @@ fn hear_woken<P: PassView + Send + Drop, H: Hub<Pass = P>, R: Wait>(
     ensures same { session.new ≡ record session.old { pass = session.new.pass; items = session.new.items } }
     ensures lawful { IsLawful (H.shape hub.now) session.new }
     ensures work { OnOk result (IsAtWork (H.is_pass hub.now) (H.shape hub.now) P.known session.new) }
-    ensures goes { Goes result [] [] None session.old session.new (knows tells.old) (knows tells.new) }
+    ensures went { OnOk result (GoesOn [] [] None session.old session.new (knows tells.old) (knows tells.new)) }
+    ensures stopped { OnErr result (StopsFirst [] session.old session.new (knows tells.old) (knows tells.new)) }
 {
     let from = session.items.len();
     let done = session.idle(alloc, hub)?;

@@ -1,9 +1,9 @@
-ghost use Rattle.std.specs.Prelude.{◌≡◌, Some, [], OnOk};
+ghost use Rattle.std.specs.Prelude.{◌≡◌, Some, [], OnErr, OnOk};
 ghost use Rattle.pgn_language.specs.Inputs.{note_lines_of};
 ghost use Rattle.pgn_outlet.specs.Passes.{IsPassOf, knows};
 ghost use Rattle.pgn_outlet.specs.Rule.{MayPush};
 ghost use Rattle.pgn_seats.specs.Serving.{HasPushedFor};
-ghost use Rattle.pgn_seats.specs.Working.{Goes, HasSetBack, IsAtWork, StaysDone};
+ghost use Rattle.pgn_seats.specs.Working.{GoesOn, StopsFirst, HasSetBack, IsAtWork, StaysDone};
 ghost use Rattle.pgn_session.specs.Open.{IsSameClient};
 ghost use Rattle.pgn_session.specs.Runs.{IsLawful};
 ghost use Rattle.pgn_turns.specs.declared.asked.Ask.TheVariants.{End};
@@ -41,7 +41,8 @@ pub(crate) fn reset<P: PassView + Send + Drop, H: Hub<Pass = P>, R: Wait>(
     ensures lawful { IsLawful (H.shape hub.now) desk.new.session }
     ensures counted { desk.new.notes ≡ note_lines_of desk.new.session.section.lines }
     ensures work { OnOk result (IsAtWork (H.is_pass hub.now) (H.shape hub.now) P.known desk.new.session) }
-    ensures goes { Goes result [] [] (Some (End line parting)) desk.old.session desk.new.session (knows tells.old) (knows tells.new) }
+    ensures went { OnOk result (GoesOn [] [] (Some (End line parting)) desk.old.session desk.new.session (knows tells.old) (knows tells.new)) }
+    ensures stopped { OnErr result (StopsFirst [] desk.old.session desk.new.session (knows tells.old) (knows tells.new)) }
 {
     set_back(rt, alloc, hub, &mut desk.session, &mut desk.notes, line)?;
     say_end(

@@ -1,17 +1,20 @@
-ghost use Rattle.std.specs.Prelude.{◌≡◌, ◌↔◌, Ok, None, Some, [], ◌∷◌, ◌++◌, IfNone, IfSome, IsTrue, OnOk};
+ghost use Rattle.std.specs.Prelude.{◌≡◌, ◌↔◌, ◌-◌, ◌≤◌, Ok, None, Option, Some, true, [], ◌∷◌, ◌++◌, IfNone, IfSome, IsTrue, OnErr, OnOk, get_or, length};
+ghost use Rattle.pgn_outlet.specs.declared.outlet.Outlet.{Outlet};
 ghost use Rattle.pgn_outlet.specs.Passes.{IsPassOf, knows};
 ghost use Rattle.pgn_outlet.specs.Rule.{MayPush};
 ghost use Rattle.pgn_language.specs.Inputs.{note_lines_of};
-ghost use Rattle.pgn_seats.specs.Serving.{HasInbox, HasPushedFor, HasServed, HasToldFirst, IsSeated, Serves, taken};
-ghost use Rattle.pgn_seats.specs.Working.{Goes, IsAtWork};
+ghost use Rattle.pgn_seats.specs.Serving.{HasPushedFor, HasServed, HasToldFirst, IsSeated, Serves, taken};
+ghost use Rattle.pgn_seats.specs.Working.{GoesOn, StopsFirst, IsAtWork};
 ghost use Rattle.pgn_session.specs.Open.{IsSameClient};
 ghost use Rattle.pgn_session.specs.Runs.{IsLawful};
+ghost use Rattle.pgn_turns.specs.declared.asked.Ask.{Ask};
 
 use crate::answering::answer;
 use crate::hearing::listen;
 use crate::quitting::quit;
 use crate::resetting::reset;
 use crate::{Desk, Inbox};
+use pgn_base::SessionNo;
 use pgn_hub::{Hub, PassView};
 use pgn_outlet::{Bell, Came, Outlet, OutletPass};
 use pgn_session::{Doing, Session};
@@ -79,7 +82,7 @@ fn serve_next<P: PassView + Send + Drop, H: Hub<Pass = P>, R: Wait>(
     ensures over { result ≡ Ok Turn.Ended → HasServed (H.is_pass hub.now) (H.shape hub.now) P.known inboxes.now desk.new (knows tells.new) }
     ensures told { HasToldFirst (H.shape hub.now) inboxes.now desk.new (knows tells.new) }
 {
-    match take_ask(rt, inboxes, desk) {
+    match take_ask(rt, inboxes, desk.session.section.no, &mut desk.asks) {
         Some(Some(ask)) => {
             let served = serve(rt, alloc, hub, outbox, bell, desk, &ask, tells);
             drop(ask);
@@ -96,17 +99,23 @@ fn serve_next<P: PassView + Send + Drop, H: Hub<Pass = P>, R: Wait>(
     }
 }
 
-// What is next in the desk's inbox. What stands there is all for the desk's seat.
-fn take_ask<P, R: Wait>(rt: &R, inboxes: &[Inbox], desk: &mut Desk<P>) -> Option<Option<Ask>>
-    requires inbox { HasInbox inboxes.now desk.old }
-    ensures inbox { HasInbox inboxes.now desk.new }
-    ensures same { desk.new ≡ record desk.old { asks = desk.new.asks } }
-    ensures took { IfSome result (λ ask. taken desk.old.session.section.no (knows desk.new.asks) ≡ taken desk.old.session.section.no (knows desk.old.asks) ++ ask ∷ []) }
-    ensures found_none { IfNone result (taken desk.old.session.section.no (knows desk.new.asks) ≡ taken desk.old.session.section.no (knows desk.old.asks)) }
+// What is next in a seat's inbox. All that stands there is for that seat.
+fn take_ask<R: Wait>(
+    rt: &R,
+    inboxes: &[Inbox],
+    seat: SessionNo,
+    asks: &mut OutletPass<Option<Ask>>,
+) -> Option<Option<Ask>>
+    requires within { seat ≤ length inboxes.now }
+    requires own { (d : Outlet (Option Ask)) → IsPassOf (get_or inboxes.now (seat - 1) d) asks.old }
+    requires takes { (knows asks.old).takes ≡ true }
+    ensures own { (d : Outlet (Option Ask)) → IsPassOf (get_or inboxes.now (seat - 1) d) asks.new }
+    ensures takes { (knows asks.new).takes ≡ true }
+    ensures took { IfSome result (λ ask. taken seat (knows asks.new) ≡ taken seat (knows asks.old) ++ ask ∷ []) }
+    ensures found_none { IfNone result (taken seat (knows asks.new) ≡ taken seat (knows asks.old)) }
 {
-    let seat = desk.session.section.no;
     let inbox = &inboxes[seat.get() as usize - 1];
-    let Came { session, what } = inbox.take(rt, &mut desk.asks)?;
+    let Came { session, what } = inbox.take(rt, asks)?;
     if session != seat {
         drop(what);
         return None;
@@ -136,7 +145,8 @@ fn serve<P: PassView + Send + Drop, H: Hub<Pass = P>, R: Wait>(
     ensures lawful { IsLawful (H.shape hub.now) desk.new.session }
     ensures counted { desk.new.notes ≡ note_lines_of desk.new.session.section.lines }
     ensures work { OnOk result (IsAtWork (H.is_pass hub.now) (H.shape hub.now) P.known desk.new.session) }
-    ensures goes { Goes result [] [] (Some ask.now) desk.old.session desk.new.session (knows tells.old) (knows tells.new) }
+    ensures went { OnOk result (GoesOn [] [] (Some ask.now) desk.old.session desk.new.session (knows tells.old) (knows tells.new)) }
+    ensures stopped { OnErr result (StopsFirst [] desk.old.session desk.new.session (knows tells.old) (knows tells.new)) }
 {
     match ask {
         Ask::Query(query) => answer(rt, alloc, hub, outbox, bell, desk, query, tells),

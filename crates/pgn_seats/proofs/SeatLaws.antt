@@ -1,0 +1,179 @@
+-- A desk that serves, or has served, over a turn.
+use Rattle.std.proofs.Common.{◌≡◌, ℕ, ◌-◌, ◌≤◌, List, [], ◌∷◌, ◌++◌, length, get_or, Option, Some, None, sym, ap, ◌∙◌, refl, subst, append-nil, inl, inr}
+use Rattle.std.specs.Prelude.{map}
+use Rattle.std.proofs.lemmas.List.{map-append}
+use Rattle.std.proofs.lemmas.List.Elements.{All-nil}
+use Rattle.pgn_language.specs.declared.scenario.ScriptLine.{ScriptLine}
+use Rattle.pgn_language.specs.declared.scenario.Section.{Section}
+use Rattle.pgn_language.specs.Inputs.{note_lines_of}
+use Rattle.pgn_model.specs.declared.item.Item.TheVariants.{Line}
+use Rattle.pgn_hub.specs.declared.known.Known.{Known}
+use Rattle.pgn_hub.specs.Shape.{Shape}
+use Rattle.pgn_outlet.specs.declared.came.Came.{Came}
+use Rattle.pgn_outlet.specs.declared.hand.Hand.{Hand}
+use Rattle.pgn_outlet.specs.declared.outlet.Outlet.{Outlet}
+use Rattle.pgn_outlet.specs.Cames.{what_of}
+use Rattle.pgn_outlet.specs.Passes.{IsPassOf, Pass, knows}
+use Rattle.pgn_session.specs.declared.session.Session.{Session}
+use Rattle.pgn_session.specs.declared.doing.Doing.{Doing}
+use Rattle.pgn_session.specs.declared.doing.Doing.TheVariants.{Lines, Over}
+use Rattle.pgn_session.specs.Open.{IsSameClient}
+use Rattle.pgn_session.specs.Runs.{IsLawful}
+use Rattle.pgn_session.specs.Whole.{HasRest, IsSameScript}
+use Rattle.pgn_session.proofs.LawfulLaws.{rest-lawful}
+use Rattle.pgn_session.proofs.OpenLaws.{begins-open}
+use Rattle.pgn_turns.specs.declared.asked.Ask.{Ask}
+use Rattle.pgn_turns.specs.declared.saying.Saying.{Saying}
+use Rattle.pgn_turns.specs.Asks.{seat_quit}
+use Rattle.pgn_turns.specs.Sayings.{all_told}
+use Rattle.pgn_turns.specs.Turns.{Turn, IsPlain, asks_of, said}
+use Rattle.pgn_seats.specs.declared.desk.Desk.{Desk}
+use Rattle.pgn_seats.specs.Desks.{MayBegin}
+use Rattle.pgn_seats.specs.Serving.{HasInbox, HasQuitBehind, HasServed, HasToldFirst, IsSeated, Serves, taken}
+use Rattle.pgn_seats.specs.Working.{GoesOn, HasDone, HasDoneFirst, IsAtWork, with_ask}
+use Rattle.pgn_seats.proofs.DoneLaws.{done-first}
+
+module _ {P : Type 0} (is_own : P → Type 0) (shape : Shape) (known : P → Known) (inboxes : List (Outlet (Option Ask))) where
+  -- what a serving desk's session is, and what it has done
+  pub serves-work : (desk : Desk P) (tells : Hand Saying) → Serves is_own shape known inboxes desk tells → IsAtWork is_own shape known desk.session
+  serves-work desk tells h = record { own = h.own; served = h.served; rested = h.rested; is_open = h.is_open }
+
+  pub serves-done : (desk : Desk P) (tells : Hand Saying) → (h : Serves is_own shape known inboxes desk tells) → HasDone [] (asks_of h.turns) desk.session tells
+  serves-done desk tells h = record { turns = h.turns; plain = h.in_turns.plain; asked = refl; lines = h.in_turns.lines; items = h.in_turns.items; told = h.told }
+
+  -- and the other way round
+  pub done-serves : (desk : Desk P) (tells : Hand Saying) (asks : List Ask) → IsAtWork is_own shape known desk.session → desk.notes ≡ note_lines_of desk.session.section.lines → HasInbox inboxes desk
+      → HasDone [] asks desk.session tells → taken desk.session.section.no (knows desk.asks) ≡ map Some asks → Serves is_own shape known inboxes desk tells
+  done-serves desk tells asks work counted inbox done asked = record {
+    own = work.own;
+    served = work.served;
+    rested = work.rested;
+    is_open = work.is_open;
+    counted = counted;
+    inbox = inbox;
+    turns = done.turns;
+    in_turns = record { plain = done.plain; lines = done.lines; items = done.items };
+    asked = asked ∙ ap (λ (l : List Ask). map Some l) (sym done.asked);
+    told = done.told;
+  }
+
+  -- what was done first was told first
+  pub first-told : (desk : Desk P) (tells : Hand Saying) (asks : List Ask) (others : List (Option Ask)) → IsLawful shape desk.session → HasInbox inboxes desk → HasDoneFirst asks desk.session tells
+      → taken desk.session.section.no (knows desk.asks) ≡ map Some asks ++ others → HasToldFirst shape inboxes desk tells
+  first-told desk tells asks others lawful inbox first asked = record {
+    lawful = lawful;
+    inbox = inbox;
+    turns = first.turns;
+    plain = first.plain;
+    more = first.more;
+    items = first.items;
+    rest = first.rest ++ seat_quit ∷ [];
+    lines = first.lines;
+    others = others;
+    asked = asked ∙ ap (λ (l : List Ask). map Some l ++ others) (sym first.asked);
+    told = first.told;
+  }
+
+  pub serves-told : (desk : Desk P) (tells : Hand Saying) → Serves is_own shape known inboxes desk tells → HasToldFirst shape inboxes desk tells
+  serves-told desk tells h =
+      first-told desk tells (asks_of h.turns) [] (rest-lawful shape known desk.session h.rested) h.inbox (done-first [] (asks_of h.turns) desk.session tells (serves-done desk tells h))
+      (h.asked ∙ sym (append-nil (map Some (asks_of h.turns))))
+
+  pub served-told : (desk : Desk P) (tells : Hand Saying) → HasServed is_own shape known inboxes desk tells → HasToldFirst shape inboxes desk tells
+  served-told desk tells h = record {
+    lawful = rest-lawful shape known desk.session h.rested;
+    inbox = h.inbox;
+    turns = h.turns;
+    plain = h.quits.plain;
+    more = Line seat_quit.line ∷ h.quits.more;
+    items = h.quits.items;
+    rest = seat_quit ∷ [];
+    lines = h.quits.lines;
+    others = None ∷ [];
+    asked = h.asked;
+    told = h.told;
+  }
+
+  -- who is over has served, and who is not serves
+  pub seated-over : (desk : Desk P) (tells : Hand Saying) → desk.session.doing ≡ Over → IsSeated is_own shape known inboxes desk tells → HasServed is_own shape known inboxes desk tells
+  seated-over desk tells over h = elim h [ inl serves ↦ absurd (apart desk.session.doing serves.is_open.between over) | inr served ↦ served ]
+    where
+      apart : (doing : Doing) → doing ≡ Lines → doing ≡ Over → ⊥
+      apart doing e f = let both : Lines ≡ Over = sym e ∙ f in let no : ⊥ = cc in no
+
+  pub seated-serves : (desk : Desk P) (tells : Hand Saying) → (desk.session.doing ≡ Over → ⊥) → IsSeated is_own shape known inboxes desk tells → Serves is_own shape known inboxes desk tells
+  seated-serves desk tells goes h = elim h [ inl serves ↦ serves | inr served ↦ absurd (goes served.over) ]
+
+  -- the inbox of the same client
+  pub inbox-kept : (old new : Desk P) → new.asks ≡ old.asks → new.session.section.no ≡ old.session.section.no → HasInbox inboxes old → HasInbox inboxes new
+  inbox-kept old new asks number h = record {
+    some = subst (λ (n : ℕ). 1 ≤ n) (sym number) h.some;
+    within = subst (λ (n : ℕ). n ≤ length inboxes) (sym number) h.within;
+    own = λ d. subst (λ (n : ℕ). IsPassOf (get_or inboxes (n - 1) d) new.asks) (sym number) (subst (λ (pass : Pass (Option Ask)). IsPassOf (get_or inboxes (old.session.section.no - 1) d) pass) (sym asks) (h.own d));
+    takes = ap (λ (pass : Pass (Option Ask)). (knows pass).takes) asks ∙ h.takes;
+  }
+
+  -- what was taken by the same client
+  pub taken-kept : (old new : Desk P) → new.asks ≡ old.asks → new.session.section.no ≡ old.session.section.no
+      → taken new.session.section.no (knows new.asks) ≡ taken old.session.section.no (knows old.asks)
+  taken-kept old new asks number = ap (λ (n : ℕ). taken n (knows new.asks)) number ∙ ap (λ (pass : Pass (Option Ask)). taken old.session.section.no (knows pass)) asks
+
+  -- it has quit
+  pub quit-served : (desk : Desk P) (tells : Hand Saying) (turns : List Turn) → is_own desk.session.pass → HasRest shape known desk.session → desk.session.doing ≡ Over → (known desk.session.pass).mark ≡ None
+      → HasInbox inboxes desk → HasQuitBehind desk.session turns → taken desk.session.section.no (knows desk.asks) ≡ map Some (asks_of turns) ++ None ∷ []
+      → all_told (what_of desk.session.section.no tells.sent) ≡ said turns → HasServed is_own shape known inboxes desk tells
+  quit-served desk tells turns own rested over left inbox quits asked told =
+      record { own = own; rested = rested; over = over; left = left; inbox = inbox; turns = turns; quits = quits; asked = asked; told = told }
+
+  -- what holds of a desk after a turn, by what its session has done
+  pub first-seat : (old new : Desk P) (asks : Pass (Option Ask)) (others : List (Option Ask)) (before after : Hand Saying) → (h : Serves is_own shape known inboxes old before) → HasInbox inboxes (record old { asks = asks })
+      → taken old.session.section.no (knows asks) ≡ map Some (asks_of h.turns) ++ others → new.asks ≡ asks → new.session.section.no ≡ old.session.section.no → IsLawful shape new.session
+      → HasDoneFirst (asks_of h.turns) new.session after → HasToldFirst shape inboxes new after
+  first-seat old new asks others before after h inbox took same number lawful first =
+      first-told new after (asks_of h.turns) others lawful (inbox-kept (record old { asks = asks }) new same number inbox) first (taken-kept (record old { asks = asks }) new same number ∙ took)
+
+  pub more-serves : (old new : Desk P) (asks : Pass (Option Ask)) (ask : Option Ask) (before after : Hand Saying) → (h : Serves is_own shape known inboxes old before) → HasInbox inboxes (record old { asks = asks })
+      → taken old.session.section.no (knows asks) ≡ map Some (with_ask (asks_of h.turns) ask) → new.asks ≡ asks → new.session.section.no ≡ old.session.section.no → new.notes ≡ note_lines_of new.session.section.lines
+      → IsAtWork is_own shape known new.session → GoesOn [] [] ask old.session new.session before after → Serves is_own shape known inboxes new after
+  more-serves old new asks ask before after h inbox took same number counted work went =
+      done-serves new after (with_ask (asks_of h.turns) ask) work counted (inbox-kept (record old { asks = asks }) new same number inbox) (went (asks_of h.turns) (serves-done old before h))
+      (taken-kept (record old { asks = asks }) new same number ∙ took)
+
+  pub quit-serves : (old new : Desk P) (asks : Pass (Option Ask)) (tells : Hand Saying) → (h : Serves is_own shape known inboxes old tells) → HasInbox inboxes (record old { asks = asks })
+      → taken old.session.section.no (knows asks) ≡ map Some (asks_of h.turns) ++ None ∷ [] → new.asks ≡ asks → new.session.section.no ≡ old.session.section.no → is_own new.session.pass → HasRest shape known new.session
+      → new.session.doing ≡ Over → (known new.session.pass).mark ≡ None → HasQuitBehind new.session h.turns → HasServed is_own shape known inboxes new tells
+  quit-serves old new asks tells h inbox took same number own rested over left quits =
+      quit-served new tells h.turns own rested over left (inbox-kept (record old { asks = asks }) new same number inbox) quits (taken-kept (record old { asks = asks }) new same number ∙ took)
+      (ap (λ (n : ℕ). all_told (what_of n tells.sent)) number ∙ h.told)
+
+  -- a desk that may begin serves, where nothing was told for it
+  pub serves-begins : (desk : Desk P) (tells : Hand Saying) → MayBegin is_own shape known inboxes desk → tells.sent ≡ [] → Serves is_own shape known inboxes desk tells
+  serves-begins desk tells h none =
+      let lines : desk.session.section.lines ≡ seat_quit ∷ [] = h.begins.lines ∙ ap (λ (line : ScriptLine). line ∷ []) h.quits in
+      record {
+        own = h.own;
+        served = h.served;
+        rested = h.rested;
+        is_open = begins-open desk.session h.begins;
+        counted = h.counted ∙ sym (ap note_lines_of lines);
+        inbox = h.inbox;
+        turns = [];
+        in_turns = record { plain = All-nil IsPlain; lines = lines; items = h.begins.shown };
+        asked = ap (λ (cames : List (Came (Option Ask))). what_of desk.session.section.no cames) h.untaken;
+        told = ap (λ (cames : List (Came Saying)). all_told (what_of desk.session.section.no cames)) none;
+      }
+
+-- what is asked besides
+pub asked-more : (asks : List Ask) (ask : Ask) (old new : List (Option Ask)) → old ≡ map Some asks → new ≡ old ++ Some ask ∷ [] → new ≡ map Some (asks ++ ask ∷ [])
+asked-more asks ask old new e f = f ∙ ap (λ (l : List (Option Ask)). l ++ Some ask ∷ []) e ∙ sym (map-append Some asks (ask ∷ []))
+
+pub asked-also : (asks : List Ask) (one : Option Ask) (old new : List (Option Ask)) → old ≡ map Some asks → new ≡ old ++ one ∷ [] → new ≡ map Some asks ++ one ∷ []
+asked-also asks one old new e f = f ∙ ap (λ (l : List (Option Ask)). l ++ one ∷ []) e
+
+-- the script is the same, and so is the client
+pub script-client : {P : Type 0} (old new : Session P) → IsSameScript old new → IsSameClient old new
+script-client old new h = record {
+  section = h.section ∙ ap (λ (s : Section). record old.section { lines = s.lines }) (sym h.section);
+  plan = h.plan;
+  patience = h.patience;
+}

@@ -1,0 +1,37 @@
+use Rattle.std.proofs.Common.{◌≡◌, List, [], ◌∷◌, length, sym, ◌∙◌, refl, arith, ap}
+use Rattle.std.proofs.lemmas.List.Elements.{All-nil, All-cons}
+use Rattle.pgn_language.specs.declared.scenario.ScriptLine.{ScriptLine}
+use Rattle.pgn_model.specs.declared.item.Item.{Item}
+use Rattle.pgn_model.specs.declared.item.Item.TheVariants.{Read}
+use Rattle.pgn_turns.specs.declared.asked.Ask.TheVariants.{Query}
+use Rattle.pgn_turns.specs.Asks.{line_of, seat_quit}
+use Rattle.pgn_turns.specs.Examples.{idle_items, listen, notify, sent_by}
+use Rattle.pgn_turns.specs.Turns.{IsPlain, IsRead, items_of}
+use Rattle.pgn_seats.specs.Examples.{heard_one, listened}
+use Rattle.pgn_seats.proofs.ExampleLaws.{lines-asked}
+use Rattle.pgn_seats.proofs.examples.in_turns.Goals as goal
+
+pub returns-clause-heard : goal.returns-clause-heard
+returns-clause-heard c = λ s e f. record {
+  plain = All-cons IsPlain listened (heard_one ∷ []) refl (All-cons IsPlain heard_one [] (All-cons IsRead (Read 3 4 (sent_by 1002 ∷ [])) [] tt (All-nil IsRead)) (All-nil IsPlain));
+  lines = e;
+  items = f;
+}
+
+pub returns-clause-skipped : goal.returns-clause-skipped
+returns-clause-skipped c = λ s turns e asked h.
+    let same : line_of listen ∷ line_of notify ∷ seat_quit ∷ [] ≡ line_of listen ∷ seat_quit ∷ [] = sym e ∙ h.lines ∙ lines-asked turns (Query listen ∷ []) asked in
+    let count = ap (λ (ls : List ScriptLine). length ls) same in
+    omega (arith, count)
+
+pub returns-clause-no_quit : goal.returns-clause-no_quit
+returns-clause-no_quit c = λ s turns e asked h.
+    let same : line_of listen ∷ [] ≡ line_of listen ∷ seat_quit ∷ [] = sym e ∙ h.lines ∙ lines-asked turns (Query listen ∷ []) asked in
+    let count = ap (λ (ls : List ScriptLine). length ls) same in
+    omega (arith, count)
+
+pub returns-clause-left_out : goal.returns-clause-left_out
+returns-clause-left_out c = λ s e h.
+    let same : idle_items ≡ items_of (listened ∷ []) = sym e ∙ h.items in
+    let count = ap (λ (is : List Item). length is) same in
+    omega (arith, count)
