@@ -1,18 +1,11 @@
 -- Desks that take turns: one after another, and round after round.
-use Rattle.std.proofs.Common.{◌≡◌, ◌≢◌, ℕ, zero, suc, ◌+◌, ◌-◌, ◌<◌, ◌≤◌, inl, inr, Bool, true, false, true≢false, List, [], ◌∷◌, ◌++◌, length, map, slice_get, Option, Some, None, IsSomeAnd, All, Result, Ok, Err, OnOk, sym, ap, ◌∙◌, refl, subst, arith, append-nil}
+use Rattle.std.proofs.Common.{◌≡◌, ◌≢◌, ℕ, zero, suc, ◌+◌, ◌-◌, ◌<◌, ◌≤◌, inl, inr, Bool, true, false, true≢false, List, [], ◌∷◌, ◌++◌, length, slice_get, Option, IsSomeAnd, All, Result, Ok, Err, OnOk, sym, ap, ◌∙◌, refl, subst, arith}
 use Rattle.std.proofs.lemmas.List.Elements.{All-nil, All-cons, All-head, All-append, All-weaker}
 use Rattle.pgn_hub.specs.declared.known.Known.{Known}
 use Rattle.pgn_hub.specs.Passes as passes
 use Rattle.pgn_hub.specs.Shape.{Shape}
-use Rattle.pgn_language.specs.declared.scenario.ScriptLine.{ScriptLine}
-use Rattle.pgn_language.specs.Inputs.{AreNumbered, note_lines_of}
-use Rattle.pgn_model.specs.declared.item.Item.TheVariants.{Line}
-use Rattle.pgn_session.specs.declared.doing.Doing.{Doing}
-use Rattle.pgn_session.specs.declared.doing.Doing.TheVariants.{Lines, Over}
+use Rattle.pgn_session.specs.declared.doing.Doing.TheVariants.{Over}
 use Rattle.pgn_session.specs.Open.{IsSameClient}
-use Rattle.pgn_session.specs.Whole.{HasRest}
-use Rattle.pgn_session.proofs.LawfulLaws.{rest-lawful}
-use Rattle.pgn_session.proofs.OpenLaws.{begins-open}
 use Rattle.pgn_session.proofs.TogetherLaws.{all-back, all-front}
 use Rattle.pgn_outlet.specs.declared.came.Came.{Came}
 use Rattle.pgn_outlet.specs.declared.hand.Hand.{Hand}
@@ -21,14 +14,13 @@ use Rattle.pgn_outlet.specs.Cames.{what_of}
 use Rattle.pgn_outlet.specs.Rule.{MayPush}
 use Rattle.pgn_turns.specs.declared.asked.Ask.{Ask}
 use Rattle.pgn_turns.specs.declared.saying.Saying.{Saying}
-use Rattle.pgn_turns.specs.Asks.{seat_quit}
 use Rattle.pgn_turns.specs.Sayings.{all_told}
-use Rattle.pgn_turns.specs.Turns.{IsPlain, asks_of, items_of}
 use Rattle.pgn_seats.specs.declared.desk.Desk.{Desk}
 use Rattle.pgn_seats.specs.Serving.{HasPushedFor, HasServed, HasToldFirst, IsSeated, Serves}
-use Rattle.pgn_seats.specs.Desks.{AreSameClients, HaveServed, MayBegin, MayServe, sections_of}
+use Rattle.pgn_seats.specs.Desks.{AreSameClients, HaveServed, MayBegin, MayServe}
 use Rattle.pgn_seats.specs.Workers.{AreInARow, HasSeat, HaveGone, IsNoneOf, MayGo, StandsBy}
-use Rattle.pgn_seats.proofs.DeskRowLaws.{both-hold, by-number, clients-all, clients-both, clients-count, clients-none, clients-numbered, clients-on, each-numbered, none-before, none-behind, row-behind, row-front}
+use Rattle.pgn_seats.proofs.SeatLaws.{seated-over, served-told, serves-begins, serves-told}
+use Rattle.pgn_seats.proofs.DeskRowLaws.{both-hold, clients-all, clients-both, clients-count, clients-none, clients-numbered, clients-on, each-numbered, none-before, none-behind, row-behind, row-front}
 
 -- an element that is there
 got-within : {X : Type 0} (xs : List X) (i : ℕ) (Q : X → Type 0) → IsSomeAnd (slice_get xs i) Q → i < length xs
@@ -98,43 +90,13 @@ module _ {P : Type 0} (is_own : P → Type 0) (shape : Shape) (known : P → Kno
   }
 
   -- it has told whole turns
-  serves-first : (v : Hand Saying) (d : Desk P) → Serves is_own shape known inboxes d v → HasToldFirst shape inboxes d v
-  serves-first v d h = record {
-    lawful = rest-lawful shape known d.session h.rested;
-    inbox = h.inbox;
-    turns = h.turns;
-    plain = h.in_turns.plain;
-    more = [];
-    items = h.in_turns.items ∙ sym (append-nil (items_of h.turns));
-    rest = seat_quit ∷ [];
-    lines = h.in_turns.lines;
-    others = [];
-    asked = h.asked ∙ sym (append-nil (map Some (asks_of h.turns)));
-    told = h.told;
-  }
-
-  served-first : (v : Hand Saying) (d : Desk P) → HasServed is_own shape known inboxes d v → HasToldFirst shape inboxes d v
-  served-first v d h = record {
-    lawful = rest-lawful shape known d.session h.rested;
-    inbox = h.inbox;
-    turns = h.turns;
-    plain = h.quits.plain;
-    more = Line seat_quit.line ∷ h.quits.more;
-    items = h.quits.items;
-    rest = seat_quit ∷ [];
-    lines = h.quits.lines;
-    others = None ∷ [];
-    asked = h.asked;
-    told = h.told;
-  }
-
   pub stands-first : (refused : Bool) (v : Hand Saying) (d : Desk P) → StandsBy is_own shape known inboxes refused v d → HasToldFirst shape inboxes d v
   stands-first true v d h = h
   stands-first false v d h = by h
     where
       by : IsSeated is_own shape known inboxes d v → HasToldFirst shape inboxes d v
-      by (inl serves) = serves-first v d serves
-      by (inr served) = served-first v d served
+      by (inl serves) = serves-told is_own shape known inboxes d v serves
+      by (inr served) = served-told is_own shape known inboxes d v served
 
   seated-still : (v w : Hand Saying) (d : Desk P) → what_of d.session.section.no w.sent ≡ what_of d.session.section.no v.sent → IsSeated is_own shape known inboxes d v → IsSeated is_own shape known inboxes d w
   seated-still v w d e (inl serves) = inl (serves-still v w d e serves)
@@ -222,21 +184,6 @@ module _ {P : Type 0} (is_own : P → Type 0) (shape : Shape) (known : P → Kno
     stand = g.stand;
   }
 
-  -- a desk that begins serves its seat
-  serves-begins : (v : Hand Saying) (d : Desk P) → v.sent ≡ [] → MayBegin is_own shape known inboxes d → Serves is_own shape known inboxes d v
-  serves-begins v d unused m = record {
-    own = m.own;
-    served = m.served;
-    rested = m.rested;
-    is_open = begins-open d.session m.begins;
-    counted = m.counted ∙ sym (ap (λ (l : List ScriptLine). note_lines_of l) (m.begins.lines ∙ ap (λ (line : ScriptLine). line ∷ []) m.quits));
-    inbox = m.inbox;
-    turns = [];
-    in_turns = record { plain = All-nil IsPlain; lines = m.begins.lines ∙ ap (λ (line : ScriptLine). line ∷ []) m.quits; items = m.begins.shown };
-    asked = ap (λ (l : List (Came (Option Ask))). what_of d.session.section.no l) m.untaken;
-    told = ap (λ (l : List (Came Saying)). all_told (what_of d.session.section.no l)) unused;
-  }
-
   -- its number is that of a seat of the hub
   begins-seat : ((p : P) → is_own p → passes.IsSeated shape (known p)) → (d : Desk P) → MayBegin is_own shape known inboxes d → HasSeat shape d
   begins-seat law d m =
@@ -254,13 +201,8 @@ module _ {P : Type 0} (is_own : P → Type 0) (shape : Shape) (known : P → Kno
         row = record { first = v.first; numbered = m.numbered };
         seats = All-weaker (MayBegin is_own shape known inboxes) (HasSeat shape) (λ d h. begins-seat law d h) xs m.begin;
         may = each-numbered v.first xs (λ d. MayPush v d.session.section.no) m.numbered (λ d low high. (low, omega (arith, high, fits)));
-        stand = All-weaker (MayBegin is_own shape known inboxes) (StandsBy is_own shape known inboxes a v) (λ d h. seated-stands a v d fine (inl (serves-begins v d m.unused h))) xs m.begin;
+        stand = All-weaker (MayBegin is_own shape known inboxes) (StandsBy is_own shape known inboxes a v) (λ d h. seated-stands a v d fine (inl (serves-begins is_own shape known inboxes d v h m.unused))) xs m.begin;
       }
-
-  -- a desk that is over has served
-  served-over : (v : Hand Saying) (d : Desk P) → d.session.doing ≡ Over → IsSeated is_own shape known inboxes d v → HasServed is_own shape known inboxes d v
-  served-over v d over (inl serves) = let both : Over ≡ Lines = sym over ∙ serves.is_open.between in absurd (cc)
-  served-over v d over (inr served) = served
 
   -- what they have pushed is theirs
   others-none : (old new : List (Desk P)) (a b : Bool) (v w : Hand Saying) → MayServe is_own shape known inboxes old v → HaveGone is_own shape known inboxes old new a b v w → (m : ℕ)
@@ -283,5 +225,5 @@ module _ {P : Type 0} (is_own : P → Type 0) (shape : Shape) (known : P → Kno
       out : (x : Result A E) → OnOk x (All (λ (d : Desk P). d.session.doing ≡ Over) new × (b ≡ false)) → OnOk x (All (λ (d : Desk P). HasServed is_own shape known inboxes d w) new)
       out (Ok y) h =
           both-hold (λ (d : Desk P). d.session.doing ≡ Over) (StandsBy is_own shape known inboxes b w) (λ (d : Desk P). HasServed is_own shape known inboxes d w)
-          (λ d over stands. served-over w d over (stands-seated b w d h.1 stands)) new h.0 g.stand
+          (λ d over stands. seated-over is_own shape known inboxes d w over (stands-seated b w d h.1 stands)) new h.0 g.stand
       out (Err e) h = tt

@@ -1,5 +1,5 @@
 -- Desks as workers: parts of them with a hand each.
-use Rattle.std.proofs.Common.{◌≡◌, ℕ, ◌≤◌, Bool, false, List, [], ◌∷◌, ◌++◌, length, Option, All, Result, Ok, Err, OnOk, sym, ap, ◌∙◌, subst, arith, length-append}
+use Rattle.std.proofs.Common.{◌≡◌, ◌≤◌, false, List, [], ◌∷◌, ◌++◌, length, Option, All, Result, Ok, Err, OnOk, sym, ap, ◌∙◌, subst, arith, length-append}
 use Rattle.std.specs.Result.{result_and}
 use Rattle.std.specs.declared.alloc.AllocError.{AllocError}
 use Rattle.pgn_hub.specs.declared.known.Known.{Known}
@@ -9,7 +9,7 @@ use Rattle.pgn_session.specs.declared.doing.Doing.TheVariants.{Over}
 use Rattle.pgn_outlet.specs.declared.hand.Hand.{Hand}
 use Rattle.pgn_outlet.specs.declared.outlet.Outlet.{Outlet}
 use Rattle.pgn_outlet.specs.Passes.{IsPassOf, knows}
-use Rattle.pgn_outlet.specs.Rule.{joined, lower, upper}
+use Rattle.pgn_outlet.specs.Rule.{joined, lower}
 use Rattle.pgn_turns.specs.declared.asked.Ask.{Ask}
 use Rattle.pgn_turns.specs.declared.saying.Saying.{Saying}
 use Rattle.pgn_workers.specs.declared.turn.Turn.{Turn}

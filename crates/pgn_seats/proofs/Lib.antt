@@ -11,6 +11,10 @@ pub mod SeatLaws
 pub mod DeskHalfLaws
 pub mod DeskRowLaws
 pub mod DeskTurnLaws
+-- desks by their numbers
+-- desks over turns
+-- desks in two halves
+-- desks as workers
 pub mod DeskWorkLaws
 -- why examples are refused
 mod ExampleLaws

@@ -8,3 +8,5 @@ pub mod Desks
 pub mod Examples
 -- desks as workers
 pub mod Workers
+-- desks as workers
+-- examples

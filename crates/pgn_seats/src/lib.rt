@@ -4,6 +4,9 @@
 //! are told, through the outbox of all seats. A turn of a desk takes what is next in its inbox, lets the session do it, and tells it in
 //! one piece; where nothing is there, it tells what the session hears.
 //!
+//! `serve_seats` has all desks take turns, each on a thread of its own while threads can be had. A desk for which there is nothing to do
+//! dozes until its bell rings: who puts into its inbox rings it, and so does the hub where a wake is set.
+//!
 //! What a desk has come to stands in `specs/Serving`: its session's script and trace are those of turns, what was taken is what they were
 //! asked for, and what was told is what they say. `Serves` holds between turns, `HasServed` once nothing more is asked and the session
 //! has quit, and `HasToldFirst` always, also where memory did not suffice.
