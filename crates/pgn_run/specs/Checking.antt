@@ -13,7 +13,7 @@ use Rattle.pgn_check.specs.declared.check.Verdict.TheVariants as verdict
 use Rattle.pgn_check.specs.Verdicts.{Judges}
 use Rattle.pgn_run.specs.declared.checking.TheConstants.{CHECK_BYTES_MAX}
 use Rattle.pgn_run.specs.declared.status.Status.{Status}
-use Rattle.pgn_run.specs.declared.status.Status.TheVariants.{Done, BadWords, BadScenario, ReadFault, WriteFault, NoMemory, BadWire, Illegal, NoOutput, CheckTooLarge}
+use Rattle.pgn_run.specs.declared.status.Status.TheVariants.{Done, BadWords, BadScenario, ReadFault, WriteFault, NoMemory, BadWire, BadFrame, Illegal, NoOutput, CheckTooLarge}
 
 -- a line feed
 abbrev pub ends_line : ℕ → Bool
@@ -92,6 +92,7 @@ status_of (verdict.Illegal line) = Illegal line
 abbrev pub IsOfCheck : Status → Type 0
 IsOfCheck BadWords = ⊥
 IsOfCheck (BadWire fault) = ⊥
+IsOfCheck (BadFrame fault) = ⊥
 IsOfCheck status = Unit {0}
 
 -- those with which no verdict is written, nor a part of one

@@ -3,6 +3,6 @@ use Rattle.pgn_run.proofs.arms.run_arms.Goals as goal
 
 pub join_mut-requires-after_bounds : goal.join_mut-requires-after_bounds
 join_mut-requires-after_bounds g c κs within = (
-  ((search rules, search rules, search rules, search rules, c.requires.may), (search rules, search rules, search rules, search rules)),
-  ((c.requires.call, c.requires.seats), (search rules, search rules, search rules)),
+  ((search rules, search rules, c.type_bounds.send-P, c.type_bounds.send-K, c.requires.may), (c.type_bounds.send-P, c.type_bounds.send-K, search rules, search rules)),
+  ((c.requires.call, c.requires.seats), (c.type_bounds.send-P, search rules, search rules)),
 )
