@@ -33,10 +33,12 @@
 #   8, 256 plain     sessions that each send a line
 #   ring of 16       sessions of which each raises its own flag and awaits the next one's
 #   live             crossing flags with --live: by session, its lines are those of the example
+#   a service        it ends with status 6 and has written nothing; with two threads besides its own, and with threads that each begin
+#                    two seconds late (bench/late.c), it answers
 #
 # A closed reader: of a live run of 60,000 lines it reads one and closes; the run has to end within 20 seconds, with status 5.
 #
-# Needs timeout, setpriv and prlimit.
+# Needs timeout, setpriv, prlimit and a C compiler.
 
 # wrong WHAT: notes that something did not come out as it has to
 wrong() {
@@ -202,6 +204,25 @@ measure_no_threads() {
     live=
     in_time
     by_session <"$room/output" | cmp -- "$root/examples/crossing-flags.output" - || wrong 'crossing flags, live: other lines'
+    printf '\0\001\0\016Q\0\0\0\015LISTEN c\0' >"$room/frames"
+    printf '\0\001\0\022C\0\0\0\013LISTEN\0Z\0\0\0\005I' >"$room/answered"
+    : >"$room/nothing"
+    served 'no thread' 6 nothing "$@"
+    served 'two threads' 0 answered $as_user prlimit --nproc=3
+    cc -O2 -shared -fPIC -o "$room/late.so" "$root/bench/late.c" -ldl
+    served 'late threads' 0 answered env LATE=2 LD_PRELOAD="$room/late.so"
+}
+
+# served NAME STATUS FILE COMMAND..: a service under this command that is asked for one thing has to end with this status and output
+served() {
+    name=$1
+    wanted=$2
+    due=$3
+    shift 3
+    status=0
+    timeout 60 "$@" "$program" serve --seats 4 <"$room/frames" >"$room/output" 2>"$room/errors" || status=$?
+    printf 'a service, %s: status %s\n' "$name" "$status"
+    [ "$status" = "$wanted" ] && cmp -- "$room/$due" "$room/output" || wrong "a service, $name: wanted status $wanted"
 }
 
 # by_session: what a live run has written, as the text of a run without --live

@@ -7,6 +7,7 @@ what was wrong. The status is 1 where one failed.
 import contextlib
 import os
 import re
+import shlex
 import signal
 import socket
 import struct
@@ -156,10 +157,13 @@ class Shim:
     def enter(self, database='messages'):
         return self.wire().enter(database=database)
 
+    def said(self):
+        self.log.seek(0)
+        return self.log.read()
+
     def services(self, database='messages'):
         """The processes of the services that were started for a database."""
-        self.log.seek(0)
-        return [int(process) for process in re.findall(f'"{database}": a service .* process ([0-9]+)', self.log.read())]
+        return [int(process) for process in re.findall(f'"{database}": a service .* process ([0-9]+)', self.said())]
 
     def stop(self):
         for wire in self.wires:
@@ -169,8 +173,7 @@ class Shim:
         status = self.process.wait(WAIT)
         self.process.stdout.close()
         check(status == 0, 'tools/serve ended with status', status)
-        self.log.seek(0)
-        said = self.log.read()
+        said = self.said()
         check('Traceback' not in said and 'exception' not in said, 'tools/serve said:', said[-300:])
 
 
@@ -459,6 +462,25 @@ def passed_on(stalled, file, whole, due):
     return passed
 
 
+def no_memory(shim):
+    """A program that has no memory says so by a frame of seat 0. What it told before is told, and it ends when its input does."""
+    script = "[ $(head -c 1 | wc -c) = 1 ] || exit 0; printf '\\0\\1\\0\\6Z\\0\\0\\0\\5I\\0\\0\\0\\0'; cat >/dev/null; exit 6"
+    spoiled = Shim(4, '--program', shlex.join(['sh', '-c', script]))
+    try:
+        for number in range(2):
+            wire = spoiled.enter()
+            wire.send(query('LISTEN c'))
+            wire.take('Z')
+            wire.fatal('57P01')
+            check(len(spoiled.services()) == number + 1, 'services:', spoiled.services())
+        until = time.monotonic() + WAIT
+        while spoiled.said().count('status 6') < 2 and time.monotonic() < until:
+            time.sleep(0.05)
+        check(spoiled.said().count('status 6') == 2, spoiled.said())
+    finally:
+        spoiled.stop()
+
+
 def does_not_read(shim):
     """Kept for it are 16 MB, and what the kernel takes. What it is told then is whole, in order, and ends with the reason."""
     one, other, count = shim.wire(receive=4096).enter(), shim.enter(), 3600
@@ -565,6 +587,7 @@ CASES = ((idle, 'a notification comes to an idle client, without a ReadyForQuery
          (reset, 'who comes next listens to nothing', False, 4),
          (databases, 'a service for each database, 16 at most', False, 4),
          (not_answered, 'queries that are not answered wait', False, 4),
+         (no_memory, 'a program that has no memory', False, 4),
          (does_not_read, 'a client that does not read is closed', False, 4),
          (full_queue, 'a listener that goes makes room in the queue', False, 4),
          (service_ends, 'a service that ends tells its clients', False, 4),

@@ -1,13 +1,12 @@
 -- What callers have put.
-use Rattle.std.proofs.Common.{◌≡◌, ℕ, ◌+◌, ◌-◌, ◌<◌, ◌≤◌, Bool, true, false, List, [], ◌∷◌, ◌++◌, length, drop, Option, Some, None, Result, Ok, sym, ap, ◌∙◌, subst, refl, arith, inl, inr, append_assoc, append-nil}
+use Rattle.std.proofs.Common.{◌≡◌, ℕ, ◌+◌, ◌-◌, ◌<◌, Bool, true, false, List, [], ◌∷◌, ◌++◌, length, drop, Option, Some, None, Result, Ok, Err, OnOk, OnErr, IfOk, is_err, sym, ap, ◌∙◌, subst, refl, arith, inl, append_assoc, append-nil}
 use Rattle.std.specs.Prelude.{map}
 use Rattle.std.proofs.lemmas.List.{map-append, drop-drop}
-use lib.Seq.{drop-length}
 use Rattle.pgn_language.specs.declared.scenario.ScriptLine.{ScriptLine}
 use Rattle.pgn_outlet.specs.declared.came.Came.{Came}
 use Rattle.pgn_outlet.specs.declared.hand.Hand.{Hand}
 use Rattle.pgn_outlet.specs.Passes.{knows}
-use Rattle.pgn_outlet.specs.Rule.{MayPush, with_sent}
+use Rattle.pgn_outlet.specs.Rule.{MayPush}
 use Rattle.pgn_queries.specs.declared.wire_fault.WireFault.{WireFault}
 use Rattle.pgn_queries.specs.Queries.{TookQuery, Place, QueriesAre}
 use Rattle.pgn_turns.specs.declared.asked.Ask.{Ask}
@@ -19,6 +18,31 @@ use Rattle.pgn_frames.specs.Clients.{Close, Left, Faulty, SeatAsks, asks_for, la
 use Rattle.pgn_frames.specs.Callers.{AskOn, HasCome, HasEnded, IsUnfinished, Stand, Takes, TakesBytes, TakesFirst, TakesFirstBytes, Waits, behind_end, carried, holding, parting_behind, parting_by, stand_of, with_put}
 use Rattle.pgn_frames.specs.Frames.{signs_in}
 use Rattle.pgn_frames.proofs.StandLaws.{Closes, HasCome-then, asks_on, come-end, come-in, come-left, come-none, come-over, come-passed, come-query, end_closes, fault_closes, parts_so}
+
+-- what follows where a call answers so
+pub on_ok : {A E : Type 0} (r : Result A E) (P Q : Type 0) → (P → Q) → OnOk r P → OnOk r Q
+on_ok (Ok a) P Q f h = f h
+on_ok (Err e) P Q f h = tt
+
+pub on_err : {A E : Type 0} (r : Result A E) (P Q : Type 0) → (P → Q) → OnErr r P → OnErr r Q
+on_err (Ok a) P Q f h = tt
+on_err (Err e) P Q f h = f h
+
+pub err_any : {A E : Type 0} (r : Result A E) (P : Type 0) → P → OnErr r P
+err_any (Ok a) P h = tt
+err_any (Err e) P h = h
+
+pub err_of : {A E : Type 0} (r : Result A E) (P : Type 0) → is_err r ≡ true → OnErr r P → P
+err_of (Ok a) P e h = absurd (cc)
+err_of (Err x) P e h = h
+
+pub ok_of : {A E : Type 0} (r : Result A E) (P : Type 0) → is_err r ≡ false → OnOk r P → P
+ok_of (Ok a) P e h = h
+ok_of (Err x) P e h = absurd (cc)
+
+pub if_ok-both : {A E : Type 0} (r : Result A E) (P R : Type 0) (Q : A → Type 0) → ((a : A) → P → R → Q a) → OnOk r P → OnOk r R → IfOk r Q
+if_ok-both (Ok a) P R Q f h k = f a h k
+if_ok-both (Err e) P R Q f h k = tt
 
 -- what is put, one behind another
 pub put_none : (seat : ℕ) (v : Hand (Option Ask)) → v ≡ with_put seat v []
@@ -117,7 +141,7 @@ Takes-parted seat old mid new parting waits was how asks same ended is none =
     = ap (λ (n : ℕ). ask.End n parting) number ∙ ap (λ (p : Parting). ask.End (old.queries.queries + 1) p) how in record {
       asks = ask.End (old.queries.queries + 1) (parting_behind old.begun.items) ∷ [];
       put = ended.put ∙ ap (λ (a : Ask). with_put seat (knows mid.asks) (Some a ∷ [])) told
-      ∙ ap (λ (v : Hand (Option Ask)). with_put seat v (Some (ask.End (old.queries.queries + 1) (parting_behind old.begun.items)) ∷ [])) (ap knows asks);
+          ∙ ap (λ (v : Hand (Option Ask)). with_put seat v (Some (ask.End (old.queries.queries + 1) (parting_behind old.begun.items)) ∷ [])) (ap knows asks);
       come = come-end old.queries new.queries old.begun.items new.begun.items old.left new.left (waits was) (ended.next ∙ ap behind_end same) none was is;
       waits = λ _. inl none;
     }
@@ -146,7 +170,7 @@ Bytes-left seat old mid new bytes close parting n closes last how same e ended w
     let number : mid.queries.queries + 1 ≡ old.queries.queries + 1 = ap (λ (p : Place). p.queries + 1) same in record {
       asks = ask.End (old.queries.queries + 1) parting ∷ [];
       put = ended.put ∙ ap (λ (k : ℕ). with_put seat (knows mid.asks) (Some (ask.End k parting) ∷ [])) number
-      ∙ ap (λ (v : Hand (Option Ask)). with_put seat v (Some (ask.End (old.queries.queries + 1) parting) ∷ [])) e;
+          ∙ ap (λ (v : Hand (Option Ask)). with_put seat v (Some (ask.End (old.queries.queries + 1) parting) ∷ [])) e;
       come = come-left old.queries new.queries bytes (drop n bytes) close parting old.left new.left closes last how (ended.next ∙ ap behind_end same) was is;
     }
 
@@ -167,7 +191,7 @@ Bytes-then seat old mid new bytes at n to t u e = record {
   asks = t.asks ++ u.asks;
   put = put-then seat (knows old.asks) (knows mid.asks) (knows new.asks) t.asks u.asks t.put u.put;
   come = subst (λ (l : List ℕ). HasCome (holding old bytes) [] (t.asks ++ u.asks) (holding new l)) (drop-drop n at bytes ∙ ap (λ (k : ℕ). drop k bytes) (sym e))
-  (HasCome-then (holding old bytes) (holding mid (drop at bytes)) (holding new (drop n (drop at bytes))) [] [] t.asks u.asks t.come u.come);
+      (HasCome-then (holding old bytes) (holding mid (drop at bytes)) (holding new (drop n (drop at bytes))) [] [] t.asks u.asks t.come u.come);
 }
 
 -- what is kept of bytes that came

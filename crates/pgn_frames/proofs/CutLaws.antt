@@ -1,5 +1,5 @@
 -- Bytes that are fewer than their head says.
-use Rattle.std.proofs.Common.{◌≡◌, ℕ, ◌-◌, ◌<◌, ◌≤◌, List, [], ◌∷◌, ◌++◌, length, get_or, take, drop, take-append-drop, length-take-le, length-drop, sym, ap, refl, arith, inl, inr}
+use Rattle.std.proofs.Common.{◌≡◌, ℕ, ◌-◌, ◌<◌, ◌≤◌, List, [], ◌∷◌, length, get_or, take, drop, take-append-drop, length-take-le, length-drop, sym, ap, refl, arith, inl, inr}
 use Rattle.std.specs.Prelude.{slice_index}
 use Rattle.std.specs.Int.{w32, from_be_bytes}
 use Rattle.pgn_queries.specs.declared.wire_fault.WireFault.TheVariants.{Truncated}
@@ -43,7 +43,5 @@ four_behind (a ∷ b ∷ c ∷ d ∷ []) head = absurd (omega arith)
 four_behind (a ∷ b ∷ c ∷ d ∷ e ∷ more) head = refl
 
 pub ruleset cut_laws = (Cut-none, Cut-terminate, Cut-query)
-
-pub ruleset body_laws = (Cut-body)
 
 pub ruleset four_laws = (four_behind)

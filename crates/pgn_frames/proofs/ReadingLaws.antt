@@ -1,8 +1,8 @@
 -- Frame after frame, for all seats.
-use Rattle.std.proofs.Common.{◌≡◌, ◌≢◌, ℕ, ◌+◌, ◌-◌, ◌<◌, ◌≤◌, ◌==◌, ◌⊎◌, cond, false, List, [], ◌∷◌, ◌++◌, length, get_or, Option, Some, None, Result, Ok, Err, sym, ap, ◌∙◌, subst, refl, arith, inl, inr, append_assoc, append-nil}
+use Rattle.std.proofs.Common.{◌≡◌, ◌≢◌, ℕ, ◌+◌, ◌-◌, ◌<◌, ◌≤◌, ◌==◌, cond, List, [], ◌∷◌, ◌++◌, length, get_or, set, Option, Some, None, Result, Ok, Err, IfOk, sym, ap, ◌∙◌, subst, refl, arith, inl, inr, append_assoc, append-nil}
 use Rattle.std.specs.Prelude.{map}
 use Rattle.std.proofs.lemmas.Bool.{cases_eq, cases_lt, eq-eqb, ne_eqb}
-use Rattle.std.proofs.lemmas.List.{map-append}
+use Rattle.std.proofs.lemmas.List.{map-append, get_or_default, get_or-set_same, get_or-set_other, length-set}
 use Rattle.pgn_outlet.specs.declared.came.Came.{Came}
 use Rattle.pgn_outlet.specs.declared.hand.Hand.{Hand}
 use Rattle.pgn_outlet.specs.declared.outlet.Outlet.{Outlet}
@@ -15,14 +15,14 @@ use Rattle.pgn_frames.specs.declared.frame_fault.FrameFault.{FrameFault}
 use Rattle.pgn_frames.specs.declared.framing.NoFrame.{NoFrame}
 use Rattle.pgn_frames.specs.declared.framing.NoFrame.TheVariants.{Failed, Memory}
 use Rattle.pgn_frames.specs.declared.caller.Caller.{Caller}
-use Rattle.pgn_frames.specs.Callers.{AskOn, HasCome, IsUnfinished, Takes, TakesFirst, Waits, carried, first_stand, stand_of, with_put}
+use Rattle.pgn_frames.specs.Callers.{AskOn, HasCome, IsUnfinished, Takes, TakesFirst, Waits, first_stand, stand_of, with_put}
 use Rattle.pgn_frames.specs.Clients.{SeatAsks}
 use Rattle.pgn_frames.specs.Frames as frame
 use Rattle.pgn_frames.specs.Frames.{Comes, Frame, FramesAre, IsSeat, NextFrame, Over, Wrong, signs_in, signs_of}
-use Rattle.pgn_frames.specs.Reading.{AreBefore, AreEnded, AreFirstFrames, AreFrames, Begins, Calls, CallsOn, DoesAt, EachSeat, HasPutAll, HasPutFirst, HasReadAll, HasReadFirst, HasReadSome, IsEnded, IsKept, MayCall, OwnsInbox, Reads, ReadsAll, ReadsFirst, ReadsTo, has_put}
+use Rattle.pgn_frames.specs.Reading.{AreBefore, AreEnded, AreFirstFrames, AreFrames, Begins, Calls, CallsOn, DoesAt, EachSeat, HasPutAll, HasPutFirst, HasReadAll, HasReadFirst, HasReadSome, IsEnded, IsKept, MayCall, OwnsInbox, Reads, ReadsAll, ReadsFirst, ReadsTo, TurnsInto}
 use Rattle.pgn_frames.proofs.FrameLaws.{each_has_frames}
 use Rattle.pgn_frames.proofs.StandLaws.{HasCome-then, nothing_more}
-use Rattle.pgn_frames.proofs.CallerLaws.{put-then}
+use Rattle.pgn_frames.proofs.CallerLaws.{First-all, may-put, put-then}
 
 abbrev pub frame_at : ℕ → List ℕ → Frame
 frame_at seat bytes = record { seat = seat; bytes = bytes }
@@ -53,7 +53,7 @@ calls_more most seat of frames bytes inbox other old new e h t = record {
   asks = h.asks ++ t.asks;
   put = put-then seat sender (knows old.asks) (knows new.asks) h.asks t.asks h.put t.put;
   come = subst (λ (l : List (Option ℕ)). HasCome (first_stand most) l (h.asks ++ t.asks) (stand_of new)) (sym (signs_own seat of bytes frames e))
-  (HasCome-then (first_stand most) (stand_of old) (stand_of new) (signs_of seat frames) (signs_in bytes) h.asks t.asks h.come t.come);
+      (HasCome-then (first_stand most) (stand_of old) (stand_of new) (signs_of seat frames) (signs_in bytes) h.asks t.asks h.come t.come);
 }
 
 -- a seat whose it is not
@@ -95,7 +95,7 @@ first_of most seat frames inbox other caller new h waits own same = record {
   own = own;
   asks = h.asks;
   asked = subst (λ (l : List (Option ℕ)). SeatAsks (first_place most) l h.asks) (append-nil (signs_of seat frames))
-  (subst (λ (l : List Ask). SeatAsks (first_place most) (signs_of seat frames ++ []) l) (append-nil h.asks) (h.come [] [] (nothing_more caller.queries caller.begun.items caller.left waits)));
+      (subst (λ (l : List Ask). SeatAsks (first_place most) (signs_of seat frames ++ []) l) (append-nil h.asks) (h.come [] [] (nothing_more caller.queries caller.begun.items caller.left waits)));
   now = map Some h.asks;
   others = None ∷ [];
   first = refl;
@@ -185,7 +185,7 @@ pub Reads-more : (most at seat : ℕ) (bytes : List ℕ) (a b c : Option (List �
 Reads-more most at seat bytes a b c inboxes olds news next h is k does e = record {
   frames = h.frames ++ frame_at seat bytes ∷ [];
   are = subst (λ (n : ℕ). OfKnown (AreBefore n next (h.frames ++ frame_at seat bytes ∷ [])) a c) (sym does.size)
-  (subst (λ (n : ℕ). OfKnown (AreBefore (length olds) n (h.frames ++ frame_at seat bytes ∷ [])) a c) (sym e) (before_more (length olds) at h.frames (frame_at seat bytes) a b c h.are k));
+      (subst (λ (n : ℕ). OfKnown (AreBefore (length olds) n (h.frames ++ frame_at seat bytes ∷ [])) a c) (sym e) (before_more (length olds) at h.frames (frame_at seat bytes) a b c h.are k));
   asked = calls_took most seat h.frames bytes inboxes olds news is h.asked does;
 }
 
@@ -196,7 +196,7 @@ pub Reads-some : (most at seat : ℕ) (bytes : List ℕ) (a b c : Option (List �
 Reads-some most at seat bytes a b c inboxes olds news h is k on does owns = record {
   frames = h.frames ++ frame_at seat bytes ∷ [];
   are = subst (λ (n : ℕ). AreFirstFrames n a (h.frames ++ frame_at seat bytes ∷ [])) (sym does.size)
-  (before_first (length olds) (at + (4 + length bytes)) (h.frames ++ frame_at seat bytes ∷ []) a c (before_more (length olds) at h.frames (frame_at seat bytes) a b c h.are k));
+      (before_first (length olds) (at + (4 + length bytes)) (h.frames ++ frame_at seat bytes ∷ []) a c (before_more (length olds) at h.frames (frame_at seat bytes) a b c h.are k));
   asked = firsts_took most seat h.frames bytes inboxes olds news is h.asked on does owns;
 }
 
@@ -225,11 +225,11 @@ Reads-none most a inboxes callers may = record {
   frames = [];
   are = before_none (length callers) a;
   asked = λ k inbox caller lt.
-  let begins : Begins most (k + 1) (get_or inboxes k inbox) (get_or callers k caller) = may.begin k inbox caller lt in record {
-    asks = [];
-    put = begins.unused;
-    come = λ more others h. subst (λ s. AskOn s more others) begins.first h;
-  };
+      let begins : Begins most (k + 1) (get_or inboxes k inbox) (get_or callers k caller) = may.begin k inbox caller lt in record {
+        asks = [];
+        put = begins.unused;
+        come = λ more others h. subst (λ s. AskOn s more others) begins.first h;
+      };
 }
 
 pub on_none : (most : ℕ) (inboxes : List (Outlet (Option Ask))) (callers : List Caller) → MayCall most inboxes callers → EachSeat CallsOn inboxes callers
@@ -241,16 +241,112 @@ on_none most inboxes callers may = λ k inbox caller lt.
       waits = λ e. subst (λ s. IsUnfinished s.place s.begun) (sym begins.first) (inl refl);
     }
 
+-- one seat after another is told the end
+pub ended_none : (inboxes : List (Outlet (Option Ask))) (callers : List Caller) → EachSeat CallsOn inboxes callers → AreEnded 0 inboxes callers callers
+ended_none inboxes callers on = record {
+  size = refl;
+  told = λ k inbox caller lt. absurd (omega arith);
+  kept = λ k inbox caller le lt. let going : CallsOn (k + 1) (get_or inboxes k inbox) (get_or callers k caller) = on k inbox caller lt in record { own = going.own; same = refl };
+}
+
+told_at : (j k seat : ℕ) (inboxes : List (Outlet (Option Ask))) (olds news : List Caller) (inbox d : Outlet (Option Ask)) (old new e : Caller) → j ≡ k → k < length news → length inboxes ≡ length news → seat ≡ k + 1
+    → inbox ≡ get_or inboxes k inbox → old ≡ get_or news k old → knows (get_or news j e).asks ≡ knows (get_or olds j e).asks → IsEnded seat inbox old new
+    → IsEnded (j + 1) (get_or inboxes j d) (get_or olds j e) (get_or (set news k new) j e)
+told_at j k seat inboxes olds news inbox d old new e here lt each number own is same ended =
+    let place : seat ≡ j + 1 = omega arith in
+    let inside : j < length inboxes = omega arith in
+    let box : inbox ≡ get_or inboxes j d = own ∙ ap (λ (i : ℕ). get_or inboxes i inbox) (sym here) ∙ get_or_default inboxes j inbox d inside in
+    let within : j < length news = omega arith in
+    let was : old ≡ get_or news j e = is ∙ ap (λ (i : ℕ). get_or news i old) (sym here) ∙ get_or_default news j old e within in
+    let now : get_or (set news k new) j e ≡ new = ap (λ (i : ℕ). get_or (set news k new) i e) here ∙ get_or-set_same news k new e lt in record {
+      own = subst (λ (c : Caller). IsPassOf (get_or inboxes j d) c.asks) (sym now) (subst (λ (o : Outlet (Option Ask)). IsPassOf o new.asks) box ended.own);
+      put = ap (λ (c : Caller). knows c.asks) now ∙ ended.put ∙ ap (λ (n : ℕ). with_put n (knows old.asks) (None ∷ [])) place
+          ∙ ap (λ (v : Hand (Option Ask)). with_put (j + 1) v (None ∷ [])) (ap (λ (c : Caller). knows c.asks) was ∙ same);
+    }
+
+pub ended_more : (k seat : ℕ) (inboxes : List (Outlet (Option Ask))) (olds news : List Caller) (inbox : Outlet (Option Ask)) (old new : Caller) → AreEnded k inboxes olds news → k < length olds → seat ≡ k + 1
+    → length inboxes ≡ length olds → inbox ≡ get_or inboxes k inbox → old ≡ get_or news k old → IsEnded seat inbox old new → AreEnded (k + 1) inboxes olds (set news k new)
+ended_more k seat inboxes olds news inbox old new h lt number each own is ended =
+    let size : length news ≡ length olds = h.size in record {
+      size = length-set news k new ∙ size;
+      told = λ j d e less. elim (cases_eq j k) [
+        | inl here ↦
+            let kept : IsKept (get_or inboxes j d) (get_or olds j e) (get_or news j e) = h.kept j d e (omega arith) (omega arith) in
+            told_at j k seat inboxes olds news inbox d old new e here (omega arith) (each ∙ sym size) number own is kept.same ended
+        | inr apart ↦ subst (λ (c : Caller). IsEnded (j + 1) (get_or inboxes j d) (get_or olds j e) c) (sym (get_or-set_other news k j new e apart)) (h.told j d e (omega arith))
+      ];
+      kept = λ j d e le within. subst (λ (c : Caller). IsKept (get_or inboxes j d) (get_or olds j e) c) (sym (get_or-set_other news k j new e (λ here. omega arith))) (h.kept j d e (omega arith) within);
+    }
+
+pub ended_kept : (k : ℕ) (inboxes : List (Outlet (Option Ask))) (olds news : List Caller) (inbox : Outlet (Option Ask)) (old new : Caller) → AreEnded k inboxes olds news → k < length olds
+    → length inboxes ≡ length olds → inbox ≡ get_or inboxes k inbox → old ≡ get_or news k old → IsKept inbox old new → AreEnded k inboxes olds (set news k new)
+ended_kept k inboxes olds news inbox old new h lt each own is stays =
+    let size : length news ≡ length olds = h.size in record {
+      size = length-set news k new ∙ size;
+      told = λ j d e less. subst (λ (c : Caller). IsEnded (j + 1) (get_or inboxes j d) (get_or olds j e) c) (sym (get_or-set_other news k j new e (λ here. omega arith))) (h.told j d e less);
+      kept = λ j d e le within. elim (cases_eq j k) [
+        | inl here ↦
+            let before : IsKept (get_or inboxes j d) (get_or olds j e) (get_or news j e) = h.kept j d e le within in
+            let inside : j < length inboxes = omega arith in
+            let box : inbox ≡ get_or inboxes j d = own ∙ ap (λ (i : ℕ). get_or inboxes i inbox) (sym here) ∙ get_or_default inboxes j inbox d inside in
+            let there : j < length news = omega arith in
+            let was : old ≡ get_or news j e = is ∙ ap (λ (i : ℕ). get_or news i old) (sym here) ∙ get_or_default news j old e there in
+            let now : get_or (set news k new) j e ≡ new = ap (λ (i : ℕ). get_or (set news k new) i e) here ∙ get_or-set_same news k new e (omega arith) in record {
+              own = subst (λ (c : Caller). IsPassOf (get_or inboxes j d) c.asks) (sym now) (subst (λ (o : Outlet (Option Ask)). IsPassOf o new.asks) box stays.own);
+              same = ap (λ (c : Caller). knows c.asks) now ∙ stays.same ∙ ap (λ (c : Caller). knows c.asks) was ∙ before.same;
+            }
+        | inr apart ↦ subst (λ (c : Caller). IsKept (get_or inboxes j d) (get_or olds j e) c) (sym (get_or-set_other news k j new e apart)) (h.kept j d e le within)
+      ];
+    }
+
+-- one seat's caller changes
+at_place : (k : ℕ) (inboxes : List (Outlet (Option Ask))) (olds : List Caller) (inbox : Outlet (Option Ask)) (new : Caller) (P : ℕ → Outlet (Option Ask) → Caller → Type 0) → k < length olds → length inboxes ≡ length olds
+    → inbox ≡ get_or inboxes k inbox → EachSeat P inboxes olds → P (k + 1) inbox new → EachSeat P inboxes (set olds k new)
+at_place k inboxes olds inbox new P lt each own all here = λ j d e less.
+    let size : length (set olds k new) ≡ length olds = length-set olds k new in
+    elim (cases_eq j k) [
+      | inl same ↦
+          let inside : j < length inboxes = omega arith in
+          let box : inbox ≡ get_or inboxes j d = own ∙ ap (λ (i : ℕ). get_or inboxes i inbox) (sym same) ∙ get_or_default inboxes j inbox d inside in
+          let now : get_or (set olds k new) j e ≡ new = ap (λ (i : ℕ). get_or (set olds k new) i e) same ∙ get_or-set_same olds k new e lt in
+          subst (λ (c : Caller). P (j + 1) (get_or inboxes j d) c) (sym now) (subst (λ (o : Outlet (Option Ask)). P (j + 1) o new) box (subst (λ (i : ℕ). P (i + 1) inbox new) (sym same) here))
+      | inr apart ↦ subst (λ (c : Caller). P (j + 1) (get_or inboxes j d) c) (sym (get_or-set_other olds k j new e apart)) (all j d e (omega arith))
+    ]
+
+pub owns_at : (k : ℕ) (inboxes : List (Outlet (Option Ask))) (olds : List Caller) (inbox : Outlet (Option Ask)) (new : Caller) → k < length olds → length inboxes ≡ length olds
+    → inbox ≡ get_or inboxes k inbox → EachSeat CallsOn inboxes olds → IsPassOf inbox new.asks → EachSeat OwnsInbox inboxes (set olds k new)
+owns_at k inboxes olds inbox new lt each own on here =
+    at_place k inboxes olds inbox new OwnsInbox lt each own (λ j d e less. let going : CallsOn (j + 1) (get_or inboxes j d) (get_or olds j e) = on j d e less in going.own) here
+
+pub on_at : (k seat : ℕ) (inboxes : List (Outlet (Option Ask))) (olds : List Caller) (inbox : Outlet (Option Ask)) (old new : Caller) (signs : List (Option ℕ)) → k < length olds → length inboxes ≡ length olds
+    → inbox ≡ get_or inboxes k inbox → seat ≡ k + 1 → EachSeat CallsOn inboxes olds → IsPassOf inbox new.asks → MayPush (knows old.asks) seat → Takes seat old new signs → EachSeat CallsOn inboxes (set olds k new)
+on_at k seat inboxes olds inbox old new signs lt each own number on here may takes =
+    at_place k inboxes olds inbox new CallsOn lt each own on (record {
+      own = here;
+      may = subst (λ (n : ℕ). MayPush (knows new.asks) n) number (may-put seat seat (knows old.asks) (knows new.asks) (map Some takes.asks) takes.put may);
+      waits = takes.waits;
+    })
+
+pub does_at : (P : Caller → Caller → Type 0) (k : ℕ) (olds : List Caller) (old new : Caller) → k < length olds → old ≡ get_or olds k old → P old new → DoesAt P k olds (set olds k new)
+does_at P k olds old new lt is h = record {
+  size = length-set olds k new;
+  here = λ e. subst (λ (c : Caller). P (get_or olds k e) c) (sym (get_or-set_same olds k new e lt)) (subst (λ (c : Caller). P c new) (is ∙ get_or_default olds k old e lt) h);
+  others = λ j e apart. get_or-set_other olds k j new e apart;
+}
+
+pub does_first : (seat k : ℕ) (signs : List (Option ℕ)) (olds news : List Caller) → DoesAt (λ old new. Takes seat old new signs) k olds news → DoesAt (λ old new. TakesFirst seat old new signs) k olds news
+does_first seat k signs olds news d = record { size = d.size; here = λ e. First-all seat (get_or olds k e) (get_or news k e) signs (d.here e); others = d.others }
+
 -- each seat was told the end
 put_end : (most seat : ℕ) (frames : List Frame) (inbox other : Outlet (Option Ask)) (old new : Caller) → Calls most frames seat inbox old → Waits (stand_of old) → IsEnded seat other old new → HasPutAll most frames seat other new
 put_end most seat frames inbox other old new h waits ended = record {
   own = ended.own;
   asks = h.asks;
   asked = subst (λ (l : List (Option ℕ)). SeatAsks (first_place most) l h.asks) (append-nil (signs_of seat frames))
-  (subst (λ (l : List Ask). SeatAsks (first_place most) (signs_of seat frames ++ []) l) (append-nil h.asks) (h.come [] [] (nothing_more old.queries old.begun.items old.left waits)));
+      (subst (λ (l : List Ask). SeatAsks (first_place most) (signs_of seat frames ++ []) l) (append-nil h.asks) (h.come [] [] (nothing_more old.queries old.begun.items old.left waits)));
   put = ended.put ∙ ap (λ (v : Hand (Option Ask)). with_put seat v (None ∷ [])) h.put
-  ∙ ap (λ (l : List (Came (Option Ask))). let w : Hand (Option Ask) = record sender { sent = l } in w)
-  (sym (map-append (λ (what : Option Ask). let c : Came (Option Ask) = record { session = seat; what = what } in c) (map Some h.asks) (None ∷ [])));
+      ∙ ap (λ (l : List (Came (Option Ask))). let w : Hand (Option Ask) = record sender { sent = l } in w)
+      (sym (map-append (λ (what : Option Ask). let c : Came (Option Ask) = record { session = seat; what = what } in c) (map Some h.asks) (None ∷ [])));
 }
 
 pub ended_all : (most : ℕ) (frames : List Frame) (inboxes : List (Outlet (Option Ask))) (olds news : List Caller) → EachSeat (Calls most frames) inboxes olds → EachSeat CallsOn inboxes olds
@@ -313,3 +409,23 @@ Told-some most n a inboxes olds news (Err Failed) other h on ended = record {
   asked = ended_some most n h.frames inboxes olds news h.asked on ended;
 }
 Told-some most n a inboxes olds news (Err Memory) other h on ended = absurd (other refl)
+
+pub Told-done : (most : ℕ) (a : Option (List ℕ)) (inboxes : List (Outlet (Option Ask))) (olds news : List Caller) (r : Result (Option FrameFault) NoFrame) → ReadsTo r most a inboxes olds
+    → EachSeat CallsOn inboxes olds → AreEnded (length olds) inboxes olds news → IfOk r (λ fault. HasReadAll most a inboxes news fault)
+Told-done most a inboxes olds news (Ok fault) h on ended = Told-all most a inboxes olds news fault h on ended
+Told-done most a inboxes olds news (Err none) h on ended = tt
+
+pub Told-failed : (most : ℕ) (a : Option (List ℕ)) (inboxes : List (Outlet (Option Ask))) (olds news : List Caller) (r : Result (Option FrameFault) NoFrame) → r ≡ Err Failed → ReadsTo r most a inboxes olds
+    → EachSeat CallsOn inboxes olds → AreEnded (length olds) inboxes olds news → HasReadFirst most a inboxes news
+Told-failed most a inboxes olds news r e h on ended =
+    Told-first most a inboxes olds news (subst (λ (x : Result (Option FrameFault) NoFrame). ReadsTo x most a inboxes olds) e h) on ended
+
+-- by why no frame came
+pub Turns-none : (most at : ℕ) (a b c : Option (List ℕ)) (inboxes : List (Outlet (Option Ask))) (callers : List Caller) (none : NoFrame) → Reads most at a b inboxes callers → EachSeat CallsOn inboxes callers
+    → TurnsInto (Err none) most at a c inboxes callers
+Turns-none most at a b c inboxes callers Failed h on = Reads-first most at a b inboxes callers h
+Turns-none most at a b c inboxes callers Memory h on = Reads-refused most at a b inboxes callers h on
+
+pub Turns-to : (most at : ℕ) (a b : Option (List ℕ)) (inboxes : List (Outlet (Option Ask))) (callers : List Caller) (none : NoFrame) → TurnsInto (Err none) most at a b inboxes callers → ReadsTo (Err none) most a inboxes callers
+Turns-to most at a b inboxes callers Failed h = h
+Turns-to most at a b inboxes callers Memory h = h

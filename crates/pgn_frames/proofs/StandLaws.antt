@@ -1,7 +1,8 @@
 -- How a reader goes on from where it stands with a seat: by bytes, by a query, by a client's end.
-use Rattle.std.proofs.Common.{◌≡◌, ℕ, ◌+◌, ◌-◌, ◌<◌, ◌⊎◌, Bool, true, false, List, [], ◌∷◌, ◌++◌, length, drop, Option, Some, None, sym, ap, ◌∙◌, subst, refl, arith, inl, inr, append_assoc, append-nil}
+use Rattle.std.proofs.Common.{◌≡◌, ℕ, ◌+◌, ◌-◌, ◌<◌, Bool, true, false, List, [], ◌∷◌, ◌++◌, length, drop, Option, Some, None, sym, ap, ◌∙◌, subst, refl, arith, inl, inr, append_assoc, append-nil, cond, zero-add}
 use Rattle.std.specs.Prelude.{map}
 use Rattle.std.proofs.lemmas.List.{map-append, length-append}
+use Rattle.std.proofs.lemmas.List.Sums.{sum_by-append}
 use lib.Seq.{drop-append_seam}
 use Rattle.pgn_base.specs.declared.command.Command.{Command}
 use Rattle.pgn_base.specs.declared.command.Command.TheVariants.{Bad}
@@ -16,19 +17,19 @@ use Rattle.pgn_queries.specs.declared.coming.Coming.TheVariants.{Query, Fault}
 use Rattle.pgn_queries.specs.Client as client
 use Rattle.pgn_queries.specs.Client.{BodyIs, IsText, NextIs, QueryIs, TerminateIs, body_of}
 use Rattle.pgn_queries.specs.Queries as queries
-use Rattle.pgn_queries.specs.Queries.{AreTooMany, IsLineOf, TookQuery, Place, QueriesAre, after_query}
+use Rattle.pgn_queries.specs.Queries.{AreTooMany, IsLineOf, Place, QueriesAre, TookQuery, after_query, note_of}
 use Rattle.pgn_queries.proofs.OneLaws.{terminate_asks_nothing}
 use Rattle.pgn_turns.specs.declared.asked.Ask.{Ask}
 use Rattle.pgn_turns.specs.declared.asked.Ask.TheVariants as ask
 use Rattle.pgn_turns.specs.declared.asked.Parting.{Parting}
-use Rattle.pgn_turns.specs.declared.asked.Parting.TheVariants.{Plain, Refused, Spent}
+use Rattle.pgn_turns.specs.declared.asked.Parting.TheVariants.{Refused, Spent}
 use Rattle.pgn_frames.specs.Clients as clients
 use Rattle.pgn_frames.specs.Clients.{ClientAsks, Close, Open, Left, Faulty, SeatAsks, asks_for, last_end, next_client, next_line, parting_of}
 use Rattle.pgn_frames.specs.Callers as callers
 use Rattle.pgn_frames.specs.Callers.{AskBehind, AskFrom, AskOn, HasCome, IsCut, IsUnfinished, Stand, behind_end, parting_behind, parting_by}
 use Rattle.pgn_frames.specs.Laws.{IsTold}
 use Rattle.pgn_frames.proofs.AskLaws.{cut, each_is_asked, no_query_end}
-use Rattle.pgn_frames.proofs.MoreLaws.{behind, more_may_follow, terminate_more}
+use Rattle.pgn_frames.proofs.MoreLaws.{more_may_follow, terminate_more}
 
 -- signs ask something there
 asks_from : (left : Bool) (place : Place) (begun : List ℕ) (signs : List (Option ℕ)) → (others : List Ask) × AskFrom left place begun signs others
@@ -139,6 +140,8 @@ next_same : (place : Place) (size : ℕ) (line : ScriptLine) (lines : List Scrip
 next_same place size line lines =
     let after : Place = after_query place size line.act in
     let count : after.queries + length lines + 2 ≡ place.queries + length (line ∷ lines) + 2 = omega arith in
+    let sum : note_lines_of (line ∷ lines) ≡ note_lines_of (line ∷ []) + note_lines_of lines = sum_by-append (λ (l : ScriptLine). cond (is_note_act l.act) 1 0) (line ∷ []) lines in
+    let one : note_lines_of (line ∷ []) ≡ note_of line.act = zero-add (note_of line.act) in
     let notes : after.notes + note_lines_of lines ≡ place.notes + note_lines_of (line ∷ lines) = omega arith in
     ap (λ (n : ℕ). let p : Place = record { at = 0; queries = n; notes = after.notes + note_lines_of lines; most = place.most } in p) count
     ∙ ap (λ (n : ℕ). let p : Place = record { at = 0; queries = place.queries + length (line ∷ lines) + 2; notes = n; most = place.most } in p) notes

@@ -57,14 +57,16 @@ pub(crate) fn is_cut(bytes: &[u8]) -> bool
 }
 
 // Whether the bytes of a Query, whose length is there, end inside its body.
-#[tactic(auto, using(crate::proofs::CutLaws::body_laws))]
 fn is_cut_body(bytes: &[u8]) -> bool
     requires head { 5 ≤ length bytes.now }
     requires letter { slice_index bytes.now 0 ≡ query_letter }
     ensures { IsTrue result → IsCut bytes.now }
 {
     let len = length_of(bytes);
-    QUERY_LENGTH_MIN <= len && len <= QUERY_LENGTH_MAX && bytes.len() <= len as usize
+    if len < QUERY_LENGTH_MIN || len > QUERY_LENGTH_MAX {
+        return false;
+    }
+    bytes.len() <= len as usize
 }
 
 // The length that stands behind a message's letter.
@@ -83,7 +85,11 @@ pub(crate) fn asked_of(line: ScriptLine) -> Asked
 {
     let ScriptLine { line, text, act } = line;
     match act {
-        Act::Run(command) => Asked { line, text, command },
+        Act::Run(command) => Asked {
+            line,
+            text,
+            command,
+        },
         _ => unreachable!(),
     }
 }

@@ -105,7 +105,16 @@ fn read_one<H: Hub, R: Wait, S: Source>(
     ensures rose { S.faults source.old < S.faults source.new → result ≡ Err NoFrame.Failed }
 {
     match next_frame(source, callers.len() as u16, *at, body) {
-        Ok(Arrival::Frame(seat)) => match take_frame(rt, alloc, hub, inboxes, callers, seat, at, body.as_slice()) {
+        Ok(Arrival::Frame(seat)) => match take_frame(
+            rt,
+            alloc,
+            hub,
+            inboxes,
+            callers,
+            seat,
+            at,
+            body.as_slice(),
+        ) {
             Ok(()) => Ok(None),
             Err(AllocError) => Err(NoFrame::Memory),
         },
@@ -137,17 +146,39 @@ fn take_frame<H: Hub, R: Wait>(
     ensures takes { OnOk result (DoesAt (λ old new. Takes seat old new (signs_in bytes.now)) (seat - 1) callers.old callers.new) }
     ensures first { OnErr result (DoesAt (λ old new. TakesFirst seat old new (signs_in bytes.now)) (seat - 1) callers.old callers.new) }
 {
-    let k = usize::from(seat) - 1;
-    let taken = take_signs(rt, alloc, &inboxes[k], SessionNo::new(u32::from(seat)), &mut callers[k], bytes);
-    hub.ring(k as u32);
+    take_at(rt, alloc, inboxes, callers, seat, bytes)?;
+    hub.ring(u32::from(seat) - 1);
     let Some(next) = at.checked_add(4 + bytes.len() as u64) else {
         return Err(AllocError);
     };
-    *at = next;
     if hub.is_called_off() {
         return Err(AllocError);
     }
-    taken
+    *at = next;
+    Ok(())
+}
+
+// Takes a frame of this seat.
+fn take_at<R: Wait>(
+    rt: &R,
+    alloc: Global,
+    inboxes: &[Outlet<Option<Ask>>],
+    callers: &mut [Caller],
+    seat: u16,
+    bytes: &[u8],
+) -> Result<(), AllocError>
+    requires each { length inboxes.now ≡ length callers.old }
+    requires few { length callers.old ≤ 256 }
+    requires on { EachSeat CallsOn inboxes.now callers.old }
+    requires seat { IsSeat (length callers.old) seat }
+    ensures own { EachSeat OwnsInbox inboxes.now callers.new }
+    ensures on { OnOk result (EachSeat CallsOn inboxes.now callers.new) }
+    ensures takes { OnOk result (DoesAt (λ old new. Takes seat old new (signs_in bytes.now)) (seat - 1) callers.old callers.new) }
+    ensures first { OnErr result (DoesAt (λ old new. TakesFirst seat old new (signs_in bytes.now)) (seat - 1) callers.old callers.new) }
+{
+    let k = usize::from(seat) - 1;
+    let number = SessionNo::new(u32::from(seat));
+    take_signs(rt, alloc, &inboxes[k], number, &mut callers[k], bytes)
 }
 
 // Tells each seat that nothing more will be asked.
@@ -165,7 +196,14 @@ fn tell_end<H: Hub, R: Wait>(
     ensures first { OnErr result ((n : ℕ) × (n ≤ length callers.old) × AreEnded n inboxes.now callers.old callers.new) }
 {
     for k in 0..callers.len() {
-        if tell_one(rt, &inboxes[k], SessionNo::new(k as u32 + 1), &mut callers[k]).is_err() {
+        if tell_one(
+            rt,
+            &inboxes[k],
+            SessionNo::new(k as u32 + 1),
+            &mut callers[k],
+        )
+        .is_err()
+        {
             return Err(AllocError);
         }
         hub.ring(k as u32);
@@ -185,5 +223,12 @@ fn tell_one<R: Wait>(
     ensures ended { OnOk result (IsEnded seat inbox.now caller.old caller.new) }
     ensures kept { OnErr result (IsKept inbox.now caller.old caller.new) }
 {
-    inbox.push(rt, &mut caller.asks, Came { session: seat, what: None })
+    inbox.push(
+        rt,
+        &mut caller.asks,
+        Came {
+            session: seat,
+            what: None,
+        },
+    )
 }

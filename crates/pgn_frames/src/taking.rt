@@ -104,7 +104,14 @@ fn part<R: Wait>(
         return Err(AllocError);
     };
     let end = Ask::End { line, parting };
-    inbox.push(rt, &mut caller.asks, Came { session: seat, what: Some(end) })
+    inbox.push(
+        rt,
+        &mut caller.asks,
+        Came {
+            session: seat,
+            what: Some(end),
+        },
+    )
 }
 
 // Takes bytes behind those of a message that has begun.
@@ -280,7 +287,14 @@ fn put_query<R: Wait>(
     ensures left { caller.new.left ≡ caller.old.left }
 {
     let query = Ask::Query(asked_of(line));
-    inbox.push(rt, &mut caller.asks, Came { session: seat, what: Some(query) })
+    inbox.push(
+        rt,
+        &mut caller.asks,
+        Came {
+            session: seat,
+            what: Some(query),
+        },
+    )
 }
 
 // A seat's client leaves by a message at the front of these bytes, with all of them.

@@ -1,6 +1,7 @@
 -- What the arms of a service come to.
-use Rattle.std.proofs.Common.{◌≡◌, ℕ, Bool, true, ◌+◌, ◌<◌, ◌≤◌, cond, List, [], ◌∷◌, ◌++◌, length, flat_map, get_or, map, All, Option, Some, None, IfSome, Result, Ok, Err, OnOk, ◌==◌, sym, ap, ◌∙◌, refl, subst, arith, append-nil, append_assoc}
+use Rattle.std.proofs.Common.{◌≡◌, ℕ, Bool, true, false, ◌+◌, ◌<◌, ◌≤◌, cond, List, [], ◌∷◌, ◌++◌, length, flat_map, get_or, map, All, Option, Some, None, IfSome, IfOk, ◌⊎◌, Result, Ok, Err, OnOk, ◌==◌, sym, ap, ◌∙◌, refl, subst, arith, append-nil, append_assoc}
 use Rattle.std.specs.List.{AllZip}
+use Rattle.std.specs.Io.KnownBytes.{Appends}
 use Rattle.std.proofs.lemmas.Grind.{flat_map-append}
 use Rattle.std.proofs.lemmas.List.Elements.{All-nil, All-append, All-weaker}
 use Rattle.std.specs.declared.alloc.AllocError.{AllocError}
@@ -30,10 +31,12 @@ use Rattle.pgn_frames.specs.declared.caller.Caller.{Caller}
 use Rattle.pgn_frames.specs.declared.framing.NoFrame.TheVariants as none
 use Rattle.pgn_frames.specs.Clients.{ClientAsks, Open, SeatAsks}
 use Rattle.pgn_frames.specs.Frames.{Frame, FramesAre, IsFrame, frame_bytes, signs_in, signs_of}
-use Rattle.pgn_frames.specs.Reading.{AreFirstFrames, HasPutFirst, HasRead, IsNewCaller, IsStillCaller, MayCall, put}
+use Rattle.pgn_frames.specs.declared.frame_fault.FrameFault.{FrameFault}
+use Rattle.pgn_frames.specs.declared.framing.NoFrame.{NoFrame}
+use Rattle.pgn_frames.specs.Reading.{AreFirstFrames, Begins, HasPutFirst, HasReadAll, HasReadFirst, HasReadSome, MayCall, OfMost}
 use Rattle.pgn_frames.specs.Writing.{Carry, Wrote}
 use Rattle.pgn_frames.proofs.FrameLaws.{each_has_frames}
-use Rattle.pgn_run.specs.Arms.{CarryAll, HasReadBy, HasToldBy, HasWrittenRest, with_over}
+use Rattle.pgn_run.specs.Arms.{CarryAll, HasRead, HasReadBy, HasToldBy, HasWrittenRest, with_over}
 use Rattle.pgn_run.specs.Service.{over_frame}
 
 -- Nothing was read.
@@ -47,38 +50,42 @@ first-of seats (Some all) =
 asked-nothing : (most : ℕ) → SeatAsks (first_place most) [] []
 asked-nothing most = SeatAsks.Last (first_place most) [] [] [] Open refl (ClientAsks.Stops (first_place most) [] refl)
 
-still-caller : (most : ℕ) (inbox : Outlet (Option Ask)) (caller : Caller) → IsNewCaller most inbox caller → IsStillCaller inbox caller
-still-caller most inbox caller h = record {
+put-nothing : (most seat : ℕ) (inbox : Outlet (Option Ask)) (caller : Caller) → Begins most seat inbox caller → HasPutFirst most [] seat inbox caller
+put-nothing most seat inbox caller h = record {
   own = h.own;
-  same = h.unused ∙ ap (λ (v : Hand (Option Ask)). let w : Hand (Option Ask) = record sender { sent = v.sent } in w) (sym h.unused);
-}
-
-put-nothing : (most seat : ℕ) (v : Hand (Option Ask)) → v ≡ sender → HasPutFirst most [] (put seat v)
-put-nothing most seat v unused = record {
   asks = [];
   asked = asked-nothing most;
+  now = [];
   others = None ∷ [];
-  first = ap (λ (v : Hand (Option Ask)). what_of seat v.sent ++ None ∷ []) (sym unused);
+  first = refl;
+  put = h.unused;
 }
-
--- there is an inbox
-an-inbox : (inboxes : List (Outlet (Option Ask))) (k : ℕ) (c : Caller) → 0 < length inboxes → Outlet (Option Ask)
-an-inbox [] k c some = absurd (omega (arith, some))
-an-inbox (inbox ∷ inboxes) k c some = inbox
 
 pub nothing-read : {S : Type 0} (left : S → Option (List ℕ)) (faults : S → ℕ) (inboxes : List (Outlet (Option Ask))) (callers : List Caller) (source : S) → HasReadBy left faults inboxes callers callers source source (Err none.Memory)
 nothing-read left faults inboxes callers source = record {
   read = λ most may. record {
     frames = [];
     are = first-of (length callers) (left source);
-    own = λ k o c lt. still-caller most (get_or inboxes k o) (get_or callers k c) (may.begins k o c lt);
-    asked = λ k c lt. put-nothing most (k + 1) (knows (get_or callers k c).asks) (may.begins k (an-inbox inboxes k c (omega (arith, may.each, lt))) c lt).unused;
+    asked = λ k inbox caller lt. put-nothing most (k + 1) (get_or inboxes k inbox) (get_or callers k caller) (may.begin k inbox caller lt);
   };
   count = refl;
   later = omega arith;
   failed = λ e. absurd (let bad : Err none.Memory ≡ Err none.Failed = e in cc);
   rose = λ lt. absurd (omega (arith, lt));
 }
+
+-- what was read, by how it ended
+pub read-by : {S : Type 0} (left : S → Option (List ℕ)) (faults : S → ℕ) (inboxes : List (Outlet (Option Ask))) (old new : List Caller) (source source_now : S) (res : Result (Option FrameFault) NoFrame)
+    → OfMost inboxes old (λ most. IfOk res (λ fault. HasReadAll most (left source) inboxes new fault)) → OfMost inboxes old (λ most. res ≡ Err none.Failed → HasReadFirst most (left source) inboxes new)
+    → OfMost inboxes old (λ most. res ≡ Err none.Memory → HasReadSome most (left source) inboxes new) → length new ≡ length old → faults source ≤ faults source_now → (res ≡ Err none.Failed → Rose (faults source) (faults source_now))
+    → (faults source < faults source_now → (res ≡ Err none.Failed) ⊎ (res ≡ Err none.Memory)) → HasReadBy left faults inboxes old new source source_now res
+read-by left faults inboxes old new source source_now res done first some count later failed rose = record { read = λ most may. at most res (done most may) (first most may) (some most may); count = count; later = later; failed = failed; rose = rose }
+  where
+    at : (most : ℕ) (r : Result (Option FrameFault) NoFrame) → IfOk r (λ fault. HasReadAll most (left source) inboxes new fault) → (r ≡ Err none.Failed → HasReadFirst most (left source) inboxes new) → (r ≡ Err none.Memory → HasReadSome most (left source) inboxes new)
+        → HasRead most (left source) inboxes new r
+    at most (Ok fault) d f m = d
+    at most (Err none.Failed) d f m = f refl
+    at most (Err none.Memory) d f m = m refl
 
 pub ruleset read_laws = (nothing-read)
 
@@ -182,4 +189,24 @@ module _ {S : Type 0} (held : S → Option (List ℕ)) (faults : S → ℕ) wher
       puts : Puts held faults s₀ o₀ s₂ r.out_now (with_over over (f.frames ++ r.outs))
       puts = Puts-same {held = held} {faults = faults} text (Puts-trans f.puts r.puts)
 
+none-written : (held : Option (List ℕ)) → Appends held held []
+none-written None = tt
+none-written (Some xs) = sym (append-nil xs)
+
+-- nothing was told
+pub told-nothing : {P S : Type 0} (held : S → Option (List ℕ)) (faults : S → ℕ) (is_own : P → Type 0) (shape : Shape) (known : P → Known) (inboxes : List (Outlet (Option Ask))) (desks : List (Desk P)) (sink : S) (e : AllocError)
+    → MayServe is_own shape known inboxes desks sender → HasToldBy is_own shape known inboxes desks desks held faults sink sink (Ok tt, Err e)
+told-nothing held faults is_own shape known inboxes desks sink e may = record {
+  after = sender;
+  ran = nothing-served is_own shape known inboxes desks sender e may;
+  outs = [];
+  carry = record { can_be_written = All-nil (IsFrame 256); signs = λ seat may_push. refl };
+  over = false;
+  refused = λ bad. absurd (cc);
+  writes = none-written (held sink);
+  cause = record { later = omega arith; failed = tt; passed = refl };
+}
+
 pub ruleset wrote_laws = (wrote-none)
+
+pub ruleset told_laws = (told-nothing)

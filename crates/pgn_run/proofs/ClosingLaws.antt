@@ -7,7 +7,9 @@ use Rattle.std.proofs.lemmas.Bool.{cases_lt}
 use Rattle.std.proofs.lemmas.Grind.{flat_map-append}
 use Rattle.std.proofs.lemmas.List.{map-append}
 use Rattle.std.proofs.Math.Seq.{drop-cons}
-use Rattle.std.proofs.lemmas.List.Elements.{All-head, All-tail, length_all_zip}
+use Rattle.std.proofs.lemmas.List.Elements.{All-cons, All-head, All-map, All-nil, All-same, All-tail, length_all_zip}
+use Rattle.pgn_hub.specs.Gathered.{Gathered}
+use Rattle.pgn_hub.specs.Passes.{IsWithin}
 use Rattle.pgn_hub.specs.declared.known.Known.{Known}
 use Rattle.pgn_hub.specs.Shape.{Shape}
 use Rattle.pgn_language.specs.declared.scenario.ScriptLine.{ScriptLine}
@@ -29,16 +31,36 @@ use Rattle.pgn_frames.specs.declared.caller.Caller.{Caller}
 use Rattle.pgn_frames.specs.declared.frame_fault.FrameFault.{FrameFault}
 use Rattle.pgn_frames.specs.declared.framing.NoFrame.{NoFrame}
 use Rattle.pgn_frames.specs.declared.framing.NoFrame.TheVariants as none
-use Rattle.pgn_frames.specs.Reading.{HasRead, IsStillCaller}
-use Rattle.pgn_run.specs.Closing.{AreOver, HasTakenFirst, HasTakenRest, HaveTakenFirst, MayClose, MayCloseAll}
+use Rattle.pgn_frames.specs.Reading.{HasPutAll, HasPutFirst}
+use Rattle.pgn_outlet.specs.Rule.{sender}
+use Rattle.pgn_run.specs.Arms.{HasRead}
+use Rattle.pgn_run.specs.Closing.{AreOver, HasGathered, HasTakenFirst, HasTakenRest, HaveTakenFirst, MayClose, MayCloseAll}
 use Rattle.pgn_run.specs.Seats.{AreGiven, IsGiven, service_plan}
 use Rattle.pgn_run.specs.Service.{seat_section}
 use Rattle.pgn_run.proofs.SeatingLaws.{given-at}
 
 -- One inbox.
 
-pub no-rest : {T : Type 0} (v w : Hand T) → w ≡ v → HasAll w → HasTakenRest v w
-no-rest {T} v w e all = record { more = []; got = e ∙ ap (λ (l : List (Came T)). let x : Hand T = record v { got = l } in x) (sym (append-nil v.got)); all = all }
+-- a pass has taken more
+pub record HasTakenMore {T : Type 0} (old new : Hand T) : Type 0 where
+  pub more : List (Came T)
+  pub got : new ≡ record old { got = old.got ++ more }
+
+pub no-more : {T : Type 0} (v : Hand T) → HasTakenMore v v
+no-more {T} v = record { more = []; got = ap (λ (l : List (Came T)). let x : Hand T = record v { got = l } in x) (sym (append-nil v.got)) }
+
+pub one-more : {T : Type 0} (v w x : Hand T) (came : Came T) → HasTakenMore v w → x ≡ with_got w came → HasTakenMore v x
+one-more {T} v w x came h e = record {
+  more = h.more ++ came ∷ [];
+  got = e ∙ ap (λ (y : Hand T). let z : Hand T = record y { got = y.got ++ came ∷ [] } in z) h.got ∙ ap (λ (l : List (Came T)). let z : Hand T = record v { got = l } in z) (append_assoc v.got h.more (came ∷ []));
+}
+
+pub no-rest : {T : Type 0} (v w x : Hand T) → HasTakenMore v w → x ≡ w → HasAll x → HasTakenRest v x
+no-rest v w x h e all = record { more = h.more; got = e ∙ h.got; all = all }
+
+-- it may take still
+pub takes-still : {T : Type 0} (v w : Hand T) → v.takes ≡ true → HasTakenMore v w → w.takes ≡ true
+takes-still v w takes h = ap (λ (x : Hand _). x.takes) h.got ∙ takes
 
 -- the first of what a pass has put, where another took over what the taker had taken, and then took all
 pub taken-first : {T : Type 0} (v t c w : Hand T) → c ≡ taken_over v t → HasTakenRest c w → HasTakenFirst v t
@@ -138,14 +160,22 @@ given-still seats n (x ∷ old) (y ∷ new) same given = (given-same seats n x.s
 pub same-count : {P : Type 0} (old new : List (Desk P)) → AreSameClients old new → length new ≡ length old
 same-count {P} old new same = sym (length_all_zip (λ (x y : Desk P). IsSameClient x.session y.session) old new same)
 
-pub still-callers : (most : ℕ) (bytes : Option (List ℕ)) (callers : List Caller) (boxes : List (Outlet (Option Ask))) (res : Result (Option FrameFault) NoFrame) → HasRead most bytes callers boxes res
+-- the pass by which a caller puts is its inbox's, and may put still
+pub record IsStillCaller (inbox : Outlet (Option Ask)) (caller : Caller) : Type 0 where
+  pub own : IsPassOf inbox caller.asks
+  pub same : knows caller.asks ≡ record sender { sent = (knows caller.asks).sent }
+
+still : (sent : List (Came (Option Ask))) (v : Hand (Option Ask)) → v ≡ record sender { sent = sent } → v ≡ record sender { sent = v.sent }
+still sent v e = e ∙ ap (λ (l : List (Came (Option Ask))). let w : Hand (Option Ask) = record sender { sent = l } in w) (sym (ap (λ (w : Hand (Option Ask)). w.sent) e))
+
+pub still-callers : (most : ℕ) (bytes : Option (List ℕ)) (callers : List Caller) (boxes : List (Outlet (Option Ask))) (res : Result (Option FrameFault) NoFrame) → HasRead most bytes boxes callers res
     → (k : ℕ) (o : Outlet (Option Ask)) (c : Caller) → k < length callers → IsStillCaller (get_or boxes k o) (get_or callers k c)
-still-callers most bytes callers boxes (Ok fault) h = h.own
-still-callers most bytes callers boxes (Err none.Failed) h = h.own
-still-callers most bytes callers boxes (Err none.Memory) h = h.own
+still-callers most bytes callers boxes (Ok fault) h k o c lt = let one = h.asked k o c lt in record { own = one.own; same = still _ (knows (get_or callers k c).asks) one.put }
+still-callers most bytes callers boxes (Err none.Failed) h k o c lt = let one = h.asked k o c lt in record { own = one.own; same = still _ (knows (get_or callers k c).asks) one.put }
+still-callers most bytes callers boxes (Err none.Memory) h k o c lt = let one = h.asked k o c lt in record { own = one.own; same = still _ (knows (get_or callers k c).asks) one.put }
 
 pub may-close : {P : Type 0} (seats most : ℕ) (shape : Shape) (bytes : Option (List ℕ)) (boxes : List (Outlet (Option Ask))) (desks : List (Desk P)) (callers : List Caller) (v : Hand Saying) (res : Result (Option FrameFault) NoFrame)
-    → length boxes ≡ seats → length desks ≡ seats → length callers ≡ seats → AreGiven seats 1 desks → All (λ desk. HasToldFirst shape boxes desk v) desks → HasRead most bytes callers boxes res → MayCloseAll boxes desks callers
+    → length boxes ≡ seats → length desks ≡ seats → length callers ≡ seats → AreGiven seats 1 desks → All (λ desk. HasToldFirst shape boxes desk v) desks → HasRead most bytes boxes callers res → MayCloseAll boxes desks callers
 may-close {P} seats most shape bytes boxes desks callers v res b d c given told read = record {
   desk_count = d ∙ sym b;
   caller_count = c ∙ sym b;
@@ -174,4 +204,31 @@ module _ {P : Type 0} (is_own : P → Type 0) (shape : Shape) (known : P → Kno
   are-over desks d s given served = record {
     own = λ k e lt. (served k e lt).own;
     order = in-order 1 desks given served ∙ ap (λ (n : ℕ). range_with_len 1 n) (d ∙ sym s);
+  }
+
+-- The passes that are gathered.
+
+twice : {A B C : Type 0} (f : B → C) (g : A → B) (xs : List A) → map f (map g xs) ≡ map (λ x. f (g x)) xs
+twice f g [] = refl
+twice {C = C} f g (x ∷ xs) = ap (λ (l : List C). f (g x) ∷ l) (twice f g xs)
+
+of-map : {A B : Type 0} (Q : B → Type 0) (f : A → B) (xs : List A) → All Q (map f xs) → All (λ x. Q (f x)) xs
+of-map {A} Q f [] h = All-nil (λ (x : A). Q (f x))
+of-map {A} Q f (x ∷ xs) h = All-cons (λ (y : A). Q (f y)) x xs (All-head Q (f x) (map f xs) h) (of-map Q f xs (All-tail Q (f x) (map f xs) h))
+
+module _ {P : Type 0} (known : P → Known) (desks : List (Desk P)) (passes : List P) (is : passes ≡ map (λ desk. desk.session.pass) desks) where
+  pub own-all : (is_own : P → Type 0) (shape : Shape) (r : Result Unit AllocError) → OnOk r (AreOver is_own shape known desks) → OnOk r (All is_own passes)
+  own-all is_own shape (Err x) h = tt
+  own-all is_own shape (Ok x) h = All-same is_own passes (map (λ (desk : Desk P). desk.session.pass) desks) is (All-map is_own (λ (desk : Desk P). desk.session.pass) desks h.own)
+
+  pub order-all : (is_own : P → Type 0) (shape : Shape) (r : Result Unit AllocError) → OnOk r (AreOver is_own shape known desks) → OnOk r (map (λ pass. (known pass).session) passes ≡ range_with_len 1 (length shape.seats))
+  order-all is_own shape (Err x) h = tt
+  order-all is_own shape (Ok x) h = ap (λ (ps : List P). map (λ (pass : P). (known pass).session) ps) is ∙ twice (λ (pass : P). (known pass).session) (λ (desk : Desk P). desk.session.pass) desks ∙ h.order
+
+  pub gathered-all : (r : Result Unit AllocError) → OnOk r ((count : ℕ) × Gathered (map known passes) count) → OnOk r (All (λ pass. IsWithin (known pass)) passes) → OnOk r (HasGathered known desks)
+  gathered-all (Err x) g h = tt
+  gathered-all (Ok x) g h = record {
+    count = g.0;
+    gathered = subst (λ (ks : List Known). Gathered ks g.0) (ap (λ (ps : List P). map known ps) is ∙ twice known (λ (desk : Desk P). desk.session.pass) desks) g.1;
+    within = of-map (λ (pass : P). IsWithin (known pass)) (λ (desk : Desk P). desk.session.pass) desks (All-same (λ (pass : P). IsWithin (known pass)) (map (λ (desk : Desk P). desk.session.pass) desks) passes (sym is) h);
   }

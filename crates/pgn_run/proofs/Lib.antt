@@ -24,3 +24,5 @@ pub mod ClosingLaws
 pub mod ServiceLaws
 -- what comes of it
 pub mod ServeLaws
+-- small services, by hand
+pub mod SeatExampleLaws

@@ -27,19 +27,19 @@ use Rattle.pgn_turns.specs.Asks.{seat_quit}
 use Rattle.pgn_seats.specs.declared.desk.Desk.{Desk}
 use Rattle.pgn_seats.specs.Desks.{MayBegin, MayServe, sections_of}
 use Rattle.pgn_frames.specs.declared.caller.Caller.{Caller}
-use Rattle.pgn_frames.specs.Reading.{IsNewCaller, MayCall}
+use Rattle.pgn_frames.specs.Reading.{Begins, MayCall}
 use Rattle.pgn_run.specs.Service.{seat_notes, seat_section}
 use Rattle.pgn_run.specs.Seats.{AreGiven, AreNewSeats, AreSeated, GivesInbox, IsGiven, IsNewSeat, IsNewSession, IsOpened, IsPlaced, SitsMore, service_plan, service_seat, service_shape}
 
 -- All seats together send no more than a hub lets.
-pub few-notes : (seats : ℕ) (setups : List SeatSetup) → setups ≡ (service_shape seats).seats → sum_by (λ seat. seat.notes) setups ≤ HUB_NOTES_MAX
-few-notes seats setups e =
+pub few-notes : (seats : ℕ) (setups : List SeatSetup) → 1 ≤ seats → setups ≡ (service_shape seats).seats → sum_by (λ seat. seat.notes) setups ≤ HUB_NOTES_MAX
+few-notes seats setups some e =
     let all : sum_by (λ (seat : SeatSetup). seat.notes) setups ≡ seats * (HUB_NOTES_MAX / seats) =
         ap (λ (s : List SeatSetup). sum_by (λ (seat : SeatSetup). seat.notes) s) e ∙ sum_by-replicate (λ (seat : SeatSetup). seat.notes) seats (service_seat seats) in
-    omega (arith, all, part HUB_NOTES_MAX seats)
+    omega (arith, all, part HUB_NOTES_MAX seats some)
   where
-    part : (n k : ℕ) → k * (n / k) ≤ n
-    part n k = ?
+    part : (n k : ℕ) → 1 ≤ k → k * (n / k) ≤ n
+    part n k some = omega (arith, some)
 
 pub seat-count : (seats : ℕ) (setups : List SeatSetup) → setups ≡ (service_shape seats).seats → length setups ≡ seats
 seat-count seats setups e = ap (λ (s : List SeatSetup). length s) e ∙ length-replicate seats (service_seat seats)
@@ -53,11 +53,14 @@ pub record AreLeft {P : Type 0} (known : P → Known) (seats place : ℕ) (left 
   pub are : map known left ≡ opened_passes (place + 1) (replicate more (service_seat seats))
 
 pub all-left : {P : Type 0} (known : P → Known) (seats : ℕ) (passes : List P) → map known passes ≡ opened_passes 1 (service_shape seats).seats → AreLeft known seats 0 passes
-all-left known seats passes e = record { more = seats; count = refl; are = e }
+all-left known seats passes e = record { more = seats; count = (let none : 0 + seats ≡ seats = omega arith in none); are = e }
 
 opened-length : (n : ℕ) (setups : List SeatSetup) → length (opened_passes n setups) ≡ length setups
 opened-length n [] = refl
 opened-length n (setup ∷ setups) = ap suc (opened-length (n + 1) setups)
+
+pub passes-count : {P : Type 0} (known : P → Known) (seats : ℕ) (passes : List P) (setups : List SeatSetup) → map known passes ≡ opened_passes 1 setups → setups ≡ (service_shape seats).seats → length passes ≡ seats
+passes-count known seats passes setups e is = omega (arith, length-map passes known, ap (λ (ks : List Known). length ks) e, opened-length 1 setups, seat-count seats setups is)
 
 pub one-left : {P : Type 0} (known : P → Known) (seats place : ℕ) (left : List P) → place < seats → AreLeft known seats place left → 0 < length left
 one-left known seats place left lt h =
@@ -98,17 +101,17 @@ new-session known seats seat pass s section plan e f has of_section of_plan pati
 
 pub sits-more : {P : Type 0} (most : ℕ) (session : Session P) (boxes boxes_one : List (Outlet (Option Ask))) (desks desks_one : List (Desk P)) (callers callers_one : List Caller) (put asks : Pass (Option Ask)) (desk : Desk P) (caller : Caller)
     → GivesInbox boxes boxes_one put asks → desk.session ≡ session → desk.asks ≡ asks → desk.notes ≡ 0 → desks_one ≡ desks ++ desk ∷ [] → callers_one ≡ callers ++ caller ∷ []
-    → ((inbox : Outlet (Option Ask)) → IsPassOf inbox put → IsNewCaller most inbox caller) → SitsMore most session boxes boxes_one desks desks_one callers callers_one
+    → ((seat : ℕ) (inbox : Outlet (Option Ask)) → IsPassOf inbox put → Begins most seat inbox caller) → SitsMore most session boxes boxes_one desks desks_one callers callers_one
 sits-more most session boxes boxes_one desks desks_one callers callers_one put asks desk caller g has own notes e f new = record {
   inbox = g.inbox;
   desk = desk;
   caller = caller;
-  seat = record {
+  seat = λ number. record {
     has = has;
     own = subst (λ (p : Pass (Option Ask)). IsPassOf g.inbox p) (sym own) g.asks_own;
     takes = ap knows own ∙ g.takes;
     counted = notes;
-    calls = new g.inbox g.put_own;
+    calls = new number g.inbox g.put_own;
   };
   inboxes_are = g.more;
   desks_are = e;
@@ -161,8 +164,8 @@ one-seated {P} known seats place all left boxes boxes_one desks desks_one caller
       (subst (λ (x : List Caller). AreNewSeats known seats 1 (h.first ++ pass ∷ []) (boxes ++ sits.inbox ∷ []) (desks ++ sits.desk ∷ []) x) (sym sits.callers_are)
       (push known seats 1 (place + 1) h.first boxes desks callers pass sits.inbox sits.desk sits.caller (omega (arith, h.count)) h.seated
       (record {
-        session = subst (λ (x : Session P). IsNewSession known seats (place + 1) pass x) (sym sits.seat.has) new;
-        seated = record { has = refl; own = sits.seat.own; takes = sits.seat.takes; counted = sits.seat.counted; calls = sits.seat.calls };
+        session = subst (λ (x : Session P). IsNewSession known seats (place + 1) pass x) (sym (sits.seat (place + 1)).has) new;
+        seated = let one = sits.seat (place + 1) in record { has = refl; own = one.own; takes = one.takes; counted = one.counted; calls = one.calls };
       }))));
 }
 
@@ -315,16 +318,20 @@ module _ {P : Type 0} (is_own : P → Type 0) (shape : Shape) (known : P → Kno
     unused = refl;
   }
 
-  pub may-call : 1 ≤ seats → seats ≤ 256 → MayCall (seat_notes seats) boxes callers
-  may-call some few = record {
-    each = all-counts.2 ∙ sym all-counts.0;
-    some = omega (arith, some, all-counts.2);
+  pub may-call : seats ≤ 256 → MayCall (seat_notes seats) boxes callers
+  may-call few = record {
+    each = all-counts.0 ∙ sym all-counts.2;
     few = omega (arith, few, all-counts.2);
-    begins = λ k o c lt.
+    begin = λ k o c lt.
         let s = at k (omega (arith, lt, all-counts.2)) in
-        subst (λ (i : Outlet (Option Ask)). IsNewCaller (seat_notes seats) i (get_or callers k c)) (sym (s.inbox_is o))
-        (subst (λ (x : Caller). IsNewCaller (seat_notes seats) s.inbox x) (sym (s.caller_is c)) s.seat.seated.calls);
+        let next : 1 + k ≡ k + 1 = omega arith in
+        subst (λ (n : ℕ). Begins (seat_notes seats) n (get_or boxes k o) (get_or callers k c)) next
+        (subst (λ (i : Outlet (Option Ask)). Begins (seat_notes seats) (1 + k) i (get_or callers k c)) (sym (s.inbox_is o))
+        (subst (λ (x : Caller). Begins (seat_notes seats) (1 + k) s.inbox x) (sym (s.caller_is c)) s.seat.seated.calls));
   }
 
-  pub as-many-seats : length callers ≡ length shape.seats
-  as-many-seats = all-counts.2 ∙ sym (ap (λ (x : Shape). length x.seats) h.shape_is ∙ length-replicate seats (service_seat seats))
+  pub seat-length : length shape.seats ≡ seats
+  seat-length = ap (λ (x : Shape). length x.seats) h.shape_is ∙ length-replicate seats (service_seat seats)
+
+  pub as-many-seats : length shape.seats ≡ length callers
+  as-many-seats = seat-length ∙ sym all-counts.2

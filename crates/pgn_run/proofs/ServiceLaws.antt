@@ -2,11 +2,11 @@
 use Rattle.std.proofs.Common.{◌≡◌, ◌⊎◌, inl, inr, ℕ, zero, suc, Bool, true, false, ◌+◌, ◌-◌, ◌<◌, ◌≤◌, cond, List, [], ◌∷◌, ◌++◌, length, map, get_or, drop, flat_map, All, Option, Some, None, IfSome, Result, Ok, Err, OnOk, sym, ap, ◌∙◌, refl, subst, arith, append-nil, append_assoc}
 use Rattle.std.specs.declared.alloc.AllocError.{AllocError}
 use Rattle.std.specs.Io.KnownBytes.{Appends}
-use Rattle.std.proofs.lemmas.Bool.{cases_lt, ne_eqb}
+use Rattle.std.proofs.lemmas.Bool.{cases_lt, eq-eqb, ne_eqb}
 use Rattle.std.proofs.lemmas.List.{length-map}
 use Rattle.std.proofs.lemmas.List.Elements.{All-append, All-cons, All-head, All-map, All-nil, All-same, All-tail}
 use Rattle.pgn_base.specs.declared.source.Failed.{Failed}
-use Rattle.pgn_base.specs.Outside.{AppendsPrefix, Writes}
+use Rattle.pgn_base.specs.Outside.{AppendsPrefix, HasCause, Rose, Writes}
 use Rattle.pgn_journal.specs.declared.tx.Tx.{Tx}
 use Rattle.pgn_language.specs.declared.scenario.ScriptLine.{ScriptLine}
 use Rattle.pgn_language.specs.declared.scenario.Section.{Section}
@@ -36,7 +36,7 @@ use Rattle.pgn_queries.specs.Queries.{first_place}
 use Rattle.pgn_turns.specs.declared.asked.Ask.{Ask}
 use Rattle.pgn_turns.specs.declared.asked.Ask.TheVariants.{Query, End}
 use Rattle.pgn_turns.specs.declared.saying.Saying.{Saying}
-use Rattle.pgn_turns.specs.Asks.{lines_for, script_of, seat_quit}
+use Rattle.pgn_turns.specs.Asks.{line_of, lines_for, rollback_line, script_of, seat_quit, unlisten_line}
 use Rattle.pgn_turns.specs.Sayings.{all_told}
 use Rattle.pgn_turns.specs.Turns.{asks_of, items_of}
 use Rattle.pgn_seats.specs.declared.desk.Desk.{Desk}
@@ -47,16 +47,17 @@ use Rattle.pgn_frames.specs.declared.framing.NoFrame.{NoFrame}
 use Rattle.pgn_frames.specs.declared.framing.NoFrame.TheVariants as none
 use Rattle.pgn_frames.specs.Clients.{SeatAsks}
 use Rattle.pgn_frames.specs.Frames.{Frame, FramesAre, IsFrame, IsSeat, frame_bytes, signs_in, signs_of}
-use Rattle.pgn_frames.specs.Reading.{HasPutAll, HasPutFirst, HasRead, IsStillCaller, put}
+use Rattle.pgn_frames.specs.Callers.{carried}
+use Rattle.pgn_frames.specs.Reading as reading
 use Rattle.pgn_run.specs.declared.service.ServiceEnd.{ServiceEnd}
 use Rattle.pgn_run.specs.declared.service.ServiceEnd.TheVariants as end
-use Rattle.pgn_run.specs.Arms.{CarryAll, HasReadBy, HasToldBy, with_over}
-use Rattle.pgn_run.specs.Closing.{HasGathered, HasTakenFirst, HaveTakenFirst}
+use Rattle.pgn_run.specs.Arms.{CarryAll, HasRead, HasReadBy, HasToldBy, with_over}
+use Rattle.pgn_run.specs.Closing.{AreOver, HasGathered, HasTakenFirst, HaveTakenFirst, MayCloseAll}
 use Rattle.pgn_run.specs.Ending.{EndsService, end_of}
 use Rattle.pgn_run.specs.Seats.{AreGiven, IsGiven, IsOpened, service_plan, service_shape}
 use Rattle.pgn_run.specs.Service.{IsToldFirst, IsToldOf, RunsSeats, ServesAll, ServesFirst, ServesInPart, StopsServing, asks_at, items_at, over_frame, seat_notes, seat_section, sections_from, service_scenario, service_settings}
-use Rattle.pgn_run.proofs.SeatingLaws.{box-count, caller-count, desk-count, given-at, opened-given}
-use Rattle.pgn_run.proofs.ClosingLaws.{given-still, same-count, still-callers}
+use Rattle.pgn_run.proofs.SeatingLaws.{box-count, caller-count, desk-count, given-at, opened-given, seat-length}
+use Rattle.pgn_run.proofs.ClosingLaws.{IsStillCaller, are-over, given-still, may-close, same-count, still-callers}
 
 -- Lists.
 
@@ -87,19 +88,16 @@ element (x ∷ xs) zero lt = (x, λ d. refl)
 element (x ∷ xs) (suc k) lt = element xs k (omega (arith, lt))
 
 -- where there is something for each place, there is a list of it
+chosen-at : {B : Type 0} (Q : ℕ → B → Type 0) (m : ℕ) (b : B) → Q 0 b → (bs : List B) → ((k : ℕ) (d : B) → k < m → Q (suc k) (get_or bs k d)) → (k : ℕ) (d : B) → k < suc m → Q k (get_or (b ∷ bs) k d)
+chosen-at Q m b q bs h zero d lt = q
+chosen-at Q m b q bs h (suc k) d lt = h k d (omega (arith, lt))
+
 chosen : {B : Type 0} (Q : ℕ → B → Type 0) (m : ℕ) → ((k : ℕ) → k < m → (b : B) × Q k b) → (bs : List B) × (length bs ≡ m) × ((k : ℕ) (d : B) → k < m → Q k (get_or bs k d))
 chosen Q zero f = ([], refl, λ k d lt. absurd (omega (arith, lt)))
-chosen {B} Q (suc m) f = (one.0 ∷ more.0, ap suc more.1, at)
-  where
-    one : (b : B) × Q 0 b
-    one = f 0 (omega arith)
-
-    more : (bs : List B) × (length bs ≡ m) × ((k : ℕ) (d : B) → k < m → Q (suc k) (get_or bs k d))
-    more = chosen (λ k b. Q (suc k) b) m (λ k lt. f (suc k) (omega (arith, lt)))
-
-    at : (k : ℕ) (d : B) → k < suc m → Q k (get_or (one.0 ∷ more.0) k d)
-    at zero d lt = one.1
-    at (suc k) d lt = more.2 k d (omega (arith, lt))
+chosen Q (suc m) f =
+    let one = f 0 (omega arith) in
+    let more = chosen (λ k b. Q (suc k) b) m (λ k lt. f (suc k) (omega (arith, lt))) in
+    (one.0 ∷ more.0, ap suc more.1, chosen-at Q m one.0 one.1 more.0 more.2)
 
 -- Frames.
 
@@ -110,11 +108,44 @@ signs-none seat (f ∷ outs) out all =
     let own = (All-head (IsFrame 256) f outs all).seat in
     ap (λ (b : Bool). cond b (signs_in f.bytes) [] ++ signs_of seat outs) (ne_eqb f.seat seat (λ e. out (subst (λ (n : ℕ). IsSeat 256 n) e own))) ∙ signs-none seat outs out (All-tail (IsFrame 256) f outs all)
 
+-- What was put.
+
+abbrev pub put : ℕ → Hand (Option Ask) → List (Option Ask)
+put seat v = what_of seat v.sent
+
+-- all that these signs ask was put, and behind it that nothing more will be asked; the first of it was
+pub record HasPutAll (most : ℕ) (signs : List (Option ℕ)) (now : List (Option Ask)) : Type 0 where
+  pub asks : List Ask
+  pub asked : SeatAsks (first_place most) signs asks
+  pub all : now ≡ map Some asks ++ None ∷ []
+
+pub record HasPutFirst (most : ℕ) (signs : List (Option ℕ)) (now : List (Option Ask)) : Type 0 where
+  pub asks : List Ask
+  pub asked : SeatAsks (first_place most) signs asks
+  pub others : List (Option Ask)
+  pub first : map Some asks ++ None ∷ [] ≡ now ++ others
+
+of-carried : (seat : ℕ) (whats : List (Option Ask)) → what_of seat (carried seat whats) ≡ whats
+of-carried seat [] = refl
+of-carried seat (what ∷ whats) =
+    ap (λ (b : Bool). cond b (what ∷ []) [] ++ what_of seat (carried seat whats)) (eq-eqb seat seat refl) ∙ ap (λ (l : List (Option Ask)). what ∷ l) (of-carried seat whats)
+
+put-all : (most seat : ℕ) (frames : List Frame) (inbox : Outlet (Option Ask)) (caller : Caller) → reading.HasPutAll most frames seat inbox caller → HasPutAll most (signs_of seat frames) (put seat (knows caller.asks))
+put-all most seat frames inbox caller h = record { asks = h.asks; asked = h.asked; all = ap (λ (v : Hand (Option Ask)). what_of seat v.sent) h.put ∙ of-carried seat (map Some h.asks ++ None ∷ []) }
+
+put-some : (most seat : ℕ) (frames : List Frame) (inbox : Outlet (Option Ask)) (caller : Caller) → reading.HasPutFirst most frames seat inbox caller → HasPutFirst most (signs_of seat frames) (put seat (knows caller.asks))
+put-some most seat frames inbox caller h = record {
+  asks = h.asks;
+  asked = h.asked;
+  others = h.others;
+  first = h.first ∙ ap (λ (l : List (Option Ask)). l ++ h.others) (sym (ap (λ (v : Hand (Option Ask)). what_of seat v.sent) h.put ∙ of-carried seat h.now));
+}
+
 -- Sections.
 
 flagless-of : (ask : Ask) → All (λ line. HasFlagBelow 0 line.act) (lines_for ask)
-flagless-of (Query query) = All-cons (λ (line : ScriptLine). HasFlagBelow 0 line.act) _ [] tt (All-nil (λ (line : ScriptLine). HasFlagBelow 0 line.act))
-flagless-of (End line parting) = All-cons (λ (l : ScriptLine). HasFlagBelow 0 l.act) _ _ tt (All-cons (λ (l : ScriptLine). HasFlagBelow 0 l.act) _ [] tt (All-nil (λ (l : ScriptLine). HasFlagBelow 0 l.act)))
+flagless-of (Query query) = All-cons (λ (line : ScriptLine). HasFlagBelow 0 line.act) (line_of query) [] tt (All-nil (λ (line : ScriptLine). HasFlagBelow 0 line.act))
+flagless-of (End line parting) = All-cons (λ (l : ScriptLine). HasFlagBelow 0 l.act) (rollback_line line) (unlisten_line (line + 1) ∷ []) tt (All-cons (λ (l : ScriptLine). HasFlagBelow 0 l.act) (unlisten_line (line + 1)) [] tt (All-nil (λ (l : ScriptLine). HasFlagBelow 0 l.act)))
 
 flagless-lines : (asks : List Ask) → All (λ line. HasFlagBelow 0 line.act) (flat_map lines_for asks)
 flagless-lines [] = All-nil (λ (line : ScriptLine). HasFlagBelow 0 line.act)
@@ -135,7 +166,7 @@ all-numbered seats n (one ∷ asks) = (refl, all-numbered seats (n + 1) asks)
 
 module _ {P : Type 0} (known : P → Known) where
   -- what is known of a desk's session
-  part : Desk P → Part
+  abbrev part : Desk P → Part
   part desk = part_of known desk.session
 
   sections-are : (seats n : ℕ) (desks : List (Desk P)) (asks : List (List Ask)) → length asks ≡ length desks
@@ -164,10 +195,10 @@ module _ {P : Type 0} (known : P → Known) where
 module _ {P K : Type 0} (is_own : P → Type 0) (shape : Shape) (known : P → Known) (seats : ℕ) (boxes : List (Outlet (Option Ask))) (old desks : List (Desk P)) (old_callers callers : List Caller) (held : K → Option (List ℕ)) (faults : K → ℕ)
     (sink sink_now : K) (so_far : Result Unit Failed) (served : Result Unit AllocError) (few : seats ≤ 256) (opened : IsOpened is_own shape known seats boxes old old_callers)
     (told : HasToldBy is_own shape known boxes old desks held faults sink sink_now (so_far, served)) (count : length callers ≡ length old_callers) (took : HaveTakenFirst desks callers) where
-  most : ℕ
+  abbrev pub most : ℕ
   most = seat_notes seats
 
-  outs : List Frame
+  abbrev pub outs : List Frame
   outs = told.outs
 
   given : AreGiven seats 1 desks
@@ -215,7 +246,7 @@ module _ {P K : Type 0} (is_own : P → Type 0) (shape : Shape) (known : P → K
   nobody seat out = either (cases_lt seat 1) (cases_lt 256 seat)
     where
       beyond : (IsSeat 256 seat → ⊥) → signs_of seat outs ≡ []
-      beyond no = signs-none seat outs no told.carry.can_be_written
+      beyond outside = signs-none seat outs outside told.carry.can_be_written
 
       either : (seat < 1) ⊎ (1 ≤ seat) → (256 < seat) ⊎ (seat ≤ 256) → signs_of seat outs ≡ []
       either (inl less) above = beyond (λ s. let l : 1 ≤ seat = s.least in omega (arith, less, l))
@@ -225,7 +256,7 @@ module _ {P K : Type 0} (is_own : P → Type 0) (shape : Shape) (known : P → K
           ∙ ap all_told (told.ran.others seat (λ low high. out (record { least = low; most = omega (arith, high, desk-count is_own shape known seats boxes old old_callers opened) })))
 
   -- What of it is told where the whole service is not a legal run.
-  module _ (bytes : List ℕ) (res : Result (Option FrameFault) NoFrame) (read : HasRead most (Some bytes) callers boxes res) where
+  module _ (bytes : List ℕ) (res : Result (Option FrameFault) NoFrame) (read : HasRead most (Some bytes) boxes callers res) where
     still : (k : ℕ) (s : AtSeat k) → k < seats → MayPush (knows s.caller.asks) (1 + k)
     still k s lt =
         let caller = still-callers most (Some bytes) callers boxes res read k (box k lt) s.caller (omega (arith, lt, calls-count)) in
@@ -316,10 +347,10 @@ module _ {P K : Type 0} (is_own : P → Type 0) (shape : Shape) (known : P → K
       all-served : All (λ desk. HasServed is_own shape known boxes desk told.after) desks
       all-served = subst (λ (r : Result Unit AllocError). OnOk r (All (λ (desk : Desk P). HasServed is_own shape known boxes desk told.after) desks)) fine told.ran.served
 
-      parts : List Part
+      abbrev pub parts : List Part
       parts = map (part known) desks
 
-      knowns : List Known
+      abbrev pub knowns : List Known
       knowns = map (λ (p : Part). p.known) parts
 
       run-out : (k : ℕ) (e : Desk P) → k < length desks → HasRunOut shape (service_plan seats) 1 (part known (get_or desks k e))
@@ -341,6 +372,13 @@ module _ {P K : Type 0} (is_own : P → Type 0) (shape : Shape) (known : P → K
 
       heard : (k : ℕ) (e : Desk P) → k < length desks → HasHeardAll knowns (known (get_or desks k e).session.pass)
       heard k e lt = subst (λ (m : Option ℕ). IfSome m (λ mark. All (λ (other : Known). other.signalled ≤ mark) knowns)) (sym (all-served k e lt).left) tt
+
+      -- what a seat is asked by these frames, was told, and had as its script
+      abbrev IsOf : List Frame → ℕ → List Ask → Type 0
+      IsOf frames k asks =
+          SeatAsks (first_place most) (signs_of (1 + k) frames) asks
+          × (((e : Desk P) → IsToldOf asks (get_or desks k e).session.items.items (signs_of (1 + k) outs))
+          × ((e : Desk P) → (get_or desks k e).session.section ≡ seat_section seats (1 + k) (script_of asks)))
 
       pub runs : (frames : List Frame) → ((k : ℕ) (c : Caller) → k < length callers → HasPutAll most (signs_of (k + 1) frames) (put (k + 1) (knows (get_or callers k c).asks))) → (Q : List ℕ → Type 0) → Q (flat_map frame_bytes outs) → RunsSeats seats frames Q
       runs frames asked Q output = record {
@@ -369,13 +407,7 @@ module _ {P K : Type 0} (is_own : P → Type 0) (shape : Shape) (known : P → K
           below : (seat : ℕ) → IsSeat seats seat → seat - 1 < seats
           below seat is = let l : 1 ≤ seat = is.least in let m : seat ≤ seats = is.most in omega (arith, l, m)
 
-          abbrev IsOf : ℕ → List Ask → Type 0
-          IsOf k asks =
-              SeatAsks (first_place most) (signs_of (1 + k) frames) asks
-              × (((e : Desk P) → IsToldOf asks (get_or desks k e).session.items.items (signs_of (1 + k) outs))
-              × ((e : Desk P) → (get_or desks k e).session.section ≡ seat_section seats (1 + k) (script_of asks)))
-
-          one : (k : ℕ) → k < seats → (asks : List Ask) × IsOf k asks
+          one : (k : ℕ) → k < seats → (asks : List Ask) × IsOf frames k asks
           one k lt =
               let s = at-seat k lt in
               let p = put-is k s lt in
@@ -402,8 +434,8 @@ module _ {P K : Type 0} (is_own : P → Type 0) (shape : Shape) (known : P → K
                 ),
               )
 
-          all : (asks : List (List Ask)) × (length asks ≡ seats) × ((k : ℕ) (d : List Ask) → k < seats → IsOf k (get_or asks k d))
-          all = chosen IsOf seats one
+          all : (asks : List (List Ask)) × (length asks ≡ seats) × ((k : ℕ) (d : List Ask) → k < seats → IsOf frames k (get_or asks k d))
+          all = chosen (IsOf frames) seats one
 
           whole : Gathered knowns gathered.count
           whole = subst (λ (ks : List Known). Gathered ks gathered.count) (knowns-are known desks) gathered.gathered
@@ -424,8 +456,8 @@ over-or-not true outs Q h = inr h
 over-or-not false outs Q h = inl (subst Q (append-nil (flat_map frame_bytes outs)) h)
 
 not-over : (over : Bool) (outs : List Frame) (Q : List ℕ → Type 0) → (over ≡ true → ⊥) → Q (with_over over outs) → Q (flat_map frame_bytes outs)
-not-over true outs Q no h = absurd (no refl)
-not-over false outs Q no h = subst Q (append-nil (flat_map frame_bytes outs)) h
+not-over true outs Q never h = absurd (never refl)
+not-over false outs Q never h = subst Q (append-nil (flat_map frame_bytes outs)) h
 
 module _ {P K : Type 0} (is_own : P → Type 0) (shape : Shape) (known : P → Known) (seats : ℕ) (boxes : List (Outlet (Option Ask))) (old desks : List (Desk P)) (old_callers callers : List Caller) (held : K → Option (List ℕ)) (faults : K → ℕ)
     (sink sink_now : K) (served : Result Unit AllocError) (few : seats ≤ 256) (opened : IsOpened is_own shape known seats boxes old old_callers) (count : length callers ≡ length old_callers) (took : HaveTakenFirst desks callers) (law : RunsAreLegal) (bytes : List ℕ) where
@@ -435,47 +467,48 @@ module _ {P K : Type 0} (is_own : P → Type 0) (shape : Shape) (known : P → K
   as-many : length callers ≡ seats
   as-many = count ∙ caller-count is_own shape known seats boxes old old_callers opened
 
-  abbrev most : ℕ
-  most = seat_notes seats
+  -- an inbox
+  a-box : (k : ℕ) → k < length callers → Outlet (Option Ask)
+  a-box k lt = (element boxes k (omega (arith, lt, as-many, box-count is_own shape known seats boxes old old_callers opened))).0
 
-  at-stop : (so_far : Result Unit Failed) (told : Told so_far) (res : Result (Option FrameFault) NoFrame) → HasRead most (Some bytes) callers boxes res → (Q : List ℕ → Type 0) → Q (with_over told.over told.outs) → StopsServing seats bytes Q
+  at-stop : (so_far : Result Unit Failed) (told : Told so_far) (res : Result (Option FrameFault) NoFrame) → HasRead (seat_notes seats) (Some bytes) boxes callers res → (Q : List ℕ → Type 0) → Q (with_over told.over told.outs) → StopsServing seats bytes Q
   at-stop so_far told (Ok fault) read Q h =
       stops is_own shape known seats boxes old desks old_callers callers held faults sink sink_now so_far served few opened told count took bytes (Ok fault) read read.frames [] fault
       (subst (λ (n : ℕ). FramesAre n 0 bytes (read.frames ++ []) fault) as-many (subst (λ (fs : List Frame). FramesAre (length callers) 0 bytes fs fault) (sym (append-nil read.frames)) read.are))
-      (λ k c lt. put-first most (signs_of (k + 1) read.frames) (put (k + 1) (knows (get_or callers k c).asks)) (read.asked k c lt)) Q (over-or-not told.over told.outs Q h)
+      (λ k c lt. put-first (seat_notes seats) (signs_of (k + 1) read.frames) (put (k + 1) (knows (get_or callers k c).asks)) (put-all (seat_notes seats) (k + 1) read.frames (get_or boxes k (a-box k lt)) (get_or callers k c) (read.asked k (a-box k lt) c lt))) Q (over-or-not told.over told.outs Q h)
   at-stop so_far told (Err none.Failed) read Q h =
       stops is_own shape known seats boxes old desks old_callers callers held faults sink sink_now so_far served few opened told count took bytes (Err none.Failed) read read.frames read.are.more read.are.fault
       (subst (λ (n : ℕ). FramesAre n 0 bytes (read.frames ++ read.are.more) read.are.fault) as-many read.are.are)
-      (λ k c lt. put-first most (signs_of (k + 1) read.frames) (put (k + 1) (knows (get_or callers k c).asks)) (read.asked k c lt)) Q (over-or-not told.over told.outs Q h)
+      (λ k c lt. put-first (seat_notes seats) (signs_of (k + 1) read.frames) (put (k + 1) (knows (get_or callers k c).asks)) (put-all (seat_notes seats) (k + 1) read.frames (get_or boxes k (a-box k lt)) (get_or callers k c) (read.asked k (a-box k lt) c lt))) Q (over-or-not told.over told.outs Q h)
   at-stop so_far told (Err none.Memory) read Q h =
       stops is_own shape known seats boxes old desks old_callers callers held faults sink sink_now so_far served few opened told count took bytes (Err none.Memory) read read.frames read.are.more read.are.fault
-      (subst (λ (n : ℕ). FramesAre n 0 bytes (read.frames ++ read.are.more) read.are.fault) as-many read.are.are) read.asked Q (over-or-not told.over told.outs Q h)
+      (subst (λ (n : ℕ). FramesAre n 0 bytes (read.frames ++ read.are.more) read.are.fault) as-many read.are.are) (λ k c lt. put-some (seat_notes seats) (k + 1) read.frames (get_or boxes k (a-box k lt)) (get_or callers k c) (read.asked k (a-box k lt) c lt)) Q (over-or-not told.over told.outs Q h)
 
   -- nothing says that the service is over, where all have served
   whole-text : (so_far : Result Unit Failed) (told : Told so_far) → served ≡ Ok tt → (Q : List ℕ → Type 0) → Q (with_over told.over told.outs) → Q (flat_map frame_bytes told.outs)
   whole-text so_far told fine Q h = not-over told.over told.outs Q (λ e. subst (λ (r : Result Unit AllocError). OnOk r ⊥) fine (told.refused e)) h
 
-  at-end : (so_far : Result Unit Failed) (told : Told so_far) (fault : Option FrameFault) → HasRead most (Some bytes) callers boxes (Ok fault) → served ≡ Ok tt → HasGathered known desks → (Q : List ℕ → Type 0) → Q (with_over told.over told.outs) → ServesAll seats bytes fault Q
+  at-end : (so_far : Result Unit Failed) (told : Told so_far) (fault : Option FrameFault) → HasRead (seat_notes seats) (Some bytes) boxes callers (Ok fault) → served ≡ Ok tt → HasGathered known desks → (Q : List ℕ → Type 0) → Q (with_over told.over told.outs) → ServesAll seats bytes fault Q
   at-end so_far told fault read fine gathered Q h = record {
     frames = read.frames;
     are = subst (λ (n : ℕ). FramesAre n 0 bytes read.frames fault) as-many read.are;
-    served = runs is_own shape known seats boxes old desks old_callers callers held faults sink sink_now so_far served few opened told count took bytes (Ok fault) read law fine gathered read.frames read.asked Q (whole-text so_far told fine Q h);
+    served = runs is_own shape known seats boxes old desks old_callers callers held faults sink sink_now so_far served few opened told count took bytes (Ok fault) read law fine gathered read.frames (λ k c lt. put-all (seat_notes seats) (k + 1) read.frames (get_or boxes k (a-box k lt)) (get_or callers k c) (read.asked k (a-box k lt) c lt)) Q (whole-text so_far told fine Q h);
   }
 
-  at-fault : (so_far : Result Unit Failed) (told : Told so_far) → HasRead most (Some bytes) callers boxes (Err none.Failed) → served ≡ Ok tt → HasGathered known desks → (Q : List ℕ → Type 0) → Q (with_over told.over told.outs) → ServesFirst seats bytes Q
+  at-fault : (so_far : Result Unit Failed) (told : Told so_far) → HasRead (seat_notes seats) (Some bytes) boxes callers (Err none.Failed) → served ≡ Ok tt → HasGathered known desks → (Q : List ℕ → Type 0) → Q (with_over told.over told.outs) → ServesFirst seats bytes Q
   at-fault so_far told read fine gathered Q h = record {
     frames = read.frames;
     more = read.are.more;
     fault = read.are.fault;
     are = subst (λ (n : ℕ). FramesAre n 0 bytes (read.frames ++ read.are.more) read.are.fault) as-many read.are.are;
-    served = runs is_own shape known seats boxes old desks old_callers callers held faults sink sink_now so_far served few opened told count took bytes (Err none.Failed) read law fine gathered read.frames read.asked Q (whole-text so_far told fine Q h);
+    served = runs is_own shape known seats boxes old desks old_callers callers held faults sink sink_now so_far served few opened told count took bytes (Err none.Failed) read law fine gathered read.frames (λ k c lt. put-all (seat_notes seats) (k + 1) read.frames (get_or boxes k (a-box k lt)) (get_or callers k c) (read.asked k (a-box k lt) c lt)) Q (whole-text so_far told fine Q h);
   }
 
   -- all frames served are the first of them
   all-first : (fault : Option FrameFault) (Q : List ℕ → Type 0) → ServesAll seats bytes fault Q → ServesFirst seats bytes Q
   all-first fault Q h = record { frames = h.frames; more = []; fault = fault; are = subst (λ (fs : List Frame). FramesAre seats 0 bytes fs fault) (sym (append-nil h.frames)) h.are; served = h.served }
 
-  pub ends : (so_far : Result Unit Failed) (told : Told so_far) (ran : Result Unit AllocError) (res : Result (Option FrameFault) NoFrame) → HasRead most (Some bytes) callers boxes res → OnOk ran (served ≡ Ok tt) → OnOk ran (HasGathered known desks)
+  pub ends : (so_far : Result Unit Failed) (told : Told so_far) (ran : Result Unit AllocError) (res : Result (Option FrameFault) NoFrame) → HasRead (seat_notes seats) (Some bytes) boxes callers res → OnOk ran (served ≡ Ok tt) → OnOk ran (HasGathered known desks)
       → EndsService seats (end_of so_far ran res) bytes (held sink) (held sink_now)
   ends (Err d) told (Err e) res read fine gathered = inr (at-stop (Err d) told res read (AppendsPrefix (held sink) (held sink_now)) told.writes)
   ends (Err d) told (Ok x) (Ok fault) read fine gathered = inl (all-first fault (AppendsPrefix (held sink) (held sink_now)) (at-end (Err d) told fault read fine gathered (AppendsPrefix (held sink) (held sink_now)) told.writes))
@@ -490,7 +523,7 @@ module _ {P K : Type 0} (is_own : P → Type 0) (shape : Shape) (known : P → K
 -- the same of a source that may tell its bytes
 pub ends-known : {P K : Type 0} (is_own : P → Type 0) (shape : Shape) (known : P → Known) (seats : ℕ) (boxes : List (Outlet (Option Ask))) (old desks : List (Desk P)) (old_callers callers : List Caller) (held : K → Option (List ℕ)) (faults : K → ℕ)
     (sink sink_now : K) (left : Option (List ℕ)) (so_far : Result Unit Failed) (served ran : Result Unit AllocError) (res : Result (Option FrameFault) NoFrame) → seats ≤ 256 → IsOpened is_own shape known seats boxes old old_callers
-    → HasToldBy is_own shape known boxes old desks held faults sink sink_now (so_far, served) → length callers ≡ length old_callers → HasRead (seat_notes seats) left callers boxes res → HaveTakenFirst desks callers → RunsAreLegal
+    → HasToldBy is_own shape known boxes old desks held faults sink sink_now (so_far, served) → length callers ≡ length old_callers → HasRead (seat_notes seats) left boxes callers res → HaveTakenFirst desks callers → RunsAreLegal
     → OnOk ran (served ≡ Ok tt) → OnOk ran (HasGathered known desks) → IfSome left (λ bytes. EndsService seats (end_of so_far ran res) bytes (held sink) (held sink_now))
 ends-known is_own shape known seats boxes old desks old_callers callers held faults sink sink_now None so_far served ran res few opened told count read took law fine gathered = tt
 ends-known is_own shape known seats boxes old desks old_callers callers held faults sink sink_now (Some bytes) so_far served ran res few opened told count read took law fine gathered =
@@ -499,3 +532,83 @@ ends-known is_own shape known seats boxes old desks old_callers callers held fau
 pub unopened : (left held : Option (List ℕ)) (seats : ℕ) → IfSome left (λ bytes. EndsService {T = Unit {0}} seats (Err end.Memory) bytes held held)
 unopened None held seats = tt
 unopened (Some bytes) held seats = inl refl
+
+-- Causes.
+
+module _ {A B E : Type 0} where
+  pub read-cause : (so_far : Result A Failed) (ran : Result B E) (res : Result (Option FrameFault) NoFrame) → end_of so_far ran res ≡ Err end.Read → res ≡ Err none.Failed
+  read-cause (Err d) ran res e = absurd (let bad : Err end.Write ≡ Err end.Read = e in cc)
+  read-cause (Ok a) (Err x) res e = absurd (let bad : Err end.Memory ≡ Err end.Read = e in cc)
+  read-cause (Ok a) (Ok b) (Err none.Memory) e = absurd (let bad : Err end.Memory ≡ Err end.Read = e in cc)
+  read-cause (Ok a) (Ok b) (Err none.Failed) e = refl
+  read-cause (Ok a) (Ok b) (Ok (Some fault)) e = absurd (let bad : Err (end.Bad fault) ≡ Err end.Read = e in cc)
+  read-cause (Ok a) (Ok b) (Ok None) e = absurd (let bad : Ok tt ≡ Err end.Read = e in cc)
+
+  pub write-cause : (before now : ℕ) (so_far : Result A Failed) (ran : Result B E) (res : Result (Option FrameFault) NoFrame) → HasCause before now so_far → end_of so_far ran res ≡ Err end.Write → Rose before now
+  write-cause before now (Err d) ran res cause e = cause.failed
+  write-cause before now (Ok a) (Err x) res cause e = absurd (let bad : Err end.Memory ≡ Err end.Write = e in cc)
+  write-cause before now (Ok a) (Ok b) (Err none.Memory) cause e = absurd (let bad : Err end.Memory ≡ Err end.Write = e in cc)
+  write-cause before now (Ok a) (Ok b) (Err none.Failed) cause e = absurd (let bad : Err end.Read ≡ Err end.Write = e in cc)
+  write-cause before now (Ok a) (Ok b) (Ok (Some fault)) cause e = absurd (let bad : Err (end.Bad fault) ≡ Err end.Write = e in cc)
+  write-cause before now (Ok a) (Ok b) (Ok None) cause e = absurd (let bad : Ok tt ≡ Err end.Write = e in cc)
+
+  pub write-due : (before now : ℕ) (so_far : Result A Failed) (ran : Result B E) (res : Result (Option FrameFault) NoFrame) → HasCause before now so_far → before < now → end_of so_far ran res ≡ Err end.Write
+  write-due before now (Err d) ran res cause lt = refl
+  write-due before now (Ok a) ran res cause lt = absurd (let same : now ≡ before = cause.passed in omega (arith, lt, same))
+
+  pub fault-due : (so_far : Result A Failed) (ran : Result B E) (res : Result (Option FrameFault) NoFrame) → (res ≡ Err none.Failed) ⊎ (res ≡ Err none.Memory)
+      → (end_of so_far ran res ≡ Err end.Read) ⊎ (end_of so_far ran res ≡ Err end.Write) ⊎ (end_of so_far ran res ≡ Err end.Memory)
+  fault-due (Err d) ran res e = inr (inl refl)
+  fault-due (Ok a) (Err x) res e = inr (inr refl)
+  fault-due (Ok a) (Ok b) (Err none.Memory) e = inr (inr refl)
+  fault-due (Ok a) (Ok b) (Err none.Failed) e = inl refl
+  fault-due (Ok a) (Ok b) (Ok fault) (inl e) = absurd (let bad : Ok fault ≡ Err none.Failed = e in cc)
+  fault-due (Ok a) (Ok b) (Ok fault) (inr e) = absurd (let bad : Ok fault ≡ Err none.Memory = e in cc)
+
+-- The same of lists that are lent and given back.
+
+pub close-moved : {P : Type 0} (boxes : List (Outlet (Option Ask))) (ds desks : List (Desk P)) (cs callers : List Caller) → ds ≡ desks → cs ≡ callers → MayCloseAll boxes desks callers → MayCloseAll boxes ds cs
+close-moved {P} boxes ds desks cs callers e f h = subst (λ (x : List (Desk P)). MayCloseAll boxes x cs) (sym e) (subst (λ (x : List Caller). MayCloseAll boxes desks x) (sym f) h)
+
+pub over-moved : {P : Type 0} (is_own : P → Type 0) (shape : Shape) (known : P → Known) (ds desks : List (Desk P)) (r : Result Unit AllocError) → ds ≡ desks → OnOk r (AreOver is_own shape known desks) → OnOk r (AreOver is_own shape known ds)
+over-moved {P} is_own shape known ds desks r e h = subst (λ (x : List (Desk P)). OnOk r (AreOver is_own shape known x)) (sym e) h
+
+pub took-moved : {P : Type 0} (ds desks : List (Desk P)) (cs callers : List Caller) → ds ≡ desks → cs ≡ callers → HaveTakenFirst ds cs → HaveTakenFirst desks callers
+took-moved {P} ds desks cs callers e f h = subst (λ (x : List (Desk P)). HaveTakenFirst x callers) e (subst (λ (x : List Caller). HaveTakenFirst ds x) f h)
+
+pub gathered-moved : {P : Type 0} (known : P → Known) (ds desks : List (Desk P)) (r : Result Unit AllocError) → ds ≡ desks → OnOk r (HasGathered known ds) → OnOk r (HasGathered known desks)
+gathered-moved {P} known ds desks r e h = subst (λ (x : List (Desk P)). OnOk r (HasGathered known x)) e h
+
+pub told-moved : {P K : Type 0} (is_own : P → Type 0) (shape : Shape) (known : P → Known) (bs boxes : List (Outlet (Option Ask))) (ds old desks : List (Desk P)) (held : K → Option (List ℕ)) (faults : K → ℕ) (sink sink_now : K)
+    (told : Result Unit Failed × Result Unit AllocError) → bs ≡ boxes → ds ≡ old → HasToldBy is_own shape known bs ds desks held faults sink sink_now told → HasToldBy is_own shape known boxes old desks held faults sink sink_now told
+told-moved {P} is_own shape known bs boxes ds old desks held faults sink sink_now told e f h =
+    subst (λ (x : List (Outlet (Option Ask))). HasToldBy is_own shape known x old desks held faults sink sink_now told) e
+    (subst (λ (x : List (Desk P)). HasToldBy is_own shape known bs x desks held faults sink sink_now told) f h)
+
+pub read-moved : {S : Type 0} (left : S → Option (List ℕ)) (faults : S → ℕ) (bs boxes : List (Outlet (Option Ask))) (cs old callers : List Caller) (source source_now : S) (res : Result (Option FrameFault) NoFrame) → bs ≡ boxes → cs ≡ old
+    → HasReadBy left faults bs cs callers source source_now res → HasReadBy left faults boxes old callers source source_now res
+read-moved left faults bs boxes cs old callers source source_now res e f h =
+    subst (λ (x : List (Outlet (Option Ask))). HasReadBy left faults x old callers source source_now res) e
+    (subst (λ (x : List Caller). HasReadBy left faults bs x callers source source_now res) f h)
+
+-- desks that have all served are over
+module _ {P K : Type 0} (is_own : P → Type 0) (shape : Shape) (known : P → Known) (seats : ℕ) (boxes : List (Outlet (Option Ask))) (old desks : List (Desk P)) (old_callers callers : List Caller) (held : K → Option (List ℕ)) (faults : K → ℕ)
+    (sink sink_now : K) (so_far : Result Unit Failed) (served : Result Unit AllocError) (opened : IsOpened is_own shape known seats boxes old old_callers)
+    (told : HasToldBy is_own shape known boxes old desks held faults sink sink_now (so_far, served)) where
+  given-now : AreGiven seats 1 desks
+  given-now = given-still seats 1 old desks told.ran.clients (opened-given is_own shape known seats boxes old old_callers opened)
+
+  count-now : length desks ≡ seats
+  count-now = same-count old desks told.ran.clients ∙ desk-count is_own shape known seats boxes old old_callers opened
+
+  pub over-now : OnOk served (AreOver is_own shape known desks)
+  over-now = at served told.ran.served
+    where
+      at : (r : Result Unit AllocError) → OnOk r (All (λ desk. HasServed is_own shape known boxes desk told.after) desks) → OnOk r (AreOver is_own shape known desks)
+      at (Err x) h = tt
+      at (Ok x) h = are-over is_own shape known boxes told.after seats desks count-now (seat-length is_own shape known seats boxes old old_callers opened) given-now h
+
+  pub close-now : (left : Option (List ℕ)) (res : Result (Option FrameFault) NoFrame) → length callers ≡ length old_callers → HasRead (seat_notes seats) left boxes callers res → MayCloseAll boxes desks callers
+  close-now left res count read =
+      may-close seats (seat_notes seats) shape left boxes desks callers told.after res (box-count is_own shape known seats boxes old old_callers opened) count-now
+      (count ∙ caller-count is_own shape known seats boxes old old_callers opened) given-now told.ran.told read

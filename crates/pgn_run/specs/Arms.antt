@@ -1,5 +1,5 @@
 -- What the arms of a service come to.
-use Rattle.std.specs.Prelude.{◌≡◌, ◌⊎◌, ℕ, ◌<◌, ◌≤◌, Bool, true, cond, List, [], ◌++◌, length, flat_map, Option, All, Result, Err, OnOk}
+use Rattle.std.specs.Prelude.{◌≡◌, ◌⊎◌, ℕ, ◌<◌, ◌≤◌, Bool, true, cond, List, [], ◌++◌, length, flat_map, Option, All, Result, Ok, Err, OnOk}
 use Rattle.std.specs.declared.alloc.AllocError.{AllocError}
 use Rattle.pgn_base.specs.declared.source.Failed.{Failed}
 use Rattle.pgn_base.specs.Outside.{HasCause, Rose, Writes}
@@ -22,7 +22,7 @@ use Rattle.pgn_frames.specs.declared.frame_fault.FrameFault.{FrameFault}
 use Rattle.pgn_frames.specs.declared.framing.NoFrame.{NoFrame}
 use Rattle.pgn_frames.specs.declared.framing.NoFrame.TheVariants as none
 use Rattle.pgn_frames.specs.Frames.{Frame, IsFrame, frame_bytes, signs_of}
-use Rattle.pgn_frames.specs.Reading.{HasRead, MayCall}
+use Rattle.pgn_frames.specs.Reading.{HasReadAll, HasReadFirst, HasReadSome, MayCall}
 use Rattle.pgn_frames.specs.Writing.{Carry}
 use Rattle.pgn_run.specs.Service.{over_frame}
 
@@ -58,9 +58,15 @@ pub record HasToldBy {P S : Type 0} (is_own : P → Type 0) (shape : Shape) (kno
   pub writes : Writes (held sink) (held sink_now) told.0 (with_over over outs)
   pub cause : HasCause (faults sink) (faults sink_now) told.0
 
+-- by how a reader ended: what it has read and put
+abbrev pub HasRead : ℕ → Option (List ℕ) → List (Outlet (Option Ask)) → List Caller → Result (Option FrameFault) NoFrame → Type 0
+HasRead most bytes inboxes callers (Ok fault) = HasReadAll most bytes inboxes callers fault
+HasRead most bytes inboxes callers (Err none.Failed) = HasReadFirst most bytes inboxes callers
+HasRead most bytes inboxes callers (Err none.Memory) = HasReadSome most bytes inboxes callers
+
 -- the callers have called, and the source was read so far
 pub record HasReadBy {S : Type 0} (left : S → Option (List ℕ)) (faults : S → ℕ) (inboxes : List (Outlet (Option Ask))) (old new : List Caller) (source source_now : S) (res : Result (Option FrameFault) NoFrame) : Type 0 where
-  pub read : (most : ℕ) → MayCall most inboxes old → HasRead most (left source) new inboxes res
+  pub read : (most : ℕ) → MayCall most inboxes old → HasRead most (left source) inboxes new res
   pub count : length new ≡ length old
   pub later : faults source ≤ faults source_now
   pub failed : res ≡ Err none.Failed → Rose (faults source) (faults source_now)

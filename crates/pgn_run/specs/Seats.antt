@@ -16,7 +16,7 @@ use Rattle.pgn_turns.specs.declared.asked.Ask.{Ask}
 use Rattle.pgn_turns.specs.Asks.{seat_quit}
 use Rattle.pgn_seats.specs.declared.desk.Desk.{Desk}
 use Rattle.pgn_frames.specs.declared.caller.Caller.{Caller}
-use Rattle.pgn_frames.specs.Reading.{IsNewCaller}
+use Rattle.pgn_frames.specs.Reading.{Begins}
 use Rattle.pgn_run.specs.Service.{seat_notes, seat_section}
 
 -- what the hub of a service is opened for
@@ -60,19 +60,19 @@ pub record GivesInbox (old new : List (Outlet (Option Ask))) (put asks : Pass (O
   pub takes : knows asks ≡ taker
 
 -- a desk with a session, and a caller, at an inbox of which nothing was taken and into which nothing was put
-pub record IsPlaced {P : Type 0} (most : ℕ) (session : Session P) (inbox : Outlet (Option Ask)) (desk : Desk P) (caller : Caller) : Type 0 where
+pub record IsPlaced {P : Type 0} (most seat : ℕ) (session : Session P) (inbox : Outlet (Option Ask)) (desk : Desk P) (caller : Caller) : Type 0 where
   pub has : desk.session ≡ session
   pub own : IsPassOf inbox desk.asks
   pub takes : knows desk.asks ≡ taker
   pub counted : desk.notes ≡ 0
-  pub calls : IsNewCaller most inbox caller
+  pub calls : Begins most seat inbox caller
 
 -- a session has got a desk, a caller and an inbox behind the others
 pub record SitsMore {P : Type 0} (most : ℕ) (session : Session P) (inboxes more_inboxes : List (Outlet (Option Ask))) (desks more_desks : List (Desk P)) (callers more_callers : List Caller) : Type 0 where
   pub inbox : Outlet (Option Ask)
   pub desk : Desk P
   pub caller : Caller
-  pub seat : IsPlaced most session inbox desk caller
+  pub seat : (number : ℕ) → IsPlaced most number session inbox desk caller
   pub inboxes_are : more_inboxes ≡ inboxes ++ inbox ∷ []
   pub desks_are : more_desks ≡ desks ++ desk ∷ []
   pub callers_are : more_callers ≡ callers ++ caller ∷ []
@@ -80,7 +80,7 @@ pub record SitsMore {P : Type 0} (most : ℕ) (session : Session P) (inboxes mor
 -- what the seat of this number has, with this pass
 pub record IsNewSeat {P : Type 0} (known : P → Known) (seats seat : ℕ) (pass : P) (inbox : Outlet (Option Ask)) (desk : Desk P) (caller : Caller) : Type 0 where
   pub session : IsNewSession known seats seat pass desk.session
-  pub seated : IsPlaced (seat_notes seats) desk.session inbox desk caller
+  pub seated : IsPlaced (seat_notes seats) seat desk.session inbox desk caller
 
 -- what the seats from this number on have, each with one of these passes
 abbrev pub AreNewSeats : {P : Type 0} → (P → Known) → ℕ → ℕ → List P → List (Outlet (Option Ask)) → List (Desk P) → List Caller → Type 0

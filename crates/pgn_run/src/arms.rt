@@ -4,11 +4,12 @@ ghost use Rattle.pgn_outlet.specs.Passes.{IsPassOf, knows};
 ghost use Rattle.pgn_outlet.specs.Rule as rule;
 ghost use Rattle.pgn_text.specs.Rendering.{Puts};
 ghost use Rattle.pgn_seats.specs.Desks.{HaveServed, MayServe};
-ghost use Rattle.pgn_frames.specs.Reading.{HasRead, MayCall};
+ghost use Rattle.pgn_frames.specs.Reading.{MayCall};
 ghost use Rattle.pgn_frames.specs.Writing.{Wrote};
 ghost use Rattle.pgn_run.specs.Arms.{HasReadBy, HasToldBy, HasWrittenRest};
 ghost use Rattle.pgn_run.specs.Service.{over_frame};
 
+use crate::start::Start;
 use pgn_base::{Failed, Sink, Source};
 use pgn_frames::{
     Caller,
@@ -24,7 +25,6 @@ use pgn_outlet::{Bell, Outlet, OutletPass};
 use pgn_seats::{Desk, Inbox, Tells, serve_seats};
 use pgn_text::Out;
 use pgn_turns::Saying;
-use pgn_workers::Meeting;
 use std::alloc::{AllocError, Global};
 use std::sync::Wait;
 use std::sync::atomic::{AtomicU64, Ordering};
@@ -40,7 +40,7 @@ struct Hall<'a, H> {
     inboxes: &'a [Inbox],
     outbox: &'a Outlet<Saying>,
     // On which they meet the reader.
-    meeting: &'a Meeting,
+    meeting: &'a Start,
     // Set once the desks are done; then the bell is rung.
     end: AtomicU64,
     bell: Bell,
@@ -77,11 +77,11 @@ pub(crate) fn run_arms<
 )
     requires may { MayServe (H.is_pass hub.now) (H.shape hub.now) P.known inboxes.now desks.old rule.sender }
     requires call { (most : ℕ) × MayCall most inboxes.now callers.old }
-    requires seats { length callers.old ≡ length (H.shape hub.now).seats }
+    requires seats { length (H.shape hub.now).seats ≡ length callers.old }
     ensures told { HasToldBy (H.is_pass hub.now) (H.shape hub.now) P.known inboxes.now desks.old desks.new K.held K.faults sink.old sink.new result.0 }
     ensures read { HasReadBy S.left S.faults inboxes.now callers.old callers.new source.old source.new result.1 }
 {
-    let meeting = Meeting::new();
+    let meeting = Start::new();
     join_mut(
         rt,
         &mut || -> Told
@@ -89,7 +89,7 @@ pub(crate) fn run_arms<
             ensures { HasToldBy (H.is_pass hub.entry.now) (H.shape hub.entry.now) P.known inboxes.entry.now desks.entry.now desks.exit.now K.held K.faults sink.entry.now sink.exit.now result }
         { serve_and_write(rt, alloc, hub, inboxes, &meeting, desks, sink) },
         &mut || -> Result<Option<FrameFault>, NoFrame>
-            requires { ((most : ℕ) × MayCall most inboxes.now callers.now) × (length callers.now ≡ length (H.shape hub.now).seats) }
+            requires { ((most : ℕ) × MayCall most inboxes.now callers.now) × (length (H.shape hub.now).seats ≡ length callers.now) }
             ensures { HasReadBy S.left S.faults inboxes.entry.now callers.entry.now callers.exit.now source.entry.now source.exit.now result }
         { read_where_met(rt, alloc, hub, inboxes, &meeting, callers, source) },
     )
@@ -102,12 +102,12 @@ fn read_where_met<H: Hub, R: Wait, S: Source>(
     alloc: Global,
     hub: &H,
     inboxes: &[Inbox],
-    meeting: &Meeting,
+    meeting: &Start,
     callers: &mut [Caller],
     source: &mut S,
 ) -> Result<Option<FrameFault>, NoFrame>
     requires call { (most : ℕ) × MayCall most inboxes.now callers.old }
-    requires seats { length callers.old ≡ length (H.shape hub.now).seats }
+    requires seats { length (H.shape hub.now).seats ≡ length callers.old }
     ensures { HasReadBy S.left S.faults inboxes.now callers.old callers.new source.old source.new result }
 {
     if !meeting.expects(rt) {
@@ -129,7 +129,7 @@ fn serve_and_write<
     alloc: Global,
     hub: &H,
     inboxes: &[Inbox],
-    meeting: &Meeting,
+    meeting: &Start,
     desks: &mut [Desk<P>],
     sink: &mut K,
 ) -> Told
@@ -173,7 +173,6 @@ fn is_over(begun: bool, served: Result<(), AllocError>) -> bool
 }
 
 // Writes what is left in an outbox once the desks are done, and ends it.
-#[tactic(auto, using(crate::proofs::ArmLaws::rest_laws))]
 fn write_to_the_end<R: Wait, K: Sink>(
     rt: &R,
     outbox: Outlet<Saying>,
@@ -231,7 +230,7 @@ fn serve_beside<
     ensures served { HaveServed (H.is_pass hall.now.hub.now) (H.shape hall.now.hub.now) P.known hall.now.inboxes.now desks.old desks.new (knows tells.old.pass) (knows tells.new.pass) result.0 }
     ensures wrote { Wrote K.held K.faults (knows writing.old.takes) (knows writing.new.takes) sink.old writing.old.out sink.new writing.new.out }
 {
-    let met = Meeting::new();
+    let met = Start::new();
     let ((), served) = join_mut(
         rt,
         &mut || -> ()
@@ -251,7 +250,7 @@ fn serve_beside<
 fn write_where_met<H: Hub + Sync, R: Wait, K: Sink>(
     rt: &R,
     hall: &Hall<'_, H>,
-    met: &Meeting,
+    met: &Start,
     writing: &mut Writing,
     sink: &mut K,
 )
@@ -283,7 +282,7 @@ fn serve_and_end<
     rt: &R,
     alloc: Global,
     hall: &Hall<'_, H>,
-    met: &Meeting,
+    met: &Start,
     desks: &mut [Desk<P>],
     tells: &mut Tells,
 ) -> (Result<(), AllocError>, bool)
@@ -308,7 +307,7 @@ fn serve_where_met<
     rt: &R,
     alloc: Global,
     hall: &Hall<'_, H>,
-    met: &Meeting,
+    met: &Start,
     desks: &mut [Desk<P>],
     tells: &mut Tells,
 ) -> (Result<(), AllocError>, bool)

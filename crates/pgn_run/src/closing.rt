@@ -36,17 +36,38 @@ pub(crate) fn close<P: PassView + Send + Drop, H: Hub<Pass = P> + Drop, R: Wait>
     } = seating;
     let left = leave_all(rt, alloc, inboxes.as_slice(), desks, callers);
     destroy_all(inboxes);
-    let Ok(passes) = left else {
-        drop(hub);
-        return Err(AllocError);
-    };
-    if served.is_err() {
-        drop(passes);
-        drop(hub);
-        return Err(AllocError);
+    match left {
+        Ok(passes) => gather_where_served(hub, passes, served),
+        Err(error) => {
+            drop(hub);
+            Err(error)
+        }
     }
-    gather_all(hub, passes);
-    Ok(())
+}
+
+// Gathers the passes of a hub, where its desks have served.
+fn gather_where_served<P: PassView + Send + Drop, H: Hub<Pass = P> + Drop>(
+    hub: H,
+    passes: Vec<P>,
+    served: Result<(), AllocError>,
+) -> Result<(), AllocError>
+    requires own { OnOk served (All (H.is_pass hub) passes.items) }
+    requires all { OnOk served (map (λ pass. (P.known pass).session) passes.items ≡ range_with_len 1 (length (H.shape hub).seats)) }
+    ensures ran { OnOk result (served ≡ Ok tt) }
+    ensures gathered { OnOk result ((count : _) × Gathered (map P.known passes.items) count) }
+    ensures within { OnOk result (All (λ pass. IsWithin (P.known pass)) passes.items) }
+{
+    match served {
+        Ok(()) => {
+            gather_all(hub, passes);
+            Ok(())
+        }
+        Err(error) => {
+            drop(passes);
+            drop(hub);
+            Err(error)
+        }
+    }
 }
 
 // Gathers the passes of a hub.

@@ -1,13 +1,20 @@
-//! How an input of `check` is parted, what is written live, and what a client's trace may be so far; beside each what is refused.
-ghost use Rattle.std.specs.Prelude.{◌≡◌, [], ◌∷◌, ◌++◌, None, Some, codes};
+//! How an input of `check` is parted, what is written live, what a client's trace may be so far, and what seats are served; beside each what
+//! is refused.
+ghost use Rattle.std.specs.Prelude.{◌≡◌, [], ◌∷◌, ◌++◌, map, None, Some, codes};
 ghost use Rattle.pgn_base.specs.declared.answers.Tag.TheVariants as tag;
-ghost use Rattle.pgn_model.specs.declared.item.Item.TheVariants.{Line, Reply};
+ghost use Rattle.pgn_model.specs.declared.item.Item.TheVariants.{Line, Read, Reply};
 ghost use Rattle.pgn_live.specs.Lives.{came_from};
 ghost use Rattle.pgn_queries.specs.Examples.{listen_line};
 ghost use Rattle.pgn_run.specs.Checking.{parts_of};
 ghost use Rattle.pgn_run.specs.Conversation.{IsAnsweredSoFar, IsSoFar};
 ghost use Rattle.pgn_run.specs.Live.{end_text, live_text};
+ghost use Rattle.pgn_turns.specs.declared.asked.Ask.TheVariants.{Query};
+ghost use Rattle.pgn_turns.specs.Asks.{seat_quit};
+ghost use Rattle.pgn_turns.specs.Examples.{idle_items, listen, listen_bytes, other_bytes, sent_by};
+ghost use Rattle.pgn_run.specs.Service.{IsToldOf, RunsSeats, StopsServing};
 ghost use Rattle.pgn_run.specs.Examples.{came_text, client, ended, ended_text, listens, listens_on, one_sent};
+
+use pgn_turns::examples::{not_told, told};
 
 /// The first line `\output` parts an input, be it its first line or its last.
 pub fn parts()
@@ -39,3 +46,22 @@ pub fn so_far()
     ensures none_answered { IsAnsweredSoFar (listen_line ∷ []) (λ items. items ≡ []) → ⊥ }
     ensures half_answered { IsAnsweredSoFar (listen_line ∷ []) (λ items. items ≡ Line 1 ∷ []) → ⊥ }
 {}
+
+/// What the clients of seats are told, and what may stand written.
+pub fn seats()
+    // A client that listened heard a notification, and then nobody asked more.
+    ensures told { IsToldOf (Query listen ∷ []) (idle_items ++ Line seat_quit.line ∷ []) (map Some (listen_bytes ++ other_bytes)) }
+    // The notification left out; a notification that comes behind the `\quit`.
+    ensures read_left_out { IsToldOf (Query listen ∷ []) (idle_items ++ Line seat_quit.line ∷ []) (map Some listen_bytes) → ⊥ }
+    ensures read_behind { IsToldOf [] (Line seat_quit.line ∷ Read 3 4 (sent_by 1002 ∷ []) ∷ []) [] → ⊥ }
+    // Nobody asked anything: nothing is written, and no part of a frame.
+    ensures nothing { RunsSeats 1 [] (λ text. text ≡ []) }
+    ensures half_a_frame { RunsSeats 1 [] (λ text. text ≡ 0 ∷ 1 ∷ 0 ∷ []) → ⊥ }
+    // Memory did not suffice: nothing was written, or a frame that says so, and no part of it.
+    ensures stops { StopsServing 1 [] (λ text. text ≡ []) }
+    ensures stops_and_says_so { StopsServing 1 [] (λ text. text ≡ 0 ∷ 0 ∷ 0 ∷ 0 ∷ []) }
+    ensures half_of_that { StopsServing 1 [] (λ text. text ≡ 0 ∷ 0 ∷ []) → ⊥ }
+{
+    told();
+    not_told();
+}

@@ -37,6 +37,7 @@ mod scenario_run;
 mod seating;
 mod serve;
 mod service;
+mod start;
 mod status;
 mod wire;
 

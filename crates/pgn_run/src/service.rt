@@ -9,6 +9,7 @@ use crate::seating::{Seating, open};
 use pgn_base::{Failed, Seed, Sink, Source};
 use pgn_frames::{FrameFault, NoFrame};
 use pgn_hub::{Hub, PassView};
+use pgn_threads::laws::runs_are_legal;
 use std::alloc::{AllocError, Global};
 use std::sync::Wait;
 use std::thread::Threads;
@@ -77,6 +78,7 @@ pub fn run_service<
         desks,
         callers,
     };
+    runs_are_legal();
     let ran = close(rt, alloc, hub, seating, served);
     answer(so_far, ran, read)
 }

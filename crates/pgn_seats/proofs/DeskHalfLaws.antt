@@ -1,5 +1,5 @@
 -- Desks that serve and tell, in two halves.
-use Rattle.std.proofs.Common.{◌≡◌, ℕ, ◌+◌, ◌-◌, ◌<◌, ◌≤◌, List, [], ◌++◌, length, All, Result, Ok, Err, OnOk, sym, ap, ◌∙◌, refl, arith, append-nil, length-append}
+use Rattle.std.proofs.Common.{◌≡◌, ℕ, ◌+◌, ◌-◌, ◌<◌, ◌≤◌, List, [], ◌++◌, length, Option, All, Result, Ok, Err, OnOk, sym, ap, ◌∙◌, refl, arith, append-nil, length-append}
 use Rattle.std.specs.Result.{result_and}
 use Rattle.std.proofs.lemmas.List.Elements.{All-append}
 use Rattle.pgn_hub.specs.declared.known.Known.{Known}

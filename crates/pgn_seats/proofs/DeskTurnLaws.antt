@@ -24,12 +24,10 @@ use Rattle.pgn_turns.specs.declared.saying.Saying.{Saying}
 use Rattle.pgn_turns.specs.Asks.{seat_quit}
 use Rattle.pgn_turns.specs.Sayings.{all_told}
 use Rattle.pgn_turns.specs.Turns.{IsPlain, asks_of, items_of}
-use Rattle.pgn_workers.specs.declared.turn.Turn.{Turn}
-use Rattle.pgn_workers.specs.declared.turn.Turn.TheVariants.{Ended}
 use Rattle.pgn_seats.specs.declared.desk.Desk.{Desk}
 use Rattle.pgn_seats.specs.Serving.{HasPushedFor, HasServed, HasToldFirst, IsSeated, Serves}
 use Rattle.pgn_seats.specs.Desks.{AreSameClients, HaveServed, MayBegin, MayServe, sections_of}
-use Rattle.pgn_seats.specs.Workers.{AreInARow, HasSeat, HasTakenTurn, HaveGone, IsNoneOf, MayGo, StandsBy}
+use Rattle.pgn_seats.specs.Workers.{AreInARow, HasSeat, HaveGone, IsNoneOf, MayGo, StandsBy}
 use Rattle.pgn_seats.proofs.DeskRowLaws.{both-hold, by-number, clients-all, clients-both, clients-count, clients-none, clients-numbered, clients-on, each-numbered, none-before, none-behind, row-behind, row-front}
 
 -- an element that is there
@@ -155,9 +153,6 @@ module _ {P : Type 0} (is_own : P → Type 0) (shape : Shape) (known : P → Kno
   pub seated-stands : (refused : Bool) (v : Hand Saying) (d : Desk P) → refused ≡ false → IsSeated is_own shape known inboxes d v → StandsBy is_own shape known inboxes refused v d
   seated-stands refused v d fine h = subst (λ (b : Bool). StandsBy is_own shape known inboxes b v d) (sym fine) h
 
-  pub first-stands : (refused : Bool) (v : Hand Saying) (d : Desk P) → refused ≡ true → HasToldFirst shape inboxes d v → StandsBy is_own shape known inboxes refused v d
-  first-stands refused v d was h = subst (λ (b : Bool). StandsBy is_own shape known inboxes b v d) (sym was) h
-
   -- where others have told
   stand-apart : (xs others : List (Desk P)) (a b : Bool) (v w : Hand Saying) → (b ≡ false → a ≡ false) → All (λ d. IsNoneOf d.session.section.no others) xs
       → ((m : ℕ) → IsNoneOf m others → what_of m w.sent ≡ what_of m v.sent) → All (StandsBy is_own shape known inboxes a v) xs → All (StandsBy is_own shape known inboxes b w) xs
@@ -174,36 +169,6 @@ module _ {P : Type 0} (is_own : P → Type 0) (shape : Shape) (known : P → Kno
     stays = stays;
     same = alone.same;
     others = λ m none. alone.others m (λ is. All-head (λ (x : Desk P). x.session.section.no ≢ m) d [] none (sym is));
-  }
-
-  -- a turn that was not refused, one that was, and one that was refused before it began
-  pub turned : {E : Type 0} (old new : Desk P) (a : Bool) (v w : Hand Saying) (r : Result Turn E) (turn : Turn) → a ≡ false → IsSameClient old.session new.session → HasPushedFor old.session.section.no v w
-      → OnOk r (IsSeated is_own shape known inboxes new w) → (r ≡ Ok Ended → HasServed is_own shape known inboxes new w) → r ≡ Ok turn → HasTakenTurn {E = E} is_own shape known inboxes old new a a v w (Ok turn)
-  turned {E} old new a v w r turn fine same alone seated over is = record {
-    same = same;
-    alone = alone;
-    stands = seated-stands a w new fine (subst (λ (x : Result Turn E). OnOk x (IsSeated is_own shape known inboxes new w)) is seated);
-    stays = λ stays. stays;
-    ended = λ ended. (over (is ∙ ended)).over;
-  }
-
-  pub turned-refused : {E : Type 0} (old new : Desk P) (a : Bool) (v w : Hand Saying) (e : E) → IsSameClient old.session new.session → HasPushedFor old.session.section.no v w → HasToldFirst shape inboxes new w
-      → HasTakenTurn {E = E} is_own shape known inboxes old new a true v w (Err e)
-  turned-refused old new a v w e same alone told = record {
-    same = same;
-    alone = alone;
-    stands = told;
-    stays = λ fine. absurd (true≢false fine);
-    ended = λ ended. absurd (cc);
-  }
-
-  pub not-turned : {E : Type 0} (d : Desk P) (a : Bool) (v : Hand Saying) (e : E) → StandsBy is_own shape known inboxes a v d → HasTakenTurn {E = E} is_own shape known inboxes d d a a v v (Err e)
-  not-turned d a v e stands = record {
-    same = record { section = refl; plan = refl; patience = refl };
-    alone = record { same = refl; others = λ m apart. refl };
-    stands = stands;
-    stays = λ fine. fine;
-    ended = λ ended. absurd (cc);
   }
 
   -- the first part of a round, and the second behind it

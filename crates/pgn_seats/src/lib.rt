@@ -11,8 +11,8 @@
 
 mod answering;
 mod desk;
-pub mod examples;
 mod desks;
+pub mod examples;
 mod hearing;
 mod lines;
 mod quitting;

@@ -29,7 +29,7 @@ const SECOND: &str = "1 LISTEN c; 2 ; 3 refused; .";
 
 // Puts a frame.
 fn put(bytes: &mut Vec<u8>, seat: u8, body: &[u8]) -> Result<(), AllocError> {
-    let size = (body.len() as u16).to_be_bytes();
+    let size = (body.len().min(65_535) as u16).to_be_bytes();
     bytes.extend_from_slice(&[0, seat])?;
     bytes.extend_from_slice(&size)?;
     bytes.extend_from_slice(body)
@@ -64,7 +64,9 @@ fn by_bytes(alloc: Global) -> Result<Vec<u8>, AllocError> {
 }
 
 fn is_talk(came: &Came) -> bool {
-    came.asks[0].as_str() == FIRST && came.asks[1].as_str() == SECOND && came.asks[2].as_str() == "."
+    came.first.as_str() == FIRST
+        && came.second.as_str() == SECOND
+        && came.third.as_str() == "."
         && matches!(came.end, Ok(None))
 }
 
@@ -93,7 +95,12 @@ fn a_frame_a_byte(rt: HostRuntime) -> Result<(), Fail> {
 }
 
 // What comes of these frames at seat 1, and a seat that never spoke ends.
-fn at_first<R: Wait>(rt: &R, alloc: Global, bodies: &[&[u8]], tail: &[u8]) -> Result<Came, AllocError> {
+fn at_first<R: Wait>(
+    rt: &R,
+    alloc: Global,
+    bodies: &[&[u8]],
+    tail: &[u8],
+) -> Result<Came, AllocError> {
     let mut bytes = Vec::new(alloc);
     for body in bodies {
         put(&mut bytes, 1, body)?;
@@ -107,13 +114,16 @@ fn a_client_ends(rt: HostRuntime) -> Result<(), Fail> {
     let alloc = rt.alloc();
     // That of a seat that never spoke, within a message, behind a Terminate, and with one query more than may notify.
     let came = at_first(&rt, alloc, &[b""], b"")?;
-    assert_eq!(rt; came.asks[0].as_str(), "1 plain; .");
+    assert_eq!(rt; came.first.as_str(), "1 plain; .");
     let came = at_first(&rt, alloc, &[b"Q\0\0", b"", LISTEN], b"")?;
-    assert_eq!(rt; came.asks[0].as_str(), "1 refused; 3 LISTEN c; .");
+    assert_eq!(rt; came.first.as_str(), "1 refused; 3 LISTEN c; .");
     let came = at_first(&rt, alloc, &[TERMINATE, LISTEN, b"", LISTEN], b"")?;
-    assert_eq!(rt; came.asks[0].as_str(), "1 plain; 3 LISTEN c; .");
+    assert_eq!(rt; came.first.as_str(), "1 plain; 3 LISTEN c; .");
     let came = at_first(&rt, alloc, &[NOTIFY, NOTIFY, NOTIFY, LISTEN], b"")?;
-    assert_eq!(rt; came.asks[0].as_str(), "1 NOTIFY c, 'x'; 2 NOTIFY c, 'x'; 3 spent; .");
+    assert_eq!(rt;
+        came.first.as_str(),
+        "1 NOTIFY c, 'x'; 2 NOTIFY c, 'x'; 3 spent; ."
+    );
     Ok(())
 }
 
@@ -122,15 +132,15 @@ fn the_input_ends(rt: HostRuntime) -> Result<(), Fail> {
     let alloc = rt.alloc();
     // Between two frames; inside a message; inside a head, and inside a body.
     let came = at_first(&rt, alloc, &[LISTEN], b"")?;
-    assert_eq!(rt; came.asks[0].as_str(), "1 LISTEN c; .");
+    assert_eq!(rt; came.first.as_str(), "1 LISTEN c; .");
     let came = at_first(&rt, alloc, &[LISTEN, b"Q\0\0\0\x0dLIS"], b"")?;
-    assert_eq!(rt; came.asks[0].as_str(), "1 LISTEN c; .");
+    assert_eq!(rt; came.first.as_str(), "1 LISTEN c; .");
     assert!(rt; matches!(came.end, Ok(None)));
     let came = at_first(&rt, alloc, &[LISTEN], b"\0\x01\0")?;
-    assert_eq!(rt; came.asks[0].as_str(), "1 LISTEN c; .");
+    assert_eq!(rt; came.first.as_str(), "1 LISTEN c; .");
     assert!(rt; matches!(came.end, Ok(Some(FrameFault::CutFrame { at: 18 }))));
     let came = at_first(&rt, alloc, &[LISTEN], b"\0\x01\0\x06Q\0\0\0\x05")?;
-    assert_eq!(rt; came.asks[0].as_str(), "1 LISTEN c; .");
+    assert_eq!(rt; came.first.as_str(), "1 LISTEN c; .");
     assert!(rt; matches!(came.end, Ok(Some(FrameFault::CutFrame { at: 18 }))));
     Ok(())
 }
@@ -139,7 +149,7 @@ fn the_input_ends(rt: HostRuntime) -> Result<(), Fail> {
 fn a_bad_seat(rt: HostRuntime) -> Result<(), Fail> {
     let alloc = rt.alloc();
     let came = at_first(&rt, alloc, &[LISTEN], b"\0\x04\0\0")?;
-    assert_eq!(rt; came.asks[0].as_str(), "1 LISTEN c; .");
+    assert_eq!(rt; came.first.as_str(), "1 LISTEN c; .");
     assert!(rt; matches!(came.end, Ok(Some(FrameFault::NoSeat { at: 18 }))));
     let came = at_first(&rt, alloc, &[LISTEN], b"\0\0\0\0")?;
     assert!(rt; matches!(came.end, Ok(Some(FrameFault::NoSeat { at: 18 }))));
@@ -159,8 +169,8 @@ fn the_longest_query(rt: HostRuntime) -> Result<(), Fail> {
         put(&mut bytes, 3, piece)?;
     }
     let came = read(&rt, alloc, &bytes, 4_096)?;
-    assert!(rt; came.asks[2].as_str().ends_with("xx; 2 LISTEN c; ."));
-    assert_eq!(rt; came.asks[0].as_str(), ".");
+    assert!(rt; came.third.as_str().ends_with("xx; 2 LISTEN c; ."));
+    assert_eq!(rt; came.first.as_str(), ".");
     Ok(())
 }
 
@@ -173,7 +183,7 @@ fn the_source_fails(rt: HostRuntime) -> Result<(), Fail> {
     // The reads of a frame are that of its head and that of its body.
     let mut source = MemSource::new(bytes, Vec::from_slice(alloc, &[4])?, 64);
     let came = read_from(&rt, alloc, &mut source)?;
-    assert_eq!(rt; came.asks[0].as_str(), "1 LISTEN c; .");
+    assert_eq!(rt; came.first.as_str(), "1 LISTEN c; .");
     assert!(rt; matches!(came.end, Err(NoFrame::Failed)));
     Ok(())
 }

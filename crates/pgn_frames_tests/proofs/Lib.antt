@@ -1,0 +1,2 @@
+-- three seats
+pub mod SeatLaws

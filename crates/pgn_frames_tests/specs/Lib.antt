@@ -1,0 +1,2 @@
+-- seats of tests
+pub mod Seats
