@@ -8,5 +8,6 @@ pub mod Desks
 pub mod Examples
 -- desks as workers
 pub mod Workers
+
 -- desks as workers
 -- examples
