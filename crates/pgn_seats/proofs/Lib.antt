@@ -8,12 +8,12 @@ pub mod WorkLaws
 pub mod DoneLaws
 -- a desk over a turn
 pub mod SeatLaws
-pub mod DeskHalfLaws
-pub mod DeskRowLaws
-pub mod DeskTurnLaws
 -- desks by their numbers
+pub mod DeskRowLaws
 -- desks over turns
+pub mod DeskTurnLaws
 -- desks in two halves
+pub mod DeskHalfLaws
 -- desks as workers
 pub mod DeskWorkLaws
 -- why examples are refused

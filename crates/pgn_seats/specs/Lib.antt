@@ -4,10 +4,7 @@ pub mod Serving
 pub mod Working
 -- desks side by side
 pub mod Desks
--- examples
-pub mod Examples
 -- desks as workers
 pub mod Workers
-
--- desks as workers
 -- examples
+pub mod Examples
