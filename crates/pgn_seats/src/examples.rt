@@ -7,9 +7,10 @@ ghost use Rattle.pgn_outlet.specs.declared.outlet.Outlet.{Outlet};
 ghost use Rattle.pgn_outlet.specs.Cames.{what_of};
 ghost use Rattle.pgn_outlet.specs.Passes.{knows};
 ghost use Rattle.pgn_seats.specs.declared.desk.Desk.{Desk};
+ghost use Rattle.pgn_seats.specs.Desks.{MayBegin};
 ghost use Rattle.pgn_seats.specs.Examples.{for_seat, heard_one, listened, quit_items, read_items, told};
-ghost use Rattle.pgn_seats.specs.Serving.{HasInbox, HasPushedFor, HasQuitBehind, HasServed, HasToldFirst, IsInTurns, taken};
-ghost use Rattle.pgn_session.specs.declared.doing.Doing.TheVariants.{Lines};
+ghost use Rattle.pgn_seats.specs.Serving.{HasInbox, HasPushedFor, HasQuitBehind, HasServed, HasToldFirst, IsInTurns, Serves, taken};
+ghost use Rattle.pgn_session.specs.declared.doing.Doing.TheVariants.{Lines, Over};
 ghost use Rattle.pgn_session.specs.declared.session.Session.{Session};
 ghost use Rattle.pgn_session.specs.Runs.{IsLawful};
 ghost use Rattle.pgn_turns.specs.declared.asked.Ask.{Ask};
@@ -48,6 +49,22 @@ pub fn pushed()
     ensures misnamed { (saying : Saying) → HasPushedFor 1 (told []) (told (for_seat 2 saying ∷ [])) → ⊥ }
     // What another seat was told is not there any more.
     ensures lost { (saying : Saying) → HasPushedFor 1 (told (for_seat 2 saying ∷ [])) (told []) → ⊥ }
+{}
+
+/// A desk that serves.
+pub fn serves()
+    // One that may begin does, where nothing was told.
+    ensures begins { (shape : Shape) (known : ℕ → Known) (inboxes : List (Outlet (Option Ask))) (desk : Desk ℕ) (tells : Hand Saying) → MayBegin (λ pass. Unit {0}) shape known inboxes desk → tells.sent ≡ []
+        → Serves (λ pass. Unit {0}) shape known inboxes desk tells }
+    // A line that nobody asked for.
+    ensures not_asked { (shape : Shape) (known : ℕ → Known) (inboxes : List (Outlet (Option Ask))) (desk : Desk ℕ) (tells : Hand Saying) → taken desk.session.section.no (knows desk.asks) ≡ []
+        → desk.session.section.lines ≡ line_of listen ∷ seat_quit ∷ [] → Serves (λ pass. Unit {0}) shape known inboxes desk tells → ⊥ }
+    // A line that notifies, and was not counted.
+    ensures uncounted { (shape : Shape) (known : ℕ → Known) (inboxes : List (Outlet (Option Ask))) (desk : Desk ℕ) (tells : Hand Saying) → desk.notes ≡ 0 → desk.session.section.lines ≡ line_of notify ∷ seat_quit ∷ []
+        → Serves (λ pass. Unit {0}) shape known inboxes desk tells → ⊥ }
+    // Its session has quit.
+    ensures over { (shape : Shape) (known : ℕ → Known) (inboxes : List (Outlet (Option Ask))) (desk : Desk ℕ) (tells : Hand Saying) → desk.session.doing ≡ Over
+        → Serves (λ pass. Unit {0}) shape known inboxes desk tells → ⊥ }
 {}
 
 /// A desk that has served.
