@@ -263,8 +263,10 @@ fn open_desks(
         second,
         tells,
     } = parts;
+    let one = desk(alloc, board, 1, pass_1, first)?;
+    let two = desk(alloc, board, 2, pass_2, second)?;
     let mut desks = Vec::with_capacity(alloc, 2)?;
-    desks.push(desk(alloc, board, 1, pass_1, first)?)?;
-    desks.push(desk(alloc, board, 2, pass_2, second)?)?;
+    desks.push(one)?;
+    desks.push(two)?;
     Ok((desks, Tells::new(tells)))
 }

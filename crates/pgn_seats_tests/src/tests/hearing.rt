@@ -1,3 +1,12 @@
+ghost use Rattle.std.specs.Prelude.{◌≡◌, length};
+ghost use Rattle.std.specs.Thread.{IsSync};
+ghost use Rattle.pgn_outlet.specs.Passes.{IsPassOf, knows};
+ghost use Rattle.pgn_outlet.specs.Rule.{sender, taker};
+ghost use Rattle.pgn_seats.specs.Desks.{MayServe};
+ghost use Rattle.pgn_seats_tests.specs.Rights.{IsOfInbox, MayAsk, MayHear};
+ghost use Rattle.pgn_words.specs.Passes.{known_of};
+ghost use Rattle.pgn_wordhub.specs.Passes.{IsHubPass, hub_shape};
+
 use super::*;
 use std::sync::atomic::AtomicU64;
 use std::time::Duration;
