@@ -1,6 +1,6 @@
 -- What the writer has taken and given out.
-use Rattle.std.proofs.Common.{◌≡◌, ℕ, ◌<◌, ◌==◌, Bool, true, false, cond, List, [], ◌∷◌, ◌++◌, length, All, Option, Some, None, sym, ap, ◌∙◌, subst, refl, arith, append-nil, append_assoc}
-use Rattle.std.specs.Prelude.{flat_map, map}
+use Rattle.std.proofs.Common.{◌≡◌, ℕ, ◌<◌, ◌==◌, Bool, true, false, cond, List, [], ◌∷◌, ◌++◌, length, Option, Some, None, sym, ap, ◌∙◌, subst, refl, arith, append-nil, append_assoc}
+use Rattle.std.specs.Prelude.{map}
 use Rattle.std.proofs.lemmas.Grind.{flat_map-append}
 use Rattle.std.proofs.lemmas.List.{map-append}
 use Rattle.std.proofs.lemmas.List.Elements.{All-nil, All-cons, All-append}
@@ -15,7 +15,7 @@ use Rattle.pgn_text.proofs.PutsLaws.{Puts-none, Puts-trans, Puts-same}
 use Rattle.pgn_turns.specs.declared.saying.Saying.{Saying}
 use Rattle.pgn_turns.specs.Sayings.{all_told, signs_told}
 use Rattle.pgn_frames.specs.Frames.{Frame, IsFrame, frame_bytes, signs_in, signs_of}
-use Rattle.pgn_frames.specs.Writing.{Carry, Gave, Wrote}
+use Rattle.pgn_frames.specs.Writing.{Gave, Wrote}
 use Rattle.pgn_frames.proofs.SignLaws.{signs_of-append}
 
 -- signs of a seat, or none

@@ -1,6 +1,6 @@
 -- What `clap` makes of all words is what they ask for.
 use Rattle.std.proofs.Common.{◌≡◌, ◌∙◌, ℕ, Bool, true, false, cond, List, [], ◌∷◌, ◌++◌, Option, Some, None, Result, Ok, Err, IfOk, is_some, refl, sym, ap, subst, codes, append_assoc, inl, inr}
-use Rattle.std.specs.Prelude.{fold, option_and_then, option_map, slice_get}
+use Rattle.std.specs.Prelude.{fold, option_and_then, slice_get}
 use Rattle.std.specs.Str.{bytes_eq, chars}
 use Rattle.std.proofs.lemmas.Slice.Eq.{bytes_eq-Decides}
 use Rattle.clap.specs.Kinds.{HasKind, IsAmong, Kinds, or_else}

@@ -1,4 +1,4 @@
-use Rattle.std.proofs.Common.{◌≡◌, ℕ, ◌<◌, ◌==◌, false, List, [], ◌∷◌, ◌++◌, length, take, drop, sym, ap, ◌∙◌, take-append-drop, arith}
+use Rattle.std.proofs.Common.{◌≡◌, ℕ, ◌<◌, ◌==◌, false, List, [], ◌∷◌, ◌++◌, length, take, sym, ap, ◌∙◌, take-append-drop, arith}
 use Rattle.pgn_frames.proofs.WriteLaws.{GaveBut-more}
 use Rattle.pgn_frames.proofs.writing.write_bytes.Goals as goal
 

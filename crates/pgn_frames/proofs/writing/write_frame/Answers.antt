@@ -1,4 +1,4 @@
-use Rattle.std.proofs.Common.{◌≡◌, ◌≤◌, List, ℕ, ◌++◌, length, ◌∙◌, ap, arith}
+use Rattle.std.proofs.Common.{◌≡◌, ◌≤◌, List, ℕ, ◌++◌, length, ◌∙◌, ap}
 use Rattle.std.specs.Int.{w16, to_be_bytes}
 use Rattle.pgn_text.proofs.PutsLaws.{Puts-same, Puts-trans}
 use Rattle.pgn_frames.specs.Frames.{Frame, IsFrame, frame_bytes}

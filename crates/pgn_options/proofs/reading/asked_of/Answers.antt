@@ -1,4 +1,4 @@
-use Rattle.std.proofs.Common.{◌≡◌, ◌∙◌, List, ℕ, sym, ap, codes, Option, Ok}
+use Rattle.std.proofs.Common.{◌≡◌, ◌∙◌, sym, ap, codes, Option, Ok}
 use Rattle.std.specs.Option.{ok_or}
 use Rattle.std.proofs.lemmas.Slice.Eq.{bytes_eq-Decides}
 use Rattle.pgn_options.specs.declared.asked.Asked.{Asked}
