@@ -65,8 +65,7 @@ takes-still v w takes h = ap (λ (x : Hand _). x.takes) h.got ∙ takes
 -- the first of what a pass has put, where another took over what the taker had taken, and then took all
 pub taken-first : {T : Type 0} (v t c w : Hand T) → c ≡ taken_over v t → HasTakenRest c w → HasTakenFirst v t
 taken-first {T} v t c w closed h = λ n may.
-    let w_is : w ≡ record v { takes = true; got = t.got ++ h.more } = h.got ∙ ap (λ (x : Hand T). let y : Hand T = record x { got = x.got ++ h.more } in y) closed in
-    (
+    let w_is : w ≡ record v { takes = true; got = t.got ++ h.more } = h.got ∙ ap (λ (x : Hand T). let y : Hand T = record x { got = x.got ++ h.more } in y) closed in (
       what_of n h.more,
       sym (ap (λ (x : Hand T). what_of n x.sent) w_is) ∙ sym (h.all n (subst (λ (x : Hand T). MayPush x n) (sym w_is) may)) ∙ ap (λ (x : Hand T). what_of n x.got) w_is ∙ flat_map-append (what_in n) t.got h.more,
     )

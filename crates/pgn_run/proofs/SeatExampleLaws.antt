@@ -155,8 +155,8 @@ pub no-half_over : StopsServing 1 [] (λ text. text ≡ 0 ∷ 0 ∷ []) → ⊥
 no-half_over h =
     elim h.output [
       | inl e ↦ elim (whole-frames h.outs (0 ∷ 0 ∷ []) e) [
-          | inl none ↦ (let bad : 2 ≡ 0 = ap (λ (l : List ℕ). length l) none in absurd (omega (arith, bad)))
-          | inr some ↦ absurd (omega (arith, some))
-        ]
+        | inl none ↦ (let bad : 2 ≡ 0 = ap (λ (l : List ℕ). length l) none in absurd (omega (arith, bad)))
+        | inr some ↦ absurd (omega (arith, some))
+      ]
       | inr e ↦ absurd (omega (arith, ap (λ (l : List ℕ). length l) e, length-append (flat_map frame_bytes h.outs) over_frame))
     ]

@@ -35,7 +35,7 @@ use Rattle.pgn_run.specs.Seats.{AreGiven, AreNewSeats, AreSeated, GivesInbox, Is
 pub few-notes : (seats : ℕ) (setups : List SeatSetup) → 1 ≤ seats → setups ≡ (service_shape seats).seats → sum_by (λ seat. seat.notes) setups ≤ HUB_NOTES_MAX
 few-notes seats setups some e =
     let all : sum_by (λ (seat : SeatSetup). seat.notes) setups ≡ seats * (HUB_NOTES_MAX / seats) =
-        ap (λ (s : List SeatSetup). sum_by (λ (seat : SeatSetup). seat.notes) s) e ∙ sum_by-replicate (λ (seat : SeatSetup). seat.notes) seats (service_seat seats) in
+    ap (λ (s : List SeatSetup). sum_by (λ (seat : SeatSetup). seat.notes) s) e ∙ sum_by-replicate (λ (seat : SeatSetup). seat.notes) seats (service_seat seats) in
     omega (arith, all, part HUB_NOTES_MAX seats some)
   where
     part : (n k : ℕ) → 1 ≤ k → k * (n / k) ≤ n

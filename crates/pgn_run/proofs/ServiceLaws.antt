@@ -271,8 +271,7 @@ module _ {P K : Type 0} (is_own : P → Type 0) (shape : Shape) (known : P → K
     put-is k s lt =
         let no : s.desk.session.section.no ≡ 1 + k = ap (λ (x : Section). x.no) s.given_to.section in
         let next : k + 1 ≡ 1 + k = omega arith in
-        let t = s.taken_first (1 + k) (still k s lt) in
-        (
+        let t = s.taken_first (1 + k) (still k s lt) in (
           t.0,
           ap (λ (n : ℕ). what_of n (knows s.caller.asks).sent) next ∙ t.1 ∙ ap (λ (n : ℕ). what_of n (knows s.desk.asks).got ++ t.0) (sym no),
         )
@@ -284,14 +283,14 @@ module _ {P K : Type 0} (is_own : P → Type 0) (shape : Shape) (known : P → K
         let f = s.first in
         let before : List (Option Ask) = map Some (asks_of f.turns) in
         let whole : map Some h.asks ++ None ∷ [] ≡ before ++ (f.others ++ (p.0 ++ h.others)) =
-            h.first ∙ ap (λ (l : List (Option Ask)). l ++ h.others) (p.1 ∙ ap (λ (l : List (Option Ask)). l ++ p.0) f.asked)
-            ∙ append_assoc (before ++ f.others) p.0 h.others ∙ append_assoc before f.others (p.0 ++ h.others) in
+        h.first ∙ ap (λ (l : List (Option Ask)). l ++ h.others) (p.1 ∙ ap (λ (l : List (Option Ask)). l ++ p.0) f.asked)
+        ∙ append_assoc (before ++ f.others) p.0 h.others ∙ append_assoc before f.others (p.0 ++ h.others) in
         let begun = begins-with (asks_of f.turns) h.asks (f.others ++ (p.0 ++ h.others)) whole in
         let session : Session P = s.desk.session in
         let section_is : session.section ≡ seat_section seats (1 + k) (flat_map lines_for (asks_of f.turns) ++ f.rest) = s.given_to.section ∙ ap (λ (ls : List ScriptLine). seat_section seats (1 + k) ls) f.lines in
         let terms_are : terms_of shape session.section session.patience ≡ terms_of (service_shape seats) (seat_section seats (1 + k) (flat_map lines_for (asks_of f.turns) ++ f.rest)) 1 =
-            ap (λ (sh : Shape). terms_of sh session.section session.patience) opened.shape_is ∙ ap (λ (n : ℕ). terms_of (service_shape seats) session.section n) s.given_to.patience
-            ∙ ap (λ (x : Section). terms_of (service_shape seats) x 1) section_is in
+        ap (λ (sh : Shape). terms_of sh session.section session.patience) opened.shape_is ∙ ap (λ (n : ℕ). terms_of (service_shape seats) session.section n) s.given_to.patience
+        ∙ ap (λ (x : Section). terms_of (service_shape seats) x 1) section_is in
         record {
           first = asks_of f.turns;
           others = begun.0;
@@ -335,7 +334,7 @@ module _ {P K : Type 0} (is_own : P → Type 0) (shape : Shape) (known : P → K
         one k lt =
             let s = at-seat k lt in
             let h : HasPutFirst most (signs_of (k + 1) frames) (put (k + 1) (knows s.caller.asks)) =
-                subst (λ (c : Caller). HasPutFirst most (signs_of (k + 1) frames) (put (k + 1) (knows c.asks))) (s.caller_is s.caller) (asked k s.caller (omega (arith, lt, calls-count))) in
+            subst (λ (c : Caller). HasPutFirst most (signs_of (k + 1) frames) (put (k + 1) (knows c.asks))) (s.caller_is s.caller) (asked k s.caller (omega (arith, lt, calls-count))) in
             let next : k + 1 ≡ 1 + k = omega arith in
             (h.asks, (subst (λ (n : ℕ). SeatAsks (first_place most) (signs_of n frames) h.asks) next h.asked, told-first k frames s lt h))
 
@@ -413,11 +412,10 @@ module _ {P K : Type 0} (is_own : P → Type 0) (shape : Shape) (known : P → K
               let p = put-is k s lt in
               let h : HasServed is_own shape known boxes s.desk told.after = subst (λ (x : Desk P). HasServed is_own shape known boxes x told.after) (s.desk_is s.desk) (all-served k s.desk (omega (arith, lt, desks-count))) in
               let a : HasPutAll most (signs_of (k + 1) frames) (put (k + 1) (knows s.caller.asks)) =
-                  subst (λ (c : Caller). HasPutAll most (signs_of (k + 1) frames) (put (k + 1) (knows c.asks))) (s.caller_is s.caller) (asked k s.caller (omega (arith, lt, calls-count))) in
+              subst (λ (c : Caller). HasPutAll most (signs_of (k + 1) frames) (put (k + 1) (knows c.asks))) (s.caller_is s.caller) (asked k s.caller (omega (arith, lt, calls-count))) in
               let before : List (Option Ask) = map Some (asks_of h.turns) in
               let same : a.asks ≡ asks_of h.turns = same-asks (asks_of h.turns) a.asks p.0 (sym a.all ∙ p.1 ∙ ap (λ (l : List (Option Ask)). l ++ p.0) h.asked ∙ append_assoc before (None ∷ []) p.0) in
-              let next : k + 1 ≡ 1 + k = omega arith in
-              (
+              let next : k + 1 ≡ 1 + k = omega arith in (
                 asks_of h.turns,
                 (
                   subst (λ (n : ℕ). SeatAsks (first_place most) (signs_of n frames) (asks_of h.turns)) next (subst (λ (asks : List Ask). SeatAsks (first_place most) (signs_of (k + 1) frames) asks) same a.asked),

@@ -11,15 +11,7 @@ ghost use Rattle.pgn_run.specs.Service.{over_frame};
 
 use crate::start::Start;
 use pgn_base::{Failed, Sink, Source};
-use pgn_frames::{
-    Caller,
-    FrameFault,
-    NoFrame,
-    read_frames,
-    write_over,
-    write_rest,
-    write_until,
-};
+use pgn_frames::{Caller, FrameFault, NoFrame, read_frames, write_over, write_rest, write_until};
 use pgn_hub::{Hub, PassView};
 use pgn_outlet::{Bell, Outlet, OutletPass};
 use pgn_seats::{Desk, Inbox, Tells, serve_seats};
@@ -71,10 +63,7 @@ pub(crate) fn run_arms<
     callers: &mut [Caller],
     source: &mut S,
     sink: &mut K,
-) -> (
-    Told,
-    Result<Option<FrameFault>, NoFrame>,
-)
+) -> (Told, Result<Option<FrameFault>, NoFrame>)
     requires may { MayServe (H.is_pass hub.now) (H.shape hub.now) P.known inboxes.now desks.old rule.sender }
     requires call { (most : ℕ) × MayCall most inboxes.now callers.old }
     requires seats { length (H.shape hub.now).seats ≡ length callers.old }
@@ -154,14 +143,7 @@ fn serve_and_write<
     };
     let (served, begun) = serve_beside(rt, alloc, &hall, desks, &mut tells, &mut writing, sink);
     drop(hall);
-    let so_far = write_to_the_end(
-        rt,
-        outbox,
-        tells,
-        writing,
-        is_over(begun, served),
-        sink,
-    );
+    let so_far = write_to_the_end(rt, outbox, tells, writing, is_over(begun, served), sink);
     (so_far, served)
 }
 
@@ -185,7 +167,10 @@ fn write_to_the_end<R: Wait, K: Sink>(
     requires takes { (knows writing.takes).takes ≡ true }
     ensures { HasWrittenRest K.held K.faults (knows tells.pass) (knows writing.takes) writing.out sink.old sink.new over result }
 {
-    let Tells { pass: mut sends, .. } = tells;
+    let Tells {
+        pass: mut sends,
+        ..
+    } = tells;
     let Writing { takes, mut out } = writing;
     outbox.close(&mut sends, takes);
     write_rest(rt, &outbox, &mut sends, &mut out, sink);
@@ -274,11 +259,7 @@ fn write_where_met<H: Hub + Sync, R: Wait, K: Sink>(
 }
 
 // The desks serve, and then the end word is set and the writer's bell is rung, also where they have not begun.
-fn serve_and_end<
-    P: PassView + Send + Drop,
-    H: Hub<Pass = P> + Sync,
-    R: Threads + Wait + Sync,
->(
+fn serve_and_end<P: PassView + Send + Drop, H: Hub<Pass = P> + Sync, R: Threads + Wait + Sync>(
     rt: &R,
     alloc: Global,
     hall: &Hall<'_, H>,
@@ -299,11 +280,7 @@ fn serve_and_end<
 
 // The desks serve, where the writer and the reader are there.
 #[tactic(auto, using(crate::proofs::ArmLaws::served_laws))]
-fn serve_where_met<
-    P: PassView + Send + Drop,
-    H: Hub<Pass = P> + Sync,
-    R: Threads + Wait + Sync,
->(
+fn serve_where_met<P: PassView + Send + Drop, H: Hub<Pass = P> + Sync, R: Threads + Wait + Sync>(
     rt: &R,
     alloc: Global,
     hall: &Hall<'_, H>,

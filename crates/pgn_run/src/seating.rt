@@ -33,12 +33,7 @@ pub(crate) fn open<P: PassView + Send + Drop, H: Hub<Pass = P> + Drop>(
     requires few { seats ≤ SECTIONS_MAX }
     ensures { IfOk result (λ opened. IsOpened (H.is_pass opened.0) (H.shape opened.0) P.known seats opened.1.inboxes.items opened.1.desks.items opened.1.callers.items) }
 {
-    let setup = Setup::new(
-        PAGES_DEFAULT,
-        seats,
-        seats_for(alloc, seats)?,
-        Format::One,
-    );
+    let setup = Setup::new(PAGES_DEFAULT, seats, seats_for(alloc, seats)?, Format::One);
     let (hub, passes) = H::open(alloc, setup)?;
     match seating_for(alloc, hashes, seats, passes) {
         Ok(seating) => Ok((hub, seating)),
@@ -229,7 +224,9 @@ fn sit<P: PassView + Send + Drop>(
         asks,
         notes: 0,
     })?;
-    seating.callers.push(Caller::new(alloc, put, notes_for(seats)))?;
+    seating
+        .callers
+        .push(Caller::new(alloc, put, notes_for(seats)))?;
     Ok(())
 }
 
@@ -237,13 +234,7 @@ fn sit<P: PassView + Send + Drop>(
 fn open_inbox(
     alloc: Global,
     inboxes: &mut Vec<Inbox>,
-) -> Result<
-    (
-        OutletPass<Option<Ask>>,
-        OutletPass<Option<Ask>>,
-    ),
-    AllocError,
->
+) -> Result<(OutletPass<Option<Ask>>, OutletPass<Option<Ask>>), AllocError>
     ensures { IfOk result (λ passes. GivesInbox inboxes.old.items inboxes.new.items passes.0 passes.1) }
 {
     let (inbox, put, asks) = Outlet::open(alloc)?;

@@ -31,8 +31,8 @@ pub run_arms-read-requires-clause-call : goal.run_arms-read-requires-clause-call
 run_arms-read-requires-clause-call g c κs within = (
   seat_notes c.args.seats,
   subst (λ (bs : List (Outlet (Option Ask))). MayCall (seat_notes c.args.seats) bs c.as_mut_slice-2.result.now) (sym c.as_slice.ensures.value)
-  (subst (λ (cs : List Caller). MayCall (seat_notes c.args.seats) c.in-Ok.seating.inboxes.items cs) (sym c.as_mut_slice-2.ensures.value)
-  (may-call (g.H.Hub.is_pass c.in-Ok.hub) (g.H.Hub.shape c.in-Ok.hub) g.P.PassView.known c.args.seats c.in-Ok.seating.inboxes.items c.in-Ok.seating.desks.items c.in-Ok.seating.callers.items c.in-Ok.ensures c.requires.few)),
+      (subst (λ (cs : List Caller). MayCall (seat_notes c.args.seats) c.in-Ok.seating.inboxes.items cs) (sym c.as_mut_slice-2.ensures.value)
+      (may-call (g.H.Hub.is_pass c.in-Ok.hub) (g.H.Hub.shape c.in-Ok.hub) g.P.PassView.known c.args.seats c.in-Ok.seating.inboxes.items c.in-Ok.seating.desks.items c.in-Ok.seating.callers.items c.in-Ok.ensures c.requires.few)),
 )
 
 pub run_arms-read-requires-clause-seats : goal.run_arms-read-requires-clause-seats
