@@ -1,5 +1,6 @@
 -- The messages of a server, byte by byte.
-use Rattle.std.specs.Prelude.{ℕ, ◌+◌, List, [], ◌∷◌, ◌++◌, length, codes, decimal}
+use Rattle.std.specs.Prelude.{ℕ, ◌+◌, ◌*◌, ◌/◌, ◌%◌, ◌==◌, cond, nat_le, List, [], ◌∷◌, ◌++◌, drop, length, map, reverse, codes, decimal}
+use Rattle.std.specs.List.{prefix_len}
 use Rattle.std.specs.Int.{w16, w32, to_be_bytes}
 use Rattle.pgn_base.specs.declared.answers.Tag.{Tag}
 use Rattle.pgn_base.specs.declared.answers.Warning.{Warning}
