@@ -33,9 +33,9 @@ use Rattle.pgn_session.specs.Standing.{IsRested, terms_of}
 use Rattle.pgn_threads.specs.Laws.{NamesFlagsBelow, RunsAreLegal}
 use Rattle.pgn_threads.specs.Parts.{HasReadAll as HasHeardAll, HasRunOut, Part, part_of, settings_of, trace_of}
 use Rattle.pgn_turns.specs.declared.asked.Ask.{Ask}
-use Rattle.pgn_turns.specs.declared.asked.Ask.TheVariants.{Query, End}
+use Rattle.pgn_turns.specs.declared.asked.Ask.TheVariants.{Query, Settle, Discard, End}
 use Rattle.pgn_turns.specs.declared.saying.Saying.{Saying}
-use Rattle.pgn_turns.specs.Asks.{line_of, lines_for, rollback_line, script_of, seat_quit, unlisten_line}
+use Rattle.pgn_turns.specs.Asks.{discard_line, line_of, lines_for, rollback_line, script_of, seat_quit, unlisten_line}
 use Rattle.pgn_turns.specs.Sayings.{all_told}
 use Rattle.pgn_turns.specs.Turns.{asks_of, items_of, said}
 use Rattle.pgn_seats.specs.declared.desk.Desk.{Desk}
@@ -144,6 +144,8 @@ put-some most seat frames inbox caller h = record {
 
 flagless-of : (ask : Ask) → All (λ line. HasFlagBelow 0 line.act) (lines_for ask)
 flagless-of (Query query) = All-cons (λ (line : ScriptLine). HasFlagBelow 0 line.act) (line_of query) [] tt (All-nil (λ (line : ScriptLine). HasFlagBelow 0 line.act))
+flagless-of (Settle settled) = All-nil (λ (line : ScriptLine). HasFlagBelow 0 line.act)
+flagless-of (Discard line) = All-cons (λ (l : ScriptLine). HasFlagBelow 0 l.act) (discard_line line) (unlisten_line (line + 1) ∷ []) tt (All-cons (λ (l : ScriptLine). HasFlagBelow 0 l.act) (unlisten_line (line + 1)) [] tt (All-nil (λ (l : ScriptLine). HasFlagBelow 0 l.act)))
 flagless-of (End line parting) = All-cons (λ (l : ScriptLine). HasFlagBelow 0 l.act) (rollback_line line) (unlisten_line (line + 1) ∷ []) tt (All-cons (λ (l : ScriptLine). HasFlagBelow 0 l.act) (unlisten_line (line + 1)) [] tt (All-nil (λ (l : ScriptLine). HasFlagBelow 0 l.act)))
 
 flagless-lines : (asks : List Ask) → All (λ line. HasFlagBelow 0 line.act) (flat_map lines_for asks)
