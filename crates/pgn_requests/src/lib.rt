@@ -2,6 +2,7 @@
 #![tactic(auto)]
 
 mod complaint;
+mod limits;
 mod request;
 mod setting;
 mod settings;
@@ -9,6 +10,7 @@ mod settled;
 mod short_text;
 
 pub use complaint::{Cause, Complaint, Wording};
+pub use limits::TOKENS_MAX;
 pub use request::Request;
 pub use setting::Setting;
 pub use settings::{Entry, Settings};
