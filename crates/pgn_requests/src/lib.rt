@@ -12,7 +12,7 @@ mod short_text;
 pub use complaint::{Cause, Complaint, Wording};
 pub use limits::TOKENS_MAX;
 pub use request::Request;
-pub use setting::Setting;
+pub use setting::{Setting, default_of, number_of, setting_name};
 pub use settings::{Entry, Settings};
 pub use settled::Settled;
 pub use short_text::{SHORT_BYTES_MAX, ShortText};
