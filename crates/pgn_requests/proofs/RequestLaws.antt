@@ -29,9 +29,9 @@ nul_or [] = inr (λ c. absurd (omega (arith, c.1)))
 nul_or (b ∷ bytes) = elim (cases_Bool (b == 0)) [
   | inl e ↦ inl (0, omega arith, eqb-true b 0 e)
   | inr e ↦ elim (nul_or bytes) [
-      | inl c ↦ inl (Contains-append_right (b ∷ []) bytes 0 c)
-      | inr n ↦ inr (nul_cons b bytes e n)
-    ]
+    | inl c ↦ inl (Contains-append_right (b ∷ []) bytes 0 c)
+    | inr n ↦ inr (nul_cons b bytes e n)
+  ]
 ]
 
 -- the last byte of some
@@ -56,21 +56,21 @@ whole_or (x ∷ xs) =
     let end = last_of x xs in
     elim (cases_Bool (end.last == 0)) [
       | inl e ↦ elim (nul_or end.front) [
-          | inl c ↦ inr (λ text same n. n (subst (λ (t : List ℕ). Contains t 0) (same_from_push end.front text end.last 0 (sym end.split ∙ same)).0 c))
-          | inr n ↦ inl (record { text = end.front; is = end.split ∙ ap (λ (b : ℕ). end.front ++ b ∷ []) (eqb-true end.last 0 e); no_nul = n })
-        ]
+        | inl c ↦ inr (λ text same n. n (subst (λ (t : List ℕ). Contains t 0) (same_from_push end.front text end.last 0 (sym end.split ∙ same)).0 c))
+        | inr n ↦ inl (record { text = end.front; is = end.split ∙ ap (λ (b : ℕ). end.front ++ b ∷ []) (eqb-true end.last 0 e); no_nul = n })
+      ]
       | inr e ↦ inr (λ text same n. both (end.last == 0) (eq-eqb end.last 0 (same_from_push end.front text end.last 0 (sym end.split ∙ same)).1) e)
     ]
 
-pub each_has : EachHasRequest
-each_has body = elim (whole_or body) [
+pub each_request : EachHasRequest
+each_request body = elim (whole_or body) [
   | inr garbled ↦ (_, asked.RequestIs.Garbled garbled)
   | inl whole ↦ elim (cases_Bool (is_utf8 whole.text)) [
-      | inl u ↦
-          let reads : ReadsAs (bare whole.text) (reading (bare whole.text)) = (reading-computes (bare whole.text) (reading (bare whole.text))).1 refl in
-          (request_of (bare whole.text) (reading (bare whole.text)), asked.RequestIs.Reads whole.text (reading (bare whole.text)) whole.is whole.no_nul (IsUtf8-from_is_utf8 whole.text u) reads)
-      | inr u ↦ (_, asked.RequestIs.Encoded whole.text whole.is whole.no_nul (λ t. both (is_utf8 whole.text) (is_utf8-from_IsUtf8 whole.text t) u))
-    ]
+    | inl u ↦
+        let reads : ReadsAs (bare whole.text) (reading (bare whole.text)) = (reading-computes (bare whole.text) (reading (bare whole.text))).1 refl in
+        (request_of (bare whole.text) (reading (bare whole.text)), asked.RequestIs.Reads whole.text (reading (bare whole.text)) whole.is whole.no_nul (IsUtf8-from_is_utf8 whole.text u) reads)
+    | inr u ↦ (_, asked.RequestIs.Encoded whole.text whole.is whole.no_nul (λ t. both (is_utf8 whole.text) (is_utf8-from_IsUtf8 whole.text t) u))
+  ]
 ]
 
 -- two texts of one body are the same

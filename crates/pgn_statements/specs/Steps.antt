@@ -13,7 +13,7 @@ Asks text request = (command : Command) × ReadsAs text command × (request ≡ 
 
 -- what a Query's body is
 abbrev pub BodyIs : List ℕ → Body → Type 0
-BodyIs bytes (body.Text text) = (bytes ≡ body_of text.now) × (Contains text.now 0 → ⊥)
+BodyIs bytes (body.Text text) = (bytes ≡ body_of text.now) × (Contains text.now 0 → ⊥) × IsUtf8 text.now
 BodyIs bytes body.Garbled = IsGarbled bytes
 BodyIs bytes body.Encoded = (text : List ℕ) × (bytes ≡ body_of text) × (Contains text 0 → ⊥) × (IsUtf8 text → ⊥)
 
