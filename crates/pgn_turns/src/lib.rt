@@ -14,9 +14,11 @@ pub mod examples;
 pub mod laws;
 mod lines;
 mod saying;
+mod served;
 mod telling;
 
 pub use asked::{Ask, Asked, Parting};
-pub use lines::{quit_at_end, rollback_at, unlisten_at};
+pub use lines::{discard_at, quit_at_end, rollback_at, unlisten_at};
 pub use saying::Saying;
-pub use telling::{tell_answer, tell_parting, tell_reads};
+pub use served::{tell_answer, tell_discard, tell_settled};
+pub use telling::{tell_parting, tell_reads};
