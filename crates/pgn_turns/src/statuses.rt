@@ -1,0 +1,62 @@
+#![tactic(auto, using(pgn_messages::proofs::BytesLaws::joins))]
+
+ghost use Rattle.std.specs.Prelude.{◌≡◌, ◌++◌, flat_map, OnOk};
+ghost use Rattle.pgn_turns.specs.Served.{changed_status, statuses};
+
+use pgn_messages::Bytes;
+use pgn_requests::{Setting, Settings};
+use std::alloc::AllocError;
+
+/// A message for each reported setting that changed, put at the end.
+pub fn put_statuses(bytes: &mut Bytes, old: &Settings, new: &Settings) -> Result<(), AllocError>
+    ensures { OnOk result (bytes.new ≡ bytes.old ++ statuses old.now new.now) }
+{
+    let reported = [
+        Setting::ApplicationName,
+        Setting::ClientEncoding,
+        Setting::DateStyle,
+        Setting::DefaultTransactionReadOnly,
+        Setting::InHotStandby,
+        Setting::IntegerDatetimes,
+        Setting::IntervalStyle,
+        Setting::IsSuperuser,
+        Setting::ServerEncoding,
+        Setting::ServerVersion,
+        Setting::SessionAuthorization,
+        Setting::StandardConformingStrings,
+        Setting::TimeZone,
+    ];
+    put_each_changed(bytes, &reported, old, new)
+}
+
+// A message for each of these settings that changed.
+fn put_each_changed(
+    bytes: &mut Bytes,
+    reported: &[Setting],
+    old: &Settings,
+    new: &Settings,
+) -> Result<(), AllocError>
+    ensures { OnOk result (bytes.new ≡ bytes.old ++ flat_map (changed_status old.now.now new.now.now) reported.now) }
+{
+    for setting in reported {
+        put_changed(bytes, *setting, old, new)?;
+    }
+    Ok(())
+}
+
+// The message of a setting, if it changed.
+fn put_changed(
+    bytes: &mut Bytes,
+    setting: Setting,
+    old: &Settings,
+    new: &Settings,
+) -> Result<(), AllocError>
+    ensures { OnOk result (bytes.new ≡ bytes.old ++ changed_status old.now.now new.now.now setting) }
+{
+    let value = new.value(setting);
+    if old.value(setting) == value {
+        Ok(())
+    } else {
+        bytes.put_status(setting.name(), value)
+    }
+}
