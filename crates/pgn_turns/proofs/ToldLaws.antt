@@ -145,7 +145,7 @@ one_query_is_told seat query front reads last signs other told =
 -- what is told of the one end
 ended : (seat : ℕ) (turn : Turn) (back : List Turn) (parting : Parting) (line : ℕ) → IsAskedFor turn → All IsPlain back → asked_in turn ++ asks_of back ≡ End line parting ∷ []
     → (reads : List Item)
-        × (signs_in seat first_telling turn ++ signs_said seat (telling_after first_telling turn) back ≡ map Some (farewell parting) ++ None ∷ map Some (flat_map heard reads))
+    × (signs_in seat first_telling turn ++ signs_said seat (telling_after first_telling turn) back ≡ map Some (farewell parting) ++ None ∷ map Some (flat_map heard reads))
 ended seat (Hears reads) back parting line asked plain asks = absurd asked
 ended seat (Answers query more) back parting line asked plain asks = let both : Query query ∷ asks_of back ≡ End line parting ∷ [] = asks in absurd (cc)
 ended seat (Settles settled) back parting line asked plain asks = let both : Settle settled ∷ asks_of back ≡ End line parting ∷ [] = asks in absurd (cc)
@@ -216,7 +216,7 @@ one-settled seat t (Hears reads ∷ turns) settled h e =
           ∙ ap (λ (state : BlockState). map Some (flat_map heard reads) ++ (map Some (flat_map heard further.before) ++ (map Some (answer state) ++ rest))) (reads-block t.walk reads own)
           ∙ sym (append_assoc (map Some (flat_map heard reads)) (map Some (flat_map heard further.before)) (map Some (answer t.walk.block) ++ rest))
           ∙ ap (λ (l : List (Option ℕ)). l ++ (map Some (answer t.walk.block) ++ rest))
-              (sym (map-append Some (flat_map heard reads) (flat_map heard further.before)) ∙ ap (λ (bytes : List ℕ). map Some bytes) (sym (flat_map-append heard reads further.before)));
+          (sym (map-append Some (flat_map heard reads) (flat_map heard further.before)) ∙ ap (λ (bytes : List ℕ). map Some bytes) (sym (flat_map-append heard reads further.before)));
     }
 
 pub one_settled_is_told : OneSettledIsTold

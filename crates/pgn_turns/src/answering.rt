@@ -47,12 +47,7 @@ fn put_items(
 }
 
 // The messages of an item of a query's line.
-fn put_item(
-    alloc: Global,
-    bytes: &mut Bytes,
-    query: &Asked,
-    item: &Item,
-) -> Result<(), AllocError>
+fn put_item(alloc: Global, bytes: &mut Bytes, query: &Asked, item: &Item) -> Result<(), AllocError>
     ensures { OnOk result (bytes.new ≡ bytes.old ++ told_item query.now item.now) }
 {
     match item {

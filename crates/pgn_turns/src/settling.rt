@@ -3,12 +3,11 @@
 ghost use Rattle.std.specs.Prelude.{◌≡◌, ◌+◌, ◌++◌, codes, decimal, flat_map, IfOk, OnOk};
 ghost use Rattle.pgn_base.specs.declared.limits.TheConstants.{PID_BASE};
 ghost use Rattle.pgn_base.specs.declared.answers.Refusal.TheVariants.{Aborted};
-ghost use Rattle.pgn_answers.specs.declared.block_state.BlockState.TheVariants.{Failed, Idle, InBlock};
+ghost use Rattle.pgn_answers.specs.declared.block_state.BlockState.TheVariants.{Failed, Idle};
 ghost use Rattle.pgn_messages.specs.Server.{columns, described, error, ready, row};
-ghost use Rattle.pgn_requests.specs.Settings.{set_back, settled_kept, value_in};
+ghost use Rattle.pgn_requests.specs.Settings.{set_back, setting_name, settled_kept, value_in};
 ghost use Rattle.pgn_requests.specs.Settled.{version_text};
-ghost use Rattle.pgn_requests.specs.Settings.{setting_name};
-ghost use Rattle.pgn_turns.specs.Served.{discard_answer, settled_done, settled_rows};
+ghost use Rattle.pgn_turns.specs.Served.{discard_answer, discard_error, settled_done, settled_rows};
 ghost use Rattle.pgn_turns.specs.Turns.{heard};
 
 use crate::statuses::put_statuses;
@@ -18,7 +17,7 @@ use pgn_answers::BlockState;
 use pgn_base::{PID_BASE, Refusal, SessionNo};
 use pgn_messages::Bytes;
 use pgn_model::Item;
-use pgn_requests::{Setting, Settings, Settled};
+use pgn_requests::{Setting, Settings, Settled, setting_name};
 use std::alloc::{AllocError, Global};
 
 /// The answer to what is settled, where it is done: with the settings before it and after it.
@@ -26,17 +25,17 @@ pub fn done_of(
     alloc: Global,
     seat: SessionNo,
     settled: &Settled,
-    old: &Settings,
-    new: &Settings,
+    before: &Settings,
+    after: &Settings,
     state: BlockState,
 ) -> Result<Bytes, AllocError>
-    requires { new.now ≡ settled_kept settled.now old.now }
-    ensures { IfOk result (λ bytes. bytes ≡ settled_done seat settled.now old.now state) }
+    requires { after.now ≡ settled_kept settled.now before.now }
+    ensures { IfOk result (λ bytes. bytes ≡ settled_done seat settled.now before.now state) }
 {
     let mut bytes = Bytes::new(alloc);
-    put_rows(alloc, &mut bytes, seat, settled, old)?;
+    put_rows(alloc, &mut bytes, seat, settled, before)?;
     bytes.put_completed(tag_of(settled))?;
-    put_statuses(&mut bytes, old, new)?;
+    put_statuses(&mut bytes, before, after)?;
     bytes.put_ready(state)?;
     Ok(bytes)
 }
@@ -84,7 +83,7 @@ fn put_rows(
 fn put_shown(bytes: &mut Bytes, setting: Setting, settings: &Settings) -> Result<(), AllocError>
     ensures { OnOk result (bytes.new ≡ bytes.old ++ (columns (setting_name setting) ++ row (value_in settings.now.now setting))) }
 {
-    bytes.put_columns(setting.name())?;
+    bytes.put_columns(setting_name(setting).as_bytes())?;
     bytes.put_row(settings.value(setting))?;
     Ok(())
 }
@@ -119,18 +118,18 @@ fn put_process(alloc: Global, bytes: &mut Bytes, seat: SessionNo) -> Result<(), 
 /// The answer to `DISCARD ALL` outside of a block: with the settings before it and after it, and the items of its two lines.
 pub fn discard_done(
     alloc: Global,
-    old: &Settings,
-    new: &Settings,
+    before: &Settings,
+    after: &Settings,
     refused: &[Item],
     unlistened: &[Item],
 ) -> Result<Bytes, AllocError>
-    requires { new.now ≡ set_back old.now }
-    ensures { IfOk result (λ bytes. bytes ≡ discard_answer Idle old.now (flat_map heard refused.now ++ flat_map heard unlistened.now)) }
+    requires { after.now ≡ set_back before.now }
+    ensures { IfOk result (λ bytes. bytes ≡ discard_answer Idle before.now (flat_map heard refused.now ++ flat_map heard unlistened.now)) }
 {
     let mut bytes = Bytes::new(alloc);
     bytes.put_completed(b"DISCARD ALL")?;
     put_both(&mut bytes, refused, unlistened)?;
-    put_statuses(&mut bytes, old, new)?;
+    put_statuses(&mut bytes, before, after)?;
     bytes.put_ready(BlockState::Idle)?;
     Ok(bytes)
 }
@@ -138,11 +137,10 @@ pub fn discard_done(
 /// The answer to it in a block.
 pub fn discard_in_block(
     alloc: Global,
-    settings: &Settings,
     refused: &[Item],
     unlistened: &[Item],
 ) -> Result<Bytes, AllocError>
-    ensures { IfOk result (λ bytes. bytes ≡ discard_answer InBlock settings.now (flat_map heard refused.now ++ flat_map heard unlistened.now)) }
+    ensures { IfOk result (λ bytes. bytes ≡ discard_error ++ (flat_map heard refused.now ++ flat_map heard unlistened.now) ++ ready Failed) }
 {
     let mut bytes = Bytes::new(alloc);
     bytes.put_error_of(
@@ -157,11 +155,10 @@ pub fn discard_in_block(
 /// The answer to it in a failed block.
 pub fn discard_ignored(
     alloc: Global,
-    settings: &Settings,
     refused: &[Item],
     unlistened: &[Item],
 ) -> Result<Bytes, AllocError>
-    ensures { IfOk result (λ bytes. bytes ≡ discard_answer Failed settings.now (flat_map heard refused.now ++ flat_map heard unlistened.now)) }
+    ensures { IfOk result (λ bytes. bytes ≡ error Aborted ++ (flat_map heard refused.now ++ flat_map heard unlistened.now) ++ ready Failed) }
 {
     let mut bytes = Bytes::new(alloc);
     put_aborted(alloc, &mut bytes)?;

@@ -4,12 +4,16 @@ ghost use Rattle.std.specs.Prelude.{◌≡◌, ◌++◌, flat_map, OnOk};
 ghost use Rattle.pgn_turns.specs.Served.{changed_status, statuses};
 
 use pgn_messages::Bytes;
-use pgn_requests::{Setting, Settings};
+use pgn_requests::{Setting, Settings, setting_name};
 use std::alloc::AllocError;
 
 /// A message for each reported setting that changed, put at the end.
-pub fn put_statuses(bytes: &mut Bytes, old: &Settings, new: &Settings) -> Result<(), AllocError>
-    ensures { OnOk result (bytes.new ≡ bytes.old ++ statuses old.now new.now) }
+pub fn put_statuses(
+    bytes: &mut Bytes,
+    before: &Settings,
+    after: &Settings,
+) -> Result<(), AllocError>
+    ensures { OnOk result (bytes.new ≡ bytes.old ++ statuses before.now after.now) }
 {
     let reported = [
         Setting::ApplicationName,
@@ -26,20 +30,20 @@ pub fn put_statuses(bytes: &mut Bytes, old: &Settings, new: &Settings) -> Result
         Setting::StandardConformingStrings,
         Setting::TimeZone,
     ];
-    put_each_changed(bytes, &reported, old, new)
+    put_each_changed(bytes, &reported, before, after)
 }
 
 // A message for each of these settings that changed.
 fn put_each_changed(
     bytes: &mut Bytes,
     reported: &[Setting],
-    old: &Settings,
-    new: &Settings,
+    before: &Settings,
+    after: &Settings,
 ) -> Result<(), AllocError>
-    ensures { OnOk result (bytes.new ≡ bytes.old ++ flat_map (changed_status old.now.now new.now.now) reported.now) }
+    ensures { OnOk result (bytes.new ≡ bytes.old ++ flat_map (changed_status before.now.now after.now.now) reported.now) }
 {
     for setting in reported {
-        put_changed(bytes, *setting, old, new)?;
+        put_changed(bytes, *setting, before, after)?;
     }
     Ok(())
 }
@@ -48,15 +52,15 @@ fn put_each_changed(
 fn put_changed(
     bytes: &mut Bytes,
     setting: Setting,
-    old: &Settings,
-    new: &Settings,
+    before: &Settings,
+    after: &Settings,
 ) -> Result<(), AllocError>
-    ensures { OnOk result (bytes.new ≡ bytes.old ++ changed_status old.now.now new.now.now setting) }
+    ensures { OnOk result (bytes.new ≡ bytes.old ++ changed_status before.now.now after.now.now setting) }
 {
-    let value = new.value(setting);
-    if old.value(setting) == value {
+    let value = after.value(setting);
+    if before.value(setting) == value {
         Ok(())
     } else {
-        bytes.put_status(setting.name(), value)
+        bytes.put_status(setting_name(setting).as_bytes(), value)
     }
 }
