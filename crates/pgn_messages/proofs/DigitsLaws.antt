@@ -35,3 +35,13 @@ other_stays digits end l other =
     ∙ ap reverse (front_digit false (get_or digits end 0) (reverse (take end digits)) other)
     ∙ ap reverse (sym (turned digits end l))
     ∙ reverse-reverse (take (end + 1) digits)
+
+-- nothing, all and more, and a part
+pub fraction_none : (usage : Usage) → usage.occupied ≡ 0 → fraction usage ≡ codes "0"
+fraction_none usage none = grind (arith, nat_tests)
+
+pub fraction_all : (usage : Usage) → (usage.occupied ≡ 0 → ⊥) → usage.limit ≤ usage.occupied → fraction usage ≡ codes "1"
+fraction_all usage some all = grind (arith, nat_tests)
+
+pub fraction_part : (usage : Usage) → (usage.occupied ≡ 0 → ⊥) → usage.occupied < usage.limit → fraction usage ≡ codes "0." ++ without_zeros (eight_digits (usage.occupied * 100000000 / usage.limit))
+fraction_part usage some part = grind (arith, nat_tests)

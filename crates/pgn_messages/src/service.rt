@@ -60,6 +60,7 @@ impl Bytes {
         ensures { OnOk result (self.new ≡ self.old ++ row (fraction usage.now)) }
     {
         let text = fraction_bytes(alloc, usage)?;
-        self.put_row(text.as_slice())
+        self.put_row(text.as_slice())?;
+        Ok(())
     }
 }
