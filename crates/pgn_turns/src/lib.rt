@@ -9,14 +9,20 @@
 //! and `tell_parting` put the bytes of one turn behind others.
 #![tactic(auto)]
 
+mod answering;
 mod asked;
 pub mod examples;
 pub mod laws;
 mod lines;
 mod saying;
+mod served;
+mod settling;
+mod statuses;
 mod telling;
+mod wordings;
 
 pub use asked::{Ask, Asked, Parting};
-pub use lines::{quit_at_end, rollback_at, unlisten_at};
+pub use lines::{discard_at, quit_at_end, rollback_at, unlisten_at};
 pub use saying::Saying;
-pub use telling::{tell_answer, tell_parting, tell_reads};
+pub use served::{tell_answer, tell_discard, tell_settled};
+pub use telling::{tell_parting, tell_reads};
