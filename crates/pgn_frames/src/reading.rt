@@ -6,7 +6,7 @@ ghost use Rattle.pgn_frames.specs.Callers.{Takes, TakesFirst};
 ghost use Rattle.pgn_frames.specs.Frames.{IsSeat, signs_in};
 ghost use Rattle.pgn_frames.specs.Reading.{AreEnded, CallsOn, DoesAt, EachSeat, HasReadAll, HasReadFirst, HasReadSome, IsEnded, IsKept, MayCall, OfMost, OwnsInbox, Reads, ReadsTo, TurnsInto};
 
-use crate::taking::take_signs;
+use crate::taking::{Inbox, take_signs};
 use crate::{Arrival, Caller, FrameFault, NoFrame, next_frame};
 use pgn_base::{SessionNo, Source};
 use pgn_hub::Hub;
@@ -178,7 +178,11 @@ fn take_at<R: Wait>(
 {
     let k = usize::from(seat) - 1;
     let number = SessionNo::new(u32::from(seat));
-    take_signs(rt, alloc, &inboxes[k], number, &mut callers[k], bytes)
+    let inbox = Inbox {
+        outlet: &inboxes[k],
+        seat: number,
+    };
+    take_signs(rt, alloc, &inbox, &mut callers[k], bytes)
 }
 
 // Tells each seat that nothing more will be asked.
