@@ -1,6 +1,6 @@
 -- What stands at the front of bytes.
 use Rattle.std.proofs.Common.{◌≡◌, ℕ, ◌+◌, ◌-◌, ◌<◌, ◌≤◌, true, false, List, [], ◌∷◌, ◌++◌, length, get_or, take, drop, take-append-drop, length-take-le, length-drop, sym, ap, ◌∙◌, subst, refl, arith, inl, inr}
-use Rattle.std.specs.Prelude.{slice_index, slice_range}
+use Rattle.std.specs.Prelude.{slice_index}
 use Rattle.std.specs.Int.{w32, from_be_bytes}
 use Rattle.std.proofs.lemmas.List.{drop-drop}
 use Rattle.pgn_queries.specs.declared.wire_fault.WireFault.TheVariants.{BadLength, BadType, Truncated}
@@ -10,7 +10,7 @@ use Rattle.pgn_queries.specs.Client.{IsQueryLength, Tells}
 use Rattle.pgn_turns.specs.declared.asked.Parting.TheVariants.{Plain, Refused, Extended}
 use Rattle.pgn_frames.specs.Clients as clients
 use Rattle.pgn_frames.specs.Clients.{Left, Wrong, QueryNext, Tally, is_extended}
-use Rattle.pgn_frames.specs.Callers.{IsUnfinished, PartsBy}
+use Rattle.pgn_frames.specs.Callers.{IsUnfinished, PartsBy, QueryTo}
 use Rattle.pgn_frames.proofs.MoreLaws.{parts_told}
 
 -- no byte
@@ -44,7 +44,7 @@ Front-body_cut (x ∷ more) len letter head is least most few =
 
 -- a Query
 pub Front-query : (bytes : List ℕ) (len end : ℕ) → slice_index bytes 0 ≡ 81 → 5 ≤ length bytes → len ≡ from_be_bytes w32 (take 4 (drop 1 bytes)) → 5 ≤ len → len ≤ 65541 → end ≡ len + 1 → end ≤ length bytes
-    → QueryNext bytes (slice_range bytes 5 end) (drop end bytes)
+    → QueryTo bytes end
 Front-query [] len end letter head is least most e enough = absurd (omega arith)
 Front-query (x ∷ more) len end letter head is least most e enough =
     let n : ℕ = end - 5 in
@@ -52,14 +52,16 @@ Front-query (x ∷ more) len end letter head is least most e enough =
     let rest : drop n (drop 4 more) ≡ drop end (x ∷ more) = drop-drop n 5 (x ∷ more) ∙ ap (λ (k : ℕ). drop k (x ∷ more)) five in
     let parts : take n (drop 4 more) ++ drop end (x ∷ more) ≡ drop 4 more = ap (λ (l : List ℕ). take n (drop 4 more) ++ l) (sym rest) ∙ take-append-drop n (drop 4 more) in
     let whole : more ≡ take 4 more ++ (take n (drop 4 more) ++ drop end (x ∷ more)) = sym (take-append-drop 4 more) ∙ ap (λ (l : List ℕ). take 4 more ++ l) (sym parts) in
-    let long : length (take n (drop 4 more)) ≡ n = length-take-le n (drop 4 more) (omega (arith, length-drop 4 more)) in record {
+    let long : length (take n (drop 4 more)) ≡ n = length-take-le n (drop 4 more) (omega (arith, length-drop 4 more)) in
+    let next : QueryNext (x ∷ more) (take n (drop 4 more)) (drop end (x ∷ more)) = record {
       head = take 4 more;
       len = len;
       split = ap (λ (l : ℕ). l ∷ more) letter ∙ ap (λ (l : List ℕ). 81 ∷ l) whole;
       tells = tells x len more head is;
       may = record { least = least; most = most };
       size = omega arith;
-    }
+    } in
+    record { next = next; some = omega arith; short = omega arith; within = enough }
 
 -- a length that no Query has, and none of a Terminate
 no_length : (bytes : List ℕ) (len : ℕ) → slice_index bytes 0 ≡ 81 → 5 ≤ length bytes → len ≡ from_be_bytes w32 (take 4 (drop 1 bytes)) → (IsQueryLength len → ⊥) → (tally : Tally) → PartsBy Refused tally bytes

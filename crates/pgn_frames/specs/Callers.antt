@@ -1,5 +1,5 @@
 -- Where a reader stands with the clients of a seat, and what it has put of what they ask.
-use Rattle.std.specs.Prelude.{◌≡◌, ◌⊎◌, ℕ, ◌+◌, Bool, true, false, List, [], ◌∷◌, ◌++◌, map, drop, Option, Some, None, slice_range}
+use Rattle.std.specs.Prelude.{◌≡◌, ◌⊎◌, ℕ, ◌+◌, ◌<◌, ◌≤◌, Bool, true, false, List, [], ◌∷◌, ◌++◌, length, map, drop, Option, Some, None, slice_range}
 use Rattle.pgn_outlet.specs.declared.came.Came.{Came}
 use Rattle.pgn_outlet.specs.declared.hand.Hand.{Hand}
 use Rattle.pgn_outlet.specs.Passes.{knows}
@@ -65,10 +65,17 @@ pub record PartsBy (parting : Parting) (tally : Tally) (bytes : List ℕ) : Type
   pub closes : (more : List ℕ) → ClientAsks tally (bytes ++ more) [] close
   pub how : parting_of close ≡ parting
 
+-- a Query stands at the front of bytes, and this is where it ends
+pub record QueryTo (bytes : List ℕ) (end : ℕ) : Type 0 where
+  pub next : QueryNext bytes (slice_range bytes 5 end) (drop end bytes)
+  pub some : 5 < end
+  pub short : end ≤ 65542
+  pub within : end ≤ length bytes
+
 -- what stands at the front of bytes
 abbrev pub HasFront : Front → List ℕ → Type 0
 HasFront front.Unfinished bytes = IsUnfinished bytes
-HasFront (front.Query end) bytes = QueryNext bytes (slice_range bytes 5 end) (drop end bytes)
+HasFront (front.Query end) bytes = QueryTo bytes end
 HasFront (front.Parts parting) bytes = (tally : Tally) → PartsBy parting tally bytes
 
 -- how a client parts that ends behind these bytes of a message

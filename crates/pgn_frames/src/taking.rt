@@ -17,7 +17,8 @@ use std::mem;
 use std::sync::Wait;
 
 // A seat's inbox, and the seat's number.
-pub(crate) struct Inbox<'a> {
+#[derive(Drop)]
+pub(crate) struct SeatInbox<'a> {
     pub(crate) outlet: &'a Outlet<Option<Ask>>,
     pub(crate) seat: SessionNo,
 }
@@ -26,7 +27,7 @@ pub(crate) struct Inbox<'a> {
 pub(crate) fn take_signs<R: Wait>(
     rt: &R,
     alloc: Global,
-    inbox: &Inbox,
+    inbox: &SeatInbox,
     caller: &mut Caller,
     bytes: &[u8],
 ) -> Result<(), AllocError>
@@ -53,7 +54,7 @@ pub(crate) fn take_signs<R: Wait>(
 fn take_end<R: Wait>(
     rt: &R,
     alloc: Global,
-    inbox: &Inbox,
+    inbox: &SeatInbox,
     caller: &mut Caller,
 ) -> Result<(), AllocError>
     requires own { IsPassOf inbox.now.outlet.now caller.old.asks }
@@ -77,7 +78,7 @@ fn take_end<R: Wait>(
 fn take_behind<R: Wait>(
     rt: &R,
     alloc: Global,
-    inbox: &Inbox,
+    inbox: &SeatInbox,
     caller: &mut Caller,
     bytes: &[u8],
 ) -> Result<(), AllocError>
@@ -110,7 +111,7 @@ fn take_behind<R: Wait>(
 fn take_grown<R: Wait>(
     rt: &R,
     alloc: Global,
-    inbox: &Inbox,
+    inbox: &SeatInbox,
     caller: &mut Caller,
     begun: &mut Vec<u8>,
     bytes: &[u8],
@@ -136,7 +137,7 @@ fn take_grown<R: Wait>(
 fn take_bytes<R: Wait>(
     rt: &R,
     alloc: Global,
-    inbox: &Inbox,
+    inbox: &SeatInbox,
     caller: &mut Caller,
     bytes: &[u8],
 ) -> Result<(), AllocError>
@@ -158,7 +159,7 @@ fn take_bytes<R: Wait>(
 fn take_whole<R: Wait>(
     rt: &R,
     alloc: Global,
-    inbox: &Inbox,
+    inbox: &SeatInbox,
     caller: &mut Caller,
     bytes: &[u8],
 ) -> Result<usize, AllocError>
@@ -188,7 +189,7 @@ fn take_whole<R: Wait>(
 fn take_message<R: Wait>(
     rt: &R,
     alloc: Global,
-    inbox: &Inbox,
+    inbox: &SeatInbox,
     caller: &mut Caller,
     bytes: &[u8],
 ) -> Result<usize, AllocError>
@@ -219,7 +220,7 @@ fn take_message<R: Wait>(
 fn take_query<R: Wait>(
     rt: &R,
     alloc: Global,
-    inbox: &Inbox,
+    inbox: &SeatInbox,
     caller: &mut Caller,
     body: &[u8],
 ) -> Result<bool, AllocError>
@@ -247,7 +248,7 @@ fn take_query<R: Wait>(
 // A seat's client leaves by a message at the front of these bytes, with all of them.
 fn leave<R: Wait>(
     rt: &R,
-    inbox: &Inbox,
+    inbox: &SeatInbox,
     caller: &mut Caller,
     bytes: &[u8],
     parting: Parting,
@@ -273,7 +274,7 @@ fn leave<R: Wait>(
 // Puts the end of a seat's client, and goes on to the next.
 fn part<R: Wait>(
     rt: &R,
-    inbox: &Inbox,
+    inbox: &SeatInbox,
     caller: &mut Caller,
     parting: Parting,
 ) -> Result<(), AllocError>
@@ -292,7 +293,7 @@ fn part<R: Wait>(
 }
 
 // Puts this into a seat's inbox.
-fn put<R: Wait>(rt: &R, inbox: &Inbox, caller: &mut Caller, ask: Ask) -> Result<(), AllocError>
+fn put<R: Wait>(rt: &R, inbox: &SeatInbox, caller: &mut Caller, ask: Ask) -> Result<(), AllocError>
     requires own { IsPassOf inbox.now.outlet.now caller.old.asks }
     requires may { MayPush (knows caller.old.asks) inbox.now.seat }
     ensures own { IsPassOf inbox.now.outlet.now caller.new.asks }
