@@ -1,140 +1,291 @@
 -- A seat is asked something by its signs, and one thing.
-use Rattle.std.proofs.Common.{◌≡◌, ℕ, zero, suc, ◌+◌, ◌<◌, ◌⊎◌, List, [], ◌∷◌, ◌++◌, length, Option, Some, None, sym, ap, ◌∙◌, subst, refl, arith, inl, inr}
+use Rattle.std.proofs.Common.{◌≡◌, ℕ, zero, suc, ◌+◌, ◌<◌, ◌≤◌, ◌⊎◌, Bool, true, false, cond, List, [], ◌∷◌, ◌++◌, length, drop, Option, Some, None, sym, ap, ◌∙◌, subst, refl, arith, inl, inr}
 use Rattle.std.specs.Prelude.{map}
-use Rattle.pgn_language.specs.declared.scenario.ScriptLine.{ScriptLine}
-use Rattle.pgn_queries.specs.declared.wire_fault.WireFault.{WireFault}
-use Rattle.pgn_queries.specs.declared.wire_fault.WireFault.TheVariants.{TooMany}
+use Rattle.std.specs.Int.{w32, from_be_bytes}
+use Rattle.std.proofs.lemmas.Bool.{cases_Bool, cases_lt}
+use Rattle.std.proofs.lemmas.List.{length-append}
+use Rattle.pgn_queries.specs.declared.limits.TheConstants.{QUERIES_MAX}
+use Rattle.pgn_queries.specs.declared.wire_fault.WireFault.TheVariants.{BadLength, BadText, BadType, TooMany, Truncated}
 use Rattle.pgn_queries.specs.declared.coming.Coming.{Coming}
-use Rattle.pgn_queries.specs.declared.coming.Coming.TheVariants.{End, Query, Fault}
+use Rattle.pgn_queries.specs.declared.coming.Coming.TheVariants as coming
+use Rattle.pgn_queries.specs.declared.coming.Coming.TheVariants.{Fault}
 use Rattle.pgn_queries.specs.Client as client
-use Rattle.pgn_queries.specs.Client.{BodyIs, NextIs, QueryIs, TerminateIs}
-use Rattle.pgn_queries.specs.Queries as queries
-use Rattle.pgn_queries.specs.Queries.{Place, AreTooMany, QueriesAre, after_query}
-use Rattle.pgn_queries.proofs.OneLaws.{next_one, same_after, same_place}
-use Rattle.pgn_queries.proofs.EachLaws.{counts, has_line, next_comes}
+use Rattle.pgn_queries.specs.Client.{BodyIs, IsQueryLength, NextIs, QueryIs, Tells, TerminateIs, body_of}
+use Rattle.pgn_queries.proofs.OneLaws.{fronts, next_one}
+use Rattle.pgn_queries.proofs.EachLaws.{next_comes}
+use Rattle.pgn_requests.specs.declared.request.Request.{Request}
+use Rattle.pgn_requests.specs.Reading.{RequestIs}
+use Rattle.pgn_requests.proofs.RequestLaws.{each_request, one_request}
 use Rattle.pgn_turns.specs.declared.asked.Ask.{Ask}
 use Rattle.pgn_turns.specs.declared.asked.Ask.TheVariants as ask
+use Rattle.pgn_turns.specs.declared.asked.Parting.TheVariants.{Refused, Extended, Spent}
 use Rattle.pgn_frames.specs.Clients as clients
-use Rattle.pgn_frames.specs.Clients.{Close, Open, Left, Faulty, ClientAsks, SeatAsks, asks_for, fault_of, last_end, next_client, next_line, parting_of}
-use Rattle.pgn_frames.specs.Laws.{AreQueries, EachIsAsked, OneAsking}
+use Rattle.pgn_frames.specs.Clients.{AreTooMany, AskIs, ClientAsks, Close, Open, Left, Cut, Wrong, QueryNext, SeatAsks, Tally, after_ask, asked_as, begins_extended, is_extended, last_end, next_client, next_line, parting_of}
+use Rattle.pgn_frames.specs.Laws.{EachIsAsked, OneAsking}
+use Rattle.pgn_frames.proofs.MoreLaws.{some_byte}
 
--- where the bytes end, and where a Terminate stands, the end comes
-stops : (place : Place) (bytes : List ℕ) → bytes ≡ [] → NextIs place.at End [] bytes []
-stops place bytes e = client.NextIs.Ended bytes [] e
+-- fewer bytes stand behind a Query
+pub query_less : (bytes body rest : List ℕ) → QueryNext bytes body rest → length rest < length bytes
+query_less bytes body rest q = omega (arith, ap length q.split, length-append q.head (body ++ rest), length-append body rest)
 
-leaves : (place : Place) (bytes more rest : List ℕ) → bytes ≡ 88 ∷ more → TerminateIs place.at End more rest → NextIs place.at End [] bytes rest
-leaves place bytes more rest e is = client.NextIs.Terminates bytes more End [] rest e is
+-- bytes have one Query at their front
+query_one : (bytes body other rest more : List ℕ) → QueryNext bytes body rest → QueryNext bytes other more → (body ≡ other) × (rest ≡ more)
+query_one bytes body other rest more q r =
+    let four : length q.head ≡ 4 = q.tells.four in
+    let as_many : length r.head ≡ 4 = r.tells.four in
+    let heads = fronts (81 ∷ q.head) (81 ∷ r.head) (body ++ rest) (other ++ more) (omega arith) (sym q.split ∙ r.split) in
+    let head : q.head ≡ r.head = ap (λ (l : List ℕ). drop 1 l) heads.0 in
+    let len : q.len ≡ r.len = q.tells.value ∙ ap (from_be_bytes w32) head ∙ sym r.tells.value in
+    let size : q.len ≡ 4 + length body = q.size in
+    let as_long : r.len ≡ 4 + length other = r.size in
+    fronts body other rest more (omega arith) heads.1
 
-not_fault : {A : Type 0} (place : Place) (bytes text words rest more : List ℕ) (coming : Coming) (fault : WireFault) → NextIs place.at coming text bytes rest → NextIs place.at (Fault fault) words bytes more
-    → (coming ≡ Fault fault → ⊥) → A
-not_fault place bytes text words rest more coming fault n m other = absurd (other (next_one place.at coming (Fault fault) text words bytes rest more n m).first)
+-- what comes is no Query, also none whose body is garbled
+abbrev IsOther : Coming → Type 0
+IsOther coming.End = Unit {0}
+IsOther coming.Query = ⊥
+IsOther (Fault (BadText at)) = ⊥
+IsOther (Fault (BadType at)) = Unit {0}
+IsOther (Fault (BadLength at)) = Unit {0}
+IsOther (Fault (Truncated at)) = Unit {0}
+IsOther (Fault (TooMany at)) = Unit {0}
 
-not_query : {A : Type 0} (place : Place) (bytes text words rest more : List ℕ) (coming : Coming) → NextIs place.at coming text bytes rest → NextIs place.at Query words bytes more → (coming ≡ Query → ⊥) → A
-not_query place bytes text words rest more coming n m other = absurd (other (next_one place.at coming Query text words bytes rest more n m).first)
+body_other : (size : ℕ) (next : Coming) (text bytes rest : List ℕ) → size ≤ length bytes → BodyIs 0 size next text bytes rest → IsOther next → ⊥
+body_other size _ _ bytes _ enough (client.BodyIs.Cut _ t r few) other = omega arith
+body_other size _ _ bytes _ enough (client.BodyIs.Bad _ body more t r e len none) other = other
+body_other size _ _ bytes _ enough (client.BodyIs.Whole _ t r e len sound) other = other
 
-end_or_fault : (fault : WireFault) → End ≡ Fault fault → ⊥
-end_or_fault fault e = cc
+query_other : (next : Coming) (text bytes head body rest after : List ℕ) (len : ℕ) → bytes ≡ head ++ (body ++ rest) → Tells head len → IsQueryLength len → len ≡ 4 + length body
+    → QueryIs 0 next text bytes after → IsOther next → ⊥
+query_other _ _ bytes head body rest _ len e tells may size (client.QueryIs.CutHead _ t r few) other =
+    let four : length head ≡ 4 = tells.four in
+    omega (arith, ap length e, length-append head (body ++ rest))
+query_other _ _ bytes head body rest _ len e tells may size (client.QueryIs.BadHead _ front m t r long f told wrong) other =
+    let heads = fronts head front (body ++ rest) m (tells.four ∙ sym told.four) (sym e ∙ f) in
+    let same : len ≡ long = tells.value ∙ ap (from_be_bytes w32) heads.0 ∙ sym told.value in
+    wrong (subst (λ (n : ℕ). IsQueryLength n) same may)
+query_other _ _ bytes head body rest _ len e tells may size (client.QueryIs.HasBody _ front m c t r long big f told fits sized inner) other =
+    let heads = fronts head front (body ++ rest) m (tells.four ∙ sym told.four) (sym e ∙ f) in
+    let same : len ≡ long = tells.value ∙ ap (from_be_bytes w32) heads.0 ∙ sym told.value in
+    let whole : length m ≡ length body + length rest = ap length (sym heads.1) ∙ length-append body rest in
+    body_other big c t m r (omega arith) inner other
 
-end_or_query : End ≡ Query → ⊥
-end_or_query e = cc
+-- where a Query stands, nothing else comes
+no_other : (next : Coming) (text bytes body rest after : List ℕ) → QueryNext bytes body rest → NextIs 0 next text bytes after → IsOther next → ⊥
+no_other _ _ bytes body rest _ q (client.NextIs.Ended _ t e) other = let both : 81 ∷ (q.head ++ (body ++ rest)) ≡ [] = sym q.split ∙ e in cc
+no_other _ _ bytes body rest _ q (client.NextIs.NoType letter _ m t r e no_query no_terminate) other =
+    let both : 81 ∷ (q.head ++ (body ++ rest)) ≡ letter ∷ m = sym q.split ∙ e in
+    no_query (let same : letter ≡ 81 = cc in same)
+no_other _ _ bytes body rest _ q (client.NextIs.Terminates _ m c t r e is) other =
+    let both : 81 ∷ (q.head ++ (body ++ rest)) ≡ 88 ∷ m = sym q.split ∙ e in
+    let same : 81 ≡ 88 = cc in
+    omega arith
+no_other _ _ bytes body rest _ q (client.NextIs.Asks _ m c t r e is) other =
+    let both : 81 ∷ m ≡ 81 ∷ (q.head ++ (body ++ rest)) = sym e ∙ q.split in
+    query_other c t m q.head body rest r q.len (let same : m ≡ q.head ++ (body ++ rest) = cc in same) q.tells q.may q.size is other
 
-query_or_fault : (fault : WireFault) → Query ≡ Fault fault → ⊥
-query_or_fault fault e = cc
+-- how bytes end, where what comes first is no Query
+abbrev closed_by : List ℕ → Coming → Close
+closed_by [] next = Open
+closed_by (x ∷ bytes) coming.End = Left
+closed_by (x ∷ bytes) coming.Query = Open
+closed_by (x ∷ bytes) (Fault (Truncated at)) = Cut
+closed_by (x ∷ bytes) (Fault (BadType at)) = cond (is_extended x) (Wrong Extended) (Wrong Refused)
+closed_by (x ∷ bytes) (Fault (BadLength at)) = Wrong Refused
+closed_by (x ∷ bytes) (Fault (BadText at)) = Open
+closed_by (x ∷ bytes) (Fault (TooMany at)) = Open
 
-fault_or_query : (fault : WireFault) → Fault fault ≡ Query → ⊥
-fault_or_query fault e = cc
+cut_by : (bytes : List ℕ) → 0 < length bytes → Cut ≡ closed_by bytes (Fault (Truncated 0))
+cut_by [] some = absurd (omega arith)
+cut_by (x ∷ bytes) some = refl
 
-query_or_end : Query ≡ End → ⊥
-query_or_end e = cc
+refused_by : (bytes : List ℕ) → 0 < length bytes → begins_extended bytes ≡ false → Wrong Refused ≡ closed_by bytes (Fault (BadType 0))
+refused_by [] some other = absurd (omega arith)
+refused_by (x ∷ bytes) some other = ap (λ (b : Bool). cond b (Wrong Extended) (Wrong Refused)) (sym other)
 
-client_one : (place : Place) (bytes : List ℕ) (lines others : List ScriptLine) (close other : Close) → ClientAsks place bytes lines close → ClientAsks place bytes others other → (lines ≡ others) × (close ≡ other)
-client_one place bytes _ _ _ _ (clients.ClientAsks.Stops _ _ e) (clients.ClientAsks.Stops _ _ f) = (refl, refl)
-client_one place bytes _ _ _ _ (clients.ClientAsks.Stops _ _ e) (clients.ClientAsks.Leaves _ _ m s f is) = let both : [] ≡ 88 ∷ m = sym e ∙ f in absurd (cc)
-client_one place bytes _ _ _ _ (clients.ClientAsks.Stops _ _ e) (clients.ClientAsks.Fails _ _ u s g m) = not_fault place bytes [] u [] s End g (stops place bytes e) m (end_or_fault g)
-client_one place bytes _ _ _ _ (clients.ClientAsks.Stops _ _ e) (clients.ClientAsks.Exceeds _ _ u s line m is many) = not_query place bytes [] u [] s End (stops place bytes e) m end_or_query
-client_one place bytes _ _ _ _ (clients.ClientAsks.Stops _ _ e) (clients.ClientAsks.Goes _ _ u s line ls c m is few more) = not_query place bytes [] u [] s End (stops place bytes e) m end_or_query
-client_one place bytes _ _ _ _ (clients.ClientAsks.Leaves _ _ b r e is) (clients.ClientAsks.Stops _ _ f) = let both : [] ≡ 88 ∷ b = sym f ∙ e in absurd (cc)
-client_one place bytes _ _ _ _ (clients.ClientAsks.Leaves _ _ b r e is) (clients.ClientAsks.Leaves _ _ m s f so) = (refl, refl)
-client_one place bytes _ _ _ _ (clients.ClientAsks.Leaves _ _ b r e is) (clients.ClientAsks.Fails _ _ u s g m) = not_fault place bytes [] u r s End g (leaves place bytes b r e is) m (end_or_fault g)
-client_one place bytes _ _ _ _ (clients.ClientAsks.Leaves _ _ b r e is) (clients.ClientAsks.Exceeds _ _ u s line m so many) = not_query place bytes [] u r s End (leaves place bytes b r e is) m end_or_query
-client_one place bytes _ _ _ _ (clients.ClientAsks.Leaves _ _ b r e is) (clients.ClientAsks.Goes _ _ u s line ls c m so few more) = not_query place bytes [] u r s End (leaves place bytes b r e is) m end_or_query
-client_one place bytes _ _ _ _ (clients.ClientAsks.Fails _ _ t r g n) (clients.ClientAsks.Stops _ _ f) = not_fault place bytes [] t [] r End g (stops place bytes f) n (end_or_fault g)
-client_one place bytes _ _ _ _ (clients.ClientAsks.Fails _ _ t r g n) (clients.ClientAsks.Leaves _ _ m s f is) = not_fault place bytes [] t s r End g (leaves place bytes m s f is) n (end_or_fault g)
-client_one place bytes _ _ _ _ (clients.ClientAsks.Fails _ _ t r g n) (clients.ClientAsks.Fails _ _ u s f m) =
-    let e : Fault g ≡ Fault f = (next_one place.at (Fault g) (Fault f) t u bytes r s n m).first in
-    let same : g ≡ f = cc in
-    (refl, ap (λ (x : WireFault). let c : Close = Faulty x in c) same)
-client_one place bytes _ _ _ _ (clients.ClientAsks.Fails _ _ t r g n) (clients.ClientAsks.Exceeds _ _ u s line m is many) = not_query place bytes t u r s (Fault g) n m (fault_or_query g)
-client_one place bytes _ _ _ _ (clients.ClientAsks.Fails _ _ t r g n) (clients.ClientAsks.Goes _ _ u s line ls c m is few more) = not_query place bytes t u r s (Fault g) n m (fault_or_query g)
-client_one place bytes _ _ _ _ (clients.ClientAsks.Exceeds _ _ t r line n is many) (clients.ClientAsks.Stops _ _ f) = not_query place bytes [] t [] r End (stops place bytes f) n end_or_query
-client_one place bytes _ _ _ _ (clients.ClientAsks.Exceeds _ _ t r line n is many) (clients.ClientAsks.Leaves _ _ m s f so) = not_query place bytes [] t s r End (leaves place bytes m s f so) n end_or_query
-client_one place bytes _ _ _ _ (clients.ClientAsks.Exceeds _ _ t r line n is many) (clients.ClientAsks.Fails _ _ u s g m) = not_query place bytes u t s r (Fault g) m n (fault_or_query g)
-client_one place bytes _ _ _ _ (clients.ClientAsks.Exceeds _ _ t r line n is many) (clients.ClientAsks.Exceeds _ _ u s other m so lots) = (refl, refl)
-client_one place bytes _ _ _ _ (clients.ClientAsks.Exceeds _ _ t r line n is many) (clients.ClientAsks.Goes _ _ u s other ls c m so few more) =
-    let same = same_place place bytes t u r s line other n m is so in
-    absurd (few (subst AreTooMany (same_after place t u line other same.0 same.2) many))
-client_one place bytes _ _ _ _ (clients.ClientAsks.Goes _ _ t r line ls c n is few more) (clients.ClientAsks.Stops _ _ f) = not_query place bytes [] t [] r End (stops place bytes f) n end_or_query
-client_one place bytes _ _ _ _ (clients.ClientAsks.Goes _ _ t r line ls c n is few more) (clients.ClientAsks.Leaves _ _ m s f so) = not_query place bytes [] t s r End (leaves place bytes m s f so) n end_or_query
-client_one place bytes _ _ _ _ (clients.ClientAsks.Goes _ _ t r line ls c n is few more) (clients.ClientAsks.Fails _ _ u s g m) = not_query place bytes u t s r (Fault g) m n (fault_or_query g)
-client_one place bytes _ _ _ _ (clients.ClientAsks.Goes _ _ t r line ls c n is few more) (clients.ClientAsks.Exceeds _ _ u s other m so many) =
-    let same = same_place place bytes t u r s line other n m is so in
-    absurd (few (subst AreTooMany (sym (same_after place t u line other same.0 same.2)) many))
-client_one place bytes _ _ _ _ (clients.ClientAsks.Goes _ _ t r line ls c n is few more) (clients.ClientAsks.Goes _ _ u s other os d m so less others) =
-    let same = same_place place bytes t u r s line other n m is so in
-    let after : after_query place (length t) line.act ≡ after_query place (length u) other.act = same_after place t u line other same.0 same.2 in
-    let behind : ClientAsks (after_query place (length t) line.act) r os d =
-    subst (λ (xs : List ℕ). ClientAsks (after_query place (length t) line.act) xs os d) (sym same.1) (subst (λ (p : Place). ClientAsks p s os d) (sym after) others) in
-    let further = client_one (after_query place (length t) line.act) r ls os c d more behind in
-    (ap (λ (l : ScriptLine). l ∷ ls) same.2 ∙ ap (λ (all : List ScriptLine). other ∷ all) further.0, further.1)
+long_by : (bytes : List ℕ) → 0 < length bytes → Wrong Refused ≡ closed_by bytes (Fault (BadLength 0))
+long_by [] some = absurd (omega arith)
+long_by (x ∷ bytes) some = refl
 
--- a client's queries are those of its bytes
-pub are_queries : AreQueries
-are_queries place bytes _ _ (clients.ClientAsks.Stops _ _ e) = queries.QueriesAre.Ends place bytes [] [] (stops place bytes e)
-are_queries place bytes _ _ (clients.ClientAsks.Leaves _ _ more r e is) = queries.QueriesAre.Ends place bytes [] r (leaves place bytes more r e is)
-are_queries place bytes _ _ (clients.ClientAsks.Fails _ _ t r f n) = queries.QueriesAre.Fails place bytes t r f n
-are_queries place bytes _ _ (clients.ClientAsks.Exceeds _ _ t r line n is many) = queries.QueriesAre.Exceeds place bytes t r line n is many
-are_queries place bytes _ _ (clients.ClientAsks.Goes _ _ t r line ls c n is few more) =
-    queries.QueriesAre.Goes place bytes t r line ls (fault_of c) n is few (are_queries (after_query place (length t) line.act) r ls c more)
+-- bytes of which no Query comes first
+record Closing (bytes : List ℕ) (asks : List Ask) (close : Close) : Type 0 where
+  came : Coming
+  text : List ℕ
+  rest : List ℕ
+  next : NextIs 0 came text bytes rest
+  other : IsOther came
+  none : asks ≡ []
+  how : close ≡ closed_by bytes came
 
--- a client's bytes have queries
-abbrev HasQueries : Place → List ℕ → Type 0
-HasQueries place bytes = (lines : List ScriptLine) × (close : Close) × ClientAsks place bytes lines close
+-- with the Query that comes first there are too many lines
+record Exceeding (tally : Tally) (asked : Ask) (asks : List Ask) (close : Close) : Type 0 where
+  many : AreTooMany (after_ask tally asked)
+  none : asks ≡ []
+  how : close ≡ Wrong Spent
 
-no_body_end : (at size : ℕ) (coming : Coming) (text bytes rest : List ℕ) → BodyIs at size coming text bytes rest → coming ≡ End → ⊥
-no_body_end at size _ _ bytes _ (client.BodyIs.Cut _ t r few) e = cc
-no_body_end at size _ _ bytes _ (client.BodyIs.Bad _ body more t r f len none) e = cc
-no_body_end at size _ _ bytes _ (client.BodyIs.Whole _ t r f len sound) e = cc
+-- there are not
+record Going (tally : Tally) (asked : Ask) (rest : List ℕ) (asks : List Ask) (close : Close) : Type 0 where
+  few : AreTooMany (after_ask tally asked) → ⊥
+  later : List Ask
+  are : asks ≡ asked ∷ later
+  behind : ClientAsks (after_ask tally asked) rest later close
 
-pub no_query_end : (at : ℕ) (coming : Coming) (text bytes rest : List ℕ) → QueryIs at coming text bytes rest → coming ≡ End → ⊥
-no_query_end at _ _ bytes _ (client.QueryIs.CutHead _ t r few) e = cc
-no_query_end at _ _ bytes _ (client.QueryIs.BadHead _ head more t r len f tells wrong) e = cc
-no_query_end at _ _ bytes _ (client.QueryIs.HasBody _ head more c t r len size f tells fits sized body) e = no_body_end at size c t more r body e
+-- bytes of which a Query comes first
+record Asking (tally : Tally) (bytes : List ℕ) (asks : List Ask) (close : Close) : Type 0 where
+  body : List ℕ
+  rest : List ℕ
+  asked : Ask
+  next : QueryNext bytes body rest
+  is : AskIs (tally.lines + 1) body asked
+  either : Exceeding tally asked asks close ⊎ Going tally asked rest asks close
 
-at_end : (place : Place) (coming : Coming) (text bytes rest : List ℕ) → NextIs place.at coming text bytes rest → coming ≡ End → HasQueries place bytes
-at_end place _ _ bytes _ (client.NextIs.Ended _ t e) end = ([], Open, clients.ClientAsks.Stops place bytes e)
-at_end place _ _ bytes _ (client.NextIs.NoType letter _ more t r e q x) end = absurd (cc)
-at_end place _ _ bytes _ (client.NextIs.Terminates _ more c t r e is) end = ([], Left, clients.ClientAsks.Leaves place bytes more r e (subst (λ (k : Coming). TerminateIs place.at k more r) end is))
-at_end place _ _ bytes _ (client.NextIs.Asks _ more c t r e is) end = absurd (no_query_end place.at c t more r is end)
+extended_no_type : (bytes : List ℕ) → begins_extended bytes ≡ true → NextIs 0 (Fault (BadType 0)) [] bytes []
+extended_no_type [] e = absurd (cc)
+extended_no_type (x ∷ bytes) e =
+    client.NextIs.NoType x (x ∷ bytes) bytes [] [] refl (λ q. let no : is_extended 81 ≡ true = subst (λ (l : ℕ). is_extended l ≡ true) q e in cc)
+    (λ t. let no : is_extended 88 ≡ true = subst (λ (l : ℕ). is_extended l ≡ true) t e in cc)
 
-by_next : (place : Place) (bytes : List ℕ) (coming : Coming) (text rest : List ℕ) → NextIs place.at coming text bytes rest → (coming ≡ Query → (after : Place) → HasQueries after rest) → HasQueries place bytes
-by_next place bytes End text rest is more = at_end place End text bytes rest is refl
-by_next place bytes (Fault fault) text rest is more = ([], Faulty fault, clients.ClientAsks.Fails place bytes text rest fault is)
-by_next place bytes Query text rest is more =
-    let line = has_line (place.queries + 1) text in
-    let after : Place = after_query place (length text) line.0.act in
-    elim (counts after) [
-      | inl many ↦ ([], Faulty (TooMany place.at), clients.ClientAsks.Exceeds place bytes text rest line.0 is line.1 many)
-      | inr few ↦ let others = more refl after in (line.0 ∷ others.0, others.1, clients.ClientAsks.Goes place bytes text rest line.0 others.0 others.1 is line.1 few others.2)
+extended_by : (bytes : List ℕ) → begins_extended bytes ≡ true → Wrong Extended ≡ closed_by bytes (Fault (BadType 0))
+extended_by [] e = absurd (cc)
+extended_by (x ∷ bytes) e = ap (λ (b : Bool). cond b (Wrong Extended) (Wrong Refused)) (sym e)
+
+-- the one or the other
+parts : (tally : Tally) (bytes : List ℕ) (asks : List Ask) (close : Close) → ClientAsks tally bytes asks close → Closing bytes asks close ⊎ Asking tally bytes asks close
+parts tally bytes _ _ (clients.ClientAsks.Stops _ _ e) =
+    inl (record { came = coming.End; text = []; rest = []; next = client.NextIs.Ended bytes [] e; other = tt; none = refl; how = ap (λ (l : List ℕ). closed_by l coming.End) (sym e) })
+parts tally bytes _ _ (clients.ClientAsks.Leaves _ _ more rest e is) =
+    inl (record { came = coming.End; text = []; rest = rest; next = client.NextIs.Terminates bytes more coming.End [] rest e is; other = tt; none = refl; how = ap (λ (l : List ℕ). closed_by l coming.End) (sym e) })
+parts tally bytes _ _ (clients.ClientAsks.Cuts _ _ t r n) =
+    inl (record { came = Fault (Truncated 0); text = t; rest = r; next = n; other = tt; none = refl; how = cut_by bytes (some_byte 0 (Fault (Truncated 0)) t bytes r n (λ k. cc)) })
+parts tally bytes _ _ (clients.ClientAsks.NoType _ _ t r n other) =
+    inl (record { came = Fault (BadType 0); text = t; rest = r; next = n; other = tt; none = refl; how = refused_by bytes (some_byte 0 (Fault (BadType 0)) t bytes r n (λ k. cc)) other })
+parts tally bytes _ _ (clients.ClientAsks.Extends _ _ e) =
+    inl (record { came = Fault (BadType 0); text = []; rest = []; next = extended_no_type bytes e; other = tt; none = refl; how = extended_by bytes e })
+parts tally bytes _ _ (clients.ClientAsks.NoLength _ _ t r n) =
+    inl (record { came = Fault (BadLength 0); text = t; rest = r; next = n; other = tt; none = refl; how = long_by bytes (some_byte 0 (Fault (BadLength 0)) t bytes r n (λ k. cc)) })
+parts tally bytes _ _ (clients.ClientAsks.Exceeds _ _ body rest asked q is many) =
+    inr (record { body = body; rest = rest; asked = asked; next = q; is = is; either = inl (record { many = many; none = refl; how = refl }) })
+parts tally bytes _ _ (clients.ClientAsks.Goes _ _ body rest asked later close q is few more) =
+    inr (record { body = body; rest = rest; asked = asked; next = q; is = is; either = inr (record { few = few; later = later; are = refl; behind = more }) })
+
+-- a body asks one thing
+ask_one : (number : ℕ) (body other : List ℕ) (asked answer : Ask) → body ≡ other → AskIs number body asked → AskIs number other answer → asked ≡ answer
+ask_one number body other asked answer e h k =
+    let same : h.0 ≡ k.0 = one_request body h.0 k.0 h.1 (subst (λ (b : List ℕ). RequestIs b k.0) (sym e) k.1) in
+    h.2 ∙ ap (asked_as number) same ∙ sym k.2
+
+-- of what stands behind a Query the same holds, whatever was counted
+abbrev OneBehind : List ℕ → Type 0
+OneBehind bytes = (after : Tally) (rest : List ℕ) (asks others : List Ask) (close other : Close) → length rest < length bytes → ClientAsks after rest asks close → ClientAsks after rest others other
+    → (asks ≡ others) × (close ≡ other)
+
+same_behind : (tally : Tally) (bytes rest more : List ℕ) (asked answer : Ask) (asks others : List Ask) (close other : Close) → asked ≡ answer → rest ≡ more → length rest < length bytes → OneBehind bytes
+    → Exceeding tally asked asks close ⊎ Going tally asked rest asks close → Exceeding tally answer others other ⊎ Going tally answer more others other → (asks ≡ others) × (close ≡ other)
+same_behind tally bytes rest more asked answer asks others close other e f less one (inl a) (inl b) = (a.none ∙ sym b.none, a.how ∙ sym b.how)
+same_behind tally bytes rest more asked answer asks others close other e f less one (inl a) (inr b) =
+    absurd (b.few (subst (λ (x : Ask). AreTooMany (after_ask tally x)) e a.many))
+same_behind tally bytes rest more asked answer asks others close other e f less one (inr a) (inl b) =
+    absurd (a.few (subst (λ (x : Ask). AreTooMany (after_ask tally x)) (sym e) b.many))
+same_behind tally bytes rest more asked answer asks others close other e f less one (inr a) (inr b) =
+    let behind : ClientAsks (after_ask tally asked) rest b.later other
+    = subst (λ (x : Ask). ClientAsks (after_ask tally x) rest b.later other) (sym e) (subst (λ (l : List ℕ). ClientAsks (after_ask tally answer) l b.later other) (sym f) b.behind) in
+    let further = one (after_ask tally asked) rest a.later b.later close other less a.behind behind in
+    (a.are ∙ ap (λ (x : Ask). x ∷ a.later) e ∙ ap (λ (l : List Ask). answer ∷ l) further.0 ∙ sym b.are, further.1)
+
+same_parts : (tally : Tally) (bytes : List ℕ) (asks others : List Ask) (close other : Close) → OneBehind bytes → Closing bytes asks close ⊎ Asking tally bytes asks close
+    → Closing bytes others other ⊎ Asking tally bytes others other → (asks ≡ others) × (close ≡ other)
+same_parts tally bytes asks others close other one (inl a) (inl b) =
+    let same : a.came ≡ b.came = (next_one 0 a.came b.came a.text b.text bytes a.rest b.rest a.next b.next).first in
+    (a.none ∙ sym b.none, a.how ∙ ap (closed_by bytes) same ∙ sym b.how)
+same_parts tally bytes asks others close other one (inl a) (inr b) = absurd (no_other a.came a.text bytes b.body b.rest a.rest b.next a.next a.other)
+same_parts tally bytes asks others close other one (inr a) (inl b) = absurd (no_other b.came b.text bytes a.body a.rest b.rest a.next b.next b.other)
+same_parts tally bytes asks others close other one (inr a) (inr b) =
+    let same = query_one bytes a.body b.body a.rest b.rest a.next b.next in
+    same_behind tally bytes a.rest b.rest a.asked b.asked asks others close other (ask_one (tally.lines + 1) a.body b.body a.asked b.asked same.0 a.is b.is) same.1 (query_less bytes a.body a.rest a.next) one a.either b.either
+
+shorter_one : (size : ℕ) (tally : Tally) (bytes : List ℕ) (asks others : List Ask) (close other : Close) → length bytes < size → ClientAsks tally bytes asks close → ClientAsks tally bytes others other
+    → (asks ≡ others) × (close ≡ other)
+shorter_one zero tally bytes asks others close other few h k = absurd (omega arith)
+shorter_one (suc size) tally bytes asks others close other few h k =
+    same_parts tally bytes asks others close other (λ after rest xs ys c d less f g. shorter_one size after rest xs ys c d (omega arith) f g) (parts tally bytes asks close h) (parts tally bytes others other k)
+
+client_one : (tally : Tally) (bytes : List ℕ) (asks others : List Ask) (close other : Close) → ClientAsks tally bytes asks close → ClientAsks tally bytes others other → (asks ≡ others) × (close ≡ other)
+client_one tally bytes asks others close other h k = shorter_one (suc (length bytes)) tally bytes asks others close other (omega arith) h k
+
+-- what comes first: what ends the client, or a Query
+data First (bytes : List ℕ) : Type 0 where
+  Ends : (close : Close) → ((tally : Tally) → ClientAsks tally bytes [] close) → First bytes
+  Asks : (body rest : List ℕ) → QueryNext bytes body rest → First bytes
+
+first_body : (size len : ℕ) (next : Coming) (text bytes all head rest : List ℕ) → all ≡ 81 ∷ (head ++ bytes) → Tells head len → IsQueryLength len → len ≡ 4 + size → BodyIs 0 size next text bytes rest → First all
+first_body size len _ _ bytes all head _ e tells may sized (client.BodyIs.Cut _ t r few) =
+    Ends Cut (λ tally. clients.ClientAsks.Cuts tally all t r
+    (client.NextIs.Asks all (head ++ bytes) (Fault (Truncated 0)) t r e
+    (client.QueryIs.HasBody (head ++ bytes) head bytes (Fault (Truncated 0)) t r len size refl tells may sized (client.BodyIs.Cut bytes t r few))))
+first_body size len _ _ bytes all head _ e tells may sized (client.BodyIs.Bad _ body more t r f long none) =
+    Asks body more (record { head = head; len = len; split = e ∙ ap (λ (l : List ℕ). 81 ∷ (head ++ l)) f; tells = tells; may = may; size = omega arith })
+first_body size len _ _ bytes all head _ e tells may sized (client.BodyIs.Whole _ t r f long sound) =
+    Asks (body_of t) r (record { head = head; len = len; split = e ∙ ap (λ (l : List ℕ). 81 ∷ (head ++ l)) f; tells = tells; may = may; size = omega arith })
+
+first_query : (next : Coming) (text bytes all rest : List ℕ) → all ≡ 81 ∷ bytes → QueryIs 0 next text bytes rest → First all
+first_query _ _ bytes all _ e (client.QueryIs.CutHead _ t r few) =
+    Ends Cut (λ tally. clients.ClientAsks.Cuts tally all t r (client.NextIs.Asks all bytes (Fault (Truncated 0)) t r e (client.QueryIs.CutHead bytes t r few)))
+first_query _ _ bytes all _ e (client.QueryIs.BadHead _ head m t r len f tells wrong) =
+    Ends (Wrong Refused) (λ tally. clients.ClientAsks.NoLength tally all t r (client.NextIs.Asks all bytes (Fault (BadLength 0)) t r e (client.QueryIs.BadHead bytes head m t r len f tells wrong)))
+first_query _ _ bytes all _ e (client.QueryIs.HasBody _ head m c t r len size f tells fits sized body) =
+    first_body size len c t m all head r (e ∙ ap (λ (l : List ℕ). 81 ∷ l) f) tells fits sized body
+
+first_terminate : (next : Coming) (text bytes all rest : List ℕ) → all ≡ 88 ∷ bytes → TerminateIs 0 next bytes rest → First all
+first_terminate _ text bytes all _ e (client.TerminateIs.CutHead _ r few) =
+    Ends Cut (λ tally. clients.ClientAsks.Cuts tally all text r (client.NextIs.Terminates all bytes (Fault (Truncated 0)) text r e (client.TerminateIs.CutHead bytes r few)))
+first_terminate _ text bytes all _ e (client.TerminateIs.BadHead _ head m r len f tells wrong) =
+    Ends (Wrong Refused) (λ tally. clients.ClientAsks.NoLength tally all text r (client.NextIs.Terminates all bytes (Fault (BadLength 0)) text r e (client.TerminateIs.BadHead bytes head m r len f tells wrong)))
+first_terminate _ text bytes all _ e (client.TerminateIs.Whole _ head r f tells) = Ends Left (λ tally. clients.ClientAsks.Leaves tally all bytes r e (client.TerminateIs.Whole bytes head r f tells))
+
+first_is : (next : Coming) (text bytes rest : List ℕ) → NextIs 0 next text bytes rest → First bytes
+first_is _ _ bytes _ (client.NextIs.Ended _ t e) = Ends Open (λ tally. clients.ClientAsks.Stops tally bytes e)
+first_is _ _ bytes _ (client.NextIs.NoType letter _ m t r e q x) = elim (cases_Bool (is_extended letter)) [
+  | inl is ↦ Ends (Wrong Extended) (λ tally. clients.ClientAsks.Extends tally bytes (ap begins_extended e ∙ is))
+  | inr no ↦ Ends (Wrong Refused) (λ tally. clients.ClientAsks.NoType tally bytes t r (client.NextIs.NoType letter bytes m t r e q x) (ap begins_extended e ∙ no))
+]
+first_is _ _ bytes _ (client.NextIs.Terminates _ m c t r e is) = first_terminate c t m bytes r e is
+first_is _ _ bytes _ (client.NextIs.Asks _ m c t r e is) = first_query c t m bytes r e is
+
+-- there are too many lines, or not
+counts : (tally : Tally) → AreTooMany tally ⊎ (AreTooMany tally → ⊥)
+counts tally = elim (cases_lt QUERIES_MAX tally.lines) [
+  | inl many ↦ inl (inl many)
+  | inr few ↦ elim (cases_lt tally.most tally.notes) [
+    | inl many ↦ inl (inr many)
+    | inr less ↦ inr (λ many. elim many [ inl more ↦ absurd (omega arith) | inr more ↦ absurd (omega arith) ])
+  ]
+]
+
+-- each client's bytes ask something
+abbrev HasAsks : Tally → List ℕ → Type 0
+HasAsks tally bytes = (asks : List Ask) × (close : Close) × ClientAsks tally bytes asks close
+
+by_first : (tally : Tally) (bytes : List ℕ) → First bytes → ((after : Tally) (rest : List ℕ) → length rest < length bytes → HasAsks after rest) → HasAsks tally bytes
+by_first tally bytes (Ends close asks) more = ([], close, asks tally)
+by_first tally bytes (Asks body rest q) more =
+    let request = each_request body in
+    let asked : Ask = asked_as (tally.lines + 1) request.0 in
+    let is : AskIs (tally.lines + 1) body asked = (request.0, request.1, refl) in
+    elim (counts (after_ask tally asked)) [
+      | inl many ↦ ([], Wrong Spent, clients.ClientAsks.Exceeds tally bytes body rest asked q is many)
+      | inr few ↦
+          let others = more (after_ask tally asked) rest (query_less bytes body rest q) in
+          (asked ∷ others.0, others.1, clients.ClientAsks.Goes tally bytes body rest asked others.0 others.1 q is few others.2)
     ]
 
-fewer : (size : ℕ) (place : Place) (bytes : List ℕ) → length bytes < size → HasQueries place bytes
-fewer zero place bytes few = absurd (omega arith)
-fewer (suc size) place bytes few =
-    let next = next_comes place.at bytes in
-    by_next place bytes next.coming next.text next.rest next.is (λ asks after. fewer size after next.rest (let shorter : length next.rest < length bytes = next.less asks in omega arith))
+fewer : (size : ℕ) (tally : Tally) (bytes : List ℕ) → length bytes < size → HasAsks tally bytes
+fewer zero tally bytes few = absurd (omega arith)
+fewer (suc size) tally bytes few =
+    let next = next_comes 0 bytes in
+    by_first tally bytes (first_is next.coming next.text bytes next.rest next.is) (λ after rest less. fewer size after rest (omega arith))
 
-has_queries : (place : Place) (bytes : List ℕ) → HasQueries place bytes
-has_queries place bytes = fewer (suc (length bytes)) place bytes (omega arith)
+has_asks : (tally : Tally) (bytes : List ℕ) → HasAsks tally bytes
+has_asks tally bytes = fewer (suc (length bytes)) tally bytes (omega arith)
 
 -- bytes, and what ends them
 bytes_one : (xs ys : List ℕ) → map Some xs ≡ map Some ys → xs ≡ ys
@@ -167,45 +318,42 @@ ends_one (x ∷ xs) (y ∷ ys) signs others e =
     (ap (λ (z : ℕ). z ∷ xs) first ∙ ap (λ (zs : List ℕ). y ∷ zs) further.0, further.1)
 
 -- the last client asks the same
-last_same : (place : Place) (lines others : List ScriptLine) (close other : Close) → lines ≡ others → close ≡ other
-    → asks_for lines ++ last_end (next_line place lines) close ≡ asks_for others ++ last_end (next_line place others) other
-last_same place lines others close other e f =
-    ap (λ (ls : List ScriptLine). asks_for ls ++ last_end (next_line place ls) close) e ∙ ap (λ (c : Close). asks_for others ++ last_end (next_line place others) c) f
+last_same : (tally : Tally) (asks others : List Ask) (close other : Close) → asks ≡ others → close ≡ other
+    → asks ++ last_end (next_line tally asks) close ≡ others ++ last_end (next_line tally others) other
+last_same tally asks others close other e f =
+    ap (λ (l : List Ask). l ++ last_end (next_line tally l) close) e ∙ ap (λ (c : Close). others ++ last_end (next_line tally others) c) f
 
-next_same : (place : Place) (lines others : List ScriptLine) (close other : Close) (asks more : List Ask) → lines ≡ others → close ≡ other → asks ≡ more
-    → asks_for lines ++ ask.End (next_line place lines) (parting_of close) ∷ asks ≡ asks_for others ++ ask.End (next_line place others) (parting_of other) ∷ more
-next_same place lines others close other asks more e f g =
-    ap (λ (ls : List ScriptLine). asks_for ls ++ ask.End (next_line place ls) (parting_of close) ∷ asks) e
-    ∙ ap (λ (c : Close). asks_for others ++ ask.End (next_line place others) (parting_of c) ∷ asks) f
-    ∙ ap (λ (l : List Ask). asks_for others ++ ask.End (next_line place others) (parting_of other) ∷ l) g
-
-asking_one : (place : Place) (signs : List (Option ℕ)) (asks others : List Ask) → SeatAsks place signs asks → SeatAsks place signs others → asks ≡ others
-asking_one place signs _ _ (clients.SeatAsks.Last _ _ xs ls c e k) (clients.SeatAsks.Last _ _ ys os d f j) =
-    let bytes : ys ≡ xs = bytes_one ys xs (sym f ∙ e) in
-    let same = client_one place xs ls os c d k (subst (λ (bs : List ℕ). ClientAsks place bs os d) bytes j) in
-    last_same place ls os c d same.0 same.1
-asking_one place signs _ _ (clients.SeatAsks.Last _ _ xs ls c e k) (clients.SeatAsks.Next _ _ ys os d more bs f j m) = absurd (no_end xs ys more (sym e ∙ f))
-asking_one place signs _ _ (clients.SeatAsks.Next _ _ xs ls c rest zs e k n) (clients.SeatAsks.Last _ _ ys os d f j) = absurd (no_end ys xs rest (sym f ∙ e))
-asking_one place signs _ _ (clients.SeatAsks.Next _ _ xs ls c rest zs e k n) (clients.SeatAsks.Next _ _ ys os d more bs f j m) =
-    let ends = ends_one ys xs more rest (sym f ∙ e) in
-    let same = client_one place xs ls os c d k (subst (λ (b : List ℕ). ClientAsks place b os d) ends.0 j) in
-    let behind : SeatAsks (next_client place ls) rest bs =
-    subst (λ (l : List (Option ℕ)). SeatAsks (next_client place ls) l bs) ends.1 (subst (λ (l : List ScriptLine). SeatAsks (next_client place l) more bs) (sym same.0) m) in
-    next_same place ls os c d zs bs same.0 same.1 (asking_one (next_client place ls) rest zs bs n behind)
+next_same : (tally : Tally) (asks others : List Ask) (close other : Close) (later more : List Ask) → asks ≡ others → close ≡ other → later ≡ more
+    → asks ++ ask.End (next_line tally asks) (parting_of close) ∷ later ≡ others ++ ask.End (next_line tally others) (parting_of other) ∷ more
+next_same tally asks others close other later more e f g =
+    ap (λ (l : List Ask). l ++ ask.End (next_line tally l) (parting_of close) ∷ later) e
+    ∙ ap (λ (c : Close). others ++ ask.End (next_line tally others) (parting_of c) ∷ later) f
+    ∙ ap (λ (l : List Ask). others ++ ask.End (next_line tally others) (parting_of other) ∷ l) g
 
 pub one_asking : OneAsking
-one_asking place signs asks others h k = asking_one place signs asks others h k
+one_asking tally signs _ _ (clients.SeatAsks.Last _ _ xs ls c e k) (clients.SeatAsks.Last _ _ ys os d f j) =
+    let bytes : ys ≡ xs = bytes_one ys xs (sym f ∙ e) in
+    let same = client_one tally xs ls os c d k (subst (λ (bs : List ℕ). ClientAsks tally bs os d) bytes j) in
+    last_same tally ls os c d same.0 same.1
+one_asking tally signs _ _ (clients.SeatAsks.Last _ _ xs ls c e k) (clients.SeatAsks.Next _ _ ys os d more bs f j m) = absurd (no_end xs ys more (sym e ∙ f))
+one_asking tally signs _ _ (clients.SeatAsks.Next _ _ xs ls c rest zs e k n) (clients.SeatAsks.Last _ _ ys os d f j) = absurd (no_end ys xs rest (sym f ∙ e))
+one_asking tally signs _ _ (clients.SeatAsks.Next _ _ xs ls c rest zs e k n) (clients.SeatAsks.Next _ _ ys os d more bs f j m) =
+    let ends = ends_one ys xs more rest (sym f ∙ e) in
+    let same = client_one tally xs ls os c d k (subst (λ (b : List ℕ). ClientAsks tally b os d) ends.0 j) in
+    let behind : SeatAsks (next_client tally ls) rest bs =
+    subst (λ (l : List (Option ℕ)). SeatAsks (next_client tally ls) l bs) ends.1 (subst (λ (l : List Ask). SeatAsks (next_client tally l) more bs) (sym same.0) m) in
+    next_same tally ls os c d zs bs same.0 same.1 (one_asking (next_client tally ls) rest zs bs n behind)
 
 -- signs up to the first end
-pub record Cut (signs : List (Option ℕ)) : Type 0 where
+pub record Divided (signs : List (Option ℕ)) : Type 0 where
   pub bytes : List ℕ
   pub behind : (signs ≡ map Some bytes) ⊎ ((others : List (Option ℕ)) × (signs ≡ map Some bytes ++ None ∷ others) × (length others < length signs))
 
-pub cut : (signs : List (Option ℕ)) → Cut signs
-cut [] = record { bytes = []; behind = inl refl }
-cut (None ∷ signs) = record { bytes = []; behind = inr (signs, refl, omega arith) }
-cut (Some x ∷ signs) =
-    let further = cut signs in record {
+pub divide : (signs : List (Option ℕ)) → Divided signs
+divide [] = record { bytes = []; behind = inl refl }
+divide (None ∷ signs) = record { bytes = []; behind = inr (signs, refl, omega arith) }
+divide (Some x ∷ signs) =
+    let further = divide signs in record {
       bytes = x ∷ further.bytes;
       behind = elim further.behind [
         | inl e ↦ inl (ap (λ (l : List (Option ℕ)). Some x ∷ l) e)
@@ -213,21 +361,21 @@ cut (Some x ∷ signs) =
       ];
     }
 
-abbrev IsAsked : Place → List (Option ℕ) → Type 0
-IsAsked place signs = (asks : List Ask) × SeatAsks place signs asks
+abbrev IsAsked : Tally → List (Option ℕ) → Type 0
+IsAsked tally signs = (asks : List Ask) × SeatAsks tally signs asks
 
-shorter_signs : (size : ℕ) (place : Place) (signs : List (Option ℕ)) → length signs < size → IsAsked place signs
-shorter_signs zero place signs few = absurd (omega arith)
-shorter_signs (suc size) place signs few =
-    let parts = cut signs in
-    let own = has_queries place parts.bytes in
-    elim parts.behind [
-      | inl e ↦ (asks_for own.0 ++ last_end (next_line place own.0) own.1, clients.SeatAsks.Last place signs parts.bytes own.0 own.1 e own.2)
+shorter_signs : (size : ℕ) (tally : Tally) (signs : List (Option ℕ)) → length signs < size → IsAsked tally signs
+shorter_signs zero tally signs few = absurd (omega arith)
+shorter_signs (suc size) tally signs few =
+    let divided = divide signs in
+    let own = has_asks tally divided.bytes in
+    elim divided.behind [
+      | inl e ↦ (own.0 ++ last_end (next_line tally own.0) own.1, clients.SeatAsks.Last tally signs divided.bytes own.0 own.1 e own.2)
       | inr h ↦
           let shorter : length h.0 < length signs = h.2 in
-          let others = shorter_signs size (next_client place own.0) h.0 (omega arith) in
-          (asks_for own.0 ++ ask.End (next_line place own.0) (parting_of own.1) ∷ others.0, clients.SeatAsks.Next place signs parts.bytes own.0 own.1 h.0 others.0 h.1 own.2 others.1)
+          let others = shorter_signs size (next_client tally own.0) h.0 (omega arith) in
+          (own.0 ++ ask.End (next_line tally own.0) (parting_of own.1) ∷ others.0, clients.SeatAsks.Next tally signs divided.bytes own.0 own.1 h.0 others.0 h.1 own.2 others.1)
     ]
 
 pub each_is_asked : EachIsAsked
-each_is_asked place signs = shorter_signs (suc (length signs)) place signs (omega arith)
+each_is_asked tally signs = shorter_signs (suc (length signs)) tally signs (omega arith)

@@ -1,23 +1,20 @@
 -- What callers have put.
-use Rattle.std.proofs.Common.{◌≡◌, ℕ, ◌+◌, ◌-◌, ◌<◌, Bool, true, false, List, [], ◌∷◌, ◌++◌, length, drop, Option, Some, None, Result, Ok, Err, OnOk, OnErr, IfOk, is_err, sym, ap, ◌∙◌, subst, refl, arith, inl, append_assoc, append-nil}
+use Rattle.std.proofs.Common.{◌≡◌, ℕ, ◌+◌, ◌<◌, Bool, true, false, List, [], ◌∷◌, ◌++◌, length, drop, Option, Some, None, Result, Ok, Err, OnOk, OnErr, IfOk, is_err, sym, ap, ◌∙◌, subst, refl, arith, inl, append_assoc, append-nil}
 use Rattle.std.specs.Prelude.{map}
 use Rattle.std.proofs.lemmas.List.{map-append, drop-drop}
-use Rattle.pgn_language.specs.declared.scenario.ScriptLine.{ScriptLine}
 use Rattle.pgn_outlet.specs.declared.came.Came.{Came}
 use Rattle.pgn_outlet.specs.declared.hand.Hand.{Hand}
 use Rattle.pgn_outlet.specs.Passes.{knows}
 use Rattle.pgn_outlet.specs.Rule.{MayPush}
-use Rattle.pgn_queries.specs.declared.wire_fault.WireFault.{WireFault}
-use Rattle.pgn_queries.specs.Queries.{TookQuery, Place, QueriesAre}
 use Rattle.pgn_turns.specs.declared.asked.Ask.{Ask}
 use Rattle.pgn_turns.specs.declared.asked.Ask.TheVariants as ask
 use Rattle.pgn_turns.specs.declared.asked.Parting.{Parting}
-use Rattle.pgn_turns.specs.declared.asked.Parting.TheVariants.{Plain}
+use Rattle.pgn_turns.specs.declared.asked.Parting.TheVariants.{Spent}
 use Rattle.pgn_frames.specs.declared.caller.Caller.{Caller}
-use Rattle.pgn_frames.specs.Clients.{Close, Left, Faulty, SeatAsks, asks_for, last_end, parting_of}
-use Rattle.pgn_frames.specs.Callers.{AskOn, HasCome, HasEnded, IsUnfinished, Stand, Takes, TakesBytes, TakesFirst, TakesFirstBytes, Waits, behind_end, carried, holding, parting_behind, parting_by, stand_of, with_put}
+use Rattle.pgn_frames.specs.Clients.{QueryNext, SeatAsks, Tally}
+use Rattle.pgn_frames.specs.Callers.{AskOn, HasAsked, HasCome, HasEnded, IsSpent, IsUnfinished, PartsBy, Stand, Takes, TakesBytes, TakesFirst, TakesFirstBytes, Waits, behind_end, carried, holding, parting_behind, stand_of, with_put}
 use Rattle.pgn_frames.specs.Frames.{signs_in}
-use Rattle.pgn_frames.proofs.StandLaws.{Closes, HasCome-then, asks_on, come-end, come-in, come-left, come-none, come-over, come-passed, come-query, end_closes, fault_closes, parts_so}
+use Rattle.pgn_frames.proofs.StandLaws.{HasCome-then, asks_on, come-end, come-in, come-left, come-none, come-over, come-passed, come-query, spent_by}
 
 -- what follows where a call answers so
 pub on_ok : {A E : Type 0} (r : Result A E) (P Q : Type 0) → (P → Q) → OnOk r P → OnOk r Q
@@ -103,7 +100,7 @@ pub Takes-passed : (seat : ℕ) (old : Caller) (bytes : List ℕ) → old.left �
 Takes-passed seat old bytes left some = record {
   asks = [];
   put = put_none seat (knows old.asks);
-  come = subst (λ (l : List (Option ℕ)). HasCome (stand_of old) l [] (stand_of old)) (sym (signs_some bytes some)) (come-passed old.queries old.begun.items bytes old.left left);
+  come = subst (λ (l : List (Option ℕ)). HasCome (stand_of old) l [] (stand_of old)) (sym (signs_some bytes some)) (come-passed old.counts old.begun.items bytes old.left left);
   waits = λ e. let both : true ≡ false = sym left ∙ e in absurd (cc);
 }
 
@@ -124,66 +121,60 @@ First-end seat old new [] none t = t
 First-end seat old new (x ∷ bytes) none t = absurd (omega arith)
 
 -- the end of one that has left
-pub Takes-over : (seat : ℕ) (old new : Caller) → old.left ≡ true → new.left ≡ false → new.begun.items ≡ [] → new.queries ≡ old.queries → knows new.asks ≡ knows old.asks → Takes seat old new (None ∷ [])
+pub Takes-over : (seat : ℕ) (old new : Caller) → old.left ≡ true → new.left ≡ false → new.begun.items ≡ [] → new.counts ≡ old.counts → knows new.asks ≡ knows old.asks → Takes seat old new (None ∷ [])
 Takes-over seat old new was is none same e = record {
   asks = [];
   put = e ∙ put_none seat (knows old.asks);
-  come = come-over old.queries new.queries old.begun.items new.begun.items old.left new.left was is none same;
+  come = come-over old.counts new.counts old.begun.items new.begun.items old.left new.left was is none same;
   waits = λ _. inl none;
 }
 
 -- of one that has not
-pub Takes-parted : (seat : ℕ) (old mid new : Caller) (parting : Parting) → Waits (stand_of old) → old.left ≡ false → parting ≡ parting_behind old.begun.items → mid.asks ≡ old.asks → mid.queries ≡ old.queries
+pub Takes-parted : (seat : ℕ) (old mid new : Caller) (parting : Parting) → Waits (stand_of old) → old.left ≡ false → parting ≡ parting_behind old.begun.items → mid.asks ≡ old.asks → mid.counts ≡ old.counts
     → HasEnded seat mid new parting → new.left ≡ false → new.begun.items ≡ [] → Takes seat old new (None ∷ [])
 Takes-parted seat old mid new parting waits was how asks same ended is none =
-    let number : mid.queries.queries + 1 ≡ old.queries.queries + 1 = ap (λ (p : Place). p.queries + 1) same in
-    let told : ask.End (mid.queries.queries + 1) parting ≡ ask.End (old.queries.queries + 1) (parting_behind old.begun.items)
-    = ap (λ (n : ℕ). ask.End n parting) number ∙ ap (λ (p : Parting). ask.End (old.queries.queries + 1) p) how in record {
-      asks = ask.End (old.queries.queries + 1) (parting_behind old.begun.items) ∷ [];
+    let number : mid.counts.lines + 1 ≡ old.counts.lines + 1 = ap (λ (p : Tally). p.lines + 1) same in
+    let told : ask.End (mid.counts.lines + 1) parting ≡ ask.End (old.counts.lines + 1) (parting_behind old.begun.items)
+    = ap (λ (n : ℕ). ask.End n parting) number ∙ ap (λ (p : Parting). ask.End (old.counts.lines + 1) p) how in record {
+      asks = ask.End (old.counts.lines + 1) (parting_behind old.begun.items) ∷ [];
       put = ended.put ∙ ap (λ (a : Ask). with_put seat (knows mid.asks) (Some a ∷ [])) told
-          ∙ ap (λ (v : Hand (Option Ask)). with_put seat v (Some (ask.End (old.queries.queries + 1) (parting_behind old.begun.items)) ∷ [])) (ap knows asks);
-      come = come-end old.queries new.queries old.begun.items new.begun.items old.left new.left (waits was) (ended.next ∙ ap behind_end same) none was is;
+          ∙ ap (λ (v : Hand (Option Ask)). with_put seat v (Some (ask.End (old.counts.lines + 1) (parting_behind old.begun.items)) ∷ [])) (ap knows asks);
+      come = come-end old.counts new.counts old.begun.items new.begun.items old.left new.left (waits was) (ended.next ∙ ap behind_end same) none was is;
       waits = λ _. inl none;
     }
 
 -- no message was whole
-pub Bytes-none : (seat : ℕ) (old new : Caller) (bytes : List ℕ) → new.queries ≡ old.queries → new.left ≡ old.left → knows new.asks ≡ knows old.asks → TakesBytes seat old new bytes 0
+pub Bytes-none : (seat : ℕ) (old new : Caller) (bytes : List ℕ) → new.counts ≡ old.counts → new.left ≡ old.left → knows new.asks ≡ knows old.asks → TakesBytes seat old new bytes 0
 Bytes-none seat old new bytes same left e = record {
   asks = [];
   put = e ∙ put_none seat (knows old.asks);
-  come = come-none old.queries new.queries bytes old.left new.left same left;
+  come = come-none old.counts new.counts bytes old.left new.left same left;
 }
 
 -- a query was
-pub Bytes-query : (seat : ℕ) (old mid new : Caller) (line : ScriptLine) (bytes rest : List ℕ) (n : ℕ) → TookQuery old.queries new.queries line bytes rest → old.left ≡ false → new.left ≡ false
-    → knows mid.asks ≡ knows old.asks → knows new.asks ≡ with_put seat (knows mid.asks) (map Some (asks_for (line ∷ []))) → n ≡ length bytes - length rest → TakesBytes seat old new bytes n
-Bytes-query seat old mid new line bytes rest n passes was is same put e = record {
-  asks = asks_for (line ∷ []);
-  put = put ∙ ap (λ (v : Hand (Option Ask)). with_put seat v (map Some (asks_for (line ∷ [])))) same;
-  come = subst (λ (k : ℕ). HasCome (holding old bytes) [] (asks_for (line ∷ [])) (holding new (drop k bytes))) (sym e) (come-query old.queries new.queries line bytes rest old.left new.left passes was is);
+pub Bytes-query : (seat : ℕ) (old new : Caller) (bytes body : List ℕ) (n : ℕ) → QueryNext bytes body (drop n bytes) → HasAsked seat old new body → old.left ≡ false → new.left ≡ false → TakesBytes seat old new bytes n
+Bytes-query seat old new bytes body n q h was is = record {
+  asks = h.ask ∷ [];
+  put = h.put;
+  come = come-query old.counts new.counts h.ask bytes body (drop n bytes) old.left new.left q h.is h.next h.few was is;
 }
 
 -- the client left
-pub Bytes-left : (seat : ℕ) (old mid new : Caller) (bytes : List ℕ) (close : Close) (parting : Parting) (n : ℕ) → Closes old.queries bytes close → ((k : ℕ) → last_end k close ≡ ask.End k parting ∷ [])
-    → parting_of close ≡ parting → mid.queries ≡ old.queries → knows mid.asks ≡ knows old.asks → HasEnded seat mid new parting → old.left ≡ false → new.left ≡ true → TakesBytes seat old new bytes n
-Bytes-left seat old mid new bytes close parting n closes last how same e ended was is =
-    let number : mid.queries.queries + 1 ≡ old.queries.queries + 1 = ap (λ (p : Place). p.queries + 1) same in record {
-      asks = ask.End (old.queries.queries + 1) parting ∷ [];
+pub Bytes-left : (seat : ℕ) (old mid new : Caller) (bytes : List ℕ) (parting : Parting) (n : ℕ) → PartsBy parting old.counts bytes → mid.counts ≡ old.counts → knows mid.asks ≡ knows old.asks
+    → HasEnded seat mid new parting → old.left ≡ false → new.left ≡ true → TakesBytes seat old new bytes n
+Bytes-left seat old mid new bytes parting n by same e ended was is =
+    let number : mid.counts.lines + 1 ≡ old.counts.lines + 1 = ap (λ (p : Tally). p.lines + 1) same in record {
+      asks = ask.End (old.counts.lines + 1) parting ∷ [];
       put = ended.put ∙ ap (λ (k : ℕ). with_put seat (knows mid.asks) (Some (ask.End k parting) ∷ [])) number
-          ∙ ap (λ (v : Hand (Option Ask)). with_put seat v (Some (ask.End (old.queries.queries + 1) parting) ∷ [])) e;
-      come = come-left old.queries new.queries bytes (drop n bytes) close parting old.left new.left closes last how (ended.next ∙ ap behind_end same) was is;
+          ∙ ap (λ (v : Hand (Option Ask)). with_put seat v (Some (ask.End (old.counts.lines + 1) parting) ∷ [])) e;
+      come = come-left old.counts new.counts bytes (drop n bytes) parting old.left new.left by (ended.next ∙ ap behind_end same) was is;
     }
 
-pub Bytes-terminated : (seat : ℕ) (old mid new : Caller) (bytes : List ℕ) (n : ℕ) → QueriesAre old.queries bytes [] None → 0 < length bytes → mid.queries ≡ old.queries → knows mid.asks ≡ knows old.asks
-    → HasEnded seat mid new Plain → old.left ≡ false → new.left ≡ true → TakesBytes seat old new bytes n
-Bytes-terminated seat old mid new bytes n ends some same e ended was is =
-    Bytes-left seat old mid new bytes Left Plain n (end_closes old.queries bytes [] None ends refl refl some) (λ k. refl) refl same e ended was is
-
-pub Bytes-faulty : (seat : ℕ) (old mid new : Caller) (bytes : List ℕ) (n : ℕ) (fault : WireFault) (parting : Parting) → QueriesAre old.queries bytes [] (Some fault) → Some parting ≡ parting_by fault
-    → mid.queries ≡ old.queries → knows mid.asks ≡ knows old.asks → HasEnded seat mid new parting → old.left ≡ false → new.left ≡ true → TakesBytes seat old new bytes n
-Bytes-faulty seat old mid new bytes n fault parting fails by same e ended was is =
-    let parts = parts_so fault bytes parting by in
-    Bytes-left seat old mid new bytes (Faulty fault) parting n (fault_closes old.queries bytes [] (Some fault) fault fails refl refl parts.told) parts.last parts.how same e ended was is
+-- by a query with which there are too many lines
+pub Bytes-spent : (seat : ℕ) (old mid new : Caller) (bytes body rest : List ℕ) (n : ℕ) → QueryNext bytes body rest → IsSpent old mid body → HasEnded seat mid new Spent → old.left ≡ false → new.left ≡ true
+    → TakesBytes seat old new bytes n
+Bytes-spent seat old mid new bytes body rest n q h ended was is =
+    Bytes-left seat old mid new bytes Spent n (spent_by old.counts bytes body rest h.ask q h.is h.many) h.next h.same ended was is
 
 -- one message behind others
 pub Bytes-then : (seat : ℕ) (old mid new : Caller) (bytes : List ℕ) (at n to : ℕ) → TakesBytes seat old mid bytes at → TakesBytes seat mid new (drop at bytes) n → to ≡ at + n → TakesBytes seat old new bytes to
@@ -195,23 +186,23 @@ Bytes-then seat old mid new bytes at n to t u e = record {
 }
 
 -- what is kept of bytes that came
-pub Takes-bytes : (seat : ℕ) (old mid new : Caller) (bytes : List ℕ) (n : ℕ) → old.left ≡ false → TakesBytes seat old mid (old.begun.items ++ bytes) n → IsUnfinished mid.queries (drop n (old.begun.items ++ bytes))
-    → new.queries ≡ mid.queries → new.left ≡ mid.left → knows new.asks ≡ knows mid.asks → new.begun.items ≡ drop n (old.begun.items ++ bytes) → Takes seat old new (map Some bytes)
+pub Takes-bytes : (seat : ℕ) (old mid new : Caller) (bytes : List ℕ) (n : ℕ) → old.left ≡ false → TakesBytes seat old mid (old.begun.items ++ bytes) n → IsUnfinished (drop n (old.begun.items ++ bytes))
+    → new.counts ≡ mid.counts → new.left ≡ mid.left → knows new.asks ≡ knows mid.asks → new.begun.items ≡ drop n (old.begun.items ++ bytes) → Takes seat old new (map Some bytes)
 Takes-bytes seat old mid new bytes n was t cut same left e kept =
     let end : holding mid (drop n (old.begun.items ++ bytes)) ≡ stand_of new
-    = ap (λ (p : Place). let s : Stand = record { place = p; begun = drop n (old.begun.items ++ bytes); left = mid.left } in s) (sym same)
-    ∙ ap (λ (l : List ℕ). let s : Stand = record { place = new.queries; begun = l; left = mid.left } in s) (sym kept)
-    ∙ ap (λ (b : Bool). let s : Stand = record { place = new.queries; begun = new.begun.items; left = b } in s) (sym left) in record {
+    = ap (λ (p : Tally). let s : Stand = record { tally = p; begun = drop n (old.begun.items ++ bytes); left = mid.left } in s) (sym same)
+    ∙ ap (λ (l : List ℕ). let s : Stand = record { tally = new.counts; begun = l; left = mid.left } in s) (sym kept)
+    ∙ ap (λ (b : Bool). let s : Stand = record { tally = new.counts; begun = new.begun.items; left = b } in s) (sym left) in record {
       asks = t.asks;
       put = e ∙ t.put;
-      come = come-in old.queries old.begun.items bytes t.asks old.left (stand_of new) was (subst (λ (s : Stand). HasCome (holding old (old.begun.items ++ bytes)) [] t.asks s) end t.come);
-      waits = λ _. subst (λ (p : Place). IsUnfinished p new.begun.items) (sym same) (subst (λ (l : List ℕ). IsUnfinished mid.queries l) (sym kept) cut);
+      come = come-in old.counts old.begun.items bytes t.asks old.left (stand_of new) was (subst (λ (s : Stand). HasCome (holding old (old.begun.items ++ bytes)) [] t.asks s) end t.come);
+      waits = λ _. subst (λ (l : List ℕ). IsUnfinished l) (sym kept) cut;
     }
 
 pub First-bytes : (seat : ℕ) (old new : Caller) (bytes : List ℕ) → old.left ≡ false → TakesFirstBytes seat old new (old.begun.items ++ bytes) → TakesFirst seat old new (map Some bytes)
 First-bytes seat old new bytes was t = record { asks = t.asks; put = t.put; others = t.others; asked = asked_in old.left was t.asked }
   where
-    asked_in : (left : Bool) → left ≡ false → AskOn (record { place = old.queries; begun = old.begun.items ++ bytes; left = left }) [] (t.asks ++ t.others)
-        → AskOn (record { place = old.queries; begun = old.begun.items; left = left }) (map Some bytes) (t.asks ++ t.others)
-    asked_in false e h = subst (λ (l : List (Option ℕ)). SeatAsks old.queries l (t.asks ++ t.others)) (append-nil (map Some (old.begun.items ++ bytes)) ∙ map-append Some old.begun.items bytes) h
+    asked_in : (left : Bool) → left ≡ false → AskOn (record { tally = old.counts; begun = old.begun.items ++ bytes; left = left }) [] (t.asks ++ t.others)
+        → AskOn (record { tally = old.counts; begun = old.begun.items; left = left }) (map Some bytes) (t.asks ++ t.others)
+    asked_in false e h = subst (λ (l : List (Option ℕ)). SeatAsks old.counts l (t.asks ++ t.others)) (append-nil (map Some (old.begun.items ++ bytes)) ∙ map-append Some old.begun.items bytes) h
     asked_in true e h = absurd (cc)

@@ -1,37 +1,42 @@
 -- The frames and the queries of the examples.
-use Rattle.std.proofs.Common.{◌≡◌, ℕ, ◌==◌, ◌+◌, ◌≤◌, true, false, List, [], ◌∷◌, ◌++◌, length, Option, Some, None, subst, refl, arith, inr}
+use Rattle.std.proofs.Common.{◌≡◌, ℕ, ◌==◌, ◌+◌, ◌≤◌, true, false, List, [], ◌∷◌, ◌++◌, length, Contains, Option, Some, None, sym, subst, refl, arith, inl, inr}
 use Rattle.std.specs.Prelude.{codes, map}
 use Rattle.std.specs.Str.{is_utf8, chars}
 use Rattle.std.specs.Int.{w32, from_be_bytes}
 use Rattle.std.proofs.lemmas.Bool.{both_ways, eq-eqb}
+use Rattle.std.proofs.lemmas.List.{length-append}
+use Rattle.std.proofs.lemmas.Str.{IsUtf8-from_is_utf8}
 use lib.Utf8.{encode}
 use Rattle.pgn_base.specs.declared.limits.TheConstants.{NOTE_LINES_MAX}
-use Rattle.pgn_base.specs.declared.command.Command.{Command}
 use Rattle.pgn_base.specs.declared.command.Command.TheVariants as command
-use Rattle.pgn_language.specs.declared.scenario.Act.TheVariants.{Run}
-use Rattle.pgn_language.specs.declared.scenario.ScriptLine.{ScriptLine}
 use Rattle.pgn_language.specs.Grammar.{cut, reading, table}
 use Rattle.pgn_language.proofs.GrammarLaws.{reading-reads}
 use Rattle.pgn_queries.specs.declared.limits.TheConstants.{QUERIES_MAX}
-use Rattle.pgn_queries.specs.declared.wire_fault.WireFault.{WireFault}
-use Rattle.pgn_queries.specs.declared.wire_fault.WireFault.TheVariants.{BadText, TooMany, Truncated}
+use Rattle.pgn_queries.specs.declared.wire_fault.WireFault.TheVariants.{BadLength, Truncated}
 use Rattle.pgn_queries.specs.declared.coming.Coming.TheVariants.{Fault}
 use Rattle.pgn_queries.specs.Client as client
-use Rattle.pgn_queries.specs.Client.{body_of}
-use Rattle.pgn_queries.specs.Queries as queries
-use Rattle.pgn_queries.specs.Queries.{IsLineOf, Place, QueriesAre, after_query, first_place}
-use Rattle.pgn_queries.specs.Examples.{asks_listen, asks_notify, asks_two_ends, query_line, terminates}
-use Rattle.pgn_queries.proofs.ExampleLaws.{comes, few, has, is_text, lacks}
-use Rattle.pgn_queries.proofs.ExampleReadings.{limited_at, place_at, two_zero_bytes}
-use Rattle.pgn_turns.specs.declared.asked.Ask.TheVariants.{End, Query}
-use Rattle.pgn_turns.specs.declared.asked.Parting.TheVariants.{Plain, Refused}
+use Rattle.pgn_queries.specs.Examples.{asks_listen, asks_notify, asks_two_ends, terminates}
+use Rattle.pgn_queries.proofs.EachLaws.{one_end}
+use Rattle.pgn_queries.proofs.ExampleLaws.{has, lacks}
+use Rattle.pgn_requests.specs.declared.request.Request.{Request}
+use Rattle.pgn_requests.specs.declared.request.Request.TheVariants.{Line, Settles, Discards}
+use Rattle.pgn_requests.specs.declared.settled.Settled.TheVariants.{One}
+use Rattle.pgn_requests.specs.declared.complaint.Wording.TheVariants as wording
+use Rattle.pgn_requests.specs.declared.complaint.Cause.TheVariants.{BadMessage}
+use Rattle.pgn_requests.specs.Texts.{bare}
+use Rattle.pgn_requests.specs.Phrases.{refused}
+use Rattle.pgn_requests.specs.Reading as requests
+use Rattle.pgn_requests.specs.Reading.{IsGarbled, RequestIs, body_of, request_of}
+use Rattle.pgn_turns.specs.declared.asked.Ask.{Ask}
+use Rattle.pgn_turns.specs.declared.asked.Ask.TheVariants.{Discard, End, Query, Settle}
+use Rattle.pgn_turns.specs.declared.asked.Parting.TheVariants.{Plain, Refused, Extended, Spent}
 use Rattle.pgn_frames.specs.declared.frame_fault.FrameFault.{FrameFault}
 use Rattle.pgn_frames.specs.declared.frame_fault.FrameFault.TheVariants.{CutFrame}
 use Rattle.pgn_frames.specs.Frames as frames
 use Rattle.pgn_frames.specs.Frames.{Frame, FramesAre, IsHead, IsSeat}
 use Rattle.pgn_frames.specs.Clients as clients
-use Rattle.pgn_frames.specs.Clients.{ClientAsks, Close, Open, Left, Faulty, SeatAsks}
-use Rattle.pgn_frames.specs.Examples.{cut_frame, frame_of, frames_of_three, listen_at, three_frames, two_asks, two_clients}
+use Rattle.pgn_frames.specs.Clients.{AreTooMany, ClientAsks, Close, Open, Left, Cut, Wrong, QueryNext, SeatAsks, Tally, after_ask, asked_as, first_tally}
+use Rattle.pgn_frames.specs.Examples.{asks_discard, asks_one, cut_frame, frame_of, frames_of_three, garbled_at, listen_at, notify_at, parses, three_frames, too_short, two_asks, two_clients}
 
 -- numbers that differ
 pub apart : (a b : ℕ) → (a == b) ≡ false → a ≡ b → ⊥
@@ -60,88 +65,137 @@ pub cut_is : FramesAre 2 0 cut_frame [] (Some (CutFrame 0))
 cut_is = frames.FramesAre.Fails 0 cut_frame [] (CutFrame 0)
     (frames.NextFrame.CutBody cut_frame (0 ∷ 1 ∷ 0 ∷ 2 ∷ []) (81 ∷ []) [] 1 2 refl (record { four = refl; of_seat = refl; of_size = refl }) (record { least = omega arith; most = omega arith }) (omega arith))
 
--- a query on one line, and then the others
-pub asks_line : (place : Place) (head text rest : List ℕ) (command : Command) (lines : List ScriptLine) (close : Close) → length head ≡ 4 → 5 + length text ≡ from_be_bytes w32 head → length text ≤ 65536
-    → is_utf8 text ≡ true → has 0 text ≡ false → has 10 text ≡ false → reading text ≡ command
-    → place.queries + 1 ≤ QUERIES_MAX → (after_query place (length text) (Run command)).notes ≤ place.most
-    → ClientAsks (after_query place (length text) (Run command)) rest lines close
-    → ClientAsks place (81 ∷ (head ++ (body_of text ++ rest))) (query_line (place.queries + 1) text command ∷ lines) close
-asks_line place head text rest command lines close four value short utf8 no_nul no_lf reads counted noted others =
-    let is : IsLineOf (place.queries + 1) text (query_line (place.queries + 1) text command) =
-    subst (λ (c : Command). IsLineOf (place.queries + 1) text (query_line (place.queries + 1) text c)) reads (queries.IsLineOf.OneLine text (reading text) (lacks 10 text no_lf) (reading-reads text)) in
-    clients.ClientAsks.Goes place (81 ∷ (head ++ (body_of text ++ rest))) text rest (query_line (place.queries + 1) text command) lines close
-    (comes place.at head text rest four value short (is_text text utf8 no_nul)) is (few (after_query place (length text) (Run command)) counted noted) others
+-- a Query stands first
+query_first : (head body rest : List ℕ) → length head ≡ 4 → 4 + length body ≡ from_be_bytes w32 head → 1 ≤ length body → length body ≤ 65537 → QueryNext (81 ∷ (head ++ (body ++ rest))) body rest
+query_first head body rest four value some short =
+    record { head = head; len = 4 + length body; split = refl; tells = record { four = four; value = value }; may = record { least = omega arith; most = omega arith }; size = refl }
 
--- the line of `LISTEN c`
-abbrev pub listen_line : ℕ → ScriptLine
-listen_line number = query_line number (codes "LISTEN c") (command.Listen (codes "c"))
+few : (tally : Tally) → tally.lines ≤ QUERIES_MAX → tally.notes ≤ tally.most → AreTooMany tally → ⊥
+few tally counted noted (inl many) = absurd (omega arith)
+few tally counted noted (inr many) = absurd (omega arith)
 
--- `LISTEN c`, behind so many lines
-pub listens : (before : ℕ) → before + 1 ≤ 4294967294 → ClientAsks (place_at 0 before 0) asks_listen (listen_line (before + 1) ∷ []) Open
+-- what a body asks first, and then the others
+asks_body : (tally : Tally) (head body rest : List ℕ) (request : Request) (asks : List Ask) (close : Close) → length head ≡ 4 → 4 + length body ≡ from_be_bytes w32 head → 1 ≤ length body → length body ≤ 65537
+    → RequestIs body request → (after_ask tally (asked_as (tally.lines + 1) request)).lines ≤ QUERIES_MAX → (after_ask tally (asked_as (tally.lines + 1) request)).notes ≤ tally.most
+    → ClientAsks (after_ask tally (asked_as (tally.lines + 1) request)) rest asks close
+    → ClientAsks tally (81 ∷ (head ++ (body ++ rest))) (asked_as (tally.lines + 1) request ∷ asks) close
+asks_body tally head body rest request asks close four value some short is counted noted others =
+    clients.ClientAsks.Goes tally (81 ∷ (head ++ (body ++ rest))) body rest (asked_as (tally.lines + 1) request) asks close (query_first head body rest four value some short) (request, is, refl)
+    (few (after_ask tally (asked_as (tally.lines + 1) request)) counted noted) others
+
+-- what a text asks for
+text_is : (text : List ℕ) (request : Request) → is_utf8 text ≡ true → has 0 text ≡ false → request_of (bare text) (reading (bare text)) ≡ request → RequestIs (body_of text) request
+text_is text request utf8 no_nul is =
+    subst (λ (r : Request). RequestIs (body_of text) r) is
+    (requests.RequestIs.Reads text (reading (bare text)) refl (lacks 0 text no_nul) (IsUtf8-from_is_utf8 text utf8) (reading-reads (bare text)))
+
+-- a tally of a seat of which so many may notify
+abbrev pub limited_at : ℕ → ℕ → ℕ → Tally
+limited_at most lines notes = record { lines = lines; notes = notes; most = most }
+
+abbrev pub tally_at : ℕ → ℕ → Tally
+tally_at lines notes = limited_at NOTE_LINES_MAX lines notes
+
+-- no more bytes
+pub stopped : (tally : Tally) → ClientAsks tally [] [] Open
+stopped tally = clients.ClientAsks.Stops tally [] refl
+
+-- `LISTEN c`
+listen_is : RequestIs (body_of (codes "LISTEN c")) (Line (codes "LISTEN c") (command.Listen (codes "c")) wording.Plain)
 unfolding table cut is_utf8 chars encode
+listen_is = text_is (codes "LISTEN c") (Line (codes "LISTEN c") (command.Listen (codes "c")) wording.Plain) refl refl refl
+
+pub listens : (before : ℕ) → before + 1 ≤ 4294967294 → ClientAsks (tally_at before 0) asks_listen (Query (listen_at (before + 1)) ∷ []) Open
 listens before fits =
-    asks_line (place_at 0 before 0) (0 ∷ 0 ∷ 0 ∷ 13 ∷ []) (codes "LISTEN c") [] (command.Listen (codes "c")) [] Open refl refl (omega arith) refl refl refl refl fits (omega arith)
-    (clients.ClientAsks.Stops (place_at 14 (before + 1) 0) [] refl)
+    asks_body (tally_at before 0) (0 ∷ 0 ∷ 0 ∷ 13 ∷ []) (body_of (codes "LISTEN c")) [] (Line (codes "LISTEN c") (command.Listen (codes "c")) wording.Plain) [] Open refl refl (omega arith) (omega arith)
+    listen_is fits (omega arith) (stopped (tally_at (before + 1) 0))
 
--- the line of `NOTIFY c, 'x'`
-abbrev pub notify_line : ℕ → ScriptLine
-notify_line number = query_line number (codes "NOTIFY c, 'x'") (command.Notify (record { channel = codes "c"; payload = codes "x" }))
-
--- a first one, where one may notify, and a second
-pub notifies_once : ClientAsks (limited_at 1 0 0 0) asks_notify (notify_line 1 ∷ []) Open
+-- `NOTIFY c, 'x'`, a first one, where one may notify, and a second
+notify_is : RequestIs (body_of (codes "NOTIFY c, 'x'")) (Line (codes "NOTIFY c, 'x'") (command.Notify (record { channel = codes "c"; payload = codes "x" })) wording.Plain)
 unfolding table cut is_utf8 chars encode
+notify_is = text_is (codes "NOTIFY c, 'x'") (Line (codes "NOTIFY c, 'x'") (command.Notify (record { channel = codes "c"; payload = codes "x" })) wording.Plain) refl refl refl
+
+pub notifies_once : ClientAsks (limited_at 1 0 0) asks_notify (Query (notify_at 1) ∷ []) Open
 notifies_once =
-    asks_line (limited_at 1 0 0 0) (0 ∷ 0 ∷ 0 ∷ 18 ∷ []) (codes "NOTIFY c, 'x'") [] (command.Notify (record { channel = codes "c"; payload = codes "x" })) [] Open refl refl (omega arith) refl refl refl refl
-    (omega arith) (omega arith) (clients.ClientAsks.Stops (limited_at 1 19 1 1) [] refl)
+    asks_body (limited_at 1 0 0) (0 ∷ 0 ∷ 0 ∷ 18 ∷ []) (body_of (codes "NOTIFY c, 'x'")) []
+    (Line (codes "NOTIFY c, 'x'") (command.Notify (record { channel = codes "c"; payload = codes "x" })) wording.Plain) [] Open refl refl (omega arith) (omega arith) notify_is (omega arith) (omega arith)
+    (stopped (limited_at 1 1 1))
 
-pub notifies_again : ClientAsks (limited_at 1 0 3 1) asks_notify [] (Faulty (TooMany 0))
-unfolding table cut is_utf8 chars encode
+pub notifies_again : ClientAsks (limited_at 1 3 1) asks_notify [] (Wrong Spent)
 notifies_again =
-    let text : List ℕ = codes "NOTIFY c, 'x'" in
-    let is : IsLineOf 4 text (notify_line 4) =
-    subst (λ (c : Command). IsLineOf 4 text (query_line 4 text c)) (let same : reading text ≡ command.Notify (record { channel = codes "c"; payload = codes "x" }) = refl in same)
-    (queries.IsLineOf.OneLine text (reading text) (lacks 10 text refl) (reading-reads text)) in
-    clients.ClientAsks.Exceeds (limited_at 1 0 3 1) asks_notify text [] (notify_line 4) (comes 0 (0 ∷ 0 ∷ 0 ∷ 18 ∷ []) text [] refl refl (omega arith) (is_text text refl refl)) is (inr (omega arith))
+    clients.ClientAsks.Exceeds (limited_at 1 3 1) asks_notify (body_of (codes "NOTIFY c, 'x'")) [] (Query (notify_at 4))
+    (query_first (0 ∷ 0 ∷ 0 ∷ 18 ∷ []) (body_of (codes "NOTIFY c, 'x'")) [] refl refl (omega arith) (omega arith))
+    (Line (codes "NOTIFY c, 'x'") (command.Notify (record { channel = codes "c"; payload = codes "x" })) wording.Plain, notify_is, refl) (inr (omega arith))
 
-pub stopped : (place : Place) → ClientAsks place [] [] Open
-stopped place = clients.ClientAsks.Stops place [] refl
-
-pub terminated : (place : Place) (rest : List ℕ) → ClientAsks place (terminates ++ rest) [] Left
-terminated place rest = clients.ClientAsks.Leaves place (terminates ++ rest) (0 ∷ 0 ∷ 0 ∷ 4 ∷ rest) rest refl
+pub terminated : (tally : Tally) (rest : List ℕ) → ClientAsks tally (terminates ++ rest) [] Left
+terminated tally rest = clients.ClientAsks.Leaves tally (terminates ++ rest) (0 ∷ 0 ∷ 0 ∷ 4 ∷ rest) rest refl
     (client.TerminateIs.Whole (0 ∷ 0 ∷ 0 ∷ 4 ∷ rest) (0 ∷ 0 ∷ 0 ∷ 4 ∷ []) rest refl (record { four = refl; value = refl }))
 
--- bytes that are at fault at once
-pub at_fault : (place : Place) (bytes : List ℕ) (fault : WireFault) (lines : List ScriptLine) (found : Option WireFault) → QueriesAre place bytes lines found → lines ≡ [] → found ≡ Some fault
-    → ClientAsks place bytes [] (Faulty fault)
-at_fault place bytes fault _ _ (queries.QueriesAre.Ends _ _ t r n) none same = absurd (cc)
-at_fault place bytes fault _ _ (queries.QueriesAre.Fails _ _ t r f n) none same =
-    let one : f ≡ fault = cc in
-    subst (λ (x : WireFault). ClientAsks place bytes [] (Faulty x)) one (clients.ClientAsks.Fails place bytes t r f n)
-at_fault place bytes fault _ _ (queries.QueriesAre.Exceeds _ _ t r line n is many) none same =
-    subst (λ (x : WireFault). ClientAsks place bytes [] (Faulty x)) (one_fault same) (clients.ClientAsks.Exceeds place bytes t r line n is many)
-  where
-    one_fault : {f g : WireFault} → Some f ≡ Some g → f ≡ g
-    one_fault e = cc
-at_fault place bytes fault _ _ (queries.QueriesAre.Goes _ _ t r line ls f n is less more) none same = absurd (cc)
-
 -- a message that is cut
-pub cut_query : (place : Place) → ClientAsks place (81 ∷ 0 ∷ 0 ∷ 0 ∷ 13 ∷ 76 ∷ 73 ∷ []) [] (Faulty (Truncated place.at))
-cut_query place =
+pub cut_query : (tally : Tally) → ClientAsks tally (81 ∷ 0 ∷ 0 ∷ 0 ∷ 13 ∷ 76 ∷ 73 ∷ []) [] Cut
+cut_query tally =
     let more : List ℕ = 0 ∷ 0 ∷ 0 ∷ 13 ∷ 76 ∷ 73 ∷ [] in
-    clients.ClientAsks.Fails place (81 ∷ more) [] [] (Truncated place.at)
-    (client.NextIs.Asks (81 ∷ more) more (Fault (Truncated place.at)) [] [] refl
-    (client.QueryIs.HasBody more (0 ∷ 0 ∷ 0 ∷ 13 ∷ []) (76 ∷ 73 ∷ []) (Fault (Truncated place.at)) [] [] 13 9 refl (record { four = refl; value = refl })
+    clients.ClientAsks.Cuts tally (81 ∷ more) [] []
+    (client.NextIs.Asks (81 ∷ more) more (Fault (Truncated 0)) [] [] refl
+    (client.QueryIs.HasBody more (0 ∷ 0 ∷ 0 ∷ 13 ∷ []) (76 ∷ 73 ∷ []) (Fault (Truncated 0)) [] [] 13 9 refl (record { four = refl; value = refl })
     (record { least = omega arith; most = omega arith }) (omega arith) (client.BodyIs.Cut (76 ∷ 73 ∷ []) [] [] (omega arith))))
 
+-- a length that is too short
+short_query : (tally : Tally) → ClientAsks tally too_short [] (Wrong Refused)
+short_query tally =
+    let more : List ℕ = 0 ∷ 0 ∷ 0 ∷ 4 ∷ [] in
+    clients.ClientAsks.NoLength tally too_short [] []
+    (client.NextIs.Asks too_short more (Fault (BadLength 0)) [] [] refl
+    (client.QueryIs.BadHead more more [] [] [] 4 refl (record { four = refl; value = refl }) (λ fits. let least : 5 ≤ 4 = fits.least in omega arith)))
+
+-- a body of two zero bytes
+garbled_is : RequestIs (0 ∷ 0 ∷ []) (refused [] 0 BadMessage (codes "invalid message format"))
+garbled_is = requests.RequestIs.Garbled (λ text e none. none (subst (λ (t : List ℕ). Contains t 0) (sym (one_end text (0 ∷ []) 0 0 (sym e)).0) (0, omega arith, refl)))
+
+garbled : ClientAsks (tally_at 0 0) (asks_two_ends ++ asks_listen) (Query (garbled_at 1) ∷ Query (listen_at 2) ∷ []) Open
+garbled =
+    asks_body (tally_at 0 0) (0 ∷ 0 ∷ 0 ∷ 6 ∷ []) (0 ∷ 0 ∷ []) asks_listen (refused [] 0 BadMessage (codes "invalid message format")) (Query (listen_at 2) ∷ []) Open refl refl (omega arith) (omega arith)
+    garbled_is (omega arith) (omega arith) (listens 1 (omega arith))
+
+-- what is settled, and what has two lines
+one_is : RequestIs (body_of (codes "SELECT 1")) (Settles One)
+unfolding table cut is_utf8 chars encode
+one_is = text_is (codes "SELECT 1") (Settles One) refl refl refl
+
+settled : ClientAsks (tally_at 0 0) (asks_one ++ asks_listen) (Settle One ∷ Query (listen_at 1) ∷ []) Open
+settled =
+    asks_body (tally_at 0 0) (0 ∷ 0 ∷ 0 ∷ 13 ∷ []) (body_of (codes "SELECT 1")) asks_listen (Settles One) (Query (listen_at 1) ∷ []) Open refl refl (omega arith) (omega arith)
+    one_is (omega arith) (omega arith) (listens 0 (omega arith))
+
+discard_is : RequestIs (body_of (codes "DISCARD ALL")) Discards
+unfolding table cut is_utf8 chars encode
+discard_is = text_is (codes "DISCARD ALL") Discards refl refl refl
+
+discarded : ClientAsks (tally_at 0 0) (asks_discard ++ asks_listen) (Discard 1 ∷ Query (listen_at 3) ∷ []) Open
+discarded =
+    asks_body (tally_at 0 0) (0 ∷ 0 ∷ 0 ∷ 16 ∷ []) (body_of (codes "DISCARD ALL")) asks_listen Discards (Query (listen_at 3) ∷ []) Open refl refl (omega arith) (omega arith)
+    discard_is (omega arith) (omega arith) (listens 2 (omega arith))
+
 -- what seats are asked
-pub two_asked : SeatAsks (first_place NOTE_LINES_MAX) two_clients two_asks
+pub two_asked : SeatAsks (first_tally NOTE_LINES_MAX) two_clients two_asks
 two_asked =
-    clients.SeatAsks.Next (place_at 0 0 0) two_clients asks_listen (listen_line 1 ∷ []) Open (map Some asks_listen) (Query (listen_at 4) ∷ []) refl (listens 0 (omega arith))
-    (clients.SeatAsks.Last (place_at 0 3 0) (map Some asks_listen) asks_listen (listen_line 4 ∷ []) Open refl (listens 3 (omega arith)))
+    clients.SeatAsks.Next (tally_at 0 0) two_clients asks_listen (Query (listen_at 1) ∷ []) Open (map Some asks_listen) (Query (listen_at 4) ∷ []) refl (listens 0 (omega arith))
+    (clients.SeatAsks.Last (tally_at 3 0) (map Some asks_listen) asks_listen (Query (listen_at 4) ∷ []) Open refl (listens 3 (omega arith)))
 
-pub terminate_asked : SeatAsks (first_place NOTE_LINES_MAX) (map Some (terminates ++ asks_listen)) (End 1 Plain ∷ [])
-terminate_asked = clients.SeatAsks.Last (place_at 0 0 0) (map Some (terminates ++ asks_listen)) (terminates ++ asks_listen) [] Left refl (terminated (place_at 0 0 0) asks_listen)
+pub terminate_asked : SeatAsks (first_tally NOTE_LINES_MAX) (map Some (terminates ++ asks_listen)) (End 1 Plain ∷ [])
+terminate_asked = clients.SeatAsks.Last (tally_at 0 0) (map Some (terminates ++ asks_listen)) (terminates ++ asks_listen) [] Left refl (terminated (tally_at 0 0) asks_listen)
 
-pub fault_asked : SeatAsks (first_place NOTE_LINES_MAX) (map Some asks_two_ends) (End 1 Refused ∷ [])
-fault_asked = clients.SeatAsks.Last (place_at 0 0 0) (map Some asks_two_ends) asks_two_ends [] (Faulty (BadText 0)) refl
-    (at_fault (place_at 0 0 0) asks_two_ends (BadText 0) [] (Some (BadText 0)) two_zero_bytes refl refl)
+pub length_asked : SeatAsks (first_tally NOTE_LINES_MAX) (map Some too_short) (End 1 Refused ∷ [])
+length_asked = clients.SeatAsks.Last (tally_at 0 0) (map Some too_short) too_short [] (Wrong Refused) refl (short_query (tally_at 0 0))
+
+pub parse_asked : SeatAsks (first_tally NOTE_LINES_MAX) (map Some parses) (End 1 Extended ∷ [])
+parse_asked = clients.SeatAsks.Last (tally_at 0 0) (map Some parses) parses [] (Wrong Extended) refl (clients.ClientAsks.Extends (tally_at 0 0) parses refl)
+
+pub garbled_asked : SeatAsks (first_tally NOTE_LINES_MAX) (map Some (asks_two_ends ++ asks_listen)) (Query (garbled_at 1) ∷ Query (listen_at 2) ∷ [])
+garbled_asked = clients.SeatAsks.Last (tally_at 0 0) (map Some (asks_two_ends ++ asks_listen)) (asks_two_ends ++ asks_listen) (Query (garbled_at 1) ∷ Query (listen_at 2) ∷ []) Open refl garbled
+
+pub settled_asked : SeatAsks (first_tally NOTE_LINES_MAX) (map Some (asks_one ++ asks_listen)) (Settle One ∷ Query (listen_at 1) ∷ [])
+settled_asked = clients.SeatAsks.Last (tally_at 0 0) (map Some (asks_one ++ asks_listen)) (asks_one ++ asks_listen) (Settle One ∷ Query (listen_at 1) ∷ []) Open refl settled
+
+pub discard_asked : SeatAsks (first_tally NOTE_LINES_MAX) (map Some (asks_discard ++ asks_listen)) (Discard 1 ∷ Query (listen_at 3) ∷ [])
+discard_asked = clients.SeatAsks.Last (tally_at 0 0) (map Some (asks_discard ++ asks_listen)) (asks_discard ++ asks_listen) (Discard 1 ∷ Query (listen_at 3) ∷ []) Open refl discarded

@@ -16,8 +16,8 @@ pub mod SignLaws
 pub mod WriteLaws
 -- the frames and the queries of the examples
 mod ExampleLaws
--- bytes that are fewer than their head says
-pub mod CutLaws
+-- what stands at the front of bytes
+pub mod FrontLaws
 -- how a reader goes on from where it stands with a seat
 pub mod StandLaws
 -- what callers have put

@@ -9,14 +9,13 @@ use Rattle.pgn_outlet.specs.declared.outlet.Outlet.{Outlet}
 use Rattle.pgn_outlet.specs.Passes.{IsPassOf, knows}
 use Rattle.pgn_outlet.specs.Rule.{MayPush, sender}
 use Rattle.pgn_queries.specs.Client.{OfKnown}
-use Rattle.pgn_queries.specs.Queries.{first_place}
 use Rattle.pgn_turns.specs.declared.asked.Ask.{Ask}
 use Rattle.pgn_frames.specs.declared.frame_fault.FrameFault.{FrameFault}
 use Rattle.pgn_frames.specs.declared.framing.NoFrame.{NoFrame}
 use Rattle.pgn_frames.specs.declared.framing.NoFrame.TheVariants.{Failed, Memory}
 use Rattle.pgn_frames.specs.declared.caller.Caller.{Caller}
 use Rattle.pgn_frames.specs.Callers.{AskOn, HasCome, IsUnfinished, Takes, TakesFirst, Waits, first_stand, stand_of, with_put}
-use Rattle.pgn_frames.specs.Clients.{SeatAsks}
+use Rattle.pgn_frames.specs.Clients.{SeatAsks, first_tally}
 use Rattle.pgn_frames.specs.Frames as frame
 use Rattle.pgn_frames.specs.Frames.{Comes, Frame, FramesAre, IsSeat, NextFrame, Over, Wrong, signs_in, signs_of}
 use Rattle.pgn_frames.specs.Reading.{AreBefore, AreEnded, AreFirstFrames, AreFrames, Begins, Calls, CallsOn, DoesAt, EachSeat, HasPutAll, HasPutFirst, HasReadAll, HasReadFirst, HasReadSome, IsEnded, IsKept, MayCall, OwnsInbox, Reads, ReadsAll, ReadsFirst, ReadsTo, TurnsInto}
@@ -94,8 +93,8 @@ first_of : (most seat : ℕ) (frames : List Frame) (inbox other : Outlet (Option
 first_of most seat frames inbox other caller new h waits own same = record {
   own = own;
   asks = h.asks;
-  asked = subst (λ (l : List (Option ℕ)). SeatAsks (first_place most) l h.asks) (append-nil (signs_of seat frames))
-      (subst (λ (l : List Ask). SeatAsks (first_place most) (signs_of seat frames ++ []) l) (append-nil h.asks) (h.come [] [] (nothing_more caller.queries caller.begun.items caller.left waits)));
+  asked = subst (λ (l : List (Option ℕ)). SeatAsks (first_tally most) l h.asks) (append-nil (signs_of seat frames))
+      (subst (λ (l : List Ask). SeatAsks (first_tally most) (signs_of seat frames ++ []) l) (append-nil h.asks) (h.come [] [] (nothing_more caller.counts caller.begun.items caller.left waits)));
   now = map Some h.asks;
   others = None ∷ [];
   first = refl;
@@ -112,7 +111,7 @@ first_more : (most seat of : ℕ) (frames : List Frame) (bytes : List ℕ) (inbo
 first_more most seat of frames bytes inbox other old new e h t own = record {
   own = own;
   asks = h.asks ++ (t.asks ++ t.others);
-  asked = subst (λ (l : List (Option ℕ)). SeatAsks (first_place most) l (h.asks ++ (t.asks ++ t.others))) (sym (signs_own seat of bytes frames e)) (h.come (signs_in bytes) (t.asks ++ t.others) t.asked);
+  asked = subst (λ (l : List (Option ℕ)). SeatAsks (first_tally most) l (h.asks ++ (t.asks ++ t.others))) (sym (signs_own seat of bytes frames e)) (h.come (signs_in bytes) (t.asks ++ t.others) t.asked);
   now = map Some (h.asks ++ t.asks);
   others = map Some t.others ++ None ∷ [];
   first = all_firsts h.asks t.asks t.others;
@@ -238,7 +237,7 @@ on_none most inboxes callers may = λ k inbox caller lt.
     let few : length callers ≤ 256 = may.few in record {
       own = begins.own;
       may = subst (λ (v : Hand (Option Ask)). MayPush v (k + 1)) (sym begins.unused) (omega arith, omega arith);
-      waits = λ e. subst (λ s. IsUnfinished s.place s.begun) (sym begins.first) (inl refl);
+      waits = λ e. subst (λ s. IsUnfinished s.begun) (sym begins.first) (inl refl);
     }
 
 -- one seat after another is told the end
@@ -342,8 +341,8 @@ put_end : (most seat : ℕ) (frames : List Frame) (inbox other : Outlet (Option 
 put_end most seat frames inbox other old new h waits ended = record {
   own = ended.own;
   asks = h.asks;
-  asked = subst (λ (l : List (Option ℕ)). SeatAsks (first_place most) l h.asks) (append-nil (signs_of seat frames))
-      (subst (λ (l : List Ask). SeatAsks (first_place most) (signs_of seat frames ++ []) l) (append-nil h.asks) (h.come [] [] (nothing_more old.queries old.begun.items old.left waits)));
+  asked = subst (λ (l : List (Option ℕ)). SeatAsks (first_tally most) l h.asks) (append-nil (signs_of seat frames))
+      (subst (λ (l : List Ask). SeatAsks (first_tally most) (signs_of seat frames ++ []) l) (append-nil h.asks) (h.come [] [] (nothing_more old.counts old.begun.items old.left waits)));
   put = ended.put ∙ ap (λ (v : Hand (Option Ask)). with_put seat v (None ∷ [])) h.put
       ∙ ap (λ (l : List (Came (Option Ask))). let w : Hand (Option Ask) = record sender { sent = l } in w)
       (sym (map-append (λ (what : Option Ask). let c : Came (Option Ask) = record { session = seat; what = what } in c) (map Some h.asks) (None ∷ [])));

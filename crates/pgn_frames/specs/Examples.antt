@@ -1,6 +1,9 @@
 -- Frames, and what seats are asked by them.
 use Rattle.std.specs.Prelude.{ℕ, List, [], ◌∷◌, ◌++◌, Option, Some, None, codes, map}
 use Rattle.pgn_base.specs.declared.command.Command.TheVariants as command
+use Rattle.pgn_requests.specs.declared.complaint.Complaint.{Complaint}
+use Rattle.pgn_requests.specs.declared.complaint.Cause.TheVariants.{BadMessage}
+use Rattle.pgn_requests.specs.declared.complaint.Wording.TheVariants as wording
 use Rattle.pgn_turns.specs.declared.asked.Asked.{Asked}
 use Rattle.pgn_turns.specs.declared.asked.Ask.{Ask}
 use Rattle.pgn_turns.specs.declared.asked.Ask.TheVariants.{Query, End}
@@ -30,11 +33,30 @@ cut_frame = 0 ∷ 1 ∷ 0 ∷ 2 ∷ 81 ∷ []
 
 -- `LISTEN c`, as the line of this number
 abbrev pub listen_at : ℕ → Asked
-listen_at line = record { line = line; text = codes "LISTEN c"; command = command.Listen (codes "c") }
+listen_at line = record { line = line; text = codes "LISTEN c"; command = command.Listen (codes "c"); wording = wording.Plain }
 
 -- `NOTIFY c, 'x'` likewise
 abbrev pub notify_at : ℕ → Asked
-notify_at line = record { line = line; text = codes "NOTIFY c, 'x'"; command = command.Notify (record { channel = codes "c"; payload = codes "x" }) }
+notify_at line = record { line = line; text = codes "NOTIFY c, 'x'"; command = command.Notify (record { channel = codes "c"; payload = codes "x" }); wording = wording.Plain }
+
+-- a Query whose body is garbled, likewise
+abbrev pub garbled_at : ℕ → Asked
+garbled_at line =
+    let complaint : Complaint = record { cause = BadMessage; text = codes "invalid message format" } in record { line = line; text = []; command = command.Bad 0; wording = wording.Refused complaint }
+
+-- a Query `SELECT 1`, and one `DISCARD ALL`
+abbrev pub asks_one : List ℕ
+asks_one = 81 ∷ 0 ∷ 0 ∷ 0 ∷ 13 ∷ (codes "SELECT 1" ++ 0 ∷ [])
+
+abbrev pub asks_discard : List ℕ
+asks_discard = 81 ∷ 0 ∷ 0 ∷ 0 ∷ 16 ∷ (codes "DISCARD ALL" ++ 0 ∷ [])
+
+-- a Query that is too short, and the letter of a Parse
+abbrev pub too_short : List ℕ
+too_short = 81 ∷ 0 ∷ 0 ∷ 0 ∷ 4 ∷ []
+
+abbrev pub parses : List ℕ
+parses = 80 ∷ []
 
 -- a client asks `LISTEN c` and ends, and the next one asks it too
 abbrev pub two_clients : List (Option ℕ)

@@ -5,14 +5,13 @@ use Rattle.pgn_outlet.specs.declared.outlet.Outlet.{Outlet}
 use Rattle.pgn_outlet.specs.Passes.{IsPassOf, knows}
 use Rattle.pgn_outlet.specs.Rule.{MayPush, sender}
 use Rattle.pgn_queries.specs.Client.{OfKnown}
-use Rattle.pgn_queries.specs.Queries.{first_place}
 use Rattle.pgn_turns.specs.declared.asked.Ask.{Ask}
 use Rattle.pgn_frames.specs.declared.frame_fault.FrameFault.{FrameFault}
 use Rattle.pgn_frames.specs.declared.framing.NoFrame.{NoFrame}
 use Rattle.pgn_frames.specs.declared.framing.NoFrame.TheVariants.{Failed, Memory}
 use Rattle.pgn_frames.specs.declared.caller.Caller.{Caller}
 use Rattle.pgn_frames.specs.Callers.{HasCome, Waits, carried, first_stand, stand_of, with_put}
-use Rattle.pgn_frames.specs.Clients.{SeatAsks}
+use Rattle.pgn_frames.specs.Clients.{SeatAsks, first_tally}
 use Rattle.pgn_frames.specs.Frames.{Frame, FramesAre, signs_of}
 
 -- a pass that has put this for a seat, and nothing else
@@ -39,14 +38,14 @@ pub record MayCall (most : ℕ) (inboxes : List (Outlet (Option Ask))) (callers 
 pub record HasPutAll (most : ℕ) (frames : List Frame) (seat : ℕ) (inbox : Outlet (Option Ask)) (caller : Caller) : Type 0 where
   pub own : IsPassOf inbox caller.asks
   pub asks : List Ask
-  pub asked : SeatAsks (first_place most) (signs_of seat frames) asks
+  pub asked : SeatAsks (first_tally most) (signs_of seat frames) asks
   pub put : knows caller.asks ≡ has_put seat (map Some asks ++ None ∷ [])
 
 -- the first of what they ask were put
 pub record HasPutFirst (most : ℕ) (frames : List Frame) (seat : ℕ) (inbox : Outlet (Option Ask)) (caller : Caller) : Type 0 where
   pub own : IsPassOf inbox caller.asks
   pub asks : List Ask
-  pub asked : SeatAsks (first_place most) (signs_of seat frames) asks
+  pub asked : SeatAsks (first_tally most) (signs_of seat frames) asks
   pub now : List (Option Ask)
   pub others : List (Option Ask)
   pub first : map Some asks ++ None ∷ [] ≡ now ++ others

@@ -1,22 +1,22 @@
 ghost use Rattle.std.specs.Prelude.{◌≡◌};
 ghost use Rattle.pgn_frames.specs.Callers.{first_stand, stand_of};
 
+use crate::counts::Counts;
 use pgn_outlet::OutletPass;
-use pgn_queries::Queries;
 use pgn_turns::Ask;
 use std::alloc::Global;
 
 /// The clients of a seat, one after another, as their bytes come. It keeps at most one message that is not whole yet, and gives its memory
-/// back once it is, and that of the longest text of a client at the client's end.
+/// back once it is.
 #[derive(Drop)]
 pub struct Caller {
     /// The pass by which it puts into its seat's inbox.
     pub asks: OutletPass<Option<Ask>>,
-    /// Where the next message begins.
-    pub(crate) queries: Queries,
+    /// What was counted of what its clients asked.
+    pub(crate) counts: Counts,
     /// The bytes of a message that is not whole.
     pub(crate) begun: Vec<u8>,
-    /// Whether its client has left, by a Terminate or a fault: what comes of it up to its end is passed over.
+    /// Whether its client has left, by a Terminate or by what it was refused for: what comes of it up to its end is passed over.
     pub(crate) left: bool,
 }
 
@@ -28,7 +28,7 @@ impl Caller {
     {
         Caller {
             asks,
-            queries: Queries::new(alloc, most),
+            counts: Counts::new(most),
             begun: Vec::new(alloc),
             left: false,
         }

@@ -1,4 +1,4 @@
-ghost use Rattle.pgn_frames.specs.Laws.{AreQueries, CutsChangeNoSign, EachHasFrames, EachIsAsked, FramesReadBack, MoreMayFollow, NumbersGoOn, OneAsking, OneFraming};
+ghost use Rattle.pgn_frames.specs.Laws.{CutsChangeNoSign, EachHasFrames, EachIsAsked, FramesReadBack, MoreMayFollow, NumbersGoOn, OneAsking, OneFraming, QueryStaysWhole};
 
 /// An input's bytes have frames, and no others.
 pub fn one_framing()
@@ -18,13 +18,12 @@ pub fn together()
 pub fn one_asking()
     ensures some { EachIsAsked }
     ensures one { OneAsking }
-    // What a client asks are the queries of its bytes, as `pgn_queries` has them.
-    ensures are_queries { AreQueries }
     // Its lines are numbered one after another.
     ensures numbers_go_on { NumbersGoOn }
 {}
 
 /// A message is told by its own bytes, whatever follows them: so whoever has the bytes of a whole one need not wait for more.
 pub fn whole_messages()
-    ensures { MoreMayFollow }
+    ensures query { QueryStaysWhole }
+    ensures parting { MoreMayFollow }
 {}

@@ -6,6 +6,7 @@
 #![tactic(auto)]
 
 mod caller;
+mod counts;
 pub mod examples;
 mod frame_fault;
 mod framing;

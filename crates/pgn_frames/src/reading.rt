@@ -6,7 +6,7 @@ ghost use Rattle.pgn_frames.specs.Callers.{Takes, TakesFirst};
 ghost use Rattle.pgn_frames.specs.Frames.{IsSeat, signs_in};
 ghost use Rattle.pgn_frames.specs.Reading.{AreEnded, CallsOn, DoesAt, EachSeat, HasReadAll, HasReadFirst, HasReadSome, IsEnded, IsKept, MayCall, OfMost, OwnsInbox, Reads, ReadsTo, TurnsInto};
 
-use crate::taking::take_signs;
+use crate::taking::{SeatInbox, take_signs};
 use crate::{Arrival, Caller, FrameFault, NoFrame, next_frame};
 use pgn_base::{SessionNo, Source};
 use pgn_hub::Hub;
@@ -14,6 +14,13 @@ use pgn_outlet::{Came, Outlet};
 use pgn_turns::Ask;
 use std::alloc::{AllocError, Global};
 use std::sync::Wait;
+
+// The seats of a service: what is asked of them goes through their inboxes, and their bells hang in the hub.
+#[derive(Drop)]
+struct Seats<'a, H> {
+    hub: &'a H,
+    inboxes: &'a [Outlet<Option<Ask>>],
+}
 
 /// Reads frames until there are no more, and puts what each seat is asked by them into its inbox, each query once it is whole, and behind
 /// all of it that nothing more will be asked. Each frame rings its seat's bell. Answers the fault by which the frames end, if one does.
@@ -36,14 +43,15 @@ pub fn read_frames<H: Hub, R: Wait, S: Source>(
     // Want of memory may follow a failure, where the seats are to be told.
     ensures rose { S.faults source.old < S.faults source.new → (result ≡ Err NoFrame.Failed) ⊎ (result ≡ Err NoFrame.Memory) }
 {
+    let seats = Seats { hub, inboxes };
     let mut body = Vec::new(alloc);
-    let read = read_on(rt, alloc, hub, inboxes, callers, source, &mut body);
+    let read = read_on(rt, alloc, &seats, callers, source, &mut body);
     drop(body);
     if let Err(NoFrame::Memory) = read {
         hub.call_off();
         return read;
     }
-    if tell_end(rt, hub, inboxes, callers).is_err() {
+    if tell_end(rt, &seats, callers).is_err() {
         hub.call_off();
         return Err(NoFrame::Memory);
     }
@@ -54,26 +62,25 @@ pub fn read_frames<H: Hub, R: Wait, S: Source>(
 fn read_on<H: Hub, R: Wait, S: Source>(
     rt: &R,
     alloc: Global,
-    hub: &H,
-    inboxes: &[Outlet<Option<Ask>>],
+    seats: &Seats<H>,
     callers: &mut [Caller],
     source: &mut S,
     body: &mut Vec<u8>,
 ) -> Result<Option<FrameFault>, NoFrame>
-    requires each { length inboxes.now ≡ length callers.old }
+    requires each { length seats.now.inboxes.now ≡ length callers.old }
     requires few { length callers.old ≤ 256 }
-    requires on { EachSeat CallsOn inboxes.now callers.old }
-    requires seats { length (H.shape hub.now).seats ≡ length callers.old }
+    requires on { EachSeat CallsOn seats.now.inboxes.now callers.old }
+    requires seats { length (H.shape seats.now.hub.now).seats ≡ length callers.old }
     ensures size { length callers.new ≡ length callers.old }
-    ensures on { (result ≡ Err NoFrame.Memory → ⊥) → EachSeat CallsOn inboxes.now callers.new }
-    ensures reads { (most : ℕ) (bytes : Option (List ℕ)) → Reads most 0 bytes (S.left source.old) inboxes.now callers.old → ReadsTo result most bytes inboxes.now callers.new }
+    ensures on { (result ≡ Err NoFrame.Memory → ⊥) → EachSeat CallsOn seats.now.inboxes.now callers.new }
+    ensures reads { (most : ℕ) (bytes : Option (List ℕ)) → Reads most 0 bytes (S.left source.old) seats.now.inboxes.now callers.old → ReadsTo result most bytes seats.now.inboxes.now callers.new }
     ensures later { S.faults source.old ≤ S.faults source.new }
     ensures failed { result ≡ Err NoFrame.Failed → Rose (S.faults source.old) (S.faults source.new) }
     ensures rose { S.faults source.old < S.faults source.new → result ≡ Err NoFrame.Failed }
 {
     let mut at = 0;
     for _ in rt.forever() {
-        match read_one(rt, alloc, hub, inboxes, callers, source, &mut at, body) {
+        match read_one(rt, alloc, seats, callers, source, &mut at, body) {
             Ok(None) => {}
             Ok(Some(fault)) => return Ok(fault),
             Err(none) => return Err(none),
@@ -86,20 +93,19 @@ fn read_on<H: Hub, R: Wait, S: Source>(
 fn read_one<H: Hub, R: Wait, S: Source>(
     rt: &R,
     alloc: Global,
-    hub: &H,
-    inboxes: &[Outlet<Option<Ask>>],
+    seats: &Seats<H>,
     callers: &mut [Caller],
     source: &mut S,
     at: &mut u64,
     body: &mut Vec<u8>,
 ) -> Result<Option<Option<FrameFault>>, NoFrame>
-    requires each { length inboxes.now ≡ length callers.old }
+    requires each { length seats.now.inboxes.now ≡ length callers.old }
     requires few { length callers.old ≤ 256 }
-    requires on { EachSeat CallsOn inboxes.now callers.old }
-    requires seats { length (H.shape hub.now).seats ≡ length callers.old }
+    requires on { EachSeat CallsOn seats.now.inboxes.now callers.old }
+    requires seats { length (H.shape seats.now.hub.now).seats ≡ length callers.old }
     ensures size { length callers.new ≡ length callers.old }
-    ensures on { (result ≡ Err NoFrame.Memory → ⊥) → EachSeat CallsOn inboxes.now callers.new }
-    ensures turned { (most : ℕ) (bytes : Option (List ℕ)) → Reads most at.old bytes (S.left source.old) inboxes.now callers.old → TurnsInto result most at.new bytes (S.left source.new) inboxes.now callers.new }
+    ensures on { (result ≡ Err NoFrame.Memory → ⊥) → EachSeat CallsOn seats.now.inboxes.now callers.new }
+    ensures turned { (most : ℕ) (bytes : Option (List ℕ)) → Reads most at.old bytes (S.left source.old) seats.now.inboxes.now callers.old → TurnsInto result most at.new bytes (S.left source.new) seats.now.inboxes.now callers.new }
     ensures later { S.faults source.old ≤ S.faults source.new }
     ensures failed { result ≡ Err NoFrame.Failed → Rose (S.faults source.old) (S.faults source.new) }
     ensures rose { S.faults source.old < S.faults source.new → result ≡ Err NoFrame.Failed }
@@ -108,8 +114,7 @@ fn read_one<H: Hub, R: Wait, S: Source>(
         Ok(Arrival::Frame(seat)) => match take_frame(
             rt,
             alloc,
-            hub,
-            inboxes,
+            seats,
             callers,
             seat,
             at,
@@ -128,30 +133,29 @@ fn read_one<H: Hub, R: Wait, S: Source>(
 fn take_frame<H: Hub, R: Wait>(
     rt: &R,
     alloc: Global,
-    hub: &H,
-    inboxes: &[Outlet<Option<Ask>>],
+    seats: &Seats<H>,
     callers: &mut [Caller],
     seat: u16,
     at: &mut u64,
     bytes: &[u8],
 ) -> Result<(), AllocError>
-    requires each { length inboxes.now ≡ length callers.old }
+    requires each { length seats.now.inboxes.now ≡ length callers.old }
     requires few { length callers.old ≤ 256 }
-    requires on { EachSeat CallsOn inboxes.now callers.old }
-    requires seats { length (H.shape hub.now).seats ≡ length callers.old }
+    requires on { EachSeat CallsOn seats.now.inboxes.now callers.old }
+    requires seats { length (H.shape seats.now.hub.now).seats ≡ length callers.old }
     requires seat { IsSeat (length callers.old) seat }
     ensures at { OnOk result (at.new ≡ at.old + (4 + length bytes.now)) }
-    ensures own { EachSeat OwnsInbox inboxes.now callers.new }
-    ensures on { OnOk result (EachSeat CallsOn inboxes.now callers.new) }
+    ensures own { EachSeat OwnsInbox seats.now.inboxes.now callers.new }
+    ensures on { OnOk result (EachSeat CallsOn seats.now.inboxes.now callers.new) }
     ensures takes { OnOk result (DoesAt (λ old new. Takes seat old new (signs_in bytes.now)) (seat - 1) callers.old callers.new) }
     ensures first { OnErr result (DoesAt (λ old new. TakesFirst seat old new (signs_in bytes.now)) (seat - 1) callers.old callers.new) }
 {
-    take_at(rt, alloc, inboxes, callers, seat, bytes)?;
-    hub.ring(u32::from(seat) - 1);
+    take_at(rt, alloc, seats.inboxes, callers, seat, bytes)?;
+    seats.hub.ring(u32::from(seat) - 1);
     let Some(next) = at.checked_add(4 + bytes.len() as u64) else {
         return Err(AllocError);
     };
-    if hub.is_called_off() {
+    if seats.hub.is_called_off() {
         return Err(AllocError);
     }
     *at = next;
@@ -178,27 +182,30 @@ fn take_at<R: Wait>(
 {
     let k = usize::from(seat) - 1;
     let number = SessionNo::new(u32::from(seat));
-    take_signs(rt, alloc, &inboxes[k], number, &mut callers[k], bytes)
+    let inbox = SeatInbox {
+        outlet: &inboxes[k],
+        seat: number,
+    };
+    take_signs(rt, alloc, &inbox, &mut callers[k], bytes)
 }
 
 // Tells each seat that nothing more will be asked.
 fn tell_end<H: Hub, R: Wait>(
     rt: &R,
-    hub: &H,
-    inboxes: &[Outlet<Option<Ask>>],
+    seats: &Seats<H>,
     callers: &mut [Caller],
 ) -> Result<(), AllocError>
-    requires each { length inboxes.now ≡ length callers.old }
+    requires each { length seats.now.inboxes.now ≡ length callers.old }
     requires few { length callers.old ≤ 256 }
-    requires on { EachSeat CallsOn inboxes.now callers.old }
-    requires seats { length (H.shape hub.now).seats ≡ length callers.old }
-    ensures told { OnOk result (AreEnded (length callers.old) inboxes.now callers.old callers.new) }
-    ensures first { OnErr result ((n : ℕ) × (n ≤ length callers.old) × AreEnded n inboxes.now callers.old callers.new) }
+    requires on { EachSeat CallsOn seats.now.inboxes.now callers.old }
+    requires seats { length (H.shape seats.now.hub.now).seats ≡ length callers.old }
+    ensures told { OnOk result (AreEnded (length callers.old) seats.now.inboxes.now callers.old callers.new) }
+    ensures first { OnErr result ((n : ℕ) × (n ≤ length callers.old) × AreEnded n seats.now.inboxes.now callers.old callers.new) }
 {
     for k in 0..callers.len() {
         if tell_one(
             rt,
-            &inboxes[k],
+            &seats.inboxes[k],
             SessionNo::new(k as u32 + 1),
             &mut callers[k],
         )
@@ -206,7 +213,7 @@ fn tell_end<H: Hub, R: Wait>(
         {
             return Err(AllocError);
         }
-        hub.ring(k as u32);
+        seats.hub.ring(k as u32);
     }
     Ok(())
 }

@@ -10,7 +10,8 @@ use pgn_frames::{Caller, FrameFault, NoFrame, read_frames};
 use pgn_hub::{Hub, SeatSetup, Setup};
 use pgn_memory::MemSource;
 use pgn_outlet::{Outlet, OutletPass};
-use pgn_turns::{Ask, Parting};
+use pgn_requests::Wording;
+use pgn_turns::{Ask, Asked, Parting};
 use pgn_wordhub::WordHub;
 use std::alloc::{AllocError, Global};
 use std::sync::Wait;
@@ -131,7 +132,8 @@ fn seat() -> SeatSetup
     }
 }
 
-// What stands in an inbox, a piece each: a query's number and text, an end's number and how the client parted, and a point behind all of it.
+// What stands in an inbox, a piece each: a query's number and text, or why it is refused, what is settled, the number of a
+// `DISCARD ALL`, an end's number and how the client parted, and a point behind all of it.
 fn taken<R: Wait>(
     rt: &R,
     alloc: Global,
@@ -154,21 +156,33 @@ fn taken<R: Wait>(
 // Puts one of them.
 fn put_words(alloc: Global, text: &mut String, what: &Option<Ask>) -> Result<(), AllocError> {
     match what {
-        Some(Ask::Query(query)) => {
-            let line = query.line;
-            let words = String::from_utf8_lossy(alloc, query.text.as_bytes())?;
-            let piece = format!(in alloc; "{line} {words}; ")?;
-            text.push_str(&piece)
-        }
-        Some(Ask::End { line, parting }) => {
-            let how = match parting {
-                Parting::Plain => "plain",
-                Parting::Refused => "refused",
-                Parting::Spent => "spent",
-            };
-            let piece = format!(in alloc; "{line} {how}; ")?;
-            text.push_str(&piece)
-        }
+        Some(Ask::Query(query)) => put_query(alloc, text, query),
+        Some(Ask::Settle(_)) => text.push_str("settled; "),
+        Some(Ask::Discard { line }) => put_piece(alloc, text, *line, "discards"),
+        Some(Ask::End { line, parting }) => put_piece(alloc, text, *line, words_of(parting)),
         None => text.push_str("."),
+    }
+}
+
+fn put_query(alloc: Global, text: &mut String, query: &Asked) -> Result<(), AllocError> {
+    let bytes = match &query.wording {
+        Wording::Refused(complaint) => complaint.text.as_bytes(),
+        _ => query.text.as_bytes(),
+    };
+    let words = String::from_utf8_lossy(alloc, bytes)?;
+    put_piece(alloc, text, query.line, &words)
+}
+
+fn put_piece(alloc: Global, text: &mut String, line: u32, words: &str) -> Result<(), AllocError> {
+    let piece = format!(in alloc; "{line} {words}; ")?;
+    text.push_str(&piece)
+}
+
+fn words_of(parting: &Parting) -> &'static str {
+    match parting {
+        Parting::Plain => "plain",
+        Parting::Refused => "refused",
+        Parting::Extended => "extended",
+        Parting::Spent => "spent",
     }
 }

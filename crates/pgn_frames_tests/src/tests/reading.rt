@@ -5,15 +5,25 @@ const LISTEN: &[u8] = b"Q\0\0\0\x0dLISTEN c\0";
 
 const NOTIFY: &[u8] = b"Q\0\0\0\x12NOTIFY c, 'x'\0";
 
+const ONE: &[u8] = b"Q\0\0\0\x0dSELECT 1\0";
+
+const DISCARD: &[u8] = b"Q\0\0\0\x10DISCARD ALL\0";
+
+const GARBLED: &[u8] = b"Q\0\0\0\x06\0\0";
+
 const TERMINATE: &[u8] = b"X\0\0\0\x04";
 
 /// A conversation of three clients, frame by frame: two at seat 1, one after another, of which the second leaves, and one at seat 2 amid
-/// them, whose third message is of no type. Where a frame has no byte, its client ends.
+/// them, whose third message is of the extended protocol. Where a frame has no byte, its client ends.
 const TALK: &[(u8, &[u8])] = &[
     (1, LISTEN),
     (2, LISTEN),
+    (1, ONE),
     (1, NOTIFY),
     (2, b"Q\0\0\0\x05\0P\0\0\0\x08"),
+    (1, DISCARD),
+    (1, GARBLED),
+    (1, ONE),
     (1, b""),
     (2, NOTIFY),
     (1, LISTEN),
@@ -23,9 +33,10 @@ const TALK: &[(u8, &[u8])] = &[
 ];
 
 /// What seat 1 is asked by it, and seat 2.
-const FIRST: &str = "1 LISTEN c; 2 NOTIFY c, 'x'; 3 plain; 5 LISTEN c; 6 plain; .";
+const FIRST: &str =
+    "1 LISTEN c; settled; 2 NOTIFY c, 'x'; 3 discards; 5 invalid message format; settled; 6 plain; 8 LISTEN c; 9 plain; .";
 
-const SECOND: &str = "1 LISTEN c; 2 ; 3 refused; .";
+const SECOND: &str = "1 LISTEN c; 2 ; 3 extended; .";
 
 // Puts a frame.
 fn put(bytes: &mut Vec<u8>, seat: u8, body: &[u8]) -> Result<(), AllocError> {
@@ -128,6 +139,30 @@ fn a_client_ends(rt: HostRuntime) -> Result<(), Fail> {
 }
 
 #[test]
+fn a_client_is_refused(rt: HostRuntime) -> Result<(), Fail> {
+    let alloc = rt.alloc();
+    // By a letter, by a length of a Query that is too small or too great, and by one of a Terminate.
+    for bytes in [
+        b"Z\0\0\0\x04",
+        b"Q\0\0\0\x04",
+        b"Q\0\x01\0\x06",
+        b"X\0\0\0\x05",
+    ] {
+        let came = at_first(&rt, alloc, &[LISTEN, bytes, LISTEN, b"", LISTEN], b"")?;
+        assert_eq!(rt; came.first.as_str(), "1 LISTEN c; 2 refused; 4 LISTEN c; .");
+    }
+    // By the first byte of a message of the extended protocol.
+    for byte in b"PBEDCSHF" {
+        let came = at_first(&rt, alloc, &[LISTEN, &[*byte], LISTEN, b"", LISTEN], b"")?;
+        assert_eq!(rt;
+            came.first.as_str(),
+            "1 LISTEN c; 2 extended; 4 LISTEN c; ."
+        );
+    }
+    Ok(())
+}
+
+#[test]
 fn the_input_ends(rt: HostRuntime) -> Result<(), Fail> {
     let alloc = rt.alloc();
     // Between two frames; inside a message; inside a head, and inside a body.
@@ -160,7 +195,7 @@ fn a_bad_seat(rt: HostRuntime) -> Result<(), Fail> {
 #[test]
 fn the_longest_query(rt: HostRuntime) -> Result<(), Fail> {
     let alloc = rt.alloc();
-    let mut query = Vec::from_slice(alloc, b"Q\0\x01\0\x05--")?;
+    let mut query = Vec::from_slice(alloc, b"Q\0\x01\0\x05")?;
     query.resize(65_541, b'x')?;
     query.push(0)?;
     query.extend_from_slice(LISTEN)?;

@@ -1,4 +1,4 @@
-use Rattle.pgn_frames.proofs.AskLaws.{are_queries, each_is_asked, one_asking}
+use Rattle.pgn_frames.proofs.AskLaws.{each_is_asked, one_asking}
 use Rattle.pgn_frames.proofs.NumberLaws.{numbers_go_on}
 use Rattle.pgn_frames.proofs.laws.one_asking.Goals as goal
 
@@ -7,9 +7,6 @@ returns-clause-some c = each_is_asked
 
 pub returns-clause-one : goal.returns-clause-one
 returns-clause-one c = one_asking
-
-pub returns-clause-are_queries : goal.returns-clause-are_queries
-returns-clause-are_queries c = are_queries
 
 pub returns-clause-numbers_go_on : goal.returns-clause-numbers_go_on
 returns-clause-numbers_go_on c = numbers_go_on

@@ -6,8 +6,8 @@ use Rattle.pgn_frames.proofs.reading.read_on.Given as goal
 abbrev pub invariant-loop : goal.invariant-loop
 invariant-loop g l = record {
   size : length l.callers ≡ length l.fn.callers;
-  on : EachSeat CallsOn l.fn.inboxes l.callers;
-  reads : (most : ℕ) (bytes : Option (List ℕ)) → Reads most 0 bytes (g.S.Source.left l.fn.source) l.fn.inboxes l.fn.callers
-      → Reads most l.at bytes (g.S.Source.left l.source) l.fn.inboxes l.callers;
+  on : EachSeat CallsOn l.fn.seats.inboxes.now l.callers;
+  reads : (most : ℕ) (bytes : Option (List ℕ)) → Reads most 0 bytes (g.S.Source.left l.fn.source) l.fn.seats.inboxes.now l.fn.callers
+      → Reads most l.at bytes (g.S.Source.left l.source) l.fn.seats.inboxes.now l.callers;
   same : g.S.Source.faults l.source ≡ g.S.Source.faults l.fn.source;
 }

@@ -21,7 +21,7 @@ returns-in-Ok-clause-turned g c = λ most all h.
     let comes : OfKnown (NextFrame seats at (Comes (frame_at seat c.next_frame.new.body.items))) before after
     = subst (λ (a : Arrival). OfKnown (NextFrame seats at (framing_of a c.next_frame.new.body.items)) before after) is c.in-Ok-Frame.ensures.next in
     let next : OfKnown (NextFrame seats at (Comes (frame_at seat bytes))) before after = subst (λ (l : List ℕ). OfKnown (NextFrame seats at (Comes (frame_at seat l))) before after) (sym c.as_slice.ensures.value) comes in
-    Reads-more most at seat bytes all before after c.args.inboxes.now c.args.callers.now c.take_frame.new.callers c.take_frame.new.at h one next c.in-Ok.ensures.takes c.in-Ok.ensures.at
+    Reads-more most at seat bytes all before after c.args.seats.now.inboxes.now c.args.callers.now c.take_frame.new.callers c.take_frame.new.at h one next c.in-Ok.ensures.takes c.in-Ok.ensures.at
 
 pub returns-in-Err-take_frame-clause-turned : goal.returns-in-Err-take_frame-clause-turned
 returns-in-Err-take_frame-clause-turned g c = λ most all h.
@@ -36,7 +36,7 @@ returns-in-Err-take_frame-clause-turned g c = λ most all h.
     let comes : OfKnown (NextFrame seats at (Comes (frame_at seat c.next_frame.new.body.items))) before after
     = subst (λ (a : Arrival). OfKnown (NextFrame seats at (framing_of a c.next_frame.new.body.items)) before after) is c.in-Ok-Frame.ensures.next in
     let next : OfKnown (NextFrame seats at (Comes (frame_at seat bytes))) before after = subst (λ (l : List ℕ). OfKnown (NextFrame seats at (Comes (frame_at seat l))) before after) (sym c.as_slice.ensures.value) comes in
-    Reads-some most at seat bytes all before after c.args.inboxes.now c.args.callers.now c.take_frame.new.callers h one next c.requires.on c.in-Err-take_frame.ensures.first c.take_frame.ensures.own
+    Reads-some most at seat bytes all before after c.args.seats.now.inboxes.now c.args.callers.now c.take_frame.new.callers h one next c.requires.on c.in-Err-take_frame.ensures.first c.take_frame.ensures.own
 
 pub returns-in-Ok-End-clause-turned : goal.returns-in-Ok-End-clause-turned
 returns-in-Ok-End-clause-turned g c = λ most all h.
@@ -45,7 +45,7 @@ returns-in-Ok-End-clause-turned g c = λ most all h.
     let is : c.in-Ok-End.field-0 ≡ arrival.End = search rules in
     let next : OfKnown (NextFrame (length c.args.callers.now) c.args.at.now Over) before after
     = subst (λ (a : Arrival). OfKnown (NextFrame (length c.args.callers.now) c.args.at.now (framing_of a c.next_frame.new.body.items)) before after) is c.in-Ok-End.ensures.next in
-    Reads-end most c.args.at.now all before after c.args.inboxes.now c.args.callers.now h next
+    Reads-end most c.args.at.now all before after c.args.seats.now.inboxes.now c.args.callers.now h next
 
 pub returns-in-Ok-Fault-clause-turned : goal.returns-in-Ok-Fault-clause-turned
 returns-in-Ok-Fault-clause-turned g c = λ most all h.
@@ -54,8 +54,8 @@ returns-in-Ok-Fault-clause-turned g c = λ most all h.
     let is : c.in-Ok-Fault.field-0 ≡ arrival.Fault c.in-Ok-Fault.fault = search rules in
     let next : OfKnown (NextFrame (length c.args.callers.now) c.args.at.now (Wrong c.in-Ok-Fault.fault)) before after
     = subst (λ (a : Arrival). OfKnown (NextFrame (length c.args.callers.now) c.args.at.now (framing_of a c.next_frame.new.body.items)) before after) is c.in-Ok-Fault.ensures.next in
-    Reads-fault most c.args.at.now c.in-Ok-Fault.fault all before after c.args.inboxes.now c.args.callers.now h next
+    Reads-fault most c.args.at.now c.in-Ok-Fault.fault all before after c.args.seats.now.inboxes.now c.args.callers.now h next
 
 pub returns-in-Err-clause-turned : goal.returns-in-Err-clause-turned
 returns-in-Err-clause-turned g c = λ most all h.
-    Turns-none most c.args.at.now all (g.S.Source.left c.args.source.now) (g.S.Source.left c.next_frame.new.source) c.args.inboxes.now c.args.callers.now c.in-Err.none h c.requires.on
+    Turns-none most c.args.at.now all (g.S.Source.left c.args.source.now) (g.S.Source.left c.next_frame.new.source) c.args.seats.now.inboxes.now c.args.callers.now c.in-Err.none h c.requires.on

@@ -10,7 +10,7 @@ returns-in-Ok-clause-first g c =
     let old : Caller = c.args.caller.now in
     let mid : Caller = c.take_whole.new.caller in
     let new : Caller = record mid { begun = c.extend_from_slice.new.self } in
-    let first : TakesFirstBytes c.args.seat old new bytes = FirstBytes-all c.args.seat old mid new bytes c.in-Ok.n c.in-Ok.ensures.takes refl in
+    let first : TakesFirstBytes c.args.inbox.now.seat old new bytes = FirstBytes-all c.args.inbox.now.seat old mid new bytes c.in-Ok.n c.in-Ok.ensures.takes refl in
     let all : bytes ≡ old.begun.items ++ bytes = ap (λ (l : List ℕ). l ++ bytes) (sym c.requires.none) in
-    err_any c.extend_from_slice.result (TakesFirst c.args.seat old new (map (λ (x : ℕ). Some x) bytes))
-    (First-bytes c.args.seat old new bytes c.requires.here (subst (λ (l : List ℕ). TakesFirstBytes c.args.seat old new l) all first))
+    err_any c.extend_from_slice.result (TakesFirst c.args.inbox.now.seat old new (map (λ (x : ℕ). Some x) bytes))
+    (First-bytes c.args.inbox.now.seat old new bytes c.requires.here (subst (λ (l : List ℕ). TakesFirstBytes c.args.inbox.now.seat old new l) all first))

@@ -34,7 +34,7 @@ returns-in-Ok-clause-takes g c =
     let mid : Caller = record old { queries = c.next.new.self } in
     let took : TookQuery old.queries c.next.new.self c.in-Ok-Some.line bytes rest
     = subst (λ (n : Option ScriptLine). IfSome n (λ line. TookQuery old.queries c.next.new.self line bytes rest)) is c.in-Ok-Some.ensures.took in
-    Bytes-query c.args.seat old mid c.put_query.new.caller c.in-Ok-Some.line bytes rest (length bytes - length rest)
+    Bytes-query c.args.inbox.now.seat old mid c.put_query.new.caller c.in-Ok-Some.line bytes rest (length bytes - length rest)
     (subst (λ (p : Place). TookQuery old.queries p c.in-Ok-Some.line bytes rest) (sym c.put_query.ensures.queries) took) c.requires.here (search rules) refl c.in-Ok.ensures.asked refl
 
 pub returns-in-Ok-clause-waits : goal.returns-in-Ok-clause-waits
@@ -58,8 +58,8 @@ returns-in-Ok-None-clause-takes g c =
     let new : Caller = c.leave.new.caller in
     let ends : QueriesAre old.queries bytes [] None = subst (λ (n : Option ScriptLine). Gives old.queries c.next.new.self n bytes rest) is c.in-Ok-None.ensures.next in
     let same : mid.queries ≡ old.queries = c.in-Ok-None.ensures.ended (ap (λ (n : Option ScriptLine). let r : Result (Option ScriptLine) NoQuery = Ok n in r) is) in
-    if_ok-both c.leave.result (HasEnded c.args.seat mid new Plain) (new.left ≡ true) (λ n. TakesBytes c.args.seat old new bytes n)
-    (λ n ended left. Bytes-terminated c.args.seat old mid new bytes n ends (c.is_cut.ensures.some c.if-is_cut.false) same refl ended c.requires.here left) c.leave.ensures.ended c.leave.ensures.left
+    if_ok-both c.leave.result (HasEnded c.args.inbox.now.seat mid new Plain) (new.left ≡ true) (λ n. TakesBytes c.args.inbox.now.seat old new bytes n)
+    (λ n ended left. Bytes-terminated c.args.inbox.now.seat old mid new bytes n ends (c.is_cut.ensures.some c.if-is_cut.false) same refl ended c.requires.here left) c.leave.ensures.ended c.leave.ensures.left
 
 pub returns-in-Some-clause-takes : goal.returns-in-Some-clause-takes
 returns-in-Some-clause-takes g c =
@@ -72,8 +72,8 @@ returns-in-Some-clause-takes g c =
     let new : Caller = c.leave-in-Some.new.caller in
     let fails : QueriesAre old.queries bytes [] (Some fault) = c.in-Err-Fault.ensures.fault fault (ap (λ (n : NoQuery). let r : Result (Option ScriptLine) NoQuery = Err n in r) is) in
     let by : Some parting ≡ parting_by fault = search rules in
-    if_ok-both c.leave-in-Some.result (HasEnded c.args.seat mid new parting) (new.left ≡ true) (λ n. TakesBytes c.args.seat old new bytes n)
-    (λ n ended left. Bytes-faulty c.args.seat old mid new bytes n fault parting fails by c.in-Err-Fault.ensures.stays refl ended c.requires.here left) c.leave-in-Some.ensures.ended c.leave-in-Some.ensures.left
+    if_ok-both c.leave-in-Some.result (HasEnded c.args.inbox.now.seat mid new parting) (new.left ≡ true) (λ n. TakesBytes c.args.inbox.now.seat old new bytes n)
+    (λ n ended left. Bytes-faulty c.args.inbox.now.seat old mid new bytes n fault parting fails by c.in-Err-Fault.ensures.stays refl ended c.requires.here left) c.leave-in-Some.ensures.ended c.leave-in-Some.ensures.left
 
 pub returns-in-None-clause-waits : goal.returns-in-None-clause-waits
 returns-in-None-clause-waits g c = λ e.
