@@ -15,12 +15,15 @@
 mod answering;
 mod desk;
 mod desks;
+mod discarding;
 pub mod examples;
 mod hearing;
 mod lines;
+mod outbox;
 mod quitting;
 mod resetting;
 mod serving;
+mod settling;
 mod telling;
 mod tells;
 mod turn;
