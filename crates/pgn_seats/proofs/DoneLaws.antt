@@ -37,7 +37,7 @@ use Rattle.pgn_turns.specs.Laws.{HasTurnMore}
 use Rattle.pgn_turns.specs.Sayings.{all_told}
 use Rattle.pgn_turns.specs.Served.{discard_answer, discarded, settled_answer, told_answer}
 use Rattle.pgn_turns.specs.Turns.{Telling, Turn, Answers, Discards, Hears, IsPlain, IsRead, Leaves, Settles, after_line, asked_in, asks_of, farewell, heard, items_in, items_of, kept_in, lines_of, said, signs_in, telling_of}
-use Rattle.pgn_turns.proofs.GrowLaws.{telling-walk, turns_grow}
+use Rattle.pgn_turns.proofs.GrowLaws.{telling_walks, turns_grow}
 use Rattle.pgn_turns.proofs.WalkLaws.{turns_walk}
 use Rattle.pgn_seats.specs.Working.{HasDone, HasDoneFirst, HasRun, HasRunBoth, HasSaid, IsAtWork, StaysDone}
 use Rattle.pgn_seats.proofs.WorkLaws.{reads-are}
@@ -119,7 +119,7 @@ pub block-now : {P : Type 0} (shape : Shape) (known : P → Known) (s : Session 
     → s.items.items ≡ items_of turns → (telling_of turns).walk.block ≡ s.block.state
 block-now shape known s turns between rested plain lines items =
     let walk = turns_walk s.section turns (seat_quit ∷ []) lines plain in
-    ap (λ (t : State). t.block) (telling-walk turns)
+    ap (λ (t : State). t.block) (telling_walks turns)
     ∙ sym (ap (λ (t : State). t.block) walk)
     ∙ ap (λ (is : List Item). (fold after_item (start s.section) is).block) (sym items)
     ∙ rested-block shape known s between rested
@@ -134,15 +134,15 @@ turn-done : {P : Type 0} (rest next : List ScriptLine) (asks all : List Ask) (ol
     → asks ++ asked_in turn ≡ all → new.section.no ≡ old.section.no → new.section.lines ≡ (lines_of h.turns ++ flat_map lines_for (asked_in turn)) ++ (next ++ seat_quit ∷ []) → new.items.items ≡ old.items.items ++ items_in turn
     → later ≡ kept_in (telling_of h.turns).walk.block kept turn → HasSaid new.section.no (signs_in new.section.no (telling_of h.turns) turn) before after → HasDone next all new later after
 turn-done rest next asks all old new kept later before after turn h plain asked number lines items settings told =
-    let grown : HasTurnMore h.turns turn = turns_grow h.turns turn in
     let n : ℕ = new.section.no in
+    let grown : HasTurnMore n h.turns turn = turns_grow n h.turns turn in
     record {
       turns = h.turns ++ turn ∷ [];
       plain = All-append IsPlain h.turns (turn ∷ []) h.plain (All-cons IsPlain turn [] plain (All-nil IsPlain));
       asked = grown.asks ∙ ap (λ (l : List Ask). l ++ asked_in turn) h.asked ∙ asked;
       lines = lines ∙ ap (λ (ls : List ScriptLine). ls ++ (next ++ seat_quit ∷ [])) (sym grown.lines);
       items = items ∙ ap (λ (is : List Item). is ++ items_in turn) h.items ∙ sym grown.items;
-      told = told ∙ ap (λ (l : List (Option ℕ)). l ++ signs_in n (telling_of h.turns) turn) (told-at n old.section.no h.turns before number h.told) ∙ sym (grown.signs n);
+      told = told ∙ ap (λ (l : List (Option ℕ)). l ++ signs_in n (telling_of h.turns) turn) (told-at n old.section.no h.turns before number h.told) ∙ sym grown.signs;
       settings = settings
           ∙ ap (λ (k : Kept). kept_in (telling_of h.turns).walk.block k turn) h.settings
           ∙ sym (ap (λ (t : Telling). t.kept) grown.telling);
@@ -180,7 +180,7 @@ answer-state : {P : Type 0} (shape : Shape) (known : P → Known) (new : Session
     → (after_line (telling_of turns).walk query.command more).block ≡ new.block.state
 answer-state shape known new turns query more lines items between rested plain silent =
     let turn : Turn = Answers query more in
-    let grown : HasTurnMore turns turn = turns_grow turns turn in
+    let grown : HasTurnMore new.section.no turns turn = turns_grow new.section.no turns turn in
     sym (ap (λ (t : Telling). t.walk.block) grown.telling)
     ∙ block-now shape known new (turns ++ turn ∷ []) between rested (All-append IsPlain turns (turn ∷ []) plain (All-cons IsPlain turn [] silent (All-nil IsPlain)))
     (lines ∙ ap (λ (ls : List ScriptLine). ls ++ seat_quit ∷ []) (sym grown.lines)) (items ∙ sym grown.items)
