@@ -11,7 +11,7 @@ ghost use Rattle.pgn_turns.specs.declared.asked.Ask.TheVariants.{Discard};
 use crate::Desk;
 use crate::lines::take_both;
 use crate::outbox::Outbox;
-use crate::telling::say_discard;
+use crate::telling::{discard_bytes, say};
 use pgn_hub::{Hub, PassView};
 use pgn_outlet::OutletPass;
 use pgn_turns::{Saying, discard_at};
@@ -45,5 +45,7 @@ pub(crate) fn discard<P: PassView + Send + Drop, H: Hub<Pass = P>, R: Wait>(
     let from = desk.session.items.len();
     let state = desk.session.block.state();
     take_both(rt, alloc, hub, desk, discard_at(alloc, line))?;
-    say_discard(rt, alloc, outbox, desk, from, state, tells)
+    let items = desk.session.items.as_slice();
+    let bytes = discard_bytes(alloc, &mut desk.settings, state, items, from)?;
+    say(rt, outbox, desk.session.section.no, bytes, tells)
 }

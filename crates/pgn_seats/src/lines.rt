@@ -32,7 +32,8 @@ pub(crate) fn take_both<P: PassView + Send + Drop, H: Hub<Pass = P>, R: Wait>(
     requires runs { RunsCommand line }
     requires unread { reads_first line.act ≡ false }
     requires counted { desk.old.notes ≡ note_lines_of desk.old.session.section.lines }
-    ensures kept { desk.new ≡ record desk.old { session = desk.new.session; notes = desk.new.notes } }
+    ensures asks { desk.new.asks ≡ desk.old.asks }
+    ensures settings { desk.new.settings ≡ desk.old.settings }
     ensures same { IsSameClient desk.old.session desk.new.session }
     ensures lawful { IsLawful (H.shape hub.now) desk.new.session }
     ensures first { StaysDone desk.old.session desk.new.session }

@@ -10,7 +10,7 @@ ghost use Rattle.pgn_turns.specs.declared.asked.Ask.TheVariants.{Settle};
 
 use crate::Desk;
 use crate::outbox::Outbox;
-use crate::telling::say_settled;
+use crate::telling::{say, settled_bytes};
 use pgn_hub::{Hub, PassView};
 use pgn_outlet::OutletPass;
 use pgn_requests::Settled;
@@ -43,5 +43,8 @@ pub(crate) fn settle<P: PassView + Send + Drop, H: Hub<Pass = P>, R: Wait>(
     ensures stopped { OnErr result (StopsFirst [] desk.old.session desk.new.session (knows tells.old) (knows tells.new)) }
 {
     let _hub = hub;
-    say_settled(rt, alloc, outbox, desk, settled, tells)
+    let no = desk.session.section.no;
+    let state = desk.session.block.state();
+    let bytes = settled_bytes(alloc, no, settled, &mut desk.settings, state)?;
+    say(rt, outbox, no, bytes, tells)
 }

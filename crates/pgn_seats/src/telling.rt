@@ -9,7 +9,6 @@ ghost use Rattle.pgn_requests.specs.Settings.{kept_after};
 ghost use Rattle.pgn_turns.specs.Served.{discard_answer, discarded, settled_answer, told_answer};
 ghost use Rattle.pgn_turns.specs.Turns.{farewell, heard};
 
-use crate::Desk;
 use crate::outbox::Outbox;
 use pgn_answers::BlockState;
 use pgn_base::SessionNo;
@@ -66,57 +65,6 @@ pub(crate) fn say_heard<P, R: Wait>(
     let items = session.items.as_slice();
     let bytes = heard_bytes(alloc, &items[from..])?;
     say(rt, outbox, session.section.no, bytes, tells)
-}
-
-// Tells a client what is settled without its session, and settles it.
-pub(crate) fn say_settled<P, R: Wait>(
-    rt: &R,
-    alloc: Global,
-    outbox: &Outbox<'_>,
-    desk: &mut Desk<P>,
-    settled: &Settled,
-    tells: &mut OutletPass<Saying>,
-) -> Result<(), AllocError>
-    requires own { IsPassOf outbox.now.outlet.now tells.old }
-    requires may { MayPush (knows tells.old) desk.old.session.section.no }
-    ensures own { IsPassOf outbox.now.outlet.now tells.new }
-    ensures alone { HasPushedFor desk.old.session.section.no (knows tells.old) (knows tells.new) }
-    ensures same { desk.new ≡ record desk.old { settings = desk.new.settings } }
-    ensures kept { OnOk result (desk.new.settings ≡ kept_after desk.old.session.block.state settled.now desk.old.settings) }
-    ensures said { OnOk result (HasSaid desk.old.session.section.no (map Some (settled_answer desk.old.session.section.no settled.now desk.old.settings desk.old.session.block.state)) (knows tells.old) (knows tells.new)) }
-    ensures unsaid { OnErr result (knows tells.new ≡ knows tells.old) }
-{
-    let no = desk.session.section.no;
-    let state = desk.session.block.state();
-    let bytes = settled_bytes(alloc, no, settled, &mut desk.settings, state)?;
-    say(rt, outbox, no, bytes, tells)
-}
-
-// Tells a client the answer to `DISCARD ALL`, once its two lines are the session's items from this place on, and does what it does to the
-// settings. The state of the block is that before both lines.
-pub(crate) fn say_discard<P, R: Wait>(
-    rt: &R,
-    alloc: Global,
-    outbox: &Outbox<'_>,
-    desk: &mut Desk<P>,
-    from: usize,
-    state: BlockState,
-    tells: &mut OutletPass<Saying>,
-) -> Result<(), AllocError>
-    requires own { IsPassOf outbox.now.outlet.now tells.old }
-    requires may { MayPush (knows tells.old) desk.old.session.section.no }
-    requires within { from ≤ length desk.old.session.items.items }
-    ensures own { IsPassOf outbox.now.outlet.now tells.new }
-    ensures alone { HasPushedFor desk.old.session.section.no (knows tells.old) (knows tells.new) }
-    ensures same { desk.new ≡ record desk.old { settings = desk.new.settings } }
-    ensures kept { OnOk result (desk.new.settings ≡ discarded state desk.old.settings) }
-    ensures said { OnOk result (HasSaid desk.old.session.section.no (map Some (discard_answer state desk.old.settings (flat_map heard (drop from desk.old.session.items.items)))) (knows tells.old) (knows tells.new)) }
-    ensures unsaid { OnErr result (knows tells.new ≡ knows tells.old) }
-{
-    let no = desk.session.section.no;
-    let items = desk.session.items.as_slice();
-    let bytes = discard_bytes(alloc, &mut desk.settings, state, &items[from..])?;
-    say(rt, outbox, no, bytes, tells)
 }
 
 // Tells a client why the server ends the conversation, if it does, and its end.
@@ -200,36 +148,6 @@ fn answer_bytes(
     Ok(bytes)
 }
 
-fn settled_bytes(
-    alloc: Global,
-    seat: SessionNo,
-    settled: &Settled,
-    settings: &mut Settings,
-    state: BlockState,
-) -> Result<Vec<u8>, AllocError>
-    ensures bytes { IfOk result (λ bytes. bytes.items ≡ settled_answer seat settled.now settings.old state) }
-    ensures kept { OnOk result (settings.new ≡ kept_after state settled.now settings.old) }
-{
-    let mut bytes = Vec::new(alloc);
-    tell_settled(alloc, &mut bytes, seat, settled, settings, state)?;
-    Ok(bytes)
-}
-
-// The items are those of both lines, with the lines themselves, of which nothing is heard.
-fn discard_bytes(
-    alloc: Global,
-    settings: &mut Settings,
-    state: BlockState,
-    items: &[Item],
-) -> Result<Vec<u8>, AllocError>
-    ensures bytes { IfOk result (λ bytes. bytes.items ≡ discard_answer state settings.old (flat_map heard items.now)) }
-    ensures kept { OnOk result (settings.new ≡ discarded state settings.old) }
-{
-    let mut bytes = Vec::new(alloc);
-    tell_discard(alloc, &mut bytes, settings, state, items, &[])?;
-    Ok(bytes)
-}
-
 fn heard_bytes(alloc: Global, reads: &[Item]) -> Result<Vec<u8>, AllocError>
     ensures { IfOk result (λ bytes. bytes.items ≡ flat_map heard reads.now) }
 {
@@ -243,5 +161,39 @@ fn farewell_bytes(alloc: Global, parting: Parting) -> Result<Vec<u8>, AllocError
 {
     let mut bytes = Vec::new(alloc);
     tell_parting(alloc, &mut bytes, parting)?;
+    Ok(bytes)
+}
+
+// What the client of a seat is told of what is settled without its session, which it settles.
+pub(crate) fn settled_bytes(
+    alloc: Global,
+    seat: SessionNo,
+    settled: &Settled,
+    settings: &mut Settings,
+    state: BlockState,
+) -> Result<Vec<u8>, AllocError>
+    ensures told { IfOk result (λ bytes. bytes.items ≡ settled_answer seat settled.now settings.old state) }
+    ensures kept { OnOk result (settings.new ≡ kept_after state settled.now settings.old) }
+{
+    let mut bytes = Vec::new(alloc);
+    tell_settled(alloc, &mut bytes, seat, settled, settings, state)?;
+    Ok(bytes)
+}
+
+// What a client is told of `DISCARD ALL`, whose lines stand among a session's items from this place on, by the state of the block before
+// them; and does what that does to the settings. Of the lines themselves nothing is heard.
+pub(crate) fn discard_bytes(
+    alloc: Global,
+    settings: &mut Settings,
+    state: BlockState,
+    items: &[Item],
+    from: usize,
+) -> Result<Vec<u8>, AllocError>
+    requires within { from ≤ length items.now }
+    ensures told { IfOk result (λ bytes. bytes.items ≡ discard_answer state settings.old (flat_map heard (drop from items.now))) }
+    ensures kept { OnOk result (settings.new ≡ discarded state settings.old) }
+{
+    let mut bytes = Vec::new(alloc);
+    tell_discard(alloc, &mut bytes, settings, state, &items[from..], &[])?;
     Ok(bytes)
 }

@@ -15,6 +15,7 @@ use Rattle.pgn_outlet.specs.declared.outlet.Outlet.{Outlet}
 use Rattle.pgn_outlet.specs.Passes.{Pass, IsPassOf, knows}
 use Rattle.pgn_outlet.specs.declared.hand.Hand.{Hand}
 use Rattle.pgn_outlet.specs.Rule.{sender, taker}
+use Rattle.pgn_requests.specs.Settings.{fresh}
 use Rattle.pgn_seats.specs.declared.desk.Desk.{Desk}
 use Rattle.pgn_seats.specs.Desks.{MayBegin, MayServe}
 use Rattle.pgn_seats_tests.specs.Rights.{IsNew, IsOfInbox, test_plan}
@@ -39,7 +40,7 @@ new_session known seat pass section plan (Ok s) rested begins no lines planned =
 
 -- a desk that may begin
 pub desk_begins : {P : Type 0} (is_own : P → Type 0) (shape : Shape) (known : P → Known) (inboxes : List (Outlet (Option Ask))) (seat : ℕ) (asks : Pass (Option Ask)) (s : Session P) → 1 ≤ seat → seat ≤ 2 → length inboxes ≡ 2
-    → shape.flags ≡ 2 → is_own s.pass → IsOfInbox inboxes seat asks → knows asks ≡ taker → IsNew known seat s → MayBegin is_own shape known inboxes (record { session = s; asks = asks; notes = 0 })
+    → shape.flags ≡ 2 → is_own s.pass → IsOfInbox inboxes seat asks → knows asks ≡ taker → IsNew known seat s → MayBegin is_own shape known inboxes (record { session = s; asks = asks; notes = 0; settings = fresh })
 desk_begins is_own shape known inboxes seat asks s some few two flags own inbox takes new = record {
   own = own;
   served = subst (λ (p : FlagPlan). IsServedBy shape s.section p) (sym new.plan_is) (record {
@@ -58,6 +59,7 @@ desk_begins is_own shape known inboxes seat asks s some few two flags own inbox 
   };
   untaken = ap (λ (v : Hand (Option Ask)). v.got) takes;
   counted = refl;
+  fresh = refl;
 }
 
 -- two of them may serve

@@ -10,6 +10,7 @@ use pgn_base::{Command, DbOid, Format, Name, Note, Payload, Seed, SessionNo};
 use pgn_hub::{Hub, PassView, SeatSetup, Setup};
 use pgn_language::{LineText, ScriptLines, Section};
 use pgn_outlet::{Bell, Came, Outlet, OutletPass};
+use pgn_requests::{Settings, Wording};
 use pgn_seats::{Desk, Inbox, Tells, serve_seats};
 use pgn_session::{FlagPlan, Session};
 use pgn_turns::{Ask, Asked, Saying, quit_at_end};
@@ -20,6 +21,8 @@ use std::test::Fail;
 use std::thread::{Threads, join_mut};
 
 mod hearing;
+mod serving;
+mod settling;
 
 /// How many notifications each seat of a test may send.
 const NOTES: u32 = 20_000;
@@ -39,6 +42,20 @@ struct Asker {
     first: OutletPass<Option<Ask>>,
     second: OutletPass<Option<Ask>>,
     takes: OutletPass<Saying>,
+}
+
+// The bytes that each of two seats was told.
+#[derive(Drop)]
+struct Told {
+    first: Vec<u8>,
+    second: Vec<u8>,
+}
+
+// What two seats are asked.
+#[derive(Clone, Copy)]
+enum Play {
+    Hearing,
+    Settling,
 }
 
 // The passes of the two seats.
@@ -69,7 +86,7 @@ fn ask<H: Hub, R: Wait>(
 }
 
 // What is told next, and to whom.
-fn told<R: Wait>(
+fn next_told<R: Wait>(
     rt: &R,
     outbox: &Outlet<Saying>,
     bell: &Bell,
@@ -86,6 +103,77 @@ fn told<R: Wait>(
         bell.doze(rt);
     }
     unreachable!()
+}
+
+// Hears what is told next.
+fn hear<H: Hub, R: Wait>(
+    rt: &R,
+    board: &Board<'_, H>,
+    pass: &mut OutletPass<Saying>,
+    told: &mut Told,
+) -> Result<(), AllocError>
+    requires { MayHear board.now.outbox.now pass.old }
+    ensures { MayHear board.now.outbox.now pass.new }
+{
+    let Came { session, what } = next_told(rt, board.outbox, board.bell, pass);
+    let kept = if session.get() == 1 {
+        told.first.extend_from_slice(what.bytes.as_slice())
+    } else {
+        told.second.extend_from_slice(what.bytes.as_slice())
+    };
+    drop(what);
+    kept
+}
+
+// Asks a seat, and hears what is told then.
+fn ask_first<H: Hub, R: Wait>(
+    rt: &R,
+    board: &Board<'_, H>,
+    asker: &mut Asker,
+    told: &mut Told,
+    what: Ask,
+) -> Result<(), AllocError>
+    requires two { (length board.now.inboxes.now ≡ 2) × (length (H.shape board.now.hub.now).seats ≡ 2) }
+    requires first { MayAsk board.now.inboxes.now 1 asker.old.first }
+    requires hears { MayHear board.now.outbox.now asker.old.takes }
+    ensures first { MayAsk board.now.inboxes.now 1 asker.new.first }
+    ensures second { asker.new.second ≡ asker.old.second }
+    ensures hears { MayHear board.now.outbox.now asker.new.takes }
+{
+    ask(rt, board, &mut asker.first, 1, Some(what))?;
+    hear(rt, board, &mut asker.takes, told)
+}
+
+fn ask_second<H: Hub, R: Wait>(
+    rt: &R,
+    board: &Board<'_, H>,
+    asker: &mut Asker,
+    told: &mut Told,
+    what: Ask,
+) -> Result<(), AllocError>
+    requires two { (length board.now.inboxes.now ≡ 2) × (length (H.shape board.now.hub.now).seats ≡ 2) }
+    requires second { MayAsk board.now.inboxes.now 2 asker.old.second }
+    requires hears { MayHear board.now.outbox.now asker.old.takes }
+    ensures first { asker.new.first ≡ asker.old.first }
+    ensures second { MayAsk board.now.inboxes.now 2 asker.new.second }
+    ensures hears { MayHear board.now.outbox.now asker.new.takes }
+{
+    ask(rt, board, &mut asker.second, 2, Some(what))?;
+    hear(rt, board, &mut asker.takes, told)
+}
+
+// Asks neither of them anything more.
+fn ask_no_more<H: Hub, R: Wait>(
+    rt: &R,
+    board: &Board<'_, H>,
+    asker: &mut Asker,
+) -> Result<(), AllocError>
+    requires two { (length board.now.inboxes.now ≡ 2) × (length (H.shape board.now.hub.now).seats ≡ 2) }
+    requires first { MayAsk board.now.inboxes.now 1 asker.old.first }
+    requires second { MayAsk board.now.inboxes.now 2 asker.old.second }
+{
+    ask(rt, board, &mut asker.first, 1, None)?;
+    ask(rt, board, &mut asker.second, 2, None)
 }
 
 // A name.
@@ -127,6 +215,7 @@ fn query(alloc: Global, line: u32, text: &str, command: Command) -> Result<Ask, 
             line,
             text,
             command,
+            wording: Wording::Plain,
         })),
         Err(_) => {
             drop(command);
@@ -254,6 +343,7 @@ fn sessions<P: PassView + Send + Drop>(
 
 // The desk of a seat, with its session.
 fn desk<P: PassView + Send + Drop, H: Hub<Pass = P>>(
+    alloc: Global,
     board: &Board<'_, H>,
     no: u32,
     session: Session<P>,
@@ -275,6 +365,7 @@ fn desk<P: PassView + Send + Drop, H: Hub<Pass = P>>(
         session,
         asks,
         notes: 0,
+        settings: Settings::new(alloc),
     }
 }
 
@@ -360,8 +451,8 @@ fn open_desks<P: PassView + Send + Drop, H: Hub<Pass = P>>(
         second,
         tells,
     } = parts;
-    let one = desk(board, 1, one, first);
-    let two = desk(board, 2, two, second);
+    let one = desk(alloc, board, 1, one, first);
+    let two = desk(alloc, board, 2, two, second);
     match pair(alloc, one, two) {
         Ok(desks) => Ok((desks, Tells::new(tells))),
         Err(error) => {
