@@ -2,6 +2,7 @@
 #![tactic(auto)]
 
 mod complaint;
+mod limits;
 mod request;
 mod setting;
 mod settings;
@@ -9,8 +10,9 @@ mod settled;
 mod short_text;
 
 pub use complaint::{Cause, Complaint, Wording};
+pub use limits::TOKENS_MAX;
 pub use request::Request;
-pub use setting::Setting;
+pub use setting::{Setting, default_of, number_of, setting_name};
 pub use settings::{Entry, Settings};
 pub use settled::Settled;
 pub use short_text::{SHORT_BYTES_MAX, ShortText};

@@ -9,13 +9,17 @@
 //! and `tell_parting` put the bytes of one turn behind others.
 #![tactic(auto)]
 
+mod answering;
 mod asked;
 pub mod examples;
 pub mod laws;
 mod lines;
 mod saying;
 mod served;
+mod settling;
+mod statuses;
 mod telling;
+mod wordings;
 
 pub use asked::{Ask, Asked, Parting};
 pub use lines::{discard_at, quit_at_end, rollback_at, unlisten_at};

@@ -27,8 +27,8 @@ pub fn tell_parting(alloc: Global, out: &mut Vec<u8>, parting: Parting) -> Resul
     put(out, bytes)
 }
 
-// Puts these bytes at the end.
-fn put(out: &mut Vec<u8>, bytes: Bytes) -> Result<(), AllocError>
+/// Puts these bytes at the end. Where memory does not suffice `out` is as it was.
+pub fn put(out: &mut Vec<u8>, bytes: Bytes) -> Result<(), AllocError>
     ensures told { OnOk result (out.new.items ≡ out.old.items ++ bytes) }
     ensures unchanged { OnErr result (out.new.items ≡ out.old.items) }
 {
@@ -46,7 +46,8 @@ fn all_heard(alloc: Global, reads: &[Item]) -> Result<Bytes, AllocError>
     Ok(bytes)
 }
 
-fn put_reads(bytes: &mut Bytes, reads: &[Item]) -> Result<(), AllocError>
+/// Puts what is heard of these items at the end.
+pub fn put_reads(bytes: &mut Bytes, reads: &[Item]) -> Result<(), AllocError>
     ensures { OnOk result (bytes.new ≡ bytes.old ++ flat_map heard reads.now) }
 {
     for item in reads {
