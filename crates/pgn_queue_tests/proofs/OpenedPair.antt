@@ -1,43 +1,51 @@
 -- Two passes as they are opened.
-use Rattle.std.proofs.Common.{◌≡◌, ℕ, suc, List, [], ◌∷◌, ◌++◌, length, map, Some, None, All, sym, refl, ap, ◌∙◌, arith}
+use Rattle.std.proofs.Common.{◌≡◌, ℕ, suc, ◌+◌, List, [], ◌∷◌, ◌++◌, length, map, Some, None, All, sym, refl, ap, ◌∙◌, get_or, arith, length-append}
+use Rattle.std.proofs.lemmas.List.{length-map}
 use Rattle.std.proofs.lemmas.List.Elements.{All-pop}
 use Rattle.pgn_hub.specs.declared.known.Known.{Known}
 use Rattle.pgn_hub.specs.declared.setup.SeatSetup.{SeatSetup}
 use Rattle.pgn_hub.specs.Passes.{opened_pass, opened_passes}
-use Rattle.pgn_words.specs.Passes.{known_of}
-use Rattle.pgn_words.specs.declared.pass.WordPass.{WordPass}
+
+-- the two that are taken off the end of two
+pub two_of : {A : Type 0} (all front rest : List A) (a b : A) → length all ≡ 2 → all ≡ front ++ b ∷ [] → front ≡ rest ++ a ∷ [] → all ≡ a ∷ b ∷ []
+two_of {A} all front [] a b two e f = e ∙ ap (λ (xs : List A). xs ++ b ∷ []) f
+two_of {A} all front (r ∷ rest) a b two e f =
+    let long : length front ≡ suc (length (rest ++ a ∷ [])) = ap (λ (xs : List A). length xs) f in
+    let of_rest = length-append rest (a ∷ []) in
+    let whole : length all ≡ length (front ++ b ∷ []) = ap (λ (xs : List A). length xs) e in
+    let of_front = length-append front (b ∷ []) in
+    absurd (omega (arith, two, long, of_rest, whole, of_front))
+
+opened-length : (n : ℕ) (seats : List SeatSetup) → length (opened_passes n seats) ≡ length seats
+opened-length n [] = refl
+opened-length n (seat ∷ seats) = ap suc (opened-length (n + 1) seats)
+
+-- a hub of so many seats has so many passes
+pub as_many : {P : Type 0} (known : P → Known) (passes : List P) (seats : List SeatSetup) (n : ℕ) → map known passes ≡ opened_passes 1 seats → length seats ≡ n → length passes ≡ n
+as_many {P} known passes seats n e is = sym (length-map passes known) ∙ ap (λ (ks : List Known). length ks) e ∙ opened-length 1 seats ∙ is
 
 -- a pass is that of a session as it is opened
 pub record IsOpened (session : ℕ) (k : Known) : Type 0 where
   pub out : k.mark ≡ None
   pub session_is : k.session ≡ session
 
-long : (rest : List WordPass) (a b : WordPass) → length (map known_of ((rest ++ a ∷ []) ++ b ∷ [])) ≡ suc (suc (length rest))
-long [] a b = refl
-long (r ∷ rest) a b = ap suc (long rest a b)
-
-pair : (rest : List WordPass) (a b : WordPass) (k l : Known) → map known_of ((rest ++ a ∷ []) ++ b ∷ []) ≡ k ∷ l ∷ [] → (known_of a ≡ k) × (known_of b ≡ l)
-pair [] a b k l e = (let e1 : known_of a ∷ known_of b ∷ [] ≡ k ∷ l ∷ [] = e in cc, let e1 : known_of a ∷ known_of b ∷ [] ≡ k ∷ l ∷ [] = e in cc)
-pair (r ∷ rest) a b k l e = absurd (let n = long (r ∷ rest) a b in let m : length (map known_of (((r ∷ rest) ++ a ∷ []) ++ b ∷ [])) ≡ 2 = ap length e in omega (arith, n, m))
-
-opened : (seats : List SeatSetup) (rest : List WordPass) (a b : WordPass) → length seats ≡ 2 → map known_of ((rest ++ a ∷ []) ++ b ∷ []) ≡ opened_passes 1 seats
-    → IsOpened 1 (known_of a) × IsOpened 2 (known_of b)
-opened [] rest a b two e = absurd (cc)
-opened (s ∷ []) rest a b two e = absurd (cc)
-opened (s ∷ t ∷ []) rest a b two e =
-    let both = pair rest a b (opened_pass 1 s) (opened_pass 2 t) e in (
-      record { out = ap (λ (k : Known). k.mark) both.0; session_is = ap (λ (k : Known). k.session) both.0 },
-      record { out = ap (λ (k : Known). k.mark) both.1; session_is = ap (λ (k : Known). k.session) both.1 },
+pair : (k l : Known) (seats : List SeatSetup) → length seats ≡ 2 → k ∷ l ∷ [] ≡ opened_passes 1 seats → IsOpened 1 k × IsOpened 2 l
+pair k l [] two e = absurd (omega (arith, two))
+pair k l (s ∷ []) two e = absurd (omega (arith, two))
+pair k l (s ∷ t ∷ []) two e =
+    let first : k ≡ opened_pass 1 s = ap (λ (ks : List Known). get_or ks 0 k) e in
+    let second : l ≡ opened_pass 2 t = ap (λ (ks : List Known). get_or ks 1 l) e in (
+      record { out = ap (λ (x : Known). x.mark) first; session_is = ap (λ (x : Known). x.session) first },
+      record { out = ap (λ (x : Known). x.mark) second; session_is = ap (λ (x : Known). x.session) second },
     )
-opened (s ∷ t ∷ u ∷ seats) rest a b two e = absurd (omega (arith, two))
+pair k l (s ∷ t ∷ u ∷ seats) two e = absurd (omega (arith, two))
 
--- the two that are taken off the end are those of the first and the second seat
-pub opened_pair : (seats : List SeatSetup) (passes front rest : List WordPass) (a b : WordPass) → length seats ≡ 2 → passes ≡ front ++ b ∷ [] → front ≡ rest ++ a ∷ [] → map known_of passes ≡ opened_passes 1 seats
-    → IsOpened 1 (known_of a) × IsOpened 2 (known_of b)
-opened_pair seats passes front rest a b two e f is =
-    let g : passes ≡ (rest ++ a ∷ []) ++ b ∷ [] = e ∙ ap (λ (xs : List WordPass). xs ++ b ∷ []) f in
-    opened seats rest a b two (ap (map known_of) (sym g) ∙ is)
+-- two passes are those of the first and the second seat
+pub opened_pair : {P : Type 0} (known : P → Known) (seats : List SeatSetup) (passes : List P) (a b : P) → length seats ≡ 2 → passes ≡ a ∷ b ∷ [] → map known passes ≡ opened_passes 1 seats → IsOpened 1 (known a) × IsOpened 2 (known b)
+opened_pair {P} known seats passes a b two are e = pair (known a) (known b) seats two (ap (λ (ps : List P). map known ps) (sym are) ∙ e)
 
-pub both_of : (P : WordPass → Type 0) (passes front rest : List WordPass) (a b : WordPass) → passes ≡ front ++ b ∷ [] → front ≡ rest ++ a ∷ [] → All P passes → P a × P b
-both_of P passes front rest a b e f all =
-    let last = All-pop P passes front (Some b) e all in let first = All-pop P front rest (Some a) f last.0 in (first.1, last.1)
+-- what holds of both
+pub both_of : {P : Type 0} (Q : P → Type 0) (passes : List P) (a b : P) → passes ≡ a ∷ b ∷ [] → All Q passes → Q a × Q b
+both_of {P} Q passes a b are all =
+    let last = All-pop Q passes (a ∷ []) (Some b) are all in
+    let first = All-pop Q (a ∷ []) [] (Some a) refl last.0 in (first.1, last.1)

@@ -87,6 +87,7 @@ module _ {P : Type 0} (is_own : P → Type 0) (shape : Shape) (known : P → Kno
     in_turns = h.in_turns;
     asked = h.asked;
     told = ap (λ (l : List Saying). all_told l) e ∙ h.told;
+    settings = h.settings;
   }
 
   -- it has told whole turns

@@ -30,7 +30,7 @@ use Rattle.pgn_turns.specs.Turns.{Turn, IsPlain, asks_of, said}
 use Rattle.pgn_seats.specs.declared.desk.Desk.{Desk}
 use Rattle.pgn_seats.specs.Desks.{MayBegin}
 use Rattle.pgn_seats.specs.Serving.{HasInbox, HasQuitBehind, HasServed, HasToldFirst, IsSeated, Serves, taken}
-use Rattle.pgn_seats.specs.Working.{GoesOn, HasDone, HasDoneFirst, IsAtWork, with_ask}
+use Rattle.pgn_seats.specs.Working.{HasDone, HasDoneFirst, IsAtWork, with_ask}
 use Rattle.pgn_seats.proofs.DoneLaws.{done-first}
 
 module _ {P : Type 0} (is_own : P → Type 0) (shape : Shape) (known : P → Known) (inboxes : List (Outlet (Option Ask))) where
@@ -38,12 +38,12 @@ module _ {P : Type 0} (is_own : P → Type 0) (shape : Shape) (known : P → Kno
   pub serves-work : (desk : Desk P) (tells : Hand Saying) → Serves is_own shape known inboxes desk tells → IsAtWork is_own shape known desk.session
   serves-work desk tells h = record { own = h.own; served = h.served; rested = h.rested; is_open = h.is_open }
 
-  pub serves-done : (desk : Desk P) (tells : Hand Saying) → (h : Serves is_own shape known inboxes desk tells) → HasDone [] (asks_of h.turns) desk.session tells
-  serves-done desk tells h = record { turns = h.turns; plain = h.in_turns.plain; asked = refl; lines = h.in_turns.lines; items = h.in_turns.items; told = h.told }
+  pub serves-done : (desk : Desk P) (tells : Hand Saying) → (h : Serves is_own shape known inboxes desk tells) → HasDone [] (asks_of h.turns) desk.session desk.settings tells
+  serves-done desk tells h = record { turns = h.turns; plain = h.in_turns.plain; asked = refl; lines = h.in_turns.lines; items = h.in_turns.items; told = h.told; settings = h.settings }
 
   -- and the other way round
   pub done-serves : (desk : Desk P) (tells : Hand Saying) (asks : List Ask) → IsAtWork is_own shape known desk.session → desk.notes ≡ note_lines_of desk.session.section.lines → HasInbox inboxes desk
-      → HasDone [] asks desk.session tells → taken desk.session.section.no (knows desk.asks) ≡ map Some asks → Serves is_own shape known inboxes desk tells
+      → HasDone [] asks desk.session desk.settings tells → taken desk.session.section.no (knows desk.asks) ≡ map Some asks → Serves is_own shape known inboxes desk tells
   done-serves desk tells asks work counted inbox done asked = record {
     own = work.own;
     served = work.served;
@@ -55,6 +55,7 @@ module _ {P : Type 0} (is_own : P → Type 0) (shape : Shape) (known : P → Kno
     in_turns = record { plain = done.plain; lines = done.lines; items = done.items };
     asked = asked ∙ ap (λ (l : List Ask). map Some l) (sym done.asked);
     told = done.told;
+    settings = done.settings;
   }
 
   -- what was done first was told first
@@ -76,7 +77,7 @@ module _ {P : Type 0} (is_own : P → Type 0) (shape : Shape) (known : P → Kno
 
   pub serves-told : (desk : Desk P) (tells : Hand Saying) → Serves is_own shape known inboxes desk tells → HasToldFirst shape inboxes desk tells
   serves-told desk tells h =
-      first-told desk tells (asks_of h.turns) [] (rest-lawful shape known desk.session h.rested) h.inbox (done-first [] (asks_of h.turns) desk.session tells (serves-done desk tells h))
+      first-told desk tells (asks_of h.turns) [] (rest-lawful shape known desk.session h.rested) h.inbox (done-first [] (asks_of h.turns) desk.session desk.settings tells (serves-done desk tells h))
       (h.asked ∙ sym (append-nil (map Some (asks_of h.turns))))
 
   pub served-told : (desk : Desk P) (tells : Hand Saying) → HasServed is_own shape known inboxes desk tells → HasToldFirst shape inboxes desk tells
@@ -121,7 +122,7 @@ module _ {P : Type 0} (is_own : P → Type 0) (shape : Shape) (known : P → Kno
   -- it has quit
   pub quit-served : (desk : Desk P) (tells : Hand Saying) (turns : List Turn) → is_own desk.session.pass → HasRest shape known desk.session → desk.session.doing ≡ Over → (known desk.session.pass).mark ≡ None
       → HasInbox inboxes desk → HasQuitBehind desk.session turns → taken desk.session.section.no (knows desk.asks) ≡ map Some (asks_of turns) ++ None ∷ []
-      → all_told (what_of desk.session.section.no tells.sent) ≡ said turns → HasServed is_own shape known inboxes desk tells
+      → all_told (what_of desk.session.section.no tells.sent) ≡ said desk.session.section.no turns → HasServed is_own shape known inboxes desk tells
   quit-served desk tells turns own rested over left inbox quits asked told =
       record { own = own; rested = rested; over = over; left = left; inbox = inbox; turns = turns; quits = quits; asked = asked; told = told }
 
@@ -134,9 +135,10 @@ module _ {P : Type 0} (is_own : P → Type 0) (shape : Shape) (known : P → Kno
 
   pub more-serves : (old new : Desk P) (asks : Pass (Option Ask)) (ask : Option Ask) (before after : Hand Saying) → (h : Serves is_own shape known inboxes old before) → HasInbox inboxes (record old { asks = asks })
       → taken old.session.section.no (knows asks) ≡ map Some (with_ask (asks_of h.turns) ask) → new.asks ≡ asks → new.session.section.no ≡ old.session.section.no → new.notes ≡ note_lines_of new.session.section.lines
-      → IsAtWork is_own shape known new.session → GoesOn [] [] ask old.session new.session before after → Serves is_own shape known inboxes new after
+      → IsAtWork is_own shape known new.session
+      → (HasDone [] (asks_of h.turns) old.session old.settings before → HasDone [] (with_ask (asks_of h.turns) ask) new.session new.settings after) → Serves is_own shape known inboxes new after
   more-serves old new asks ask before after h inbox took same number counted work went =
-      done-serves new after (with_ask (asks_of h.turns) ask) work counted (inbox-kept (record old { asks = asks }) new same number inbox) (went (asks_of h.turns) (serves-done old before h))
+      done-serves new after (with_ask (asks_of h.turns) ask) work counted (inbox-kept (record old { asks = asks }) new same number inbox) (went (serves-done old before h))
       (taken-kept (record old { asks = asks }) new same number ∙ took)
 
   pub quit-serves : (old new : Desk P) (asks : Pass (Option Ask)) (tells : Hand Saying) → (h : Serves is_own shape known inboxes old tells) → HasInbox inboxes (record old { asks = asks })
@@ -144,7 +146,7 @@ module _ {P : Type 0} (is_own : P → Type 0) (shape : Shape) (known : P → Kno
       → new.session.doing ≡ Over → (known new.session.pass).mark ≡ None → HasQuitBehind new.session h.turns → HasServed is_own shape known inboxes new tells
   quit-serves old new asks tells h inbox took same number own rested over left quits =
       quit-served new tells h.turns own rested over left (inbox-kept (record old { asks = asks }) new same number inbox) quits (taken-kept (record old { asks = asks }) new same number ∙ took)
-      (ap (λ (n : ℕ). all_told (what_of n tells.sent)) number ∙ h.told)
+      (subst (λ (n : ℕ). all_told (what_of n tells.sent) ≡ said n h.turns) (sym number) h.told)
 
   -- a desk that may begin serves, where nothing was told for it
   pub serves-begins : (desk : Desk P) (tells : Hand Saying) → MayBegin is_own shape known inboxes desk → tells.sent ≡ [] → Serves is_own shape known inboxes desk tells
@@ -161,6 +163,7 @@ module _ {P : Type 0} (is_own : P → Type 0) (shape : Shape) (known : P → Kno
         in_turns = record { plain = All-nil IsPlain; lines = lines; items = h.begins.shown };
         asked = ap (λ (cames : List (Came (Option Ask))). what_of desk.session.section.no cames) h.untaken;
         told = ap (λ (cames : List (Came Saying)). all_told (what_of desk.session.section.no cames)) none;
+        settings = h.fresh;
       }
 
 -- what is asked besides

@@ -37,7 +37,7 @@ use Rattle.pgn_turns.specs.declared.asked.Asked.{Asked}
 use Rattle.pgn_turns.specs.Asks.{line_of, seat_quit}
 use Rattle.pgn_turns.specs.Turns.{Turn, IsRead, lines_of}
 use Rattle.pgn_seats.specs.Serving.{HasQuitBehind, IsInTurns}
-use Rattle.pgn_seats.specs.Working.{HasRun, IsAtLine, IsAtWork}
+use Rattle.pgn_seats.specs.Working.{HasRun, HasRunBoth, IsAtLine, IsAtWork}
 
 -- the same client, over each kind of part
 pub client-fed : {P : Type 0} (old new : Session P) (line : ScriptLine) → new ≡ record old { section = fed old.section line } → IsSameClient old new
@@ -195,6 +195,12 @@ pub ran-within : {P : Type 0} (old new : Session P) (line : ScriptLine) (from : 
 ran-within old new line from e h =
     let long : length new.items.items ≡ length (old.items.items ++ Line line.line ∷ h.more) = ap (λ (is : List Item). length is) h.shown in
     omega (arith, e, long, length-append old.items.items (Line line.line ∷ h.more))
+
+pub both-within : {P : Type 0} (old new : Session P) (first second : ScriptLine) (from : ℕ) → from ≡ length old.items.items → HasRunBoth old first second new → from ≤ length new.items.items
+both-within old new first second from e h =
+    let items : List Item = Line first.line ∷ h.one ++ Line second.line ∷ h.two in
+    let long : length new.items.items ≡ length (old.items.items ++ items) = ap (λ (is : List Item). length is) h.shown in
+    omega (arith, e, long, length-append old.items.items items)
 
 -- the same behind a line that was put in
 pub ran-behind : {P : Type 0} (old mid new : Session P) (line : ScriptLine) → mid ≡ record old { section = fed old.section line } → HasRun mid line new → HasRun old line new

@@ -1,5 +1,5 @@
 -- What a session has done for what its desk was asked so far, what was told of it, and how each part of a turn carries that on.
-use Rattle.std.specs.Prelude.{◌≡◌, ℕ, ◌+◌, false, List, [], ◌∷◌, ◌++◌, Option, None, Some, All}
+use Rattle.std.specs.Prelude.{◌≡◌, ℕ, false, List, [], ◌∷◌, ◌++◌, Option, None, Some, All}
 use Rattle.std.specs.List.{list_any}
 use Rattle.pgn_hub.specs.declared.known.Known.{Known}
 use Rattle.pgn_hub.specs.Shape.{Shape}
@@ -16,9 +16,11 @@ use Rattle.pgn_outlet.specs.declared.hand.Hand.{Hand}
 use Rattle.pgn_outlet.specs.Cames.{what_of}
 use Rattle.pgn_turns.specs.declared.asked.Ask.{Ask}
 use Rattle.pgn_turns.specs.declared.saying.Saying.{Saying}
-use Rattle.pgn_turns.specs.Asks.{rollback_line, seat_quit, unlisten_line}
+use Rattle.pgn_turns.specs.Asks.{seat_quit}
 use Rattle.pgn_turns.specs.Sayings.{all_told}
-use Rattle.pgn_turns.specs.Turns.{Turn, IsPlain, asks_of, items_of, lines_of, said}
+use Rattle.pgn_turns.specs.Turns.{Turn, IsPlain, asks_of, items_of, lines_of, said, telling_of}
+use Rattle.pgn_requests.specs.Settings.{Kept}
+use Rattle.pgn_seats.specs.declared.desk.Desk.{Desk}
 
 -- a session at work: its pass is the hub's, which has each flag that it may name, it left no read out, and its script is open
 pub record IsAtWork {P : Type 0} (is_own : P → Type 0) (shape : Shape) (known : P → Known) (s : Session P) : Type 0 where
@@ -41,23 +43,25 @@ pub record HasRun {P : Type 0} (old : Session P) (line : ScriptLine) (new : Sess
   pub shown : new.items.items ≡ old.items.items ++ Line line.line ∷ more
   pub one_line : list_any begins_line more ≡ false
 
--- the session has run the two lines that set a seat back, which were put into its script
-pub record HasSetBack {P : Type 0} (old : Session P) (number : ℕ) (new : Session P) : Type 0 where
-  pub rolled : List Item
-  pub unlistened : List Item
-  pub shown : new.items.items ≡ old.items.items ++ (Line number ∷ rolled ++ Line (number + 1) ∷ unlistened)
-  pub one_line : list_any begins_line rolled ≡ false
-  pub one_more : list_any begins_line unlistened ≡ false
-  pub section : new.section ≡ fed (fed old.section (rollback_line number)) (unlisten_line (number + 1))
+-- the session has run two lines, which were put into its script
+pub record HasRunBoth {P : Type 0} (old : Session P) (first second : ScriptLine) (new : Session P) : Type 0 where
+  pub one : List Item
+  pub two : List Item
+  pub shown : new.items.items ≡ old.items.items ++ (Line first.line ∷ one ++ Line second.line ∷ two)
+  pub one_line : list_any begins_line one ≡ false
+  pub one_more : list_any begins_line two ≡ false
+  pub section : new.section ≡ fed (fed old.section first) second
 
--- all that was asked, and nothing else, was done in turns, and they are what was told. These lines are to come, and then the `\quit`
-pub record HasDone {P : Type 0} (rest : List ScriptLine) (asks : List Ask) (s : Session P) (tells : Hand Saying) : Type 0 where
+-- all that was asked, and nothing else, was done in turns, they are what was told, and the settings are those behind them. These lines are to
+-- come, and then the `\quit`
+pub record HasDone {P : Type 0} (rest : List ScriptLine) (asks : List Ask) (s : Session P) (kept : Kept) (tells : Hand Saying) : Type 0 where
   pub turns : List Turn
   pub plain : All IsPlain turns
   pub asked : asks_of turns ≡ asks
   pub lines : s.section.lines ≡ lines_of turns ++ (rest ++ seat_quit ∷ [])
   pub items : s.items.items ≡ items_of turns
-  pub told : all_told (what_of s.section.no tells.sent) ≡ said turns
+  pub told : all_told (what_of s.section.no tells.sent) ≡ said s.section.no turns
+  pub settings : kept ≡ (telling_of turns).kept
 
 -- it was, and of what followed nothing was told
 pub record HasDoneFirst {P : Type 0} (asks : List Ask) (s : Session P) (tells : Hand Saying) : Type 0 where
@@ -68,7 +72,7 @@ pub record HasDoneFirst {P : Type 0} (asks : List Ask) (s : Session P) (tells : 
   pub lines : s.section.lines ≡ lines_of turns ++ (rest ++ seat_quit ∷ [])
   pub more : List Item
   pub items : s.items.items ≡ items_of turns ++ more
-  pub told : all_told (what_of s.section.no tells.sent) ≡ said turns
+  pub told : all_told (what_of s.section.no tells.sent) ≡ said s.section.no turns
 
 -- whatever was done first stays done first
 abbrev pub StaysDone : {P : Type 0} → Session P → Session P → Type 0
@@ -79,13 +83,17 @@ abbrev pub with_ask : List Ask → Option Ask → List Ask
 with_ask asks None = asks
 with_ask asks (Some ask) = asks ++ ask ∷ []
 
--- a part of a turn that was done: all that was asked is done and told still, and this besides
+-- a part of a turn that was done: all that was asked is done and told still, and this besides. The settings stay
 abbrev pub GoesOn : {P : Type 0} → List ScriptLine → List ScriptLine → Option Ask → Session P → Session P → Hand Saying → Hand Saying → Type 0
-GoesOn rest next asked old new before after = (asks : List Ask) → HasDone rest asks old before → HasDone next (with_ask asks asked) new after
+GoesOn rest next asked old new before after = (kept : Kept) (asks : List Ask) → HasDone rest asks old kept before → HasDone next (with_ask asks asked) new kept after
 
 -- a part for which memory did not suffice: all that was asked was done first
 abbrev pub StopsFirst : {P : Type 0} → List ScriptLine → Session P → Session P → Hand Saying → Hand Saying → Type 0
-StopsFirst rest old new before after = (asks : List Ask) → HasDone rest asks old before → HasDoneFirst asks new after
+StopsFirst rest old new before after = (kept : Kept) (asks : List Ask) → HasDone rest asks old kept before → HasDoneFirst asks new after
+
+-- a desk that has done what it was asked: all that was asked before is done and told still, and this besides, which leads to its settings
+abbrev pub HasDoneAsk : {P : Type 0} → Ask → Desk P → Desk P → Hand Saying → Hand Saying → Type 0
+HasDoneAsk ask old new before after = (asks : List Ask) → HasDone [] asks old.session old.settings before → HasDone [] (asks ++ ask ∷ []) new.session new.settings after
 
 -- what was told for number n grew by these signs
 abbrev pub HasSaid : ℕ → List (Option ℕ) → Hand Saying → Hand Saying → Type 0

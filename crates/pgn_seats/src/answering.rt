@@ -4,7 +4,7 @@ ghost use Rattle.pgn_language.specs.Inputs.{note_lines_of};
 ghost use Rattle.pgn_outlet.specs.Passes.{IsPassOf, knows};
 ghost use Rattle.pgn_outlet.specs.Rule.{MayPush};
 ghost use Rattle.pgn_seats.specs.Serving.{HasPushedFor};
-ghost use Rattle.pgn_seats.specs.Working.{GoesOn, StopsFirst, IsAtLine, IsAtWork};
+ghost use Rattle.pgn_seats.specs.Working.{GoesOn, HasDoneAsk, StopsFirst, IsAtLine, IsAtWork};
 ghost use Rattle.pgn_session.specs.Feed.{fed};
 ghost use Rattle.pgn_session.specs.FirstRead.{HasReadTold, IsToReadFirst};
 ghost use Rattle.pgn_session.specs.Open.{IsOpen, IsSameClient};
@@ -16,9 +16,10 @@ ghost use Rattle.pgn_turns.specs.Asks.{line_of};
 use crate::Desk;
 use crate::hearing::hear_before;
 use crate::lines::{put_line, run_line};
+use crate::outbox::Outbox;
 use crate::telling::say_answer;
 use pgn_hub::{Hub, PassView};
-use pgn_outlet::{Bell, Outlet, OutletPass};
+use pgn_outlet::OutletPass;
 use pgn_session::Session;
 use pgn_turns::{Asked, Saying};
 use std::alloc::{AllocError, Global};
@@ -29,38 +30,28 @@ pub(crate) fn answer<P: PassView + Send + Drop, H: Hub<Pass = P>, R: Wait>(
     rt: &R,
     alloc: Global,
     hub: &H,
-    outbox: &Outlet<Saying>,
-    bell: &Bell,
+    outbox: &Outbox<'_>,
     desk: &mut Desk<P>,
     query: &Asked,
     tells: &mut OutletPass<Saying>,
 ) -> Result<(), AllocError>
-    requires own { IsPassOf outbox.now tells.old }
+    requires own { IsPassOf outbox.now.outlet.now tells.old }
     requires may { MayPush (knows tells.old) desk.old.session.section.no }
     requires work { IsAtWork (H.is_pass hub.now) (H.shape hub.now) P.known desk.old.session }
     requires counted { desk.old.notes ≡ note_lines_of desk.old.session.section.lines }
-    ensures own { IsPassOf outbox.now tells.new }
+    ensures own { IsPassOf outbox.now.outlet.now tells.new }
     ensures alone { HasPushedFor desk.old.session.section.no (knows tells.old) (knows tells.new) }
     ensures asks { desk.new.asks ≡ desk.old.asks }
     ensures same { IsSameClient desk.old.session desk.new.session }
     ensures lawful { IsLawful (H.shape hub.now) desk.new.session }
     ensures counted { desk.new.notes ≡ note_lines_of desk.new.session.section.lines }
     ensures work { OnOk result (IsAtWork (H.is_pass hub.now) (H.shape hub.now) P.known desk.new.session) }
-    ensures went { OnOk result (GoesOn [] [] (Some (Query query.now)) desk.old.session desk.new.session (knows tells.old) (knows tells.new)) }
+    ensures went { OnOk result (HasDoneAsk (Query query.now) desk.old desk.new (knows tells.old) (knows tells.new)) }
     ensures stopped { OnErr result (StopsFirst [] desk.old.session desk.new.session (knows tells.old) (knows tells.new)) }
 {
     put_query(alloc, &mut desk.session, &mut desk.notes, query)?;
-    hear_before(rt, alloc, hub, outbox, bell, &mut desk.session, tells)?;
-    run_query(
-        rt,
-        alloc,
-        hub,
-        outbox,
-        bell,
-        &mut desk.session,
-        query,
-        tells,
-    )
+    hear_before(rt, alloc, hub, outbox, &mut desk.session, tells)?;
+    run_query(rt, alloc, hub, outbox, &mut desk.session, query, tells)
 }
 
 // Puts a query's line into the script.
@@ -86,17 +77,16 @@ fn run_query<P: PassView + Send + Drop, H: Hub<Pass = P>, R: Wait>(
     rt: &R,
     alloc: Global,
     hub: &H,
-    outbox: &Outlet<Saying>,
-    bell: &Bell,
+    outbox: &Outbox<'_>,
     session: &mut Session<P>,
     query: &Asked,
     tells: &mut OutletPass<Saying>,
 ) -> Result<(), AllocError>
-    requires own { IsPassOf outbox.now tells.old }
+    requires own { IsPassOf outbox.now.outlet.now tells.old }
     requires may { MayPush (knows tells.old) session.old.section.no }
     requires line { IsAtLine (H.is_pass hub.now) (H.shape hub.now) P.known (line_of query.now) session.old }
     requires read_up { IsToReadFirst session.old → HasReadTold (P.known session.old.pass) }
-    ensures own { IsPassOf outbox.now tells.new }
+    ensures own { IsPassOf outbox.now.outlet.now tells.new }
     ensures alone { HasPushedFor session.old.section.no (knows tells.old) (knows tells.new) }
     ensures same { IsSameScript session.old session.new }
     ensures lawful { IsLawful (H.shape hub.now) session.new }
@@ -106,5 +96,5 @@ fn run_query<P: PassView + Send + Drop, H: Hub<Pass = P>, R: Wait>(
 {
     let from = session.items.len();
     run_line(rt, alloc, hub, session)?;
-    say_answer(rt, alloc, outbox, bell, session, from, query, tells)
+    say_answer(rt, alloc, outbox, session, from, query, tells)
 }

@@ -6,13 +6,13 @@ use pgn_turns::Ask;
 /// What a seat is asked, in order; `None` stands behind all of it, where nothing more will be asked.
 pub type Inbox = Outlet<Option<Ask>>;
 
-/// A seat's session, and the pass by which it takes what the seat is asked.
+/// A seat's session, the pass by which it takes what the seat is asked, and the settings of its client.
 #[derive(Drop)]
 pub struct Desk<P> {
     pub session: Session<P>,
     pub asks: OutletPass<Option<Ask>>,
     /// So many lines of the session's script notify.
     pub notes: u32,
-    /// Those of the client that is there.
+    /// Of the client that is there, or that will come.
     pub settings: Settings,
 }

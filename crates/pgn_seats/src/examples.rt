@@ -8,27 +8,38 @@ ghost use Rattle.pgn_outlet.specs.Cames.{what_of};
 ghost use Rattle.pgn_outlet.specs.Passes.{knows};
 ghost use Rattle.pgn_seats.specs.declared.desk.Desk.{Desk};
 ghost use Rattle.pgn_seats.specs.Desks.{MayBegin};
-ghost use Rattle.pgn_seats.specs.Examples.{for_seat, heard_one, listened, quit_items, read_items, told};
+ghost use Rattle.pgn_requests.specs.declared.settled.Settled.TheVariants.{One};
+ghost use Rattle.pgn_requests.specs.Settings.{fresh};
+ghost use Rattle.pgn_seats.specs.Examples.{begun, begun_items, discarded, discarded_items, for_seat, heard_one, listened, named, names, quit_items, read_items, told};
 ghost use Rattle.pgn_seats.specs.Serving.{HasInbox, HasPushedFor, HasQuitBehind, HasServed, HasToldFirst, IsInTurns, Serves, taken};
 ghost use Rattle.pgn_session.specs.declared.doing.Doing.TheVariants.{Lines, Over};
 ghost use Rattle.pgn_session.specs.declared.session.Session.{Session};
 ghost use Rattle.pgn_session.specs.Runs.{IsLawful};
 ghost use Rattle.pgn_turns.specs.declared.asked.Ask.{Ask};
-ghost use Rattle.pgn_turns.specs.declared.asked.Ask.TheVariants.{End, Query};
+ghost use Rattle.pgn_turns.specs.declared.asked.Ask.TheVariants.{Discard, End, Query, Settle};
 ghost use Rattle.pgn_turns.specs.declared.asked.Parting.TheVariants.{Plain};
 ghost use Rattle.pgn_turns.specs.declared.saying.Saying.{Saying};
-ghost use Rattle.pgn_turns.specs.Asks.{line_of, seat_quit};
-ghost use Rattle.pgn_turns.specs.Examples.{idle_items, listen, notify};
+ghost use Rattle.pgn_turns.specs.Asks.{discard_line, line_of, seat_quit, unlisten_line};
+ghost use Rattle.pgn_turns.specs.Examples.{begin, idle_items, listen, notify};
 ghost use Rattle.pgn_turns.specs.Sayings.{all_told};
-ghost use Rattle.pgn_turns.specs.Turns.{Turn, asks_of};
+ghost use Rattle.pgn_turns.specs.Turns.{Turn, Settles, asks_of};
 
 /// A session's script and trace in turns.
 pub fn in_turns()
     ensures heard { (s : Session ℕ) → s.section.lines ≡ line_of listen ∷ seat_quit ∷ [] → s.items.items ≡ idle_items → IsInTurns s (listened ∷ heard_one ∷ []) }
+    // What is settled between two queries has no line and no item.
+    ensures settled { (s : Session ℕ) → s.section.lines ≡ line_of listen ∷ line_of begin ∷ seat_quit ∷ [] → s.items.items ≡ begun_items → IsInTurns s (listened ∷ Settles One ∷ begun ∷ []) }
+    // `DISCARD ALL` in a block has two.
+    ensures discarded { (s : Session ℕ) → s.section.lines ≡ line_of listen ∷ line_of begin ∷ discard_line 3 ∷ unlisten_line 4 ∷ seat_quit ∷ [] → s.items.items ≡ discarded_items
+        → IsInTurns s (listened ∷ begun ∷ discarded ∷ []) }
     // A query whose line stands in no turn.
     ensures skipped { (s : Session ℕ) (turns : List Turn) → s.section.lines ≡ line_of listen ∷ line_of notify ∷ seat_quit ∷ [] → asks_of turns ≡ Query listen ∷ [] → IsInTurns s turns → ⊥ }
     // A script without its `\quit`.
     ensures no_quit { (s : Session ℕ) (turns : List Turn) → s.section.lines ≡ line_of listen ∷ [] → asks_of turns ≡ Query listen ∷ [] → IsInTurns s turns → ⊥ }
+    // A line of what is settled.
+    ensures lined { (s : Session ℕ) (turns : List Turn) → s.section.lines ≡ line_of listen ∷ seat_quit ∷ [] → asks_of turns ≡ Settle One ∷ [] → IsInTurns s turns → ⊥ }
+    // `DISCARD ALL` that leaves the listening.
+    ensures listens_on { (s : Session ℕ) (turns : List Turn) → s.section.lines ≡ discard_line 1 ∷ seat_quit ∷ [] → asks_of turns ≡ Discard 1 ∷ [] → IsInTurns s turns → ⊥ }
     // A read that is in no turn.
     ensures left_out { (s : Session ℕ) → s.items.items ≡ idle_items → IsInTurns s (listened ∷ []) → ⊥ }
 {}
@@ -62,6 +73,15 @@ pub fn serves()
     // A line that notifies, and was not counted.
     ensures uncounted { (shape : Shape) (known : ℕ → Known) (inboxes : List (Outlet (Option Ask))) (desk : Desk ℕ) (tells : Hand Saying) → desk.notes ≡ 0 → desk.session.section.lines ≡ line_of notify ∷ seat_quit ∷ []
         → Serves (λ pass. Unit {0}) shape known inboxes desk tells → ⊥ }
+    // Its client has a name that none has set.
+    ensures unset { (shape : Shape) (known : ℕ → Known) (inboxes : List (Outlet (Option Ask))) (desk : Desk ℕ) (tells : Hand Saying) → taken desk.session.section.no (knows desk.asks) ≡ [] → desk.settings ≡ named
+        → Serves (λ pass. Unit {0}) shape known inboxes desk tells → ⊥ }
+    // It has that of the client before it.
+    ensures inherited { (shape : Shape) (known : ℕ → Known) (inboxes : List (Outlet (Option Ask))) (desk : Desk ℕ) (tells : Hand Saying) → taken desk.session.section.no (knows desk.asks) ≡ Some (Settle names) ∷ Some (End 1 Plain) ∷ []
+        → desk.settings ≡ named → Serves (λ pass. Unit {0}) shape known inboxes desk tells → ⊥ }
+    // It has lost its name.
+    ensures lost { (shape : Shape) (known : ℕ → Known) (inboxes : List (Outlet (Option Ask))) (desk : Desk ℕ) (tells : Hand Saying) → taken desk.session.section.no (knows desk.asks) ≡ Some (Settle names) ∷ []
+        → desk.settings ≡ fresh → Serves (λ pass. Unit {0}) shape known inboxes desk tells → ⊥ }
     // Its session has quit.
     ensures over { (shape : Shape) (known : ℕ → Known) (inboxes : List (Outlet (Option Ask))) (desk : Desk ℕ) (tells : Hand Saying) → desk.session.doing ≡ Over
         → Serves (λ pass. Unit {0}) shape known inboxes desk tells → ⊥ }
@@ -74,6 +94,9 @@ pub fn served()
         → desk.session.section.lines ≡ seat_quit ∷ [] → HasServed (λ pass. Unit {0}) shape known inboxes desk tells → ⊥ }
     // The end of a client was not told.
     ensures untold { (shape : Shape) (known : ℕ → Known) (inboxes : List (Outlet (Option Ask))) (desk : Desk ℕ) (tells : Hand Saying) → taken desk.session.section.no (knows desk.asks) ≡ Some (End 1 Plain) ∷ None ∷ []
+        → what_of desk.session.section.no tells.sent ≡ [] → HasServed (λ pass. Unit {0}) shape known inboxes desk tells → ⊥ }
+    // What was settled was not told.
+    ensures unsettled { (shape : Shape) (known : ℕ → Known) (inboxes : List (Outlet (Option Ask))) (desk : Desk ℕ) (tells : Hand Saying) → taken desk.session.section.no (knows desk.asks) ≡ Some (Settle One) ∷ None ∷ []
         → what_of desk.session.section.no tells.sent ≡ [] → HasServed (λ pass. Unit {0}) shape known inboxes desk tells → ⊥ }
     // More was asked behind what is the last.
     ensures asked_behind { (shape : Shape) (known : ℕ → Known) (inboxes : List (Outlet (Option Ask))) (desk : Desk ℕ) (tells : Hand Saying) → taken desk.session.section.no (knows desk.asks) ≡ None ∷ Some (Query listen) ∷ []

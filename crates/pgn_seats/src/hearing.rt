@@ -7,9 +7,10 @@ ghost use Rattle.pgn_seats.specs.Working.{GoesOn, StopsFirst, IsAtLine, IsAtWork
 ghost use Rattle.pgn_session.specs.FirstRead.{HasReadTold, IsToReadFirst};
 ghost use Rattle.pgn_session.specs.Runs.{IsLawful};
 
+use crate::outbox::Outbox;
 use crate::telling::say_heard;
 use pgn_hub::{Hub, PassView};
-use pgn_outlet::{Bell, Outlet, OutletPass};
+use pgn_outlet::OutletPass;
 use pgn_session::{IdleDone, Session};
 use pgn_turns::Saying;
 use pgn_workers::Turn;
@@ -21,15 +22,14 @@ pub(crate) fn hear_before<P: PassView + Send + Drop, H: Hub<Pass = P>, R: Wait>(
     rt: &R,
     alloc: Global,
     hub: &H,
-    outbox: &Outlet<Saying>,
-    bell: &Bell,
+    outbox: &Outbox<'_>,
     session: &mut Session<P>,
     tells: &mut OutletPass<Saying>,
 ) -> Result<(), AllocError>
-    requires own { IsPassOf outbox.now tells.old }
+    requires own { IsPassOf outbox.now.outlet.now tells.old }
     requires may { MayPush (knows tells.old) session.old.section.no }
     requires line { (line : ScriptLine) × IsAtLine (H.is_pass hub.now) (H.shape hub.now) P.known line session.old }
-    ensures own { IsPassOf outbox.now tells.new }
+    ensures own { IsPassOf outbox.now.outlet.now tells.new }
     ensures alone { HasPushedFor session.old.section.no (knows tells.old) (knows tells.new) }
     ensures same { session.new ≡ record session.old { pass = session.new.pass; items = session.new.items } }
     ensures lawful { IsLawful (H.shape hub.now) session.new }
@@ -40,7 +40,7 @@ pub(crate) fn hear_before<P: PassView + Send + Drop, H: Hub<Pass = P>, R: Wait>(
 {
     let from = session.items.len();
     session.read_before_line(alloc, hub)?;
-    say_heard(rt, alloc, outbox, bell, session, from, tells)
+    say_heard(rt, alloc, outbox, session, from, tells)
 }
 
 // Where nothing is asked: reads where the session was woken, and tells what was heard. The error is also that the run was called off.
@@ -48,15 +48,14 @@ pub(crate) fn listen<P: PassView + Send + Drop, H: Hub<Pass = P>, R: Wait>(
     rt: &R,
     alloc: Global,
     hub: &H,
-    outbox: &Outlet<Saying>,
-    bell: &Bell,
+    outbox: &Outbox<'_>,
     session: &mut Session<P>,
     tells: &mut OutletPass<Saying>,
 ) -> Result<Turn, AllocError>
-    requires own { IsPassOf outbox.now tells.old }
+    requires own { IsPassOf outbox.now.outlet.now tells.old }
     requires may { MayPush (knows tells.old) session.old.section.no }
     requires work { IsAtWork (H.is_pass hub.now) (H.shape hub.now) P.known session.old }
-    ensures own { IsPassOf outbox.now tells.new }
+    ensures own { IsPassOf outbox.now.outlet.now tells.new }
     ensures alone { HasPushedFor session.old.section.no (knows tells.old) (knows tells.new) }
     ensures same { session.new ≡ record session.old { pass = session.new.pass; items = session.new.items } }
     ensures lawful { IsLawful (H.shape hub.now) session.new }
@@ -65,38 +64,21 @@ pub(crate) fn listen<P: PassView + Send + Drop, H: Hub<Pass = P>, R: Wait>(
     ensures stopped { OnErr result (StopsFirst [] session.old session.new (knows tells.old) (knows tells.new)) }
     ensures waits { result ≢ Ok Turn.Ended }
 {
-    let heard = hear_woken(rt, alloc, hub, outbox, bell, session, tells)?;
+    let from = session.items.len();
+    let done = session.idle(alloc, hub)?;
+    say_heard(rt, alloc, outbox, session, from, tells)?;
+    rest_behind(hub, done)
+}
+
+// What a turn was in which nothing was asked, by what the session did.
+fn rest_behind<H: Hub>(hub: &H, done: IdleDone) -> Result<Turn, AllocError>
+    ensures { result ≢ Ok Turn.Ended }
+{
+    let heard = has_read(done);
     if !heard && hub.is_called_off() {
         return Err(AllocError);
     }
     Ok(Turn::waited(heard))
-}
-
-// Reads where the session was woken, and tells what was heard: answers whether it has read.
-fn hear_woken<P: PassView + Send + Drop, H: Hub<Pass = P>, R: Wait>(
-    rt: &R,
-    alloc: Global,
-    hub: &H,
-    outbox: &Outlet<Saying>,
-    bell: &Bell,
-    session: &mut Session<P>,
-    tells: &mut OutletPass<Saying>,
-) -> Result<bool, AllocError>
-    requires own { IsPassOf outbox.now tells.old }
-    requires may { MayPush (knows tells.old) session.old.section.no }
-    requires work { IsAtWork (H.is_pass hub.now) (H.shape hub.now) P.known session.old }
-    ensures own { IsPassOf outbox.now tells.new }
-    ensures alone { HasPushedFor session.old.section.no (knows tells.old) (knows tells.new) }
-    ensures same { session.new ≡ record session.old { pass = session.new.pass; items = session.new.items } }
-    ensures lawful { IsLawful (H.shape hub.now) session.new }
-    ensures work { OnOk result (IsAtWork (H.is_pass hub.now) (H.shape hub.now) P.known session.new) }
-    ensures went { OnOk result (GoesOn [] [] None session.old session.new (knows tells.old) (knows tells.new)) }
-    ensures stopped { OnErr result (StopsFirst [] session.old session.new (knows tells.old) (knows tells.new)) }
-{
-    let from = session.items.len();
-    let done = session.idle(alloc, hub)?;
-    say_heard(rt, alloc, outbox, bell, session, from, tells)?;
-    Ok(has_read(done))
 }
 
 // Whether an idle session has read.

@@ -1,8 +1,9 @@
 //! The clients of seats, one after another, each seat served by one session.
 //!
-//! A desk is a seat's session with its two passes: by one it takes what the seat's clients ask, from the seat's inbox, by the other they
-//! are told, through the outbox of all seats. A turn of a desk takes what is next in its inbox, lets the session do it, and tells it in
-//! one piece; where nothing is there, it tells what the session hears.
+//! A desk is a seat's session, with the settings of the client that is there and a pass by which it takes what the seat's clients ask,
+//! from the seat's inbox. By another pass, which the desks of a thread share, they are told, through the outbox of all seats. A turn of a
+//! desk takes what is next in its inbox, lets the session do it, where it is not settled without one, and tells it in one piece; where
+//! nothing is there, it tells what the session hears.
 //!
 //! `serve_seats` has all desks take turns, each on a thread of its own while threads can be had. A desk for which there is nothing to do
 //! dozes until its bell rings: who puts into its inbox rings it, and so does the hub where a wake is set.
@@ -15,12 +16,15 @@
 mod answering;
 mod desk;
 mod desks;
+mod discarding;
 pub mod examples;
 mod hearing;
 mod lines;
+mod outbox;
 mod quitting;
 mod resetting;
 mod serving;
+mod settling;
 mod telling;
 mod tells;
 mod turn;

@@ -3,22 +3,55 @@ ghost use Rattle.pgn_hub.specs.Shape.{Shape};
 ghost use Rattle.pgn_language.specs.declared.scenario.ScriptLine.{ScriptLine};
 ghost use Rattle.pgn_language.specs.Inputs.{is_note_act, note_lines_of};
 ghost use Rattle.pgn_model.specs.Trace.{reads_first};
-ghost use Rattle.pgn_seats.specs.Working.{HasRun, IsAtLine, IsAtWork, StaysDone};
+ghost use Rattle.pgn_seats.specs.Working.{HasRun, HasRunBoth, IsAtLine, IsAtWork, StaysDone};
 ghost use Rattle.pgn_session.specs.Feed.{fed};
 ghost use Rattle.pgn_session.specs.FirstRead.{HasReadTold, IsToReadFirst};
 ghost use Rattle.pgn_session.specs.Open.{IsBefore, IsOpen, IsSameClient, RunsCommand};
 ghost use Rattle.pgn_session.specs.Runs.{IsLawful};
 ghost use Rattle.pgn_session.specs.Whole.{HasRest, IsSameScript};
+ghost use Rattle.pgn_turns.specs.Asks.{unlisten_line};
 
+use crate::Desk;
 use pgn_base::Command;
 use pgn_hub::{Hub, PassView};
 use pgn_language::{Act, ScriptLine};
 use pgn_session::Session;
+use pgn_turns::unlisten_at;
 use std::alloc::{AllocError, Global};
 use std::sync::Wait;
 
+// Puts two lines into the script and runs them: this one, before which no session reads, and behind it the one that ends all listening.
+pub(crate) fn take_both<P: PassView + Send + Drop, H: Hub<Pass = P>, R: Wait>(
+    rt: &R,
+    alloc: Global,
+    hub: &H,
+    desk: &mut Desk<P>,
+    line: ScriptLine,
+) -> Result<(), AllocError>
+    requires work { IsAtWork (H.is_pass hub.now) (H.shape hub.now) P.known desk.old.session }
+    requires runs { RunsCommand line }
+    requires unread { reads_first line.act ≡ false }
+    requires counted { desk.old.notes ≡ note_lines_of desk.old.session.section.lines }
+    ensures asks { desk.new.asks ≡ desk.old.asks }
+    ensures settings { desk.new.settings ≡ desk.old.settings }
+    ensures same { IsSameClient desk.old.session desk.new.session }
+    ensures lawful { IsLawful (H.shape hub.now) desk.new.session }
+    ensures first { StaysDone desk.old.session desk.new.session }
+    ensures counted { desk.new.notes ≡ note_lines_of desk.new.session.section.lines }
+    ensures work { OnOk result (IsAtWork (H.is_pass hub.now) (H.shape hub.now) P.known desk.new.session) }
+    ensures ran { OnOk result (HasRunBoth desk.old.session line (unlisten_line (line.line + 1)) desk.new.session) }
+{
+    let number = line.line;
+    take_line(rt, alloc, hub, &mut desk.session, &mut desk.notes, line)?;
+    let Some(next) = number.checked_add(1) else {
+        return Err(AllocError);
+    };
+    let behind = unlisten_at(alloc, next);
+    take_line(rt, alloc, hub, &mut desk.session, &mut desk.notes, behind)
+}
+
 // Puts a line into the script and runs it. It is none before which a session reads.
-pub(crate) fn take_line<P: PassView + Send + Drop, H: Hub<Pass = P>, R: Wait>(
+fn take_line<P: PassView + Send + Drop, H: Hub<Pass = P>, R: Wait>(
     rt: &R,
     alloc: Global,
     hub: &H,

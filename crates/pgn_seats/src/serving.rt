@@ -5,6 +5,7 @@ ghost use Rattle.pgn_seats.specs.Desks.{HaveServed, MayServe};
 ghost use Rattle.pgn_seats.specs.Workers.{HasSeat, HasTakenTurn, StandsBy};
 
 use crate::desks::{Service, end_desks, turn_at, wait_behind};
+use crate::outbox::Outbox;
 use crate::{Desk, Inbox, Tells};
 use pgn_hub::{Hub, PassView};
 use pgn_outlet::{Bell, Outlet};
@@ -37,11 +38,14 @@ pub fn serve_seats<P: PassView + Send + Drop, H: Hub<Pass = P> + Sync, R: Thread
         requires { IsPassOf outbox.now tells.now.pass × MayPush (knows tells.now.pass) desk.now.session.section.no × StandsBy (H.is_pass hub.now) (H.shape hub.now) P.known inboxes.now tells.now.refused (knows tells.now.pass) desk.now }
         ensures { IsPassOf outbox.entry.now tells.exit.now.pass × HasTakenTurn (H.is_pass hub.entry.now) (H.shape hub.entry.now) P.known inboxes.entry.now desk.entry.now desk.exit.now tells.entry.now.refused tells.exit.now.refused (knows tells.entry.now.pass) (knows tells.exit.now.pass) result }
     {
+        let outbox = Outbox {
+            outlet: outbox,
+            bell,
+        };
         let service = Service {
             hub,
             inboxes,
             outbox,
-            bell,
         };
         turn_at(rt, alloc, &service, desk, tells)
     };
@@ -64,8 +68,10 @@ pub fn serve_seats<P: PassView + Send + Drop, H: Hub<Pass = P> + Sync, R: Thread
     let work = Service {
         hub,
         inboxes,
-        outbox,
-        bell,
+        outbox: Outbox {
+            outlet: outbox,
+            bell,
+        },
     };
     let job = Job {
         work,

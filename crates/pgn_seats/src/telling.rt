@@ -5,14 +5,20 @@ ghost use Rattle.pgn_outlet.specs.Rule.{MayPush};
 ghost use Rattle.pgn_seats.specs.Serving.{HasPushedFor};
 ghost use Rattle.pgn_seats.specs.Working.{HasSaid};
 ghost use Rattle.pgn_turns.specs.Sayings.{signs_told};
-ghost use Rattle.pgn_turns.specs.Turns.{Answers, bytes_of, farewell, heard};
+ghost use Rattle.pgn_requests.specs.Settings.{kept_after};
+ghost use Rattle.pgn_turns.specs.Served.{discard_answer, discarded, settled_answer, told_answer};
+ghost use Rattle.pgn_turns.specs.Turns.{farewell, heard};
 
+use crate::outbox::Outbox;
 use pgn_answers::BlockState;
 use pgn_base::SessionNo;
 use pgn_model::Item;
-use pgn_outlet::{Bell, Came, Outlet, OutletPass};
+use pgn_outlet::{Came, OutletPass};
+use pgn_requests::{Settings, Settled};
 use pgn_session::Session;
-use pgn_turns::{Asked, Parting, Saying, tell_answer, tell_parting, tell_reads};
+use pgn_turns::{
+    Asked, Parting, Saying, tell_answer, tell_discard, tell_parting, tell_reads, tell_settled,
+};
 use std::alloc::{AllocError, Global};
 use std::sync::Wait;
 
@@ -20,83 +26,79 @@ use std::sync::Wait;
 pub(crate) fn say_answer<P, R: Wait>(
     rt: &R,
     alloc: Global,
-    outbox: &Outlet<Saying>,
-    bell: &Bell,
+    outbox: &Outbox<'_>,
     session: &Session<P>,
     from: usize,
     query: &Asked,
     tells: &mut OutletPass<Saying>,
 ) -> Result<(), AllocError>
-    requires own { IsPassOf outbox.now tells.old }
+    requires own { IsPassOf outbox.now.outlet.now tells.old }
     requires may { MayPush (knows tells.old) session.now.section.no }
     requires shown { from < length session.now.items.items }
-    ensures own { IsPassOf outbox.now tells.new }
+    ensures own { IsPassOf outbox.now.outlet.now tells.new }
     ensures alone { HasPushedFor session.now.section.no (knows tells.old) (knows tells.new) }
-    ensures said { OnOk result (HasSaid session.now.section.no (map Some (bytes_of (Answers query.now (drop (from + 1) session.now.items.items)) session.now.block.state)) (knows tells.old) (knows tells.new)) }
+    ensures said { OnOk result (HasSaid session.now.section.no (map Some (told_answer query.now (drop (from + 1) session.now.items.items) session.now.block.state)) (knows tells.old) (knows tells.new)) }
     ensures unsaid { OnErr result (knows tells.new ≡ knows tells.old) }
 {
     let items = session.items.as_slice();
     let bytes = answer_bytes(alloc, query, &items[from + 1..], session.block.state())?;
-    say(rt, outbox, bell, session.section.no, bytes, tells)
+    say(rt, outbox, session.section.no, bytes, tells)
 }
 
 // Tells what was heard of reads: they are the session's items behind the first so many.
 pub(crate) fn say_heard<P, R: Wait>(
     rt: &R,
     alloc: Global,
-    outbox: &Outlet<Saying>,
-    bell: &Bell,
+    outbox: &Outbox<'_>,
     session: &Session<P>,
     from: usize,
     tells: &mut OutletPass<Saying>,
 ) -> Result<(), AllocError>
-    requires own { IsPassOf outbox.now tells.old }
+    requires own { IsPassOf outbox.now.outlet.now tells.old }
     requires may { MayPush (knows tells.old) session.now.section.no }
     requires within { from ≤ length session.now.items.items }
-    ensures own { IsPassOf outbox.now tells.new }
+    ensures own { IsPassOf outbox.now.outlet.now tells.new }
     ensures alone { HasPushedFor session.now.section.no (knows tells.old) (knows tells.new) }
     ensures said { OnOk result (HasSaid session.now.section.no (map Some (flat_map heard (drop from session.now.items.items))) (knows tells.old) (knows tells.new)) }
     ensures unsaid { OnErr result (knows tells.new ≡ knows tells.old) }
 {
     let items = session.items.as_slice();
     let bytes = heard_bytes(alloc, &items[from..])?;
-    say(rt, outbox, bell, session.section.no, bytes, tells)
+    say(rt, outbox, session.section.no, bytes, tells)
 }
 
 // Tells a client why the server ends the conversation, if it does, and its end.
 pub(crate) fn say_end<R: Wait>(
     rt: &R,
     alloc: Global,
-    outbox: &Outlet<Saying>,
-    bell: &Bell,
+    outbox: &Outbox<'_>,
     no: SessionNo,
     parting: Parting,
     tells: &mut OutletPass<Saying>,
 ) -> Result<(), AllocError>
-    requires own { IsPassOf outbox.now tells.old }
+    requires own { IsPassOf outbox.now.outlet.now tells.old }
     requires may { MayPush (knows tells.old) no }
-    ensures own { IsPassOf outbox.now tells.new }
+    ensures own { IsPassOf outbox.now.outlet.now tells.new }
     ensures alone { HasPushedFor no (knows tells.old) (knows tells.new) }
     ensures said { OnOk result (HasSaid no (map Some (farewell parting) ++ None ∷ []) (knows tells.old) (knows tells.new)) }
     ensures unsaid { OnErr result (knows tells.new ≡ knows tells.old) }
 {
     let bytes = farewell_bytes(alloc, parting)?;
     let saying = Saying { bytes, ends: true };
-    push_saying(rt, outbox, bell, no, saying, tells)
+    push_saying(rt, outbox, no, saying, tells)
 }
 
 // Tells these bytes, where there are any.
-fn say<R: Wait>(
+pub(crate) fn say<R: Wait>(
     rt: &R,
-    outbox: &Outlet<Saying>,
-    bell: &Bell,
+    outbox: &Outbox<'_>,
     no: SessionNo,
     bytes: Vec<u8>,
     tells: &mut OutletPass<Saying>,
 ) -> Result<(), AllocError>
-    requires own { IsPassOf outbox.now tells.old }
+    requires own { IsPassOf outbox.now.outlet.now tells.old }
     requires may { MayPush (knows tells.old) no }
-    ensures own { IsPassOf outbox.now tells.new }
+    ensures own { IsPassOf outbox.now.outlet.now tells.new }
     ensures alone { HasPushedFor no (knows tells.old) (knows tells.new) }
     ensures said { OnOk result (HasSaid no (map Some bytes.items) (knows tells.old) (knows tells.new)) }
     ensures unsaid { OnErr result (knows tells.new ≡ knows tells.old) }
@@ -106,21 +108,20 @@ fn say<R: Wait>(
         return Ok(());
     }
     let saying = Saying { bytes, ends: false };
-    push_saying(rt, outbox, bell, no, saying, tells)
+    push_saying(rt, outbox, no, saying, tells)
 }
 
 // Pushes for a number, and rings the writer's bell behind that.
 fn push_saying<R: Wait>(
     rt: &R,
-    outbox: &Outlet<Saying>,
-    bell: &Bell,
+    outbox: &Outbox<'_>,
     no: SessionNo,
     saying: Saying,
     tells: &mut OutletPass<Saying>,
 ) -> Result<(), AllocError>
-    requires own { IsPassOf outbox.now tells.old }
+    requires own { IsPassOf outbox.now.outlet.now tells.old }
     requires may { MayPush (knows tells.old) no }
-    ensures own { IsPassOf outbox.now tells.new }
+    ensures own { IsPassOf outbox.now.outlet.now tells.new }
     ensures alone { HasPushedFor no (knows tells.old) (knows tells.new) }
     ensures said { OnOk result (HasSaid no (signs_told saying) (knows tells.old) (knows tells.new)) }
     ensures unsaid { OnErr result (knows tells.new ≡ knows tells.old) }
@@ -129,8 +130,8 @@ fn push_saying<R: Wait>(
         session: no,
         what: saying,
     };
-    outbox.push(rt, tells, came)?;
-    bell.ring();
+    outbox.outlet.push(rt, tells, came)?;
+    outbox.bell.ring();
     Ok(())
 }
 
@@ -140,7 +141,7 @@ fn answer_bytes(
     items: &[Item],
     state: BlockState,
 ) -> Result<Vec<u8>, AllocError>
-    ensures { IfOk result (λ bytes. bytes.items ≡ bytes_of (Answers query.now items.now) state) }
+    ensures { IfOk result (λ bytes. bytes.items ≡ told_answer query.now items.now state) }
 {
     let mut bytes = Vec::new(alloc);
     tell_answer(alloc, &mut bytes, query, items, state)?;
@@ -160,5 +161,39 @@ fn farewell_bytes(alloc: Global, parting: Parting) -> Result<Vec<u8>, AllocError
 {
     let mut bytes = Vec::new(alloc);
     tell_parting(alloc, &mut bytes, parting)?;
+    Ok(bytes)
+}
+
+// What the client of a seat is told of what is settled without its session, which it settles.
+pub(crate) fn settled_bytes(
+    alloc: Global,
+    seat: SessionNo,
+    settled: &Settled,
+    settings: &mut Settings,
+    state: BlockState,
+) -> Result<Vec<u8>, AllocError>
+    ensures told { IfOk result (λ bytes. bytes.items ≡ settled_answer seat settled.now settings.old state) }
+    ensures kept { OnOk result (settings.new ≡ kept_after state settled.now settings.old) }
+{
+    let mut bytes = Vec::new(alloc);
+    tell_settled(alloc, &mut bytes, seat, settled, settings, state)?;
+    Ok(bytes)
+}
+
+// What a client is told of `DISCARD ALL`, whose lines stand among a session's items from this place on, by the state of the block before
+// them; and does what that does to the settings. Of the lines themselves nothing is heard.
+pub(crate) fn discard_bytes(
+    alloc: Global,
+    settings: &mut Settings,
+    state: BlockState,
+    items: &[Item],
+    from: usize,
+) -> Result<Vec<u8>, AllocError>
+    requires within { from ≤ length items.now }
+    ensures told { IfOk result (λ bytes. bytes.items ≡ discard_answer state settings.old (flat_map heard (drop from items.now))) }
+    ensures kept { OnOk result (settings.new ≡ discarded state settings.old) }
+{
+    let mut bytes = Vec::new(alloc);
+    tell_discard(alloc, &mut bytes, settings, state, &items[from..], &[])?;
     Ok(bytes)
 }

@@ -4,19 +4,22 @@ ghost use Rattle.pgn_outlet.specs.Passes.{IsPassOf, knows};
 ghost use Rattle.pgn_outlet.specs.Rule.{MayPush};
 ghost use Rattle.pgn_language.specs.Inputs.{note_lines_of};
 ghost use Rattle.pgn_seats.specs.Serving.{HasPushedFor, HasServed, HasToldFirst, IsSeated, Serves, taken};
-ghost use Rattle.pgn_seats.specs.Working.{GoesOn, StopsFirst, IsAtWork};
+ghost use Rattle.pgn_seats.specs.Working.{HasDoneAsk, IsAtWork, StopsFirst};
 ghost use Rattle.pgn_session.specs.Open.{IsSameClient};
 ghost use Rattle.pgn_session.specs.Runs.{IsLawful};
 ghost use Rattle.pgn_turns.specs.declared.asked.Ask.{Ask};
 
 use crate::answering::answer;
+use crate::discarding::discard;
 use crate::hearing::listen;
+use crate::outbox::Outbox;
 use crate::quitting::quit;
 use crate::resetting::reset;
+use crate::settling::settle;
 use crate::{Desk, Inbox};
 use pgn_base::SessionNo;
 use pgn_hub::{Hub, PassView};
-use pgn_outlet::{Bell, Came, Outlet, OutletPass};
+use pgn_outlet::{Came, OutletPass};
 use pgn_session::{Doing, Session};
 use pgn_turns::{Ask, Saying};
 use pgn_workers::Turn;
@@ -30,15 +33,14 @@ pub(crate) fn take_turn<P: PassView + Send + Drop, H: Hub<Pass = P>, R: Wait>(
     alloc: Global,
     hub: &H,
     inboxes: &[Inbox],
-    outbox: &Outlet<Saying>,
-    bell: &Bell,
+    outbox: &Outbox<'_>,
     desk: &mut Desk<P>,
     tells: &mut OutletPass<Saying>,
 ) -> Result<Turn, AllocError>
-    requires own { IsPassOf outbox.now tells.old }
+    requires own { IsPassOf outbox.now.outlet.now tells.old }
     requires seated { IsSeated (H.is_pass hub.now) (H.shape hub.now) P.known inboxes.now desk.old (knows tells.old) }
     requires may { MayPush (knows tells.old) desk.old.session.section.no }
-    ensures own { IsPassOf outbox.now tells.new }
+    ensures own { IsPassOf outbox.now.outlet.now tells.new }
     ensures same { IsSameClient desk.old.session desk.new.session }
     ensures alone { HasPushedFor desk.old.session.section.no (knows tells.old) (knows tells.new) }
     ensures seated { OnOk result (IsSeated (H.is_pass hub.now) (H.shape hub.now) P.known inboxes.now desk.new (knows tells.new)) }
@@ -48,7 +50,7 @@ pub(crate) fn take_turn<P: PassView + Send + Drop, H: Hub<Pass = P>, R: Wait>(
     if is_over(&desk.session) {
         return Ok(Turn::Ended);
     }
-    serve_next(rt, alloc, hub, inboxes, outbox, bell, desk, tells)
+    serve_next(rt, alloc, hub, inboxes, outbox, desk, tells)
 }
 
 // Whether the session has quit.
@@ -67,15 +69,14 @@ fn serve_next<P: PassView + Send + Drop, H: Hub<Pass = P>, R: Wait>(
     alloc: Global,
     hub: &H,
     inboxes: &[Inbox],
-    outbox: &Outlet<Saying>,
-    bell: &Bell,
+    outbox: &Outbox<'_>,
     desk: &mut Desk<P>,
     tells: &mut OutletPass<Saying>,
 ) -> Result<Turn, AllocError>
-    requires own { IsPassOf outbox.now tells.old }
+    requires own { IsPassOf outbox.now.outlet.now tells.old }
     requires serves { Serves (H.is_pass hub.now) (H.shape hub.now) P.known inboxes.now desk.old (knows tells.old) }
     requires may { MayPush (knows tells.old) desk.old.session.section.no }
-    ensures own { IsPassOf outbox.now tells.new }
+    ensures own { IsPassOf outbox.now.outlet.now tells.new }
     ensures same { IsSameClient desk.old.session desk.new.session }
     ensures alone { HasPushedFor desk.old.session.section.no (knows tells.old) (knows tells.new) }
     ensures seated { OnOk result (IsSeated (H.is_pass hub.now) (H.shape hub.now) P.known inboxes.now desk.new (knows tells.new)) }
@@ -84,7 +85,7 @@ fn serve_next<P: PassView + Send + Drop, H: Hub<Pass = P>, R: Wait>(
 {
     match take_ask(rt, inboxes, desk.session.section.no, &mut desk.asks) {
         Some(Some(ask)) => {
-            let served = serve(rt, alloc, hub, outbox, bell, desk, &ask, tells);
+            let served = serve(rt, alloc, hub, outbox, desk, &ask, tells);
             drop(ask);
             match served {
                 Ok(()) => Ok(Turn::Did),
@@ -95,7 +96,7 @@ fn serve_next<P: PassView + Send + Drop, H: Hub<Pass = P>, R: Wait>(
             Ok(()) => Ok(Turn::Ended),
             Err(_) => Err(AllocError),
         },
-        None => listen(rt, alloc, hub, outbox, bell, &mut desk.session, tells),
+        None => listen(rt, alloc, hub, outbox, &mut desk.session, tells),
     }
 }
 
@@ -128,30 +129,31 @@ fn serve<P: PassView + Send + Drop, H: Hub<Pass = P>, R: Wait>(
     rt: &R,
     alloc: Global,
     hub: &H,
-    outbox: &Outlet<Saying>,
-    bell: &Bell,
+    outbox: &Outbox<'_>,
     desk: &mut Desk<P>,
     ask: &Ask,
     tells: &mut OutletPass<Saying>,
 ) -> Result<(), AllocError>
-    requires own { IsPassOf outbox.now tells.old }
+    requires own { IsPassOf outbox.now.outlet.now tells.old }
     requires may { MayPush (knows tells.old) desk.old.session.section.no }
     requires work { IsAtWork (H.is_pass hub.now) (H.shape hub.now) P.known desk.old.session }
     requires counted { desk.old.notes ≡ note_lines_of desk.old.session.section.lines }
-    ensures own { IsPassOf outbox.now tells.new }
+    ensures own { IsPassOf outbox.now.outlet.now tells.new }
     ensures alone { HasPushedFor desk.old.session.section.no (knows tells.old) (knows tells.new) }
     ensures asks { desk.new.asks ≡ desk.old.asks }
     ensures same { IsSameClient desk.old.session desk.new.session }
     ensures lawful { IsLawful (H.shape hub.now) desk.new.session }
     ensures counted { desk.new.notes ≡ note_lines_of desk.new.session.section.lines }
     ensures work { OnOk result (IsAtWork (H.is_pass hub.now) (H.shape hub.now) P.known desk.new.session) }
-    ensures went { OnOk result (GoesOn [] [] (Some ask.now) desk.old.session desk.new.session (knows tells.old) (knows tells.new)) }
+    ensures went { OnOk result (HasDoneAsk ask.now desk.old desk.new (knows tells.old) (knows tells.new)) }
     ensures stopped { OnErr result (StopsFirst [] desk.old.session desk.new.session (knows tells.old) (knows tells.new)) }
 {
     match ask {
-        Ask::Query(query) => answer(rt, alloc, hub, outbox, bell, desk, query, tells),
-        Ask::End { line, parting } => reset(
-            rt, alloc, hub, outbox, bell, desk, *line, *parting, tells,
-        ),
+        Ask::Query(query) => answer(rt, alloc, hub, outbox, desk, query, tells),
+        Ask::Settle(settled) => settle(rt, alloc, hub, outbox, desk, settled, tells),
+        Ask::Discard { line } => discard(rt, alloc, hub, outbox, desk, *line, tells),
+        Ask::End { line, parting } => {
+            reset(rt, alloc, hub, outbox, desk, *line, *parting, tells)
+        }
     }
 }

@@ -1,7 +1,11 @@
 -- Desks as they are opened.
-use Rattle.std.proofs.Common.{◌≡◌, ℕ, ◌-◌, ◌≤◌, List, [], ◌∷◌, length, get_or, Option, All, sym, refl, ap, subst, arith}
+use Rattle.std.proofs.Common.{◌≡◌, ℕ, ◌-◌, ◌≤◌, List, [], ◌∷◌, length, get_or, Option, Result, Ok, Err, IfOk, All, sym, refl, ap, ◌∙◌, subst, arith}
 use Rattle.std.proofs.lemmas.List.Elements.{All-cons, All-nil}
+use Rattle.std.specs.declared.alloc.AllocError.{AllocError}
+use Rattle.pgn_hub.specs.declared.known.Known.{Known}
+use Rattle.pgn_hub.specs.Shape.{Shape}
 use Rattle.pgn_language.specs.declared.scenario.ScriptLine.{ScriptLine}
+use Rattle.pgn_language.specs.declared.scenario.Section.{Section}
 use Rattle.pgn_session.specs.declared.doing.Doing.TheVariants.{Lines}
 use Rattle.pgn_session.specs.declared.doing.FlagPlan.{FlagPlan}
 use Rattle.pgn_session.specs.declared.session.Session.{Session}
@@ -11,50 +15,60 @@ use Rattle.pgn_outlet.specs.declared.outlet.Outlet.{Outlet}
 use Rattle.pgn_outlet.specs.Passes.{Pass, IsPassOf, knows}
 use Rattle.pgn_outlet.specs.declared.hand.Hand.{Hand}
 use Rattle.pgn_outlet.specs.Rule.{sender, taker}
+use Rattle.pgn_requests.specs.Settings.{fresh}
 use Rattle.pgn_seats.specs.declared.desk.Desk.{Desk}
 use Rattle.pgn_seats.specs.Desks.{MayBegin, MayServe}
-use Rattle.pgn_seats_tests.specs.Rights.{IsOfInbox}
+use Rattle.pgn_seats_tests.specs.Rights.{IsNew, IsOfInbox, test_plan}
 use Rattle.pgn_turns.specs.Asks.{seat_quit}
 use Rattle.pgn_turns.specs.declared.asked.Ask.{Ask}
 use Rattle.pgn_turns.specs.declared.saying.Saying.{Saying}
-use Rattle.pgn_words.specs.Passes.{known_of}
-use Rattle.pgn_words.specs.declared.pass.WordPass.{WordPass}
-use Rattle.pgn_wordhub.specs.declared.hub.WordHub.{WordHub}
-use Rattle.pgn_wordhub.specs.Passes.{IsHubPass, hub_shape}
+
+-- a session that was made for a seat
+pub new_session : {P : Type 0} (known : P → Known) (seat : ℕ) (pass : P) (section : Section) (plan : FlagPlan) (r : Result (Session P) AllocError) → IfOk r (λ s. (shape : Shape) → HasRest shape known s)
+    → IfOk r (λ s. (s.pass ≡ pass) × (s.section ≡ section) × (s.plan ≡ plan) × (s.patience ≡ 1) × (s.done ≡ 0) × (s.doing ≡ Lines) × (s.items.items ≡ [])) → section.no ≡ seat → section.lines ≡ seat_quit ∷ [] → plan ≡ test_plan
+    → IfOk r (IsNew known seat)
+new_session known seat pass section plan (Err e) rested begins no lines planned = tt
+new_session known seat pass section plan (Ok s) rested begins no lines planned = record {
+  rested = rested;
+  number = ap (λ (x : Section). x.no) begins.1 ∙ no;
+  script = ap (λ (x : Section). x.lines) begins.1 ∙ lines;
+  plan_is = begins.2 ∙ planned;
+  begun = begins.4;
+  between = begins.5;
+  shown = begins.6;
+}
 
 -- a desk that may begin
-pub desk_begins : (hub : WordHub) (inboxes : List (Outlet (Option Ask))) (seat : ℕ) (pass : WordPass) (asks : Pass (Option Ask)) (s : Session WordPass) → 1 ≤ seat → seat ≤ 2 → length inboxes ≡ 2 → (hub_shape hub).flags ≡ 2
-    → IsHubPass hub pass → IsOfInbox inboxes seat asks → knows asks ≡ taker → HasRest (hub_shape hub) known_of s → s.pass ≡ pass → s.section.no ≡ seat → s.section.lines ≡ seat_quit ∷ []
-    → s.plan ≡ record { first_end = 0; sessions = 2 } → s.done ≡ 0 → s.doing ≡ Lines → s.items.items ≡ []
-    → MayBegin (IsHubPass hub) (hub_shape hub) known_of inboxes (record { session = s; asks = asks; notes = 0 })
-desk_begins hub inboxes seat pass asks s some few two flags own inbox takes rested pass_is seat_is lines plan done doing items = record {
-  own = subst (IsHubPass hub) (sym pass_is) own;
-  served = subst (λ (p : FlagPlan). IsServedBy (hub_shape hub) s.section p) (sym plan) (record {
-    acts = subst (λ (ls : List ScriptLine). All (λ line. IsFlagBelow (hub_shape hub).flags line.act) ls) (sym lines) (All-cons (λ (line : ScriptLine). IsFlagBelow (hub_shape hub).flags line.act) seat_quit [] tt (All-nil (λ (line : ScriptLine). IsFlagBelow (hub_shape hub).flags line.act)));
+pub desk_begins : {P : Type 0} (is_own : P → Type 0) (shape : Shape) (known : P → Known) (inboxes : List (Outlet (Option Ask))) (seat : ℕ) (asks : Pass (Option Ask)) (s : Session P) → 1 ≤ seat → seat ≤ 2 → length inboxes ≡ 2
+    → shape.flags ≡ 2 → is_own s.pass → IsOfInbox inboxes seat asks → knows asks ≡ taker → IsNew known seat s → MayBegin is_own shape known inboxes (record { session = s; asks = asks; notes = 0; settings = fresh })
+desk_begins is_own shape known inboxes seat asks s some few two flags own inbox takes new = record {
+  own = own;
+  served = subst (λ (p : FlagPlan). IsServedBy shape s.section p) (sym new.plan_is) (record {
+    acts = subst (λ (ls : List ScriptLine). All (λ line. IsFlagBelow shape.flags line.act) ls) (sym new.script) (All-cons (λ (line : ScriptLine). IsFlagBelow shape.flags line.act) seat_quit [] tt (All-nil (λ (line : ScriptLine). IsFlagBelow shape.flags line.act)));
     ends = omega (arith, flags);
-    session = omega (arith, seat_is, few);
+    session = omega (arith, new.number, few);
   });
-  rested = rested;
-  begins = record { last = seat_quit; lines = lines; quits = refl; begun = done; between = doing; shown = items };
+  rested = new.rested shape;
+  begins = record { last = seat_quit; lines = new.script; quits = refl; begun = new.begun; between = new.between; shown = new.shown };
   quits = refl;
   inbox = record {
-    some = omega (arith, seat_is, some);
-    within = omega (arith, seat_is, few, two);
-    own = λ d. subst (λ (n : ℕ). IsPassOf (get_or inboxes (n - 1) d) asks) (sym seat_is) (inbox d);
+    some = omega (arith, new.number, some);
+    within = omega (arith, new.number, few, two);
+    own = λ d. subst (λ (n : ℕ). IsPassOf (get_or inboxes (n - 1) d) asks) (sym new.number) (inbox d);
     takes = ap (λ (v : Hand (Option Ask)). v.takes) takes;
   };
   untaken = ap (λ (v : Hand (Option Ask)). v.got) takes;
   counted = refl;
+  fresh = refl;
 }
 
 -- two of them may serve
-pub two_serve : (hub : WordHub) (inboxes : List (Outlet (Option Ask))) (one two : Desk WordPass) (desks : List (Desk WordPass)) (v : Hand Saying) → desks ≡ one ∷ two ∷ []
-    → MayBegin (IsHubPass hub) (hub_shape hub) known_of inboxes one → MayBegin (IsHubPass hub) (hub_shape hub) known_of inboxes two → one.session.section.no ≡ 1 → two.session.section.no ≡ 2 → v ≡ sender
-    → MayServe (IsHubPass hub) (hub_shape hub) known_of inboxes desks v
-two_serve hub inboxes one two desks v is f g n m tells =
-    subst (λ (ds : List (Desk WordPass)). MayServe (IsHubPass hub) (hub_shape hub) known_of inboxes ds v) (sym is)
-    (subst (λ (w : Hand Saying). MayServe (IsHubPass hub) (hub_shape hub) known_of inboxes (one ∷ two ∷ []) w) (sym tells) (record {
-      begin = All-cons (MayBegin (IsHubPass hub) (hub_shape hub) known_of inboxes) one (two ∷ []) f (All-cons (MayBegin (IsHubPass hub) (hub_shape hub) known_of inboxes) two [] g (All-nil (MayBegin (IsHubPass hub) (hub_shape hub) known_of inboxes)));
+pub two_serve : {P : Type 0} (is_own : P → Type 0) (shape : Shape) (known : P → Known) (inboxes : List (Outlet (Option Ask))) (one two : Desk P) (desks : List (Desk P)) (v : Hand Saying) → desks ≡ one ∷ two ∷ []
+    → MayBegin is_own shape known inboxes one → MayBegin is_own shape known inboxes two → one.session.section.no ≡ 1 → two.session.section.no ≡ 2 → v ≡ sender → MayServe is_own shape known inboxes desks v
+two_serve {P} is_own shape known inboxes one two desks v is f g n m tells =
+    subst (λ (ds : List (Desk P)). MayServe is_own shape known inboxes ds v) (sym is)
+    (subst (λ (w : Hand Saying). MayServe is_own shape known inboxes (one ∷ two ∷ []) w) (sym tells) (record {
+      begin = All-cons (MayBegin is_own shape known inboxes) one (two ∷ []) f (All-cons (MayBegin is_own shape known inboxes) two [] g (All-nil (MayBegin is_own shape known inboxes)));
       numbered = (n, (m, tt));
       fits = omega arith;
       unused = refl;

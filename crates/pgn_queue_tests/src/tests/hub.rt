@@ -1,7 +1,7 @@
 //! A hub of two pages for two sessions, and what a session does with its calls.
-ghost use Rattle.std.specs.Prelude.{◌≡◌, ◌≤◌, ◌<◌, length, None, IsSome, IfOk, IfSome};
+ghost use Rattle.std.specs.Prelude.{◌≡◌, ◌≤◌, ◌<◌, [], ◌∷◌, length, None, IsSome, IfOk, IfSome};
 ghost use Rattle.pgn_words.specs.Passes.{known_of};
-ghost use Rattle.pgn_wordhub.specs.Passes.{IsHubPass, hub_shape};
+ghost use Rattle.pgn_wordhub.specs.Passes.{IsHubPass};
 
 use pgn_base::{
     Action, Actions, DbOid, Delivery, Enlisted, Format, ListenSet, Name, Note, Payload, Seed,
@@ -10,7 +10,7 @@ use pgn_base::{
 use pgn_hub::{Hub, PassView, SeatSetup, Setup};
 use pgn_wordhub::WordHub;
 use pgn_words::WordPass;
-use std::alloc::Global;
+use std::alloc::{AllocError, Global};
 use std::str;
 use std::sync::Wait;
 use std::test::Fail;
@@ -41,9 +41,14 @@ fn note(alloc: Global, letters: usize) -> Option<Note>
 fn note_on(alloc: Global, channel: &str, letters: usize) -> Option<Note>
     ensures { IfSome result (λ note. length note.payload ≡ letters) }
 {
-    let channel = Name::new(alloc, channel).ok()?;
     let payload = payload(alloc, letters)?;
-    Some(Note { channel, payload })
+    match Name::new(alloc, channel) {
+        Ok(channel) => Some(Note { channel, payload }),
+        Err(_) => {
+            drop(payload);
+            None
+        }
+    }
 }
 
 // A payload of so many letters.
@@ -51,14 +56,26 @@ fn payload(alloc: Global, letters: usize) -> Option<Payload>
     ensures { IfSome result (λ payload. length payload ≡ letters) }
 {
     let text = vec![in alloc; b'x'; letters].ok()?;
-    Payload::new(alloc, str::from_utf8(&text).ok()?).ok()
+    let payload = payload_of(alloc, &text);
+    drop(text);
+    payload
+}
+
+// A payload of this text.
+fn payload_of(alloc: Global, text: &[u8]) -> Option<Payload>
+    ensures { IfSome result (λ payload. length payload ≡ length text.now) }
+{
+    Payload::new(alloc, str::from_utf8(text).ok()?).ok()
 }
 
 // That the channel `c` is listened to, if memory suffices.
 fn listen_on_c(alloc: Global) -> Option<Actions> {
     let channel = Name::new(alloc, "c").ok()?;
     let mut actions = Actions::new(alloc);
-    actions.push(Action::Listen(channel)).ok()?;
+    if actions.push(Action::Listen(channel)).is_err() {
+        drop(actions);
+        return None;
+    }
     Some(actions)
 }
 
@@ -66,7 +83,10 @@ fn listen_on_c(alloc: Global) -> Option<Actions> {
 fn set_of_c(alloc: Global) -> Option<ListenSet> {
     let actions = listen_on_c(alloc)?;
     let mut set = ListenSet::new(alloc, Seed::fixed());
-    act(&mut set, actions)?;
+    if act(&mut set, actions).is_none() {
+        drop(set);
+        return None;
+    }
     Some(set)
 }
 
@@ -99,67 +119,77 @@ fn setup_of_two(alloc: Global, format: Format, pages: u32, second_db: u32) -> Re
     ensures flags { IfOk result (λ setup. setup.flags ≡ 2) }
     ensures seats { IfOk result (λ setup. length setup.seats ≡ 2) }
 {
-    let mut seats = Vec::with_capacity(alloc, 2)?;
-    seats.push(seat(1))?;
-    seats.push(seat(second_db))?;
+    let seats = Vec::from_array(alloc, [seat(1), seat(second_db)])?;
     Ok(Setup::new(pages, 2, seats, format))
 }
 
+// Two passes, where there are two.
+fn both<P: Drop>(mut passes: Vec<P>) -> (P, P)
+    requires { length passes.items ≡ 2 }
+    ensures { passes.items ≡ result.0 ∷ result.1 ∷ [] }
+{
+    let Some(second) = passes.pop() else {
+        unreachable!()
+    };
+    let Some(first) = passes.pop() else {
+        unreachable!()
+    };
+    (first, second)
+}
+
 // A hub of so many pages and two flags for two sessions, of which the first is in database 1.
-fn open_pages(
+fn open_pages<P: PassView + Send + Drop, H: Hub<Pass = P> + Drop>(
     alloc: Global,
     format: Format,
     pages: u32,
     second_db: u32,
-) -> Result<(WordHub, WordPass, WordPass), Fail>
+) -> Result<(H, P, P), Fail>
     requires some_pages { 2 ≤ pages }
     requires few_pages { pages ≤ 1024 }
     requires db { 0 < second_db }
-    ensures first { IfOk result (λ opened. IsHubPass opened.0 opened.1) }
-    ensures second { IfOk result (λ opened. IsHubPass opened.0 opened.2) }
-    ensures first_out { IfOk result (λ opened. (known_of opened.1).mark ≡ None) }
-    ensures second_out { IfOk result (λ opened. (known_of opened.2).mark ≡ None) }
-    ensures first_session { IfOk result (λ opened. (known_of opened.1).session ≡ 1) }
-    ensures second_session { IfOk result (λ opened. (known_of opened.2).session ≡ 2) }
-    ensures seats { IfOk result (λ opened. length (hub_shape opened.0).seats ≡ 2) }
-    ensures flags { IfOk result (λ opened. (hub_shape opened.0).flags ≡ 2) }
+    ensures first { IfOk result (λ opened. H.is_pass opened.0 opened.1) }
+    ensures second { IfOk result (λ opened. H.is_pass opened.0 opened.2) }
+    ensures first_out { IfOk result (λ opened. (P.known opened.1).mark ≡ None) }
+    ensures second_out { IfOk result (λ opened. (P.known opened.2).mark ≡ None) }
+    ensures first_session { IfOk result (λ opened. (P.known opened.1).session ≡ 1) }
+    ensures second_session { IfOk result (λ opened. (P.known opened.2).session ≡ 2) }
+    ensures seats { IfOk result (λ opened. length (H.shape opened.0).seats ≡ 2) }
+    ensures flags { IfOk result (λ opened. (H.shape opened.0).flags ≡ 2) }
 {
     let setup = setup_of_two(alloc, format, pages, second_db)?;
-    let (hub, mut passes) = WordHub::open(alloc, setup)?;
-    let Some(second) = passes.pop() else {
-        return Err(Fail::from("no pass"));
-    };
-    let Some(first) = passes.pop() else {
-        return Err(Fail::from("one pass"));
-    };
+    let (hub, passes) = H::open(alloc, setup)?;
+    let (first, second) = both(passes);
     Ok((hub, first, second))
 }
 
 // A hub of two pages for two sessions of one database.
-fn open_two(alloc: Global, format: Format) -> Result<(WordHub, WordPass, WordPass), Fail>
-    ensures first { IfOk result (λ opened. IsHubPass opened.0 opened.1) }
-    ensures second { IfOk result (λ opened. IsHubPass opened.0 opened.2) }
-    ensures first_out { IfOk result (λ opened. (known_of opened.1).mark ≡ None) }
-    ensures second_out { IfOk result (λ opened. (known_of opened.2).mark ≡ None) }
-    ensures first_session { IfOk result (λ opened. (known_of opened.1).session ≡ 1) }
-    ensures second_session { IfOk result (λ opened. (known_of opened.2).session ≡ 2) }
-    ensures seats { IfOk result (λ opened. length (hub_shape opened.0).seats ≡ 2) }
-    ensures flags { IfOk result (λ opened. (hub_shape opened.0).flags ≡ 2) }
+fn open_two<P: PassView + Send + Drop, H: Hub<Pass = P> + Drop>(
+    alloc: Global,
+    format: Format,
+) -> Result<(H, P, P), Fail>
+    ensures first { IfOk result (λ opened. H.is_pass opened.0 opened.1) }
+    ensures second { IfOk result (λ opened. H.is_pass opened.0 opened.2) }
+    ensures first_out { IfOk result (λ opened. (P.known opened.1).mark ≡ None) }
+    ensures second_out { IfOk result (λ opened. (P.known opened.2).mark ≡ None) }
+    ensures first_session { IfOk result (λ opened. (P.known opened.1).session ≡ 1) }
+    ensures second_session { IfOk result (λ opened. (P.known opened.2).session ≡ 2) }
+    ensures seats { IfOk result (λ opened. length (H.shape opened.0).seats ≡ 2) }
+    ensures flags { IfOk result (λ opened. (H.shape opened.0).flags ≡ 2) }
 {
     open_pages(alloc, format, 2, 1)
 }
 
 // The number of the transaction that publishes one notification: none where the queue is full, or the session has sent all it may.
-fn publish_one<R: Wait>(
+fn publish_one<P: PassView + Send + Drop, H: Hub<Pass = P>, R: Wait>(
     rt: &R,
-    hub: &WordHub,
-    pass: &mut WordPass,
+    hub: &H,
+    pass: &mut P,
     notes: &[Note; 1],
 ) -> Option<Xid>
-    requires own { IsHubPass hub.now pass.old }
-    ensures own { IsHubPass hub.now pass.new }
-    ensures mark { (known_of pass.new).mark ≡ (known_of pass.old).mark }
-    ensures session { (known_of pass.new).session ≡ (known_of pass.old).session }
+    requires own { H.is_pass hub.now pass.old }
+    ensures own { H.is_pass hub.now pass.new }
+    ensures mark { (P.known pass.new).mark ≡ (P.known pass.old).mark }
+    ensures session { (P.known pass.new).session ≡ (P.known pass.old).session }
 {
     if pass.notes_left() < 1 {
         return None;
@@ -171,11 +201,16 @@ fn publish_one<R: Wait>(
 }
 
 // The same, as a plain number.
-fn publish<R: Wait>(rt: &R, hub: &WordHub, pass: &mut WordPass, notes: &[Note; 1]) -> Option<u32>
-    requires own { IsHubPass hub.now pass.old }
-    ensures own { IsHubPass hub.now pass.new }
-    ensures mark { (known_of pass.new).mark ≡ (known_of pass.old).mark }
-    ensures session { (known_of pass.new).session ≡ (known_of pass.old).session }
+fn publish<P: PassView + Send + Drop, H: Hub<Pass = P>, R: Wait>(
+    rt: &R,
+    hub: &H,
+    pass: &mut P,
+    notes: &[Note; 1],
+) -> Option<u32>
+    requires own { H.is_pass hub.now pass.old }
+    ensures own { H.is_pass hub.now pass.new }
+    ensures mark { (P.known pass.new).mark ≡ (P.known pass.old).mark }
+    ensures session { (P.known pass.new).session ≡ (P.known pass.old).session }
 {
     match publish_one(rt, hub, pass, notes) {
         Some(xid) => Some(xid.get()),
@@ -184,18 +219,18 @@ fn publish<R: Wait>(rt: &R, hub: &WordHub, pass: &mut WordPass, notes: &[Note; 1
 }
 
 // The same of a notification on a channel whose payload has so many letters, if memory suffices for it.
-fn send_on<R: Wait>(
+fn send_on<P: PassView + Send + Drop, H: Hub<Pass = P>, R: Wait>(
     rt: &R,
     alloc: Global,
-    hub: &WordHub,
-    pass: &mut WordPass,
+    hub: &H,
+    pass: &mut P,
     channel: &str,
     letters: usize,
 ) -> Option<u32>
-    requires own { IsHubPass hub.now pass.old }
-    ensures own { IsHubPass hub.now pass.new }
-    ensures mark { (known_of pass.new).mark ≡ (known_of pass.old).mark }
-    ensures session { (known_of pass.new).session ≡ (known_of pass.old).session }
+    requires own { H.is_pass hub.now pass.old }
+    ensures own { H.is_pass hub.now pass.new }
+    ensures mark { (P.known pass.new).mark ≡ (P.known pass.old).mark }
+    ensures session { (P.known pass.new).session ≡ (P.known pass.old).session }
 {
     match note_on(alloc, channel, letters) {
         Some(note) => publish(rt, hub, pass, &[note]),
@@ -204,26 +239,31 @@ fn send_on<R: Wait>(
 }
 
 // The same on the channel `c`.
-fn send<R: Wait>(
+fn send<P: PassView + Send + Drop, H: Hub<Pass = P>, R: Wait>(
     rt: &R,
     alloc: Global,
-    hub: &WordHub,
-    pass: &mut WordPass,
+    hub: &H,
+    pass: &mut P,
     letters: usize,
 ) -> Option<u32>
-    requires own { IsHubPass hub.now pass.old }
-    ensures own { IsHubPass hub.now pass.new }
-    ensures mark { (known_of pass.new).mark ≡ (known_of pass.old).mark }
-    ensures session { (known_of pass.new).session ≡ (known_of pass.old).session }
+    requires own { H.is_pass hub.now pass.old }
+    ensures own { H.is_pass hub.now pass.new }
+    ensures mark { (P.known pass.new).mark ≡ (P.known pass.old).mark }
+    ensures session { (P.known pass.new).session ≡ (P.known pass.old).session }
 {
     send_on(rt, alloc, hub, pass, "c", letters)
 }
 
 // Sends a largest notification four times.
-fn send_four<R: Wait>(rt: &R, alloc: Global, hub: &WordHub, pass: &mut WordPass)
-    requires own { IsHubPass hub.now pass.old }
-    ensures own { IsHubPass hub.now pass.new }
-    ensures mark { (known_of pass.new).mark ≡ (known_of pass.old).mark }
+fn send_four<P: PassView + Send + Drop, H: Hub<Pass = P>, R: Wait>(
+    rt: &R,
+    alloc: Global,
+    hub: &H,
+    pass: &mut P,
+)
+    requires own { H.is_pass hub.now pass.old }
+    ensures own { H.is_pass hub.now pass.new }
+    ensures mark { (P.known pass.new).mark ≡ (P.known pass.old).mark }
 {
     send(rt, alloc, hub, pass, LARGEST);
     send(rt, alloc, hub, pass, LARGEST);
@@ -233,12 +273,17 @@ fn send_four<R: Wait>(rt: &R, alloc: Global, hub: &WordHub, pass: &mut WordPass)
 
 // Tells that the session listens on the channel `c`, and reads on: the new mark, if memory suffices, and what was received is put
 // behind `got`.
-fn read(alloc: Global, hub: &WordHub, pass: &mut WordPass, got: &mut Vec<Delivery>) -> Option<u32>
-    requires own { IsHubPass hub.now pass.old }
-    requires listens { IsSome (known_of pass.old).mark }
-    ensures own { IsHubPass hub.now pass.new }
-    ensures listens { IsSome (known_of pass.new).mark }
-    ensures session { (known_of pass.new).session ≡ (known_of pass.old).session }
+fn read<P: PassView + Send + Drop, H: Hub<Pass = P>>(
+    alloc: Global,
+    hub: &H,
+    pass: &mut P,
+    got: &mut Vec<Delivery>,
+) -> Option<u32>
+    requires own { H.is_pass hub.now pass.old }
+    requires listens { IsSome (P.known pass.old).mark }
+    ensures own { H.is_pass hub.now pass.new }
+    ensures listens { IsSome (P.known pass.new).mark }
+    ensures session { (P.known pass.new).session ≡ (P.known pass.old).session }
 {
     let set = set_of_c(alloc)?;
     hub.interest(pass, &set);
@@ -249,12 +294,16 @@ fn read(alloc: Global, hub: &WordHub, pass: &mut WordPass, got: &mut Vec<Deliver
 }
 
 // Reads on: the new mark, and how many notifications were received.
-fn receive(alloc: Global, hub: &WordHub, pass: &mut WordPass) -> Option<(u32, usize)>
-    requires own { IsHubPass hub.now pass.old }
-    requires listens { IsSome (known_of pass.old).mark }
-    ensures own { IsHubPass hub.now pass.new }
-    ensures listens { IsSome (known_of pass.new).mark }
-    ensures session { (known_of pass.new).session ≡ (known_of pass.old).session }
+fn receive<P: PassView + Send + Drop, H: Hub<Pass = P>>(
+    alloc: Global,
+    hub: &H,
+    pass: &mut P,
+) -> Option<(u32, usize)>
+    requires own { H.is_pass hub.now pass.old }
+    requires listens { IsSome (P.known pass.old).mark }
+    ensures own { H.is_pass hub.now pass.new }
+    ensures listens { IsSome (P.known pass.new).mark }
+    ensures session { (P.known pass.new).session ≡ (P.known pass.old).session }
 {
     let mut got = Vec::new(alloc);
     match read(alloc, hub, pass, &mut got) {
@@ -263,15 +312,41 @@ fn receive(alloc: Global, hub: &WordHub, pass: &mut WordPass) -> Option<(u32, us
     }
 }
 
-// A session listens on the channel `c` from here on, and owes no read.
-fn listen(alloc: Global, hub: &WordHub, pass: &mut WordPass) -> Option<Enlisted>
-    requires own { IsHubPass hub.now pass.old }
-    requires out { (known_of pass.old).mark ≡ None }
-    ensures own { IsHubPass hub.now pass.new }
-    ensures listens { IsSome (known_of pass.new).mark }
-    ensures session { (known_of pass.new).session ≡ (known_of pass.old).session }
+// A session listens from here on.
+fn enlist<P: PassView + Send + Drop, H: Hub<Pass = P>>(hub: &H, pass: &mut P) -> Enlisted
+    requires own { H.is_pass hub.now pass.old }
+    requires out { (P.known pass.old).mark ≡ None }
+    ensures own { H.is_pass hub.now pass.new }
+    ensures listens { IsSome (P.known pass.new).mark }
+    ensures session { (P.known pass.new).session ≡ (P.known pass.old).session }
 {
-    let enlisted = hub.enlist(pass);
+    hub.enlist(pass)
+}
+
+// Whether a listener is to read.
+fn woken<P: PassView + Send + Drop, H: Hub<Pass = P>>(hub: &H, pass: &mut P) -> bool
+    requires own { H.is_pass hub.now pass.old }
+    requires listens { IsSome (P.known pass.old).mark }
+    ensures own { H.is_pass hub.now pass.new }
+    ensures listens { IsSome (P.known pass.new).mark }
+    ensures session { (P.known pass.new).session ≡ (P.known pass.old).session }
+{
+    hub.woken(pass)
+}
+
+// A session listens on the channel `c` from here on, and owes no read.
+fn listen<P: PassView + Send + Drop, H: Hub<Pass = P>>(
+    alloc: Global,
+    hub: &H,
+    pass: &mut P,
+) -> Option<Enlisted>
+    requires own { H.is_pass hub.now pass.old }
+    requires out { (P.known pass.old).mark ≡ None }
+    ensures own { H.is_pass hub.now pass.new }
+    ensures listens { IsSome (P.known pass.new).mark }
+    ensures session { (P.known pass.new).session ≡ (P.known pass.old).session }
+{
+    let enlisted = enlist(hub, pass);
     match receive(alloc, hub, pass) {
         Some(_) => Some(enlisted),
         None => None,
@@ -290,31 +365,52 @@ fn advance<R: Wait>(rt: &R, hub: &WordHub, pass: &mut WordPass) -> (u64, u64, Op
 }
 
 // One pass hears of what another one knows: what it is told then.
-fn tell(hub: &WordHub, from: &mut WordPass, into: &mut WordPass) -> u32
-    requires from { IsHubPass hub.now from.old }
-    requires into { IsHubPass hub.now into.old }
-    ensures from { IsHubPass hub.now from.new }
-    ensures from_session { (known_of from.new).session ≡ (known_of from.old).session }
-    ensures into { IsHubPass hub.now into.new }
-    ensures into_session { (known_of into.new).session ≡ (known_of into.old).session }
+fn tell<P: PassView + Send + Drop, H: Hub<Pass = P>>(hub: &H, from: &mut P, into: &mut P) -> u32
+    requires from { H.is_pass hub.now from.old }
+    requires into { H.is_pass hub.now into.old }
+    ensures from { H.is_pass hub.now from.new }
+    ensures from_session { (P.known from.new).session ≡ (P.known from.old).session }
+    ensures into { H.is_pass hub.now into.new }
+    ensures into_session { (P.known into.new).session ≡ (P.known into.old).session }
 {
     hub.meet(from, into);
     into.told().get()
 }
 
-// Ends the hub: how many transactions its journal has.
-fn count_journal(
-    alloc: Global,
-    hub: WordHub,
-    first: WordPass,
-    second: WordPass,
-) -> Result<u32, Fail>
-    requires first { IsHubPass hub first }
-    requires second { IsHubPass hub second }
-    requires first_session { (known_of first).session ≡ 1 }
-    requires second_session { (known_of second).session ≡ 2 }
-    requires seats { length (hub_shape hub).seats ≡ 2 }
+// Two passes, in order.
+fn pair<P: Drop>(alloc: Global, first: P, second: P) -> Result<Vec<P>, AllocError>
+    ensures { IfOk result (λ passes. passes.items ≡ first ∷ second ∷ []) }
 {
-    let passes = Vec::from_array(alloc, [first, second])?;
-    Ok(hub.gather(passes).count)
+    let mut passes = Vec::new(alloc);
+    let Ok(()) = passes.reserve(2) else {
+        drop(first);
+        drop(second);
+        drop(passes);
+        return Err(AllocError);
+    };
+    passes.push(first).unwrap();
+    passes.push(second).unwrap();
+    Ok(passes)
+}
+
+// Ends the hub: how many transactions its journal has.
+fn count_journal<P: PassView + Send + Drop, H: Hub<Pass = P> + Drop>(
+    alloc: Global,
+    hub: H,
+    first: P,
+    second: P,
+) -> Result<u32, Fail>
+    requires first { H.is_pass hub first }
+    requires second { H.is_pass hub second }
+    requires first_session { (P.known first).session ≡ 1 }
+    requires second_session { (P.known second).session ≡ 2 }
+    requires seats { length (H.shape hub).seats ≡ 2 }
+{
+    match pair(alloc, first, second) {
+        Ok(passes) => Ok(hub.gather(passes).count),
+        Err(_) => {
+            drop(hub);
+            Err(Fail::from("no memory"))
+        }
+    }
 }

@@ -1,7 +1,6 @@
 //! Bells: who has armed its own is rung by what it waits for, and no ring is lost.
 ghost use Rattle.std.specs.Prelude.{◌≡◌, ◌<◌, length, None, IsSome, IfOk};
-ghost use Rattle.pgn_words.specs.Passes.{known_of};
-ghost use Rattle.pgn_wordhub.specs.Passes.{IsHubPass, hub_shape};
+ghost use Rattle.pgn_wordhub.specs.Passes.{hub_shape};
 
 use super::*;
 use std::process::Abort;
@@ -102,51 +101,66 @@ fn one_dozes_first<R: Threads + Wait + Sync>(rt: &R, hub: &WordHub)
 // A ring that is lost leaves a thread asleep for ever.
 #[test]
 fn no_ring_is_lost(rt: HostRuntime) -> Result<(), Fail> {
-    let (hub, _first, _second) = open_two(rt.alloc(), Format::One)?;
+    let (hub, _first, _second) = open_two::<WordPass, WordHub>(rt.alloc(), Format::One)?;
     both_ring_first(&rt, &hub);
     one_dozes_first(&rt, &hub);
     Ok(())
 }
 
 // Two sessions, of which the second listens on `c`, has read all, and has armed its bell.
-fn open_armed(alloc: Global) -> Result<(WordHub, WordPass, WordPass), Fail>
-    ensures first { IfOk result (λ opened. IsHubPass opened.0 opened.1) }
-    ensures second { IfOk result (λ opened. IsHubPass opened.0 opened.2) }
-    ensures listens { IfOk result (λ opened. IsSome (known_of opened.2).mark) }
-    ensures seats { IfOk result (λ opened. length (hub_shape opened.0).seats ≡ 2) }
-    ensures flags { IfOk result (λ opened. (hub_shape opened.0).flags ≡ 2) }
+fn open_armed<P: PassView + Send + Drop, H: Hub<Pass = P> + Drop>(
+    alloc: Global,
+) -> Result<(H, P, P), Fail>
+    ensures first { IfOk result (λ opened. H.is_pass opened.0 opened.1) }
+    ensures second { IfOk result (λ opened. H.is_pass opened.0 opened.2) }
+    ensures listens { IfOk result (λ opened. IsSome (P.known opened.2).mark) }
+    ensures seats { IfOk result (λ opened. length (H.shape opened.0).seats ≡ 2) }
+    ensures flags { IfOk result (λ opened. (H.shape opened.0).flags ≡ 2) }
 {
-    let (hub, first, mut second) = open_two(alloc, Format::One)?;
-    hub.enlist(&mut second);
+    let (hub, first, mut second) = open_two::<P, H>(alloc, Format::One)?;
+    enlist(&hub, &mut second);
     receive(alloc, &hub, &mut second);
-    hub.woken(&mut second);
+    woken(&hub, &mut second);
     hub.arm(SECOND);
     Ok((hub, first, second))
 }
 
 // Whether the second session, which has dozed until its bell rang, is to read.
-fn dozes_and_is_woken<R: Wait>(rt: &R, hub: &WordHub, pass: &mut WordPass) -> bool
-    requires own { IsHubPass hub.now pass.old }
-    requires listens { IsSome (known_of pass.old).mark }
-    requires seats { length (hub_shape hub.now).seats ≡ 2 }
+fn dozes_and_is_woken<P: PassView + Send + Drop, H: Hub<Pass = P>, R: Wait>(
+    rt: &R,
+    hub: &H,
+    pass: &mut P,
+) -> bool
+    requires own { H.is_pass hub.now pass.old }
+    requires listens { IsSome (P.known pass.old).mark }
+    requires seats { length (H.shape hub.now).seats ≡ 2 }
 {
     hub.doze(rt, SECOND, Duration::MAX);
-    hub.woken(pass)
+    woken(hub, pass)
+}
+
+fn assert_rung_by_a_commit<P: PassView + Send + Drop, H: Hub<Pass = P> + Drop, R: Wait + Abort>(
+    rt: &R,
+    alloc: Global,
+) -> Result<(), Fail> {
+    let (hub, mut first, mut second) = open_armed::<P, H>(alloc)?;
+    let sent = send(rt, alloc, &hub, &mut first, 1);
+    assert!(rt; sent.is_some());
+    assert!(rt; dozes_and_is_woken(rt, &hub, &mut second));
+    Ok(())
 }
 
 #[test]
 fn a_commit_rings_who_listens(rt: HostRuntime) -> Result<(), Fail> {
-    let alloc = rt.alloc();
-    let (hub, mut first, mut second) = open_armed(alloc)?;
-    let sent = send(&rt, alloc, &hub, &mut first, 1);
-    assert!(rt; sent.is_some());
-    assert!(rt; dozes_and_is_woken(&rt, &hub, &mut second));
-    Ok(())
+    assert_rung_by_a_commit::<WordPass, WordHub, HostRuntime>(&rt, rt.alloc())
 }
 
 // Whether a doze of the second session lasts as long as it may.
-fn dozes_to_the_end<R: Wait + Clock>(rt: &R, hub: &WordHub) -> Result<bool, Fail>
-    requires { length (hub_shape hub.now).seats ≡ 2 }
+fn dozes_to_the_end<P: PassView + Send + Drop, H: Hub<Pass = P>, R: Wait + Clock>(
+    rt: &R,
+    hub: &H,
+) -> Result<bool, Fail>
+    requires { length (H.shape hub.now).seats ≡ 2 }
 {
     let short = Duration::from_millis(SHORT);
     let begun = Instant::now(rt)?;
@@ -155,39 +169,73 @@ fn dozes_to_the_end<R: Wait + Clock>(rt: &R, hub: &WordHub) -> Result<bool, Fail
     Ok(slept >= short)
 }
 
+fn assert_not_rung<P: PassView + Send + Drop, H: Hub<Pass = P> + Drop, R: Wait + Clock + Abort>(
+    rt: &R,
+    alloc: Global,
+) -> Result<(), Fail> {
+    let (hub, mut first, second) = open_armed::<P, H>(alloc)?;
+    let sent = send_on(rt, alloc, &hub, &mut first, "d", 1);
+    let dozed = dozes_to_the_end::<P, H, R>(rt, &hub);
+    drop(first);
+    drop(second);
+    drop(hub);
+    assert!(rt; sent.is_some());
+    assert!(rt; dozed?);
+    Ok(())
+}
+
 #[test]
 fn a_commit_on_another_channel_rings_nobody(rt: HostRuntime) -> Result<(), Fail> {
-    let alloc = rt.alloc();
-    let (hub, mut first, _second) = open_armed(alloc)?;
-    let sent = send_on(&rt, alloc, &hub, &mut first, "d", 1);
-    assert!(rt; sent.is_some());
-    assert!(rt; dozes_to_the_end(&rt, &hub)?);
+    assert_not_rung::<WordPass, WordHub, HostRuntime>(&rt, rt.alloc())
+}
+
+// The first session raises a flag, and the second one dozes until that rings it.
+fn raise_and_doze<P: PassView + Send + Drop, H: Hub<Pass = P> + Drop, R: Wait>(
+    rt: &R,
+    alloc: Global,
+) -> Result<(), Fail> {
+    let (hub, mut first, _second) = open_armed::<P, H>(alloc)?;
+    hub.raise(&mut first, 0);
+    hub.doze(rt, SECOND, Duration::MAX);
     Ok(())
 }
 
 #[test]
 fn a_raise_rings_who_waits(rt: HostRuntime) -> Result<(), Fail> {
-    let (hub, mut first, _second) = open_armed(rt.alloc())?;
-    hub.raise(&mut first, 0);
-    hub.doze(&rt, SECOND, Duration::MAX);
-    Ok(())
+    raise_and_doze::<WordPass, WordHub, HostRuntime>(&rt, rt.alloc())
+}
+
+// The run is called off, and the second session dozes until that rings it: whether the run is called off then.
+fn call_off_and_doze<P: PassView + Send + Drop, H: Hub<Pass = P> + Drop, R: Wait>(
+    rt: &R,
+    alloc: Global,
+) -> Result<bool, Fail> {
+    let (hub, _first, _second) = open_armed::<P, H>(alloc)?;
+    hub.call_off();
+    hub.doze(rt, SECOND, Duration::MAX);
+    Ok(hub.is_called_off())
 }
 
 #[test]
 fn a_run_that_is_called_off_rings_who_waits(rt: HostRuntime) -> Result<(), Fail> {
-    let (hub, _first, _second) = open_armed(rt.alloc())?;
-    hub.call_off();
-    hub.doze(&rt, SECOND, Duration::MAX);
-    assert!(rt; hub.is_called_off());
+    assert!(rt; call_off_and_doze::<WordPass, WordHub, HostRuntime>(&rt, rt.alloc())?);
+    Ok(())
+}
+
+// The second session is rung, and dozes twice.
+fn ring_and_doze_twice<P: PassView + Send + Drop, H: Hub<Pass = P> + Drop, R: Wait>(
+    rt: &R,
+    alloc: Global,
+) -> Result<(), Fail> {
+    let (hub, _first, _second) = open_armed::<P, H>(alloc)?;
+    hub.ring(SECOND);
+    hub.doze(rt, SECOND, Duration::MAX);
+    hub.doze(rt, SECOND, Duration::MAX);
     Ok(())
 }
 
 // A bell that has rung is not armed, and a doze leaves it so.
 #[test]
 fn who_has_not_armed_does_not_doze(rt: HostRuntime) -> Result<(), Fail> {
-    let (hub, _first, _second) = open_armed(rt.alloc())?;
-    hub.ring(SECOND);
-    hub.doze(&rt, SECOND, Duration::MAX);
-    hub.doze(&rt, SECOND, Duration::MAX);
-    Ok(())
+    ring_and_doze_twice::<WordPass, WordHub, HostRuntime>(&rt, rt.alloc())
 }

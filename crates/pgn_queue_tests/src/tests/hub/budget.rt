@@ -1,31 +1,47 @@
 //! A hub for as many notifications as a hub may let all sessions send.
-ghost use Rattle.std.specs.Prelude.{IfOk};
-ghost use Rattle.pgn_wordhub.specs.Passes.{IsHubPass};
+ghost use Rattle.std.specs.Prelude.{◌≡◌, [], ◌∷◌, length, IfOk};
 
 use super::*;
 use pgn_base::{HUB_NOTES_MAX, PAGES_MAX};
+use std::process::Abort;
+
+// The pass of a hub for one session.
+fn only<P: Drop>(mut passes: Vec<P>) -> P
+    requires { length passes.items ≡ 1 }
+    ensures { passes.items ≡ result ∷ [] }
+{
+    let Some(pass) = passes.pop() else {
+        unreachable!()
+    };
+    pass
+}
 
 // A hub for one session, which may send all of them.
-fn open_one(alloc: Global) -> Result<(WordHub, WordPass), Fail>
-    ensures own { IfOk result (λ opened. IsHubPass opened.0 opened.1) }
+fn open_one<P: PassView + Send + Drop, H: Hub<Pass = P> + Drop>(
+    alloc: Global,
+) -> Result<(H, P), Fail>
+    ensures own { IfOk result (λ opened. H.is_pass opened.0 opened.1) }
 {
-    let mut seats = Vec::with_capacity(alloc, 1)?;
-    seats.push(SeatSetup {
+    let seat = SeatSetup {
         db: DbOid::new(1),
         notes: HUB_NOTES_MAX,
-    })?;
-    let setup = Setup::new(PAGES_MAX, 1, seats, Format::One);
-    let (hub, mut passes) = WordHub::open(alloc, setup)?;
-    let Some(pass) = passes.pop() else {
-        return Err(Fail::from("no pass"));
     };
+    let seats = Vec::from_array(alloc, [seat])?;
+    let setup = Setup::new(PAGES_MAX, 1, seats, Format::One);
+    let (hub, passes) = H::open(alloc, setup)?;
+    let pass = only(passes);
     Ok((hub, pass))
 }
 
 // Sends all of them, a transaction each, unless one is refused: the number of the last transaction.
-fn send_all<R: Wait>(rt: &R, hub: &WordHub, pass: &mut WordPass, notes: &[Note; 1]) -> Option<u32>
-    requires own { IsHubPass hub.now pass.old }
-    ensures own { IsHubPass hub.now pass.new }
+fn send_all<P: PassView + Send + Drop, H: Hub<Pass = P>, R: Wait>(
+    rt: &R,
+    hub: &H,
+    pass: &mut P,
+    notes: &[Note; 1],
+) -> Option<u32>
+    requires own { H.is_pass hub.now pass.old }
+    ensures own { H.is_pass hub.now pass.new }
 {
     let mut last = None;
     'notes: for _ in 0..HUB_NOTES_MAX {
@@ -37,14 +53,25 @@ fn send_all<R: Wait>(rt: &R, hub: &WordHub, pass: &mut WordPass, notes: &[Note; 
     last
 }
 
+fn assert_all_sent<P: PassView + Send + Drop, H: Hub<Pass = P> + Drop, R: Wait + Abort>(
+    rt: &R,
+    alloc: Global,
+    notes: &[Note; 1],
+) -> Result<(), Fail> {
+    let (hub, mut pass) = open_one::<P, H>(alloc)?;
+    let last = send_all(rt, &hub, &mut pass, notes);
+    assert_eq!(rt; last, Some(1_048_577));
+    assert_eq!(rt; pass.notes_left(), 0);
+    Ok(())
+}
+
 // The first transaction is number 3. None is left behind the last.
 #[test]
 fn a_hub_sends_the_last_that_it_may(rt: HostRuntime) -> Result<(), Fail> {
     let alloc = rt.alloc();
-    let (hub, mut pass) = open_one(alloc)?;
-    let notes = [note(alloc, 1).ok_or("no memory")?];
-    let last = send_all(&rt, &hub, &mut pass, &notes);
-    assert_eq!(rt; last, Some(1_048_577));
-    assert_eq!(rt; pass.notes_left(), 0);
-    Ok(())
+    let note = note(alloc, 1).ok_or("no memory")?;
+    let notes = [note];
+    let done = assert_all_sent::<WordPass, WordHub, HostRuntime>(&rt, alloc, &notes);
+    drop(notes);
+    done
 }

@@ -3,15 +3,15 @@ use super::*;
 
 // A largest notification and two others with so many letters are sent, and read by a listener: the pages in use before it has read,
 // its new mark, and how many it has received.
-fn send_three<R: Wait>(
+fn send_three<P: PassView + Send + Drop, H: Hub<Pass = P> + Drop, R: Wait>(
     rt: &R,
     alloc: Global,
     format: Format,
     second: usize,
     third: usize,
 ) -> Result<(u64, Option<(u32, usize)>), Fail> {
-    let (hub, mut reader, mut writer) = open_two(alloc, format)?;
-    hub.enlist(&mut reader);
+    let (hub, mut reader, mut writer) = open_two::<P, H>(alloc, format)?;
+    enlist(&hub, &mut reader);
     send(rt, alloc, &hub, &mut writer, LARGEST);
     send(rt, alloc, &hub, &mut writer, second);
     send(rt, alloc, &hub, &mut writer, third);
@@ -39,7 +39,13 @@ const THREE: [(Format, usize, usize, u64); 6] = [
 #[test]
 fn entries_lie_by_their_format(rt: HostRuntime) -> Result<(), Fail> {
     for (format, second, third, page) in THREE {
-        let sent = send_three(&rt, rt.alloc(), format, second, third)?;
+        let sent = send_three::<WordPass, WordHub, HostRuntime>(
+            &rt,
+            rt.alloc(),
+            format,
+            second,
+            third,
+        )?;
         assert_eq!(rt; sent, (page, Some((6, 3))));
     }
     Ok(())

@@ -1,17 +1,20 @@
 //! A full queue, and what frees it.
 ghost use Rattle.std.specs.Prelude.{◌≡◌, ◌≢◌, None, IsSome, IfSome, AllPairs};
-ghost use Rattle.pgn_words.specs.Passes.{known_of};
-ghost use Rattle.pgn_wordhub.specs.Passes.{IsHubPass};
 
 use super::*;
 use pgn_base::Full;
 use std::process::Abort;
 
 // Why one of the largest notifications met a full queue.
-fn meet_full<R: Wait>(rt: &R, alloc: Global, hub: &WordHub, pass: &mut WordPass) -> Option<Full>
-    requires own { IsHubPass hub.now pass.old }
-    ensures own { IsHubPass hub.now pass.new }
-    ensures mark { (known_of pass.new).mark ≡ (known_of pass.old).mark }
+fn meet_full<P: PassView + Send + Drop, H: Hub<Pass = P>, R: Wait>(
+    rt: &R,
+    alloc: Global,
+    hub: &H,
+    pass: &mut P,
+) -> Option<Full>
+    requires own { H.is_pass hub.now pass.old }
+    ensures own { H.is_pass hub.now pass.new }
+    ensures mark { (P.known pass.new).mark ≡ (P.known pass.old).mark }
 {
     match note(alloc, LARGEST) {
         Some(note) => why_full(rt, hub, pass, &[note]),
@@ -20,10 +23,15 @@ fn meet_full<R: Wait>(rt: &R, alloc: Global, hub: &WordHub, pass: &mut WordPass)
 }
 
 // Why this one met it.
-fn why_full<R: Wait>(rt: &R, hub: &WordHub, pass: &mut WordPass, notes: &[Note; 1]) -> Option<Full>
-    requires own { IsHubPass hub.now pass.old }
-    ensures own { IsHubPass hub.now pass.new }
-    ensures mark { (known_of pass.new).mark ≡ (known_of pass.old).mark }
+fn why_full<P: PassView + Send + Drop, H: Hub<Pass = P>, R: Wait>(
+    rt: &R,
+    hub: &H,
+    pass: &mut P,
+    notes: &[Note; 1],
+) -> Option<Full>
+    requires own { H.is_pass hub.now pass.old }
+    ensures own { H.is_pass hub.now pass.new }
+    ensures mark { (P.known pass.new).mark ≡ (P.known pass.old).mark }
 {
     if pass.notes_left() < 1 {
         return None;
@@ -32,10 +40,15 @@ fn why_full<R: Wait>(rt: &R, hub: &WordHub, pass: &mut WordPass, notes: &[Note; 
 }
 
 // Two largest notifications fill two pages.
-fn fill<R: Wait>(rt: &R, alloc: Global, hub: &WordHub, pass: &mut WordPass) -> bool
-    requires own { IsHubPass hub.now pass.old }
-    ensures own { IsHubPass hub.now pass.new }
-    ensures mark { (known_of pass.new).mark ≡ (known_of pass.old).mark }
+fn fill<P: PassView + Send + Drop, H: Hub<Pass = P>, R: Wait>(
+    rt: &R,
+    alloc: Global,
+    hub: &H,
+    pass: &mut P,
+) -> bool
+    requires own { H.is_pass hub.now pass.old }
+    ensures own { H.is_pass hub.now pass.new }
+    ensures mark { (P.known pass.new).mark ≡ (P.known pass.old).mark }
 {
     let first = send(rt, alloc, hub, pass, LARGEST);
     let second = send(rt, alloc, hub, pass, LARGEST);
@@ -55,14 +68,14 @@ fn held_by_the_listener() -> Full {
 }
 
 // The queue is full twice: why, and the number of the second transaction.
-fn meet_full_twice<R: Wait>(
+fn meet_full_twice<P: PassView + Send + Drop, H: Hub<Pass = P>, R: Wait>(
     rt: &R,
     alloc: Global,
-    hub: &WordHub,
-    pass: &mut WordPass,
+    hub: &H,
+    pass: &mut P,
 ) -> (Option<Full>, Option<u32>)
-    requires own { IsHubPass hub.now pass.old }
-    ensures own { IsHubPass hub.now pass.new }
+    requires own { H.is_pass hub.now pass.old }
+    ensures own { H.is_pass hub.now pass.new }
 {
     let full = meet_full(rt, alloc, hub, pass);
     (full, send(rt, alloc, hub, pass, LARGEST))
@@ -70,16 +83,16 @@ fn meet_full_twice<R: Wait>(
 
 // A listener reads, another session sends a short notification, and the listener reads on: what it has received each time, and the
 // number in between.
-fn read_and_send<R: Wait>(
+fn read_and_send<P: PassView + Send + Drop, H: Hub<Pass = P>, R: Wait>(
     rt: &R,
     alloc: Global,
-    hub: &WordHub,
-    reader: &mut WordPass,
-    writer: &mut WordPass,
+    hub: &H,
+    reader: &mut P,
+    writer: &mut P,
 ) -> (Option<(u32, usize)>, Option<u32>, Option<(u32, usize)>)
-    requires reader { IsHubPass hub.now reader.old }
-    requires listens { IsSome (known_of reader.old).mark }
-    requires writer { IsHubPass hub.now writer.old }
+    requires reader { H.is_pass hub.now reader.old }
+    requires listens { IsSome (P.known reader.old).mark }
+    requires writer { H.is_pass hub.now writer.old }
 {
     let before = receive(alloc, hub, reader);
     let number = send(rt, alloc, hub, writer, 4);
@@ -87,9 +100,13 @@ fn read_and_send<R: Wait>(
     (before, number, after)
 }
 
-fn assert_freed<R: Wait + Abort>(rt: &R, alloc: Global, format: Format) -> Result<(), Fail> {
-    let (hub, mut first, mut second) = open_two(alloc, format)?;
-    hub.enlist(&mut first);
+fn assert_freed<P: PassView + Send + Drop, H: Hub<Pass = P> + Drop, R: Wait + Abort>(
+    rt: &R,
+    alloc: Global,
+    format: Format,
+) -> Result<(), Fail> {
+    let (hub, mut first, mut second) = open_two::<P, H>(alloc, format)?;
+    enlist(&hub, &mut first);
     assert!(rt; fill(rt, alloc, &hub, &mut second));
     let full = meet_full_twice(rt, alloc, &hub, &mut second);
     assert_eq!(rt; full, (Some(held_by_the_listener()), None));
@@ -101,7 +118,7 @@ fn assert_freed<R: Wait + Abort>(rt: &R, alloc: Global, format: Format) -> Resul
 #[test]
 fn full_and_freed_by_a_read(rt: HostRuntime) -> Result<(), Fail> {
     for format in [Format::One, Format::Two] {
-        assert_freed(&rt, rt.alloc(), format)?;
+        assert_freed::<WordPass, WordHub, HostRuntime>(&rt, rt.alloc(), format)?;
     }
     Ok(())
 }
@@ -123,21 +140,28 @@ fn three_notes(alloc: Global) -> Option<[Note; 3]>
     ensures { IfSome result (λ notes. AllPairs (λ a b. a ≢ b) notes) }
 {
     let first = note(alloc, LARGEST - 2)?;
-    let second = note(alloc, LARGEST - 1)?;
-    let third = note(alloc, LARGEST)?;
+    let Some(second) = note(alloc, LARGEST - 1) else {
+        drop(first);
+        return None;
+    };
+    let Some(third) = note(alloc, LARGEST) else {
+        drop(first);
+        drop(second);
+        return None;
+    };
     Some([first, second, third])
 }
 
 // Why a transaction of them met a full queue.
-fn send_three<R: Wait>(
+fn send_three<P: PassView + Send + Drop, H: Hub<Pass = P>, R: Wait>(
     rt: &R,
-    hub: &WordHub,
-    pass: &mut WordPass,
+    hub: &H,
+    pass: &mut P,
     notes: &[Note; 3],
 ) -> Option<Full>
-    requires own { IsHubPass hub.now pass.old }
+    requires own { H.is_pass hub.now pass.old }
     requires different { AllPairs (λ a b. a ≢ b) notes.now }
-    ensures own { IsHubPass hub.now pass.new }
+    ensures own { H.is_pass hub.now pass.new }
 {
     if pass.notes_left() < 3 {
         return None;
@@ -145,13 +169,25 @@ fn send_three<R: Wait>(
     hub.publish(rt, pass, notes).err()
 }
 
+fn assert_too_large<P: PassView + Send + Drop, H: Hub<Pass = P> + Drop, R: Wait + Abort>(
+    rt: &R,
+    alloc: Global,
+    notes: &[Note; 3],
+) -> Result<(), Fail>
+    requires { AllPairs (λ a b. a ≢ b) notes.now }
+{
+    let (hub, mut first, _second) = open_two::<P, H>(alloc, Format::One)?;
+    let full = send_three(rt, &hub, &mut first, notes);
+    assert_eq!(rt; full, Some(held_by_nobody()));
+    assert_eq!(rt; send(rt, alloc, &hub, &mut first, 0), Some(4));
+    Ok(())
+}
+
 #[test]
 fn full_without_a_listener(rt: HostRuntime) -> Result<(), Fail> {
     let alloc = rt.alloc();
     let notes = three_notes(alloc).ok_or("no memory")?;
-    let (hub, mut first, _second) = open_two(alloc, Format::One)?;
-    let full = send_three(&rt, &hub, &mut first, &notes);
-    assert_eq!(rt; full, Some(held_by_nobody()));
-    assert_eq!(rt; send(&rt, alloc, &hub, &mut first, 0), Some(4));
-    Ok(())
+    let done = assert_too_large::<WordPass, WordHub, HostRuntime>(&rt, alloc, &notes);
+    drop(notes);
+    done
 }

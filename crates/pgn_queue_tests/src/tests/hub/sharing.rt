@@ -1,8 +1,6 @@
 //! Two sessions that share the queue for long.
 ghost use Rattle.std.specs.Prelude.{◌≡◌, ◌<◌, true, length, None, IsSome};
 ghost use Rattle.std.specs.Thread.{IsSync, IsSend};
-ghost use Rattle.pgn_words.specs.Passes.{known_of};
-ghost use Rattle.pgn_wordhub.specs.Passes.{IsHubPass};
 
 use super::*;
 use std::alloc::AllocError;
@@ -12,22 +10,32 @@ use std::thread::{Threads, join_mut};
 /// How often a session tries.
 const TIMES: usize = 4000;
 
+// A notification with so many letters on the channel `c`, and its set, if memory suffices.
+fn note_and_set(alloc: Global, letters: usize) -> Option<([Note; 1], ListenSet)> {
+    let note = note(alloc, letters)?;
+    let Some(set) = set_of_c(alloc) else {
+        drop(note);
+        return None;
+    };
+    Some(([note], set))
+}
+
 // One session sends, and another reads: whether that was sent, and one notification was received.
-fn send_and_read<R: Wait>(
+fn send_and_read<P: PassView + Send + Drop, H: Hub<Pass = P>, R: Wait>(
     rt: &R,
     alloc: Global,
-    hub: &WordHub,
-    writer: &mut WordPass,
-    reader: &mut WordPass,
+    hub: &H,
+    writer: &mut P,
+    reader: &mut P,
     notes: &[Note; 1],
     set: &ListenSet,
 ) -> bool
-    requires writer { IsHubPass hub.now writer.old }
-    requires reader { IsHubPass hub.now reader.old }
-    requires listens { IsSome (known_of reader.old).mark }
-    ensures writer { IsHubPass hub.now writer.new }
-    ensures reader { IsHubPass hub.now reader.new }
-    ensures listens { IsSome (known_of reader.new).mark }
+    requires writer { H.is_pass hub.now writer.old }
+    requires reader { H.is_pass hub.now reader.old }
+    requires listens { IsSome (P.known reader.old).mark }
+    ensures writer { H.is_pass hub.now writer.new }
+    ensures reader { H.is_pass hub.now reader.new }
+    ensures listens { IsSome (P.known reader.new).mark }
 {
     let sent = publish_one(rt, hub, writer, notes);
     let mut got = Vec::new(alloc);
@@ -37,22 +45,22 @@ fn send_and_read<R: Wait>(
 }
 
 // Whether so many rounds all went so.
-fn rounds<R: Wait>(
+fn rounds<P: PassView + Send + Drop, H: Hub<Pass = P>, R: Wait>(
     rt: &R,
     alloc: Global,
-    hub: &WordHub,
-    writer: &mut WordPass,
-    reader: &mut WordPass,
+    hub: &H,
+    writer: &mut P,
+    reader: &mut P,
     notes: &[Note; 1],
     set: &ListenSet,
     times: usize,
 ) -> bool
-    requires writer { IsHubPass hub.now writer.old }
-    requires reader { IsHubPass hub.now reader.old }
-    requires listens { IsSome (known_of reader.old).mark }
-    ensures writer { IsHubPass hub.now writer.new }
-    ensures reader { IsHubPass hub.now reader.new }
-    ensures listens { IsSome (known_of reader.new).mark }
+    requires writer { H.is_pass hub.now writer.old }
+    requires reader { H.is_pass hub.now reader.old }
+    requires listens { IsSome (P.known reader.old).mark }
+    ensures writer { H.is_pass hub.now writer.new }
+    ensures reader { H.is_pass hub.now reader.new }
+    ensures listens { IsSome (P.known reader.new).mark }
 {
     'rounds: for _ in 0..times {
         if !send_and_read(rt, alloc, hub, writer, reader, notes, set) {
@@ -63,7 +71,7 @@ fn rounds<R: Wait>(
 }
 
 // Whether so many rounds went so in a queue of two pages, and what is received after them.
-fn used_again<R: Wait>(
+fn used_again<P: PassView + Send + Drop, H: Hub<Pass = P> + Drop, R: Wait>(
     rt: &R,
     alloc: Global,
     format: Format,
@@ -71,21 +79,21 @@ fn used_again<R: Wait>(
     notes: &[Note; 1],
     set: &ListenSet,
 ) -> Result<(bool, Option<(u32, usize)>), Fail> {
-    let (hub, mut first, mut second) = open_two(alloc, format)?;
-    hub.enlist(&mut second);
+    let (hub, mut first, mut second) = open_two::<P, H>(alloc, format)?;
+    enlist(&hub, &mut second);
     let done = rounds(rt, alloc, &hub, &mut first, &mut second, notes, set, times);
     Ok((done, receive(alloc, &hub, &mut second)))
 }
 
 // Asserts that these notifications are sent and read in each format.
-fn assert_used_again<R: Wait + Abort>(
+fn assert_used_again<P: PassView + Send + Drop, H: Hub<Pass = P> + Drop, R: Wait + Abort>(
     rt: &R,
     alloc: Global,
     notes: &[Note; 1],
     set: &ListenSet,
 ) -> Result<(), Fail> {
     for (format, times, mark) in [(Format::One, TIMES, 4003), (Format::Two, 40, 43)] {
-        let done = used_again(rt, alloc, format, times, notes, set)?;
+        let done = used_again::<P, H, R>(rt, alloc, format, times, notes, set)?;
         assert_eq!(rt; done, (true, Some((mark, 0))));
     }
     Ok(())
@@ -94,10 +102,11 @@ fn assert_used_again<R: Wait + Abort>(
 #[test]
 fn pages_are_used_again(rt: HostRuntime) -> Result<(), Fail> {
     let alloc = rt.alloc();
-    let notes = [note(alloc, LARGEST).ok_or("no memory")?];
-    let set = set_of_c(alloc).ok_or("no memory")?;
-    assert_used_again(&rt, alloc, &notes, &set)?;
-    Ok(())
+    let (notes, set) = note_and_set(alloc, LARGEST).ok_or("no memory")?;
+    let done = assert_used_again::<WordPass, WordHub, HostRuntime>(&rt, alloc, &notes, &set);
+    drop(notes);
+    drop(set);
+    done
 }
 
 // What a session has sent and received.
@@ -116,20 +125,20 @@ fn empty_log(alloc: Global) -> Log {
 }
 
 // One try: a publish, whatever it answers, and then a read. A number that was answered is one that was sent.
-fn try_once<R: Wait>(
+fn try_once<P: PassView + Send + Drop, H: Hub<Pass = P>, R: Wait>(
     rt: &R,
     alloc: Global,
-    hub: &WordHub,
-    pass: &mut WordPass,
+    hub: &H,
+    pass: &mut P,
     notes: &[Note; 1],
     set: &ListenSet,
     log: &mut Log,
 ) -> Result<(), AllocError>
-    requires own { IsHubPass hub.now pass.old }
-    requires listens { IsSome (known_of pass.old).mark }
-    ensures own { IsHubPass hub.now pass.new }
-    ensures listens { IsSome (known_of pass.new).mark }
-    ensures session { (known_of pass.new).session ≡ (known_of pass.old).session }
+    requires own { H.is_pass hub.now pass.old }
+    requires listens { IsSome (P.known pass.old).mark }
+    ensures own { H.is_pass hub.now pass.new }
+    ensures listens { IsSome (P.known pass.new).mark }
+    ensures session { (P.known pass.new).session ≡ (P.known pass.old).session }
 {
     if let Some(xid) = publish_one(rt, hub, pass, notes) {
         log.sent.push(xid)?;
@@ -140,20 +149,20 @@ fn try_once<R: Wait>(
 }
 
 // All tries of one session.
-fn tries<R: Wait>(
+fn tries<P: PassView + Send + Drop, H: Hub<Pass = P>, R: Wait>(
     rt: &R,
     alloc: Global,
-    hub: &WordHub,
-    pass: &mut WordPass,
+    hub: &H,
+    pass: &mut P,
     notes: &[Note; 1],
     set: &ListenSet,
     log: &mut Log,
 ) -> Result<(), AllocError>
-    requires own { IsHubPass hub.now pass.old }
-    requires listens { IsSome (known_of pass.old).mark }
-    ensures own { IsHubPass hub.now pass.new }
-    ensures listens { IsSome (known_of pass.new).mark }
-    ensures session { (known_of pass.new).session ≡ (known_of pass.old).session }
+    requires own { H.is_pass hub.now pass.old }
+    requires listens { IsSome (P.known pass.old).mark }
+    ensures own { H.is_pass hub.now pass.new }
+    ensures listens { IsSome (P.known pass.new).mark }
+    ensures session { (P.known pass.new).session ≡ (P.known pass.old).session }
 {
     'tries: for _ in 0..TIMES {
         try_once(rt, alloc, hub, pass, notes, set, log)?;
@@ -162,53 +171,59 @@ fn tries<R: Wait>(
 }
 
 // Those of two sessions on two threads.
-fn try_both<R: Threads + Wait + Sync>(
+fn try_both<P: PassView + Send + Drop, H: Hub<Pass = P> + Sync, R: Threads + Wait + Sync>(
     rt: &R,
     alloc: Global,
-    hub: &WordHub,
-    first: &mut WordPass,
-    second: &mut WordPass,
+    hub: &H,
+    first: &mut P,
+    second: &mut P,
     notes: &[Note; 1],
     set: &ListenSet,
     first_log: &mut Log,
     second_log: &mut Log,
 ) -> Result<(), AllocError>
-    requires first { IsHubPass hub.now first.old }
-    requires first_listens { IsSome (known_of first.old).mark }
-    requires second { IsHubPass hub.now second.old }
-    requires second_listens { IsSome (known_of second.old).mark }
-    ensures first { IsHubPass hub.now first.new }
-    ensures first_listens { IsSome (known_of first.new).mark }
-    ensures first_session { (known_of first.new).session ≡ (known_of first.old).session }
-    ensures second { IsHubPass hub.now second.new }
-    ensures second_listens { IsSome (known_of second.new).mark }
-    ensures second_session { (known_of second.new).session ≡ (known_of second.old).session }
+    requires first { H.is_pass hub.now first.old }
+    requires first_listens { IsSome (P.known first.old).mark }
+    requires second { H.is_pass hub.now second.old }
+    requires second_listens { IsSome (P.known second.old).mark }
+    ensures first { H.is_pass hub.now first.new }
+    ensures first_listens { IsSome (P.known first.new).mark }
+    ensures first_session { (P.known first.new).session ≡ (P.known first.old).session }
+    ensures second { H.is_pass hub.now second.new }
+    ensures second_listens { IsSome (P.known second.new).mark }
+    ensures second_session { (P.known second.new).session ≡ (P.known second.old).session }
 {
     let (one, other) = join_mut(
         rt,
-        &mut || tries(rt, alloc, hub, first, notes, set, first_log),
-        &mut || tries(rt, alloc, hub, second, notes, set, second_log),
+        &mut || -> Result<(), AllocError>
+            requires { IsSync R.row × IsSync H.row × IsSend P.row × H.is_pass hub.now first.now × IsSome (P.known first.now).mark }
+            ensures { H.is_pass hub.entry.now first.exit.now × IsSome (P.known first.exit.now).mark × ((P.known first.exit.now).session ≡ (P.known first.entry.now).session) }
+        { tries(rt, alloc, hub, first, notes, set, first_log) },
+        &mut || -> Result<(), AllocError>
+            requires { IsSync R.row × IsSync H.row × IsSend P.row × H.is_pass hub.now second.now × IsSome (P.known second.now).mark }
+            ensures { H.is_pass hub.entry.now second.exit.now × IsSome (P.known second.exit.now).mark × ((P.known second.exit.now).session ≡ (P.known second.entry.now).session) }
+        { tries(rt, alloc, hub, second, notes, set, second_log) },
     );
     one.and(other)
 }
 
 // A session hears of what another one knows, and reads on.
-fn read_rest(
+fn read_rest<P: PassView + Send + Drop, H: Hub<Pass = P>>(
     alloc: Global,
-    hub: &WordHub,
-    pass: &mut WordPass,
-    other: &mut WordPass,
+    hub: &H,
+    pass: &mut P,
+    other: &mut P,
     set: &ListenSet,
     log: &mut Log,
 ) -> Result<(), AllocError>
-    requires own { IsHubPass hub.now pass.old }
-    requires listens { IsSome (known_of pass.old).mark }
-    requires other { IsHubPass hub.now other.old }
-    ensures own { IsHubPass hub.now pass.new }
-    ensures session { (known_of pass.new).session ≡ (known_of pass.old).session }
-    ensures other { IsHubPass hub.now other.new }
-    ensures other_mark { (known_of other.new).mark ≡ (known_of other.old).mark }
-    ensures other_session { (known_of other.new).session ≡ (known_of other.old).session }
+    requires own { H.is_pass hub.now pass.old }
+    requires listens { IsSome (P.known pass.old).mark }
+    requires other { H.is_pass hub.now other.old }
+    ensures own { H.is_pass hub.now pass.new }
+    ensures session { (P.known pass.new).session ≡ (P.known pass.old).session }
+    ensures other { H.is_pass hub.now other.new }
+    ensures other_mark { (P.known other.new).mark ≡ (P.known other.old).mark }
+    ensures other_session { (P.known other.new).session ≡ (P.known other.old).session }
 {
     hub.meet(other, pass);
     hub.interest(pass, set);
@@ -245,25 +260,25 @@ fn is_all(got: &[Delivery], first: &[Xid], second: &[Xid]) -> bool {
 }
 
 // Two listeners send and read at the same time, and read on afterwards.
-fn share<R: Threads + Wait + Sync>(
+fn share<P: PassView + Send + Drop, H: Hub<Pass = P> + Sync, R: Threads + Wait + Sync>(
     rt: &R,
     alloc: Global,
-    hub: &WordHub,
-    first: &mut WordPass,
-    second: &mut WordPass,
+    hub: &H,
+    first: &mut P,
+    second: &mut P,
     notes: &[Note; 1],
     set: &ListenSet,
     first_log: &mut Log,
     second_log: &mut Log,
 ) -> Result<(), AllocError>
-    requires first { IsHubPass hub.now first.old }
-    requires first_listens { IsSome (known_of first.old).mark }
-    requires second { IsHubPass hub.now second.old }
-    requires second_listens { IsSome (known_of second.old).mark }
-    ensures first { IsHubPass hub.now first.new }
-    ensures first_session { (known_of first.new).session ≡ (known_of first.old).session }
-    ensures second { IsHubPass hub.now second.new }
-    ensures second_session { (known_of second.new).session ≡ (known_of second.old).session }
+    requires first { H.is_pass hub.now first.old }
+    requires first_listens { IsSome (P.known first.old).mark }
+    requires second { H.is_pass hub.now second.old }
+    requires second_listens { IsSome (P.known second.old).mark }
+    ensures first { H.is_pass hub.now first.new }
+    ensures first_session { (P.known first.new).session ≡ (P.known first.old).session }
+    ensures second { H.is_pass hub.now second.new }
+    ensures second_session { (P.known second.new).session ≡ (P.known second.old).session }
 {
     try_both(
         rt, alloc, hub, first, second, notes, set, first_log, second_log,
@@ -273,7 +288,11 @@ fn share<R: Threads + Wait + Sync>(
 }
 
 // They do so over a hub of their own: how many transactions its journal has.
-fn share_a_hub<R: Threads + Wait + Sync + Abort>(
+fn share_a_hub<
+    P: PassView + Send + Drop,
+    H: Hub<Pass = P> + Sync + Drop,
+    R: Threads + Wait + Sync + Abort,
+>(
     rt: &R,
     alloc: Global,
     notes: &[Note; 1],
@@ -281,9 +300,9 @@ fn share_a_hub<R: Threads + Wait + Sync + Abort>(
     first_log: &mut Log,
     second_log: &mut Log,
 ) -> Result<u32, Fail> {
-    let (hub, mut first, mut second) = open_two(alloc, Format::One)?;
-    hub.enlist(&mut first);
-    hub.enlist(&mut second);
+    let (hub, mut first, mut second) = open_two::<P, H>(alloc, Format::One)?;
+    enlist(&hub, &mut first);
+    enlist(&hub, &mut second);
     let done = share(
         rt,
         alloc,
@@ -299,15 +318,28 @@ fn share_a_hub<R: Threads + Wait + Sync + Abort>(
     count_journal(alloc, hub, first, second)
 }
 
+// How many transactions there were, and whether each of two sessions received all of them.
+fn shared<
+    P: PassView + Send + Drop,
+    H: Hub<Pass = P> + Sync + Drop,
+    R: Threads + Wait + Sync + Abort,
+>(rt: &R, alloc: Global, notes: &[Note; 1], set: &ListenSet) -> Result<(u32, bool, bool), Fail> {
+    let (mut a, mut b) = (empty_log(alloc), empty_log(alloc));
+    let count = share_a_hub::<P, H, R>(rt, alloc, notes, set, &mut a, &mut b);
+    let by_first = is_all(&a.got, &a.sent, &b.sent);
+    let by_second = is_all(&b.got, &a.sent, &b.sent);
+    drop(a);
+    drop(b);
+    Ok((count?, by_first, by_second))
+}
+
 #[test]
 fn two_threads(rt: HostRuntime) -> Result<(), Fail> {
     let alloc = rt.alloc();
-    let notes = [note(alloc, 100).ok_or("no memory")?];
-    let set = set_of_c(alloc).ok_or("no memory")?;
-    let (mut a, mut b) = (empty_log(alloc), empty_log(alloc));
-    let count = share_a_hub(&rt, alloc, &notes, &set, &mut a, &mut b)?;
-    assert!(rt; is_all(&a.got, &a.sent, &b.sent));
-    assert!(rt; is_all(&b.got, &a.sent, &b.sent));
-    assert_eq!(rt; count, 8000);
+    let (notes, set) = note_and_set(alloc, 100).ok_or("no memory")?;
+    let done = shared::<WordPass, WordHub, HostRuntime>(&rt, alloc, &notes, &set);
+    drop(notes);
+    drop(set);
+    assert_eq!(rt; done?, (8000, true, true));
     Ok(())
 }

@@ -11,9 +11,14 @@ use std::thread::Threads;
 const ADVANCES: usize = 1_000_000;
 
 // Another session sends a largest notification twice. Two fill two pages.
-fn send_two<R: Wait>(rt: &R, alloc: Global, hub: &WordHub, pass: &mut WordPass)
-    requires own { IsHubPass hub.now pass.old }
-    ensures own { IsHubPass hub.now pass.new }
+fn send_two<P: PassView + Send + Drop, H: Hub<Pass = P>, R: Wait>(
+    rt: &R,
+    alloc: Global,
+    hub: &H,
+    pass: &mut P,
+)
+    requires own { H.is_pass hub.now pass.old }
+    ensures own { H.is_pass hub.now pass.new }
 {
     send(rt, alloc, hub, pass, LARGEST);
     send(rt, alloc, hub, pass, LARGEST);
@@ -22,8 +27,8 @@ fn send_two<R: Wait>(rt: &R, alloc: Global, hub: &WordHub, pass: &mut WordPass)
 #[test]
 fn a_listener_holds_the_tail(rt: HostRuntime) -> Result<(), Fail> {
     let alloc = rt.alloc();
-    let (hub, mut first, mut second) = open_two(alloc, Format::One)?;
-    hub.enlist(&mut first);
+    let (hub, mut first, mut second) = open_two::<WordPass, WordHub>(alloc, Format::One)?;
+    enlist(&hub, &mut first);
     send_two(&rt, alloc, &hub, &mut second);
     assert_eq!(rt; advance(&rt, &hub, &mut second), (0, 0, None));
     assert_eq!(rt; receive(alloc, &hub, &mut first), Some((5, 2)));
@@ -114,7 +119,7 @@ fn met_by(advance: Option<(u64, u64, SessionNo)>) -> Option<(bool, u32)> {
 
 #[test]
 fn a_session_that_joins_is_named(rt: HostRuntime) -> Result<(), Fail> {
-    let (hub, first, mut second) = open_two(rt.alloc(), Format::One)?;
+    let (hub, first, mut second) = open_two::<WordPass, WordHub>(rt.alloc(), Format::One)?;
     send_two(&rt, rt.alloc(), &hub, &mut second);
     let (_, met) = join_and_advance(&rt, &hub, first, second);
     assert_eq!(rt; met_by(met), Some((true, 1)));
@@ -143,8 +148,8 @@ fn send_five_and_advance<R: Wait>(
 #[test]
 fn the_tail_moves_without_a_full_queue(rt: HostRuntime) -> Result<(), Fail> {
     let alloc = rt.alloc();
-    let (hub, mut first, mut second) = open_pages(alloc, Format::One, 9, 1)?;
-    hub.enlist(&mut second);
+    let (hub, mut first, mut second) = open_pages::<WordPass, WordHub>(alloc, Format::One, 9, 1)?;
+    enlist(&hub, &mut second);
     let (read, advanced) = send_five_and_advance(&rt, alloc, &hub, &mut first, &mut second);
     assert_eq!(rt; read, Some((7, 4)));
     assert_eq!(rt; advanced, (3, 3, None));

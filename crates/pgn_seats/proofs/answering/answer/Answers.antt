@@ -51,7 +51,7 @@ returns-in_err-put_query-clause-lawful g c =
 
 pub returns-in_err-put_query-clause-stopped : goal.returns-in_err-put_query-clause-stopped
 returns-in_err-put_query-clause-stopped g c =
-    on_err c.from_residual.result _ (λ asks h. same-stays c.args.desk.now.session c.put_query.new.session c.in_err-put_query.ensures.unchanged asks (knows c.args.tells.now) (done-first [] asks c.args.desk.now.session (knows c.args.tells.now) h))
+    on_err c.from_residual.result _ (λ kept asks h. same-stays c.args.desk.now.session c.put_query.new.session c.in_err-put_query.ensures.unchanged asks (knows c.args.tells.now) (done-first [] asks c.args.desk.now.session kept (knows c.args.tells.now) h))
 
 pub returns-in_err-hear_before-clause-alone : goal.returns-in_err-hear_before-clause-alone
 returns-in_err-hear_before-clause-alone g c =
@@ -70,7 +70,7 @@ pub returns-in_err-hear_before-clause-stopped : goal.returns-in_err-hear_before-
 returns-in_err-hear_before-clause-stopped g c =
     let line = line_of c.args.query.now in
     on_err c.from_residual-in_err-hear_before.result _
-    (λ asks h. c.in_err-hear_before.ensures.stopped (line ∷ []) asks (put-done asks c.args.desk.now.session c.put_query.new.session (knows c.args.tells.now) line c.in_ok-put_query.ensures.fed h))
+    (λ kept asks h. c.in_err-hear_before.ensures.stopped (line ∷ []) kept asks (put-done asks c.args.desk.now.session c.put_query.new.session kept (knows c.args.tells.now) line c.in_ok-put_query.ensures.fed h))
 
 pub returns-clause-alone : goal.returns-clause-alone
 returns-clause-alone g c =
@@ -94,11 +94,12 @@ returns-clause-counted g c =
 pub returns-clause-went : goal.returns-clause-went
 returns-clause-went g c =
     let line = line_of c.args.query.now in
+    let kept = c.args.desk.now.settings in
     ok_then c.run_query.result _ _
-    (λ went asks h. went asks (c.in_ok-hear_before.ensures.went (line ∷ []) asks (put-done asks c.args.desk.now.session c.put_query.new.session (knows c.args.tells.now) line c.in_ok-put_query.ensures.fed h))) c.run_query.ensures.went
+    (λ went asks h. went kept asks (c.in_ok-hear_before.ensures.went (line ∷ []) kept asks (put-done asks c.args.desk.now.session c.put_query.new.session kept (knows c.args.tells.now) line c.in_ok-put_query.ensures.fed h))) c.run_query.ensures.went
 
 pub returns-clause-stopped : goal.returns-clause-stopped
 returns-clause-stopped g c =
     let line = line_of c.args.query.now in
     err_then c.run_query.result _ _
-    (λ stopped asks h. stopped asks (c.in_ok-hear_before.ensures.went (line ∷ []) asks (put-done asks c.args.desk.now.session c.put_query.new.session (knows c.args.tells.now) line c.in_ok-put_query.ensures.fed h))) c.run_query.ensures.stopped
+    (λ stopped kept asks h. stopped kept asks (c.in_ok-hear_before.ensures.went (line ∷ []) kept asks (put-done asks c.args.desk.now.session c.put_query.new.session kept (knows c.args.tells.now) line c.in_ok-put_query.ensures.fed h))) c.run_query.ensures.stopped

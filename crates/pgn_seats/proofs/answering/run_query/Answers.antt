@@ -23,7 +23,7 @@ returns-in_err-run_line-clause-alone g c = pushed-same c.args.session.now.sectio
 
 pub returns-in_err-run_line-clause-stopped : goal.returns-in_err-run_line-clause-stopped
 returns-in_err-run_line-clause-stopped g c =
-    on_err c.from_residual.result _ (λ asks h. c.run_line.ensures.first asks (knows c.args.tells.now) (done-first (line_of c.args.query.now ∷ []) asks c.args.session.now (knows c.args.tells.now) h))
+    on_err c.from_residual.result _ (λ kept asks h. c.run_line.ensures.first asks (knows c.args.tells.now) (done-first (line_of c.args.query.now ∷ []) asks c.args.session.now kept (knows c.args.tells.now) h))
 
 pub returns-clause-alone : goal.returns-clause-alone
 returns-clause-alone g c = pushed-at _ _ _ _ (no-script c.args.session.now c.run_line.new.session c.run_line.ensures.same) c.say_answer.ensures.alone
@@ -35,11 +35,11 @@ pub returns-clause-went : goal.returns-clause-went
 returns-clause-went g c =
     let from : c.len-from.result ≡ length c.args.session.now.items.items = search rules in
     ok_then c.say_answer.result _ _
-    (λ said asks h. run-done (g.H.Hub.is_pass c.args.hub.now) (g.H.Hub.shape c.args.hub.now) g.P.PassView.known asks c.args.query.now c.args.session.now c.run_line.new.session (knows c.args.tells.now) (knows c.say_answer.new.tells) c.len-from.result h
+    (λ said kept asks h. run-done (g.H.Hub.is_pass c.args.hub.now) (g.H.Hub.shape c.args.hub.now) g.P.PassView.known asks c.args.query.now c.args.session.now c.run_line.new.session kept (knows c.args.tells.now) (knows c.say_answer.new.tells) c.len-from.result h
     c.run_line.ensures.same.section (c.in_ok-run_line.ensures.ran (line_of c.args.query.now) c.requires.line.before c.requires.line.runs) c.in_ok-run_line.ensures.work from said)
     c.say_answer.ensures.said
 
 pub returns-clause-stopped : goal.returns-clause-stopped
 returns-clause-stopped g c =
     err_then c.say_answer.result _ _
-    (λ same asks h. first-untold asks c.run_line.new.session (knows c.args.tells.now) (knows c.say_answer.new.tells) same (c.run_line.ensures.first asks (knows c.args.tells.now) (done-first (line_of c.args.query.now ∷ []) asks c.args.session.now (knows c.args.tells.now) h))) c.say_answer.ensures.unsaid
+    (λ same kept asks h. first-untold asks c.run_line.new.session (knows c.args.tells.now) (knows c.say_answer.new.tells) same (c.run_line.ensures.first asks (knows c.args.tells.now) (done-first (line_of c.args.query.now ∷ []) asks c.args.session.now kept (knows c.args.tells.now) h))) c.say_answer.ensures.unsaid

@@ -3,13 +3,14 @@ use Rattle.std.specs.Prelude.{map}
 use Rattle.std.proofs.lemmas.List.{same_from_push}
 use Rattle.pgn_language.specs.declared.scenario.ScriptLine.{ScriptLine}
 use Rattle.pgn_session.specs.declared.doing.Doing.TheVariants.{Lines, Over}
-use Rattle.pgn_turns.specs.declared.asked.Ask.TheVariants.{End, Query}
+use Rattle.pgn_requests.specs.declared.settled.Settled.TheVariants.{One}
+use Rattle.pgn_turns.specs.declared.asked.Ask.TheVariants.{End, Query, Settle}
 use Rattle.pgn_turns.specs.declared.asked.Parting.TheVariants.{Plain}
 use Rattle.pgn_turns.specs.Asks.{line_of, seat_quit}
 use Rattle.pgn_turns.specs.Examples.{listen}
 use Rattle.pgn_turns.specs.Sayings.{all_told}
-use Rattle.pgn_turns.specs.Turns.{asks_of, idle_state}
-use Rattle.pgn_seats.proofs.ExampleLaws.{end-said, lines-asked, one-ask}
+use Rattle.pgn_turns.specs.Turns.{asks_of, first_telling}
+use Rattle.pgn_seats.proofs.ExampleLaws.{end-said, lines-asked, one-ask, settled-said}
 use Rattle.pgn_seats.proofs.examples.served.Goals as goal
 
 pub returns-clause-skipped : goal.returns-clause-skipped
@@ -24,7 +25,13 @@ pub returns-clause-untold : goal.returns-clause-untold
 returns-clause-untold c = λ shape known inboxes desk tells e none h.
     let all : Some (End 1 Plain) ∷ [] ++ None ∷ [] ≡ map Some (asks_of h.turns) ++ None ∷ [] = sym e ∙ h.asked in
     let asked : asks_of h.turns ≡ End 1 Plain ∷ [] = one-ask (End 1 Plain) (asks_of h.turns) (same_from_push (Some (End 1 Plain) ∷ []) (map Some (asks_of h.turns)) None None all).0 in
-    end-said idle_state h.turns 1 Plain asked (sym h.told ∙ ap all_told none)
+    end-said desk.session.section.no first_telling h.turns 1 Plain asked (sym h.told ∙ ap all_told none)
+
+pub returns-clause-unsettled : goal.returns-clause-unsettled
+returns-clause-unsettled c = λ shape known inboxes desk tells e none h.
+    let all : Some (Settle One) ∷ [] ++ None ∷ [] ≡ map Some (asks_of h.turns) ++ None ∷ [] = sym e ∙ h.asked in
+    let asked : asks_of h.turns ≡ Settle One ∷ [] = one-ask (Settle One) (asks_of h.turns) (same_from_push (Some (Settle One) ∷ []) (map Some (asks_of h.turns)) None None all).0 in
+    settled-said desk.session.section.no first_telling h.turns asked (sym h.told ∙ ap all_told none)
 
 pub returns-clause-asked_behind : goal.returns-clause-asked_behind
 returns-clause-asked_behind c = λ shape known inboxes desk tells e h.

@@ -27,5 +27,5 @@ returns-clause-nothing c = λ shape inboxes desk tells lawful inbox none. record
 pub returns-clause-not_asked : goal.returns-clause-not_asked
 returns-clause-not_asked c = λ shape inboxes desk tells e told h.
     let asked : asks_of h.turns ≡ [] = no-ask (asks_of h.turns) h.others (sym e ∙ h.asked) in
-    let all = reads_are_heard (items_of h.turns) (said h.turns) (record { turns = h.turns; plain = h.plain; asked = asked; trace = refl; told = refl }) in
+    let all = reads_are_heard desk.session.section.no (items_of h.turns) (said desk.session.section.no h.turns) (record { turns = h.turns; plain = h.plain; asked = asked; trace = refl; told = refl }) in
     no-end (flat_map heard (items_of h.turns)) (sym told ∙ h.told ∙ all.1)

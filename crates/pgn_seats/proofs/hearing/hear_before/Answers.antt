@@ -35,7 +35,7 @@ returns-in_err-read_before_line-clause-line g c = λ line h.
 
 pub returns-in_err-read_before_line-clause-stopped : goal.returns-in_err-read_before_line-clause-stopped
 returns-in_err-read_before_line-clause-stopped g c = λ rest.
-    on_err c.from_residual.result _ (λ asks h. read-stays c.args.session.now c.read_before_line.new.self c.read_before_line.ensures.same c.read_before_line.ensures.grows asks (knows c.args.tells.now) (done-first rest asks c.args.session.now (knows c.args.tells.now) h))
+    on_err c.from_residual.result _ (λ kept asks h. read-stays c.args.session.now c.read_before_line.new.self c.read_before_line.ensures.same c.read_before_line.ensures.grows asks (knows c.args.tells.now) (done-first rest asks c.args.session.now kept (knows c.args.tells.now) h))
 
 pub returns-clause-alone : goal.returns-clause-alone
 returns-clause-alone g c = pushed-at _ _ _ _ (no-read c.args.session.now c.read_before_line.new.self c.read_before_line.ensures.same) c.say_heard.ensures.alone
@@ -56,10 +56,10 @@ returns-clause-went g c = λ rest.
     let from : c.len-from.result ≡ length c.args.session.now.items.items = search rules in
     let shows = first-shows c.args.session.now (g.P.PassView.known c.args.session.now.pass) (g.P.PassView.known c.read_before_line.new.self.pass) c.read_before_line.new.self.items.items c.requires.line.1.before.between c.in_ok-read_before_line.ensures.read in
     ok_then c.say_heard.result _ _
-    (λ said asks h. read-done rest asks c.args.session.now c.read_before_line.new.self (knows c.args.tells.now) (knows c.say_heard.new.tells) c.len-from.result h c.read_before_line.ensures.same shows from said) c.say_heard.ensures.said
+    (λ said kept asks h. read-done rest asks c.args.session.now c.read_before_line.new.self kept (knows c.args.tells.now) (knows c.say_heard.new.tells) c.len-from.result h c.read_before_line.ensures.same shows from said) c.say_heard.ensures.said
 
 pub returns-clause-stopped : goal.returns-clause-stopped
 returns-clause-stopped g c = λ rest.
     err_then c.say_heard.result _ _
-    (λ same asks h. first-untold asks c.read_before_line.new.self (knows c.args.tells.now) (knows c.say_heard.new.tells) same
-    (read-stays c.args.session.now c.read_before_line.new.self c.read_before_line.ensures.same c.read_before_line.ensures.grows asks (knows c.args.tells.now) (done-first rest asks c.args.session.now (knows c.args.tells.now) h))) c.say_heard.ensures.unsaid
+    (λ same kept asks h. first-untold asks c.read_before_line.new.self (knows c.args.tells.now) (knows c.say_heard.new.tells) same
+    (read-stays c.args.session.now c.read_before_line.new.self c.read_before_line.ensures.same c.read_before_line.ensures.grows asks (knows c.args.tells.now) (done-first rest asks c.args.session.now kept (knows c.args.tells.now) h))) c.say_heard.ensures.unsaid

@@ -19,7 +19,7 @@ returns-in-Ok-clause-seated g c =
     record { some = h.inbox.some; within = h.inbox.within; own = c.take_ask.ensures.own; takes = c.take_ask.ensures.takes } in
     let took = asked-more (asks_of h.turns) c.in-Some-Some.ask _ _ h.asked (c.in-Some-Some.ensures.took ∙ ap (λ (o : Option Ask). taken old.session.section.no (knows old.asks) ++ o ∷ []) c.in-Some-Some.field-0-is) in
     inl (more-serves (g.H.Hub.is_pass c.args.hub.now) (g.H.Hub.shape c.args.hub.now) g.P.PassView.known c.args.inboxes.now old new c.take_ask.new.asks (Some c.in-Some-Some.ask) (knows c.args.tells.now)
-    (knows c.serve-served.new.tells) h inbox took c.serve-served.ensures.asks (client-no old.session new.session c.serve-served.ensures.same) c.serve-served.ensures.counted c.in-Ok.ensures.work c.in-Ok.ensures.went)
+    (knows c.serve-served.new.tells) h inbox took c.serve-served.ensures.asks (client-no old.session new.session c.serve-served.ensures.same) c.serve-served.ensures.counted c.in-Ok.ensures.work (c.in-Ok.ensures.went (asks_of h.turns)))
 
 pub returns-in-Ok-clause-told : goal.returns-in-Ok-clause-told
 returns-in-Ok-clause-told g c =
@@ -31,7 +31,7 @@ returns-in-Ok-clause-told g c =
     let took = asked-more (asks_of h.turns) c.in-Some-Some.ask _ _ h.asked (c.in-Some-Some.ensures.took ∙ ap (λ (o : Option Ask). taken old.session.section.no (knows old.asks) ++ o ∷ []) c.in-Some-Some.field-0-is) in
     let serves =
     more-serves (g.H.Hub.is_pass c.args.hub.now) (g.H.Hub.shape c.args.hub.now) g.P.PassView.known c.args.inboxes.now old new c.take_ask.new.asks (Some c.in-Some-Some.ask) (knows c.args.tells.now)
-    (knows c.serve-served.new.tells) h inbox took c.serve-served.ensures.asks (client-no old.session new.session c.serve-served.ensures.same) c.serve-served.ensures.counted c.in-Ok.ensures.work c.in-Ok.ensures.went in
+    (knows c.serve-served.new.tells) h inbox took c.serve-served.ensures.asks (client-no old.session new.session c.serve-served.ensures.same) c.serve-served.ensures.counted c.in-Ok.ensures.work (c.in-Ok.ensures.went (asks_of h.turns)) in
     serves-told (g.H.Hub.is_pass c.args.hub.now) (g.H.Hub.shape c.args.hub.now) g.P.PassView.known c.args.inboxes.now new (knows c.serve-served.new.tells) serves
 
 pub returns-in-Err-clause-told : goal.returns-in-Err-clause-told
@@ -44,7 +44,7 @@ returns-in-Err-clause-told g c =
     let took = asked-also (asks_of h.turns) c.in-Some-Some.field-0 _ _ h.asked c.in-Some-Some.ensures.took in
     first-seat (g.H.Hub.is_pass c.args.hub.now) (g.H.Hub.shape c.args.hub.now) g.P.PassView.known c.args.inboxes.now old new c.take_ask.new.asks (c.in-Some-Some.field-0 ∷ []) (knows c.args.tells.now)
     (knows c.serve-served.new.tells) h inbox took c.serve-served.ensures.asks (client-no old.session new.session c.serve-served.ensures.same) c.serve-served.ensures.lawful
-    (c.in-Err.ensures.stopped (asks_of h.turns) (serves-done (g.H.Hub.is_pass c.args.hub.now) (g.H.Hub.shape c.args.hub.now) g.P.PassView.known c.args.inboxes.now old (knows c.args.tells.now) h))
+    (c.in-Err.ensures.stopped old.settings (asks_of h.turns) (serves-done (g.H.Hub.is_pass c.args.hub.now) (g.H.Hub.shape c.args.hub.now) g.P.PassView.known c.args.inboxes.now old (knows c.args.tells.now) h))
 
 pub returns-in-Ok-quit-clause-seated : goal.returns-in-Ok-quit-clause-seated
 returns-in-Ok-quit-clause-seated g c =
@@ -90,7 +90,7 @@ returns-in-Err-quit-clause-told g c =
     let done = serves-done (g.H.Hub.is_pass c.args.hub.now) (g.H.Hub.shape c.args.hub.now) g.P.PassView.known c.args.inboxes.now old (knows c.args.tells.now) h in
     first-seat (g.H.Hub.is_pass c.args.hub.now) (g.H.Hub.shape c.args.hub.now) g.P.PassView.known c.args.inboxes.now old (record old { session = c.quit.new.session; asks = c.take_ask.new.asks }) c.take_ask.new.asks (None ∷ []) (knows c.args.tells.now)
     (knows c.args.tells.now) h inbox took refl (no-script old.session c.quit.new.session c.quit.ensures.same) c.quit.ensures.lawful
-    (c.quit.ensures.first (asks_of h.turns) (knows c.args.tells.now) (done-first [] (asks_of h.turns) old.session (knows c.args.tells.now) done))
+    (c.quit.ensures.first (asks_of h.turns) (knows c.args.tells.now) (done-first [] (asks_of h.turns) old.session old.settings (knows c.args.tells.now) done))
 
 pub returns-in-None-clause-seated : goal.returns-in-None-clause-seated
 returns-in-None-clause-seated g c =
@@ -101,7 +101,7 @@ returns-in-None-clause-seated g c =
     ok_both c.listen.result _ _ _
     (λ work went. inl (more-serves (g.H.Hub.is_pass c.args.hub.now) (g.H.Hub.shape c.args.hub.now) g.P.PassView.known c.args.inboxes.now old (record old { session = c.listen.new.session; asks = c.take_ask.new.asks }) c.take_ask.new.asks None
     (knows c.args.tells.now) (knows c.listen.new.tells) h inbox (c.in-None.ensures.found_none ∙ h.asked) refl (no-read old.session c.listen.new.session c.listen.ensures.same)
-    (h.counted ∙ notes-read old.session c.listen.new.session c.listen.ensures.same) work went)) c.listen.ensures.work c.listen.ensures.went
+    (h.counted ∙ notes-read old.session c.listen.new.session c.listen.ensures.same) work (went old.settings (asks_of h.turns)))) c.listen.ensures.work c.listen.ensures.went
 
 pub returns-in-None-clause-told : goal.returns-in-None-clause-told
 returns-in-None-clause-told g c =
@@ -112,8 +112,8 @@ returns-in-None-clause-told g c =
     let done = serves-done (g.H.Hub.is_pass c.args.hub.now) (g.H.Hub.shape c.args.hub.now) g.P.PassView.known c.args.inboxes.now old (knows c.args.tells.now) h in
     let first =
     by_either c.listen.result _
-    (ok_then c.listen.result _ _ (λ went. done-first [] (asks_of h.turns) c.listen.new.session (knows c.listen.new.tells) (went (asks_of h.turns) done)) c.listen.ensures.went)
-    (err_then c.listen.result _ _ (λ stopped. stopped (asks_of h.turns) done) c.listen.ensures.stopped) in
+    (ok_then c.listen.result _ _ (λ went. done-first [] (asks_of h.turns) c.listen.new.session old.settings (knows c.listen.new.tells) (went old.settings (asks_of h.turns) done)) c.listen.ensures.went)
+    (err_then c.listen.result _ _ (λ stopped. stopped old.settings (asks_of h.turns) done) c.listen.ensures.stopped) in
     first-seat (g.H.Hub.is_pass c.args.hub.now) (g.H.Hub.shape c.args.hub.now) g.P.PassView.known c.args.inboxes.now old (record old { session = c.listen.new.session; asks = c.take_ask.new.asks }) c.take_ask.new.asks [] (knows c.args.tells.now)
     (knows c.listen.new.tells) h inbox (c.in-None.ensures.found_none ∙ h.asked ∙ sym (append-nil (map Some (asks_of h.turns)))) refl (no-read old.session c.listen.new.session c.listen.ensures.same)
     c.listen.ensures.lawful first

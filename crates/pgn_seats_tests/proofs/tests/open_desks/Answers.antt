@@ -1,8 +1,10 @@
-use Rattle.std.proofs.Common.{rules}
+use Rattle.std.proofs.Common.{rules, ap, ◌∙◌}
+use Rattle.pgn_outlet.specs.Passes.{knows}
 use Rattle.pgn_seats_tests.proofs.OpenedLaws.{two_serve}
 use Rattle.pgn_seats_tests.proofs.tests.open_desks.Goals as goal
 
-pub returns-clause-may : goal.returns-clause-may
-returns-clause-may c =
+pub returns-in-Ok-clause-may : goal.returns-in-Ok-clause-may
+returns-in-Ok-clause-may g c =
     let board = c.args.board.now in
-    two_serve board.hub.now board.inboxes.now c.in_ok-one.one c.in_ok-two.two _ _ (search rules) c.in_ok-one.ensures.may c.in_ok-two.ensures.may c.in_ok-one.ensures.number c.in_ok-two.ensures.number (search rules)
+    two_serve (g.H.Hub.is_pass board.hub.now) (g.H.Hub.shape board.hub.now) g.P.PassView.known board.inboxes.now c.desk-one.result c.desk-two.result c.in-Ok-pair.desks.items (knows c.new.result.pass) c.in-Ok-pair.ensures c.desk-one.ensures.may
+    c.desk-two.ensures.may c.desk-one.ensures.number c.desk-two.ensures.number (ap knows c.new.ensures.pass ∙ c.requires.tells.1)

@@ -1,5 +1,0 @@
-use Rattle.pgn_seats_tests.specs.Rights.{MayAsk, MayHear}
-use Rattle.pgn_seats_tests.proofs.tests.hearing.listen_and_notify.Given as goal
-
-abbrev pub invariant-loop-round : goal.invariant-loop-round
-invariant-loop-round g l = MayAsk l.fn.board.inboxes.now 1 l.asker.first × MayAsk l.fn.board.inboxes.now 2 l.asker.second × MayHear l.fn.board.outbox.now l.asker.takes
