@@ -1,5 +1,6 @@
 -- The messages of a server, byte by byte.
-use Rattle.std.specs.Prelude.{ℕ, ◌+◌, List, [], ◌∷◌, ◌++◌, length, codes, decimal}
+use Rattle.std.specs.Prelude.{ℕ, ◌+◌, ◌*◌, ◌/◌, ◌%◌, ◌==◌, cond, nat_le, List, [], ◌∷◌, ◌++◌, drop, length, map, reverse, codes, decimal}
+use Rattle.std.specs.List.{prefix_len}
 use Rattle.std.specs.Int.{w16, w32, to_be_bytes}
 use Rattle.pgn_base.specs.declared.answers.Tag.{Tag}
 use Rattle.pgn_base.specs.declared.answers.Warning.{Warning}
@@ -53,6 +54,10 @@ column = four 0 ++ two 0 ++ four 25 ++ two 65535 ++ four 4294967295 ++ two 0
 abbrev pub columns : List ℕ → List ℕ
 columns name = message 84 (two 1 ++ ended name ++ column)
 
+-- T: RowDescription of one column with this name, of the type with this number and this size
+abbrev pub described : List ℕ → ℕ → ℕ → List ℕ
+described name type size = message 84 (two 1 ++ ended name ++ (four 0 ++ two 0 ++ four type ++ two size ++ four 4294967295 ++ two 0))
+
 -- D: DataRow with one text
 abbrev pub row : List ℕ → List ℕ
 row text = message 68 (two 1 ++ four (length text) ++ text)
@@ -60,6 +65,18 @@ row text = message 68 (two 1 ++ four (length text) ++ text)
 -- C: CommandComplete
 abbrev pub complete : Tag → List ℕ
 complete tag = message 67 (ended (tag_text tag))
+
+-- C with a text
+abbrev pub completed : List ℕ → List ℕ
+completed text = message 67 (ended text)
+
+-- S: ParameterStatus
+abbrev pub status : List ℕ → List ℕ → List ℕ
+status name value = message 83 (ended name ++ ended value)
+
+-- E with a code and a text
+abbrev pub error_of : List ℕ → List ℕ → List ℕ
+error_of code text = message 69 (fields (codes "ERROR") code text)
 
 -- A: NotificationResponse
 abbrev pub notification : Delivery → List ℕ
@@ -78,6 +95,21 @@ state_letter Failed = 69
 -- Z: ReadyForQuery
 abbrev pub ready : BlockState → List ℕ
 ready state = message 90 (state_letter state ∷ [])
+
+-- eight digits of a number, the most significant first
+abbrev pub eight_digits : ℕ → List ℕ
+eight_digits n = map (λ place. 48 + (n / place) % 10) (10000000 ∷ 1000000 ∷ 100000 ∷ 10000 ∷ 1000 ∷ 100 ∷ 10 ∷ 1 ∷ [])
+
+-- digits without the zeros at their end
+abbrev pub without_zeros : List ℕ → List ℕ
+without_zeros digits = reverse (drop (prefix_len (λ digit. digit == 48) (reverse digits)) (reverse digits))
+
+-- the occupied pages as a fraction of the limit, to eight places: of 256 pages that is the fraction itself
+abbrev pub fraction : Usage → List ℕ
+fraction usage =
+    cond (usage.occupied == 0) (codes "0")
+    (cond (nat_le usage.limit usage.occupied) (codes "1")
+    (codes "0." ++ without_zeros (eight_digits (usage.occupied * 100000000 / usage.limit))))
 
 -- the occupied pages of the limit
 abbrev pub share : Usage → List ℕ

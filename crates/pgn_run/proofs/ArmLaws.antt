@@ -18,7 +18,6 @@ use Rattle.pgn_outlet.specs.Rule.{MayPush, sender, taken_over, taker}
 use Rattle.pgn_text.specs.declared.out.Out.{Out}
 use Rattle.pgn_text.specs.Rendering.{Puts}
 use Rattle.pgn_text.proofs.PutsLaws.{Puts-none, Puts-same, Puts-trans, Writes-from_Puts}
-use Rattle.pgn_queries.specs.Queries.{first_place}
 use Rattle.pgn_turns.specs.declared.asked.Ask.{Ask}
 use Rattle.pgn_turns.specs.declared.saying.Saying.{Saying}
 use Rattle.pgn_turns.specs.Sayings.{all_told, signs_told}
@@ -29,7 +28,7 @@ use Rattle.pgn_seats.specs.Desks.{AreSameClients, HaveServed, MayBegin, MayServe
 use Rattle.pgn_seats.specs.Serving.{HasToldFirst, taken}
 use Rattle.pgn_frames.specs.declared.caller.Caller.{Caller}
 use Rattle.pgn_frames.specs.declared.framing.NoFrame.TheVariants as none
-use Rattle.pgn_frames.specs.Clients.{ClientAsks, Open, SeatAsks}
+use Rattle.pgn_frames.specs.Clients.{ClientAsks, Open, SeatAsks, first_tally}
 use Rattle.pgn_frames.specs.Frames.{Frame, FramesAre, IsFrame, frame_bytes, signs_in, signs_of}
 use Rattle.pgn_frames.specs.declared.frame_fault.FrameFault.{FrameFault}
 use Rattle.pgn_frames.specs.declared.framing.NoFrame.{NoFrame}
@@ -47,8 +46,8 @@ first-of seats (Some all) =
     let found = each_has_frames seats 0 all in
     record { more = found.0; fault = found.1; are = found.2 }
 
-asked-nothing : (most : ℕ) → SeatAsks (first_place most) [] []
-asked-nothing most = SeatAsks.Last (first_place most) [] [] [] Open refl (ClientAsks.Stops (first_place most) [] refl)
+asked-nothing : (most : ℕ) → SeatAsks (first_tally most) [] []
+asked-nothing most = SeatAsks.Last (first_tally most) [] [] [] Open refl (ClientAsks.Stops (first_tally most) [] refl)
 
 put-nothing : (most seat : ℕ) (inbox : Outlet (Option Ask)) (caller : Caller) → Begins most seat inbox caller → HasPutFirst most [] seat inbox caller
 put-nothing most seat inbox caller h = record {

@@ -12,8 +12,7 @@ use Rattle.pgn_turns.specs.declared.asked.Ask.TheVariants.{Query}
 use Rattle.pgn_turns.specs.Asks.{script_of, seat_quit}
 use Rattle.pgn_turns.specs.Examples.{idle_items, listen, listen_bytes, other_bytes, sent_by}
 use Rattle.pgn_turns.specs.Turns.{IsRead, MayBeTold}
-use Rattle.pgn_queries.specs.Queries.{first_place}
-use Rattle.pgn_frames.specs.Clients.{ClientAsks, Open, SeatAsks}
+use Rattle.pgn_frames.specs.Clients.{ClientAsks, Open, SeatAsks, first_tally}
 use Rattle.pgn_frames.specs.Frames.{Frame, FramesAre, IsFrame, IsSeat, NextFrame, frame_bytes, signs_of}
 use Rattle.pgn_run.specs.Service.{IsToldFirst, IsToldOf, RunsSeats, StopsServing, asks_at, over_frame, seat_notes, seat_section, service_scenario, service_settings}
 
@@ -41,14 +40,14 @@ other-item (a ∷ b ∷ c ∷ d ∷ x ∷ items) more e =
     let long : 5 ≡ length (a ∷ b ∷ c ∷ d ∷ x ∷ items) + length (quit-item ∷ more) = ap (λ (l : List Item). length l) e ∙ length-append (a ∷ b ∷ c ∷ d ∷ x ∷ items) (quit-item ∷ more) in
     absurd (omega (arith, long))
 
-pub told-idle : (signs : List (Option ℕ)) → MayBeTold (Query listen ∷ []) idle_items signs → IsToldOf (Query listen ∷ []) (idle_items ++ quit-item ∷ []) signs
+pub told-idle : (signs : List (Option ℕ)) → MayBeTold 1 (Query listen ∷ []) idle_items signs → IsToldOf 1 (Query listen ∷ []) (idle_items ++ quit-item ∷ []) signs
 told-idle signs h = record { items = idle_items; more = []; split = refl; unread = All-nil (λ (item : Item). IsRead item → ⊥); told = h }
 
-pub only-idle : (signs : List (Option ℕ)) → IsToldOf (Query listen ∷ []) (idle_items ++ quit-item ∷ []) signs → MayBeTold (Query listen ∷ []) idle_items signs
-only-idle signs h = subst (λ (items : List Item). MayBeTold (Query listen ∷ []) items signs) (other-item h.items h.more h.split) h.told
+pub only-idle : (signs : List (Option ℕ)) → IsToldOf 1 (Query listen ∷ []) (idle_items ++ quit-item ∷ []) signs → MayBeTold 1 (Query listen ∷ []) idle_items signs
+only-idle signs h = subst (λ (items : List Item). MayBeTold 1 (Query listen ∷ []) items signs) (other-item h.items h.more h.split) h.told
 
 -- no read stands behind the `\quit`
-pub no-read_behind : IsToldOf [] (quit-item ∷ Read 3 4 (sent_by 1002 ∷ []) ∷ []) [] → ⊥
+pub no-read_behind : IsToldOf 1 [] (quit-item ∷ Read 3 4 (sent_by 1002 ∷ []) ∷ []) [] → ⊥
 no-read_behind h = at h.items h.more h.split h.unread
   where
     at : (items more : List Item) → quit-item ∷ Read 3 4 (sent_by 1002 ∷ []) ∷ [] ≡ items ++ quit-item ∷ more → All (λ item. IsRead item → ⊥) more → ⊥
@@ -67,8 +66,8 @@ one-seat seat is = let l : 1 ≤ seat = is.least in let m : seat ≤ 1 = is.most
 no-asks : List (List Ask)
 no-asks = [] ∷ []
 
-asked-nothing : (seat : ℕ) → IsSeat 1 seat → SeatAsks (first_place (seat_notes 1)) (signs_of seat []) (asks_at ([] ∷ []) seat)
-asked-nothing seat is = subst (λ (n : ℕ). SeatAsks (first_place (seat_notes 1)) [] (asks_at ([] ∷ []) n)) (sym (one-seat seat is)) (SeatAsks.Last (first_place (seat_notes 1)) [] [] [] Open refl (ClientAsks.Stops (first_place (seat_notes 1)) [] refl))
+asked-nothing : (seat : ℕ) → IsSeat 1 seat → SeatAsks (first_tally (seat_notes 1)) (signs_of seat []) (asks_at ([] ∷ []) seat)
+asked-nothing seat is = subst (λ (n : ℕ). SeatAsks (first_tally (seat_notes 1)) [] (asks_at ([] ∷ []) n)) (sym (one-seat seat is)) (SeatAsks.Last (first_tally (seat_notes 1)) [] [] [] Open refl (ClientAsks.Stops (first_tally (seat_notes 1)) [] refl))
 
 abbrev quits : Trace
 quits = record { session = 1; db = 1; items = Line seat_quit.line ∷ []; last = None }
@@ -97,7 +96,7 @@ runs-nothing = record {
   legal = quit-legal;
   outs = [];
   can_be_written = All-nil (IsFrame 256);
-  told = λ seat is. subst (λ (n : ℕ). IsToldOf (asks_at ([] ∷ []) n) (get_or (map (λ (t : Trace). t.items) (quits ∷ [])) (n - 1) []) (signs_of n [])) (sym (one-seat seat is))
+  told = λ seat is. subst (λ (n : ℕ). IsToldOf n (asks_at ([] ∷ []) n) (get_or (map (λ (t : Trace). t.items) (quits ∷ [])) (n - 1) []) (signs_of n [])) (sym (one-seat seat is))
       (record { items = []; more = []; split = refl; unread = All-nil (λ (item : Item). IsRead item → ⊥); told = record { turns = []; plain = All-nil _; asked = refl; trace = refl; told = refl } });
   nobody_else = λ seat out. refl;
   output = refl;

@@ -23,6 +23,7 @@ use Rattle.pgn_session.specs.Standing.{IsFlagBelow, IsServedBy}
 use Rattle.pgn_session.specs.Whole.{HasRest}
 use Rattle.pgn_turns.specs.declared.asked.Ask.{Ask}
 use Rattle.pgn_turns.specs.declared.saying.Saying.{Saying}
+use Rattle.pgn_requests.specs.Settings.{fresh}
 use Rattle.pgn_turns.specs.Asks.{seat_quit}
 use Rattle.pgn_seats.specs.declared.desk.Desk.{Desk}
 use Rattle.pgn_seats.specs.Desks.{MayBegin, MayServe, sections_of}
@@ -100,9 +101,9 @@ new-session known seats seat pass s section plan e f has of_section of_plan pati
 -- One seat more.
 
 pub sits-more : {P : Type 0} (most : ℕ) (session : Session P) (boxes boxes_one : List (Outlet (Option Ask))) (desks desks_one : List (Desk P)) (callers callers_one : List Caller) (put asks : Pass (Option Ask)) (desk : Desk P) (caller : Caller)
-    → GivesInbox boxes boxes_one put asks → desk.session ≡ session → desk.asks ≡ asks → desk.notes ≡ 0 → desks_one ≡ desks ++ desk ∷ [] → callers_one ≡ callers ++ caller ∷ []
+    → GivesInbox boxes boxes_one put asks → desk.session ≡ session → desk.asks ≡ asks → desk.notes ≡ 0 → desk.settings ≡ fresh → desks_one ≡ desks ++ desk ∷ [] → callers_one ≡ callers ++ caller ∷ []
     → ((seat : ℕ) (inbox : Outlet (Option Ask)) → IsPassOf inbox put → Begins most seat inbox caller) → SitsMore most session boxes boxes_one desks desks_one callers callers_one
-sits-more most session boxes boxes_one desks desks_one callers callers_one put asks desk caller g has own notes e f new = record {
+sits-more most session boxes boxes_one desks desks_one callers callers_one put asks desk caller g has own notes unset e f new = record {
   inbox = g.inbox;
   desk = desk;
   caller = caller;
@@ -111,6 +112,7 @@ sits-more most session boxes boxes_one desks desks_one callers callers_one put a
     own = subst (λ (p : Pass (Option Ask)). IsPassOf g.inbox p) (sym own) g.asks_own;
     takes = ap knows own ∙ g.takes;
     counted = notes;
+    unset = unset;
     calls = new number g.inbox g.put_own;
   };
   inboxes_are = g.more;
@@ -165,7 +167,7 @@ one-seated {P} known seats place all left boxes boxes_one desks desks_one caller
       (push known seats 1 (place + 1) h.first boxes desks callers pass sits.inbox sits.desk sits.caller (omega (arith, h.count)) h.seated
       (record {
         session = subst (λ (x : Session P). IsNewSession known seats (place + 1) pass x) (sym (sits.seat (place + 1)).has) new;
-        seated = let one = sits.seat (place + 1) in record { has = refl; own = one.own; takes = one.takes; counted = one.counted; calls = one.calls };
+        seated = let one = sits.seat (place + 1) in record { has = refl; own = one.own; takes = one.takes; counted = one.counted; unset = one.unset; calls = one.calls };
       }))));
 }
 
@@ -306,6 +308,7 @@ module _ {P : Type 0} (is_own : P → Type 0) (shape : Shape) (known : P → Kno
         };
         untaken = ap (λ (v : Hand (Option Ask)). v.got) s.seat.seated.takes;
         counted = s.seat.seated.counted;
+        fresh = s.seat.seated.unset;
       }
 
   pub may-serve : seats ≤ 256 → MayServe is_own shape known boxes desks sender

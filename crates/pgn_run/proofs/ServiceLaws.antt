@@ -32,20 +32,19 @@ use Rattle.pgn_session.specs.declared.session.Session.{Session}
 use Rattle.pgn_session.specs.Standing.{IsRested, terms_of}
 use Rattle.pgn_threads.specs.Laws.{NamesFlagsBelow, RunsAreLegal}
 use Rattle.pgn_threads.specs.Parts.{HasReadAll as HasHeardAll, HasRunOut, Part, part_of, settings_of, trace_of}
-use Rattle.pgn_queries.specs.Queries.{first_place}
 use Rattle.pgn_turns.specs.declared.asked.Ask.{Ask}
-use Rattle.pgn_turns.specs.declared.asked.Ask.TheVariants.{Query, End}
+use Rattle.pgn_turns.specs.declared.asked.Ask.TheVariants.{Query, Settle, Discard, End}
 use Rattle.pgn_turns.specs.declared.saying.Saying.{Saying}
-use Rattle.pgn_turns.specs.Asks.{line_of, lines_for, rollback_line, script_of, seat_quit, unlisten_line}
+use Rattle.pgn_turns.specs.Asks.{discard_line, line_of, lines_for, rollback_line, script_of, seat_quit, unlisten_line}
 use Rattle.pgn_turns.specs.Sayings.{all_told}
-use Rattle.pgn_turns.specs.Turns.{asks_of, items_of}
+use Rattle.pgn_turns.specs.Turns.{asks_of, items_of, said}
 use Rattle.pgn_seats.specs.declared.desk.Desk.{Desk}
 use Rattle.pgn_seats.specs.Serving.{HasServed, HasToldFirst}
 use Rattle.pgn_frames.specs.declared.caller.Caller.{Caller}
 use Rattle.pgn_frames.specs.declared.frame_fault.FrameFault.{FrameFault}
 use Rattle.pgn_frames.specs.declared.framing.NoFrame.{NoFrame}
 use Rattle.pgn_frames.specs.declared.framing.NoFrame.TheVariants as none
-use Rattle.pgn_frames.specs.Clients.{SeatAsks}
+use Rattle.pgn_frames.specs.Clients.{SeatAsks, first_tally}
 use Rattle.pgn_frames.specs.Frames.{Frame, FramesAre, IsFrame, IsSeat, frame_bytes, signs_in, signs_of}
 use Rattle.pgn_frames.specs.Callers.{carried}
 use Rattle.pgn_frames.specs.Reading as reading
@@ -116,12 +115,12 @@ put seat v = what_of seat v.sent
 -- all that these signs ask was put, and behind it that nothing more will be asked; the first of it was
 pub record HasPutAll (most : ℕ) (signs : List (Option ℕ)) (now : List (Option Ask)) : Type 0 where
   pub asks : List Ask
-  pub asked : SeatAsks (first_place most) signs asks
+  pub asked : SeatAsks (first_tally most) signs asks
   pub all : now ≡ map Some asks ++ None ∷ []
 
 pub record HasPutFirst (most : ℕ) (signs : List (Option ℕ)) (now : List (Option Ask)) : Type 0 where
   pub asks : List Ask
-  pub asked : SeatAsks (first_place most) signs asks
+  pub asked : SeatAsks (first_tally most) signs asks
   pub others : List (Option Ask)
   pub first : map Some asks ++ None ∷ [] ≡ now ++ others
 
@@ -145,6 +144,8 @@ put-some most seat frames inbox caller h = record {
 
 flagless-of : (ask : Ask) → All (λ line. HasFlagBelow 0 line.act) (lines_for ask)
 flagless-of (Query query) = All-cons (λ (line : ScriptLine). HasFlagBelow 0 line.act) (line_of query) [] tt (All-nil (λ (line : ScriptLine). HasFlagBelow 0 line.act))
+flagless-of (Settle settled) = All-nil (λ (line : ScriptLine). HasFlagBelow 0 line.act)
+flagless-of (Discard line) = All-cons (λ (l : ScriptLine). HasFlagBelow 0 l.act) (discard_line line) (unlisten_line (line + 1) ∷ []) tt (All-cons (λ (l : ScriptLine). HasFlagBelow 0 l.act) (unlisten_line (line + 1)) [] tt (All-nil (λ (l : ScriptLine). HasFlagBelow 0 l.act)))
 flagless-of (End line parting) = All-cons (λ (l : ScriptLine). HasFlagBelow 0 l.act) (rollback_line line) (unlisten_line (line + 1) ∷ []) tt (All-cons (λ (l : ScriptLine). HasFlagBelow 0 l.act) (unlisten_line (line + 1)) [] tt (All-nil (λ (l : ScriptLine). HasFlagBelow 0 l.act)))
 
 flagless-lines : (asks : List Ask) → All (λ line. HasFlagBelow 0 line.act) (flat_map lines_for asks)
@@ -241,6 +242,10 @@ module _ {P K : Type 0} (is_own : P → Type 0) (shape : Shape) (known : P → K
         taken_first = subst (λ (x : Caller). HasTakenFirst (knows x.asks) (knows d.0.asks)) (c.1 c.0) (subst (λ (x : Desk P). HasTakenFirst (knows (get_or callers k c.0).asks) (knows x.asks)) (d.1 d.0) (took k d.0 c.0 (omega (arith, lt, desks-count))));
       }
 
+  -- the number of a seat's session
+  number : {k : ℕ} (s : AtSeat k) → s.desk.session.section.no ≡ 1 + k
+  number s = ap (λ (x : Section). x.no) s.given_to.section
+
   -- nobody else is told anything
   nobody : (seat : ℕ) → (IsSeat seats seat → ⊥) → signs_of seat outs ≡ []
   nobody seat out = either (cases_lt seat 1) (cases_lt 256 seat)
@@ -302,7 +307,7 @@ module _ {P K : Type 0} (is_own : P → Type 0) (shape : Shape) (known : P → K
           state = f.lawful.state;
           holds = subst (λ (items : List Item). HoldsSoFar (terms_of (service_shape seats) (seat_section seats (1 + k) (flat_map lines_for (asks_of f.turns) ++ f.rest)) 1) f.lawful.journal items f.lawful.state) f.items
               (subst (λ (t : Terms). HoldsSoFar t f.lawful.journal session.items.items f.lawful.state) terms_are f.lawful.holds);
-          told = record { turns = f.turns; plain = f.plain; asked = refl; trace = refl; told = sym (s.signed ∙ f.told) };
+          told = record { turns = f.turns; plain = f.plain; asked = refl; trace = refl; told = sym (s.signed ∙ f.told ∙ ap (λ (n : ℕ). said n f.turns) (number s)) };
         }
 
     pub stops : (frames more : List Frame) (fault : Option FrameFault) → FramesAre seats 0 bytes (frames ++ more) fault
@@ -317,7 +322,7 @@ module _ {P K : Type 0} (is_own : P → Type 0) (shape : Shape) (known : P → K
       each = all.1;
       asked = λ seat is.
           let back : 1 + (seat - 1) ≡ seat = let l : 1 ≤ seat = is.least in omega (arith, l) in
-          subst (λ (n : ℕ). SeatAsks (first_place most) (signs_of n frames) (asks_at all.0 seat)) back (all.2 (seat - 1) [] (below seat is)).0;
+          subst (λ (n : ℕ). SeatAsks (first_tally most) (signs_of n frames) (asks_at all.0 seat)) back (all.2 (seat - 1) [] (below seat is)).0;
       outs = outs;
       can_be_written = told.carry.can_be_written;
       told = λ seat is.
@@ -330,16 +335,16 @@ module _ {P K : Type 0} (is_own : P → Type 0) (shape : Shape) (known : P → K
         below : (seat : ℕ) → IsSeat seats seat → seat - 1 < seats
         below seat is = let l : 1 ≤ seat = is.least in let m : seat ≤ seats = is.most in omega (arith, l, m)
 
-        one : (k : ℕ) → k < seats → (asks : List Ask) × (SeatAsks (first_place most) (signs_of (1 + k) frames) asks × IsToldFirst seats (1 + k) asks (signs_of (1 + k) outs))
+        one : (k : ℕ) → k < seats → (asks : List Ask) × (SeatAsks (first_tally most) (signs_of (1 + k) frames) asks × IsToldFirst seats (1 + k) asks (signs_of (1 + k) outs))
         one k lt =
             let s = at-seat k lt in
             let h : HasPutFirst most (signs_of (k + 1) frames) (put (k + 1) (knows s.caller.asks)) =
             subst (λ (c : Caller). HasPutFirst most (signs_of (k + 1) frames) (put (k + 1) (knows c.asks))) (s.caller_is s.caller) (asked k s.caller (omega (arith, lt, calls-count))) in
             let next : k + 1 ≡ 1 + k = omega arith in
-            (h.asks, (subst (λ (n : ℕ). SeatAsks (first_place most) (signs_of n frames) h.asks) next h.asked, told-first k frames s lt h))
+            (h.asks, (subst (λ (n : ℕ). SeatAsks (first_tally most) (signs_of n frames) h.asks) next h.asked, told-first k frames s lt h))
 
-        all : (asks : List (List Ask)) × (length asks ≡ seats) × ((k : ℕ) (d : List Ask) → k < seats → SeatAsks (first_place most) (signs_of (1 + k) frames) (get_or asks k d) × IsToldFirst seats (1 + k) (get_or asks k d) (signs_of (1 + k) outs))
-        all = chosen (λ k asks. SeatAsks (first_place most) (signs_of (1 + k) frames) asks × IsToldFirst seats (1 + k) asks (signs_of (1 + k) outs)) seats one
+        all : (asks : List (List Ask)) × (length asks ≡ seats) × ((k : ℕ) (d : List Ask) → k < seats → SeatAsks (first_tally most) (signs_of (1 + k) frames) (get_or asks k d) × IsToldFirst seats (1 + k) (get_or asks k d) (signs_of (1 + k) outs))
+        all = chosen (λ k asks. SeatAsks (first_tally most) (signs_of (1 + k) frames) asks × IsToldFirst seats (1 + k) asks (signs_of (1 + k) outs)) seats one
 
     -- where all have served, it is a legal run
     module _ (law : RunsAreLegal) (fine : served ≡ Ok tt) (gathered : HasGathered known desks) where
@@ -375,8 +380,8 @@ module _ {P K : Type 0} (is_own : P → Type 0) (shape : Shape) (known : P → K
       -- what a seat is asked by these frames, was told, and had as its script
       abbrev IsOf : List Frame → ℕ → List Ask → Type 0
       IsOf frames k asks =
-          SeatAsks (first_place most) (signs_of (1 + k) frames) asks
-          × (((e : Desk P) → IsToldOf asks (get_or desks k e).session.items.items (signs_of (1 + k) outs))
+          SeatAsks (first_tally most) (signs_of (1 + k) frames) asks
+          × (((e : Desk P) → IsToldOf (1 + k) asks (get_or desks k e).session.items.items (signs_of (1 + k) outs))
           × ((e : Desk P) → (get_or desks k e).session.section ≡ seat_section seats (1 + k) (script_of asks)))
 
       pub runs : (frames : List Frame) → ((k : ℕ) (c : Caller) → k < length callers → HasPutAll most (signs_of (k + 1) frames) (put (k + 1) (knows (get_or callers k c).asks))) → (Q : List ℕ → Type 0) → Q (flat_map frame_bytes outs) → RunsSeats seats frames Q
@@ -385,7 +390,7 @@ module _ {P K : Type 0} (is_own : P → Type 0) (shape : Shape) (known : P → K
         each = all.1;
         asked = λ seat is.
             let back : 1 + (seat - 1) ≡ seat = let l : 1 ≤ seat = is.least in omega (arith, l) in
-            subst (λ (n : ℕ). SeatAsks (first_place most) (signs_of n frames) (asks_at all.0 seat)) back (all.2 (seat - 1) [] (below seat is)).0;
+            subst (λ (n : ℕ). SeatAsks (first_tally most) (signs_of n frames) (asks_at all.0 seat)) back (all.2 (seat - 1) [] (below seat is)).0;
         journal = whole.journal;
         traces = map trace_of parts;
         legal = subst (λ (sh : Shape). Legal (service_scenario all.0) (settings_of sh 1) whole.journal (map trace_of parts)) opened.shape_is
@@ -397,8 +402,8 @@ module _ {P K : Type 0} (is_own : P → Type 0) (shape : Shape) (known : P → K
         told = λ seat is.
             let back : 1 + (seat - 1) ≡ seat = let l : 1 ≤ seat = is.least in omega (arith, l) in
             let at = element desks (seat - 1) (omega (arith, below seat is, desks-count)) in
-            subst (λ (items : List Item). IsToldOf (asks_at all.0 seat) items (signs_of seat outs)) (sym (items-are known desks (seat - 1) at.0 (omega (arith, below seat is, desks-count))))
-            (subst (λ (n : ℕ). IsToldOf (asks_at all.0 seat) (get_or desks (seat - 1) at.0).session.items.items (signs_of n outs)) back ((all.2 (seat - 1) [] (below seat is)).1.0 at.0));
+            subst (λ (items : List Item). IsToldOf seat (asks_at all.0 seat) items (signs_of seat outs)) (sym (items-are known desks (seat - 1) at.0 (omega (arith, below seat is, desks-count))))
+            (subst (λ (n : ℕ). IsToldOf n (asks_at all.0 seat) (get_or desks (seat - 1) at.0).session.items.items (signs_of n outs)) back ((all.2 (seat - 1) [] (below seat is)).1.0 at.0));
         nobody_else = nobody;
         output = output;
       }
@@ -418,14 +423,14 @@ module _ {P K : Type 0} (is_own : P → Type 0) (shape : Shape) (known : P → K
               let next : k + 1 ≡ 1 + k = omega arith in (
                 asks_of h.turns,
                 (
-                  subst (λ (n : ℕ). SeatAsks (first_place most) (signs_of n frames) (asks_of h.turns)) next (subst (λ (asks : List Ask). SeatAsks (first_place most) (signs_of (k + 1) frames) asks) same a.asked),
+                  subst (λ (n : ℕ). SeatAsks (first_tally most) (signs_of n frames) (asks_of h.turns)) next (subst (λ (asks : List Ask). SeatAsks (first_tally most) (signs_of (k + 1) frames) asks) same a.asked),
                   (
-                    λ e. subst (λ (x : Desk P). IsToldOf (asks_of h.turns) x.session.items.items (signs_of (1 + k) outs)) (sym (s.desk_is e)) (record {
+                    λ e. subst (λ (x : Desk P). IsToldOf (1 + k) (asks_of h.turns) x.session.items.items (signs_of (1 + k) outs)) (sym (s.desk_is e)) (record {
                       items = items_of h.turns;
                       more = h.quits.more;
                       split = h.quits.items;
                       unread = h.quits.unread;
-                      told = record { turns = h.turns; plain = h.quits.plain; asked = refl; trace = refl; told = sym (s.signed ∙ h.told) };
+                      told = record { turns = h.turns; plain = h.quits.plain; asked = refl; trace = refl; told = sym (s.signed ∙ h.told ∙ ap (λ (n : ℕ). said n h.turns) (number s)) };
                     }),
                     λ e. ap (λ (x : Desk P). x.session.section) (s.desk_is e) ∙ s.given_to.section ∙ ap (λ (ls : List ScriptLine). seat_section seats (1 + k) ls) h.quits.lines,
                   ),

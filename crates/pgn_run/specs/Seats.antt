@@ -17,6 +17,7 @@ use Rattle.pgn_turns.specs.Asks.{seat_quit}
 use Rattle.pgn_seats.specs.declared.desk.Desk.{Desk}
 use Rattle.pgn_frames.specs.declared.caller.Caller.{Caller}
 use Rattle.pgn_frames.specs.Reading.{Begins}
+use Rattle.pgn_requests.specs.Settings.{fresh}
 use Rattle.pgn_run.specs.Service.{seat_notes, seat_section}
 
 -- what the hub of a service is opened for
@@ -65,6 +66,7 @@ pub record IsPlaced {P : Type 0} (most seat : ℕ) (session : Session P) (inbox 
   pub own : IsPassOf inbox desk.asks
   pub takes : knows desk.asks ≡ taker
   pub counted : desk.notes ≡ 0
+  pub unset : desk.settings ≡ fresh
   pub calls : Begins most seat inbox caller
 
 -- a session has got a desk, a caller and an inbox behind the others

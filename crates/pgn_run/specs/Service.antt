@@ -12,12 +12,11 @@ use Rattle.pgn_model.specs.declared.trace.Trace.{Trace}
 use Rattle.pgn_model.specs.Walk.{Settings, State, Terms}
 use Rattle.pgn_model.specs.Legal.{Legal}
 use Rattle.pgn_model.specs.laws.NextLine.{HoldsSoFar}
-use Rattle.pgn_queries.specs.Queries.{first_place}
 use Rattle.pgn_turns.specs.declared.asked.Ask.{Ask}
 use Rattle.pgn_turns.specs.Asks.{lines_for, script_of, seat_quit}
 use Rattle.pgn_turns.specs.Turns.{IsRead, MayBeTold}
 use Rattle.pgn_frames.specs.declared.frame_fault.FrameFault.{FrameFault}
-use Rattle.pgn_frames.specs.Clients.{SeatAsks}
+use Rattle.pgn_frames.specs.Clients.{SeatAsks, first_tally}
 use Rattle.pgn_frames.specs.Frames.{Frame, FramesAre, IsFrame, IsSeat, frame_bytes, signs_of}
 
 -- how many notifications each of so many seats may send, for all of its clients together: an equal part of what a hub lets all send
@@ -47,26 +46,26 @@ items_at traces seat = get_or (map (λ trace. trace.items) traces) (seat - 1) []
 abbrev pub service_settings : Settings
 service_settings = record { format = One; limit = PAGES_DEFAULT; patience = 1 }
 
--- what a seat's clients are told of a trace that is done: of all but the `\quit` at its end, behind which nothing is read
-pub record IsToldOf (asks : List Ask) (trace : List Item) (signs : List (Option ℕ)) : Type 0 where
+-- what the clients of a seat with this number are told of a trace that is done: of all but the `\quit` at its end, behind which nothing is read
+pub record IsToldOf (seat : ℕ) (asks : List Ask) (trace : List Item) (signs : List (Option ℕ)) : Type 0 where
   pub items : List Item
   pub more : List Item
   pub split : trace ≡ items ++ Line seat_quit.line ∷ more
   pub unread : All (λ item. IsRead item → ⊥) more
-  pub told : MayBeTold asks items signs
+  pub told : MayBeTold seat asks items signs
 
 -- these frames were read, each of so many seats is asked by all that is its own of them, there is a legal run of what all seats are asked, and
 -- P holds of frames that tell each seat's clients of it, and nobody else anything
 pub record RunsSeats (seats : ℕ) (frames : List Frame) (P : List ℕ → Type 0) : Type 0 where
   pub asks : List (List Ask)
   pub each : length asks ≡ seats
-  pub asked : (seat : ℕ) → IsSeat seats seat → SeatAsks (first_place (seat_notes seats)) (signs_of seat frames) (asks_at asks seat)
+  pub asked : (seat : ℕ) → IsSeat seats seat → SeatAsks (first_tally (seat_notes seats)) (signs_of seat frames) (asks_at asks seat)
   pub journal : List Tx
   pub traces : List Trace
   pub legal : Legal (service_scenario asks) service_settings journal traces
   pub outs : List Frame
   pub can_be_written : All (IsFrame 256) outs
-  pub told : (seat : ℕ) → IsSeat seats seat → IsToldOf (asks_at asks seat) (items_at traces seat) (signs_of seat outs)
+  pub told : (seat : ℕ) → IsSeat seats seat → IsToldOf seat (asks_at asks seat) (items_at traces seat) (signs_of seat outs)
   pub nobody_else : (seat : ℕ) → (IsSeat seats seat → ⊥) → signs_of seat outs ≡ []
   pub output : P (flat_map frame_bytes outs)
 
@@ -95,7 +94,7 @@ pub record IsToldFirst (seats seat : ℕ) (asks : List Ask) (signs : List (Optio
   pub journal : List Tx
   pub state : State
   pub holds : HoldsSoFar (record { section = seat_section seats seat (flat_map lines_for first ++ rest); settings = service_settings }) journal (items ++ more) state
-  pub told : MayBeTold first items signs
+  pub told : MayBeTold seat first items signs
 
 -- the frame that says that a service is over before its input: it is of no seat
 abbrev pub over_frame : List ℕ
@@ -110,7 +109,7 @@ pub record StopsServing (seats : ℕ) (bytes : List ℕ) (P : List ℕ → Type 
   pub are : FramesAre seats 0 bytes (frames ++ others) fault
   pub asks : List (List Ask)
   pub each : length asks ≡ seats
-  pub asked : (seat : ℕ) → IsSeat seats seat → SeatAsks (first_place (seat_notes seats)) (signs_of seat frames) (asks_at asks seat)
+  pub asked : (seat : ℕ) → IsSeat seats seat → SeatAsks (first_tally (seat_notes seats)) (signs_of seat frames) (asks_at asks seat)
   pub outs : List Frame
   pub can_be_written : All (IsFrame 256) outs
   pub told : (seat : ℕ) → IsSeat seats seat → IsToldFirst seats seat (asks_at asks seat) (signs_of seat outs)

@@ -50,10 +50,10 @@ pub fn so_far()
 /// What the clients of seats are told, and what may stand written.
 pub fn seats()
     // A client that listened heard a notification, and then nobody asked more.
-    ensures told { IsToldOf (Query listen ∷ []) (idle_items ++ Line seat_quit.line ∷ []) (map Some (listen_bytes ++ other_bytes)) }
+    ensures told { IsToldOf 1 (Query listen ∷ []) (idle_items ++ Line seat_quit.line ∷ []) (map Some (listen_bytes ++ other_bytes)) }
     // The notification left out; a notification that comes behind the `\quit`.
-    ensures read_left_out { IsToldOf (Query listen ∷ []) (idle_items ++ Line seat_quit.line ∷ []) (map Some listen_bytes) → ⊥ }
-    ensures read_behind { IsToldOf [] (Line seat_quit.line ∷ Read 3 4 (sent_by 1002 ∷ []) ∷ []) [] → ⊥ }
+    ensures read_left_out { IsToldOf 1 (Query listen ∷ []) (idle_items ++ Line seat_quit.line ∷ []) (map Some listen_bytes) → ⊥ }
+    ensures read_behind { IsToldOf 1 [] (Line seat_quit.line ∷ Read 3 4 (sent_by 1002 ∷ []) ∷ []) [] → ⊥ }
     // Nobody asked anything: nothing is written, and no part of a frame.
     ensures nothing { RunsSeats 1 [] (λ text. text ≡ []) }
     ensures half_a_frame { RunsSeats 1 [] (λ text. text ≡ 0 ∷ 1 ∷ 0 ∷ []) → ⊥ }

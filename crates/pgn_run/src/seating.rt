@@ -11,6 +11,7 @@ use pgn_frames::Caller;
 use pgn_hub::{Hub, PassView, SeatSetup, Setup};
 use pgn_language::{ScriptLines, Section};
 use pgn_outlet::{Outlet, OutletPass};
+use pgn_requests::Settings;
 use pgn_seats::{Desk, Inbox};
 use pgn_session::{FlagPlan, Session};
 use pgn_turns::{Ask, quit_at_end};
@@ -223,6 +224,7 @@ fn sit<P: PassView + Send + Drop>(
         session,
         asks,
         notes: 0,
+        settings: Settings::new(alloc),
     })?;
     seating
         .callers

@@ -14,6 +14,7 @@ use Rattle.pgn_outlet.specs.Cames.{what_of}
 use Rattle.pgn_outlet.specs.Passes.{knows}
 use Rattle.pgn_turns.specs.declared.asked.Ask.{Ask}
 use Rattle.pgn_turns.specs.declared.saying.Saying.{Saying}
+use Rattle.pgn_requests.specs.Settings.{fresh}
 use Rattle.pgn_turns.specs.Asks.{seat_quit}
 use Rattle.pgn_seats.specs.declared.desk.Desk.{Desk}
 use Rattle.pgn_seats.specs.Serving.{HasInbox, HasServed, HasToldFirst}
@@ -32,6 +33,7 @@ pub record MayBegin {P : Type 0} (is_own : P → Type 0) (shape : Shape) (known 
   pub inbox : HasInbox inboxes desk
   pub untaken : (knows desk.asks).got ≡ []
   pub counted : desk.notes ≡ 0
+  pub fresh : desk.settings ≡ fresh
 
 -- desks that may begin, numbered from the first number of a pass on and not more than its numbers; they tell by that pass, which has pushed nothing
 pub record MayServe {P : Type 0} (is_own : P → Type 0) (shape : Shape) (known : P → Known) (inboxes : List (Outlet (Option Ask))) (desks : List (Desk P)) (v : Hand Saying) : Type 0 where

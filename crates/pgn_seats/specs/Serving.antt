@@ -20,7 +20,7 @@ use Rattle.pgn_turns.specs.declared.asked.Ask.{Ask}
 use Rattle.pgn_turns.specs.declared.saying.Saying.{Saying}
 use Rattle.pgn_turns.specs.Asks.{seat_quit}
 use Rattle.pgn_turns.specs.Sayings.{all_told}
-use Rattle.pgn_turns.specs.Turns.{Turn, IsPlain, IsRead, asks_of, items_of, lines_of, said}
+use Rattle.pgn_turns.specs.Turns.{Turn, IsPlain, IsRead, asks_of, items_of, lines_of, said, telling_of}
 use Rattle.pgn_seats.specs.declared.desk.Desk.{Desk}
 
 -- what was taken from the inbox of seat n, in order
@@ -51,7 +51,8 @@ pub record Serves {P : Type 0} (is_own : P → Type 0) (shape : Shape) (known : 
   pub turns : List Turn
   pub in_turns : IsInTurns desk.session turns
   pub asked : taken desk.session.section.no (knows desk.asks) ≡ map Some (asks_of turns)
-  pub told : all_told (what_of desk.session.section.no tells.sent) ≡ said turns
+  pub told : all_told (what_of desk.session.section.no tells.sent) ≡ said desk.session.section.no turns
+  pub settings : desk.settings ≡ (telling_of turns).kept
 
 -- a session whose script is done: behind the items of its turns stand the `\quit` and what that does, which is no read
 pub record HasQuitBehind {P : Type 0} (s : Session P) (turns : List Turn) : Type 0 where
@@ -71,7 +72,7 @@ pub record HasServed {P : Type 0} (is_own : P → Type 0) (shape : Shape) (known
   pub turns : List Turn
   pub quits : HasQuitBehind desk.session turns
   pub asked : taken desk.session.section.no (knows desk.asks) ≡ map Some (asks_of turns) ++ None ∷ []
-  pub told : all_told (what_of desk.session.section.no tells.sent) ≡ said turns
+  pub told : all_told (what_of desk.session.section.no tells.sent) ≡ said desk.session.section.no turns
 
 -- it serves, or has served
 abbrev pub IsSeated : {P : Type 0} → (P → Type 0) → Shape → (P → Known) → List (Outlet (Option Ask)) → Desk P → Hand Saying → Type 0
@@ -90,7 +91,7 @@ pub record HasToldFirst {P : Type 0} (shape : Shape) (inboxes : List (Outlet (Op
   pub lines : desk.session.section.lines ≡ lines_of turns ++ rest
   pub others : List (Option Ask)
   pub asked : taken desk.session.section.no (knows desk.asks) ≡ map Some (asks_of turns) ++ others
-  pub told : all_told (what_of desk.session.section.no tells.sent) ≡ said turns
+  pub told : all_told (what_of desk.session.section.no tells.sent) ≡ said desk.session.section.no turns
 
 -- a pass may have pushed for number n, and has pushed nothing for others
 pub record HasPushedFor (n : ℕ) (old new : Hand Saying) : Type 0 where

@@ -1,4 +1,5 @@
 use pgn_outlet::{Outlet, OutletPass};
+use pgn_requests::Settings;
 use pgn_session::Session;
 use pgn_turns::Ask;
 
@@ -12,4 +13,6 @@ pub struct Desk<P> {
     pub asks: OutletPass<Option<Ask>>,
     /// So many lines of the session's script notify.
     pub notes: u32,
+    /// Those of the client that is there.
+    pub settings: Settings,
 }

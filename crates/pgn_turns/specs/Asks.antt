@@ -1,11 +1,11 @@
 -- What a seat is asked, and the script that its session has of it.
 use Rattle.std.specs.Prelude.{◌≡◌, ℕ, ◌+◌, List, [], ◌∷◌, ◌++◌, codes, flat_map}
-use Rattle.pgn_base.specs.declared.command.Command.TheVariants.{Rollback, UnlistenAll}
+use Rattle.pgn_base.specs.declared.command.Command.TheVariants.{Bad, Rollback, UnlistenAll}
 use Rattle.pgn_language.specs.declared.scenario.Act.TheVariants.{Run, Quit}
 use Rattle.pgn_language.specs.declared.scenario.ScriptLine.{ScriptLine}
 use Rattle.pgn_turns.specs.declared.asked.Asked.{Asked}
 use Rattle.pgn_turns.specs.declared.asked.Ask.{Ask}
-use Rattle.pgn_turns.specs.declared.asked.Ask.TheVariants.{Query, End}
+use Rattle.pgn_turns.specs.declared.asked.Ask.TheVariants.{Query, Settle, Discard, End}
 
 -- the line that runs a query
 abbrev pub line_of : Asked → ScriptLine
@@ -18,9 +18,15 @@ rollback_line number = record { line = number; text = codes "ROLLBACK"; act = Ru
 abbrev pub unlisten_line : ℕ → ScriptLine
 unlisten_line number = record { line = number; text = codes "UNLISTEN *"; act = Run UnlistenAll }
 
+-- the first of the two lines of `DISCARD ALL`: the session refuses it, so that a block fails, and outside of one nothing is done
+abbrev pub discard_line : ℕ → ScriptLine
+discard_line number = record { line = number; text = codes "DISCARD ALL"; act = Run (Bad 0) }
+
 -- the lines of what a seat is asked
 abbrev pub lines_for : Ask → List ScriptLine
 lines_for (Query query) = line_of query ∷ []
+lines_for (Settle settled) = []
+lines_for (Discard line) = discard_line line ∷ unlisten_line (line + 1) ∷ []
 lines_for (End line parting) = rollback_line line ∷ unlisten_line (line + 1) ∷ []
 
 -- the line that ends a seat's script: its number is greater than that of each other
@@ -35,4 +41,6 @@ script_of asks = flat_map lines_for asks ++ seat_quit ∷ []
 abbrev pub GoOnFrom : ℕ → List Ask → Type 0
 GoOnFrom number [] = Unit {0}
 GoOnFrom number (Query query ∷ asks) = (query.line ≡ number) × GoOnFrom (number + 1) asks
+GoOnFrom number (Settle settled ∷ asks) = GoOnFrom number asks
+GoOnFrom number (Discard line ∷ asks) = (line ≡ number) × GoOnFrom (number + 2) asks
 GoOnFrom number (End line parting ∷ asks) = (line ≡ number) × GoOnFrom (number + 2) asks

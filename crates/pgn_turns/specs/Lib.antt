@@ -1,5 +1,7 @@
 -- what a seat is asked, and its script
 pub mod Asks
+-- what a client of a service is answered
+pub mod Served
 -- a session's trace in turns, and what is told of them
 pub mod Turns
 -- what clients are told, piece by piece

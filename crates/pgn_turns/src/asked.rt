@@ -1,12 +1,14 @@
 use pgn_base::Command;
 use pgn_language::LineText;
+use pgn_requests::{Settled, Wording};
 
-/// A query of a seat's client: the number of its line in the seat's script, its text and its command.
+/// A query of a seat's client: the number of its line in the seat's script, its text and its command, and how its answer is put.
 #[derive(Drop)]
 pub struct Asked {
     pub line: u32,
     pub text: LineText,
     pub command: Command,
+    pub wording: Wording,
 }
 
 /// How a client of a seat ends.
@@ -16,6 +18,8 @@ pub enum Parting {
     Plain,
     /// By a fault of its bytes.
     Refused,
+    /// By a message of the extended protocol.
+    Extended,
     /// By a query with which more would notify than may.
     Spent,
 }
@@ -25,6 +29,10 @@ pub enum Parting {
 pub enum Ask {
     /// A query of its client.
     Query(Asked),
+    /// What its client asks that is settled without the session: it has no line.
+    Settle(Settled),
+    /// `DISCARD ALL`, with the number of the first of its two lines.
+    Discard { line: u32 },
     /// The end of its client, with the number of the first of the two lines that set the seat back.
     End { line: u32, parting: Parting },
 }

@@ -12,9 +12,9 @@ pub returns : goal.returns
 returns g c =
     let gives : GivesInbox c.args.seating.now.inboxes.items c.open_inbox.new.inboxes.items c.in-Ok.put c.in-Ok.asks = search rules in
     sits-more (seat_notes c.args.seats) c.args.session c.args.seating.now.inboxes.items c.open_inbox.new.inboxes.items c.args.seating.now.desks.items c.push.new.self.items c.args.seating.now.callers.items c.push-2.new.self.items
-    c.in-Ok.put c.in-Ok.asks (record { session = c.args.session; asks = c.in-Ok.asks; notes = 0 }) c.new.result gives (search rules) (search rules) (search rules) c.in_ok-push.ensures.items c.in_ok-push-2.ensures.items
+    c.in-Ok.put c.in-Ok.asks (record { session = c.args.session; asks = c.in-Ok.asks; notes = 0; settings = c.new.result }) c.new-2.result gives (search rules) (search rules) (search rules) c.new.ensures c.in_ok-push.ensures.items c.in_ok-push-2.ensures.items
     (λ number inbox own. record {
-      own = subst (λ (p : Pass (Option Ask)). IsPassOf inbox p) (sym c.new.ensures.pass) own;
-      unused = ap knows c.new.ensures.pass ∙ gives.puts;
-      first = c.new.ensures.first ∙ ap first_stand c.notes_for.ensures;
+      own = subst (λ (p : Pass (Option Ask)). IsPassOf inbox p) (sym c.new-2.ensures.pass) own;
+      unused = ap knows c.new-2.ensures.pass ∙ gives.puts;
+      first = c.new-2.ensures.first ∙ ap first_stand c.notes_for.ensures;
     })

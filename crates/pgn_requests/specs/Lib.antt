@@ -1,0 +1,4 @@
+-- the settings of a client
+pub mod Settings
+-- what is settled without the session
+pub mod Settled
