@@ -65,6 +65,11 @@ def error(code, text, severity='ERROR'):
     return made(b'E', f'S{severity}\0V{severity}\0C{code}\0M{text}\0\0'.encode())
 
 
+def invalid(name, value):
+    return error('22023', f'invalid value for parameter "{name}": "{value}"')
+
+
+NO_SUCH = error('42704', 'unrecognized configuration parameter "nosuch"')
 FIRST = query("SET STARTUP session_authorization TO 'me'")  # what a program is asked of the user `me`, who asked for nothing at the start-up
 EMPTY = made(b'I', b'')
 VOID = column('pg_notify', 2278, 4)
@@ -543,11 +548,8 @@ def put_at_start(shim):
 
 
 def wrong_settings(shim):
-    def invalid(name, value):
-        return error('22023', f'invalid value for parameter "{name}": "{value}"')
-
-    unknown, wire = error('42704', 'unrecognized configuration parameter "nosuch"'), shim.enter()
-    due = [('SET nosuch TO 1', unknown), ('RESET nosuch', unknown), ('SHOW nosuch', unknown), ('SET nosuch TO DEFAULT', unknown),
+    wire = shim.enter()
+    due = [('SET nosuch TO 1', NO_SUCH), ('RESET nosuch', NO_SUCH), ('SHOW nosuch', NO_SUCH), ('SET nosuch TO DEFAULT', NO_SUCH),
            ("SET DateStyle TO 'Martian'", invalid('DateStyle', 'Martian')), ('SET intervalstyle = maya', invalid('IntervalStyle', 'maya')),
            ('SET client_min_messages TO loud', invalid('client_min_messages', 'loud'))]
     due += [(f"SET {name} TO 'on'", error('55P02', f'parameter "{name}" cannot be changed'))
@@ -575,8 +577,11 @@ def failed_block(shim):
     wire.ask('NO SUCH COMMAND', 'EZ')
     for text in ("SET application_name TO 'x'", 'RESET application_name', 'RESET ALL', 'SHOW application_name', 'DISCARD ALL', 'DEALLOCATE ALL',
                  'CLOSE ALL', 'SELECT 1', 'SELECT version()', 'SELECT pg_backend_pid()', 'SELECT * FROM pg_listening_channels()',
-                 'BEGIN ISOLATION LEVEL SERIALIZABLE', 'SET nosuch TO 1', "SET DateStyle TO 'Martian'"):
+                 'BEGIN ISOLATION LEVEL SERIALIZABLE'):
         wire.meet(text, error('25P02', ABORTED), state='E')
+    # A server finds the state of the block first.
+    for text, own in (('SET nosuch TO 1', NO_SUCH), ("SET DateStyle TO 'Martian'", invalid('DateStyle', 'Martian'))):
+        wire.meet(text, error('25P02', ABORTED) if shim.is_server else own, state='E')
     wire.meet('; /* */ ;', EMPTY, state='E')
     wire.meet('ROLLBACK', complete('ROLLBACK'))
     wire.shows('application_name', '')
@@ -659,7 +664,7 @@ def no_texts(shim):
     for block, state in (('BEGIN', 'E'), ('', 'I')):
         for body, refusal in ((b"NOTIFY c, '\xff'\0", encoding('0xff')), (b'NOTIFY c -- \xc3\0', encoding('0xc3')),
                               (b'\xed\xa0\x80\0', encoding('0xed 0xa0 0x80')), (b'SELECT 1\0x\0', format), (b'SELECT 1\0\0', format),
-                              (b'SELECT 1', string if server else format), (b'', string if server else format)):
+                              (b'SELECT 1', string if server else format)):
             wire.send(query(block))
             wire.take('CZ' if block else 'IZ')
             wire.meet(made(b'Q', body), refusal, state=state)

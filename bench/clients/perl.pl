@@ -41,7 +41,7 @@ while (my $line = <STDIN>) {
             $dbh->do("NOTIFY c, 'never'");
             $dbh->rollback;
             $dbh->{AutoCommit} = 0;
-            $dbh->do('SELECT pg_notify(?, ?)', undef, 'c', 'kept');
+            $dbh->do("NOTIFY c, 'kept'");
             $dbh->commit;
             $dbh->{AutoCommit} = 1;
             $dbh->do("NOTIFY c, 'behind'");
