@@ -544,13 +544,14 @@ def put_at_start(shim):
     for name, value, code in (('client_min_messages', 'loud', '22023'), ('extra_float_digits', '4', '22023'), ('TimeZone', 300 * 'x', '22023')):
         wire = shim.wire()
         wire.send(packet(VERSION, words('user', 'me', 'database', 'messages', name, value)))
+        wire.take('R' if shim.is_server else '')
         wire.fatal(code)
 
 
 def wrong_settings(shim):
     wire = shim.enter()
     due = [('SET nosuch TO 1', NO_SUCH), ('RESET nosuch', NO_SUCH), ('SHOW nosuch', NO_SUCH), ('SET nosuch TO DEFAULT', NO_SUCH),
-           ("SET DateStyle TO 'Martian'", invalid('DateStyle', 'Martian')), ('SET intervalstyle = maya', invalid('IntervalStyle', 'maya')),
+           ("SET DateStyle TO 'Martian'", invalid('DateStyle', 'Martian')), ('SET "IntervalStyle" = maya', invalid('IntervalStyle', 'maya')),
            ('SET client_min_messages TO loud', invalid('client_min_messages', 'loud'))]
     due += [(f"SET {name} TO 'on'", error('55P02', f'parameter "{name}" cannot be changed'))
             for name in ('server_version', 'integer_datetimes', 'is_superuser', 'in_hot_standby', 'server_encoding')]
