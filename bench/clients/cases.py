@@ -211,10 +211,10 @@ def handed_on(program, single):
     for ends_well in (True, False, True):
         one = single()
         one.open(1)
-        one.run(1, 'LISTEN left', 'NOTIFY d')
+        one.run(1, 'LISTEN before', 'NOTIFY d')
         pids |= set(program.get(1, ('d', '')))
-        program.run(2, 'NOTIFY left')
-        one.get(1, ('left', ''))
+        program.run(2, 'NOTIFY before')
+        one.get(1, ('before', ''))
         if ends_well:
             one.ask('close', 1)
             one.open(1)
@@ -224,7 +224,7 @@ def handed_on(program, single):
             one.open(1)
         one.run(1, 'LISTEN another', 'NOTIFY d')
         pids |= set(program.get(1, ('d', '')))
-        program.run(2, 'NOTIFY left', 'NOTIFY another')
+        program.run(2, 'NOTIFY before', 'NOTIFY another')
         one.get(1, ('another', ''))
         one.end()
     if len(pids) != 1:

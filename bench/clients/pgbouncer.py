@@ -51,7 +51,7 @@ with tempfile.TemporaryDirectory() as room, open(f'{room}/log', 'w+', encoding='
         status = subprocess.run([word if word != 'PORT' else str(own) for word in command], check=False).returncode
         if status or pooler.poll() is not None:
             log.seek(0)
-            sys.stderr.write(log.read())
+            sys.stderr.writelines(log.readlines()[-20:])
     finally:
         pooler.terminate()
         pooler.wait()
