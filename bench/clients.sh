@@ -2,9 +2,10 @@
 # Whether clients of PostgreSQL, unmodified, work with the service: bench/clients.sh [--program COMMAND | --server PORT] [NAME..]
 #
 # Starts tools/serve, over COMMAND in place of ./pgnotify, and has each client library go through the cases of bench/clients/cases.py: LISTEN
-# in one connection and NOTIFY in another, in and out of a block, rolled back, 7,999 bytes, 1,000 in order, a client that dies in a block,
-# 64 clients at once. With names only these are tried. The client `messages` is bench/clients/messages.py, which looks at each message, and
-# has the cases of start-up, of the order of messages, of clients that go, and of services that end.
+# in one connection and NOTIFY in another, in and out of a block, rolled back, by the library's own calls and its pool, 7,999 bytes, 1,000 in
+# order, a client that dies in a block, 64 clients at once. With names only these are tried. The client `messages` is
+# bench/clients/messages.py, which looks at each message, and has the cases of start-up, of settings, of the order of messages, of clients
+# that go, and of services that end.
 #
 # The libraries are Debian's, by these packages; a client whose library or compiler is not there is skipped:
 #
@@ -18,11 +19,12 @@
 #   perl        libdbd-pg-perl
 #   php         php-cli, php-pgsql
 #   jdbc        libpostgresql-jdbc-java, a JDK
+#   pgbouncer   pgbouncer, a pooler of sessions, between psycopg2 and the service
 #
-# They connect by their defaults, but for JDBC: preferQueryMode=simple and assumeMinServerVersion=9.4, without which it asks by the extended
-# protocol, and sends SET. A line for each case says `ok` or `FAILED`. The last line says how many clients passed, failed and were skipped;
-# the status is 1 where one failed. With --server the cases that PostgreSQL has too are tried on a server at that port of 127.0.0.1: it lets
-# in the user `me`, and has a database of each client's name.
+# They connect by their defaults, but for JDBC, with preferQueryMode=simple, and psycopg, with its ClientCursor: docs/clients.md says why. A
+# line for each case says `ok` or `FAILED`. The last line says how many clients passed, failed and were skipped; the status is 1 where one
+# failed. With --server the cases that PostgreSQL has too are tried on a server at that port of 127.0.0.1: it lets in the user `me`, and has a
+# database of each client's name, and `single`.
 set -u
 
 root=$(cd -- "$(dirname -- "$0")/.." && pwd)
@@ -42,7 +44,7 @@ case ${1-} in
 --program) program=$2 && shift 2 ;;
 --server) server=$2 && shift 2 ;;
 esac
-all='messages psql libpq psycopg2 psycopg pygresql node pq pgx tokio ruby perl php jdbc'
+all='messages psql libpq psycopg2 psycopg pygresql node pq pgx tokio ruby perl php jdbc pgbouncer'
 [ $# -gt 0 ] || set -- $all asyncpg
 
 passed=0
@@ -128,6 +130,11 @@ client() {
         if ! has javac || [ ! -e /usr/share/java/postgresql.jar ]; then skip 'no driver, or no compiler'
         elif made javac -cp /usr/share/java/postgresql.jar -d "$room" "$here/Jdbc.java"; then go java -cp "$room:/usr/share/java/postgresql.jar" Jdbc
         else failed=$((failed + 1)); fi
+        ;;
+    pgbouncer)
+        if has pgbouncer && /usr/bin/python3 -c 'import psycopg2' 2>"$room/said"; then
+            count "$here/pgbouncer.py" "$port" python3 "$here/cases.py" PORT "$name" /usr/bin/python3 "$here/python.py" psycopg2
+        else skip 'no pgbouncer, or no psycopg2'; fi
         ;;
     asyncpg) skip 'it listens by the extended protocol, which the program does not answer' ;;
     *) echo "clients: no client $name; there are $all" >&2 && exit 2 ;;

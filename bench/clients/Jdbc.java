@@ -4,6 +4,7 @@ import java.io.InputStreamReader;
 import java.io.PrintStream;
 import java.sql.Connection;
 import java.sql.DriverManager;
+import java.sql.PreparedStatement;
 import java.sql.SQLException;
 import java.sql.Statement;
 import java.util.HashMap;
@@ -14,7 +15,7 @@ import org.postgresql.PGNotification;
 public class Jdbc {
     public static void main(String[] words) throws Exception {
         String where = "jdbc:postgresql://127.0.0.1:" + words[0] + "/" + words[1]
-            + "?user=me&sslmode=disable&preferQueryMode=simple&assumeMinServerVersion=9.4";
+            + "?user=me&sslmode=disable&preferQueryMode=simple";
         Map<String, Connection> connections = new HashMap<>();
         BufferedReader in = new BufferedReader(new InputStreamReader(System.in, "UTF-8"));
         PrintStream out = new PrintStream(System.out, true, "UTF-8");
@@ -32,6 +33,9 @@ public class Jdbc {
                         statement.execute(parts[2]);
                     }
                     break;
+                case "own":
+                    own(connection);
+                    break;
                 case "get":
                     String[] bounds = parts[2].split(" ");
                     get(out, connection.unwrap(PGConnection.class), Integer.parseInt(bounds[0]), Integer.parseInt(bounds[1]));
@@ -46,6 +50,25 @@ public class Jdbc {
             }
         }
         System.exit(0);
+    }
+
+    static void own(Connection connection) throws SQLException {
+        if (!connection.isValid(10) || connection.getTransactionIsolation() != Connection.TRANSACTION_READ_COMMITTED) {
+            throw new SQLException("not valid");
+        }
+        connection.setAutoCommit(false);
+        try (Statement statement = connection.createStatement()) {
+            statement.execute("NOTIFY c, 'never'");
+            connection.rollback();
+            statement.execute("NOTIFY c, 'kept'");
+            connection.commit();
+        }
+        connection.setAutoCommit(true);
+        try (PreparedStatement statement = connection.prepareStatement("SELECT pg_notify(?, ?)")) {
+            statement.setString(1, "c");
+            statement.setString(2, "behind");
+            statement.execute();
+        }
     }
 
     static void get(PrintStream out, PGConnection connection, int count, int ms) throws SQLException {

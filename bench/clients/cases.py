@@ -1,10 +1,12 @@
 """The cases of one client library: cases.py PORT NAME COMMAND..
 
 COMMAND is a program over that library, unmodified. It comes to 127.0.0.1 at PORT as the user `me`, to the database NAME, reads lines and
-answers each by `ok`, or by `error` and a text:
+answers each by `ok`, or by `error` and a text. The pooler's databases are in bench/clients/pgbouncer.py.
 
     open N           one more connection, with the number N
     run N SQL        one statement, by the simple protocol
+    own N            by the library's own calls, in connection N, or in one of the library's pool where it has one: a transaction with
+                     `NOTIFY c, 'never'`, which is rolled back, one with `NOTIFY c, 'kept'`, which is committed, and `NOTIFY c, 'behind'`
     get N COUNT MS   before its `ok` a line `PROCESS CHANNEL PAYLOAD` for each notification that connection N has got: it waits until there
                      are COUNT of them, for MS milliseconds at most
     close N          ends it
@@ -142,6 +144,20 @@ def rolled_back(program):
     program.get(1, ('c', 'last'))
 
 
+def own(program):
+    """Twice, so that what a pool gives out the second time was used before. Then the connections are closed one by one."""
+    two(program)
+    for _ in range(2):
+        program.ask('own', 2)
+        program.get(1, ('c', 'kept'), ('c', 'behind'))
+    program.ask('close', 2)
+    program.open(2)
+    program.run(2, 'LISTEN c')
+    program.ask('close', 1)
+    program.run(2, "NOTIFY c, 'alone'")
+    program.get(2, ('c', 'alone'))
+
+
 def longest(program):
     two(program)
     payload = ''.join(chr(97 + i % 26) for i in range(7999))
@@ -187,23 +203,55 @@ def died(program, another):
     many(another())
 
 
+def handed_on(program, single):
+    """Behind a pooler with one connection: whoever comes next gets it, and nothing that the one before listened to."""
+    two(program)
+    program.run(1, 'LISTEN d')
+    pids = set()
+    for ends_well in (True, False, True):
+        one = single()
+        one.open(1)
+        one.run(1, 'LISTEN before', 'NOTIFY d')
+        pids |= set(program.get(1, ('d', '')))
+        program.run(2, 'NOTIFY before')
+        one.get(1, ('before', ''))
+        if ends_well:
+            one.ask('close', 1)
+            one.open(1)
+        else:
+            one.die()
+            one = single()
+            one.open(1)
+        one.run(1, 'LISTEN another', 'NOTIFY d')
+        pids |= set(program.get(1, ('d', '')))
+        program.run(2, 'NOTIFY before', 'NOTIFY another')
+        one.get(1, ('another', ''))
+        one.end()
+    if len(pids) != 1:
+        raise Wrong(f'process numbers {pids} of one connection')
+
+
 CASES = ('LISTEN in one connection, NOTIFY in another', plain), ('names and texts', names), ('in and out of a block', block), \
-    ('a listener in a block', listener_in_block), ('rolled back', rolled_back), ('a payload of 7,999 bytes', longest), \
-    ('1,000 notifications in order', thousand), ('one dies in a block, then 64 at once', died)
+    ('a listener in a block', listener_in_block), ('rolled back', rolled_back), ("the library's own calls, and its pool", own), \
+    ('a payload of 7,999 bytes', longest), ('1,000 notifications in order', thousand), ('one dies in a block, then 64 at once', died)
+POOLED = (('who comes next hears nothing by a LISTEN that is left', handed_on),)
 
 
 def main():
     port, name, command = sys.argv[1], sys.argv[2], sys.argv[3:]
-    failed = 0
-    for title, case in CASES:
+    failed, is_pooler = 0, name == 'pgbouncer'
+    for title, case in CASES + (POOLED if is_pooler else ()):
         programs = []
 
-        def another():
-            programs.append(Program(port, name, command))
+        def another(database='pooled' if is_pooler else name):
+            programs.append(Program(port, database, command))
             return programs[-1]
 
         try:
-            case(another(), *([another] if case is died else []))
+            if case is handed_on:
+                case(another('beside'), lambda: another('single'))
+            else:
+                case(another(), *([another] if case is died else []))
             print(f'  ok      {name}: {title}', flush=True)
         except (Wrong, OSError, subprocess.TimeoutExpired) as wrong:
             print(f'  FAILED  {name}: {title}: {wrong}', flush=True)

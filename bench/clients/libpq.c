@@ -29,6 +29,22 @@ static void run(PGconn *c, const char *sql) {
     PQclear(r);
 }
 
+/* libpq has no calls for blocks. */
+static void own(PGconn *c) {
+    static const char *texts[] = {"BEGIN", "NOTIFY c, 'never'", "ROLLBACK", "BEGIN", "NOTIFY c, 'kept'", "COMMIT", "NOTIFY c, 'behind'"};
+    int failed = PQsetClientEncoding(c, "UTF8");
+    for (int i = 0; i < 7 && !failed; i++) {
+        PGresult *r;
+        failed = !PQsendQuery(c, texts[i]);
+        while ((r = PQgetResult(c))) {
+            failed |= PQresultStatus(r) != PGRES_COMMAND_OK;
+            PQclear(r);
+        }
+    }
+    if (failed) say_error(c);
+    else puts("ok");
+}
+
 static void get(PGconn *c, int count, int ms) {
     long until = now() + ms;
     for (;;) {
@@ -64,6 +80,8 @@ int main(int argc, char **argv) {
             run(connections[n], line + at);
         } else if (sscanf(line, "get %d %d %d", &n, &count, &ms) == 3) {
             get(connections[n], count, ms);
+        } else if (sscanf(line, "own %d", &n) == 1) {
+            own(connections[n]);
         } else if (sscanf(line, "close %d", &n) == 1) {
             PQfinish(connections[n]);
             puts("ok");

@@ -20,8 +20,10 @@ import time
 WAIT, QUIET = 20, 0.2  # seconds in which what is due has to come, and in which what is not due has not come
 NAMES = ['application_name', 'client_encoding', 'DateStyle', 'default_transaction_read_only', 'in_hot_standby', 'integer_datetimes',
          'IntervalStyle', 'is_superuser', 'server_encoding', 'server_version', 'session_authorization', 'standard_conforming_strings', 'TimeZone']
+UNTOLD = {'client_min_messages': 'notice', 'extra_float_digits': '1', 'transaction_isolation': 'read committed', 'transaction_read_only': 'off'}
 SSL, GSSAPI, CANCEL, VERSION = 80877103, 80877104, 80877102, 196608
 LONG = 'x' * 7999
+ABORTED = 'current transaction is aborted, commands ignored until end of transaction block'
 
 
 class Wrong(Exception):
@@ -33,9 +35,44 @@ def check(holds, *what):
         raise Wrong(' '.join(str(piece)[:300] for piece in what))
 
 
+def made(letter, body):
+    """A message, as 'Message Formats' of PostgreSQL's documentation has it; so are those below."""
+    return letter + struct.pack('!I', 4 + len(body)) + body
+
+
 def query(text):
-    body = text.encode() + b'\0'
-    return b'Q' + struct.pack('!I', 4 + len(body)) + body
+    return made(b'Q', text.encode() + b'\0')
+
+
+def column(name, kind=25, size=-1):
+    """RowDescription of one column, of no table: a type's number and size, no modifier, in the format text."""
+    return made(b'T', struct.pack('!H', 1) + name.encode() + b'\0' + struct.pack('!IHIhih', 0, 0, kind, size, -1, 0))
+
+
+def row(value):
+    return made(b'D', struct.pack('!HI', 1, len(value.encode())) + value.encode())
+
+
+def complete(tag):
+    return made(b'C', tag.encode() + b'\0')
+
+
+def status(name, value):
+    return made(b'S', f'{name}\0{value}\0'.encode())
+
+
+def error(code, text, severity='ERROR'):
+    return made(b'E', f'S{severity}\0V{severity}\0C{code}\0M{text}\0\0'.encode())
+
+
+def invalid(name, value):
+    return error('22023', f'invalid value for parameter "{name}": "{value}"')
+
+
+NO_SUCH = error('42704', 'unrecognized configuration parameter "nosuch"')
+FIRST = query("SET STARTUP session_authorization TO 'me'")  # what a program is asked of the user `me`, who asked for nothing at the start-up
+EMPTY = made(b'I', b'')
+VOID = column('pg_notify', 2278, 4)
 
 
 def packet(code, body=b''):
@@ -105,6 +142,26 @@ class Wire:
     def ask(self, text, letters='CZ'):
         self.send(query(text))
         return self.take(letters)
+
+    def told(self):
+        """The next message, whole, but for the fields of an error that a server alone sends: its place, its line, a detail, a hint."""
+        got = self.message()
+        check(got and got != 'end', 'due: a message; got:', got)
+        letter, body = got
+        if letter in 'EN':
+            body = b''.join(field + b'\0' for field in body.split(b'\0') if field[:1] in (b'S', b'V', b'C', b'M')) + b'\0'
+        return made(letter.encode(), body)
+
+    def meet(self, asked, *due, state='I'):
+        """What is told of a text, or of a message, is just this, and then ReadyForQuery with the block's state."""
+        self.send(asked if isinstance(asked, bytes) else query(asked))
+        got, due = [self.told()], b''.join(due) + made(b'Z', state.encode())
+        while got[-1][:1] != b'Z':
+            got.append(self.told())
+        check(b''.join(got) == due, f'{asked[:80]!r}: due: {due[:300]}; got:', b''.join(got))
+
+    def shows(self, name, value, asked=None):
+        self.meet(f'SHOW {asked or name}', column(name), row(value), complete('SHOW'))
 
     def fatal(self, code):
         """A FATAL with this code, and the end."""
@@ -377,6 +434,245 @@ def bad_message(shim):
     one.ask("NOTIFY c, 'x'", 'CAZ')
 
 
+# --- What a client asks beside LISTEN and NOTIFY, as PostgreSQL answers it ----------------------------------------------------------
+
+
+def constants(shim):
+    wire, channels = shim.enter(), column('pg_listening_channels')
+    wire.meet('SELECT 1', column('?column?', 23, 4), row('1'), complete('SELECT 1'))
+    wire.meet('select pg_backend_pid() ;', column('pg_backend_pid', 23, 4), row(str(wire.pid)), complete('SELECT 1'))
+    if shim.is_server:
+        got = wire.ask('SELECT version()', 'TDCZ')
+        check(made(b'T', got[0][1]) == column('version') and got[1][1][6:].startswith(b'PostgreSQL 15'), got)
+    else:
+        wire.meet('SELECT version()', column('version'), row('PostgreSQL 15.0 (pgnotify)'), complete('SELECT 1'))
+    wire.meet('SELECT * FROM pg_listening_channels()', channels, complete('SELECT 0'))
+    wire.ask('LISTEN c')
+    wire.meet('select * from pg_listening_channels();', channels, row('c'), complete('SELECT 1'))
+    wire.ask('BEGIN')
+    wire.meet('SELECT 1', column('?column?', 23, 4), row('1'), complete('SELECT 1'), state='T')
+    wire.ask('COMMIT')
+
+
+def types(shim):
+    wire = shim.enter()
+    wire.meet("SELECT pg_notify('c', 'x')", VOID, row(''), complete('SELECT 1'))
+    wire.meet('SELECT pg_notification_queue_usage()', column('pg_notification_queue_usage', 701, 8), row('0'), complete('SELECT 1'))
+    wire.meet('SELECT pg_listening_channels()', column('pg_listening_channels'), complete('SELECT 0'))
+
+
+def refused_calls(shim):
+    """A call of pg_notify past a limit: its row is described, and then comes the error."""
+    wire = shim.enter()
+    empty, long, large = (error('22023', text) for text in ('channel name cannot be empty', 'channel name too long', 'payload string too long'))
+    wire.meet("SELECT pg_notify('', 'x')", VOID, empty)
+    wire.meet(f"SELECT pg_notify('{64 * 'c'}', 'x')", VOID, long)
+    wire.meet(f"SELECT pg_notify('c', '{LONG}x')", VOID, large)
+    wire.meet(f"NOTIFY c, '{LONG}x'", large)
+    wire.ask('BEGIN')
+    wire.meet("SELECT pg_notify('', '')", VOID, empty, state='E')
+    wire.meet("SELECT pg_notify('', '')", error('25P02', ABORTED), state='E')
+    wire.ask('ROLLBACK')
+
+
+def show(shim):
+    wire = shim.enter()
+    for name, value in {**wire.settings, **UNTOLD}.items():
+        wire.shows(name, value)
+        wire.shows(name, value, name.swapcase() + ';')
+    wire.shows('TimeZone', wire.settings['TimeZone'], 'TIME ZONE')
+    wire.shows('transaction_isolation', 'read committed', 'TRANSACTION ISOLATION LEVEL')
+    wire.shows('session_authorization', 'me', 'SESSION AUTHORIZATION')
+
+
+def put(shim):
+    """SET: a setting that a client is told of is told behind the command's end, where its value is another than before."""
+    wire, name = shim.enter(), 'application_name'
+    zone = wire.settings['TimeZone']
+    for text, *told in (("SET application_name TO 'x'", name, 'x'), ("SET application_name='x';",), ('SET SESSION application_name = y', name, 'y'),
+                        ('set Application_Name to "Y z"', name, 'Y z'), ("SET application_name TO 'it''s \u00e4'", name, "it's ??"),
+                        ('SET application_name TO DEFAULT', name, ''), ('SET DateStyle TO German', 'DateStyle', 'German, DMY'),
+                        ("SET datestyle TO 'SQL, YMD'", 'DateStyle', 'SQL, YMD'), ('SET datestyle = ISO, MDY', 'DateStyle', 'ISO, MDY'),
+                        ("SET IntervalStyle TO 'ISO_8601'", 'IntervalStyle', 'iso_8601'),
+                        ("SET NAMES 'sql_ascii'", 'client_encoding', 'SQL_ASCII'), ("SET client_encoding TO 'utf-8'", 'client_encoding', 'UTF8'),
+                        ('SET NAMES DEFAULT',), ("SET TIME ZONE 'Europe/Rome'", 'TimeZone', 'Europe/Rome'), ('SET TIME ZONE DEFAULT', 'TimeZone', zone),
+                        ('SET default_transaction_read_only TO tr', 'default_transaction_read_only', 'on'),
+                        ('SET default_transaction_read_only = off', 'default_transaction_read_only', 'off'),
+                        ('SET standard_conforming_strings = on',), ('SET SESSION AUTHORIZATION DEFAULT',), ('SET SESSION AUTHORIZATION me',),
+                        ('SET extra_float_digits = 3',), ('SET client_min_messages TO debug',), ("SET transaction_isolation TO 'read committed'",),
+                        ('SET transaction_read_only = 0',)):
+        wire.meet(text, complete('SET'), *([status(*told)] if told else []))
+    wire.shows('extra_float_digits', '3')
+    wire.shows('client_min_messages', 'debug2')
+    wire.ask('SET client_min_messages TO error')  # else a server says that it cuts the name
+    wire.meet(f"SET application_name TO '{70 * 'a'}'", complete('SET'), status(name, 63 * 'a'))
+    wire.shows(name, 63 * 'a')
+    wire.ask('BEGIN')
+    wire.meet("SET application_name TO 'kept'", complete('SET'), status(name, 'kept'), state='T')
+    wire.ask('COMMIT')
+    wire.shows(name, 'kept')
+
+
+def put_back(shim):
+    wire, start = shim.enter(), {}
+    for name, value in (('IntervalStyle', 'iso_8601'), ('DateStyle', 'SQL, DMY'), ('application_name', 'x'), ('TimeZone', 'Europe/Rome')):
+        start[name] = wire.settings[name]
+        wire.meet(f"SET {name} TO '{value}'", complete('SET'), status(name, value))
+    wire.meet('RESET intervalstyle', complete('RESET'), status('IntervalStyle', start['IntervalStyle']))
+    wire.meet('RESET TIME ZONE', complete('RESET'), status('TimeZone', start['TimeZone']))
+    wire.ask('SET extra_float_digits TO 0')
+    wire.meet('RESET ALL', complete('RESET'), status('application_name', ''), status('DateStyle', start['DateStyle']))
+    wire.shows('extra_float_digits', '1')
+    wire.meet('RESET SESSION AUTHORIZATION', complete('RESET'))
+    wire.meet('reset all', complete('RESET'))
+
+
+def put_at_start(shim):
+    """What a client asks for at its start-up is what RESET gives. Nothing is told behind the start-up."""
+    asked = {'application_name': "it's", 'DateStyle': 'SQL, DMY', 'TimeZone': 'Europe/Rome', 'client_min_messages': 'error', 'extra_float_digits': '2'}
+    wire = shim.wire().enter(*[word for pair in asked.items() for word in pair], 'options', '-c IntervalStyle=sql_standard')
+    wire.quiet()
+    for name, value in {**asked, 'IntervalStyle': 'sql_standard', 'session_authorization': 'me'}.items():
+        wire.shows(name, value)
+    wire.meet("SET application_name TO 'z'", complete('SET'), status('application_name', 'z'))
+    wire.ask('SET client_min_messages TO log')
+    wire.meet('RESET application_name', complete('RESET'), status('application_name', "it's"))
+    wire.meet("SET application_name TO ''", complete('SET'), status('application_name', ''))
+    wire.meet('DISCARD ALL', complete('DISCARD ALL'), status('application_name', "it's"))
+    wire.shows('client_min_messages', 'error')
+    shim.enter().shows('application_name', '')
+    for name, value, code in (('client_min_messages', 'loud', '22023'), ('extra_float_digits', '4', '22023'), ('TimeZone', 300 * 'x', '22023')):
+        wire = shim.wire()
+        wire.send(packet(VERSION, words('user', 'me', 'database', 'messages', name, value)))
+        wire.take('R' if shim.is_server else '')
+        wire.fatal(code)
+
+
+def wrong_settings(shim):
+    wire = shim.enter()
+    due = [('SET nosuch TO 1', NO_SUCH), ('RESET nosuch', NO_SUCH), ('SHOW nosuch', NO_SUCH), ('SET nosuch TO DEFAULT', NO_SUCH),
+           ("SET DateStyle TO 'Martian'", invalid('DateStyle', 'Martian')), ('SET "IntervalStyle" = maya', invalid('IntervalStyle', 'maya')),
+           ('SET client_min_messages TO loud', invalid('client_min_messages', 'loud'))]
+    due += [(f"SET {name} TO 'on'", error('55P02', f'parameter "{name}" cannot be changed'))
+            for name in ('server_version', 'integer_datetimes', 'is_superuser', 'in_hot_standby', 'server_encoding')]
+    for name, value, text in (('default_transaction_read_only', 'maybe', 'parameter "default_transaction_read_only" requires a Boolean value'),
+                              ('transaction_read_only', 'o', 'parameter "transaction_read_only" requires a Boolean value'),
+                              ('extra_float_digits', '4', '4 is outside the valid range for parameter "extra_float_digits" (-15 .. 3)')):
+        due.append((f'SET {name} TO {value}', error('22023', text) if shim.is_server else invalid(name, value)))
+    if not shim.is_server:
+        due += [("SET LOCAL application_name TO 'x'", error('0A000', 'SET LOCAL is not supported')),
+                ("SET NAMES 'latin1'", error('0A000', 'client_encoding: "latin1" is not supported')),
+                ('SET standard_conforming_strings = off', error('0A000', 'standard_conforming_strings: "off" is not supported'))]
+    for text, refusal in due:
+        wire.meet(text, refusal)
+        wire.ask('BEGIN')
+        wire.meet(text, refusal, state='E')
+        wire.ask('ROLLBACK')
+    for name, value in wire.settings.items():
+        wire.shows(name, value)
+
+
+def failed_block(shim):
+    wire = shim.enter()
+    wire.ask('BEGIN')
+    wire.ask('NO SUCH COMMAND', 'EZ')
+    for text in ("SET application_name TO 'x'", 'RESET application_name', 'RESET ALL', 'SHOW application_name', 'DISCARD ALL', 'DEALLOCATE ALL',
+                 'CLOSE ALL', 'SELECT 1', 'SELECT version()', 'SELECT pg_backend_pid()', 'SELECT * FROM pg_listening_channels()',
+                 'BEGIN ISOLATION LEVEL SERIALIZABLE'):
+        wire.meet(text, error('25P02', ABORTED), state='E')
+    # A server finds the state of the block first.
+    for text, own in (('SET nosuch TO 1', NO_SUCH), ("SET DateStyle TO 'Martian'", invalid('DateStyle', 'Martian'))):
+        wire.meet(text, error('25P02', ABORTED) if shim.is_server else own, state='E')
+    wire.meet('; /* */ ;', EMPTY, state='E')
+    wire.meet('ROLLBACK', complete('ROLLBACK'))
+    wire.shows('application_name', '')
+
+
+def put_and_rolled_back(shim):
+    """A server sets a setting back with its block; the service keeps it."""
+    wire, name = shim.enter(), 'application_name'
+    wire.ask('BEGIN')
+    wire.meet("SET application_name TO 'x'", complete('SET'), status(name, 'x'), state='T')
+    wire.meet('ROLLBACK', complete('ROLLBACK'), *([status(name, '')] if shim.is_server else []))
+    wire.shows(name, '' if shim.is_server else 'x')
+
+
+def discard_all(shim):
+    one, other = listening(shim), shim.enter()
+    one.ask("SET application_name TO 'x'", 'CSZ')
+    one.ask('BEGIN')
+    one.meet('DISCARD ALL', error('25001', 'DISCARD ALL cannot run inside a transaction block'), state='E')
+    one.ask('ROLLBACK')
+    other.ask("NOTIFY c, 'x'")
+    one.note('c', 'x')
+    one.meet('discard all;', complete('DISCARD ALL'), status('application_name', ''))
+    other.ask("NOTIFY c, 'y'")
+    one.quiet()
+    one.meet('SELECT pg_listening_channels()', column('pg_listening_channels'), complete('SELECT 0'))
+    one.meet('DISCARD ALL', complete('DISCARD ALL'))
+    one.ask('LISTEN c')
+    other.ask("NOTIFY c, 'z'")
+    one.note('c', 'z')
+
+
+def nothing_to_do(shim):
+    wire = shim.enter()
+    for text, tag in (('DEALLOCATE ALL', 'DEALLOCATE ALL'), ('deallocate prepare all;', 'DEALLOCATE ALL'), ('CLOSE ALL', 'CLOSE CURSOR ALL')):
+        wire.meet(text, complete(tag))
+
+
+def modes(shim):
+    one, other = listening(shim), shim.enter()
+    for text in ('BEGIN ISOLATION LEVEL SERIALIZABLE', 'BEGIN TRANSACTION ISOLATION LEVEL REPEATABLE READ READ ONLY', 'begin read only, deferrable',
+                 'BEGIN WORK ISOLATION LEVEL READ COMMITTED, READ WRITE, NOT DEFERRABLE', 'START TRANSACTION ISOLATION LEVEL READ UNCOMMITTED',
+                 'START TRANSACTION READ WRITE;'):
+        other.meet(text, complete('START TRANSACTION' if text.startswith('START') else 'BEGIN'), state='T')
+        other.meet("NOTIFY c, 'x'", complete('NOTIFY'), state='T')
+        other.ask('COMMIT')
+        one.note('c', 'x')
+    for text in ('BEGIN READ', 'BEGIN ISOLATION LEVEL', 'BEGIN READ ONLY,', 'START TRANSACTION LEVEL READ ONLY'):
+        got = other.ask(text, 'EZ')
+        check(b'\0C42601\0' in got[0][1], text, got)
+
+
+def blanks(shim):
+    one, other = listening(shim), shim.enter()
+    for text in (';;', '; ;\n', '/* a /* b */ c */', '-- a', '\n-- a\n', '\r\n', ''):
+        other.meet(text, EMPTY)
+    for text, payload in (("NOTIFY\nc\r\n,\t'x'", 'x'), ("/* a /* b */ c */NOTIFY/**/c, 'x'--\n", 'x'), ("NOTIFY c -- ' a\n, '-- /* x'\n;;", '-- /* x'),
+                          ("NOTIFY c, 'it''s\n\n/* x'", "it's\n\n/* x"), ("NOTIFY c, '\n'", '\n'), ('NOTIFY "c", \'"\n--"\'', '"\n--"'), ('NOTIFY c;;', '')):
+        other.meet(text, complete('NOTIFY'))
+        one.note('c', payload)
+    other.meet("SELECT\npg_notify('c',\n'a\nb')", VOID, row(''), complete('SELECT 1'))
+    one.note('c', 'a\nb')
+    one.meet('LISTEN "a\nb"', complete('LISTEN'))
+    other.meet('NOTIFY "a\nb"', complete('NOTIFY'))
+    one.note('a\nb', '')
+    for text in ('NOTIFY c /* a', 'NOTIFY c /* /* a */', "NOTIFY c, 'a\n", 'NOT/**/IFY c'):
+        got = other.ask(text, 'EZ')
+        check(b'\0C42601\0' in got[0][1], text, got)
+    one.quiet()
+
+
+def no_texts(shim):
+    """A text that is no UTF-8, and a message that does not end with its only zero byte."""
+    wire, server = shim.enter(), shim.is_server
+
+    def encoding(sequence):
+        return error('22021', 'invalid byte sequence for encoding "UTF8"' + (f': {sequence}' if server else ''))
+
+    format, string = error('08P01', 'invalid message format'), error('08P01', 'invalid string in message')
+    for block, state in (('BEGIN', 'E'), ('', 'I')):
+        for body, refusal in ((b"NOTIFY c, '\xff'\0", encoding('0xff')), (b'NOTIFY c -- \xc3\0', encoding('0xc3')),
+                              (b'\xed\xa0\x80\0', encoding('0xed 0xa0 0x80')), (b'SELECT 1\0x\0', format), (b'SELECT 1\0\0', format),
+                              (b'SELECT 1', string if server else format)):
+            wire.send(query(block))
+            wire.take('CZ' if block else 'IZ')
+            wire.meet(made(b'Q', body), refusal, state=state)
+            wire.ask('ROLLBACK', 'CZ' if block else 'NCZ')
+    wire.meet('SELECT 1', column('?column?', 23, 4), row('1'), complete('SELECT 1'))
+
+
 # --- What the service does of its own ---------------------------------------------------------------------------------------------
 
 
@@ -405,8 +701,8 @@ def reset(shim):
     stays = [shim.enter() for _ in range(3)]
     for end in (b'', b'X\0\0\0\4', b'?\0\0\0\4'):
         wire = shim.enter()
-        wire.send(query('LISTEN c'), query('BEGIN'), query('LISTEN d'), query("NOTIFY e, 'x'"))
-        wire.take('CZCZCZCZ')
+        wire.send(query('LISTEN c'), query('SET application_name = x'), query('BEGIN'), query('LISTEN d'), query("NOTIFY e, 'x'"))
+        wire.take('CZCSZCZCZCZ')
         pid = wire.pid
         wire.send(end)
         wire.close()
@@ -414,6 +710,7 @@ def reset(shim):
         check(wire.pid == pid, 'another seat')
         got = wire.ask('SELECT pg_listening_channels()', 'TCZ')
         check(got[2][1] == b'I', 'in a block')
+        wire.shows('application_name', '')
         stays[0].ask("NOTIFY c, 'x'")
         wire.quiet()
         wire.close()
@@ -432,13 +729,14 @@ def databases(shim):
 
 
 def not_answered(shim):
-    """Passed on are 1,024 queries or 1 MB of a client to a program that does not answer. This one keeps what it reads in a file."""
+    """Passed on are 1,024 queries or 1 MB of a client to a program that does not answer. This one keeps what it reads in a file. Before them
+    it reads what the client asked for at its start-up."""
     for text, due in (('LISTEN c', 1024), (f"NOTIFY c, '{60000 * 'x'}'", 18)):
         with tempfile.NamedTemporaryFile() as file:
             stalled = Shim(4, '--program', f"sh -c 'cat >>{file.name}'")
             try:
                 passed, whole = passed_on(stalled, file, query(text), due), query(text)
-                check(passed == whole * due, f'{len(passed) / len(whole)} queries were passed on, due: {due}')
+                check(passed == FIRST + whole * due, f'{len(passed) / len(whole)} queries were passed on, due: {due}')
             finally:
                 stalled.stop()
 
@@ -451,7 +749,7 @@ def passed_on(stalled, file, whole, due):
         for _ in range(2000):
             wire.socket.send(whole)
     until = time.monotonic() + WAIT
-    while os.path.getsize(file.name) < due * len(whole) and time.monotonic() < until:
+    while os.path.getsize(file.name) < len(FIRST) + due * len(whole) and time.monotonic() < until:
         time.sleep(0.05)
     time.sleep(QUIET)
     frames, passed = file.read(), b''
@@ -463,8 +761,10 @@ def passed_on(stalled, file, whole, due):
 
 
 def no_memory(shim):
-    """A program that has no memory says so by a frame of seat 0. What it told before is told, and it ends when its input does."""
-    script = "[ $(head -c 1 | wc -c) = 1 ] || exit 0; printf '\\0\\1\\0\\6Z\\0\\0\\0\\5I\\0\\0\\0\\0'; cat >/dev/null; exit 6"
+    """A program that has no memory says so by a frame of seat 0. What it told before is told, and it ends when its input does. This one
+    reads one byte of the client's first query, and answers that and what the shim asked before it."""
+    size, ready = 4 + len(FIRST) + 1, '\\0\\1\\0\\6Z\\0\\0\\0\\5I'
+    script = f"[ $(head -c {size} | wc -c) = {size} ] || exit 0; printf '{ready}{ready}\\0\\0\\0\\0'; cat >/dev/null; exit 6"
     spoiled = Shim(4, '--program', shlex.join(['sh', '-c', script]))
     try:
         for number in range(2):
@@ -498,6 +798,49 @@ def does_not_read(shim):
     one.ended()
     check(number * len(LONG) > 15 << 20, f'{number} of {count}')
     other.ask('NOTIFY c')
+
+
+def half_answers(shim):
+    """The answers to what the shim asks first are kept from the client, and nothing else, wherever frames cut them."""
+    first, due = complete('SET') + made(b'Z', b'I'), complete('LISTEN') + made(b'Z', b'I')
+    size = 4 + len(FIRST) + 1
+    for cut in (1, 5, len(first) - 1, len(first), len(first) + 1):
+        pieces = (first + due)[:cut], (first + due)[cut:]
+        one, two = (''.join(f'\\{byte:03o}' for byte in struct.pack('!HH', 1, len(piece)) + piece) for piece in pieces)
+        script = f"[ $(head -c {size} | wc -c) = {size} ] || exit 0; printf '{one}'; sleep 0.1; printf '{two}'; cat >/dev/null"
+        cutting = Shim(4, '--program', shlex.join(['sh', '-c', script]))
+        try:
+            wire = cutting.enter()
+            wire.send(query('LISTEN c'))
+            got = wire.told() + wire.told()
+            check(got == due, f'cut at {cut}: due: {due}; got:', got)
+            wire.quiet()
+        finally:
+            cutting.stop()
+
+
+def extended(shim):
+    """A message of the extended protocol ends its client, who is told why."""
+    one = listening(shim)
+    for letter in b'PBEDCHSF':
+        other = shim.enter()
+        other.send(query('BEGIN'), query('NOTIFY c'), made(bytes([letter]), b'\0SELECT 1\0\0\0' if letter == ord('P') else b''), query('COMMIT'))
+        other.take('CZCZ')
+        due = error('0A000', 'the extended protocol is not supported', 'FATAL')
+        got = other.told()
+        check(got == due, f'{chr(letter)}: due: {due}; got:', got)
+        other.ended()
+    one.quiet()
+    one.ask("NOTIFY c, 'x'", 'CAZ')
+
+
+def several(shim):
+    """Several statements in one text are refused, all of them."""
+    one = listening(shim)
+    for text in ('NOTIFY c; NOTIFY c', 'BEGIN; NOTIFY c; COMMIT', 'SELECT 1; SELECT 1'):
+        got = one.ask(text, 'EZ')
+        check(b'\0C42601\0' in got[0][1] and got[1][1] == b'I', text, got)
+    one.quiet()
 
 
 def full_queue(shim):
@@ -582,11 +925,29 @@ CASES = ((idle, 'a notification comes to an idle client, without a ReadyForQuery
          (half_a_packet, 'half a start-up holds nobody up', True, 64),
          (terminate, 'Terminate, and nothing behind it', True, 64),
          (bad_message, 'a bad message ends its client alone', True, 64),
+         (constants, 'SELECT 1, version(), pg_backend_pid(), rows of channels', True, 64),
+         (types, 'columns and their types', True, 64),
+         (refused_calls, 'a refused pg_notify: its row first', True, 64),
+         (show, 'SHOW', True, 64),
+         (put, 'SET, and what is told of it', True, 64),
+         (put_back, 'RESET and RESET ALL', True, 64),
+         (put_at_start, 'settings of the start-up', True, 64),
+         (wrong_settings, 'settings and values that are refused', True, 64),
+         (failed_block, 'a failed block refuses all that', True, 64),
+         (put_and_rolled_back, 'a SET in a block that is rolled back', True, 64),
+         (discard_all, 'DISCARD ALL, in a block and outside', True, 64),
+         (nothing_to_do, 'DEALLOCATE ALL and CLOSE ALL', True, 64),
+         (modes, 'BEGIN with modes', True, 64),
+         (blanks, 'comments, line feeds, and payloads with them', True, 64),
+         (no_texts, 'no UTF-8, and no zero byte: the session goes on', True, 64),
          (too_many, 'a client too many', False, 4),
          (least_given, 'seats are given out in turn', False, 4),
          (reset, 'who comes next listens to nothing', False, 4),
          (databases, 'a service for each database, 16 at most', False, 4),
          (not_answered, 'queries that are not answered wait', False, 4),
+         (half_answers, 'answers to the settings of a start-up, cut anywhere', False, 4),
+         (extended, 'the extended protocol is refused', False, 4),
+         (several, 'several statements in one text are refused', False, 4),
          (no_memory, 'a program that has no memory', False, 4),
          (does_not_read, 'a client that does not read is closed', False, 4),
          (full_queue, 'a listener that goes makes room in the queue', False, 4),

@@ -1,5 +1,5 @@
 // node-postgres, as bench/clients/cases.py asks it.
-const { Client } = require('pg');
+const { Client, Pool } = require('pg');
 const readline = require('readline');
 
 const [port, database] = process.argv.slice(2);
@@ -27,9 +27,27 @@ class One {
   }
 }
 
+// By the library's pool.
+async function own() {
+  const pool = new Pool({ host: '127.0.0.1', port: +port, user: 'me', database, ssl: false, max: 2 });
+  for (const [text, end] of [["NOTIFY c, 'never'", 'ROLLBACK'], ["NOTIFY c, 'kept'", 'COMMIT']]) {
+    const client = await pool.connect();
+    try {
+      await client.query('BEGIN');
+      await client.query(text);
+      await client.query(end);
+    } finally {
+      client.release();
+    }
+  }
+  await pool.query("NOTIFY c, 'behind'");
+  await pool.end();
+}
+
 async function act(word, number, rest) {
   if (word === 'open') { clients[number] = new One(); await clients[number].open(); }
   if (word === 'run') await clients[number].client.query(rest);
+  if (word === 'own') await own();
   if (word === 'get') return clients[number].get(...rest.split(' ').map(Number));
   if (word === 'close') { await clients[number].client.end(); delete clients[number]; }
   return [];

@@ -34,6 +34,17 @@ while (my $line = <STDIN>) {
             $connections{$number} = DBI->connect("dbi:Pg:host=127.0.0.1;port=$port;dbname=$database", 'me', '', \%how);
         } elsif ($word eq 'run') {
             $connections{$number}->do($rest);
+        } elsif ($word eq 'own') {
+            my $dbh = $connections{$number};
+            $dbh->ping or die 'no answer';
+            $dbh->begin_work;
+            $dbh->do("NOTIFY c, 'never'");
+            $dbh->rollback;
+            $dbh->{AutoCommit} = 0;
+            $dbh->do("NOTIFY c, 'kept'");
+            $dbh->commit;
+            $dbh->{AutoCommit} = 1;
+            $dbh->do("NOTIFY c, 'behind'");
         } elsif ($word eq 'get') {
             get($connections{$number}, split / /, $rest);
         } elsif ($word eq 'close') {

@@ -28,6 +28,30 @@ func get(connection *pgx.Conn, count, ms int) error {
 	return nil
 }
 
+func own(ctx context.Context, connection *pgx.Conn) error {
+	for _, text := range []string{"NOTIFY c, 'never'", "NOTIFY c, 'kept'"} {
+		tx, err := connection.BeginTx(ctx, pgx.TxOptions{IsoLevel: pgx.Serializable})
+		if err != nil {
+			return err
+		}
+		if _, err := tx.Exec(ctx, text); err != nil {
+			return err
+		}
+		end := tx.Commit
+		if strings.Contains(text, "never") {
+			end = tx.Rollback
+		}
+		if err := end(ctx); err != nil {
+			return err
+		}
+	}
+	if err := connection.Ping(ctx); err != nil {
+		return err
+	}
+	_, err := connection.Exec(ctx, "NOTIFY c, 'behind'")
+	return err
+}
+
 func main() {
 	ctx := context.Background()
 	where := fmt.Sprintf("host=127.0.0.1 port=%s user=me dbname=%s sslmode=disable", os.Args[1], os.Args[2])
@@ -44,6 +68,8 @@ func main() {
 			connections[parts[1]], err = pgx.Connect(ctx, where)
 		case "run":
 			_, err = connections[parts[1]].Exec(ctx, parts[2])
+		case "own":
+			err = own(ctx, connections[parts[1]])
 		case "get":
 			var count, ms int
 			fmt.Sscan(parts[2], &count, &ms)

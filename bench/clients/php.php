@@ -11,6 +11,10 @@ while (($line = fgets(STDIN)) !== false) {
         if (!$connections[$number]) $error = 'no connection';
     } elseif ($word == 'run') {
         if (!pg_query($connections[$number], $rest)) $error = pg_last_error($connections[$number]);
+    } elseif ($word == 'own') {
+        $texts = ['BEGIN', "NOTIFY c, 'never'", 'ROLLBACK', 'BEGIN', "NOTIFY c, 'kept'", 'COMMIT', "NOTIFY c, 'behind'"];
+        if (!pg_ping($connections[$number]) || pg_set_client_encoding($connections[$number], 'UTF8')) $error = 'no answer';
+        foreach ($texts as $text) if (!pg_query($connections[$number], $text)) $error = pg_last_error($connections[$number]);
     } elseif ($word == 'get') {
         [$count, $ms] = explode(' ', $rest);
         $until = microtime(true) + $ms / 1000;

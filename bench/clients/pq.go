@@ -69,6 +69,36 @@ func ready(where string) error {
 	return listener.UnlistenAll()
 }
 
+// By database/sql, which has a pool.
+func own(where string) error {
+	db, err := sql.Open("postgres", where)
+	if err != nil {
+		return err
+	}
+	defer db.Close()
+	for _, text := range []string{"NOTIFY c, 'never'", "NOTIFY c, 'kept'"} {
+		tx, err := db.Begin()
+		if err != nil {
+			return err
+		}
+		if _, err := tx.Exec(text); err != nil {
+			return err
+		}
+		end := tx.Commit
+		if strings.Contains(text, "never") {
+			end = tx.Rollback
+		}
+		if err := end(); err != nil {
+			return err
+		}
+	}
+	if err := db.Ping(); err != nil {
+		return err
+	}
+	_, err = db.Exec("NOTIFY c, 'behind'")
+	return err
+}
+
 func main() {
 	where := fmt.Sprintf("host=127.0.0.1 port=%s user=me dbname=%s sslmode=disable", os.Args[1], os.Args[2])
 	connections := map[string]*one{}
@@ -89,6 +119,8 @@ func main() {
 			}
 		case "run":
 			err = connections[parts[1]].run(parts[2])
+		case "own":
+			err = own(where)
 		case "get":
 			var count, ms int
 			fmt.Sscan(parts[2], &count, &ms)

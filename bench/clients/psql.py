@@ -31,6 +31,15 @@ class Psql:
                 return
         raise OSError('psql has ended')
 
+    def own(self):
+        """psql begins a block by itself, and a savepoint before each statement."""
+        for name in 'AUTOCOMMIT off', 'ON_ERROR_ROLLBACK on':
+            self.process.stdin.write(f'\\set {name}\n')
+        for text in ("NOTIFY c, 'never'", 'ROLLBACK', "NOTIFY c, 'kept'", 'COMMIT'):
+            self.run(text)
+        self.process.stdin.write('\\set AUTOCOMMIT on\n\\encoding UTF8\n')
+        self.run("NOTIFY c, 'behind'")
+
     def get(self, count, ms):
         until = time.monotonic() + ms / 1000
         while len(self.notes) < count and time.monotonic() < until:
@@ -52,6 +61,8 @@ for asked in sys.stdin:
             connections[number] = Psql()
         elif word == 'run':
             connections[number].run(rest[0])
+        elif word == 'own':
+            connections[number].own()
         elif word == 'get':
             for got in connections[number].get(*map(int, rest[0].split())):
                 print(got)

@@ -16,6 +16,24 @@ class Psycopg2:
         with self.connection.cursor() as cursor:
             cursor.execute(text)
 
+    def own(self):
+        """A pool, whose connections begin a block by themselves. What it takes back in a block is rolled back."""
+        pool = psycopg2.pool.SimpleConnectionPool(1, 2, dbname=database, **where)
+        for text in ("NOTIFY c, 'never'", "NOTIFY c, 'kept'", "NOTIFY c, 'behind'"):
+            connection = pool.getconn()
+            with connection.cursor() as cursor:
+                cursor.execute(text)
+            if 'never' not in text:
+                connection.commit()
+            pool.putconn(connection)
+        connection = pool.getconn()
+        connection.reset()
+        connection.set_session(isolation_level='SERIALIZABLE', readonly=True)
+        with connection, connection.cursor() as cursor:
+            cursor.execute('SELECT pg_listening_channels()')
+        pool.putconn(connection)
+        pool.closeall()
+
     def socket(self):
         return self.connection.fileno()
 
@@ -36,6 +54,19 @@ class Psycopg:
 
     def run(self, text):
         psycopg.ClientCursor(self.connection).execute(text)
+
+    def own(self):
+        with self.connection.transaction(force_rollback=True):
+            self.run("NOTIFY c, 'never'")
+        with self.connection.transaction():
+            psycopg.ClientCursor(self.connection).execute('SELECT pg_notify(%s, %s)', ['c', 'kept'])
+            with self.connection.transaction(force_rollback=True):
+                self.run("NOTIFY c, 'never'")
+        self.connection.autocommit = False
+        self.run("NOTIFY c, 'never'")
+        self.connection.rollback()
+        self.connection.autocommit = True
+        psycopg.ClientCursor(self.connection).execute("SELECT pg_notify(%s, 'behind')", ['c'])
 
     def socket(self):
         return self.connection.fileno()
@@ -60,6 +91,18 @@ class PyGreSql:
     def run(self, text):
         self.connection.query(text)
 
+    def own(self):
+        """Its class for whole databases."""
+        whole = pg.DB(dbname=database, **where)
+        whole.begin()
+        whole.query("NOTIFY c, 'never'")
+        whole.rollback()
+        whole.begin()
+        whole.query("NOTIFY c, 'kept'")
+        whole.commit()
+        whole.query("NOTIFY c, 'behind'")
+        whole.close()
+
     def socket(self):
         return self.connection.fileno()
 
@@ -77,6 +120,7 @@ class PyGreSql:
 
 if which == 'psycopg2':
     import psycopg2
+    import psycopg2.pool
     kind = Psycopg2
 elif which == 'psycopg':
     import psycopg
@@ -93,6 +137,8 @@ for line in sys.stdin:
             connections[number] = kind()
         elif word == 'run':
             connections[number].run(rest[0])
+        elif word == 'own':
+            connections[number].own()
         elif word == 'get':
             count, ms = map(int, rest[0].split())
             until = time.monotonic() + ms / 1000

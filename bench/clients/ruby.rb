@@ -10,6 +10,15 @@ while (line = STDIN.gets)
     case word
     when 'open' then connections[number] = PG.connect(host: '127.0.0.1', port: port, user: 'me', dbname: database)
     when 'run' then connections[number].exec(rest)
+    when 'own'
+      connection = connections[number]
+      begin
+        connection.transaction { connection.exec("NOTIFY c, 'never'"); raise IOError }
+      rescue IOError
+        connection.set_client_encoding('UTF8')
+      end
+      connection.transaction { connection.exec("NOTIFY c, 'kept'") }
+      connection.exec("NOTIFY c, 'behind'")
     when 'close' then connections.delete(number).close
     when 'get'
       count, ms = rest.split.map(&:to_i)

@@ -25,6 +25,20 @@ async fn open(place: &str) -> Result<One, Error> {
     Ok(One { client, notes })
 }
 
+async fn own(client: &mut Client) -> Result<(), Error> {
+    let never = client.transaction().await?;
+    never.batch_execute("NOTIFY c, 'never'").await?;
+    never.rollback().await?;
+    let mut kept = client.build_transaction().read_only(true).start().await?;
+    let inner = kept.transaction().await?;
+    inner.batch_execute("NOTIFY c, 'never'").await?;
+    inner.rollback().await?;
+    kept.batch_execute("NOTIFY c, 'kept'").await?;
+    kept.commit().await?;
+    client.simple_query("NOTIFY c, 'behind'").await?;
+    Ok(())
+}
+
 async fn get(one: &mut One, count: usize, ms: u64) {
     let until = Instant::now() + Duration::from_millis(ms);
     for _ in 0..count {
@@ -49,6 +63,7 @@ async fn main() {
                 Err(error) => answer = Err(error),
             },
             "run" => answer = connections[&number].client.batch_execute(rest).await,
+            "own" => answer = own(&mut connections.get_mut(&number).unwrap().client).await,
             "get" => {
                 let (count, ms) = rest.split_once(' ').unwrap();
                 get(connections.get_mut(&number).unwrap(), count.parse().unwrap(), ms.parse().unwrap()).await;
