@@ -25,7 +25,8 @@
 # `--patience 100000`, under 60 limits of `ulimit -v` from the least at which the usage line is printed up to 4 GB. Each run has to
 # end with status 0 and as many lines as without a limit, but for those of the reads, or with 6 and nothing written.
 #
-# Refused requests: bench/refuse runs the examples with the first request for memory refused, then with the second, and so on.
+# Refused requests: bench/refuse runs the examples with the first request for memory refused, then with the second, and so on; and so the
+# conversation of three clients of a service, bench/talk.py, of whom each has to be told whole turns.
 #
 # No threads: these are run by a user that may start none (where root measures, by the user 65534):
 #
@@ -33,8 +34,8 @@
 #   8, 256 plain     sessions that each send a line
 #   ring of 16       sessions of which each raises its own flag and awaits the next one's
 #   live             crossing flags with --live: by session, its lines are those of the example
-#   a service        it ends with status 6 and has written nothing; with two threads besides its own, and with threads that each begin
-#                    two seconds late (bench/late.c), it answers
+#   a service        it ends with status 6 and has written nothing. With two threads besides its own, so that its seats take turns on one
+#                    of them, and with threads that each begin two seconds late (bench/late.c), it tells the three clients all
 #
 # A closed reader: of a live run of 60,000 lines it reads one and closes; the run has to end within 20 seconds, with status 5.
 #
@@ -204,25 +205,21 @@ measure_no_threads() {
     live=
     in_time
     by_session <"$room/output" | cmp -- "$root/examples/crossing-flags.output" - || wrong 'crossing flags, live: other lines'
+    status=0
     printf '\0\001\0\016Q\0\0\0\015LISTEN c\0' >"$room/frames"
-    printf '\0\001\0\022C\0\0\0\013LISTEN\0Z\0\0\0\005I' >"$room/answered"
-    : >"$room/nothing"
-    served 'no thread' 6 nothing "$@"
-    served 'two threads' 0 answered $as_user prlimit --nproc=3
+    timeout 60 "$@" "$program" serve --seats 3 <"$room/frames" >"$room/output" 2>"$room/errors" || status=$?
+    printf 'a service, no thread: status %s\n' "$status"
+    [ "$status" = 6 ] && [ ! -s "$room/output" ] || wrong 'a service, no thread: wanted status 6 and nothing written'
+    told 'two threads' $as_user prlimit --nproc=3
     cc -O2 -shared -fPIC -o "$room/late.so" "$root/bench/late.c" -ldl
-    served 'late threads' 0 answered env LATE=2 LD_PRELOAD="$room/late.so"
+    told 'late threads' env LATE=2 LD_PRELOAD="$room/late.so"
 }
 
-# served NAME STATUS FILE COMMAND..: a service under this command that is asked for one thing has to end with this status and output
-served() {
+# told NAME COMMAND..: a service under this command has to tell three clients all that is due to them
+told() {
     name=$1
-    wanted=$2
-    due=$3
-    shift 3
-    status=0
-    timeout 60 "$@" "$program" serve --seats 4 <"$room/frames" >"$room/output" 2>"$room/errors" || status=$?
-    printf 'a service, %s: status %s\n' "$name" "$status"
-    [ "$status" = "$wanted" ] && cmp -- "$room/$due" "$room/output" || wrong "a service, $name: wanted status $wanted"
+    shift
+    if "$root/bench/talk.py" "$@" "$program" serve --seats 3; then printf 'a service, %s: all told\n' "$name"; else wrong "a service, $name"; fi
 }
 
 # by_session: what a live run has written, as the text of a run without --live
