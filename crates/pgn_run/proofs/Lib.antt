@@ -26,3 +26,5 @@ pub mod ServiceLaws
 pub mod ServeLaws
 -- small services, by hand
 pub mod SeatExampleLaws
+-- what the call of the program says, from what its command came to
+pub mod CallLaws

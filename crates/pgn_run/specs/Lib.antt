@@ -16,5 +16,7 @@ pub mod Ending
 pub mod Live
 -- what the call of the program says
 pub mod Run
+-- what each command comes to, of which that is said
+pub mod Calls
 -- a live text, for examples
 pub mod Examples

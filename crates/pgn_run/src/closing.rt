@@ -132,33 +132,32 @@ fn leave_each<P: PassView + Send + Drop, R: Wait>(
         let Some(caller) = callers.next() else {
             unreachable!();
         };
-        so_far = leave(rt, &inboxes[place], desk, caller, passes, so_far);
+        let pass = leave(rt, &inboxes[place], desk, caller);
+        so_far = keep(passes, pass, so_far);
     }
     so_far
 }
 
-// Closes the inbox of a desk and a caller, and keeps the pass of the desk's session, where memory suffices and did so far.
+// Closes the inbox of a desk and a caller, and gives the pass of the desk's session.
 fn leave<P: PassView + Send + Drop, R: Wait>(
     rt: &R,
     inbox: &Inbox,
     desk: Desk<P>,
     caller: Caller,
-    passes: &mut Vec<P>,
-    so_far: Result<(), AllocError>,
-) -> Result<(), AllocError>
+) -> P
     requires close { MayClose inbox.now desk caller }
     ensures took { HasTakenFirst (knows caller.asks) (knows desk.asks) }
-    ensures so_far { OnOk result (so_far ≡ Ok tt) }
-    ensures kept { OnOk result (passes.new.items ≡ passes.old.items ++ desk.session.pass ∷ []) }
+    ensures pass { result ≡ desk.session.pass }
 {
     let Desk { session, asks, .. } = desk;
     let Caller { asks: put, .. } = caller;
     close_inbox(rt, inbox, put, asks);
     let (pass, trace) = session.into_log();
     drop(trace);
-    keep(passes, pass, so_far)
+    pass
 }
 
+// Keeps a pass, where memory suffices and did so far.
 fn keep<P: Drop>(
     passes: &mut Vec<P>,
     pass: P,

@@ -60,8 +60,17 @@ pub fn run_scenario_live<H: Hub + Sync + Drop, K: Sink + Send, R: Threads + Wait
     let sections = scenario.sections.as_slice();
     match run_live(rt, alloc, &hub, sections, sessions.as_mut_slice(), sink) {
         Ok(()) => finish_live(alloc, scenario, hub, sessions, sink),
-        Err(LiveFault::Write) => Status::WriteFault,
-        Err(LiveFault::Memory) => Status::NoMemory,
+        // Dropped here, by calls: `finish_live` takes them on the other way.
+        Err(LiveFault::Write) => {
+            drop(sessions);
+            drop(hub);
+            Status::WriteFault
+        }
+        Err(LiveFault::Memory) => {
+            drop(sessions);
+            drop(hub);
+            Status::NoMemory
+        }
     }
 }
 
@@ -84,11 +93,21 @@ fn finish_live<H: Hub + Drop, K: Sink>(
     ensures later { K.faults sink.old ≤ K.faults sink.new }
 {
     let Ok(told) = counts(alloc, sessions.as_slice()) else {
+        drop(sessions);
+        drop(hub);
         return Status::NoMemory;
     };
     match finish_run(alloc, hub, sessions) {
-        Ok(played) => write_end(scenario, told.as_slice(), &played, sink),
-        Err(_) => Status::NoMemory,
+        Ok(played) => {
+            let status = write_end(scenario, told.as_slice(), &played, sink);
+            drop(told);
+            drop(played);
+            status
+        }
+        Err(_) => {
+            drop(told);
+            Status::NoMemory
+        }
     }
 }
 

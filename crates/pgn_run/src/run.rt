@@ -1,4 +1,4 @@
-ghost use Rattle.std.specs.Prelude.{◌≡◌, ◌≢◌, ◌⊎◌, ℕ, ◌<◌, ◌≤◌, ◌+◌, List, map, take, Ok, Err, None, Some, IfSome, OnSome, IsSomeAnd};
+ghost use Rattle.std.specs.Prelude.{◌≡◌, ◌≢◌, ◌⊎◌, ℕ, ◌<◌, ◌≤◌, ◌+◌, List, map, take, Ok, Err, None, Some, IfOk, IfSome, OnSome, IsSomeAnd};
 ghost use Rattle.std.specs.Io.KnownBytes.{Appends, Consumes, IsAtEnd};
 ghost use Rattle.pgn_base.specs.Outside.{AppendsPrefix, Rose};
 ghost use Rattle.pgn_base.specs.declared.limits.TheConstants.{PAGES_MAX, PAGES_MIN};
@@ -6,13 +6,14 @@ ghost use Rattle.pgn_language.specs.declared.scenario.Scenario.{Scenario};
 ghost use Rattle.pgn_language.specs.declared.scenario.ScenarioFault.{ScenarioFault};
 ghost use Rattle.pgn_language.specs.Inputs.{IsSound, ReadsAsScenario};
 ghost use Rattle.pgn_options.specs.declared.limits.TheConstants.{DRILL_NOTES_MAX, DRILL_SESSIONS_MAX};
-ghost use Rattle.pgn_options.specs.Words.{AreNoCommand};
+ghost use Rattle.pgn_options.specs.Words.{AreNoCommand, IsWithin};
 ghost use Rattle.pgn_drill.specs.Drill.{drill};
 ghost use Rattle.pgn_messages.specs.Messages.{messages};
 ghost use Rattle.pgn_check.specs.declared.check.Verdict.TheVariants as verdict;
 ghost use Rattle.pgn_queries.specs.declared.wire_fault.WireFault.{WireFault};
 ghost use Rattle.pgn_wire.specs.Serving.{WroteWhole};
 ghost use Rattle.pgn_frames.specs.declared.frame_fault.FrameFault.{FrameFault};
+ghost use Rattle.pgn_run.specs.Calls.{Performed};
 ghost use Rattle.pgn_run.specs.Service.{ServesAll, ServesFirst, StopsServing};
 ghost use Rattle.pgn_run.specs.Checking.{HasFault, HasNoOutput, IsJudged, IsTooLarge, verdict_text};
 ghost use Rattle.pgn_run.specs.Conversation.{BreaksOff, StopsAmong, StopsBetween};
@@ -178,7 +179,23 @@ pub fn run_notify<'a, S: Source, K: Sink + Send, R: Threads + Wait + Clock + Syn
     ensures drill_complete { AskToDrill (map (λ word. word.now) words.now) → ¬ Rose (K.faults sink.old) (K.faults sink.new)
         → (result ≡ Status.Done) ⊎ (result ≡ Status.NoMemory) }
 {
-    match read_words(alloc, words) {
+    let asked = read_words(alloc, words);
+    perform::<S, K, R>(rt, alloc, hashes, asked, source, sink)
+}
+
+// Does what words ask for that were read so.
+fn perform<S: Source, K: Sink + Send, R: Threads + Wait + Clock + Sync>(
+    rt: &R,
+    alloc: Global,
+    hashes: Seed,
+    asked: Result<Asked, WordsFault>,
+    source: &mut S,
+    sink: &mut K,
+) -> Status
+    requires { IfOk asked IsWithin }
+    ensures { Performed S.left S.faults K.held K.faults asked source.old source.new sink.old sink.new result }
+{
+    match asked {
         Ok(
             Asked::Run {
                 pages,

@@ -1,4 +1,4 @@
-use Rattle.std.proofs.Common.{◌≡◌, ◌<◌, ◌≤◌, length, get_or, List, Option, subst, sym, arith}
+use Rattle.std.proofs.Common.{◌≡◌, ◌<◌, ◌≤◌, length, get_or, List, [], ◌∷◌, ◌++◌, OnOk, Option, subst, sym, arith}
 use Rattle.pgn_outlet.specs.declared.outlet.Outlet.{Outlet}
 use Rattle.pgn_turns.specs.declared.asked.Ask.{Ask}
 use Rattle.pgn_seats.specs.declared.desk.Desk.{Desk}
@@ -7,8 +7,8 @@ use Rattle.pgn_run.specs.Closing.{MayClose}
 use Rattle.pgn_run.proofs.ClosingLaws.{all-passes, all-took, next-of, one-closed}
 use Rattle.pgn_run.proofs.closing.leave_each.Goals as goal
 
-pub leave-so_far-requires-clause-close : goal.leave-so_far-requires-clause-close
-leave-so_far-requires-clause-close g c κs within =
+pub leave-pass-requires-clause-close : goal.leave-pass-requires-clause-close
+leave-pass-requires-clause-close g c κs within =
     let place = c.loop-place.place in
     let box : place < length c.args.inboxes.now = omega (arith, c.loop-place-test.true) in
     let desk = (next-of c.args.desks.items c.loop-place.desks.rest.items place c.in-Some.desk c.next.new.self.rest.items c.in-Some.desk (omega (arith, box, c.requires.close.desk_count)) c.loop-place.invariant.desks_are c.in-Some.ensures.items).0 in
@@ -23,8 +23,9 @@ loop-place-preserved g c =
     let place = c.loop-place.place in
     let box : place < length c.args.inboxes.now = omega (arith, c.loop-place-test.true) in
     one-closed place c.args.desks.items c.loop-place.desks.rest.items c.next.new.self.rest.items c.args.callers.items c.loop-place.callers.rest.items c.next-in-loop-place.new.self.rest.items c.loop-place.passes.items
-    c.leave-so_far.new.passes.items c.loop-place.so_far c.leave-so_far.result c.in-Some.desk c.in-Some-next.caller (omega (arith, box, c.requires.close.desk_count)) (omega (arith, box, c.requires.close.caller_count)) c.loop-place.invariant
-    c.in-Some.ensures.items c.in-Some-next.ensures.items c.leave-so_far.ensures.took c.leave-so_far.ensures.so_far c.leave-so_far.ensures.kept
+    c.keep-so_far.new.passes.items c.loop-place.so_far c.keep-so_far.result c.in-Some.desk c.in-Some-next.caller (omega (arith, box, c.requires.close.desk_count)) (omega (arith, box, c.requires.close.caller_count)) c.loop-place.invariant
+    c.in-Some.ensures.items c.in-Some-next.ensures.items c.leave-pass.ensures.took c.keep-so_far.ensures.so_far
+    (subst (λ (p : g.row.P.Denot). OnOk c.keep-so_far.result (c.keep-so_far.new.passes.items ≡ c.loop-place.passes.items ++ p ∷ [])) c.leave-pass.ensures.pass c.keep-so_far.ensures.kept)
 
 pub returns-clause-took : goal.returns-clause-took
 returns-clause-took g c =

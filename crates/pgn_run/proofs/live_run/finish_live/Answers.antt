@@ -10,20 +10,20 @@ returns-in-Ok-finish_run-clause-done g c = λ e.
     ends-done c.args.scenario.now (g.H.Hub.shape c.args.hub) c.args.sessions.items c.in-Ok-finish_run.played.journal.items c.in-Ok-finish_run.played.traces.items (length (g.H.Hub.shape c.args.hub).seats)
     (λ pages patience format opened. c.in-Ok-finish_run.ensures.legal c.args.scenario.now pages patience format opened) c.requires.all c.in-Ok-finish_run.ensures.sessions c.in-Ok-finish_run.ensures.shown
     c.as_slice-in-Ok-finish_run.result.now (c.as_slice-in-Ok-finish_run.ensures.value ∙ c.in-Ok.ensures ∙ ap (λ (sessions : List (Session g.row.H-Pass.Denot)). counts_of sessions) c.as_slice.ensures.value)
-    (g.K.Sink.held c.args.sink.now) (g.K.Sink.held c.write_end.new.sink) _ _ c.write_end.result c.write_end.ensures.written e
+    (g.K.Sink.held c.args.sink.now) (g.K.Sink.held c.write_end-status.new.sink) _ _ c.write_end-status.result c.write_end-status.ensures.written e
 
 pub returns-in-Ok-finish_run-clause-write_fault_writes_a_prefix : goal.returns-in-Ok-finish_run-clause-write_fault_writes_a_prefix
 returns-in-Ok-finish_run-clause-write_fault_writes_a_prefix g c = λ e.
     ends-prefix c.args.scenario.now (g.H.Hub.shape c.args.hub) c.args.sessions.items c.in-Ok-finish_run.played.journal.items c.in-Ok-finish_run.played.traces.items (length (g.H.Hub.shape c.args.hub).seats)
     (λ pages patience format opened. c.in-Ok-finish_run.ensures.legal c.args.scenario.now pages patience format opened) c.requires.all c.in-Ok-finish_run.ensures.sessions c.in-Ok-finish_run.ensures.shown
     c.as_slice-in-Ok-finish_run.result.now (c.as_slice-in-Ok-finish_run.ensures.value ∙ c.in-Ok.ensures ∙ ap (λ (sessions : List (Session g.row.H-Pass.Denot)). counts_of sessions) c.as_slice.ensures.value)
-    (g.K.Sink.held c.args.sink.now) (g.K.Sink.held c.write_end.new.sink) _ _ c.write_end.result c.write_end.ensures.written e
+    (g.K.Sink.held c.args.sink.now) (g.K.Sink.held c.write_end-status.new.sink) _ _ c.write_end-status.result c.write_end-status.ensures.written e
 
 pub returns-in-Ok-finish_run-clause-write_fault : goal.returns-in-Ok-finish_run-clause-write_fault
-returns-in-Ok-finish_run-clause-write_fault g c = fault-over _ (g.K.Sink.held c.args.sink.now) (g.K.Sink.held c.write_end.new.sink) _ _ c.write_end.result c.write_end.ensures.written
+returns-in-Ok-finish_run-clause-write_fault g c = fault-over _ (g.K.Sink.held c.args.sink.now) (g.K.Sink.held c.write_end-status.new.sink) _ _ c.write_end-status.result c.write_end-status.ensures.written
 
 pub returns-in-Ok-finish_run-clause-no_memory_writes_nothing : goal.returns-in-Ok-finish_run-clause-no_memory_writes_nothing
-returns-in-Ok-finish_run-clause-no_memory_writes_nothing g c = memory-over _ (g.K.Sink.held c.args.sink.now) (g.K.Sink.held c.write_end.new.sink) _ _ c.write_end.result c.write_end.ensures.written
+returns-in-Ok-finish_run-clause-no_memory_writes_nothing g c = memory-over _ (g.K.Sink.held c.args.sink.now) (g.K.Sink.held c.write_end-status.new.sink) _ _ c.write_end-status.result c.write_end-status.ensures.written
 
 pub returns-in-Ok-finish_run-clause-only : goal.returns-in-Ok-finish_run-clause-only
-returns-in-Ok-finish_run-clause-only g c = only-over _ (g.K.Sink.held c.args.sink.now) (g.K.Sink.held c.write_end.new.sink) _ _ c.write_end.result c.write_end.ensures.written
+returns-in-Ok-finish_run-clause-only g c = only-over _ (g.K.Sink.held c.args.sink.now) (g.K.Sink.held c.write_end-status.new.sink) _ _ c.write_end-status.result c.write_end-status.ensures.written
