@@ -111,7 +111,7 @@ pub fn is_number_one(lexemes: &[Lexeme<'_>]) -> bool
     ensures { result ≡ told.is_number_one (all_meant lexemes.now) }
 {
     match lexemes {
-        [Lexeme::Number(digits)] => digits.as_bytes() == b"1",
+        [Lexeme::Number(digits)] => digits.as_bytes() == b"1".as_slice(),
         _ => false,
     }
 }
