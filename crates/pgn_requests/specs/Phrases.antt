@@ -4,6 +4,7 @@ use Rattle.std.specs.List.{prefix_len}
 use Rattle.std.specs.Str.{str_eq_ignore_ascii_case, str_to_ascii_lowercase, byte}
 use Rattle.pgn_base.specs.declared.limits.TheConstants.{NAME_BYTES_MAX}
 use Rattle.pgn_base.specs.declared.command.Command.{Command}
+use Rattle.pgn_base.specs.declared.answers.Which.TheVariants.{ChannelEmpty}
 use Rattle.pgn_base.specs.declared.command.Command.TheVariants as command
 use Rattle.pgn_language.specs.Tokens.{Lexeme, Word, Quoted, Literal, Number, Sign, Wrong, Token, tokens}
 use Rattle.pgn_language.specs.Grammar.{Key, Name, Punct, fits_slot, name_of, cut, lexemes_of}
@@ -26,9 +27,16 @@ use Rattle.pgn_requests.specs.Values.{accepted}
 
 -- What is refused.
 
+-- the command that the session refuses for this cause: a text that cannot be read in each state of the block, what it asks not in a failed
+-- one, where all such commands are ignored, and so it refuses it as one past a limit
+abbrev pub refused_by : Cause → ℕ → Command
+refused_by cause.BadEncoding at = command.Bad at
+refused_by cause.BadMessage at = command.Bad at
+refused_by why at = command.Invalid ChannelEmpty
+
 -- a line that the session refuses at this byte, and a client is told why in these words
 abbrev pub refused : List ℕ → ℕ → Cause → List ℕ → Request
-refused line at why words = let complaint : Complaint = record { cause = why; text = words } in Line line (command.Bad at) (Refused complaint)
+refused line at why words = let complaint : Complaint = record { cause = why; text = words } in Line line (refused_by why at) (Refused complaint)
 
 -- a bare text that the session refuses at this byte as a syntax error
 abbrev pub unread : List ℕ → ℕ → Request

@@ -1,4 +1,4 @@
-ghost use Rattle.std.specs.Prelude.{◌≡◌, [], ◌∷◌, ◌++◌, codes};
+ghost use Rattle.std.specs.Prelude.{◌≡◌, true, [], ◌∷◌, ◌++◌, codes};
 ghost use Rattle.pgn_base.specs.declared.command.Command.TheVariants as command;
 ghost use Rattle.pgn_requests.specs.declared.complaint.Cause.TheVariants as cause;
 ghost use Rattle.pgn_requests.specs.declared.request.Request.TheVariants.{Discards};
@@ -57,6 +57,7 @@ pub fn transaction_modes()
 {}
 
 /// Settings that are set, shown and reset.
+#[tactic(auto, unfolding(pgn_language::specs::Grammar::cut))]
 pub fn assignments()
     ensures word { AsksValue (codes "SET client_encoding TO UTF8") setting.ClientEncoding (codes "UTF8") }
     ensures equals { AsksValue (codes "SET extra_float_digits = 3") setting.ExtraFloatDigits (codes "3") }
@@ -82,6 +83,7 @@ pub fn assignments()
 {}
 
 /// Values of settings, and values that are none.
+#[tactic(auto, unfolding(pgn_language::specs::Grammar::cut))]
 pub fn values()
     ensures name { accepted setting.ApplicationName (9 ∷ codes "a") ≡ Becomes (codes "?a") }
     ensures encoding { accepted setting.ClientEncoding (codes "Unicode") ≡ Becomes (codes "UTF8") }

@@ -6,7 +6,7 @@ use Rattle.pgn_language.proofs.CleanTokens.{NoNul, nul-from, nul-none}
 use Rattle.pgn_requests.specs.declared.mode.Mode.{Mode}
 use Rattle.pgn_requests.specs.declared.mode.Mode.TheVariants.{Outside, Slash, Dash, Single, Double, Comment, Star, Open, Rest}
 use Rattle.pgn_requests.specs.Texts.{entered, commented, left, next_mode, given, left_gives, mode_gives, end_gives, plain_from, plain}
-use Rattle.pgn_statements.specs.Modes.{depth_of, begins_comment, is_calm}
+use Rattle.pgn_statements.specs.Modes.{is_break, is_calm}
 
 -- one byte more of a text
 pub plain-step : (mode : Mode) (made bytes : List ℕ) (i : ℕ) → i < length bytes
@@ -21,6 +21,46 @@ held Slash = 47 ∷ []
 held Dash = 45 ∷ []
 held mode = []
 
+-- a byte is one of those that lead somewhere, or another
+pub record Other (b : ℕ) : Type 0 where
+  pub feed : (b == 10) ≡ false
+  pub slash : (b == 47) ≡ false
+  pub dash : (b == 45) ≡ false
+  pub single : (b == 39) ≡ false
+  pub double : (b == 34) ≡ false
+  pub star : (b == 42) ≡ false
+
+by_byte : (P : ℕ → Type 0) (b : ℕ) → P 10 → P 47 → P 45 → P 39 → P 34 → P 42 → (Other b → P b) → P b
+by_byte P b feed slash dash single double star other = elim (cases_Bool (b == 10)) [
+  | inl e ↦ subst P (sym (eqb-true b 10 e)) feed
+  | inr n1 ↦ elim (cases_Bool (b == 47)) [
+    | inl e ↦ subst P (sym (eqb-true b 47 e)) slash
+    | inr n2 ↦ elim (cases_Bool (b == 45)) [
+      | inl e ↦ subst P (sym (eqb-true b 45 e)) dash
+      | inr n3 ↦ elim (cases_Bool (b == 39)) [
+        | inl e ↦ subst P (sym (eqb-true b 39 e)) single
+        | inr n4 ↦ elim (cases_Bool (b == 34)) [
+          | inl e ↦ subst P (sym (eqb-true b 34 e)) double
+          | inr n5 ↦ elim (cases_Bool (b == 42)) [
+            | inl e ↦ subst P (sym (eqb-true b 42 e)) star
+            | inr n6 ↦ other (record { feed = n1; slash = n2; dash = n3; single = n4; double = n5; star = n6 })
+          ]
+        ]
+      ]
+    ]
+  ]
+]
+
+-- what another byte gives, and where it leads
+pub other-given : (b : ℕ) → Other b → given b ≡ b ∷ []
+other-given b o = rw (o.feed, o.slash, o.dash) refl
+
+pub other-entered : (b : ℕ) → Other b → entered b ≡ Outside
+other-entered b o = rw (o.slash, o.dash, o.single, o.double) refl
+
+pub other-commented : (depth b : ℕ) → Other b → commented depth b ≡ Comment depth
+other-commented depth b o = rw (o.star, o.slash) refl
+
 -- a byte before may have led here without a comment
 abbrev Follows : Mode → ℕ → Type 0
 Follows Outside before = Unit {0}
@@ -31,49 +71,45 @@ Follows Double before = Unit {0}
 Follows mode before = ⊥
 
 follows-entered : (b : ℕ) → Follows (entered b) b
-follows-entered b = elim (cases_Bool (b == 47)) [
-  | inl e ↦ rw e (eqb-true b 47 e)
-  | inr e ↦ elim (cases_Bool (b == 45)) [
-    | inl f ↦ rw (e, f) (eqb-true b 45 f)
-    | inr f ↦ elim (cases_Bool (b == 39)) [
-      | inl g ↦ rw (e, f, g) tt
-      | inr g ↦ elim (cases_Bool (b == 34)) [ inl h ↦ rw (e, f, g, h) tt | inr h ↦ rw (e, f, g, h) tt ]
-    ]
-  ]
-]
+follows-entered b = by_byte (λ x. Follows (entered x) x) b tt refl refl tt tt tt (λ o. rw (other-entered b o) tt)
 
 -- a byte outside stays where it is no line feed
 gives-entered : (b : ℕ) (bytes : List ℕ) → (b == 10) ≡ false → given b ++ held (entered b) ++ bytes ≡ b ∷ bytes
-gives-entered b bytes n = elim (cases_Bool (b == 47)) [
-  | inl e ↦ rw (n, e) (ap (λ (x : ℕ). x ∷ bytes) (sym (eqb-true b 47 e)))
-  | inr e ↦ elim (cases_Bool (b == 45)) [
-    | inl f ↦ rw (n, e, f) (ap (λ (x : ℕ). x ∷ bytes) (sym (eqb-true b 45 f)))
-    | inr f ↦ elim (cases_Bool (b == 39)) [
-      | inl g ↦ rw (n, e, f, g) refl
-      | inr g ↦ elim (cases_Bool (b == 34)) [ inl h ↦ rw (n, e, f, g, h) refl | inr h ↦ rw (n, e, f, g, h) refl ]
-    ]
-  ]
-]
+gives-entered b bytes n = by_byte (λ x. (x == 10) ≡ false → given x ++ held (entered x) ++ bytes ≡ x ∷ bytes) b
+    (λ m. absurd (false≢true (sym m))) (λ m. refl) (λ m. refl) (λ m. refl) (λ m. refl) (λ m. refl) (λ o m. rw (other-given b o, other-entered b o) refl) n
+
+-- a byte that is a break, and one that is none
+calm-stop : (before b : ℕ) (bytes : List ℕ) → is_break before b ≡ true → is_calm before (b ∷ bytes) ≡ false
+calm-stop before b bytes e = rw e refl
+
+calm-on : (before b : ℕ) (bytes : List ℕ) → is_break before b ≡ false → is_calm before (b ∷ bytes) ≡ is_calm b bytes
+calm-on before b bytes e = rw e refl
+
+-- the same in the middle of a text
+pub calm-stop_at : (before : ℕ) (bytes : List ℕ) (i : ℕ) → i < length bytes → is_break before (get_or bytes i 0) ≡ true → is_calm before (drop i bytes) ≡ false
+calm-stop_at before bytes i l e = ap (is_calm before) (drop_more bytes i 0 l) ∙ calm-stop before (get_or bytes i 0) (drop (i + 1) bytes) e
+
+pub calm-on_at : (before : ℕ) (bytes : List ℕ) (i : ℕ) → i < length bytes → is_break before (get_or bytes i 0) ≡ false → is_calm before (drop i bytes) ≡ is_calm (get_or bytes i 0) (drop (i + 1) bytes)
+calm-on_at before bytes i l e = ap (is_calm before) (drop_more bytes i 0 l) ∙ calm-on before (get_or bytes i 0) (drop (i + 1) bytes) e
 
 -- a text that goes on so is not changed
 outside-plain : (b : ℕ) (bytes : List ℕ) → (b == 10) ≡ false → plain_from (entered b) bytes ≡ held (entered b) ++ bytes → given b ++ plain_from (entered b) bytes ≡ b ∷ bytes
 outside-plain b bytes n h = ap (λ (some : List ℕ). given b ++ some) h ∙ sym (append_assoc (given b) (held (entered b)) bytes) ∙ gives-entered b bytes n
 
-not_true : (b : Bool) → not b ≡ true → b ≡ false
-not_true true h = absurd (false≢true h)
-not_true false h = refl
-
 record CalmParts (before b : ℕ) (bytes : List ℕ) : Type 0 where
   pub unbroken : (b == 10) ≡ false
-  pub uncommented : begins_comment before b ≡ false
+  pub slash : (before == 47 && b == 42) ≡ false
+  pub dash : (before == 45 && b == 45) ≡ false
   pub rest : is_calm b bytes ≡ true
 
 calm-parts : (before b : ℕ) (bytes : List ℕ) → is_calm before (b ∷ bytes) ≡ true → CalmParts before b bytes
-calm-parts before b bytes c =
-    let parts = and_parts (not (b == 10 || begins_comment before b)) (is_calm b bytes) c in
-    let none : (b == 10 || begins_comment before b) ≡ false = not_true (b == 10 || begins_comment before b) parts.0 in
-    let neither = or_parts (b == 10) (begins_comment before b) none in
-    record { unbroken = neither.0; uncommented = neither.1; rest = parts.1 }
+calm-parts before b bytes c = elim (cases_Bool (is_break before b)) [
+  | inl e ↦ absurd (false≢true (sym (calm-stop before b bytes e) ∙ c))
+  | inr e ↦
+      let neither = or_parts (b == 10) ((before == 47 && b == 42) || (before == 45 && b == 45)) e in
+      let none = or_parts (before == 47 && b == 42) (before == 45 && b == 45) neither.1 in
+      record { unbroken = neither.0; slash = none.0; dash = none.1; rest = sym (calm-on before b bytes e) ∙ c }
+]
 
 pub calm-plain : (mode : Mode) (before : ℕ) (bytes : List ℕ) → Follows mode before → is_calm before bytes ≡ true → plain_from mode bytes ≡ held mode ++ bytes
 calm-plain Outside before [] f c = refl
@@ -90,13 +126,11 @@ calm-plain Outside before (b ∷ bytes) f c =
     outside-plain b bytes parts.unbroken (calm-plain (entered b) b bytes (follows-entered b) parts.rest)
 calm-plain Slash before (b ∷ bytes) f c =
     let parts = calm-parts before b bytes c in
-    let here : begins_comment 47 b ≡ false = subst (λ (x : ℕ). begins_comment x b ≡ false) f parts.uncommented in
-    let other : (b == 42) ≡ false = (or_parts (b == 42) false here).0 in
+    let other : (b == 42) ≡ false = subst (λ (x : ℕ). (x == 47 && b == 42) ≡ false) f parts.slash in
     rw other (ap (λ (some : List ℕ). 47 ∷ some) (outside-plain b bytes parts.unbroken (calm-plain (entered b) b bytes (follows-entered b) parts.rest)))
 calm-plain Dash before (b ∷ bytes) f c =
     let parts = calm-parts before b bytes c in
-    let here : begins_comment 45 b ≡ false = subst (λ (x : ℕ). begins_comment x b ≡ false) f parts.uncommented in
-    let other : (b == 45) ≡ false = here in
+    let other : (b == 45) ≡ false = subst (λ (x : ℕ). (x == 45 && b == 45) ≡ false) f parts.dash in
     rw other (ap (λ (some : List ℕ). 45 ∷ some) (outside-plain b bytes parts.unbroken (calm-plain (entered b) b bytes (follows-entered b) parts.rest)))
 calm-plain Single before (b ∷ bytes) f c =
     let parts = calm-parts before b bytes c in
@@ -139,46 +173,6 @@ room-end Rest = omega arith
 -- what a byte gives outside, and what may be given after it
 abbrev Within : List ℕ → Mode → ℕ → Type 0
 Within some mode most = length some + room mode ≤ most
-
--- a byte is one of those that lead somewhere, or another
-pub record Other (b : ℕ) : Type 0 where
-  pub feed : (b == 10) ≡ false
-  pub slash : (b == 47) ≡ false
-  pub dash : (b == 45) ≡ false
-  pub single : (b == 39) ≡ false
-  pub double : (b == 34) ≡ false
-  pub star : (b == 42) ≡ false
-
-by_byte : (P : ℕ → Type 0) (b : ℕ) → P 10 → P 47 → P 45 → P 39 → P 34 → P 42 → (Other b → P b) → P b
-by_byte P b feed slash dash single double star other = elim (cases_Bool (b == 10)) [
-  | inl e ↦ subst P (sym (eqb-true b 10 e)) feed
-  | inr n1 ↦ elim (cases_Bool (b == 47)) [
-    | inl e ↦ subst P (sym (eqb-true b 47 e)) slash
-    | inr n2 ↦ elim (cases_Bool (b == 45)) [
-      | inl e ↦ subst P (sym (eqb-true b 45 e)) dash
-      | inr n3 ↦ elim (cases_Bool (b == 39)) [
-        | inl e ↦ subst P (sym (eqb-true b 39 e)) single
-        | inr n4 ↦ elim (cases_Bool (b == 34)) [
-          | inl e ↦ subst P (sym (eqb-true b 34 e)) double
-          | inr n5 ↦ elim (cases_Bool (b == 42)) [
-            | inl e ↦ subst P (sym (eqb-true b 42 e)) star
-            | inr n6 ↦ other (record { feed = n1; slash = n2; dash = n3; single = n4; double = n5; star = n6 })
-          ]
-        ]
-      ]
-    ]
-  ]
-]
-
--- what another byte gives, and where it leads
-pub other-given : (b : ℕ) → Other b → given b ≡ b ∷ []
-other-given b o = rw (o.feed, o.slash, o.dash) refl
-
-pub other-entered : (b : ℕ) → Other b → entered b ≡ Outside
-other-entered b o = rw (o.slash, o.dash, o.single, o.double) refl
-
-pub other-commented : (depth b : ℕ) → Other b → commented depth b ≡ Comment depth
-other-commented depth b o = rw (o.star, o.slash) refl
 
 room-entered : (b : ℕ) → Within (given b) (entered b) 1
 room-entered b = by_byte (λ x. Within (given x) (entered x) 1) b (omega arith) (omega arith) (omega arith) (omega arith) (omega arith) (omega arith)

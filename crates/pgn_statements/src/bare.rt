@@ -2,7 +2,7 @@ ghost use Rattle.std.specs.Prelude.{◌≡◌, ◌+◌, ◌<◌, ◌≤◌, true
 ghost use Rattle.std.specs.List.{suffix_len};
 ghost use Rattle.pgn_base.specs.declared.limits.TheConstants.{LINE_BYTES_MAX};
 ghost use Rattle.pgn_requests.specs.Texts.{is_tail, plain, without_tail};
-ghost use Rattle.pgn_statements.specs.Modes.{begins_comment, is_calm};
+ghost use Rattle.pgn_statements.specs.Modes.{is_break, is_calm};
 
 use crate::byte_modes::{give, give_end, next_mode};
 use pgn_command::is_blank;
@@ -15,7 +15,7 @@ pub fn is_plain(text: &[u8]) -> bool
 {
     let mut before = 0;
     for byte in text {
-        if *byte == b'\n' || begins_comment(before, *byte) {
+        if is_break(before, *byte) {
             return false;
         }
         before = *byte;
@@ -23,11 +23,11 @@ pub fn is_plain(text: &[u8]) -> bool
     true
 }
 
-// The two bytes begin a comment.
-fn begins_comment(before: u8, byte: u8) -> bool
-    ensures { result ≡ begins_comment before byte }
+// A byte after another is a line feed, or the two begin a comment.
+fn is_break(before: u8, byte: u8) -> bool
+    ensures { result ≡ is_break before byte }
 {
-    (before == b'/' && byte == b'*') || (before == b'-' && byte == b'-')
+    byte == b'\n' || (before == b'/' && byte == b'*') || (before == b'-' && byte == b'-')
 }
 
 /// A text with a blank for each comment and for each line feed outside of quotes.

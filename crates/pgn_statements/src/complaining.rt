@@ -3,7 +3,7 @@ ghost use Rattle.pgn_requests.specs.Texts.{one_line};
 ghost use Rattle.pgn_requests.specs.Phrases as told;
 
 use crate::lines::line;
-use pgn_base::Command;
+use pgn_base::{Command, Which};
 use pgn_command::cut;
 use pgn_requests::{Cause, Complaint, Request, Setting, ShortText, Wording, setting_name};
 use std::alloc::{AllocError, Global};
@@ -25,9 +25,21 @@ pub fn refused(
     line(
         alloc,
         text,
-        Command::Bad { at },
+        refused_by(cause, at),
         Wording::Refused(complaint),
     )
+}
+
+// The command that the session refuses for this cause, where the text is at fault at this byte.
+fn refused_by(cause: Cause, at: u32) -> Command
+    ensures { result ≡ told.refused_by cause at }
+{
+    match cause {
+        Cause::BadEncoding | Cause::BadMessage => Command::Bad { at },
+        Cause::NoSetting | Cause::BadValue | Cause::Fixed | Cause::Unsupported => Command::Invalid {
+            which: Which::ChannelEmpty,
+        },
+    }
 }
 
 /// No setting has this name.
