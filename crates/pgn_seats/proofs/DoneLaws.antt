@@ -229,18 +229,18 @@ leaves-done asks parting number old new kept later before after h set settings t
     (ap (λ (s : Section). s.lines) set.section ∙ both-lines old.section (rollback_line number) (unlisten_line (number + 1)) (lines_of h.turns) h.lines) set.shown settings told
 
 -- what is settled without the session was told by the settings and the state of its block, and the settings are those behind it
-pub settles-done : {P : Type 0} (is_own : P → Type 0) (shape : Shape) (known : P → Known) (asks : List Ask) (settled : Settled) (s : Session P) (kept later : Kept) (before after : Hand Saying) → IsAtWork is_own shape known s
-    → HasDone [] asks s kept before → later ≡ kept_after s.block.state settled kept → HasSaid s.section.no (map Some (settled_answer s.section.no settled kept s.block.state)) before after
+pub settles-done : {P : Type 0} (is_own : P → Type 0) (shape : Shape) (known : P → Known) (asks : List Ask) (settled : Settled) (state : BlockState) (s : Session P) (kept later : Kept) (before after : Hand Saying)
+    → IsAtWork is_own shape known s → HasDone [] asks s kept before → state ≡ s.block.state → later ≡ kept_after state settled kept → HasSaid s.section.no (map Some (settled_answer s.section.no settled kept state)) before after
     → HasDone [] (asks ++ Settle settled ∷ []) s later after
-settles-done is_own shape known asks settled s kept later before after work h settings told =
+settles-done is_own shape known asks settled state s kept later before after work h is settings told =
     let n : ℕ = s.section.no in
-    let state : (telling_of h.turns).walk.block ≡ s.block.state = block-done is_own shape known asks s kept before work h in
+    let block : (telling_of h.turns).walk.block ≡ state = block-done is_own shape known asks s kept before work h ∙ sym is in
     let here : HasSaid n (map Some (settled_answer n settled (telling_of h.turns).kept (telling_of h.turns).walk.block)) before after =
-    subst (λ (b : BlockState). HasSaid n (map Some (settled_answer n settled (telling_of h.turns).kept b)) before after) (sym state)
-    (subst (λ (k : Kept). HasSaid n (map Some (settled_answer n settled k s.block.state)) before after) h.settings told) in
+    subst (λ (b : BlockState). HasSaid n (map Some (settled_answer n settled (telling_of h.turns).kept b)) before after) (sym block)
+    (subst (λ (k : Kept). HasSaid n (map Some (settled_answer n settled k state)) before after) h.settings told) in
     turn-done [] [] asks (asks ++ Settle settled ∷ []) s s kept later before after (Settles settled) h tt refl refl
     (h.lines ∙ ap (λ (ls : List ScriptLine). ls ++ seat_quit ∷ []) (sym (append-nil (lines_of h.turns)))) (sym (append-nil s.items.items))
-    (settings ∙ ap (λ (b : BlockState). kept_after b settled kept) (sym state)) (plain-signs n _ before after here)
+    (settings ∙ ap (λ (b : BlockState). kept_after b settled kept) (sym block)) (plain-signs n _ before after here)
 
 -- what is heard of two lines, with the lines themselves
 heard-both : (n m : ℕ) (one two : List Item) → flat_map heard (Line n ∷ one ++ Line m ∷ two) ≡ flat_map heard one ++ flat_map heard two

@@ -1,7 +1,8 @@
-use Rattle.std.proofs.Common.{◌≡◌, ◌+◌, [], drop, length, ap, sym, ◌∙◌, refl, rules, subst}
+use Rattle.std.proofs.Common.{◌≡◌, ◌+◌, List, [], drop, length, ap, sym, ◌∙◌, refl, rules, subst}
 use Rattle.std.specs.Prelude.{flat_map}
 use Rattle.pgn_language.specs.declared.scenario.ScriptLine.{ScriptLine}
 use Rattle.pgn_outlet.specs.Passes.{knows}
+use Rattle.pgn_model.specs.declared.item.Item.{Item}
 use Rattle.pgn_requests.specs.Settings.{Kept}
 use Rattle.pgn_turns.specs.Asks.{unlisten_line}
 use Rattle.pgn_turns.specs.Served.{discard_answer, discarded}
@@ -15,11 +16,6 @@ use Rattle.pgn_seats.proofs.discarding.discard.Goals as goal
 
 pub say-requires-clause-may : goal.say-requires-clause-may
 say-requires-clause-may g c = may-at _ _ (knows c.args.tells.now) (sym (client-no c.args.desk.now.session c.take_both.new.desk.session c.take_both.ensures.same)) c.requires.may
-
-pub discard_bytes-requires-clause-within : goal.discard_bytes-requires-clause-within
-discard_bytes-requires-clause-within g c =
-    let from : c.len-from.result ≡ length c.args.desk.now.session.items.items = search rules in
-    both-within c.args.desk.now.session c.take_both.new.desk.session _ _ c.len-from.result from c.in_ok-take_both.ensures.ran
 
 pub returns-in_err-take_both-clause-alone : goal.returns-in_err-take_both-clause-alone
 returns-in_err-take_both-clause-alone g c = pushed-same c.args.desk.now.session.section.no (knows c.args.tells.now) (knows c.args.tells.now) refl
@@ -46,11 +42,14 @@ returns-clause-went g c =
     let from : c.len-from.result ≡ length c.args.desk.now.session.items.items = search rules in
     let ran = subst (λ (l : ScriptLine). HasRunBoth c.args.desk.now.session l (unlisten_line (l.line + 1)) c.take_both.new.desk.session) c.discard_at.ensures c.in_ok-take_both.ensures.ran in
     let settings = c.take_both.ensures.settings in
-    let kept = c.in_ok-bytes.ensures.kept ∙ ap (λ (k : Kept). discarded c.state.result k) settings in
-    let told = c.in_ok-bytes.ensures.told ∙ ap (λ (k : Kept). discard_answer c.state.result k (flat_map heard (drop c.len-from.result c.take_both.new.desk.session.items.items))) settings in
+    let kept = c.in_ok-bytes.ensures.kept ∙ ap (λ (k : Kept). discarded c.state-state.result k) settings in
+    let told =
+    c.in_ok-bytes.ensures.told
+    ∙ ap (λ (k : Kept). discard_answer c.state-state.result k (flat_map heard (drop c.len-from.result c.as_slice-items.result.now))) settings
+    ∙ ap (λ (items : List Item). discard_answer c.state-state.result c.args.desk.now.settings (flat_map heard (drop c.len-from.result items))) c.as_slice-items.ensures.value in
     ok_then c.say.result _ _
-    (λ said asks h. discards-done (g.H.Hub.is_pass c.args.hub.now) (g.H.Hub.shape c.args.hub.now) g.P.PassView.known asks c.args.line c.len-from.result c.state.result c.args.desk.now.session c.take_both.new.desk.session
-    c.args.desk.now.settings c.discard_bytes.new.settings (knows c.args.tells.now) (knows c.say.new.tells) c.requires.work h ran from c.state.ensures kept
+    (λ said asks h. discards-done (g.H.Hub.is_pass c.args.hub.now) (g.H.Hub.shape c.args.hub.now) g.P.PassView.known asks c.args.line c.len-from.result c.state-state.result c.args.desk.now.session c.take_both.new.desk.session
+    c.args.desk.now.settings c.discard_bytes.new.settings (knows c.args.tells.now) (knows c.say.new.tells) c.requires.work h ran from c.state-state.ensures kept
     (said-as _ c.in_ok-bytes.bytes.items _ (knows c.args.tells.now) (knows c.say.new.tells) told said)) c.say.ensures.said
 
 pub returns-clause-stopped : goal.returns-clause-stopped

@@ -31,8 +31,8 @@ returns-clause-work g c = on_ok c.say.result _ c.requires.work
 pub returns-clause-went : goal.returns-clause-went
 returns-clause-went g c =
     ok_then c.say.result _ _
-    (λ said asks h. settles-done (g.H.Hub.is_pass c.args.hub.now) (g.H.Hub.shape c.args.hub.now) g.P.PassView.known asks c.args.settled.now c.args.desk.now.session c.args.desk.now.settings c.settled_bytes.new.settings
-    (knows c.args.tells.now) (knows c.say.new.tells) c.requires.work h c.in_ok-bytes.ensures.kept
+    (λ said asks h. settles-done (g.H.Hub.is_pass c.args.hub.now) (g.H.Hub.shape c.args.hub.now) g.P.PassView.known asks c.args.settled.now c.state-state.result c.args.desk.now.session c.args.desk.now.settings c.settled_bytes.new.settings
+    (knows c.args.tells.now) (knows c.say.new.tells) c.requires.work h c.state-state.ensures c.in_ok-bytes.ensures.kept
     (said-as c.args.desk.now.session.section.no c.in_ok-bytes.bytes.items _ (knows c.args.tells.now) (knows c.say.new.tells) c.in_ok-bytes.ensures.told said)) c.say.ensures.said
 
 pub returns-clause-stopped : goal.returns-clause-stopped
