@@ -62,7 +62,7 @@ class Psycopg:
             cursor.execute('BEGIN')
             cursor.execute('SELECT pg_notify(%s, %s)', ['c', payload])
             cursor.execute(end)
-        cursor.executemany("SELECT pg_notify(%s, 'behind')", [['c']])
+        cursor.execute("SELECT pg_notify(%s, 'behind')", ['c'])
 
     def socket(self):
         return self.connection.fileno()
