@@ -820,11 +820,14 @@ def half_answers(shim):
 
 
 def extended(shim):
-    """A message of the extended protocol ends its client, who is told why."""
+    """A message of the extended protocol ends its client, who is told why, also where it sends on before it reads."""
     one = listening(shim)
     for letter in b'PBEDCHSF':
         other = shim.enter()
         other.send(query('BEGIN'), query('NOTIFY c'), made(bytes([letter]), b'\0SELECT 1\0\0\0' if letter == ord('P') else b''), query('COMMIT'))
+        for _ in range(3):
+            time.sleep(0.02)
+            other.send(made(b'B', bytes(20000)))
         other.take('CZCZ')
         due = error('0A000', 'the extended protocol is not supported', 'FATAL')
         got = other.told()
