@@ -31,7 +31,7 @@ abbrev pub call_rows : Command → List ℕ
 call_rows (PgNotify note) = call_column ++ row []
 call_rows other = []
 
--- a refusal that is no syntax error
+-- a refusal that is told by this
 abbrev pub complained : Complaint → List ℕ
 complained complaint = error_of (cause_code complaint.cause) complaint.text
 
@@ -40,6 +40,7 @@ abbrev pub told_refusal : Command → Wording → Refusal → List ℕ
 told_refusal command wording QueueFull = call_rows command ++ error QueueFull
 told_refusal command Called (Bounds which) = call_column ++ error (Bounds which)
 told_refusal command (Refused complaint) (Syntax at) = complained complaint
+told_refusal command (Refused complaint) (Bounds which) = complained complaint
 told_refusal command wording refusal = error refusal
 
 -- the messages of an item of a query's line
