@@ -6,6 +6,7 @@ import java.sql.Connection;
 import java.sql.DriverManager;
 import java.sql.PreparedStatement;
 import java.sql.SQLException;
+import java.sql.Savepoint;
 import java.sql.Statement;
 import java.util.HashMap;
 import java.util.Map;
@@ -63,10 +64,16 @@ public class Jdbc {
             statement.execute("NOTIFY c, 'kept'");
             connection.commit();
         }
+        connection.setReadOnly(true);
+        try (PreparedStatement statement = connection.prepareStatement("SELECT pg_listening_channels()")) {
+            Savepoint savepoint = connection.setSavepoint();
+            statement.execute();
+            connection.rollback(savepoint);
+            connection.commit();
+        }
+        connection.setReadOnly(false);
         connection.setAutoCommit(true);
-        try (PreparedStatement statement = connection.prepareStatement("SELECT pg_notify(?, ?)")) {
-            statement.setString(1, "c");
-            statement.setString(2, "behind");
+        try (PreparedStatement statement = connection.prepareStatement("NOTIFY c, 'behind'")) {
             statement.execute();
         }
     }

@@ -578,11 +578,10 @@ def failed_block(shim):
     wire.ask('NO SUCH COMMAND', 'EZ')
     for text in ("SET application_name TO 'x'", 'RESET application_name', 'RESET ALL', 'SHOW application_name', 'DISCARD ALL', 'DEALLOCATE ALL',
                  'CLOSE ALL', 'SELECT 1', 'SELECT version()', 'SELECT pg_backend_pid()', 'SELECT * FROM pg_listening_channels()',
-                 'BEGIN ISOLATION LEVEL SERIALIZABLE'):
+                 'BEGIN ISOLATION LEVEL SERIALIZABLE', 'SET nosuch TO 1', "SET DateStyle TO 'Martian'", "SET server_version TO '16'", 'SHOW nosuch'):
         wire.meet(text, error('25P02', ABORTED), state='E')
-    # A server finds the state of the block first.
-    for text, own in (('SET nosuch TO 1', NO_SUCH), ("SET DateStyle TO 'Martian'", invalid('DateStyle', 'Martian'))):
-        wire.meet(text, error('25P02', ABORTED) if shim.is_server else own, state='E')
+    # What is no text is found first.
+    wire.meet(made(b'Q', b'SELECT 1\0x\0'), error('08P01', 'invalid message format'), state='E')
     wire.meet('; /* */ ;', EMPTY, state='E')
     wire.meet('ROLLBACK', complete('ROLLBACK'))
     wire.shows('application_name', '')
@@ -820,11 +819,14 @@ def half_answers(shim):
 
 
 def extended(shim):
-    """A message of the extended protocol ends its client, who is told why."""
+    """A message of the extended protocol ends its client, who is told why, also where it sends on before it reads."""
     one = listening(shim)
     for letter in b'PBEDCHSF':
         other = shim.enter()
         other.send(query('BEGIN'), query('NOTIFY c'), made(bytes([letter]), b'\0SELECT 1\0\0\0' if letter == ord('P') else b''), query('COMMIT'))
+        for _ in range(3):
+            time.sleep(0.02)
+            other.send(made(b'B', bytes(20000)))
         other.take('CZCZ')
         due = error('0A000', 'the extended protocol is not supported', 'FATAL')
         got = other.told()

@@ -30,7 +30,7 @@ while (my $line = <STDIN>) {
     my ($word, $number, $rest) = split / /, $line, 3;
     eval {
         if ($word eq 'open') {
-            my %how = (RaiseError => 1, PrintError => 0, PrintWarn => 0, AutoCommit => 1, pg_server_prepare => 0);
+            my %how = (RaiseError => 1, PrintError => 0, PrintWarn => 0, AutoCommit => 1);
             $connections{$number} = DBI->connect("dbi:Pg:host=127.0.0.1;port=$port;dbname=$database", 'me', '', \%how);
         } elsif ($word eq 'run') {
             $connections{$number}->do($rest);
@@ -40,8 +40,8 @@ while (my $line = <STDIN>) {
             $dbh->begin_work;
             $dbh->do("NOTIFY c, 'never'");
             $dbh->rollback;
-            $dbh->{AutoCommit} = 0;
-            $dbh->do("NOTIFY c, 'kept'");
+            $dbh->{AutoCommit} = $dbh->{pg_server_prepare} = 0;
+            $dbh->do('SELECT pg_notify(?, ?)', undef, 'c', 'kept');
             $dbh->commit;
             $dbh->{AutoCommit} = 1;
             $dbh->do("NOTIFY c, 'behind'");

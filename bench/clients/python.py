@@ -56,17 +56,13 @@ class Psycopg:
         psycopg.ClientCursor(self.connection).execute(text)
 
     def own(self):
-        with self.connection.transaction(force_rollback=True):
-            self.run("NOTIFY c, 'never'")
-        with self.connection.transaction():
-            psycopg.ClientCursor(self.connection).execute('SELECT pg_notify(%s, %s)', ['c', 'kept'])
-            with self.connection.transaction(force_rollback=True):
-                self.run("NOTIFY c, 'never'")
-        self.connection.autocommit = False
-        self.run("NOTIFY c, 'never'")
-        self.connection.rollback()
-        self.connection.autocommit = True
-        psycopg.ClientCursor(self.connection).execute("SELECT pg_notify(%s, 'behind')", ['c'])
+        """Its own calls for blocks ask by the extended protocol; its ClientCursor puts arguments into the text."""
+        cursor = psycopg.ClientCursor(self.connection)
+        for end, payload in ('ROLLBACK', 'never'), ('COMMIT', 'kept'):
+            cursor.execute('BEGIN')
+            cursor.execute('SELECT pg_notify(%s, %s)', ['c', payload])
+            cursor.execute(end)
+        cursor.execute("SELECT pg_notify(%s, 'behind')", ['c'])
 
     def socket(self):
         return self.connection.fileno()
