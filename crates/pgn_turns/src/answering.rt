@@ -135,7 +135,7 @@ fn put_refusal(
                 Ok(())
             }
             Wording::Plain => bytes.put_error(alloc, refusal),
-            Wording::Refused(_) => bytes.put_error(alloc, refusal),
+            Wording::Refused(complaint) => put_complaint(bytes, complaint),
         },
         Refusal::Syntax { .. } => match wording {
             Wording::Refused(complaint) => put_complaint(bytes, complaint),
@@ -146,7 +146,7 @@ fn put_refusal(
     }
 }
 
-// A refusal that is no syntax error.
+// A refusal that is told by this.
 fn put_complaint(bytes: &mut Bytes, complaint: &Complaint) -> Result<(), AllocError>
     ensures { OnOk result (bytes.new ≡ bytes.old ++ complained complaint.now) }
 {
