@@ -1,5 +1,5 @@
 -- Digits without the zeros at their end, and fractions.
-use Rattle.std.proofs.Common.{◌≡◌, ℕ, suc, ◌+◌, ◌*◌, ◌/◌, ◌%◌, ◌<◌, ◌≤◌, ◌==◌, Bool, true, false, cond, nat_le, List, [], ◌∷◌, ◌++◌, length, take, drop, reverse, get_or, sym, ap, ◌∙◌, refl, arith, codes}
+use Rattle.std.proofs.Common.{◌≡◌, ℕ, suc, ◌+◌, ◌*◌, ◌/◌, ◌<◌, ◌≤◌, ◌==◌, Bool, true, false, cond, List, [], ◌∷◌, ◌++◌, length, take, drop, reverse, get_or, sym, ap, ◌∙◌, arith, codes}
 use Rattle.std.specs.List.{prefix_len}
 use Rattle.std.proofs.lemmas.Bool.Decides.{nat_tests}
 use Rattle.std.proofs.lemmas.List.{take_more, reverse-append, reverse-reverse}
@@ -15,7 +15,9 @@ abbrev behind_zeros : List ℕ → List ℕ
 behind_zeros digits = drop (prefix_len is_zero digits) digits
 
 front_digit : (b : Bool) (digit : ℕ) (digits : List ℕ) → is_zero digit ≡ b → behind_zeros (digit ∷ digits) ≡ cond b (behind_zeros digits) (digit ∷ digits)
-front_digit true digit digits e = ap (λ (b : Bool). drop (cond b (1 + prefix_len is_zero digits) 0) (digit ∷ digits)) e
+front_digit true digit digits e =
+    let more : 1 + prefix_len is_zero digits ≡ suc (prefix_len is_zero digits) = omega arith in
+    ap (λ (b : Bool). drop (cond b (1 + prefix_len is_zero digits) 0) (digit ∷ digits)) e ∙ ap (λ (n : ℕ). drop n (digit ∷ digits)) more
 front_digit false digit digits e = ap (λ (b : Bool). drop (cond b (1 + prefix_len is_zero digits) 0) (digit ∷ digits)) e
 
 -- digits up to a place, and the one there

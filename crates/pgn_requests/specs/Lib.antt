@@ -10,3 +10,7 @@ pub mod Values
 pub mod Phrases
 -- what a Query's body asks for
 pub mod Reading
+-- a body asks for one thing
+pub mod Laws
+-- examples of texts and of what they ask for
+pub mod Examples

@@ -1,5 +1,5 @@
 -- What a text asks for that is no command of the grammar: the words that drivers send beside these.
-use Rattle.std.specs.Prelude.{ℕ, zero, suc, Bool, true, false, not, cond, ◌||◌, ◌&&◌, ◌==◌, nat_le, List, [], ◌∷◌, ◌++◌, length, take, drop, bytes_eq, codes, Option, None, Some}
+use Rattle.std.specs.Prelude.{ℕ, zero, suc, ◌+◌, Bool, true, false, not, cond, ◌||◌, ◌&&◌, ◌==◌, nat_le, List, [], ◌∷◌, ◌++◌, length, take, drop, bytes_eq, codes, Option, None, Some}
 use Rattle.std.specs.List.{prefix_len}
 use Rattle.std.specs.Str.{str_eq_ignore_ascii_case, str_to_ascii_lowercase, byte}
 use Rattle.pgn_base.specs.declared.limits.TheConstants.{NAME_BYTES_MAX}
@@ -16,10 +16,13 @@ use Rattle.pgn_requests.specs.declared.request.Request.{Request}
 use Rattle.pgn_requests.specs.declared.request.Request.TheVariants.{Line, Settles, Discards}
 use Rattle.pgn_requests.specs.declared.setting.Setting.{Setting}
 use Rattle.pgn_requests.specs.declared.setting.Setting.TheVariants as setting
+use Rattle.pgn_requests.specs.declared.settled.Settled.{Settled}
 use Rattle.pgn_requests.specs.declared.settled.Settled.TheVariants as settled
 use Rattle.pgn_requests.specs.Settings.{setting_name}
 use Rattle.pgn_requests.specs.Texts.{one_line}
-use Rattle.pgn_requests.specs.Values.{Verdict, Becomes, Invalid, Unchangeable, Unsupported, accepted}
+use Rattle.pgn_requests.specs.declared.verdict.Verdict.{Verdict}
+use Rattle.pgn_requests.specs.declared.verdict.Verdict.TheVariants.{Becomes, Invalid, Unchangeable, Unsupported}
+use Rattle.pgn_requests.specs.Values.{accepted}
 
 -- What is refused.
 
@@ -37,19 +40,19 @@ told_value value = cut NAME_BYTES_MAX value
 
 -- no setting has this name
 abbrev pub no_setting : List ℕ → List ℕ
-no_setting name = codes "unrecognized configuration parameter \"" ++ (told_value name ++ codes "\"")
+no_setting name = codes "unrecognized configuration parameter \"" ++ told_value name ++ codes "\""
 
 -- a setting cannot have this value
 abbrev pub bad_value : Setting → List ℕ → List ℕ
-bad_value one value = codes "invalid value for parameter \"" ++ (setting_name one ++ (codes "\": \"" ++ (told_value value ++ codes "\"")))
+bad_value one value = codes "invalid value for parameter \"" ++ setting_name one ++ codes "\": \"" ++ told_value value ++ codes "\""
 
 -- a setting cannot be changed
 abbrev pub fixed : Setting → List ℕ
-fixed one = codes "parameter \"" ++ (setting_name one ++ codes "\" cannot be changed")
+fixed one = codes "parameter \"" ++ setting_name one ++ codes "\" cannot be changed"
 
 -- the service cannot have this value of a setting
 abbrev pub unsupported : Setting → List ℕ → List ℕ
-unsupported one value = setting_name one ++ (codes ": \"" ++ (told_value value ++ codes "\" is not supported"))
+unsupported one value = setting_name one ++ codes ": \"" ++ told_value value ++ codes "\" is not supported"
 
 -- Words.
 
@@ -70,15 +73,19 @@ abbrev pub are_three : List ℕ → List ℕ → List ℕ → List Lexeme → Bo
 are_three one other third (a ∷ b ∷ c ∷ []) = is_key one a && is_key other b && is_key third c
 are_three one other third lexemes = false
 
--- they begin with these two
-abbrev pub begin_two : List ℕ → List ℕ → List Lexeme → Bool
-begin_two one other (a ∷ b ∷ lexemes) = is_key one a && is_key other b
-begin_two one other lexemes = false
+-- the tokens after this word, if they begin with it; after these two
+abbrev pub after_one : List ℕ → List Lexeme → Option (List Lexeme)
+after_one word [] = None
+after_one word (a ∷ lexemes) = cond (is_key word a) (Some lexemes) None
 
--- they begin with this one
-abbrev pub begin_one : List ℕ → List Lexeme → Bool
-begin_one word (a ∷ lexemes) = is_key word a
-begin_one word [] = false
+abbrev pub after_two : List ℕ → List ℕ → List Lexeme → Option (List Lexeme)
+after_two one other (a ∷ b ∷ lexemes) = cond (is_key one a && is_key other b) (Some lexemes) None
+after_two one other lexemes = None
+
+-- what the tokens after some words are, or else
+abbrev pub going : {A : Type 0} → Option (List Lexeme) → (List Lexeme → A) → A → A
+going None goes otherwise = otherwise
+going (Some rest) goes otherwise = goes rest
 
 -- they are a call of this function without arguments
 abbrev pub is_call : List ℕ → List Lexeme → Bool
@@ -90,25 +97,38 @@ is_call word lexemes = false
 -- the tokens after how a transaction is kept apart from others, or nothing where they do not begin with that
 abbrev pub past_level : List Lexeme → Option (List Lexeme)
 past_level lexemes =
-    cond (begin_one (codes "serializable") lexemes) (Some (drop 1 lexemes))
-    (cond (begin_two (codes "repeatable") (codes "read") lexemes || begin_two (codes "read") (codes "committed") lexemes || begin_two (codes "read") (codes "uncommitted") lexemes) (Some (drop 2 lexemes)) None)
+    going (after_one (codes "serializable") lexemes) Some
+    (going (after_two (codes "repeatable") (codes "read") lexemes) Some
+    (going (after_two (codes "read") (codes "committed") lexemes) Some
+    (going (after_two (codes "read") (codes "uncommitted") lexemes) Some None)))
 
 -- the tokens after a mode of a transaction, or nothing where they begin with none
 abbrev pub past_mode : List Lexeme → Option (List Lexeme)
 past_mode lexemes =
-    cond (begin_one (codes "deferrable") lexemes) (Some (drop 1 lexemes))
-    (cond (begin_two (codes "not") (codes "deferrable") lexemes || begin_two (codes "read") (codes "write") lexemes || begin_two (codes "read") (codes "only") lexemes) (Some (drop 2 lexemes))
-    (cond (begin_two (codes "isolation") (codes "level") lexemes) (past_level (drop 2 lexemes)) None))
+    going (after_one (codes "deferrable") lexemes) Some
+    (going (after_two (codes "not") (codes "deferrable") lexemes) Some
+    (going (after_two (codes "read") (codes "write") lexemes) Some
+    (going (after_two (codes "read") (codes "only") lexemes) Some
+    (going (after_two (codes "isolation") (codes "level") lexemes) past_level None))))
 
--- without the comma at the front, where one stands there and a token after it
+-- without the comma at the front, where a token stands after it
 abbrev pub past_comma : List Lexeme → List Lexeme
 past_comma (a ∷ b ∷ lexemes) = cond (fits_slot (Punct (byte ",")) a) (b ∷ lexemes) (a ∷ b ∷ lexemes)
 past_comma lexemes = lexemes
 
--- the tokens are modes, fewer than so many, with commas between them or without
+-- no token is left
+abbrev pub is_end : List Lexeme → Bool
+is_end [] = true
+is_end (a ∷ lexemes) = false
+
+-- the tokens are at most so many modes, with commas between them or without
 abbrev pub are_modes : ℕ → List Lexeme → Bool
 are_modes zero lexemes = false
-are_modes (suc most) lexemes = elim (past_mode lexemes) [ None ↦ false | Some rest ↦ cond (length rest == 0) true (are_modes most (past_comma rest)) ]
+are_modes (suc most) lexemes = going (past_mode lexemes) (λ rest. cond (is_end rest) true (are_modes most (past_comma rest))) false
+
+-- without WORK or TRANSACTION at the front
+abbrev pub past_work : List Lexeme → List Lexeme
+past_work lexemes = going (after_one (codes "work") lexemes) (λ rest. rest) (going (after_one (codes "transaction") lexemes) (λ rest. rest) lexemes)
 
 -- a line that is another command in the table's words
 abbrev pub commanded : List ℕ → Command → Request
@@ -116,13 +136,11 @@ commanded text one = Line (one_line text) one Plain
 
 -- after BEGIN
 abbrev pub begin_asks : List ℕ → ℕ → List Lexeme → Request
-begin_asks text at lexemes =
-    let modes : List Lexeme = cond (begin_one (codes "work") lexemes || begin_one (codes "transaction") lexemes) (drop 1 lexemes) lexemes in
-    cond (are_modes TOKENS_MAX modes) (commanded text command.Begin) (unread text at)
+begin_asks text at lexemes = cond (are_modes TOKENS_MAX (past_work lexemes)) (commanded text command.Begin) (unread text at)
 
 -- after START
 abbrev pub start_asks : List ℕ → ℕ → List Lexeme → Request
-start_asks text at lexemes = cond (begin_one (codes "transaction") lexemes && are_modes TOKENS_MAX (drop 1 lexemes)) (commanded text command.Start) (unread text at)
+start_asks text at lexemes = going (after_one (codes "transaction") lexemes) (λ rest. cond (are_modes TOKENS_MAX rest) (commanded text command.Start) (unread text at)) (unread text at)
 
 -- Constants and calls.
 
@@ -177,12 +195,9 @@ ident_text lexeme = []
 abbrev pub is_name : Lexeme → Bool
 is_name lexeme = fits_slot Name lexeme
 
--- what is asked of the setting that a token names, or that there is none
-abbrev pub with_setting : List ℕ → ℕ → Lexeme → (Setting → Request) → Request
-with_setting text at lexeme asks = elim (setting_named (ident_text lexeme)) [
-  | Some one ↦ asks one
-  | None ↦ refused (one_line text) at cause.NoSetting (no_setting (ident_text lexeme))
-]
+-- what is asked of the setting of this name, or that there is none
+abbrev pub with_setting : List ℕ → ℕ → List ℕ → (Setting → Request) → Request
+with_setting text at name asks = elim (setting_named name) [ Some one ↦ asks one | None ↦ refused (one_line text) at cause.NoSetting (no_setting name) ]
 
 -- the value that a token is: a word in lower case, a text, or a number as it is written
 abbrev pub value_text : Lexeme → Option (List ℕ)
@@ -221,29 +236,32 @@ valued_asks text at starts lexemes one = cond (is_one (codes "default") lexemes)
 
 -- a name, TO and a value
 abbrev pub assigned_asks : List ℕ → ℕ → Bool → List Lexeme → Request
-assigned_asks text at starts (a ∷ b ∷ lexemes) = cond (is_name a && is_key (codes "to") b) (with_setting text at a (valued_asks text at starts lexemes)) (unread text at)
+assigned_asks text at starts (a ∷ b ∷ lexemes) = cond (is_name a && is_key (codes "to") b) (with_setting text at (ident_text a) (valued_asks text at starts lexemes)) (unread text at)
 assigned_asks text at starts lexemes = unread text at
 
--- after SET and SESSION, and after SET where none of what goes before it is read
+-- after SET, and after SET SESSION
 abbrev pub session_asks : List ℕ → ℕ → List Lexeme → Request
 session_asks text at lexemes =
-    cond (begin_two (codes "time") (codes "zone") lexemes) (valued_asks text at false (drop 2 lexemes) setting.TimeZone)
-    (assigned_asks text at false lexemes)
+    going (after_two (codes "time") (codes "zone") lexemes) (λ rest. valued_asks text at false rest setting.TimeZone) (assigned_asks text at false lexemes)
 
 -- after SET
 abbrev pub setting_asks : List ℕ → ℕ → List Lexeme → Request
 setting_asks text at lexemes =
-    cond (begin_one (codes "local") lexemes) (refused (one_line text) at cause.Unsupported (codes "SET LOCAL is not supported"))
-    (cond (begin_one (codes "names") lexemes) (valued_asks text at false (drop 1 lexemes) setting.ClientEncoding)
-    (cond (begin_one (codes "startup") lexemes) (assigned_asks text at true (drop 1 lexemes))
-    (cond (begin_two (codes "session") (codes "authorization") lexemes) (valued_asks text at false (drop 2 lexemes) setting.SessionAuthorization)
-    (cond (begin_one (codes "session") lexemes) (session_asks text at (drop 1 lexemes))
-    (session_asks text at lexemes)))))
+    going (after_one (codes "local") lexemes) (λ rest. refused (one_line text) at cause.Unsupported (codes "SET LOCAL is not supported"))
+    (going (after_one (codes "names") lexemes) (λ rest. valued_asks text at false rest setting.ClientEncoding)
+    (going (after_one (codes "startup") lexemes) (λ rest. assigned_asks text at true rest)
+    (going (after_two (codes "session") (codes "authorization") lexemes) (λ rest. valued_asks text at false rest setting.SessionAuthorization)
+    (going (after_one (codes "session") lexemes) (λ rest. session_asks text at rest) (session_asks text at lexemes)))))
 
--- a name, and nothing else
-abbrev pub named_asks : List ℕ → ℕ → List Lexeme → (Setting → Request) → Request
-named_asks text at (a ∷ []) asks = cond (is_name a) (with_setting text at a asks) (unread text at)
-named_asks text at lexemes asks = unread text at
+-- a setting is shown or reset
+abbrev pub named_settled : Bool → Setting → Settled
+named_settled true one = settled.Shows one
+named_settled false one = settled.Resets one
+
+-- a name of a setting that is shown or reset, and nothing else
+abbrev pub named_asks : List ℕ → ℕ → Bool → List Lexeme → Request
+named_asks text at shows (a ∷ []) = cond (is_name a) (with_setting text at (ident_text a) (λ one. Settles (named_settled shows one))) (unread text at)
+named_asks text at shows lexemes = unread text at
 
 -- after RESET
 abbrev pub reset_asks : List ℕ → ℕ → List Lexeme → Request
@@ -251,7 +269,7 @@ reset_asks text at lexemes =
     cond (is_one (codes "all") lexemes) (Settles settled.ResetsAll)
     (cond (are_two (codes "session") (codes "authorization") lexemes) (Settles (settled.Resets setting.SessionAuthorization))
     (cond (are_two (codes "time") (codes "zone") lexemes) (Settles (settled.Resets setting.TimeZone))
-    (named_asks text at lexemes (λ one. Settles (settled.Resets one)))))
+    (named_asks text at false lexemes)))
 
 -- after SHOW
 abbrev pub show_asks : List ℕ → ℕ → List Lexeme → Request
@@ -259,9 +277,16 @@ show_asks text at lexemes =
     cond (are_three (codes "transaction") (codes "isolation") (codes "level") lexemes) (Settles (settled.Shows setting.TransactionIsolation))
     (cond (are_two (codes "session") (codes "authorization") lexemes) (Settles (settled.Shows setting.SessionAuthorization))
     (cond (are_two (codes "time") (codes "zone") lexemes) (Settles (settled.Shows setting.TimeZone))
-    (named_asks text at lexemes (λ one. Settles (settled.Shows one)))))
+    (named_asks text at true lexemes)))
 
 -- The text.
+
+-- what the tokens after a command's word ask for where they are none of the settings
+abbrev pub other_asks : List ℕ → ℕ → Lexeme → List Lexeme → Request
+other_asks text at a lexemes =
+    cond (is_key (codes "deallocate") a && (is_one (codes "all") lexemes || are_two (codes "prepare") (codes "all") lexemes)) (Settles settled.Deallocates)
+    (cond (is_key (codes "close") a && is_one (codes "all") lexemes) (Settles settled.Closes)
+    (cond (is_key (codes "discard") a && is_one (codes "all") lexemes) Discards (unread text at)))
 
 -- what the tokens of a bare text ask for that the grammar refuses at this byte
 abbrev pub asks : List ℕ → ℕ → List Lexeme → Request
@@ -272,23 +297,24 @@ asks text at (a ∷ lexemes) =
     (cond (is_key (codes "show") a) (show_asks text at lexemes)
     (cond (is_key (codes "begin") a) (begin_asks text at lexemes)
     (cond (is_key (codes "start") a) (start_asks text at lexemes)
-    (cond (is_key (codes "select") a) (select_asks text at lexemes)
-    (cond (is_key (codes "deallocate") a) (cond (is_one (codes "all") lexemes || are_two (codes "prepare") (codes "all") lexemes) (Settles settled.Deallocates) (unread text at))
-    (cond (is_key (codes "close") a) (cond (is_one (codes "all") lexemes) (Settles settled.Closes) (unread text at))
-    (cond (is_key (codes "discard") a) (cond (is_one (codes "all") lexemes) Discards (unread text at)) (unread text at)))))))))
+    (cond (is_key (codes "select") a) (select_asks text at lexemes) (other_asks text at a lexemes))))))
 
 -- a byte before which a `=` is looked for: neither it nor a quote of a literal
 abbrev pub is_before_equals : ℕ → Bool
 is_before_equals b = not (b == 61 || b == 39)
 
--- the tokens of a text in two parts, with TO between them where a `=` stands between the parts
-abbrev pub spread_at : List ℕ → List ℕ → List Lexeme
-spread_at before [] = lexemes_of (tokens before)
-spread_at before (b ∷ after) = cond (b == 61) (lexemes_of (tokens before) ++ Word (codes "to") ∷ lexemes_of (tokens after)) (lexemes_of (tokens (before ++ b ∷ after)))
+-- a `=` stands at the front
+abbrev pub begins_equals : List ℕ → Bool
+begins_equals [] = false
+begins_equals (b ∷ bytes) = b == 61
+
+-- the tokens before a byte of a text, TO, and the tokens after the byte
+abbrev pub spread_at : ℕ → List ℕ → List Lexeme
+spread_at at text = lexemes_of (tokens (take at text)) ++ Word (codes "to") ∷ [] ++ lexemes_of (tokens (drop (at + 1) text))
 
 -- the tokens of a bare text, where the first `=` stands for TO if it stands before each literal
 abbrev pub spread : List ℕ → List Lexeme
-spread text = let at : ℕ = prefix_len is_before_equals text in spread_at (take at text) (drop at text)
+spread text = let at : ℕ = prefix_len is_before_equals text in cond (begins_equals (drop at text)) (spread_at at text) (lexemes_of (tokens text))
 
 -- the tokens, or none where they are too many
 abbrev pub few : List Lexeme → List Lexeme

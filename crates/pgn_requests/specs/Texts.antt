@@ -1,26 +1,9 @@
 -- The text of a query, without comments and line feeds.
-use Rattle.std.specs.Prelude.{ℕ, zero, suc, Bool, true, false, cond, ◌||◌, ◌==◌, List, [], ◌∷◌, ◌++◌, map, length}
+use Rattle.std.specs.Prelude.{ℕ, ◌+◌, ◌-◌, Bool, true, false, cond, ◌||◌, ◌==◌, List, [], ◌∷◌, ◌++◌, map, length, take}
+use Rattle.std.specs.List.{suffix_len}
 use Rattle.pgn_language.specs.Tokens.{is_blank}
-
--- where a byte of a text stands
-pub data Mode : Type 0 where
-  -- outside of quotes and comments
-  Outside : Mode
-  -- there, after a `/`, which is held back
-  Slash : Mode
-  -- there, after a `-`, which is held back
-  Dash : Mode
-  -- in a literal
-  Single : Mode
-  -- in a quoted identifier
-  Double : Mode
-  -- in a comment that stands in so many others
-  Comment : (depth : ℕ) → Mode
-  -- there, after a `*`, and after a `/`
-  Star : (depth : ℕ) → Mode
-  Open : (depth : ℕ) → Mode
-  -- in a comment to the end of the line
-  Rest : Mode
+use Rattle.pgn_requests.specs.declared.mode.Mode.{Mode}
+use Rattle.pgn_requests.specs.declared.mode.Mode.TheVariants.{Outside, Slash, Dash, Single, Double, Comment, Star, Open, Rest}
 
 -- where the next byte stands after a byte outside
 abbrev pub entered : ℕ → Mode
@@ -28,8 +11,7 @@ entered b = cond (b == 47) Slash (cond (b == 45) Dash (cond (b == 39) Single (co
 
 -- outside, or in the comment around the one that ends
 abbrev pub left : ℕ → Mode
-left zero = Outside
-left (suc depth) = Comment depth
+left depth = cond (depth == 0) Outside (Comment (depth - 1))
 
 -- where the next byte stands after a byte in a comment, which may end it or begin one more
 abbrev pub commented : ℕ → ℕ → Mode
@@ -44,7 +26,7 @@ next_mode Single b = cond (b == 39) Outside Single
 next_mode Double b = cond (b == 34) Outside Double
 next_mode (Comment depth) b = commented depth b
 next_mode (Star depth) b = cond (b == 47) (left depth) (commented depth b)
-next_mode (Open depth) b = cond (b == 42) (Comment (suc depth)) (commented depth b)
+next_mode (Open depth) b = cond (b == 42) (Comment (depth + 1)) (commented depth b)
 next_mode Rest b = cond (b == 10) Outside Rest
 
 -- what a byte outside gives: a line feed is a blank, and what may begin a comment is held back
@@ -53,8 +35,7 @@ given b = cond (b == 10) (32 ∷ []) (cond (b == 47 || b == 45) [] (b ∷ []))
 
 -- what the end of a comment gives: a blank where it stands in no other
 abbrev pub left_gives : ℕ → List ℕ
-left_gives zero = 32 ∷ []
-left_gives (suc depth) = []
+left_gives depth = cond (depth == 0) (32 ∷ []) []
 
 -- what a byte gives where it stands
 abbrev pub mode_gives : Mode → ℕ → List ℕ
@@ -93,20 +74,18 @@ plain text = plain_from Outside text
 abbrev pub is_tail : ℕ → Bool
 is_tail b = is_blank b || b == 59
 
--- one more byte before bytes; where there are none, only one that is neither a blank nor `;`
-abbrev pub onto_bare : ℕ → List ℕ → List ℕ
-onto_bare b [] = cond (is_tail b) [] (b ∷ [])
-onto_bare b (c ∷ bytes) = b ∷ c ∷ bytes
-
 -- bytes without the blanks and `;` at their end
 abbrev pub without_tail : List ℕ → List ℕ
-without_tail [] = []
-without_tail (b ∷ bytes) = onto_bare b (without_tail bytes)
+without_tail bytes = take (length bytes - suffix_len is_tail bytes) bytes
 
 -- what is read of a text
 abbrev pub bare : List ℕ → List ℕ
 bare text = without_tail (plain text)
 
+-- a byte of one line
+abbrev pub unbroken : ℕ → ℕ
+unbroken b = cond (b == 10) 32 b
+
 -- the text as one line: the line feeds that are left stand between quotes
 abbrev pub one_line : List ℕ → List ℕ
-one_line text = map (λ b. cond (b == 10) 32 b) text
+one_line text = map unbroken text

@@ -8,17 +8,8 @@ use Rattle.pgn_language.specs.Grammar.{cut}
 use Rattle.pgn_requests.specs.declared.setting.Setting.{Setting}
 use Rattle.pgn_requests.specs.declared.setting.Setting.TheVariants.{ApplicationName, ClientEncoding, DateStyle, DefaultTransactionReadOnly, InHotStandby, IntegerDatetimes, IntervalStyle, IsSuperuser, ServerEncoding, ServerVersion, SessionAuthorization, StandardConformingStrings, TimeZone, ClientMinMessages, ExtraFloatDigits, TransactionIsolation, TransactionReadOnly}
 use Rattle.pgn_requests.specs.declared.short_text.TheConstants.{SHORT_BYTES_MAX}
-
--- what comes of a value that a client gives a setting
-pub data Verdict : Type 0 where
-  -- the setting has this value then
-  Becomes : (value : List ℕ) → Verdict
-  -- it can have no such value
-  Invalid : Verdict
-  -- it cannot be changed
-  Unchangeable : Verdict
-  -- a server can have it so, and the service cannot
-  Unsupported : Verdict
+use Rattle.pgn_requests.specs.declared.verdict.Verdict.{Verdict}
+use Rattle.pgn_requests.specs.declared.verdict.Verdict.TheVariants.{Becomes, Invalid, Unchangeable, Unsupported}
 
 -- the word is the value, without regard to ASCII case
 abbrev pub is_said : List ℕ → List ℕ → Bool
@@ -30,7 +21,7 @@ shown_byte b = cond (nat_le 32 b && nat_le b 126) b 63
 
 -- the value's letters and digits in lower case
 abbrev pub letters_of : List ℕ → List ℕ
-letters_of value = filter is_ascii_alphanumeric (str_to_ascii_lowercase value)
+letters_of value = str_to_ascii_lowercase (filter is_ascii_alphanumeric value)
 
 -- an encoding by its letters
 abbrev pub encoding : List ℕ → Verdict
@@ -40,7 +31,7 @@ encoding letters =
 
 -- the value in lower case without blanks
 abbrev pub closed_up : List ℕ → List ℕ
-closed_up value = filter (λ b. not (is_blank b)) (str_to_ascii_lowercase value)
+closed_up value = str_to_ascii_lowercase (filter (λ b. not (is_blank b)) value)
 
 -- a style of dates by its words: how a date is written, the order of its parts, or both with a comma
 abbrev pub date_style : List ℕ → Option (List ℕ)
@@ -98,11 +89,27 @@ message_level value =
     (cond (is_said (codes "error") value) (Some (codes "error")) None))))))))
 
 -- how many digits of a float are shown beyond what is usual: -15 to 3
-abbrev pub are_digits : List ℕ → Bool
-are_digits value = bytes_eq (codes "3") value || bytes_eq (codes "2") value || bytes_eq (codes "1") value || bytes_eq (codes "0") value
-    || bytes_eq (codes "-1") value || bytes_eq (codes "-2") value || bytes_eq (codes "-3") value || bytes_eq (codes "-4") value || bytes_eq (codes "-5") value
-    || bytes_eq (codes "-6") value || bytes_eq (codes "-7") value || bytes_eq (codes "-8") value || bytes_eq (codes "-9") value || bytes_eq (codes "-10") value
-    || bytes_eq (codes "-11") value || bytes_eq (codes "-12") value || bytes_eq (codes "-13") value || bytes_eq (codes "-14") value || bytes_eq (codes "-15") value
+abbrev pub float_digits : List ℕ → Option (List ℕ)
+float_digits value =
+    cond (bytes_eq (codes "3") value) (Some (codes "3"))
+    (cond (bytes_eq (codes "2") value) (Some (codes "2"))
+    (cond (bytes_eq (codes "1") value) (Some (codes "1"))
+    (cond (bytes_eq (codes "0") value) (Some (codes "0"))
+    (cond (bytes_eq (codes "-1") value) (Some (codes "-1"))
+    (cond (bytes_eq (codes "-2") value) (Some (codes "-2"))
+    (cond (bytes_eq (codes "-3") value) (Some (codes "-3"))
+    (cond (bytes_eq (codes "-4") value) (Some (codes "-4"))
+    (cond (bytes_eq (codes "-5") value) (Some (codes "-5"))
+    (cond (bytes_eq (codes "-6") value) (Some (codes "-6"))
+    (cond (bytes_eq (codes "-7") value) (Some (codes "-7"))
+    (cond (bytes_eq (codes "-8") value) (Some (codes "-8"))
+    (cond (bytes_eq (codes "-9") value) (Some (codes "-9"))
+    (cond (bytes_eq (codes "-10") value) (Some (codes "-10"))
+    (cond (bytes_eq (codes "-11") value) (Some (codes "-11"))
+    (cond (bytes_eq (codes "-12") value) (Some (codes "-12"))
+    (cond (bytes_eq (codes "-13") value) (Some (codes "-13"))
+    (cond (bytes_eq (codes "-14") value) (Some (codes "-14"))
+    (cond (bytes_eq (codes "-15") value) (Some (codes "-15")) None))))))))))))))))))
 
 -- how transactions are kept apart
 abbrev pub isolation : List ℕ → Option (List ℕ)
@@ -133,6 +140,6 @@ accepted SessionAuthorization value = Becomes (cut NAME_BYTES_MAX value)
 accepted StandardConformingStrings value = only_on value
 accepted TimeZone value = cond (nat_le (length value) SHORT_BYTES_MAX) (Becomes value) Invalid
 accepted ClientMinMessages value = chosen (message_level value)
-accepted ExtraFloatDigits value = cond (are_digits value) (Becomes value) Invalid
+accepted ExtraFloatDigits value = chosen (float_digits value)
 accepted TransactionIsolation value = chosen (isolation value)
 accepted TransactionReadOnly value = chosen (switch value)

@@ -1,7 +1,7 @@
 //! The settings of a client.
 ghost use Rattle.std.specs.Prelude.{◌≡◌, ◌≤◌, length, IfOk, MatchOption, OnOk};
 ghost use Rattle.std.specs.List.{position_or_len};
-ghost use Rattle.pgn_requests.specs.Settings.{fresh, is_of, set_back, settled_kept, value_in, with_start, with_value, with_set};
+ghost use Rattle.pgn_requests.specs.Settings.{default_of, fresh, is_of, set_back, settled_kept, value_in, with_start, with_value, with_set};
 ghost use Rattle.pgn_requests.specs.declared.short_text.TheConstants.{SHORT_BYTES_MAX};
 
 use crate::setting::{default_of, number_of};
@@ -45,7 +45,7 @@ impl Settings {
 
     /// The value of a setting.
     pub fn value(&self, setting: Setting) -> &[u8]
-        ensures value { result.now ≡ value_in self.now.now setting }
+        ensures value { result.now ≡ value_in self.entry.now.now setting }
         ensures short { length result.now ≤ SHORT_BYTES_MAX }
     {
         match value_of(self.now.as_slice(), setting) {

@@ -6,7 +6,7 @@ use Rattle.std.proofs.lemmas.Grind.{flat_map-append}
 use Rattle.pgn_model.specs.declared.item.Item.{Item}
 use Rattle.pgn_turns.specs.declared.asked.Ask.{Ask}
 use Rattle.pgn_turns.specs.Asks.{lines_for}
-use Rattle.pgn_turns.specs.Turns.{Telling, Turn, after_turn, after_turns, asked_in, asks_of, first_telling, idle_state, items_in, items_of, said, signs_in, signs_said, telling_after, telling_of}
+use Rattle.pgn_turns.specs.Turns.{Telling, Turn, after_turn, asked_in, asks_of, first_telling, idle_state, items_in, items_of, said, signs_in, signs_said, telling_after, telling_of}
 use Rattle.pgn_turns.specs.Laws.{SaidStays, TellingWalks, TurnsGrow}
 
 pub said-append : (seat : ℕ) (t : Telling) (turns more : List Turn) → signs_said seat t (turns ++ more) ≡ signs_said seat t turns ++ signs_said seat (fold telling_after t turns) more

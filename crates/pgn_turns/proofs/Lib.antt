@@ -8,8 +8,6 @@ pub mod PlaceLaws
 pub mod ToldLaws
 -- what is told where all turns are answers
 pub mod MessageLaws
--- settings that changed
-pub mod StatusLaws
 -- the script
 pub mod ScriptLaws
 -- one query, with a read behind it or without

@@ -1,13 +1,11 @@
 -- Where all turns are answers, what is told are the messages of the trace.
 use Rattle.std.proofs.Common.{◌≡◌, ℕ, false, List, [], ◌∷◌, ◌++◌, All, Option, Some, None, sym, ap, ◌∙◌, refl, append_assoc, append-nil}
-use Rattle.std.specs.Prelude.{fold, flat_map, map, ◌||◌}
+use Rattle.std.specs.Prelude.{fold, flat_map, map}
 use Rattle.std.specs.List.{list_any}
 use Rattle.std.proofs.lemmas.List.{map-append}
 use Rattle.std.proofs.lemmas.List.Elements.{All-head, All-tail}
 use Rattle.pgn_base.specs.declared.answers.Refusal.{Refusal}
 use Rattle.pgn_base.specs.declared.answers.Refusal.TheVariants.{Syntax, Bounds, NeedsBlock, NoSavepoint, Aborted, QueueFull as Full}
-use Rattle.pgn_base.specs.declared.answers.Tag.{Tag}
-use Rattle.pgn_base.specs.declared.answers.Warning.{Warning}
 use Rattle.pgn_base.specs.declared.command.Command.{Command}
 use Rattle.pgn_base.specs.declared.command.Command.TheVariants.{PgNotify}
 use Rattle.pgn_answers.specs.declared.block_state.BlockState.{BlockState}

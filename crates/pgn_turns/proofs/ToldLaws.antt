@@ -16,7 +16,7 @@ use Rattle.pgn_turns.specs.declared.asked.Ask.{Ask}
 use Rattle.pgn_turns.specs.declared.asked.Ask.TheVariants.{Query, Settle, Discard, End}
 use Rattle.pgn_turns.specs.declared.asked.Parting.{Parting}
 use Rattle.pgn_turns.specs.Served.{discard_answer, settled_answer, told_answer}
-use Rattle.pgn_turns.specs.Turns.{Telling, Turn, Answers, Hears, Leaves, Settles, Discards, IsPlain, IsRead, after_line, asked_in, asks_of, farewell, first_telling, heard, idle_state, items_in, items_of, said_in, signs_in, signs_said, telling_after}
+use Rattle.pgn_turns.specs.Turns.{Telling, Turn, Answers, Hears, Leaves, Settles, Discards, IsPlain, IsRead, after_line, asked_in, asks_of, farewell, first_telling, heard, idle_state, items_in, items_of, signs_in, signs_said, telling_after}
 use Rattle.pgn_turns.specs.Laws.{IsAskedFor, IsDiscardTold, IsSettledTold, IsToldOf, OneDiscardIsTold, OneEndIsTold, OneQueryIsTold, OneSettledIsTold, ReadsAreHeard}
 use Rattle.pgn_turns.proofs.PlaceLaws.{in_one_of, read-at}
 

@@ -1,5 +1,5 @@
 -- What clients of a service are told beside, byte by byte.
-use Rattle.std.specs.Prelude.{ℕ, ◌+◌, Bool, false, List, [], ◌∷◌, ◌++◌, None, codes}
+use Rattle.std.specs.Prelude.{ℕ, false, List, [], ◌∷◌, ◌++◌, None, codes}
 use Rattle.pgn_base.specs.declared.answers.Refusal.TheVariants as refused
 use Rattle.pgn_base.specs.declared.answers.Tag.TheVariants as tag
 use Rattle.pgn_base.specs.declared.answers.Which.TheVariants.{ChannelEmpty}
@@ -13,7 +13,7 @@ use Rattle.pgn_requests.specs.declared.settled.Settled.{Settled}
 use Rattle.pgn_requests.specs.declared.settled.Settled.TheVariants.{Sets, Resets, Shows}
 use Rattle.pgn_turns.specs.declared.asked.Asked.{Asked}
 use Rattle.pgn_turns.specs.declared.asked.Ask.{Ask}
-use Rattle.pgn_turns.specs.declared.asked.Ask.TheVariants.{Query, Settle, Discard, End}
+use Rattle.pgn_turns.specs.declared.asked.Ask.TheVariants.{Query, Discard}
 use Rattle.pgn_turns.specs.declared.asked.Parting.TheVariants.{Plain}
 use Rattle.pgn_turns.specs.Turns.{Turn, Leaves, Settles}
 

@@ -113,7 +113,7 @@ fn put_done(
     state: BlockState,
 ) -> Result<(), AllocError>
     requires { after.now ≡ settled_kept settled.now before.now }
-    ensures told { OnOk result (out.new.items ≡ out.old.items ++ settled_done seat settled.now before.now state) }
+    ensures told { OnOk result (out.new.items ≡ out.old.items ++ settled_done seat settled.now before.entry.now state) }
     ensures unchanged { OnErr result (out.new.items ≡ out.old.items) }
 {
     let bytes = done_of(alloc, seat, settled, before, after, state)?;
@@ -157,7 +157,7 @@ fn put_discarded(
     unlistened: &[Item],
 ) -> Result<(), AllocError>
     requires { after.now ≡ set_back before.now }
-    ensures told { OnOk result (out.new.items ≡ out.old.items ++ discard_answer Idle before.now (flat_map heard refused.now ++ flat_map heard unlistened.now)) }
+    ensures told { OnOk result (out.new.items ≡ out.old.items ++ discard_answer Idle before.entry.now (flat_map heard refused.now ++ flat_map heard unlistened.now)) }
     ensures unchanged { OnErr result (out.new.items ≡ out.old.items) }
 {
     let bytes = discard_done(alloc, before, after, refused, unlistened)?;
@@ -170,7 +170,7 @@ fn settled_copy(
     settings: &Settings,
     settled: &Settled,
 ) -> Result<Settings, AllocError>
-    ensures { IfOk result (λ next. next ≡ settled_kept settled.now settings.now) }
+    ensures { IfOk result (λ next. next ≡ settled_kept settled.now settings.entry.now) }
 {
     let mut next = settings.copy(alloc)?;
     let done = next.settle(alloc, settled);
@@ -183,7 +183,7 @@ fn settled_copy(
 
 // A copy of the settings, as at the start.
 fn copy_set_back(alloc: Global, settings: &Settings) -> Result<Settings, AllocError>
-    ensures { IfOk result (λ next. next ≡ set_back settings.now) }
+    ensures { IfOk result (λ next. next ≡ set_back settings.entry.now) }
 {
     let mut next = settings.copy(alloc)?;
     let done = next.set_back(alloc);

@@ -30,7 +30,7 @@ pub fn done_of(
     state: BlockState,
 ) -> Result<Bytes, AllocError>
     requires { after.now ≡ settled_kept settled.now before.now }
-    ensures { IfOk result (λ bytes. bytes ≡ settled_done seat settled.now before.now state) }
+    ensures { IfOk result (λ bytes. bytes ≡ settled_done seat settled.now before.entry.now state) }
 {
     let mut bytes = Bytes::new(alloc);
     put_rows(alloc, &mut bytes, seat, settled, before)?;
@@ -68,7 +68,7 @@ fn put_rows(
     settled: &Settled,
     settings: &Settings,
 ) -> Result<(), AllocError>
-    ensures { OnOk result (bytes.new ≡ bytes.old ++ settled_rows seat settled.now settings.now) }
+    ensures { OnOk result (bytes.new ≡ bytes.old ++ settled_rows seat settled.now settings.entry.now) }
 {
     match settled {
         Settled::Shows { setting } => put_shown(bytes, *setting, settings),
@@ -81,7 +81,7 @@ fn put_rows(
 
 // A setting, and its value.
 fn put_shown(bytes: &mut Bytes, setting: Setting, settings: &Settings) -> Result<(), AllocError>
-    ensures { OnOk result (bytes.new ≡ bytes.old ++ (columns (setting_name setting) ++ row (value_in settings.now.now setting))) }
+    ensures { OnOk result (bytes.new ≡ bytes.old ++ (columns (setting_name setting) ++ row (value_in settings.entry.now.now setting))) }
 {
     bytes.put_columns(setting_name(setting).as_bytes())?;
     bytes.put_row(settings.value(setting))?;
@@ -124,7 +124,7 @@ pub fn discard_done(
     unlistened: &[Item],
 ) -> Result<Bytes, AllocError>
     requires { after.now ≡ set_back before.now }
-    ensures { IfOk result (λ bytes. bytes ≡ discard_answer Idle before.now (flat_map heard refused.now ++ flat_map heard unlistened.now)) }
+    ensures { IfOk result (λ bytes. bytes ≡ discard_answer Idle before.entry.now (flat_map heard refused.now ++ flat_map heard unlistened.now)) }
 {
     let mut bytes = Bytes::new(alloc);
     bytes.put_completed(b"DISCARD ALL")?;

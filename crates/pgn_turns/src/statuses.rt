@@ -13,7 +13,7 @@ pub fn put_statuses(
     before: &Settings,
     after: &Settings,
 ) -> Result<(), AllocError>
-    ensures { OnOk result (bytes.new ≡ bytes.old ++ statuses before.now after.now) }
+    ensures { OnOk result (bytes.new ≡ bytes.old ++ statuses before.entry.now after.entry.now) }
 {
     let reported = [
         Setting::ApplicationName,
@@ -40,7 +40,7 @@ fn put_each_changed(
     before: &Settings,
     after: &Settings,
 ) -> Result<(), AllocError>
-    ensures { OnOk result (bytes.new ≡ bytes.old ++ flat_map (changed_status before.now.now after.now.now) reported.now) }
+    ensures { OnOk result (bytes.new ≡ bytes.old ++ flat_map (changed_status before.entry.now.now after.entry.now.now) reported.now) }
 {
     for setting in reported {
         put_changed(bytes, *setting, before, after)?;
@@ -55,7 +55,7 @@ fn put_changed(
     before: &Settings,
     after: &Settings,
 ) -> Result<(), AllocError>
-    ensures { OnOk result (bytes.new ≡ bytes.old ++ changed_status before.now.now after.now.now setting) }
+    ensures { OnOk result (bytes.new ≡ bytes.old ++ changed_status before.entry.now.now after.entry.now.now setting) }
 {
     let value = after.value(setting);
     if before.value(setting) == value {

@@ -1,6 +1,5 @@
 use Rattle.std.proofs.Common.{ℕ, List, Some, length, get_or, refl, ap}
 use Rattle.std.specs.Prelude.{map}
-use Rattle.std.specs.Fmt.{digits}
 use Rattle.pgn_requests.specs.declared.settled.Settled.TheVariants.{One}
 use Rattle.pgn_turns.specs.Conversations.{endless_bytes, same_status_bytes, sets_name, sets_nothing, unreported_bytes}
 use Rattle.pgn_turns.proofs.ExampleLaws.{apart, settled-alone}

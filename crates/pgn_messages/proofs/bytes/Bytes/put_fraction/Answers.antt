@@ -1,6 +1,6 @@
 use Rattle.std.proofs.Common.{rules, ◌≡◌, ◌++◌, List, ℕ, ap, ◌∙◌}
 use Rattle.pgn_messages.specs.Server.{fraction, row}
-use Rattle.pgn_messages.proofs.service.Bytes.put_fraction.Goals as goal
+use Rattle.pgn_messages.proofs.bytes.Bytes.put_fraction.Goals as goal
 
 pub returns : goal.returns
 returns c =

@@ -1,7 +1,7 @@
 use Rattle.std.proofs.Common.{◌+◌, ◌++◌, length}
 use Rattle.pgn_messages.specs.Server.{ended, four, two}
 use Rattle.pgn_messages.proofs.BytesLaws.{put-two, put-message, described_size}
-use Rattle.pgn_messages.proofs.service.Bytes.put_described.Goals as goal
+use Rattle.pgn_messages.proofs.bytes.Bytes.put_described.Goals as goal
 
 pub returns : goal.returns
 returns c =
