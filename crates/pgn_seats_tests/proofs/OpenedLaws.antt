@@ -15,7 +15,7 @@ use Rattle.pgn_outlet.specs.declared.outlet.Outlet.{Outlet}
 use Rattle.pgn_outlet.specs.Passes.{Pass, IsPassOf, knows}
 use Rattle.pgn_outlet.specs.declared.hand.Hand.{Hand}
 use Rattle.pgn_outlet.specs.Rule.{sender, taker}
-use Rattle.pgn_requests.specs.Settings.{fresh}
+use Rattle.pgn_requests.specs.Settings.{Kept, fresh}
 use Rattle.pgn_seats.specs.declared.desk.Desk.{Desk}
 use Rattle.pgn_seats.specs.Desks.{MayBegin, MayServe}
 use Rattle.pgn_seats_tests.specs.Rights.{IsNew, IsOfInbox, test_plan}
@@ -27,10 +27,10 @@ use Rattle.pgn_turns.specs.declared.saying.Saying.{Saying}
 pub new_session : {P : Type 0} (known : P → Known) (seat : ℕ) (pass : P) (section : Section) (plan : FlagPlan) (r : Result (Session P) AllocError) → IfOk r (λ s. (shape : Shape) → HasRest shape known s)
     → IfOk r (λ s. (s.pass ≡ pass) × (s.section ≡ section) × (s.plan ≡ plan) × (s.patience ≡ 1) × (s.done ≡ 0) × (s.doing ≡ Lines) × (s.items.items ≡ [])) → section.no ≡ seat → section.lines ≡ seat_quit ∷ [] → plan ≡ test_plan
     → IfOk r (IsNew known seat)
-new_session known seat pass section plan (Err e) rested begins no lines planned = tt
-new_session known seat pass section plan (Ok s) rested begins no lines planned = record {
+new_session known seat pass section plan (Err e) rested begins number lines planned = tt
+new_session known seat pass section plan (Ok s) rested begins number lines planned = record {
   rested = rested;
-  number = ap (λ (x : Section). x.no) begins.1 ∙ no;
+  number = ap (λ (x : Section). x.no) begins.1 ∙ number;
   script = ap (λ (x : Section). x.lines) begins.1 ∙ lines;
   plan_is = begins.2 ∙ planned;
   begun = begins.4;
@@ -39,9 +39,9 @@ new_session known seat pass section plan (Ok s) rested begins no lines planned =
 }
 
 -- a desk that may begin
-pub desk_begins : {P : Type 0} (is_own : P → Type 0) (shape : Shape) (known : P → Known) (inboxes : List (Outlet (Option Ask))) (seat : ℕ) (asks : Pass (Option Ask)) (s : Session P) → 1 ≤ seat → seat ≤ 2 → length inboxes ≡ 2
-    → shape.flags ≡ 2 → is_own s.pass → IsOfInbox inboxes seat asks → knows asks ≡ taker → IsNew known seat s → MayBegin is_own shape known inboxes (record { session = s; asks = asks; notes = 0; settings = fresh })
-desk_begins is_own shape known inboxes seat asks s some few two flags own inbox takes new = record {
+pub desk_begins : {P : Type 0} (is_own : P → Type 0) (shape : Shape) (known : P → Known) (inboxes : List (Outlet (Option Ask))) (seat : ℕ) (asks : Pass (Option Ask)) (s : Session P) (kept : Kept) → 1 ≤ seat → seat ≤ 2 → length inboxes ≡ 2
+    → shape.flags ≡ 2 → is_own s.pass → IsOfInbox inboxes seat asks → knows asks ≡ taker → IsNew known seat s → kept ≡ fresh → MayBegin is_own shape known inboxes (record { session = s; asks = asks; notes = 0; settings = kept })
+desk_begins is_own shape known inboxes seat asks s kept some few two flags own inbox takes new none = record {
   own = own;
   served = subst (λ (p : FlagPlan). IsServedBy shape s.section p) (sym new.plan_is) (record {
     acts = subst (λ (ls : List ScriptLine). All (λ line. IsFlagBelow shape.flags line.act) ls) (sym new.script) (All-cons (λ (line : ScriptLine). IsFlagBelow shape.flags line.act) seat_quit [] tt (All-nil (λ (line : ScriptLine). IsFlagBelow shape.flags line.act)));
@@ -59,7 +59,7 @@ desk_begins is_own shape known inboxes seat asks s some few two flags own inbox 
   };
   untaken = ap (λ (v : Hand (Option Ask)). v.got) takes;
   counted = refl;
-  fresh = refl;
+  fresh = none;
 }
 
 -- two of them may serve
