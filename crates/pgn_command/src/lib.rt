@@ -24,4 +24,8 @@ mod token;
 mod verb;
 
 pub use bytes::{blanks, is_blank};
+pub use lexer::Lexer;
 pub use line_parsing::parse_line;
+pub use texts::cut;
+pub use token::{Lexeme, Token};
+pub use verb::is_word;

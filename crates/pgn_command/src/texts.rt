@@ -147,8 +147,8 @@ fn repeated(alloc: Global, once: &str, count: usize) -> Result<String, AllocErro
     Ok(text)
 }
 
-// The longest prefix of whole characters that is short enough for a name.
-fn cut(text: &str) -> &str
+/// The longest prefix of whole characters that is short enough for a name.
+pub fn cut(text: &str) -> &str
     ensures { result.now ≡ grammar.cut NAME_BYTES_MAX text.now }
 {
     let end = text.floor_char_boundary(NAME_BYTES_MAX);

@@ -72,15 +72,19 @@ default_of TransactionReadOnly = codes "off"
 abbrev pub reported_settings : List Setting
 reported_settings = ApplicationName ∷ ClientEncoding ∷ DateStyle ∷ DefaultTransactionReadOnly ∷ InHotStandby ∷ IntegerDatetimes ∷ IntervalStyle ∷ IsSuperuser ∷ ServerEncoding ∷ ServerVersion ∷ SessionAuthorization ∷ StandardConformingStrings ∷ TimeZone ∷ []
 
+-- what was set is this setting
+abbrev pub is_of : Setting → Entry → Bool
+is_of setting entry = number_of entry.setting == number_of setting
+
 -- the value of a setting, where these were set
 abbrev pub value_in : List Entry → Setting → List ℕ
 value_in [] setting = default_of setting
-value_in (entry ∷ entries) setting = cond (number_of entry.setting == number_of setting) entry.value (value_in entries setting)
+value_in (entry ∷ entries) setting = cond (is_of setting entry) entry.value (value_in entries setting)
 
 -- what was set, and then this besides
 abbrev pub with_value : List Entry → Setting → List ℕ → List Entry
 with_value [] setting value = record { setting = setting; value = value } ∷ []
-with_value (entry ∷ entries) setting value = cond (number_of entry.setting == number_of setting)
+with_value (entry ∷ entries) setting value = cond (is_of setting entry)
     (record { setting = entry.setting; value = value } ∷ entries)
     (entry ∷ with_value entries setting value)
 
@@ -101,10 +105,14 @@ set_back kept = record kept { now = kept.start }
 abbrev pub with_start : Kept → Setting → Kept
 with_start kept setting = record kept { now = with_value kept.now setting (value_in kept.start setting) }
 
+-- this setting with this value, also at the start where it comes of it
+abbrev pub with_set : Setting → List ℕ → Bool → Kept → Kept
+with_set setting value true kept = record { start = with_value kept.start setting value; now = with_value kept.now setting value }
+with_set setting value false kept = record kept { now = with_value kept.now setting value }
+
 -- the settings after what was settled
 abbrev pub settled_kept : Settled → Kept → Kept
-settled_kept (Sets setting value true) kept = record { start = with_value kept.start setting value; now = with_value kept.now setting value }
-settled_kept (Sets setting value false) kept = record kept { now = with_value kept.now setting value }
+settled_kept (Sets setting value starts) kept = with_set setting value starts kept
 settled_kept (SetsBack setting) kept = with_start kept setting
 settled_kept (Resets setting) kept = with_start kept setting
 settled_kept ResetsAll kept = set_back kept

@@ -10,13 +10,19 @@ pub enum Settled {
         starts: bool,
     },
     /// `SET .. TO DEFAULT`: the setting gets the value that it had at the start.
-    SetsBack { setting: Setting },
+    SetsBack {
+        setting: Setting,
+    },
     /// `RESET`: the same, under its own tag.
-    Resets { setting: Setting },
+    Resets {
+        setting: Setting,
+    },
     /// `RESET ALL`.
     ResetsAll,
     /// `SHOW`.
-    Shows { setting: Setting },
+    Shows {
+        setting: Setting,
+    },
     /// `DEALLOCATE ALL`.
     Deallocates,
     /// `CLOSE ALL`.

@@ -1,0 +1,4 @@
+pub mod PlainLaws
+pub mod Utf8Laws
+pub mod LexemeLaws
+pub mod StepLaws

@@ -1,0 +1,6 @@
+-- what the bytes of a text do to where the next stands
+pub mod Modes
+-- the tokens of the code
+pub mod Lexemes
+-- what the steps of the reading give
+pub mod Steps

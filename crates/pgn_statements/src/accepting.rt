@@ -1,0 +1,182 @@
+ghost use Rattle.std.specs.Prelude.{◌≡◌, ◌≤◌, not, length, map, filter, option_map, IfOk, IfSome, string_bytes};
+ghost use Rattle.std.specs.Char.{is_ascii_alphanumeric};
+ghost use Rattle.pgn_base.specs.declared.limits.TheConstants.{NAME_BYTES_MAX};
+ghost use Rattle.pgn_language.specs.Tokens.{is_blank};
+ghost use Rattle.pgn_language.specs.Grammar as grammar;
+ghost use Rattle.pgn_requests.specs.declared.setting.Setting.TheVariants as setting;
+ghost use Rattle.pgn_requests.specs.Values.{accepted, chosen, closed_up, encoding, letters_of, only_on, shown_byte};
+
+use crate::choices::{
+    date_style, float_digits, interval_style, is_text, isolation, message_level, says_off, says_on,
+    switch,
+};
+use pgn_command::{cut, is_blank};
+use pgn_requests::{SHORT_BYTES_MAX, Setting, ShortText, Verdict};
+use std::alloc::{AllocError, Global};
+
+/// What comes of a value that a client gives a setting.
+pub fn accepted(alloc: Global, setting: Setting, value: &str) -> Result<Verdict, AllocError>
+    ensures { IfOk result (λ verdict. verdict ≡ accepted setting value.now) }
+{
+    match setting {
+        Setting::ApplicationName => application_name(alloc, value),
+        Setting::ClientEncoding => encoding(alloc, value),
+        Setting::DateStyle => dates(alloc, value),
+        Setting::DefaultTransactionReadOnly => chosen(alloc, switch(value)),
+        Setting::InHotStandby => Ok(Verdict::Unchangeable),
+        Setting::IntegerDatetimes => Ok(Verdict::Unchangeable),
+        Setting::IntervalStyle => chosen(alloc, interval_style(value)),
+        Setting::IsSuperuser => Ok(Verdict::Unchangeable),
+        Setting::ServerEncoding => Ok(Verdict::Unchangeable),
+        Setting::ServerVersion => Ok(Verdict::Unchangeable),
+        Setting::SessionAuthorization => becomes(alloc, cut(value)),
+        Setting::StandardConformingStrings => only_on(alloc, value),
+        Setting::TimeZone => zone(alloc, value),
+        Setting::ClientMinMessages => chosen(alloc, message_level(value)),
+        Setting::ExtraFloatDigits => chosen(alloc, float_digits(value.as_bytes())),
+        Setting::TransactionIsolation => chosen(alloc, isolation(value)),
+        Setting::TransactionReadOnly => chosen(alloc, switch(value)),
+    }
+}
+
+// The setting has this value then.
+fn becomes(alloc: Global, value: &str) -> Result<Verdict, AllocError>
+    requires { length value.now ≤ SHORT_BYTES_MAX }
+    ensures { IfOk result (λ verdict. verdict ≡ Verdict.Becomes value.now) }
+{
+    let value = ShortText::new(alloc, value)?;
+    Ok(Verdict::Becomes(value))
+}
+
+// One of some values, or none of them.
+fn chosen(alloc: Global, choice: Option<&str>) -> Result<Verdict, AllocError>
+    requires { IfSome choice (λ text. length text.now ≤ 16) }
+    ensures { IfOk result (λ verdict. verdict ≡ chosen (option_map (λ text. text.now) choice.entry)) }
+{
+    match choice {
+        Some(value) => becomes(alloc, value),
+        None => Ok(Verdict::Invalid),
+    }
+}
+
+// An application's name: what is no printable ASCII is a `?`.
+fn application_name(alloc: Global, value: &str) -> Result<Verdict, AllocError>
+    ensures { IfOk result (λ verdict. verdict ≡ accepted setting.ApplicationName value.now) }
+{
+    let bytes = shown_bytes(alloc, cut(value).as_bytes())?;
+    let made = String::from_utf8(bytes).unwrap();
+    becomes(alloc, made.as_str())
+}
+
+fn shown_bytes(alloc: Global, bytes: &[u8]) -> Result<Vec<u8>, AllocError>
+    ensures { IfOk result (λ made. made.items ≡ map shown_byte bytes.now) }
+{
+    let mut made = Vec::with_capacity(alloc, bytes.len())?;
+    for byte in bytes {
+        made.push(shown_byte(*byte))?;
+    }
+    Ok(made)
+}
+
+fn shown_byte(byte: u8) -> u8
+    ensures { result ≡ shown_byte byte }
+{
+    if byte >= 32 && byte <= 126 {
+        byte
+    } else {
+        b'?'
+    }
+}
+
+// An encoding by its letters and digits.
+fn encoding(alloc: Global, value: &str) -> Result<Verdict, AllocError>
+    ensures { IfOk result (λ verdict. verdict ≡ accepted setting.ClientEncoding value.now) }
+{
+    let letters = letters_of(alloc, value.as_bytes())?;
+    encoding_of(alloc, letters.as_slice())
+}
+
+fn encoding_of(alloc: Global, letters: &[u8]) -> Result<Verdict, AllocError>
+    ensures { IfOk result (λ verdict. verdict ≡ encoding letters.now) }
+{
+    if is_text(letters, "utf8") || is_text(letters, "unicode") {
+        return becomes(alloc, "UTF8");
+    }
+    if is_text(letters, "sqlascii") {
+        return becomes(alloc, "SQL_ASCII");
+    }
+    Ok(Verdict::Unsupported)
+}
+
+// The letters and digits in lower case.
+fn letters_of(alloc: Global, bytes: &[u8]) -> Result<Vec<u8>, AllocError>
+    ensures { IfOk result (λ made. made.items ≡ letters_of bytes.now) }
+{
+    let mut made = letters(alloc, bytes)?;
+    made.as_mut_slice().make_ascii_lowercase();
+    Ok(made)
+}
+
+fn letters(alloc: Global, bytes: &[u8]) -> Result<Vec<u8>, AllocError>
+    ensures { IfOk result (λ made. made.items ≡ filter is_ascii_alphanumeric bytes.now) }
+{
+    let mut made = Vec::with_capacity(alloc, bytes.len())?;
+    for byte in bytes {
+        if byte.is_ascii_alphanumeric() {
+            made.push(*byte)?;
+        }
+    }
+    Ok(made)
+}
+
+// A style of dates.
+fn dates(alloc: Global, value: &str) -> Result<Verdict, AllocError>
+    ensures { IfOk result (λ verdict. verdict ≡ accepted setting.DateStyle value.now) }
+{
+    let words = closed_up(alloc, value.as_bytes())?;
+    chosen(alloc, date_style(words.as_slice()))
+}
+
+// All but the blanks in lower case.
+fn closed_up(alloc: Global, bytes: &[u8]) -> Result<Vec<u8>, AllocError>
+    ensures { IfOk result (λ made. made.items ≡ closed_up bytes.now) }
+{
+    let mut made = unblanked(alloc, bytes)?;
+    made.as_mut_slice().make_ascii_lowercase();
+    Ok(made)
+}
+
+fn unblanked(alloc: Global, bytes: &[u8]) -> Result<Vec<u8>, AllocError>
+    ensures { IfOk result (λ made. made.items ≡ filter (λ b. not (is_blank b)) bytes.now) }
+{
+    let mut made = Vec::with_capacity(alloc, bytes.len())?;
+    for byte in bytes {
+        if !is_blank(*byte) {
+            made.push(*byte)?;
+        }
+    }
+    Ok(made)
+}
+
+// Only on, since the service knows no other literals.
+fn only_on(alloc: Global, value: &str) -> Result<Verdict, AllocError>
+    ensures { IfOk result (λ verdict. verdict ≡ only_on value.now) }
+{
+    if says_on(value) {
+        return becomes(alloc, "on");
+    }
+    if says_off(value) {
+        return Ok(Verdict::Unsupported);
+    }
+    Ok(Verdict::Invalid)
+}
+
+// A time zone: any text that is short enough.
+fn zone(alloc: Global, value: &str) -> Result<Verdict, AllocError>
+    ensures { IfOk result (λ verdict. verdict ≡ accepted setting.TimeZone value.now) }
+{
+    if value.len() <= SHORT_BYTES_MAX {
+        return becomes(alloc, value);
+    }
+    Ok(Verdict::Invalid)
+}

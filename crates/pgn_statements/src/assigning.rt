@@ -1,0 +1,229 @@
+ghost use Rattle.std.specs.Prelude.{◌≡◌, IfOk, Some, string_bytes};
+ghost use Rattle.pgn_requests.specs.declared.complaint.Cause.TheVariants as cause;
+ghost use Rattle.pgn_requests.specs.Texts.{one_line};
+ghost use Rattle.pgn_requests.specs.Phrases as told;
+ghost use Rattle.pgn_statements.specs.Lexemes.{meant, all_meant};
+
+use crate::accepting::accepted;
+use crate::complaining::{bad_value, fixed, no_setting, refused, unsupported};
+use crate::lines::unread;
+use crate::settings_named::setting_named;
+use crate::values::put_values;
+use crate::words::{after_one, after_two, are_three, are_two, is_key, is_name, is_one};
+use pgn_command::Lexeme;
+use pgn_quotes::unquoted;
+use pgn_requests::{Cause, Request, Setting, Settled, ShortText, Verdict};
+use std::alloc::{AllocError, Global};
+
+/// After SET.
+pub fn set(
+    alloc: Global,
+    text: &str,
+    at: u32,
+    lexemes: &[Lexeme<'_>],
+) -> Result<Request, AllocError>
+    ensures { IfOk result (λ request. request ≡ told.setting_asks text.now at (all_meant lexemes.now)) }
+{
+    if after_one(lexemes, "local").is_some() {
+        let words = ShortText::new(alloc, "SET LOCAL is not supported")?;
+        return refused(alloc, text, at, Cause::Unsupported, words);
+    }
+    if let Some(rest) = after_one(lexemes, "names") {
+        return valued(alloc, text, at, false, rest, Setting::ClientEncoding);
+    }
+    if let Some(rest) = after_one(lexemes, "startup") {
+        return assigned(alloc, text, at, true, rest);
+    }
+    if let Some(rest) = after_two(lexemes, "session", "authorization") {
+        return valued(alloc, text, at, false, rest, Setting::SessionAuthorization);
+    }
+    match after_one(lexemes, "session") {
+        Some(rest) => set_for_session(alloc, text, at, rest),
+        None => set_for_session(alloc, text, at, lexemes),
+    }
+}
+
+// After SET, and after SET SESSION.
+fn set_for_session(
+    alloc: Global,
+    text: &str,
+    at: u32,
+    lexemes: &[Lexeme<'_>],
+) -> Result<Request, AllocError>
+    ensures { IfOk result (λ request. request ≡ told.session_asks text.now at (all_meant lexemes.now)) }
+{
+    match after_two(lexemes, "time", "zone") {
+        Some(rest) => valued(alloc, text, at, false, rest, Setting::TimeZone),
+        None => assigned(alloc, text, at, false, lexemes),
+    }
+}
+
+// A name, TO and a value.
+fn assigned(
+    alloc: Global,
+    text: &str,
+    at: u32,
+    starts: bool,
+    lexemes: &[Lexeme<'_>],
+) -> Result<Request, AllocError>
+    ensures { IfOk result (λ request. request ≡ told.assigned_asks text.now at starts (all_meant lexemes.now)) }
+{
+    match lexemes {
+        [name, to, value @ ..] if is_name(name) && is_key(to, "to") => {
+            let name = ident_text(alloc, name)?;
+            match setting_named(name.as_str()) {
+                Some(setting) => valued(alloc, text, at, starts, value, setting),
+                None => unknown(alloc, text, at, name.as_str()),
+            }
+        }
+        _ => unread(alloc, text, at),
+    }
+}
+
+// A setting gets the value that these tokens are, or its own where they are DEFAULT.
+fn valued(
+    alloc: Global,
+    text: &str,
+    at: u32,
+    starts: bool,
+    lexemes: &[Lexeme<'_>],
+    setting: Setting,
+) -> Result<Request, AllocError>
+    ensures { IfOk result (λ request. request ≡ told.valued_asks text.now at starts (all_meant lexemes.now) setting) }
+{
+    if is_one(lexemes, "default") {
+        return Ok(Request::Settles(Settled::SetsBack { setting }));
+    }
+    let mut value = String::new(alloc);
+    if put_values(alloc, &mut value, lexemes)? {
+        sets(alloc, text, at, starts, value.as_str(), setting)
+    } else {
+        unread(alloc, text, at)
+    }
+}
+
+// A setting gets a value, if it can have it.
+fn sets(
+    alloc: Global,
+    text: &str,
+    at: u32,
+    starts: bool,
+    value: &str,
+    setting: Setting,
+) -> Result<Request, AllocError>
+    ensures { IfOk result (λ request. request ≡ told.given_asks text.now at starts setting (Some value.now)) }
+{
+    match accepted(alloc, setting, value)? {
+        Verdict::Becomes(value) => Ok(Request::Settles(Settled::Sets {
+            setting,
+            value,
+            starts,
+        })),
+        Verdict::Invalid => {
+            let words = bad_value(alloc, setting, value)?;
+            refused(alloc, text, at, Cause::BadValue, words)
+        }
+        Verdict::Unchangeable => {
+            let words = fixed(alloc, setting)?;
+            refused(alloc, text, at, Cause::Fixed, words)
+        }
+        Verdict::Unsupported => {
+            let words = unsupported(alloc, setting, value)?;
+            refused(alloc, text, at, Cause::Unsupported, words)
+        }
+    }
+}
+
+/// After RESET.
+pub fn reset(
+    alloc: Global,
+    text: &str,
+    at: u32,
+    lexemes: &[Lexeme<'_>],
+) -> Result<Request, AllocError>
+    ensures { IfOk result (λ request. request ≡ told.reset_asks text.now at (all_meant lexemes.now)) }
+{
+    if is_one(lexemes, "all") {
+        return Ok(Request::Settles(Settled::ResetsAll));
+    }
+    if are_two(lexemes, "session", "authorization") {
+        return Ok(settles(false, Setting::SessionAuthorization));
+    }
+    if are_two(lexemes, "time", "zone") {
+        return Ok(settles(false, Setting::TimeZone));
+    }
+    named(alloc, text, at, false, lexemes)
+}
+
+/// After SHOW.
+pub fn show(
+    alloc: Global,
+    text: &str,
+    at: u32,
+    lexemes: &[Lexeme<'_>],
+) -> Result<Request, AllocError>
+    ensures { IfOk result (λ request. request ≡ told.show_asks text.now at (all_meant lexemes.now)) }
+{
+    if are_three(lexemes, "transaction", "isolation", "level") {
+        return Ok(settles(true, Setting::TransactionIsolation));
+    }
+    if are_two(lexemes, "session", "authorization") {
+        return Ok(settles(true, Setting::SessionAuthorization));
+    }
+    if are_two(lexemes, "time", "zone") {
+        return Ok(settles(true, Setting::TimeZone));
+    }
+    named(alloc, text, at, true, lexemes)
+}
+
+// A name of a setting that is shown or reset, and nothing else.
+fn named(
+    alloc: Global,
+    text: &str,
+    at: u32,
+    shows: bool,
+    lexemes: &[Lexeme<'_>],
+) -> Result<Request, AllocError>
+    ensures { IfOk result (λ request. request ≡ told.named_asks text.now at shows (all_meant lexemes.now)) }
+{
+    match lexemes {
+        [name] if is_name(name) => {
+            let name = ident_text(alloc, name)?;
+            match setting_named(name.as_str()) {
+                Some(setting) => Ok(settles(shows, setting)),
+                None => unknown(alloc, text, at, name.as_str()),
+            }
+        }
+        _ => unread(alloc, text, at),
+    }
+}
+
+// A setting is shown or reset.
+fn settles(shows: bool, setting: Setting) -> Request
+    ensures { result ≡ Request.Settles (told.named_settled shows setting) }
+{
+    if shows {
+        Request::Settles(Settled::Shows { setting })
+    } else {
+        Request::Settles(Settled::Resets { setting })
+    }
+}
+
+// No setting has this name.
+fn unknown(alloc: Global, text: &str, at: u32, name: &str) -> Result<Request, AllocError>
+    ensures { IfOk result (λ request. request ≡ told.refused (one_line text.now) at cause.NoSetting (told.no_setting name.now)) }
+{
+    let words = no_setting(alloc, name)?;
+    refused(alloc, text, at, Cause::NoSetting, words)
+}
+
+// The text of a word or of a quoted identifier.
+fn ident_text(alloc: Global, lexeme: &Lexeme<'_>) -> Result<String, AllocError>
+    ensures { IfOk result (λ name. string_bytes name ≡ told.ident_text (meant lexeme.now)) }
+{
+    match lexeme {
+        Lexeme::Word(text) => String::from_str(alloc, text),
+        Lexeme::Quoted(inside) => unquoted(alloc, *inside),
+        _ => Ok(String::new(alloc)),
+    }
+}
