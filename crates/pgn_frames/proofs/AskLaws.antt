@@ -1,5 +1,5 @@
 -- A seat is asked something by its signs, and one thing.
-use Rattle.std.proofs.Common.{◌≡◌, ℕ, zero, suc, ◌+◌, ◌<◌, ◌≤◌, ◌⊎◌, Bool, true, false, cond, List, [], ◌∷◌, ◌++◌, length, drop, Option, Some, None, sym, ap, ◌∙◌, subst, refl, arith, inl, inr}
+use Rattle.std.proofs.Common.{◌≡◌, ℕ, zero, suc, ◌+◌, ◌<◌, ◌≤◌, ◌⊎◌, Bool, true, false, cond, List, [], ◌∷◌, ◌++◌, length, drop, get_or, Option, Some, None, sym, ap, ◌∙◌, subst, refl, arith, inl, inr}
 use Rattle.std.specs.Prelude.{map}
 use Rattle.std.specs.Int.{w32, from_be_bytes}
 use Rattle.std.proofs.lemmas.Bool.{cases_Bool, cases_lt}
@@ -70,6 +70,9 @@ query_other _ _ bytes head body rest _ len e tells may size (client.QueryIs.HasB
     let whole : length m ≡ length body + length rest = ap length (sym heads.1) ∙ length-append body rest in
     body_other big c t m r (omega arith) inner other
 
+letters_differ : (letter : ℕ) → letter ≡ 81 → letter ≡ 88 → ⊥
+letters_differ letter e f = omega arith
+
 -- where a Query stands, nothing else comes
 no_other : (next : Coming) (text bytes body rest after : List ℕ) → QueryNext bytes body rest → NextIs 0 next text bytes after → IsOther next → ⊥
 no_other _ _ bytes body rest _ q (client.NextIs.Ended _ t e) other = let both : 81 ∷ (q.head ++ (body ++ rest)) ≡ [] = sym q.split ∙ e in cc
@@ -78,8 +81,7 @@ no_other _ _ bytes body rest _ q (client.NextIs.NoType letter _ m t r e no_query
     no_query (let same : letter ≡ 81 = cc in same)
 no_other _ _ bytes body rest _ q (client.NextIs.Terminates _ m c t r e is) other =
     let both : 81 ∷ (q.head ++ (body ++ rest)) ≡ 88 ∷ m = sym q.split ∙ e in
-    let same : 81 ≡ 88 = cc in
-    omega arith
+    letters_differ 81 refl (ap (λ (l : List ℕ). get_or l 0 0) both)
 no_other _ _ bytes body rest _ q (client.NextIs.Asks _ m c t r e is) other =
     let both : 81 ∷ m ≡ 81 ∷ (q.head ++ (body ++ rest)) = sym e ∙ q.split in
     query_other c t m q.head body rest r q.len (let same : m ≡ q.head ++ (body ++ rest) = cc in same) q.tells q.may q.size is other
@@ -246,7 +248,7 @@ first_is : (next : Coming) (text bytes rest : List ℕ) → NextIs 0 next text b
 first_is _ _ bytes _ (client.NextIs.Ended _ t e) = Ends Open (λ tally. clients.ClientAsks.Stops tally bytes e)
 first_is _ _ bytes _ (client.NextIs.NoType letter _ m t r e q x) = elim (cases_Bool (is_extended letter)) [
   | inl is ↦ Ends (Wrong Extended) (λ tally. clients.ClientAsks.Extends tally bytes (ap begins_extended e ∙ is))
-  | inr no ↦ Ends (Wrong Refused) (λ tally. clients.ClientAsks.NoType tally bytes t r (client.NextIs.NoType letter bytes m t r e q x) (ap begins_extended e ∙ no))
+  | inr bad ↦ Ends (Wrong Refused) (λ tally. clients.ClientAsks.NoType tally bytes t r (client.NextIs.NoType letter bytes m t r e q x) (ap begins_extended e ∙ bad))
 ]
 first_is _ _ bytes _ (client.NextIs.Terminates _ m c t r e is) = first_terminate c t m bytes r e is
 first_is _ _ bytes _ (client.NextIs.Asks _ m c t r e is) = first_query c t m bytes r e is

@@ -41,6 +41,10 @@ pub if_ok-both : {A E : Type 0} (r : Result A E) (P R : Type 0) (Q : A → Type 
 if_ok-both (Ok a) P R Q f h k = f a h k
 if_ok-both (Err e) P R Q f h k = tt
 
+pub if_ok-at : {A E : Type 0} (r : Result A E) (a : A) (P : A → Type 0) → r ≡ Ok a → IfOk r P → P a
+if_ok-at (Ok b) a P e h = let same : b ≡ a = cc in subst P same h
+if_ok-at (Err x) a P e h = absurd (cc)
+
 -- what is put, one behind another
 pub put_none : (seat : ℕ) (v : Hand (Option Ask)) → v ≡ with_put seat v []
 put_none seat v = ap (λ (l : List (Came (Option Ask))). let w : Hand (Option Ask) = record v { sent = l } in w) (sym (append-nil v.sent))

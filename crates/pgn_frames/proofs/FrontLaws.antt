@@ -67,7 +67,7 @@ Front-query (x ∷ more) len end letter head is least most e enough =
 no_length : (bytes : List ℕ) (len : ℕ) → slice_index bytes 0 ≡ 81 → 5 ≤ length bytes → len ≡ from_be_bytes w32 (take 4 (drop 1 bytes)) → (IsQueryLength len → ⊥) → (tally : Tally) → PartsBy Refused tally bytes
 no_length [] len letter head is wrong tally = absurd (omega arith)
 no_length (x ∷ more) len letter head is wrong tally =
-    parts_told (x ∷ more) (Wrong Refused) tally tt
+    parts_told (x ∷ more) (Wrong Refused) tally (omega arith) tt
     (clients.ClientAsks.NoLength tally (x ∷ more) [] []
     (client.NextIs.Asks (x ∷ more) more (Fault (BadLength 0)) [] [] (ap (λ (l : ℕ). l ∷ more) letter)
     (client.QueryIs.BadHead more (take 4 more) (drop 4 more) [] [] len (sym (take-append-drop 4 more)) (tells x len more head is) wrong)))
@@ -81,7 +81,7 @@ Front-too_long bytes len letter head is many = no_length bytes len letter head i
 pub Front-no_terminate : (bytes : List ℕ) (len : ℕ) → slice_index bytes 0 ≡ 88 → 5 ≤ length bytes → len ≡ from_be_bytes w32 (take 4 (drop 1 bytes)) → (len ≡ 4 → ⊥) → (tally : Tally) → PartsBy Refused tally bytes
 Front-no_terminate [] len letter head is wrong tally = absurd (omega arith)
 Front-no_terminate (x ∷ more) len letter head is wrong tally =
-    parts_told (x ∷ more) (Wrong Refused) tally tt
+    parts_told (x ∷ more) (Wrong Refused) tally (omega arith) tt
     (clients.ClientAsks.NoLength tally (x ∷ more) [] []
     (client.NextIs.Terminates (x ∷ more) more (Fault (BadLength 0)) [] [] (ap (λ (l : ℕ). l ∷ more) letter)
     (client.TerminateIs.BadHead more (take 4 more) (drop 4 more) [] len (sym (take-append-drop 4 more)) (tells x len more head is) wrong)))
@@ -90,7 +90,7 @@ Front-no_terminate (x ∷ more) len letter head is wrong tally =
 pub Front-terminate : (bytes : List ℕ) (len : ℕ) → slice_index bytes 0 ≡ 88 → 5 ≤ length bytes → len ≡ from_be_bytes w32 (take 4 (drop 1 bytes)) → len ≡ 4 → (tally : Tally) → PartsBy Plain tally bytes
 Front-terminate [] len letter head is four tally = absurd (omega arith)
 Front-terminate (x ∷ more) len letter head is four tally =
-    parts_told (x ∷ more) Left tally tt
+    parts_told (x ∷ more) Left tally (omega arith) tt
     (clients.ClientAsks.Leaves tally (x ∷ more) more (drop 4 more) (ap (λ (l : ℕ). l ∷ more) letter)
     (client.TerminateIs.Whole more (take 4 more) (drop 4 more) (sym (take-append-drop 4 more)) (tells x 4 more head (sym four ∙ is))))
 
@@ -98,12 +98,12 @@ Front-terminate (x ∷ more) len letter head is four tally =
 pub Front-extended : (bytes : List ℕ) (letter : ℕ) → slice_index bytes 0 ≡ letter → 0 < length bytes → is_extended letter ≡ true → (tally : Tally) → PartsBy Extended tally bytes
 Front-extended [] letter first some is tally = absurd (omega arith)
 Front-extended (x ∷ more) letter first some is tally =
-    parts_told (x ∷ more) (Wrong Extended) tally tt (clients.ClientAsks.Extends tally (x ∷ more) (ap is_extended first ∙ is))
+    parts_told (x ∷ more) (Wrong Extended) tally (omega arith) tt (clients.ClientAsks.Extends tally (x ∷ more) (ap is_extended first ∙ is))
 
 pub Front-no_type : (bytes : List ℕ) (letter : ℕ) → slice_index bytes 0 ≡ letter → 0 < length bytes → (letter ≡ 81 → ⊥) → (letter ≡ 88 → ⊥) → is_extended letter ≡ false → (tally : Tally) → PartsBy Refused tally bytes
 Front-no_type [] letter first some query terminate other tally = absurd (omega arith)
 Front-no_type (x ∷ more) letter first some query terminate other tally =
-    parts_told (x ∷ more) (Wrong Refused) tally tt
+    parts_told (x ∷ more) (Wrong Refused) tally (omega arith) tt
     (clients.ClientAsks.NoType tally (x ∷ more) [] []
     (client.NextIs.NoType x (x ∷ more) more [] [] refl (λ e. query (sym first ∙ e)) (λ e. terminate (sym first ∙ e))) (ap is_extended first ∙ other))
 

@@ -90,8 +90,8 @@ more_may_follow tally bytes more _ close (clients.ClientAsks.Goes _ _ body rest 
     (more_may_follow (after_ask tally asked) rest more asks close further told)
 
 -- what bytes tell by themselves is told whatever follows
-pub parts_told : (bytes : List ℕ) (close : Close) (tally : Tally) → IsTold close → ClientAsks tally bytes [] close → PartsBy (parting_of close) tally bytes
-parts_told bytes close tally told asks = record { close = close; told = told; closes = λ more. more_may_follow tally bytes more [] close asks told; how = refl }
+pub parts_told : (bytes : List ℕ) (close : Close) (tally : Tally) → 0 < length bytes → IsTold close → ClientAsks tally bytes [] close → PartsBy (parting_of close) tally bytes
+parts_told bytes close tally some told asks = record { some = some; close = close; told = told; closes = λ more. more_may_follow tally bytes more [] close asks told; how = refl }
 
 pub last_told : (number : ℕ) (close : Close) → IsTold close → last_end number close ≡ ask.End number (parting_of close) ∷ []
 last_told number Open told = absurd told

@@ -1,5 +1,5 @@
 -- How a reader goes on from where it stands with a seat: by bytes, by a query, by a client's end.
-use Rattle.std.proofs.Common.{◌≡◌, ℕ, ◌+◌, Bool, true, false, List, [], ◌∷◌, ◌++◌, Option, Some, None, sym, ap, ◌∙◌, subst, refl, inl, inr, append_assoc, append-nil}
+use Rattle.std.proofs.Common.{◌≡◌, ℕ, ◌+◌, ◌<◌, Bool, true, false, List, [], ◌∷◌, ◌++◌, length, Option, Some, None, sym, ap, ◌∙◌, subst, refl, arith, inl, inr, append_assoc, append-nil}
 use Rattle.std.specs.Prelude.{map}
 use Rattle.std.proofs.lemmas.List.{map-append}
 use Rattle.pgn_queries.specs.Client.{IsQueryLength, Tells}
@@ -136,6 +136,7 @@ come-left tally next bytes rest parting false false by e f g = absurd (cc)
 -- by a query with which there are too many lines
 pub spent_by : (tally : Tally) (bytes body rest : List ℕ) (asked : Ask) → QueryNext bytes body rest → AskIs (tally.lines + 1) body asked → AreTooMany (after_ask tally asked) → PartsBy Spent tally bytes
 spent_by tally bytes body rest asked q is many = record {
+  some = omega (arith, ap length q.split);
   close = Wrong Spent;
   told = tt;
   closes = λ more. clients.ClientAsks.Exceeds tally (bytes ++ more) body (rest ++ more) asked (query_stays_whole bytes body rest more q) is many;

@@ -60,6 +60,7 @@ IsTold (Wrong parting) = Unit {0}
 
 -- whatever follows these bytes, with what was counted they end their client, which parts so
 pub record PartsBy (parting : Parting) (tally : Tally) (bytes : List ℕ) : Type 0 where
+  pub some : 0 < length bytes
   pub close : Close
   pub told : IsTold close
   pub closes : (more : List ℕ) → ClientAsks tally (bytes ++ more) [] close

@@ -9,11 +9,11 @@ pub returns-then-is_err-clause-first : goal.returns-then-is_err-clause-first
 returns-then-is_err-clause-first g c = (
   c.loop-k.k,
   search (rules, arith),
-  ended_kept c.loop-k.k c.args.seats.now.inboxes.now c.args.callers.now c.loop-k.callers c.index-inboxes-k.result c.index-callers-k.result c.tell_one.new.caller c.loop-k.invariant (search (rules, arith)) c.requires.each
-      c.index-inboxes-k.is c.index-callers-k.is (search rules),
+  ended_kept c.loop-k.k c.args.seats.now.inboxes.now c.args.callers.now c.loop-k.callers c.index-seats-k.result c.index-callers-k.result c.tell_one.new.caller c.loop-k.invariant (search (rules, arith)) c.requires.each
+      c.index-seats-k.is c.index-callers-k.is (search rules),
 )
 
 pub loop-k-preserved : goal.loop-k-preserved
 loop-k-preserved g c =
-    ended_more c.loop-k.k c.new.result c.args.seats.now.inboxes.now c.args.callers.now c.loop-k.callers c.index-inboxes-k.result c.index-callers-k.result c.tell_one.new.caller c.loop-k.invariant (search (rules, arith)) (search rules) c.requires.each
-    c.index-inboxes-k.is c.index-callers-k.is (search rules)
+    ended_more c.loop-k.k c.new.result c.args.seats.now.inboxes.now c.args.callers.now c.loop-k.callers c.index-seats-k.result c.index-callers-k.result c.tell_one.new.caller c.loop-k.invariant (search (rules, arith)) (search rules) c.requires.each
+    c.index-seats-k.is c.index-callers-k.is (search rules)
