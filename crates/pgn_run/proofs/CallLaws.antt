@@ -42,6 +42,7 @@ same-code : {status a b : Status} → status ≡ a → status ≡ b → code_of 
 same-code is e = ap code_of (sym is ∙ e)
 
 module _ {S K : Type 0} (left : S → Option (List ℕ)) (faults : S → ℕ) (held : K → Option (List ℕ)) (sink_faults : K → ℕ) (words : List (List ℕ)) (source source_now : S) (sink sink_now : K) (status : Status) where
+  -- what the call says by its clause done
   pub done-said : (asked : Result Asked WordsFault) → IfOk asked (λ a. AskFor words a) → (asked ≡ Err words_fault.BadWords → AreNoCommand words) → Performed left faults held sink_faults asked source source_now sink sink_now status
       → (status ≡ Done → Performs words (left source) (Appends (held sink) (held sink_now)))
   done-said (Ok (Run pages patience format live)) asks bad h = λ e. record { asked = Run pages patience format live; asks = asks; done = h.done e }
@@ -56,6 +57,7 @@ module _ {S K : Type 0} (left : S → Option (List ℕ)) (faults : S → ℕ) (h
   done-said (Err words_fault.BadWords) asks bad h = λ e. absurd (omega (arith, same-code h.is e))
   done-said (Err words_fault.Memory) asks bad h = λ e. absurd (omega (arith, same-code h.is e))
 
+  -- what the call says by its clause done_reads_all
   pub done_reads_all-said : (asked : Result Asked WordsFault) → IfOk asked (λ a. AskFor words a) → (asked ≡ Err words_fault.BadWords → AreNoCommand words) → Performed left faults held sink_faults asked source source_now sink sink_now status
       → (AskToRun words → status ≡ Done → OnSome (left source) (IsAtEnd (left source_now)))
   done_reads_all-said (Ok (Run pages patience format live)) asks bad h = λ ask. h.done_reads_all
@@ -67,6 +69,7 @@ module _ {S K : Type 0} (left : S → Option (List ℕ)) (faults : S → ℕ) (h
   done_reads_all-said (Err words_fault.BadWords) asks bad h = λ ask e. absurd (omega (arith, same-code h.is e))
   done_reads_all-said (Err words_fault.Memory) asks bad h = λ ask e. absurd (omega (arith, same-code h.is e))
 
+  -- what the call says by its clause bad_words
   pub bad_words-said : (asked : Result Asked WordsFault) → IfOk asked (λ a. AskFor words a) → (asked ≡ Err words_fault.BadWords → AreNoCommand words) → Performed left faults held sink_faults asked source source_now sink sink_now status
       → (status ≡ BadWords → AreNoCommand words)
   bad_words-said (Ok (Run pages patience format live)) asks bad h = λ e. absurd (subst IsOfRun e h.own)
@@ -77,6 +80,7 @@ module _ {S K : Type 0} (left : S → Option (List ℕ)) (faults : S → ℕ) (h
   bad_words-said (Err words_fault.BadWords) asks bad h = λ e. bad refl
   bad_words-said (Err words_fault.Memory) asks bad h = λ e. absurd (omega (arith, same-code h.is e))
 
+  -- what the call says by its clause bad_words_where_due
   pub bad_words_where_due-said : (asked : Result Asked WordsFault) → IfOk asked (λ a. AskFor words a) → (asked ≡ Err words_fault.BadWords → AreNoCommand words) → Performed left faults held sink_faults asked source source_now sink sink_now status
       → (AreNoCommand words → (status ≡ BadWords) ⊎ (status ≡ NoMemory))
   bad_words_where_due-said (Ok (Run pages patience format live)) asks bad h = λ none. absurd (no-other words (Run pages patience format live) asks none)
@@ -87,6 +91,7 @@ module _ {S K : Type 0} (left : S → Option (List ℕ)) (faults : S → ℕ) (h
   bad_words_where_due-said (Err words_fault.BadWords) asks bad h = λ none. inl h.is
   bad_words_where_due-said (Err words_fault.Memory) asks bad h = λ none. inr h.is
 
+  -- what the call says by its clause bad_words_read_nothing
   pub bad_words_read_nothing-said : (asked : Result Asked WordsFault) → IfOk asked (λ a. AskFor words a) → (asked ≡ Err words_fault.BadWords → AreNoCommand words) → Performed left faults held sink_faults asked source source_now sink sink_now status
       → (AreNoCommand words → source_now ≡ source)
   bad_words_read_nothing-said (Ok (Run pages patience format live)) asks bad h = λ none. absurd (no-other words (Run pages patience format live) asks none)
@@ -97,6 +102,7 @@ module _ {S K : Type 0} (left : S → Option (List ℕ)) (faults : S → ℕ) (h
   bad_words_read_nothing-said (Err words_fault.BadWords) asks bad h = λ none. h.reads
   bad_words_read_nothing-said (Err words_fault.Memory) asks bad h = λ none. h.reads
 
+  -- what the call says by its clause bad_words_write_nothing
   pub bad_words_write_nothing-said : (asked : Result Asked WordsFault) → IfOk asked (λ a. AskFor words a) → (asked ≡ Err words_fault.BadWords → AreNoCommand words) → Performed left faults held sink_faults asked source source_now sink sink_now status
       → (AreNoCommand words → sink_now ≡ sink)
   bad_words_write_nothing-said (Ok (Run pages patience format live)) asks bad h = λ none. absurd (no-other words (Run pages patience format live) asks none)
@@ -107,6 +113,7 @@ module _ {S K : Type 0} (left : S → Option (List ℕ)) (faults : S → ℕ) (h
   bad_words_write_nothing-said (Err words_fault.BadWords) asks bad h = λ none. h.writes
   bad_words_write_nothing-said (Err words_fault.Memory) asks bad h = λ none. h.writes
 
+  -- what the call says by its clause bad_scenario
   pub bad_scenario-said : (asked : Result Asked WordsFault) → IfOk asked (λ a. AskFor words a) → (asked ≡ Err words_fault.BadWords → AreNoCommand words) → Performed left faults held sink_faults asked source source_now sink sink_now status
       → ((fault : ScenarioFault) → status ≡ BadScenario fault → (AskToRun words × IfSome (left source) (λ input. ReadsAsScenario input (Err fault))) ⊎ (AskToCheck words × IfSome (left source) (λ input. HasFault input fault)))
   bad_scenario-said (Ok (Run pages patience format live)) asks bad h = λ fault e. inl (
@@ -120,6 +127,7 @@ module _ {S K : Type 0} (left : S → Option (List ℕ)) (faults : S → ℕ) (h
   bad_scenario-said (Err words_fault.BadWords) asks bad h = λ fault e. absurd (omega (arith, same-code h.is e))
   bad_scenario-said (Err words_fault.Memory) asks bad h = λ fault e. absurd (omega (arith, same-code h.is e))
 
+  -- what the call says by its clause bad_scenario_where_due
   pub bad_scenario_where_due-said : (asked : Result Asked WordsFault) → IfOk asked (λ a. AskFor words a) → (asked ≡ Err words_fault.BadWords → AreNoCommand words) → Performed left faults held sink_faults asked source source_now sink sink_now status
       → ((fault : ScenarioFault) → AskToRun words → IsSomeAnd (left source) (λ input. ReadsAsScenario input (Err fault)) → ¬ Rose (faults source) (faults source_now) → (status ≡ BadScenario fault) ⊎ (status ≡ NoMemory))
   bad_scenario_where_due-said (Ok (Run pages patience format live)) asks bad h = λ fault ask reads rose. h.bad_scenario_where_due fault reads rose
@@ -132,6 +140,7 @@ module _ {S K : Type 0} (left : S → Option (List ℕ)) (faults : S → ℕ) (h
       absurd (none-runs words (bad refl) ask)
   bad_scenario_where_due-said (Err words_fault.Memory) asks bad h = λ fault ask reads rose. inr h.is
 
+  -- what the call says by its clause bad_scenario_where_checked
   pub bad_scenario_where_checked-said : (asked : Result Asked WordsFault) → IfOk asked (λ a. AskFor words a) → (asked ≡ Err words_fault.BadWords → AreNoCommand words) → Performed left faults held sink_faults asked source source_now sink sink_now status
       → ((fault : ScenarioFault) → AskToCheck words → IsSomeAnd (left source) (λ input. HasFault input fault) → ¬ Rose (faults source) (faults source_now) → (status ≡ BadScenario fault) ⊎ (status ≡ NoMemory))
   bad_scenario_where_checked-said (Ok (Run pages patience format live)) asks bad h = λ fault ask. absurd (run-no_check words pages patience format live asks ask)
@@ -142,6 +151,7 @@ module _ {S K : Type 0} (left : S → Option (List ℕ)) (faults : S → ℕ) (h
   bad_scenario_where_checked-said (Err words_fault.BadWords) asks bad h = λ fault ask. absurd (none-checks words (bad refl) ask)
   bad_scenario_where_checked-said (Err words_fault.Memory) asks bad h = λ fault ask faulty rose. inr h.is
 
+  -- what the call says by its clause bad_scenario_writes_nothing
   pub bad_scenario_writes_nothing-said : (asked : Result Asked WordsFault) → IfOk asked (λ a. AskFor words a) → (asked ≡ Err words_fault.BadWords → AreNoCommand words) → Performed left faults held sink_faults asked source source_now sink sink_now status
       → ((fault : ScenarioFault) → status ≡ BadScenario fault → held sink_now ≡ held sink)
   bad_scenario_writes_nothing-said (Ok (Run pages patience format live)) asks bad h = h.bad_scenario_writes_nothing
@@ -152,6 +162,7 @@ module _ {S K : Type 0} (left : S → Option (List ℕ)) (faults : S → ℕ) (h
   bad_scenario_writes_nothing-said (Err words_fault.BadWords) asks bad h = λ fault e. absurd (omega (arith, same-code h.is e))
   bad_scenario_writes_nothing-said (Err words_fault.Memory) asks bad h = λ fault e. absurd (omega (arith, same-code h.is e))
 
+  -- what the call says by its clause illegal
   pub illegal-said : (asked : Result Asked WordsFault) → IfOk asked (λ a. AskFor words a) → (asked ≡ Err words_fault.BadWords → AreNoCommand words) → Performed left faults held sink_faults asked source source_now sink sink_now status
       → ((line : ℕ) → status ≡ Illegal line → (ask : AskToCheck words) × IfSome (left source) (λ input. IsJudged (asked_settings ask) input (verdict.Illegal line) × Appends (held sink) (held sink_now) (verdict_text (verdict.Illegal line))))
   illegal-said (Ok (Run pages patience format live)) asks bad h = λ line e. absurd (subst IsOfRun e h.own)
@@ -162,6 +173,7 @@ module _ {S K : Type 0} (left : S → Option (List ℕ)) (faults : S → ℕ) (h
   illegal-said (Err words_fault.BadWords) asks bad h = λ line e. absurd (omega (arith, same-code h.is e))
   illegal-said (Err words_fault.Memory) asks bad h = λ line e. absurd (omega (arith, same-code h.is e))
 
+  -- what the call says by its clause illegal_where_due
   pub illegal_where_due-said : (asked : Result Asked WordsFault) → IfOk asked (λ a. AskFor words a) → (asked ≡ Err words_fault.BadWords → AreNoCommand words) → Performed left faults held sink_faults asked source source_now sink sink_now status
       → ((line : ℕ) (ask : AskToCheck words) → IsSomeAnd (left source) (λ input. IsJudged (asked_settings ask) input (verdict.Illegal line)) → ¬ Rose (faults source) (faults source_now) → ¬ Rose (sink_faults sink) (sink_faults sink_now) → (status ≡ Illegal line) ⊎ (status ≡ NoMemory))
   illegal_where_due-said (Ok (Run pages patience format live)) asks bad h = λ line ask. absurd (run-no_check words pages patience format live asks ask)
@@ -172,6 +184,7 @@ module _ {S K : Type 0} (left : S → Option (List ℕ)) (faults : S → ℕ) (h
   illegal_where_due-said (Err words_fault.BadWords) asks bad h = λ line ask. absurd (none-checks words (bad refl) ask)
   illegal_where_due-said (Err words_fault.Memory) asks bad h = λ line ask judged reads writes. inr h.is
 
+  -- what the call says by its clause no_output
   pub no_output-said : (asked : Result Asked WordsFault) → IfOk asked (λ a. AskFor words a) → (asked ≡ Err words_fault.BadWords → AreNoCommand words) → Performed left faults held sink_faults asked source source_now sink sink_now status
       → (status ≡ NoOutput → AskToCheck words × IfSome (left source) HasNoOutput)
   no_output-said (Ok (Run pages patience format live)) asks bad h = λ e. absurd (subst IsOfRun e h.own)
@@ -182,6 +195,7 @@ module _ {S K : Type 0} (left : S → Option (List ℕ)) (faults : S → ℕ) (h
   no_output-said (Err words_fault.BadWords) asks bad h = λ e. absurd (omega (arith, same-code h.is e))
   no_output-said (Err words_fault.Memory) asks bad h = λ e. absurd (omega (arith, same-code h.is e))
 
+  -- what the call says by its clause no_output_where_due
   pub no_output_where_due-said : (asked : Result Asked WordsFault) → IfOk asked (λ a. AskFor words a) → (asked ≡ Err words_fault.BadWords → AreNoCommand words) → Performed left faults held sink_faults asked source source_now sink sink_now status
       → (AskToCheck words → IsSomeAnd (left source) HasNoOutput → ¬ Rose (faults source) (faults source_now) → (status ≡ NoOutput) ⊎ (status ≡ NoMemory))
   no_output_where_due-said (Ok (Run pages patience format live)) asks bad h = λ ask. absurd (run-no_check words pages patience format live asks ask)
@@ -192,6 +206,7 @@ module _ {S K : Type 0} (left : S → Option (List ℕ)) (faults : S → ℕ) (h
   no_output_where_due-said (Err words_fault.BadWords) asks bad h = λ ask. absurd (none-checks words (bad refl) ask)
   no_output_where_due-said (Err words_fault.Memory) asks bad h = λ ask none reads. inr h.is
 
+  -- what the call says by its clause no_output_writes_nothing
   pub no_output_writes_nothing-said : (asked : Result Asked WordsFault) → IfOk asked (λ a. AskFor words a) → (asked ≡ Err words_fault.BadWords → AreNoCommand words) → Performed left faults held sink_faults asked source source_now sink sink_now status
       → (status ≡ NoOutput → held sink_now ≡ held sink)
   no_output_writes_nothing-said (Ok (Run pages patience format live)) asks bad h = λ e. absurd (subst IsOfRun e h.own)
@@ -202,6 +217,7 @@ module _ {S K : Type 0} (left : S → Option (List ℕ)) (faults : S → ℕ) (h
   no_output_writes_nothing-said (Err words_fault.BadWords) asks bad h = λ e. absurd (omega (arith, same-code h.is e))
   no_output_writes_nothing-said (Err words_fault.Memory) asks bad h = λ e. absurd (omega (arith, same-code h.is e))
 
+  -- what the call says by its clause check_too_large
   pub check_too_large-said : (asked : Result Asked WordsFault) → IfOk asked (λ a. AskFor words a) → (asked ≡ Err words_fault.BadWords → AreNoCommand words) → Performed left faults held sink_faults asked source source_now sink sink_now status
       → (status ≡ CheckTooLarge → AskToCheck words × IfSome (left source) IsTooLarge)
   check_too_large-said (Ok (Run pages patience format live)) asks bad h = λ e. absurd (subst IsOfRun e h.own)
@@ -212,6 +228,7 @@ module _ {S K : Type 0} (left : S → Option (List ℕ)) (faults : S → ℕ) (h
   check_too_large-said (Err words_fault.BadWords) asks bad h = λ e. absurd (omega (arith, same-code h.is e))
   check_too_large-said (Err words_fault.Memory) asks bad h = λ e. absurd (omega (arith, same-code h.is e))
 
+  -- what the call says by its clause check_too_large_where_due
   pub check_too_large_where_due-said : (asked : Result Asked WordsFault) → IfOk asked (λ a. AskFor words a) → (asked ≡ Err words_fault.BadWords → AreNoCommand words) → Performed left faults held sink_faults asked source source_now sink sink_now status
       → (AskToCheck words → IsSomeAnd (left source) IsTooLarge → ¬ Rose (faults source) (faults source_now) → (status ≡ CheckTooLarge) ⊎ (status ≡ NoMemory))
   check_too_large_where_due-said (Ok (Run pages patience format live)) asks bad h = λ ask. absurd (run-no_check words pages patience format live asks ask)
@@ -222,6 +239,7 @@ module _ {S K : Type 0} (left : S → Option (List ℕ)) (faults : S → ℕ) (h
   check_too_large_where_due-said (Err words_fault.BadWords) asks bad h = λ ask. absurd (none-checks words (bad refl) ask)
   check_too_large_where_due-said (Err words_fault.Memory) asks bad h = λ ask large reads. inr h.is
 
+  -- what the call says by its clause check_too_large_writes_nothing
   pub check_too_large_writes_nothing-said : (asked : Result Asked WordsFault) → IfOk asked (λ a. AskFor words a) → (asked ≡ Err words_fault.BadWords → AreNoCommand words) → Performed left faults held sink_faults asked source source_now sink sink_now status
       → (status ≡ CheckTooLarge → held sink_now ≡ held sink)
   check_too_large_writes_nothing-said (Ok (Run pages patience format live)) asks bad h = λ e. absurd (subst IsOfRun e h.own)
@@ -232,6 +250,7 @@ module _ {S K : Type 0} (left : S → Option (List ℕ)) (faults : S → ℕ) (h
   check_too_large_writes_nothing-said (Err words_fault.BadWords) asks bad h = λ e. absurd (omega (arith, same-code h.is e))
   check_too_large_writes_nothing-said (Err words_fault.Memory) asks bad h = λ e. absurd (omega (arith, same-code h.is e))
 
+  -- what the call says by its clause read_fault
   pub read_fault-said : (asked : Result Asked WordsFault) → IfOk asked (λ a. AskFor words a) → (asked ≡ Err words_fault.BadWords → AreNoCommand words) → Performed left faults held sink_faults asked source source_now sink sink_now status
       → (status ≡ ReadFault → (AskToRun words ⊎ AskToWire words ⊎ AskToCheck words ⊎ AskToServe words) × Rose (faults source) (faults source_now))
   read_fault-said (Ok (Run pages patience format live)) asks bad h = λ e. (
@@ -245,6 +264,7 @@ module _ {S K : Type 0} (left : S → Option (List ℕ)) (faults : S → ℕ) (h
   read_fault-said (Err words_fault.BadWords) asks bad h = λ e. absurd (omega (arith, same-code h.is e))
   read_fault-said (Err words_fault.Memory) asks bad h = λ e. absurd (omega (arith, same-code h.is e))
 
+  -- what the call says by its clause read_fault_where_due
   pub read_fault_where_due-said : (asked : Result Asked WordsFault) → IfOk asked (λ a. AskFor words a) → (asked ≡ Err words_fault.BadWords → AreNoCommand words) → Performed left faults held sink_faults asked source source_now sink sink_now status
       → (¬ AskToServe words → faults source < faults source_now → status ≡ ReadFault)
   read_fault_where_due-said (Ok (Run pages patience format live)) asks bad h = λ other e. h.read_fault_where_due e
@@ -255,6 +275,7 @@ module _ {S K : Type 0} (left : S → Option (List ℕ)) (faults : S → ℕ) (h
   read_fault_where_due-said (Err words_fault.BadWords) asks bad h = λ other rose. absurd (no-rise faults source source_now h.reads rose)
   read_fault_where_due-said (Err words_fault.Memory) asks bad h = λ other rose. absurd (no-rise faults source source_now h.reads rose)
 
+  -- what the call says by its clause read_fault_where_served
   pub read_fault_where_served-said : (asked : Result Asked WordsFault) → IfOk asked (λ a. AskFor words a) → (asked ≡ Err words_fault.BadWords → AreNoCommand words) → Performed left faults held sink_faults asked source source_now sink sink_now status
       → (AskToServe words → faults source < faults source_now → (status ≡ ReadFault) ⊎ (status ≡ WriteFault) ⊎ (status ≡ NoMemory))
   read_fault_where_served-said (Ok (Run pages patience format live)) asks bad h = λ ask. absurd (run-no_serve words pages patience format live asks ask)
@@ -265,6 +286,7 @@ module _ {S K : Type 0} (left : S → Option (List ℕ)) (faults : S → ℕ) (h
   read_fault_where_served-said (Err words_fault.BadWords) asks bad h = λ ask. absurd (none-serves words (bad refl) ask)
   read_fault_where_served-said (Err words_fault.Memory) asks bad h = λ ask rose. inr (inr h.is)
 
+  -- what the call says by its clause read_fault_writes_nothing
   pub read_fault_writes_nothing-said : (asked : Result Asked WordsFault) → IfOk asked (λ a. AskFor words a) → (asked ≡ Err words_fault.BadWords → AreNoCommand words) → Performed left faults held sink_faults asked source source_now sink sink_now status
       → (¬ AskToWire words → ¬ AskToServe words → status ≡ ReadFault → held sink_now ≡ held sink)
   read_fault_writes_nothing-said (Ok (Run pages patience format live)) asks bad h = λ other serve. h.read_fault_writes_nothing
@@ -275,6 +297,7 @@ module _ {S K : Type 0} (left : S → Option (List ℕ)) (faults : S → ℕ) (h
   read_fault_writes_nothing-said (Err words_fault.BadWords) asks bad h = λ other serve e. absurd (omega (arith, same-code h.is e))
   read_fault_writes_nothing-said (Err words_fault.Memory) asks bad h = λ other serve e. absurd (omega (arith, same-code h.is e))
 
+  -- what the call says by its clause read_fault_writes_answers
   pub read_fault_writes_answers-said : (asked : Result Asked WordsFault) → IfOk asked (λ a. AskFor words a) → (asked ≡ Err words_fault.BadWords → AreNoCommand words) → Performed left faults held sink_faults asked source source_now sink sink_now status
       → (AskToWire words → status ≡ ReadFault → IfSome (left source) (λ bytes. StopsBetween bytes (Appends (held sink) (held sink_now))))
   read_fault_writes_answers-said (Ok (Run pages patience format live)) asks bad h = λ ask. absurd (run-no_wire words pages patience format live asks ask)
@@ -285,6 +308,7 @@ module _ {S K : Type 0} (left : S → Option (List ℕ)) (faults : S → ℕ) (h
   read_fault_writes_answers-said (Err words_fault.BadWords) asks bad h = λ ask. absurd (none-wires words (bad refl) ask)
   read_fault_writes_answers-said (Err words_fault.Memory) asks bad h = λ ask e. absurd (omega (arith, same-code h.is e))
 
+  -- what the call says by its clause read_fault_writes_what_was_told
   pub read_fault_writes_what_was_told-said : (asked : Result Asked WordsFault) → IfOk asked (λ a. AskFor words a) → (asked ≡ Err words_fault.BadWords → AreNoCommand words) → Performed left faults held sink_faults asked source source_now sink sink_now status
       → ((ask : AskToServe words) → status ≡ ReadFault → IfSome (left source) (λ bytes. ServesFirst ask.seats bytes (Appends (held sink) (held sink_now))))
   read_fault_writes_what_was_told-said (Ok (Run pages patience format live)) asks bad h = λ ask. absurd (run-no_serve words pages patience format live asks ask)
@@ -295,6 +319,7 @@ module _ {S K : Type 0} (left : S → Option (List ℕ)) (faults : S → ℕ) (h
   read_fault_writes_what_was_told-said (Err words_fault.BadWords) asks bad h = λ ask. absurd (none-serves words (bad refl) ask)
   read_fault_writes_what_was_told-said (Err words_fault.Memory) asks bad h = λ ask e. absurd (omega (arith, same-code h.is e))
 
+  -- what the call says by its clause write_fault
   pub write_fault-said : (asked : Result Asked WordsFault) → IfOk asked (λ a. AskFor words a) → (asked ≡ Err words_fault.BadWords → AreNoCommand words) → Performed left faults held sink_faults asked source source_now sink sink_now status
       → (status ≡ WriteFault → Rose (sink_faults sink) (sink_faults sink_now))
   write_fault-said (Ok (Run pages patience format live)) asks bad h = h.write_fault
@@ -305,6 +330,7 @@ module _ {S K : Type 0} (left : S → Option (List ℕ)) (faults : S → ℕ) (h
   write_fault-said (Err words_fault.BadWords) asks bad h = λ e. absurd (omega (arith, same-code h.is e))
   write_fault-said (Err words_fault.Memory) asks bad h = λ e. absurd (omega (arith, same-code h.is e))
 
+  -- what the call says by its clause write_fault_where_due
   pub write_fault_where_due-said : (asked : Result Asked WordsFault) → IfOk asked (λ a. AskFor words a) → (asked ≡ Err words_fault.BadWords → AreNoCommand words) → Performed left faults held sink_faults asked source source_now sink sink_now status
       → (sink_faults sink < sink_faults sink_now → status ≡ WriteFault)
   write_fault_where_due-said (Ok (Run pages patience format live)) asks bad h = h.write_fault_where_due
@@ -315,6 +341,7 @@ module _ {S K : Type 0} (left : S → Option (List ℕ)) (faults : S → ℕ) (h
   write_fault_where_due-said (Err words_fault.BadWords) asks bad h = λ rose. absurd (no-rise sink_faults sink sink_now h.writes rose)
   write_fault_where_due-said (Err words_fault.Memory) asks bad h = λ rose. absurd (no-rise sink_faults sink sink_now h.writes rose)
 
+  -- what the call says by its clause write_fault_writes_a_prefix
   pub write_fault_writes_a_prefix-said : (asked : Result Asked WordsFault) → IfOk asked (λ a. AskFor words a) → (asked ≡ Err words_fault.BadWords → AreNoCommand words) → Performed left faults held sink_faults asked source source_now sink sink_now status
       → (status ≡ WriteFault → PerformsInPart words (left source) (AppendsPrefix (held sink) (held sink_now)))
   write_fault_writes_a_prefix-said (Ok (Run pages patience format live)) asks bad h = λ e. record { asked = Run pages patience format live; asks = asks; done = h.write_fault_writes_a_prefix e }
@@ -329,6 +356,7 @@ module _ {S K : Type 0} (left : S → Option (List ℕ)) (faults : S → ℕ) (h
   write_fault_writes_a_prefix-said (Err words_fault.BadWords) asks bad h = λ e. absurd (omega (arith, same-code h.is e))
   write_fault_writes_a_prefix-said (Err words_fault.Memory) asks bad h = λ e. absurd (omega (arith, same-code h.is e))
 
+  -- what the call says by its clause no_memory_writes_nothing
   pub no_memory_writes_nothing-said : (asked : Result Asked WordsFault) → IfOk asked (λ a. AskFor words a) → (asked ≡ Err words_fault.BadWords → AreNoCommand words) → Performed left faults held sink_faults asked source source_now sink sink_now status
       → (¬ AskToRunLive words → ¬ AskToWire words → ¬ AskToServe words → status ≡ NoMemory → held sink_now ≡ held sink)
   no_memory_writes_nothing-said (Ok (Run pages patience format live)) asks bad h = λ once other serve e. h.no_memory_writes_nothing Text (shows-once words pages patience format live once asks) e
@@ -339,6 +367,7 @@ module _ {S K : Type 0} (left : S → Option (List ℕ)) (faults : S → ℕ) (h
   no_memory_writes_nothing-said (Err words_fault.BadWords) asks bad h = λ once other serve e. absurd (omega (arith, same-code h.is e))
   no_memory_writes_nothing-said (Err words_fault.Memory) asks bad h = λ once other serve e. ap held h.writes
 
+  -- what the call says by its clause no_memory_writes_first_lines
   pub no_memory_writes_first_lines-said : (asked : Result Asked WordsFault) → IfOk asked (λ a. AskFor words a) → (asked ≡ Err words_fault.BadWords → AreNoCommand words) → Performed left faults held sink_faults asked source source_now sink sink_now status
       → ((ask : AskToRunLive words) → status ≡ NoMemory → (held sink_now ≡ held sink) ⊎ IfSome (left source) (λ input. SoFarRuns (settings_with ask.pages ask.patience ask.format) input (Appends (held sink) (held sink_now))))
   no_memory_writes_first_lines-said (Ok (Run pages patience format live)) asks bad h = λ ask e.
@@ -355,6 +384,7 @@ module _ {S K : Type 0} (left : S → Option (List ℕ)) (faults : S → ℕ) (h
   no_memory_writes_first_lines-said (Err words_fault.BadWords) asks bad h = λ ask e. absurd (omega (arith, same-code h.is e))
   no_memory_writes_first_lines-said (Err words_fault.Memory) asks bad h = λ ask e. inl (ap held h.writes)
 
+  -- what the call says by its clause no_memory_writes_whole_answers
   pub no_memory_writes_whole_answers-said : (asked : Result Asked WordsFault) → IfOk asked (λ a. AskFor words a) → (asked ≡ Err words_fault.BadWords → AreNoCommand words) → Performed left faults held sink_faults asked source source_now sink sink_now status
       → (AskToWire words → status ≡ NoMemory → IfSome (left source) (λ bytes. StopsAmong bytes (WroteWhole (held sink) (held sink_now))))
   no_memory_writes_whole_answers-said (Ok (Run pages patience format live)) asks bad h = λ ask. absurd (run-no_wire words pages patience format live asks ask)
@@ -365,6 +395,7 @@ module _ {S K : Type 0} (left : S → Option (List ℕ)) (faults : S → ℕ) (h
   no_memory_writes_whole_answers-said (Err words_fault.BadWords) asks bad h = λ ask. absurd (none-wires words (bad refl) ask)
   no_memory_writes_whole_answers-said (Err words_fault.Memory) asks bad h = λ ask e. subst (λ (k : K). IfSome (left source) (λ bytes. StopsAmong bytes (WroteWhole (held sink) (held k)))) (sym h.writes) (unopened-known (left source) (held sink))
 
+  -- what the call says by its clause no_memory_writes_whole_turns
   pub no_memory_writes_whole_turns-said : (asked : Result Asked WordsFault) → IfOk asked (λ a. AskFor words a) → (asked ≡ Err words_fault.BadWords → AreNoCommand words) → Performed left faults held sink_faults asked source source_now sink sink_now status
       → ((ask : AskToServe words) → status ≡ NoMemory → (held sink_now ≡ held sink) ⊎ IfSome (left source) (λ bytes. StopsServing ask.seats bytes (Appends (held sink) (held sink_now))))
   no_memory_writes_whole_turns-said (Ok (Run pages patience format live)) asks bad h = λ ask. absurd (run-no_serve words pages patience format live asks ask)
@@ -375,6 +406,7 @@ module _ {S K : Type 0} (left : S → Option (List ℕ)) (faults : S → ℕ) (h
   no_memory_writes_whole_turns-said (Err words_fault.BadWords) asks bad h = λ ask. absurd (none-serves words (bad refl) ask)
   no_memory_writes_whole_turns-said (Err words_fault.Memory) asks bad h = λ ask e. inl (ap held h.writes)
 
+  -- what the call says by its clause bad_wire
   pub bad_wire-said : (asked : Result Asked WordsFault) → IfOk asked (λ a. AskFor words a) → (asked ≡ Err words_fault.BadWords → AreNoCommand words) → Performed left faults held sink_faults asked source source_now sink sink_now status
       → ((fault : WireFault) → status ≡ BadWire fault → AskToWire words × IfSome (left source) (λ bytes. BreaksOff bytes fault (Appends (held sink) (held sink_now))))
   bad_wire-said (Ok (Run pages patience format live)) asks bad h = λ fault e. absurd (subst IsOfRun e h.own)
@@ -385,6 +417,7 @@ module _ {S K : Type 0} (left : S → Option (List ℕ)) (faults : S → ℕ) (h
   bad_wire-said (Err words_fault.BadWords) asks bad h = λ fault e. absurd (omega (arith, same-code h.is e))
   bad_wire-said (Err words_fault.Memory) asks bad h = λ fault e. absurd (omega (arith, same-code h.is e))
 
+  -- what the call says by its clause bad_wire_where_due
   pub bad_wire_where_due-said : (asked : Result Asked WordsFault) → IfOk asked (λ a. AskFor words a) → (asked ≡ Err words_fault.BadWords → AreNoCommand words) → Performed left faults held sink_faults asked source source_now sink sink_now status
       → ((fault : WireFault) → AskToWire words → IsSomeAnd (left source) (λ bytes. EndsIn bytes (Some fault)) → ¬ Rose (faults source) (faults source_now) → ¬ Rose (sink_faults sink) (sink_faults sink_now) → (status ≡ BadWire fault) ⊎ (status ≡ NoMemory))
   bad_wire_where_due-said (Ok (Run pages patience format live)) asks bad h = λ fault ask. absurd (run-no_wire words pages patience format live asks ask)
@@ -395,6 +428,7 @@ module _ {S K : Type 0} (left : S → Option (List ℕ)) (faults : S → ℕ) (h
   bad_wire_where_due-said (Err words_fault.BadWords) asks bad h = λ fault ask. absurd (none-wires words (bad refl) ask)
   bad_wire_where_due-said (Err words_fault.Memory) asks bad h = λ fault ask ends reads writes. inr h.is
 
+  -- what the call says by its clause bad_frame
   pub bad_frame-said : (asked : Result Asked WordsFault) → IfOk asked (λ a. AskFor words a) → (asked ≡ Err words_fault.BadWords → AreNoCommand words) → Performed left faults held sink_faults asked source source_now sink sink_now status
       → ((fault : FrameFault) → status ≡ BadFrame fault → (ask : AskToServe words) × IfSome (left source) (λ bytes. ServesAll ask.seats bytes (Some fault) (Appends (held sink) (held sink_now))))
   bad_frame-said (Ok (Run pages patience format live)) asks bad h = λ fault e. absurd (subst IsOfRun e h.own)
@@ -405,6 +439,7 @@ module _ {S K : Type 0} (left : S → Option (List ℕ)) (faults : S → ℕ) (h
   bad_frame-said (Err words_fault.BadWords) asks bad h = λ fault e. absurd (omega (arith, same-code h.is e))
   bad_frame-said (Err words_fault.Memory) asks bad h = λ fault e. absurd (omega (arith, same-code h.is e))
 
+  -- what the call says by its clause bad_frame_where_due
   pub bad_frame_where_due-said : (asked : Result Asked WordsFault) → IfOk asked (λ a. AskFor words a) → (asked ≡ Err words_fault.BadWords → AreNoCommand words) → Performed left faults held sink_faults asked source source_now sink sink_now status
       → ((fault : FrameFault) (ask : AskToServe words) → IsSomeAnd (left source) (λ bytes. HasFrames ask.seats bytes (Some fault)) → ¬ Rose (faults source) (faults source_now) → ¬ Rose (sink_faults sink) (sink_faults sink_now) → (status ≡ BadFrame fault) ⊎ (status ≡ NoMemory))
   bad_frame_where_due-said (Ok (Run pages patience format live)) asks bad h = λ fault ask. absurd (run-no_serve words pages patience format live asks ask)
@@ -415,6 +450,7 @@ module _ {S K : Type 0} (left : S → Option (List ℕ)) (faults : S → ℕ) (h
   bad_frame_where_due-said (Err words_fault.BadWords) asks bad h = λ fault ask. absurd (none-serves words (bad refl) ask)
   bad_frame_where_due-said (Err words_fault.Memory) asks bad h = λ fault ask ends reads writes. inr h.is
 
+  -- what the call says by its clause what_was_read
   pub what_was_read-said : (asked : Result Asked WordsFault) → IfOk asked (λ a. AskFor words a) → (asked ≡ Err words_fault.BadWords → AreNoCommand words) → Performed left faults held sink_faults asked source source_now sink sink_now status
       → (AskToRun words → HasRead status → IfSome (left source) (λ input. Consumes (left source) (left source_now) (take (INPUT_BYTES_MAX + 1) input)))
   what_was_read-said (Ok (Run pages patience format live)) asks bad h = λ ask. h.what_was_read
@@ -426,6 +462,7 @@ module _ {S K : Type 0} (left : S → Option (List ℕ)) (faults : S → ℕ) (h
   what_was_read-said (Err words_fault.BadWords) asks bad h = λ ask read. absurd (subst HasRead h.is read)
   what_was_read-said (Err words_fault.Memory) asks bad h = λ ask read. absurd (subst HasRead h.is read)
 
+  -- what the call says by its clause what_was_checked
   pub what_was_checked-said : (asked : Result Asked WordsFault) → IfOk asked (λ a. AskFor words a) → (asked ≡ Err words_fault.BadWords → AreNoCommand words) → Performed left faults held sink_faults asked source source_now sink sink_now status
       → (AskToCheck words → HasRead status → IfSome (left source) (λ input. Consumes (left source) (left source_now) (take (CHECK_BYTES_MAX + 1) input)))
   what_was_checked-said (Ok (Run pages patience format live)) asks bad h = λ ask. absurd (run-no_check words pages patience format live asks ask)
@@ -436,6 +473,7 @@ module _ {S K : Type 0} (left : S → Option (List ℕ)) (faults : S → ℕ) (h
   what_was_checked-said (Err words_fault.BadWords) asks bad h = λ ask read. absurd (subst HasRead h.is read)
   what_was_checked-said (Err words_fault.Memory) asks bad h = λ ask read. absurd (subst HasRead h.is read)
 
+  -- what the call says by its clause drill_reads_nothing
   pub drill_reads_nothing-said : (asked : Result Asked WordsFault) → IfOk asked (λ a. AskFor words a) → (asked ≡ Err words_fault.BadWords → AreNoCommand words) → Performed left faults held sink_faults asked source source_now sink sink_now status
       → (AskToDrill words → source_now ≡ source)
   drill_reads_nothing-said (Ok (Run pages patience format live)) asks bad h = λ ask.
@@ -447,6 +485,7 @@ module _ {S K : Type 0} (left : S → Option (List ℕ)) (faults : S → ℕ) (h
   drill_reads_nothing-said (Err words_fault.BadWords) asks bad h = λ ask. h.reads
   drill_reads_nothing-said (Err words_fault.Memory) asks bad h = λ ask. h.reads
 
+  -- what the call says by its clause complete
   pub complete-said : (asked : Result Asked WordsFault) → IfOk asked (λ a. AskFor words a) → (asked ≡ Err words_fault.BadWords → AreNoCommand words) → Performed left faults held sink_faults asked source source_now sink sink_now status
       → ((scenario : Scenario) → AskToRun words → IsSomeAnd (left source) (λ input. ReadsAsScenario input (Ok scenario)) → ¬ Rose (faults source) (faults source_now) → ¬ Rose (sink_faults sink) (sink_faults sink_now) → (status ≡ Done) ⊎ (status ≡ NoMemory))
   complete-said (Ok (Run pages patience format live)) asks bad h = λ scenario ask. h.complete scenario
@@ -459,6 +498,7 @@ module _ {S K : Type 0} (left : S → Option (List ℕ)) (faults : S → ℕ) (h
       absurd (none-runs words (bad refl) ask)
   complete-said (Err words_fault.Memory) asks bad h = λ scenario ask reads source_rose sink_rose. inr h.is
 
+  -- what the call says by its clause wire_complete
   pub wire_complete-said : (asked : Result Asked WordsFault) → IfOk asked (λ a. AskFor words a) → (asked ≡ Err words_fault.BadWords → AreNoCommand words) → Performed left faults held sink_faults asked source source_now sink sink_now status
       → (AskToWire words → IsSomeAnd (left source) (λ bytes. EndsIn bytes None) → ¬ Rose (faults source) (faults source_now) → ¬ Rose (sink_faults sink) (sink_faults sink_now) → (status ≡ Done) ⊎ (status ≡ NoMemory))
   wire_complete-said (Ok (Run pages patience format live)) asks bad h = λ ask. absurd (run-no_wire words pages patience format live asks ask)
@@ -469,6 +509,7 @@ module _ {S K : Type 0} (left : S → Option (List ℕ)) (faults : S → ℕ) (h
   wire_complete-said (Err words_fault.BadWords) asks bad h = λ ask. absurd (none-wires words (bad refl) ask)
   wire_complete-said (Err words_fault.Memory) asks bad h = λ ask ends reads writes. inr h.is
 
+  -- what the call says by its clause serve_complete
   pub serve_complete-said : (asked : Result Asked WordsFault) → IfOk asked (λ a. AskFor words a) → (asked ≡ Err words_fault.BadWords → AreNoCommand words) → Performed left faults held sink_faults asked source source_now sink sink_now status
       → ((ask : AskToServe words) → IsSomeAnd (left source) (λ bytes. HasFrames ask.seats bytes None) → ¬ Rose (faults source) (faults source_now) → ¬ Rose (sink_faults sink) (sink_faults sink_now) → (status ≡ Done) ⊎ (status ≡ NoMemory))
   serve_complete-said (Ok (Run pages patience format live)) asks bad h = λ ask. absurd (run-no_serve words pages patience format live asks ask)
@@ -479,6 +520,7 @@ module _ {S K : Type 0} (left : S → Option (List ℕ)) (faults : S → ℕ) (h
   serve_complete-said (Err words_fault.BadWords) asks bad h = λ ask. absurd (none-serves words (bad refl) ask)
   serve_complete-said (Err words_fault.Memory) asks bad h = λ ask ends reads writes. inr h.is
 
+  -- what the call says by its clause check_complete
   pub check_complete-said : (asked : Result Asked WordsFault) → IfOk asked (λ a. AskFor words a) → (asked ≡ Err words_fault.BadWords → AreNoCommand words) → Performed left faults held sink_faults asked source source_now sink sink_now status
       → ((ask : AskToCheck words) → IsSomeAnd (left source) (λ input. IsJudged (asked_settings ask) input verdict.Legal) → ¬ Rose (faults source) (faults source_now) → ¬ Rose (sink_faults sink) (sink_faults sink_now) → (status ≡ Done) ⊎ (status ≡ NoMemory))
   check_complete-said (Ok (Run pages patience format live)) asks bad h = λ ask. absurd (run-no_check words pages patience format live asks ask)
@@ -489,6 +531,7 @@ module _ {S K : Type 0} (left : S → Option (List ℕ)) (faults : S → ℕ) (h
   check_complete-said (Err words_fault.BadWords) asks bad h = λ ask. absurd (none-checks words (bad refl) ask)
   check_complete-said (Err words_fault.Memory) asks bad h = λ ask judged reads writes. inr h.is
 
+  -- what the call says by its clause drill_complete
   pub drill_complete-said : (asked : Result Asked WordsFault) → IfOk asked (λ a. AskFor words a) → (asked ≡ Err words_fault.BadWords → AreNoCommand words) → Performed left faults held sink_faults asked source source_now sink sink_now status
       → (AskToDrill words → ¬ Rose (sink_faults sink) (sink_faults sink_now) → (status ≡ Done) ⊎ (status ≡ NoMemory))
   drill_complete-said (Ok (Run pages patience format live)) asks bad h = λ ask rose.

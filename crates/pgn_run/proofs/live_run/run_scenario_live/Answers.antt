@@ -80,8 +80,8 @@ returns-in-Err-Write-clause-write_fault_writes_a_prefix g c = λ e.
     let scripts = c.run_live.ensures.scripts ∙ ap (λ (sessions : List (Session g.row.H-Pass.Denot)). map script_of sessions) c.as_mut_slice.ensures.value ∙ c.in-Ok.ensures.scripts in
     inr (early-over c.args.scenario.now (g.H.Hub.shape c.in-Ok.hub) c.args.pages c.args.patience c.args.format new c.requires.sound c.in-Ok.ensures.shape scripts (AppendsPrefix (g.K.Sink.held c.args.sink.now) (g.K.Sink.held c.run_live.new.sink)) c.run_live.ensures.lawful (rw c.as_slice-sections.ensures at (c.run_live.ensures.write_writes_a_prefix (c.in-Err-Write.is ∙ ap Err c.in-Err-Write.field-0-is))))
 
-pub returns-clause-no_memory_writes_first_lines : goal.returns-clause-no_memory_writes_first_lines
-returns-clause-no_memory_writes_first_lines g c = λ e.
+pub returns-in-Err-Memory-clause-no_memory_writes_first_lines : goal.returns-in-Err-Memory-clause-no_memory_writes_first_lines
+returns-in-Err-Memory-clause-no_memory_writes_first_lines g c = λ e.
     let new : List (Session g.row.H-Pass.Denot) = c.run_live.new.sessions in
     let scripts = c.run_live.ensures.scripts ∙ ap (λ (sessions : List (Session g.row.H-Pass.Denot)). map script_of sessions) c.as_mut_slice.ensures.value ∙ c.in-Ok.ensures.scripts in
     inr (so_far-over c.args.scenario.now (g.H.Hub.shape c.in-Ok.hub) c.args.pages c.args.patience c.args.format new c.requires.sound c.in-Ok.ensures.shape scripts (Appends (g.K.Sink.held c.args.sink.now) (g.K.Sink.held c.run_live.new.sink)) c.run_live.ensures.lawful (rw c.as_slice-sections.ensures at (c.run_live.ensures.memory_writes_first_items (c.in-Err-Memory.is ∙ ap Err c.in-Err-Memory.field-0-is))))
