@@ -49,7 +49,7 @@ fewer-shown lexeme.End at tokens n = absurd (n refl)
 
 -- what is left out of the front is left out of the whole
 pub take-front : {X : Type 0} (n : ℕ) (front back : List X) → take n (take n front ++ back) ≡ take n (front ++ back)
-take-front n front back = elim (cases_lt (length front) n) [
+take-front {X = X} n front back = elim (cases_lt (length front) n) [
   | inl l ↦ let few : length front ≤ n = omega arith in ap (λ (some : List X). take n (some ++ back)) (take_all n front few)
   | inr l ↦
       let size : length (take n front) ≡ n = omega (arith, length-take n front) in

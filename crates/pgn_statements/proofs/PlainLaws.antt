@@ -15,6 +15,24 @@ plain-step mode made bytes i l =
     append_assoc made (mode_gives mode (get_or bytes i 0)) (plain_from (next_mode mode (get_or bytes i 0)) (drop (i + 1) bytes))
     ∙ ap (λ (some : List ℕ). made ++ plain_from mode some) (sym (drop_more bytes i 0 l))
 
+-- the other of two
+pub pick_no : {A : Type 0} (x : Bool) (one other : A) → x ≡ false → cond x one other ≡ other
+pick_no true one other e = absurd (false≢true (sym e))
+pick_no false one other e = refl
+
+-- a byte after one that was held back, with which it begins no comment
+pub slash-gives : (b : ℕ) → (b == 42) ≡ false → mode_gives Slash b ≡ 47 ∷ given b
+slash-gives b e = pick_no (b == 42) [] (47 ∷ given b) e
+
+pub slash-next : (b : ℕ) → (b == 42) ≡ false → next_mode Slash b ≡ entered b
+slash-next b e = pick_no (b == 42) (Comment 0) (entered b) e
+
+pub dash-gives : (b : ℕ) → (b == 45) ≡ false → mode_gives Dash b ≡ 45 ∷ given b
+dash-gives b e = pick_no (b == 45) [] (45 ∷ given b) e
+
+pub dash-next : (b : ℕ) → (b == 45) ≡ false → next_mode Dash b ≡ entered b
+dash-next b e = pick_no (b == 45) Rest (entered b) e
+
 -- what is held back
 abbrev pub held : Mode → List ℕ
 held Slash = 47 ∷ []
@@ -131,7 +149,8 @@ calm-plain Slash before (b ∷ bytes) f c =
 calm-plain Dash before (b ∷ bytes) f c =
     let parts = calm-parts before b bytes c in
     let other : (b == 45) ≡ false = subst (λ (x : ℕ). (x == 45 && b == 45) ≡ false) f parts.dash in
-    rw other (ap (λ (some : List ℕ). 45 ∷ some) (outside-plain b bytes parts.unbroken (calm-plain (entered b) b bytes (follows-entered b) parts.rest)))
+    ap (λ (some : List ℕ). some ++ plain_from (next_mode Dash b) bytes) (dash-gives b other) ∙ ap (λ (m : Mode). (45 ∷ given b) ++ plain_from m bytes) (dash-next b other)
+    ∙ ap (λ (some : List ℕ). 45 ∷ some) (outside-plain b bytes parts.unbroken (calm-plain (entered b) b bytes (follows-entered b) parts.rest))
 calm-plain Single before (b ∷ bytes) f c =
     let parts = calm-parts before b bytes c in
     elim (cases_Bool (b == 39)) [
@@ -187,7 +206,10 @@ room-left depth = elim (cases_Bool (depth == 0)) [ inl e ↦ rw e (omega arith) 
 room-step : (mode : Mode) (b : ℕ) → Within (mode_gives mode b) (next_mode mode b) (room mode + 1)
 room-step Outside b = room-entered b
 room-step Slash b = let h = room-entered b in elim (cases_Bool (b == 42)) [ inl e ↦ rw e (omega arith) | inr e ↦ rw e (omega arith) ]
-room-step Dash b = let h = room-entered b in elim (cases_Bool (b == 45)) [ inl e ↦ rw e (omega arith) | inr e ↦ rw e (omega arith) ]
+room-step Dash b = let h = room-entered b in elim (cases_Bool (b == 45)) [
+  | inl e ↦ subst (λ (x : ℕ). Within (mode_gives Dash x) (next_mode Dash x) 2) (sym (eqb-true b 45 e)) (omega arith)
+  | inr e ↦ omega (arith, ap length (dash-gives b e), ap room (dash-next b e))
+]
 room-step Single b = elim (cases_Bool (b == 39)) [ inl e ↦ rw e (omega arith) | inr e ↦ rw e (omega arith) ]
 room-step Double b = elim (cases_Bool (b == 34)) [ inl e ↦ rw e (omega arith) | inr e ↦ rw e (omega arith) ]
 room-step (Comment depth) b = omega (arith, room-commented depth b)
@@ -221,7 +243,10 @@ nul-given b n = by_byte (λ x. NoNul (given x)) b (solid 32 (omega arith)) tt tt
 nul-gives : (mode : Mode) (b : ℕ) → (b ≡ 0 → ⊥) → NoNul (mode_gives mode b)
 nul-gives Outside b n = nul-given b n
 nul-gives Slash b n = elim (cases_Bool (b == 42)) [ inl e ↦ rw e tt | inr e ↦ rw e (nul-both (47 ∷ []) (given b) (solid 47 (omega arith)) (nul-given b n)) ]
-nul-gives Dash b n = elim (cases_Bool (b == 45)) [ inl e ↦ rw e tt | inr e ↦ rw e (nul-both (45 ∷ []) (given b) (solid 45 (omega arith)) (nul-given b n)) ]
+nul-gives Dash b n = elim (cases_Bool (b == 45)) [
+  | inl e ↦ subst (λ (x : ℕ). NoNul (mode_gives Dash x)) (sym (eqb-true b 45 e)) tt
+  | inr e ↦ subst (λ (some : List ℕ). NoNul some) (sym (dash-gives b e)) (nul-both (45 ∷ []) (given b) (solid 45 (omega arith)) (nul-given b n))
+]
 nul-gives Single b n = (n, tt)
 nul-gives Double b n = (n, tt)
 nul-gives (Comment depth) b n = tt

@@ -7,7 +7,7 @@ use crate::assigning::{reset, set, show};
 use crate::lexemes::collect_spread;
 use crate::lines::{commanded, unread};
 use crate::transaction_modes::{are_modes, past_work};
-use crate::words::{after_one, are_two, is_all_of, is_call, is_key, is_number_one, is_one};
+use crate::words::{after_one, are_two, is_all_of, is_call, is_key, is_one, is_one_number};
 use pgn_base::Command;
 use pgn_command::Lexeme;
 use pgn_requests::{Request, Settled, TOKENS_MAX};
@@ -101,7 +101,7 @@ fn start(alloc: Global, text: &str, at: u32, lexemes: &[Lexeme<'_>]) -> Result<R
 fn select(alloc: Global, text: &str, at: u32, lexemes: &[Lexeme<'_>]) -> Result<Request, AllocError>
     ensures { IfOk result (λ request. request ≡ told.select_asks text.now at (all_meant lexemes.now)) }
 {
-    if is_number_one(lexemes) {
+    if is_one_number(lexemes, "1") {
         return Ok(Request::Settles(Settled::One));
     }
     if is_call(lexemes, "version") {

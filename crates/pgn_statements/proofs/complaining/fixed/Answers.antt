@@ -1,0 +1,4 @@
+use Rattle.pgn_statements.proofs.complaining.fixed.Goals as goal
+
+pub returns : goal.returns
+returns c = ?
