@@ -213,8 +213,14 @@ room-step Dash b = let h = room-entered b in elim (cases_Bool (b == 45)) [
 room-step Single b = elim (cases_Bool (b == 39)) [ inl e ↦ rw e (omega arith) | inr e ↦ rw e (omega arith) ]
 room-step Double b = elim (cases_Bool (b == 34)) [ inl e ↦ rw e (omega arith) | inr e ↦ rw e (omega arith) ]
 room-step (Comment depth) b = omega (arith, room-commented depth b)
-room-step (Star depth) b = elim (cases_Bool (b == 47)) [ inl e ↦ rw e (room-left depth) | inr e ↦ rw e (omega (arith, room-commented depth b)) ]
-room-step (Open depth) b = elim (cases_Bool (b == 42)) [ inl e ↦ rw e (omega arith) | inr e ↦ rw e (omega (arith, room-commented depth b)) ]
+room-step (Star depth) b = elim (cases_Bool (b == 47)) [
+  | inl e ↦ subst (λ (x : ℕ). Within (mode_gives (Star depth) x) (next_mode (Star depth) x) 2) (sym (eqb-true b 47 e)) (room-left depth)
+  | inr e ↦ omega (arith, ap length (pick_no (b == 47) (left_gives depth) [] e), ap room (pick_no (b == 47) (left depth) (commented depth b) e), room-commented depth b)
+]
+room-step (Open depth) b = elim (cases_Bool (b == 42)) [
+  | inl e ↦ subst (λ (x : ℕ). Within (mode_gives (Open depth) x) (next_mode (Open depth) x) 2) (sym (eqb-true b 42 e)) (omega arith)
+  | inr e ↦ omega (arith, ap room (pick_no (b == 42) (Comment (depth + 1)) (commented depth b) e), room-commented depth b)
+]
 room-step Rest b = elim (cases_Bool (b == 10)) [ inl e ↦ rw e (omega arith) | inr e ↦ rw e (omega arith) ]
 
 pub plain-length : (mode : Mode) (bytes : List ℕ) → length (plain_from mode bytes) ≤ room mode + length bytes

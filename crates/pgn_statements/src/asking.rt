@@ -1,4 +1,4 @@
-ghost use Rattle.std.specs.Prelude.{◌≡◌, ◌≤◌, length, IfOk};
+ghost use Rattle.std.specs.Prelude.{◌≡◌, ◌≤◌, ◌∷◌, length, IfOk};
 ghost use Rattle.pgn_base.specs.declared.limits.TheConstants.{LINE_BYTES_MAX};
 ghost use Rattle.pgn_requests.specs.Phrases as told;
 ghost use Rattle.pgn_statements.specs.Lexemes.{meant, all_meant};
@@ -30,9 +30,22 @@ pub fn asked_of(alloc: Global, text: &str, at: u32) -> Result<Request, AllocErro
 fn asked(alloc: Global, text: &str, at: u32, lexemes: &[Lexeme<'_>]) -> Result<Request, AllocError>
     ensures { IfOk result (λ request. request ≡ told.asks text.now at (all_meant lexemes.now)) }
 {
-    let [first, rest @ ..] = lexemes else {
-        return unread(alloc, text, at);
-    };
+    match lexemes {
+        [first, rest @ ..] => asked_by(alloc, text, at, first, rest),
+        [] => unread(alloc, text, at),
+    }
+}
+
+// What the tokens ask for, by the first of them.
+fn asked_by(
+    alloc: Global,
+    text: &str,
+    at: u32,
+    first: &Lexeme<'_>,
+    rest: &[Lexeme<'_>],
+) -> Result<Request, AllocError>
+    ensures { IfOk result (λ request. request ≡ told.asks text.now at (meant first.now ∷ all_meant rest.now)) }
+{
     if is_key(first, "set") {
         return set(alloc, text, at, rest);
     }
