@@ -6,7 +6,8 @@ use Rattle.pgn_language.proofs.CleanTokens.{NoNul, nul-from, nul-none}
 use Rattle.pgn_requests.specs.declared.mode.Mode.{Mode}
 use Rattle.pgn_requests.specs.declared.mode.Mode.TheVariants.{Outside, Slash, Dash, Single, Double, Comment, Star, Open, Rest}
 use Rattle.pgn_requests.specs.Texts.{entered, commented, left, next_mode, given, left_gives, mode_gives, end_gives, plain_from, plain}
-use Rattle.pgn_statements.specs.Modes.{is_break, is_calm}
+use Rattle.std.specs.List.{list_all}
+use Rattle.pgn_statements.specs.Modes.{is_bland, is_break, is_calm}
 
 -- one byte more of a text
 pub plain-step : (mode : Mode) (made bytes : List ℕ) (i : ℕ) → i < length bytes
@@ -95,6 +96,28 @@ follows-entered b = by_byte (λ x. Follows (entered x) x) b tt refl refl tt tt t
 gives-entered : (b : ℕ) (bytes : List ℕ) → (b == 10) ≡ false → given b ++ held (entered b) ++ bytes ≡ b ∷ bytes
 gives-entered b bytes n = by_byte (λ x. (x == 10) ≡ false → given x ++ held (entered x) ++ bytes ≡ x ∷ bytes) b
     (λ m. absurd (false≢true (sym m))) (λ m. refl) (λ m. refl) (λ m. refl) (λ m. refl) (λ m. refl) (λ o m. rw (other-given b o, other-entered b o) refl) n
+
+-- bytes of which none begins a comment or is a line feed are calm, behind such a byte
+bland-calm_from : (before : ℕ) (bytes : List ℕ) → (before == 47) ≡ false → (before == 45) ≡ false → list_all is_bland bytes ≡ true → is_calm before bytes ≡ true
+bland-calm_from before [] slash dash all = refl
+bland-calm_from before (b ∷ bytes) slash dash all =
+    let parts = and_parts (is_bland b) (list_all is_bland bytes) all in
+    elim (cases_Bool (b == 10)) [
+      | inl e ↦ absurd (false≢true (sym (rw e refl) ∙ parts.0))
+      | inr e ↦ elim (cases_Bool (b == 47)) [
+        | inl f ↦ absurd (false≢true (sym (rw (e, f) refl) ∙ parts.0))
+        | inr f ↦ elim (cases_Bool (b == 45)) [
+          | inl h ↦ absurd (false≢true (sym (rw (e, f, h) refl) ∙ parts.0))
+          | inr h ↦ rw (e, slash, dash) (bland-calm_from b bytes f h parts.1)
+        ]
+      ]
+    ]
+
+-- so is a text of such bytes
+pub bland-calm : (text : List ℕ) → list_all is_bland text ≡ true → is_calm 0 text ≡ true
+bland-calm text all = bland-calm_from 0 text refl refl all
+
+pub ruleset bland_laws = (bland-calm)
 
 -- a byte that is a break, and one that is none
 calm-stop : (before b : ℕ) (bytes : List ℕ) → is_break before b ≡ true → is_calm before (b ∷ bytes) ≡ false
