@@ -152,25 +152,46 @@ start_asks text at lexemes = going (after_one (codes "transaction") lexemes) (λ
 
 -- Constants and calls.
 
--- the number 1 and nothing else
-abbrev pub is_number_one : List Lexeme → Bool
-is_number_one (Number digits ∷ []) = bytes_eq (codes "1") digits
-is_number_one lexemes = false
+-- the number that is written so
+abbrev pub is_number : List ℕ → Lexeme → Bool
+is_number written (Number digits) = bytes_eq written digits
+is_number written lexeme = false
+
+-- one number, and nothing else
+abbrev pub is_one_number : List ℕ → List Lexeme → Bool
+is_one_number written (a ∷ []) = is_number written a
+is_one_number written lexemes = false
+
+-- the tokens after a `*` and FROM, if they begin with these
+abbrev pub after_all_from : List Lexeme → Option (List Lexeme)
+after_all_from (a ∷ b ∷ lexemes) = cond (fits_slot (Punct (byte "*")) a && is_key (codes "from") b) (Some lexemes) None
+after_all_from lexemes = None
 
 -- a `*`, FROM, and then a call of this function without arguments
 abbrev pub is_all_of : List ℕ → List Lexeme → Bool
-is_all_of word (a ∷ b ∷ lexemes) = fits_slot (Punct (byte "*")) a && is_key (codes "from") b && is_call word lexemes
-is_all_of word lexemes = false
+is_all_of word lexemes = going (after_all_from lexemes) (is_call word) false
 
 -- after SELECT
 abbrev pub select_asks : List ℕ → ℕ → List Lexeme → Request
 select_asks text at lexemes =
-    cond (is_number_one lexemes) (Settles settled.One)
+    cond (is_one_number (codes "1") lexemes) (Settles settled.One)
     (cond (is_call (codes "version") lexemes) (Settles settled.Version)
     (cond (is_call (codes "pg_backend_pid") lexemes) (Settles settled.Process)
     (cond (is_all_of (codes "pg_listening_channels") lexemes) (commanded text command.ListeningChannels) (unread text at))))
 
 -- Settings.
+
+-- the setting of this name among the last eight
+abbrev pub later_named : List ℕ → Option Setting
+later_named name =
+    cond (str_eq_ignore_ascii_case (codes "server_version") name) (Some setting.ServerVersion)
+    (cond (str_eq_ignore_ascii_case (codes "session_authorization") name) (Some setting.SessionAuthorization)
+    (cond (str_eq_ignore_ascii_case (codes "standard_conforming_strings") name) (Some setting.StandardConformingStrings)
+    (cond (str_eq_ignore_ascii_case (codes "TimeZone") name) (Some setting.TimeZone)
+    (cond (str_eq_ignore_ascii_case (codes "client_min_messages") name) (Some setting.ClientMinMessages)
+    (cond (str_eq_ignore_ascii_case (codes "extra_float_digits") name) (Some setting.ExtraFloatDigits)
+    (cond (str_eq_ignore_ascii_case (codes "transaction_isolation") name) (Some setting.TransactionIsolation)
+    (cond (str_eq_ignore_ascii_case (codes "transaction_read_only") name) (Some setting.TransactionReadOnly) None)))))))
 
 -- the setting of this name, without regard to ASCII case
 abbrev pub setting_named : List ℕ → Option Setting
@@ -183,15 +204,7 @@ setting_named name =
     (cond (str_eq_ignore_ascii_case (codes "integer_datetimes") name) (Some setting.IntegerDatetimes)
     (cond (str_eq_ignore_ascii_case (codes "IntervalStyle") name) (Some setting.IntervalStyle)
     (cond (str_eq_ignore_ascii_case (codes "is_superuser") name) (Some setting.IsSuperuser)
-    (cond (str_eq_ignore_ascii_case (codes "server_encoding") name) (Some setting.ServerEncoding)
-    (cond (str_eq_ignore_ascii_case (codes "server_version") name) (Some setting.ServerVersion)
-    (cond (str_eq_ignore_ascii_case (codes "session_authorization") name) (Some setting.SessionAuthorization)
-    (cond (str_eq_ignore_ascii_case (codes "standard_conforming_strings") name) (Some setting.StandardConformingStrings)
-    (cond (str_eq_ignore_ascii_case (codes "TimeZone") name) (Some setting.TimeZone)
-    (cond (str_eq_ignore_ascii_case (codes "client_min_messages") name) (Some setting.ClientMinMessages)
-    (cond (str_eq_ignore_ascii_case (codes "extra_float_digits") name) (Some setting.ExtraFloatDigits)
-    (cond (str_eq_ignore_ascii_case (codes "transaction_isolation") name) (Some setting.TransactionIsolation)
-    (cond (str_eq_ignore_ascii_case (codes "transaction_read_only") name) (Some setting.TransactionReadOnly) None))))))))))))))))
+    (cond (str_eq_ignore_ascii_case (codes "server_encoding") name) (Some setting.ServerEncoding) (later_named name)))))))))
 
 -- the text of a word or of a quoted identifier
 abbrev pub ident_text : Lexeme → List ℕ

@@ -33,6 +33,16 @@ encoding letters =
 abbrev pub closed_up : List ℕ → List ℕ
 closed_up value = str_to_ascii_lowercase (filter (λ b. not (is_blank b)) value)
 
+-- the older styles of dates
+abbrev pub older_style : List ℕ → Option (List ℕ)
+older_style words =
+    cond (bytes_eq (codes "postgres") words || bytes_eq (codes "postgres,mdy") words) (Some (codes "Postgres, MDY"))
+    (cond (bytes_eq (codes "postgres,dmy") words) (Some (codes "Postgres, DMY"))
+    (cond (bytes_eq (codes "postgres,ymd") words) (Some (codes "Postgres, YMD"))
+    (cond (bytes_eq (codes "german") words || bytes_eq (codes "german,dmy") words) (Some (codes "German, DMY"))
+    (cond (bytes_eq (codes "german,mdy") words) (Some (codes "German, MDY"))
+    (cond (bytes_eq (codes "german,ymd") words) (Some (codes "German, YMD")) None)))))
+
 -- a style of dates by its words: how a date is written, the order of its parts, or both with a comma
 abbrev pub date_style : List ℕ → Option (List ℕ)
 date_style words =
@@ -41,13 +51,7 @@ date_style words =
     (cond (bytes_eq (codes "ymd") words || bytes_eq (codes "iso,ymd") words) (Some (codes "ISO, YMD"))
     (cond (bytes_eq (codes "sql") words || bytes_eq (codes "sql,mdy") words) (Some (codes "SQL, MDY"))
     (cond (bytes_eq (codes "sql,dmy") words) (Some (codes "SQL, DMY"))
-    (cond (bytes_eq (codes "sql,ymd") words) (Some (codes "SQL, YMD"))
-    (cond (bytes_eq (codes "postgres") words || bytes_eq (codes "postgres,mdy") words) (Some (codes "Postgres, MDY"))
-    (cond (bytes_eq (codes "postgres,dmy") words) (Some (codes "Postgres, DMY"))
-    (cond (bytes_eq (codes "postgres,ymd") words) (Some (codes "Postgres, YMD"))
-    (cond (bytes_eq (codes "german") words || bytes_eq (codes "german,dmy") words) (Some (codes "German, DMY"))
-    (cond (bytes_eq (codes "german,mdy") words) (Some (codes "German, MDY"))
-    (cond (bytes_eq (codes "german,ymd") words) (Some (codes "German, YMD")) None)))))))))))
+    (cond (bytes_eq (codes "sql,ymd") words) (Some (codes "SQL, YMD")) (older_style words))))))
 
 -- on, or a beginning of true or of yes, or 1
 abbrev pub says_on : List ℕ → Bool

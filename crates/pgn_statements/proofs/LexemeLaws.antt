@@ -1,7 +1,7 @@
 -- Laws of tokens, up to one more than a text may have.
 use Rattle.std.proofs.Common.{◌≡◌, ℕ, ◌+◌, ◌<◌, ◌≤◌, Bool, true, false, cond, inl, inr, List, [], ◌∷◌, ◌++◌, map, length, take, drop, sym, ap, ◌∙◌, refl, subst, arith, append_assoc, length-append}
 use Rattle.std.specs.Prelude.{nat_le}
-use Rattle.std.proofs.lemmas.Bool.{cases_lt, cases_Bool}
+use Rattle.std.proofs.lemmas.Bool.{cases_lt, false≢true}
 use Rattle.std.proofs.lemmas.Bool.Decides.{nat_tests}
 use Rattle.std.proofs.lemmas.List.{take_all, take-append-le, take_at, length-take, length-map, map-append, append-nil}
 use Rattle.pgn_language.specs.Tokens as model
@@ -12,6 +12,7 @@ use Rattle.pgn_command.specs.Lexing.{shown, EndsAt}
 use Rattle.pgn_requests.specs.Phrases.{few}
 use Rattle.pgn_requests.specs.Reading.{first_lexeme}
 use Rattle.pgn_statements.specs.Lexemes.{meant, all_meant, some_of}
+use Rattle.pgn_statements.specs.Steps.{ends}
 
 -- the token that is read is the first
 pub first-shown : (one : Lexeme) (at next end : ℕ) (rest : List ℕ) → EndsAt one at rest end → meant one ≡ first_lexeme (shown one at (model.tokens_from next 0 rest))
@@ -27,29 +28,39 @@ first-shown lexeme.End at next end rest e = subst (λ (some : List ℕ). model.W
 pub end-shown : (at next end : ℕ) (rest : List ℕ) → EndsAt lexeme.End at rest end → lexemes_of (shown lexeme.End at (model.tokens_from next 0 rest)) ≡ []
 end-shown at next end rest e = ap (λ (some : List ℕ). lexemes_of (model.tokens_from next 0 some)) e.1
 
--- where it is not, the token and then the others are
-pub token-shown : (one : Lexeme) (at : ℕ) (tokens : List model.Token) → (one ≡ lexeme.End → ⊥) → lexemes_of (shown one at tokens) ≡ meant one ∷ lexemes_of tokens
+-- the same, where it is read of these tokens
+pub ended-none : (one : Lexeme) (at next end : ℕ) (rest : List ℕ) (whole : List model.Token) → whole ≡ shown one at (model.tokens_from next 0 rest) → EndsAt one at rest end → ends one ≡ true → lexemes_of whole ≡ []
+ended-none (lexeme.Word text) at next end rest whole w e t = absurd (false≢true t)
+ended-none (lexeme.Quoted inside) at next end rest whole w e t = absurd (false≢true t)
+ended-none (lexeme.Literal inside) at next end rest whole w e t = absurd (false≢true t)
+ended-none (lexeme.Number digits) at next end rest whole w e t = absurd (false≢true t)
+ended-none (lexeme.Sign sign) at next end rest whole w e t = absurd (false≢true t)
+ended-none lexeme.Wrong at next end rest whole w e t = absurd (false≢true t)
+ended-none lexeme.End at next end rest whole w e t = ap lexemes_of w ∙ end-shown at next end rest e
+
+-- where another is read, it and then the others are left
+pub token-shown : (one : Lexeme) (at : ℕ) (tokens : List model.Token) → ends one ≡ false → lexemes_of (shown one at tokens) ≡ meant one ∷ lexemes_of tokens
 token-shown (lexeme.Word text) at tokens n = refl
 token-shown (lexeme.Quoted inside) at tokens n = refl
 token-shown (lexeme.Literal inside) at tokens n = refl
 token-shown (lexeme.Number digits) at tokens n = refl
 token-shown (lexeme.Sign sign) at tokens n = refl
 token-shown lexeme.Wrong at tokens n = refl
-token-shown lexeme.End at tokens n = absurd (n refl)
+token-shown lexeme.End at tokens n = absurd (false≢true (sym n))
 
 -- a text has one token fewer after it
-pub fewer-shown : (one : Lexeme) (at : ℕ) (tokens : List model.Token) → (one ≡ lexeme.End → ⊥) → length (shown one at tokens) ≡ length tokens + 1
+pub fewer-shown : (one : Lexeme) (at : ℕ) (tokens : List model.Token) → ends one ≡ false → length (shown one at tokens) ≡ length tokens + 1
 fewer-shown (lexeme.Word text) at tokens n = omega arith
 fewer-shown (lexeme.Quoted inside) at tokens n = omega arith
 fewer-shown (lexeme.Literal inside) at tokens n = omega arith
 fewer-shown (lexeme.Number digits) at tokens n = omega arith
 fewer-shown (lexeme.Sign sign) at tokens n = omega arith
 fewer-shown lexeme.Wrong at tokens n = omega arith
-fewer-shown lexeme.End at tokens n = absurd (n refl)
+fewer-shown lexeme.End at tokens n = absurd (false≢true (sym n))
 
 -- what is left out of the front is left out of the whole
 pub take-front : {X : Type 0} (n : ℕ) (front back : List X) → take n (take n front ++ back) ≡ take n (front ++ back)
-take-front n front back = elim (cases_lt (length front) n) [
+take-front {X = X} n front back = elim (cases_lt (length front) n) [
   | inl l ↦ let few : length front ≤ n = omega arith in ap (λ (some : List X). take n (some ++ back)) (take_all n front few)
   | inr l ↦
       let size : length (take n front) ≡ n = omega (arith, length-take n front) in

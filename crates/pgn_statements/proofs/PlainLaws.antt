@@ -6,7 +6,8 @@ use Rattle.pgn_language.proofs.CleanTokens.{NoNul, nul-from, nul-none}
 use Rattle.pgn_requests.specs.declared.mode.Mode.{Mode}
 use Rattle.pgn_requests.specs.declared.mode.Mode.TheVariants.{Outside, Slash, Dash, Single, Double, Comment, Star, Open, Rest}
 use Rattle.pgn_requests.specs.Texts.{entered, commented, left, next_mode, given, left_gives, mode_gives, end_gives, plain_from, plain}
-use Rattle.pgn_statements.specs.Modes.{is_break, is_calm}
+use Rattle.std.specs.List.{list_all}
+use Rattle.pgn_statements.specs.Modes.{is_bland, is_break, is_calm}
 
 -- one byte more of a text
 pub plain-step : (mode : Mode) (made bytes : List ℕ) (i : ℕ) → i < length bytes
@@ -14,6 +15,24 @@ pub plain-step : (mode : Mode) (made bytes : List ℕ) (i : ℕ) → i < length 
 plain-step mode made bytes i l =
     append_assoc made (mode_gives mode (get_or bytes i 0)) (plain_from (next_mode mode (get_or bytes i 0)) (drop (i + 1) bytes))
     ∙ ap (λ (some : List ℕ). made ++ plain_from mode some) (sym (drop_more bytes i 0 l))
+
+-- the other of two
+pub pick_no : {A : Type 0} (x : Bool) (one other : A) → x ≡ false → cond x one other ≡ other
+pick_no true one other e = absurd (false≢true (sym e))
+pick_no false one other e = refl
+
+-- a byte after one that was held back, with which it begins no comment
+pub slash-gives : (b : ℕ) → (b == 42) ≡ false → mode_gives Slash b ≡ 47 ∷ given b
+slash-gives b e = pick_no (b == 42) [] (47 ∷ given b) e
+
+pub slash-next : (b : ℕ) → (b == 42) ≡ false → next_mode Slash b ≡ entered b
+slash-next b e = pick_no (b == 42) (Comment 0) (entered b) e
+
+pub dash-gives : (b : ℕ) → (b == 45) ≡ false → mode_gives Dash b ≡ 45 ∷ given b
+dash-gives b e = pick_no (b == 45) [] (45 ∷ given b) e
+
+pub dash-next : (b : ℕ) → (b == 45) ≡ false → next_mode Dash b ≡ entered b
+dash-next b e = pick_no (b == 45) Rest (entered b) e
 
 -- what is held back
 abbrev pub held : Mode → List ℕ
@@ -78,6 +97,28 @@ gives-entered : (b : ℕ) (bytes : List ℕ) → (b == 10) ≡ false → given b
 gives-entered b bytes n = by_byte (λ x. (x == 10) ≡ false → given x ++ held (entered x) ++ bytes ≡ x ∷ bytes) b
     (λ m. absurd (false≢true (sym m))) (λ m. refl) (λ m. refl) (λ m. refl) (λ m. refl) (λ m. refl) (λ o m. rw (other-given b o, other-entered b o) refl) n
 
+-- bytes of which none begins a comment or is a line feed are calm, behind such a byte
+bland-calm_from : (before : ℕ) (bytes : List ℕ) → (before == 47) ≡ false → (before == 45) ≡ false → list_all is_bland bytes ≡ true → is_calm before bytes ≡ true
+bland-calm_from before [] slash dash all = refl
+bland-calm_from before (b ∷ bytes) slash dash all =
+    let parts = and_parts (is_bland b) (list_all is_bland bytes) all in
+    elim (cases_Bool (b == 10)) [
+      | inl e ↦ absurd (false≢true (sym (rw e refl) ∙ parts.0))
+      | inr e ↦ elim (cases_Bool (b == 47)) [
+        | inl f ↦ absurd (false≢true (sym (rw (e, f) refl) ∙ parts.0))
+        | inr f ↦ elim (cases_Bool (b == 45)) [
+          | inl h ↦ absurd (false≢true (sym (rw (e, f, h) refl) ∙ parts.0))
+          | inr h ↦ rw (e, slash, dash) (bland-calm_from b bytes f h parts.1)
+        ]
+      ]
+    ]
+
+-- so is a text of such bytes
+pub bland-calm : (text : List ℕ) → list_all is_bland text ≡ true → is_calm 0 text ≡ true
+bland-calm text all = bland-calm_from 0 text refl refl all
+
+pub ruleset bland_laws = (bland-calm)
+
 -- a byte that is a break, and one that is none
 calm-stop : (before b : ℕ) (bytes : List ℕ) → is_break before b ≡ true → is_calm before (b ∷ bytes) ≡ false
 calm-stop before b bytes e = rw e refl
@@ -131,7 +172,8 @@ calm-plain Slash before (b ∷ bytes) f c =
 calm-plain Dash before (b ∷ bytes) f c =
     let parts = calm-parts before b bytes c in
     let other : (b == 45) ≡ false = subst (λ (x : ℕ). (x == 45 && b == 45) ≡ false) f parts.dash in
-    rw other (ap (λ (some : List ℕ). 45 ∷ some) (outside-plain b bytes parts.unbroken (calm-plain (entered b) b bytes (follows-entered b) parts.rest)))
+    ap (λ (some : List ℕ). some ++ plain_from (next_mode Dash b) bytes) (dash-gives b other) ∙ ap (λ (m : Mode). (45 ∷ given b) ++ plain_from m bytes) (dash-next b other)
+    ∙ ap (λ (some : List ℕ). 45 ∷ some) (outside-plain b bytes parts.unbroken (calm-plain (entered b) b bytes (follows-entered b) parts.rest))
 calm-plain Single before (b ∷ bytes) f c =
     let parts = calm-parts before b bytes c in
     elim (cases_Bool (b == 39)) [
@@ -187,12 +229,21 @@ room-left depth = elim (cases_Bool (depth == 0)) [ inl e ↦ rw e (omega arith) 
 room-step : (mode : Mode) (b : ℕ) → Within (mode_gives mode b) (next_mode mode b) (room mode + 1)
 room-step Outside b = room-entered b
 room-step Slash b = let h = room-entered b in elim (cases_Bool (b == 42)) [ inl e ↦ rw e (omega arith) | inr e ↦ rw e (omega arith) ]
-room-step Dash b = let h = room-entered b in elim (cases_Bool (b == 45)) [ inl e ↦ rw e (omega arith) | inr e ↦ rw e (omega arith) ]
+room-step Dash b = let h = room-entered b in elim (cases_Bool (b == 45)) [
+  | inl e ↦ subst (λ (x : ℕ). Within (mode_gives Dash x) (next_mode Dash x) 2) (sym (eqb-true b 45 e)) (omega arith)
+  | inr e ↦ omega (arith, ap length (dash-gives b e), ap room (dash-next b e))
+]
 room-step Single b = elim (cases_Bool (b == 39)) [ inl e ↦ rw e (omega arith) | inr e ↦ rw e (omega arith) ]
 room-step Double b = elim (cases_Bool (b == 34)) [ inl e ↦ rw e (omega arith) | inr e ↦ rw e (omega arith) ]
 room-step (Comment depth) b = omega (arith, room-commented depth b)
-room-step (Star depth) b = elim (cases_Bool (b == 47)) [ inl e ↦ rw e (room-left depth) | inr e ↦ rw e (omega (arith, room-commented depth b)) ]
-room-step (Open depth) b = elim (cases_Bool (b == 42)) [ inl e ↦ rw e (omega arith) | inr e ↦ rw e (omega (arith, room-commented depth b)) ]
+room-step (Star depth) b = elim (cases_Bool (b == 47)) [
+  | inl e ↦ subst (λ (x : ℕ). Within (mode_gives (Star depth) x) (next_mode (Star depth) x) 2) (sym (eqb-true b 47 e)) (room-left depth)
+  | inr e ↦ omega (arith, ap length (pick_no (b == 47) (left_gives depth) [] e), ap room (pick_no (b == 47) (left depth) (commented depth b) e), room-commented depth b)
+]
+room-step (Open depth) b = elim (cases_Bool (b == 42)) [
+  | inl e ↦ subst (λ (x : ℕ). Within (mode_gives (Open depth) x) (next_mode (Open depth) x) 2) (sym (eqb-true b 42 e)) (omega arith)
+  | inr e ↦ omega (arith, ap room (pick_no (b == 42) (Comment (depth + 1)) (commented depth b) e), room-commented depth b)
+]
 room-step Rest b = elim (cases_Bool (b == 10)) [ inl e ↦ rw e (omega arith) | inr e ↦ rw e (omega arith) ]
 
 pub plain-length : (mode : Mode) (bytes : List ℕ) → length (plain_from mode bytes) ≤ room mode + length bytes
@@ -221,7 +272,10 @@ nul-given b n = by_byte (λ x. NoNul (given x)) b (solid 32 (omega arith)) tt tt
 nul-gives : (mode : Mode) (b : ℕ) → (b ≡ 0 → ⊥) → NoNul (mode_gives mode b)
 nul-gives Outside b n = nul-given b n
 nul-gives Slash b n = elim (cases_Bool (b == 42)) [ inl e ↦ rw e tt | inr e ↦ rw e (nul-both (47 ∷ []) (given b) (solid 47 (omega arith)) (nul-given b n)) ]
-nul-gives Dash b n = elim (cases_Bool (b == 45)) [ inl e ↦ rw e tt | inr e ↦ rw e (nul-both (45 ∷ []) (given b) (solid 45 (omega arith)) (nul-given b n)) ]
+nul-gives Dash b n = elim (cases_Bool (b == 45)) [
+  | inl e ↦ subst (λ (x : ℕ). NoNul (mode_gives Dash x)) (sym (eqb-true b 45 e)) tt
+  | inr e ↦ subst (λ (some : List ℕ). NoNul some) (sym (dash-gives b e)) (nul-both (45 ∷ []) (given b) (solid 45 (omega arith)) (nul-given b n))
+]
 nul-gives Single b n = (n, tt)
 nul-gives Double b n = (n, tt)
 nul-gives (Comment depth) b n = tt

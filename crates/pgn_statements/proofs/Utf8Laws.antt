@@ -1,15 +1,19 @@
 -- A text without its comments is text, and so is one line.
-use Rattle.std.proofs.Common.{◌≡◌, ℕ, zero, suc, ◌+◌, ◌<◌, ◌≤◌, Bool, true, false, cond, ◌&&◌, ◌==◌, inl, inr, List, [], ◌∷◌, ◌++◌, map, length, get_or, sym, ap, ◌∙◌, refl, subst, arith, append_assoc, IsUtf8}
+use Rattle.std.specs.Prelude.{nat_le}
+use Rattle.std.proofs.Common.{◌≡◌, ℕ, zero, suc, ◌+◌, ◌<◌, ◌≤◌, Bool, true, false, cond, ◌&&◌, ◌||◌, ◌==◌, inl, inr, List, [], ◌∷◌, ◌++◌, map, length, get_or, sym, ap, ◌∙◌, refl, subst, arith, append_assoc, IsUtf8}
 use lib.Utf8.{scalar, scalars, encodes, encode}
-use Rattle.std.proofs.lemmas.Bool.{cases_Bool, cases_lt, and_parts, and_from}
+use Rattle.std.proofs.lemmas.Bool.{cases_Bool, cases_lt, and_parts, and_from, eqb-true}
 use Rattle.std.proofs.lemmas.Bool.Decides.{nat_tests}
 use Rattle.std.proofs.lemmas.List.{append-nil, map-append}
 use Rattle.std.proofs.lemmas.Str.{IsUtf8-append, IsUtf8-nil, IsUtf8-from_ascii, encode_ascii, inside_one, length-encode, len_utf8_bounds}
 use Rattle.std.proofs.lemmas.Str.Ascii.{IsAscii-cons, IsAscii-nil}
+use Rattle.pgn_language.specs.Grammar.{cut}
+use Rattle.pgn_language.proofs.TokenLaws.{cut-longest}
+use Rattle.pgn_requests.specs.Values.{shown_byte}
 use Rattle.pgn_requests.specs.declared.mode.Mode.{Mode}
 use Rattle.pgn_requests.specs.declared.mode.Mode.TheVariants.{Outside, Slash, Dash, Single, Double, Comment, Star, Open, Rest}
-use Rattle.pgn_requests.specs.Texts.{entered, commented, next_mode, given, left_gives, mode_gives, end_gives, plain_from, plain, unbroken, one_line}
-use Rattle.pgn_statements.proofs.PlainLaws.{held, Other, other-given, other-entered, other-commented}
+use Rattle.pgn_requests.specs.Texts.{entered, commented, left, next_mode, given, left_gives, mode_gives, end_gives, plain_from, plain, unbroken, one_line}
+use Rattle.pgn_statements.proofs.PlainLaws.{held, Other, other-given, other-entered, other-commented, pick_no, slash-gives, slash-next, dash-gives, dash-next}
 
 -- one ASCII byte
 one_byte : (b : ℕ) → b < 128 → IsUtf8 (b ∷ [])
@@ -24,7 +28,10 @@ given-text b l = elim (cases_Bool (b == 10)) [
 gives-text : (mode : Mode) (b : ℕ) → b < 128 → IsUtf8 (mode_gives mode b)
 gives-text Outside b l = given-text b l
 gives-text Slash b l = elim (cases_Bool (b == 42)) [ inl e ↦ rw e IsUtf8-nil | inr e ↦ rw e (IsUtf8-append (47 ∷ []) (given b) (one_byte 47 (omega arith)) (given-text b l)) ]
-gives-text Dash b l = elim (cases_Bool (b == 45)) [ inl e ↦ rw e IsUtf8-nil | inr e ↦ rw e (IsUtf8-append (45 ∷ []) (given b) (one_byte 45 (omega arith)) (given-text b l)) ]
+gives-text Dash b l = elim (cases_Bool (b == 45)) [
+  | inl e ↦ subst (λ (x : ℕ). IsUtf8 (mode_gives Dash x)) (sym (eqb-true b 45 e)) IsUtf8-nil
+  | inr e ↦ subst (λ (some : List ℕ). IsUtf8 some) (sym (dash-gives b e)) (IsUtf8-append (45 ∷ []) (given b) (one_byte 45 (omega arith)) (given-text b l))
+]
 gives-text Single b l = one_byte b l
 gives-text Double b l = one_byte b l
 gives-text (Comment depth) b l = IsUtf8-nil
@@ -113,8 +120,8 @@ kept mode bytes = []
 -- such a byte gives itself or nothing
 high-gives : (mode : Mode) (b : ℕ) → Other b → mode_gives mode b ≡ held mode ++ kept mode (b ∷ [])
 high-gives Outside b o = other-given b o
-high-gives Slash b o = rw (o.star, other-given b o) refl
-high-gives Dash b o = rw (o.dash, other-given b o) refl
+high-gives Slash b o = slash-gives b o.star ∙ ap (λ (some : List ℕ). 47 ∷ some) (other-given b o)
+high-gives Dash b o = dash-gives b o.dash ∙ ap (λ (some : List ℕ). 45 ∷ some) (other-given b o)
 high-gives Single b o = refl
 high-gives Double b o = refl
 high-gives (Comment depth) b o = refl
@@ -124,13 +131,13 @@ high-gives Rest b o = rw o.feed refl
 
 high-next : (mode : Mode) (b : ℕ) → Other b → next_mode mode b ≡ settled mode
 high-next Outside b o = other-entered b o
-high-next Slash b o = rw (o.star, other-entered b o) refl
-high-next Dash b o = rw (o.dash, other-entered b o) refl
+high-next Slash b o = slash-next b o.star ∙ other-entered b o
+high-next Dash b o = dash-next b o.dash ∙ other-entered b o
 high-next Single b o = rw o.single refl
 high-next Double b o = rw o.double refl
 high-next (Comment depth) b o = other-commented depth b o
-high-next (Star depth) b o = rw (o.slash, other-commented depth b o) refl
-high-next (Open depth) b o = rw (o.star, other-commented depth b o) refl
+high-next (Star depth) b o = let first : next_mode (Star depth) b ≡ commented depth b = pick_no (b == 47) (left depth) (commented depth b) o.slash in first ∙ other-commented depth b o
+high-next (Open depth) b o = let first : next_mode (Open depth) b ≡ commented depth b = pick_no (b == 42) (Comment (depth + 1)) (commented depth b) o.star in first ∙ other-commented depth b o
 high-next Rest b o = rw o.feed refl
 
 -- there nothing is held back
@@ -261,3 +268,19 @@ unbroken-chars (c ∷ cs) s =
 
 pub one_line-text : (text : List ℕ) → IsUtf8 text → IsUtf8 (map unbroken text)
 one_line-text text u = subst (λ (some : List ℕ). IsUtf8 (map unbroken some)) u.1.1 (unbroken-chars u.0 u.1.0)
+
+-- Short texts.
+
+shown-ascii : (b : ℕ) → shown_byte b < 128
+shown-ascii b = elim (cases_Bool (nat_le 32 b && nat_le b 126)) [
+  | inl e ↦ let parts = and_parts (nat_le 32 b) (nat_le b 126) e in let second = parts.1 in let low : b < 128 = grind (arith, nat_tests) in rw e low
+  | inr e ↦ rw e (omega arith)
+]
+
+pub shown-text : (bytes : List ℕ) → IsUtf8 (map shown_byte bytes)
+shown-text [] = IsUtf8-nil
+shown-text (b ∷ bytes) = IsUtf8-append (shown_byte b ∷ []) (map shown_byte bytes) (one_byte (shown_byte b) (shown-ascii b)) (shown-text bytes)
+
+-- what is cut is short
+pub cut-few : (text : List ℕ) → IsUtf8 text → length (cut 63 text) ≤ 63
+cut-few text u = (cut-longest 63 text u).short

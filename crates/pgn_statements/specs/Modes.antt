@@ -1,5 +1,5 @@
 -- What the bytes of a text do to where the next of them stands.
-use Rattle.std.specs.Prelude.{ℕ, Bool, true, false, cond, ◌&&◌, ◌||◌, ◌==◌, List, [], ◌∷◌}
+use Rattle.std.specs.Prelude.{ℕ, Bool, true, false, cond, not, ◌&&◌, ◌||◌, ◌==◌, List, [], ◌∷◌}
 use Rattle.pgn_requests.specs.declared.mode.Mode.{Mode}
 use Rattle.pgn_requests.specs.declared.mode.Mode.TheVariants.{Comment, Star, Open}
 
@@ -18,3 +18,7 @@ is_break before b = b == 10 || ((before == 47 && b == 42) || (before == 45 && b 
 abbrev pub is_calm : ℕ → List ℕ → Bool
 is_calm before [] = true
 is_calm before (b ∷ bytes) = cond (is_break before b) false (is_calm b bytes)
+
+-- a byte that no comment begins with, and no line feed
+abbrev pub is_bland : ℕ → Bool
+is_bland b = not (b == 10 || b == 47 || b == 45)

@@ -2,6 +2,8 @@
 use Rattle.std.specs.Prelude.{◌≡◌, ℕ, ◌+◌, ◌≤◌, Bool, true, false, List, [], ◌∷◌, ◌++◌, length, Option, None, Some, MatchOption, Contains, IsUtf8}
 use Rattle.pgn_base.specs.declared.command.Command.{Command}
 use Rattle.pgn_language.specs.Grammar.{ReadsAs}
+use Rattle.pgn_command.specs.declared.token.Lexeme.{Lexeme}
+use Rattle.pgn_command.specs.declared.token.Lexeme.TheVariants as lexeme
 use Rattle.pgn_requests.specs.declared.request.Request.{Request}
 use Rattle.pgn_requests.specs.Reading.{body_of, IsGarbled, request_of}
 use Rattle.pgn_statements.specs.declared.body.Body.{Body}
@@ -20,3 +22,8 @@ BodyIs bytes body.Encoded = (text : List ℕ) × (bytes ≡ body_of text) × (Co
 -- a value was put behind a text, if it is one
 abbrev pub IsPut : Bool → List ℕ → List ℕ → Option (List ℕ) → Type 0
 IsPut told old new value = MatchOption value (told ≡ false) (λ some. (told ≡ true) × (new ≡ old ++ some))
+
+-- the token is the end
+abbrev pub ends : Lexeme → Bool
+ends lexeme.End = true
+ends lexeme = false

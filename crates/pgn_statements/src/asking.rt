@@ -1,4 +1,4 @@
-ghost use Rattle.std.specs.Prelude.{◌≡◌, ◌≤◌, length, IfOk};
+ghost use Rattle.std.specs.Prelude.{◌≡◌, ◌≤◌, ◌∷◌, length, IfOk};
 ghost use Rattle.pgn_base.specs.declared.limits.TheConstants.{LINE_BYTES_MAX};
 ghost use Rattle.pgn_requests.specs.Phrases as told;
 ghost use Rattle.pgn_statements.specs.Lexemes.{meant, all_meant};
@@ -7,7 +7,7 @@ use crate::assigning::{reset, set, show};
 use crate::lexemes::collect_spread;
 use crate::lines::{commanded, unread};
 use crate::transaction_modes::{are_modes, past_work};
-use crate::words::{after_one, are_two, is_all_of, is_call, is_key, is_number_one, is_one};
+use crate::words::{after_one, are_two, is_all_of, is_call, is_key, is_one, is_one_number};
 use pgn_base::Command;
 use pgn_command::Lexeme;
 use pgn_requests::{Request, Settled, TOKENS_MAX};
@@ -30,9 +30,22 @@ pub fn asked_of(alloc: Global, text: &str, at: u32) -> Result<Request, AllocErro
 fn asked(alloc: Global, text: &str, at: u32, lexemes: &[Lexeme<'_>]) -> Result<Request, AllocError>
     ensures { IfOk result (λ request. request ≡ told.asks text.now at (all_meant lexemes.now)) }
 {
-    let [first, rest @ ..] = lexemes else {
-        return unread(alloc, text, at);
-    };
+    match lexemes {
+        [first, rest @ ..] => asked_by(alloc, text, at, first, rest),
+        [] => unread(alloc, text, at),
+    }
+}
+
+// What the tokens ask for, by the first of them.
+fn asked_by(
+    alloc: Global,
+    text: &str,
+    at: u32,
+    first: &Lexeme<'_>,
+    rest: &[Lexeme<'_>],
+) -> Result<Request, AllocError>
+    ensures { IfOk result (λ request. request ≡ told.asks text.now at (meant first.now ∷ all_meant rest.now)) }
+{
     if is_key(first, "set") {
         return set(alloc, text, at, rest);
     }
@@ -101,7 +114,7 @@ fn start(alloc: Global, text: &str, at: u32, lexemes: &[Lexeme<'_>]) -> Result<R
 fn select(alloc: Global, text: &str, at: u32, lexemes: &[Lexeme<'_>]) -> Result<Request, AllocError>
     ensures { IfOk result (λ request. request ≡ told.select_asks text.now at (all_meant lexemes.now)) }
 {
-    if is_number_one(lexemes) {
+    if is_one_number(lexemes, "1") {
         return Ok(Request::Settles(Settled::One));
     }
     if is_call(lexemes, "version") {

@@ -1,8 +1,8 @@
 ghost use Rattle.std.specs.Prelude.{◌≡◌, ◌+◌, ◌<◌, ◌≤◌, true, length, slice_index, Contains, IfOk, string_bytes};
-ghost use Rattle.std.specs.List.{suffix_len};
+ghost use Rattle.std.specs.List.{list_all, suffix_len};
 ghost use Rattle.pgn_base.specs.declared.limits.TheConstants.{LINE_BYTES_MAX};
 ghost use Rattle.pgn_requests.specs.Texts.{is_tail, plain, without_tail};
-ghost use Rattle.pgn_statements.specs.Modes.{is_break, is_calm};
+ghost use Rattle.pgn_statements.specs.Modes.{is_bland, is_break, is_calm};
 
 use crate::byte_modes::{give, give_end, next_mode};
 use pgn_command::is_blank;
@@ -10,7 +10,36 @@ use pgn_requests::Mode;
 use std::alloc::{AllocError, Global};
 
 /// A text has no line feed, no `/*` and no `--`, so that nothing is taken out of it.
+#[tactic(auto, using(crate::proofs::PlainLaws::bland_laws))]
 pub fn is_plain(text: &[u8]) -> bool
+    ensures { result ≡ is_calm 0 text.now }
+{
+    if are_bland(text) {
+        return true;
+    }
+    is_calm(text)
+}
+
+// No byte begins a comment or is a line feed. It looks at each, so that they are compared side by side.
+fn are_bland(bytes: &[u8]) -> bool
+    ensures { result ≡ list_all is_bland bytes.now }
+{
+    let mut all = true;
+    for byte in bytes {
+        all &= is_bland(*byte);
+    }
+    all
+}
+
+// A byte that no comment begins with, and no line feed.
+fn is_bland(byte: u8) -> bool
+    ensures { result ≡ is_bland byte }
+{
+    !(byte == b'\n' || byte == b'/' || byte == b'-')
+}
+
+// The same, two bytes at a time.
+fn is_calm(text: &[u8]) -> bool
     ensures { result ≡ is_calm 0 text.now }
 {
     let mut before = 0;

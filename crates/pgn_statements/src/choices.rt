@@ -1,5 +1,5 @@
 ghost use Rattle.std.specs.Prelude.{◌≡◌, ◌≤◌, length, bytes_eq, option_map, IfSome};
-ghost use Rattle.pgn_requests.specs.Values.{date_style, float_digits, interval_style, isolation, message_level, says_off, says_on, switch};
+ghost use Rattle.pgn_requests.specs.Values.{date_style, float_digits, interval_style, isolation, message_level, older_style, says_off, says_on, switch};
 
 use pgn_command::is_word;
 
@@ -33,6 +33,14 @@ pub fn date_style(words: &[u8]) -> Option<&'static str>
     if is_text(words, "sql,ymd") {
         return Some("SQL, YMD");
     }
+    older_style(words)
+}
+
+// The older styles of dates.
+fn older_style(words: &[u8]) -> Option<&'static str>
+    ensures value { option_map (λ text. text.now) result ≡ older_style words.now }
+    ensures short { IfSome result (λ text. length text.now ≤ 16) }
+{
     if is_text(words, "postgres") || is_text(words, "postgres,mdy") {
         return Some("Postgres, MDY");
     }

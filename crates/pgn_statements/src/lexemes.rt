@@ -6,6 +6,7 @@ ghost use Rattle.pgn_language.specs.Grammar.{lexemes_of};
 ghost use Rattle.pgn_requests.specs.declared.limits.TheConstants.{TOKENS_MAX};
 ghost use Rattle.pgn_requests.specs.Phrases.{is_before_equals, spread};
 ghost use Rattle.pgn_statements.specs.Lexemes.{meant, all_meant, some_of, IsEqualsAt};
+ghost use Rattle.pgn_statements.specs.Steps.{ends};
 
 use pgn_command::{Lexeme, Lexer};
 use pgn_requests::TOKENS_MAX;
@@ -60,11 +61,18 @@ fn collect<'a>(lexemes: &mut Vec<Lexeme<'a>>, text: &'a str) -> Result<(), Alloc
     let mut lexer = Lexer::new(text);
     'tokens: loop {
         let token = lexer.next();
-        if matches!(token.lexeme, Lexeme::End) {
+        if is_end(&token.lexeme) {
             return Ok(());
         }
         put(lexemes, token.lexeme)?;
     }
+}
+
+// The token is the end.
+fn is_end(lexeme: &Lexeme<'_>) -> bool
+    ensures { result ≡ ends lexeme.now }
+{
+    matches!(lexeme, Lexeme::End)
 }
 
 // Puts a token behind others, if it is not past one more than a text may have.

@@ -1,5 +1,5 @@
 ghost use Rattle.std.specs.Prelude.{◌≡◌};
-ghost use Rattle.pgn_requests.specs.Phrases.{setting_named};
+ghost use Rattle.pgn_requests.specs.Phrases.{later_named, setting_named};
 
 use pgn_command::is_word;
 use pgn_requests::Setting;
@@ -35,6 +35,13 @@ pub fn setting_named(name: &str) -> Option<Setting>
     if is_word(name, "server_encoding") {
         return Some(Setting::ServerEncoding);
     }
+    later_named(name)
+}
+
+// Among the last eight.
+fn later_named(name: &str) -> Option<Setting>
+    ensures { result ≡ later_named name.now }
+{
     if is_word(name, "server_version") {
         return Some(Setting::ServerVersion);
     }

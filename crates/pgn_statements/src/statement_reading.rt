@@ -1,7 +1,9 @@
-ghost use Rattle.std.specs.Prelude.{◌≡◌, ◌+◌, ◌≤◌, length, Contains, IfOk};
+ghost use Rattle.std.specs.Prelude.{◌≡◌, ◌+◌, ◌≤◌, [], length, Contains, IfOk, codes};
 ghost use Rattle.pgn_base.specs.declared.limits.TheConstants.{LINE_BYTES_MAX};
 ghost use Rattle.pgn_language.specs.Grammar.{ReadsAs};
+ghost use Rattle.pgn_requests.specs.declared.complaint.Cause.TheVariants as cause;
 ghost use Rattle.pgn_requests.specs.Texts.{bare};
+ghost use Rattle.pgn_requests.specs.Phrases as told;
 ghost use Rattle.pgn_requests.specs.Reading.{RequestIs, request_of};
 ghost use Rattle.pgn_statements.specs.Steps.{Asks};
 
@@ -23,15 +25,25 @@ pub fn read_request(alloc: Global, body: &[u8]) -> Result<Request, AllocError>
 {
     match body_of(body) {
         Body::Text(text) => read_text(alloc, text),
-        Body::Garbled => {
-            let words = ShortText::new(alloc, "invalid message format")?;
-            refused(alloc, "", 0, Cause::BadMessage, words)
-        }
-        Body::Encoded => {
-            let words = ShortText::new(alloc, "invalid byte sequence for encoding \"UTF8\"")?;
-            refused(alloc, "", 0, Cause::BadEncoding, words)
-        }
+        Body::Garbled => garbled(alloc),
+        Body::Encoded => encoded(alloc),
     }
+}
+
+// The refusal of a body that does not end with its only zero byte.
+fn garbled(alloc: Global) -> Result<Request, AllocError>
+    ensures { IfOk result (λ request. request ≡ told.refused [] 0 cause.BadMessage (codes "invalid message format")) }
+{
+    let words = ShortText::new(alloc, "invalid message format")?;
+    refused(alloc, "", 0, Cause::BadMessage, words)
+}
+
+// The refusal of one that is no UTF-8.
+fn encoded(alloc: Global) -> Result<Request, AllocError>
+    ensures { IfOk result (λ request. request ≡ told.refused [] 0 cause.BadEncoding (codes "invalid byte sequence for encoding \"UTF8\"")) }
+{
+    let words = ShortText::new(alloc, "invalid byte sequence for encoding \"UTF8\"")?;
+    refused(alloc, "", 0, Cause::BadEncoding, words)
 }
 
 // What a text asks for.

@@ -74,8 +74,8 @@ pub fn past_work<'l, 'a>(lexemes: &'l [Lexeme<'a>]) -> &'l [Lexeme<'a>]
     if let Some(rest) = after_one(lexemes, "work") {
         return rest;
     }
-    match after_one(lexemes, "transaction") {
-        Some(rest) => rest,
-        None => lexemes,
+    if let Some(rest) = after_one(lexemes, "transaction") {
+        return rest;
     }
+    lexemes
 }

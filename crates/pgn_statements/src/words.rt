@@ -3,6 +3,7 @@ ghost use Rattle.pgn_language.specs.Grammar.{Punct, Name, fits_slot};
 ghost use Rattle.pgn_requests.specs.Phrases as told;
 ghost use Rattle.pgn_statements.specs.Lexemes.{meant, all_meant, GoesOn};
 
+use crate::choices::is_text;
 use pgn_command::{Lexeme, is_word};
 
 /// The token is this word, without regard to ASCII case.
@@ -100,18 +101,37 @@ pub fn is_call(lexemes: &[Lexeme<'_>], word: &str) -> bool
 pub fn is_all_of(lexemes: &[Lexeme<'_>], word: &str) -> bool
     ensures { result ≡ told.is_all_of word.now (all_meant lexemes.now) }
 {
+    match after_all_from(lexemes) {
+        Some(rest) => is_call(rest, word),
+        None => false,
+    }
+}
+
+// The tokens after a `*` and FROM, if they begin with these.
+fn after_all_from<'l, 'a>(lexemes: &'l [Lexeme<'a>]) -> Option<&'l [Lexeme<'a>]>
+    ensures { GoesOn result (told.after_all_from (all_meant lexemes.now)) }
+{
     match lexemes {
-        [a, b, rest @ ..] => is_sign(a, b'*') && is_key(b, "from") && is_call(rest, word),
+        [a, b, rest @ ..] if is_sign(a, b'*') && is_key(b, "from") => Some(rest),
+        _ => None,
+    }
+}
+
+/// The tokens are the number that is written so, and no other.
+pub fn is_one_number(lexemes: &[Lexeme<'_>], written: &str) -> bool
+    ensures { result ≡ told.is_one_number written.now (all_meant lexemes.now) }
+{
+    match lexemes {
+        [a] => is_number(a, written),
         _ => false,
     }
 }
 
-/// The tokens are the number 1.
-pub fn is_number_one(lexemes: &[Lexeme<'_>]) -> bool
-    ensures { result ≡ told.is_number_one (all_meant lexemes.now) }
+fn is_number(lexeme: &Lexeme<'_>, written: &str) -> bool
+    ensures { result ≡ told.is_number written.now (meant lexeme.now) }
 {
-    match lexemes {
-        [Lexeme::Number(digits)] => digits.as_bytes() == b"1".as_slice(),
+    match lexeme {
+        Lexeme::Number(digits) => is_text(digits.as_bytes(), written),
         _ => false,
     }
 }

@@ -1,0 +1,6 @@
+use Rattle.std.proofs.Common.{length, ap, arith}
+use Rattle.pgn_statements.proofs.Utf8Laws.{cut-few}
+use Rattle.pgn_statements.proofs.accepting.accepted.Goals as goal
+
+pub becomes-requires : goal.becomes-requires
+becomes-requires c = omega (arith, ap length c.cut.ensures, cut-few c.args.value.now c.utf8.value)

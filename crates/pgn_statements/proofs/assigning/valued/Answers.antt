@@ -1,0 +1,13 @@
+use Rattle.std.proofs.Common.{◌≡◌, ℕ, List, [], sym, ap, ◌∙◌, subst, rules, Some, string_bytes}
+use Rattle.pgn_requests.specs.Phrases as told
+use Rattle.pgn_statements.specs.Lexemes.{all_meant}
+use Rattle.pgn_statements.proofs.AskLaws.{IfOk-same, put-some, valued-given}
+use Rattle.pgn_statements.proofs.assigning.valued.Goals as goal
+
+pub returns-then-branch : goal.returns-then-branch
+returns-then-branch c =
+    let empty : string_bytes c.new-value.result ≡ [] = search rules in
+    let value = put-some c.in_ok-put_values.field-0 (string_bytes c.new-value.result) (string_bytes c.put_values.new.text) (told.value_of (all_meant c.args.lexemes.now)) c.in_ok-put_values.ensures c.if-branch.true empty in
+    let same = valued-given c.args.text.now c.args.at c.args.starts (all_meant c.args.lexemes.now) c.args.setting (string_bytes c.put_values.new.text) (sym c.is_one.ensures ∙ c.if-is_one.false) value in
+    IfOk-same c.sets.result (told.given_asks c.args.text.now c.args.at c.args.starts c.args.setting (Some c.as_str.result.now)) (told.valued_asks c.args.text.now c.args.at c.args.starts (all_meant c.args.lexemes.now) c.args.setting)
+    (ap (λ (l : List ℕ). told.given_asks c.args.text.now c.args.at c.args.starts c.args.setting (Some l)) c.as_str.ensures.value ∙ sym same) c.sets.ensures
