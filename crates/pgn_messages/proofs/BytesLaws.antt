@@ -33,6 +33,7 @@ columns_size name =
     let last : length column ≡ 18 = refl in
     omega arith
 
+-- and of one with a type
 pub described_size : (name : List ℕ) (kind size : ℕ) → length name + 21 ≡ length (two 1 ++ ended name ++ (four 0 ++ two 0 ++ four kind ++ two size ++ four 4294967295 ++ two 0))
 described_size name kind size =
     let about : List ℕ = four 0 ++ two 0 ++ four kind ++ two size ++ four 4294967295 ++ two 0 in

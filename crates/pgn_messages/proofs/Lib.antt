@@ -1,6 +1,6 @@
 -- bytes behind bytes
 pub mod BytesLaws
--- digits and fractions
+-- digits
 pub mod DigitsLaws
 -- how messages grow
 pub mod GrowLaws

@@ -4,40 +4,97 @@ ghost use Rattle.std.specs.Prelude.{◌≡◌, ◌+◌, ◌++◌, codes, decimal
 ghost use Rattle.pgn_base.specs.declared.limits.TheConstants.{PID_BASE};
 ghost use Rattle.pgn_base.specs.declared.answers.Refusal.TheVariants.{Aborted};
 ghost use Rattle.pgn_answers.specs.declared.block_state.BlockState.TheVariants.{Failed, Idle};
-ghost use Rattle.pgn_messages.specs.Server.{columns, described, error, ready, row};
+ghost use Rattle.pgn_messages.specs.Server.{columns, completed, described, error, ready, row};
 ghost use Rattle.pgn_requests.specs.Settings.{set_back, setting_name, settled_kept, value_in};
-ghost use Rattle.pgn_requests.specs.Settled.{version_text};
-ghost use Rattle.pgn_turns.specs.Served.{discard_answer, discard_error, settled_done, settled_rows};
+ghost use Rattle.pgn_requests.specs.Settled.{settled_tag, version_text};
+ghost use Rattle.pgn_turns.specs.Served.{discard_answer, discard_error, settled_done, settled_rows, statuses};
 ghost use Rattle.pgn_turns.specs.Turns.{heard};
 
 use crate::statuses::put_statuses;
 use crate::telling::put_reads;
 use crate::wordings::{service_version, tag_of};
 use pgn_answers::BlockState;
-use pgn_base::{PID_BASE, Refusal, SessionNo};
+use pgn_base::{Copied, PID_BASE, Refusal, SessionNo};
 use pgn_messages::Bytes;
 use pgn_model::Item;
 use pgn_requests::{Setting, Settings, Settled, setting_name};
 use std::alloc::{AllocError, Global};
 
-/// The answer to what is settled, where it is done: with the settings before it and after it.
+/// What is told where something is done, and the settings after it.
+#[derive(Drop)]
+pub struct Done {
+    pub bytes: Bytes,
+    pub settings: Settings,
+}
+
+/// The answer to what is settled, where it is done, and the settings after it.
 pub fn done_of(
     alloc: Global,
     seat: SessionNo,
     settled: &Settled,
+    settings: &Settings,
+    state: BlockState,
+) -> Result<Done, AllocError>
+    ensures told { IfOk result (λ done. done.bytes ≡ settled_done seat settled.now settings.entry.now state) }
+    ensures kept { IfOk result (λ done. done.settings ≡ settled_kept settled.now settings.entry.now) }
+{
+    let front = front_of(alloc, seat, settled, settings)?;
+    let Ok(after) = settled_copy(alloc, settings, settled) else {
+        drop(front);
+        return Err(AllocError);
+    };
+    finished(front, settings, after, state)
+}
+
+// Its row, where it has one, and its end.
+fn front_of(
+    alloc: Global,
+    seat: SessionNo,
+    settled: &Settled,
+    settings: &Settings,
+) -> Result<Bytes, AllocError>
+    ensures { IfOk result (λ bytes. bytes ≡ settled_rows seat settled.now settings.entry.now ++ completed (settled_tag settled.now)) }
+{
+    let mut bytes = Bytes::new(alloc);
+    put_rows(alloc, &mut bytes, seat, settled, settings)?;
+    bytes.put_completed(tag_of(settled))?;
+    Ok(bytes)
+}
+
+// An answer so far, and behind it the settings that changed, and ReadyForQuery.
+fn finished(
+    front: Bytes,
+    before: &Settings,
+    after: Settings,
+    state: BlockState,
+) -> Result<Done, AllocError>
+    ensures told { IfOk result (λ done. done.bytes ≡ front ++ statuses before.entry.now after ++ ready state) }
+    ensures kept { IfOk result (λ done. done.settings ≡ after) }
+{
+    let mut bytes = front;
+    let put = put_end(&mut bytes, before, &after, state);
+    if put.is_err() {
+        drop(bytes);
+        drop(after);
+        return Err(AllocError);
+    }
+    Ok(Done {
+        bytes,
+        settings: after,
+    })
+}
+
+fn put_end(
+    bytes: &mut Bytes,
     before: &Settings,
     after: &Settings,
     state: BlockState,
-) -> Result<Bytes, AllocError>
-    requires { after.now ≡ settled_kept settled.now before.now }
-    ensures { IfOk result (λ bytes. bytes ≡ settled_done seat settled.now before.entry.now state) }
+) -> Result<(), AllocError>
+    ensures { OnOk result (bytes.new ≡ bytes.old ++ statuses before.entry.now after.entry.now ++ ready state) }
 {
-    let mut bytes = Bytes::new(alloc);
-    put_rows(alloc, &mut bytes, seat, settled, before)?;
-    bytes.put_completed(tag_of(settled))?;
-    put_statuses(&mut bytes, before, after)?;
+    put_statuses(bytes, before, after)?;
     bytes.put_ready(state)?;
-    Ok(bytes)
+    Ok(())
 }
 
 /// The answer to it in a failed block.
@@ -115,22 +172,31 @@ fn put_process(alloc: Global, bytes: &mut Bytes, seat: SessionNo) -> Result<(), 
     Ok(())
 }
 
-/// The answer to `DISCARD ALL` outside of a block: with the settings before it and after it, and the items of its two lines.
+/// The answer to `DISCARD ALL` outside of a block, by the items of its two lines, and the settings after it.
 pub fn discard_done(
     alloc: Global,
-    before: &Settings,
-    after: &Settings,
+    settings: &Settings,
     refused: &[Item],
     unlistened: &[Item],
-) -> Result<Bytes, AllocError>
-    requires { after.now ≡ set_back before.now }
-    ensures { IfOk result (λ bytes. bytes ≡ discard_answer Idle before.entry.now (flat_map heard refused.now ++ flat_map heard unlistened.now)) }
+) -> Result<Done, AllocError>
+    ensures told { IfOk result (λ done. done.bytes ≡ discard_answer Idle settings.entry.now (flat_map heard refused.now ++ flat_map heard unlistened.now)) }
+    ensures kept { IfOk result (λ done. done.settings ≡ set_back settings.entry.now) }
+{
+    let front = discard_front(alloc, refused, unlistened)?;
+    let Ok(after) = copy_set_back(alloc, settings) else {
+        drop(front);
+        return Err(AllocError);
+    };
+    finished(front, settings, after, BlockState::Idle)
+}
+
+// Its end, and what is heard meanwhile.
+fn discard_front(alloc: Global, refused: &[Item], unlistened: &[Item]) -> Result<Bytes, AllocError>
+    ensures { IfOk result (λ bytes. bytes ≡ completed (codes "DISCARD ALL") ++ (flat_map heard refused.now ++ flat_map heard unlistened.now)) }
 {
     let mut bytes = Bytes::new(alloc);
     bytes.put_completed(b"DISCARD ALL")?;
     put_both(&mut bytes, refused, unlistened)?;
-    put_statuses(&mut bytes, before, after)?;
-    bytes.put_ready(BlockState::Idle)?;
     Ok(bytes)
 }
 
@@ -174,4 +240,34 @@ fn put_both(bytes: &mut Bytes, first: &[Item], second: &[Item]) -> Result<(), Al
     put_reads(bytes, first)?;
     put_reads(bytes, second)?;
     Ok(())
+}
+
+// A copy of the settings, with what is settled done.
+fn settled_copy(
+    alloc: Global,
+    settings: &Settings,
+    settled: &Settled,
+) -> Result<Settings, AllocError>
+    ensures { IfOk result (λ next. next ≡ settled_kept settled.now settings.entry.now) }
+{
+    let mut next = settings.copy(alloc)?;
+    let done = next.settle(alloc, settled);
+    if done.is_err() {
+        drop(next);
+        return Err(AllocError);
+    }
+    Ok(next)
+}
+
+// A copy of the settings, as at the start.
+fn copy_set_back(alloc: Global, settings: &Settings) -> Result<Settings, AllocError>
+    ensures { IfOk result (λ next. next ≡ set_back settings.entry.now) }
+{
+    let mut next = settings.copy(alloc)?;
+    let done = next.set_back(alloc);
+    if done.is_err() {
+        drop(next);
+        return Err(AllocError);
+    }
+    Ok(next)
 }

@@ -1,21 +1,18 @@
-use Rattle.std.proofs.Common.{◌≡◌, ◌++◌, List, ℕ, codes, ap, ◌∙◌}
-use Rattle.std.specs.Prelude.{flat_map}
+use Rattle.std.proofs.Common.{◌≡◌, ◌++◌, List, ℕ, codes, ap, ◌∙◌, subst}
+use Rattle.std.specs.Prelude.{IfOk, flat_map}
 use Rattle.pgn_answers.specs.declared.block_state.BlockState.TheVariants.{Idle}
 use Rattle.pgn_messages.specs.Server.{completed, ready}
-use Rattle.pgn_requests.specs.Settings.{Kept, set_back}
-use Rattle.pgn_turns.specs.Served.{statuses}
+use Rattle.pgn_requests.specs.Settings.{Kept}
+use Rattle.pgn_turns.specs.declared.settling.Done.{Done}
+use Rattle.pgn_turns.specs.Served.{discard_answer, statuses}
 use Rattle.pgn_turns.specs.Turns.{heard}
 use Rattle.pgn_turns.proofs.settling.discard_done.Goals as goal
 
-pub returns : goal.returns
-returns c =
-    let kept : Kept = c.args.before.now in
-    let end : List ℕ = completed (codes "DISCARD ALL") in
+pub returns-clause-told : goal.returns-clause-told
+returns-clause-told c =
+    let kept : Kept = c.args.settings.now in
     let both : List ℕ = flat_map heard c.args.refused.now ++ flat_map heard c.args.unlistened.now in
-    let first : c.put_completed.new.self ≡ end = c.in_ok-put_completed.ensures ∙ ap (λ (l : List ℕ). l ++ end) c.new-bytes.ensures in
-    let meanwhile : c.put_both.new.bytes ≡ end ++ both = c.in_ok-put_both.ensures ∙ ap (λ (l : List ℕ). l ++ both) first in
-    let told : c.put_statuses.new.bytes ≡ end ++ both ++ statuses kept (set_back kept) =
-    c.in_ok-put_statuses.ensures
-    ∙ ap (λ (k : Kept). c.put_both.new.bytes ++ statuses kept k) c.requires
-    ∙ ap (λ (l : List ℕ). l ++ statuses kept (set_back kept)) meanwhile in
-    c.in_ok-put_ready.ensures ∙ ap (λ (l : List ℕ). l ++ ready Idle) told
+    let front : List ℕ = completed (codes "DISCARD ALL") ++ both in
+    let whole : c.in_ok-front.front ++ statuses kept c.in-Ok.after ++ ready Idle ≡ discard_answer Idle kept both =
+    ap (λ (l : List ℕ). l ++ statuses kept c.in-Ok.after ++ ready Idle) c.in_ok-front.ensures ∙ ap (λ (k : Kept). front ++ statuses kept k ++ ready Idle) c.in-Ok.ensures in
+    subst (λ (bytes : List ℕ). IfOk c.finished.result (λ (done : Done). done.bytes ≡ bytes)) whole c.finished.ensures.told
