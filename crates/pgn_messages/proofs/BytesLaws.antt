@@ -33,6 +33,17 @@ columns_size name =
     let last : length column ≡ 18 = refl in
     omega arith
 
+-- and of one with a type
+pub described_size : (name : List ℕ) (kind size : ℕ) → length name + 21 ≡ length (two 1 ++ ended name ++ (four 0 ++ two 0 ++ four kind ++ two size ++ four 4294967295 ++ two 0))
+described_size name kind size =
+    let about : List ℕ = four 0 ++ two 0 ++ four kind ++ two size ++ four 4294967295 ++ two 0 in
+    let here : length (ended name) ≡ length name + 1 = length-append name (0 ∷ []) in
+    let front : length (two 1 ++ ended name) ≡ length (two 1) + length (ended name) = length-append (two 1) (ended name) in
+    let all : length (two 1 ++ ended name ++ about) ≡ length (two 1 ++ ended name) + length about = length-append (two 1 ++ ended name) about in
+    let two_bytes : length (two 1) ≡ 2 = refl in
+    let last : length about ≡ 18 = refl in
+    omega arith
+
 -- the row of the next name is put
 pub rows_step : (old new all : List ℕ) (names : List (List ℕ)) (i : ℕ) (name : List ℕ) → i < length names → name ≡ get_or names i name → old ++ flat_map row (drop i names) ≡ all
     → new ≡ old ++ row name → new ++ flat_map row (drop (i + 1) names) ≡ all

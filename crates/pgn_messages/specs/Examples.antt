@@ -5,6 +5,7 @@ use Rattle.pgn_base.specs.declared.answers.Tag.TheVariants as tag
 use Rattle.pgn_base.specs.declared.answers.Warning.TheVariants as warning
 use Rattle.pgn_base.specs.declared.answers.Refusal.TheVariants as refused
 use Rattle.pgn_base.specs.declared.command.Command.TheVariants as command
+use Rattle.pgn_base.specs.declared.queue_answers.Usage.{Usage}
 use Rattle.pgn_language.specs.declared.scenario.Act.TheVariants.{Run, Quit}
 use Rattle.pgn_language.specs.declared.scenario.ScriptLine.{ScriptLine}
 use Rattle.pgn_language.specs.declared.scenario.Section.{Section}
@@ -88,3 +89,26 @@ fourth_bytes =
 -- E with the length 0x27, its fields, of which the severity is FATAL
 abbrev pub fatal_bytes : List ℕ
 fatal_bytes = 69 ∷ 0 ∷ 0 ∷ 0 ∷ 39 ∷ (codes "SFATAL" ++ 0 ∷ [] ++ codes "VFATAL" ++ 0 ∷ [] ++ codes "C08P01" ++ 0 ∷ [] ++ codes "Mbad message" ++ 0 ∷ 0 ∷ [])
+
+-- T with the length 0x22: a column of no table, of the type 2278, which is void and has four bytes, and in the format text
+abbrev pub void_bytes : List ℕ
+void_bytes = 84 ∷ 0 ∷ 0 ∷ 0 ∷ 34 ∷ 0 ∷ 1 ∷ (codes "pg_notify" ++ 0 ∷ 0 ∷ 0 ∷ 0 ∷ 0 ∷ 0 ∷ 0 ∷ 0 ∷ 0 ∷ 8 ∷ 230 ∷ 0 ∷ 4 ∷ 255 ∷ 255 ∷ 255 ∷ 255 ∷ 0 ∷ 0 ∷ [])
+
+-- C `DISCARD ALL`, and the same without the zero byte behind the text
+abbrev pub discard_bytes : List ℕ
+discard_bytes = 67 ∷ 0 ∷ 0 ∷ 0 ∷ 16 ∷ (codes "DISCARD ALL" ++ 0 ∷ [])
+
+abbrev pub endless_bytes : List ℕ
+endless_bytes = 67 ∷ 0 ∷ 0 ∷ 0 ∷ 15 ∷ codes "DISCARD ALL"
+
+-- S with the length 0x11: the setting and its value
+abbrev pub zone_bytes : List ℕ
+zone_bytes = 83 ∷ 0 ∷ 0 ∷ 0 ∷ 17 ∷ (codes "TimeZone" ++ 0 ∷ (codes "UTC" ++ 0 ∷ []))
+
+-- E with the length 0x49, and its fields
+abbrev pub no_setting_bytes : List ℕ
+no_setting_bytes = 69 ∷ 0 ∷ 0 ∷ 0 ∷ 73 ∷ (codes "SERROR" ++ 0 ∷ [] ++ codes "VERROR" ++ 0 ∷ [] ++ codes "C42704" ++ 0 ∷ [] ++ codes "Munrecognized configuration parameter \"colour\"" ++ 0 ∷ 0 ∷ [])
+
+-- so many pages of 256 are occupied
+abbrev pub occupied_pages : ℕ → Usage
+occupied_pages pages = record { at = 3; occupied = pages; limit = 256; floor_mark = 3; holder = None }

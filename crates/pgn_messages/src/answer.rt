@@ -28,8 +28,8 @@ pub fn answer_query(
 }
 
 impl Bytes {
-    // What stands first in an answer.
-    fn put_first(&mut self, command: &Command) -> Result<(), AllocError>
+    /// Puts what stands first in the answer to a command at the end.
+    pub fn put_first(&mut self, command: &Command) -> Result<(), AllocError>
         ensures { OnOk result (self.new ≡ self.old ++ first_message command.now) }
     {
         match command {
@@ -83,8 +83,8 @@ impl Bytes {
         Ok(())
     }
 
-    // The notice of a warning, where there is one.
-    fn put_warning(&mut self, warning: &Option<Warning>) -> Result<(), AllocError>
+    /// Puts the notice of a warning at the end, where there is one.
+    pub fn put_warning(&mut self, warning: &Option<Warning>) -> Result<(), AllocError>
         ensures { OnOk result (self.new ≡ self.old ++ notices warning.now) }
     {
         match warning {

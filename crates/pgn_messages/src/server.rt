@@ -1,7 +1,7 @@
 #![tactic(auto, using(crate::proofs::BytesLaws::joins))]
 
 ghost use Rattle.std.specs.Prelude.{◌≡◌, ◌+◌, ◌≤◌, [], ◌++◌, codes, flat_map, length, OnOk};
-ghost use Rattle.pgn_messages.specs.Server.{column, columns, complete, empty_query, error, fatal, fields, message, notice, notification, ready, row, share};
+ghost use Rattle.pgn_messages.specs.Server.{column, columns, complete, empty_query, error, error_of, fatal, fields, message, notice, notification, ready, row, share};
 
 use crate::bytes::Bytes;
 use crate::texts::{
@@ -22,7 +22,7 @@ impl Bytes {
     ) -> Result<(), AllocError>
         requires severity { length severity.now ≤ 10 }
         requires code { length code.now ≤ 10 }
-        requires text { length text.now ≤ 100 }
+        requires text { length text.now ≤ 255 }
         ensures { OnOk result (self.new ≡ self.old ++ message letter (fields severity.now code.now text.now)) }
     {
         let size = 2 * severity.len() + code.len() + text.len() + 9;
@@ -54,6 +54,15 @@ impl Bytes {
     {
         let text = text_of_refusal(alloc, refusal)?;
         self.fields(b'E', b"ERROR", code_of_refusal(refusal), text.as_slice())
+    }
+
+    /// Puts an error with this code and this text at the end.
+    pub fn put_error_of(&mut self, code: &[u8], text: &[u8]) -> Result<(), AllocError>
+        requires code { length code.now ≤ 10 }
+        requires text { length text.now ≤ 255 }
+        ensures { OnOk result (self.new ≡ self.old ++ error_of code.now text.now) }
+    {
+        self.fields(b'E', b"ERROR", code, text)
     }
 
     /// Puts an error of the severity FATAL with this code and this text at the end. The server ends the conversation behind it.
@@ -88,7 +97,7 @@ impl Bytes {
 
     /// Puts a row with one text at the end.
     pub fn put_row(&mut self, text: &[u8]) -> Result<(), AllocError>
-        requires { length text.now ≤ 100 }
+        requires { length text.now ≤ 255 }
         ensures { OnOk result (self.new ≡ self.old ++ row text.now) }
     {
         self.put_head(b'D', text.len() + 6)?;

@@ -5,7 +5,7 @@ use Rattle.std.proofs.lemmas.List.Elements.{All-head, All-tail}
 use Rattle.pgn_model.specs.declared.item.Item.{Item}
 use Rattle.pgn_model.specs.declared.item.Item.TheVariants.{Line}
 use Rattle.pgn_messages.specs.Laws.{begins_line}
-use Rattle.pgn_turns.specs.Turns.{Turn, Answers, Hears, Leaves, IsPlain, IsRead, items_in, items_of}
+use Rattle.pgn_turns.specs.Turns.{Turn, Answers, Hears, Leaves, Settles, Discards, IsPlain, IsRead, items_in, items_of}
 use Rattle.pgn_turns.specs.Laws.{IsAskedFor, OthersAreAskedFor, StandsBehindLine}
 
 -- a member of two lists, by what stands before and behind it, is one of the first or of the second
@@ -36,6 +36,8 @@ asked-turn : (turn : Turn) (inside past : List Item) (item : Item) → IsPlain t
 asked-turn (Answers query more) inside past item h e other = tt
 asked-turn (Hears reads) inside past item h e other = absurd (other (read-at inside past item (subst (λ (is : List Item). All IsRead is) e h)))
 asked-turn (Leaves parting line rolled unlistened) inside past item h e other = tt
+asked-turn (Settles settled) inside past item h e other = tt
+asked-turn (Discards line refused unlistened) inside past item h e other = tt
 
 no_item : (before behind : List Item) (item : Item) → [] ≡ before ++ item ∷ behind → ⊥
 no_item [] behind item e = let both : [] ≡ item ∷ behind = e in cc

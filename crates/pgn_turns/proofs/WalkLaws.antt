@@ -6,7 +6,7 @@ use Rattle.std.proofs.lemmas.List.Sums.{fold-append}
 use Rattle.std.proofs.lemmas.List.Elements.{All-head, All-tail}
 use Rattle.std.proofs.lemmas.Grind.{flat_map-append}
 use Rattle.pgn_base.specs.declared.command.Command.{Command}
-use Rattle.pgn_base.specs.declared.command.Command.TheVariants.{Rollback, UnlistenAll}
+use Rattle.pgn_base.specs.declared.command.Command.TheVariants.{Bad, Rollback, UnlistenAll}
 use Rattle.pgn_language.specs.declared.scenario.Act.TheVariants.{Run}
 use Rattle.pgn_language.specs.declared.scenario.ScriptLine.{ScriptLine}
 use Rattle.pgn_model.specs.declared.item.Item.{Item}
@@ -15,8 +15,8 @@ use Rattle.pgn_model.specs.Walk.{State, after_item, at_act}
 use Rattle.pgn_messages.specs.Laws.{begins_line}
 use Rattle.pgn_messages.proofs.GrowLaws.{first_false}
 use Rattle.pgn_messages.proofs.RestLaws.{with_rest, act-rest, after-rest}
-use Rattle.pgn_turns.specs.Asks.{lines_for, unlisten_line, rollback_line}
-use Rattle.pgn_turns.specs.Turns.{Turn, Answers, Hears, Leaves, IsPlain, IsRead, after_line, after_turn, asked_in, asks_of, idle_state, items_in, items_of, lines_of}
+use Rattle.pgn_turns.specs.Asks.{discard_line, lines_for, rollback_line, unlisten_line}
+use Rattle.pgn_turns.specs.Turns.{Turn, Answers, Hears, Leaves, Settles, Discards, IsPlain, IsRead, after_line, after_turn, asked_in, asks_of, idle_state, items_in, items_of, lines_of}
 use Rattle.pgn_turns.specs.Laws.{TurnsWalk}
 
 -- items that begin no line leave those to come as they are
@@ -51,6 +51,12 @@ turn-along rest s (Leaves parting line rolled unlistened) h =
     fold-append after_item (with_rest (rollback_line line ∷ next) s) (Line line ∷ rolled) (Line (line + 1) ∷ unlistened)
     ∙ ap (λ (t : State). fold after_item t (Line (line + 1) ∷ unlistened)) (line-along next s Rollback rolled h.0)
     ∙ line-along rest (after_line s Rollback rolled) UnlistenAll unlistened h.1
+turn-along rest s (Settles settled) h = refl
+turn-along rest s (Discards line refused unlistened) h =
+    let next : List ScriptLine = unlisten_line (line + 1) ∷ rest in
+    fold-append after_item (with_rest (discard_line line ∷ next) s) (Line line ∷ refused) (Line (line + 1) ∷ unlistened)
+    ∙ ap (λ (t : State). fold after_item t (Line (line + 1) ∷ unlistened)) (line-along next s (Bad 0) refused h.0)
+    ∙ line-along rest (after_line s (Bad 0) refused) UnlistenAll unlistened h.1
 
 walk-from : (s : State) (turns : List Turn) (rest : List ScriptLine) → All IsPlain turns
     → fold after_item (with_rest (lines_of turns ++ rest) s) (items_of turns) ≡ with_rest rest (fold after_turn s turns)

@@ -8,6 +8,7 @@ use Rattle.pgn_base.specs.declared.command.Command.TheVariants as command
 use Rattle.pgn_language.specs.declared.scenario.Section.{Section}
 use Rattle.pgn_model.specs.declared.item.Item.{Item}
 use Rattle.pgn_model.specs.declared.item.Item.TheVariants.{Line, Enlist, Publish, Leave, Reply, Read}
+use Rattle.pgn_requests.specs.declared.complaint.Wording.TheVariants as wording
 use Rattle.pgn_turns.specs.declared.asked.Asked.{Asked}
 use Rattle.pgn_turns.specs.declared.asked.Ask.{Ask}
 use Rattle.pgn_turns.specs.declared.asked.Ask.TheVariants.{Query, End}
@@ -23,16 +24,16 @@ sent_by pid = record { xid = 3; pid = pid; note = sent }
 
 -- queries
 abbrev pub listen : Asked
-listen = record { line = 1; text = codes "LISTEN c"; command = command.Listen (codes "c") }
+listen = record { line = 1; text = codes "LISTEN c"; command = command.Listen (codes "c"); wording = wording.Plain }
 
 abbrev pub notify : Asked
-notify = record { line = 2; text = codes "NOTIFY c, 'x'"; command = command.Notify sent }
+notify = record { line = 2; text = codes "NOTIFY c, 'x'"; command = command.Notify sent; wording = wording.Plain }
 
 abbrev pub begin : Asked
-begin = record { line = 2; text = codes "BEGIN"; command = command.Begin }
+begin = record { line = 2; text = codes "BEGIN"; command = command.Begin; wording = wording.Plain }
 
 abbrev pub call : Asked
-call = record { line = 1; text = codes "SELECT pg_notify('c', 'x')"; command = command.PgNotify sent }
+call = record { line = 1; text = codes "SELECT pg_notify('c', 'x')"; command = command.PgNotify sent; wording = wording.Plain }
 
 -- C `LISTEN`, and Z outside of a block; A with the process number 1002, `c` and `x`
 abbrev pub listen_bytes : List ℕ
@@ -89,7 +90,7 @@ rowless_bytes = 67 ∷ 0 ∷ 0 ∷ 0 ∷ 13 ∷ 83 ∷ 69 ∷ 76 ∷ 69 ∷ 67 �
 
 -- two clients, one after another: the lines of the second go on behind those that set the seat back
 abbrev pub second_notify : Asked
-second_notify = record { line = 4; text = codes "NOTIFY c, 'x'"; command = command.Notify sent }
+second_notify = record { line = 4; text = codes "NOTIFY c, 'x'"; command = command.Notify sent; wording = wording.Plain }
 
 abbrev pub two_clients : List Ask
 two_clients = Query listen ∷ End 2 Plain ∷ Query second_notify ∷ []

@@ -10,3 +10,5 @@ pub mod Sayings
 pub mod Laws
 -- worked examples
 pub mod Examples
+-- what clients of a service are told beside, byte by byte
+pub mod Conversations

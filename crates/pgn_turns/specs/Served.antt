@@ -1,5 +1,5 @@
 -- What a client of a service is answered, byte by byte: as a server puts it.
-use Rattle.std.specs.Prelude.{ℕ, ◌+◌, cond, bytes_eq, List, [], ◌∷◌, ◌++◌, codes, decimal, flat_map}
+use Rattle.std.specs.Prelude.{ℕ, ◌+◌, cond, bytes_eq, List, [], ◌++◌, codes, decimal, flat_map}
 use Rattle.pgn_base.specs.declared.limits.TheConstants.{PID_BASE}
 use Rattle.pgn_base.specs.declared.answers.Refusal.{Refusal}
 use Rattle.pgn_base.specs.declared.answers.Refusal.TheVariants.{Syntax, Bounds, Aborted, QueueFull}

@@ -1,4 +1,4 @@
-ghost use Rattle.pgn_turns.specs.Laws.{AnswersAreMessages, OneEndIsTold, OneQueryIsTold, OthersAreAskedFor, ReadsAreHeard, SaidStays, ScriptRises, StandsBehindLine, TurnsGrow, TurnsWalk};
+ghost use Rattle.pgn_turns.specs.Laws.{AnswersAreMessages, OneDiscardIsTold, OneEndIsTold, OneQueryIsTold, OneSettledIsTold, OthersAreAskedFor, ReadsAreHeard, SaidStays, ScriptRises, StandsBehindLine, TellingWalks, TurnsGrow, TurnsWalk};
 
 /// How turns grow.
 pub fn growth()
@@ -6,6 +6,8 @@ pub fn growth()
     ensures turns_grow { TurnsGrow }
     // What was said stays.
     ensures said_stays { SaidStays }
+    // A teller stands where the walk does.
+    ensures telling_walks { TellingWalks }
 {}
 
 /// What turns make of a trace.
@@ -26,7 +28,11 @@ pub fn telling()
     ensures one_query_is_told { OneQueryIsTold }
     // Of one end: why the server ends the conversation, if it does, and the end.
     ensures one_end_is_told { OneEndIsTold }
-    // Where each turn answers a query: the messages of the trace.
+    // Of one thing that is settled: its answer, whole, and what is heard of reads.
+    ensures one_settled_is_told { OneSettledIsTold }
+    // Of one `DISCARD ALL`: its answer, whole, and what is heard of reads.
+    ensures one_discard_is_told { OneDiscardIsTold }
+    // Where each turn answers a query as usual: the messages of the trace.
     ensures answers_are_messages { AnswersAreMessages }
 {}
 

@@ -1,6 +1,6 @@
 ghost use Rattle.std.specs.Prelude.{◌≡◌, ◌≤◌, length, IfOk};
 ghost use Rattle.pgn_base.specs.declared.text.TheConstants.{TEXT_BYTES_IN_PLACE};
-ghost use Rattle.pgn_turns.specs.Asks.{line_of, rollback_line, seat_quit, unlisten_line};
+ghost use Rattle.pgn_turns.specs.Asks.{discard_line, line_of, rollback_line, seat_quit, unlisten_line};
 
 use crate::Asked;
 use pgn_base::{Command, Copied};
@@ -44,6 +44,17 @@ pub fn unlisten_at(alloc: Global, line: u32) -> ScriptLine
         line,
         text: short_text(alloc, "UNLISTEN *"),
         act: Act::Run(Command::UnlistenAll),
+    }
+}
+
+/// The first of the two lines of `DISCARD ALL`, with this number: the session refuses it. It takes no memory.
+pub fn discard_at(alloc: Global, line: u32) -> ScriptLine
+    ensures { result ≡ discard_line line }
+{
+    ScriptLine {
+        line,
+        text: short_text(alloc, "DISCARD ALL"),
+        act: Act::Run(Command::Bad { at: 0 }),
     }
 }
 

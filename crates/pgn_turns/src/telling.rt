@@ -1,35 +1,17 @@
 #![tactic(auto, using(pgn_messages::proofs::BytesLaws::joins))]
 
 ghost use Rattle.std.specs.Prelude.{◌≡◌, ◌++◌, flat_map, IfOk, OnErr, OnOk};
-ghost use Rattle.pgn_answers.specs.declared.block_state.BlockState.TheVariants.{Idle};
-ghost use Rattle.pgn_turns.specs.Turns.{Answers, Hears, bytes_of, farewell, heard};
+ghost use Rattle.pgn_turns.specs.Turns.{farewell, heard};
 
-use crate::{Asked, Parting};
-use pgn_answers::BlockState;
-use pgn_messages::{Bytes, answer_query};
+use crate::Parting;
+use pgn_messages::Bytes;
 use pgn_model::Item;
 use std::alloc::{AllocError, Global};
-
-/// Puts what a client is told of the answer to its query at the end: the messages of the items of its line behind the line itself, and
-/// ReadyForQuery with the block's state after them. Where memory does not suffice `out` is as it was.
-pub fn tell_answer(
-    alloc: Global,
-    out: &mut Vec<u8>,
-    query: &Asked,
-    items: &[Item],
-    state: BlockState,
-) -> Result<(), AllocError>
-    ensures told { OnOk result (out.new.items ≡ out.old.items ++ bytes_of (Answers query.now items.now) state) }
-    ensures unchanged { OnErr result (out.new.items ≡ out.old.items) }
-{
-    let bytes = answer_query(alloc, &query.command, items, state)?;
-    put(out, bytes)
-}
 
 /// Puts what a client is told of these reads, between two lines, at the end: a notification for each delivery, at once. Where memory
 /// does not suffice `out` is as it was.
 pub fn tell_reads(alloc: Global, out: &mut Vec<u8>, reads: &[Item]) -> Result<(), AllocError>
-    ensures told { OnOk result (out.new.items ≡ out.old.items ++ bytes_of (Hears reads.now) Idle) }
+    ensures told { OnOk result (out.new.items ≡ out.old.items ++ flat_map heard reads.now) }
     ensures unchanged { OnErr result (out.new.items ≡ out.old.items) }
 {
     let bytes = all_heard(alloc, reads)?;
@@ -45,8 +27,8 @@ pub fn tell_parting(alloc: Global, out: &mut Vec<u8>, parting: Parting) -> Resul
     put(out, bytes)
 }
 
-// Puts these bytes at the end.
-fn put(out: &mut Vec<u8>, bytes: Bytes) -> Result<(), AllocError>
+/// Puts these bytes at the end. Where memory does not suffice `out` is as it was.
+pub fn put(out: &mut Vec<u8>, bytes: Bytes) -> Result<(), AllocError>
     ensures told { OnOk result (out.new.items ≡ out.old.items ++ bytes) }
     ensures unchanged { OnErr result (out.new.items ≡ out.old.items) }
 {
@@ -64,7 +46,8 @@ fn all_heard(alloc: Global, reads: &[Item]) -> Result<Bytes, AllocError>
     Ok(bytes)
 }
 
-fn put_reads(bytes: &mut Bytes, reads: &[Item]) -> Result<(), AllocError>
+/// Puts what is heard of these items at the end.
+pub fn put_reads(bytes: &mut Bytes, reads: &[Item]) -> Result<(), AllocError>
     ensures { OnOk result (bytes.new ≡ bytes.old ++ flat_map heard reads.now) }
 {
     for item in reads {
@@ -97,6 +80,9 @@ fn put_farewell(bytes: &mut Bytes, parting: Parting) -> Result<(), AllocError>
     match parting {
         Parting::Plain => Ok(()),
         Parting::Refused => bytes.put_fatal(b"08P01", b"bad message"),
+        Parting::Extended => {
+            bytes.put_fatal(b"0A000", b"the extended protocol is not supported")
+        }
         Parting::Spent => bytes.put_fatal(b"53400", b"too many notifications"),
     }
 }

@@ -23,5 +23,8 @@ returns-clause-three_lines c h = let plain : true ≡ false = h.0 in absurd (cc)
 pub returns-clause-four_lines : goal.returns-clause-four_lines
 returns-clause-four_lines c h = let plain : true ≡ false = h.1 in absurd (cc)
 
+pub returns-clause-line_in_discard : goal.returns-clause-line_in_discard
+returns-clause-line_in_discard c h = let plain : true ≡ false = h.0 in absurd (cc)
+
 pub returns-clause-reply_between : goal.returns-clause-reply_between
 returns-clause-reply_between c h = All-head IsRead (Reply tag.Listen None) [] h

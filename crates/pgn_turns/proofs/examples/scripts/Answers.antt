@@ -1,6 +1,6 @@
 use Rattle.std.proofs.Common.{◌≡◌, codes, length, ap, refl, subst}
 use Rattle.pgn_base.specs.declared.command.Command.{Command}
-use Rattle.pgn_base.specs.declared.command.Command.TheVariants.{Rollback, UnlistenAll}
+use Rattle.pgn_base.specs.declared.command.Command.TheVariants.{Bad, Rollback, UnlistenAll}
 use Rattle.pgn_language.specs.Grammar.{ReadsAs, cut, reading, table}
 use Rattle.pgn_language.proofs.GrammarLaws.{reading-reads}
 use Rattle.pgn_turns.proofs.ExampleLaws.{apart}
@@ -21,6 +21,16 @@ returns-clause-no_unlisten c e = apart 3 2 refl (ap length e)
 pub returns-clause-reads_rollback : goal.returns-clause-reads_rollback
 unfolding table cut
 returns-clause-reads_rollback c = subst (λ (command : Command). ReadsAs (codes "ROLLBACK") command) (let same : reading (codes "ROLLBACK") ≡ Rollback = refl in same) (reading-reads (codes "ROLLBACK"))
+
+pub returns-clause-discards : goal.returns-clause-discards
+returns-clause-discards c = refl
+
+pub returns-clause-settles : goal.returns-clause-settles
+returns-clause-settles c = refl
+
+pub returns-clause-reads_discard : goal.returns-clause-reads_discard
+unfolding table cut
+returns-clause-reads_discard c = subst (λ (command : Command). ReadsAs (codes "DISCARD ALL") command) (let same : reading (codes "DISCARD ALL") ≡ Bad 0 = refl in same) (reading-reads (codes "DISCARD ALL"))
 
 pub returns-clause-reads_unlisten : goal.returns-clause-reads_unlisten
 unfolding table cut

@@ -1,4 +1,4 @@
-use Rattle.pgn_turns.proofs.GrowLaws.{turns_grow, said_stays}
+use Rattle.pgn_turns.proofs.GrowLaws.{said_stays, telling_walks, turns_grow}
 use Rattle.pgn_turns.proofs.laws.growth.Goals as goal
 
 pub returns-clause-turns_grow : goal.returns-clause-turns_grow
@@ -6,3 +6,6 @@ returns-clause-turns_grow c = turns_grow
 
 pub returns-clause-said_stays : goal.returns-clause-said_stays
 returns-clause-said_stays c = said_stays
+
+pub returns-clause-telling_walks : goal.returns-clause-telling_walks
+returns-clause-telling_walks c = telling_walks
