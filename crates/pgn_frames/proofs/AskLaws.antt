@@ -13,7 +13,6 @@ use Rattle.pgn_queries.specs.Client as client
 use Rattle.pgn_queries.specs.Client.{BodyIs, IsQueryLength, NextIs, QueryIs, Tells, TerminateIs, body_of}
 use Rattle.pgn_queries.proofs.OneLaws.{fronts, next_one}
 use Rattle.pgn_queries.proofs.EachLaws.{next_comes}
-use Rattle.pgn_requests.specs.declared.request.Request.{Request}
 use Rattle.pgn_requests.specs.Reading.{RequestIs}
 use Rattle.pgn_requests.proofs.RequestLaws.{each_request, one_request}
 use Rattle.pgn_turns.specs.declared.asked.Ask.{Ask}

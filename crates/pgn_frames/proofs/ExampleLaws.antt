@@ -4,7 +4,6 @@ use Rattle.std.specs.Prelude.{codes, map}
 use Rattle.std.specs.Str.{is_utf8, chars}
 use Rattle.std.specs.Int.{w32, from_be_bytes}
 use Rattle.std.proofs.lemmas.Bool.{both_ways, eq-eqb}
-use Rattle.std.proofs.lemmas.List.{length-append}
 use Rattle.std.proofs.lemmas.Str.{IsUtf8-from_is_utf8}
 use lib.Utf8.{encode}
 use Rattle.pgn_base.specs.declared.limits.TheConstants.{NOTE_LINES_MAX}

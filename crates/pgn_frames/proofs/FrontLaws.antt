@@ -1,9 +1,9 @@
 -- What stands at the front of bytes.
-use Rattle.std.proofs.Common.{◌≡◌, ℕ, ◌+◌, ◌-◌, ◌<◌, ◌≤◌, true, false, List, [], ◌∷◌, ◌++◌, length, get_or, take, drop, take-append-drop, length-take-le, length-drop, sym, ap, ◌∙◌, subst, refl, arith, inl, inr}
+use Rattle.std.proofs.Common.{◌≡◌, ℕ, ◌+◌, ◌-◌, ◌<◌, ◌≤◌, true, false, List, [], ◌∷◌, ◌++◌, length, get_or, take, drop, take-append-drop, length-take-le, length-drop, sym, ap, ◌∙◌, refl, arith, inl, inr}
 use Rattle.std.specs.Prelude.{slice_index}
 use Rattle.std.specs.Int.{w32, from_be_bytes}
 use Rattle.std.proofs.lemmas.List.{drop-drop}
-use Rattle.pgn_queries.specs.declared.wire_fault.WireFault.TheVariants.{BadLength, BadType, Truncated}
+use Rattle.pgn_queries.specs.declared.wire_fault.WireFault.TheVariants.{BadLength, Truncated}
 use Rattle.pgn_queries.specs.declared.coming.Coming.TheVariants.{Fault}
 use Rattle.pgn_queries.specs.Client as client
 use Rattle.pgn_queries.specs.Client.{IsQueryLength, Tells}

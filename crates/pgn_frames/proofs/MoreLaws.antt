@@ -1,13 +1,11 @@
 -- A message is told by its own bytes, whatever follows them.
-use Rattle.std.proofs.Common.{◌≡◌, ℕ, ◌+◌, ◌<◌, ◌∷◌, Bool, true, false, List, [], ◌++◌, length, sym, subst, refl, ap, ◌∙◌, arith, append_assoc}
+use Rattle.std.proofs.Common.{◌≡◌, ℕ, ◌<◌, ◌∷◌, Bool, true, false, List, [], ◌++◌, length, refl, ap, ◌∙◌, arith, append_assoc}
 use Rattle.pgn_queries.specs.declared.wire_fault.WireFault.TheVariants.{BadLength, BadType, Truncated}
 use Rattle.pgn_queries.specs.declared.coming.Coming.{Coming}
 use Rattle.pgn_queries.specs.declared.coming.Coming.TheVariants.{End, Fault}
 use Rattle.pgn_queries.specs.Client as client
 use Rattle.pgn_queries.specs.Client.{BodyIs, NextIs, QueryIs, TerminateIs, body_of}
-use Rattle.pgn_turns.specs.declared.asked.Ask.{Ask}
 use Rattle.pgn_turns.specs.declared.asked.Ask.TheVariants as ask
-use Rattle.pgn_turns.specs.declared.asked.Parting.{Parting}
 use Rattle.pgn_frames.specs.Clients as clients
 use Rattle.pgn_frames.specs.Clients.{ClientAsks, Close, Open, Left, Cut, Wrong, QueryNext, Tally, after_ask, begins_extended, last_end, parting_of}
 use Rattle.pgn_frames.specs.Callers.{IsTold, PartsBy}

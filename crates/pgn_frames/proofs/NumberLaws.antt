@@ -1,5 +1,5 @@
 -- The numbers of what a seat is asked go on.
-use Rattle.std.proofs.Common.{◌≡◌, ℕ, ◌+◌, List, [], ◌∷◌, ◌++◌, length, Option, sym, subst, refl, arith}
+use Rattle.std.proofs.Common.{◌≡◌, ℕ, ◌+◌, List, ◌∷◌, ◌++◌, length, sym, subst, refl, arith}
 use Rattle.pgn_requests.specs.declared.request.Request.{Request}
 use Rattle.pgn_requests.specs.declared.request.Request.TheVariants.{Line, Settles, Discards}
 use Rattle.pgn_turns.specs.declared.asked.Ask.{Ask}

@@ -13,6 +13,17 @@ const GARBLED: &[u8] = b"Q\0\0\0\x06\0\0";
 
 const TERMINATE: &[u8] = b"X\0\0\0\x04";
 
+/// Messages that a client is refused for.
+const REFUSED: &[&[u8]] = &[
+    b"Z\0\0\0\x04",
+    b"Q\0\0\0\x04",
+    b"Q\0\x01\0\x06",
+    b"X\0\0\0\x05",
+];
+
+/// The first byte of each message of the extended protocol.
+const EXTENDED: &[&[u8]] = &[b"P", b"B", b"E", b"D", b"C", b"S", b"H", b"F"];
+
 /// A conversation of three clients, frame by frame: two at seat 1, one after another, of which the second leaves, and one at seat 2 amid
 /// them, whose third message is of the extended protocol. Where a frame has no byte, its client ends.
 const TALK: &[(u8, &[u8])] = &[
@@ -138,26 +149,34 @@ fn a_client_ends(rt: HostRuntime) -> Result<(), Fail> {
     Ok(())
 }
 
+// Whether these are the words of a seat whose client sends such bytes behind a query, and then ends, and is followed by another.
+fn is_parted<R: Wait>(
+    rt: &R,
+    alloc: Global,
+    bytes: &[u8],
+    words: &str,
+) -> Result<bool, AllocError> {
+    let came = at_first(rt, alloc, &[LISTEN, bytes, LISTEN, b"", LISTEN], b"")?;
+    Ok(came.first.as_str() == words)
+}
+
 #[test]
 fn a_client_is_refused(rt: HostRuntime) -> Result<(), Fail> {
     let alloc = rt.alloc();
     // By a letter, by a length of a Query that is too small or too great, and by one of a Terminate.
-    for bytes in [
-        b"Z\0\0\0\x04",
-        b"Q\0\0\0\x04",
-        b"Q\0\x01\0\x06",
-        b"X\0\0\0\x05",
-    ] {
-        let came = at_first(&rt, alloc, &[LISTEN, bytes, LISTEN, b"", LISTEN], b"")?;
-        assert_eq!(rt; came.first.as_str(), "1 LISTEN c; 2 refused; 4 LISTEN c; .");
+    for bytes in REFUSED {
+        let is = is_parted(&rt, alloc, bytes, "1 LISTEN c; 2 refused; 4 LISTEN c; .")?;
+        assert!(rt; is);
     }
-    // By the first byte of a message of the extended protocol.
-    for byte in b"PBEDCSHF" {
-        let came = at_first(&rt, alloc, &[LISTEN, &[*byte], LISTEN, b"", LISTEN], b"")?;
-        assert_eq!(rt;
-            came.first.as_str(),
-            "1 LISTEN c; 2 extended; 4 LISTEN c; ."
-        );
+    Ok(())
+}
+
+#[test]
+fn a_client_of_the_extended_protocol(rt: HostRuntime) -> Result<(), Fail> {
+    let alloc = rt.alloc();
+    for letter in EXTENDED {
+        let is = is_parted(&rt, alloc, letter, "1 LISTEN c; 2 extended; 4 LISTEN c; .")?;
+        assert!(rt; is);
     }
     Ok(())
 }
