@@ -42,19 +42,37 @@ fn signal_and_leave<P: PassView + Send + Drop, H: Hub<Pass = P>, R: Wait>(
     (found, usage.occupied)
 }
 
+// A session does so, and then another one hears of what it knows: what came of it, and what the other one is told.
+fn leave_and_tell<P: PassView + Send + Drop, H: Hub<Pass = P>, R: Wait>(
+    rt: &R,
+    hub: &H,
+    first: &mut P,
+    second: &mut P,
+) -> ((Option<Xid>, u64), u32)
+    requires first { H.is_pass hub.now first.old }
+    requires listens { IsSome (P.known first.old).mark }
+    requires flags { 1 < (H.shape hub.now).flags }
+    requires second { H.is_pass hub.now second.old }
+    ensures first { H.is_pass hub.now first.new }
+    ensures first_session { (P.known first.new).session ≡ (P.known first.old).session }
+    ensures second { H.is_pass hub.now second.new }
+    ensures second_session { (P.known second.new).session ≡ (P.known second.old).session }
+{
+    let done = signal_and_leave(rt, hub, first);
+    (done, tell(hub, first, second))
+}
+
 #[test]
 fn one_pass_through_every_call(rt: HostRuntime) -> Result<(), Fail> {
     let alloc = rt.alloc();
     let (hub, mut first, mut second) = open_two::<WordPass, WordHub>(alloc, Format::One)?;
     let read = listen_and_read(&rt, alloc, &hub, &mut first);
     let advanced = advance(&rt, &hub, &mut first);
-    let done = signal_and_leave(&rt, &hub, &mut first);
-    let told = tell(&hub, &mut first, &mut second);
+    let told = leave_and_tell(&rt, &hub, &mut first, &mut second);
     let count = count_journal(alloc, hub, first, second)?;
-    assert_eq!(rt; read, (true, Some((4, 1))));
+    assert_eq!(rt; (read, count), ((true, Some((4, 1))), 1));
     assert_eq!(rt; advanced, (0, 0, None));
-    assert_eq!(rt; done, (Some(Xid::new(4)), 0));
-    assert_eq!(rt; (told, count), (4, 1));
+    assert_eq!(rt; told, ((Some(Xid::new(4)), 0), 4));
     Ok(())
 }
 
@@ -184,17 +202,31 @@ fn look_twice<P: PassView + Send + Drop, H: Hub<Pass = P>>(
     (found, none, pass.told().get())
 }
 
+// Both, one after the other.
+fn raise_and_look<P: PassView + Send + Drop, H: Hub<Pass = P>, R: Wait>(
+    rt: &R,
+    alloc: Global,
+    hub: &H,
+    first: &mut P,
+    second: &mut P,
+) -> ((u32, u32), (Option<Xid>, Option<Xid>, u32))
+    requires first { H.is_pass hub.now first.old }
+    requires second { H.is_pass hub.now second.old }
+    requires flags { 1 < (H.shape hub.now).flags }
+{
+    let raised = raise_twice(rt, alloc, hub, first, second);
+    (raised, look_twice(hub, second))
+}
+
 #[test]
 fn flags_keep_the_greatest_number(rt: HostRuntime) -> Result<(), Fail> {
     let alloc = rt.alloc();
     let (hub, mut first, mut second) = open_two::<WordPass, WordHub>(alloc, Format::One)?;
-    let raised = raise_twice(&rt, alloc, &hub, &mut first, &mut second);
-    let found = look_twice(&hub, &mut second);
+    let seen = raise_and_look(&rt, alloc, &hub, &mut first, &mut second);
     drop(first);
     drop(second);
     drop(hub);
-    assert_eq!(rt; raised, (3, 4));
-    assert_eq!(rt; found, (Some(Xid::new(4)), None, 4));
+    assert_eq!(rt; seen, ((3, 4), (Some(Xid::new(4)), None, 4)));
     Ok(())
 }
 
@@ -256,12 +288,27 @@ fn leave_and_measure<P: PassView + Send + Drop, H: Hub<Pass = P>, R: Wait>(
     hub.usage(rt, writer)
 }
 
+// Both, one after the other.
+fn use_and_leave<P: PassView + Send + Drop, H: Hub<Pass = P>, R: Wait>(
+    rt: &R,
+    alloc: Global,
+    hub: &H,
+    writer: &mut P,
+    listener: &mut P,
+) -> (Usage, Usage)
+    requires writer { H.is_pass hub.now writer.old }
+    requires listener { H.is_pass hub.now listener.old }
+    requires out { (P.known listener.old).mark ≡ None }
+{
+    let used = use_two_pages(rt, alloc, hub, writer, listener);
+    (used, leave_and_measure(rt, hub, writer, listener))
+}
+
 #[test]
 fn usage_of_a_queue(rt: HostRuntime) -> Result<(), Fail> {
     let alloc = rt.alloc();
     let (hub, mut first, mut second) = open_two::<WordPass, WordHub>(alloc, Format::One)?;
-    let used = use_two_pages(&rt, alloc, &hub, &mut first, &mut second);
-    let unused = leave_and_measure(&rt, &hub, &mut first, &mut second);
+    let (used, unused) = use_and_leave(&rt, alloc, &hub, &mut first, &mut second);
     drop(first);
     drop(second);
     drop(hub);
@@ -349,19 +396,38 @@ fn listen_both<P: PassView + Send + Drop, H: Hub<Pass = P>>(
     one && two
 }
 
+// Both listen, and the second one sends: whether both listened, which of them was woken, and what both received.
+fn listen_apart<P: PassView + Send + Drop, H: Hub<Pass = P>, R: Wait>(
+    rt: &R,
+    alloc: Global,
+    hub: &H,
+    first: &mut P,
+    second: &mut P,
+) -> (
+    bool,
+    (bool, bool),
+    (Option<(u32, usize)>, Option<(u32, usize)>),
+)
+    requires first { H.is_pass hub.now first.old }
+    requires first_out { (P.known first.old).mark ≡ None }
+    requires second { H.is_pass hub.now second.old }
+    requires second_out { (P.known second.old).mark ≡ None }
+{
+    let listen = listen_both(alloc, hub, first, second);
+    let woken = send_and_wake(rt, alloc, hub, first, second);
+    (listen, woken, receive_both(alloc, hub, first, second))
+}
+
 #[test]
 fn two_databases(rt: HostRuntime) -> Result<(), Fail> {
     let alloc = rt.alloc();
     let (hub, mut first, mut second) = open_pages::<WordPass, WordHub>(alloc, Format::One, 2, 2)?;
-    let listen = listen_both(alloc, &hub, &mut first, &mut second);
-    let woken = send_and_wake(&rt, alloc, &hub, &mut first, &mut second);
-    let received = receive_both(alloc, &hub, &mut first, &mut second);
+    let seen = listen_apart(&rt, alloc, &hub, &mut first, &mut second);
     drop(first);
     drop(second);
     drop(hub);
-    assert!(rt; listen);
-    assert_eq!(rt; woken, (false, true));
-    assert_eq!(rt; received, (Some((4, 0)), Some((4, 1))));
+    let received = (Some((4, 0)), Some((4, 1)));
+    assert_eq!(rt; seen, (true, (false, true), received));
     Ok(())
 }
 

@@ -1,5 +1,5 @@
 //! A full queue, and what frees it.
-ghost use Rattle.std.specs.Prelude.{◌≡◌, ◌≢◌, None, IsSome, IfSome, AllPairs};
+ghost use Rattle.std.specs.Prelude.{◌≡◌, ◌≢◌, IsSome, IfSome, AllPairs};
 
 use super::*;
 use pgn_base::Full;

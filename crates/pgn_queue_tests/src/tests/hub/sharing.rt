@@ -1,6 +1,5 @@
 //! Two sessions that share the queue for long.
-ghost use Rattle.std.specs.Prelude.{◌≡◌, ◌<◌, true, length, None, IsSome};
-ghost use Rattle.std.specs.Thread.{IsSync, IsSend};
+ghost use Rattle.std.specs.Prelude.{◌≡◌, ◌<◌, true, length, IsSome};
 ghost use Rattle.pgn_words.specs.Passes.{known_of};
 ghost use Rattle.pgn_wordhub.specs.Passes.{IsHubPass};
 
