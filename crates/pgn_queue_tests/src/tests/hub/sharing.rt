@@ -130,20 +130,20 @@ fn empty_log(alloc: Global) -> Log {
 }
 
 // One try: a publish, whatever it answers, and then a read. A number that was answered is one that was sent.
-fn try_once<P: PassView + Send + Drop, H: Hub<Pass = P>, R: Wait>(
+fn try_once<R: Wait>(
     rt: &R,
     alloc: Global,
-    hub: &H,
-    pass: &mut P,
+    hub: &WordHub,
+    pass: &mut WordPass,
     notes: &[Note; 1],
     set: &ListenSet,
     log: &mut Log,
 ) -> Result<(), AllocError>
-    requires own { H.is_pass hub.now pass.old }
-    requires listens { IsSome (P.known pass.old).mark }
-    ensures own { H.is_pass hub.now pass.new }
-    ensures listens { IsSome (P.known pass.new).mark }
-    ensures session { (P.known pass.new).session ≡ (P.known pass.old).session }
+    requires own { IsHubPass hub.now pass.old }
+    requires listens { IsSome (known_of pass.old).mark }
+    ensures own { IsHubPass hub.now pass.new }
+    ensures listens { IsSome (known_of pass.new).mark }
+    ensures session { (known_of pass.new).session ≡ (known_of pass.old).session }
 {
     if let Some(xid) = publish_one(rt, hub, pass, notes) {
         log.sent.push(xid)?;
@@ -154,20 +154,20 @@ fn try_once<P: PassView + Send + Drop, H: Hub<Pass = P>, R: Wait>(
 }
 
 // All tries of one session.
-fn tries<P: PassView + Send + Drop, H: Hub<Pass = P>, R: Wait>(
+fn tries<R: Wait>(
     rt: &R,
     alloc: Global,
-    hub: &H,
-    pass: &mut P,
+    hub: &WordHub,
+    pass: &mut WordPass,
     notes: &[Note; 1],
     set: &ListenSet,
     log: &mut Log,
 ) -> Result<(), AllocError>
-    requires own { H.is_pass hub.now pass.old }
-    requires listens { IsSome (P.known pass.old).mark }
-    ensures own { H.is_pass hub.now pass.new }
-    ensures listens { IsSome (P.known pass.new).mark }
-    ensures session { (P.known pass.new).session ≡ (P.known pass.old).session }
+    requires own { IsHubPass hub.now pass.old }
+    requires listens { IsSome (known_of pass.old).mark }
+    ensures own { IsHubPass hub.now pass.new }
+    ensures listens { IsSome (known_of pass.new).mark }
+    ensures session { (known_of pass.new).session ≡ (known_of pass.old).session }
 {
     'tries: for _ in 0..TIMES {
         try_once(rt, alloc, hub, pass, notes, set, log)?;
