@@ -1,5 +1,5 @@
 -- What the call of the program says, from what the command came to that its words ask for.
-use Rattle.std.proofs.Common.{◌≡◌, ◌≢◌, ◌⊎◌, ◌∙◌, ℕ, ◌<◌, ◌+◌, List, take, Option, None, Some, Result, Ok, Err, IfOk, IfSome, OnSome, IsSomeAnd, ap, inl, inr, refl, subst, sym, arith}
+use Rattle.std.proofs.Common.{◌≡◌, ◌⊎◌, ◌∙◌, ℕ, ◌<◌, ◌+◌, List, take, Option, None, Some, Result, Ok, Err, IfOk, IfSome, OnSome, IsSomeAnd, ap, inl, inr, refl, subst, sym, arith}
 use Rattle.pgn_check.specs.declared.check.Verdict.TheVariants as verdict
 use Rattle.pgn_model.specs.Walk.{Settings}
 use Rattle.pgn_run.specs.Checking.{HasFault, HasNoOutput, IsJudged, IsOfCheck, IsTooLarge, IsUntold, verdict_text}

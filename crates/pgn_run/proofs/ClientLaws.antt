@@ -1,9 +1,8 @@
 -- A hub that is opened for one client, and its session.
-use Rattle.std.proofs.Common.{◌≡◌, ℕ, ◌+◌, List, [], ◌∷◌, ◌++◌, length, map, All, sym, ap, ◌∙◌, subst, refl, arith}
+use Rattle.std.proofs.Common.{◌≡◌, ℕ, ◌+◌, List, [], ◌∷◌, ◌++◌, length, map, get_or, All, sym, ap, ◌∙◌, subst, refl, arith}
 use Rattle.std.specs.List.{range_with_len}
 use Rattle.std.proofs.lemmas.List.{length-append, length-map}
 use Rattle.std.proofs.lemmas.List.Elements.{All-nil, All-cons, All-head}
-use Rattle.pgn_base.specs.declared.limits.TheConstants.{NOTE_LINES_MAX}
 use Rattle.pgn_hub.specs.declared.setup.SeatSetup.{SeatSetup}
 use Rattle.pgn_hub.specs.Passes.{opened_pass, opened_passes}
 use Rattle.pgn_hub.specs.declared.known.Known.{Known}
@@ -17,7 +16,7 @@ use Rattle.pgn_session.specs.Standing.{IsFlagBelow, IsServedBy}
 use Rattle.pgn_session.specs.Whole.{HasRest}
 use Rattle.pgn_queries.specs.Script.{wire_quit}
 use Rattle.pgn_session.specs.Open.{BeginsEmpty}
-use Rattle.pgn_run.specs.Conversation.{session_section, wire_plan, wire_shape}
+use Rattle.pgn_run.specs.Conversation.{session_section, wire_plan, wire_seat, wire_shape}
 
 -- one pass is known
 pub one-pass : {P : Type 0} (known : P → Known) (passes : List P) (setup : Shape) (seats : List SeatSetup) → map known passes ≡ opened_passes 1 setup.seats → setup.seats ≡ seats → seats ≡ wire_shape.seats → length passes ≡ 1
@@ -27,12 +26,11 @@ one-pass {P} known passes setup seats e f g =
     omega (arith, as_many, length-map passes known)
 
 -- it is that of a pass as it is opened
-pub opened-known : {P : Type 0} (known : P → Known) (passes : List P) (pass : P) (setup : Shape) (seats : List SeatSetup) (section : Section) → map known passes ≡ opened_passes 1 setup.seats → setup.seats ≡ seats → seats ≡ wire_shape.seats → passes ≡ pass ∷ []
-    → section ≡ session_section [] → known pass ≡ opened_pass section.no (record { db = section.db; notes = section.note_lines })
-opened-known {P} known passes pass setup seats section e f g one is =
+pub opened-known : {P : Type 0} (known : P → Known) (passes : List P) (pass : P) (setup : Shape) (seats : List SeatSetup) → map known passes ≡ opened_passes 1 setup.seats → setup.seats ≡ seats → seats ≡ wire_shape.seats → passes ≡ pass ∷ []
+    → known pass ≡ opened_pass 1 wire_seat
+opened-known {P} known passes pass setup seats e f g one =
     let all : known pass ∷ [] ≡ opened_passes 1 wire_shape.seats = ap (λ (ps : List P). map known ps) (sym one) ∙ e ∙ ap (λ (s : List SeatSetup). opened_passes 1 s) (f ∙ g) in
-    let first : known pass ≡ opened_pass 1 (record { db = 1; notes = NOTE_LINES_MAX }) = cc in
-    first ∙ ap (λ (s : Section). opened_pass s.no (record { db = s.db; notes = s.note_lines })) (sym is)
+    ap (λ (ks : List Known). get_or ks 0 (known pass)) all
 
 -- what holds of all holds of it
 pub only-has : {P : Type 0} (Q : P → Type 0) (passes : List P) (pass : P) → All Q passes → passes ≡ pass ∷ [] → Q pass

@@ -1,7 +1,7 @@
 -- How what the seats of a service have is closed.
 use Rattle.std.proofs.Common.{◌≡◌, ℕ, zero, suc, ◌+◌, ◌-◌, ◌<◌, ◌≤◌, true, List, [], ◌∷◌, ◌++◌, length, map, take, drop, get_or, take_all, All, Option, Some, None, Result, Ok, Err, OnOk, sym, ap, ◌∙◌, refl, subst, arith, append-nil, append_assoc}
 use Rattle.std.proofs.Common.{◌⊎◌, inl, inr, length-drop}
-use Rattle.std.specs.List.{AllZip, range_with_len}
+use Rattle.std.specs.List.{range_with_len}
 use Rattle.std.specs.declared.alloc.AllocError.{AllocError}
 use Rattle.std.proofs.lemmas.Bool.{cases_lt}
 use Rattle.std.proofs.lemmas.Grind.{flat_map-append}
@@ -25,18 +25,16 @@ use Rattle.pgn_session.specs.Open.{IsSameClient}
 use Rattle.pgn_turns.specs.declared.asked.Ask.{Ask}
 use Rattle.pgn_turns.specs.declared.saying.Saying.{Saying}
 use Rattle.pgn_seats.specs.declared.desk.Desk.{Desk}
-use Rattle.pgn_seats.specs.Desks.{AreSameClients, HaveServed}
+use Rattle.pgn_seats.specs.Desks.{AreSameClients}
 use Rattle.pgn_seats.specs.Serving.{HasServed, HasToldFirst}
 use Rattle.pgn_frames.specs.declared.caller.Caller.{Caller}
 use Rattle.pgn_frames.specs.declared.frame_fault.FrameFault.{FrameFault}
 use Rattle.pgn_frames.specs.declared.framing.NoFrame.{NoFrame}
 use Rattle.pgn_frames.specs.declared.framing.NoFrame.TheVariants as none
-use Rattle.pgn_frames.specs.Reading.{HasPutAll, HasPutFirst}
 use Rattle.pgn_outlet.specs.Rule.{sender}
 use Rattle.pgn_run.specs.Arms.{HasRead}
 use Rattle.pgn_run.specs.Closing.{AreOver, HasGathered, HasTakenFirst, HasTakenRest, HaveTakenFirst, MayClose, MayCloseAll}
-use Rattle.pgn_run.specs.Seats.{AreGiven, IsGiven, service_plan}
-use Rattle.pgn_run.specs.Service.{seat_section}
+use Rattle.pgn_run.specs.Seats.{AreGiven, IsGiven}
 use Rattle.pgn_run.proofs.SeatingLaws.{given-at}
 
 -- One inbox.

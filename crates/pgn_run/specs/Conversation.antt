@@ -15,6 +15,7 @@ use Rattle.pgn_model.specs.Walk.{Settings, State, Terms, Nothing}
 use Rattle.pgn_model.specs.Legal.{Legal}
 use Rattle.pgn_model.specs.Trace.{IsUpToDate}
 use Rattle.pgn_model.specs.laws.NextLine.{HoldsSoFar}
+use Rattle.pgn_hub.specs.declared.setup.SeatSetup.{SeatSetup}
 use Rattle.pgn_hub.specs.Shape.{Shape}
 use Rattle.pgn_session.specs.declared.doing.FlagPlan.{FlagPlan}
 use Rattle.pgn_queries.specs.declared.wire_fault.WireFault.{WireFault}
@@ -35,9 +36,13 @@ wire_settings = record { format = One; limit = PAGES_DEFAULT; patience = 1 }
 abbrev pub wire_terms : List ScriptLine → Terms
 wire_terms lines = record { section = wire_section lines; settings = wire_settings }
 
+-- the client's seat
+abbrev pub wire_seat : SeatSetup
+wire_seat = record { db = 1; notes = NOTE_LINES_MAX }
+
 -- what the hub is opened for
 abbrev pub wire_shape : Shape
-wire_shape = record { pages = PAGES_DEFAULT; flags = 1; seats = record { db = 1; notes = NOTE_LINES_MAX } ∷ []; format = One }
+wire_shape = record { pages = PAGES_DEFAULT; flags = 1; seats = wire_seat ∷ []; format = One }
 
 abbrev pub wire_plan : FlagPlan
 wire_plan = record { first_end = 0; sessions = 1 }

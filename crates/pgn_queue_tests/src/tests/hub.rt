@@ -254,8 +254,8 @@ fn send<P: PassView + Send + Drop, H: Hub<Pass = P>, R: Wait>(
     send_on(rt, alloc, hub, pass, "c", letters)
 }
 
-// Sends a largest notification four times.
-fn send_four<P: PassView + Send + Drop, H: Hub<Pass = P>, R: Wait>(
+// Sends a largest notification twice. Two fill two pages.
+fn send_two<P: PassView + Send + Drop, H: Hub<Pass = P>, R: Wait>(
     rt: &R,
     alloc: Global,
     hub: &H,
@@ -267,8 +267,21 @@ fn send_four<P: PassView + Send + Drop, H: Hub<Pass = P>, R: Wait>(
 {
     send(rt, alloc, hub, pass, LARGEST);
     send(rt, alloc, hub, pass, LARGEST);
-    send(rt, alloc, hub, pass, LARGEST);
-    send(rt, alloc, hub, pass, LARGEST);
+}
+
+// Sends it four times.
+fn send_four<P: PassView + Send + Drop, H: Hub<Pass = P>, R: Wait>(
+    rt: &R,
+    alloc: Global,
+    hub: &H,
+    pass: &mut P,
+)
+    requires own { H.is_pass hub.now pass.old }
+    ensures own { H.is_pass hub.now pass.new }
+    ensures mark { (P.known pass.new).mark ≡ (P.known pass.old).mark }
+{
+    send_two(rt, alloc, hub, pass);
+    send_two(rt, alloc, hub, pass);
 }
 
 // Tells that the session listens on the channel `c`, and reads on: the new mark, if memory suffices, and what was received is put

@@ -1,5 +1,5 @@
 //! Bells: who has armed its own is rung by what it waits for, and no ring is lost.
-ghost use Rattle.std.specs.Prelude.{◌≡◌, ◌<◌, length, None, IsSome, IfOk};
+ghost use Rattle.std.specs.Prelude.{◌≡◌, ◌<◌, length, IsSome, IfOk};
 ghost use Rattle.pgn_wordhub.specs.Passes.{hub_shape};
 
 use super::*;

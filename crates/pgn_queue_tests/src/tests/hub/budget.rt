@@ -3,7 +3,6 @@ ghost use Rattle.std.specs.Prelude.{◌≡◌, [], ◌∷◌, length, IfOk};
 
 use super::*;
 use pgn_base::{HUB_NOTES_MAX, PAGES_MAX};
-use std::process::Abort;
 
 // The pass of a hub for one session.
 fn only<P: Drop>(mut passes: Vec<P>) -> P
@@ -53,25 +52,27 @@ fn send_all<P: PassView + Send + Drop, H: Hub<Pass = P>, R: Wait>(
     last
 }
 
-fn assert_all_sent<P: PassView + Send + Drop, H: Hub<Pass = P> + Drop, R: Wait + Abort>(
+// The number of the last, and how many are left behind it.
+fn send_all_of_a_hub<P: PassView + Send + Drop, H: Hub<Pass = P> + Drop, R: Wait>(
     rt: &R,
     alloc: Global,
     notes: &[Note; 1],
-) -> Result<(), Fail> {
+) -> Result<(Option<u32>, u32), Fail> {
     let (hub, mut pass) = open_one::<P, H>(alloc)?;
     let last = send_all(rt, &hub, &mut pass, notes);
-    assert_eq!(rt; last, Some(1_048_577));
-    assert_eq!(rt; pass.notes_left(), 0);
-    Ok(())
+    let left = pass.notes_left();
+    drop(pass);
+    drop(hub);
+    Ok((last, left))
 }
 
 // The first transaction is number 3. None is left behind the last.
 #[test]
 fn a_hub_sends_the_last_that_it_may(rt: HostRuntime) -> Result<(), Fail> {
     let alloc = rt.alloc();
-    let note = note(alloc, 1).ok_or("no memory")?;
-    let notes = [note];
-    let done = assert_all_sent::<WordPass, WordHub, HostRuntime>(&rt, alloc, &notes);
+    let notes = [note(alloc, 1).ok_or("no memory")?];
+    let sent = send_all_of_a_hub::<WordPass, WordHub, HostRuntime>(&rt, alloc, &notes);
     drop(notes);
-    done
+    assert_eq!(rt; sent?, (Some(1_048_577), 0));
+    Ok(())
 }

@@ -3,7 +3,6 @@ ghost use Rattle.std.specs.Prelude.{◌≡◌, ◌<◌, None, IsSome};
 
 use super::*;
 use pgn_base::Usage;
-use std::process::Abort;
 
 // A session listens, sends and reads: whether its wake was set, and what it has received.
 fn listen_and_read<P: PassView + Send + Drop, H: Hub<Pass = P>, R: Wait>(
@@ -43,17 +42,37 @@ fn signal_and_leave<P: PassView + Send + Drop, H: Hub<Pass = P>, R: Wait>(
     (found, usage.occupied)
 }
 
+// A session does so, and then another one hears of what it knows: what came of it, and what the other one is told.
+fn leave_and_tell<P: PassView + Send + Drop, H: Hub<Pass = P>, R: Wait>(
+    rt: &R,
+    hub: &H,
+    first: &mut P,
+    second: &mut P,
+) -> ((Option<Xid>, u64), u32)
+    requires first { H.is_pass hub.now first.old }
+    requires listens { IsSome (P.known first.old).mark }
+    requires flags { 1 < (H.shape hub.now).flags }
+    requires second { H.is_pass hub.now second.old }
+    ensures first { H.is_pass hub.now first.new }
+    ensures first_session { (P.known first.new).session ≡ (P.known first.old).session }
+    ensures second { H.is_pass hub.now second.new }
+    ensures second_session { (P.known second.new).session ≡ (P.known second.old).session }
+{
+    let done = signal_and_leave(rt, hub, first);
+    (done, tell(hub, first, second))
+}
+
 #[test]
 fn one_pass_through_every_call(rt: HostRuntime) -> Result<(), Fail> {
     let alloc = rt.alloc();
     let (hub, mut first, mut second) = open_two::<WordPass, WordHub>(alloc, Format::One)?;
     let read = listen_and_read(&rt, alloc, &hub, &mut first);
-    assert_eq!(rt; read, (true, Some((4, 1))));
-    assert_eq!(rt; advance(&rt, &hub, &mut first), (0, 0, None));
-    let done = signal_and_leave(&rt, &hub, &mut first);
-    assert_eq!(rt; done, (Some(Xid::new(4)), 0));
-    assert_eq!(rt; tell(&hub, &mut first, &mut second), 4);
-    assert_eq!(rt; count_journal(alloc, hub, first, second)?, 1);
+    let advanced = advance(&rt, &hub, &mut first);
+    let told = leave_and_tell(&rt, &hub, &mut first, &mut second);
+    let count = count_journal(alloc, hub, first, second)?;
+    assert_eq!(rt; (read, count), ((true, Some((4, 1))), 1));
+    assert_eq!(rt; advanced, (0, 0, None));
+    assert_eq!(rt; told, ((Some(Xid::new(4)), 0), 4));
     Ok(())
 }
 
@@ -65,22 +84,40 @@ fn numbers_of(enlisted: Option<Enlisted>) -> Option<(u32, u32)> {
     }
 }
 
-fn assert_read<P: PassView + Send + Drop, H: Hub<Pass = P> + Drop, R: Wait + Abort>(
+// A session listens, sends and reads: whence it receives, the number, whether it was woken before, what it has received, and whether it
+// is woken after.
+fn read_what_was_sent<P: PassView + Send + Drop, H: Hub<Pass = P>, R: Wait>(
     rt: &R,
     alloc: Global,
-) -> Result<(), Fail> {
-    let (hub, mut first, _second) = open_two::<P, H>(alloc, Format::One)?;
-    assert_eq!(rt; numbers_of(listen(alloc, &hub, &mut first)), Some((3, 3)));
-    assert_eq!(rt; send(rt, alloc, &hub, &mut first, 1), Some(3));
-    assert!(rt; woken(&hub, &mut first));
-    assert_eq!(rt; receive(alloc, &hub, &mut first), Some((4, 1)));
-    assert!(rt; !woken(&hub, &mut first));
-    Ok(())
+    hub: &H,
+    pass: &mut P,
+) -> (
+    Option<(u32, u32)>,
+    Option<u32>,
+    bool,
+    Option<(u32, usize)>,
+    bool,
+)
+    requires own { H.is_pass hub.now pass.old }
+    requires out { (P.known pass.old).mark ≡ None }
+{
+    let numbers = numbers_of(listen(alloc, hub, pass));
+    let sent = send(rt, alloc, hub, pass, 1);
+    let before = woken(hub, pass);
+    let read = receive(alloc, hub, pass);
+    (numbers, sent, before, read, woken(hub, pass))
 }
 
 #[test]
 fn a_listener_reads_what_it_sent(rt: HostRuntime) -> Result<(), Fail> {
-    assert_read::<WordPass, WordHub, HostRuntime>(&rt, rt.alloc())
+    let alloc = rt.alloc();
+    let (hub, mut first, second) = open_two::<WordPass, WordHub>(alloc, Format::One)?;
+    let seen = read_what_was_sent(&rt, alloc, &hub, &mut first);
+    drop(first);
+    drop(second);
+    drop(hub);
+    assert_eq!(rt; seen, (Some((3, 3)), Some(3), true, Some((4, 1)), false));
+    Ok(())
 }
 
 // Whether it is one delivery, of the largest notification on the channel `c` from the second session.
@@ -95,24 +132,41 @@ fn is_largest_of_the_second(got: &[Delivery]) -> bool {
     }
 }
 
-fn assert_delivered<P: PassView + Send + Drop, H: Hub<Pass = P> + Drop, R: Wait + Abort>(
+// Whether the first session, which listens, receives that of the second one so.
+fn is_delivered<P: PassView + Send + Drop, H: Hub<Pass = P>, R: Wait>(
     rt: &R,
     alloc: Global,
-    format: Format,
-) -> Result<(), Fail> {
-    let (hub, mut first, mut second) = open_two::<P, H>(alloc, format)?;
+    hub: &H,
+    first: &mut P,
+    second: &mut P,
+) -> bool
+    requires first { H.is_pass hub.now first.old }
+    requires out { (P.known first.old).mark ≡ None }
+    requires second { H.is_pass hub.now second.old }
+{
     let mut got = Vec::new(alloc);
-    enlist(&hub, &mut first);
-    send(rt, alloc, &hub, &mut second, LARGEST);
-    assert!(rt; read(alloc, &hub, &mut first, &mut got).is_some());
-    assert!(rt; is_largest_of_the_second(&got));
-    Ok(())
+    enlist(hub, first);
+    send(rt, alloc, hub, second, LARGEST);
+    let read = read(alloc, hub, first, &mut got);
+    let delivered = read.is_some() && is_largest_of_the_second(&got);
+    drop(got);
+    delivered
+}
+
+// The same over a hub of this format.
+fn is_delivered_in<R: Wait>(rt: &R, alloc: Global, format: Format) -> Result<bool, Fail> {
+    let (hub, mut first, mut second) = open_two::<WordPass, WordHub>(alloc, format)?;
+    let delivered = is_delivered(rt, alloc, &hub, &mut first, &mut second);
+    drop(first);
+    drop(second);
+    drop(hub);
+    Ok(delivered)
 }
 
 #[test]
 fn a_delivery_has_its_sender(rt: HostRuntime) -> Result<(), Fail> {
     for format in [Format::One, Format::Two] {
-        assert_delivered::<WordPass, WordHub, HostRuntime>(&rt, rt.alloc(), format)?;
+        assert!(rt; is_delivered_in(&rt, rt.alloc(), format)?);
     }
     Ok(())
 }
@@ -148,22 +202,32 @@ fn look_twice<P: PassView + Send + Drop, H: Hub<Pass = P>>(
     (found, none, pass.told().get())
 }
 
-fn assert_raised<P: PassView + Send + Drop, H: Hub<Pass = P> + Drop, R: Wait + Abort>(
+// Both, one after the other.
+fn raise_and_look<P: PassView + Send + Drop, H: Hub<Pass = P>, R: Wait>(
     rt: &R,
     alloc: Global,
-) -> Result<(), Fail> {
-    let (hub, mut first, mut second) = open_two::<P, H>(alloc, Format::One)?;
-    assert_eq!(rt;
-        raise_twice(rt, alloc, &hub, &mut first, &mut second),
-        (3, 4)
-    );
-    assert_eq!(rt; look_twice(&hub, &mut second), (Some(Xid::new(4)), None, 4));
-    Ok(())
+    hub: &H,
+    first: &mut P,
+    second: &mut P,
+) -> ((u32, u32), (Option<Xid>, Option<Xid>, u32))
+    requires first { H.is_pass hub.now first.old }
+    requires second { H.is_pass hub.now second.old }
+    requires flags { 1 < (H.shape hub.now).flags }
+{
+    let raised = raise_twice(rt, alloc, hub, first, second);
+    (raised, look_twice(hub, second))
 }
 
 #[test]
 fn flags_keep_the_greatest_number(rt: HostRuntime) -> Result<(), Fail> {
-    assert_raised::<WordPass, WordHub, HostRuntime>(&rt, rt.alloc())
+    let alloc = rt.alloc();
+    let (hub, mut first, mut second) = open_two::<WordPass, WordHub>(alloc, Format::One)?;
+    let seen = raise_and_look(&rt, alloc, &hub, &mut first, &mut second);
+    drop(first);
+    drop(second);
+    drop(hub);
+    assert_eq!(rt; seen, ((3, 4), (Some(Xid::new(4)), None, 4)));
+    Ok(())
 }
 
 // Another session stands at the journal's start, and two largest notifications are sent.
@@ -209,38 +273,68 @@ fn use_two_pages<P: PassView + Send + Drop, H: Hub<Pass = P>, R: Wait>(
     hub.usage(rt, writer)
 }
 
-fn assert_used<P: PassView + Send + Drop, H: Hub<Pass = P> + Drop, R: Wait + Abort>(
+// What is in use once the listener has left.
+fn leave_and_measure<P: PassView + Send + Drop, H: Hub<Pass = P>, R: Wait>(
+    rt: &R,
+    hub: &H,
+    writer: &mut P,
+    listener: &mut P,
+) -> Usage
+    requires writer { H.is_pass hub.now writer.old }
+    requires listener { H.is_pass hub.now listener.old }
+    requires listens { IsSome (P.known listener.old).mark }
+{
+    hub.leave(listener);
+    hub.usage(rt, writer)
+}
+
+// Both, one after the other.
+fn use_and_leave<P: PassView + Send + Drop, H: Hub<Pass = P>, R: Wait>(
     rt: &R,
     alloc: Global,
-) -> Result<(), Fail> {
-    let (hub, mut first, mut second) = open_two::<P, H>(alloc, Format::One)?;
-    let used = use_two_pages(rt, alloc, &hub, &mut first, &mut second);
-    assert_eq!(rt; used, held_by_another());
-    hub.leave(&mut second);
-    assert_eq!(rt; hub.usage(rt, &mut first), held_by_nobody());
-    Ok(())
+    hub: &H,
+    writer: &mut P,
+    listener: &mut P,
+) -> (Usage, Usage)
+    requires writer { H.is_pass hub.now writer.old }
+    requires listener { H.is_pass hub.now listener.old }
+    requires out { (P.known listener.old).mark ≡ None }
+{
+    let used = use_two_pages(rt, alloc, hub, writer, listener);
+    (used, leave_and_measure(rt, hub, writer, listener))
 }
 
 #[test]
 fn usage_of_a_queue(rt: HostRuntime) -> Result<(), Fail> {
-    assert_used::<WordPass, WordHub, HostRuntime>(&rt, rt.alloc())
+    let alloc = rt.alloc();
+    let (hub, mut first, mut second) = open_two::<WordPass, WordHub>(alloc, Format::One)?;
+    let (used, unused) = use_and_leave(&rt, alloc, &hub, &mut first, &mut second);
+    drop(first);
+    drop(second);
+    drop(hub);
+    assert_eq!(rt; used, held_by_another());
+    assert_eq!(rt; unused, held_by_nobody());
+    Ok(())
 }
 
-fn assert_counted<P: PassView + Send + Drop, H: Hub<Pass = P> + Drop, R: Wait + Abort>(
+// Both sessions send, and the first one hears of what the second one knows: what it is told then, and how many transactions there are.
+fn send_and_count<P: PassView + Send + Drop, H: Hub<Pass = P> + Drop, R: Wait>(
     rt: &R,
     alloc: Global,
-) -> Result<(), Fail> {
+) -> Result<(u32, u32), Fail> {
     let (hub, mut first, mut second) = open_two::<P, H>(alloc, Format::One)?;
     send(rt, alloc, &hub, &mut first, 1);
     send(rt, alloc, &hub, &mut second, 1);
-    assert_eq!(rt; tell(&hub, &mut second, &mut first), 5);
-    assert_eq!(rt; count_journal(alloc, hub, first, second)?, 2);
-    Ok(())
+    let told = tell(&hub, &mut second, &mut first);
+    let count = count_journal(alloc, hub, first, second)?;
+    Ok((told, count))
 }
 
 #[test]
 fn the_end_counts_the_journal(rt: HostRuntime) -> Result<(), Fail> {
-    assert_counted::<WordPass, WordHub, HostRuntime>(&rt, rt.alloc())
+    let counted = send_and_count::<WordPass, WordHub, HostRuntime>(&rt, rt.alloc())?;
+    assert_eq!(rt; counted, (5, 2));
+    Ok(())
 }
 
 // Which of two listeners is woken once the second one has sent.
@@ -265,58 +359,138 @@ fn send_and_wake<P: PassView + Send + Drop, H: Hub<Pass = P>, R: Wait>(
     (one, woken(hub, second))
 }
 
-fn assert_apart<P: PassView + Send + Drop, H: Hub<Pass = P> + Drop, R: Wait + Abort>(
+// What both receive then.
+fn receive_both<P: PassView + Send + Drop, H: Hub<Pass = P>>(
+    alloc: Global,
+    hub: &H,
+    first: &mut P,
+    second: &mut P,
+) -> (Option<(u32, usize)>, Option<(u32, usize)>)
+    requires first { H.is_pass hub.now first.old }
+    requires first_listens { IsSome (P.known first.old).mark }
+    requires second { H.is_pass hub.now second.old }
+    requires second_listens { IsSome (P.known second.old).mark }
+{
+    let one = receive(alloc, hub, first);
+    (one, receive(alloc, hub, second))
+}
+
+// Whether both listen, from here on.
+fn listen_both<P: PassView + Send + Drop, H: Hub<Pass = P>>(
+    alloc: Global,
+    hub: &H,
+    first: &mut P,
+    second: &mut P,
+) -> bool
+    requires first { H.is_pass hub.now first.old }
+    requires first_out { (P.known first.old).mark ≡ None }
+    requires second { H.is_pass hub.now second.old }
+    requires second_out { (P.known second.old).mark ≡ None }
+    ensures first { H.is_pass hub.now first.new }
+    ensures first_listens { IsSome (P.known first.new).mark }
+    ensures second { H.is_pass hub.now second.new }
+    ensures second_listens { IsSome (P.known second.new).mark }
+{
+    let one = listen(alloc, hub, first).is_some();
+    let two = listen(alloc, hub, second).is_some();
+    one && two
+}
+
+// Both listen, and the second one sends: whether both listened, which of them was woken, and what both received.
+fn listen_apart<P: PassView + Send + Drop, H: Hub<Pass = P>, R: Wait>(
     rt: &R,
     alloc: Global,
-) -> Result<(), Fail> {
-    let (hub, mut first, mut second) = open_pages::<P, H>(alloc, Format::One, 2, 2)?;
-    assert!(rt; listen(alloc, &hub, &mut first).is_some());
-    assert!(rt; listen(alloc, &hub, &mut second).is_some());
-    let woken = send_and_wake(rt, alloc, &hub, &mut first, &mut second);
-    assert_eq!(rt; woken, (false, true));
-    assert_eq!(rt; receive(alloc, &hub, &mut first), Some((4, 0)));
-    assert_eq!(rt; receive(alloc, &hub, &mut second), Some((4, 1)));
-    Ok(())
+    hub: &H,
+    first: &mut P,
+    second: &mut P,
+) -> (
+    bool,
+    (bool, bool),
+    (Option<(u32, usize)>, Option<(u32, usize)>),
+)
+    requires first { H.is_pass hub.now first.old }
+    requires first_out { (P.known first.old).mark ≡ None }
+    requires second { H.is_pass hub.now second.old }
+    requires second_out { (P.known second.old).mark ≡ None }
+{
+    let listen = listen_both(alloc, hub, first, second);
+    let woken = send_and_wake(rt, alloc, hub, first, second);
+    (listen, woken, receive_both(alloc, hub, first, second))
 }
 
 #[test]
 fn two_databases(rt: HostRuntime) -> Result<(), Fail> {
-    assert_apart::<WordPass, WordHub, HostRuntime>(&rt, rt.alloc())
+    let alloc = rt.alloc();
+    let (hub, mut first, mut second) = open_pages::<WordPass, WordHub>(alloc, Format::One, 2, 2)?;
+    let seen = listen_apart(&rt, alloc, &hub, &mut first, &mut second);
+    drop(first);
+    drop(second);
+    drop(hub);
+    let received = (Some((4, 0)), Some((4, 1)));
+    assert_eq!(rt; seen, (true, (false, true), received));
+    Ok(())
 }
 
-fn assert_laggard<P: PassView + Send + Drop, H: Hub<Pass = P> + Drop, R: Wait + Abort>(
+// One session listens, and another one sends four largest notifications, and a fifth: whether the first is woken by them and by that, and
+// what it has received.
+fn lag_behind<P: PassView + Send + Drop, H: Hub<Pass = P>, R: Wait>(
     rt: &R,
     alloc: Global,
-) -> Result<(), Fail> {
-    let (hub, mut first, mut second) = open_pages::<P, H>(alloc, Format::One, 9, 2)?;
-    enlist(&hub, &mut first);
-    send_four(rt, alloc, &hub, &mut second);
-    assert!(rt; !woken(&hub, &mut first));
-    send(rt, alloc, &hub, &mut second, LARGEST);
-    assert!(rt; woken(&hub, &mut first));
-    assert_eq!(rt; receive(alloc, &hub, &mut first), Some((8, 0)));
-    Ok(())
+    hub: &H,
+    reader: &mut P,
+    writer: &mut P,
+) -> (bool, bool, Option<(u32, usize)>)
+    requires reader { H.is_pass hub.now reader.old }
+    requires out { (P.known reader.old).mark ≡ None }
+    requires writer { H.is_pass hub.now writer.old }
+{
+    enlist(hub, reader);
+    send_four(rt, alloc, hub, writer);
+    let by_four = woken(hub, reader);
+    send(rt, alloc, hub, writer, LARGEST);
+    let by_five = woken(hub, reader);
+    (by_four, by_five, receive(alloc, hub, reader))
 }
 
 #[test]
 fn a_laggard_of_another_database_is_woken(rt: HostRuntime) -> Result<(), Fail> {
-    assert_laggard::<WordPass, WordHub, HostRuntime>(&rt, rt.alloc())
+    let alloc = rt.alloc();
+    let (hub, mut first, mut second) = open_pages::<WordPass, WordHub>(alloc, Format::One, 9, 2)?;
+    let seen = lag_behind(&rt, alloc, &hub, &mut first, &mut second);
+    drop(first);
+    drop(second);
+    drop(hub);
+    assert_eq!(rt; seen, (false, true, Some((8, 0))));
+    Ok(())
 }
 
-fn assert_late<P: PassView + Send + Drop, H: Hub<Pass = P> + Drop, R: Wait + Abort>(
+// A session listens between two notifications of another one: whence it receives, and what it has received.
+fn come_late<P: PassView + Send + Drop, H: Hub<Pass = P>, R: Wait>(
     rt: &R,
     alloc: Global,
-) -> Result<(), Fail> {
-    let (hub, mut first, mut second) = open_two::<P, H>(alloc, Format::One)?;
-    send(rt, alloc, &hub, &mut first, 1);
-    let enlisted = enlist(&hub, &mut second);
-    assert_eq!(rt; (enlisted.base.get(), enlisted.point.get()), (3, 4));
-    send(rt, alloc, &hub, &mut first, 2);
-    assert_eq!(rt; receive(alloc, &hub, &mut second), Some((5, 1)));
-    Ok(())
+    hub: &H,
+    writer: &mut P,
+    reader: &mut P,
+) -> (u32, u32, Option<(u32, usize)>)
+    requires writer { H.is_pass hub.now writer.old }
+    requires reader { H.is_pass hub.now reader.old }
+    requires out { (P.known reader.old).mark ≡ None }
+{
+    send(rt, alloc, hub, writer, 1);
+    let enlisted = enlist(hub, reader);
+    send(rt, alloc, hub, writer, 2);
+    let received = receive(alloc, hub, reader);
+    (enlisted.base.get(), enlisted.point.get(), received)
 }
 
 #[test]
 fn a_late_listener(rt: HostRuntime) -> Result<(), Fail> {
-    assert_late::<WordPass, WordHub, HostRuntime>(&rt, rt.alloc())
+    let alloc = rt.alloc();
+    let (hub, mut first, mut second) = open_two::<WordPass, WordHub>(alloc, Format::One)?;
+    let seen = come_late(&rt, alloc, &hub, &mut first, &mut second);
+    drop(first);
+    drop(second);
+    drop(hub);
+    assert_eq!(rt; seen, (3, 4, Some((5, 1))));
+    Ok(())
 }

@@ -16,7 +16,11 @@ fn send_three<P: PassView + Send + Drop, H: Hub<Pass = P> + Drop, R: Wait>(
     send(rt, alloc, &hub, &mut writer, second);
     send(rt, alloc, &hub, &mut writer, third);
     let pages = hub.usage(rt, &mut writer).occupied;
-    Ok((pages, receive(alloc, &hub, &mut reader)))
+    let received = receive(alloc, &hub, &mut reader);
+    drop(reader);
+    drop(writer);
+    drop(hub);
+    Ok((pages, received))
 }
 
 // By format, letters of the second and of the third, and the page on which the next entry begins. The largest entry ends at 8020 in

@@ -1,9 +1,8 @@
 //! A full queue, and what frees it.
-ghost use Rattle.std.specs.Prelude.{◌≡◌, ◌≢◌, None, IsSome, IfSome, AllPairs};
+ghost use Rattle.std.specs.Prelude.{◌≡◌, ◌≢◌, IsSome, IfSome, AllPairs};
 
 use super::*;
 use pgn_base::Full;
-use std::process::Abort;
 
 // Why one of the largest notifications met a full queue.
 fn meet_full<P: PassView + Send + Drop, H: Hub<Pass = P>, R: Wait>(
@@ -100,25 +99,37 @@ fn read_and_send<P: PassView + Send + Drop, H: Hub<Pass = P>, R: Wait>(
     (before, number, after)
 }
 
-fn assert_freed<P: PassView + Send + Drop, H: Hub<Pass = P> + Drop, R: Wait + Abort>(
+// What comes of a queue of this format that is filled while a session listens.
+fn fill_and_free<R: Wait>(
     rt: &R,
     alloc: Global,
     format: Format,
-) -> Result<(), Fail> {
-    let (hub, mut first, mut second) = open_two::<P, H>(alloc, format)?;
+) -> Result<
+    (
+        bool,
+        (Option<Full>, Option<u32>),
+        (Option<(u32, usize)>, Option<u32>, Option<(u32, usize)>),
+    ),
+    Fail,
+> {
+    let (hub, mut first, mut second) = open_two::<WordPass, WordHub>(alloc, format)?;
     enlist(&hub, &mut first);
-    assert!(rt; fill(rt, alloc, &hub, &mut second));
+    let filled = fill(rt, alloc, &hub, &mut second);
     let full = meet_full_twice(rt, alloc, &hub, &mut second);
-    assert_eq!(rt; full, (Some(held_by_the_listener()), None));
     let read = read_and_send(rt, alloc, &hub, &mut first, &mut second);
-    assert_eq!(rt; read, (Some((7, 2)), Some(7), Some((8, 1))));
-    Ok(())
+    drop(first);
+    drop(second);
+    drop(hub);
+    Ok((filled, full, read))
 }
 
 #[test]
 fn full_and_freed_by_a_read(rt: HostRuntime) -> Result<(), Fail> {
     for format in [Format::One, Format::Two] {
-        assert_freed::<WordPass, WordHub, HostRuntime>(&rt, rt.alloc(), format)?;
+        let (filled, full, read) = fill_and_free(&rt, rt.alloc(), format)?;
+        assert!(rt; filled);
+        assert_eq!(rt; full, (Some(held_by_the_listener()), None));
+        assert_eq!(rt; read, (Some((7, 2)), Some(7), Some((8, 1))));
     }
     Ok(())
 }
@@ -169,25 +180,29 @@ fn send_three<P: PassView + Send + Drop, H: Hub<Pass = P>, R: Wait>(
     hub.publish(rt, pass, notes).err()
 }
 
-fn assert_too_large<P: PassView + Send + Drop, H: Hub<Pass = P> + Drop, R: Wait + Abort>(
+// Why it did, and the number of the next transaction.
+fn send_too_much<R: Wait>(
     rt: &R,
     alloc: Global,
     notes: &[Note; 3],
-) -> Result<(), Fail>
+) -> Result<(Option<Full>, Option<u32>), Fail>
     requires { AllPairs (λ a b. a ≢ b) notes.now }
 {
-    let (hub, mut first, _second) = open_two::<P, H>(alloc, Format::One)?;
+    let (hub, mut first, second) = open_two::<WordPass, WordHub>(alloc, Format::One)?;
     let full = send_three(rt, &hub, &mut first, notes);
-    assert_eq!(rt; full, Some(held_by_nobody()));
-    assert_eq!(rt; send(rt, alloc, &hub, &mut first, 0), Some(4));
-    Ok(())
+    let sent = send(rt, alloc, &hub, &mut first, 0);
+    drop(first);
+    drop(second);
+    drop(hub);
+    Ok((full, sent))
 }
 
 #[test]
 fn full_without_a_listener(rt: HostRuntime) -> Result<(), Fail> {
     let alloc = rt.alloc();
     let notes = three_notes(alloc).ok_or("no memory")?;
-    let done = assert_too_large::<WordPass, WordHub, HostRuntime>(&rt, alloc, &notes);
+    let sent = send_too_much(&rt, alloc, &notes);
     drop(notes);
-    done
+    assert_eq!(rt; sent?, (Some(held_by_nobody()), Some(4)));
+    Ok(())
 }

@@ -2,7 +2,6 @@
 ghost use Rattle.std.specs.Prelude.{◌<◌, IsSome};
 
 use super::*;
-use std::process::Abort;
 
 // Another session sends on a channel: the number, and whether the listener is woken by it.
 fn send_and_look<P: PassView + Send + Drop, H: Hub<Pass = P>, R: Wait>(
@@ -25,41 +24,70 @@ fn send_and_look<P: PassView + Send + Drop, H: Hub<Pass = P>, R: Wait>(
     (number, woken(hub, listener))
 }
 
-fn assert_slept<P: PassView + Send + Drop, H: Hub<Pass = P> + Drop, R: Wait + Abort>(
+// One session listens, and another one sends on another channel and on that: what comes of both, and what is received.
+fn sleep_and_wake<P: PassView + Send + Drop, H: Hub<Pass = P>, R: Wait>(
     rt: &R,
     alloc: Global,
-) -> Result<(), Fail> {
-    let (hub, mut first, mut second) = open_two::<P, H>(alloc, Format::One)?;
-    assert!(rt; listen(alloc, &hub, &mut first).is_some());
-    let slept = send_and_look(rt, alloc, &hub, &mut first, &mut second, "d", 1);
-    assert_eq!(rt; slept, (Some(3), false));
-    let woken = send_and_look(rt, alloc, &hub, &mut first, &mut second, "c", 1);
-    assert_eq!(rt; woken, (Some(4), true));
-    assert_eq!(rt; receive(alloc, &hub, &mut first), Some((5, 1)));
-    Ok(())
+    hub: &H,
+    listener: &mut P,
+    writer: &mut P,
+) -> (
+    (Option<u32>, bool),
+    (Option<u32>, bool),
+    Option<(u32, usize)>,
+)
+    requires listener { H.is_pass hub.now listener.old }
+    requires listens { IsSome (P.known listener.old).mark }
+    requires writer { H.is_pass hub.now writer.old }
+{
+    let slept = send_and_look(rt, alloc, hub, listener, writer, "d", 1);
+    let woken = send_and_look(rt, alloc, hub, listener, writer, "c", 1);
+    (slept, woken, receive(alloc, hub, listener))
 }
 
 #[test]
 fn a_listener_sleeps_through_other_channels(rt: HostRuntime) -> Result<(), Fail> {
-    assert_slept::<WordPass, WordHub, HostRuntime>(&rt, rt.alloc())
+    let alloc = rt.alloc();
+    let (hub, mut first, mut second) = open_two::<WordPass, WordHub>(alloc, Format::One)?;
+    let listens = listen(alloc, &hub, &mut first).is_some();
+    let seen = sleep_and_wake(&rt, alloc, &hub, &mut first, &mut second);
+    drop(first);
+    drop(second);
+    drop(hub);
+    assert!(rt; listens);
+    assert_eq!(rt; seen, ((Some(3), false), (Some(4), true), Some((5, 1))));
+    Ok(())
 }
 
-fn assert_woken_for_nothing<P: PassView + Send + Drop, H: Hub<Pass = P> + Drop, R: Wait + Abort>(
+// One session listens, and another one sends on a channel of the same bits: what comes of it, and what is received. The bytes of `1` and
+// `2` add up to that of `c`.
+fn wake_for_nothing<P: PassView + Send + Drop, H: Hub<Pass = P>, R: Wait>(
     rt: &R,
     alloc: Global,
-) -> Result<(), Fail> {
-    let (hub, mut first, mut second) = open_two::<P, H>(alloc, Format::One)?;
-    assert!(rt; listen(alloc, &hub, &mut first).is_some());
-    // The bytes of `1` and `2` add up to that of `c`.
-    let woken = send_and_look(rt, alloc, &hub, &mut first, &mut second, "12", 1);
-    assert_eq!(rt; woken, (Some(3), true));
-    assert_eq!(rt; receive(alloc, &hub, &mut first), Some((4, 0)));
-    Ok(())
+    hub: &H,
+    listener: &mut P,
+    writer: &mut P,
+) -> ((Option<u32>, bool), Option<(u32, usize)>)
+    requires listener { H.is_pass hub.now listener.old }
+    requires listens { IsSome (P.known listener.old).mark }
+    requires writer { H.is_pass hub.now writer.old }
+{
+    let woken = send_and_look(rt, alloc, hub, listener, writer, "12", 1);
+    (woken, receive(alloc, hub, listener))
 }
 
 #[test]
 fn channels_of_one_bit_wake_for_nothing(rt: HostRuntime) -> Result<(), Fail> {
-    assert_woken_for_nothing::<WordPass, WordHub, HostRuntime>(&rt, rt.alloc())
+    let alloc = rt.alloc();
+    let (hub, mut first, mut second) = open_two::<WordPass, WordHub>(alloc, Format::One)?;
+    let listens = listen(alloc, &hub, &mut first).is_some();
+    let seen = wake_for_nothing(&rt, alloc, &hub, &mut first, &mut second);
+    drop(first);
+    drop(second);
+    drop(hub);
+    assert!(rt; listens);
+    assert_eq!(rt; seen, ((Some(3), true), Some((4, 0))));
+    Ok(())
 }
 
 // Whether the listener sleeps while two largest notifications on another channel fill two pages, and is woken by a third, for which
@@ -81,25 +109,32 @@ fn is_woken_at_the_full_queue<P: PassView + Send + Drop, H: Hub<Pass = P>, R: Wa
     (first, second, third) == ((Some(3), false), (Some(4), false), (None, true))
 }
 
-fn assert_wakes<P: PassView + Send + Drop, H: Hub<Pass = P> + Drop, R: Wait + Abort>(
-    rt: &R,
-    alloc: Global,
-    second_db: u32,
-) -> Result<(), Fail>
+// Whether a listener sleeps and wakes so, where the second session is in this database.
+fn full_queue_wakes<R: Wait>(rt: &R, alloc: Global, second_db: u32) -> Result<bool, Fail>
     requires { 0 < second_db }
 {
-    let (hub, mut first, mut second) = open_pages::<P, H>(alloc, Format::One, 2, second_db)?;
-    assert!(rt; listen(alloc, &hub, &mut first).is_some());
-    assert!(rt; is_woken_at_the_full_queue(rt, alloc, &hub, &mut first, &mut second));
-    Ok(())
+    let (hub, mut first, mut second) = open_pages::<WordPass, WordHub>(
+        alloc,
+        Format::One,
+        2,
+        second_db,
+    )?;
+    let listens = listen(alloc, &hub, &mut first).is_some();
+    let woken = is_woken_at_the_full_queue(rt, alloc, &hub, &mut first, &mut second);
+    drop(first);
+    drop(second);
+    drop(hub);
+    Ok(listens && woken)
 }
 
 #[test]
 fn a_full_queue_wakes_all(rt: HostRuntime) -> Result<(), Fail> {
-    assert_wakes::<WordPass, WordHub, HostRuntime>(&rt, rt.alloc(), 1)
+    assert!(rt; full_queue_wakes(&rt, rt.alloc(), 1)?);
+    Ok(())
 }
 
 #[test]
 fn a_full_queue_wakes_other_databases(rt: HostRuntime) -> Result<(), Fail> {
-    assert_wakes::<WordPass, WordHub, HostRuntime>(&rt, rt.alloc(), 2)
+    assert!(rt; full_queue_wakes(&rt, rt.alloc(), 2)?);
+    Ok(())
 }

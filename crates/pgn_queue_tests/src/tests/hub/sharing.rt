@@ -1,6 +1,7 @@
 //! Two sessions that share the queue for long.
-ghost use Rattle.std.specs.Prelude.{◌≡◌, ◌<◌, true, length, None, IsSome};
-ghost use Rattle.std.specs.Thread.{IsSync, IsSend};
+ghost use Rattle.std.specs.Prelude.{◌≡◌, ◌<◌, true, length, IsSome};
+ghost use Rattle.pgn_words.specs.Passes.{known_of};
+ghost use Rattle.pgn_wordhub.specs.Passes.{IsHubPass};
 
 use super::*;
 use std::alloc::AllocError;
@@ -82,7 +83,11 @@ fn used_again<P: PassView + Send + Drop, H: Hub<Pass = P> + Drop, R: Wait>(
     let (hub, mut first, mut second) = open_two::<P, H>(alloc, format)?;
     enlist(&hub, &mut second);
     let done = rounds(rt, alloc, &hub, &mut first, &mut second, notes, set, times);
-    Ok((done, receive(alloc, &hub, &mut second)))
+    let received = receive(alloc, &hub, &mut second);
+    drop(first);
+    drop(second);
+    drop(hub);
+    Ok((done, received))
 }
 
 // Asserts that these notifications are sent and read in each format.
@@ -125,20 +130,20 @@ fn empty_log(alloc: Global) -> Log {
 }
 
 // One try: a publish, whatever it answers, and then a read. A number that was answered is one that was sent.
-fn try_once<P: PassView + Send + Drop, H: Hub<Pass = P>, R: Wait>(
+fn try_once<R: Wait>(
     rt: &R,
     alloc: Global,
-    hub: &H,
-    pass: &mut P,
+    hub: &WordHub,
+    pass: &mut WordPass,
     notes: &[Note; 1],
     set: &ListenSet,
     log: &mut Log,
 ) -> Result<(), AllocError>
-    requires own { H.is_pass hub.now pass.old }
-    requires listens { IsSome (P.known pass.old).mark }
-    ensures own { H.is_pass hub.now pass.new }
-    ensures listens { IsSome (P.known pass.new).mark }
-    ensures session { (P.known pass.new).session ≡ (P.known pass.old).session }
+    requires own { IsHubPass hub.now pass.old }
+    requires listens { IsSome (known_of pass.old).mark }
+    ensures own { IsHubPass hub.now pass.new }
+    ensures listens { IsSome (known_of pass.new).mark }
+    ensures session { (known_of pass.new).session ≡ (known_of pass.old).session }
 {
     if let Some(xid) = publish_one(rt, hub, pass, notes) {
         log.sent.push(xid)?;
@@ -149,20 +154,20 @@ fn try_once<P: PassView + Send + Drop, H: Hub<Pass = P>, R: Wait>(
 }
 
 // All tries of one session.
-fn tries<P: PassView + Send + Drop, H: Hub<Pass = P>, R: Wait>(
+fn tries<R: Wait>(
     rt: &R,
     alloc: Global,
-    hub: &H,
-    pass: &mut P,
+    hub: &WordHub,
+    pass: &mut WordPass,
     notes: &[Note; 1],
     set: &ListenSet,
     log: &mut Log,
 ) -> Result<(), AllocError>
-    requires own { H.is_pass hub.now pass.old }
-    requires listens { IsSome (P.known pass.old).mark }
-    ensures own { H.is_pass hub.now pass.new }
-    ensures listens { IsSome (P.known pass.new).mark }
-    ensures session { (P.known pass.new).session ≡ (P.known pass.old).session }
+    requires own { IsHubPass hub.now pass.old }
+    requires listens { IsSome (known_of pass.old).mark }
+    ensures own { IsHubPass hub.now pass.new }
+    ensures listens { IsSome (known_of pass.new).mark }
+    ensures session { (known_of pass.new).session ≡ (known_of pass.old).session }
 {
     'tries: for _ in 0..TIMES {
         try_once(rt, alloc, hub, pass, notes, set, log)?;
@@ -171,38 +176,32 @@ fn tries<P: PassView + Send + Drop, H: Hub<Pass = P>, R: Wait>(
 }
 
 // Those of two sessions on two threads.
-fn try_both<P: PassView + Send + Drop, H: Hub<Pass = P> + Sync, R: Threads + Wait + Sync>(
+fn try_both<R: Threads + Wait + Sync>(
     rt: &R,
     alloc: Global,
-    hub: &H,
-    first: &mut P,
-    second: &mut P,
+    hub: &WordHub,
+    first: &mut WordPass,
+    second: &mut WordPass,
     notes: &[Note; 1],
     set: &ListenSet,
     first_log: &mut Log,
     second_log: &mut Log,
 ) -> Result<(), AllocError>
-    requires first { H.is_pass hub.now first.old }
-    requires first_listens { IsSome (P.known first.old).mark }
-    requires second { H.is_pass hub.now second.old }
-    requires second_listens { IsSome (P.known second.old).mark }
-    ensures first { H.is_pass hub.now first.new }
-    ensures first_listens { IsSome (P.known first.new).mark }
-    ensures first_session { (P.known first.new).session ≡ (P.known first.old).session }
-    ensures second { H.is_pass hub.now second.new }
-    ensures second_listens { IsSome (P.known second.new).mark }
-    ensures second_session { (P.known second.new).session ≡ (P.known second.old).session }
+    requires first { IsHubPass hub.now first.old }
+    requires first_listens { IsSome (known_of first.old).mark }
+    requires second { IsHubPass hub.now second.old }
+    requires second_listens { IsSome (known_of second.old).mark }
+    ensures first { IsHubPass hub.now first.new }
+    ensures first_listens { IsSome (known_of first.new).mark }
+    ensures first_session { (known_of first.new).session ≡ (known_of first.old).session }
+    ensures second { IsHubPass hub.now second.new }
+    ensures second_listens { IsSome (known_of second.new).mark }
+    ensures second_session { (known_of second.new).session ≡ (known_of second.old).session }
 {
     let (one, other) = join_mut(
         rt,
-        &mut || -> Result<(), AllocError>
-            requires { IsSync R.row × IsSync H.row × IsSend P.row × H.is_pass hub.now first.now × IsSome (P.known first.now).mark }
-            ensures { H.is_pass hub.entry.now first.exit.now × IsSome (P.known first.exit.now).mark × ((P.known first.exit.now).session ≡ (P.known first.entry.now).session) }
-        { tries(rt, alloc, hub, first, notes, set, first_log) },
-        &mut || -> Result<(), AllocError>
-            requires { IsSync R.row × IsSync H.row × IsSend P.row × H.is_pass hub.now second.now × IsSome (P.known second.now).mark }
-            ensures { H.is_pass hub.entry.now second.exit.now × IsSome (P.known second.exit.now).mark × ((P.known second.exit.now).session ≡ (P.known second.entry.now).session) }
-        { tries(rt, alloc, hub, second, notes, set, second_log) },
+        &mut || tries(rt, alloc, hub, first, notes, set, first_log),
+        &mut || tries(rt, alloc, hub, second, notes, set, second_log),
     );
     one.and(other)
 }
@@ -260,25 +259,25 @@ fn is_all(got: &[Delivery], first: &[Xid], second: &[Xid]) -> bool {
 }
 
 // Two listeners send and read at the same time, and read on afterwards.
-fn share<P: PassView + Send + Drop, H: Hub<Pass = P> + Sync, R: Threads + Wait + Sync>(
+fn share<R: Threads + Wait + Sync>(
     rt: &R,
     alloc: Global,
-    hub: &H,
-    first: &mut P,
-    second: &mut P,
+    hub: &WordHub,
+    first: &mut WordPass,
+    second: &mut WordPass,
     notes: &[Note; 1],
     set: &ListenSet,
     first_log: &mut Log,
     second_log: &mut Log,
 ) -> Result<(), AllocError>
-    requires first { H.is_pass hub.now first.old }
-    requires first_listens { IsSome (P.known first.old).mark }
-    requires second { H.is_pass hub.now second.old }
-    requires second_listens { IsSome (P.known second.old).mark }
-    ensures first { H.is_pass hub.now first.new }
-    ensures first_session { (P.known first.new).session ≡ (P.known first.old).session }
-    ensures second { H.is_pass hub.now second.new }
-    ensures second_session { (P.known second.new).session ≡ (P.known second.old).session }
+    requires first { IsHubPass hub.now first.old }
+    requires first_listens { IsSome (known_of first.old).mark }
+    requires second { IsHubPass hub.now second.old }
+    requires second_listens { IsSome (known_of second.old).mark }
+    ensures first { IsHubPass hub.now first.new }
+    ensures first_session { (known_of first.new).session ≡ (known_of first.old).session }
+    ensures second { IsHubPass hub.now second.new }
+    ensures second_session { (known_of second.new).session ≡ (known_of second.old).session }
 {
     try_both(
         rt, alloc, hub, first, second, notes, set, first_log, second_log,
@@ -288,11 +287,7 @@ fn share<P: PassView + Send + Drop, H: Hub<Pass = P> + Sync, R: Threads + Wait +
 }
 
 // They do so over a hub of their own: how many transactions its journal has.
-fn share_a_hub<
-    P: PassView + Send + Drop,
-    H: Hub<Pass = P> + Sync + Drop,
-    R: Threads + Wait + Sync + Abort,
->(
+fn share_a_hub<R: Threads + Wait + Sync + Abort>(
     rt: &R,
     alloc: Global,
     notes: &[Note; 1],
@@ -300,7 +295,7 @@ fn share_a_hub<
     first_log: &mut Log,
     second_log: &mut Log,
 ) -> Result<u32, Fail> {
-    let (hub, mut first, mut second) = open_two::<P, H>(alloc, Format::One)?;
+    let (hub, mut first, mut second) = open_two::<WordPass, WordHub>(alloc, Format::One)?;
     enlist(&hub, &mut first);
     enlist(&hub, &mut second);
     let done = share(
@@ -319,13 +314,14 @@ fn share_a_hub<
 }
 
 // How many transactions there were, and whether each of two sessions received all of them.
-fn shared<
-    P: PassView + Send + Drop,
-    H: Hub<Pass = P> + Sync + Drop,
-    R: Threads + Wait + Sync + Abort,
->(rt: &R, alloc: Global, notes: &[Note; 1], set: &ListenSet) -> Result<(u32, bool, bool), Fail> {
+fn shared<R: Threads + Wait + Sync + Abort>(
+    rt: &R,
+    alloc: Global,
+    notes: &[Note; 1],
+    set: &ListenSet,
+) -> Result<(u32, bool, bool), Fail> {
     let (mut a, mut b) = (empty_log(alloc), empty_log(alloc));
-    let count = share_a_hub::<P, H, R>(rt, alloc, notes, set, &mut a, &mut b);
+    let count = share_a_hub(rt, alloc, notes, set, &mut a, &mut b);
     let by_first = is_all(&a.got, &a.sent, &b.sent);
     let by_second = is_all(&b.got, &a.sent, &b.sent);
     drop(a);
@@ -337,7 +333,7 @@ fn shared<
 fn two_threads(rt: HostRuntime) -> Result<(), Fail> {
     let alloc = rt.alloc();
     let (notes, set) = note_and_set(alloc, 100).ok_or("no memory")?;
-    let done = shared::<WordPass, WordHub, HostRuntime>(&rt, alloc, &notes, &set);
+    let done = shared(&rt, alloc, &notes, &set);
     drop(notes);
     drop(set);
     assert_eq!(rt; done?, (8000, true, true));

@@ -10,29 +10,20 @@ use std::thread::Threads;
 /// How often a session advances the tail at most until it meets another one that joins.
 const ADVANCES: usize = 1_000_000;
 
-// Another session sends a largest notification twice. Two fill two pages.
-fn send_two<P: PassView + Send + Drop, H: Hub<Pass = P>, R: Wait>(
-    rt: &R,
-    alloc: Global,
-    hub: &H,
-    pass: &mut P,
-)
-    requires own { H.is_pass hub.now pass.old }
-    ensures own { H.is_pass hub.now pass.new }
-{
-    send(rt, alloc, hub, pass, LARGEST);
-    send(rt, alloc, hub, pass, LARGEST);
-}
-
 #[test]
 fn a_listener_holds_the_tail(rt: HostRuntime) -> Result<(), Fail> {
     let alloc = rt.alloc();
     let (hub, mut first, mut second) = open_two::<WordPass, WordHub>(alloc, Format::One)?;
     enlist(&hub, &mut first);
     send_two(&rt, alloc, &hub, &mut second);
-    assert_eq!(rt; advance(&rt, &hub, &mut second), (0, 0, None));
-    assert_eq!(rt; receive(alloc, &hub, &mut first), Some((5, 2)));
-    assert_eq!(rt; advance(&rt, &hub, &mut second), (0, 1, None));
+    let held = advance(&rt, &hub, &mut second);
+    let received = receive(alloc, &hub, &mut first);
+    let freed = advance(&rt, &hub, &mut second);
+    drop(first);
+    drop(second);
+    drop(hub);
+    assert_eq!(rt; (held, freed), ((0, 0, None), (0, 1, None)));
+    assert_eq!(rt; received, Some((5, 2)));
     Ok(())
 }
 
@@ -122,6 +113,7 @@ fn a_session_that_joins_is_named(rt: HostRuntime) -> Result<(), Fail> {
     let (hub, first, mut second) = open_two::<WordPass, WordHub>(rt.alloc(), Format::One)?;
     send_two(&rt, rt.alloc(), &hub, &mut second);
     let (_, met) = join_and_advance(&rt, &hub, first, second);
+    drop(hub);
     assert_eq!(rt; met_by(met), Some((true, 1)));
     Ok(())
 }
@@ -151,6 +143,9 @@ fn the_tail_moves_without_a_full_queue(rt: HostRuntime) -> Result<(), Fail> {
     let (hub, mut first, mut second) = open_pages::<WordPass, WordHub>(alloc, Format::One, 9, 1)?;
     enlist(&hub, &mut second);
     let (read, advanced) = send_five_and_advance(&rt, alloc, &hub, &mut first, &mut second);
+    drop(first);
+    drop(second);
+    drop(hub);
     assert_eq!(rt; read, Some((7, 4)));
     assert_eq!(rt; advanced, (3, 3, None));
     Ok(())

@@ -1,23 +1,23 @@
 use Rattle.pgn_queue_tests.proofs.OpenedPair.{as_many, both_of, opened_pair}
 use Rattle.pgn_queue_tests.proofs.tests.hub.open_pages.Goals as goal
 
-pub both-requires : goal.both-requires
-both-requires g c κs within = as_many g.P.PassView.known c.in_ok-hub.passes.items c.in_ok-setup.setup.seats 2 c.in_ok-hub.ensures.passes c.in_ok-setup.ensures.seats
+pub both-first-requires : goal.both-first-requires
+both-first-requires g c = as_many g.P.PassView.known c.in_ok-hub.passes.items c.in_ok-setup.setup.seats 2 c.in_ok-hub.ensures.passes c.in_ok-setup.ensures.seats
 
 pub returns-clause-first : goal.returns-clause-first
-returns-clause-first g c = (both_of (g.H.Hub.is_pass c.in_ok-hub.hub) c.in_ok-hub.passes.items c.both.result.0 c.both.result.1 c.both.ensures c.in_ok-hub.ensures.own).0
+returns-clause-first g c = (both_of (g.H.Hub.is_pass c.in_ok-hub.hub) c.in_ok-hub.passes.items c.both-first.result.0 c.both-first.result.1 c.both-first.ensures c.in_ok-hub.ensures.own).0
 
 pub returns-clause-second : goal.returns-clause-second
-returns-clause-second g c = (both_of (g.H.Hub.is_pass c.in_ok-hub.hub) c.in_ok-hub.passes.items c.both.result.0 c.both.result.1 c.both.ensures c.in_ok-hub.ensures.own).1
+returns-clause-second g c = (both_of (g.H.Hub.is_pass c.in_ok-hub.hub) c.in_ok-hub.passes.items c.both-first.result.0 c.both-first.result.1 c.both-first.ensures c.in_ok-hub.ensures.own).1
 
 pub returns-clause-first_out : goal.returns-clause-first_out
-returns-clause-first_out g c = (opened_pair g.P.PassView.known c.in_ok-setup.setup.seats c.in_ok-hub.passes.items c.both.result.0 c.both.result.1 c.in_ok-setup.ensures.seats c.both.ensures c.in_ok-hub.ensures.passes).0.out
+returns-clause-first_out g c = (opened_pair g.P.PassView.known c.in_ok-setup.setup.seats c.in_ok-hub.passes.items c.both-first.result.0 c.both-first.result.1 c.in_ok-setup.ensures.seats c.both-first.ensures c.in_ok-hub.ensures.passes).0.out
 
 pub returns-clause-second_out : goal.returns-clause-second_out
-returns-clause-second_out g c = (opened_pair g.P.PassView.known c.in_ok-setup.setup.seats c.in_ok-hub.passes.items c.both.result.0 c.both.result.1 c.in_ok-setup.ensures.seats c.both.ensures c.in_ok-hub.ensures.passes).1.out
+returns-clause-second_out g c = (opened_pair g.P.PassView.known c.in_ok-setup.setup.seats c.in_ok-hub.passes.items c.both-first.result.0 c.both-first.result.1 c.in_ok-setup.ensures.seats c.both-first.ensures c.in_ok-hub.ensures.passes).1.out
 
 pub returns-clause-first_session : goal.returns-clause-first_session
-returns-clause-first_session g c = (opened_pair g.P.PassView.known c.in_ok-setup.setup.seats c.in_ok-hub.passes.items c.both.result.0 c.both.result.1 c.in_ok-setup.ensures.seats c.both.ensures c.in_ok-hub.ensures.passes).0.session_is
+returns-clause-first_session g c = (opened_pair g.P.PassView.known c.in_ok-setup.setup.seats c.in_ok-hub.passes.items c.both-first.result.0 c.both-first.result.1 c.in_ok-setup.ensures.seats c.both-first.ensures c.in_ok-hub.ensures.passes).0.session_is
 
 pub returns-clause-second_session : goal.returns-clause-second_session
-returns-clause-second_session g c = (opened_pair g.P.PassView.known c.in_ok-setup.setup.seats c.in_ok-hub.passes.items c.both.result.0 c.both.result.1 c.in_ok-setup.ensures.seats c.both.ensures c.in_ok-hub.ensures.passes).1.session_is
+returns-clause-second_session g c = (opened_pair g.P.PassView.known c.in_ok-setup.setup.seats c.in_ok-hub.passes.items c.both-first.result.0 c.both-first.result.1 c.in_ok-setup.ensures.seats c.both-first.ensures c.in_ok-hub.ensures.passes).1.session_is
