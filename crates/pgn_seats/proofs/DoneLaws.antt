@@ -36,7 +36,7 @@ use Rattle.pgn_turns.specs.Asks.{discard_line, line_of, lines_for, rollback_line
 use Rattle.pgn_turns.specs.Laws.{HasTurnMore}
 use Rattle.pgn_turns.specs.Sayings.{all_told}
 use Rattle.pgn_turns.specs.Served.{discard_answer, discarded, settled_answer, told_answer}
-use Rattle.pgn_turns.specs.Turns.{Telling, Turn, Answers, Discards, Hears, IsPlain, IsRead, Leaves, Settles, after_line, asked_in, asks_of, farewell, heard, items_in, items_of, kept_in, lines_of, said, signs_in, telling_of}
+use Rattle.pgn_turns.specs.Turns.{Telling, Turn, Answers, Discards, Hears, IsPlain, IsRead, Leaves, Settles, after_line, asked_in, farewell, heard, items_in, items_of, kept_in, lines_of, said, signs_in, telling_of}
 use Rattle.pgn_turns.proofs.GrowLaws.{telling_walks, turns_grow}
 use Rattle.pgn_turns.proofs.WalkLaws.{turns_walk}
 use Rattle.pgn_seats.specs.Working.{HasDone, HasDoneFirst, HasRun, HasRunBoth, HasSaid, IsAtWork, StaysDone}

@@ -11,7 +11,7 @@ use Rattle.pgn_seats.specs.Working.{HasRunBoth}
 use Rattle.pgn_seats.proofs.DoneLaws.{discards-done, done-first, first-untold}
 use Rattle.pgn_seats.proofs.ResultLaws.{err_then, ok_then, on_err, on_ok}
 use Rattle.pgn_seats.proofs.SayLaws.{may-at, pushed-at, pushed-same, said-as}
-use Rattle.pgn_seats.proofs.WorkLaws.{client-no, both-within}
+use Rattle.pgn_seats.proofs.WorkLaws.{client-no}
 use Rattle.pgn_seats.proofs.discarding.discard.Goals as goal
 
 pub say-requires-clause-may : goal.say-requires-clause-may

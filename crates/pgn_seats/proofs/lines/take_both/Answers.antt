@@ -1,4 +1,4 @@
-use Rattle.std.proofs.Common.{◌≡◌, ◌+◌, sym, ap, ◌∙◌, rules, subst}
+use Rattle.std.proofs.Common.{◌≡◌, ◌+◌, ap, ◌∙◌, rules, subst}
 use Rattle.pgn_language.specs.declared.scenario.ScriptLine.{ScriptLine}
 use Rattle.pgn_turns.specs.Asks.{unlisten_line}
 use Rattle.pgn_seats.specs.Working.{HasRunBoth}
