@@ -1,14 +1,12 @@
 -- A body asks for something, and for one thing.
-use Rattle.std.proofs.Common.{◌≡◌, ℕ, ◌+◌, ◌<◌, ◌≤◌, ◌⊎◌, Bool, true, false, ◌==◌, inl, inr, List, [], ◌∷◌, ◌++◌, length, get_or, sym, ap, ◌∙◌, refl, subst, arith, IsUtf8, Contains}
+use Rattle.std.proofs.Common.{◌≡◌, ℕ, ◌⊎◌, Bool, true, false, ◌==◌, inl, inr, List, [], ◌∷◌, ◌++◌, length, get_or, sym, ap, ◌∙◌, refl, subst, arith, IsUtf8, Contains}
 use Rattle.std.specs.Str.{is_utf8}
 use Rattle.std.proofs.lemmas.Bool.{cases_Bool, eqb-true, eq-eqb, false≢true}
 use Rattle.std.proofs.lemmas.List.{length-append, append_cancel_right, same_from_push}
 use Rattle.std.proofs.lemmas.List.Elements.{Contains-append_cases, Contains-append_right}
 use Rattle.std.proofs.lemmas.Str.{IsUtf8-from_is_utf8, is_utf8-from_IsUtf8}
-use Rattle.pgn_base.specs.declared.command.Command.{Command}
 use Rattle.pgn_language.specs.Grammar.{ReadsAs, reading}
 use Rattle.pgn_language.proofs.GrammarLaws.{reading-computes, reads-computes}
-use Rattle.pgn_requests.specs.declared.request.Request.{Request}
 use Rattle.pgn_requests.specs.Texts.{bare}
 use Rattle.pgn_requests.specs.Reading as asked
 use Rattle.pgn_requests.specs.Reading.{body_of, IsGarbled, request_of, RequestIs}

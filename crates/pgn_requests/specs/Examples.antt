@@ -1,11 +1,9 @@
 -- What examples of texts say.
-use Rattle.std.specs.Prelude.{◌≡◌, ℕ, false, ◌++◌, ◌∷◌, List, codes}
+use Rattle.std.specs.Prelude.{◌≡◌, ℕ, false, ◌++◌, ◌∷◌, List}
 use Rattle.pgn_base.specs.declared.command.Command.{Command}
-use Rattle.pgn_base.specs.declared.command.Command.TheVariants as command
 use Rattle.pgn_requests.specs.declared.complaint.Cause.{Cause}
-use Rattle.pgn_requests.specs.declared.complaint.Wording.TheVariants.{Plain}
 use Rattle.pgn_requests.specs.declared.request.Request.{Request}
-use Rattle.pgn_requests.specs.declared.request.Request.TheVariants.{Line, Settles}
+use Rattle.pgn_requests.specs.declared.request.Request.TheVariants.{Settles}
 use Rattle.pgn_requests.specs.declared.setting.Setting.{Setting}
 use Rattle.pgn_requests.specs.declared.settled.Settled.{Settled}
 use Rattle.pgn_requests.specs.declared.settled.Settled.TheVariants.{Sets}

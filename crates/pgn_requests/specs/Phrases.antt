@@ -6,8 +6,8 @@ use Rattle.pgn_base.specs.declared.limits.TheConstants.{NAME_BYTES_MAX}
 use Rattle.pgn_base.specs.declared.command.Command.{Command}
 use Rattle.pgn_base.specs.declared.answers.Which.TheVariants.{ChannelEmpty}
 use Rattle.pgn_base.specs.declared.command.Command.TheVariants as command
-use Rattle.pgn_language.specs.Tokens.{Lexeme, Word, Quoted, Literal, Number, Sign, Wrong, Token, tokens}
-use Rattle.pgn_language.specs.Grammar.{Key, Name, Punct, fits_slot, name_of, cut, lexemes_of}
+use Rattle.pgn_language.specs.Tokens.{Lexeme, Word, Quoted, Literal, Number, tokens}
+use Rattle.pgn_language.specs.Grammar.{Key, Name, Punct, fits_slot, cut, lexemes_of}
 use Rattle.pgn_requests.specs.declared.complaint.Cause.{Cause}
 use Rattle.pgn_requests.specs.declared.complaint.Cause.TheVariants as cause
 use Rattle.pgn_requests.specs.declared.complaint.Complaint.{Complaint}

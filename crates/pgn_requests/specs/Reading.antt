@@ -4,12 +4,11 @@ use Rattle.pgn_base.specs.declared.command.Command.{Command}
 use Rattle.pgn_base.specs.declared.command.Command.TheVariants as command
 use Rattle.pgn_language.specs.Tokens.{Lexeme, Wrong, Token, tokens}
 use Rattle.pgn_language.specs.Grammar.{ReadsAs}
-use Rattle.pgn_requests.specs.declared.complaint.Cause.{Cause}
 use Rattle.pgn_requests.specs.declared.complaint.Cause.TheVariants.{BadEncoding, BadMessage}
 use Rattle.pgn_requests.specs.declared.complaint.Wording.{Wording}
-use Rattle.pgn_requests.specs.declared.complaint.Wording.TheVariants.{Plain, Called, Refused}
+use Rattle.pgn_requests.specs.declared.complaint.Wording.TheVariants.{Plain, Called}
 use Rattle.pgn_requests.specs.declared.request.Request.{Request}
-use Rattle.pgn_requests.specs.declared.request.Request.TheVariants.{Line, Settles, Discards}
+use Rattle.pgn_requests.specs.declared.request.Request.TheVariants.{Line}
 use Rattle.pgn_requests.specs.Texts.{bare, one_line}
 use Rattle.pgn_requests.specs.Phrases.{refused, is_key, asked_of}
 

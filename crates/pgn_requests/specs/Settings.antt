@@ -1,12 +1,12 @@
 -- The settings of a client: their names, their values, and how these change.
-use Rattle.std.specs.Prelude.{◌≡◌, ℕ, Bool, true, false, cond, ◌==◌, List, [], ◌∷◌, codes}
+use Rattle.std.specs.Prelude.{ℕ, Bool, true, false, cond, ◌==◌, List, [], ◌∷◌, codes}
 use Rattle.pgn_answers.specs.declared.block_state.BlockState.{BlockState}
 use Rattle.pgn_answers.specs.declared.block_state.BlockState.TheVariants.{Idle, InBlock, Failed}
 use Rattle.pgn_requests.specs.declared.setting.Setting.{Setting}
 use Rattle.pgn_requests.specs.declared.setting.Setting.TheVariants.{ApplicationName, ClientEncoding, DateStyle, DefaultTransactionReadOnly, InHotStandby, IntegerDatetimes, IntervalStyle, IsSuperuser, ServerEncoding, ServerVersion, SessionAuthorization, StandardConformingStrings, TimeZone, ClientMinMessages, ExtraFloatDigits, TransactionIsolation, TransactionReadOnly}
 use Rattle.pgn_requests.specs.declared.settings.Entry.{Entry}
 use Rattle.pgn_requests.specs.declared.settled.Settled.{Settled}
-use Rattle.pgn_requests.specs.declared.settled.Settled.TheVariants.{Sets, SetsBack, Resets, ResetsAll, Shows, Deallocates, Closes, One, Version, Process}
+use Rattle.pgn_requests.specs.declared.settled.Settled.TheVariants.{Sets, SetsBack, Resets, ResetsAll}
 
 -- a setting's number, by which settings are told apart
 abbrev pub number_of : Setting → ℕ

@@ -1,5 +1,5 @@
 -- The text of a query, without comments and line feeds.
-use Rattle.std.specs.Prelude.{ℕ, ◌+◌, ◌-◌, Bool, true, false, cond, ◌||◌, ◌==◌, List, [], ◌∷◌, ◌++◌, map, length, take}
+use Rattle.std.specs.Prelude.{ℕ, ◌+◌, ◌-◌, Bool, cond, ◌||◌, ◌==◌, List, [], ◌∷◌, ◌++◌, map, length, take}
 use Rattle.std.specs.List.{suffix_len}
 use Rattle.pgn_language.specs.Tokens.{is_blank}
 use Rattle.pgn_requests.specs.declared.mode.Mode.{Mode}

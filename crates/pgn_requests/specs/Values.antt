@@ -1,5 +1,5 @@
 -- Which values a setting can have, and what they become.
-use Rattle.std.specs.Prelude.{ℕ, Bool, true, false, not, cond, ◌||◌, ◌&&◌, ◌==◌, nat_le, List, [], ◌∷◌, ◌++◌, map, filter, length, bytes_eq, codes, Option, None, Some}
+use Rattle.std.specs.Prelude.{ℕ, Bool, not, cond, ◌||◌, ◌&&◌, nat_le, List, map, filter, length, bytes_eq, codes, Option, None, Some}
 use Rattle.std.specs.Char.{is_ascii_alphanumeric}
 use Rattle.std.specs.Str.{str_eq_ignore_ascii_case, str_to_ascii_lowercase}
 use Rattle.pgn_base.specs.declared.limits.TheConstants.{NAME_BYTES_MAX}

@@ -1,5 +1,5 @@
 -- How what is told is what a text asks for.
-use Rattle.std.proofs.Common.{◌≡◌, ℕ, zero, suc, ◌+◌, ◌-◌, ◌<◌, ◌≤◌, Bool, true, false, cond, List, [], ◌∷◌, ◌++◌, length, Option, None, Some, Result, Ok, Err, IfOk, OnOk, MatchOption, sym, ap, ◌∙◌, refl, subst, arith}
+use Rattle.std.proofs.Common.{◌≡◌, ℕ, zero, suc, ◌-◌, ◌<◌, ◌≤◌, Bool, true, false, cond, List, [], ◌∷◌, ◌++◌, length, Option, None, Some, Result, Ok, Err, IfOk, OnOk, sym, ap, ◌∙◌, refl, arith}
 use denote.Ref.{Bor}
 use Rattle.std.specs.Prelude.{is_some, codes}
 use Rattle.std.proofs.lemmas.Bool.{false≢true}
@@ -7,8 +7,7 @@ use Rattle.pgn_language.specs.Tokens as model
 use Rattle.pgn_command.specs.declared.token.Lexeme.{Lexeme}
 use Rattle.pgn_requests.specs.declared.setting.Setting.{Setting}
 use Rattle.pgn_requests.specs.declared.setting.Setting.TheVariants as setting
-use Rattle.pgn_requests.specs.declared.request.Request.{Request}
-use Rattle.pgn_requests.specs.Phrases.{going, is_one, value_of, given_asks, valued_asks, past_mode, past_comma, is_end, are_modes, is_key, setting_asks, assigned_asks, after_one, after_two}
+use Rattle.pgn_requests.specs.Phrases.{going, is_one, value_of, given_asks, valued_asks, past_mode, past_comma, is_end, are_modes, setting_asks, assigned_asks, after_one, after_two}
 use Rattle.pgn_statements.specs.Lexemes.{GoesOn}
 use Rattle.pgn_statements.specs.Steps.{IsPut}
 use Rattle.pgn_statements.proofs.PlainLaws.{pick_no}

@@ -1,9 +1,9 @@
 -- Laws of tokens, up to one more than a text may have.
-use Rattle.std.proofs.Common.{◌≡◌, ℕ, ◌+◌, ◌<◌, ◌≤◌, Bool, true, false, cond, inl, inr, List, [], ◌∷◌, ◌++◌, map, length, take, drop, sym, ap, ◌∙◌, refl, subst, arith, append_assoc, length-append}
+use Rattle.std.proofs.Common.{◌≡◌, ℕ, ◌+◌, ◌<◌, ◌≤◌, true, false, inl, inr, List, [], ◌∷◌, ◌++◌, length, take, sym, ap, ◌∙◌, refl, subst, arith, append_assoc, length-append}
 use Rattle.std.specs.Prelude.{nat_le}
 use Rattle.std.proofs.lemmas.Bool.{cases_lt, false≢true}
 use Rattle.std.proofs.lemmas.Bool.Decides.{nat_tests}
-use Rattle.std.proofs.lemmas.List.{take_all, take-append-le, take_at, length-take, length-map, map-append, append-nil}
+use Rattle.std.proofs.lemmas.List.{take_all, take-append-le, length-take, append-nil}
 use Rattle.pgn_language.specs.Tokens as model
 use Rattle.pgn_language.specs.Grammar.{lexemes_of}
 use Rattle.pgn_command.specs.declared.token.Lexeme.{Lexeme}
@@ -11,7 +11,7 @@ use Rattle.pgn_command.specs.declared.token.Lexeme.TheVariants as lexeme
 use Rattle.pgn_command.specs.Lexing.{shown, EndsAt}
 use Rattle.pgn_requests.specs.Phrases.{few}
 use Rattle.pgn_requests.specs.Reading.{first_lexeme}
-use Rattle.pgn_statements.specs.Lexemes.{meant, all_meant, some_of}
+use Rattle.pgn_statements.specs.Lexemes.{meant, some_of}
 use Rattle.pgn_statements.specs.Steps.{ends}
 
 -- the token that is read is the first

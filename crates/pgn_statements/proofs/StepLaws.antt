@@ -1,5 +1,5 @@
 -- From what the steps give to what a body asks for.
-use Rattle.std.proofs.Common.{◌≡◌, ℕ, List, ◌++◌, ◌∷◌, [], Result, Ok, Err, IfOk, sym, ap, ◌∙◌, refl, subst, IsUtf8, Contains}
+use Rattle.std.proofs.Common.{◌≡◌, ℕ, List, Result, Ok, Err, IfOk, sym, subst, IsUtf8, Contains}
 use Rattle.pgn_base.specs.declared.command.Command.{Command}
 use Rattle.pgn_language.specs.Grammar.{ReadsAs}
 use Rattle.pgn_requests.specs.declared.request.Request.{Request}

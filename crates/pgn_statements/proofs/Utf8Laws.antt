@@ -1,6 +1,6 @@
 -- A text without its comments is text, and so is one line.
 use Rattle.std.specs.Prelude.{nat_le}
-use Rattle.std.proofs.Common.{◌≡◌, ℕ, zero, suc, ◌+◌, ◌<◌, ◌≤◌, Bool, true, false, cond, ◌&&◌, ◌||◌, ◌==◌, inl, inr, List, [], ◌∷◌, ◌++◌, map, length, get_or, sym, ap, ◌∙◌, refl, subst, arith, append_assoc, IsUtf8}
+use Rattle.std.proofs.Common.{◌≡◌, ℕ, suc, ◌+◌, ◌<◌, ◌≤◌, true, false, ◌&&◌, ◌||◌, ◌==◌, inl, inr, List, [], ◌∷◌, ◌++◌, map, length, get_or, sym, ap, ◌∙◌, refl, subst, arith, append_assoc, IsUtf8}
 use lib.Utf8.{scalar, scalars, encodes, encode}
 use Rattle.std.proofs.lemmas.Bool.{cases_Bool, cases_lt, and_parts, and_from, eqb-true}
 use Rattle.std.proofs.lemmas.Bool.Decides.{nat_tests}
@@ -12,7 +12,7 @@ use Rattle.pgn_language.proofs.TokenLaws.{cut-longest}
 use Rattle.pgn_requests.specs.Values.{shown_byte}
 use Rattle.pgn_requests.specs.declared.mode.Mode.{Mode}
 use Rattle.pgn_requests.specs.declared.mode.Mode.TheVariants.{Outside, Slash, Dash, Single, Double, Comment, Star, Open, Rest}
-use Rattle.pgn_requests.specs.Texts.{entered, commented, left, next_mode, given, left_gives, mode_gives, end_gives, plain_from, plain, unbroken, one_line}
+use Rattle.pgn_requests.specs.Texts.{commented, left, next_mode, given, mode_gives, end_gives, plain_from, plain, unbroken}
 use Rattle.pgn_statements.proofs.PlainLaws.{held, Other, other-given, other-entered, other-commented, pick_no, slash-gives, slash-next, dash-gives, dash-next}
 
 -- one ASCII byte

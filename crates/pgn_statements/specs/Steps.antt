@@ -1,5 +1,5 @@
 -- What the steps of the reading give.
-use Rattle.std.specs.Prelude.{◌≡◌, ℕ, ◌+◌, ◌≤◌, Bool, true, false, List, [], ◌∷◌, ◌++◌, length, Option, None, Some, MatchOption, Contains, IsUtf8}
+use Rattle.std.specs.Prelude.{◌≡◌, ℕ, Bool, true, false, List, ◌++◌, Option, MatchOption, Contains, IsUtf8}
 use Rattle.pgn_base.specs.declared.command.Command.{Command}
 use Rattle.pgn_language.specs.Grammar.{ReadsAs}
 use Rattle.pgn_command.specs.declared.token.Lexeme.{Lexeme}

@@ -1,6 +1,5 @@
-use Rattle.std.proofs.Common.{◌≡◌, ℕ, ◌<◌, ◌≤◌, List, ◌++◌, ◌∷◌, [], length, get_or, set, ap, subst, sym, ◌∙◌, arith}
+use Rattle.std.proofs.Common.{◌≡◌, ℕ, ◌<◌, ◌≤◌, List, ◌++◌, ◌∷◌, [], length, get_or, set, ap, sym, ◌∙◌, arith}
 use Rattle.pgn_requests.specs.declared.settings.Entry.{Entry}
-use Rattle.pgn_requests.specs.Settings.{is_of, with_value}
 use Rattle.pgn_requests.proofs.SettingLaws.{place, revalued, with-there, with-nowhere}
 use Rattle.pgn_requests.proofs.settings.put.Goals as goal
 

@@ -1,6 +1,5 @@
-use Rattle.std.proofs.Common.{◌≡◌, ℕ, ◌<◌, ◌≤◌, length, get_or, ap, subst, sym, ◌∙◌, arith}
+use Rattle.std.proofs.Common.{◌≡◌, ℕ, ◌<◌, ◌≤◌, length, get_or, ap, ◌∙◌, arith}
 use Rattle.std.proofs.lemmas.Bool.Decides.{nat_tests}
-use Rattle.pgn_requests.specs.Settings.{is_of}
 use Rattle.pgn_requests.proofs.SettingLaws.{place, value-there, value-nowhere}
 use Rattle.pgn_requests.proofs.settings.value_of.Goals as goal
 

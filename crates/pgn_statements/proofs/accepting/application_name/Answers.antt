@@ -1,4 +1,4 @@
-use Rattle.std.proofs.Common.{◌≡◌, ℕ, ◌≤◌, List, map, length, ap, ◌∙◌, sym, subst, arith, rules, IsUtf8, string_bytes}
+use Rattle.std.proofs.Common.{◌≡◌, ℕ, List, map, length, ap, ◌∙◌, sym, subst, arith, rules, IsUtf8, string_bytes}
 use Rattle.std.proofs.lemmas.List.{length-map}
 use Rattle.pgn_language.specs.Grammar as grammar
 use Rattle.pgn_requests.specs.Values.{shown_byte}

@@ -1,4 +1,4 @@
-use Rattle.std.proofs.Common.{◌≡◌, ◌∷◌, sym, ◌∙◌}
+use Rattle.std.proofs.Common.{◌∷◌, sym, ◌∙◌}
 use Rattle.std.specs.Prelude.{codes}
 use Rattle.pgn_requests.specs.Phrases as told
 use Rattle.pgn_statements.specs.Lexemes.{meant, all_meant}

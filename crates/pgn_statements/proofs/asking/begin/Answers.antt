@@ -1,4 +1,4 @@
-use Rattle.std.proofs.Common.{◌≡◌, ℕ, List, true, false, sym, ap, ◌∙◌}
+use Rattle.std.proofs.Common.{◌≡◌, true, false, sym, ap, ◌∙◌}
 use Rattle.pgn_base.specs.declared.command.Command.TheVariants as command
 use Rattle.pgn_requests.specs.Phrases as told
 use Rattle.pgn_statements.specs.Lexemes.{all_meant}

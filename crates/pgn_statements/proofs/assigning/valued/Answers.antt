@@ -1,4 +1,4 @@
-use Rattle.std.proofs.Common.{◌≡◌, ℕ, List, [], sym, ap, ◌∙◌, subst, rules, Some, string_bytes}
+use Rattle.std.proofs.Common.{◌≡◌, ℕ, List, [], sym, ap, ◌∙◌, rules, Some, string_bytes}
 use Rattle.pgn_requests.specs.Phrases as told
 use Rattle.pgn_statements.specs.Lexemes.{all_meant}
 use Rattle.pgn_statements.proofs.AskLaws.{IfOk-same, put-some, valued-given}

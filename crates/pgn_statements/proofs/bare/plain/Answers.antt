@@ -1,4 +1,4 @@
-use Rattle.std.proofs.Common.{◌≡◌, ℕ, ◌≤◌, List, length, ap, ◌∙◌, sym, subst, arith, rules, IsUtf8, Contains, string_bytes}
+use Rattle.std.proofs.Common.{◌≡◌, ℕ, List, length, ap, ◌∙◌, sym, subst, arith, rules, IsUtf8, Contains, string_bytes}
 use Rattle.pgn_requests.specs.Texts.{plain}
 use Rattle.pgn_statements.proofs.PlainLaws.{plain-short, plain-clean}
 use Rattle.pgn_statements.proofs.Utf8Laws.{plain-text}

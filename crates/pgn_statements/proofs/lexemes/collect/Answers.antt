@@ -1,9 +1,9 @@
-use Rattle.std.proofs.Common.{◌≡◌, ℕ, ◌+◌, ◌<◌, ◌≤◌, List, [], ◌∷◌, ◌++◌, length, sym, ap, ◌∙◌, arith}
+use Rattle.std.proofs.Common.{◌≡◌, ◌+◌, ◌≤◌, List, [], ◌∷◌, ◌++◌, length, sym, ap, ◌∙◌, arith}
 use Rattle.std.proofs.lemmas.List.{length-map}
 use Rattle.pgn_language.specs.Tokens as model
 use Rattle.pgn_language.specs.Grammar.{lexemes_of}
 use Rattle.pgn_statements.specs.Lexemes.{meant, all_meant, some_of}
-use Rattle.pgn_statements.proofs.LexemeLaws.{ended-none, token-shown, fewer-shown, some-step, some-all}
+use Rattle.pgn_statements.proofs.LexemeLaws.{ended-none, token-shown, some-step, some-all}
 use Rattle.pgn_statements.proofs.lexemes.collect.Goals as goal
 
 pub returns-then-is_end-clause-all : goal.returns-then-is_end-clause-all

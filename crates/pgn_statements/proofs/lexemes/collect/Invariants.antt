@@ -1,4 +1,4 @@
-use Rattle.std.proofs.Common.{◌≡◌, ◌+◌, ◌≤◌, ◌++◌, length}
+use Rattle.std.proofs.Common.{◌≡◌, ◌≤◌, ◌++◌, length}
 use Rattle.pgn_language.specs.Tokens.{tokens, tokens_from}
 use Rattle.pgn_language.specs.Grammar.{lexemes_of}
 use Rattle.pgn_statements.specs.Lexemes.{all_meant, some_of}

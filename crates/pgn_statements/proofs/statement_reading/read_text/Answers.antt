@@ -1,6 +1,6 @@
 use Rattle.std.proofs.Common.{◌≡◌, ℕ, true, List, IfOk, sym, ap, ◌∙◌, subst}
 use Rattle.pgn_requests.specs.declared.mode.Mode.TheVariants.{Outside}
-use Rattle.pgn_requests.specs.Texts.{bare, plain, without_tail}
+use Rattle.pgn_requests.specs.Texts.{plain, without_tail}
 use Rattle.pgn_statements.specs.Modes.{is_calm}
 use Rattle.pgn_statements.specs.Steps.{Asks}
 use Rattle.pgn_statements.proofs.PlainLaws.{calm-plain}
