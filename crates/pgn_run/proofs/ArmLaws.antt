@@ -1,6 +1,5 @@
 -- What the arms of a service come to.
-use Rattle.std.proofs.Common.{◌≡◌, ℕ, Bool, true, false, ◌+◌, ◌<◌, ◌≤◌, cond, List, [], ◌∷◌, ◌++◌, length, flat_map, get_or, map, All, Option, Some, None, IfSome, IfOk, ◌⊎◌, Result, Ok, Err, OnOk, ◌==◌, sym, ap, ◌∙◌, refl, subst, arith, append-nil, append_assoc}
-use Rattle.std.specs.List.{AllZip}
+use Rattle.std.proofs.Common.{◌≡◌, ℕ, Bool, true, false, ◌+◌, ◌<◌, ◌≤◌, cond, List, [], ◌∷◌, ◌++◌, length, flat_map, get_or, Option, Some, None, IfOk, ◌⊎◌, Result, Ok, Err, OnOk, ◌==◌, sym, ap, ◌∙◌, refl, subst, arith, append-nil, append_assoc}
 use Rattle.std.specs.Io.KnownBytes.{Appends}
 use Rattle.std.proofs.lemmas.Grind.{flat_map-append}
 use Rattle.std.proofs.lemmas.List.Elements.{All-nil, All-append, All-weaker}
@@ -21,21 +20,20 @@ use Rattle.pgn_text.proofs.PutsLaws.{Puts-none, Puts-same, Puts-trans, Writes-fr
 use Rattle.pgn_turns.specs.declared.asked.Ask.{Ask}
 use Rattle.pgn_turns.specs.declared.saying.Saying.{Saying}
 use Rattle.pgn_turns.specs.Sayings.{all_told, signs_told}
-use Rattle.pgn_turns.specs.Turns.{Turn, IsPlain}
-use Rattle.pgn_session.specs.Open.{IsSameClient}
+use Rattle.pgn_turns.specs.Turns.{IsPlain}
 use Rattle.pgn_seats.specs.declared.desk.Desk.{Desk}
 use Rattle.pgn_seats.specs.Desks.{AreSameClients, HaveServed, MayBegin, MayServe}
 use Rattle.pgn_seats.specs.Serving.{HasToldFirst, taken}
 use Rattle.pgn_frames.specs.declared.caller.Caller.{Caller}
 use Rattle.pgn_frames.specs.declared.framing.NoFrame.TheVariants as none
 use Rattle.pgn_frames.specs.Clients.{ClientAsks, Open, SeatAsks, first_tally}
-use Rattle.pgn_frames.specs.Frames.{Frame, FramesAre, IsFrame, frame_bytes, signs_in, signs_of}
+use Rattle.pgn_frames.specs.Frames.{Frame, IsFrame, frame_bytes, signs_in, signs_of}
 use Rattle.pgn_frames.specs.declared.frame_fault.FrameFault.{FrameFault}
 use Rattle.pgn_frames.specs.declared.framing.NoFrame.{NoFrame}
-use Rattle.pgn_frames.specs.Reading.{AreFirstFrames, Begins, HasPutFirst, HasReadAll, HasReadFirst, HasReadSome, MayCall, OfMost}
-use Rattle.pgn_frames.specs.Writing.{Carry, Wrote}
+use Rattle.pgn_frames.specs.Reading.{AreFirstFrames, Begins, HasPutFirst, HasReadAll, HasReadFirst, HasReadSome, OfMost}
+use Rattle.pgn_frames.specs.Writing.{Wrote}
 use Rattle.pgn_frames.proofs.FrameLaws.{each_has_frames}
-use Rattle.pgn_run.specs.Arms.{CarryAll, HasRead, HasReadBy, HasToldBy, HasWrittenRest, with_over}
+use Rattle.pgn_run.specs.Arms.{HasRead, HasReadBy, HasToldBy, HasWrittenRest, with_over}
 use Rattle.pgn_run.specs.Service.{over_frame}
 
 -- Nothing was read.

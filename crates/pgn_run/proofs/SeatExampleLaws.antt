@@ -1,16 +1,16 @@
 -- Small services, by hand.
-use Rattle.std.proofs.Common.{rules, ◌≡◌, ◌⊎◌, inl, inr, ℕ, ◌+◌, ◌-◌, ◌<◌, ◌≤◌, List, [], ◌∷◌, ◌++◌, length, map, get_or, drop, flat_map, All, Option, Some, None, IfSome, sym, ap, ◌∙◌, refl, subst, arith, length-append}
+use Rattle.std.proofs.Common.{rules, ◌≡◌, ◌⊎◌, inl, inr, ℕ, ◌+◌, ◌-◌, ◌≤◌, List, [], ◌∷◌, ◌++◌, length, map, get_or, drop, flat_map, All, Option, None, IfSome, sym, ap, ◌∙◌, refl, subst, arith, length-append}
 use Rattle.std.proofs.lemmas.List.Elements.{All-cons, All-nil}
 use Rattle.pgn_model.specs.declared.item.Item.{Item}
-use Rattle.pgn_model.specs.declared.item.Item.TheVariants.{Line, Enlist, Read, Reply}
+use Rattle.pgn_model.specs.declared.item.Item.TheVariants.{Line, Read}
 use Rattle.pgn_model.specs.declared.trace.Trace.{Trace}
 use Rattle.pgn_journal.specs.Journal.{next_xid}
 use Rattle.pgn_model.specs.Legal.{IsFullThere, IsShownWithin, Legal}
 use Rattle.pgn_model.specs.Walk.{start}
 use Rattle.pgn_turns.specs.declared.asked.Ask.{Ask}
 use Rattle.pgn_turns.specs.declared.asked.Ask.TheVariants.{Query}
-use Rattle.pgn_turns.specs.Asks.{script_of, seat_quit}
-use Rattle.pgn_turns.specs.Examples.{idle_items, listen, listen_bytes, other_bytes, sent_by}
+use Rattle.pgn_turns.specs.Asks.{seat_quit}
+use Rattle.pgn_turns.specs.Examples.{idle_items, listen, sent_by}
 use Rattle.pgn_turns.specs.Turns.{IsRead, MayBeTold}
 use Rattle.pgn_frames.specs.Clients.{ClientAsks, Open, SeatAsks, first_tally}
 use Rattle.pgn_frames.specs.Frames.{Frame, FramesAre, IsFrame, IsSeat, NextFrame, frame_bytes, signs_of}

@@ -1,10 +1,9 @@
 -- What is opened for the seats of a service.
-use Rattle.std.proofs.Common.{◌≡◌, ℕ, zero, suc, ◌+◌, ◌-◌, ◌*◌, ◌/◌, ◌<◌, ◌≤◌, true, List, [], ◌∷◌, ◌++◌, length, map, take, drop, get_or, replicate, take_all, All, Option, sum_by, sym, ap, ◌∙◌, refl, subst, arith, append-nil, append_assoc, length-append}
+use Rattle.std.proofs.Common.{◌≡◌, ℕ, zero, suc, ◌+◌, ◌-◌, ◌*◌, ◌/◌, ◌<◌, ◌≤◌, List, [], ◌∷◌, ◌++◌, length, map, drop, get_or, replicate, All, Option, sum_by, sym, ap, ◌∙◌, refl, subst, arith, append-nil, append_assoc, length-append}
 use Rattle.std.proofs.lemmas.List.{length-map, length-replicate}
 use Rattle.std.proofs.lemmas.List.Elements.{All-cons, All-nil}
 use Rattle.std.proofs.lemmas.List.Folds.{sum_by-replicate}
-use Rattle.std.proofs.Math.Seq.{drop-cons}
-use Rattle.pgn_base.specs.declared.limits.TheConstants.{HUB_NOTES_MAX, SECTIONS_MAX}
+use Rattle.pgn_base.specs.declared.limits.TheConstants.{HUB_NOTES_MAX}
 use Rattle.pgn_hub.specs.declared.known.Known.{Known}
 use Rattle.pgn_hub.specs.declared.setup.SeatSetup.{SeatSetup}
 use Rattle.pgn_hub.specs.Passes.{opened_pass, opened_passes}
@@ -15,14 +14,13 @@ use Rattle.pgn_language.specs.Inputs.{AreNumbered}
 use Rattle.pgn_outlet.specs.declared.outlet.Outlet.{Outlet}
 use Rattle.pgn_outlet.specs.declared.hand.Hand.{Hand}
 use Rattle.pgn_outlet.specs.Passes.{IsPassOf, Pass, knows}
-use Rattle.pgn_outlet.specs.Rule.{sender, taker}
+use Rattle.pgn_outlet.specs.Rule.{sender}
 use Rattle.pgn_session.specs.declared.doing.Doing.TheVariants.{Lines}
 use Rattle.pgn_session.specs.declared.doing.FlagPlan.{FlagPlan}
 use Rattle.pgn_session.specs.declared.session.Session.{Session}
 use Rattle.pgn_session.specs.Standing.{IsFlagBelow, IsServedBy}
 use Rattle.pgn_session.specs.Whole.{HasRest}
 use Rattle.pgn_turns.specs.declared.asked.Ask.{Ask}
-use Rattle.pgn_turns.specs.declared.saying.Saying.{Saying}
 use Rattle.pgn_requests.specs.Settings.{fresh}
 use Rattle.pgn_turns.specs.Asks.{seat_quit}
 use Rattle.pgn_seats.specs.declared.desk.Desk.{Desk}
@@ -30,7 +28,7 @@ use Rattle.pgn_seats.specs.Desks.{MayBegin, MayServe, sections_of}
 use Rattle.pgn_frames.specs.declared.caller.Caller.{Caller}
 use Rattle.pgn_frames.specs.Reading.{Begins, MayCall}
 use Rattle.pgn_run.specs.Service.{seat_notes, seat_section}
-use Rattle.pgn_run.specs.Seats.{AreGiven, AreNewSeats, AreSeated, GivesInbox, IsGiven, IsNewSeat, IsNewSession, IsOpened, IsPlaced, SitsMore, service_plan, service_seat, service_shape}
+use Rattle.pgn_run.specs.Seats.{AreGiven, AreNewSeats, AreSeated, GivesInbox, IsGiven, IsNewSeat, IsNewSession, IsOpened, SitsMore, service_plan, service_seat, service_shape}
 
 -- All seats together send no more than a hub lets.
 pub few-notes : (seats : ℕ) (setups : List SeatSetup) → 1 ≤ seats → setups ≡ (service_shape seats).seats → sum_by (λ seat. seat.notes) setups ≤ HUB_NOTES_MAX

@@ -3,11 +3,9 @@ use Rattle.std.proofs.Common.{◌≡◌, ◌⊎◌, inl, inr, ℕ, zero, suc, Bo
 use Rattle.std.specs.declared.alloc.AllocError.{AllocError}
 use Rattle.std.specs.Io.KnownBytes.{Appends}
 use Rattle.std.proofs.lemmas.Bool.{cases_lt, eq-eqb, ne_eqb}
-use Rattle.std.proofs.lemmas.List.{length-map}
-use Rattle.std.proofs.lemmas.List.Elements.{All-append, All-cons, All-head, All-map, All-nil, All-same, All-tail}
+use Rattle.std.proofs.lemmas.List.Elements.{All-append, All-cons, All-head, All-map, All-nil, All-tail}
 use Rattle.pgn_base.specs.declared.source.Failed.{Failed}
-use Rattle.pgn_base.specs.Outside.{AppendsPrefix, HasCause, Rose, Writes}
-use Rattle.pgn_journal.specs.declared.tx.Tx.{Tx}
+use Rattle.pgn_base.specs.Outside.{AppendsPrefix, HasCause, Rose}
 use Rattle.pgn_language.specs.declared.scenario.ScriptLine.{ScriptLine}
 use Rattle.pgn_language.specs.declared.scenario.Section.{Section}
 use Rattle.pgn_language.specs.Inputs.{AreNumbered, HasFlagBelow}
@@ -18,13 +16,12 @@ use Rattle.pgn_model.specs.Walk.{Terms}
 use Rattle.pgn_model.specs.laws.NextLine.{HoldsSoFar}
 use Rattle.pgn_hub.specs.declared.known.Known.{Known}
 use Rattle.pgn_hub.specs.Gathered.{Gathered}
-use Rattle.pgn_hub.specs.Passes.{IsWithin}
 use Rattle.pgn_hub.specs.Shape.{Shape}
 use Rattle.pgn_outlet.specs.declared.hand.Hand.{Hand}
 use Rattle.pgn_outlet.specs.declared.outlet.Outlet.{Outlet}
 use Rattle.pgn_outlet.specs.Cames.{what_of}
 use Rattle.pgn_outlet.specs.Passes.{knows}
-use Rattle.pgn_outlet.specs.Rule.{MayPush, sender}
+use Rattle.pgn_outlet.specs.Rule.{MayPush}
 use Rattle.pgn_session.specs.declared.doing.Doing.{Doing}
 use Rattle.pgn_session.specs.declared.doing.Doing.TheVariants.{Over}
 use Rattle.pgn_session.specs.declared.doing.FlagPlan.{FlagPlan}
@@ -48,13 +45,12 @@ use Rattle.pgn_frames.specs.Clients.{SeatAsks, first_tally}
 use Rattle.pgn_frames.specs.Frames.{Frame, FramesAre, IsFrame, IsSeat, frame_bytes, signs_in, signs_of}
 use Rattle.pgn_frames.specs.Callers.{carried}
 use Rattle.pgn_frames.specs.Reading as reading
-use Rattle.pgn_run.specs.declared.service.ServiceEnd.{ServiceEnd}
 use Rattle.pgn_run.specs.declared.service.ServiceEnd.TheVariants as end
-use Rattle.pgn_run.specs.Arms.{CarryAll, HasRead, HasReadBy, HasToldBy, with_over}
+use Rattle.pgn_run.specs.Arms.{HasRead, HasReadBy, HasToldBy, with_over}
 use Rattle.pgn_run.specs.Closing.{AreOver, HasGathered, HasTakenFirst, HaveTakenFirst, MayCloseAll}
 use Rattle.pgn_run.specs.Ending.{EndsService, end_of}
 use Rattle.pgn_run.specs.Seats.{AreGiven, IsGiven, IsOpened, service_plan, service_shape}
-use Rattle.pgn_run.specs.Service.{IsToldFirst, IsToldOf, RunsSeats, ServesAll, ServesFirst, ServesInPart, StopsServing, asks_at, items_at, over_frame, seat_notes, seat_section, sections_from, service_scenario, service_settings}
+use Rattle.pgn_run.specs.Service.{IsToldFirst, IsToldOf, RunsSeats, ServesAll, ServesFirst, StopsServing, asks_at, over_frame, seat_notes, seat_section, sections_from, service_scenario}
 use Rattle.pgn_run.proofs.SeatingLaws.{box-count, caller-count, desk-count, given-at, opened-given, seat-length}
 use Rattle.pgn_run.proofs.ClosingLaws.{IsStillCaller, are-over, given-still, may-close, same-count, still-callers}
 

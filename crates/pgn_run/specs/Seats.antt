@@ -1,5 +1,5 @@
 -- What is opened for a service, and what each of its seats has.
-use Rattle.std.specs.Prelude.{◌≡◌, ℕ, ◌+◌, List, [], ◌∷◌, ◌++◌, length, map, replicate, Option, All}
+use Rattle.std.specs.Prelude.{◌≡◌, ℕ, ◌+◌, List, [], ◌∷◌, ◌++◌, length, replicate, Option, All}
 use Rattle.pgn_base.specs.declared.format.Format.TheVariants.{One}
 use Rattle.pgn_base.specs.declared.limits.TheConstants.{PAGES_DEFAULT}
 use Rattle.pgn_hub.specs.declared.known.Known.{Known}

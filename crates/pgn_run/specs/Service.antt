@@ -1,5 +1,5 @@
 -- A service: the clients of seats, on one queue.
-use Rattle.std.specs.Prelude.{◌≡◌, ◌⊎◌, ℕ, ◌+◌, ◌-◌, ◌/◌, List, [], ◌∷◌, ◌++◌, length, map, get_or, flat_map, codes, decimal, Option, Some, None, All}
+use Rattle.std.specs.Prelude.{◌≡◌, ◌⊎◌, ℕ, ◌+◌, ◌-◌, ◌/◌, List, [], ◌∷◌, ◌++◌, length, map, get_or, flat_map, codes, decimal, Option, All}
 use Rattle.pgn_base.specs.declared.format.Format.TheVariants.{One}
 use Rattle.pgn_base.specs.declared.limits.TheConstants.{HUB_NOTES_MAX, PAGES_DEFAULT}
 use Rattle.pgn_journal.specs.declared.tx.Tx.{Tx}
@@ -9,7 +9,7 @@ use Rattle.pgn_language.specs.declared.scenario.Section.{Section}
 use Rattle.pgn_model.specs.declared.item.Item.{Item}
 use Rattle.pgn_model.specs.declared.item.Item.TheVariants.{Line}
 use Rattle.pgn_model.specs.declared.trace.Trace.{Trace}
-use Rattle.pgn_model.specs.Walk.{Settings, State, Terms}
+use Rattle.pgn_model.specs.Walk.{Settings, State}
 use Rattle.pgn_model.specs.Legal.{Legal}
 use Rattle.pgn_model.specs.laws.NextLine.{HoldsSoFar}
 use Rattle.pgn_turns.specs.declared.asked.Ask.{Ask}

@@ -1,4 +1,4 @@
-use Rattle.std.proofs.Common.{◌≡◌, ◌<◌, ◌≤◌, length, get_or, List, [], ◌∷◌, ◌++◌, OnOk, Option, subst, sym, arith}
+use Rattle.std.proofs.Common.{◌≡◌, ◌<◌, ◌≤◌, length, get_or, [], ◌∷◌, ◌++◌, OnOk, Option, subst, sym, arith}
 use Rattle.pgn_outlet.specs.declared.outlet.Outlet.{Outlet}
 use Rattle.pgn_turns.specs.declared.asked.Ask.{Ask}
 use Rattle.pgn_seats.specs.declared.desk.Desk.{Desk}

@@ -1,5 +1,5 @@
 use Rattle.pgn_outlet.specs.Passes.{knows}
-use Rattle.pgn_run.proofs.ClosingLaws.{no-more, no-rest, one-more, takes-still}
+use Rattle.pgn_run.proofs.ClosingLaws.{no-more}
 use Rattle.pgn_run.proofs.closing.take_rest.Goals as goal
 
 pub loop-init : goal.loop-init

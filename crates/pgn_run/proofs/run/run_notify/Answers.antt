@@ -1,4 +1,4 @@
-use Rattle.std.proofs.Common.{List, ℕ, map}
+use Rattle.std.proofs.Common.{map}
 use Rattle.pgn_run.proofs.CallLaws.{bad_frame-said, bad_frame_where_due-said, bad_scenario-said, bad_scenario_where_checked-said, bad_scenario_where_due-said, bad_scenario_writes_nothing-said, bad_wire-said, bad_wire_where_due-said, bad_words-said, bad_words_read_nothing-said, bad_words_where_due-said, bad_words_write_nothing-said, check_complete-said, check_too_large-said, check_too_large_where_due-said, check_too_large_writes_nothing-said, complete-said, done-said, done_reads_all-said, drill_complete-said, drill_reads_nothing-said, illegal-said, illegal_where_due-said, no_memory_writes_first_lines-said, no_memory_writes_nothing-said, no_memory_writes_whole_answers-said, no_memory_writes_whole_turns-said, no_output-said, no_output_where_due-said, no_output_writes_nothing-said, read_fault-said, read_fault_where_due-said, read_fault_where_served-said, read_fault_writes_answers-said, read_fault_writes_nothing-said, read_fault_writes_what_was_told-said, serve_complete-said, what_was_checked-said, what_was_read-said, wire_complete-said, write_fault-said, write_fault_where_due-said, write_fault_writes_a_prefix-said}
 use Rattle.pgn_run.proofs.run.run_notify.Goals as goal
 
