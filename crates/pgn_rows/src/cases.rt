@@ -29,18 +29,6 @@ fn parts<'a>(alloc: Global, text: &'a [u8], mark: &[u8]) -> Result<Vec<&'a [u8]>
     requires { 0 < length mark.now }
 {
     let mut parts = Vec::new(alloc);
-    match push_parts(&mut parts, text, mark) {
-        Ok(()) => Ok(parts),
-        Err(error) => {
-            drop(parts);
-            Err(error)
-        }
-    }
-}
-
-fn push_parts<'a>(parts: &mut Vec<&'a [u8]>, text: &'a [u8], mark: &[u8]) -> Result<(), AllocError>
-    requires { 0 < length mark.now }
-{
     let mut rest = text;
     while let Some(at) = memmem::find(rest, mark) {
         let (part, behind) = rest.split_at(at);
@@ -48,37 +36,19 @@ fn push_parts<'a>(parts: &mut Vec<&'a [u8]>, text: &'a [u8], mark: &[u8]) -> Res
         rest = &behind[mark.len()..];
     }
     parts.push(rest)?;
-    Ok(())
+    Ok(parts)
 }
 
 /// The text with what `…` stands for.
 pub fn written_out(alloc: Global, text: &[u8]) -> Result<Vec<u8>, AllocError> {
-    let parts = parts(alloc, text, MANY)?;
-    let whole = whole_of(alloc, parts.as_slice());
-    drop(parts);
-    whole
-}
-
-// The text of these parts.
-fn whole_of(alloc: Global, parts: &[&[u8]]) -> Result<Vec<u8>, AllocError> {
     let mut whole = Vec::new(alloc);
-    match put_parts(&mut whole, parts) {
-        Ok(()) => Ok(whole),
-        Err(error) => {
-            drop(whole);
-            Err(error)
-        }
-    }
-}
-
-fn put_parts(whole: &mut Vec<u8>, parts: &[&[u8]]) -> Result<(), AllocError> {
-    for (count, part) in parts.iter().enumerate() {
+    for (count, part) in parts(alloc, text, MANY)?.into_iter().enumerate() {
         if count != 0 {
-            put_many(whole, part, LINE_BYTES_MAX - 1)?;
+            put_many(&mut whole, part, LINE_BYTES_MAX - 1)?;
         }
         whole.extend_from_slice(part)?;
     }
-    Ok(())
+    Ok(whole)
 }
 
 // Puts the first byte of a part at the end of the whole, this often.

@@ -21,37 +21,14 @@ pub struct Outcome {
 /// Reads the files of the row of this name.
 pub fn read_row<R: Files + AllocGlobal>(rt: &R, name: &str) -> io::Result<Row> {
     let input = read_file(rt, name, "input")?;
-    match read_words_and_wanted(rt, name) {
-        Ok((words, wanted)) => Ok(Row {
-            words,
-            input,
-            wanted,
-        }),
-        Err(error) => {
-            drop(input);
-            Err(error)
-        }
-    }
-}
-
-fn read_words_and_wanted<R: Files + AllocGlobal>(
-    rt: &R,
-    name: &str,
-) -> io::Result<(Vec<String>, Outcome)> {
-    let wanted = read_wanted(rt, name)?;
-    match read_words(rt, name) {
-        Ok(words) => Ok((words, wanted)),
-        Err(error) => {
-            drop(wanted);
-            Err(error)
-        }
-    }
-}
-
-fn read_wanted<R: Files + AllocGlobal>(rt: &R, name: &str) -> io::Result<Outcome> {
-    let status = read_status(rt, name)?;
     let output = read_file(rt, name, "output")?;
-    Ok(Outcome { output, status })
+    let words = read_words(rt, name)?;
+    let status = read_status(rt, name)?;
+    Ok(Row {
+        words,
+        input,
+        wanted: Outcome { output, status },
+    })
 }
 
 fn read_file<R: Files + AllocGlobal>(rt: &R, name: &str, ending: &str) -> io::Result<Vec<u8>> {
@@ -90,28 +67,16 @@ fn read_words<R: Files + AllocGlobal>(rt: &R, name: &str) -> io::Result<Vec<Stri
         Some(text) => text.as_str(),
         None => "run\n",
     };
-    let words = lines_of(rt.alloc(), words);
-    drop(text);
-    Ok(words?)
+    let words = lines_of(rt.alloc(), words)?;
+    Ok(words)
 }
 
 fn lines_of(alloc: Global, text: &str) -> Result<Vec<String>, AllocError> {
     let mut lines = Vec::new(alloc);
-    match push_lines(&mut lines, alloc, text) {
-        Ok(()) => Ok(lines),
-        Err(error) => {
-            drop(lines);
-            Err(error)
-        }
-    }
-}
-
-fn push_lines(lines: &mut Vec<String>, alloc: Global, text: &str) -> Result<(), AllocError> {
     for line in text.lines() {
-        let line = String::from_str(alloc, line)?;
-        lines.push(line)?;
+        lines.push(String::from_str(alloc, line)?)?;
     }
-    Ok(())
+    Ok(lines)
 }
 
 fn read_status<R: Files + AllocGlobal>(rt: &R, name: &str) -> io::Result<u8> {

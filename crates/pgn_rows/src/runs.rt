@@ -54,20 +54,10 @@ fn outcome_of<R: Threads + Wait + Clock + Sync>(
 
 fn borrowed(alloc: Global, words: &[String]) -> Result<Vec<&str>, AllocError> {
     let mut texts = Vec::new(alloc);
-    match push_borrowed(&mut texts, words) {
-        Ok(()) => Ok(texts),
-        Err(error) => {
-            drop(texts);
-            Err(error)
-        }
-    }
-}
-
-fn push_borrowed<'a>(texts: &mut Vec<&'a str>, words: &'a [String]) -> Result<(), AllocError> {
     for word in words {
         texts.push(word.as_str())?;
     }
-    Ok(())
+    Ok(texts)
 }
 
 // How a run ends, over any source and sink: so no clause of the call has to be computed for those in memory.

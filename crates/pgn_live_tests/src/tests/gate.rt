@@ -85,17 +85,9 @@ impl<const TURNS: u32> Hub for Gate<TURNS> {
             begun: AtomicU64::new(0),
             spent: AtomicU64::new(0),
         };
-        let Ok(counts) = Arc::new(alloc, counts) else {
-            drop(setup);
-            return Err(AllocError);
-        };
-        match WordHub::open(alloc, setup) {
-            Ok((hub, passes)) => Ok((Gate { hub, counts }, passes)),
-            Err(error) => {
-                drop(counts);
-                Err(error)
-            }
-        }
+        let counts = Arc::new(alloc, counts)?;
+        let (hub, passes) = WordHub::open(alloc, setup)?;
+        Ok((Gate { hub, counts }, passes))
     }
 
     fn publish<R: Wait>(&self, rt: &R, pass: &mut Self::Pass, notes: &[Note]) -> Result<Xid, Full> {
@@ -238,11 +230,12 @@ fn shown_of<const TURNS: u32, R: Threads + Wait + Clock + Sync>(
 ) -> Result<Shown, Fail>
     requires { IsSound scenario.now }
 {
+    let sink = sink_of(alloc, most, fails)?;
     let (hub, mut sessions) = open::<Gate<TURNS>>(alloc, scenario, PATIENCE_DEFAULT)?;
-    let Ok(mut sink) = gate_sink(alloc, &hub, most, fails) else {
-        drop(sessions);
-        drop(hub);
-        return Err(Fail::from("no sink"));
+    let mut sink = GateSink {
+        sink,
+        counts: hub.counts.clone()?,
+        has_written: false,
     };
     let sections = scenario.sections.as_slice();
     let ended = live(
@@ -256,37 +249,6 @@ fn shown_of<const TURNS: u32, R: Threads + Wait + Clock + Sync>(
     let is_spent = hub.is_spent();
     drop(sessions);
     drop(hub);
-    let shown = shown_by(alloc, ended, is_spent, &sink);
-    drop(sink);
-    shown
-}
-
-// A sink that lets the first transaction of this gate go on.
-fn gate_sink<const TURNS: u32>(
-    alloc: Global,
-    hub: &Gate<TURNS>,
-    most: usize,
-    fails: &[u64],
-) -> Result<GateSink, AllocError> {
-    let sink = sink_of(alloc, most, fails)?;
-    let Ok(counts) = hub.counts.clone() else {
-        drop(sink);
-        return Err(AllocError);
-    };
-    Ok(GateSink {
-        sink,
-        counts,
-        has_written: false,
-    })
-}
-
-// What came of a run that ended so.
-fn shown_by(
-    alloc: Global,
-    ended: Result<(), LiveFault>,
-    is_spent: bool,
-    sink: &GateSink,
-) -> Result<Shown, Fail> {
     let text = text_of(alloc, sink.sink.held())?;
     Ok(Shown {
         ended,
@@ -303,12 +265,8 @@ fn ran_over<const TURNS: u32, R: Threads + Wait + Clock + Sync>(
 ) -> Result<(Result<(), LiveFault>, bool), Fail>
     requires { IsSound scenario.now }
 {
+    let mut sink = sink_of(alloc, 1 << 12, &[])?;
     let (hub, mut sessions) = open::<Gate<TURNS>>(alloc, scenario, PATIENCE_DEFAULT)?;
-    let Ok(mut sink) = sink_of(alloc, 1 << 12, &[]) else {
-        drop(sessions);
-        drop(hub);
-        return Err(Fail::from("no sink"));
-    };
     let sections = scenario.sections.as_slice();
     let ended = live(
         rt,
@@ -321,7 +279,6 @@ fn ran_over<const TURNS: u32, R: Threads + Wait + Clock + Sync>(
     let is_spent = hub.is_spent();
     drop(sessions);
     drop(hub);
-    drop(sink);
     Ok((ended, is_spent))
 }
 

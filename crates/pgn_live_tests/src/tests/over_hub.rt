@@ -41,22 +41,11 @@ fn shown_over<const TURNS: u32, R: Threads + Wait + Clock + Sync>(
     input: &str,
 ) -> Result<(Status, String), Fail> {
     let mut sink = sink_of(alloc, 1 << 12, &[])?;
-    let shown = shown_into::<TURNS, R>(rt, alloc, input, &mut sink);
-    drop(sink);
-    shown
-}
-
-// The same, written to this sink.
-fn shown_into<const TURNS: u32, R: Threads + Wait + Clock + Sync>(
-    rt: &R,
-    alloc: Global,
-    input: &str,
-    sink: &mut MemSink,
-) -> Result<(Status, String), Fail> {
     let scenario = scenario_of(alloc, input)?;
-    let status = status_over::<Gate<TURNS>, MemSink, R>(rt, alloc, &scenario, sink);
+    let status = status_over::<Gate<TURNS>, MemSink, R>(rt, alloc, &scenario, &mut sink);
     drop(scenario);
-    Ok((status, text_of(alloc, sink.held())?))
+    let text = text_of(alloc, sink.held())?;
+    Ok((status, text))
 }
 
 #[test]
@@ -115,24 +104,11 @@ fn times_of<const TURNS: u32, R: Threads + Wait + Clock + Sync>(
     rt: &R,
     alloc: Global,
 ) -> Result<(u64, u64), Fail> {
+    let sink = sink_of(alloc, 1 << 12, &[])?;
     let scenario = scenario_of(alloc, SELF_NOTIFY)?;
-    let times = times_with::<TURNS, R>(rt, alloc, &scenario);
-    drop(scenario);
-    times
-}
-
-// The same of this scenario.
-fn times_with<const TURNS: u32, R: Threads + Wait + Clock + Sync>(
-    rt: &R,
-    alloc: Global,
-    scenario: &Scenario,
-) -> Result<(u64, u64), Fail>
-    requires { IsSound scenario.now }
-{
     let Ok(made) = Instant::now(rt) else {
         return Err(Fail::from("no clock"));
     };
-    let sink = sink_of(alloc, 1 << 12, &[])?;
     let mut sink = Timed {
         sink,
         rt,
@@ -140,11 +116,10 @@ fn times_with<const TURNS: u32, R: Threads + Wait + Clock + Sync>(
         first: None,
         last: 0,
     };
-    let _status = status_over::<Gate<TURNS>, Timed<'_, R>, R>(rt, alloc, scenario, &mut sink);
-    let (first, last) = (sink.first, sink.last);
-    drop(sink);
-    match first {
-        Some(first) => Ok((first, last)),
+    let _status = status_over::<Gate<TURNS>, Timed<'_, R>, R>(rt, alloc, &scenario, &mut sink);
+    drop(scenario);
+    match sink.first {
+        Some(first) => Ok((first, sink.last)),
         None => Err(Fail::from("nothing was written")),
     }
 }

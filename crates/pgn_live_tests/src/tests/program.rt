@@ -1,6 +1,6 @@
 use super::{SELF_NOTIFY, sink_of, text_of};
 use pgn_base::{Seed, Sink, Source};
-use pgn_memory::{MemSink, MemSource};
+use pgn_memory::MemSource;
 use pgn_run::{Status, run_notify};
 use std::alloc::Global;
 use std::sync::Wait;
@@ -17,24 +17,13 @@ fn played<R: Threads + Wait + Clock + Sync>(
     most: usize,
     fails: &[u64],
 ) -> Result<(Status, String), Fail> {
-    let mut sink = sink_of(alloc, most, fails)?;
-    let played = played_into(rt, alloc, input, &mut sink);
-    drop(sink);
-    played
-}
-
-// The same, written to this sink.
-fn played_into<R: Threads + Wait + Clock + Sync>(
-    rt: &R,
-    alloc: Global,
-    input: &str,
-    sink: &mut MemSink,
-) -> Result<(Status, String), Fail> {
     let input = Vec::from_slice(alloc, input.as_bytes())?;
     let mut source = MemSource::new(input, Vec::new(alloc), 100);
-    let status = status_of(rt, alloc, &mut source, sink);
+    let mut sink = sink_of(alloc, most, fails)?;
+    let status = status_of(rt, alloc, &mut source, &mut sink);
     drop(source);
-    Ok((status, text_of(alloc, sink.held())?))
+    let text = text_of(alloc, sink.held())?;
+    Ok((status, text))
 }
 
 // How the program ends, over any source and sink: so no clause of the call has to be computed for those in memory.

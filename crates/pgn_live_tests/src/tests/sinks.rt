@@ -1,10 +1,8 @@
 ghost use Rattle.pgn_language.specs.Inputs.{IsSound};
 
 use super::{SELF_NOTIFY, SELF_NOTIFY_LINES, live, open, scenario_of, sink_of, text_of};
-use pgn_hub::{Hub, PassView};
 use pgn_language::Scenario;
 use pgn_live::LiveFault;
-use pgn_memory::MemSink;
 use pgn_wordhub::WordHub;
 use std::alloc::{AllocError, Global};
 use std::sync::Wait;
@@ -38,43 +36,20 @@ fn written_of<R: Threads + Wait + Clock + Sync>(
     requires { IsSound scenario.now }
 {
     let mut sink = sink_of(alloc, most, fails)?;
-    let written = written_into(rt, alloc, scenario, &mut sink);
-    drop(sink);
-    written
-}
-
-// The same, written to this sink.
-fn written_into<R: Threads + Wait + Clock + Sync>(
-    rt: &R,
-    alloc: Global,
-    scenario: &Scenario,
-    sink: &mut MemSink,
-) -> Result<(Result<(), LiveFault>, String), Fail>
-    requires { IsSound scenario.now }
-{
-    let ended = ended_of::<<WordHub as Hub>::Pass, WordHub, R>(rt, alloc, scenario, sink)?;
-    Ok((ended, text_of(alloc, sink.held())?))
-}
-
-// How they end, over a hub of this type.
-fn ended_of<
-    P: PassView + Send + Drop,
-    H: Hub<Pass = P> + Sync + Drop,
-    R: Threads + Wait + Clock + Sync,
->(
-    rt: &R,
-    alloc: Global,
-    scenario: &Scenario,
-    sink: &mut MemSink,
-) -> Result<Result<(), LiveFault>, Fail>
-    requires { IsSound scenario.now }
-{
-    let (hub, mut sessions) = open::<H>(alloc, scenario, 1_000_000)?;
+    let (hub, mut sessions) = open::<WordHub>(alloc, scenario, 1_000_000)?;
     let sections = scenario.sections.as_slice();
-    let ended = live(rt, alloc, &hub, sections, sessions.as_mut_slice(), sink);
+    let ended = live(
+        rt,
+        alloc,
+        &hub,
+        sections,
+        sessions.as_mut_slice(),
+        &mut sink,
+    );
     drop(sessions);
     drop(hub);
-    Ok(ended)
+    let text = text_of(alloc, sink.held())?;
+    Ok((ended, text))
 }
 
 #[test]
@@ -141,10 +116,7 @@ fn push_lines(lines: &mut String, text: &str, mark: &str) -> Result<(), AllocErr
 // The lines of one session, without its number.
 fn lines_of_session(alloc: Global, text: &str, mark: &str) -> Result<String, AllocError> {
     let mut lines = String::new(alloc);
-    if push_lines(&mut lines, text, mark).is_err() {
-        drop(lines);
-        return Err(AllocError);
-    }
+    push_lines(&mut lines, text, mark)?;
     Ok(lines)
 }
 
@@ -187,22 +159,14 @@ COMMIT
   4 1002 \"c\", 'from b'
 ";
 
-// Whether the lines of the one session are these, and those of the other one end so.
-fn are_in_order(alloc: Global, text: &str) -> Result<(bool, bool), AllocError> {
-    let of_a = has_lines(alloc, text, "1| ", LINES_OF_A)?;
-    let of_b = has_end(alloc, text, "2| ", "> \\signal b2\n+signal 5\n")?;
-    Ok((of_a, of_b))
-}
-
 // Sessions that await each other are written each in its order, whichever way their lines mix.
 #[test]
 fn sessions_that_await_each_other_are_written_in_order(rt: HostRuntime) -> Result<(), Fail> {
     let alloc = rt.alloc();
     let (ended, text) = written(&rt, alloc, CROSSING_FLAGS, 1 << 12, &[])?;
-    let in_order = are_in_order(alloc, text.as_str());
-    drop(text);
     assert!(rt; ended.is_ok());
-    assert_eq!(rt; in_order?, (true, true));
+    assert!(rt; has_lines(alloc, text.as_str(), "1| ", LINES_OF_A)?);
+    assert!(rt; has_end(alloc, text.as_str(), "2| ", "> \\signal b2\n+signal 5\n")?);
     Ok(())
 }
 

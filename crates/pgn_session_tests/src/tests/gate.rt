@@ -6,11 +6,9 @@ use pgn_drill::drill_text;
 use pgn_hub::Hub;
 use pgn_memory::{MemSink, MemSource};
 use pgn_run::{Print, converse};
-use std::alloc::{AllocError, Global};
+use std::alloc::Global;
 use std::sync::Wait;
 use std::test::Fail;
-use std::thread::Threads;
-use std::time::Clock;
 
 const TWO_WRITERS: &str = "\
 \\session a 1
@@ -81,22 +79,16 @@ fn a_run_is_over_its_hub(rt: HostRuntime) -> Result<(), Fail> {
 fn a_drill_is_over_its_hub(rt: HostRuntime) -> Result<(), Fail> {
     let alloc = rt.alloc();
     let input = drill_text(alloc, 0, 1, 1)?;
-    let text = summary_of(&rt, alloc, &input);
-    drop(input);
-    let text = text?;
+    let print = Print::Summary { seed: 0, notes: 1 };
+    let text = shown_over::<Probe<Gate<0>>, HostRuntime>(
+        &rt,
+        alloc,
+        str::from_utf8(&input)?,
+        PATIENCE_DEFAULT,
+        print,
+    )?;
     assert_eq!(rt; text.as_str(), "no memory");
     Ok(())
-}
-
-// The summary of the drill that this input is, over a gate.
-fn summary_of<R: Threads + Wait + Clock + Sync>(
-    rt: &R,
-    alloc: Global,
-    input: &[u8],
-) -> Result<String, Fail> {
-    let print = Print::Summary { seed: 0, notes: 1 };
-    let input = str::from_utf8(input)?;
-    shown_over::<Probe<Gate<0>>, R>(rt, alloc, input, PATIENCE_DEFAULT, print)
 }
 
 // A client asks `LISTEN c` and `NOTIFY c, 'x'`, and terminates.
@@ -115,29 +107,20 @@ fn is_served<H: Hub + Drop, R: Wait, S: Source, K: Sink>(
     converse::<H::Pass, H, R, S, K>(rt, alloc, Seed::fixed(), source, sink).is_ok()
 }
 
-// Whether it is, over a gate, written to this sink.
-fn is_served_over_a_gate<R: Wait>(
-    rt: &R,
-    alloc: Global,
-    sink: &mut MemSink,
-) -> Result<bool, AllocError> {
-    let talk = Vec::from_slice(alloc, TALK)?;
-    let mut source = MemSource::new(talk, Vec::new(alloc), 100);
-    let served = is_served::<Probe<Gate<0>>, R, MemSource, MemSink>(rt, alloc, &mut source, sink);
-    drop(source);
-    Ok(served)
-}
-
 // The read behind the second query finds no memory, so that nothing of its answer is written.
 #[test]
 fn a_conversation_is_over_its_hub(rt: HostRuntime) -> Result<(), Fail> {
     let alloc = rt.alloc();
+    let mut source = MemSource::new(Vec::from_slice(alloc, TALK)?, Vec::new(alloc), 100);
     let mut sink = MemSink::new(alloc, 100, Vec::new(alloc), 100)?;
-    let served = is_served_over_a_gate(&rt, alloc, &mut sink);
-    let is_first_answer = sink.held() == FIRST_ANSWER;
-    drop(sink);
-    assert!(rt; !served?);
-    assert!(rt; is_first_answer);
+    let served = is_served::<Probe<Gate<0>>, HostRuntime, MemSource, MemSink>(
+        &rt,
+        alloc,
+        &mut source,
+        &mut sink,
+    );
+    assert!(rt; !served);
+    assert!(rt; sink.held() == FIRST_ANSWER);
     Ok(())
 }
 

@@ -219,24 +219,14 @@ impl<P: Pace> Hub for Probe<P> {
     ghost seated = { λ probe pass h. h.view.seated };
 
     fn open(alloc: Global, setup: Setup) -> Result<(Self, Vec<Self::Pass>), AllocError> {
-        let Ok(counts) = Arc::new(alloc, Counts::new()) else {
-            drop(setup);
-            return Err(AllocError);
+        let counts = Arc::new(alloc, Counts::new())?;
+        let (hub, passes) = WordHub::open(alloc, setup)?;
+        let probe = Probe {
+            hub,
+            counts,
+            pace: PhantomData,
         };
-        match WordHub::open(alloc, setup) {
-            Ok((hub, passes)) => {
-                let probe = Probe {
-                    hub,
-                    counts,
-                    pace: PhantomData,
-                };
-                Ok((probe, passes))
-            }
-            Err(error) => {
-                drop(counts);
-                Err(error)
-            }
-        }
+        Ok((probe, passes))
     }
 
     fn publish<R: Wait>(&self, rt: &R, pass: &mut Self::Pass, notes: &[Note]) -> Result<Xid, Full> {

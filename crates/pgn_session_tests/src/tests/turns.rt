@@ -35,26 +35,14 @@ fn push_awaits<P: PassView + Send + Drop>(
     Ok(())
 }
 
-fn push_all<P: PassView + Send + Drop>(
-    alloc: Global,
-    lines: &mut String,
-    sessions: &[Session<P>],
-) -> Result<(), AllocError> {
-    for session in sessions {
-        push_awaits(alloc, lines, session)?;
-    }
-    Ok(())
-}
-
 // What the awaits of sessions came to.
 pub(super) fn awaits_of<P: PassView + Send + Drop>(
     alloc: Global,
     sessions: &[Session<P>],
 ) -> Result<String, AllocError> {
     let mut lines = String::new(alloc);
-    if push_all(alloc, &mut lines, sessions).is_err() {
-        drop(lines);
-        return Err(AllocError);
+    for session in sessions {
+        push_awaits(alloc, &mut lines, session)?;
     }
     Ok(lines)
 }
@@ -71,10 +59,8 @@ fn awaits_in_turns<R: Wait + Clock>(
     drop(hub);
     let awaits = awaits_of(alloc, &sessions);
     drop(sessions);
-    match (ended, awaits) {
-        (Ok(()), Ok(awaits)) => Ok((awaits, rests)),
-        _ => Err(Fail::from("no memory")),
-    }
+    ended?;
+    Ok((awaits?, rests))
 }
 
 // Each session waits for the other one.

@@ -1,5 +1,6 @@
 //! Two sessions that share the queue for long.
 ghost use Rattle.std.specs.Prelude.{◌≡◌, ◌<◌, true, length, IsSome};
+ghost use Rattle.std.specs.Thread.{IsSync, IsSend};
 ghost use Rattle.pgn_words.specs.Passes.{known_of};
 ghost use Rattle.pgn_wordhub.specs.Passes.{IsHubPass};
 
