@@ -350,6 +350,7 @@ pub record Divided (signs : List (Option ℕ)) : Type 0 where
   pub bytes : List ℕ
   pub behind : (signs ≡ map Some bytes) ⊎ ((others : List (Option ℕ)) × (signs ≡ map Some bytes ++ None ∷ others) × (length others < length signs))
 
+-- signs are bytes alone, or bytes, an end, and others
 pub divide : (signs : List (Option ℕ)) → Divided signs
 divide [] = record { bytes = []; behind = inl refl }
 divide (None ∷ signs) = record { bytes = []; behind = inr (signs, refl, omega arith) }

@@ -41,6 +41,7 @@ pub if_ok-both : {A E : Type 0} (r : Result A E) (P R : Type 0) (Q : A → Type 
 if_ok-both (Ok a) P R Q f h k = f a h k
 if_ok-both (Err e) P R Q f h k = tt
 
+-- what holds of an answer that is no error holds of its value
 pub if_ok-at : {A E : Type 0} (r : Result A E) (a : A) (P : A → Type 0) → r ≡ Ok a → IfOk r P → P a
 if_ok-at (Ok b) a P e h = let same : b ≡ a = cc in subst P same h
 if_ok-at (Err x) a P e h = absurd (cc)

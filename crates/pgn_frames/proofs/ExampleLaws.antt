@@ -104,6 +104,7 @@ listen_is : RequestIs (body_of (codes "LISTEN c")) (Line (codes "LISTEN c") (com
 unfolding table cut is_utf8 chars encode
 listen_is = text_is (codes "LISTEN c") (Line (codes "LISTEN c") (command.Listen (codes "c")) wording.Plain) refl refl refl
 
+-- a query, where so many lines stand before it
 pub listens : (before : ℕ) → before + 1 ≤ 4294967294 → ClientAsks (tally_at before 0) asks_listen (Query (listen_at (before + 1)) ∷ []) Open
 listens before fits =
     asks_body (tally_at before 0) (0 ∷ 0 ∷ 0 ∷ 13 ∷ []) (body_of (codes "LISTEN c")) [] (Line (codes "LISTEN c") (command.Listen (codes "c")) wording.Plain) [] Open refl refl (omega arith) (omega arith)
@@ -114,6 +115,7 @@ notify_is : RequestIs (body_of (codes "NOTIFY c, 'x'")) (Line (codes "NOTIFY c, 
 unfolding table cut is_utf8 chars encode
 notify_is = text_is (codes "NOTIFY c, 'x'") (Line (codes "NOTIFY c, 'x'") (command.Notify (record { channel = codes "c"; payload = codes "x" })) wording.Plain) refl refl refl
 
+-- a query that notifies, where one may
 pub notifies_once : ClientAsks (limited_at 1 0 0) asks_notify (Query (notify_at 1) ∷ []) Open
 notifies_once =
     asks_body (limited_at 1 0 0) (0 ∷ 0 ∷ 0 ∷ 18 ∷ []) (body_of (codes "NOTIFY c, 'x'")) []
@@ -184,17 +186,22 @@ two_asked =
 pub terminate_asked : SeatAsks (first_tally NOTE_LINES_MAX) (map Some (terminates ++ asks_listen)) (End 1 Plain ∷ [])
 terminate_asked = clients.SeatAsks.Last (tally_at 0 0) (map Some (terminates ++ asks_listen)) (terminates ++ asks_listen) [] Left refl (terminated (tally_at 0 0) asks_listen)
 
+-- a length that is too short ends the client
 pub length_asked : SeatAsks (first_tally NOTE_LINES_MAX) (map Some too_short) (End 1 Refused ∷ [])
 length_asked = clients.SeatAsks.Last (tally_at 0 0) (map Some too_short) too_short [] (Wrong Refused) refl (short_query (tally_at 0 0))
 
+-- a message of the extended protocol ends the client
 pub parse_asked : SeatAsks (first_tally NOTE_LINES_MAX) (map Some parses) (End 1 Extended ∷ [])
 parse_asked = clients.SeatAsks.Last (tally_at 0 0) (map Some parses) parses [] (Wrong Extended) refl (clients.ClientAsks.Extends (tally_at 0 0) parses refl)
 
+-- behind a garbled text the client goes on
 pub garbled_asked : SeatAsks (first_tally NOTE_LINES_MAX) (map Some (asks_two_ends ++ asks_listen)) (Query (garbled_at 1) ∷ Query (listen_at 2) ∷ [])
 garbled_asked = clients.SeatAsks.Last (tally_at 0 0) (map Some (asks_two_ends ++ asks_listen)) (asks_two_ends ++ asks_listen) (Query (garbled_at 1) ∷ Query (listen_at 2) ∷ []) Open refl garbled
 
+-- what is settled has no number
 pub settled_asked : SeatAsks (first_tally NOTE_LINES_MAX) (map Some (asks_one ++ asks_listen)) (Settle One ∷ Query (listen_at 1) ∷ [])
 settled_asked = clients.SeatAsks.Last (tally_at 0 0) (map Some (asks_one ++ asks_listen)) (asks_one ++ asks_listen) (Settle One ∷ Query (listen_at 1) ∷ []) Open refl settled
 
+-- `DISCARD ALL` has two numbers, and the next query the third
 pub discard_asked : SeatAsks (first_tally NOTE_LINES_MAX) (map Some (asks_discard ++ asks_listen)) (Discard 1 ∷ Query (listen_at 3) ∷ [])
 discard_asked = clients.SeatAsks.Last (tally_at 0 0) (map Some (asks_discard ++ asks_listen)) (asks_discard ++ asks_listen) (Discard 1 ∷ Query (listen_at 3) ∷ []) Open refl discarded

@@ -24,6 +24,7 @@ Front-terminate_cut [] letter some few = absurd (omega arith)
 Front-terminate_cut (x ∷ more) letter some few =
     inr (client.NextIs.Terminates (x ∷ more) more (Fault (Truncated 0)) [] [] (ap (λ (l : ℕ). l ∷ more) letter) (client.TerminateIs.CutHead more [] (omega arith)))
 
+-- a Query without its length is not whole
 pub Front-query_cut : (bytes : List ℕ) → slice_index bytes 0 ≡ 81 → 0 < length bytes → length bytes < 5 → IsUnfinished bytes
 Front-query_cut [] letter some few = absurd (omega arith)
 Front-query_cut (x ∷ more) letter some few =
@@ -72,12 +73,15 @@ no_length (x ∷ more) len letter head is wrong tally =
     (client.NextIs.Asks (x ∷ more) more (Fault (BadLength 0)) [] [] (ap (λ (l : ℕ). l ∷ more) letter)
     (client.QueryIs.BadHead more (take 4 more) (drop 4 more) [] [] len (sym (take-append-drop 4 more)) (tells x len more head is) wrong)))
 
+-- a Query that is too short ends the client as refused
 pub Front-too_short : (bytes : List ℕ) (len : ℕ) → slice_index bytes 0 ≡ 81 → 5 ≤ length bytes → len ≡ from_be_bytes w32 (take 4 (drop 1 bytes)) → len < 5 → (tally : Tally) → PartsBy Refused tally bytes
 Front-too_short bytes len letter head is few = no_length bytes len letter head is (λ fits. let least : 5 ≤ len = fits.least in omega arith)
 
+-- so does one that is too long
 pub Front-too_long : (bytes : List ℕ) (len : ℕ) → slice_index bytes 0 ≡ 81 → 5 ≤ length bytes → len ≡ from_be_bytes w32 (take 4 (drop 1 bytes)) → 65541 < len → (tally : Tally) → PartsBy Refused tally bytes
 Front-too_long bytes len letter head is many = no_length bytes len letter head is (λ fits. let most : len ≤ 65541 = fits.most in omega arith)
 
+-- a Terminate of a wrong length ends the client as refused
 pub Front-no_terminate : (bytes : List ℕ) (len : ℕ) → slice_index bytes 0 ≡ 88 → 5 ≤ length bytes → len ≡ from_be_bytes w32 (take 4 (drop 1 bytes)) → (len ≡ 4 → ⊥) → (tally : Tally) → PartsBy Refused tally bytes
 Front-no_terminate [] len letter head is wrong tally = absurd (omega arith)
 Front-no_terminate (x ∷ more) len letter head is wrong tally =
@@ -100,6 +104,7 @@ Front-extended [] letter first some is tally = absurd (omega arith)
 Front-extended (x ∷ more) letter first some is tally =
     parts_told (x ∷ more) (Wrong Extended) tally (omega arith) tt (clients.ClientAsks.Extends tally (x ∷ more) (ap is_extended first ∙ is))
 
+-- so does a message of no type
 pub Front-no_type : (bytes : List ℕ) (letter : ℕ) → slice_index bytes 0 ≡ letter → 0 < length bytes → (letter ≡ 81 → ⊥) → (letter ≡ 88 → ⊥) → is_extended letter ≡ false → (tally : Tally) → PartsBy Refused tally bytes
 Front-no_type [] letter first some query terminate other tally = absurd (omega arith)
 Front-no_type (x ∷ more) letter first some query terminate other tally =
@@ -116,6 +121,8 @@ four_behind (a ∷ b ∷ c ∷ []) head = absurd (omega arith)
 four_behind (a ∷ b ∷ c ∷ d ∷ []) head = absurd (omega arith)
 four_behind (a ∷ b ∷ c ∷ d ∷ e ∷ more) head = refl
 
+-- what is no whole message, by its letter alone
 pub ruleset front_laws = (Front-none, Front-terminate_cut, Front-query_cut)
 
+-- how the four bytes of a length are taken
 pub ruleset four_laws = (four_behind)

@@ -44,6 +44,7 @@ next_more at _ _ bytes _ more (client.NextIs.Terminates _ m c t r e is) whole so
 next_more at _ _ bytes _ more (client.NextIs.Asks _ m c t r e is) whole some =
     client.NextIs.Asks (bytes ++ more) (m ++ more) c t (r ++ more) (ap (λ (xs : List ℕ). xs ++ more) e) (query_more at c t m r more is whole)
 
+-- a whole Query stays one, whatever bytes follow
 pub query_stays_whole : QueryStaysWhole
 query_stays_whole bytes body rest more q = record {
   head = q.head;
@@ -91,6 +92,7 @@ more_may_follow tally bytes more _ close (clients.ClientAsks.Goes _ _ body rest 
 pub parts_told : (bytes : List ℕ) (close : Close) (tally : Tally) → 0 < length bytes → IsTold close → ClientAsks tally bytes [] close → PartsBy (parting_of close) tally bytes
 parts_told bytes close tally some told asks = record { some = some; close = close; told = told; closes = λ more. more_may_follow tally bytes more [] close asks told; how = refl }
 
+-- an end that is told comes also where the input ends
 pub last_told : (number : ℕ) (close : Close) → IsTold close → last_end number close ≡ ask.End number (parting_of close) ∷ []
 last_told number Open told = absurd told
 last_told number Left told = refl

@@ -60,6 +60,7 @@ whole_or (x ∷ xs) =
       | inr e ↦ inr (λ text same n. both (end.last == 0) (eq-eqb end.last 0 (same_from_push end.front text end.last 0 (sym end.split ∙ same)).1) e)
     ]
 
+-- each body asks for something
 pub each_request : EachHasRequest
 each_request body = elim (whole_or body) [
   | inr garbled ↦ (_, asked.RequestIs.Garbled garbled)
@@ -75,6 +76,7 @@ each_request body = elim (whole_or body) [
 same_text : (body text other : List ℕ) → body ≡ body_of text → body ≡ body_of other → text ≡ other
 same_text body text other e f = append_cancel_right text other (0 ∷ []) (sym e ∙ f)
 
+-- and for one thing alone
 pub one_request : OneRequest
 one_request body _ _ (asked.RequestIs.Garbled g) (asked.RequestIs.Garbled h) = refl
 one_request body _ _ (asked.RequestIs.Garbled g) (asked.RequestIs.Encoded text e n u) = absurd (g text e n)

@@ -41,6 +41,7 @@ value-nowhere setting (x ∷ entries) l = elim (cases_Bool (is_of setting x)) [
 abbrev pub revalued : Entry → List ℕ → Entry
 revalued one value = record { setting = one.setting; value = value }
 
+-- one that was set keeps its place
 pub with-there : (setting : Setting) (entries : List Entry) (one : Entry) (value : List ℕ) → place setting entries < length entries → one ≡ get_or entries (place setting entries) one
     → with_value entries setting value ≡ set entries (place setting entries) (revalued one value)
 with-there setting [] one value l e = absurd (omega (arith, l))
@@ -57,6 +58,7 @@ with-there setting (x ∷ entries) one value l e = elim (cases_Bool (is_of setti
       first ∙ ap (λ (some : List Entry). x ∷ some) rest ∙ ap (λ (n : ℕ). set (x ∷ entries) n (revalued one value)) (sym later)
 ]
 
+-- a setting that was not set comes behind those that were
 pub with-nowhere : (setting : Setting) (entries : List Entry) (value : List ℕ) → length entries ≤ place setting entries → with_value entries setting value ≡ entries ++ record { setting = setting; value = value } ∷ []
 with-nowhere setting [] value l = refl
 with-nowhere setting (x ∷ entries) value l = elim (cases_Bool (is_of setting x)) [

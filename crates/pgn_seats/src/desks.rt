@@ -92,7 +92,8 @@ pub(crate) fn turn_at<P: PassView + Send + Drop, H: Hub<Pass = P>, R: Wait>(
 }
 
 // A wait behind a round in which nothing was done. Behind the first one the bell of the first desk is armed, and each looks once more; behind the
-// next they doze on it. So no ring is lost: who rings has pushed before, or set a wake.
+// next they doze on it. A desk alone on its thread so loses no ring: who rings has pushed before, or set a wake. Of desks that share one
+// another's ring is not heard, and the doze ends within a millisecond.
 pub(crate) fn wait_behind<P: PassView + Send + Drop, H: Hub<Pass = P>, R: Wait>(
     rt: &R,
     hub: &H,

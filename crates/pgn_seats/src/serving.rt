@@ -17,7 +17,8 @@ use std::thread::Threads;
 
 /// Has desks serve their seats, side by side, until each has come to the end of its inbox: each on a thread of its own while threads can be
 /// had, and in turns where not. What they tell they push into `outbox`, each under its seat's number, and ring the bell of who takes it.
-/// The error is that memory did not suffice; then the service was called off, and each has told whole turns, and nothing else.
+/// The error is that memory did not suffice, or that others have called the service off; then it is called off, and each desk has told
+/// whole turns, and nothing else.
 pub fn serve_seats<P: PassView + Send + Drop, H: Hub<Pass = P> + Sync, R: Threads + Wait + Sync>(
     rt: &R,
     alloc: Global,

@@ -17,6 +17,7 @@ pub IfOk-same : {A E : Type 0} (result : Result A E) (one other : A) → one ≡
 IfOk-same (Ok r) one other e h = h ∙ e
 IfOk-same (Err r) one other e h = tt
 
+-- what follows from what holds of an answer that is no error
 pub OnOk-map : {A E : Type 0} (result : Result A E) (P Q : Type 0) → (P → Q) → OnOk result P → OnOk result Q
 OnOk-map (Ok r) P Q f h = f h
 OnOk-map (Err r) P Q f h = tt
@@ -34,6 +35,7 @@ going-none (Some rest) goes otherwise e = absurd (cc)
 pub going-some : {A : Type 0} (o : Option (List model.Lexeme)) (rest : List model.Lexeme) (goes : List model.Lexeme → A) (otherwise : A) → o ≡ Some rest → going o goes otherwise ≡ goes rest
 going-some o rest goes otherwise e = ap (λ (some : Option (List model.Lexeme)). going some goes otherwise) e
 
+-- tokens that do not go on so by the code do not by the definition
 pub goes-none : (result : Option (Bor (List Lexeme))) (told : Option (List model.Lexeme)) → GoesOn result told → is_some result ≡ false → told ≡ None
 goes-none None told g e = g
 goes-none (Some rest) told g e = absurd (false≢true (sym e))
@@ -43,6 +45,7 @@ end-no : (rest : List model.Lexeme) → 1 ≤ length rest → is_end rest ≡ fa
 end-no [] l = absurd (omega arith)
 end-no (a ∷ rest) l = refl
 
+-- one mode less, and the others behind its comma
 pub modes-step : (most : ℕ) (lexemes rest : List model.Lexeme) → 0 < most → past_mode lexemes ≡ Some rest → 1 ≤ length rest → are_modes most lexemes ≡ are_modes (most - 1) (past_comma rest)
 modes-step zero lexemes rest l e m = absurd (omega arith)
 modes-step (suc most) lexemes rest l e m =
@@ -54,6 +57,7 @@ pub put-some : (told : Bool) (old new : List ℕ) (value : Option (List ℕ)) �
 put-some told old new None p t e = absurd (false≢true (sym p ∙ t))
 put-some told old new (Some some) p t e = ap (λ (l : List ℕ). Some l) (sym (p.1 ∙ ap (λ (l : List ℕ). l ++ some) e))
 
+-- a value that is not DEFAULT
 pub valued-given : (text : List ℕ) (at : ℕ) (starts : Bool) (lexemes : List model.Lexeme) (one : Setting) (value : List ℕ) → is_one (codes "default") lexemes ≡ false → value_of lexemes ≡ Some value
     → valued_asks text at starts lexemes one ≡ given_asks text at starts one (Some value)
 valued-given text at starts lexemes one value e f = pick_no (is_one (codes "default") lexemes) _ (given_asks text at starts one (value_of lexemes)) e ∙ ap (given_asks text at starts one) f
@@ -63,11 +67,13 @@ pub set-names : (text : List ℕ) (at : ℕ) (lexemes rest : List model.Lexeme) 
     → setting_asks text at lexemes ≡ valued_asks text at false rest setting.ClientEncoding
 set-names text at lexemes rest e f = going-none (after_one (codes "local") lexemes) _ _ e ∙ going-some (after_one (codes "names") lexemes) rest _ _ f
 
+-- SET STARTUP is a setting that starts
 pub set-startup : (text : List ℕ) (at : ℕ) (lexemes rest : List model.Lexeme) → after_one (codes "local") lexemes ≡ None → after_one (codes "names") lexemes ≡ None → after_one (codes "startup") lexemes ≡ Some rest
     → setting_asks text at lexemes ≡ assigned_asks text at true rest
 set-startup text at lexemes rest e f g =
     going-none (after_one (codes "local") lexemes) _ _ e ∙ going-none (after_one (codes "names") lexemes) _ _ f ∙ going-some (after_one (codes "startup") lexemes) rest _ _ g
 
+-- SET SESSION AUTHORIZATION is that setting
 pub set-user : (text : List ℕ) (at : ℕ) (lexemes rest : List model.Lexeme) → after_one (codes "local") lexemes ≡ None → after_one (codes "names") lexemes ≡ None → after_one (codes "startup") lexemes ≡ None
     → after_two (codes "session") (codes "authorization") lexemes ≡ Some rest → setting_asks text at lexemes ≡ valued_asks text at false rest setting.SessionAuthorization
 set-user text at lexemes rest e f g h =

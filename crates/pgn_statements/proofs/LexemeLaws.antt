@@ -71,6 +71,7 @@ take-front {X = X} n front back = elim (cases_lt (length front) n) [
 pub put-few : (lexemes : List model.Lexeme) (one : model.Lexeme) → length lexemes ≤ 24 → some_of (lexemes ++ one ∷ []) ≡ lexemes ++ one ∷ []
 put-few lexemes one l = take_all 25 (lexemes ++ one ∷ []) (omega (arith, length-append lexemes (one ∷ [])))
 
+-- behind one token more than may be none is kept
 pub put-many : (lexemes : List model.Lexeme) (one : model.Lexeme) → 24 < length lexemes → length lexemes ≤ 25 → some_of (lexemes ++ one ∷ []) ≡ lexemes
 put-many lexemes one l m = take-append-le 25 lexemes (one ∷ []) (omega arith) ∙ take_all 25 lexemes m
 
@@ -79,6 +80,7 @@ pub some-step : (old new rest : List model.Lexeme) (one : model.Lexeme) → new 
 some-step old new rest one e =
     ap (λ (some : List model.Lexeme). some_of (some ++ rest)) e ∙ take-front 25 (old ++ one ∷ []) rest ∙ ap some_of (append_assoc old (one ∷ []) rest)
 
+-- so many are kept as they are
 pub some-all : (new : List model.Lexeme) → length new ≤ 25 → some_of (new ++ []) ≡ new
 some-all new l = ap some_of (append-nil new) ∙ take_all 25 new l
 
@@ -97,6 +99,7 @@ few-some lexemes some e l =
     let test : nat_le (length lexemes) 24 ≡ true = grind (arith, nat_tests) in
     rw test (sym (e ∙ take_all 25 lexemes (omega arith)))
 
+-- too many tokens are none
 pub few-many : (lexemes some : List model.Lexeme) → some ≡ some_of lexemes → 24 < length some → few lexemes ≡ []
 few-many lexemes some e l =
     let taken : length some ≡ length (take 25 lexemes) = ap length e in

@@ -25,12 +25,15 @@ pick_no false one other e = refl
 pub slash-gives : (b : ℕ) → (b == 42) ≡ false → mode_gives Slash b ≡ 47 ∷ given b
 slash-gives b e = pick_no (b == 42) [] (47 ∷ given b) e
 
+-- a byte behind a `/` that begins no comment stands as outside
 pub slash-next : (b : ℕ) → (b == 42) ≡ false → next_mode Slash b ≡ entered b
 slash-next b e = pick_no (b == 42) (Comment 0) (entered b) e
 
+-- a byte behind a `-` that begins no comment gives both
 pub dash-gives : (b : ℕ) → (b == 45) ≡ false → mode_gives Dash b ≡ 45 ∷ given b
 dash-gives b e = pick_no (b == 45) [] (45 ∷ given b) e
 
+-- and stands as outside
 pub dash-next : (b : ℕ) → (b == 45) ≡ false → next_mode Dash b ≡ entered b
 dash-next b e = pick_no (b == 45) Rest (entered b) e
 
@@ -74,9 +77,11 @@ by_byte P b feed slash dash single double star other = elim (cases_Bool (b == 10
 pub other-given : (b : ℕ) → Other b → given b ≡ b ∷ []
 other-given b o = rw (o.feed, o.slash, o.dash) refl
 
+-- such a byte outside begins nothing
 pub other-entered : (b : ℕ) → Other b → entered b ≡ Outside
 other-entered b o = rw (o.slash, o.dash, o.single, o.double) refl
 
+-- such a byte in a comment ends none and begins none
 pub other-commented : (depth b : ℕ) → Other b → commented depth b ≡ Comment depth
 other-commented depth b o = rw (o.star, o.slash) refl
 
@@ -117,6 +122,7 @@ bland-calm_from before (b ∷ bytes) slash dash all =
 pub bland-calm : (text : List ℕ) → list_all is_bland text ≡ true → is_calm 0 text ≡ true
 bland-calm text all = bland-calm_from 0 text refl refl all
 
+-- the same, for the search of the check
 pub ruleset bland_laws = (bland-calm)
 
 -- a byte that is a break, and one that is none
@@ -152,6 +158,7 @@ calm-parts before b bytes c = elim (cases_Bool (is_break before b)) [
       record { unbroken = neither.0; slash = none.0; dash = none.1; rest = sym (calm-on before b bytes e) ∙ c }
 ]
 
+-- a text that is calm is not changed
 pub calm-plain : (mode : Mode) (before : ℕ) (bytes : List ℕ) → Follows mode before → is_calm before bytes ≡ true → plain_from mode bytes ≡ held mode ++ bytes
 calm-plain Outside before [] f c = refl
 calm-plain Slash before [] f c = refl
@@ -298,6 +305,7 @@ plain-nul : (mode : Mode) (bytes : List ℕ) → NoNul bytes → NoNul (plain_fr
 plain-nul mode [] h = nul-end mode
 plain-nul mode (b ∷ bytes) h = nul-both (mode_gives mode b) (plain_from (next_mode mode b) bytes) (nul-gives mode b h.0) (plain-nul (next_mode mode b) bytes h.1)
 
+-- a text without a zero byte has none when it is plain
 pub plain-clean : (text : List ℕ) → (Contains text 0 → ⊥) → Contains (plain text) 0 → ⊥
 plain-clean text h = nul-none (plain text) (plain-nul Outside text (nul-from text h))
 

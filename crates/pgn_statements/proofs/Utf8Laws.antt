@@ -244,6 +244,7 @@ chars-text mode (c ∷ cs) s =
           (IsUtf8-append (kept mode (encode c)) (plain_from (settled mode) (encodes cs)) (kept-text mode (encode c) (one_char c parts.0)) (chars-text (settled mode) cs parts.1)))
     ]
 
+-- a text without its comments is UTF-8 again
 pub plain-text : (text : List ℕ) → IsUtf8 text → IsUtf8 (plain text)
 plain-text text u = subst (λ (some : List ℕ). IsUtf8 (plain some)) u.1.1 (chars-text Outside u.0 u.1.0)
 
@@ -266,6 +267,7 @@ unbroken-chars (c ∷ cs) s =
       | inr l ↦ subst (λ (some : List ℕ). IsUtf8 some) (sym (unbroken-high (encode c) (high-encode c l))) (one_char c parts.0)
     ]) (unbroken-chars cs parts.1))
 
+-- one line of a text is UTF-8 again
 pub one_line-text : (text : List ℕ) → IsUtf8 text → IsUtf8 (map unbroken text)
 one_line-text text u = subst (λ (some : List ℕ). IsUtf8 (map unbroken some)) u.1.1 (unbroken-chars u.0 u.1.0)
 
@@ -277,6 +279,7 @@ shown-ascii b = elim (cases_Bool (nat_le 32 b && nat_le b 126)) [
   | inr e ↦ rw e (omega arith)
 ]
 
+-- what is shown of a name is ASCII
 pub shown-text : (bytes : List ℕ) → IsUtf8 (map shown_byte bytes)
 shown-text [] = IsUtf8-nil
 shown-text (b ∷ bytes) = IsUtf8-append (shown_byte b ∷ []) (map shown_byte bytes) (one_byte (shown_byte b) (shown-ascii b)) (shown-text bytes)
