@@ -1,4 +1,4 @@
-ghost use Rattle.std.specs.Prelude.{◌≡◌, ◌<◌, ◌≤◌, ◌+◌, [], length, Err, Some, IfNone, IfOk, IfSome, OnErr, OnOk, OnSome};
+ghost use Rattle.std.specs.Prelude.{◌≡◌, ◌<◌, ◌≤◌, ◌+◌, [], length, Err, Some, IfOk, IfSome, OnErr, OnOk};
 ghost use Rattle.pgn_base.specs.Outside.{Rose};
 ghost use Rattle.pgn_base.specs.declared.limits.TheConstants.{LINE_BYTES_MAX};
 ghost use Rattle.pgn_base.specs.declared.command.Command.TheVariants.{Bad};
@@ -30,7 +30,7 @@ pub enum NoQuery {
 }
 
 /// The queries of a client, one at a time. It keeps the memory of the longest text so far, and reads no byte ahead, so that a client
-/// that waits for an answer is not waited for. Contracts see where it stands. After an error only `next_client` is of use.
+/// that waits for an answer is not waited for. Contracts see where it stands. After an error it is of no more use.
 #[derive(Drop)]
 pub struct Queries {
     at: u64,
@@ -102,26 +102,6 @@ impl Queries {
                 Err(NoQuery::Fault(fault))
             }
         }
-    }
-
-    /// Goes on to the bytes of another client, behind the end of the one before: the offset begins anew, and the numbers go on behind
-    /// those of two lines. Answers the number of the first of the two; there is none, and nothing has changed, where they would be greater
-    /// than a line of a query may have. The memory of the longest text is given back.
-    pub fn next_client(&mut self, alloc: Global) -> Option<u32>
-        ensures line { IfSome result (λ line. line ≡ self.old.queries + 1) }
-        ensures fits { IfSome result (λ line. line < QUERIES_MAX) }
-        ensures next { OnSome result (self.new ≡ record self.old { at = 0; queries = self.old.queries + 2 }) }
-        ensures many { IfNone result (QUERIES_MAX < self.old.queries + 2) }
-        ensures stays { IfNone result (self.new ≡ self.old) }
-    {
-        if self.queries > QUERIES_MAX - 2 {
-            return None;
-        }
-        let line = self.queries + 1;
-        self.at = 0;
-        self.queries += 2;
-        self.text = Vec::new(alloc);
-        Some(line)
     }
 
     // Passes a query with a text of so many bytes, unless there are too many with it.
