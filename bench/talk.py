@@ -69,7 +69,7 @@ TALK = [
     (1, b"", {1: END}),
     (1, query("NOTIFY c, 'z'"), {1: answer("NOTIFY"), 2: note(1, "z"), 3: note(1, "z")}),
     # A message of no kind ends a client, and so does a Terminate.
-    (3, message(b"P", b""), {3: (*error("FATAL", "08P01", "bad message"), *END)}),
+    (3, message(b"!", b""), {3: (*error("FATAL", "08P01", "bad message"), *END)}),
     (3, b"", {}),
     (2, message(b"X", b""), {2: END}),
     (2, b"", {}),
