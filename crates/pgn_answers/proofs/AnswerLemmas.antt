@@ -53,6 +53,7 @@ goes-on live set (RollbackTo name) = grind arith
 goes-on live set (Release name) = grind arith
 goes-on live set command = refl
 
+-- an empty line alone is not answered, in whatever state
 pub silent-empty : (state : BlockState) (live set : List (List ℕ)) (command : Command) → is_silent (answer state live set command) ≡ is_empty_line command
 silent-empty Idle live set (RollbackTo name) = grind arith
 silent-empty Idle live set (Release name) = grind arith
@@ -70,6 +71,7 @@ channels-counted live set Idle h = (refl, refl)
 channels-counted live set InBlock h = (refl, refl)
 channels-counted live set Failed h = absurd (cc)
 
+-- a command commits where it is a transaction outside a block, or ends by a commit the block that is open
 pub what-commits : (state : BlockState) (live set : List (List ℕ)) (command : Command)
     → is_commit (answer state live set command) ≡ (is_transaction command && is_idle state || ends_by_commit command && is_in_block state)
 what-commits Idle live set (RollbackTo name) = grind arith
@@ -82,4 +84,5 @@ what-commits Failed live set (RollbackTo name) = grind arith
 what-commits Failed live set (Release name) = grind arith
 what-commits Failed live set command = refl
 
+-- the laws of the table of answers
 pub ruleset answer_laws = (table-is-total, nothing-fails_outside, blocks-begin, blocks-end, blocks-fail, ways-out, ends-failed, goes-on, silent-empty, channels-counted, what-commits)

@@ -67,6 +67,7 @@ firsts-fewer seen (note ∷ notes) = either (list_any (same_note note) seen) (fi
     either true h k = omega (arith, h)
     either false h k = omega (arith, k)
 
+-- no more notifications are sent than were noted
 pub sent-fewer : (changes : List Change) → length (firsts (surviving_notes changes)) ≤ count_noted changes
 sent-fewer changes = omega (arith, firsts-fewer [] (surviving_notes changes), noted-survive [] changes)
 

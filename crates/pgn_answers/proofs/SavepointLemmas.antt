@@ -69,10 +69,12 @@ has_savepoint-middle name (change ∷ before) after = later (is_savepoint_of nam
     later true b e = refl
     later false b e = e
 
+-- a rollback to the last savepoint of a name cuts the list behind it
 pub rolled_back-cuts : (name : List ℕ) (before after : List Change) → has_savepoint name after ≡ false → rolled_back name (before ++ Saved name ∷ after) ≡ before ++ Saved name ∷ []
 rolled_back-cuts name [] after e = rw (e, same-name name) refl
 rolled_back-cuts name (change ∷ before) after e = rw (has_savepoint-middle name before after) (ap (λ (cs : List Change). change ∷ cs) (rolled_back-cuts name before after e))
 
+-- a release of the last savepoint of a name keeps all behind it but the savepoints
 pub release-keeps : (name : List ℕ) (before after : List Change) → has_savepoint name after ≡ false → released name (before ++ Saved name ∷ after) ≡ before ++ filter (λ change. not (is_savepoint change)) after
 release-keeps name [] after e = rw (e, same-name name) refl
 release-keeps name (change ∷ before) after e = rw (has_savepoint-middle name before after) (ap (λ (cs : List Change). change ∷ cs) (release-keeps name before after e))
@@ -230,6 +232,7 @@ firsts_after-differ seen (note ∷ notes) =
           (firsts_after-differ (seen ++ note ∷ []) notes)
     ]
 
+-- no two of the first notifications of each kind are the same
 pub firsts-differ : (notes : List Note) → AllPairs (λ (a : Note) (b : Note). a ≢ b) (firsts notes)
 firsts-differ notes = firsts_after-differ [] notes
 
@@ -436,9 +439,11 @@ names-once seen (Released other ∷ changes) = names-once seen changes
 pub live-has_names : (changes : List Change) → filter_map saved_name (live_changes changes) ≡ live_names changes
 live-has_names changes = names-once [] (survivors changes)
 
+-- what is left of a list holds the actions that survive, in their order
 pub live-has_actions : (changes : List Change) → filter_map acted_action (live_changes changes) ≡ surviving_actions changes
 live-has_actions changes = actions-once [] (survivors changes)
 
+-- what is left of a list holds each notification that survives once, in the order of the first ones
 pub live-has_firsts : (changes : List Change) → filter_map noted_note (live_changes changes) ≡ firsts (surviving_notes changes)
 live-has_firsts changes = notes-once [] (survivors changes)
 
@@ -478,12 +483,15 @@ live-push changes (Noted note) =
     ap once (survives-noted changes note) ∙ once-note note [] (survivors changes)
     ∙ ap (λ (b : Bool). live ++ cond b [] (Noted note ∷ [])) (sym (has_note-once note (survivors changes))) ∙ at_end (has_note note live) live (Noted note)
 
+-- one change more: what is left is that of what was left before, with the change
 pub live-after_change : (changes live : List Change) (change : Change) → live_changes changes ≡ live → live_changes (changes ++ change ∷ []) ≡ after_change live change
 live-after_change changes live change e = live-push changes change ∙ ap (λ (cs : List Change). after_change cs change) e
 
+-- a savepoint more: it stands at the end of what is left
 pub live-saved : (changes : List Change) (name : List ℕ) → live_changes (changes ++ Saved name ∷ []) ≡ live_changes changes ++ Saved name ∷ []
 live-saved changes name = live-push changes (Saved name)
 
+-- an action more: it stands at the end of what is left
 pub live-acted : (changes : List Change) (action : Action) → live_changes (changes ++ Acted action ∷ []) ≡ live_changes changes ++ Acted action ∷ []
 live-acted changes action = live-push changes (Acted action)
 
@@ -493,12 +501,15 @@ live-new changes note e = live-push changes (Noted note) ∙ ap (λ (b : Bool). 
 pub live-repeated : (changes : List Change) (note : Note) → has_note note (live_changes changes) ≡ true → live_changes (changes ++ Noted note ∷ []) ≡ live_changes changes
 live-repeated changes note e = live-push changes (Noted note) ∙ ap (λ (b : Bool). cond b (live_changes changes) (live_changes changes ++ Noted note ∷ [])) e
 
+-- a rollback more: what was left is rolled back
 pub live-rolled_back : (changes : List Change) (name : List ℕ) → live_changes (changes ++ RolledBack name ∷ []) ≡ rolled_back name (live_changes changes)
 live-rolled_back changes name = live-push changes (RolledBack name)
 
+-- a release more: what was left is released
 pub live-released : (changes : List Change) (name : List ℕ) → live_changes (changes ++ Released name ∷ []) ≡ released name (live_changes changes)
 live-released changes name = live-push changes (Released name)
 
+-- a savepoint of a name is live exactly where what is left has one
 pub live-has_savepoint : (changes : List Change) (name : List ℕ) → has_name (live_names changes) name ≡ has_savepoint name (live_changes changes)
 live-has_savepoint changes name = live-is_saved changes name ∙ sym (has_savepoint-once name [] (survivors changes))
 
@@ -606,8 +617,11 @@ unfolding IsSettled
 live-twice changes =
     ap once (survivors_from-settled [] (live_changes changes) (settled-once [] (survivors changes) (settled-survivors [] changes tt))) ∙ once-twice [] (survivors changes)
 
+-- the laws of savepoints, rollbacks and releases
 pub ruleset savepoint_laws = (survives-rolled_back, survives-released, survives-saved, survives-acted, survives-noted, rolled_back-cuts, release-keeps, live-is_saved, live-has_savepoint, rolled_back-keeps_mark, rolled_back-of_none, released-of_none)
 
+-- the laws of the first notifications of each kind
 pub ruleset firsts_laws = (firsts-in_order, firsts-differ, firsts-have_all, firsts-push, firsts-twice)
 
+-- the laws of what is left of a list, one change after another
 pub ruleset live_laws = (live-after_change, live-saved, live-acted, live-new, live-repeated, live-rolled_back, live-released, live-twice, live-has_names, live-has_actions, live-has_firsts)

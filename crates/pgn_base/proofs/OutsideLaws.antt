@@ -29,4 +29,5 @@ pub Writes-then : {T E : Type 0} (old mid new : Option (List ℕ)) (result : Res
 Writes-then old mid new (Ok value) text next a h = Appends-then old mid new text next a h
 Writes-then old mid new (Err error) text next a h = AppendsPrefix-then old mid new text next a h
 
+-- to write more behind a front of a text, and one text behind another
 pub ruleset writings = (AppendsPrefix-more, Writes-then)

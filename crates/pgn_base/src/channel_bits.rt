@@ -33,7 +33,8 @@ impl ChannelBits {
     // Puts one more channel in.
     pub(crate) fn put(&mut self, channel: &[u8])
         requires room { get_or self.old.counts (channel_bit channel.now) 0 + 1 < 2 ^ 64 }
-        ensures { (channels : List (List ℕ)) → AreBits channels self.old → AreBits (channels ++ channel.now ∷ []) self.new }
+        ensures { (channels : List (List ℕ)) → AreBits channels self.old
+            → AreBits (channels ++ channel.now ∷ []) self.new }
     {
         let bit = channel_bit(channel);
         self.word |= mask_of(bit);
@@ -43,7 +44,9 @@ impl ChannelBits {
     // Takes a channel out of those that stand once each.
     pub(crate) fn take_out(&mut self, channel: &[u8])
         requires there { 1 ≤ get_or self.old.counts (channel_bit channel.now) 0 }
-        ensures { (channels : List (List ℕ)) → AreBits channels self.old → AreOnce channels → has_name channels channel.now ≡ true → AreBits (filter (λ other. not (bytes_eq channel.now other)) channels) self.new }
+        ensures { (channels : List (List ℕ)) → AreBits channels self.old → AreOnce channels
+            → has_name channels channel.now ≡ true
+            → AreBits (filter (λ other. not (bytes_eq channel.now other)) channels) self.new }
     {
         let bit = channel_bit(channel);
         let left = self.counts[bit as usize] - 1;

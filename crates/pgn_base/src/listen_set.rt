@@ -131,7 +131,8 @@ impl ListenSet {
     }
 
     fn unlisten(&mut self, name: &Name)
-        ensures channels { self.new.channels ≡ after_action self.old.channels (Action.Unlisten name.now) }
+        ensures channels { self.new.channels
+            ≡ after_action self.old.channels (Action.Unlisten name.now) }
         ensures room { self.old.room ≤ self.new.room + 1 }
     {
         self.leave(name);
@@ -142,7 +143,8 @@ impl ListenSet {
 
     // Takes a channel out, and leaves its place empty.
     fn leave(&mut self, name: &Name)
-        ensures channels { self.new.channels ≡ after_action self.old.channels (Action.Unlisten name.now) }
+        ensures channels { self.new.channels
+            ≡ after_action self.old.channels (Action.Unlisten name.now) }
         ensures room { self.new.room ≡ self.old.room }
     {
         if let Some(at) = self.index.swap_remove(&Key::new(name.as_bytes())) {
@@ -228,7 +230,9 @@ fn put_all(index: &mut IndexMap<Key, usize, Seed>, places: &[Option<Name>])
 // Puts the channel of one more place into the index of those before.
 fn put(index: &mut IndexMap<Key, usize, Seed>, place: &Option<Name>, at: usize)
     requires { 1 ≤ spare index.old }
-    ensures entries { (places : List (Option (List ℕ))) → AreThere places index.old.entries → at ≡ length places → AreOnce (listed (places ++ place.now ∷ [])) → AreThere (places ++ place.now ∷ []) index.new.entries }
+    ensures entries { (places : List (Option (List ℕ))) → AreThere places index.old.entries
+        → at ≡ length places → AreOnce (listed (places ++ place.now ∷ []))
+        → AreThere (places ++ place.now ∷ []) index.new.entries }
     ensures room { spare index.old ≤ spare index.new + 1 }
 {
     if let Some(name) = place {

@@ -47,7 +47,8 @@ impl Name {
         ensures ok { IfOk result (λ name. name ≡ text.now) }
         ensures empty { IsErrOf result NameFault.Empty ↔ (text.now ≡ []) }
         ensures too_long { IsErrOf result NameFault.TooLong ↔ (NAME_BYTES_MAX < length text.now) }
-        ensures nul { IsErrOf result NameFault.Nul ↔ ((length text.now ≤ NAME_BYTES_MAX) × Contains text.now 0) }
+        ensures nul { IsErrOf result NameFault.Nul
+            ↔ ((length text.now ≤ NAME_BYTES_MAX) × Contains text.now 0) }
         ensures memory { IsErrOf result NameFault.Memory → TEXT_BYTES_IN_PLACE < length text.now }
     {
         test(text)?;
@@ -62,11 +63,17 @@ impl Name {
     pub fn from_string(text: String) -> Result<Name, NameFault>
         ensures ok { IfOk result (λ name. name ≡ string_bytes text) }
         ensures empty { IsErrOf result NameFault.Empty ↔ (string_bytes text ≡ []) }
-        ensures too_long { IsErrOf result NameFault.TooLong ↔ (NAME_BYTES_MAX < length (string_bytes text)) }
-        ensures nul { IsErrOf result NameFault.Nul ↔ ((length (string_bytes text) ≤ NAME_BYTES_MAX) × Contains (string_bytes text) 0) }
-        ensures memory { IsErrOf result NameFault.Memory → TEXT_BYTES_IN_PLACE < length (string_bytes text) }
+        ensures too_long { IsErrOf result NameFault.TooLong
+            ↔ (NAME_BYTES_MAX < length (string_bytes text)) }
+        ensures nul { IsErrOf result NameFault.Nul
+            ↔ ((length (string_bytes text) ≤ NAME_BYTES_MAX) × Contains (string_bytes text) 0) }
+        ensures memory { IsErrOf result NameFault.Memory
+            → TEXT_BYTES_IN_PLACE < length (string_bytes text) }
     {
-        test(text.as_str())?;
+        if let Err(fault) = test(text.as_str()) {
+            drop(text);
+            return Err(fault);
+        }
         match Text::from_string(text) {
             Ok(text) => Ok(Name { text }),
             Err(AllocError) => Err(NameFault::Memory),
@@ -106,7 +113,8 @@ fn test(text: &str) -> Result<(), NameFault>
     ensures ok { OnOk result (IsName text.now) }
     ensures empty { IsErrOf result NameFault.Empty ↔ (text.now ≡ []) }
     ensures too_long { IsErrOf result NameFault.TooLong ↔ (NAME_BYTES_MAX < length text.now) }
-    ensures nul { IsErrOf result NameFault.Nul ↔ ((length text.now ≤ NAME_BYTES_MAX) × Contains text.now 0) }
+    ensures nul { IsErrOf result NameFault.Nul
+        ↔ ((length text.now ≤ NAME_BYTES_MAX) × Contains text.now 0) }
     ensures memory { ¬ IsErrOf result NameFault.Memory }
 {
     if text.is_empty() {

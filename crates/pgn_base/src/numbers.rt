@@ -41,7 +41,7 @@ impl SessionNo {
 }
 
 /// The number of a database, from 1 to 4,294,967,295.
-#[derive(Clone, Copy, Debug, PartialEq, Eq)]
+#[derive(Clone, Copy, PartialEq, Eq)]
 pub struct DbOid {
     number: u32,
 }

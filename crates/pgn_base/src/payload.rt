@@ -41,9 +41,12 @@ impl Payload {
     /// The payload of this text. The faults are tested in the order of `PayloadFault`. A text of at most 22 bytes takes no memory.
     pub fn new(alloc: Global, text: &str) -> Result<Payload, PayloadFault>
         ensures ok { IfOk result (λ payload. payload ≡ text.now) }
-        ensures too_long { IsErrOf result PayloadFault.TooLong ↔ (PAYLOAD_BYTES_MAX < length text.now) }
-        ensures nul { IsErrOf result PayloadFault.Nul ↔ ((length text.now ≤ PAYLOAD_BYTES_MAX) × Contains text.now 0) }
-        ensures memory { IsErrOf result PayloadFault.Memory → TEXT_BYTES_IN_PLACE < length text.now }
+        ensures too_long { IsErrOf result PayloadFault.TooLong
+            ↔ (PAYLOAD_BYTES_MAX < length text.now) }
+        ensures nul { IsErrOf result PayloadFault.Nul
+            ↔ ((length text.now ≤ PAYLOAD_BYTES_MAX) × Contains text.now 0) }
+        ensures memory { IsErrOf result PayloadFault.Memory
+            → TEXT_BYTES_IN_PLACE < length text.now }
     {
         test(text)?;
         match Text::new(alloc, text) {
@@ -56,11 +59,17 @@ impl Payload {
     /// copied.
     pub fn from_string(text: String) -> Result<Payload, PayloadFault>
         ensures ok { IfOk result (λ payload. payload ≡ string_bytes text) }
-        ensures too_long { IsErrOf result PayloadFault.TooLong ↔ (PAYLOAD_BYTES_MAX < length (string_bytes text)) }
-        ensures nul { IsErrOf result PayloadFault.Nul ↔ ((length (string_bytes text) ≤ PAYLOAD_BYTES_MAX) × Contains (string_bytes text) 0) }
-        ensures memory { IsErrOf result PayloadFault.Memory → TEXT_BYTES_IN_PLACE < length (string_bytes text) }
+        ensures too_long { IsErrOf result PayloadFault.TooLong
+            ↔ (PAYLOAD_BYTES_MAX < length (string_bytes text)) }
+        ensures nul { IsErrOf result PayloadFault.Nul
+            ↔ ((length (string_bytes text) ≤ PAYLOAD_BYTES_MAX) × Contains (string_bytes text) 0) }
+        ensures memory { IsErrOf result PayloadFault.Memory
+            → TEXT_BYTES_IN_PLACE < length (string_bytes text) }
     {
-        test(text.as_str())?;
+        if let Err(fault) = test(text.as_str()) {
+            drop(text);
+            return Err(fault);
+        }
         match Text::from_string(text) {
             Ok(text) => Ok(Payload { text }),
             Err(AllocError) => Err(PayloadFault::Memory),
@@ -99,7 +108,8 @@ impl Payload {
 fn test(text: &str) -> Result<(), PayloadFault>
     ensures ok { OnOk result (IsPayload text.now) }
     ensures too_long { IsErrOf result PayloadFault.TooLong ↔ (PAYLOAD_BYTES_MAX < length text.now) }
-    ensures nul { IsErrOf result PayloadFault.Nul ↔ ((length text.now ≤ PAYLOAD_BYTES_MAX) × Contains text.now 0) }
+    ensures nul { IsErrOf result PayloadFault.Nul
+        ↔ ((length text.now ≤ PAYLOAD_BYTES_MAX) × Contains text.now 0) }
     ensures memory { ¬ IsErrOf result PayloadFault.Memory }
 {
     if text.len() > PAYLOAD_BYTES_MAX {

@@ -18,8 +18,10 @@ pub trait Sink {
         ensures bytes { WriteAppends (held self.old) (held self.new) result piece.now }
         ensures later { faults self.old ≤ faults self.new }
         ensures failed { OnErr result (Rose (faults self.old) (faults self.new)) }
-        ensures zero { IfOk result (λ n. n ≡ 0 → 0 < length piece.now → Rose (faults self.old) (faults self.new)) }
-        ensures took { IfOk result (λ n. (0 < n) ⊎ (length piece.now ≡ 0) → faults self.new ≡ faults self.old) };
+        ensures zero { IfOk result (λ n. n ≡ 0 → 0 < length piece.now
+            → Rose (faults self.old) (faults self.new)) }
+        ensures took { IfOk result (λ n. (0 < n) ⊎ (length piece.now ≡ 0)
+            → faults self.new ≡ faults self.old) };
 }
 
 /// Writes a whole piece, in as many writes as the sink takes. Where it fails, a prefix of the piece is written.

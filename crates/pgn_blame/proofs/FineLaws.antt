@@ -1,13 +1,11 @@
 -- What a lawful trace carries from its script can stand in lines: names, notifications, tags and refusals; and its numbers are from
 -- the first transaction's on.
-use Rattle.std.proofs.Common.{◌≡◌, ◌≢◌, ℕ, ◌+◌, ◌^◌, ◌<◌, ◌≤◌, max, Bool, true, false, cond, ◌&&◌, not, if◌then◌else◌, is_some, is_none, List, [], ◌∷◌, ◌++◌, length, map, fold, filter, filter_map, Option, None, Some, IfSome, bytes_eq, sym, ap, ◌∙◌, refl, subst, arith}
+use Rattle.std.proofs.Common.{◌≡◌, ℕ, ◌+◌, ◌^◌, ◌<◌, ◌≤◌, max, Bool, true, false, cond, ◌&&◌, not, if◌then◌else◌, is_some, is_none, List, [], ◌∷◌, ◌++◌, length, fold, filter, filter_map, Option, None, Some, IfSome, bytes_eq, subst, arith}
 use Rattle.std.specs.Prelude.{All}
 use Rattle.std.specs.List.{list_any}
 use Rattle.std.proofs.lemmas.List.Elements.{All-nil, All-cons, All-head, All-tail, All-append, All-filter}
 use Rattle.pgn_base.specs.declared.limits.TheConstants.{FIRST_XID}
 use Rattle.pgn_base.specs.declared.note.Note.{Note}
-use Rattle.pgn_base.specs.declared.answers.Tag.{Tag}
-use Rattle.pgn_base.specs.declared.answers.Refusal.{Refusal}
 use Rattle.pgn_base.specs.declared.command.Command.{Command}
 use Rattle.pgn_base.specs.declared.command.Command.TheVariants as command
 use Rattle.pgn_base.specs.declared.listen_set.Action.{Action}
@@ -18,7 +16,7 @@ use Rattle.pgn_journal.specs.declared.tx.Tx.{Tx}
 use Rattle.pgn_answers.specs.declared.block_state.BlockState.{BlockState}
 use Rattle.pgn_answers.specs.declared.block_state.BlockState.TheVariants.{Idle, InBlock, Failed}
 use Rattle.pgn_answers.specs.Savepoints.{Change, Saved, Acted, Noted, RolledBack, Released, is_savepoint, is_savepoint_of, has_savepoint, rolled_back, released, survivors_from, survivors, live_names, acted_action, noted_note, surviving_actions, surviving_notes, same_note, firsts_after, firsts, is_listen, changes_of}
-use Rattle.pgn_answers.specs.Answers.{Outcome, Commits, Replies, Refuses, Silent, GivesChannels, GivesUsage, in_state, ignored, answer, next_state, list_after}
+use Rattle.pgn_answers.specs.Answers.{Outcome, Commits, Replies, Refuses, Silent, GivesChannels, GivesUsage, in_state, answer, next_state, list_after}
 use Rattle.pgn_language.specs.declared.scenario.Act.{Act}
 use Rattle.pgn_language.specs.declared.scenario.Act.TheVariants.{Run, Signal, Await, Quit}
 use Rattle.pgn_language.specs.declared.scenario.ScriptLine.{ScriptLine}
@@ -42,10 +40,12 @@ IsFineCommand (command.PgNotify note) = IsLineNote note
 IsFineCommand (command.Bad at) = at < 2 ^ 32
 IsFineCommand other = Unit {0}
 
+-- an act whose command can be shown in a line
 abbrev pub IsFineAct : Act → Type 0
 IsFineAct (Run c) = IsFineCommand c
 IsFineAct act = Unit {0}
 
+-- a script line whose act can be
 abbrev pub IsFineLine : ScriptLine → Type 0
 IsFineLine line = IsFineAct line.act
 
@@ -183,10 +183,12 @@ list-fine changes c GivesUsage h k = h
 
 -- What the walk carries.
 
+-- an end of an answer that can be
 abbrev pub IsFineEnding : Ending → Type 0
 IsFineEnding (Replied done warning) = IsLineTag done
 IsFineEnding (Refused refusal) = IsLineRefusal refusal
 
+-- what a line still has to show, and can
 abbrev pub IsFineOwed : Owed → Type 0
 IsFineOwed (Enlisting actions notes ending) = All IsFineAction actions × All IsLineNote notes × IsFineEnding ending
 IsFineOwed (Queueing actions notes ending) = All IsFineAction actions × All IsLineNote notes × IsFineEnding ending
@@ -196,6 +198,7 @@ IsFineOwed (Listing names ending) = All IsLineName names × (length names < 2 ^ 
 IsFineOwed (Measuring ending) = IsFineEnding ending
 IsFineOwed owed = Unit {0}
 
+-- a state of which all that can still be shown fits a line, and all numbers are those of transactions
 pub record IsFine (s : State) : Type 0 where
   pub rest : All IsFineLine s.rest
   pub changes : All IsFineChange s.changes

@@ -1,43 +1,41 @@
 -- What is seen of a legal run whose text is not too long is readable.
-use Rattle.std.proofs.Common.{◌≡◌, ◌≢◌, ◌↔◌, ℕ, zero, suc, ◌+◌, ◌-◌, ◌*◌, ◌^◌, ◌<◌, ◌≤◌, ◌==◌, ◌||◌, ◌&&◌, ◌/◌, Bool, true, false, cond, List, [], ◌∷◌, ◌++◌, length, map, take, drop, get_or, fold, slice_get, Option, None, Some, IfSome, IsSomeAnd, sym, ap, ◌∙◌, refl, subst, arith, append_assoc, eqb-true, eq-eqb}
+use Rattle.std.proofs.Common.{◌≡◌, ℕ, zero, suc, ◌+◌, ◌-◌, ◌*◌, ◌^◌, ◌<◌, ◌≤◌, ◌==◌, ◌||◌, Bool, true, false, cond, List, [], ◌∷◌, ◌++◌, length, map, take, drop, get_or, fold, slice_get, Option, None, Some, IfSome, IsSomeAnd, sym, ap, ◌∙◌, refl, subst, arith, eqb-true, eq-eqb}
 use Rattle.std.specs.Prelude.{All, Any, Contains, flat_map, sum_by, filter}
 use Rattle.std.proofs.lemmas.List.{length-append, length-map, length-drop, length-take}
 use Rattle.std.proofs.lemmas.List.Sums.{sum_by-cons}
 use Rattle.std.proofs.lemmas.List.Elements.{All-nil, All-cons, All-head, All-tail, All-append, All-filter, All-map, All-take, All-drop}
 use Rattle.std.proofs.lemmas.Option.{same_Some, slice_get_within, get_or_from_slice_get}
-use Rattle.pgn_base.specs.declared.limits.TheConstants.{FIRST_XID, PID_BASE, SECTIONS_MAX}
+use Rattle.pgn_base.specs.declared.limits.TheConstants.{FIRST_XID, SECTIONS_MAX}
 use Rattle.pgn_base.specs.declared.note.Note.{Note}
 use Rattle.pgn_base.specs.declared.note.Delivery.{Delivery}
 use Rattle.pgn_base.specs.declared.command.Command.{Command}
 use Rattle.pgn_base.specs.declared.command.Command.TheVariants as command
-use Rattle.pgn_base.specs.declared.queue_answers.Full.{Full}
-use Rattle.pgn_base.specs.declared.queue_answers.Usage.{Usage}
 use Rattle.pgn_journal.specs.declared.tx.Tx.{Tx}
 use Rattle.pgn_journal.specs.declared.tx.Fate.{Fate}
 use Rattle.pgn_journal.specs.declared.tx.Fate.TheVariants.{Committed, Aborted}
 use Rattle.pgn_journal.specs.Journal.{entry, next_xid, entries_between, is_committed_in, IsFinished, IsQueued}
-use Rattle.pgn_journal.specs.Due.{due, due_from, delivered_by, delivery, listens}
+use Rattle.pgn_journal.specs.Due.{due_from, delivered_by, delivery, listens}
 use Rattle.pgn_journal.specs.Packing.{page_of, place}
-use Rattle.pgn_journal.specs.QueueUse.{NoPage, IsCutShort}
+use Rattle.pgn_journal.specs.QueueUse.{IsCutShort}
 use Rattle.pgn_journal.proofs.PackingLemmas.{place_bound}
 use Rattle.pgn_language.specs.declared.scenario.Act.{Act}
-use Rattle.pgn_language.specs.declared.scenario.Act.TheVariants.{Run, Signal, Await, Quit}
+use Rattle.pgn_language.specs.declared.scenario.Act.TheVariants.{Run}
 use Rattle.pgn_language.specs.declared.scenario.ScriptLine.{ScriptLine}
 use Rattle.pgn_language.specs.declared.scenario.Section.{Section}
 use Rattle.pgn_language.specs.declared.scenario.Scenario.{Scenario}
-use Rattle.pgn_language.specs.Inputs.{IsOneLine, IsOneLineAct, IsOneLineCommand, AreNumbered, IsSoundSection, IsSound}
+use Rattle.pgn_language.specs.Inputs.{IsOneLineAct, IsOneLineCommand, AreNumbered, IsSoundSection, IsSound}
 use Rattle.pgn_model.specs.declared.item.Item.{Item}
 use Rattle.pgn_model.specs.declared.item.Item.TheVariants.{Line, Enlist, Publish, QueueFull, Leave, Reply, Refuse, Channels, Used, Raise, Found, TimedOut, Read}
 use Rattle.pgn_model.specs.declared.trace.Trace.{Trace}
 use Rattle.pgn_model.specs.Along.{Along}
-use Rattle.pgn_model.specs.Walk.{Settings, Terms, State, Owed, Ending, Replied, Refused, Nothing, Enlisting, Queueing, Leaving, Answering, Listing, Measuring, Raising, Awaiting, at_rows, start, after_item, Allowed, IsNext, IsQueueing, IsListing, IsAwaiting, holder_at}
+use Rattle.pgn_model.specs.Walk.{Settings, Terms, State, Owed, Ending, Replied, Refused, Queueing, Answering, Listing, Awaiting, at_rows, start, after_item, Allowed, IsNext, IsQueueing, IsListing, IsAwaiting, holder_at}
 use Rattle.pgn_model.specs.Trace.{TraceOk}
 use Rattle.pgn_model.specs.Legal.{EachTrace, finished_xids, names_section, IsShownWithin, IsFullThere, End, ends, StoodAt, Legal}
 use Rattle.pgn_model.specs.Text.{joined, note_line, entry_lines, entries_lines, journal_lines, channel_line, item_lines, end_line, trace_lines, traces_lines, text_lines, text}
 use Rattle.pgn_merge.specs.Shown.{IsShownIn, ShowsJournal}
 use Rattle.pgn_merge.proofs.ShownLaws.{legal-shows_journal}
 use Rattle.pgn_reading.specs.Completed.{seen_of, seen}
-use Rattle.pgn_reading.specs.Form.{IsXid, IsSession, IsLineName, IsLineNote, IsLineDelivery, IsLineTag, IsLineRefusal, IsReadItem, is_rows, begins_rows, AreApart, lines_left, IsNextLine, IsReadTrace, database_of, IsReadQueued, IsReadTx, EachSection, IsReadable}
+use Rattle.pgn_reading.specs.Form.{IsXid, IsSession, IsLineName, IsLineNote, IsLineDelivery, IsReadItem, begins_rows, AreApart, lines_left, IsNextLine, IsReadTrace, database_of, IsReadQueued, IsReadTx, EachSection, IsReadable}
 use Rattle.pgn_reading.specs.Shown.{named_shown, found_shown}
 use Rattle.pgn_reading.proofs.NumberLaws.{number-at}
 use Rattle.pgn_reading.proofs.ShownLaws.{item-rest}
@@ -557,5 +555,6 @@ module _ (scenario : Scenario) (settings : Settings) (journal : List Tx) (traces
     each = traces-read scenario.sections traces legal.lawful fine legal.shown legal.full named-good found-low_all legal.read_all;
   }
 
+-- a legal run can be read from its text, unless that is too long
 pub legal-is_readable : LegalIsReadable
 legal-is_readable scenario settings journal traces sound held few legal = readable scenario settings journal traces sound held few legal

@@ -1,35 +1,32 @@
 -- Of what is seen of a legal run no line is to blame.
-use Rattle.std.proofs.Common.{◌≡◌, ℕ, zero, suc, ◌+◌, ◌<◌, ◌≤◌, ◌⊎◌, inl, inr, List, [], ◌∷◌, ◌++◌, length, map, get_or, slice_get, Option, None, Some, IfSome, sym, ap, ◌∙◌, refl, subst, arith}
-use Rattle.std.specs.Prelude.{All, Any, Contains, flat_map}
+use Rattle.std.proofs.Common.{◌≡◌, ℕ, zero, suc, ◌+◌, inl, inr, List, [], ◌∷◌, ◌++◌, length, map, get_or, slice_get, Option, None, Some, IfSome, sym, ap, ◌∙◌, refl, subst, arith}
+use Rattle.std.specs.Prelude.{All, Contains, flat_map}
 use Rattle.std.specs.List.{cons_option}
-use Rattle.std.proofs.lemmas.List.{length-append}
 use Rattle.std.proofs.lemmas.List.Elements.{All-nil, All-cons, All-head, All-tail, All-append, filter_map-append}
-use Rattle.pgn_base.specs.declared.note.Note.{Note}
 use Rattle.pgn_journal.specs.declared.tx.Tx.{Tx}
 use Rattle.pgn_journal.specs.Journal.{next_xid, xids_of}
 use Rattle.pgn_language.specs.declared.scenario.ScriptLine.{ScriptLine}
 use Rattle.pgn_language.specs.declared.scenario.Section.{Section}
 use Rattle.pgn_language.specs.declared.scenario.Scenario.{Scenario}
-use Rattle.pgn_language.specs.Inputs.{IsSound}
 use Rattle.pgn_model.specs.declared.item.Item.{Item}
-use Rattle.pgn_model.specs.declared.item.Item.TheVariants.{Line, Publish, QueueFull, Channels, Raise, Read}
+use Rattle.pgn_model.specs.declared.item.Item.TheVariants.{Line, Publish, QueueFull, Channels, Raise}
 use Rattle.pgn_model.specs.declared.trace.Trace.{Trace}
 use Rattle.pgn_model.specs.Along.{Along}
 use Rattle.pgn_model.specs.Walk.{Settings, Terms, State, Owed, start, after_item}
 use Rattle.pgn_model.specs.Trace.{TraceOk, Fresh}
 use Rattle.pgn_model.specs.Legal.{EachTrace, finished_xid, finished_xids, IsShownWithin, IsFullThere, ends, Legal}
-use Rattle.pgn_model.specs.Text.{journal_lines, item_lines, end_line, section_line, trace_lines, traces_lines, joined, text}
-use Rattle.pgn_reading.specs.Completed.{seen_of, seen, ready, whole, walked, completed}
+use Rattle.pgn_model.specs.Text.{journal_lines, end_line, section_line, trace_lines, traces_lines, joined, text}
+use Rattle.pgn_reading.specs.Completed.{seen_of, seen, ready, whole, completed}
 use Rattle.pgn_reading.specs.Form.{IsReading}
 use Rattle.pgn_reading.specs.Shown.{marks_shown, named_shown, next_flag, lines_behind, flag_at, raised_from, raised_in, found_shown, ShowsMark}
-use Rattle.pgn_reading.specs.Blame.{IsGoodTx, Comes, IsNextOwn, IsBorneOut, IsWhole, BlamesTrace, Refused, LeftOut, NotNext, Unfounded, LeftOutLast, Unfinished, BlamesTraces, Blames, InForm, InEntry, InTrace, IsLegalText}
+use Rattle.pgn_reading.specs.Blame.{IsGoodTx, Comes, IsNextOwn, IsBorneOut, BlamesTrace, Refused, LeftOut, NotNext, Unfounded, LeftOutLast, Unfinished, BlamesTraces, Blames, InForm, InEntry, InTrace}
 use Rattle.pgn_reading.proofs.SeenLaws.{read-shows_same}
 use Rattle.pgn_reading.proofs.ComesLaws.{along-read, seen-whole, own-is_seen, lawful-is_not_refused, fresh-is_not_left_out, fresh-is_up_to_date, lawful-is_finished}
-use Rattle.pgn_reading.proofs.ShownLaws.{finds_flag, finds-none}
+use Rattle.pgn_reading.proofs.ShownLaws.{finds-none}
 use Rattle.pgn_reading.proofs.ReadableLaws.{readable-is_one}
 use Rattle.pgn_reading.proofs.BlameLaws.{there, no_entry-blamed, reading-has_form}
 use Rattle.pgn_reading.proofs.WholeLaws.{raised-in_all, stood-in_all, found-in_all, named-each}
-use Rattle.pgn_blame.specs.Laws.{IsHeld, checked_bytes, seen_trace, LegalIsUnblamed}
+use Rattle.pgn_blame.specs.Laws.{seen_trace, LegalIsUnblamed}
 use Rattle.pgn_blame.proofs.LegalLaws.{legal-is_readable}
 
 -- What is seen shows the same.
@@ -207,6 +204,7 @@ module _ (settings : Settings) (journal : List Tx) (all : List Section) (all_tra
       (All-tail (λ (t : Trace). All (λ item. All (ShowsMark all_traces) (named_shown item)) t.items) trace traces named) (All-tail (λ (t : Trace). All (IsShownWithin (next_xid journal)) t.items) trace traces shown)
       (All-tail (λ (t : Trace). IfSome t.last (λ mark. mark ≡ next_xid journal)) trace traces read) b
 
+-- no line of a legal run's text is to blame
 pub legal-is_unblamed : LegalIsUnblamed
 legal-is_unblamed scenario settings out n sound held few run b = by n b
   where

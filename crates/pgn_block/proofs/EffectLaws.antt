@@ -32,4 +32,5 @@ handing_out-ends state changes with_it command Silent h = absurd (cc)
 handing_out-ends state changes with_it command (GivesChannels names) h = absurd (cc)
 handing_out-ends state changes with_it command GivesUsage h = absurd (cc)
 
+-- what a command hands out, and that who hands out a commit ends
 pub ruleset effect_laws = (what-hands_out, handing_out-ends)

@@ -1,4 +1,4 @@
-ghost use Rattle.std.specs.Prelude.{◌≡◌, ◌↔◌, ℕ, List, [], ◌++◌, IsTrue, IsErr, IfOk, OnOk, OnErr};
+ghost use Rattle.std.specs.Prelude.{◌≡◌, ◌↔◌, ℕ, List, ◌++◌, IsTrue, IsErr, IfOk, OnOk, OnErr};
 ghost use Rattle.pgn_answers.specs.Savepoints.{Change, changes_of, live_names};
 ghost use Rattle.pgn_answers.specs.Answers.{answer, next_state, list_after};
 ghost use Rattle.pgn_pending.specs.Kept.{HasHistory, StandsFor};

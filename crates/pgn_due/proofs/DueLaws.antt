@@ -108,6 +108,7 @@ given db channels x (tx ∷ txs) =
     ∙ ap (λ (ds : List Delivery). ds ++ map (λ (one : ℕ × Delivery). one.1) (filter (is_for db channels) (sent_from (x + 1) txs))) (tx_gives db channels x tx)
     ∙ ap (λ (ds : List Delivery). delivered_by db channels x tx ++ ds) (given db channels (x + 1) txs)
 
+-- what is due from a mark up to a number, as those of the sent notifications between their places that are for the session
 pub due_is : (journal : List Tx) (mark to db : ℕ) (set : List (List ℕ)) → 3 ≤ mark → mark ≤ to → due journal mark to db set ≡ due_between db set (sent_in journal) (sent_before journal mark) (sent_before journal to)
 due_is journal mark to db set low le =
     sym (given db set mark (entries_between journal mark to)) ∙ ap (λ (ss : List (ℕ × Delivery)). map (λ (one : ℕ × Delivery). one.1) (filter (is_for db set) ss)) (sym (between_is journal mark to low le))
@@ -140,6 +141,7 @@ any_given db channels x (tx ∷ txs) =
 empty_between : {X : Type 0} (xs : List X) (a b : ℕ) → b ≤ a → drop a (take b xs) ≡ []
 empty_between xs a b le = drop_all a (take b xs) (omega (arith, le, length-take b xs))
 
+-- something between two numbers is due exactly where one of the sent notifications between their places is for the session
 pub any_is : (journal : List Tx) (mark to db : ℕ) (set : List (List ℕ))
     → list_any (is_due_to db set) (entries_between journal mark to) ≡ list_any (is_for db set) (drop (sent_before journal mark) (take (sent_before journal to) (sent_in journal)))
 any_is journal mark to db set = elim (cases_lt mark to) [
@@ -152,6 +154,7 @@ any_is journal mark to db set = elim (cases_lt mark to) [
       ∙ sym (ap (list_any (is_for db set)) (empty_between (sent_in journal) (sent_before journal mark) (sent_before journal to) less))
 ]
 
+-- no more is sent before a number than in the whole journal
 pub before_within : (journal : List Tx) (x : ℕ) → sent_before journal x ≤ length (sent_in journal)
 before_within journal x =
     omega (arith, ap length (cut journal (x - 3)), length-append (sent_in (take (x - 3) journal)) (sent_from (3 + length (take (x - 3) journal)) (drop (x - 3) journal)))

@@ -81,6 +81,7 @@ module _ {X : Type 0} (test : X → Bool) where
         | inr off ↦ subst (Found at (suc k)) (sym (places-no at x xs off)) (p.0, p.1, λ d. omega (arith, p.2 d))
       ]
 
+  -- the places of what passes the test rise
   pub places_rise : (xs : List X) (ps : List ℕ) → ps ≡ places test 0 xs → IsNonDecreasingBy (λ x. x) ps
   places_rise xs ps e = λ i j d le lt. let up = subst (Rise 0) (sym e) (rise 0 xs) in (up i j d le lt).1
 
@@ -117,6 +118,7 @@ module _ {X : Type 0} (test : X → Bool) where
         | inr off ↦ off
       ]
 
+  -- the first place from a number on at which the test passes, found in the list of such places
   pub first_at : (xs : List X) (ps : List ℕ) (from i : ℕ) (found : Option ℕ) → ps ≡ places test 0 xs → IsPartitionPoint (λ y. ltb y from ≡ true) (λ y. ltb y from ≡ false) ps i → slice_get ps i ≡ found → IsFirst test xs from found
   first_at xs ps from i None e point h = first_none xs ps from i e point h
   first_at xs ps from i (Some first) e point h = first_some xs ps from i first e point h
@@ -173,9 +175,11 @@ topic_of one = record { db = one.0; channel = one.1.note.channel }
 on_topic : (other : Topic) (one : ℕ × Delivery) → same_topic other (topic_of one) ≡ is_on other.db other.channel one
 on_topic other one = ap (λ (b : Bool). b && bytes_eq other.channel one.1.note.channel) (nat_eq_equiv.symm other.db one.0)
 
+-- no entries are the lists of nothing that was sent
 pub lists_first : (sent : List (ℕ × Delivery)) (entries : List (Topic × Vec ℕ)) → entries ≡ [] → AreLists (take 0 sent) entries
 lists_first sent entries e topic = ap (λ (es : List (Topic × Vec ℕ)). list_at es topic) e
 
+-- one more that is sent, its place put at the end of its topic's list
 pub lists_more : (sent : List (ℕ × Delivery)) (at : ℕ) (one : ℕ × Delivery) (topic : Topic) (old new : List (Topic × Vec ℕ)) → slice_get sent at ≡ Some one → topic ≡ topic_of one
     → ((other : Topic) → list_at new other ≡ cond (same_topic other topic) (list_at old other ++ at ∷ []) (list_at old other)) → AreLists (take at sent) old → AreLists (take (at + 1) sent) new
 lists_more sent at one topic old new e is more h other =

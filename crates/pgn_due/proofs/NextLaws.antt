@@ -14,11 +14,13 @@ use Rattle.pgn_due.proofs.PlaceLaws.{found, no_first, same_first}
 
 -- Channels.
 
+-- two tests that pass together pass each
 pub both : (a b : Bool) → (a && b) ≡ true → (a ≡ true) × (b ≡ true)
 both true true h = (refl, refl)
 both true false h = absurd (let no : ⊥ = cc in no)
 both false b h = absurd (let no : ⊥ = cc in no)
 
+-- two tests that pass each pass together
 pub two : (a b : Bool) → a ≡ true → b ≡ true → (a && b) ≡ true
 two true true p q = refl
 two true false p q = absurd (let no : ⊥ = cc in no)
@@ -28,9 +30,11 @@ either : (a b : Bool) → (a || b) ≡ true → (a ≡ true) ⊎ (b ≡ true)
 either true b h = inl refl
 either false b h = inr h
 
+-- bytes that the comparison finds equal are the same
 pub same_bytes : (a b : List ℕ) → bytes_eq a b ≡ true → a ≡ b
 same_bytes a b h = (bytes_eq-Decides a b).0 h
 
+-- the comparison finds the same bytes equal
 pub bytes_same : (a b : List ℕ) → a ≡ b → bytes_eq a b ≡ true
 bytes_same a b e = (bytes_eq-Decides a b).1 e
 
@@ -64,6 +68,7 @@ for_one db set channel (s ∷ ss) zero l p =
 for_one db set channel (s ∷ ss) (suc at) l p = for_one db set channel ss at l p
 
 module _ (db : ℕ) (set : List (List ℕ)) (sent : List (ℕ × Delivery)) where
+  -- what is sent at a place that is next is for the session
   pub next_goes : (from at : ℕ) → IsNext db set sent from at → passes (is_for db set) sent at ≡ true
   next_goes from at h = for_one db set h.channel sent at h.listens h.first.1
 
@@ -83,14 +88,17 @@ module _ (db : ℕ) (set : List (List ℕ)) (sent : List (ℕ × Delivery)) wher
 
 -- Places that are put in and taken out.
 
+-- a place is kept besides those that were, if there is one
 abbrev pub Adds : Option ℕ → (ℕ → Bool) → (ℕ → Bool) → Type 0
 Adds None old new = (at : ℕ) → new at ≡ old at
 Adds (Some one) old new = (at : ℕ) → new at ≡ cond (is_at (nat_cmp one) at) true (old at)
 
+-- a place is kept no more, if there is one
 abbrev pub Drops : Option ℕ → (ℕ → Bool) → (ℕ → Bool) → Type 0
 Drops None old new = (at : ℕ) → new at ≡ old at
 Drops (Some one) old new = (at : ℕ) → new at ≡ cond (is_at (nat_cmp one) at) false (old at)
 
+-- numbers that the comparison finds equal are the same
 pub at_is : (one at : ℕ) → is_at (nat_cmp one) at ≡ true → one ≡ at
 at_is one at h = grind (arith, h)
 

@@ -40,6 +40,7 @@ module _ {X : Type 0} (test : X → Bool) where
     | inr off ↦ found_later xs from at off (found_over xs span (from + 1) at (omega (arith, e)) h)
   ]
 
+  -- where the test passes at a place, there is a first one no later
   pub found : (xs : List X) (from at : ℕ) → from ≤ at → passes test xs at ≡ true → Found xs from at
   found xs from at le h = found_over xs (at - from) from at (omega (arith, le)) h
 
@@ -53,11 +54,13 @@ module _ {X : Type 0} (test : X → Bool) where
     ]
   ]
 
+  -- there is not both a first place and none
   pub no_first : (xs : List X) (from a : ℕ) → IsFirst test xs from None → IsFirst test xs from (Some a) → ⊥
   no_first xs from a none p = false≢true (sym (none a p.0) ∙ p.1)
 
   -- What stands between two places.
 
+  -- where the test passes at no place between two, nothing is filtered between them
   pub none_between : (xs : List X) (from end : ℕ) → ((at : ℕ) → from ≤ at → at < end → passes test xs at ≡ false) → filter test (drop from (take end xs)) ≡ []
   none_between [] zero zero h = refl
   none_between [] zero (suc end) h = refl
@@ -69,6 +72,7 @@ module _ {X : Type 0} (test : X → Bool) where
   none_between (x ∷ xs) (suc from) zero h = refl
   none_between (x ∷ xs) (suc from) (suc end) h = none_between xs from end (λ at ge lt. h (suc at) (omega (arith, ge)) (omega (arith, lt)))
 
+  -- the first place at which the test passes, and what is filtered behind it
   pub first_between : (xs : List X) (from end at : ℕ) (x : X) → from ≤ at → at < end → slice_get xs at ≡ Some x → passes test xs at ≡ true → ((q : ℕ) → from ≤ q → q < at → passes test xs q ≡ false)
       → filter test (drop from (take end xs)) ≡ x ∷ filter test (drop (at + 1) (take end xs))
   first_between [] from end at x ge lt is here h = absurd (false≢true here)
@@ -84,6 +88,7 @@ module _ {X : Type 0} (test : X → Bool) where
       first_between xs from end at x (omega (arith, ge)) (omega (arith, lt)) is here (λ q ge lt. h (suc q) (omega (arith, ge)) (omega (arith, lt)))
       ∙ ap (λ (n : ℕ). x ∷ filter test (drop n (y ∷ take end xs))) (let e : suc (at + 1) ≡ suc at + 1 = omega arith in e)
 
+  -- where the test passes at a place between two, something between them passes it
   pub any_between : (xs : List X) (from end at : ℕ) → from ≤ at → at < end → passes test xs at ≡ true → list_any test (drop from (take end xs)) ≡ true
   any_between [] from end at ge lt h = absurd (false≢true h)
   any_between (x ∷ xs) from zero at ge lt h = absurd (omega (arith, lt))
@@ -95,6 +100,7 @@ module _ {X : Type 0} (test : X → Bool) where
     | inr off ↦ grind (arith, off, any_between xs zero end at (omega arith) (omega (arith, lt)) h)
   ]
 
+  -- the test passes at a place exactly where what stands there passes it
   pub passes_at : (xs : List X) (at : ℕ) (x : X) → slice_get xs at ≡ Some x → passes test xs at ≡ test x
   passes_at [] zero x e = absurd (let no : ⊥ = cc in no)
   passes_at [] (suc at) x e = absurd (let no : ⊥ = cc in no)

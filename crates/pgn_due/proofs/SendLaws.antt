@@ -34,9 +34,11 @@ spot_shows journal tx at k note e f = ap (λ (o : Option Tx). shown_in (FIRST_XI
 abbrev pub Shown : List Tx → ℕ → Tx → List Note → List Spot → List Spot → Type 0
 Shown journal at tx notes old new = map (shown_at journal) new ≡ map (shown_at journal) old ++ map Some (map (shown_by (FIRST_XID + at) tx) notes)
 
+-- no notifications of a transaction are shown by the spots that were
 pub shown_none : (journal : List Tx) (at : ℕ) (tx : Tx) (spots : List Spot) → Shown journal at tx [] spots spots
 shown_none journal at tx spots = sym (append-nil (map (shown_at journal) spots))
 
+-- one notification more, with its spot at the end
 pub shown_more : (journal : List Tx) (at k : ℕ) (tx : Tx) (old spots new : List Spot) → k < length tx.notes → new ≡ spots ++ record { tx = at; note = k } ∷ [] → slice_get journal at ≡ Some tx
     → Shown journal at tx (take k tx.notes) old spots → Shown journal at tx (take (k + 1) tx.notes) old new
 shown_more journal at k tx old spots new lt push here h = by (slice_get tx.notes k) refl
@@ -66,6 +68,7 @@ sent_one journal k tx e =
     let long : length (take k journal) ≡ k = omega (arith, length-take k journal, slice_get_within journal k tx e) in
     ap sent_in (take_one journal k tx e) ∙ sent_push FIRST_XID (take k journal) tx ∙ ap (λ (n : ℕ). sent_in (take k journal) ++ sent_by (FIRST_XID + n) tx) long
 
+-- one transaction more: its notifications' spots show what the longer front of the journal sends
 pub sent_more : (journal : List Tx) (k : ℕ) (tx : Tx) (spots new : List Spot) → slice_get journal k ≡ Some tx → map (shown_at journal) new ≡ map (shown_at journal) spots ++ map Some (sent_by (FIRST_XID + k) tx)
     → map (shown_at journal) spots ≡ map Some (sent_in (take k journal)) → map (shown_at journal) new ≡ map Some (sent_in (take (k + 1) journal))
 sent_more journal k tx spots new e more h =
@@ -80,6 +83,7 @@ spots_long journal spots sent h = sym (length-map spots (shown_at journal)) ∙ 
 abbrev pub Begun : List Tx → List ℕ → ℕ → Type 0
 Begun journal starts n = (k : ℕ) → k < n → slice_index starts k ≡ length (sent_in (take k journal))
 
+-- one transaction more begins where those before it have sent so much
 pub begun_more : (journal : List Tx) (starts new : List ℕ) (n start : ℕ) → length starts ≡ n → new ≡ starts ++ start ∷ [] → start ≡ length (sent_in (take n journal)) → Begun journal starts n → Begun journal new (n + 1)
 begun_more journal starts new n start long push is h k lt = ap (λ (xs : List ℕ). slice_index xs k) push ∙ elim (cases_lt k n) as (λ _. slice_index (starts ++ start ∷ []) k ≡ length (sent_in (take k journal))) [
   | inl before ↦ get_or_append_left starts (start ∷ []) 0 k (omega (arith, before, long)) ∙ h k before
@@ -143,6 +147,7 @@ pub stands_here : (journal : List Tx) (spots : List Spot) (at : ℕ) (spot : Spo
 stands_here journal spots at spot h lt is =
     stands_at journal spots at spot h (slice_get_read spots (length spots) at spot refl (omega (arith, lt, spots_long journal spots (sent_in journal) h)) is)
 
+-- a spot is of a transaction of the journal
 pub sender_within : (journal : List Tx) (at : ℕ) (spot : Spot) → StandsAt journal at spot → spot.tx < length journal
 sender_within journal at spot s = slice_get_within journal spot.tx s.stands.tx s.stands.sender
 
@@ -153,9 +158,11 @@ pub note_there : (journal : List Tx) (at : ℕ) (spot : Spot) (d : Tx) (notes : 
 note_there journal at spot d notes s these =
     ap (λ (ns : List Note). slice_get ns spot.note) these ∙ ap (λ (tx : Tx). slice_get tx.notes spot.note) (sym (sender_is journal at spot d s)) ∙ s.stands.has
 
+-- a spot is of one of its transaction's notifications
 pub note_within : (journal : List Tx) (at : ℕ) (spot : Spot) (d : Tx) (notes : List Note) (s : StandsAt journal at spot) → notes ≡ (get_or journal spot.tx d).notes → spot.note < length notes
 note_within journal at spot d notes s these = slice_get_within notes spot.note s.stands.note (note_there journal at spot d notes s these)
 
+-- what a spot shows is what was sent at its place
 pub shown_there : (journal : List Tx) (at : ℕ) (spot : Spot) (d : Tx) (notes : List Note) (note : Note) (s : StandsAt journal at spot) → notes ≡ (get_or journal spot.tx d).notes → note ≡ get_or notes spot.note note
     → slice_get (sent_in journal) at ≡ Some (shown_by (FIRST_XID + spot.tx) (get_or journal spot.tx d) note)
 shown_there journal at spot d notes note s these that =

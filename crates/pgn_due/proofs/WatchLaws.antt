@@ -25,15 +25,19 @@ use Rattle.pgn_due.proofs.PlaceLaws.{any_between, any_of_none, first_between, no
 use Rattle.pgn_due.proofs.NextLaws.{Adds, Drops, at_is, bytes_same, both, less_next, more_next, next_goes, none_before, none_next, passed_next, past_next, same_bytes, two}
 use Rattle.pgn_due.proofs.DueLaws.{any_is, before_grows, due_is}
 
+-- the journal that a watch goes over
 abbrev pub journal_of : Watch → List Tx
 journal_of watch = watch.feed.now.sends.journal.now
 
+-- all that is sent in it
 abbrev pub sent_of : Watch → List (ℕ × Delivery)
 sent_of watch = sent_in (journal_of watch)
 
+-- a place is one of those that a watch keeps
 abbrev pub keeps : Watch → ℕ → Bool
 keeps watch = contains nat_cmp watch.next
 
+-- a lower bound of the kept places is no greater than any of them
 pub least_is : (next : BTreeSet ℕ) (first : ℕ) → IsLowerBound nat_cmp next first → (at : ℕ) → contains nat_cmp next at ≡ true → first ≤ at
 least_is next first least at on = elim (cases_lt at first) [
   | inr le ↦ le
@@ -44,6 +48,7 @@ least_is next first least at on = elim (cases_lt at first) [
 
 -- The channels change.
 
+-- the first place on a channel is kept besides: the watch is that of a set with the channel
 pub put_one : (old new : Watch) (from : ℕ) (channel : List ℕ) (one : Option ℕ) → IsFirst (is_on old.db channel) (sent_of old) from one → new.feed ≡ old.feed → new.db ≡ old.db → Adds one (keeps old) (keeps new)
     → Changes from old (IsMore channel) new
 put_one old new from channel one first feed db adds = record {
@@ -52,6 +57,7 @@ put_one old new from channel one first feed db adds = record {
   next = λ set h other more. more_next old.db (sent_of old) from (keeps old) (keeps new) channel set other one first adds more h;
 }
 
+-- the first place on a channel is kept no more: the watch is that of a set without it
 pub took_one : (old new : Watch) (from : ℕ) (channel : List ℕ) (one : Option ℕ) → IsFirst (is_on old.db channel) (sent_of old) from one → new.feed ≡ old.feed → new.db ≡ old.db → Drops one (keeps old) (keeps new)
     → Changes from old (IsLess channel) new
 took_one old new from channel one first feed db drops = record {
@@ -119,6 +125,7 @@ is_less channel (one ∷ set) = λ other. elim (cases_Bool (bytes_eq channel one
       ∙ ap (λ (b : Bool). bytes_eq other one || b) rest ∙ less_other other channel one set apart
 ]
 
+-- a watch with a channel more is that after LISTEN
 pub listened : (old new : Watch) (from : ℕ) (channel : List ℕ) → Changes from old (IsMore channel) new → Changes from old (λ set other. other ≡ after_action set (Listen channel)) new
 listened old new from channel h = record {
   feed = h.feed;
@@ -126,6 +133,7 @@ listened old new from channel h = record {
   next = λ set are other e. subst (λ (s : List (List ℕ)). AreNext old.db s (sent_of old) from (keeps new)) (sym e) (h.next set are (after_action set (Listen channel)) (is_more set channel));
 }
 
+-- a watch with a channel less is that after UNLISTEN
 pub unlistened : (old new : Watch) (from : ℕ) (channel : List ℕ) → Changes from old (IsLess channel) new → Changes from old (λ set other. other ≡ after_action set (Unlisten channel)) new
 unlistened old new from channel h = record {
   feed = h.feed;
@@ -140,9 +148,11 @@ nil_of_none (k ∷ keys) none = absurd (false≢true (none (omega arith)))
 keeps_none : (next : BTreeSet ℕ) → next.keys ≡ [] → (at : ℕ) → contains nat_cmp next at ≡ false
 keeps_none next e at = grind (arith, e)
 
+-- where no place is kept, none is before an end
 pub keeps_nothing : (next : BTreeSet ℕ) (end : ℕ) → (0 < length next.keys → false ≡ true) → (at : ℕ) → contains nat_cmp next at ≡ true → end ≤ at
 keeps_nothing next end none at on = absurd (false≢true (sym (keeps_none next (nil_of_none next.keys none) at) ∙ on))
 
+-- a watch that keeps no place is that after UNLISTEN *
 pub unlistened_all : (old new : Watch) (from : ℕ) → new.feed ≡ old.feed → new.db ≡ old.db → new.next.keys ≡ [] → Changes from old (λ set other. other ≡ after_action set UnlistenAll) new
 unlistened_all old new from feed db none = record {
   feed = feed;
@@ -176,6 +186,7 @@ module _ (db : ℕ) (set : List (List ℕ)) (sent : List (ℕ × Delivery)) (fro
         absurd (false≢true (sym (any_of_none (is_for db set) (drop from (take end sent)) empty) ∙ any_between (is_for db set) sent from end at n.first.0 lt (next_goes db set sent from at n)))
   ]
 
+-- no kept place is before an end exactly where nothing is due up to it
 pub finds_by : (journal : List Tx) (db mark to : ℕ) (set : List (List ℕ)) (watch : Watch) (end : ℕ) (b : Bool) → IsWatch journal db set (Some mark) watch → end ≡ sent_before (journal_of watch) to
     → (b ≡ true) ↔ ((at : ℕ) → keeps watch at ≡ true → end ≤ at) → (b ≡ true) ↔ (list_any (is_due_to db set) (entries_between journal mark to) ≡ false)
 finds_by journal db mark to set watch end b h is test =
@@ -196,6 +207,7 @@ finds_by journal db mark to set watch end b h is test =
 
 -- One delivery.
 
+-- where no kept place is before the end, nothing passes
 pub pass_past : (end : ℕ) (old : Watch) (d : Delivery) → ((at : ℕ) → keeps old at ≡ true → end ≤ at) → Passes end old d false old
 pass_past end old d past = λ from le. record {
   feed = refl;
@@ -205,6 +217,7 @@ pass_past end old d past = λ from le. record {
       let no : ⊥ = cc in no;
 }
 
+-- what differs from what is next does not pass
 pub pass_other : (end place : ℕ) (old : Watch) (d : Delivery) (s : ℕ × Delivery) (b : Bool) → keeps old place ≡ true → ((at : ℕ) → keeps old at ≡ true → place ≤ at) → place < end → slice_get (sent_of old) place ≡ Some s
     → (b ≡ true) ↔ (d ≡ s.1) → b ≡ false → Passes end old d false old
 pass_other end place old d s b on least lt e test off = λ from le. record {
@@ -263,6 +276,7 @@ module _ (place : ℕ) (one : Option ℕ) (old mid new : ℕ → Bool) where
       comes_last-by (Some next) other adds drops = λ at. drops at ∙ ap (λ (b : Bool). cond (is_at (nat_cmp place) at) false b) (adds at) ∙ turned (is_at (nat_cmp place) at) (is_at (nat_cmp next) at) (old at)
           (λ here there. other (ap (λ (n : ℕ). Some n) (at_is next at there ∙ sym (at_is place at here))))
 
+-- what is next passes, and the channel's next place is kept for its own
 pub pass_next : (end place : ℕ) (old new : Watch) (d : Delivery) (s : ℕ × Delivery) (b : Bool) (one : Option ℕ) (mid : ℕ → Bool) → keeps old place ≡ true → ((at : ℕ) → keeps old at ≡ true → place ≤ at) → place < end
     → slice_get (sent_of old) place ≡ Some s → (b ≡ true) ↔ (d ≡ s.1) → b ≡ true → IsFirst (is_on s.0 s.1.note.channel) (sent_of old) (place + 1) one → new.feed ≡ old.feed → new.db ≡ old.db
     → Adds one (keeps old) mid → Drops (Some place) mid (keeps new) → Passes end old d true new
@@ -281,9 +295,11 @@ pass_next end place old new d s b one mid on least lt e test holds first feed db
 
 -- Deliveries one after another.
 
+-- a watch after notifications that were received, one by one
 abbrev pub HasTaken : ℕ → Watch → List Delivery → Watch → Type 0
 HasTaken end old got now = (from : ℕ) → from ≤ end → GoesOn old from now (λ sent set. HasPassed old.db set sent from end got (keeps now))
 
+-- before the first one a watch is as it was
 pub taken_first : (end : ℕ) (old : Watch) → HasTaken end old [] old
 taken_first end old = λ from le. record {
   feed = refl;
@@ -298,6 +314,7 @@ same_watch P old new feed db h = subst (λ (d : ℕ). P (sent_of old) d) db (sub
 watch_same : (P : List (ℕ × Delivery) → ℕ → Type 0) (old new : Watch) → new.feed ≡ old.feed → new.db ≡ old.db → P (sent_of old) old.db → P (sent_of new) new.db
 watch_same P old new feed db h = subst (λ (d : ℕ). P (sent_of new) d) (sym db) (subst (λ (f : _). P (sent_in f.now.sends.journal.now) old.db) (sym feed) h)
 
+-- after one more that passes
 pub taken_more : (end : ℕ) (old mid new : Watch) (got : List Delivery) (d : Delivery) → HasTaken end old got mid → Passes end mid d true new → HasTaken end old (got ++ d ∷ []) new
 taken_more end old mid new got d h passes = λ from le.
     let a = h from le in
@@ -338,6 +355,7 @@ has_read journal db set mark to end got old now le h is taken =
           (subst (λ (j : List Tx). HasPassed old.db set (sent_in j) (sent_before journal mark) (sent_before journal to) got (keeps now)) h.over (a.next set are));
     }
 
+-- a watch that took all it got is at the end exactly where that was all that is due
 pub takes_end : (journal : List Tx) (db mark : ℕ) (set : List (List ℕ)) (to end : ℕ) (got : List Delivery) (old now : Watch) (b : Bool) → end ≡ sent_before (journal_of old) to → HasTaken end old got now
     → (b ≡ true) ↔ ((at : ℕ) → keeps now at ≡ true → end ≤ at) → 3 ≤ mark → mark ≤ to → IsWatch journal db set (Some mark) old
     → ((b ≡ true) ↔ (got ≡ due journal mark to db set)) × (b ≡ true → IsWatch journal db set (Some to) now)
@@ -362,6 +380,7 @@ takes_end journal db mark set to end got old now b is taken test low le h =
       },
     )
 
+-- what was got is not what is due, where one of it does not pass
 pub takes_off : (journal : List Tx) (db mark : ℕ) (set : List (List ℕ)) (to end : ℕ) (got : List Delivery) (i : ℕ) (d : Delivery) (old mid new : Watch) → end ≡ sent_before (journal_of old) to → HasTaken end old (take i got) mid
     → Passes end mid d false new → i < length got → d ≡ get_or got i d → 3 ≤ mark → mark ≤ to → IsWatch journal db set (Some mark) old
     → ((false ≡ true) ↔ (got ≡ due journal mark to db set)) × (false ≡ true → IsWatch journal db set (Some to) new)
@@ -390,6 +409,7 @@ takes_off journal db mark set to end got i d old mid new is taken off lt its low
 
 -- Actions one after another.
 
+-- a watch after actions, one by one
 abbrev pub HasActed : ℕ → Watch → List Action → Watch → Type 0
 HasActed from old actions now = Changes from old (λ set other. other ≡ applied set actions) now
 
@@ -397,6 +417,7 @@ applied-push : (set : List (List ℕ)) (actions : List Action) (action : Action)
 applied-push set [] action = refl
 applied-push set (a ∷ actions) action = applied-push (after_action set a) actions action
 
+-- after one action more
 pub acted_more : (from : ℕ) (old mid new : Watch) (actions : List Action) (action : Action) → HasActed from old actions mid → Changes from mid (λ set other. other ≡ after_action set action) new → HasActed from old (actions ++ action ∷ []) new
 acted_more from old mid new actions action h one = record {
   feed = one.feed ∙ h.feed;
@@ -408,6 +429,7 @@ acted_more from old mid new actions action h one = record {
       (same_watch (λ sent base. AreNext base (after_action (applied set actions) action) sent from (keeps new)) old mid h.feed h.db at_new);
 }
 
+-- a watch after the actions of a listener is that of its set after them
 pub acts_at : (journal : List Tx) (db mark : ℕ) (set : List (List ℕ)) (from : ℕ) (old new : Watch) (actions : List Action) → from ≡ sent_before (journal_of old) mark → HasActed from old actions new → IsWatch journal db set (Some mark) old
     → IsWatch journal db (applied set actions) (Some mark) new
 acts_at journal db mark set from old new actions is h w =
@@ -423,11 +445,9 @@ acts_at journal db mark set from old new actions is h w =
           (subst (λ (d : ℕ). AreNext d (applied set actions) (sent_in journal) from (keeps new)) w.within (subst (λ (j : List Tx). AreNext old.db (applied set actions) (sent_in j) from (keeps new)) w.over done));
     }
 
-pub acts_not : (journal : List Tx) (db : ℕ) (set other : List (List ℕ)) (old : Watch) → IsWatch journal db set None old → IsWatch journal db other None old
-acts_not journal db set other old w = record { over = w.over; within = w.within; next = tt }
-
 -- A session that begins to read.
 
+-- a watch that begins to read from a place on, over these channels
 pub record HasBegun (from : ℕ) (old : Watch) (names : List (List ℕ)) (now : Watch) : Type 0 where
   pub feed : now.feed ≡ old.feed
   pub db : now.db ≡ old.db
@@ -436,6 +456,7 @@ pub record HasBegun (from : ℕ) (old : Watch) (names : List (List ℕ)) (now : 
 more_name : (names : List (List ℕ)) (name : List ℕ) → IsMore name names (names ++ name ∷ [])
 more_name names name = λ other. list_any-append (bytes_eq other) names (name ∷ []) ∙ or_assoc (has_name names other) (bytes_eq other name)
 
+-- over one channel more
 pub begun_more : (from : ℕ) (old mid new : Watch) (names : List (List ℕ)) (name : List ℕ) → HasBegun from old names mid → Changes from mid (IsMore name) new → HasBegun from old (names ++ name ∷ []) new
 begun_more from old mid new names name h one = record {
   feed = one.feed ∙ h.feed;
@@ -444,6 +465,7 @@ begun_more from old mid new names name h one = record {
       (one.next names (watch_same (λ sent base. AreNext base names sent from (keeps mid)) old mid h.feed h.db h.next) (names ++ name ∷ []) (more_name names name));
 }
 
+-- a watch that begins over a set is that of a listener with this set
 pub begins_at : (journal : List Tx) (db mark : ℕ) (before set : List (List ℕ)) (was : Option ℕ) (from : ℕ) (old new : Watch) → from ≡ sent_before (journal_of old) mark → HasBegun from old set new → IsWatch journal db before was old
     → IsWatch journal db set (Some mark) new
 begins_at journal db mark before set was from old new is h w =

@@ -48,7 +48,8 @@ impl<'a> Feed<'a> {
         channel: &Name,
         from: usize,
     ) -> Result<Option<usize>, AllocError>
-        ensures { IfOk result (IsFirst (is_on db channel.now) (sent_in self.now.sends.journal.now) from) }
+        ensures { IfOk result
+            (IsFirst (is_on db channel.now) (sent_in self.now.sends.journal.now) from) }
     {
         first_of(self.sends.alloc(), &self.lists, db, channel, from)
     }
@@ -56,7 +57,10 @@ impl<'a> Feed<'a> {
     /// The place of the next notification on the channel of the one in this place.
     pub(crate) fn next(&self, at: usize) -> Option<usize>
         requires { at < length (sent_in self.now.sends.journal.now) }
-        ensures { (one : ℕ × Delivery) → slice_get (sent_in self.now.sends.journal.now) at ≡ Some one → IsFirst (is_on one.0 one.1.note.channel) (sent_in self.now.sends.journal.now) (at + 1) result }
+        ensures { (one : ℕ × Delivery)
+            → slice_get (sent_in self.now.sends.journal.now) at ≡ Some one
+            → IsFirst (is_on one.0 one.1.note.channel)
+            (sent_in self.now.sends.journal.now) (at + 1) result }
     {
         self.after[at]
     }
@@ -70,7 +74,9 @@ fn first_of(
     channel: &Name,
     from: usize,
 ) -> Result<Option<usize>, AllocError>
-    ensures { IfOk result (λ found. (sent : List (ℕ × Delivery)) → AreLists sent lists.now.entries → IsFirst (is_on db channel.now) sent from found) }
+    ensures { IfOk result
+        (λ found. (sent : List (ℕ × Delivery)) → AreLists sent lists.now.entries
+        → IsFirst (is_on db channel.now) sent from found) }
 {
     let topic = Topic::new(alloc, db, channel)?;
     match lists.get(&topic) {
@@ -82,7 +88,8 @@ fn first_of(
 // For each notification the place of the next on its channel.
 fn after_of(alloc: Global, sends: &Sends, lists: &Lists) -> Result<Vec<Option<usize>>, AllocError>
     requires { AreLists (sent_in sends.now.journal.now) lists.now.entries }
-    ensures counted { IfOk result (λ after. length after.items ≡ length (sent_in sends.now.journal.now)) }
+    ensures counted { IfOk result
+        (λ after. length after.items ≡ length (sent_in sends.now.journal.now)) }
     ensures follow { IfOk result (λ after. AreAfter (sent_in sends.now.journal.now) after.items) }
 {
     let mut after = Vec::with_capacity(alloc, sends.len())?;

@@ -47,7 +47,10 @@ pub fn lists_of(alloc: Global, seed: Seed, sends: &Sends) -> Result<Lists, Alloc
 
 // Puts a place at the end of a channel's.
 fn put(alloc: Global, lists: &mut Lists, topic: Topic, at: usize) -> Result<(), AllocError>
-    ensures { OnOk result ((other : Topic) → list_at lists.new.entries other ≡ cond (same_topic other topic) (list_at lists.old.entries other ++ at ∷ []) (list_at lists.old.entries other)) }
+    ensures { OnOk result
+        ((other : Topic) → list_at lists.new.entries other ≡
+        cond (same_topic other topic) (list_at lists.old.entries other ++ at ∷ [])
+        (list_at lists.old.entries other)) }
 {
     if let Some(list) = lists.get_mut(&topic) {
         list.push(at)?;
@@ -61,7 +64,8 @@ fn put(alloc: Global, lists: &mut Lists, topic: Topic, at: usize) -> Result<(), 
 
 /// The first place of a list that is not below a given one.
 pub fn first_in(list: &[usize], from: usize) -> Option<usize>
-    ensures { (test : ℕ × Delivery → Bool) (sent : List (ℕ × Delivery)) → list.now ≡ places test 0 sent → IsFirst test sent from result }
+    ensures { (test : ℕ × Delivery → Bool) (sent : List (ℕ × Delivery))
+        → list.now ≡ places test 0 sent → IsFirst test sent from result }
 {
     let at = list.partition_point(|place| *place < from);
     match list.get(at) {

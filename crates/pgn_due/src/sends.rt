@@ -1,4 +1,4 @@
-ghost use Rattle.std.specs.Prelude.{◌≡◌, ◌↔◌, ◌++◌, ◌+◌, ◌<◌, ◌≤◌, ℕ, List, Some, true, length, map, slice_get, IfOk, OnOk};
+ghost use Rattle.std.specs.Prelude.{◌≡◌, ◌↔◌, ◌++◌, ◌+◌, ◌<◌, ◌≤◌, List, Some, true, length, map, slice_get, IfOk, OnOk};
 ghost use Rattle.pgn_journal.specs.declared.tx.Tx.{Tx};
 ghost use Rattle.pgn_journal.specs.Due.{delivery};
 ghost use Rattle.pgn_due.specs.Sent.{AreStarts, sent_before, sent_by, sent_in, shown, shown_at};

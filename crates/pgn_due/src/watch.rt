@@ -1,4 +1,4 @@
-ghost use Rattle.std.specs.Prelude.{◌≡◌, ◌↔◌, ◌≤◌, ◌<◌, ℕ, true, false, List, Option, None, Some, IfOk, OnOk, [], length};
+ghost use Rattle.std.specs.Prelude.{◌≡◌, ◌↔◌, ◌≤◌, ℕ, true, false, List, Option, None, Some, IfOk, OnOk, [], length};
 ghost use Rattle.std.specs.BTreeSet.{contains};
 ghost use Rattle.std.specs.Ordering.{nat_cmp};
 ghost use Rattle.std.specs.List.{list_any};
@@ -36,7 +36,10 @@ impl<'a> Watch<'a> {
 
     /// The session reads from a mark on, and listens on the channels of a set. One that becomes a listener has an empty set as yet.
     pub fn begin(&mut self, set: &ListenSet, mark: Xid) -> Result<(), AllocError>
-        ensures { OnOk result ((journal : List Tx) (db : ℕ) (before : List (List ℕ)) (was : Option ℕ) → IsWatch journal db before was self.old → IsWatch journal db set.now.channels (Some mark) self.new) }
+        ensures { OnOk result
+            ((journal : List Tx) (db : ℕ) (before : List (List ℕ)) (was : Option ℕ)
+            → IsWatch journal db before was self.old
+            → IsWatch journal db set.now.channels (Some mark) self.new) }
     {
         let names = set.names(self.feed.sends.alloc())?;
         let from = self.feed.sends.start(mark.get());
@@ -49,7 +52,10 @@ impl<'a> Watch<'a> {
 
     /// Actions change the set, at a mark.
     pub fn act(&mut self, mark: &Option<Xid>, actions: &[Action]) -> Result<(), AllocError>
-        ensures { OnOk result ((journal : List Tx) (db : ℕ) (set : List (List ℕ)) → IsWatch journal db set mark.now self.old → IsWatch journal db (applied set actions.now) mark.now self.new) }
+        ensures { OnOk result
+            ((journal : List Tx) (db : ℕ) (set : List (List ℕ))
+            → IsWatch journal db set mark.now self.old
+            → IsWatch journal db (applied set actions.now) mark.now self.new) }
     {
         let Some(mark) = mark else {
             return Ok(());
@@ -64,7 +70,8 @@ impl<'a> Watch<'a> {
     // An action does.
     #[tactic(auto, using(crate::proofs::WatchLaws::unlistened_all))]
     fn follow(&mut self, action: &Action, from: usize) -> Result<(), AllocError>
-        ensures { OnOk result (Changes from self.old (λ set other. other ≡ after_action set action.now) self.new) }
+        ensures { OnOk result
+            (Changes from self.old (λ set other. other ≡ after_action set action.now) self.new) }
     {
         match action {
             Action::Listen(name) => self.put(name, from),
@@ -99,7 +106,8 @@ impl<'a> Watch<'a> {
 
     /// The session listens on no channel any more.
     pub fn clear(&mut self)
-        ensures { (journal : List Tx) (db : ℕ) (set : List (List ℕ)) (mark : Option ℕ) → IsWatch journal db set mark self.old → IsWatch journal db [] mark self.new }
+        ensures { (journal : List Tx) (db : ℕ) (set : List (List ℕ)) (mark : Option ℕ)
+            → IsWatch journal db set mark self.old → IsWatch journal db [] mark self.new }
     {
         self.next.clear();
     }
@@ -107,15 +115,18 @@ impl<'a> Watch<'a> {
     /// Nothing is due from the mark up to a number.
     pub fn finds_nothing(&self, to: u32) -> bool
         requires { FIRST_XID ≤ to }
-        ensures { (journal : List Tx) (db mark : ℕ) (set : List (List ℕ)) → IsWatch journal db set (Some mark) self.now
-            → (result ≡ true) ↔ (list_any (is_due_to db set) (entries_between journal mark to) ≡ false) }
+        ensures { (journal : List Tx) (db mark : ℕ) (set : List (List ℕ))
+            → IsWatch journal db set (Some mark) self.now
+            → (result ≡ true) ↔
+            (list_any (is_due_to db set) (entries_between journal mark to) ≡ false) }
     {
         self.is_past(self.feed.sends.start(to))
     }
 
     // Nothing is due before a place.
     fn is_past(&self, end: usize) -> bool
-        ensures { (result ≡ true) ↔ ((at : ℕ) → contains nat_cmp self.now.next at ≡ true → end ≤ at) }
+        ensures { (result ≡ true) ↔
+            ((at : ℕ) → contains nat_cmp self.now.next at ≡ true → end ≤ at) }
     {
         match self.next.first() {
             Some(at) => *at >= end,
@@ -126,8 +137,11 @@ impl<'a> Watch<'a> {
     /// A read up to a number received what was due; then the session has read up to there. Where it did not, nothing is said of the watch
     /// any more.
     pub fn takes(&mut self, to: Xid, got: &[Delivery]) -> Result<bool, AllocError>
-        ensures { IfOk result (λ taken. (journal : List Tx) (db mark : ℕ) (set : List (List ℕ)) → 3 ≤ mark → mark ≤ to → IsWatch journal db set (Some mark) self.old
-            → ((taken ≡ true) ↔ (got.now ≡ due journal mark to db set)) × (taken ≡ true → IsWatch journal db set (Some to) self.new)) }
+        ensures { IfOk result
+            (λ taken. (journal : List Tx) (db mark : ℕ) (set : List (List ℕ)) → 3 ≤ mark → mark ≤ to
+            → IsWatch journal db set (Some mark) self.old
+            → ((taken ≡ true) ↔ (got.now ≡ due journal mark to db set))
+            × (taken ≡ true → IsWatch journal db set (Some to) self.new)) }
     {
         let end = self.feed.sends.start(to.get());
         for delivery in got {

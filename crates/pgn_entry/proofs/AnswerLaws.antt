@@ -203,6 +203,7 @@ pub record IsExact (format : Format) (bytes : List ℕ) (answer : Result EntryVi
   pub filler : (len xid pid : ℕ) → (told answer ≡ AFiller len xid pid) ↔ BeginsFiller format len xid pid bytes
   pub refused : (fault : EntryFault) → (answer ≡ Err fault) ↔ IsRefused format fault bytes
 
+-- an answer that reads the bytes as the format says is the exact one
 pub exact : (format : Format) (bytes : List ℕ) (answer : Result EntryView EntryFault) → ReadsAs format bytes (told answer) → IsExact format bytes answer
 exact format bytes answer r = record {
   entry = λ len note db xid pid. answers format bytes answer r (AnEntry len note db xid pid);

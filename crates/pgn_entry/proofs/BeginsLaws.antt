@@ -100,12 +100,14 @@ joined_parts format len db xid pid middle rest low fits e =
       whole = body_after format head middle rest len (length-header format len db xid pid) e states.stated_len;
     }
 
+-- bytes that begin with a notification's entry have its head, its body and a rest as their parts
 pub parts_of_entry : (format : Format) (note : Note) (db xid pid : ℕ) (bytes : List ℕ) → BeginsEntry format note db xid pid bytes → Parts format (entry_length format note) db xid pid (entry_body format note) bytes
 parts_of_entry format note db xid pid bytes h =
     let fits = (entry_lengths format note h.valid).fits in
     subst (Parts format (entry_length format note) db xid pid (entry_body format note)) (sym (h.spelling ∙ entry_split format note db xid pid h.rest))
     (joined_parts format (entry_length format note) db xid pid (entry_body format note) h.rest (omega arith) h.numbers (sym (length-entry_body format note)))
 
+-- bytes that begin with a filler have its head, zeros and a rest as their parts
 pub parts_of_filler : (format : Format) (len xid pid : ℕ) (bytes : List ℕ) → BeginsFiller format len xid pid bytes → Parts format len 0 xid pid (replicate (len - header_bytes format) 0) bytes
 parts_of_filler format len xid pid bytes h =
     let high = h.valid.fits in

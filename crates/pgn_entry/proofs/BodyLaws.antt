@@ -49,12 +49,14 @@ place_at text rest none =
 pub before_zero : (text rest : List ℕ) → ¬ (Contains text 0) → before_first is_zero (text ++ 0 ∷ rest) ≡ text
 before_zero text rest none = ap (λ (n : ℕ). take n (text ++ 0 ∷ rest)) (place_at text rest none) ∙ take_at text (0 ∷ rest) (length text) refl
 
+-- behind the first zero byte of a text, one without zero and a rest comes the rest
 pub after_zero : (text rest : List ℕ) → ¬ (Contains text 0) → after_first is_zero (text ++ 0 ∷ rest) ≡ rest
 after_zero text rest none =
     ap (λ (n : ℕ). drop (n + 1) (text ++ 0 ∷ rest)) (place_at text rest none)
     ∙ ap (drop (length text + 1)) (sym (append_assoc text (0 ∷ []) rest))
     ∙ drop_at (text ++ 0 ∷ []) rest (length text + 1) (length-append text (0 ∷ []))
 
+-- a text without zero and the zero behind it add one to the zeros of the rest
 pub count_zero : (text rest : List ℕ) → ¬ (Contains text 0) → count_by is_zero (text ++ 0 ∷ rest) ≡ 1 + count_by is_zero rest
 count_zero text rest none =
     count_split (text ++ 0 ∷ rest) (omega (arith, place_at text rest none, length-append text (0 ∷ rest)))

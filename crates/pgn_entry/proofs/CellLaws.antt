@@ -42,16 +42,19 @@ unfolding header
 head_cell_0 One len db xid pid k e small = cell_of len k 0 (header One len db xid pid) e (sym (from_le_bytes-to_le_bytes_4 len small))
 head_cell_0 Two len db xid pid k e small = cell_of len k 0 (header Two len db xid pid) e (sym (from_le_bytes-to_le_bytes_4 len small))
 
+-- cell 1 of a head is the database
 pub head_cell_1 : (format : Format) (len db xid pid k : ℕ) → k ≡ 1 → db < 2 ^ 32 → db ≡ cell_at k (header format len db xid pid)
 unfolding header
 head_cell_1 One len db xid pid k e small = cell_of db k 1 (header One len db xid pid) e (sym (from_le_bytes-to_le_bytes_4 db small))
 head_cell_1 Two len db xid pid k e small = cell_of db k 1 (header Two len db xid pid) e (sym (from_le_bytes-to_le_bytes_4 db small))
 
+-- cell 2 is the transaction's number
 pub head_cell_2 : (format : Format) (len db xid pid k : ℕ) → k ≡ 2 → xid < 2 ^ 32 → xid ≡ cell_at k (header format len db xid pid)
 unfolding header
 head_cell_2 One len db xid pid k e small = cell_of xid k 2 (header One len db xid pid) e (sym (from_le_bytes-to_le_bytes_4 xid small))
 head_cell_2 Two len db xid pid k e small = cell_of xid k 2 (header Two len db xid pid) e (sym (from_le_bytes-to_le_bytes_4 xid small))
 
+-- the cell for the process number has it, in both formats
 pub head_cell_pid : (format : Format) (len db xid pid k : ℕ) → k ≡ pid_place format → pid < 2 ^ 32 → pid ≡ cell_at k (header format len db xid pid)
 unfolding header
 head_cell_pid One len db xid pid k e small = cell_of pid k 3 (header One len db xid pid) e (sym (from_le_bytes-to_le_bytes_4 pid small))
@@ -71,6 +74,7 @@ upper_zero : (len db xid pid : ℕ) → xid < 2 ^ 32 → 0 ≡ cell_at 3 (header
 unfolding header
 upper_zero len db xid pid small = omega (arith, small)
 
+-- every other cell of a head is zero
 pub head_cell_else : (format : Format) (len db xid pid k : ℕ) → 4 * k < header_bytes format → (k ≡ 0 → ⊥) → (k ≡ 1 → ⊥) → (k ≡ 2 → ⊥) → (k ≡ pid_place format → ⊥) → xid < 2 ^ 32
     → 0 ≡ cell_at k (header format len db xid pid)
 unfolding header
@@ -93,6 +97,7 @@ front_cell format len db xid pid k rest within =
     let head : List ℕ = header format len db xid pid in
     same_four head (head ++ rest) (4 * k) (4 * k) (λ i h. sym (left_at head rest (4 * k + i) (omega (arith, length-header format len db xid pid, head_room format k i within h))))
 
+-- the first cells of a spelled entry are those of its head
 pub entry_cell_head : (format : Format) (note : Note) (db xid pid k : ℕ) → 4 * k < header_bytes format → cell_at k (header format (entry_length format note) db xid pid) ≡ cell_at k (spelled format note db xid pid)
 unfolding spelled
 entry_cell_head format note db xid pid k within =
@@ -119,6 +124,7 @@ spelled_get format note db xid pid i =
     subst (λ (n : ℕ). get_or (head ++ texts) (n + i) 0 ≡ get_or texts i 0) (length-header format (entry_length format note) db xid pid) (get_or-append-add head texts i 0) in
     one ∙ ap (λ (l : List ℕ). get_or l at 0) (append_assoc head front last) ∙ two ∙ ap (λ (l : List ℕ). get_or l i 0) (sym (append_assoc front note.payload (0 ∷ []))) ∙ padded_get (front ++ note.payload) 1 i
 
+-- behind its head a cell of a spelled entry is made of the channel, a zero and the payload
 pub entry_cell_text : (format : Format) (note : Note) (db xid pid k at : ℕ) → 4 * k ≡ header_bytes format + at
     → from_le_bytes w32 (drop at ((note.channel ++ 0 ∷ []) ++ note.payload)) ≡ cell_at k (spelled format note db xid pid)
 entry_cell_text format note db xid pid k at e =
@@ -133,6 +139,7 @@ pub filler_cell_head : (format : Format) (len xid pid k : ℕ) → 4 * k < heade
 unfolding filler
 filler_cell_head format len xid pid k within = front_cell format len 0 xid pid k (replicate (len - length (header format len 0 xid pid)) 0) within
 
+-- behind its head each cell of a filler is zero
 pub filler_cell_rest : (format : Format) (len xid pid k : ℕ) → header_bytes format ≤ 4 * k → 0 ≡ cell_at k (filler format len xid pid)
 unfolding filler
 filler_cell_rest format len xid pid k past =

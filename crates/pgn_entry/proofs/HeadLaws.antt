@@ -83,6 +83,7 @@ pub record States (format : Format) (len db xid pid : ℕ) (bytes : List ℕ) : 
   pub stated_pid : stated_pid format bytes ≡ pid
   pub clean : IsAllZero (head_padding format bytes)
 
+-- a head of numbers that fit states these numbers, whatever stands behind it
 pub head_states : (format : Format) (len db xid pid : ℕ) (rest : List ℕ) → len < 2 ^ 32 → IsHead format db xid pid → States format len db xid pid (header format len db xid pid ++ rest)
 unfolding number_at long_at header
 head_states One len db xid pid rest low fits = record {
@@ -127,6 +128,7 @@ pub xid_fits : (format : Format) (bytes : List ℕ) → AreBytes bytes → state
 xid_fits One bytes are = number_fits 8 bytes are
 xid_fits Two bytes are = long_fits 8 bytes are
 
+-- the process number that bytes state has 32 bits
 pub pid_fits : (format : Format) (bytes : List ℕ) → AreBytes bytes → stated_pid format bytes < 2 ^ 32
 pid_fits One bytes are = number_fits 12 bytes are
 pid_fits Two bytes are = number_fits 16 bytes are

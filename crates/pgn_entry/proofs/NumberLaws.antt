@@ -3,8 +3,7 @@ use Rattle.std.proofs.Common.{◌≡◌, ℕ, ◌*◌, List, length, drop, refl,
 use Rattle.std.specs.Int.{w32, w64, from_le_bytes}
 use Rattle.std.specs.List.{between}
 use Rattle.std.proofs.lemmas.Slice.{between_to_end}
-use Rattle.byteorder.specs.Endian.{little_number, little_bytes}
-use Rattle.pgn_journal.specs.Bytes.{four_bytes}
+use Rattle.byteorder.specs.Endian.{little_number}
 use Rattle.pgn_base.specs.declared.format.Format.{Format}
 use Rattle.pgn_base.specs.declared.format.Format.TheVariants.{One, Two}
 use Rattle.pgn_entry.specs.Cells.{pid_place}
@@ -13,10 +12,6 @@ use Rattle.pgn_entry.specs.Reading.{number_at, long_at, stated_pid}
 -- byteorder reads the number of std's words from four bytes
 pub little_number_is : (bytes : List ℕ) → little_number 4 bytes ≡ from_le_bytes w32 bytes
 little_number_is bytes = omega arith
-
--- byteorder writes the bytes of std's words for a number
-pub little_bytes_are : (n : ℕ) → little_bytes 4 n ≡ four_bytes n
-little_bytes_are n = refl
 
 -- a number that byteorder reads from a place on
 pub read_at : (place : ℕ) (bytes : List ℕ) → little_number 4 (between place (length bytes) bytes) ≡ number_at place bytes
@@ -27,6 +22,7 @@ read_at place bytes = ap (little_number 4) (between_to_end bytes place (length b
 little_long_is : (bytes : List ℕ) → little_number 8 bytes ≡ from_le_bytes w64 bytes
 little_long_is bytes = omega arith
 
+-- a number of eight bytes, read from a place on, is the one that stands there
 pub read_long_at : (place : ℕ) (bytes : List ℕ) → little_number 8 (between place (length bytes) bytes) ≡ long_at place bytes
 unfolding long_at
 read_long_at place bytes = ap (little_number 8) (between_to_end bytes place (length bytes) (omega arith)) ∙ little_long_is (drop place bytes)

@@ -39,5 +39,6 @@ no-fault : (format : Format) (piece : Piece) (fault : EntryFault) → IsReadAs f
 no-fault format (pieces.AnEntry note sender) fault h = h
 no-fault format (pieces.AFiller len sender) fault h = h
 
+-- bytes of which a piece is known are not refused
 pub never-refused : (format : Format) (bytes : List ℕ) (fault : EntryFault) → ArePiece format bytes → ReadsAs format bytes (AFault fault) → ⊥
 never-refused format bytes fault h r = no-fault format h.piece fault (piece-read format h.piece bytes (AFault fault) h.sound h.spelling r)

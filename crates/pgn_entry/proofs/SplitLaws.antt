@@ -66,12 +66,14 @@ place_none bytes h = grind (arith, nat_tests)
 pub split_none : (bytes : List ℕ) → position is_zero bytes ≡ None → count_by is_zero bytes ≡ 0
 split_none bytes h = count_none bytes (place_none bytes h)
 
+-- behind the first zero byte there is one zero fewer
 pub split_count : (bytes : List ℕ) (end : ℕ) → position is_zero bytes ≡ Some end → count_by is_zero bytes ≡ 1 + count_by is_zero (between (end + 1) (length bytes) bytes)
 split_count bytes end h =
     let place = place_some bytes end h in
     let rest : between (end + 1) (length bytes) bytes ≡ after_first is_zero bytes = between_to_end bytes (end + 1) (length bytes) (omega arith) ∙ ap (λ (n : ℕ). drop (n + 1) bytes) (sym place.0) in
     count_split bytes (omega (arith, place)) ∙ ap (λ (l : List ℕ). 1 + count_by is_zero l) (sym rest)
 
+-- before the first zero byte there is none
 pub split_no_nul : (bytes : List ℕ) (end : ℕ) → position is_zero bytes ≡ Some end → ¬ (Contains (take end bytes) 0)
 split_no_nul bytes end h =
     subst (λ (n : ℕ). ¬ (Contains (take n bytes) 0)) (place_some bytes end h).0 (none_before bytes)

@@ -78,13 +78,19 @@ fn read_body<'a>(format: Format, head: &Head, body: &'a [u8]) -> Result<EntryVie
 /// `EntryFault` has.
 pub fn read_entry(format: Format, bytes: &[u8]) -> Result<EntryView<'_>, EntryFault>
     ensures reads { ReadsAs format bytes.now (told result) }
-    ensures entry { (len : ℕ) (note : Note) (db xid pid : ℕ) → (told result ≡ AnEntry len note db xid pid) ↔ ((len ≡ entry_length format note) × BeginsEntry format note db xid pid bytes.now) }
-    ensures filler { (len xid pid : ℕ) → (told result ≡ AFiller len xid pid) ↔ BeginsFiller format len xid pid bytes.now }
+    ensures entry { (len : ℕ) (note : Note) (db xid pid : ℕ)
+        → (told result ≡ AnEntry len note db xid pid)
+        ↔ ((len ≡ entry_length format note) × BeginsEntry format note db xid pid bytes.now) }
+    ensures filler { (len xid pid : ℕ)
+        → (told result ≡ AFiller len xid pid) ↔ BeginsFiller format len xid pid bytes.now }
     ensures short { IsErrOf result EntryFault.Short ↔ IsRefused format EntryFault.Short bytes.now }
-    ensures bad_length { IsErrOf result EntryFault.BadLength ↔ IsRefused format EntryFault.BadLength bytes.now }
+    ensures bad_length { IsErrOf result EntryFault.BadLength
+        ↔ IsRefused format EntryFault.BadLength bytes.now }
     ensures no_nul { IsErrOf result EntryFault.NoNul ↔ IsRefused format EntryFault.NoNul bytes.now }
-    ensures bad_text { IsErrOf result EntryFault.BadText ↔ IsRefused format EntryFault.BadText bytes.now }
-    ensures bad_pad { IsErrOf result EntryFault.BadPad ↔ IsRefused format EntryFault.BadPad bytes.now }
+    ensures bad_text { IsErrOf result EntryFault.BadText
+        ↔ IsRefused format EntryFault.BadText bytes.now }
+    ensures bad_pad { IsErrOf result EntryFault.BadPad
+        ↔ IsRefused format EntryFault.BadPad bytes.now }
 {
     let (head, body) = read_head(format, bytes)?;
     if head.db == 0 {

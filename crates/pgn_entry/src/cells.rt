@@ -44,7 +44,9 @@ fn text_cell(channel: &[u8], payload: &[u8], at: usize) -> u32
 // The cell that holds four bytes of the payload, which are read together.
 fn payload_cell(payload: &[u8], past: usize) -> u32
     requires { past + CELL_BYTES ≤ length payload.now }
-    ensures { (channel : List ℕ) → result ≡ from_le_bytes w32 (drop (length channel + 1 + past) ((channel ++ 0 ∷ []) ++ payload.now)) }
+    ensures { (channel : List ℕ)
+        → result ≡ from_le_bytes w32 (drop (length channel + 1 + past)
+        ((channel ++ 0 ∷ []) ++ payload.now)) }
 {
     LittleEndian::read_u32(&payload[past..])
 }
@@ -99,7 +101,8 @@ impl<'a> EntryCells<'a> {
     pub fn cell(&self, format: Format, number: usize) -> u32
         requires long { IsEntryLength format self.now.len }
         requires within { 4 * number < self.now.len }
-        ensures { (note : Note) (db xid pid : ℕ) → AreCellsOf format note db xid pid self.now → result ≡ from_le_bytes w32 (drop (4 * number) (spelled format note db xid pid)) }
+        ensures { (note : Note) (db xid pid : ℕ) → AreCellsOf format note db xid pid self.now
+            → result ≡ from_le_bytes w32 (drop (4 * number) (spelled format note db xid pid)) }
     {
         // Most cells lie in the payload of a long entry, so that these are told first.
         let at = CELL_BYTES * number;

@@ -1,4 +1,4 @@
-ghost use Rattle.std.specs.Prelude.{◌≡◌, ◌*◌};
+ghost use Rattle.std.specs.Prelude.{◌≡◌};
 ghost use Rattle.pgn_journal.specs.Bytes.{header_bytes, alignment, least_bytes};
 ghost use Rattle.pgn_entry.specs.Cells.{pid_place};
 

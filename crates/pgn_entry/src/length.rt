@@ -9,7 +9,8 @@ use pgn_base::{Format, Note, PAGE_BYTES};
 pub fn length_of(format: Format, channel_len: usize, payload_len: usize) -> usize
     requires name { channel_len ≤ NAME_BYTES_MAX }
     requires text { payload_len ≤ PAYLOAD_BYTES_MAX }
-    ensures { result ≡ aligned format (header_bytes format + (channel_len + 1) + (payload_len + 1)) }
+    ensures { result
+        ≡ aligned format (header_bytes format + (channel_len + 1) + (payload_len + 1)) }
 {
     let unit = length_unit(format);
     (header_len(format) + (channel_len + 1) + (payload_len + 1)).div_ceil(unit) * unit

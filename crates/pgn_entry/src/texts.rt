@@ -10,7 +10,8 @@ use std::str;
 /// What stands before the first zero byte, and what stands after it.
 pub fn split_at_zero(bytes: &[u8]) -> Option<(&[u8], &[u8])>
     ensures none { (result ≡ None) ↔ (count_by is_zero bytes.now ≡ 0) }
-    ensures count { IfSome result (λ parts. count_by is_zero bytes.now ≡ 1 + count_by is_zero parts.1.now) }
+    ensures count { IfSome result (λ parts. count_by is_zero bytes.now
+        ≡ 1 + count_by is_zero parts.1.now) }
     ensures no_nul { IfSome result (λ parts. ¬ (Contains parts.0.now 0)) }
     ensures front { IfSome result (λ parts. parts.0.now ≡ before_first is_zero bytes.now) }
     ensures rest { IfSome result (λ parts. parts.1.now ≡ after_first is_zero bytes.now) }

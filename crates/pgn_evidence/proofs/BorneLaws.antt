@@ -25,6 +25,7 @@ both false b h = absurd (let no : ⊥ = cc in no)
 and_true : (a b : Bool) → a ≡ true → b ≡ true → (a && b) ≡ true
 and_true a b p q = ap (λ (t : Bool). t && b) p ∙ q
 
+-- an item is borne out exactly where its four tests pass
 pub borne_is : (settings : Settings) (sections : List Section) (journal : List Tx) (traces : List Trace) (s : State) (owed : Owed) (item : Item) (a b c d : Bool) → s.owed ≡ owed
     → (a ≡ true) ↔ IsFullThere settings journal item → (b ≡ true) ↔ All (Contains (raised_in sections traces)) (found_shown owed item) → (c ≡ true) ↔ All (ShowsMark traces) (named_shown item)
     → (d ≡ true) ↔ IsShownWithin (next_xid journal) item → ((a && ((b && (c && d)) && true)) ≡ true) ↔ IsBorneOut settings sections journal traces s item
@@ -57,9 +58,11 @@ one_count (item.Publish xid notes) = refl
 one_count (item.QueueFull full notes) = refl
 one_count other = refl
 
+-- the numbers that are finished after one item more
 pub counts_more : (before : List Item) (i : Item) → length (finished_xids (before ++ i ∷ [])) ≡ length (finished_xids before) + finished_count i
 counts_more before i = ap length (filter_map-append finished_xid before (i ∷ [])) ∙ length-append (finished_xids before) (finished_xids (i ∷ [])) ∙ ap (λ (n : ℕ). length (finished_xids before) + n) (one_count i)
 
+-- an item finishes no more numbers than it has lines
 pub counts_within : (lines : List ScriptLine) (i : Item) → finished_count i ≤ length (item_lines lines i)
 counts_within lines (item.Publish xid notes) = omega arith
 counts_within lines (item.QueueFull full notes) = omega arith

@@ -57,6 +57,7 @@ shows-stood (other ∷ traces) pair (zero, trace, lt, is, there) =
 shows-stood (other ∷ traces) pair (suc k, trace, lt, is, there) =
     Contains-append_right (flat_map (stood_by other.session) other.items) (stood_in traces) pair (shows-stood traces pair (k, trace, omega (arith, lt), is, there))
 
+-- a mark at which some session stood is one that a trace shows
 pub stood_shows : (traces : List Trace) (session mark : ℕ) (b : Bool) → (b ≡ true) ↔ Contains (stood_in traces) (session, mark) → (b ≡ true) ↔ ShowsMark traces (session, mark)
 stood_shows traces session mark b h = (λ e. stood-shows traces (session, mark) (h.0 e), λ there. h.1 (shows-stood traces (session, mark) there))
 
@@ -90,14 +91,17 @@ raised_other flag lines other items is = refl
 
 -- What one item puts in.
 
+-- an item that raises a flag is gathered by the flag and its number
 pub raises : (old new : List ℕ) (flag : Option ℕ) (i : Item) (f v w : ℕ) → flag ≡ Some f → i ≡ item.Raise v → w ≡ v → Gathers old new ((f, w) ∷ []) → Gathers old new (raised_by flag i)
 raises old new flag i f v w e is same h =
     subst (λ (o : Option ℕ). Gathers old new (raised_by o i)) (sym e) (subst (λ (x : Item). Gathers old new (raised_by (Some f) x)) (sym is) (subst (λ (n : ℕ). Gathers old new ((f, n) ∷ [])) same h))
 
+-- a read is gathered by the mark that it comes to
 pub stands_one : (old new : List ℕ) (session : ℕ) (i : Item) (from to mark : ℕ) (got : List Delivery) → i ≡ item.Read from to got → mark ≡ to → Gathers old new ((session, mark) ∷ []) → Gathers old new (stood_by session i)
 stands_one old new session i from to mark got is same h =
     subst (λ (x : Item). Gathers old new (stood_by session x)) (sym is) (subst (λ (n : ℕ). Gathers old new ((session, n) ∷ [])) same h)
 
+-- an Enlist is gathered by its base and its point
 pub stands_two : (old mid new : List ℕ) (session : ℕ) (i : Item) (base point b p : ℕ) → i ≡ item.Enlist base point → b ≡ base → p ≡ point → Gathers old mid ((session, b) ∷ []) → Gathers mid new ((session, p) ∷ []) → Gathers old new (stood_by session i)
 stands_two old mid new session i base point b p is one two f g =
     let first : Gathers old mid ((session, base) ∷ []) = subst (λ (n : ℕ). Gathers old mid ((session, n) ∷ [])) one f in
@@ -106,36 +110,45 @@ stands_two old mid new session i base point b p is one two f g =
 
 -- The loops.
 
+-- what the items from a place on give: that of the one there, and then of the others
 pub flat_more : (f : Item → List (ℕ × ℕ)) (items : List Item) (k : ℕ) (i : Item) → k < length items → i ≡ get_or items k i → flat_map f (drop k items) ≡ f i ++ flat_map f (drop (k + 1) items)
 flat_more f items k i lt is = at_drop_more (λ (them : List Item). flat_map f them) items k i lt ∙ ap (λ (x : Item). f x ++ flat_map f (drop (k + 1) items)) (sym is)
 
+-- nothing past the last item
 pub flat_end : (f : Item → List (ℕ × ℕ)) (items : List Item) (k : ℕ) → length items ≤ k → flat_map f (drop k items) ≡ []
 flat_end f items k h = ap (λ (them : List Item). flat_map f them) (drop_all k items h)
 
+-- the marks of the traces from a place on: those of the one there, and then of the others
 pub stood_more : (traces : List Trace) (k : ℕ) (t : Trace) → k < length traces → t ≡ get_or traces k t → stood_in (drop k traces) ≡ flat_map (stood_by t.session) t.items ++ stood_in (drop (k + 1) traces)
 stood_more traces k t lt is = at_drop_more (λ (them : List Trace). stood_in them) traces k t lt ∙ ap (λ (x : Trace). flat_map (stood_by x.session) x.items ++ stood_in (drop (k + 1) traces)) (sym is)
 
+-- none past the last trace
 pub stood_end : (traces : List Trace) (k : ℕ) → length traces ≤ k → stood_in (drop k traces) ≡ []
 stood_end traces k h = ap (λ (them : List Trace). stood_in them) (drop_all k traces h)
 
+-- the flags of the traces from a place on: those of the one there, and then of the others
 pub raised_more : (sections : List Section) (traces : List Trace) (k : ℕ) (s : Section) (t : Trace) → length sections ≡ length traces → k < length traces → s ≡ get_or sections k s → t ≡ get_or traces k t
     → raised_in (drop k sections) (drop k traces) ≡ raised_from None s.lines t.items ++ raised_in (drop (k + 1) sections) (drop (k + 1) traces)
 raised_more sections traces k s t long lt one two =
     ap (λ (them : List Section). raised_in them (drop k traces)) (drop_more sections k s (omega (arith, long, lt)) ∙ ap (λ (x : Section). x ∷ drop (k + 1) sections) (sym one))
     ∙ ap (λ (them : List Trace). raised_in (s ∷ drop (k + 1) sections) them) (drop_more traces k t lt ∙ ap (λ (x : Trace). x ∷ drop (k + 1) traces) (sym two))
 
+-- none past the last trace
 pub raised_end : (sections : List Section) (traces : List Trace) (k : ℕ) → length sections ≡ length traces → length traces ≤ k → raised_in (drop k sections) (drop k traces) ≡ []
 raised_end sections traces k long h =
     ap (λ (them : List Section). raised_in them (drop k traces)) (drop_all k sections (omega (arith, long, h)))
 
+-- no flag is raised past the last item
 pub raised_none : (flag : Option ℕ) (lines : List ScriptLine) (items : List Item) (k : ℕ) → length items ≤ k → raised_from flag lines (drop k items) ≡ []
 raised_none flag lines items k h = ap (λ (them : List Item). raised_from flag lines them) (drop_all k items h)
 
+-- an item that begins a line takes its flag from the script
 pub raised_on_line : (flag : Option ℕ) (lines : List ScriptLine) (next : ℕ) (items : List Item) (k : ℕ) (i : Item) → k < length items → i ≡ get_or items k i → begins_line i ≡ true
     → raised_from flag (drop next lines) (drop k items) ≡ raised_from (flag_of_line (slice_get lines next)) (drop (next + 1) lines) (drop (k + 1) items)
 raised_on_line flag lines next items k i lt is line =
     ap (λ (them : List Item). raised_from flag (drop next lines) them) (drop_more items k i lt ∙ ap (λ (x : Item). x ∷ drop (k + 1) items) (sym is)) ∙ raised_line flag lines next i (drop (k + 1) items) (slice_get lines next) line refl
 
+-- each other item keeps the flag of its line
 pub raised_on_other : (flag : Option ℕ) (lines : List ScriptLine) (items : List Item) (k : ℕ) (i : Item) → k < length items → i ≡ get_or items k i → begins_line i ≡ false
     → raised_from flag lines (drop k items) ≡ raised_by flag i ++ raised_from flag lines (drop (k + 1) items)
 raised_on_other flag lines items k i lt is other =

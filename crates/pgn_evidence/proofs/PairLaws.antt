@@ -52,6 +52,7 @@ put_in pairs keys a b false few h is x y g =
       ],
     )
 
+-- a key that is put, unless it is there, gathers its pair
 pub puts : (old new : List ℕ) (a b : ℕ) → b < 2 ^ 32 → new ≡ cond (list_any (nat_eq (key_of a b)) old) old (old ++ key_of a b ∷ []) → Gathers old new ((a, b) ∷ [])
 puts old new a b few e pairs h = subst (λ (keys : List ℕ). AreKeys (pairs ++ (a, b) ∷ []) keys) (sym e) (put_in pairs old a b (list_any (nat_eq (key_of a b)) old) few h refl)
 
@@ -67,6 +68,7 @@ gathers_both a b c first second f g pairs h = subst (λ (ps : List (ℕ × ℕ))
 pub gathered_first : (keys : List ℕ) (all : List (ℕ × ℕ)) → HasGathered keys keys all all
 gathered_first keys all = record { front = []; split = refl; gathers = gathers_none keys }
 
+-- gathering goes on with what comes next
 pub gathered_more : (a b c : List ℕ) (all more left rest : List (ℕ × ℕ)) → HasGathered a b all left → Gathers b c more → left ≡ more ++ rest → HasGathered a c all rest
 gathered_more a b c all more left rest h g e = record {
   front = h.front ++ more;
@@ -74,5 +76,6 @@ gathered_more a b c all more left rest h g e = record {
   gathers = gathers_both a b c h.front more h.gathers g;
 }
 
+-- with nothing left all is gathered
 pub gathered_all : (a b : List ℕ) (all left : List (ℕ × ℕ)) → HasGathered a b all left → left ≡ [] → Gathers a b all
 gathered_all a b all left h e = subst (λ (ps : List (ℕ × ℕ)). Gathers a b ps) (sym (append-nil h.front) ∙ ap (λ (ps : List (ℕ × ℕ)). h.front ++ ps) (sym e) ∙ h.split) h.gathers

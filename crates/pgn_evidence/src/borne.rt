@@ -22,8 +22,10 @@ use pgn_model::Item;
 /// The journal and all traces bear an item out, where this is left to show.
 #[tactic(auto, using(crate::proofs::BorneLaws::borne_is))]
 pub fn is_borne_out(basis: &Basis, owed: &ToShow, item: &Item) -> bool
-    ensures { (sections : List Section) (traces : List Trace) (s : State) → Tells basis.now sections traces → s.owed ≡ owed_of owed.now
-        → (result ≡ true) ↔ IsBorneOut (settings_of basis.now) sections (journal_of basis.now) traces s item.now }
+    ensures { (sections : List Section) (traces : List Trace) (s : State)
+        → Tells basis.now sections traces → s.owed ≡ owed_of owed.now
+        → (result ≡ true) ↔
+        IsBorneOut (settings_of basis.now) sections (journal_of basis.now) traces s item.now }
 {
     let full = is_full_there(basis, item);
     let found = was_raised(basis.evidence, owed, item);
@@ -34,7 +36,8 @@ pub fn is_borne_out(basis: &Basis, owed: &ToShow, item: &Item) -> bool
 
 // A full queue was full.
 fn is_full_there(basis: &Basis, item: &Item) -> bool
-    ensures { (result ≡ true) ↔ IsFullThere (settings_of basis.now) (journal_of basis.now) item.now }
+    ensures { (result ≡ true) ↔
+        IsFullThere (settings_of basis.now) (journal_of basis.now) item.now }
 {
     match item {
         Item::QueueFull { full, .. } => basis.ledger.was_full(basis.limit, full),
@@ -44,8 +47,10 @@ fn is_full_there(basis: &Basis, item: &Item) -> bool
 
 // A flag that is found was raised with the number.
 fn was_raised(evidence: &Evidence, owed: &ToShow, item: &Item) -> bool
-    ensures { (sections : List Section) (traces : List Trace) → IsEvidence sections traces evidence.now.raised evidence.now.stood
-        → (result ≡ true) ↔ All (Contains (raised_in sections traces)) (found_shown (owed_of owed.now) item.now) }
+    ensures { (sections : List Section) (traces : List Trace)
+        → IsEvidence sections traces evidence.now.raised evidence.now.stood
+        → (result ≡ true) ↔
+        All (Contains (raised_in sections traces)) (found_shown (owed_of owed.now) item.now) }
 {
     match (owed, item) {
         (ToShow::Awaiting { flag }, Item::Found { value }) => evidence.was_raised(*flag, *value),
@@ -55,7 +60,8 @@ fn was_raised(evidence: &Evidence, owed: &ToShow, item: &Item) -> bool
 
 // A session that is named as a holder stood at the floor mark.
 fn was_stood_at(evidence: &Evidence, item: &Item) -> bool
-    ensures { (sections : List Section) (traces : List Trace) → IsEvidence sections traces evidence.now.raised evidence.now.stood
+    ensures { (sections : List Section) (traces : List Trace)
+        → IsEvidence sections traces evidence.now.raised evidence.now.stood
         → (result ≡ true) ↔ All (ShowsMark traces) (named_shown item.now) }
 {
     match item {
@@ -67,7 +73,8 @@ fn was_stood_at(evidence: &Evidence, item: &Item) -> bool
 
 // The holder stood at the mark, if there is one.
 fn held(evidence: &Evidence, holder: &Option<SessionNo>, mark: Xid) -> bool
-    ensures { (sections : List Section) (traces : List Trace) → IsEvidence sections traces evidence.now.raised evidence.now.stood
+    ensures { (sections : List Section) (traces : List Trace)
+        → IsEvidence sections traces evidence.now.raised evidence.now.stood
         → (result ≡ true) ↔ All (ShowsMark traces) (holder_at holder.now mark) }
 {
     match holder {
@@ -93,7 +100,8 @@ fn is_within(most: u32, item: &Item) -> bool
 
 /// A transaction that an item shows as finished is the session's next after so many.
 pub fn is_next_own(ledger: &Ledger, session: SessionNo, own: usize, item: &Item) -> bool
-    ensures { (section : Section) (before : List Item) → section.no ≡ session → own ≡ length (finished_xids before)
+    ensures { (section : Section) (before : List Item)
+        → section.no ≡ session → own ≡ length (finished_xids before)
         → (result ≡ true) ↔ IsNextOwn section ledger.now.journal.now before item.now }
 {
     match item {
@@ -105,7 +113,8 @@ pub fn is_next_own(ledger: &Ledger, session: SessionNo, own: usize, item: &Item)
 
 /// How many transactions an item shows as finished.
 pub fn finished_in(item: &Item) -> usize
-    ensures value { (before : List Item) → length (finished_xids (before ++ item.now ∷ [])) ≡ length (finished_xids before) + result }
+    ensures value { (before : List Item)
+        → length (finished_xids (before ++ item.now ∷ [])) ≡ length (finished_xids before) + result }
     ensures within { (lines : List ScriptLine) → result ≤ length (item_lines lines item.now) }
 {
     count_finished(item)

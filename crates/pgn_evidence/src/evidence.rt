@@ -1,4 +1,4 @@
-ghost use Rattle.std.specs.Prelude.{◌≡◌, ◌↔◌, ℕ, List, true, length, flat_map, Contains, None, IfOk, OnOk, slice_get};
+ghost use Rattle.std.specs.Prelude.{◌≡◌, ◌↔◌, List, true, length, flat_map, Contains, None, IfOk, OnOk, slice_get};
 ghost use Rattle.pgn_reading.specs.Shown.{raised_from, raised_in, ShowsMark};
 ghost use Rattle.pgn_evidence.specs.Pairs.{Gathers};
 ghost use Rattle.pgn_evidence.specs.Evidence.{IsEvidence, begins_line, flag_of_line, raised_by, stood_by, stood_in};
@@ -27,7 +27,8 @@ impl Evidence {
         traces: &[Trace],
     ) -> Result<Evidence, AllocError>
         requires { length sections.now ≡ length traces.now }
-        ensures { IfOk result (λ evidence. IsEvidence sections.now traces.now evidence.raised evidence.stood) }
+        ensures { IfOk result
+            (λ evidence. IsEvidence sections.now traces.now evidence.raised evidence.stood) }
     {
         let mut raised = Pairs::new(alloc, seed);
         let mut stood = Pairs::new(alloc, seed);
@@ -38,7 +39,9 @@ impl Evidence {
 
     /// Some session raised the flag with this number.
     pub fn was_raised(&self, flag: u32, value: Xid) -> bool
-        ensures { (sections : List Section) (traces : List Trace) → IsEvidence sections traces self.now.raised self.now.stood → (result ≡ true) ↔ Contains (raised_in sections traces) (flag, value) }
+        ensures { (sections : List Section) (traces : List Trace)
+            → IsEvidence sections traces self.now.raised self.now.stood
+            → (result ≡ true) ↔ Contains (raised_in sections traces) (flag, value) }
     {
         self.raised.has(flag, value.get())
     }
@@ -46,7 +49,9 @@ impl Evidence {
     /// The session stood at the mark.
     #[tactic(auto, using(crate::proofs::EvidenceLaws::stood_shows))]
     pub fn stood_at(&self, session: SessionNo, mark: Xid) -> bool
-        ensures { (sections : List Section) (traces : List Trace) → IsEvidence sections traces self.now.raised self.now.stood → (result ≡ true) ↔ ShowsMark traces (session, mark) }
+        ensures { (sections : List Section) (traces : List Trace)
+            → IsEvidence sections traces self.now.raised self.now.stood
+            → (result ≡ true) ↔ ShowsMark traces (session, mark) }
     {
         self.stood.has(session.get(), mark.get())
     }

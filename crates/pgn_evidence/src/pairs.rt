@@ -41,7 +41,8 @@ impl Pairs {
 
     /// It is among them.
     pub fn has(&self, first: u32, second: u32) -> bool
-        ensures { (pairs : List (ℕ × ℕ)) → AreKeys pairs self.now → (result ≡ true) ↔ Contains pairs (first, second) }
+        ensures { (pairs : List (ℕ × ℕ)) → AreKeys pairs self.now
+            → (result ≡ true) ↔ Contains pairs (first, second) }
     {
         self.keys.contains(&key(first, second))
     }

@@ -54,10 +54,12 @@ full_4 : place One full_run_journal 4 ≡ place_at 0 8020
 unfolding put_bytes after_bytes after_rest after ended
 full_4 = place_folds One full_run_journal 4 ∙ put_long 0 (byte "x")
 
+-- the second transaction ends 172 bytes before its page's end
 pub full_5 : place One full_run_journal 5 ≡ place_at 1 8020
 unfolding after ended
 full_5 = place_folds One full_run_journal 5 ∙ two_long (byte "x") (byte "x")
 
+-- the third one ends where the third page begins
 pub full_6 : place One full_run_journal 6 ≡ place_at 2 0
 unfolding after ended
 full_6 = place_folds One full_run_journal 6 ∙ ap (ended Aborted) (two_long (byte "x") (byte "x"))
@@ -66,6 +68,7 @@ pub full_7 : place One full_run_journal 7 ≡ place_at 2 0
 unfolding after ended
 full_7 = place_folds One full_run_journal 7 ∙ ap (λ at. ended Aborted (ended Aborted at)) (two_long (byte "x") (byte "x"))
 
+-- the last one takes the first 24 bytes of that page
 pub full_8 : place One full_run_journal 8 ≡ place_at 2 24
 unfolding after ended
 full_8 = place_folds One full_run_journal 8 ∙ ap (λ at. put One (ended Aborted (ended Aborted at)) last_one) (two_long (byte "x") (byte "x")) ∙ last_put

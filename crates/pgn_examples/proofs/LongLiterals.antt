@@ -62,11 +62,13 @@ reading_is n = ap (λ (ts : List Token). reading_of (length (line n)) ts (comman
 length_test : (n : ℕ) (b : Bool) → nat_le 8000 n ≡ b → is_long (replicate n 120) ≡ b
 length_test n b h = ap (nat_le 8000) (length-replicate n 120) ∙ h
 
+-- a payload of 8000 bytes or more is refused
 pub long-literal : (n : ℕ) → nat_le 8000 n ≡ true → ReadsAs (line n) (command.Invalid PayloadTooLong)
 long-literal n h =
     let past : limited (notify n) ≡ command.Invalid PayloadTooLong = rw (length_test n true h) refl in
     subst (λ (c : Command). ReadsAs (line n) c) (reading_is n ∙ past) (reading-reads (line n))
 
+-- a shorter one is sent
 pub short-literal : (n : ℕ) → nat_le 8000 n ≡ false → ReadsAs (line n) (notify n)
 short-literal n h =
     let within : limited (notify n) ≡ notify n = rw (length_test n false h) refl in

@@ -45,6 +45,7 @@ filler_notes =
     ∙ ap (λ (ps : List Piece). AnEntry (letters (byte "x") 7999) sender ∷ (ps ++ (c ++ []))) second
     ∙ ap (λ (ps : List Piece). AnEntry (letters (byte "x") 7999) sender ∷ AnEntry (letters (byte "x") 133) sender ∷ (ps ++ [])) third
 
+-- the pieces of the example with a filler
 pub pieces-filler : pieces_from One 3 0 filler_journal ≡ filler_pieces
 unfolding pieces_from tx_pieces end_pieces
 pieces-filler = ap (λ (ps : List Piece). (ps ++ []) ++ []) filler_notes

@@ -107,6 +107,7 @@ is_within n (Found value) h = leb-true value n h
 is_within n (TimedOut looks) h = tt
 is_within n (Read from to got) h = two_within from to n h
 
+-- where the computed test says so, all traces show numbers within a bound
 pub all_shown : (n : ℕ) (traces : List Trace) → list_all (λ trace. list_all (shown_within n) trace.items) traces ≡ true → All (λ trace. All (IsShownWithin n) trace.items) traces
 all_shown n traces h =
     tested (λ (trace : Trace). All (IsShownWithin n) trace.items) (λ (trace : Trace). list_all (shown_within n) trace.items)
@@ -131,5 +132,6 @@ not_greater-true flag value pair h e =
     let le : nat_le pair.1 value ≡ true = subst (λ (b : Bool). (not b || nat_le pair.1 value) ≡ true) same h in
     leb-true pair.1 value le
 
+-- where the computed test says so, a value is the greatest of a flag
 pub greatest : (pairs : List (ℕ × ℕ)) (flag value : ℕ) → list_all (not_greater flag value) pairs ≡ true → IsGreatest pairs flag value
 greatest pairs flag value h = tested (λ (pair : ℕ × ℕ). pair.0 ≡ flag → pair.1 ≤ value) (not_greater flag value) (not_greater-true flag value) pairs h

@@ -1,5 +1,5 @@
 -- Command lines, and what they ask for.
-use Rattle.std.specs.Prelude.{ℕ, true, false, List, [], ◌∷◌, ◌++◌, Option, None, Some, codes}
+use Rattle.std.specs.Prelude.{ℕ, true, false, List, [], ◌∷◌, ◌++◌, Option, Some, codes}
 use Rattle.pgn_base.specs.declared.format.Format.TheVariants.{One, Two}
 use Rattle.pgn_options.specs.declared.asked.Asked.{Asked}
 use Rattle.pgn_options.specs.declared.asked.Asked.TheVariants.{Run, Drill, Check, Serve}

@@ -1,4 +1,4 @@
-ghost use Rattle.std.specs.Prelude.{◌≡◌, [], ◌∷◌, Some, None, codes};
+ghost use Rattle.std.specs.Prelude.{[], ◌∷◌, Some, None, codes};
 ghost use Rattle.pgn_base.specs.declared.answers.Tag.TheVariants as tag;
 ghost use Rattle.pgn_base.specs.declared.answers.Refusal.TheVariants.{Aborted};
 ghost use Rattle.pgn_journal.specs.declared.tx.Fate.TheVariants.{Committed};

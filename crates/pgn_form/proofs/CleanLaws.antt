@@ -44,12 +44,15 @@ payload_has note h = right (quoted 34 note.channel ++ codes ", ") (quoted 39 not
 one_line_note : (note : Note) (start : List ℕ) → IsOneLine (start ++ note_text note) → IsOneLineNote note
 one_line_note note start h = (λ there. h (right start (note_text note) (channel_has note there)), λ there. h (right start (note_text note) (payload_has note there)))
 
+-- a notification that is held and stands on one line has such a line
 pub sent_clean : (note : Note) → IsHeld (Sent note) → IsOneLine (note_line note) → IsLineNote note
 sent_clean note held h = record { note = held; one_line = one_line_note note (codes "  ") h }
 
+-- so has a channel
 pub row_clean : (name : List ℕ) → IsHeld (Channel name) → IsOneLine (channel_line name) → IsLineName name
 row_clean name held h = record { text = held; one_line = λ there. h (right (codes "  ") (quoted 34 name) (quoted_has 34 name there)) }
 
+-- so has one that is received
 pub received_clean : (delivery : Delivery) → IsHeld (Received delivery) → IsOneLine (delivery_line delivery) → IsLineDelivery delivery
 received_clean delivery held h = record {
   xid = held.0;
@@ -57,6 +60,7 @@ received_clean delivery held h = record {
   note = record { note = held.2; one_line = one_line_note delivery.note (codes "  " ++ decimal delivery.xid ++ codes " " ++ decimal delivery.pid ++ codes " ") h };
 }
 
+-- so has a refusal
 pub refusal_clean : (refusal : Refusal) → IsHeld (Refuse refusal) → IsOneLine (codes "ERROR: " ++ refusal_text refusal) → IsLineRefusal refusal
 refusal_clean (refused.Syntax at) held h = held
 refusal_clean (refused.NoSavepoint name) held h = record { text = held; one_line = λ there. h (right (codes "ERROR: ") (refusal_text (refused.NoSavepoint name)) (inside there)) }

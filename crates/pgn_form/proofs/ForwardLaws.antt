@@ -41,6 +41,7 @@ use Rattle.pgn_form.proofs.LeadLaws.{lead_both}
 pub some_more : (k : ℕ) → (suc k == 0) ≡ false
 some_more k = elim (eqb_tells (suc k) 0) [ inl s ↦ absurd (omega (arith, s.1)) | inr s ↦ s.0 ]
 
+-- what stands between two lists stands at the length of the first
 pub at_place : {X : Type 0} (front back : List X) (x : X) → slice_get (front ++ x ∷ back) (length front) ≡ Some x
 at_place [] back x = refl
 at_place (y ∷ front) back x = at_place front back x
@@ -166,6 +167,7 @@ module _ (scenario : Scenario) (n : ℕ) where
   above_first line script (other ∷ lines) zero h e = let same : other ≡ script = cc in subst (λ (s : ScriptLine). line.line < s.line) same h.0
   above_first line script (other ∷ lines) (suc k) h e = omega (arith, h.0, above_first other script lines k h.1 e)
 
+  -- a script line is found by its number
   pub text_at : (lines : List ScriptLine) (k : ℕ) (script : ScriptLine) → Rise lines → slice_get lines k ≡ Some script → line_text script.line lines ≡ script.text
   text_at [] k script h e = absurd (let no : ⊥ = cc in no)
   text_at (line ∷ lines) zero script h e =

@@ -120,6 +120,7 @@ module _ (scenario : Scenario) where
     pub numbered : number ≡ length before + 1
     pub within : number + length rest ≤ length out + 1
 
+-- before the first line the reader is at the start of the text
 pub come_first : (scenario : Scenario) (out : List ℕ) → HasCome scenario out out Start first_draft 1
 come_first scenario out = record { before = []; lead = refl; read = (refl, refl); text = refl; lines = refl; numbered = refl; within = omega arith }
 
@@ -129,6 +130,7 @@ joined_on (first ∷ before) line rest =
     append_assoc (first ++ 10 ∷ []) (joined before) (line ++ 10 ∷ rest) ∙ ap (λ (bytes : List ℕ). (first ++ 10 ∷ []) ++ bytes) (joined_on before line rest)
     ∙ sym (append_assoc (first ++ 10 ∷ []) (joined (before ++ line ∷ [])) rest)
 
+-- past a line that is taken it has come to the next
 pub come_on : (scenario : Scenario) (out rest tail line : List ℕ) (place next : Place) (draft after : Draft) (number : ℕ) → IsSound scenario → HasCome scenario out rest place draft number → IsCut rest line tail
     → IsTaken scenario place draft line next after → HasCome scenario out tail next after (number + 1)
 come_on scenario out rest tail line place next draft after number sound h c s = record {
@@ -156,6 +158,7 @@ come_to_nothing scenario out rest tail line place draft number sound h c none =
     (Broken h.before (whole_lines tail) line (h.lines ∙ ap (λ (lines : List (List ℕ)). h.before ++ lines) c.lines) (stands_begin scenario place draft h.before sound h.read)
     (λ begins. let leads = begin_leads scenario (h.before ++ line ∷ []) sound begins in lead_nowhere scenario Start place leads.0 h.before line h.lead none leads.1))
 
+-- a line that leads nowhere breaks the form
 pub come_to_nothing_at : (scenario : Scenario) (out rest tail line : List ℕ) (place : Place) (draft after : Draft) (number : ℕ) (next : Option Place) → IsSound scenario → HasCome scenario out rest place draft number → IsCut rest line tail
     → MatchOption next ((other : Place) → IsStep scenario place line other → ⊥) (λ to. IsTaken scenario place draft line to after) → next ≡ None → BreaksForm scenario out number
 come_to_nothing_at scenario out rest tail line place draft after number None sound h c none e = come_to_nothing scenario out rest tail line place draft number sound h c none
@@ -176,6 +179,7 @@ end_reads scenario out rest draft number h none empty =
           ∙ ap (λ (bytes : List ℕ). joined h.before ++ bytes) (sym empty) ∙ sym h.text;
     }
 
+-- past all lines, in the place of the end, the draft is what was read
 pub come_to_end : (scenario : Scenario) (out rest : List ℕ) (place : Place) (draft : Draft) (number : ℕ) (journal : List Tx) (traces : List Trace) (done : Bool) → HasCome scenario out rest place draft number → whole_lines rest ≡ []
     → ((done ≡ true) ↔ ((rest ≡ []) × (place ≡ Ended scenario))) → done ≡ true → journal ≡ draft.journal → traces ≡ draft.traces → IsReading scenario out journal traces
 come_to_end scenario out rest place draft number journal traces done h none tells is a b =

@@ -45,12 +45,6 @@ use Rattle.pgn_form.proofs.StandLaws.{nowhere, same_place}
 flat_push : {X A : Type 0} (f : X → List A) (xs : List X) (x : X) → flat_map f (xs ++ x ∷ []) ≡ flat_map f xs ++ f x
 flat_push f xs x = sym (flat_map_more f [] xs x)
 
-same_some : {X : Type 0} (x y : X) → Some x ≡ Some y → x ≡ y
-same_some x y e = cc
-
-some_none : {X : Type 0} (x : X) → Some x ≡ None → ⊥
-some_none x e = let no : ⊥ = cc in no
-
 -- what stands behind the first of two lists
 behind : {X : Type 0} (front back : List X) (x : X) → slice_get (front ++ back) (length front) ≡ Some x → (rest : List X) × (back ≡ x ∷ rest)
 behind [] [] x e = absurd (let no : ⊥ = cc in no)
@@ -158,6 +152,7 @@ module _ (scenario : Scenario) (n : ℕ) where
   close begun Receiving o journal traces items lines before after f h k e = absurd k
   close begun within o journal traces items lines before after f h k e = absurd f
 
+  -- the lines so far are those of a section with the open part as its last item
   pub shut : (begun : ℕ) (within : Within) (draft : Draft) (lines : List (List ℕ)) → IsFree within → AtItem scenario n begun within draft lines → InSection scenario n begun draft.journal draft.traces (draft.items ++ closed draft.part) lines
   shut begun within draft lines f h = (close begun within draft.part draft.journal draft.traces draft.items lines h.before h.after f h.whole h.part h.all).0
 

@@ -31,9 +31,11 @@ use Rattle.pgn_form.proofs.CleanLaws.{sent_clean}
 use Rattle.pgn_form.proofs.ForwardLaws.{some_more}
 use Rattle.pgn_form.specs.Stands.{BeforeEntry, BeforeNote, Stands}
 
+-- who moves nowhere has not moved to a place
 pub nowhere : (place : Place) → None ≡ Some place → ⊥
 nowhere place e = let no : ⊥ = cc in no
 
+-- a place that is found is the one that was found
 pub same_place : (a b : Place) → Some a ≡ Some b → a ≡ b
 same_place a b e = cc
 
@@ -132,6 +134,7 @@ module _ (scenario : Scenario) where
     | inr is ↦ absurd (nowhere to (sym (ap (λ (t : Bool). cond t (Some (notes_from notes (left - 1) (next + 1))) None) is) ∙ e))
   ]
 
+  -- the first line of a transaction goes on from the lines of those before it
   pub entries_step : (left next : ℕ) (draft : Draft) (lines : List (List ℕ)) (line : List ℕ) (shown : Shown) (to : Place) → BeforeEntry scenario left next draft lines → Shows line shown → moved (Entries left next) shown ≡ Some to
       → Stands scenario to (added scenario (Entries left next) draft shown) (lines ++ line ∷ [])
   entries_step left next draft lines line (Committed xid session notes) to h s e = entry_on left next draft lines line xid session notes notes fate.Committed to h s.0.1 s.0.2 refl s.1 e

@@ -109,11 +109,21 @@ abbrev pub of_section : Option Section → Draft → Shown → Draft
 of_section section draft (End mark) = ended draft mark section
 of_section section draft shown = in_section draft shown
 
+-- the first line of a transaction is added
+abbrev pub entered : Scenario → Draft → Shown → Draft
+entered scenario draft (Committed xid session notes) = with_entry scenario.sections notes session notes fate.Committed [] draft
+entered scenario draft (Aborted xid session queued notes) = with_entry scenario.sections notes session queued fate.Aborted [] draft
+entered scenario draft shown = draft
+
+-- the line of a notification is added, where so many are left with it
+abbrev pub noted_of : Scenario → ℕ → Draft → Shown → Draft
+noted_of scenario notes draft (Sent note) = noted scenario.sections (notes - 1) draft draft.part note
+noted_of scenario notes draft shown = draft
+
 -- what a line shows is added to what has been read up to its place
 abbrev pub added : Scenario → Place → Draft → Shown → Draft
-added scenario (Entries left next) draft (Committed xid session notes) = with_entry scenario.sections notes session notes fate.Committed [] draft
-added scenario (Entries left next) draft (Aborted xid session queued notes) = with_entry scenario.sections notes session queued fate.Aborted [] draft
-added scenario (Notes notes left next) draft (Sent note) = noted scenario.sections (notes - 1) draft draft.part note
+added scenario (Entries left next) draft shown = entered scenario draft shown
+added scenario (Notes notes left next) draft shown = noted_of scenario notes draft shown
 added scenario (Inside section begun within) draft shown = of_section (slice_get scenario.sections section) draft shown
 added scenario place draft shown = draft
 

@@ -1,9 +1,8 @@
 ghost use Rattle.std.specs.Prelude.{◌≡◌, OnOk, slice_get};
-ghost use Rattle.pgn_form.specs.Drafts.{added, in_section, known, of_section};
-ghost use Rattle.pgn_form.specs.declared.place.Place.TheVariants as at;
+ghost use Rattle.pgn_form.specs.Drafts.{added, entered, in_section, known, noted_of, of_section};
 
 use crate::Place;
-use crate::draft::{Draft, Part};
+use crate::draft::{Draft, Head, Part};
 use pgn_base::Seq;
 use pgn_journal::Fate;
 use pgn_language::Scenario;
@@ -38,12 +37,12 @@ pub fn added(
     ensures { OnOk result (draft.new ≡ added scenario.now place draft.old shown) }
 {
     match place {
-        Place::Entries { left, next } => {
-            let done = entry(alloc, scenario, left, next, draft, &shown);
+        Place::Entries { .. } => {
+            let done = entry(alloc, scenario, draft, &shown);
             drop(shown);
             done
         }
-        Place::Notes { notes, left, next } => note(scenario, notes, left, next, draft, shown),
+        Place::Notes { notes, .. } => note(scenario, notes, draft, shown),
         Place::Inside { section, .. } => of_section(alloc, scenario, section, draft, shown),
         _ => {
             drop(shown);
@@ -56,50 +55,41 @@ pub fn added(
 fn entry(
     alloc: Global,
     scenario: &Scenario,
-    left: u32,
-    next: u32,
     draft: &mut Draft,
     shown: &Shown,
 ) -> Result<(), AllocError>
-    ensures { OnOk result (draft.new ≡ added scenario.now (at.Entries left next) draft.old shown.now) }
+    ensures { OnOk result (draft.new ≡ entered scenario.now draft.old shown.now) }
 {
     let sections = scenario.sections.as_slice();
     match shown {
-        Shown::Committed { session, notes, .. } => draft.entry(
-            sections,
-            *notes,
-            *session,
-            *notes,
-            Fate::Committed,
-            Seq::new(alloc),
-        ),
+        Shown::Committed { session, notes, .. } => {
+            let head = Head {
+                session: *session,
+                queued: *notes,
+                fate: Fate::Committed,
+            };
+            draft.entry(sections, *notes, &head, Seq::new(alloc))
+        }
         Shown::Aborted {
             session,
             queued,
             notes,
             ..
-        } => draft.entry(
-            sections,
-            *notes,
-            *session,
-            *queued,
-            Fate::Aborted,
-            Seq::new(alloc),
-        ),
+        } => {
+            let head = Head {
+                session: *session,
+                queued: *queued,
+                fate: Fate::Aborted,
+            };
+            draft.entry(sections, *notes, &head, Seq::new(alloc))
+        }
         _ => Ok(()),
     }
 }
 
 // A notification of a transaction.
-fn note(
-    scenario: &Scenario,
-    notes: u32,
-    left: u32,
-    next: u32,
-    draft: &mut Draft,
-    shown: Shown,
-) -> Result<(), AllocError>
-    ensures { OnOk result (draft.new ≡ added scenario.now (at.Notes notes left next) draft.old shown) }
+fn note(scenario: &Scenario, notes: u32, draft: &mut Draft, shown: Shown) -> Result<(), AllocError>
+    ensures { OnOk result (draft.new ≡ noted_of scenario.now notes draft.old shown) }
 {
     match shown {
         Shown::Sent { note } => {
@@ -120,7 +110,8 @@ fn of_section(
     draft: &mut Draft,
     shown: Shown,
 ) -> Result<(), AllocError>
-    ensures { OnOk result (draft.new ≡ of_section (slice_get scenario.now.sections section) draft.old shown) }
+    ensures { OnOk result
+        (draft.new ≡ of_section (slice_get scenario.now.sections section) draft.old shown) }
 {
     match shown {
         Shown::End { mark } => match scenario.sections.as_slice().get(section) {

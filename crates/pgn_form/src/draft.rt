@@ -1,4 +1,4 @@
-ghost use Rattle.std.specs.Prelude.{◌≡◌, OnOk, Some};
+ghost use Rattle.std.specs.Prelude.{◌≡◌, [], ◌∷◌, IfOk, OnOk, Some};
 ghost use Rattle.pgn_form.specs.Drafts.{begun, ended, first_draft, noted, paged, received, rowed, tagged, with_entry, with_item};
 ghost use Rattle.pgn_reading.specs.Form.{database_of};
 ghost use Rattle.pgn_form.specs.declared.draft.Part.TheVariants.{Nothing};
@@ -55,6 +55,14 @@ pub enum Part {
     },
 }
 
+/// What the first line of a transaction tells of it.
+#[derive(Clone, Copy)]
+pub struct Head {
+    pub session: SessionNo,
+    pub queued: u32,
+    pub fate: Fate,
+}
+
 impl Draft {
     /// Before the first line.
     pub fn new(alloc: Global) -> Draft
@@ -83,17 +91,37 @@ impl Draft {
     pub fn begin(&mut self, part: Part) -> Result<(), AllocError>
         ensures { OnOk result (self.new ≡ begun self.old part) }
     {
-        self.close()?;
-        self.part = part;
-        Ok(())
+        match self.close() {
+            Ok(()) => {
+                self.set(part);
+                Ok(())
+            }
+            // By a call, where there are two ways out.
+            Err(AllocError) => {
+                drop(part);
+                Err(AllocError)
+            }
+        }
+    }
+
+    // This has begun in place of what had.
+    fn set(&mut self, part: Part)
+        ensures { self.new ≡ record self.old { part = part } }
+    {
+        drop(mem::replace(&mut self.part, part));
     }
 
     /// An item stands in one line.
     pub fn push(&mut self, item: Item) -> Result<(), AllocError>
         ensures { OnOk result (self.new ≡ with_item self.old item) }
     {
-        self.close()?;
-        self.items.push(item)
+        match self.close() {
+            Ok(()) => self.items.push(item),
+            Err(AllocError) => {
+                drop(item);
+                Err(AllocError)
+            }
+        }
     }
 
     /// The row of a channel: rows one after another are one item.
@@ -103,8 +131,7 @@ impl Draft {
         if let Part::Rows { names } = &mut self.part {
             return names.push(name);
         }
-        let mut names = Seq::new(alloc);
-        names.push(name)?;
+        let names = one_name(alloc, name)?;
         self.begin(Part::Rows { names })
     }
 
@@ -156,30 +183,29 @@ impl Draft {
         &mut self,
         sections: &[Section],
         left: u32,
-        session: SessionNo,
-        queued: u32,
-        fate: Fate,
+        head: &Head,
         notes: Notes,
     ) -> Result<(), AllocError>
-        ensures { OnOk result (self.new ≡ with_entry sections.now left session queued fate notes self.old) }
+        ensures { OnOk result (self.new ≡
+            with_entry sections.now left head.now.session head.now.queued head.now.fate notes self.old) }
     {
         if left > 0 {
-            self.part = Part::Entry {
-                session,
-                queued,
-                fate,
+            self.set(Part::Entry {
+                session: head.session,
+                queued: head.queued,
+                fate: head.fate,
                 notes,
-            };
+            });
             return Ok(());
         }
-        self.part = Part::Nothing;
-        let db = database_of(sections, session);
+        self.set(Part::Nothing);
+        let db = database_of(sections, head.session);
         self.journal.push(Tx {
-            session,
+            session: head.session,
             db,
             notes,
-            queued,
-            fate,
+            queued: head.queued,
+            fate: head.fate,
         })
     }
 
@@ -195,7 +221,12 @@ impl Draft {
                 mut notes,
             } => {
                 notes.push(note)?;
-                self.entry(sections, left, session, queued, fate, notes)
+                let head = Head {
+                    session,
+                    queued,
+                    fate,
+                };
+                self.entry(sections, left, &head, notes)
             }
             other => {
                 self.part = other;
@@ -222,6 +253,15 @@ impl Draft {
             last: mark,
         })
     }
+}
+
+// The names of one row.
+fn one_name(alloc: Global, name: Name) -> Result<Names, AllocError>
+    ensures { IfOk result (λ names. names ≡ name ∷ []) }
+{
+    let mut names = Seq::new(alloc);
+    names.push(name)?;
+    Ok(names)
 }
 
 // The database of the section with this number, or 1 where none has it.

@@ -29,7 +29,10 @@ pub fn read_output(
     out: &[u8],
 ) -> Result<Result<Reading, usize>, AllocError>
     requires sound { IsSound scenario.now }
-    ensures { IfOk result (λ read. MatchResult read (λ reading. IsReading scenario.now out.now reading.journal reading.traces) (BreaksForm scenario.now out.now)) }
+    ensures { IfOk result
+        (λ read. MatchResult read
+        (λ reading. IsReading scenario.now out.now reading.journal reading.traces)
+        (BreaksForm scenario.now out.now)) }
 {
     let mut draft = Draft::new(alloc);
     match read_lines(alloc, scenario, &mut draft, out) {
@@ -56,7 +59,10 @@ fn read_lines(
 ) -> Result<Option<usize>, AllocError>
     requires sound { IsSound scenario.now }
     requires first { draft.old ≡ first_draft }
-    ensures { IfOk result (λ broken. MatchOption broken (IsReading scenario.now out.now draft.new.journal draft.new.traces) (BreaksForm scenario.now out.now)) }
+    ensures { IfOk result
+        (λ broken. MatchOption broken
+        (IsReading scenario.now out.now draft.new.journal draft.new.traces)
+        (BreaksForm scenario.now out.now)) }
 {
     let mut place = Place::Start;
     let mut rest = out;
@@ -93,7 +99,8 @@ impl Draft {
 
 // The first line of a text, and what follows its LF.
 fn first_line(text: &[u8]) -> Option<(&[u8], &[u8])>
-    ensures { MatchOption result (whole_lines text.now ≡ []) (λ cut. IsCut text.now cut.0.now cut.1.now) }
+    ensures { MatchOption result (whole_lines text.now ≡ [])
+        (λ cut. IsCut text.now cut.0.now cut.1.now) }
 {
     let at = memchr(b'\n', text)?;
     Some((&text[..at], &text[at + 1..]))

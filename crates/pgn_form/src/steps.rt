@@ -25,7 +25,9 @@ pub fn step(
 ) -> Result<Option<Place>, AllocError>
     requires fits { Fits place }
     requires few { length scenario.now.sections < 2 ^ 32 }
-    ensures value { IfOk result (λ next. MatchOption next ((other : Place) → IsStep scenario.now place line.now other → ⊥) (λ to. IsTaken scenario.now place draft.old line.now to draft.new)) }
+    ensures value { IfOk result
+        (λ next. MatchOption next ((other : Place) → IsStep scenario.now place line.now other → ⊥)
+        (λ to. IsTaken scenario.now place draft.old line.now to draft.new)) }
     ensures fits { IfOk result (λ next. IfSome next Fits) }
 {
     if let Some(next) = told(alloc, scenario, place, line)? {

@@ -1,48 +1,35 @@
 -- Proofs of the laws of what the calls say.
-use Rattle.std.proofs.Common.{◌≡◌, ℕ, ◌≤◌, max, Bool, List, ◌++◌, length, Option, Some, None, IfSome, All, Contains, sym, ap, ◌∙◌, subst, arith, inl, inr, length-append}
-use Rattle.std.proofs.lemmas.Bool.{cases_lt}
+use Rattle.std.proofs.Common.{◌≡◌, ℕ, ◌≤◌, List, ◌++◌, length, Option, Some, None, IfSome, All, Contains, sym, ap, ◌∙◌, subst, arith, length-append}
 use Rattle.std.proofs.lemmas.Option.{IfSome_then}
 use Rattle.std.proofs.lemmas.List.Elements.{All-contains, Contains-append_right}
-use Rattle.pgn_base.specs.declared.format.Format.{Format}
-use Rattle.pgn_journal.specs.declared.tx.Tx.{Tx}
 use Rattle.pgn_hub.specs.declared.known.Known.{Known}
 use Rattle.pgn_journal.specs.Journal.{next_xid}
 use Rattle.pgn_journal.specs.Due.{due, is_due_to}
 use Rattle.pgn_journal.proofs.DueLaws.{due-grows}
-use Rattle.pgn_journal.specs.Near.{Near}
-use Rattle.pgn_journal.proofs.NearLaws.{near-grows, near-itself, near-shrinks}
+use Rattle.pgn_journal.proofs.NearLaws.{near-grows}
 use Rattle.pgn_journal.proofs.QueueUseLaws.{no_page-grows, usage-grows}
 use Rattle.pgn_hub.specs.Calls.{IsHolder, met_by}
 use Rattle.pgn_hub.specs.Laws.{ReadGrows, WokenGrows, FullGrows, MeasuredGrows, HoldersAreNamed}
 
+-- what a read has delivered stays due, whatever the journal gets behind it
 pub read-grows : ReadGrows
 read-grows old new set to before after more h =
     let given : after ≡ before ++ due (new.seen ++ more) h.from to old.db set =
     h.delivered ∙ ap (λ ds. before ++ ds) (sym (due-grows new.seen more h.from to old.db set h.in_seen)) in
     subst (λ (mark : Option ℕ). IfSome mark (λ from. after ≡ before ++ due (new.seen ++ more) from to old.db set)) (sym h.from_mark) given
 
+-- who was not woken has nothing to read, whatever the journal gets behind it
 pub woken-grows : WokenGrows
 woken-grows format old new woken more within h unset =
     let seen : length new.seen ≡ length (old.seen ++ h.more) = ap (λ (k : Known). length k.seen) h.known in
     let told : old.told ≤ next_xid new.seen = omega (arith, within.told, seen, length-append old.seen h.more) in
     IfSome_then old.mark (h.near unset) (λ mark near. near-grows format (is_due_to old.db old.set) new.seen more mark old.told told near)
 
--- who need not read up to a number need not read up to one that is no greater than it or than the mark
-near-below : (format : Format) (matters : Tx → Bool) (journal : List Tx) (mark told signalled : ℕ) → told ≤ max mark signalled
-    → Near format matters journal mark signalled → Near format matters journal mark told
-near-below format matters journal mark told signalled below near = elim (cases_lt mark told) as (λ _. Near format matters journal mark told) [
-  | inl lt ↦ near-shrinks format matters journal mark mark signalled told (omega (arith, below, lt)) (omega arith) near
-  | inr ge ↦ near-itself format matters journal mark told ge
-]
-
-pub near-told : (format : Format) (matters : Tx → Bool) (journal : List Tx) (own : Option ℕ) (told signalled : ℕ) → IfSome own (λ mark. told ≤ max mark signalled)
-    → IfSome own (λ mark. Near format matters journal mark signalled) → IfSome own (λ mark. Near format matters journal mark told)
-near-told format matters journal None told signalled below near = tt
-near-told format matters journal (Some mark) told signalled below near = near-below format matters journal mark told signalled below near
-
+-- the reason of a full queue stays, whatever the journal gets behind it
 pub full-grows : FullGrows
 full-grows shape old new notes full more h = no_page-grows shape.format shape.pages new.seen more full h.no_page
 
+-- what was measured stays in use, whatever the journal gets behind it
 pub measured-grows : MeasuredGrows
 measured-grows shape old new usage more h = usage-grows shape.format shape.pages new.seen more usage h.shows
 
@@ -58,6 +45,7 @@ holder_is_named x met old named floor holder h all =
     IfSome_then holder (holder_is_met x met floor holder h)
     (λ session there. Contains-append_right old named (session, floor) (All-contains (Contains named) met (session, floor) all there))
 
+-- who holds up a writer or is shown in a measure is named, with the floor's mark
 pub holders-are_named : HoldersAreNamed
 holders-are_named = record {
   of_full = λ shape old new notes full h.

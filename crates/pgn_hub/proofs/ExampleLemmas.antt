@@ -36,6 +36,7 @@ place_6 : place One journal_5 6 ≡ place_at 2 0
 unfolding journal_5 after_third
 place_6 = sym (places_agree One journal_5 after_third 6 (omega arith)) ∙ full_6
 
+-- two transactions with long entries leave the third without a page
 pub no_page : NoPage One 2 (example.long_3 ∷ example.long_3 ∷ example.long_5 ∷ []) example.full_5
 unfolding journal_5
 no_page = record {
@@ -62,6 +63,7 @@ larger_place = sym (places_agree One larger_journal (sent (bare_note ∷ []) 1 C
 larger_rest : put_all One (place One larger_journal 3) (letters (byte "x") 7999 ∷ letters (byte "y") 7999 ∷ []) ≡ place_at 1 8020
 larger_rest = ap (λ at. put_all One at (letters (byte "x") 7999 ∷ letters (byte "y") 7999 ∷ [])) (first_place One larger_journal) ∙ larger_end
 
+-- nor is there one for the third notification of a transaction with two large ones before it
 pub larger_no_page : NoPage One 2 (sent example.three_notes 2 Aborted ∷ []) example.full_3
 unfolding larger_journal
 larger_no_page = record {
@@ -105,6 +107,7 @@ by_nobody tx (suc zero) own_1 own_2 h =
     omega (arith, lengths)
 by_nobody tx (suc (suc n)) own_1 own_2 h = h
 
+-- no journal of two transactions begins with session 2's only one where session 1 has none
 pub no_second : (journal : List Tx) → length journal ≡ 2 → Begins (example.tx_3 ∷ []) journal → [] ≡ xids_of 1 journal → 3 ∷ [] ≡ xids_of 2 journal
     → All (λ tx. IsSomeAnd (slice_get (example.last_1 ∷ example.last_2 ∷ []) (tx.session - 1)) (λ k. IsBy k tx)) journal → ⊥
 no_second [] l h own_1 own_2 by = omega (arith, l)
@@ -130,6 +133,7 @@ letter_valid letter some low = record {
 other_notes : example.note_a ≡ example.note_b → ⊥
 other_notes h = let letters_are : 97 ≡ 98 = ap (λ (note : Note). slice_index_or note.payload 0 0) h in omega (arith, letters_are)
 
+-- transaction 3 of the examples is finished
 pub finished : IsFinished example.tx_3
 finished = record {
   some = λ h. let lengths : 2 ≡ 0 = ap length h in omega (arith, lengths);

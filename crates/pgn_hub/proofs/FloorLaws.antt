@@ -38,6 +38,7 @@ floor-for own shape session x floor mark holder advance is looks floors = record
   own = λ h. own-holds shape session x floor mark holder advance looks floors.held (h ∙ ap Some (sym is));
 }
 
+-- a listener's mark is never below the floor, and is the floor where it holds it
 pub own-floors : OwnFloors
 own-floors = record {
   of_full = λ own shape old new notes full is h. floor-for own shape old.session full.xid full.floor_mark old.mark full.holder new.advance is h.looked h.floor;

@@ -59,6 +59,7 @@ equal : (mark : Option ℕ) (n : ℕ) → IfSome mark (λ own. own ≤ n) → If
 equal None n h k = tt
 equal (Some own) n h k = omega (arith, h, k)
 
+-- once all are gathered that have read up to the last wakes, each has read the whole journal
 pub last-reads : LastReads
 last-reads passes count g within reads k d lt =
     let pass : Known = slice_index_or passes k d in

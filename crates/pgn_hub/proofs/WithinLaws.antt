@@ -131,6 +131,7 @@ stands-at k more mark set marks within after all w =
       to_read = λ unowed. omega (arith, after);
     }
 
+-- what always holds of a pass holds when it is opened, and each call keeps it
 pub calls-keep_within : CallsKeepWithin
 calls-keep_within = record {
   opened = opened-within;

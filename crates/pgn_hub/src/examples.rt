@@ -3,7 +3,7 @@
 ghost use Rattle.std.specs.Prelude.{◌≡◌, ◌≢◌, ◌<◌, ◌≤◌, true, false, [], ◌∷◌, map, length, Some, None, All, AllPairs, IsSome, codes};
 ghost use Rattle.std.specs.List.{range_with_len};
 ghost use Rattle.pgn_base.specs.declared.format.Format.TheVariants.{One};
-ghost use Rattle.pgn_journal.specs.declared.tx.Fate.TheVariants.{Committed, Aborted};
+ghost use Rattle.pgn_journal.specs.declared.tx.Fate.TheVariants.{Aborted};
 ghost use Rattle.pgn_hub.specs.Shape.{IsShape};
 ghost use Rattle.pgn_hub.specs.Passes.{IsSeated, IsWithin, no_advance, opened_passes};
 ghost use Rattle.pgn_hub.specs.Calls.{HasPublished, HasEnlisted, HasHeard, HasInterest, HasLearned, HasLeft, HasLooked, HasMetFull, HasRaised, HasRead, HasMeasured, HasWoken};

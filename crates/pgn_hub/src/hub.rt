@@ -24,7 +24,8 @@ pub trait Hub: Sized {
     /// An empty journal, and a pass for each seat, in order. The error is that memory did not suffice.
     fn open(alloc: Global, setup: Setup) -> Result<(Self, Vec<Self::Pass>), AllocError>
         ensures shape { IfOk result (λ opened. shape opened.0 ≡ setup) }
-        ensures passes { IfOk result (λ opened. map Self.Pass.known opened.1.items ≡ opened_passes 1 setup.seats) }
+        ensures passes { IfOk result (λ opened. map Self.Pass.known opened.1.items
+            ≡ opened_passes 1 setup.seats) }
         ensures own { IfOk result (λ opened. All (is_pass opened.0) opened.1.items) };
 
     /// Publishes a transaction with these notifications, which have no repeats: answers its number. Where the queue has no page left
@@ -35,8 +36,10 @@ pub trait Hub: Sized {
         requires different { AllPairs (λ a b. a ≢ b) notes.now }
         requires few { length notes.now ≤ (Self.Pass.known pass.old).notes_left }
         ensures own { is_pass self.now pass.new }
-        ensures committed { IfOk result (λ x. HasPublished (Self.Pass.known pass.old) (Self.Pass.known pass.new) notes.now x) }
-        ensures full { IfErr result (λ full. HasMetFull (shape self.now) (Self.Pass.known pass.old) (Self.Pass.known pass.new) notes.now full) };
+        ensures committed { IfOk result (λ x. HasPublished (Self.Pass.known pass.old)
+            (Self.Pass.known pass.new) notes.now x) }
+        ensures full { IfErr result (λ full. HasMetFull (shape self.now) (Self.Pass.known pass.old)
+            (Self.Pass.known pass.new) notes.now full) };
 
     /// Makes the session, which is no listener, one: it receives from the point on, once it has told its channels.
     fn enlist(&self, pass: &mut Self::Pass) -> Enlisted
@@ -50,7 +53,8 @@ pub trait Hub: Sized {
         requires own { is_pass self.now pass.old }
         requires listens { IsSome (Self.Pass.known pass.old).mark }
         ensures own { is_pass self.now pass.new }
-        ensures interested { HasInterest (Self.Pass.known pass.old) (Self.Pass.known pass.new) set.now.channels };
+        ensures interested { HasInterest (Self.Pass.known pass.old) (Self.Pass.known pass.new)
+            set.now.channels };
 
     /// Reads from the mark to the first unfinished transaction, which it answers as the new mark, and puts what is due on the
     /// channels of the set, which is the one that the listener has told, behind `out`. The error is that memory did not suffice; then `out`
@@ -66,8 +70,10 @@ pub trait Hub: Sized {
         requires listens { IsSome (Self.Pass.known pass.old).mark }
         requires interested { (Self.Pass.known pass.old).set ≡ set.now.channels }
         ensures own { is_pass self.now pass.new }
-        ensures read { IfOk result (λ to. HasRead (Self.Pass.known pass.old) (Self.Pass.known pass.new) set.now.channels to out.old.items out.new.items) }
-        ensures refused { OnErr result (HasLearned (Self.Pass.known pass.old) (Self.Pass.known pass.new)) }
+        ensures read { IfOk result (λ to. HasRead (Self.Pass.known pass.old)
+            (Self.Pass.known pass.new) set.now.channels to out.old.items out.new.items) }
+        ensures refused { OnErr result (HasLearned (Self.Pass.known pass.old)
+            (Self.Pass.known pass.new)) }
         ensures refused_reads_nothing { OnErr result (out.new.items ≡ out.old.items) };
 
     /// Makes a listener none.
@@ -82,7 +88,8 @@ pub trait Hub: Sized {
         requires own { is_pass self.now pass.old }
         requires listens { IsSome (Self.Pass.known pass.old).mark }
         ensures own { is_pass self.now pass.new }
-        ensures woken { HasWoken (shape self.now).format (Self.Pass.known pass.old) (Self.Pass.known pass.new) result };
+        ensures woken { HasWoken (shape self.now).format (Self.Pass.known pass.old)
+            (Self.Pass.known pass.new) result };
 
     /// Raises a flag with the number that the pass was told, and answers it. The flag keeps the greatest number.
     fn raise(&self, pass: &mut Self::Pass, flag: u32) -> Xid
@@ -129,7 +136,8 @@ pub trait Hub: Sized {
     fn usage<R: Wait>(&self, rt: &R, pass: &mut Self::Pass) -> Usage
         requires own { is_pass self.now pass.old }
         ensures own { is_pass self.now pass.new }
-        ensures used { HasMeasured (shape self.now) (Self.Pass.known pass.old) (Self.Pass.known pass.new) result };
+        ensures used { HasMeasured (shape self.now) (Self.Pass.known pass.old)
+            (Self.Pass.known pass.new) result };
 
     /// Lets one pass hear what another one knows of the journal, and what it was told.
     fn meet(&self, from: &mut Self::Pass, into: &mut Self::Pass)
@@ -138,12 +146,14 @@ pub trait Hub: Sized {
         ensures own_from { is_pass self.now from.new }
         ensures own_into { is_pass self.now into.new }
         ensures told { HasLearned (Self.Pass.known from.old) (Self.Pass.known from.new) }
-        ensures heard { HasHeard (Self.Pass.known from.old) (Self.Pass.known into.old) (Self.Pass.known into.new) };
+        ensures heard { HasHeard (Self.Pass.known from.old) (Self.Pass.known into.old)
+            (Self.Pass.known into.new) };
 
     /// Ends the hub with all of its passes, in order.
     fn gather(self, passes: Vec<Self::Pass>) -> Roll
         requires own { All (is_pass self) passes.items }
-        requires all { map (λ pass. (Self.Pass.known pass).session) passes.items ≡ range_with_len 1 (length (shape self).seats) }
+        requires all { map (λ pass. (Self.Pass.known pass).session) passes.items
+            ≡ range_with_len 1 (length (shape self).seats) }
         ensures { Gathered (map Self.Pass.known passes.items) result.count };
 
     /// What it was opened for is within its limits.

@@ -5,7 +5,7 @@ use pgn_base::{DbOid, Format, Seq};
 use std::marker::Model;
 
 /// What a queue keeps for a session: its database, and how many notifications it may still send.
-#[derive(Clone, Copy, Debug, PartialEq, Eq)]
+#[derive(Clone, Copy)]
 pub struct SeatSetup {
     pub db: DbOid,
     pub notes: u32,
@@ -44,7 +44,12 @@ impl Setup {
         requires some_seats { 1 ≤ vec_len seats }
         requires few_seats { vec_len seats ≤ SECTIONS_MAX }
         requires few_notes { sum_by (λ seat. seat.notes) seats.items ≤ HUB_NOTES_MAX }
-        ensures { result ≡ record { pages = pages; flags = flags; seats = seats.items; format = format } }
+        ensures { result ≡ record {
+          pages = pages;
+          flags = flags;
+          seats = seats.items;
+          format = format;
+        } }
     {
         Setup {
             pages,

@@ -27,6 +27,7 @@ number_same m n hm hn h = sym (from_le_bytes-to_le_bytes_4 m hm) ∙ ap (from_le
 long_same : (m n : ℕ) → m < 2 ^ 64 → n < 2 ^ 64 → eight_bytes m ≡ eight_bytes n → m ≡ n
 long_same m n hm hn h = sym (from_le_bytes-to_le_bytes_8 m hm) ∙ ap (from_le_bytes w64) h ∙ from_le_bytes-to_le_bytes_8 n hn
 
+-- an entry's head has as many bytes as its format says
 pub length-header : (format : Format) (len db xid pid : ℕ) → length (header format len db xid pid) ≡ header_bytes format
 unfolding header
 length-header One len db xid pid = refl
@@ -79,16 +80,19 @@ unfolding entry_length
 front_fits One note = omega arith
 front_fits Two note = omega arith
 
+-- the length of an entry counts the bytes that spell it
 pub length-spelled : SpelledLength
 unfolding spelled
 length-spelled format note db xid pid =
     let front : List ℕ = header format (entry_length format note) db xid pid ++ (note.channel ++ 0 ∷ []) ++ (note.payload ++ 0 ∷ []) in
     length-padded (entry_length format note) front (rw (length-front format note (entry_length format note) db xid pid) (front_fits format note))
 
+-- the length of a filler counts the bytes that spell it
 pub length-filler : FillerLength
 unfolding filler
 length-filler format len xid pid h = length-padded len (header format len 0 xid pid) (rw (length-header format len 0 xid pid) h)
 
+-- the length of a notification's entry is one that an entry may have
 pub entry_lengths : EntryLengths
 unfolding entry_length
 entry_lengths One note h =
@@ -117,6 +121,7 @@ same_notes : (a b : Note) → a.channel ≡ b.channel → a.payload ≡ b.payloa
 same_notes a b p q = ap (λ (c : List ℕ). let n : Note = record { channel = c; payload = a.payload } in n) p
     ∙ ap (λ (t : List ℕ). let n : Note = record { channel = b.channel; payload = t } in n) q
 
+-- one entry alone is spelled by the bytes that begin with it
 pub reads_back : SpellingReadsBack
 reads_back format a b db db' xid xid' pid pid' rest rest' ha hb fits fits' h =
     let whole = sym (split format a db xid pid rest) ∙ h ∙ split format b db' xid' pid' rest' in
@@ -135,6 +140,7 @@ reads_back format a b db db' xid xid' pid pid' rest rest' ha hb fits fits' h =
       same_rest = append_cancel_left (zeros format b) rest rest' ends;
     }
 
+-- no entry's bytes go on to those of another
 pub none_begins : NoSpellingBegins
 none_begins format a b db db' xid xid' pid pid' rest ha hb fits fits' h =
     (reads_back format a b db db' xid xid' pid pid' rest [] ha hb fits fits' (h ∙ sym (append-nil (spelled format b db' xid' pid')))).same_rest
@@ -145,6 +151,7 @@ split_filler : (format : Format) (len xid pid : ℕ) (rest : List ℕ)
 unfolding filler
 split_filler format len xid pid rest = rw (length-header format len 0 xid pid) (append_assoc (header format len 0 xid pid) (replicate (len - header_bytes format) 0) rest)
 
+-- an entry is told from a filler by its bytes
 pub none_is_filler : NoSpellingIsFiller
 none_is_filler format note db xid pid len xid' pid' rest rest' some fits h =
     let whole = sym (split format note db xid pid rest) ∙ h ∙ split_filler format len xid' pid' rest' in
@@ -154,6 +161,7 @@ none_is_filler format note db xid pid len xid' pid' rest rest' some fits h =
     let none : db ≡ 0 = number_same db 0 fits (omega arith) heads.dbs in
     absurd (omega (arith, none))
 
+-- one filler alone is spelled by the bytes that begin with it
 pub filler_reads_back : FillerReadsBack
 filler_reads_back format len len' xid xid' pid pid' rest rest' small small' fits fits' h =
     let whole = sym (split_filler format len xid pid rest) ∙ h ∙ split_filler format len' xid' pid' rest' in
@@ -220,6 +228,7 @@ header_are Two len db xid pid =
     (four_are pid))
     (zeros_are 4)
 
+-- an entry and a filler are spelled in numbers below 256
 pub are_bytes : AreBytes
 unfolding spelled filler
 are_bytes = record {

@@ -17,6 +17,7 @@ use Rattle.pgn_journal.proofs.BeginsLaws.{begins-rest, begins-continued}
 use Rattle.pgn_journal.proofs.DueLaws.{due-grows}
 use Rattle.pgn_journal.proofs.PackingLemmas.{packed_notes, packed_tx, images_agree, places_agree, room_of_image}
 
+-- what a finished transaction has queued is written, where its session and its database are in range
 pub finished_are_written : FinishedAreWritten
 finished_are_written tx finished some small session = record {
   queued_notes = All-take IsNote tx.queued tx.notes finished.valid;
@@ -25,6 +26,7 @@ finished_are_written tx finished some small session = record {
   session_fits = session;
 }
 
+-- what a draft has queued is written, where its notifications can be sent
 pub drafts_are_written : DraftsAreWritten
 drafts_are_written session db notes queued fate sent some small within = record {
   queued_notes = All-take IsNote queued notes sent;
@@ -47,6 +49,7 @@ cells_by_fate format x at tx fate e =
     let queued = notes_cells format (sender_of x tx) at (take tx.queued tx.notes) in
     ap (λ (f : Fate). queued ++ end_cells format (sender_of x tx) f (at + length queued)) e
 
+-- the cells of a journal with one transaction more, by its notifications and its fate
 pub one_more_image : OneMoreImage
 unfolding end_cells
 one_more_image = record {
@@ -67,6 +70,7 @@ one_more_image = record {
       ap length (one_more format seen tx) ∙ length-append (image format seen) (tx_cells format (next_xid seen) at tx) ∙ packed_tx format (next_xid seen) at tx (room_of_image format seen);
 }
 
+-- whatever its fate, a draft that stops at a page's start has the same cells
 pub draft_at_page_start : DraftAtPageStart
 draft_at_page_start format seen session db notes queued starts =
     let at = length (image format seen) in
@@ -81,6 +85,7 @@ queued_all : (fate : Fate) (queued count : ℕ) → fate ≡ Committed → IsQue
 queued_all Committed queued count e h = h
 queued_all Aborted queued count e h = absurd (cc)
 
+-- a finished transaction is a draft that has queued as many notifications as its fate says
 pub finished_are_drafts : FinishedAreDrafts
 finished_are_drafts = record {
   committed = λ tx finished e.
@@ -89,9 +94,11 @@ finished_are_drafts = record {
   aborted = λ tx e. ap (draft tx.session tx.db tx.notes tx.queued) e;
 }
 
+-- a draft with as many notifications as its end asks for is finished
 pub drafts_finish : DraftsFinish
 drafts_finish session db notes queued fate some different sent queueing = record { some = some; valid = sent; different = different; queueing = queueing }
 
+-- what stands in front of a journal's new part stays: places, cells, transactions, what is due
 pub longer_agrees : LongerAgrees
 longer_agrees = record {
   places = λ format xs ys x begins low.
@@ -119,6 +126,7 @@ xids-append session x (tx ∷ xs) ys =
       | false ↦ rest
     ]
 
+-- a session's numbers in two journals, one behind the other, are those in each of them
 pub xids_go_on : XidsGoOn
 xids_go_on = record {
   more = λ session xs ys. xids-append session 3 xs ys;

@@ -13,6 +13,7 @@ due_from-append db channels x (tx ∷ xs) ys =
     let rest = due_from-append db channels (x + 1) xs ys ∙ ap (λ y. due_from db channels (x + 1) xs ++ due_from db channels y ys) step in
     ap (λ ds. delivered_by db channels x tx ++ ds) rest ∙ sym (append_assoc (delivered_by db channels x tx) (due_from db channels (x + 1) xs) (due_from db channels (x + length (tx ∷ xs)) ys))
 
+-- what is due up to a number of the journal stays due as it grows
 pub due-grows : (journal more : List Tx) (m n db : ℕ) (channels : List (List ℕ)) → n ≤ 3 + length journal → due (journal ++ more) m n db channels ≡ due journal m n db channels
 due-grows journal more m n db channels h =
     let fits : n - 3 ≤ length journal = omega arith in
@@ -34,4 +35,5 @@ due-splits journal m k n db channels a b c d =
     ap (due_from db channels m) cut ∙ due_from-append db channels m (entries_between journal m k) (entries_between journal k n)
     ∙ ap (λ y. due_from db channels m (entries_between journal m k) ++ due_from db channels y (entries_between journal k n)) len
 
+-- what is due in a longer journal, and in two steps
 pub ruleset due_laws = (due-grows, due-splits)

@@ -37,6 +37,7 @@ covers_from word (channel ∷ channels) =
     All-cons (λ (c : List ℕ). bit_at (fold with_channel (with_channel word channel) channels) (channel_bit c) ≡ 1) channel channels
     (all_stay (with_channel word channel) (channel_bit channel) channels (set_now word channel)) (covers_from (with_channel word channel) channels)
 
+-- each channel has its bit among those of all
 pub interest-covers : InterestCovers
 interest-covers channels = covers_from 0 channels
 
@@ -67,6 +68,7 @@ none_heard word sent channels (note ∷ notes) covers apart sends = by_note (lis
         let none : bit_at (bit_and word sent) i ≡ 0 = ap (λ (n : ℕ). bit_at n i) apart ∙ bit_at-zero i in absurd (omega (arith, mine, theirs, both, none))
     by_note false e rest = ap (λ (b : Bool). b || list_any (listens channels) notes) e ∙ rest
 
+-- where no bit is shared, no notification is on one of the channels
 pub nothing-in_common : NothingInCommon
 nothing-in_common word channels notes covers apart = none_heard word (interest (channels_of notes)) channels notes covers (by_test (bit_and word (interest (channels_of notes)) == 0) refl apart) (interest-covers (channels_of notes))
   where

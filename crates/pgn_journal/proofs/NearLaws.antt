@@ -41,18 +41,21 @@ none-within p xs a b c d from to h = elim (cases_lt c d) as (λ _. list_any p (d
   | inr ge ↦ ap (list_any p) (drop_all c (take d xs) (simp length-take (omega arith)))
 ]
 
+-- what is near stays so for a later mark, and up to an earlier number
 pub near-shrinks : NearShrinks
 near-shrinks format matters journal m n x y down up h = record {
   nothing_due = none-within matters journal (m - 3) (x - 3) (n - 3) (y - 3) (omega arith) (omega arith) h.nothing_due;
   few_pages = omega (arith, h.few_pages, place_grows format journal y x down, place_grows format journal m n up);
 }
 
+-- a mark is near to itself, and to what is below it
 pub near-itself : NearItself
 near-itself format matters journal m x below = record {
   nothing_due = ap (list_any matters) (drop_all (m - 3) (take (x - 3) journal) (simp length-take (omega arith)));
   few_pages = omega (arith, place_grows format journal x m below);
 }
 
+-- what is near stays so as the journal grows
 pub near-grows : NearGrows
 near-grows format matters journal more m x within h = elim (cases_lt m x) as (λ _. Near format matters (journal ++ more) m x) [
   | inl lt ↦ record {

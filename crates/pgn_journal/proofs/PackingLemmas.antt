@@ -73,6 +73,7 @@ pub room_start : (format : Format) → HasRoom format 0
 room_start One = record { whole = refl; least = omega arith }
 room_start Two = record { whole = refl; least = omega arith }
 
+-- a page that begins next has room
 pub room_next : (format : Format) (at : ℕ) → HasRoom format (next_page at)
 room_next format at = record { whole = whole_next format at; least = omega (arith, least_within format) }
 
@@ -86,6 +87,7 @@ pub room_after_rest : (format : Format) (at : ℕ) → bytes_in at % alignment f
 unfolding after_rest
 room_after_rest format at whole = room_past format at (has_room format at) refl whole
 
+-- behind an aligned entry there is room
 pub room_after_bytes : (format : Format) (at bytes : ℕ) → HasRoom format at → bytes % alignment format ≡ 0 → HasRoom format (after_bytes format at bytes)
 unfolding after_bytes
 room_after_bytes format at bytes room whole = room_after_rest format (at + cells_in bytes) (whole_after format at bytes room.whole whole)
@@ -107,6 +109,7 @@ length-filler_cells format s at room =
     let cells : length (filled_cells (filler format (bytes_left at) s.xid s.pid)) ≡ bytes_left at / 4 = length-filled_cells (filler format (bytes_left at) s.xid s.pid) ∙ ap (λ n. n / 4) (length-filler format (bytes_left at) s.xid s.pid (omega (arith, least_within format, room.least))) in
     omega (arith, cells)
 
+-- the place after a notification is that after its cells
 pub packed_note : (format : Format) (s : Sender) (at : ℕ) (note : Note) → HasRoom format at → at + length (note_cells format s at note) ≡ put format at note
 unfolding note_cells put put_bytes
 packed_note format s at note room =
@@ -116,6 +119,7 @@ packed_note format s at note room =
       | false ↦ simp length-append (omega (arith, length-filler_cells format s at room, packed_bytes format note s.db s.xid s.pid (next_page at)))
     ]
 
+-- behind a notification there is room
 pub room_put : (format : Format) (at : ℕ) (note : Note) → HasRoom format at → HasRoom format (put format at note)
 unfolding put put_bytes
 room_put format at note room = elim (fits at (entry_length format note)) as (λ b. HasRoom format (cond b (after_bytes format at (entry_length format note)) (after_bytes format (next_page at) (entry_length format note)))) [
@@ -123,10 +127,12 @@ room_put format at note room = elim (fits at (entry_length format note)) as (λ 
   | false ↦ room_after_bytes format (next_page at) (entry_length format note) (room_next format at) (entry_whole format note).0
 ]
 
+-- behind notifications there is room
 pub room_put_all : (format : Format) (at : ℕ) (notes : List Note) → HasRoom format at → HasRoom format (put_all format at notes)
 room_put_all format at [] room = room
 room_put_all format at (note ∷ notes) room = room_put_all format (put format at note) notes (room_put format at note room)
 
+-- the place after notifications is that after their cells
 pub packed_notes : (format : Format) (s : Sender) (at : ℕ) (notes : List Note) → HasRoom format at → at + length (notes_cells format s at notes) ≡ put_all format at notes
 unfolding notes_cells
 packed_notes format s at [] room = omega arith
@@ -150,6 +156,7 @@ unfolding ended
 room_ended format Committed at room = room
 room_ended format Aborted at room = elim (is_page_start at) as (λ b. HasRoom format (cond b at (next_page at))) [ true ↦ room | false ↦ room_next format at ]
 
+-- the place after a transaction is that after its cells
 pub packed_tx : (format : Format) (x : ℕ) (at : ℕ) (tx : Tx) → HasRoom format at → at + length (tx_cells format x at tx) ≡ after format at tx
 unfolding tx_cells after
 packed_tx format x at tx room =
@@ -161,6 +168,7 @@ packed_tx format x at tx room =
     let sum : at + length (queued ++ end_cells format s tx.fate (at + length queued)) ≡ ended tx.fate (at + length queued) = simp length-append (omega (arith, end)) in
     sum ∙ ap (ended tx.fate) notes
 
+-- behind a transaction there is room
 pub room_after : (format : Format) (at : ℕ) (tx : Tx) → HasRoom format at → HasRoom format (after format at tx)
 unfolding after
 room_after format at tx room = room_ended format tx.fate (put_all format at (take tx.queued tx.notes)) (room_put_all format at (take tx.queued tx.notes) room)
@@ -180,6 +188,7 @@ image_from-append format x at (tx ∷ xs) ys =
     ∙ ap (λ n. rest ++ image_from format (x + length (tx ∷ xs)) n ys) end in
     ap (λ ds. cells ++ ds) more ∙ sym (append_assoc cells rest (image_from format (x + length (tx ∷ xs)) (at + length (cells ++ rest)) ys))
 
+-- the cells of a longer journal begin with those of its front
 pub images_agree : ImagesAgree
 unfolding image
 images_agree format journal more = image_from-append format 3 0 journal more ∙ ap (λ n. image format journal ++ image_from format (3 + length journal) n more) (zero-add (length (image format journal)))
@@ -194,17 +203,21 @@ room_image format x at (tx ∷ txs) room =
     let sum : (at + length cells) + length (image_from format (x + 1) (at + length cells) txs) ≡ at + length (cells ++ image_from format (x + 1) (at + length cells) txs) = simp length-append (omega arith) in
     subst P sum (room_image format (x + 1) (at + length cells) txs next)
 
+-- behind all cells of a journal there is room
 pub room_of_image : (format : Format) (journal : List Tx) → HasRoom format (length (image format journal))
 unfolding image
 room_of_image format journal = let P : ℕ → Type 0 = λ n. HasRoom format n in subst P (zero-add (length (image format journal))) (room_image format 3 0 journal (room_start format))
 
+-- where a transaction begins there is room
 pub room_place : (format : Format) (journal : List Tx) (x : ℕ) → HasRoom format (place format journal x)
 unfolding place
 room_place format journal x = room_of_image format (take (x - 3) journal)
 
+-- transactions and notifications leave room behind them
 pub leaves_room : LeavesRoom
 leaves_room = record { at_start = room_place; after_notes = room_put_all }
 
+-- each step of the arithmetic counts the cells of what it passes
 pub is_packed : IsPacked
 is_packed = record {
   of_bytes = packed_bytes;
@@ -215,14 +228,17 @@ is_packed = record {
   of_tx = packed_tx;
 }
 
+-- no cell stands before the first transaction
 pub first_place : FirstPlace
 unfolding place image image_from
 first_place format journal = refl
 
+-- numbers past the journal's end have the place of its end
 pub last_place : LastPlace
 unfolding place
 last_place format journal x h = ap (λ (txs : List Tx). length (image format txs)) (take_all (x - 3) journal (omega arith))
 
+-- a transaction has the same place in each longer journal
 pub places_agree : PlacesAgree
 unfolding place
 places_agree format journal more x h = ap (λ (txs : List Tx). length (image format txs)) (take-append-le (x - 3) journal more (omega arith))
@@ -231,6 +247,7 @@ places_agree format journal more x h = ap (λ (txs : List Tx). length (image for
 prefix_fits : (format : Format) (xs ys : List Tx) → length (image format xs) ≤ length (image format (xs ++ ys))
 prefix_fits format xs ys = omega (arith, ap length (images_agree format xs ys) ∙ length-append (image format xs) (image_from format (3 + length xs) (length (image format xs)) ys))
 
+-- the places of transactions rise with their numbers
 pub place_grows : PlaceGrows
 unfolding place
 place_grows format journal x y h =
@@ -240,6 +257,7 @@ place_grows format journal x y h =
     let P : List Tx → Type 0 = λ txs. length (image format (take (x - 3) journal)) ≤ length (image format txs) in
     subst P front (prefix_fits format (take (x - 3) journal) (drop (x - 3) (take (y - 3) journal)))
 
+-- a cell is one of at most one transaction
 pub cells_apart : CellsApart
 cells_apart format journal x y cell p q = elim (cases_lt x y) as (λ _. x ≡ y) [
   | inl lt ↦ absurd (omega (arith, place_grows format journal (x + 1) y (omega (arith, lt)), p.before, q.from))
@@ -268,12 +286,14 @@ image_next format journal x tx h e =
     ∙ ap (λ n. image format front ++ (tx_cells format n (length (image format front)) tx ++ [])) count
     ∙ ap (λ cells. image format front ++ cells) (append-nil (tx_cells format x (length (image format front)) tx))
 
+-- from the place of a transaction the arithmetic leads to that of the next
 pub next_place : NextPlace
 unfolding place
 next_place format journal x tx h e =
     let at = place format journal x in
     ap length (image_next format journal x tx h e) ∙ length-append (image format (take (x - 3) journal)) (tx_cells format x at tx) ∙ packed_tx format x at tx (room_place format journal x)
 
+-- between the places of a transaction and of the next one lie its cells
 pub cells_of_each : CellsOfEach
 unfolding place
 cells_of_each format journal x tx h e =
@@ -293,12 +313,14 @@ ended_starts : (at : ℕ) → is_page_start (ended Aborted at) ≡ true
 unfolding ended
 ended_starts at = starts (is_page_start at) at refl
 
+-- behind an aborted transaction a page begins
 pub aborted_ends : AbortedEnds
 unfolding after
 aborted_ends format journal x tx h e aborted =
     let at = put_all format (place format journal x) (take tx.queued tx.notes) in
     ap is_page_start (next_place format journal x tx h e ∙ ap (λ (fate : Fate). ended fate at) aborted) ∙ ended_starts at
 
+-- the place after transactions, by the arithmetic for each in turn
 pub folds : (format : Format) (x at : ℕ) (txs : List Tx) → HasRoom format at → at + length (image_from format x at txs) ≡ fold (after format) at txs
 unfolding image_from
 folds format x at [] room = add-zero at
@@ -310,6 +332,7 @@ folds format x at (tx ∷ txs) room =
     let sum : at + length (cells ++ image_from format (x + 1) (at + length cells) txs) ≡ (at + length cells) + length (image_from format (x + 1) (at + length cells) txs) = simp length-append (omega arith) in
     sum ∙ folds format (x + 1) (at + length cells) txs next ∙ ap (λ n. fold (after format) n txs) here
 
+-- the place of a transaction, by the arithmetic for each before it
 pub place_folds : PlaceFolds
 unfolding place image
 place_folds format journal x = sym (zero-add (length (image format (take (x - 3) journal)))) ∙ folds format 3 0 (take (x - 3) journal) (room_start format)
@@ -329,18 +352,21 @@ put_bytes_takes format at len false e some short =
     let bounds = after_bytes_bounds format (next_page at) len some there in
     (omega (arith, bounds.0), omega (arith, bounds.1))
 
+-- a notification moves the place on, by at most two pages
 pub put_takes : PutTakes
 unfolding put put_bytes
 put_takes format at note h =
     let len = entry_lengths format note h in
     put_bytes_takes format at (entry_length format note) (fits at (entry_length format note)) refl (omega (arith, least_within format, len.least)) len.fits
 
+-- a page has room for each entry, and its rest for a filler
 pub pages_hold : PagesHold
 pages_hold = record {
   rest = λ format at room. record { whole = whole_left format at room.whole; least = room.least; fits = omega arith };
   next = λ format at note h. omega (arith, (entry_lengths format note h).fits);
 }
 
+-- the cells of two lists of notifications, one behind the other
 pub notes_in_turn : NotesInTurn
 unfolding notes_cells
 notes_in_turn format sender at [] more = ap (λ n. notes_cells format sender n more) (sym (add-zero at))
@@ -355,16 +381,19 @@ notes_in_turn format sender at (note ∷ notes) more =
 pub fits_next : (format : Format) (at : ℕ) (note : Note) → IsNote note → fits (next_page at) (entry_length format note) ≡ true
 fits_next format at note h = let small : entry_length format note ≤ bytes_left (next_page at) = pages_hold.next format at note h in grind (arith, nat_tests)
 
+-- where the rest of a page is too short, a filler takes it, and the notification begins the next page
 pub note_moves : NoteMoves
 unfolding note_cells put put_bytes
 note_moves format sender at note h past =
     let here = fits_next format at note h in
     record { cells = rw (past, here); ends = rw (past, here) }
 
+-- a notification ends behind where it begins
 pub put_rises : (format : Format) (at : ℕ) (note : Note) → at < put format at note
 unfolding put put_bytes after_bytes after_rest
 put_rises format at note = let some = (entry_whole format note).1 in grind (arith, common_steps)
 
+-- notifications end no earlier than they begin
 pub put_all_rises : (format : Format) (at : ℕ) (notes : List Note) → at ≤ put_all format at notes
 put_all_rises format at [] = omega arith
 put_all_rises format at (note ∷ notes) = omega (arith, put_rises format at note, put_all_rises format (put format at note) notes)
@@ -383,6 +412,7 @@ after_rises : (format : Format) (at : ℕ) (tx : Tx) → 0 < tx.queued → tx.no
 unfolding after
 after_rises format at tx some any = omega (arith, some_rises format at tx.queued tx.notes some any, ended_rises tx.fate (put_all format at (take tx.queued tx.notes)))
 
+-- behind a transaction that has queued something the next one begins later
 pub place_rises : PlaceRises
 place_rises format journal x tx h e some any = omega (arith, next_place format journal x tx h e, after_rises format (place format journal x) tx some any)
 
@@ -415,6 +445,7 @@ fold_bound format at (tx ∷ txs) h =
     let count : Tx → ℕ = λ t. length t.notes in
     omega (arith, sum_by-cons count tx txs, after_bound format at tx (All-head IsFinished tx txs h), fold_bound format (after format at tx) txs (All-tail IsFinished tx txs h))
 
+-- no place is past two pages for each notification
 pub place_bound : PlaceBound
 place_bound format journal x h =
     let last : place format journal x ≤ place format journal (x + (3 + length journal)) = place_grows format journal x (x + (3 + length journal)) (omega arith) in
@@ -447,6 +478,7 @@ filled_cells-give (a ∷ b ∷ c ∷ d ∷ bytes) whole below =
     let more : bytes_of (filled_cells bytes) ≡ bytes = filled_cells-give bytes (omega (arith, whole)) rest in
     ap (λ (front : List ℕ). front ++ bytes_of (filled_cells bytes)) four ∙ ap (λ (ys : List ℕ). a ∷ b ∷ c ∷ d ∷ ys) more
 
+-- the bytes of an entry, read from its cells
 pub cells_give_bytes : CellsGiveBytes
 cells_give_bytes = record {
   of_bytes = filled_cells-give;

@@ -22,13 +22,14 @@ use Rattle.pgn_journal.specs.Due.{listens, delivery, delivered_by}
 use Rattle.pgn_base.specs.Notes.{IsNote}
 use Rattle.pgn_journal.specs.Bytes.{header_bytes, least_bytes, page_bytes, xid_bits, four_bytes, header, entry_length, spelled, filler, IsHead, IsEntryLength}
 use Rattle.pgn_journal.specs.Packing.{Sender, sender_of, cells_left, bytes_left, next_page, fits, has_room, is_page_start, filled_cells, page_rest, entry_cells, filler_cells, note_cells, notes_cells, end_cells, tx_cells, image_from, image, place, put, put_all, after, after_bytes, after_rest, HasRoom}
-use Rattle.pgn_journal.specs.Pieces.{Piece, AnEntry, AFiller, piece_bytes, piece_length, db_of, number_of, pid_of, lay, note_pieces, notes_pieces, end_pieces, tx_pieces, pieces_from, delivery_of, gives, give_all, has_committed, committed_by, TellsFates, QueuesAll, IsNumbered, IsReadable, IsWritten}
+use Rattle.pgn_journal.specs.Pieces.{Piece, AnEntry, AFiller, piece_bytes, piece_length, db_of, number_of, lay, note_pieces, notes_pieces, end_pieces, tx_pieces, pieces_from, delivery_of, gives, give_all, has_committed, committed_by, TellsFates, QueuesAll, IsNumbered, IsReadable, IsWritten}
 use Rattle.pgn_journal.specs.laws.Pieces.{PiecesInTurn, ImageIsLaid, TransactionsArePacked, PiecesSplit, ImageDrops, JournalIsCut, PiecesGiveDue, PiecesGiveAllDue, FinishedQueueAll, JournalTellsFates, PiecesAreNumbered, NumbersRise, PiecesAreReadable, PieceAdvances, PieceHasBytes, PieceReadsBack, FirstCells, ThirdCell, NumbersGiveBytes, CellsHoldNumbers}
 use Rattle.pgn_journal.proofs.BeginsLaws.{begins-holds, begins-itself, begins-taken}
 use Rattle.pgn_journal.specs.Begins.{Begins}
 use Rattle.pgn_journal.proofs.BytesLemmas.{length-header, length-spelled, length-filler, entry_lengths, are_bytes, reads_back, none_is_filler, filler_reads_back}
 use Rattle.pgn_journal.proofs.PackingLemmas.{length-filled_cells, length-page_rest, least_within, whole_cells, room_next, room_put, room_put_all, room_after, room_after_bytes, length-filler_cells, packed_note, packed_notes, packed_tx, folds, place_folds, room_place, images_agree, pages_hold, four_below}
 
+-- the cells of two lists of pieces, one behind the other
 pub pieces_in_turn : PiecesInTurn
 unfolding lay
 pieces_in_turn format at [] more = ap (λ n. lay format n more) (sym (add-zero at))
@@ -110,6 +111,7 @@ laid_tx format x at tx room =
     (laid_notes format sender at queued room) end
     (laid_end format sender tx.fate there (room_put_all format at queued room) ∙ ap (end_cells format sender tx.fate) (sym end))
 
+-- transactions have the cells of their pieces
 pub image_is_laid : ImageIsLaid
 unfolding lay pieces_from image_from
 image_is_laid format x at [] room = refl
@@ -119,9 +121,11 @@ image_is_laid format x at (tx ∷ txs) room =
     (laid_tx format x at tx room) end
     (sym (image_is_laid format (x + 1) (after format at tx) txs (room_after format at tx room)) ∙ ap (λ n. image_from format (x + 1) n txs) (sym end)))
 
+-- the arithmetic counts the cells of all transactions
 pub transactions_are_packed : TransactionsArePacked
 transactions_are_packed = folds
 
+-- the pieces of two lists of transactions, one behind the other
 pub pieces_split : PiecesSplit
 unfolding pieces_from
 pieces_split format x at [] more = ap (λ n. pieces_from format n at more) (sym (add-zero x))
@@ -137,6 +141,7 @@ none_left : (format : Format) (x y at : ℕ) (txs : List Tx) → txs ≡ [] → 
 unfolding image_from
 none_left format x y at txs e = ap (image_from format x at) e ∙ sym (ap (image_from format y at) e)
 
+-- without the cells before a transaction's place the image is that of the transactions from it on
 pub image_drops : ImageDrops
 unfolding place
 image_drops format journal m low =
@@ -235,6 +240,7 @@ told_tail committed x tx txs tells = record {
   each = λ k t e. let sum : (x + 1) + k ≡ x + suc k = omega arith in ap committed sum ∙ tells.each (suc k) t e;
 }
 
+-- a reader is given the same by transactions and by their pieces
 pub pieces_give_due : PiecesGiveDue
 unfolding pieces_from
 pieces_give_due format x at [] db channels committed queue tells = refl
@@ -250,6 +256,7 @@ queues : (fate : Fate) (queued count : ℕ) → IsQueued fate queued count → f
 queues Committed queued count h e = h
 queues Aborted queued count h e = absurd (cc)
 
+-- a finished transaction that committed has queued all its notifications
 pub finished_queue_all : FinishedQueueAll
 finished_queue_all tx finished = record { all = queues tx.fate tx.queued (length tx.notes) finished.queueing }
 
@@ -268,9 +275,11 @@ told_part journal front m begins low = record {
       ap (λ n. has_committed (slice_get journal n)) place ∙ ap has_committed found;
 }
 
+-- the fates of a journal's transactions are those that it tells by their numbers
 pub journal_tells_fates : JournalTellsFates
 journal_tells_fates journal m low = told_part journal journal m (begins-itself journal) low
 
+-- what is due between two numbers is what the pieces there give
 pub pieces_give_all_due : PiecesGiveAllDue
 pieces_give_all_due format journal m n at db channels queue low =
     let front = take (n - 3) journal in
@@ -314,6 +323,7 @@ numbers_tx format x at tx =
     let queued = take tx.queued tx.notes in
     All-append (OfNumber x) (notes_pieces format sender at queued) (end_pieces sender tx.fate (put_all format at queued)) (numbers_notes format sender at queued) (numbers_end sender tx.fate (put_all format at queued))
 
+-- each piece has the number of its transaction
 pub pieces_are_numbered : PiecesAreNumbered
 unfolding pieces_from OfNumber
 pieces_are_numbered format x at [] = All-nil (IsNumbered x (x + 0))
@@ -328,6 +338,7 @@ pieces_are_numbered format x at (tx ∷ txs) =
 part_counts : (journal : List Tx) (m n : ℕ) → 3 ≤ m → m ≤ n → n ≤ 3 + length journal → m + length (entries_between journal m n) ≡ n
 part_counts journal m n low le high = simp (length-drop, length-take) (omega arith)
 
+-- the image from a transaction's place on, cut where another begins: the pieces before, and the rest
 pub journal_is_cut : JournalIsCut
 journal_is_cut = record {
   cells = λ format journal m n low le high.
@@ -377,6 +388,7 @@ rise_append x pieces more same above rise = λ i j d le lt.
           ]
     ]
 
+-- the numbers of pieces do not fall
 pub numbers_rise : NumbersRise
 unfolding pieces_from
 numbers_rise format x at [] = λ i j d le lt. absurd (omega (arith, lt))
@@ -451,6 +463,7 @@ sound_tx format x at tx room written small =
     let s : IsSender format sender = record { some_db = written.some_db; head = record { db_fits = written.db_fits; xid_fits = small; pid_fits = omega (arith, session) } } in
     All-append (IsReadable format) (notes_pieces format sender at queued) (end_pieces sender tx.fate (put_all format at queued)) (sound_notes format sender at queued room s written.queued_notes) (sound_end format sender tx.fate (put_all format at queued) (room_put_all format at queued room) s)
 
+-- each piece of a written transaction can be read back
 pub pieces_are_readable : PiecesAreReadable
 unfolding pieces_from
 pieces_are_readable format x at [] room written small = All-nil (IsReadable format)
@@ -458,6 +471,7 @@ pieces_are_readable format x at (tx ∷ txs) room written small = All-append (Is
     (sound_tx format x at tx room (All-head IsWritten tx txs written) (omega (arith, small)))
     (pieces_are_readable format (x + 1) (after format at tx) txs (room_after format at tx room) (All-tail IsWritten tx txs written) (omega (arith, small)))
 
+-- a piece moves the place on as the arithmetic says, to one with room
 pub piece_advances : PieceAdvances
 unfolding entry_cells after_bytes after_rest
 piece_advances = record {
@@ -491,6 +505,7 @@ below : (format : Format) (piece : Piece) → IsReadable format piece → All (�
 below format (AnEntry note sender) sound = are_bytes.of_entry format note sender.db sender.xid sender.pid sound.content.0
 below format (AFiller len sender) sound = are_bytes.of_filler format len sender.xid sender.pid
 
+-- a piece that can be read back has its stated length, in bytes
 pub piece_has_bytes : PieceHasBytes
 piece_has_bytes = record { stated = stated; whole = λ format piece sound. whole_cells format (length (piece_bytes format piece)) sound.long.whole; below = below }
 
@@ -505,6 +520,7 @@ same_sender s t db xid pid =
 filler_fits : (format : Format) (len : ℕ) (sender : Sender) → IsReadable format (AFiller len sender) → len ≤ page_bytes
 filler_fits format len sender sound = omega (arith, stated format (AFiller len sender) sound, sound.long.fits)
 
+-- one piece alone is spelled by the bytes that begin with it
 pub piece_reads_back : PieceReadsBack
 piece_reads_back format (AnEntry a s) (AnEntry b t) rest rest' p q e =
     let same = reads_back format a b s.db t.db s.xid t.xid s.pid t.pid rest rest' p.content.0 q.content.0 p.head q.head e in
@@ -539,9 +555,11 @@ second_cell Two (AnEntry note sender) sound = cell_of sender.db sound.head.db_fi
 second_cell One (AFiller len sender) sound = cell_of 0 sound.head.db_fits
 second_cell Two (AFiller len sender) sound = cell_of 0 sound.head.db_fits
 
+-- cell 0 of a piece is its length, cell 1 its database
 pub first_cells : FirstCells
 first_cells = record { first = λ format piece sound. first_cell format piece sound ∙ ap (λ n. Some (Some n)) (sym (stated format piece sound)); second = second_cell }
 
+-- cell 2 of a piece has its transaction's number, as far as a cell holds it
 pub third_cell : ThirdCell
 unfolding filled_cells spelled filler header
 third_cell One (AnEntry note sender) sound small = cell_of sender.xid small
@@ -549,6 +567,7 @@ third_cell Two (AnEntry note sender) sound small = cell_of sender.xid small
 third_cell One (AFiller len sender) sound small = cell_of sender.xid small
 third_cell Two (AFiller len sender) sound small = cell_of sender.xid small
 
+-- the numbers in the cells of bytes tell the bytes
 pub numbers_give_bytes : NumbersGiveBytes
 unfolding filled_cells
 numbers_give_bytes [] [] whole small long holds = refl
@@ -569,6 +588,7 @@ numbers_give_bytes (a ∷ b ∷ c ∷ d ∷ bytes) (n ∷ numbers) whole small l
     let more : flat_map four_bytes numbers ≡ bytes = numbers_give_bytes bytes numbers (omega (arith, whole)) rest (omega (arith, long)) (λ k m e. holds (suc k) m e) in
     ap (λ (front : List ℕ). front ++ flat_map four_bytes numbers) four ∙ ap (λ (ys : List ℕ). a ∷ b ∷ c ∷ d ∷ ys) more
 
+-- four bytes and the number in their cell spell the same
 pub cells_hold_numbers : CellsHoldNumbers
 unfolding filled_cells
 cells_hold_numbers [] k within = absurd (omega (arith, within))

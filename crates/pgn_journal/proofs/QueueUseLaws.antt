@@ -12,6 +12,7 @@ use Rattle.pgn_journal.proofs.JournalLaws.{entry-append, entry-within}
 same-page : (format : Format) (journal more : List Tx) (x page : ℕ) → x ≤ next_xid journal → page ≡ page_of (place format journal x) → page ≡ page_of (place format (journal ++ more) x)
 same-page format journal more x page h e = e ∙ ap page_of (sym (places_agree format journal more x h))
 
+-- a page that was lacking is lacking over a longer journal too
 pub no_page-grows : NoPageGrows
 no_page-grows format limit journal more full h =
     let there : full.xid - 3 < length journal = entry-within journal (full.xid - 3) _ h.cut_short in
@@ -26,6 +27,7 @@ no_page-grows format limit journal more full h =
       holder = h.holder;
     }
 
+-- a usage that was shown is one over a longer journal too
 pub usage-grows : UsageGrows
 usage-grows format limit journal more usage h =
     let floor : place format (journal ++ more) usage.floor_mark ≡ place format journal usage.floor_mark = places_agree format journal more usage.floor_mark (omega (arith, h.floor_below, h.in_journal)) in

@@ -47,5 +47,6 @@ all_are (c ∷ cs) e =
     let P : ℕ → Type 0 = λ byte. byte < 256 in
     All-append P (encode c) (encode_utf8_all cs) (encode_are c (scalar_below c parts.0)) (all_are cs parts.1)
 
+-- the bytes of a text are below 256
 pub utf8_are : (bytes : List ℕ) → IsUtf8 bytes → AreAll bytes
 utf8_are bytes h = subst AreAll h.1.1 (all_are h.0 h.1.0)

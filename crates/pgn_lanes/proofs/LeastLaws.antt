@@ -1,5 +1,5 @@
 -- The least of a list, by its parts and lane by lane.
-use Rattle.std.proofs.Common.{◌≡◌, ℕ, suc, ◌+◌, ◌≤◌, min, cond, ltb, Some, None, List, [], ◌∷◌, ◌++◌, length, take, drop, replicate, refl, sym, ap, ◌∙◌, arith}
+use Rattle.std.proofs.Common.{◌≡◌, ℕ, suc, ◌+◌, ◌≤◌, min, cond, ltb, Some, None, List, [], ◌∷◌, ◌++◌, length, take, drop, refl, sym, ap, ◌∙◌, arith}
 use Rattle.std.specs.Simd.Lanes.{zip2, sel_l, chunk}
 use Rattle.std.proofs.Math.Seq.{take-add}
 use Rattle.std.proofs.lemmas.List.{take-append-drop, take_all}
@@ -17,6 +17,7 @@ least_with-min a b (x ∷ xs) =
     let e : min (min a b) x ≡ min a (min b x) = omega arith in
     ap (λ m. least_with m xs) e ∙ least_with-min a (min b x) xs
 
+-- the least of two lists is that of the second, beginning with that of the first
 pub least_with-append : (m : ℕ) (xs ys : List ℕ) → least_with m (xs ++ ys) ≡ least_with (least_with m xs) ys
 least_with-append m [] ys = refl
 least_with-append m (x ∷ xs) ys = least_with-append (min m x) xs ys
@@ -33,11 +34,6 @@ least_with-merged m (x ∷ xs) (y ∷ ys) h =
     ap (λ k. least_with (min m k) (sel_l (zip2 ltb xs ys) xs ys)) one ∙ ap (λ k. least_with k (sel_l (zip2 ltb xs ys) xs ys)) two
     ∙ least_with-merged (min x (min m y)) xs ys (omega arith)
     ∙ ap (λ k. least_with k xs) (least_with-min x (min m y) ys ∙ three)
-
--- lanes that are all the start
-pub least_with-splat : (m n : ℕ) → least_with m (replicate n m) ≡ m
-least_with-splat m zero = refl
-least_with-splat m (suc n) = let e : min m m ≡ m = omega arith in ap (λ k. least_with k (replicate n m)) e ∙ least_with-splat m n
 
 -- one more block of words
 pub least_with-block : (m n at : ℕ) (lanes words : List ℕ) → length lanes ≡ n → at + n ≤ length words → length (chunk at n words) ≡ n → least_with m lanes ≡ least_with m (take at words)
@@ -85,6 +81,7 @@ none_below x [] (suc k) d h = absurd (omega arith)
 none_below x (y ∷ ys) zero d h = omega arith
 none_below x (y ∷ ys) (suc k) d h = let r = none_below y ys k d (omega arith) in omega arith
 
+-- the least word is one of the words that none is below
 pub least_is_least : (words : List ℕ) (least : ℕ) → (plain_least words ≡ Some least) ↔ (Contains words least × All (λ word. least ≤ word) words)
 least_is_least [] least = (λ e. absurd (cc), λ h. absurd (omega (arith, h.0.1)))
 least_is_least (x ∷ xs) least =
@@ -95,6 +92,7 @@ least_is_least (x ∷ xs) least =
       λ h. let same : own ≡ least = omega (arith, low h.0.0 0 h.0.1, h.0.2, h.1 has.0 0 has.1, has.2) in ap Some same,
     )
 
+-- only an empty list has no least word
 pub only_empty_has_none : (words : List ℕ) → (plain_least words ≡ None) ↔ (words ≡ [])
 only_empty_has_none [] = (λ e. refl, λ e. refl)
 only_empty_has_none (x ∷ xs) = (λ e. absurd (cc), λ e. absurd (cc))

@@ -51,11 +51,13 @@ woken_lanes head db far (suc n) (p ∷ ps) (d ∷ ds) long same h le =
     let rest = woken_lanes head db far n ps ds (omega arith) (omega arith) h (λ k x l. le (suc k) x (omega arith)) in
     (λ i. first i ∷ rest i)
 
+-- there is an answer for each listener
 pub length-plain_behind : (head db : ℕ) (ps ds : List ℕ) → length ps ≡ length ds → length (plain_behind head db ps ds) ≡ length ps
 length-plain_behind head db [] ds h = refl
 length-plain_behind head db (p ∷ ps) [] h = absurd (omega arith)
 length-plain_behind head db (p ∷ ps) (d ∷ ds) h = let r = length-plain_behind head db ps ds (omega arith) in omega arith
 
+-- the lanes' comparison gives the same bits as a test of one listener after another
 pub mask_of_woken : (head db far n : ℕ) (ps ds : List ℕ) → length ps ≡ n → length ds ≡ n → n ≤ 64 → ((p : ℕ) → (p < far) ↔ (page_of p + pages_behind ≤ page_of head)) → All (λ p. p ≤ head) ps
     → mask_l (zip2 ltb ps (sel_l (zip2 eqb ds (replicate n db)) (replicate n head) (replicate n far))) % 2 ^ 64 ≡ mask_l (plain_behind head db ps ds)
 mask_of_woken head db far n ps ds long same small h le =

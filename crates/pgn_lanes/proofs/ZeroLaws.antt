@@ -82,6 +82,7 @@ position_later x xs e =
       | false ↦ refl
     ])
 
+-- the zero that is found is the first one
 pub zero_is_first : (bytes : List ℕ) → plain_zero bytes ≡ position is_zero bytes
 zero_is_first [] = refl
 zero_is_first (x ∷ xs) = elim (is_zero x) as (λ b. is_zero x ≡ b → cond b (Some 0) (option_map (λ place. place + 1) (plain_zero xs)) ≡ position is_zero (x ∷ xs)) [

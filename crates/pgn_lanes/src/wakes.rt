@@ -18,7 +18,8 @@ const PAGES_BEHIND: u64 = 4;
 
 // The first cell at which a listener of another database is not woken.
 fn far_below(head: u64) -> u64
-    ensures { (position : ℕ) → (position < result) ↔ (page_of position + pages_behind ≤ page_of head) }
+    ensures { (position : ℕ)
+        → (position < result) ↔ (page_of position + pages_behind ≤ page_of head) }
 {
     (head / PAGE_CELLS).saturating_sub(PAGES_BEHIND - 1) * PAGE_CELLS
 }

@@ -21,10 +21,12 @@ abbrev pub NoNul : List ℕ → Type 0
 NoNul [] = Unit {0}
 NoNul (b ∷ bytes) = (b ≡ 0 → ⊥) × NoNul bytes
 
+-- bytes of which none is 0, by a walk over them
 pub nul-from : (bytes : List ℕ) → (Contains bytes 0 → ⊥) → NoNul bytes
 nul-from [] h = tt
 nul-from (b ∷ bytes) h = (λ e. h (0, omega arith, e), nul-from bytes (λ c. h (Contains-append_right (b ∷ []) bytes 0 c)))
 
+-- what the walk finds free of 0 has none
 pub nul-none : (bytes : List ℕ) → NoNul bytes → Contains bytes 0 → ⊥
 nul-none [] h c = absurd (omega (arith, c.1))
 nul-none (b ∷ bytes) h c = elim (Contains-append_cases (b ∷ []) bytes 0 c) [
@@ -139,12 +141,15 @@ folded-nul : (text : List ℕ) → NoNul text → NoNul (map to_ascii_lowercase 
 folded-nul [] h = tt
 folded-nul (b ∷ text) h = (λ e. h.0 (folded-zero b e), folded-nul text h.1)
 
+-- a text in small letters is still a text
 pub folded : (text : List ℕ) → IsText text → IsText (str_to_ascii_lowercase text)
 folded text t = record { utf8 = folded-utf8 [] text t.utf8; no_nul = folded-nul text t.no_nul }
 
+-- no bytes are a text
 pub none-text : IsText []
 none-text = record { utf8 = IsUtf8-nil; no_nul = tt }
 
+-- a text many times over is a text
 pub repeated-text : (n : ℕ) (text : List ℕ) → IsText text → IsText (repeat n text)
 repeated-text zero text t = none-text
 repeated-text (suc n) text t =
@@ -160,6 +165,7 @@ IsClean (Number digits) = Unit {0}
 IsClean (Sign sign) = Unit {0}
 IsClean Wrong = Unit {0}
 
+-- each of these tokens is clean
 abbrev pub AllClean : List Lexeme → Type 0
 AllClean [] = Unit {0}
 AllClean (lexeme ∷ lexemes) = IsClean lexeme × AllClean lexemes
@@ -215,5 +221,6 @@ covered-clean at _ _ (Tokened _ lexeme rest some h next) t =
     (parts.0, covered-clean (at + length (written lexeme)) rest some next parts.1)
 covered-clean at _ _ (Stuck _ b bytes n) t = (tt, tt)
 
+-- all tokens of a text are clean
 pub tokens-clean : (text : List ℕ) → IsText text → AllClean (lexemes_of (tokens text))
 tokens-clean text t = covered-clean 0 text (tokens text) (tokens-cover text) t

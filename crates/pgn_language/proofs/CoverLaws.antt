@@ -284,6 +284,7 @@ cover-from at (suc taken) (b ∷ bytes) = subst (λ (n : ℕ). Covers n (drop ta
 cover-from at zero (b ∷ bytes) = subst (λ (n : ℕ). Covers n (b ∷ bytes) (tokens_from at 0 (b ∷ bytes))) (omega arith)
     (cover-front at b bytes (front (kind b bytes) b bytes) (front-says b bytes) refl (λ taken. cover-from (at + 1) taken bytes))
 
+-- the tokens of a text cover it from its first byte on
 pub tokens-cover : (text : List ℕ) → Covers 0 text (tokens text)
 tokens-cover text = cover-from 0 0 text
 
@@ -300,6 +301,7 @@ token-from at lexeme rest h =
     tokens-skip (at + 1) leads.0 (drop 1 (written lexeme ++ rest)) ∙ ap (λ (l : List ℕ). tokens_from ((at + 1) + leads.0) 0 l) past ∙ ap (λ (n : ℕ). tokens_from n 0 rest) (omega (arith, leads.2)) in
     front-from at (written lexeme ++ rest) lexeme leads.0 leads.1 ∙ ap (λ (ts : List Token). record { lexeme = lexeme; at = at } ∷ ts) after
 
+-- tokens that cover bytes are those that are cut from them
 pub one-cover : (at : ℕ) (bytes : List ℕ) (some : List Token) → Covers at bytes some → some ≡ tokens_from at 0 bytes
 one-cover at _ _ (Ended _) = refl
 one-cover at _ _ (Commented _ b bytes h) = sym (ap (after_front at bytes) (front-comment b bytes h))

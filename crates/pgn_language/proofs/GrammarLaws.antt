@@ -75,6 +75,7 @@ begin_one-front (form ∷ forms) lexemes more h = elim (or_cases (prefix_fits fo
   | inr e ↦ or_right _ _ (begin_one-front forms lexemes more e)
 ]
 
+-- tokens begin a form exactly where the computed test says so
 pub begins-computes : (lexemes : List Lexeme) → BeginsForm lexemes ↔ (begin_one table lexemes ≡ true)
 begins-computes lexemes = (
   (λ h. one-begins table lexemes h.more h.command h.form),
@@ -198,6 +199,7 @@ stop-at forms end front (t ∷ ts) token rest h k =
     let last : begin_one forms (front ++ t.lexeme ∷ [] ++ lexemes_of (ts ++ token ∷ [])) ≡ false = ap (begin_one forms) (append_assoc front (t.lexeme ∷ []) (lexemes_of (ts ++ token ∷ []))) ∙ k in
     rw (begin_one-front forms (front ++ t.lexeme ∷ []) (lexemes_of ts) next, stop) (stop-at forms end (front ++ t.lexeme ∷ []) ts token rest next last)
 
+-- what a text reads as is what is computed
 pub reads-computes : (text : List ℕ) (command : Command) → ReadsAs text command → reading text ≡ command
 reads-computes text _ (Whole command form) = ap (reading_of (length text) (tokens text)) (command_of-one table (lexemes_of (tokens text)) command table_clash form)
 reads-computes text _ (Stops front token rest e begin stuck) =
@@ -230,6 +232,7 @@ nothing_begins : begin_one table [] ≡ true
 unfolding table
 nothing_begins = refl
 
+-- a text reads as what is computed of it
 pub reading-reads : (text : List ℕ) → ReadsAs text (reading text)
 reading-reads text =
     elim (command_of table (lexemes_of (tokens text))) as (λ o. command_of table (lexemes_of (tokens text)) ≡ o → ReadsAs text (reading_of (length text) (tokens text) o)) [
@@ -237,9 +240,11 @@ reading-reads text =
       | None ↦ λ e. reads_where text [] (tokens text) refl nothing_begins e
     ] refl
 
+-- the grammar and the computed reading are the same
 pub reading-computes : (text : List ℕ) (command : Command) → ReadsAs text command ↔ (reading text ≡ command)
 reading-computes text command = (reads-computes text command, λ e. subst (λ (c : Command). ReadsAs text c) e (reading-reads text))
 
+-- a text has a reading, and no other one
 pub one-reading : (text : List ℕ) → (command : Command) × ReadsAs text command × ((other : Command) → ReadsAs text other → other ≡ command)
 one-reading text = (reading text, reading-reads text, λ other h. sym (reads-computes text other h))
 
@@ -294,6 +299,7 @@ some-any_front : (ways : List (List Slot)) → any_front ways [] ≡ true → wa
 some-any_front [] h e = false≢true h
 some-any_front (slots ∷ ways) h e = cc
 
+-- tokens begin a form exactly where some row of the table is left behind them
 pub followers-tell : (lexemes : List Lexeme) → BeginsForm lexemes ↔ (followers table_slots lexemes ≢ [])
 followers-tell lexemes =
     let same : begin_one table lexemes ≡ any_front (followers table_slots lexemes) [] = sym (any_front-forms table lexemes) ∙ any_front-followers table_slots lexemes in (
@@ -313,11 +319,13 @@ whole-one (form ∷ forms) ts h = elim (or_cases (all_fit form.slots ts) (any_wh
   | inr e ↦ let rest : (command : Command) × IsOneOf forms ts command = whole-one forms ts e in (rest.0, inr rest.1)
 ]
 
+-- tokens are a whole form exactly where a row that is left behind them is at its end
 pub followers-done : (lexemes : List Lexeme) → ((command : Command) × IsOneOf table lexemes command) ↔ (list_any is_done (followers table_slots lexemes) ≡ true)
 followers-done lexemes =
     let same : any_whole table_slots lexemes ≡ list_any is_done (followers table_slots lexemes) = any_whole-followers table_slots lexemes in
     (λ h. sym same ∙ one-whole table lexemes h.0 h.1, λ h. whole-one table lexemes (same ∙ h))
 
+-- the front of tokens that begin a form begins one
 pub front-begins : (front rest : List Lexeme) → BeginsForm (front ++ rest) → BeginsForm front
 front-begins front rest h = (begins-computes front).1 (begin_one-front table front rest ((begins-computes (front ++ rest)).0 h))
 
@@ -341,5 +349,6 @@ wrong-one (form ∷ forms) front rest h = elim (or_cases (prefix_fits form.slots
   | inr e ↦ wrong-one forms front rest e
 ]
 
+-- tokens with a wrong one among them begin no form
 pub wrong-fits_nowhere : (front rest : List Lexeme) → BeginsForm (front ++ Wrong ∷ rest) → ⊥
 wrong-fits_nowhere front rest h = wrong-one table front rest ((begins-computes (front ++ Wrong ∷ rest)).0 h)

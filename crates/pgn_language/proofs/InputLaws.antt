@@ -67,6 +67,7 @@ none-sound before (line ∷ lines) h = elim (one_of (fault_of before line)) [
 pub sound-first : (before : List (List ℕ)) (line : List ℕ) (lines : List (List ℕ)) → SoundAfter before (line ∷ lines) → fault_of before line ≡ None
 sound-first before line lines h = ap (λ (b : List (List ℕ)). fault_of b line) (sym (append-nil before)) ∙ h [] line lines refl
 
+-- lines that are sound after others: those behind the first are sound after it too
 pub sound-rest : (before : List (List ℕ)) (line : List ℕ) (lines : List (List ℕ)) → SoundAfter before (line ∷ lines) → SoundAfter (before ++ line ∷ []) lines
 sound-rest before line lines h front other more e =
     ap (λ (b : List (List ℕ)). fault_of b other) (append_assoc before (line ∷ []) front) ∙ h (line ∷ front) other more (ap (λ (l : List (List ℕ)). line ∷ l) e)
@@ -127,6 +128,7 @@ reads-lines input within = elim (one_of (first_fault [] (lines_of input))) [
       rw (p.1, lines_reading) (Faulty within first.front first.line first.rest first.whole first.sound p.0 first.here)
 ]
 
+-- an input reads as what is computed of it
 pub input-reads : (input : List ℕ) → ReadsAsScenario input (input_reading input)
 input-reads input = elim (cases_lt INPUT_BYTES_MAX (length input)) [
   | inl l ↦ rw (lt-ltb INPUT_BYTES_MAX (length input) l, input_reading) (Large l)
@@ -140,6 +142,7 @@ within-lines input l = rw (le-ltb INPUT_BYTES_MAX (length input) l, input_readin
 sound-whole : (lines : List (List ℕ)) → HaveNoFault lines → lines_reading lines ≡ whole_reading lines
 sound-whole lines h = rw (sound-none [] lines h, lines_reading) refl
 
+-- what an input reads as is what is computed
 pub reads-input : (input : List ℕ) (read : Result Scenario ScenarioFault) → ReadsAsScenario input read → input_reading input ≡ read
 reads-input input _ (Large l) = rw (lt-ltb INPUT_BYTES_MAX (length input) l, input_reading) refl
 reads-input input _ (Faulty l before line rest e sound found here) =
@@ -149,9 +152,11 @@ reads-input input _ (Sectionless l sound e) = within-lines input l ∙ sound-who
 reads-input input _ (Unsignalled l sound e n f) = within-lines input l ∙ sound-whole (lines_of input) sound ∙ rw (e, f, whole_reading) refl
 reads-input input _ (Faultless l sound e f) = within-lines input l ∙ sound-whole (lines_of input) sound ∙ rw (e, f, whole_reading) refl
 
+-- the reading of an input and the computed one are the same
 pub input-computes : (input : List ℕ) (read : Result Scenario ScenarioFault) → ReadsAsScenario input read ↔ (input_reading input ≡ read)
 input-computes input read = (reads-input input read, λ e. subst (λ (r : Result Scenario ScenarioFault). ReadsAsScenario input r) e (input-reads input))
 
+-- an input has a reading, and no other one
 pub one-input_reading : (input : List ℕ)
     → (read : Result Scenario ScenarioFault) × ReadsAsScenario input read × ((other : Result Scenario ScenarioFault) → ReadsAsScenario input other → other ≡ read)
 one-input_reading input = (input_reading input, input-reads input, λ other h. sym (reads-input input other h))
@@ -207,6 +212,7 @@ three_fail true b c p q r = absurd (cc)
 three_fail false true c p q r = absurd (cc)
 three_fail false false true p q r = absurd (cc)
 
+-- one more line that notifies is no fault, where a section stands before it and neither QUIT nor too many are
 pub one-note_line_within : (n : ℕ) (before : List Says) (note : Note) → has_quit before ≡ false → has_section before ≡ true → are_too_many before ≡ false → count_by notifies before ≤ 65535
     → fault_said n before (Runs (command.Notify note)) ≡ None
 one-note_line_within n before note q s few c =
@@ -247,6 +253,7 @@ large-read input _ within e (Sectionless l sound none) = absurd (cc)
 large-read input _ within e (Unsignalled l sound some n f) = absurd (cc)
 large-read input _ within e (Faultless l sound some f) = absurd (cc)
 
+-- an input that is not over its limit is not refused as too large
 pub large-only : (input : List ℕ) → length input ≤ INPUT_BYTES_MAX → ReadsAsScenario input (Err fault.TooLarge) → ⊥
 large-only input within h = large-read input (Err fault.TooLarge) within refl h
 
@@ -283,6 +290,7 @@ spaces-no_fault n within =
 one_line-sound : (line : List ℕ) → fault_of [] line ≡ None → HaveNoFault (line ∷ [])
 one_line-sound line h = none-sound [] (line ∷ []) (rw (h, first_fault) refl)
 
+-- blanks alone are an input with nothing in it
 pub blank-line : (n : ℕ) → n ≤ 65536 → ReadsAsScenario (replicate n 32) (Err fault.Empty)
 blank-line zero within = Sectionless (omega arith) (λ front line rest e. absurd (nothing_in front line rest e)) refl
 blank-line (suc n) within =

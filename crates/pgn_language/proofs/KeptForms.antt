@@ -166,6 +166,7 @@ IsPlain command.ListeningChannels = Unit {0}
 IsPlain command.QueueUsage = Unit {0}
 IsPlain other = ⊥
 
+-- what a rule has to keep, from the tokens to the command that they make
 pub record Keeps (r : Rule) : Type 0 where
   pub nothing : r.clean Wrong
   pub named : (lexeme : Lexeme) → fits_slot Name lexeme ≡ true → r.clean lexeme → r.suits AName (name_of lexeme)

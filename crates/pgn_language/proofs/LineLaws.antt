@@ -37,10 +37,12 @@ last_line x (y ∷ line) h =
     let parts : ((x == 10) ≡ false) × (lacks 10 (y ∷ line) ≡ true) = lacks-parts x (y ∷ line) h in
     cond-false (x == 10) ([] ∷ lines_of (y ∷ line)) (onto_first x (lines_of (y ∷ line))) parts.0 ∙ ap (onto_first x) (last_line y line parts.1)
 
+-- some bytes without LF are one line
 pub lines_last : (line : List ℕ) → lacks 10 line ≡ true → 0 < length line → lines_of line ≡ line ∷ []
 lines_last [] h some = absurd (omega arith)
 lines_last (x ∷ line) h some = last_line x line h
 
+-- lines are cut at LF, and what stands behind the last LF is one too
 pub lines-are_cut : LinesAreCut
 lines-are_cut = record { ended = lines-cut; last = lines_last; none = refl }
 
@@ -129,6 +131,7 @@ is-trimmed line =
       last = λ byte front e. fails_at is_blank turned byte (reverse front) (sym (reverse-reverse (trimmed_start turned)) ∙ ap reverse e ∙ reverse-append front (byte ∷ []));
     }
 
+-- a line has one text: what is left of it without the blanks at its ends
 pub texts-trimmed : (line text : List ℕ) → IsTextOf line text ↔ (text ≡ trimmed line)
 texts-trimmed line text = (
   (λ h. trimmed-is h.before text h.after h.blank_before h.blank_after h.first h.last ∙ ap trimmed (sym h.whole)),
@@ -167,6 +170,7 @@ parts_last : (part : List ℕ) → list_any is_gap part ≡ false → 0 < length
 parts_last [] h some = absurd (omega arith)
 parts_last (x ∷ part) h some = ap (filter (λ p. not (is_empty p))) (split-last (x ∷ part) h) ∙ kept x part []
 
+-- parts are cut at blanks, however many, and the last one ends with the text
 pub parts-are_cut : PartsAreCut
 parts-are_cut = record {
   ended = parts_ended;
@@ -220,6 +224,7 @@ text-nothing (byte ∷ bytes) = elim (cases_Bool (byte == 92)) [
   )
 ]
 
+-- a line says nothing exactly where its text reads as no command
 pub blank-reads_empty : (line : List ℕ) → (says line ≡ SaysNothing) ↔ ReadsAs (trimmed line) command.Empty
 unfolding says
 blank-reads_empty line = (

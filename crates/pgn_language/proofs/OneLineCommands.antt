@@ -21,9 +21,11 @@ use Rattle.pgn_language.proofs.GrammarLaws.{reading-reads}
 use Rattle.pgn_language.proofs.CoverLaws.{tokens-cover}
 use Rattle.pgn_language.proofs.KeptForms.{Rule, AllClean, Keeps, IsPlain, kept-reading}
 
+-- no bytes stand on one line
 pub none-line : IsOneLine []
 none-line c = omega (arith, c.1)
 
+-- a byte that is no LF, before bytes on one line
 pub line-cons : (b : ℕ) (text : List ℕ) → (b == 10) ≡ false → IsOneLine text → IsOneLine (b ∷ text)
 line-cons b text e h c = elim (Contains-append_cases (b ∷ []) text 10 c) [
   | inl d ↦
@@ -178,8 +180,10 @@ keeps-line = record {
   pg_notify = pg_notify-line;
 }
 
+-- what is computed of a text on one line names and sends on one line
 pub reads-one_line : (text : List ℕ) → IsOneLine text → IsOneLineCommand (reading text)
 reads-one_line text h = kept-reading one_line keeps-line text (reading text) (covered-clean 0 text (tokens text) (tokens-cover text) h) (λ at. tt) (reading-reads text)
 
+-- what a text on one line reads as names and sends on one line
 pub commands-one_line : (text : List ℕ) (one : Command) → IsOneLine text → ReadsAs text one → IsOneLineCommand one
 commands-one_line text one h read = kept-reading one_line keeps-line text one (covered-clean 0 text (tokens text) (tokens-cover text) h) (λ at. tt) read

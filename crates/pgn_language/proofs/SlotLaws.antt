@@ -99,6 +99,7 @@ stand_from text before (b ∷ bytes) at zero e l =
       | NoToken ↦ λ f. ((b ∷ bytes, here), tt)
     ] refl
 
+-- each token of a text has a spelling that it may have
 pub tokens-stand : (text : List ℕ) → AllStand text (tokens text)
 tokens-stand text = stand_from text [] text 0 0 refl refl
 

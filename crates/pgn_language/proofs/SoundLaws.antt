@@ -589,5 +589,6 @@ readings-sound input _ (Sectionless l sound e) = tt
 readings-sound input _ (Unsignalled l sound e n f) = tt
 readings-sound input _ (Faultless l sound e f) = sound-scenario (lines_of input) sound (lines-lack input) e
 
+-- an input that reads as a scenario reads as a sound one
 pub only-sound : (input : List ℕ) (scenario : Scenario) → ReadsAsScenario input (Ok scenario) → IsSound scenario
 only-sound input scenario h = readings-sound input (Ok scenario) h

@@ -83,6 +83,7 @@ taken k text h e = record {
   longest = λ m a b c. omega (arith, length-take k text);
 }
 
+-- a text is cut to the longest front that has so many bytes and cuts no character
 pub cut-longest : (n : ℕ) (text : List ℕ) → IsUtf8 text → IsLongestPrefix n text (cut n text)
 unfolding cut
 cut-longest zero text h = record { prefix = refl; short = omega arith; whole = IsUtf8-nil; longest = λ m a b c. a }
@@ -141,6 +142,7 @@ ended quote b rest inside e ends h =
     let k : Some none ≡ Some inside = sym (ap (λ (x : ℕ). closed quote (x ∷ rest)) p ∙ closed-end quote rest ends) ∙ h in
     same_rest quote (b ∷ rest) none inside (cc) (closed-one quote b rest p ends)
 
+-- what is found between quotes is spelled by the bytes up to the closing one
 pub closed-spells : (quote : ℕ) (bytes : List ℕ) (inside : Inside) → closed quote bytes ≡ Some inside → IsClosed quote bytes inside
 closed-spells quote [] inside h = absurd (cc)
 closed-spells quote (b ∷ []) inside h = elim (cases_Bool (b == quote)) [
@@ -161,6 +163,7 @@ closed-spells quote (b ∷ c ∷ bytes) inside h = elim (cases_Bool (b == quote)
       same_rest quote (b ∷ c ∷ bytes) (preceded b 1 p.0) inside p.2 (closed-more quote b (c ∷ bytes) p.0 e (closed-spells quote (c ∷ bytes) p.0 p.1))
 ]
 
+-- it is found exactly where the bytes spell it
 pub quotes-tell : (quote : ℕ) (bytes : List ℕ) (inside : Inside) → (closed quote bytes ≡ Some inside) ↔ IsClosed quote bytes inside
 quotes-tell quote bytes inside = (
   closed-spells quote bytes inside,
@@ -178,6 +181,7 @@ first_from (c ∷ cs) text s e l =
     let part : take (length (encode_utf8 c)) text ≡ encode_utf8 c = ap (take (length (encode_utf8 c))) (sym e) ∙ take_at (encode_utf8 c) (encode_utf8_all cs) (length (encode_utf8 c)) refl in
     (length (encode_utf8 c), omega (arith, bounds.0), omega (arith, bounds.1), omega arith, subst (λ (x : List ℕ). IsUtf8 x) (sym part) (IsUtf8-encode c (and_parts _ _ s).0))
 
+-- a text that is cut at 63 bytes is a name, where it has some bytes and no 0
 pub cut-name : (text : List ℕ) → IsUtf8 text → 0 < length text → (Contains text 0 → ⊥) → IsName (cut 63 text)
 cut-name text h l no_nul =
     let part : IsLongestPrefix 63 text (cut 63 text) = cut-longest 63 text h in

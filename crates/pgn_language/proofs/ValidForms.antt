@@ -115,6 +115,7 @@ keeps-validity = record {
   pg_notify = λ n channel payload. limited-pg_notify n channel payload (past_limit n) refl;
 }
 
+-- what a text without 0 reads as is within the limits of names and payloads
 pub readings-valid : (text : List ℕ) (one : Command) → IsUtf8 text → (Contains text 0 → ⊥) → ReadsAs text one → IsValid one
 readings-valid text one u n h =
     let clean : AllClean (lexemes_of (tokens text)) = tokens-clean text (record { utf8 = u; no_nul = nul-from text n }) in

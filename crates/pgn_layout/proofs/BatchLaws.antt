@@ -12,6 +12,7 @@ use Rattle.pgn_layout.specs.Batches.{IsWhole, IsFilled, IsPlanned, Whole, Filled
 use Rattle.pgn_layout.specs.Laws.{RunsAreCells, BatchesStay, FillersTakeRests}
 use Rattle.pgn_layout.proofs.RunLaws.{runs_cells, runs_within, runs_tight, run_ends, runs-take}
 
+-- the cells of a run are those of its entries, with the rest of the page where it is filled
 pub runs_are_cells : RunsAreCells
 runs_are_cells = record { cells = runs_cells; within = runs_within; tight = runs_tight; ends = run_ends; firsts = runs-take }
 
@@ -114,6 +115,7 @@ leaves_page : (format : Format) (at : ℕ) (notes : List Note) (batch : Batch) �
 leaves_page format at notes batch (Whole whole) left = elim whole.stops [ inl all ↦ absurd (omega (arith, all, left)) | inr page ↦ page ]
 leaves_page format at notes batch (Filled filled) left = filled.ends
 
+-- a batch ends on its page, at its end where a notification is left
 pub batches_stay : BatchesStay
 batches_stay = record { cells = cells_stay; page = page_stays; room = room_stays; leaves = leaves_page }
 
@@ -128,5 +130,6 @@ filler_long format at notes batch room (Whole whole) some = absurd (omega (arith
 filler_long format at notes batch room (Filled filled) some =
     subst (λ (n : ℕ). IsEntryLength format n) (sym filled.rest) (pages_hold.rest format (put_all format at (take batch.fits notes)) (filled_room format at notes batch room))
 
+-- a filler begins behind the batch's entries and ends with the page
 pub fillers_take_rests : FillersTakeRests
 fillers_take_rests = record { stands = filler_stands; long = filler_long }

@@ -50,6 +50,7 @@ both_run notes rest =
     run_on One 0 2005 (letters (byte "x") 7999) (letters (byte "x") 133 ∷ notes) (fitting One 0 7999) first_put (omega arith)
     (run_on One 2005 2043 (letters (byte "x") 133) notes (fitting One 2005 133) second_put (omega arith) rest)
 
+-- three notifications that end with the page are a batch without a filler
 pub edge_batch : IsPlanned One 0 to_the_edge (record { fits = 3; filler = 0; next = place_at 1 0 })
 edge_batch = Whole (record {
   count = omega arith;
@@ -59,6 +60,7 @@ edge_batch = Whole (record {
   stops = inl refl;
 })
 
+-- where the next one does not fit, a filler ends the batch
 pub filled_batch : IsPlanned One 0 over_the_edge first_batch
 filled_batch = Filled (record {
   count = omega arith;
@@ -69,6 +71,7 @@ filled_batch = Filled (record {
   ends = refl;
 })
 
+-- the one that is left is a batch of its own, on the next page
 pub whole_batch : IsPlanned One (place_at 1 0) (letters (byte "x") 5 ∷ []) last_batch
 whole_batch = Whole (record {
   count = omega arith;
@@ -78,9 +81,6 @@ whole_batch = Whole (record {
   stops = inl refl;
 })
 
-pub no_note_batch : IsPlanned One (place_at 0 20) [] (record { fits = 0; filler = 0; next = place_at 0 20 })
-no_note_batch = Whole (record { count = omega arith; entries = tt; no_filler = refl; ends = refl; stops = inl refl })
-
 -- a batch that differs from the planned one is not planned
 pub not_planned : (format : Format) (at : ℕ) (notes : List Note) (planned other : Batch) → IsPlanned format at notes planned → (other ≡ planned → ⊥) → IsPlanned format at notes other → ⊥
 not_planned format at notes planned other good apart h = apart (one_batch format at notes other planned h good)
@@ -89,6 +89,7 @@ not_planned format at notes planned other good apart h = apart (one_batch format
 pub both_batches : AreBatches One 0 over_the_edge (first_batch ∷ last_batch ∷ [])
 both_batches = (filled_batch, (whole_batch, refl))
 
+-- the notifications over the edge take one filler, of 20 bytes
 pub one_filler : fillers_from One 0 over_the_edge ≡ 20 ∷ []
 one_filler =
     let past : fits (put One (put One 0 (letters (byte "x") 7999)) (letters (byte "x") 133)) (entry_length One (letters (byte "x") 5)) ≡ false
@@ -163,6 +164,7 @@ no_filler_two = not_planned Two 0 to_the_edge_two _ _ edge_batch_two (λ e. omeg
 pub no_short_filler_two : IsPlanned Two (place_at 0 0) over_the_edge_two (record { fits = 2; filler = 24; next = place_at 1 0 }) → ⊥
 no_short_filler_two = not_planned Two 0 over_the_edge_two first_batch_two _ filled_batch_two (λ e. omega (arith, ap (λ (b : Batch). b.filler) e))
 
+-- the same in format Two
 pub ruleset batches_two = (edge_batch_two, filled_batch_two, whole_batch_two, both_batches_two, no_filler_two, no_short_filler_two)
 
 -- nothing is placed yet

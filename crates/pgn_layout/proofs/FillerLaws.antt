@@ -84,6 +84,7 @@ leaves format at notes batch room valid (Filled filled) =
       ends = ap (put_all format at) split ∙ fold-append (put format) at first rest ∙ needs.ends ∙ ap (λ n. put_all format n rest) next;
     }
 
+-- batch by batch the fillers are those of the notifications one by one
 pub batches_fillers : (format : Format) (at : ℕ) (notes : List Note) (batches : List Batch) → HasRoom format at → All IsNote notes → AreBatches format at notes batches
     → batch_fillers batches ≡ fillers_from format at notes
 batches_fillers format at notes [] room valid are = ap (fillers_from format at) (sym are)
@@ -92,6 +93,7 @@ batches_fillers format at notes (batch ∷ batches) room valid are =
     let rest = batches_fillers format batch.next (drop batch.fits notes) batches (batches_stay.room format at notes batch room are.0) (All-drop IsNote batch.fits notes valid) are.1 in
     ap (λ more. cond (batch.filler == 0) [] (batch.filler ∷ []) ++ more) rest ∙ sym left.fillers
 
+-- batch by batch they end where they do one by one
 pub batches_ends : (format : Format) (at : ℕ) (notes : List Note) (batches : List Batch) → HasRoom format at → All IsNote notes → AreBatches format at notes batches
     → batches_end at batches ≡ put_all format at notes
 batches_ends format at notes [] room valid are = ap (put_all format at) (sym are)

@@ -86,7 +86,9 @@ same_plan format at notes a b same (Filled p) (Whole q) = absurd (not_both forma
 same_plan format at notes a b same (Filled p) (Filled q) =
     same_batch a b same (p.rest ∙ ap (λ n. bytes_left (put_all format at (take n notes))) same ∙ sym q.rest) (p.ends ∙ sym q.ends)
 
+-- of two batches planned from one place for the same notifications each field is the same
 pub one_batch : OneBatch
 one_batch format at notes a b p q = same_plan format at notes a b (same_count format at notes a b p q) p q
 
+-- the laws of one batch
 pub ruleset batch_laws = (runs_are_cells, batches_stay, fillers_take_rests, one_batch)

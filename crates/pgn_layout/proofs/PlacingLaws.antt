@@ -24,6 +24,7 @@ use Rattle.pgn_layout.proofs.RunLaws.{notes_move}
 use Rattle.pgn_layout.proofs.FillerLaws.{batches_fillers, batches_ends}
 use Rattle.pgn_layout.proofs.BatchLaws.{whole_padded, filled_padded, same_page}
 
+-- with none placed the cells are those from before
 pub placing_begins : PlacingBegins
 unfolding notes_cells
 placing_begins format sender before notes = AfterNotes (record { within = omega arith; ends = refl; cells_are = sym (append-nil before) })
@@ -140,6 +141,7 @@ stands_room format sender before notes count at cells room (AfterNotes stands) =
 stands_room format sender before notes count at cells room (AfterFiller stands) =
     subst (λ (n : ℕ). HasRoom format n) (sym stands.ends) (room_next format (put_all format (length before) (take count notes)))
 
+-- a writer's place is the end of its cells, and leaves room for an entry
 pub placing_stands : PlacingStands
 placing_stands = record { end = stands_end; room = stands_room }
 
@@ -188,6 +190,7 @@ goes_further format sender before notes count at cells batch stands room first v
     let some : 0 < batch.fits = at_least_one batch.fits (writes_some format end at (drop count notes) batch placed.ends (All-drop IsNote count notes valid) placed.too_long planned) in
     takes_further format sender before notes count at cells batch stands room placed.within (reaches_moved format sender before notes count batch.fits at cells first valid placed some) planned
 
+-- behind the cells of a planned batch more notifications are placed
 pub placing_goes_on : PlacingGoesOn
 placing_goes_on format sender before notes count at cells batch room valid placed planned =
     goes_further format sender before notes count at cells batch (stands_end format sender before notes count at cells room placed)
@@ -252,6 +255,7 @@ committed_draft format seen session db notes at cells (AfterNotes stands) =
     one_more_image.committed format seen (draft session db notes (length notes) Committed) refl ∙ sym stands.cells_are
 committed_draft format seen session db notes at cells (AfterFiller stands) = absurd (none_left format _ notes stands.too_long)
 
+-- the cells of a writer are the image of the journal with its transaction, as far as it is placed
 pub placed_is_draft : PlacedIsDraft
 placed_is_draft = record { some = some_draft; aborted = aborted_draft; committed = committed_draft }
 
@@ -261,6 +265,7 @@ first_left format end [] count past = absurd (subst (λ (ns : List Note). FirstI
 first_left format end (note ∷ notes) zero past = past
 first_left format end (note ∷ notes) (suc count) past = first_left format end notes count past
 
+-- a writer that stops at a page's beginning with some left has cut its transaction short
 pub placed_is_cut_short : PlacedIsCutShort
 placed_is_cut_short format sender before session db notes count at cells (AfterNotes stands) starts left =
     record { aborted = refl; some = refl; not_all = left; stopped = inl (ap is_page_start (sym stands.ends) ∙ starts) }
@@ -301,4 +306,5 @@ batches_cells format sender before notes batches room valid are =
 pub batches_are_put : BatchesArePut
 batches_are_put = record { ends = batches_ends; fillers = batches_fillers; cells = batches_cells }
 
+-- the laws of a writer that places batch after batch
 pub ruleset placing_laws = (placing_begins, placing_stands, placing_goes_on, placing_ends, placed_is_draft, batches_are_put)

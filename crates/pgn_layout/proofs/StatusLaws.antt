@@ -54,9 +54,11 @@ two_bits_above code shift other small h =
     let low : code * 2 ^ shift < 2 ^ other = omega (arith, shifted_low code shift small, up) in
     ap (λ n. n % 4) (div-eq_of_lt low)
 
+-- in a word of zero each transaction is in progress
 pub none_is_set : NoneIsSet
 none_is_set xid = ap (λ n. n % 4) (div-eq_of_lt (pow_pos (status_shift xid)))
 
+-- the status that was set is the one that is read
 pub set_is_read : SetIsRead
 set_is_read word xid fate none =
     let shift = status_shift xid in
@@ -78,6 +80,7 @@ not_here fate xid other apart =
       | inr above ↦ two_bits_above (status_code fate) shift there (code_small fate) (omega (arith, above, apart))
     ]
 
+-- to set one status leaves the others of its word
 pub others_stay : OthersStay
 others_stay word xid other fate h k apart same =
     let there = status_shift other in
@@ -110,4 +113,5 @@ status_has_bits word xid =
     let up : word / 2 ^ (shift + 1) ≡ word / 2 ^ shift / 2 = ap (λ n. word / n) (pow-add 2 shift 1) ∙ sym (div-div-eq-div-mul word (2 ^ shift) 2) in
     omega (arith, up)
 
+-- the laws of a word of statuses
 pub ruleset status_laws = (none_is_set, set_is_read, others_stay, set_fits, codes_tell, status_has_bits)

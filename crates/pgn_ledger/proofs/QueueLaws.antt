@@ -74,6 +74,7 @@ is_below_as : (mark : Option ℕ) (floor : ℕ) → IfSome mark (λ own. floor �
 is_below_as None floor h = refl
 is_below_as (Some own) floor h = (Decides-leb floor own).1 h
 
+-- the two tests of a floor pass exactly where it is one for the session
 pub floor_is : (session : ℕ) (mark : Option ℕ) (floor : ℕ) (holder : Option ℕ) → ((is_below mark floor && is_own_floor session mark floor holder) ≡ true) ↔ IsFloorFor session mark floor holder
 floor_is session mark floor holder = (
   λ h. let p = both (is_below mark floor) (is_own_floor session mark floor holder) h in record { below = below_is mark floor p.0; own = own_is session mark floor holder p.1 },
@@ -136,6 +137,7 @@ is_cut_short_as format at queued tx h =
     (and_true (tx.queued == queued) (is_stopped_at format at (take queued tx.notes) (slice_get tx.notes queued)) ((Decides-eqb tx.queued queued).1 h.some)
     (is_stopped_as format at tx.notes (take queued tx.notes) queued (slice_get tx.notes queued) refl h.not_all h.stopped))
 
+-- where the two tests of a full queue pass, it had no page
 pub no_page_is : (format : Format) (limit : ℕ) (journal : List Tx) (full : Full) (tx : Tx) → entry journal full.xid ≡ Some tx
     → (is_cut_short format (place format journal full.xid) full.queued tx && has_no_page format limit journal full) ≡ true → NoPage format limit journal full
 no_page_is format limit journal full tx e h =
@@ -156,6 +158,7 @@ no_page_is format limit journal full tx e h =
       holder = held_is full.holder full.floor_mark full.xid f.1;
     }
 
+-- where a full queue had no page, the two tests pass
 pub is_no_page : (format : Format) (limit : ℕ) (journal : List Tx) (full : Full) (tx : Tx) → entry journal full.xid ≡ Some tx → NoPage format limit journal full
     → (is_cut_short format (place format journal full.xid) full.queued tx && has_no_page format limit journal full) ≡ true
 is_no_page format limit journal full tx e h =
@@ -169,5 +172,6 @@ is_no_page format limit journal full tx e h =
     (and_true head (room && held) ((Decides-eqb full.head_page (page_of (place format journal (full.xid + 1)))).1 h.head)
     (and_true room held ((Decides-leb (full.floor_page + limit) full.head_page).1 h.no_page) (is_held_as full.holder full.floor_mark full.xid h.holder)))))
 
+-- no full queue is shown for a number without a transaction
 pub none_no_page : (format : Format) (limit : ℕ) (journal : List Tx) (full : Full) → entry journal full.xid ≡ None → NoPage format limit journal full → ⊥
 none_no_page format limit journal full e h = subst (λ (t : Option Tx). IsSomeAnd t (IsCutShort format (place format journal full.xid) full.queued)) e h.cut_short

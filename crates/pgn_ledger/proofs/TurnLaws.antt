@@ -101,6 +101,7 @@ rank_at before (tx ∷ txs) zero d t lt = ap (λ (ts : List Tx). turns tx.sessio
 rank_at before (tx ∷ txs) (suc k) d t lt =
     rank_at (before ++ tx ∷ []) txs k d t (omega (arith, lt)) ∙ ap (λ (ts : List Tx). turns (get_or txs k t).session ts) (append_assoc before (tx ∷ []) (take k txs))
 
+-- each transaction has a rank
 pub ranks_long : (before txs : List Tx) → length (ranks_from before txs) ≡ length txs
 ranks_long before [] = refl
 ranks_long before (tx ∷ txs) = omega (arith, ranks_long (before ++ tx ∷ []) txs)
@@ -112,6 +113,7 @@ both true true h = (refl, refl)
 both true false h = absurd (let no : ⊥ = cc in no)
 both false b h = absurd (let no : ⊥ = cc in no)
 
+-- a transaction of the session whose rank is a count is that of its turns
 pub next_is : (session : ℕ) (journal : List Tx) (count at x rank : ℕ) (tx : Tx) → FIRST_XID + at ≡ x → at < length journal → tx ≡ get_or journal at tx → rank ≡ get_or (ranks_from [] journal) at rank
     → ((tx.session == session) && (rank == count)) ≡ true → slice_get (xids_of session journal) count ≡ Some x
 next_is session journal count at x rank tx e within is r h =
@@ -122,6 +124,7 @@ next_is session journal count at x rank tx e within is r h =
     sym (rank_at [] journal at rank tx within ∙ ap (λ (s : ℕ). turns s (take at journal)) mine) ∙ sym r ∙ (Decides-eqb rank count).0 p.1 in
     nth_from session FIRST_XID journal at count tx within mine turn ∙ ap (λ (n : ℕ). Some n) e
 
+-- the transaction of a session's turn is of the session, and its rank is the count before it
 pub is_next : (session : ℕ) (journal : List Tx) (count at x rank : ℕ) (tx : Tx) → FIRST_XID + at ≡ x → tx ≡ get_or journal at tx → rank ≡ get_or (ranks_from [] journal) at rank
     → slice_get (xids_of session journal) count ≡ Some x → ((tx.session == session) && (rank == count)) ≡ true
 is_next session journal count at x rank tx e is r h =
@@ -137,14 +140,17 @@ is_next session journal count at x rank tx e is r h =
     and_true : {a b : Bool} → a ≡ true → b ≡ true → (a && b) ≡ true
     and_true {a} {b} p q = ap (λ (t : Bool). t && b) p ∙ q
 
+-- the transaction of a turn is one of the journal
 pub next_within : (session : ℕ) (journal : List Tx) (count at x : ℕ) → FIRST_XID + at ≡ x → slice_get (xids_of session journal) count ≡ Some x → at < length journal
 next_within session journal count at x e h = let t = turn_of session FIRST_XID journal count x h in omega (arith, t.number, t.within)
 
+-- a session has as many numbers as turns
 pub count_is : (session : ℕ) (journal : List Tx) → length (xids_of session journal) ≡ turns session journal
 count_is session journal = xids_long session FIRST_XID journal
 
 -- One transaction more.
 
+-- one transaction more counts as a turn of its session
 pub turns_more : (txs : List Tx) (counts : List ℕ) (k s n : ℕ) (tx : Tx) → k < length txs → tx ≡ get_or txs k tx → s ≡ tx.session → s ≤ SECTIONS_MAX → n ≡ slice_index counts s → AreTurns (take k txs) counts
     → AreTurns (take (k + 1) txs) (slice_set counts s (n + 1))
 turns_more txs counts k s n tx lt is mine within now h = record {
@@ -170,9 +176,11 @@ turns_more txs counts k s n tx lt is mine within now h = record {
         never true f = absurd (f refl)
         never false f = refl
 
+-- a session has no more turns than there are transactions
 pub turn_low : (txs : List Tx) (counts : List ℕ) (k s n : ℕ) → s ≤ SECTIONS_MAX → n ≡ slice_index counts s → AreTurns (take k txs) counts → n ≤ k
 turn_low txs counts k s n within now h = omega (arith, now, h.each s within, count_by-le-length (λ (t : Tx). t.session == s) (take k txs), length-take k txs)
 
+-- the ranks of all transactions, with one more taken from those that are left
 pub ranks_more : (ranks : List ℕ) (txs : List Tx) (k n : ℕ) (tx : Tx) (all : List ℕ) → k < length txs → tx ≡ get_or txs k tx → n ≡ turns tx.session (take k txs) → ranks ++ ranks_from (take k txs) (drop k txs) ≡ all
     → (ranks ++ n ∷ []) ++ ranks_from (take (k + 1) txs) (drop (k + 1) txs) ≡ all
 ranks_more ranks txs k n tx all lt is turn h =

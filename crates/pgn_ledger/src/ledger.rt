@@ -101,7 +101,10 @@ impl<'a> Ledger<'a> {
     fn was_full_at(&self, limit: u32, full: &Full, tx: &Tx) -> bool
         requires within { full.now.xid + 1 < 2 ^ 32 }
         requires few { length tx.now.notes < 2 ^ 40 }
-        ensures { result ≡ (is_cut_short self.now.format (place self.now.format self.now.journal.now full.now.xid) full.now.queued tx.now && has_no_page self.now.format limit self.now.journal.now full.now) }
+        ensures { result ≡
+            (is_cut_short self.now.format
+            (place self.now.format self.now.journal.now full.now.xid) full.now.queued tx.now
+            && has_no_page self.now.format limit self.now.journal.now full.now) }
     {
         is_cut_short(self.format, self.place(full.xid.get()), full.queued, tx)
             && self.has_no_page(limit, full)
@@ -121,7 +124,8 @@ impl<'a> Ledger<'a> {
 
     /// What a usage shows is right, where the queue may have so many pages.
     pub fn shows_usage(&self, limit: u32, usage: &Usage) -> bool
-        ensures { (result ≡ true) ↔ ShowsUsage self.now.format limit self.now.journal.now usage.now }
+        ensures { (result ≡ true) ↔
+            ShowsUsage self.now.format limit self.now.journal.now usage.now }
     {
         usage.limit == limit
             && usage.at.get() <= self.next_xid()
@@ -142,14 +146,17 @@ impl<'a> Ledger<'a> {
     /// Less than four pages lie between two numbers.
     pub fn is_close(&self, mark: &Xid, x: u32) -> bool
         requires { FIRST_XID ≤ x }
-        ensures { (result ≡ true) ↔ (page_of (place self.now.format self.now.journal.now x) < page_of (place self.now.format self.now.journal.now mark.now) + CLEANUP_DELAY_PAGES) }
+        ensures { (result ≡ true) ↔
+            (page_of (place self.now.format self.now.journal.now x)
+            < page_of (place self.now.format self.now.journal.now mark.now) + CLEANUP_DELAY_PAGES) }
     {
         self.page(x) < self.page(mark.get()) + CLEANUP_DELAY_PAGES
     }
 
     /// The transaction with this number is the session's next after so many.
     pub fn is_next_of(&self, session: SessionNo, count: usize, xid: Xid) -> bool
-        ensures { (result ≡ true) ↔ (slice_get (xids_of session self.now.journal.now) count ≡ Some xid) }
+        ensures { (result ≡ true) ↔
+            (slice_get (xids_of session self.now.journal.now) count ≡ Some xid) }
     {
         let at = (xid.get() - FIRST_XID) as usize;
         if at >= self.journal.len() {

@@ -19,7 +19,8 @@ fn is_stopped(format: Format, at: u64, queued: &[Note], next: &Note) -> bool
 // The same of the first few notifications of a transaction, if there are more.
 fn is_stopped_at(format: Format, at: u64, notes: &[Note], queued: usize) -> bool
     requires { at + most_cells * length notes.now < 2 ^ 60 }
-    ensures { result ≡ is_stopped_at format at (take queued notes.now) (slice_get notes.now queued) }
+    ensures { result ≡
+        is_stopped_at format at (take queued notes.now) (slice_get notes.now queued) }
 {
     if queued >= notes.len() {
         return false;

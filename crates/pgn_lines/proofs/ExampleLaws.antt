@@ -28,6 +28,7 @@ zero_of_none xid h e =
     let same : 51 ≡ 48 = ap (λ (bytes : List ℕ). get_or bytes 0 0) three in
     omega (arith, same)
 
+-- a number with a zero before it shows nothing
 pub no_zero : (shown : Shown) → Unshown (codes "+publish 03") shown
 no_zero = publish_alone (codes "03") (λ xid h e. zero_of_none xid h (append_cancel_left (codes "+publish ") (decimal xid) (codes "03") e))
 
@@ -37,6 +38,7 @@ blank_of_none xid h e =
     let all : AreDigits (codes "3 ") = subst (λ (bytes : List ℕ). AreDigits bytes) e (are_digits xid (long_xid xid h)) in
     omega (arith, all.1.0)
 
+-- nor does a line with a blank at its end
 pub no_blank : (shown : Shown) → Unshown (codes "+publish 3 ") shown
 no_blank = publish_alone (codes "3 ") (λ xid h e. blank_of_none xid h (append_cancel_left (codes "+publish ") (decimal xid) (codes "3 ") e))
 

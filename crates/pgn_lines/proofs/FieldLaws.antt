@@ -11,6 +11,7 @@ abbrev pub AreDigits : List ℕ → Type 0
 AreDigits [] = Unit {0}
 AreDigits (b ∷ bytes) = IsInRange 48 57 b × AreDigits bytes
 
+-- the test of digits passes exactly on digits
 pub are-digits : IsDigitsTest AreDigits
 are-digits = record { empty = tt; parts = λ b bytes h. h; more = λ b bytes h k. (h, k) }
 

@@ -46,6 +46,7 @@ sign [] = 0
 sign (b ∷ []) = 0
 sign (b ∷ c ∷ bytes) = cond (nat_eq b 43) (1000 + c) (cond (nat_eq b 32) 32 (cond (nat_eq b 69) 69 (cond (nat_eq b 87) 87 (cond (nat_eq b 101) 101 (cond (nat_eq b 106) 106 (cond (nat_eq b 120) 120 0))))))
 
+-- the first bytes of a line tell its kind
 pub told : (shown : Shown) → sign (shown_text shown) ≡ kind shown
 told (Journal entries) = refl
 told (Committed xid session notes) = refl
@@ -98,6 +99,7 @@ received_parts x p x' p' rest more a b c d e =
     let pids = blank_part [] p p' rest more b d xids.1 in
     (xids.0, pids.0, pids.1)
 
+-- a transaction's number is a long one
 pub long_xid : (n : ℕ) → IsXid n → IsLong n
 long_xid n h = omega (arith, h)
 
@@ -197,6 +199,7 @@ pages_are_apart occupied limit delivery h k e =
     let same : 47 ≡ 32 = ap (λ (bytes : List ℕ). get_or bytes 0 0) second in
     omega (arith, same)
 
+-- no line shows both a committed transaction and an aborted one
 pub entries_are_apart : (x s n x' s' q n' : ℕ) → IsHeld (Committed x s n) → IsHeld (Aborted x' s' q n') → shown_text (Committed x s n) ≡ shown_text (Aborted x' s' q n') → ⊥
 entries_are_apart x s n x' s' q n' h k e =
     let parts = entry_parts x s x' s' (codes "commit " ++ decimal n) (codes "abort " ++ decimal q ++ codes " of " ++ decimal n') (long_xid x h.0) (long_session s h.1) (long_xid x' k.0) (long_session s' k.1) e in

@@ -10,6 +10,7 @@ use Rattle.pgn_lines.specs.Shown.{IsLong}
 use Rattle.pgn_lines.proofs.FieldLaws.{AreDigits, are-digits}
 use Rattle.pgn_lines.proofs.QuotedLaws.{quoted_parts}
 
+-- a long number is spelled in digits
 pub are_digits : (n : ℕ) → IsLong n → AreDigits (decimal n)
 are_digits n h = digits_decimal (numerals_by_value AreDigits are-digits) n h
 
@@ -44,9 +45,11 @@ last_part start a b ha hb e = decimal_injective a b ha hb (append_cancel_left st
 pub in_four : (a b c d : List ℕ) → a ++ b ++ c ++ d ≡ a ++ (b ++ (c ++ d))
 in_four a b c d = simp append_assoc
 
+-- five texts joined, taken apart from the left
 pub in_five : (a b c d e : List ℕ) → a ++ b ++ c ++ d ++ e ≡ a ++ (b ++ (c ++ (d ++ e)))
 in_five a b c d e = simp append_assoc
 
+-- six texts joined, taken apart from the left
 pub in_six : (a b c d e f : List ℕ) → a ++ b ++ c ++ d ++ e ++ f ≡ a ++ (b ++ (c ++ (d ++ (e ++ f))))
 in_six a b c d e f = simp append_assoc
 
@@ -93,6 +96,7 @@ same_note a b e1 e2 =
     ap (λ (text : List ℕ). let n : Note = record { channel = text; payload = a.payload } in n) e1
     ∙ ap (λ (text : List ℕ). let n : Note = record { channel = b.channel; payload = text } in n) e2
 
+-- the text of a notification tells it
 pub note_part : (a b : Note) → note_text a ≡ note_text b → a ≡ b
 note_part a b e =
     let first : List ℕ = flat_map (doubled_byte 39) a.payload ++ 39 ∷ [] in

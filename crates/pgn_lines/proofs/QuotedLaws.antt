@@ -33,6 +33,7 @@ spelled_closed quote text inner rest ends e =
     } in
     (quotes-tell quote text found).1 whole
 
+-- a text that is not closed by a quote is in none
 pub not_enclosed : (quote : ℕ) (text : List ℕ) → closed quote text ≡ None → NotEnclosed quote text
 not_enclosed quote text none = λ inner rest ends e. let some = spelled_closed quote text inner rest ends e in absurd (cc)
 
@@ -44,6 +45,7 @@ size_of : Option Inside → ℕ
 size_of None = 0
 size_of (Some found) = found.size
 
+-- a text up to its closing quote is in quotes, and the rest stands behind
 pub is_enclosed : (quote : ℕ) (text raw rest : List ℕ) (by : ℕ) → IsInside quote text by raw → rest ≡ drop (length raw + 1) text → IsEnclosed quote text (single quote raw) rest
 unfolding text_of size_of
 is_enclosed quote text raw rest by h r =

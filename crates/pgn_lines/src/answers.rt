@@ -20,7 +20,9 @@ use std::alloc::{AllocError, Global};
 // A warning.
 #[tactic(auto, using(crate::proofs::AnswerLaws::no_warning))]
 pub fn warning(line: &str) -> Option<Shown>
-    ensures { MatchOption result ((warning : Warning) → Unshown line.now (show.Warn warning)) (Shows line.now) }
+    ensures { MatchOption result
+        ((warning : Warning) → Unshown line.now (show.Warn warning))
+        (Shows line.now) }
 {
     if line == "WARNING: 25001: there is already a transaction in progress" {
         return Some(Shown::Warn {
@@ -37,7 +39,9 @@ pub fn warning(line: &str) -> Option<Shown>
 
 /// A command's tag.
 pub fn tagged(line: &str) -> Option<Shown>
-    ensures { MatchOption result ((done : Tag) → Unshown line.now (show.Tagged done)) (Shows line.now) }
+    ensures { MatchOption result
+        ((done : Tag) → Unshown line.now (show.Tagged done))
+        (Shows line.now) }
 {
     let tag = match line {
         "BEGIN" => Tag::Begin,
@@ -57,7 +61,9 @@ pub fn tagged(line: &str) -> Option<Shown>
 /// A refusal that names no savepoint.
 #[tactic(auto, using(crate::proofs::AnswerLaws::no_refusal))]
 pub fn refused(line: &str) -> Option<Shown>
-    ensures { MatchOption result ((refusal : Refusal) → NamesNoSavepoint refusal → Unshown line.now (show.Refuse refusal)) (Shows line.now) }
+    ensures { MatchOption result
+        ((refusal : Refusal) → NamesNoSavepoint refusal → Unshown line.now (show.Refuse refusal))
+        (Shows line.now) }
 {
     if let Some(which) = bounds_of(line) {
         let refusal = Refusal::Bounds { which };
@@ -86,7 +92,9 @@ pub fn refused(line: &str) -> Option<Shown>
 
 // The limit that a notification goes past.
 fn bounds_of(line: &str) -> Option<Which>
-    ensures { MatchOption result ((which : Which) → codes "ERROR: 22023: " ++ bounds_message which ≡ line.now → ⊥) (λ which. codes "ERROR: 22023: " ++ bounds_message which ≡ line.now) }
+    ensures { MatchOption result
+        ((which : Which) → codes "ERROR: 22023: " ++ bounds_message which ≡ line.now → ⊥)
+        (λ which. codes "ERROR: 22023: " ++ bounds_message which ≡ line.now) }
 {
     match line {
         "ERROR: 22023: channel name cannot be empty" => Some(Which::ChannelEmpty),
@@ -98,7 +106,9 @@ fn bounds_of(line: &str) -> Option<Which>
 
 // The command that can only be used in a block.
 fn needs_of(line: &str) -> Option<Needs>
-    ensures { MatchOption result ((what : Needs) → codes "ERROR: 25P01: " ++ needs_text what ++ codes " can only be used in transaction blocks" ≡ line.now → ⊥) (λ what. codes "ERROR: 25P01: " ++ needs_text what ++ codes " can only be used in transaction blocks" ≡ line.now) }
+    ensures { MatchOption result
+        ((what : Needs) → codes "ERROR: 25P01: " ++ needs_text what ++ codes " can only be used in transaction blocks" ≡ line.now → ⊥)
+        (λ what. codes "ERROR: 25P01: " ++ needs_text what ++ codes " can only be used in transaction blocks" ≡ line.now) }
 {
     match line {
         "ERROR: 25P01: SAVEPOINT can only be used in transaction blocks" => Some(Needs::Savepoint),
@@ -114,7 +124,9 @@ fn needs_of(line: &str) -> Option<Needs>
 
 /// A refusal that names a savepoint, which stands there as it is.
 pub fn no_savepoint(alloc: Global, line: &str) -> Result<Option<Shown>, AllocError>
-    ensures { IfOk result (λ read. MatchOption read ((name : List ℕ) → Unshown line.now (show.Refuse (refusal.NoSavepoint name))) (Shows line.now)) }
+    ensures { IfOk result (λ read. MatchOption read
+        ((name : List ℕ) → Unshown line.now (show.Refuse (refusal.NoSavepoint name)))
+        (Shows line.now)) }
 {
     let Some(text) = savepoint_of(line) else {
         return Ok(None);
@@ -128,7 +140,9 @@ pub fn no_savepoint(alloc: Global, line: &str) -> Result<Option<Shown>, AllocErr
 
 // What stands in the place of the savepoint's name.
 fn savepoint_of(line: &str) -> Option<&str>
-    ensures { MatchOption result ((name : List ℕ) → savepoint_line name ≡ line.now → ⊥) (λ text. IsSavepoint line.now text.now) }
+    ensures { MatchOption result
+        ((name : List ℕ) → savepoint_line name ≡ line.now → ⊥)
+        (λ text. IsSavepoint line.now text.now) }
 {
     let Some(start) = after(line, "ERROR: 3B001: savepoint \"") else {
         return None;
@@ -142,7 +156,9 @@ fn savepoint_of(line: &str) -> Option<&str>
 /// The last line of a section.
 #[tactic(auto, using(crate::proofs::AnswerLaws::no_end))]
 pub fn end(line: &str) -> Option<Shown>
-    ensures { MatchOption result ((mark : Option ℕ) → Unshown line.now (show.End mark)) (Shows line.now) }
+    ensures { MatchOption result
+        ((mark : Option ℕ) → Unshown line.now (show.End mark))
+        (Shows line.now) }
 {
     if line == "end" {
         return Some(Shown::End { mark: None });

@@ -1,4 +1,4 @@
-ghost use Rattle.std.specs.Prelude.{◌≡◌, ℕ, MatchOption};
+ghost use Rattle.std.specs.Prelude.{ℕ, MatchOption};
 ghost use Rattle.pgn_lines.specs.Shown.{Shows, Unshown};
 ghost use Rattle.pgn_lines.specs.declared.shown.Shown.TheVariants as show;
 
@@ -9,7 +9,9 @@ use pgn_base::FIRST_XID;
 
 /// The head of a journal.
 pub fn journal(line: &str) -> Option<Shown>
-    ensures { MatchOption result ((entries : ℕ) → Unshown line.now (show.Journal entries)) (Shows line.now) }
+    ensures { MatchOption result
+        ((entries : ℕ) → Unshown line.now (show.Journal entries))
+        (Shows line.now) }
 {
     let entries = one_short(line, "journal ")?;
     if entries > u32::MAX - FIRST_XID {
@@ -20,7 +22,9 @@ pub fn journal(line: &str) -> Option<Shown>
 
 /// The first line of an entry that committed.
 pub fn committed(line: &str) -> Option<Shown>
-    ensures { MatchOption result ((xid session notes : ℕ) → Unshown line.now (show.Committed xid session notes)) (Shows line.now) }
+    ensures { MatchOption result
+        ((xid session notes : ℕ) → Unshown line.now (show.Committed xid session notes))
+        (Shows line.now) }
 {
     let Some(start) = after(line, "xid ") else {
         return None;
@@ -43,7 +47,9 @@ pub fn committed(line: &str) -> Option<Shown>
 
 /// The first line of an entry that was aborted.
 pub fn aborted(line: &str) -> Option<Shown>
-    ensures { MatchOption result ((xid session queued notes : ℕ) → Unshown line.now (show.Aborted xid session queued notes)) (Shows line.now) }
+    ensures { MatchOption result
+        ((xid session queued notes : ℕ) → Unshown line.now (show.Aborted xid session queued notes))
+        (Shows line.now) }
 {
     let Some(start) = after(line, "xid ") else {
         return None;

@@ -11,7 +11,9 @@ use pgn_base::{Full, SessionNo, Xid};
 
 /// A session became a listener.
 pub fn enlist(line: &str) -> Option<Shown>
-    ensures { MatchOption result ((base point : ℕ) → Unshown line.now (show.Enlist base point)) (Shows line.now) }
+    ensures { MatchOption result
+        ((base point : ℕ) → Unshown line.now (show.Enlist base point))
+        (Shows line.now) }
 {
     let Some(start) = after(line, "+enlist ") else {
         return None;
@@ -27,7 +29,9 @@ pub fn enlist(line: &str) -> Option<Shown>
 
 /// A transaction committed.
 pub fn publish(line: &str) -> Option<Shown>
-    ensures { MatchOption result ((xid : ℕ) → Unshown line.now (show.Publish xid)) (Shows line.now) }
+    ensures { MatchOption result
+        ((xid : ℕ) → Unshown line.now (show.Publish xid))
+        (Shows line.now) }
 {
     let xid = one_xid(line, "+publish ")?;
     Some(Shown::Publish { xid })
@@ -35,7 +39,9 @@ pub fn publish(line: &str) -> Option<Shown>
 
 /// A transaction met a full queue.
 pub fn queue_full(line: &str) -> Option<Shown>
-    ensures { MatchOption result ((full : Full) → Unshown line.now (show.QueueFull full)) (Shows line.now) }
+    ensures { MatchOption result
+        ((full : Full) → Unshown line.now (show.QueueFull full))
+        (Shows line.now) }
 {
     let Some(full) = full_of(line) else {
         return None;
@@ -45,7 +51,13 @@ pub fn queue_full(line: &str) -> Option<Shown>
 
 // The full queue that a line tells of.
 fn full_of(line: &str) -> Option<Full>
-    ensures { MatchOption result ((xid queued head mark page : ℕ) (holder : Option ℕ) → IsXid xid → IsShort queued → IsLong head → IsXid mark → IsLong page → IfSome holder IsSession → full_text xid queued head mark page holder ≡ line.now → ⊥) (λ full. IsFull full × (full_text full.xid full.queued full.head_page full.floor_mark full.floor_page full.holder ≡ line.now)) }
+    ensures { MatchOption result
+        ((xid queued head mark page : ℕ) (holder : Option ℕ)
+        → IsXid xid → IsShort queued → IsLong head → IsXid mark → IsLong page
+        → IfSome holder IsSession → full_text xid queued head mark page holder ≡ line.now → ⊥)
+        (λ full. IsFull full
+        × (full_text full.xid full.queued full.head_page full.floor_mark full.floor_page full.holder
+        ≡ line.now)) }
 {
     let Some(start) = after(line, "+full ") else {
         return None;
@@ -77,7 +89,12 @@ struct Stand {
 }
 
 fn stand_of(text: &str) -> Option<Stand>
-    ensures { MatchOption result ((queued head mark page : ℕ) (holder : Option ℕ) → IsShort queued → IsLong head → IsXid mark → IsLong page → IfSome holder IsSession → stand_text queued head mark page holder ≡ text.now → ⊥) (λ stand. IsShort stand.queued × IsLong stand.head_page × IsXid stand.mark × IsLong stand.page × IfSome stand.holder IsSession × (stand_text stand.queued stand.head_page stand.mark stand.page stand.holder ≡ text.now)) }
+    ensures { MatchOption result
+        ((queued head mark page : ℕ) (holder : Option ℕ) → IsShort queued → IsLong head → IsXid mark
+        → IsLong page → IfSome holder IsSession → stand_text queued head mark page holder ≡ text.now → ⊥)
+        (λ stand. IsShort stand.queued × IsLong stand.head_page × IsXid stand.mark × IsLong stand.page
+        × IfSome stand.holder IsSession
+        × (stand_text stand.queued stand.head_page stand.mark stand.page stand.holder ≡ text.now)) }
 {
     let Some((queued, at_head)) = short_then(text, "head ") else {
         return None;
@@ -106,7 +123,11 @@ struct Floor {
 }
 
 fn floor_of(text: &str) -> Option<Floor>
-    ensures { MatchOption result ((mark page : ℕ) (holder : Option ℕ) → IsXid mark → IsLong page → IfSome holder IsSession → floor_text mark page holder ≡ text.now → ⊥) (λ floor. IsXid floor.mark × IsLong floor.page × IfSome floor.holder IsSession × (floor_text floor.mark floor.page floor.holder ≡ text.now)) }
+    ensures { MatchOption result
+        ((mark page : ℕ) (holder : Option ℕ) → IsXid mark → IsLong page
+        → IfSome holder IsSession → floor_text mark page holder ≡ text.now → ⊥)
+        (λ floor. IsXid floor.mark × IsLong floor.page × IfSome floor.holder IsSession
+        × (floor_text floor.mark floor.page floor.holder ≡ text.now)) }
 {
     let Some((mark, at_page)) = xid_then(text, "page ") else {
         return None;
@@ -133,7 +154,9 @@ pub fn leave(line: &str) -> Option<Shown>
 
 /// Where the queue's usage was measured.
 pub fn measured(line: &str) -> Option<Shown>
-    ensures { MatchOption result ((at floor : ℕ) (holder : Option ℕ) → Unshown line.now (show.Measured at floor holder)) (Shows line.now) }
+    ensures { MatchOption result
+        ((at floor : ℕ) (holder : Option ℕ) → Unshown line.now (show.Measured at floor holder))
+        (Shows line.now) }
 {
     let Some(start) = after(line, "+usage ") else {
         return None;
@@ -156,7 +179,9 @@ pub fn measured(line: &str) -> Option<Shown>
 
 /// A flag was raised.
 pub fn raise(line: &str) -> Option<Shown>
-    ensures { MatchOption result ((value : ℕ) → Unshown line.now (show.Raise value)) (Shows line.now) }
+    ensures { MatchOption result
+        ((value : ℕ) → Unshown line.now (show.Raise value))
+        (Shows line.now) }
 {
     let value = one_xid(line, "+signal ")?;
     Some(Shown::Raise { value })
@@ -164,7 +189,9 @@ pub fn raise(line: &str) -> Option<Shown>
 
 /// An awaited flag was found.
 pub fn found(line: &str) -> Option<Shown>
-    ensures { MatchOption result ((value : ℕ) → Unshown line.now (show.Found value)) (Shows line.now) }
+    ensures { MatchOption result
+        ((value : ℕ) → Unshown line.now (show.Found value))
+        (Shows line.now) }
 {
     let value = one_xid(line, "+await ")?;
     Some(Shown::Found { value })
@@ -172,7 +199,9 @@ pub fn found(line: &str) -> Option<Shown>
 
 /// An awaited flag was not found.
 pub fn timed_out(line: &str) -> Option<Shown>
-    ensures { MatchOption result ((looks : ℕ) → Unshown line.now (show.TimedOut looks)) (Shows line.now) }
+    ensures { MatchOption result
+        ((looks : ℕ) → Unshown line.now (show.TimedOut looks))
+        (Shows line.now) }
 {
     let looks = one_long(line, "+timeout ")?;
     Some(Shown::TimedOut { looks })
@@ -180,7 +209,9 @@ pub fn timed_out(line: &str) -> Option<Shown>
 
 /// A session has read.
 pub fn read(line: &str) -> Option<Shown>
-    ensures { MatchOption result ((from to : ℕ) → Unshown line.now (show.Read from to)) (Shows line.now) }
+    ensures { MatchOption result
+        ((from to : ℕ) → Unshown line.now (show.Read from to))
+        (Shows line.now) }
 {
     let Some(start) = after(line, "+read ") else {
         return None;

@@ -1,4 +1,4 @@
-ghost use Rattle.std.specs.Prelude.{◌≡◌, MatchOption};
+ghost use Rattle.std.specs.Prelude.{MatchOption};
 ghost use Rattle.pgn_lines.specs.Fields.{IsHolder, IsNumbered, NoHolder, NotNumbered};
 ghost use Rattle.pgn_lines.specs.Shown.{IsLong, IsShort, IsXid};
 
@@ -7,7 +7,9 @@ use pgn_base::{SessionNo, Xid};
 
 /// The transaction number after a start.
 pub fn one_xid(line: &str, start: &str) -> Option<Xid>
-    ensures { MatchOption result (NotNumbered IsXid start.now line.now) (IsNumbered IsXid start.now line.now) }
+    ensures { MatchOption result
+        (NotNumbered IsXid start.now line.now)
+        (IsNumbered IsXid start.now line.now) }
 {
     let rest = after(line, start)?;
     xid(rest)
@@ -15,7 +17,9 @@ pub fn one_xid(line: &str, start: &str) -> Option<Xid>
 
 /// The number of 32 bits after a start.
 pub fn one_short(line: &str, start: &str) -> Option<u32>
-    ensures { MatchOption result (NotNumbered IsShort start.now line.now) (IsNumbered IsShort start.now line.now) }
+    ensures { MatchOption result
+        (NotNumbered IsShort start.now line.now)
+        (IsNumbered IsShort start.now line.now) }
 {
     let rest = after(line, start)?;
     short(rest)
@@ -23,7 +27,9 @@ pub fn one_short(line: &str, start: &str) -> Option<u32>
 
 /// The number of 64 bits after a start.
 pub fn one_long(line: &str, start: &str) -> Option<u64>
-    ensures { MatchOption result (NotNumbered IsLong start.now line.now) (IsNumbered IsLong start.now line.now) }
+    ensures { MatchOption result
+        (NotNumbered IsLong start.now line.now)
+        (IsNumbered IsLong start.now line.now) }
 {
     let rest = after(line, start)?;
     long(rest)

@@ -1,5 +1,5 @@
-ghost use Rattle.std.specs.Prelude.{◌≡◌, ◌≢◌, ◌<◌, ℕ, List, ◌++◌, codes, decimal, IsTrue, MatchOption, ◌↔◌};
-ghost use Rattle.pgn_lines.specs.Fields.{IsLed, IsNumber, NoNumber, NotLed, NotNumbered, NotParted, IsParted};
+ghost use Rattle.std.specs.Prelude.{◌≡◌, ◌≢◌, ◌<◌, ℕ, List, ◌++◌, decimal, IsTrue, MatchOption, ◌↔◌};
+ghost use Rattle.pgn_lines.specs.Fields.{IsLed, IsNumber, NoNumber, NotLed, NotParted, IsParted};
 ghost use Rattle.pgn_lines.specs.Shown.{IsLong, IsSession, IsShort, IsXid};
 
 use itoa::Buffer;
@@ -7,14 +7,18 @@ use pgn_base::{FIRST_XID, SECTIONS_MAX, SessionNo, Xid};
 
 /// What follows a start.
 pub fn after<'a>(text: &'a str, start: &str) -> Option<&'a str>
-    ensures { MatchOption result ((rest : List ℕ) → text.now ≢ start.now ++ rest) (λ rest. text.now ≡ start.now ++ rest.now) }
+    ensures { MatchOption result
+        ((rest : List ℕ) → text.now ≢ start.now ++ rest)
+        (λ rest. text.now ≡ start.now ++ rest.now) }
 {
     text.strip_prefix(start)
 }
 
 /// What stands before an end.
 pub fn before<'a>(text: &'a str, end: &str) -> Option<&'a str>
-    ensures { MatchOption result ((front : List ℕ) → text.now ≢ front ++ end.now) (λ front. text.now ≡ front.now ++ end.now) }
+    ensures { MatchOption result
+        ((front : List ℕ) → text.now ≢ front ++ end.now)
+        (λ front. text.now ≡ front.now ++ end.now) }
 {
     text.strip_suffix(end)
 }
@@ -79,14 +83,18 @@ pub fn session(text: &str) -> Option<SessionNo>
 /// What stands before a mark that no number has, and what follows it.
 pub fn parted(text: &str, mark: char) -> Option<(&str, &str)>
     requires { mark < 48 }
-    ensures { MatchOption result (NotParted mark text.now) (λ parts. IsParted mark text.now parts.0.now parts.1.now) }
+    ensures { MatchOption result
+        (NotParted mark text.now)
+        (λ parts. IsParted mark text.now parts.0.now parts.1.now) }
 {
     text.split_once(mark)
 }
 
 /// The number of 64 bits that a text begins with, and what follows a blank and a word after it.
 pub fn long_then<'a>(text: &'a str, word: &str) -> Option<(u64, &'a str)>
-    ensures { MatchOption result (NotLed IsLong text.now word.now) (λ led. IsLed IsLong text.now word.now led.0 led.1.now) }
+    ensures { MatchOption result
+        (NotLed IsLong text.now word.now)
+        (λ led. IsLed IsLong text.now word.now led.0 led.1.now) }
 {
     let Some((digits, tail)) = parted(text, ' ') else {
         return None;
@@ -102,7 +110,9 @@ pub fn long_then<'a>(text: &'a str, word: &str) -> Option<(u64, &'a str)>
 
 /// The number of 32 bits that a text begins with, and what follows a blank and a word after it.
 pub fn short_then<'a>(text: &'a str, word: &str) -> Option<(u32, &'a str)>
-    ensures { MatchOption result (NotLed IsShort text.now word.now) (λ led. IsLed IsShort text.now word.now led.0 led.1.now) }
+    ensures { MatchOption result
+        (NotLed IsShort text.now word.now)
+        (λ led. IsLed IsShort text.now word.now led.0 led.1.now) }
 {
     let (number, rest) = long_then(text, word)?;
     let number = u32::try_from(number).ok()?;
@@ -111,7 +121,9 @@ pub fn short_then<'a>(text: &'a str, word: &str) -> Option<(u32, &'a str)>
 
 /// The transaction number that a text begins with, and what follows a blank and a word after it.
 pub fn xid_then<'a>(text: &'a str, word: &str) -> Option<(Xid, &'a str)>
-    ensures { MatchOption result (NotLed IsXid text.now word.now) (λ led. IsLed IsXid text.now word.now led.0 led.1.now) }
+    ensures { MatchOption result
+        (NotLed IsXid text.now word.now)
+        (λ led. IsLed IsXid text.now word.now led.0 led.1.now) }
 {
     let (number, rest) = short_then(text, word)?;
     if number >= FIRST_XID {
@@ -123,7 +135,9 @@ pub fn xid_then<'a>(text: &'a str, word: &str) -> Option<(Xid, &'a str)>
 
 /// The session's number that a text begins with, and what follows a blank and a word after it.
 pub fn session_then<'a>(text: &'a str, word: &str) -> Option<(SessionNo, &'a str)>
-    ensures { MatchOption result (NotLed IsSession text.now word.now) (λ led. IsLed IsSession text.now word.now led.0 led.1.now) }
+    ensures { MatchOption result
+        (NotLed IsSession text.now word.now)
+        (λ led. IsLed IsSession text.now word.now led.0 led.1.now) }
 {
     let (number, rest) = short_then(text, word)?;
     if number >= 1 && number <= SECTIONS_MAX {

@@ -24,7 +24,10 @@ pub struct Front<'a> {
 pub fn enclosed(text: &str, quote: u8) -> Option<Front<'_>>
     requires ascii { quote < 128 }
     requires short { length text.now ≤ LINE_BYTES_MAX }
-    ensures { MatchOption result (NotEnclosed quote text.now) (λ front. (front.inside.quote ≡ quote) × IsEnclosed quote text.now (single front.inside.quote front.inside.raw.now) front.rest.now) }
+    ensures { MatchOption result
+        (NotEnclosed quote text.now)
+        (λ front. (front.inside.quote ≡ quote)
+        × IsEnclosed quote text.now (single front.inside.quote front.inside.raw.now) front.rest.now) }
 {
     let Some(found) = inside(text, quote) else {
         return None;
@@ -46,7 +49,10 @@ pub struct Pair<'a> {
 /// The channel and the payload that a text is.
 pub fn pair_of(text: &str) -> Option<Pair<'_>>
     requires short { length text.now ≤ LINE_BYTES_MAX }
-    ensures { MatchOption result ((channel payload : List ℕ) → pair_text channel payload ≡ text.now → ⊥) (λ pair. IsPair text.now (single pair.channel.quote pair.channel.raw.now) (single pair.payload.quote pair.payload.raw.now)) }
+    ensures { MatchOption result
+        ((channel payload : List ℕ) → pair_text channel payload ≡ text.now → ⊥)
+        (λ pair. IsPair text.now (single pair.channel.quote pair.channel.raw.now)
+        (single pair.payload.quote pair.payload.raw.now)) }
 {
     let Some(start) = after(text, "\"") else {
         return None;
@@ -71,7 +77,9 @@ pub fn pair_of(text: &str) -> Option<Pair<'_>>
 
 /// The notification that a text is.
 pub fn note_of(alloc: Global, text: &str) -> Result<Option<Note>, AllocError>
-    ensures { IfOk result (λ read. MatchOption read ((note : Note) → IsNote note → note_text note ≡ text.now → ⊥) (λ note. IsNote note × (note_text note ≡ text.now))) }
+    ensures { IfOk result (λ read. MatchOption read
+        ((note : Note) → IsNote note → note_text note ≡ text.now → ⊥)
+        (λ note. IsNote note × (note_text note ≡ text.now))) }
 {
     if text.len() > LINE_BYTES_MAX {
         return Ok(None);
@@ -91,7 +99,9 @@ pub fn note_of(alloc: Global, text: &str) -> Result<Option<Note>, AllocError>
 /// What stands between the double quotes of a text, as it is written.
 pub fn alone_of(text: &str) -> Option<Enclosed<'_>>
     requires short { length text.now ≤ LINE_BYTES_MAX }
-    ensures { MatchOption result ((name : List ℕ) → quoted 34 name ≡ text.now → ⊥) (λ inner. IsAlone text.now (single inner.quote inner.raw.now)) }
+    ensures { MatchOption result
+        ((name : List ℕ) → quoted 34 name ≡ text.now → ⊥)
+        (λ inner. IsAlone text.now (single inner.quote inner.raw.now)) }
 {
     let Some(start) = after(text, "\"") else {
         return None;
@@ -107,7 +117,9 @@ pub fn alone_of(text: &str) -> Option<Enclosed<'_>>
 
 /// The name that a text is, between double quotes.
 pub fn quoted_name(alloc: Global, text: &str) -> Result<Option<Name>, AllocError>
-    ensures { IfOk result (λ read. MatchOption read ((name : List ℕ) → IsName name → quoted 34 name ≡ text.now → ⊥) (λ name. IsName name × (quoted 34 name ≡ text.now))) }
+    ensures { IfOk result (λ read. MatchOption read
+        ((name : List ℕ) → IsName name → quoted 34 name ≡ text.now → ⊥)
+        (λ name. IsName name × (quoted 34 name ≡ text.now))) }
 {
     if text.len() > LINE_BYTES_MAX {
         return Ok(None);
@@ -123,7 +135,9 @@ pub fn quoted_name(alloc: Global, text: &str) -> Result<Option<Name>, AllocError
 
 /// The name of this text, if it is one.
 pub fn name_of(text: String) -> Result<Option<Name>, AllocError>
-    ensures { IfOk result (λ read. MatchOption read (IsName (string_bytes text) → ⊥) (λ name. IsName name × (name ≡ string_bytes text))) }
+    ensures { IfOk result (λ read. MatchOption read
+        (IsName (string_bytes text) → ⊥)
+        (λ name. IsName name × (name ≡ string_bytes text))) }
 {
     match Name::from_string(text) {
         Ok(name) => {
@@ -137,7 +151,9 @@ pub fn name_of(text: String) -> Result<Option<Name>, AllocError>
 
 /// The payload of this text, if it is one.
 pub fn payload_of(text: String) -> Result<Option<Payload>, AllocError>
-    ensures { IfOk result (λ read. MatchOption read (IsPayload (string_bytes text) → ⊥) (λ payload. IsPayload payload × (payload ≡ string_bytes text))) }
+    ensures { IfOk result (λ read. MatchOption read
+        (IsPayload (string_bytes text) → ⊥)
+        (λ payload. IsPayload payload × (payload ≡ string_bytes text))) }
 {
     match Payload::from_string(text) {
         Ok(payload) => {
@@ -151,7 +167,9 @@ pub fn payload_of(text: String) -> Result<Option<Payload>, AllocError>
 
 /// The name that this text is, if it is one.
 pub fn named(alloc: Global, text: &str) -> Result<Option<Name>, AllocError>
-    ensures { IfOk result (λ read. MatchOption read (IsName text.now → ⊥) (λ name. IsName name × (name ≡ text.now))) }
+    ensures { IfOk result (λ read. MatchOption read
+        (IsName text.now → ⊥)
+        (λ name. IsName name × (name ≡ text.now))) }
 {
     match Name::new(alloc, text) {
         Ok(name) => {

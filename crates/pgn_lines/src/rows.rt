@@ -13,7 +13,9 @@ use std::alloc::{AllocError, Global};
 
 /// The row of a usage.
 pub fn pages(line: &str) -> Option<Shown>
-    ensures { MatchOption result ((occupied limit : ℕ) → Unshown line.now (show.Pages occupied limit)) (Shows line.now) }
+    ensures { MatchOption result
+        ((occupied limit : ℕ) → Unshown line.now (show.Pages occupied limit))
+        (Shows line.now) }
 {
     let Some(row) = after(line, "  ") else {
         return None;
@@ -32,7 +34,9 @@ pub fn pages(line: &str) -> Option<Shown>
 
 /// A notification of the journal.
 pub fn sent(alloc: Global, line: &str) -> Result<Option<Shown>, AllocError>
-    ensures { IfOk result (λ read. MatchOption read ((note : Note) → Unshown line.now (show.Sent note)) (Shows line.now)) }
+    ensures { IfOk result (λ read. MatchOption read
+        ((note : Note) → Unshown line.now (show.Sent note))
+        (Shows line.now)) }
 {
     let Some(text) = after(line, "  ") else {
         return Ok(None);
@@ -45,7 +49,9 @@ pub fn sent(alloc: Global, line: &str) -> Result<Option<Shown>, AllocError>
 
 /// The row of a channel.
 pub fn channel(alloc: Global, line: &str) -> Result<Option<Shown>, AllocError>
-    ensures { IfOk result (λ read. MatchOption read ((name : List ℕ) → Unshown line.now (show.Channel name)) (Shows line.now)) }
+    ensures { IfOk result (λ read. MatchOption read
+        ((name : List ℕ) → Unshown line.now (show.Channel name))
+        (Shows line.now)) }
 {
     let Some(text) = after(line, "  ") else {
         return Ok(None);
@@ -65,7 +71,10 @@ struct Sender<'a> {
 }
 
 fn sender_of(line: &str) -> Option<Sender<'_>>
-    ensures { MatchOption result ((xid pid : ℕ) (text : List ℕ) → IsXid xid → IsShort pid → received_text xid pid text ≡ line.now → ⊥) (λ sender. IsSender line.now sender.xid sender.pid sender.text.now) }
+    ensures { MatchOption result
+        ((xid pid : ℕ) (text : List ℕ) → IsXid xid → IsShort pid
+        → received_text xid pid text ≡ line.now → ⊥)
+        (λ sender. IsSender line.now sender.xid sender.pid sender.text.now) }
 {
     let Some(row) = after(line, "  ") else {
         return None;
@@ -81,7 +90,9 @@ fn sender_of(line: &str) -> Option<Sender<'_>>
 
 /// A notification that was received.
 pub fn received(alloc: Global, line: &str) -> Result<Option<Shown>, AllocError>
-    ensures { IfOk result (λ read. MatchOption read ((delivery : Delivery) → Unshown line.now (show.Received delivery)) (Shows line.now)) }
+    ensures { IfOk result (λ read. MatchOption read
+        ((delivery : Delivery) → Unshown line.now (show.Received delivery))
+        (Shows line.now)) }
 {
     let Some(sender) = sender_of(line) else {
         return Ok(None);

@@ -84,18 +84,22 @@ impl Sink for MemSink {
         ensures bytes { WriteAppends (Some self.old.held) (Some self.new.held) result piece.now }
         ensures later { self.old.faults ≤ self.new.faults }
         ensures failed { OnErr result (Rose self.old.faults self.new.faults) }
-        ensures zero { IfOk result (λ n. n ≡ 0 → 0 < length piece.now → Rose self.old.faults self.new.faults) }
-        ensures took { IfOk result (λ n. (0 < n) ⊎ (length piece.now ≡ 0) → self.new.faults ≡ self.old.faults) }
+        ensures zero { IfOk result (λ n. n ≡ 0 → 0 < length piece.now
+            → Rose self.old.faults self.new.faults) }
+        ensures took { IfOk result (λ n. (0 < n) ⊎ (length piece.now ≡ 0)
+            → self.new.faults ≡ self.old.faults) }
 
         // It fails where its number is one of those, and nowhere else.
         ensures fails { IsErr result ↔ Contains self.old.fails self.new.calls }
         ensures calls { self.new.calls ≡ next_count self.old.calls }
-        ensures count { IfOk result (λ n. n ≡ min (min self.old.most self.old.room) (length piece.now)) }
+        ensures count { IfOk result
+            (λ n. n ≡ min (min self.old.most self.old.room) (length piece.now)) }
         ensures room { length self.new.held + self.new.room ≡ length self.old.held + self.old.room }
 
         // A fault is counted where it fails, and where there is no room for any of a piece.
         ensures err { OnErr result (self.new.faults ≡ next_count self.old.faults) }
-        ensures used_up { IfOk result (λ n. n ≡ 0 → 0 < length piece.now → self.new.faults ≡ next_count self.old.faults) }
+        ensures used_up { IfOk result (λ n. n ≡ 0 → 0 < length piece.now
+            → self.new.faults ≡ next_count self.old.faults) }
 
         ensures same_fails { self.new.fails ≡ self.old.fails }
         ensures same_most { self.new.most ≡ self.old.most }

@@ -71,7 +71,8 @@ impl Source for MemSource {
         // It fails where its number is one of those, and nowhere else.
         ensures fails { IsErr result ↔ Contains self.old.fails self.new.calls }
         ensures calls { self.new.calls ≡ next_count self.old.calls }
-        ensures count { IfOk result (λ n. n ≡ min (min self.old.most (length self.old.left)) (length buf.new)) }
+        ensures count { IfOk result
+            (λ n. n ≡ min (min self.old.most (length self.old.left)) (length buf.new)) }
         ensures ok { OnOk result (self.new.faults ≡ self.old.faults) }
         ensures err { OnErr result (self.new.faults ≡ next_count self.old.faults) }
         ensures same_fails { self.new.fails ≡ self.old.fails }

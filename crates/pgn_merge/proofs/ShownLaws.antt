@@ -153,6 +153,7 @@ module _ (settings : Settings) (journal : List Tx) where
           let found = later (subst (λ (b : Bool). (b || names_section sections session) ≡ true) e named) in
           (suc found.0, found.1, omega (arith, found.2), found.3, found.4)
 
+-- what a legal run's traces show is its journal
 pub legal-shows_journal : LegalShowsJournal
 legal-shows_journal scenario settings journal traces legal = record {
   shown = each-shown settings journal scenario.sections traces legal.finished legal.lawful legal.own;

@@ -1,10 +1,10 @@
 -- Places that are made, filled and kept.
-use Rattle.std.proofs.Common.{◌≡◌, ◌≢◌, ℕ, zero, suc, ◌+◌, ◌-◌, ◌<◌, ◌≤◌, List, [], ◌∷◌, ◌++◌, length, map, filter_map, take, replicate, set, get_or, Option, Some, None, IfSome, slice_get, All, Contains, inl, inr, sym, ap, ◌∙◌, refl, subst, arith, append-nil, append_assoc, take_all, Result, Ok, Err, IfOk, length-append, length-set}
+use Rattle.std.proofs.Common.{◌≡◌, ℕ, zero, suc, ◌+◌, ◌-◌, ◌<◌, ◌≤◌, List, [], ◌∷◌, ◌++◌, length, map, filter_map, take, replicate, get_or, Option, Some, None, IfSome, slice_get, All, Contains, inl, inr, sym, ap, ◌∙◌, refl, subst, arith, append-nil, append_assoc, take_all, Result, Ok, Err, IfOk, length-append}
 use Rattle.std.proofs.lemmas.Bool.Decides.{eqb_tells}
 use Rattle.std.proofs.lemmas.Option.{IfSome_then, slice_get_within, none-some, same_Some}
 use Rattle.std.specs.List.{cons_option}
 use Rattle.std.specs.Option.{option_map}
-use Rattle.std.proofs.lemmas.List.Elements.{filter_map-append, All-head, Contains-append_cases, All-nil, All-tail, All-weaker, All-more, All-get_or}
+use Rattle.std.proofs.lemmas.List.Elements.{filter_map-append, All-head, Contains-append_cases, All-tail, All-weaker, All-more, All-get_or}
 use Rattle.pgn_base.specs.declared.limits.TheConstants.{FIRST_XID}
 use Rattle.pgn_journal.specs.declared.tx.Tx.{Tx}
 use Rattle.pgn_model.specs.declared.item.Item.{Item}
@@ -12,73 +12,20 @@ use Rattle.pgn_model.specs.declared.item.Item.TheVariants.{Line, Enlist, Publish
 use Rattle.pgn_model.specs.declared.trace.Trace.{Trace}
 use Rattle.pgn_model.specs.Legal.{finished_xid, finished_xids}
 use Rattle.pgn_merge.specs.Shown.{ShowsJournal, IsEntry, IsShownIn, finished}
-use Rattle.pgn_merge.specs.Slots.{Holds, IsPartOf, GoesOnEmpty, HasPlacedAll, Keeps, IsInPlace, IsPlaced, IsWidened, IsFilled, HasPlaced}
-
--- an element that is put into a list, and the others
-set-same : {A : Type 0} (xs : List A) (i : ℕ) (x : A) → i < length xs → slice_get (set xs i x) i ≡ Some x
-set-same [] i x lt = absurd (omega (arith, lt))
-set-same (y ∷ ys) zero x lt = refl
-set-same (y ∷ ys) (suc i) x lt = set-same ys i x (omega (arith, lt))
-
-set-other : {A : Type 0} (xs : List A) (i k : ℕ) (x : A) → k ≢ i → slice_get (set xs i x) k ≡ slice_get xs k
-set-other [] i k x other = refl
-set-other (y ∷ ys) zero zero x other = absurd (other refl)
-set-other (y ∷ ys) zero (suc k) x other = refl
-set-other (y ∷ ys) (suc i) zero x other = refl
-set-other (y ∷ ys) (suc i) (suc k) x other = set-other ys i k x (λ e. other (ap suc e))
-
--- empty places hold nothing
-empty-holds : (n k : ℕ) (tx : Tx) → Holds (replicate n None) k tx → ⊥
-empty-holds zero k tx h = none-some (Some tx) h
-empty-holds (suc n) zero tx h = none-some tx (same_Some None (Some tx) h)
-empty-holds (suc n) (suc k) tx h = empty-holds n k tx h
-
--- so places that are made change nothing
-wider-holds : (slots : List (Option Tx)) (n k : ℕ) (tx : Tx) → Holds (slots ++ replicate n None) k tx → Holds slots k tx
-wider-holds [] n k tx h = absurd (empty-holds n k tx h)
-wider-holds (slot ∷ slots) n zero tx h = h
-wider-holds (slot ∷ slots) n (suc k) tx h = wider-holds slots n k tx h
-
-holds-wider : (slots : List (Option Tx)) (n k : ℕ) (tx : Tx) → Holds slots k tx → Holds (slots ++ replicate n None) k tx
-holds-wider [] n k tx h = absurd (none-some (Some tx) h)
-holds-wider (slot ∷ slots) n zero tx h = h
-holds-wider (slot ∷ slots) n (suc k) tx h = holds-wider slots n k tx h
+use Rattle.pgn_merge.specs.Slots.{Holds, IsPartOf, GoesOnEmpty, HasPlacedAll, Keeps, IsInPlace, IsPlaced, IsFilled, HasPlaced}
 
 -- one more empty place
 replicate-push : (n : ℕ) (slot : Option Tx) → replicate n slot ++ slot ∷ [] ≡ replicate (suc n) slot
 replicate-push zero slot = refl
 replicate-push (suc n) slot = ap (λ (slots : List (Option Tx)). slot ∷ slots) (replicate-push n slot)
 
-pub none-empty : (slots : List (Option Tx)) (place : ℕ) → GoesOnEmpty slots slots place
-none-empty slots place = record { more = 0; longer = sym (append-nil slots); no_more = omega arith }
-
+-- a further slot that is empty stands behind the places that count
 pub one-empty : (old new : List (Option Tx)) (place : ℕ) → length new ≤ place → GoesOnEmpty old new place → GoesOnEmpty old (new ++ None ∷ []) place
 one-empty old new place few h = record {
   more = suc h.more;
   longer = ap (λ (slots : List (Option Tx)). slots ++ None ∷ []) h.longer ∙ append_assoc old (replicate h.more None) (None ∷ []) ∙ ap (λ (slots : List (Option Tx)). old ++ slots) (replicate-push h.more None);
   no_more = omega (arith, few, length-append new (None ∷ []));
 }
-
-pub all-empty : (old new : List (Option Tx)) (place : ℕ) → place < length new → GoesOnEmpty old new place → IsWidened old new place
-all-empty old new place there h = record {
-  more = h.more;
-  wider = h.longer;
-  there = there;
-  exact = omega (arith, there, h.no_more, ap (λ (slots : List (Option Tx)). length slots) h.longer, length-append old (replicate h.more None));
-}
-
--- a place that is made and filled
-pub filled : (old wide new : List (Option Tx)) (place : ℕ) (tx : Tx) → IsWidened old wide place → new ≡ set wide place (Some tx) → IsFilled old new place tx
-filled old wide new place tx w e =
-    subst (λ (slots : List (Option Tx)). IsFilled old slots place tx) (sym e)
-    (record {
-      there = set-same wide place (Some tx) w.there;
-      exact = length-set wide place (Some tx) ∙ w.exact;
-      others = λ k other apart. (
-        λ h. wider-holds old w.more k other (subst (λ (slots : List (Option Tx)). Holds slots k other) w.wider (sym (set-other wide place k (Some tx) apart) ∙ h)),
-        λ h. set-other wide place k (Some tx) apart ∙ subst (λ (slots : List (Option Tx)). Holds slots k other) (sym w.wider) (holds-wider old w.more k other h),
-      );
-    })
 
 -- what stands in the journal is put into its place
 module _ (journal : List Tx) (old new : List (Option Tx)) (place : ℕ) (tx : Tx) (part : IsPartOf journal old) (is : slice_get journal place ≡ Some tx) (f : IsFilled old new place tx) where
@@ -109,10 +56,6 @@ placed-kept old new session db item keeps h = IfSome_then (finished session db i
 pub all-kept : (old new : List (Option Tx)) (session db : ℕ) (items : List Item) → Keeps old new → All (IsPlaced old session db) items → All (IsPlaced new session db) items
 all-kept old new session db items keeps h = All-weaker (IsPlaced old session db) (IsPlaced new session db) (λ item. placed-kept old new session db item keeps) items h
 
--- before the first item
-pub none-placed : (journal : List Tx) (session db : ℕ) (items : List Item) (slots : List (Option Tx)) → IsPartOf journal slots → HasPlaced journal session db (take 0 items) slots slots
-none-placed journal session db items slots part = record { keeps = λ k tx h. h; placed = All-nil (IsPlaced slots session db); part = part }
-
 -- one more item that shows no transaction
 pub placed-none : (journal : List Tx) (session db : ℕ) (items : List Item) (i : ℕ) (d : Item) (old new : List (Option Tx)) → i < length items → finished session db (get_or items i d) ≡ None
     → HasPlaced journal session db (take i items) old new → HasPlaced journal session db (take (i + 1) items) old new
@@ -134,13 +77,6 @@ placed-one journal session db items i d pair old mid new lt is shown f h =
       placed = All-more (IsPlaced new session db) items i d lt (all-kept mid new session db (take i items) keeps h.placed) (subst (λ (o : Option (ℕ × Tx)). IfSome o (IsInPlace new)) (sym is) f.there);
       part = filled-part journal mid new (pair.0 - FIRST_XID) pair.1 h.part entry.1 f;
     }
-
--- no trace was placed yet
-pub none-placed_at_all : (journal : List Tx) (traces : List Trace) → HasPlacedAll journal (take 0 traces) []
-none-placed_at_all journal traces = record {
-  placed = All-nil (λ trace. All (IsPlaced [] trace.session trace.db) trace.items);
-  part = record { few = omega arith; same = λ place tx h. absurd (none-some (Some tx) h) };
-}
 
 -- one more trace
 pub placed-more : (journal : List Tx) (traces : List Trace) (i : ℕ) (d : Trace) (old new : List (Option Tx)) → i < length traces → HasPlacedAll journal (take i traces) old
@@ -208,9 +144,11 @@ taken-all (tx ∷ txs) = ap (λ (rest : List Tx). tx ∷ rest) (taken-all txs)
 taken-push : (slots : List (Option Tx)) (slot : Option Tx) (txs : List Tx) → txs ≡ filter_map (λ (o : Option Tx). o) slots → txs ++ cons_option slot [] ≡ filter_map (λ (o : Option Tx). o) (slots ++ slot ∷ [])
 taken-push slots slot txs e = ap (λ (ts : List Tx). ts ++ cons_option slot []) e ∙ sym (filter_map-append (λ (o : Option Tx). o) slots (slot ∷ []))
 
+-- an empty slot gives no transaction
 pub taken-none : (slots : List (Option Tx)) (slot : Option Tx) (txs : List Tx) → slot ≡ None → txs ≡ filter_map (λ (o : Option Tx). o) slots → txs ≡ filter_map (λ (o : Option Tx). o) (slots ++ slot ∷ [])
 taken-none slots slot txs none e = sym (append-nil txs) ∙ ap (λ (o : Option Tx). txs ++ cons_option o []) (sym none) ∙ taken-push slots slot txs e
 
+-- a full one gives its own
 pub taken-one : (slots : List (Option Tx)) (slot : Option Tx) (txs new : List Tx) (tx : Tx) → slot ≡ Some tx → new ≡ txs ++ tx ∷ [] → txs ≡ filter_map (λ (o : Option Tx). o) slots
     → new ≡ filter_map (λ (o : Option Tx). o) (slots ++ slot ∷ [])
 taken-one slots slot txs new tx some more e = more ∙ ap (λ (o : Option Tx). txs ++ cons_option o []) (sym some) ∙ taken-push slots slot txs e
@@ -231,9 +169,11 @@ module _ (journal : List Tx) (traces : List Trace) (slots : List (Option Tx)) (s
   taken-is : (txs : List Tx) → txs ≡ filter_map (λ (slot : Option Tx). slot) slots → txs ≡ journal
   taken-is txs e = e ∙ ap (λ (os : List (Option Tx)). filter_map (λ (slot : Option Tx). slot) os) (whole journal slots h.part.few holds) ∙ taken-all journal
 
+-- once each trace was placed, all are
 pub all-placed : (journal : List Tx) (traces : List Trace) (i : ℕ) (slots : List (Option Tx)) → length traces ≤ i → HasPlacedAll journal (take i traces) slots → HasPlacedAll journal traces slots
 all-placed journal traces i slots le h = subst (λ (ts : List Trace). HasPlacedAll journal ts slots) (take_all i traces le) h
 
+-- slots into which all was placed give the journal
 pub taken-ok : {V E : Type 0} (items : V → List Tx) (journal : List Tx) (traces : List Trace) (slots : List (Option Tx)) (result : Result V E) → ShowsJournal journal traces → HasPlacedAll journal traces slots
     → IfOk result (λ txs. items txs ≡ filter_map (λ slot. slot) slots) → IfOk result (λ txs. items txs ≡ journal)
 taken-ok items journal traces slots (Ok txs) shows h is = taken-is journal traces slots shows h (items txs) is

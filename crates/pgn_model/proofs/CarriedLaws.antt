@@ -21,6 +21,7 @@ pub record Carried : Type 0 where
   pub block : BlockState
   pub changes : List Change
 
+-- what is carried in a state
 abbrev pub carried : State → Carried
 carried s = record { told = s.told; mark = s.mark; marks = s.marks; found = s.found; block = s.block; changes = s.changes }
 
@@ -55,15 +56,18 @@ block_after_act s (Run command) = next_state s.block (answer s.block (live_names
 block_after_act s Quit = Idle
 block_after_act s act = s.block
 
+-- the list of the block after an act
 abbrev pub list_after_act : State → Act → List Change
 list_after_act s (Run command) = list_after s.changes command (answer s.block (live_names s.changes) s.set command)
 list_after_act s Quit = []
 list_after_act s act = s.changes
 
+-- the block's state after the next line's beginning, where there is one
 abbrev pub block_after_line : State → List ScriptLine → BlockState
 block_after_line s [] = s.block
 block_after_line s (line ∷ lines) = block_after_act s line.act
 
+-- and its list
 abbrev pub list_after_line : State → List ScriptLine → List Change
 list_after_line s [] = s.changes
 list_after_line s (line ∷ lines) = list_after_act s line.act
@@ -82,39 +86,48 @@ carried-act s Quit =
     let ended : State = record s { block = Idle; changes = []; set = [] } in
     carried-either (record ended { owed = Quitting }) ended (carried ended) (is_some s.mark) refl refl
 
+-- a line that begins changes the block and its list, and nothing else that is carried
 pub carried-line : (s : State) (lines : List ScriptLine) → carried (at_line s lines) ≡ carried (record s { block = block_after_line s lines; changes = list_after_line s lines })
 carried-line s [] = refl
 carried-line s (line ∷ lines) = carried-act (record s { rest = lines }) line.act
 
+-- what is put into the listening set changes nothing that is carried
 pub carried-enlist : (s : State) (owed : Owed) → carried (at_enlist s owed) ≡ carried s
 carried-enlist s (Enlisting actions notes ending) = carried-queueing s actions notes ending
 carried-enlist s owed = refl
 
+-- nor does what is published
 pub carried-publish : (s : State) (owed : Owed) → carried (at_publish s owed) ≡ carried s
 carried-publish s (Queueing actions notes ending) = carried-answering (record s { set = _ }) ending
 carried-publish s owed = refl
 
+-- nor does a full queue
 pub carried-full : (s : State) (owed : Owed) → carried (at_full s owed) ≡ carried s
 carried-full s (Queueing actions notes ending) = carried-answering s _
 carried-full s owed = refl
 
+-- nor that the session leaves
 pub carried-leave : (s : State) (owed : Owed) → carried (at_leave s owed) ≡ carried s
 carried-leave s (Leaving ending) = refl
 carried-leave s owed = refl
 
+-- nor rows that are shown
 pub carried-rows : (s : State) (owed : Owed) → carried (at_rows s owed) ≡ carried s
 carried-rows s (Listing names ending) = refl
 carried-rows s (Measuring ending) = refl
 carried-rows s owed = refl
 
+-- nor a flag that is raised
 pub carried-raise : (value : ℕ) (s : State) (owed : Owed) → carried (at_raise value s owed) ≡ carried s
 carried-raise value s (Raising flag) = refl
 carried-raise value s owed = refl
 
+-- of what is carried a flag that is found changes what was told and what was found
 pub marks-found : (value : ℕ) (s : State) (owed : Owed) → carried (at_found value s owed) ≡ record { told = (at_found value s owed).told; mark = s.mark; marks = s.marks; found = (at_found value s owed).found; block = s.block; changes = s.changes }
 marks-found value s (Awaiting flag) = refl
 marks-found value s owed = refl
 
+-- who finds a flag is told of no more than it knew or the flag says
 pub told-found : (value : ℕ) (s : State) (owed : Owed) (n : ℕ) → value ≤ n → s.told ≤ n → (at_found value s owed).told ≤ n
 told-found value s (Awaiting flag) n h k = omega arith
 told-found value s owed n h k = k

@@ -119,18 +119,22 @@ known-items terms journal items h shown = Along-both after_item (Allowed terms j
 first-told : (journal : List Tx) → 3 ≤ next_xid journal
 first-told journal = omega arith
 
+-- a session is told of no number past the journal, where its trace shows none
 pub told-within : ToldWithin
 told-within terms journal items h shown = Along-keeps after_item (IsKnown terms journal) (λ (s : State). s.told ≤ next_xid journal) (λ s item p k. told-step terms journal s item p.0 p.1 k) (start terms.section) items (known-items terms journal items h shown) (first-told journal)
 
 all_marks-within : (terms : Terms) (journal : List Tx) (items : List Item) → IsLawful terms journal items → AreMarksWithin (next_xid journal) (state_after terms items).mark (state_after terms items).marks
 all_marks-within terms journal items h = Along-keeps after_item (Allowed terms journal) (λ (s : State). AreMarksWithin (next_xid journal) s.mark s.marks) (marks-step terms journal) (start terms.section) items h (record { own = tt; all = All-nil (λ m. m ≤ next_xid journal) })
 
+-- all marks of a lawful trace are within the journal
 pub marks-within : MarksWithin
 marks-within terms journal items h = (all_marks-within terms journal items h).all
 
+-- so is the one that it ends with
 pub mark-within : MarkWithin
 mark-within terms journal items h = (all_marks-within terms journal items h).own
 
+-- of the state that lawful items lead to what was told, the mark and all marks are within the journal
 pub state-within : StateWithin
 state-within terms journal items s h shown = subst (IsStateWithin (next_xid journal)) h.state (record {
   told = told-within terms journal items h.lawful shown;
@@ -154,9 +158,11 @@ shown-weaker m n (Found value) h p = omega (arith, p)
 shown-weaker m n (TimedOut looks) h p = tt
 shown-weaker m n (Read from to got) h p = (omega (arith, p.0), omega (arith, p.1))
 
+-- what shows numbers within a bound shows them within a greater one
 pub shown-grows : ShownGrows
 shown-grows m n items h shown = All-weaker (IsShownWithin m) (IsShownWithin n) (λ item p. shown-weaker m n item h p) items shown
 
+-- what shows numbers within a journal shows them within a longer one
 pub shown-over : ShownOver
 shown-over journal more items shown = shown-grows (next_xid journal) (next_xid (journal ++ more)) items (omega (arith, length-append journal more)) shown
 
@@ -164,6 +170,7 @@ full-there : (settings : Settings) (journal more : List Tx) (item : Item) → Is
 full-there settings journal more (QueueFull full notes) h = no_page-grows settings.format settings.limit journal more full h
 full-there settings journal more item h = tt
 
+-- a full queue of a journal was full in each longer one
 pub full-grows : FullGrows
 full-grows settings journal more items full = All-weaker (IsFullThere settings journal) (IsFullThere settings (journal ++ more)) (full-there settings journal more) items full
 
@@ -256,6 +263,7 @@ shows-along terms journal s (item ∷ items) h full found told marks =
     let here : IsShownWithin (next_xid journal) item = shows-within terms journal s item h.0 full.0 found.0 told marks.own in
     (here, shows-along terms journal (after_item s item) items h.1 full.1 found.1 (told-step terms journal s item h.0 here told) (marks-step terms journal s item h.0 marks))
 
+-- lawful items show numbers of the journal alone, where their full queues and flags do
 pub lawful-shows : LawfulShows
 lawful-shows terms journal items s h full found =
     let first : State = start terms.section in
@@ -264,6 +272,7 @@ lawful-shows terms journal items s h full found =
     (shows-along terms journal first items h.lawful (Along-all after_item (IsFullThere terms.settings journal) first items full) (found-items terms journal (next_xid journal) first items h.lawful last).0
     (first-told journal) (record { own = tt; all = All-nil (λ m. m ≤ next_xid journal) }))
 
+-- who is up to date stays so as the journal grows, if it was told of nothing past it
 pub up_to_date-grows : UpToDateGrows
 up_to_date-grows terms journal more s within h = grown s.mark h
   where
@@ -276,12 +285,14 @@ fresh_at-grows : (terms : Terms) (journal more : List Tx) (s : State) (item : It
 fresh_at-grows terms journal more s (Line line) within h = λ idle. record { up_to_date = up_to_date-grows terms journal more s within (h idle).up_to_date; read_first = (h idle).read_first }
 fresh_at-grows terms journal more s item within h = tt
 
+-- no read is left out of items as the journal grows behind them
 pub fresh_so_far-grows : FreshSoFarGrows
 fresh_so_far-grows terms journal more items lawful shown fresh =
     let told = Along-before after_item (IsKnown terms journal) (λ (s : State). s.told ≤ next_xid journal) (λ s item p k. told-step terms journal s item p.0 p.1 k) (start terms.section) items (known-items terms journal items lawful shown) (first-told journal) in
     Along-weaker after_item (λ (s : State) (item : Item). (s.told ≤ next_xid journal) × IsFreshAt terms journal s item) (IsFreshAt terms (journal ++ more)) (λ s item p. fresh_at-grows terms journal more s item p.0 p.1) (start terms.section) items
     (Along-both after_item (λ (s : State) (item : Item). s.told ≤ next_xid journal) (IsFreshAt terms journal) (start terms.section) items told fresh)
 
+-- a trace stays lawful as the journal grows
 pub trace_ok-grows : TraceOkGrows
 trace_ok-grows terms trace journal more h = record {
   session = h.session;
@@ -290,6 +301,7 @@ trace_ok-grows terms trace journal more h = record {
   ended = h.ended;
 }
 
+-- no read is left out of a trace as the journal grows
 pub fresh-grows : FreshGrows
 fresh-grows terms trace journal more ok shown h = record {
   between_lines = fresh_so_far-grows terms journal more trace.items ok.lawful shown h.between_lines;

@@ -35,21 +35,26 @@ use Rattle.pgn_base.specs.declared.answers.Tag.TheVariants as tag
 use Rattle.pgn_base.specs.declared.answers.Refusal.TheVariants as refused
 use Rattle.pgn_base.specs.declared.command.Command.TheVariants as command
 
+-- no items lead to where a session begins
 pub empty-stands : EmptyStands
 empty-stands terms journal = record { stands = record { lawful = tt; state = refl }; fresh = tt }
 
+-- items that are lawful and left no read out stay so as the journal grows
 pub stands_fresh-grows : StandsFreshGrows
 stands_fresh-grows terms journal more items s h shown = record {
   stands = Stands-grows terms journal more items s h.stands;
   fresh = fresh_so_far-grows terms journal more items h.stands.lawful shown h.fresh;
 }
 
+-- what a session keeps of its trace shows no number past the journal
 pub holds-shows : HoldsShows
 holds-shows terms journal items s h = lawful-shows terms journal items s h.stands_fresh.stands h.full h.found
 
+-- nor has the session been told of such a number, or a mark there
 pub holds-within : HoldsWithin
 holds-within terms journal items s h = state-within terms journal items s h.stands_fresh.stands (holds-shows terms journal items s h)
 
+-- all that a session keeps of its trace stays so as the journal grows
 pub holds-grows : HoldsGrows
 holds-grows terms journal more items s h = record {
   stands_fresh = stands_fresh-grows terms journal more items s h.stands_fresh (holds-shows terms journal items s h);
@@ -57,6 +62,7 @@ holds-grows terms journal more items s h = record {
   found = All-weaker (λ (pair : ℕ × ℕ). pair.1 ≤ next_xid journal) (λ (pair : ℕ × ℕ). pair.1 ≤ next_xid (journal ++ more)) (λ pair e. omega (arith, e, length-append journal more)) s.found h.found;
 }
 
+-- the line that comes next still does as the journal grows
 pub comes_next-grows : ComesNextGrows
 comes_next-grows terms journal more s line act lines told h = record {
   answered = h.answered;
@@ -102,16 +108,19 @@ begins-command terms journal items s line command lines outcome h next e =
     subst (λ (o : Outcome). StandsFresh terms journal (items ++ Line line.line ∷ []) (at_outcome (record s { rest = lines; owed = Nothing }) command o)) e
     (begins terms journal items s line (Run command) lines h next)
 
+-- a line that is answered by its tag leads on, and its items are lawful
 pub line-replies : LineReplies
 line-replies terms journal items s line lines command done warning next h comes e =
     let begun : State = at_outcome (record s { rest = lines; owed = Nothing }) command (Replies done warning next) in
     StandsFresh-push terms journal (items ++ Line line.line ∷ []) begun (Reply done warning) (begins-command terms journal items s line command lines (Replies done warning next) h comes e) refl tt
 
+-- so does one that is refused
 pub line-refuses : LineRefuses
 line-refuses terms journal items s line lines command refusal next h comes e =
     let begun : State = at_outcome (record s { rest = lines; owed = Nothing }) command (Refuses refusal next) in
     StandsFresh-push terms journal (items ++ Line line.line ∷ []) begun (Refuse refusal) (begins-command terms journal items s line command lines (Refuses refusal next) h comes e) refl tt
 
+-- so does one without an answer
 pub line-is_silent : LineIsSilent
 line-is_silent terms journal items s line lines command h comes e = begins-command terms journal items s line command lines Silent h comes e
 
@@ -124,6 +133,7 @@ kept-replies live set (command.Notify note) done e = cc
 kept-replies live set (command.PgNotify note) done e = cc
 kept-replies live set other done e = absurd (let no : ⊥ = cc in no)
 
+-- so does one whose command a block keeps for its commit
 pub line-is_kept : LineIsKept
 line-is_kept terms journal items s line lines command done h comes in_block kept =
     line-replies terms journal items s line lines command done None InBlock h comes
@@ -226,12 +236,14 @@ clear-step s (Found value) h = subst (λ (c : Carried). IsClear c.block c.change
 clear-step s (TimedOut looks) h = h
 clear-step s (Read from to got) h = h
 
+-- outside a block the list is empty
 pub no_list-outside : NoListOutside
 no_list-outside terms journal items s h idle =
     let last : State = state_after terms items in
     let clear : IsClear last.block last.changes = Along-keeps after_item (Allowed terms journal) (λ (t : State). IsClear t.block t.changes) (λ t item p k. clear-step t item k) (start terms.section) items h.lawful (λ e. refl) in
     subst (λ (t : State). IsClear t.block t.changes) h.state clear idle
 
+-- a COMMIT of a block that has not failed: what survives of the list is committed
 pub block-commits : BlockCommits
 block-commits terms journal s line lines actions notes comes in_block actions_are notes_are = record {
   comes = comes;
@@ -240,6 +252,7 @@ block-commits terms journal s line lines actions notes comes in_block actions_ar
   notes_are = notes_are ∙ ap (λ (cs : List Change). firsts (surviving_notes cs)) (sym (append-nil s.changes));
 }
 
+-- a command that is a transaction of its own: what survives of its changes is committed
 pub one-commits : OneCommits
 one-commits terms journal s line lines c done actions notes comes idle none kept actions_are notes_are = record {
   comes = comes;
@@ -248,6 +261,7 @@ one-commits terms journal s line lines c done actions notes comes idle none kept
   notes_are = notes_are ∙ sym (kept-firsts c done kept) ∙ ap (λ (cs : List Change). firsts (surviving_notes (cs ++ changes_of c))) (sym none);
 }
 
+-- a line that commits next still does as the journal grows
 pub commits_next-grows : CommitsNextGrows
 commits_next-grows terms journal more s line lines command done actions notes told h = record {
   comes = comes_next-grows terms journal more s line (Run command) lines told h.comes;
@@ -336,6 +350,7 @@ commits terms journal items s line lines command done actions notes base point h
     StandsFresh terms journal begun (if is_enlisting actions s.mark then enlisting else queueing_or_settled idle actions ns ending)) (sym next.notes_are) two in
     enlists terms journal begun idle actions notes ending base point (is_enlisting actions s.mark) three may
 
+-- a commit leads on by its Enlist, Publish and Leave, as far as it has them
 pub line-commits : LineCommits
 line-commits terms journal items s line lines command done actions notes base point xid h next enlist publish =
     let begun : List Item = items ++ Line line.line ∷ [] ++ enlist_items actions s.mark base point in
@@ -344,6 +359,7 @@ line-commits terms journal items s line lines command done actions notes base po
     let two = publishes terms journal begun joined actions notes (Replied done None) xid one publish in
     ends terms journal (begun ++ publish_items notes xid) (record joined { told = published_told notes (enlisted_told actions s.mark s.told point) xid; set = applied s.set actions }) (Replied done None) two
 
+-- a commit that meets a full queue leads on with the set as it was
 pub line-meets_full : LineMeetsFull
 line-meets_full terms journal items s line lines command done actions notes base point full h next enlist some meet =
     let begun : List Item = items ++ Line line.line ∷ [] ++ enlist_items actions s.mark base point in
@@ -362,6 +378,7 @@ entry-next journal tx x P e p =
     let place : x - 3 ≡ length journal = omega arith in
     subst (λ (k : ℕ). IsSomeAnd (slice_get (journal ++ tx ∷ []) k) P) (sym place) (entry-last journal tx P p)
 
+-- a journal that ends with the session's committed transaction lets it be published
 pub last-is_published : LastIsPublished
 last-is_published terms journal tx told mark xid notes e after_told after_mark by = record {
   after_told = omega arith;
@@ -369,6 +386,7 @@ last-is_published terms journal tx told mark xid notes e after_told after_mark b
   in_journal = entry-next journal tx xid (IsCommittedBy terms.section notes) e by;
 }
 
+-- a journal that ends with its aborted one lets it meet a full queue
 pub last-met_full : LastMetFull
 last-met_full terms journal tx told mark full notes e after_told after_mark by floor = record {
   after_told = omega arith;
@@ -435,6 +453,7 @@ leave-finishes false = refl
 pub finished-more : (items more : List Item) → finished_xids more ≡ [] → finished_xids (items ++ more) ≡ finished_xids items
 finished-more items more e = filter_map-append finished_xid items more ∙ ap (λ (xs : List ℕ). finished_xids items ++ xs) e ∙ append-nil (finished_xids items)
 
+-- a commit shows the transaction that it publishes as finished, and no other one
 pub commit-finishes : CommitFinishes
 commit-finishes items line actions notes mark after set done base point xid =
     let begin : List Item = items ++ Line line ∷ [] in
@@ -446,6 +465,7 @@ commit-finishes items line actions notes mark after set done base point xid =
     ∙ ap (λ (xs : List ℕ). finished_xids joined ++ xs) (publish-finishes notes xid)
     ∙ ap (λ (xs : List ℕ). xs ++ published_xids notes xid) (finished-more begin (enlist_items actions mark base point) (enlist-finishes base point (is_enlisting actions mark)) ∙ finished-more items (Line line ∷ []) refl)
 
+-- so does a commit that meets a full queue
 pub full-finishes : FullFinishes
 full-finishes items line actions notes mark after set base point full =
     let begin : List Item = items ++ Line line ∷ [] in
@@ -456,14 +476,17 @@ full-finishes items line actions notes mark after set base point full =
     ∙ filter_map-append finished_xid joined (QueueFull full notes ∷ [])
     ∙ ap (λ (xs : List ℕ). xs ++ full.xid ∷ []) (finished-more begin (enlist_items actions mark base point) (enlist-finishes base point (is_enlisting actions mark)) ∙ finished-more items (Line line ∷ []) refl)
 
+-- the full queues that are shown were full, also behind a commit that is published
 pub commit-keeps_full : CommitKeepsFull
 commit-keeps_full settings journal items line actions notes mark after set done base point xid h =
     commit-all (IsFullThere settings journal) items line actions notes mark after set done base point xid h tt (λ e. tt) (λ e. tt) tt tt
 
+-- and behind one that meets a full queue, if that was full
 pub full-keeps_full : FullKeepsFull
 full-keeps_full settings journal items line actions notes mark after set base point full h no_page =
     full-all (IsFullThere settings journal) items line actions notes mark after set base point full h tt (λ e. tt) no_page tt tt
 
+-- a line that is answered by the channels leads on, and its items are lawful
 pub line-gives_channels : LineGivesChannels
 line-gives_channels terms journal items s line lines command names h comes e =
     let ending : Ending = Replied (tag.Select (length names)) None in
@@ -473,6 +496,7 @@ line-gives_channels terms journal items s line lines command names h comes e =
     let two = StandsFresh-push terms journal begun (record next { owed = Listing names ending }) (Channels names) one refl tt in
     answers terms journal (begun ++ Channels names ∷ []) next ending two
 
+-- so does one that is answered by the queue's usage
 pub line-gives_usage : LineGivesUsage
 line-gives_usage terms journal items s line lines command usage h comes e may =
     let ending : Ending = Replied (tag.Select 1) None in
@@ -483,17 +507,21 @@ line-gives_usage terms journal items s line lines command usage h comes e may =
     (record { expected = tt; after_told = may.after_told; after_mark = may.after_mark; shown = may.shown; floor = may.floor }) tt in
     answers terms journal (begun ++ Used usage ∷ []) (record next { named = s.named ++ holder_at usage.holder usage.floor_mark }) ending two
 
+-- so does one that raises a flag
 pub line-signals : LineSignals
 line-signals terms journal items s line lines flag h comes =
     StandsFresh-push terms journal (items ++ Line line.line ∷ []) (record s { rest = lines; owed = Raising flag }) (Raise s.told) (begins terms journal items s line (Signal flag) lines h comes) (record { expected = tt; told = refl }) tt
 
+-- a line that awaits a flag begins, and owes what it finds
 pub line-awaits : LineAwaits
 line-awaits terms journal items s line lines flag h comes = begins terms journal items s line (Await flag) lines h comes
 
+-- an awaited flag is found with a number that none of those known for it exceeds
 pub await-finds : AwaitFinds
 await-finds terms journal items s flag value h awaited raised found =
     StandsFresh-push terms journal items (record s { owed = Awaiting flag }) (Found value) (at-owed terms journal items s (Awaiting flag) awaited h) (raised, found) tt
 
+-- an awaited flag for which no number is known may be given up
 pub await-times_out : AwaitTimesOut
 await-times_out terms journal items s flag h awaited raised found =
     StandsFresh-push terms journal items (record s { owed = Awaiting flag }) (TimedOut terms.settings.patience) (at-owed terms journal items s (Awaiting flag) awaited h) (record { awaited = (raised, found); patient = refl }) tt
@@ -504,6 +532,7 @@ quits : (terms : Terms) (journal : List Tx) (items : List Item) (s : State) (mar
 quits terms journal items s None h = without terms journal items (record s { owed = Nothing; block = Idle; changes = []; set = []; mark = None }) h
 quits terms journal items s (Some mark) h = StandsFresh-push terms journal items (record s { owed = Quitting; block = Idle; changes = []; set = []; mark = Some mark }) Leave h tt tt
 
+-- a line that quits leads on, and a listener leaves by it
 pub line-quits : LineQuits
 line-quits terms journal items s line lines h comes = quits terms journal (items ++ Line line.line ∷ []) (record s { rest = lines }) s.mark (begins terms journal items s line Quit lines h comes)
 
@@ -514,22 +543,28 @@ reads terms journal items s from to h in_turn may =
     StandsFresh-push terms journal items s (Read from to (due journal from to terms.section.db s.set)) h
     (record { in_turn = in_turn; from_mark = may.from_mark; forward = may.forward; after_told = may.after_told; in_journal = may.in_journal; received = refl }) tt
 
+-- a listener may read between two lines
 pub idle-reads : IdleReads
 idle-reads terms journal items s from to h answered idle may = reads terms journal items s from to h (subst (MayRead s) (sym answered) (inl idle)) may
 
+-- it may read while it awaits a flag
 pub await-reads : AwaitReads
 await-reads terms journal items s flag from to h awaited idle may = reads terms journal items s from to h (subst (MayRead s) (sym awaited) idle) may
 
+-- it may read at the script's end, whatever block is open
 pub end-reads : EndReads
 end-reads terms journal items s from to h answered done may = reads terms journal items s from to h (subst (MayRead s) (sym answered) (inr done)) may
 
+-- a session that does not listen is up to date
 pub no_listener-is_up_to_date : NoListenerIsUpToDate
 no_listener-is_up_to_date terms journal s e = subst (λ (mark : Option ℕ). IfSome mark (λ m. Near terms.settings.format (is_due_to terms.section.db s.set) journal m s.told)) (sym e) tt
 
+-- a listener whose mark has come to all that it was told of is up to date
 pub reader-is_up_to_date : ReaderIsUpToDate
 reader-is_up_to_date terms journal s mark e told = subst (λ (mark : Option ℕ). IfSome mark (λ m. Near terms.settings.format (is_due_to terms.section.db s.set) journal m s.told)) (sym e)
     (near-itself terms.settings.format (is_due_to terms.section.db s.set) journal mark s.told told)
 
+-- so is one to whom nothing is near that it was told of
 pub quiet-is_up_to_date : QuietIsUpToDate
 quiet-is_up_to_date terms journal s told below near = lower s.mark near
   where
@@ -538,6 +573,7 @@ quiet-is_up_to_date terms journal s told below near = lower s.mark near
     lower None h = h
     lower (Some m) h = near-shrinks terms.settings.format (is_due_to terms.section.db s.set) journal m m told s.told below (omega arith) h
 
+-- items that lead to the script's end are a lawful trace
 pub end-is_lawful : EndIsLawful
 end-is_lawful terms journal trace s h closes = record {
   session = closes.session;
@@ -546,6 +582,7 @@ end-is_lawful terms journal trace s h closes = record {
   ended = subst (λ (t : State). IsEnd t trace.last) (sym h.state) (record { answered = closes.answered; done = closes.done; mark = closes.mark });
 }
 
+-- and one that left no read out, if it ends up to date
 pub end-is_fresh : EndIsFresh
 end-is_fresh terms journal trace s h up_to_date = record {
   between_lines = h.fresh;

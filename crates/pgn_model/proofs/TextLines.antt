@@ -265,6 +265,7 @@ cut [] h = refl
 cut (line ∷ lines) h =
     ap lines_of (append_assoc line (10 ∷ []) (joined lines)) ∙ lines-cut line (joined lines) (All-head Clean line lines h) ∙ ap (λ (rest : List (List ℕ)). line ∷ rest) (cut lines (All-tail Clean line lines h))
 
+-- the output of a sound scenario has its lines between its LFs
 pub text-has_lines : TextHasLines
 text-has_lines scenario journal traces sound notes items =
     cut (text_lines scenario journal traces)

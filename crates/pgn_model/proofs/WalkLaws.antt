@@ -15,6 +15,7 @@ pub Along-push : {S I : Type 0} (next : S → I → S) (P : S → I → Type 0) 
 Along-push next P s [] item h p = (p, tt)
 Along-push next P s (i ∷ items) item h p = (h.0, Along-push next P (next s i) items item h.1 p)
 
+-- a walk over one item more takes one step more
 pub fold-push : {S I : Type 0} (next : S → I → S) (s : S) (items : List I) (item : I) → fold next s (items ++ item ∷ []) ≡ next (fold next s items) item
 fold-push next s [] item = refl
 fold-push next s (i ∷ items) item = fold-push next (next s i) items item
@@ -33,6 +34,7 @@ Along-weaker next P Q f s (i ∷ items) h = (f s i h.0, Along-weaker next P Q f 
 pub Along-push_at : {S I : Type 0} (next : S → I → S) (P : S → I → Type 0) (first s : S) (items : List I) (item : I) → fold next first items ≡ s → Along next P first items → P s item → Along next P first (items ++ item ∷ [])
 Along-push_at {S = S} next P first s items item e h p = Along-push next P first items item h (subst (λ (t : S). P t item) (sym e) p)
 
+-- an item that is allowed goes on from where items lead
 pub Stands-push : (terms : Terms) (journal : List Tx) (items : List Item) (s : State) (item : Item) → Stands terms journal items s → Allowed terms journal s item → Stands terms journal (items ++ item ∷ []) (after_item s item)
 Stands-push terms journal items s item h p = record {
   lawful = Along-push_at after_item (Allowed terms journal) (start terms.section) s items item h.state h.lawful p;
@@ -89,13 +91,16 @@ Allowed-grows terms journal more s (Read from to got) h = record {
   received = h.received ∙ sym (due-grows journal more from to terms.section.db s.set h.in_journal);
 }
 
+-- items lead to the same state over a longer journal
 pub Stands-grows : (terms : Terms) (journal more : List Tx) (items : List Item) (s : State) → Stands terms journal items s → Stands terms (journal ++ more) items s
 Stands-grows terms journal more items s h = record {
   lawful = Along-weaker after_item (Allowed terms journal) (Allowed terms (journal ++ more)) (λ t item. Allowed-grows terms journal more t item) (start terms.section) items h.lawful;
   state = h.state;
 }
 
+-- the front of lawful items is lawful
 pub lawful-prefix : (terms : Terms) (journal : List Tx) (front rest : List Item) → IsLawful terms journal (front ++ rest) → IsLawful terms journal front
 lawful-prefix terms journal front rest h = Along-front after_item (Allowed terms journal) (start terms.section) front rest h
 
+-- of lawful items a front is lawful, and they stay so as the journal grows
 pub ruleset walk_laws = (Stands-grows, lawful-prefix)

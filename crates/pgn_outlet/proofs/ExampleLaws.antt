@@ -53,5 +53,6 @@ each_fits (suc zero) v e = subst (λ (x : Hand ℕ). Holds 1 x) (some-injective 
 each_fits (suc (suc zero)) v e = subst (λ (x : Hand ℕ). Holds 2 x) (some-injective third v e) third_fits
 each_fits (suc (suc (suc j))) v e = absurd (some-ne-none v (sym e))
 
+-- the queue in which the 5 of session 2 waits is one that these three hands have made
 pub two_numbers : Comes (number_of 2 5 ∷ []) (first ∷ second ∷ third ∷ [])
 two_numbers = record { owner = owner; taker = 2; taken = number_of 1 3 ∷ []; fits = each_fits }

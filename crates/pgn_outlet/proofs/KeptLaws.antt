@@ -50,6 +50,7 @@ module _ {T : Type 0} where
     has = f.has;
   }
 
+  -- who owns a session may push what it sent
   pub pushes : (n port : ℕ) (v : Hand T) (came : Came T) → MayPush v came.session → Pushes Comes n port v came (λ w. w ≡ with_sent v came)
   pushes n port v came may items views _ h at =
       let w : Hand T = with_sent v came in
@@ -68,6 +69,7 @@ module _ {T : Type 0} where
   fits_taken_by : (owner : ℕ → ℕ) (taker taker' : ℕ) (taken taken' all : List (Came T)) (port j : ℕ) (u : Hand T) → port ≡ taker → j ≢ port → Fits owner taker taken all j u → Fits owner taker' taken' all j u
   fits_taken_by owner taker taker' taken taken' all port j u is apart f = record { owns = f.owns; others = f.others; has = λ takes. absurd (apart ((f.has takes).0 ∙ sym is)) }
 
+  -- who takes gets what is pushed first
   pub takes : (port : ℕ) (v : Hand T) → v.takes ≡ true → Pops Comes port v (λ came w. w ≡ with_got v came)
   takes port v may came items views h at =
       let w : Hand T = with_got v came in
@@ -210,6 +212,7 @@ module _ {T : Type 0} where
     has = f.has;
   }
 
+  -- a hand takes in the one whose sessions follow its own
   pub joins : (port : ℕ) (v : Hand T) (other : ℕ) (w : Hand T) → w.first ≡ v.first + v.count → Merges Comes port v other w (joined v w) spent
   joins port v other w next items views h at apart at' =
       let both : Hand T = joined v w in

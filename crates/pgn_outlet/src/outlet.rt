@@ -20,7 +20,8 @@ pub type OutletPass<T> = SegPass<Came<T>, Hand<T>>;
 impl<T: Drop> Outlet<T> {
     /// An empty queue, a pass that may push for every session, and one that takes. The error is that memory did not suffice.
     pub fn open(alloc: Global) -> Result<(Outlet<T>, OutletPass<T>, OutletPass<T>), AllocError>
-        ensures own { IfOk result (λ opened. IsPassOf opened.0 opened.1 × IsPassOf opened.0 opened.2) }
+        ensures own { IfOk result (λ opened. IsPassOf opened.0 opened.1
+            × IsPassOf opened.0 opened.2) }
         ensures pushes { IfOk result (λ opened. knows opened.1 ≡ sender) }
         ensures takes { IfOk result (λ opened. knows opened.2 ≡ taker) }
     {
@@ -59,7 +60,8 @@ impl<T: Drop> Outlet<T> {
     /// Makes one pass of two whose sessions are neighbours by their numbers.
     pub fn whole(&self, pass: &mut OutletPass<T>, other: OutletPass<T>)
         requires own { IsPassOf self.now pass.old × IsPassOf self.now other }
-        requires neighbours { (knows other).first ≡ (knows pass.old).first + (knows pass.old).count }
+        requires neighbours { (knows other).first
+            ≡ (knows pass.old).first + (knows pass.old).count }
         ensures own { IsPassOf self.now pass.new }
         ensures joined { knows pass.new ≡ joined (knows pass.old) (knows other) }
     {

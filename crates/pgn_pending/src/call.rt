@@ -30,7 +30,8 @@ pub fn finish_after(
     calls: Vec<Call>,
 ) -> Result<(Actions, Notes), AllocError>
     ensures actions { IfOk result (λ left. left.0 ≡ surviving_actions (map change_of calls.items)) }
-    ensures notes { IfOk result (λ left. left.1 ≡ firsts (surviving_notes (map change_of calls.items))) }
+    ensures notes { IfOk result (λ left. left.1
+        ≡ firsts (surviving_notes (map change_of calls.items))) }
 {
     let mut pending = Pending::new(alloc, seed);
     for call in calls {
@@ -40,7 +41,8 @@ pub fn finish_after(
 }
 
 fn make(pending: &mut Pending, call: Call) -> Result<(), AllocError>
-    ensures { OnOk result ((changes : List Change) → StandsFor changes pending.old → StandsFor (changes ++ change_of call ∷ []) pending.new) }
+    ensures { OnOk result ((changes : List Change) → StandsFor changes pending.old
+        → StandsFor (changes ++ change_of call ∷ []) pending.new) }
 {
     match call {
         Call::Note(note) => pending.note(note),

@@ -51,7 +51,8 @@ impl Pending {
 
     /// NOTIFY. A notification that is kept already stays in its place. Where memory does not suffice, nothing changes.
     pub fn note(&mut self, note: Note) -> Result<(), AllocError>
-        ensures ok { OnOk result ((changes : List Change) → StandsFor changes self.old → StandsFor (changes ++ Noted note ∷ []) self.new) }
+        ensures ok { OnOk result ((changes : List Change) → StandsFor changes self.old
+            → StandsFor (changes ++ Noted note ∷ []) self.new) }
         ensures err { OnErr result (self.new ≡ self.old) }
     {
         self.room.reserve(self.notes.len() + 1)?;
@@ -61,7 +62,8 @@ impl Pending {
 
     /// LISTEN and UNLISTEN. Where memory does not suffice, nothing changes.
     pub fn action(&mut self, action: Action) -> Result<(), AllocError>
-        ensures ok { OnOk result ((changes : List Change) → StandsFor changes self.old → StandsFor (changes ++ Acted action ∷ []) self.new) }
+        ensures ok { OnOk result ((changes : List Change) → StandsFor changes self.old
+            → StandsFor (changes ++ Acted action ∷ []) self.new) }
         ensures err { OnErr result (self.new ≡ self.old) }
     {
         self.actions.push(action)?;
@@ -70,7 +72,8 @@ impl Pending {
 
     /// SAVEPOINT. Where memory does not suffice, nothing changes.
     pub fn mark(&mut self, name: Name) -> Result<(), AllocError>
-        ensures ok { OnOk result ((changes : List Change) → StandsFor changes self.old → StandsFor (changes ++ Saved name ∷ []) self.new) }
+        ensures ok { OnOk result ((changes : List Change) → StandsFor changes self.old
+            → StandsFor (changes ++ Saved name ∷ []) self.new) }
         ensures err { OnErr result (self.new ≡ self.old) }
     {
         let savepoint = Savepoint {
@@ -85,9 +88,11 @@ impl Pending {
     /// ROLLBACK TO: drops what came after the newest savepoint of this name, later savepoints too, and keeps this one. It takes no
     /// memory. `NoSuch` where no savepoint that stands has the name; nothing changes then.
     pub fn back_to(&mut self, name: &Name) -> Result<(), NoSuch>
-        ensures not_live { (changes : List Change) → StandsFor changes self.old → (IsErr result ↔ (has_name (live_names changes) name.now ≡ false)) }
+        ensures not_live { (changes : List Change) → StandsFor changes self.old
+            → (IsErr result ↔ (has_name (live_names changes) name.now ≡ false)) }
         ensures unchanged { OnErr result (self.new ≡ self.old) }
-        ensures after { (changes : List Change) → StandsFor changes self.old → StandsFor (changes ++ RolledBack name.now ∷ []) self.new }
+        ensures after { (changes : List Change) → StandsFor changes self.old
+            → StandsFor (changes ++ RolledBack name.now ∷ []) self.new }
     {
         let Some(at) = self.savepoints.newest(name) else {
             return Err(NoSuch);
@@ -102,9 +107,11 @@ impl Pending {
     /// RELEASE: drops the newest savepoint of this name and later ones, and keeps what came after. It takes no memory. `NoSuch`
     /// where no savepoint that stands has the name; nothing changes then.
     pub fn release(&mut self, name: &Name) -> Result<(), NoSuch>
-        ensures not_live { (changes : List Change) → StandsFor changes self.old → (IsErr result ↔ (has_name (live_names changes) name.now ≡ false)) }
+        ensures not_live { (changes : List Change) → StandsFor changes self.old
+            → (IsErr result ↔ (has_name (live_names changes) name.now ≡ false)) }
         ensures unchanged { OnErr result (self.new ≡ self.old) }
-        ensures after { (changes : List Change) → StandsFor changes self.old → StandsFor (changes ++ Released name.now ∷ []) self.new }
+        ensures after { (changes : List Change) → StandsFor changes self.old
+            → StandsFor (changes ++ Released name.now ∷ []) self.new }
     {
         let Some(from) = self.savepoints.newest(name) else {
             return Err(NoSuch);
@@ -115,8 +122,10 @@ impl Pending {
 
     /// The surviving actions, and the surviving notifications without their repeats, each in order. It takes no memory.
     pub fn finish(self) -> (Actions, Notes)
-        ensures actions { (changes : List Change) → StandsFor changes self → result.0 ≡ surviving_actions changes }
-        ensures notes { (changes : List Change) → StandsFor changes self → result.1 ≡ firsts (surviving_notes changes) }
+        ensures actions { (changes : List Change) → StandsFor changes self
+            → result.0 ≡ surviving_actions changes }
+        ensures notes { (changes : List Change) → StandsFor changes self
+            → result.1 ≡ firsts (surviving_notes changes) }
     {
         let Pending {
             actions,

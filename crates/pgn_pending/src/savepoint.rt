@@ -15,10 +15,14 @@ pub struct Savepoint {
 
 // Where the newest savepoint of this name stands.
 pub(crate) fn newest(savepoints: &[Savepoint], name: &Name) -> Option<usize>
-    ensures none { IfNone result (All (λ savepoint. is_named name.now savepoint ≡ false) savepoints.now) }
+    ensures none { IfNone result
+        (All (λ savepoint. is_named name.now savepoint ≡ false) savepoints.now) }
     ensures within { IfSome result (λ at. at < length savepoints.now) }
-    ensures named { IfSome result (λ at. (other : Savepoint) → is_named name.now (slice_index_or savepoints.now at other) ≡ true) }
-    ensures newest { IfSome result (λ at. (k : ℕ) (other : Savepoint) → at < k → k < length savepoints.now → is_named name.now (slice_index_or savepoints.now k other) ≡ false) }
+    ensures named { IfSome result (λ at. (other : Savepoint)
+        → is_named name.now (slice_index_or savepoints.now at other) ≡ true) }
+    ensures newest { IfSome result (λ at. (k : ℕ) (other : Savepoint)
+        → at < k → k < length savepoints.now
+        → is_named name.now (slice_index_or savepoints.now k other) ≡ false) }
 {
     savepoints
         .iter()

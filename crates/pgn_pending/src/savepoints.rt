@@ -1,4 +1,4 @@
-ghost use Rattle.std.specs.Prelude.{◌≡◌, ℕ, ◌+◌, ◌-◌, ◌<◌, ◌≤◌, List, [], ◌∷◌, ◌++◌, cond, take, length, bytes_eq, slice_index_or, false, true, All, IfNone, IfSome, OnOk, OnErr};
+ghost use Rattle.std.specs.Prelude.{◌≡◌, ℕ, ◌+◌, ◌-◌, ◌<◌, ◌≤◌, List, [], ◌∷◌, ◌++◌, take, length, slice_index_or, false, true, All, IfNone, IfSome, OnOk, OnErr};
 ghost use Rattle.pgn_pending.specs.Kept.{is_named};
 ghost use Rattle.pgn_pending.specs.Counts.{count_of, CountsMore, CountsLess, CountsAt};
 ghost use Rattle.pgn_pending.specs.declared.savepoint.Savepoint.{Savepoint};
@@ -78,11 +78,15 @@ impl Savepoints {
 
     /// Where the newest of this name stands.
     pub(crate) fn newest(&self, name: &Name) -> Option<usize>
-        ensures none { IfNone result (All (λ savepoint. is_named name.now savepoint ≡ false) self.now) }
+        ensures none { IfNone result
+            (All (λ savepoint. is_named name.now savepoint ≡ false) self.now) }
         ensures within { IfSome result (λ at. at < length self.now) }
         ensures next { IfSome result (λ at. at < usize.MAX) }
-        ensures named { IfSome result (λ at. (other : Savepoint) → is_named name.now (slice_index_or self.now at other) ≡ true) }
-        ensures newest { IfSome result (λ at. (k : ℕ) (other : Savepoint) → at < k → k < length self.now → is_named name.now (slice_index_or self.now k other) ≡ false) }
+        ensures named { IfSome result (λ at. (other : Savepoint)
+            → is_named name.now (slice_index_or self.now at other) ≡ true) }
+        ensures newest { IfSome result (λ at. (k : ℕ) (other : Savepoint)
+            → at < k → k < length self.now
+            → is_named name.now (slice_index_or self.now k other) ≡ false) }
     {
         if self.list.len() > FEW && count(&self.names, name) == 0 {
             return newest(&self.list[..FEW], name);

@@ -1,5 +1,5 @@
 -- What comes next of a client's bytes, as it is read.
-use Rattle.std.proofs.Common.{◌≡◌, ◌≢◌, ℕ, ◌+◌, ◌-◌, ◌<◌, ◌≤◌, min, List, [], ◌∷◌, ◌++◌, length, take, Option, Some, None, Result, Ok, Err, IfOk, sym, ap, ◌∙◌, subst, refl, arith, append_assoc, append-nil, Contains}
+use Rattle.std.proofs.Common.{◌≡◌, ◌≢◌, ℕ, ◌+◌, ◌-◌, ◌<◌, ◌≤◌, min, List, [], ◌∷◌, ◌++◌, length, take, Option, Some, None, Result, Ok, Err, IfOk, sym, ap, ◌∙◌, subst, refl, arith, append-nil}
 use Rattle.std.specs.Int.{w32, from_be_bytes}
 use Rattle.std.specs.Io.KnownBytes.{Consumes, IsAtEnd}
 use Rattle.std.proofs.lemmas.List.{length-append, length-take, length-take-le, take_all, take_at, take-append-le}
@@ -10,7 +10,7 @@ use Rattle.pgn_queries.specs.declared.wire_fault.WireFault.TheVariants.{BadType,
 use Rattle.pgn_queries.specs.declared.coming.Coming.{Coming}
 use Rattle.pgn_queries.specs.declared.coming.Coming.TheVariants.{End, Query, Fault}
 use Rattle.pgn_queries.specs.Client as client
-use Rattle.pgn_queries.specs.Client.{Tells, IsQueryLength, IsText, IsBody, IsNoBody, IsQueryText, BodyIs, QueryIs, TerminateIs, NextIs, HasLength, OfKnown, body_of}
+use Rattle.pgn_queries.specs.Client.{Tells, IsQueryLength, IsBody, IsNoBody, IsQueryText, BodyIs, QueryIs, TerminateIs, NextIs, HasLength, OfKnown, body_of}
 
 -- from what holds of known bytes to what follows
 OfKnown-map : (P Q : List ℕ → List ℕ → Type 0) (a b : Option (List ℕ)) → ((xs ys : List ℕ) → P xs ys → Q xs ys) → OfKnown P a b → OfKnown Q a b
@@ -92,6 +92,7 @@ pub Body-cut : (at size n : ℕ) (body text : List ℕ) (a b : Option (List ℕ)
 Body-cut at size n body text a b few h e = OfKnown-last (BodyIs at size (Fault (Truncated at)) text) a b (take n body) h e
     (client.BodyIs.Cut (take n body) text [] (let le : length (take n body) ≡ min n (length body) = length-take n body in omega arith))
 
+-- a body that is none of a query is a bad text
 pub Body-bad : (at size n : ℕ) (body text : List ℕ) (a b : Option (List ℕ)) → length body ≡ size → size ≤ n → IsNoBody body → Consumes a b (take n body) → OfKnown (BodyIs at size (Fault (BadText at)) text) a b
 Body-bad at size n body text a b len enough none h =
     let all : take n body ≡ body = take_all n body (omega arith) in
@@ -113,6 +114,7 @@ body_sound size body text len few is e =
     let short : length is.0 ≤ LINE_BYTES_MAX = omega arith in
     subst (λ (t : List ℕ). IsQueryText t) (sym same) (record { sound = is.2; short = short })
 
+-- a body that is one gives its text
 pub Body-whole : (at size n : ℕ) (body text : List ℕ) (a b : Option (List ℕ)) → length body ≡ size → size ≤ n → IsBody body → text ≡ take (size - 1) body → Consumes a b (take n body) → OfKnown (BodyIs at size Query text) a b
 Body-whole at size n body text a b len enough is e h =
     let all : take n body ≡ body = take_all n body (omega arith) in
@@ -126,12 +128,14 @@ pub Letter-other : (at letter : ℕ) (text : List ℕ) (a : Option (List ℕ)) �
 Letter-other at letter text None q x = tt
 Letter-other at letter text (Some xs) q x = client.NextIs.NoType letter (letter ∷ xs) xs text xs refl q x
 
+-- a message with the letter `Q` is a query
 pub Letter-query : {E : Type 0} (at letter : ℕ) (text : List ℕ) (r : Result Coming E) (a b : Option (List ℕ)) → letter ≡ 81 → IfOk r (λ coming. OfKnown (QueryIs at coming text) a b)
     → IfOk r (λ coming. OfKnown (λ bytes rest. NextIs at coming text (letter ∷ bytes) rest) a b)
 Letter-query at letter text (Err e) a b is h = tt
 Letter-query at letter text (Ok coming) a b is h = subst (λ (l : ℕ). OfKnown (λ bytes rest. NextIs at coming text (l ∷ bytes) rest) a b) (sym is)
     (OfKnown-map (QueryIs at coming text) (λ bytes rest. NextIs at coming text (81 ∷ bytes) rest) a b (λ xs ys k. client.NextIs.Asks (81 ∷ xs) xs coming text ys refl k) h)
 
+-- one with the letter `X` is a Terminate
 pub Letter-terminate : {E : Type 0} (at letter : ℕ) (text : List ℕ) (r : Result Coming E) (a b : Option (List ℕ)) → letter ≡ 88 → IfOk r (λ coming. OfKnown (TerminateIs at coming) a b)
     → IfOk r (λ coming. OfKnown (λ bytes rest. NextIs at coming text (letter ∷ bytes) rest) a b)
 Letter-terminate at letter text (Err e) a b is h = tt
@@ -149,12 +153,17 @@ Next-letter at n letter coming text a b c some h k =
     OfKnown-behind (NextIs at coming text) (λ bytes rest. NextIs at coming text (letter ∷ bytes) rest) a b c (letter ∷ [])
     (subst (λ (xs : List ℕ). Consumes a b xs) (take_all n (letter ∷ []) some) h) (λ ys zs p. p) k
 
+-- what a head is, by its length
 pub ruleset length_laws = (HasLength-read, HasLength-cut, Terminate-cut, Terminate-bad, Terminate-whole, Query-cut, Query-bad, Query-body)
 
+-- what a buffer holds that was filled
 pub ruleset fill_laws = (take_at)
 
+-- what a body is
 pub ruleset body_laws = (Body-cut, Body-bad, Body-whole, body_sound)
 
+-- what a message is, by its letter
 pub ruleset letter_laws = (Letter-other, Letter-query, Letter-terminate)
 
+-- what comes next: the end, or a message
 pub ruleset next_laws = (Next-ended, Next-letter)

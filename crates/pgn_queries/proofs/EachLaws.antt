@@ -18,9 +18,9 @@ use Rattle.pgn_queries.specs.declared.wire_fault.WireFault.TheVariants.{BadType,
 use Rattle.pgn_queries.specs.declared.coming.Coming.{Coming}
 use Rattle.pgn_queries.specs.declared.coming.Coming.TheVariants.{End, Query, Fault}
 use Rattle.pgn_queries.specs.Client as client
-use Rattle.pgn_queries.specs.Client.{IsText, IsBody, IsNoBody, BodyIs, QueryIs, TerminateIs, NextIs, body_of}
+use Rattle.pgn_queries.specs.Client.{IsText, IsBody, IsNoBody, BodyIs, QueryIs, TerminateIs, NextIs}
 use Rattle.pgn_queries.specs.Queries as queries
-use Rattle.pgn_queries.specs.Queries.{Place, IsLineOf, AreTooMany, QueriesAre, after_query}
+use Rattle.pgn_queries.specs.Queries.{Place, IsLineOf, AreTooMany, after_query}
 use Rattle.pgn_queries.specs.Laws.{HasReading, EachHasReading}
 use Rattle.pgn_queries.proofs.OneLaws.{fronts, not_query, terminate_asks_nothing}
 
@@ -168,6 +168,7 @@ pub record NextComes (at : ℕ) (bytes : List ℕ) : Type 0 where
   pub is : NextIs at coming text bytes rest
   pub less : coming ≡ Query → length rest < length bytes
 
+-- of any bytes something comes next, and it takes one of them at least, but for the end
 pub next_comes : (at : ℕ) (bytes : List ℕ) → NextComes at bytes
 next_comes at [] = record { coming = End; text = []; rest = []; is = client.NextIs.Ended [] [] refl; less = λ e. absurd (cc) }
 next_comes at (letter ∷ more) = elim (cases_Bool (letter == 81)) [
@@ -256,5 +257,6 @@ fewer (suc size) place bytes few =
     let next = next_comes place.at bytes in
     by_next place bytes next.coming next.text next.rest next.is (λ asks after. fewer size after next.rest (let shorter : length next.rest < length bytes = next.less asks in omega arith))
 
+-- any bytes have a reading, from any place on
 pub each_has_reading : EachHasReading
 each_has_reading place bytes = fewer (suc (length bytes)) place bytes (omega arith)

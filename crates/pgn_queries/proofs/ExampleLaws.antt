@@ -33,6 +33,7 @@ or_false : (a b : Bool) → (a || b) ≡ false → (a ≡ false) × (b ≡ false
 or_false true b h = absurd (cc)
 or_false false b h = (refl, h)
 
+-- a text that has a byte nowhere does not contain it
 pub lacks : (x : ℕ) (text : List ℕ) → has x text ≡ false → Contains text x → ⊥
 lacks x [] h c = absurd (omega (arith, c.1))
 lacks x (b ∷ text) h c =
@@ -51,6 +52,7 @@ comes at head text rest four value short sound =
     (client.QueryIs.HasBody (head ++ (body_of text ++ rest)) head (body_of text ++ rest) Query text rest (5 + length text) (1 + length text) refl (record { four = four; value = value })
     (record { least = omega arith; most = omega arith }) (omega arith) (client.BodyIs.Whole (body_of text ++ rest) text rest refl (omega arith) sound))
 
+-- at a place with no more queries and notifications than may be there are not too many
 pub few : (place : Place) → place.queries ≤ QUERIES_MAX → place.notes ≤ place.most → AreTooMany place → ⊥
 few place counted noted (inl many) = absurd (omega arith)
 few place counted noted (inr many) = absurd (omega arith)

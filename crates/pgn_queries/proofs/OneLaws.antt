@@ -15,7 +15,7 @@ use Rattle.pgn_queries.specs.declared.wire_fault.WireFault.TheVariants.{BadType,
 use Rattle.pgn_queries.specs.declared.coming.Coming.{Coming}
 use Rattle.pgn_queries.specs.declared.coming.Coming.TheVariants.{End, Query, Fault}
 use Rattle.pgn_queries.specs.Client as client
-use Rattle.pgn_queries.specs.Client.{Tells, IsQueryLength, IsText, BodyIs, QueryIs, TerminateIs, NextIs, body_of, query_letter, terminate_letter}
+use Rattle.pgn_queries.specs.Client.{Tells, IsQueryLength, BodyIs, QueryIs, TerminateIs, NextIs, body_of}
 use Rattle.pgn_queries.specs.Queries as queries
 use Rattle.pgn_queries.specs.Queries.{Place, IsLineOf, AreTooMany, QueriesAre, after_query}
 use Rattle.pgn_queries.specs.Laws.{OneReading}
@@ -46,6 +46,7 @@ pub record Same (coming other : Coming) (text words rest more : List ℕ) : Type
   pub texts : coming ≡ Query → text ≡ words
   pub rests : coming ≡ Query → rest ≡ more
 
+-- a fault is no query
 pub not_query : (fault : WireFault) → Fault fault ≡ Query → ⊥
 not_query fault e = cc
 
@@ -65,6 +66,7 @@ terminate_one at _ _ bytes _ _ (client.TerminateIs.Whole _ head r e tells) (clie
     absurd (bad (lengths bytes front head after r size 4 f e told tells).0)
 terminate_one at _ _ bytes _ _ (client.TerminateIs.Whole _ head r e tells) (client.TerminateIs.Whole _ front s f told) = refl
 
+-- a message that begins as a Terminate is no query
 pub terminate_asks_nothing : (at : ℕ) (coming : Coming) (bytes rest : List ℕ) → TerminateIs at coming bytes rest → coming ≡ Query → ⊥
 terminate_asks_nothing at _ bytes _ (client.TerminateIs.CutHead _ r few) e = cc
 terminate_asks_nothing at _ bytes _ (client.TerminateIs.BadHead _ head behind r len f tells wrong) e = cc
@@ -118,6 +120,7 @@ no_first x xs zs e f = let len : 0 ≡ suc (length xs) = ap length (sym e ∙ f)
 letters_differ : (x : ℕ) → x ≡ 88 → x ≡ 81 → ⊥
 letters_differ x e f = omega arith
 
+-- of the same bytes one thing comes next, with one text and one rest
 pub next_one : (at : ℕ) (coming other : Coming) (text words bytes rest more : List ℕ) → NextIs at coming text bytes rest → NextIs at other words bytes more → Same coming other text words rest more
 next_one at _ _ _ _ bytes _ _ (client.NextIs.Ended _ t e) (client.NextIs.Ended _ u f) = record { first = refl; texts = λ q. absurd (cc); rests = λ q. refl }
 next_one at _ _ _ _ bytes _ _ (client.NextIs.Ended _ t e) (client.NextIs.NoType letter _ behind u s f q x) = absurd (no_first letter behind bytes e f)
@@ -210,5 +213,6 @@ reading_one place bytes _ _ _ _ (queries.QueriesAre.Goes _ _ t r line lines f n 
     (subst (λ (p : Place). QueriesAre p r others g) (sym (same_after place t u line other one.0 one.2)) (subst (λ (xs : List ℕ). QueriesAre (after_query place (length u) other.act) xs others g) (sym one.1) more)) in
     (ap (λ (l : ScriptLine). l ∷ lines) one.2 ∙ ap (λ (ls : List ScriptLine). other ∷ ls) whole.0, whole.1)
 
+-- bytes have one reading
 pub one_reading : OneReading
 one_reading = reading_one

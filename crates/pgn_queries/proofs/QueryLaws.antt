@@ -81,6 +81,8 @@ IsLineOf-lines number at text line h here e =
 pub IsLineOf-one : (number : ℕ) (text : List ℕ) (command : Command) → IsOneLine text → ReadsAs text command → IsLineOf number text (record { line = number; text = text; act = Run command })
 IsLineOf-one number text command one reads = queries.IsLineOf.OneLine text command one reads
 
+-- what a place gives: nothing, a line, a fault, or one query too many
 pub ruleset gives_laws = (Gives-none, Gives-line, Fails-known, Exceeds-known)
 
+-- which line a query is
 pub ruleset line_laws = (IsLineOf-lines, IsLineOf-one)

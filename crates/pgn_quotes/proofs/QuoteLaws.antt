@@ -66,9 +66,6 @@ pub record Written (quote : ℕ) (bytes : List ℕ) (end doubled : ℕ) : Type 0
   pub size : length (flat_map (doubled_byte quote) text) ≡ end
   pub count : length text + doubled ≡ end
 
-pub written-start : (quote : ℕ) (bytes : List ℕ) → Written quote bytes 0 0
-written-start quote bytes = record { text = []; spelled = refl; size = refl; count = refl }
-
 -- further bytes without a quote
 pub written-plain : (quote : ℕ) (bytes : List ℕ) (end doubled next : ℕ) → Written quote bytes end doubled → end + next ≤ length bytes → NoneAmong quote (drop end bytes) next
     → Written quote bytes (end + next) doubled
@@ -116,9 +113,11 @@ written-raw quote bytes end doubled w = ap (take end) w.spelled ∙ take_at (fla
 pub written-once : (quote : ℕ) (bytes : List ℕ) (end doubled : ℕ) (w : Written quote bytes end doubled) → single quote (take end bytes) ≡ w.text
 written-once quote bytes end doubled w = ap (single quote) (written-raw quote bytes end doubled w) ∙ once-doubled quote w.text
 
+-- what was passed is its text with each quote written twice
 pub written-spelled : (quote : ℕ) (bytes : List ℕ) (end doubled : ℕ) → Written quote bytes end doubled → take end bytes ≡ flat_map (doubled_byte quote) (single quote (take end bytes))
 written-spelled quote bytes end doubled w = written-raw quote bytes end doubled w ∙ ap (flat_map (doubled_byte quote)) (sym (written-once quote bytes end doubled w))
 
+-- it has a byte more than its text for each quote in it
 pub written-counted : (quote : ℕ) (bytes : List ℕ) (end doubled : ℕ) → Written quote bytes end doubled → end ≤ length bytes → length (single quote (take end bytes)) + doubled ≡ length (take end bytes)
 written-counted quote bytes end doubled w l =
     let c : length w.text + doubled ≡ end = w.count in
@@ -151,6 +150,7 @@ written-closed quote bytes end doubled w l e f =
           ∙ ap (λ (n : ℕ). let i : Inside = record { text = single quote (take end bytes); size = n + 1 } in Some i) (sym long);
     }
 
+-- where no further quote stands none closes the text
 pub written-open : (quote : ℕ) (bytes : List ℕ) (end doubled : ℕ) → Written quote bytes end doubled → NoneAmong quote (drop end bytes) (length (drop end bytes)) → closed quote bytes ≡ None
 written-open quote bytes end doubled w none = ap (closed quote) w.spelled ∙ still-open quote w.text (drop end bytes) (none-closed quote (drop end bytes) none)
 
@@ -176,6 +176,7 @@ starts-at quote (b ∷ bytes) zero h = (omega arith, eqb-true b quote h)
 starts-at quote [] (suc k) h = absurd (cc)
 starts-at quote (b ∷ bytes) (suc k) h = let rest : (k < length bytes) × (get_or bytes k 0 ≡ quote) = starts-at quote bytes k h in (omega (arith, rest.0), rest.1)
 
+-- a quote behind a quote is one more that is written twice
 pub written-twice : (quote : ℕ) (bytes : List ℕ) (at doubled : ℕ) → Written quote bytes at doubled → at < length bytes → get_or bytes at 0 ≡ quote → starts quote (drop (at + 1) bytes) ≡ true
     → Written quote bytes (at + 2) (doubled + 1) × (at + 2 ≤ length bytes)
 written-twice quote bytes at doubled w l e f =
@@ -197,9 +198,6 @@ finds-quote quote from bytes (Some next) l h =
 -- ranges that begin at the start or run to the end
 pub from_start : (n : ℕ) (xs : List ℕ) → slice_range xs 0 n ≡ take n xs
 from_start n xs = ap (λ (k : ℕ). take k xs) (omega arith)
-
-pub to_end : (n : ℕ) (xs : List ℕ) → slice_range xs n (length xs) ≡ drop n xs
-to_end n xs = ap (λ (k : ℕ). take k (drop n xs)) (sym (length-drop n xs)) ∙ take_all (length (drop n xs)) (drop n xs) (omega arith)
 
 -- what follows a quote that is written twice: the rest of the text, and the rest of the bytes
 pub record Split (quote : ℕ) (text raw : List ℕ) (at : ℕ) : Type 0 where
@@ -310,6 +308,7 @@ two-more n = omega arith
 pub quote-boundary : (quote : ℕ) (raw : List ℕ) (at : ℕ) → IsUtf8 raw → quote < 128 → at < length raw → get_or raw at 0 ≡ quote → IsCharBoundary raw (at + 1)
 quote-boundary quote raw at u l h e = IsCharBoundary-after_ascii raw at u h (omega (arith, e))
 
+-- behind a quote that is written twice a character begins
 pub pair-boundary : (quote : ℕ) (raw : List ℕ) (at : ℕ) → IsUtf8 raw → quote < 128 → IsTwice quote raw → IsQuoteAt quote raw 0 at → IsCharBoundary raw (at + 2)
 pair-boundary quote raw at u l t h =
     let part : (at + 2 ≤ length raw) × (take (at + 1) raw ++ single quote (drop (at + 2) raw) ≡ single quote raw) × IsTwice quote (drop (at + 2) raw) × (get_or raw (at + 1) 0 ≡ quote) = split-part quote raw at (split-raw quote raw at t h) in

@@ -195,10 +195,12 @@ module _ (terms : Terms) (journal : List Tx) (sections : List Section) (traces :
         (omega (arith, some), omega (arith, trace-length))
     within n read (Unfinished t k wrong) = (omega arith, omega (arith, trace-length))
 
+-- of no items each is spotless
 pub spotless-first : SpotlessFirst
 spotless-first terms journal sections traces [] after item s e h = absurd (let none : ⊥ = cc in none)
 spotless-first terms journal sections traces (other ∷ before) after item s e h = absurd (let none : ⊥ = cc in none)
 
+-- items that are spotless, and one more that is
 pub spotless-on : SpotlessOn
 spotless-on terms journal sections traces before item s h clear good front back other t e k = by (cuts before front item other [] back e)
   where
@@ -220,21 +222,27 @@ spotless-on terms journal sections traces before item s h clear good front back 
     by (inl h) = last h.0 h.1
     by (inr h) = clear front h.0 other t h.1 k
 
+-- the lines to blame in a section lie behind its head and before its end
 pub blamed-within : BlamedWithin
 blamed-within terms journal sections traces head trace n read b = within terms journal sections traces head trace n read b
 
+-- behind spotless items no line before their last one is to blame
 pub blamed-from_before : BlamedFromBefore
 blamed-from_before terms journal sections traces head trace before after item s n split h clear b = from-before terms journal sections traces head trace before after item s split h clear n b
 
+-- nor is that one, where no read was left out behind them
 pub blamed-from_item : BlamedFromItem
 blamed-from_item terms journal sections traces head trace before after item s n read split h clear fresh b = from-item terms journal sections traces head trace before after item s split h clear n read fresh b
 
+-- of a trace of spotless items no line before the last one is to blame
 pub blamed-from_last : BlamedFromLast
 blamed-from_last terms journal sections traces head trace s n h clear b = from-last terms journal sections traces head trace s h clear n b
 
+-- nor is that one, where no read was left out at the end
 pub blamed-from_end : BlamedFromEnd
 blamed-from_end terms journal sections traces head trace s n h clear fresh b = from-end terms journal sections traces head trace s h clear fresh n b
 
+-- a whole trace of spotless items that left no read out has no line to blame
 pub nothing-blamed : NothingBlamed
 nothing-blamed terms journal sections traces head trace s n h clear fresh done b = none n b
   where
@@ -284,18 +292,22 @@ module _ (settings : Settings) (journal : List Tx) (all : List Section) (all_tra
       inr (later (head + length (trace_lines section trace)) front back done left n (omega (arith, same))
       (subst (λ (h : ℕ). Among h back left n) (omega (arith, length-append (trace_lines section trace) (traces_lines front done))) b))
 
+-- the lines to blame in sections lie behind the first one's head
 pub blamed-behind : BlamedBehind
 blamed-behind settings journal all all_traces head sections traces n read b = behind settings journal all all_traces head sections traces n read b
 
+-- where the first section has a line to blame, the least of it is the least of all
 pub least-in_first : LeastInFirst
 least-in_first settings journal all all_traces head section sections trace traces n read b least m (inl k) = least m k
 least-in_first settings journal all all_traces head section sections trace traces n read b least m (inr k) =
     let terms : Terms = record { section = section; settings = settings } in
     omega (arith, (within terms journal all all_traces head trace n read.0 b).1, behind settings journal all all_traces (head + length (trace_lines section trace)) sections traces m read.1 k)
 
+-- a line to blame in sections is one of those in front or of those behind
 pub blamed-apart : BlamedApart
 blamed-apart settings journal all all_traces head front back done left n same b = apart settings journal all all_traces head front back done left n same b
 
+-- a line to blame in the sections behind is one of all
 pub blamed-later : BlamedLater
 blamed-later settings journal all all_traces head front back done left n same b = later settings journal all all_traces head front back done left n same b
 
@@ -321,10 +333,12 @@ tx-lines : (tx : Tx) (txs : List Tx) → 1 ≤ lines_of_txs (tx ∷ txs)
 unfolding lines_of_txs
 tx-lines tx txs = omega arith
 
+-- the lines to blame in a journal are its own, from the second one on
 pub entry-within : EntryWithin
 entry-within sections journal n (BadEntry before after tx e wrong) =
     (omega arith, omega (arith, entries-length FIRST_XID before, entries-length FIRST_XID journal, ap lines_of_txs e, txs-append before (tx ∷ after), tx-lines tx after))
 
+-- no line of the good transactions in front of a journal is to blame
 pub entry-from : EntryFrom
 entry-from sections journal before after tx n split good (BadEntry front back other e wrong) = by (cuts before front tx other after back (sym split ∙ e))
   where
@@ -332,11 +346,13 @@ entry-from sections journal before after tx n split good (BadEntry front back ot
     by (inl h) = omega (arith, entries-length FIRST_XID before, entries-length FIRST_XID front, ap lines_of_txs h.1, txs-append before h.0)
     by (inr h) = absurd (wrong (there (IsGoodTx sections) before front h.0 other h.1 good))
 
+-- a journal of good transactions has no line to blame
 pub no_entry-blamed : NoEntryBlamed
 no_entry-blamed sections journal n good (BadEntry before after tx e wrong) = wrong (there (IsGoodTx sections) journal before after tx e good)
 
 -- The whole text.
 
+-- a text that can be read breaks the form nowhere
 pub reading-has_form : ReadingHasForm
 reading-has_form scenario out journal traces n sound r b = by n b
   where
@@ -360,6 +376,7 @@ form-first scenario out n m (Short begins none) (Broken front back other e' begi
     absurd (wrong' (begins-shorter scenario (front ++ other ∷ []) back (subst (λ (ls : List (List ℕ)). BeginOutput scenario ls) (e' ∙ sym (append_assoc front (other ∷ []) back)) begins)))
 form-first scenario out n m (Short begins none) (Short begins' none') = omega arith
 
+-- of a text that breaks the form the line that breaks it is to blame
 pub least-in_form : LeastInForm
 least-in_form scenario settings out n sound b = record { blamed = InForm n b; least = least }
   where
@@ -368,6 +385,7 @@ least-in_form scenario settings out n sound b = record { blamed = InForm n b; le
     least m (InEntry k journal traces r c) = absurd (reading-has_form scenario out journal traces n sound r b)
     least m (InTrace k journal traces r c) = absurd (reading-has_form scenario out journal traces n sound r b)
 
+-- of a text that is read the first transaction that is not good is to blame
 pub least-in_journal : LeastInJournal
 least-in_journal scenario settings out journal before after tx traces sound r split good wrong =
     let n : ℕ = length (entries_lines FIRST_XID before) + 2 in
@@ -384,6 +402,7 @@ least-in_journal scenario settings out journal before after tx traces sound r sp
         let lines : length (journal_lines other) ≡ length (journal_lines journal) = ap (λ (txs : List Tx). length (journal_lines txs)) same.0 in
         omega (arith, lines, (entry-within scenario.sections journal _ bad).1, behind settings other scenario.sections others (length (journal_lines other) + 1) scenario.sections others m q.readable.each c)
 
+-- where all transactions are good, the least line to blame in the sections is to blame
 pub least-in_traces : LeastInTraces
 least-in_traces scenario settings out journal traces n sound r good b first = record { blamed = InTrace n journal traces r b; least = least }
   where

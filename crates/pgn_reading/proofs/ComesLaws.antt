@@ -33,6 +33,7 @@ pub completed-state : (s : State) (items : List Item) → fold after_item s (com
 completed-state s [] = refl
 completed-state s (item ∷ items) = fold-both after_item s (without_line s.owed) (whole s item ∷ completed (stepped s item) items) ∙ completed-state (stepped s item) items
 
+-- what the walk adds to items, and then to those behind them
 pub completed-both : (s : State) (before after : List Item) → completed s (before ++ after) ≡ completed s before ++ completed (walked s before) after
 completed-both s [] after = refl
 completed-both s (item ∷ before) after =
@@ -64,9 +65,11 @@ along-completed P added s [] h = tt
 along-completed P added s (item ∷ items) h =
     Along-both after_item P s (without_line s.owed) (whole s item ∷ completed (stepped s item) items) (added s) (h.0, along-completed P added (stepped s item) items h.1)
 
+-- the walk comes to where it begins
 pub comes-first : ComesFirst
 comes-first terms journal = record { lawful = tt; state = refl }
 
+-- the walk comes past one item more, where that is allowed
 pub comes-on : ComesOn
 comes-on terms journal before item s h allowed =
     let first : State = start terms.section in
@@ -80,6 +83,7 @@ comes-on terms journal before item s h allowed =
       state = fold-push stepped first before item ∙ ap (λ (u : State). stepped u item) h.state;
     }
 
+-- a trace that the walk comes past, to the script's end, is lawful with what the walk adds
 pub comes-to_end : ComesToEnd
 comes-to_end terms journal trace s session database h end = record {
   session = session;
@@ -88,9 +92,11 @@ comes-to_end terms journal trace s session database h end = record {
   ended = subst (λ (u : State). IsEnd u trace.last) (sym (completed-state (start terms.section) trace.items ∙ h.state)) end;
 }
 
+-- of no items no read is left out
 pub fresh-first : FreshFirst
 fresh-first terms journal = tt
 
+-- nor of one more before which none was
 pub fresh-on : FreshOn
 fresh-on terms journal before item s h so_far here =
     Along-push stepped (λ t i. IsFreshAt terms journal (ready t) i) (start terms.section) before item so_far (subst (λ (u : State). IsFreshAt terms journal (ready u) item) (sym h.state) here)
@@ -121,6 +127,7 @@ Along-weaker_by : {S I : Type 0} (next : S → I → S) (P Q : S → I → Type 
 Along-weaker_by next P Q f s [] h = tt
 Along-weaker_by next P Q f s (i ∷ items) h = (f s i h.0, Along-weaker_by next P Q f (next s i) items h.1)
 
+-- a trace that the walk comes past, with no read left out, is fresh with what the walk adds
 pub fresh-comes : FreshComes
 fresh-comes terms journal trace s h so_far end =
     let first : State = start terms.section in
@@ -135,6 +142,7 @@ fresh-comes terms journal trace s h so_far end =
 pub seen-whole : (terms : Terms) (journal : List Tx) (trace : Trace) → TraceOk terms trace journal → completed (start terms.section) (seen trace.items) ≡ trace.items
 seen-whole terms journal trace ok = read-is_completed terms journal (start terms.section) trace.items ok.lawful ok.ended.answered
 
+-- where the walk has come to an item that is seen of a lawful trace, the item is allowed
 pub lawful-is_not_refused : LawfulIsNotRefused
 lawful-is_not_refused terms journal trace before after item s ok read h =
     let first : State = start terms.section in
@@ -142,6 +150,7 @@ lawful-is_not_refused terms journal trace before after item s ok read h =
     let same : trace.items ≡ completed first (before ++ item ∷ after) = sym (seen-whole terms journal trace ok) ∙ ap (λ (is : List Item). completed first is) read in
     subst (λ (u : State). P (ready u) (whole u item)) h.state (along-read P first before after item (subst (λ (is : List Item). Along after_item P first is) same ok.lawful))
 
+-- where it has come to an item that is seen of a fresh one, no read was left out
 pub fresh-is_not_left_out : FreshIsNotLeftOut
 fresh-is_not_left_out terms journal trace before after item s ok fresh read h =
     let first : State = start terms.section in
@@ -155,9 +164,11 @@ seen-state : (terms : Terms) (journal : List Tx) (trace : Trace) (s : State) →
 seen-state terms journal trace s ok h =
     ap (λ (is : List Item). state_after terms is) (sym (seen-whole terms journal trace ok)) ∙ completed-state (start terms.section) (seen trace.items) ∙ h.state
 
+-- a session whose trace is fresh ends up to date
 pub fresh-is_up_to_date : FreshIsUpToDate
 fresh-is_up_to_date terms journal trace s ok fresh h = subst (λ (u : State). IsUpToDate terms journal u) (seen-state terms journal trace s ok h) fresh.at_end
 
+-- the walk over what is seen of a lawful trace ends as the trace says
 pub lawful-is_finished : LawfulIsFinished
 lawful-is_finished terms journal trace s ok h = subst (λ (u : State). IsEnd u trace.last) (seen-state terms journal trace s ok h) ok.ended
 
@@ -172,6 +183,7 @@ own-added (Listing [] ending) items = refl
 own-added (Listing (name ∷ names) ending) items = refl
 own-added owed items = refl
 
+-- what the walk adds finishes no transaction
 pub own-is_read : OwnIsRead
 own-is_read s [] = refl
 own-is_read s (item ∷ items) =
@@ -179,6 +191,7 @@ own-is_read s (item ∷ items) =
     ∙ ap (λ (xs : List ℕ). cons_option (finished_xid (whole s item)) xs) (own-is_read (stepped s item) items)
     ∙ ap (λ o. cons_option o (finished_xids items)) (own-one s item)
 
+-- nor does what is not seen
 pub own-is_seen : OwnIsSeen
 own-is_seen [] = refl
 own-is_seen (Publish xid notes ∷ items) = ap (λ (xs : List ℕ). let all : List ℕ = xid ∷ xs in all) (own-is_seen items)

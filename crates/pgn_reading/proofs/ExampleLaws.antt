@@ -14,14 +14,17 @@ use Rattle.pgn_reading.specs.Completed.{ready, whole, walked, completed}
 use Rattle.pgn_reading.specs.Blame.{Comes, Refused, LeftOut, LeftOutLast}
 use Rattle.pgn_reading.specs.Examples.{self, self_notify, sent, note, receives, run_seen, run_unread, run_text, changed_text, unread_text, codes_x, codes_y, terms, before_commit, notifies, self_on, terms_on, ItsCommitIsRefused, ItsReadIsLeftOut, ItsReadIsMissing, MayBegin}
 
+-- the text of the example's run
 pub run-shown : text self_notify (sent codes_x) (run_seen ∷ []) ≡ run_text
 unfolding digits
 run-shown = refl
 
+-- the text with another payload in the journal
 pub changed-shown : text self_notify (sent codes_y) (run_seen ∷ []) ≡ changed_text
 unfolding digits
 changed-shown = refl
 
+-- the text without the read
 pub unread-shown : text self_notify (sent codes_x) (run_unread ∷ []) ≡ unread_text
 unfolding digits
 unread-shown = refl
@@ -33,6 +36,7 @@ before-lawful = search rules
 comes-to_commit : Comes terms (sent codes_y) before_commit (walked (start self) before_commit)
 comes-to_commit = record { lawful = before-lawful; state = refl }
 
+-- the commit is not allowed where the journal has another payload
 pub commit-is_refused : ItsCommitIsRefused
 unfolding digits
 commit-is_refused =
@@ -46,6 +50,7 @@ unread-lawful = search rules
 comes-to_unread_end : Comes terms (sent codes_x) run_unread.items (walked (start self) run_unread.items)
 comes-to_unread_end = record { lawful = unread-lawful; state = refl }
 
+-- a read is missing at the end of the text without it
 pub read-is_missing : ItsReadIsMissing
 unfolding digits
 read-is_missing =
@@ -60,10 +65,12 @@ third-is_late h = let due : list_any (is_due_to 1 (codes "c" ∷ [])) (entries_b
 late-lawful : IsLawful terms_on (sent codes_x) (completed (start self_on) (notifies []))
 late-lawful = search rules
 
+-- a read is left out before the third line, where that begins without it
 pub read-is_left_out : ItsReadIsLeftOut
 unfolding digits
 read-is_left_out =
     LeftOut (notifies []) (Reply tag.Begin None ∷ []) (Line 4) (walked (start self_on) (notifies [])) refl (record { lawful = late-lawful; state = refl }) third-is_late
 
+-- behind the read the third line may begin
 pub third-may_begin : MayBegin (notifies [] ++ receives)
 third-may_begin = search rules

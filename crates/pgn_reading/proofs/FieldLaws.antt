@@ -19,6 +19,7 @@ AreDigits (b ∷ bytes) = IsInRange 48 57 b × AreDigits bytes
 are-digits : IsDigitsTest AreDigits
 are-digits = record { empty = tt; parts = λ b bytes h. h; more = λ b bytes h k. (h, k) }
 
+-- a number is spelled in digits alone
 pub digits-decimal : (n : ℕ) → n < 2 ^ 64 → AreDigits (decimal n)
 digits-decimal n h = digits_decimal (numerals_by_value AreDigits are-digits) n h
 
@@ -127,6 +128,7 @@ field start m n rest more hm hn hr hs e = number-ends m n rest more hm hn hr hs 
 pub blank : (rest : List ℕ) → EndsNumber (32 ∷ rest)
 blank rest = omega arith
 
+-- LF ends a number
 pub line-feed : (rest : List ℕ) → EndsNumber (10 ∷ rest)
 line-feed rest = omega arith
 
@@ -143,6 +145,7 @@ same-note a b e1 e2 =
     ap (λ (text : List ℕ). let n : Note = record { channel = text; payload = a.payload } in n) e1
     ∙ ap (λ (text : List ℕ). let n : Note = record { channel = b.channel; payload = text } in n) e2
 
+-- the line of a notification tells it, and what stands behind the line
 pub note-ends : (note other : Note) (rest more : List ℕ) → note_line note ++ 10 ∷ rest ≡ note_line other ++ 10 ∷ more → (note ≡ other) × (rest ≡ more)
 note-ends note other rest more e =
     let behind : List ℕ = 44 ∷ 32 ∷ 39 ∷ (doubled 39 note.payload ++ 39 ∷ 10 ∷ rest) in
@@ -155,6 +158,7 @@ note-ends note other rest more e =
     (append_cancel_left (44 ∷ 32 ∷ 39 ∷ []) (doubled 39 note.payload ++ 39 ∷ 10 ∷ rest) (doubled 39 other.payload ++ 39 ∷ 10 ∷ more) channels.1) in
     (same-note note other channels.0 payloads.0, append_cancel_left (10 ∷ []) rest more payloads.1)
 
+-- two full queues with the same in each field are the same
 pub same-full : (a b : Full) → a.xid ≡ b.xid → a.queued ≡ b.queued → a.head_page ≡ b.head_page → a.floor_mark ≡ b.floor_mark → a.floor_page ≡ b.floor_page → a.holder ≡ b.holder → a ≡ b
 same-full a b e1 e2 e3 e4 e5 e6 =
     ap (λ (n : ℕ). let f : Full = record { xid = n; queued = a.queued; head_page = a.head_page; floor_mark = a.floor_mark; floor_page = a.floor_page; holder = a.holder } in f) e1
@@ -164,6 +168,7 @@ same-full a b e1 e2 e3 e4 e5 e6 =
     ∙ ap (λ (n : ℕ). let f : Full = record { xid = b.xid; queued = b.queued; head_page = b.head_page; floor_mark = b.floor_mark; floor_page = n; holder = a.holder } in f) e5
     ∙ ap (λ (o : Option ℕ). let f : Full = record { xid = b.xid; queued = b.queued; head_page = b.head_page; floor_mark = b.floor_mark; floor_page = b.floor_page; holder = o } in f) e6
 
+-- two usages with the same in each field are the same
 pub same-usage : (a b : Usage) → a.at ≡ b.at → a.occupied ≡ b.occupied → a.limit ≡ b.limit → a.floor_mark ≡ b.floor_mark → a.holder ≡ b.holder → a ≡ b
 same-usage a b e1 e2 e3 e4 e5 =
     ap (λ (n : ℕ). let u : Usage = record { at = n; occupied = a.occupied; limit = a.limit; floor_mark = a.floor_mark; holder = a.holder } in u) e1
@@ -176,11 +181,14 @@ same-usage a b e1 e2 e3 e4 e5 =
 pub four-apart : (a b c d : List ℕ) → a ++ b ++ c ++ d ≡ a ++ (b ++ (c ++ d))
 four-apart a b c d = simp append_assoc
 
+-- five texts joined, taken apart from the left
 pub five-apart : (a b c d e : List ℕ) → a ++ b ++ c ++ d ++ e ≡ a ++ (b ++ (c ++ (d ++ e)))
 five-apart a b c d e = simp append_assoc
 
+-- six texts joined, taken apart from the left
 pub six-apart : (a b c d e f : List ℕ) → a ++ b ++ c ++ d ++ e ++ f ≡ a ++ (b ++ (c ++ (d ++ (e ++ f))))
 six-apart a b c d e f = simp append_assoc
 
+-- twelve texts joined, taken apart from the left
 pub twelve-apart : (a b c d e f g h i j k l : List ℕ) → a ++ b ++ c ++ d ++ e ++ f ++ g ++ h ++ i ++ j ++ k ++ l ≡ a ++ (b ++ (c ++ (d ++ (e ++ (f ++ (g ++ (h ++ (i ++ (j ++ (k ++ l))))))))))
 twelve-apart a b c d e f g h i j k l = simp append_assoc

@@ -82,6 +82,7 @@ whole-shown : text self_notify (sent codes_x) (run ∷ []) ≡ run_text
 unfolding digits
 whole-shown = refl
 
+-- the text of the example's run is that of a legal run
 pub run-is_legal : IsLegalText self_notify default_settings run_text
 run-is_legal = record { journal = sent codes_x; traces = run ∷ []; legal = run-legal; shown = whole-shown }
 
@@ -143,6 +144,7 @@ first-begins = journal-goes_on self_notify 1 [] (omega arith) (omega arith) (All
 pub one_line-short : BreaksForm self_notify one_line_text 2
 one_line-short = Short first-begins no-reading
 
+-- of a text that ends behind its first line the missing second one is to blame
 pub one_line-blamed : IsLeastBlamed self_notify default_settings one_line_text 2
 one_line-blamed = least-in_form self_notify default_settings one_line_text 2 sound one_line-short
 
@@ -165,6 +167,7 @@ no-zero_line h =
 none-begins : BeginOutput self_notify []
 none-begins = begins-shorter self_notify [] ((codes "journal " ++ decimal 0) ∷ []) (journal-goes_on self_notify 0 [] (omega arith) (omega arith) (All-nil _))
 
+-- a first line with a zero too many breaks the form
 pub zero-broken : BreaksForm self_notify zero_text 1
 zero-broken = Broken [] _ (codes "journal 00") refl none-begins no-zero_line
 
@@ -198,5 +201,6 @@ unended-begins : BeginOutput self_notify (whole_lines unended_text)
 unfolding digits
 unended-begins = begins-shorter self_notify (whole_lines unended_text) (codes "end mark 4" ∷ []) (begins-whole self_notify (sent codes_x) (run_seen ∷ []) run-readable)
 
+-- a text without its last LF breaks the form in its last line
 pub unended-short : BreaksForm self_notify unended_text 13
 unended-short = Short unended-begins unended-none

@@ -29,12 +29,14 @@ all-still : (sections : List Section) → EachSection IsReadTrace sections (map 
 all-still [] = tt
 all-still (section ∷ sections) = (still-read section, all-still sections)
 
+-- sections in front with their traces, and those behind with theirs
 pub each-append : (front back : List Section) (done left : List Trace) → EachSection IsReadTrace front done → EachSection IsReadTrace back left → EachSection IsReadTrace (front ++ back) (done ++ left)
 each-append [] back [] left h k = k
 each-append [] back (trace ∷ done) left h k = absurd h
 each-append (section ∷ front) back [] left h k = absurd h
 each-append (section ∷ front) back (trace ∷ done) left h k = (h.0, each-append front back done left h.1 k)
 
+-- the lines of the sections in front, and then those of the ones behind
 pub traces-append : (front back : List Section) (done left : List Trace) → EachSection IsReadTrace front done → traces_lines (front ++ back) (done ++ left) ≡ traces_lines front done ++ traces_lines back left
 traces-append [] back [] left h = refl
 traces-append [] back (trace ∷ done) left h = absurd h
@@ -65,6 +67,7 @@ filler-read : (sections : List Section) → IsReadTx sections (filler sections)
 unfolding filler
 filler-read sections = record { session = (omega arith, omega arith); database = refl; queueing = refl; few = omega arith; notes = All-nil IsLineNote }
 
+-- the lines of transactions in front, and then those of the ones behind, numbered on
 pub entries-append : (x : ℕ) (front back : List Tx) → entries_lines x (front ++ back) ≡ entries_lines x front ++ entries_lines (x + length front) back
 entries-append x [] back = ap (λ (n : ℕ). entries_lines n back) (omega arith)
 entries-append x (tx ∷ front) back =
@@ -72,12 +75,15 @@ entries-append x (tx ∷ front) back =
     ∙ ap (λ (n : ℕ). entry_lines x tx ++ (entries_lines (x + 1) front ++ entries_lines n back)) (omega arith)
     ∙ sym (append_assoc (entry_lines x tx) (entries_lines (x + 1) front) (entries_lines (x + length (tx ∷ front)) back))
 
+-- fewer lines of what begins an output begin one too
 pub begins-shorter : BeginsShorter
 begins-shorter scenario lines more h = record { journal = h.journal; traces = h.traces; rest = more ++ h.rest; readable = h.readable; goes_on = h.goes_on ∙ append_assoc lines more h.rest }
 
+-- a readable text begins an output
 pub begins-whole : BeginsWhole
 begins-whole scenario journal traces h = record { journal = journal; traces = traces; rest = []; readable = h; goes_on = sym (append-nil (text_lines scenario journal traces)) }
 
+-- a journal's first line, and lines of some of the transactions that it tells, begin an output
 pub journal-goes_on : JournalGoesOn
 journal-goes_on scenario count journal few fits h =
     let fill : List Tx = replicate (count - length journal) (filler scenario.sections) in
@@ -99,6 +105,7 @@ journal-goes_on scenario count journal few fits h =
           ∙ ap (λ (lines : List (List ℕ)). (codes "journal " ++ decimal count) ∷ lines) (append_assoc (entries_lines FIRST_XID journal) (entries_lines (FIRST_XID + length journal) fill) (traces_lines scenario.sections traces));
     }
 
+-- so do these, a transaction's first line, and lines of some of the notifications that it tells
 pub entry-goes_on : EntryGoesOn
 entry-goes_on scenario count journal session queued many fate notes few fits h number bound queueing as_many read =
     let sections : List Section = scenario.sections in
@@ -128,6 +135,7 @@ entry-goes_on scenario count journal session queued many fate notes few fits h n
     ∙ sym (append_assoc before (head ∷ map note_line notes) (map note_line fill)) in
     begins-shorter scenario (first ∷ (before ++ head ∷ map note_line notes)) (map note_line fill) (subst (λ (lines : List (List ℕ)). BeginOutput scenario (first ∷ lines)) spelled goes)
 
+-- so do the lines of a journal, of whole sections, and of the front of one more
 pub section-goes_on : SectionGoesOn
 section-goes_on scenario journal front back section done trace few h split before read =
     let left : List Trace = trace ∷ map still back in

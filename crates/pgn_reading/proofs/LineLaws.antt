@@ -104,9 +104,11 @@ pub end-sign : (last : Option ℕ) → sign (end_line last) ≡ 101
 end-sign None = refl
 end-sign (Some mark) = refl
 
+-- a notification's line begins as a row with a quote
 pub note-sign : (note : Note) → IsLineNote note → sign (note_line note) ≡ 1
 note-sign note h = refl
 
+-- so does a channel's line
 pub channel-sign : (name : List ℕ) → IsLineName name → sign (channel_line name) ≡ 1
 channel-sign name h = refl
 
@@ -118,6 +120,7 @@ digit-first n h = by (decimal n) (digits-decimal n h) (decimal_nonempty n h)
     by [] d some = absurd (omega (arith, some))
     by (b ∷ bytes) d some = (b, bytes, refl, d.0)
 
+-- the line of one that is received begins as a row with a number
 pub delivery-sign : (delivery : Delivery) → IsLineDelivery delivery → sign (delivery_line delivery) ≡ 2
 delivery-sign delivery h =
     let first = digit-first delivery.xid (omega (arith, h.xid.1)) in
@@ -337,11 +340,13 @@ of-one-refusal refused.Aborted other t h k e = absurd (omega (arith, t))
 of-one-refusal refused.QueueFull refused.QueueFull t h k e = refl
 of-one-refusal refused.QueueFull other t h k e = absurd (omega (arith, t))
 
+-- the line of a refusal tells it
 pub refusal-same : (refusal other : Refusal) → IsLineRefusal refusal → IsLineRefusal other → refusal_line refusal ≡ refusal_line other → refusal ≡ other
 refusal-same refusal other h k e = of-one-refusal refusal other (sym (refusal-tells refusal) ∙ ap refusal_sign e ∙ refusal-tells other) h k e
 
 -- The queue's answers.
 
+-- the line of a full queue tells it
 pub full-same : (full other : Full) → IsLineFull full → IsLineFull other → full_line full ≡ full_line other → full ≡ other
 full-same full other h k e =
     let in_page : List ℕ = codes " holder " ++ holder_text full.holder in
@@ -369,6 +374,7 @@ full-same full other h k e =
     full-apart f =
         twelve-apart (codes "+full ") (decimal f.xid) (codes " queued ") (decimal f.queued) (codes " head ") (decimal f.head_page) (codes " floor ") (decimal f.floor_mark) (codes " page ") (decimal f.floor_page) (codes " holder ") (holder_text f.holder)
 
+-- the lines of a usage tell it, and the lines behind them
 pub usage-same : (usage other : Usage) (rest more : List (List ℕ)) → IsLineUsage usage → IsLineUsage other → usage_lines usage ++ rest ≡ usage_lines other ++ more → (usage ≡ other) × (rest ≡ more)
 usage-same usage other rest more h k e =
     let in_floor : List ℕ = codes " holder " ++ holder_text usage.holder in

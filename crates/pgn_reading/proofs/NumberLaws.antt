@@ -3,6 +3,7 @@ use Rattle.std.proofs.Common.{◌≡◌, ℕ, zero, suc, ◌+◌, ◌<◌, List,
 use Rattle.pgn_language.specs.declared.scenario.Section.{Section}
 use Rattle.pgn_language.specs.Inputs.{AreNumbered}
 
+-- sections that are numbered on from n: that at place k has the number n + k
 pub number-at : (n : ℕ) (sections : List Section) (k : ℕ) (d : Section) → AreNumbered n sections → k < length sections → (get_or sections k d).no ≡ n + k
 number-at n [] k d h lt = absurd (omega (arith, lt))
 number-at n (section ∷ sections) zero d h lt = omega (arith, h.0)

@@ -279,6 +279,7 @@ entries-same sections x (tx ∷ txs) (other ∷ others) rest more h k a b e =
     let others_too : txs ≡ others = tail.0 in
     (cc, tail.1)
 
+-- the lines of something readable tell it
 pub lines-are_one : LinesAreOne
 lines-are_one scenario journal other traces others h k e =
     let rest : List (List ℕ) = traces_lines scenario.sections traces in
@@ -320,11 +321,13 @@ one-line_traces (section ∷ sections) [] h = absurd h
 one-line_traces (section ∷ sections) (trace ∷ traces) h =
     All-cons (λ (t : Trace). All IsOneLineItem t.items) trace traces (λ k d lt. one-line_item (get_or trace.items k d) (h.0.items k d lt)) (one-line_traces sections traces h.1)
 
+-- the text of something readable has its lines between its LFs
 pub readable-has_lines : ReadableHasLines
 readable-has_lines scenario journal traces sound h =
     cut-alike (text_lines scenario journal traces)
     ∙ text-has_lines scenario journal traces sound (λ k d lt j note within. ((h.entries k d lt).notes j note within).one_line) (one-line_traces scenario.sections traces h.each)
 
+-- the text of something readable tells it
 pub readable-is_one : ReadableIsOne
 readable-is_one scenario journal other traces others sound h k e =
     lines-are_one scenario journal other traces others h k (sym (readable-has_lines scenario journal traces sound h) ∙ ap whole_lines e ∙ readable-has_lines scenario other others sound k)

@@ -30,6 +30,7 @@ one-shows lines (Found value) = refl
 one-shows lines (TimedOut looks) = refl
 one-shows lines (Read from to got) = append-nil (item_lines lines (Read from to got))
 
+-- what is not seen of items has no line
 pub read-shows_same : ReadShowsSame
 read-shows_same lines [] = refl
 read-shows_same lines (item ∷ items) =
@@ -144,5 +145,6 @@ module _ (terms : Terms) (journal : List Tx) where
   read-is_completed_from s (TimedOut looks ∷ items) h end = seen-step s (TimedOut looks) (TimedOut looks) items (awaiting _ s.owed h.0.awaited) refl (read-is_completed_from (after_item s (TimedOut looks)) items h.1 end)
   read-is_completed_from s (Read from to got ∷ items) h end = seen-step s (Read from to got) (Read from to got) items (may-read s s.owed h.0.in_turn) refl (read-is_completed_from (after_item s (Read from to got)) items h.1 end)
 
+-- the walk adds to what is seen of lawful items all that is not seen
 pub read-is_completed : ReadIsCompleted
 read-is_completed terms journal s items h end = read-is_completed_from terms journal s items h end

@@ -79,13 +79,6 @@ record Adds (s : State) (item : Item) (t : State) : Type 0 where
   found : t.found ≡ s.found ++ found_shown s.owed item
   named : t.named ≡ s.named ++ named_shown item
 
-adds-none : (s : State) (item : Item) (t : State) → Keeps s t → marks_shown item ≡ [] → found_shown s.owed item ≡ [] → named_shown item ≡ [] → Adds s item t
-adds-none s item t h m f n = record {
-  marks = h.marks ∙ sym (append-nil s.marks) ∙ ap (λ (xs : List ℕ). s.marks ++ xs) (sym m);
-  found = h.found ∙ sym (append-nil s.found) ∙ ap (λ (xs : List (ℕ × ℕ)). s.found ++ xs) (sym f);
-  named = h.named ∙ sym (append-nil s.named) ∙ ap (λ (xs : List (ℕ × ℕ)). s.named ++ xs) (sym n);
-}
-
 -- a line that begins
 keeps-line : (s : State) (lines : List ScriptLine) → Keeps (record s { rest = (at_line s lines).rest }) (at_line s lines)
 keeps-line s [] = record { rest = refl; marks = refl; raised = refl; found = refl; named = refl }
@@ -125,6 +118,7 @@ abbrev pub finds_flag : Item → Bool
 finds_flag (Found value) = true
 finds_flag item = false
 
+-- an item that finds no flag shows none as found
 pub finds-none : (owed : Owed) (item : Item) → finds_flag item ≡ false → found_shown owed item ≡ []
 finds-none (Awaiting flag) (Found value) h = absurd (let none : ⊥ = cc in none)
 finds-none (Awaiting flag) item h = refl
@@ -165,24 +159,28 @@ item-adds s (Read from to got) =
     let t : State = record s { mark = Some to; told = max s.told to; marks = s.marks ++ to ∷ [] } in
     adds s t t (Read from to got) (keeps-owed t t.owed) refl (sym (append-nil s.named)) refl (finds-none s.owed (Read from to got) refl)
 
+-- the marks of a walk are those that its items show
 pub marks-are_shown : MarksAreShown
 marks-are_shown s [] = sym (append-nil s.marks)
 marks-are_shown s (item ∷ items) =
     marks-are_shown (after_item s item) items ∙ ap (λ (xs : List ℕ). xs ++ flat_map marks_shown items) (item-adds s item).marks
     ∙ append_assoc s.marks (marks_shown item) (flat_map marks_shown items)
 
+-- the holders of a walk are those that its items name
 pub named-are_shown : NamedAreShown
 named-are_shown s [] = sym (append-nil s.named)
 named-are_shown s (item ∷ items) =
     named-are_shown (after_item s item) items ∙ ap (λ (xs : List (ℕ × ℕ)). xs ++ flat_map named_shown items) (item-adds s item).named
     ∙ append_assoc s.named (named_shown item) (flat_map named_shown items)
 
+-- what holds of two lists together holds of each
 pub all-parts : (P : ℕ × ℕ → Type 0) (xs ys : List (ℕ × ℕ)) → All P (xs ++ ys) → All P xs × All P ys
 all-parts P [] ys h = (All-nil P, h)
 all-parts P (x ∷ xs) ys h =
     let tail = all-parts P xs ys (All-tail P x (xs ++ ys) h) in
     (All-cons P x xs (All-head P x (xs ++ ys) h) tail.0, tail.1)
 
+-- where all flags that a walk has found are among some, so are those of its items, and the other way round
 pub found-are_shown : FoundAreShown
 found-are_shown pairs s items = (to s items, from s items)
   where
@@ -372,6 +370,7 @@ module _ (terms : Terms) (journal : List Tx) where
       let c = plain-calm s item refl h.0 in
       raises-on flag s (after_item s item) items c (raised flag (after_item s item) items (flag-none flag (after_item s item).owed c.calm) h.1)
 
+-- the flags of a walk over lawful items are those of the script lines that raise them
 pub raised-are_shown : RaisedAreShown
 unfolding FlagIs
 raised-are_shown terms journal items h = raised terms journal None (start terms.section) items tt h
@@ -386,6 +385,7 @@ rest-raised : (value : ℕ) (s : State) (owed : Owed) → (at_raise value s owed
 rest-raised value s (Raising flag) = refl
 rest-raised value s owed = refl
 
+-- the script lines that an item leaves, told by those before it and the item alone
 pub item-rest : (s : State) (item : Item) → (after_item s item).rest ≡ lines_left s.rest item
 item-rest s (Line n) = line-rest s s.rest refl
 item-rest s (Enlist base point) = (keeps-enlist (record s { mark = Some point; told = max s.told point; marks = s.marks ++ base ∷ [] ++ point ∷ [] }) s.owed).rest
@@ -418,6 +418,7 @@ named-whole s (Publish xid notes) = refl
 named-whole s (QueueFull full notes) = refl
 named-whole s item = refl
 
+-- the walk adds no mark to items that were read
 pub marks-are_read : MarksAreRead
 marks-are_read s [] = refl
 marks-are_read s (item ∷ items) =
@@ -425,6 +426,7 @@ marks-are_read s (item ∷ items) =
     ∙ ap (λ (xs : List ℕ). marks_shown (whole s item) ++ xs) (marks-are_read (stepped s item) items)
     ∙ ap (λ (xs : List ℕ). xs ++ flat_map marks_shown items) (marks-whole s item)
 
+-- nor a holder
 pub named-are_read : NamedAreRead
 named-are_read s [] = refl
 named-are_read s (item ∷ items) =
@@ -445,5 +447,6 @@ raised-read flag lines s (Raise value ∷ items) =
     raised-added flag lines s.owed (whole s (Raise value) ∷ completed (stepped s (Raise value)) items) ∙ ap (λ (xs : List (ℕ × ℕ)). flag_at flag value ++ xs) (raised-read flag lines (stepped s (Raise value)) items)
 raised-read flag lines s (item ∷ items) = raised-added flag lines s.owed (whole s item ∷ completed (stepped s item) items) ∙ raised-read flag lines (stepped s item) items
 
+-- nor a flag that is raised
 pub raised-are_read : RaisedAreRead
 raised-are_read section s items = raised-read None section.lines s items

@@ -112,6 +112,7 @@ module _ (settings : Settings) (journal : List Tx) where
         let Each : Item → Type 0 = λ i. All P (named_shown i) in
         All-append P (named_shown item) (flat_map named_shown items) (All-head Each item items h) (names-whole items (All-tail Each item items h))
 
+    -- where it holds of all holders that were met, it does of those that each trace names
     pub named-each : (sections : List Section) (traces : List Trace) → EachTrace settings Lawful sections traces → All P (flat_map (λ end. end.state.named) (ends settings sections traces)) → All Names traces
     named-each [] [] h all = All-nil Names
     named-each [] (trace ∷ traces) h all = absurd h
@@ -129,15 +130,19 @@ module _ (settings : Settings) (journal : List Tx) where
         (subst (λ (ps : List (ℕ × ℕ)). All P ps) (sym (named-are_shown (start section) trace.items)) (names-whole trace.items (All-head Names trace traces all)))
         (each-named sections traces h.1 (All-tail Names trace traces all))
 
+-- lawful traces tell the flags that were raised in all sessions
 pub raised-in_all : RaisedInAll
 raised-in_all settings journal sections traces h = raised-all settings journal sections traces h
 
+-- traces tell at which marks their sessions stood
 pub stood-in_all : StoodInAll
 stood-in_all settings journal sections traces pair h = (stood-shows settings journal sections traces pair h, shows-stood settings journal sections traces pair h)
 
+-- where all flags that were found are among some, so are those of each item, and the other way round
 pub found-in_all : FoundInAll
 found-in_all settings journal sections traces pairs h = (found-each settings journal pairs sections traces h, each-found settings journal pairs sections traces h)
 
+-- where all holders that were met stood at their marks, so did those that each item names, and the other way round
 pub named-in_all : NamedInAll
 named-in_all settings journal sections traces others h = (named-each settings journal (ShowsMark others) sections traces h, each-named settings journal (ShowsMark others) sections traces h)
 
@@ -153,6 +158,7 @@ lines-whole lines s (Publish xid notes) = refl
 lines-whole lines s (QueueFull full notes) = refl
 lines-whole lines s item = refl
 
+-- completed traces have the lines of those that were read
 pub completed-shows_same : CompletedShowsSame
 completed-shows_same lines s [] = refl
 completed-shows_same lines s (item ∷ items) =
@@ -366,6 +372,7 @@ mark-completed (section ∷ sections) (other ∷ traces) pair read (suc k, trace
     let rest = mark-completed sections traces pair read.1 (k, trace, omega (arith, lt), is, there) in
     (suc rest.0, rest.1, omega (arith, rest.2), rest.3, rest.4)
 
+-- traces that the walk comes past, over a journal of good transactions, are a legal run when completed
 pub walked-is_legal : WalkedIsLegal
 walked-is_legal scenario settings journal traces read good w =
     let sections : List Section = scenario.sections in
@@ -399,6 +406,7 @@ lines-completed (section ∷ sections) (trace ∷ traces) =
     ap (λ (lines : List (List ℕ)). (section_line section ∷ (lines ++ end_line trace.last ∷ [])) ++ traces_lines sections (completed_traces sections traces)) (completed-shows_same section.lines (start section) trace.items)
     ∙ ap (λ (lines : List (List ℕ)). trace_lines section trace ++ lines) (lines-completed sections traces)
 
+-- their text is that of a legal run
 pub walked-is_legal_text : WalkedIsLegalText
 walked-is_legal_text scenario settings out journal traces r good w = record {
   journal = journal;

@@ -50,6 +50,7 @@ signal_next s text (Signals flag) more other =
     ap (λ (b : Bool). b || has_name (filter_map signalled_flag more) other) (has_with s.flags.signalled flag other)
     ∙ sym (same_or (has_name s.flags.signalled other) (bytes_eq other flag) (has_name (filter_map signalled_flag more) other))
 
+-- a flag is signalled behind lines exactly where it was before them or one of them signals it
 pub signals_made : (lines : List (List ℕ)) (s t : State) (other : List ℕ) → steps s lines ≡ Ok t
     → (has_name s.flags.signalled other || has_name (filter_map signalled_flag (all_say lines)) other) ≡ has_name t.flags.signalled other
 signals_made [] s t other h = let same : s ≡ t = cc in sym (or_false (has_name s.flags.signalled other)) ∙ ap (λ (u : State). has_name u.flags.signalled other) same
@@ -118,6 +119,7 @@ nothing_more : (o : Option ℕ) → either_first o None ≡ o
 nothing_more None = refl
 nothing_more (Some n) = refl
 
+-- the first flag that is awaited and signalled nowhere, of those kept and of the lines that were read
 pub waits_made : (lines : List (List ℕ)) (signalled : List (List ℕ)) (s t : State) → steps s lines ≡ Ok t
     → unsignalled_from signalled s.flags.awaited s.line (all_say lines) ≡ first_unsignalled signalled t.flags.awaited
 waits_made [] signalled s t h = let same : s ≡ t = cc in nothing_more (first_unsignalled signalled s.flags.awaited) ∙ ap (λ (u : State). first_unsignalled signalled u.flags.awaited) same

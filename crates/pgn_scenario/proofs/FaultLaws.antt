@@ -303,6 +303,7 @@ pub record StandsFor (before : List (List ℕ)) (s : State) : Type 0 where
   pub line : s.line ≡ line_number before
   pub at : s.at ≡ line_start before
 
+-- the first state stands for no lines
 pub starts : StandsFor [] at_start
 starts = record {
   said = record { names = refl; flags = refl; notes = refl; quit = refl; part = refl; few = refl };
@@ -405,6 +406,7 @@ line_then before line lines rest (Ok t) (Some one) k = let no_more : Some one �
 line_then before line lines rest (Err one) None k = absurd (cc)
 line_then before line lines rest (Err one) (Some other) k = k
 
+-- a state that stands for lines, and the steps over those that follow
 pub steps_follow : (before lines : List (List ℕ)) (s : State) → StandsFor before s → AllFollow before lines (steps s lines)
 steps_follow before [] s h = (refl, subst (λ (l : List (List ℕ)). StandsFor l s) (sym (append-nil before)) h)
 steps_follow before (line ∷ lines) s h =

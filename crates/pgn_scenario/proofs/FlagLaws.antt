@@ -15,6 +15,7 @@ insert-absent (wait ∷ awaited) flag line h = elim (cases_Bool (bytes_eq flag w
       rw e (ap (λ (l : List (List ℕ × ℕ)). wait ∷ l) more)
 ]
 
+-- a flag that is not awaited yet is put with the line that awaits it
 pub wait-new : (awaited after : List (List ℕ × ℕ)) (flag copy : List ℕ) (line : ℕ) → copy ≡ flag → has_wait awaited copy ≡ false → after ≡ insert_entry bytes_eq awaited copy line → after ≡ with_wait awaited flag line
 wait-new awaited after flag copy line e h a =
     let none : has_wait awaited flag ≡ false = ap (has_wait awaited) (sym e) ∙ h in

@@ -9,9 +9,11 @@ use Rattle.std.proofs.lemmas.Bool.Decides.{nat_tests}
 digit : (b : ℕ) → is_ascii_digit b ≡ true → digit_value b < 10
 digit b h = grind (arith, nat_tests)
 
+-- a number that is not 0 is greater
 pub some_from : (n : ℕ) → (n == 0) ≡ false → 0 < n
 some_from n h = grind (arith, nat_tests)
 
+-- bytes that pass the test of digits are digits in base 10
 pub all_digits : (bytes : List ℕ) → list_all is_ascii_digit bytes ≡ true → AllDigits 10 bytes
 all_digits [] h = tt
 all_digits (b ∷ bytes) h =

@@ -10,15 +10,18 @@ use Rattle.pgn_language.proofs.LineLaws.{parts-are_cut}
 use Rattle.pgn_command.proofs.GapLaws.{front-passes, front-fails, front-ends, front-bound, ascii-boundary, ends-boundary}
 use Rattle.pgn_scenario.specs.Parting.{past_gap}
 
+-- a byte is none that separates parts
 abbrev pub is_part : ℕ → Bool
 is_part byte = not (is_gap byte)
 
 gap_ascii : (b : ℕ) → is_gap b ≡ true → b < 128
 gap_ascii b h = grind (arith, nat_tests)
 
+-- what separates parts ends between two characters
 pub gap-boundary : (bytes : List ℕ) → IsUtf8 bytes → IsCharBoundary bytes (prefix_len is_gap bytes)
 gap-boundary bytes u = ascii-boundary is_gap gap_ascii bytes u
 
+-- so does a part
 pub part-boundary : (bytes : List ℕ) → IsCharBoundary bytes (prefix_len is_part bytes)
 part-boundary bytes = ends-boundary is_part (λ b h. gap_ascii b (not-false (is_gap b) h)) bytes
 
@@ -30,6 +33,7 @@ parts-past (b ∷ text) = elim (cases_Bool (is_gap b)) [
   | inr e ↦ ap (λ (n : ℕ). parts_of (drop n (b ∷ text))) (sym (front-fails is_gap b text e))
 ]
 
+-- behind what separates parts no more of it follows
 pub past-ends : (text : List ℕ) → NoneFollows is_gap (past_gap text)
 past-ends text = front-ends is_gap text
 

@@ -60,6 +60,7 @@ whole_finishes lines t h k =
 reads-computed : (input : List ℕ) (read : Result Scenario ScenarioFault) → input_reading input ≡ read → ReadsAsScenario input read
 reads-computed input read e = subst (λ (r : Result Scenario ScenarioFault). ReadsAsScenario input r) e (input-reads input)
 
+-- an input over its limit reads as too large
 pub reads-large : (input : List ℕ) → INPUT_BYTES_MAX < length input → ReadsAsScenario input (Err fault.TooLarge)
 reads-large input l = reads-computed input (Err fault.TooLarge) (rw (lt-ltb INPUT_BYTES_MAX (length input) l, input_reading) refl)
 
@@ -97,6 +98,7 @@ pub finish-reads : {E : Type 0} (input : List ℕ) (t : State) (made : Result (R
 finish-reads input t (Ok reading) l h e = subst (λ (r : Result Scenario ScenarioFault). ReadsAsScenario input r) (sym e) (reads-whole input t l h)
 finish-reads input t (Err x) l h e = tt
 
+-- a scenario that is the reading of an input is sound
 pub read-sound : {E : Type 0} (input : List ℕ) (made : Result (Result Scenario ScenarioFault) E) → IfOk made (ReadsAsScenario input) → IfOk made (λ reading. IfOk reading IsSound)
 read-sound input (Ok reading) h = sound-read input reading h
 read-sound input (Err x) h = tt

@@ -106,6 +106,7 @@ flags_next s text (Awaits flag) more = refl
 flags_next s text Quits more = refl
 flags_next s text NoMeta more = refl
 
+-- the flags behind lines are those before them and the new ones that they name
 pub flags_made : (lines : List (List ℕ)) (s t : State) → steps s lines ≡ Ok t → t.flags.names ≡ more_flags s.flags.names lines
 flags_made [] s t h = let same : s ≡ t = cc in ap (λ (u : State). u.flags.names) (sym same)
 flags_made (line ∷ lines) s t h = flags_made lines (next s line) t (first_step s t line lines h) ∙ flags_next s (trimmed line) (says line) (all_say lines)
@@ -257,6 +258,7 @@ completes s flags text (Awaits flag) lines e =
     ∙ ap (λ (n : ℕ). s.done ++ option_to_list (option_map (extended (script_line s.line text (Await n) ∷ script_from flags (s.line + 1) lines)) s.part) ++ sections_from flags (length s.names + 1 + 0) (s.line + 1) lines)
     (act_with s.flags.names flags (filter_map named_flag (all_say lines)) flag e)
 
+-- what a line says leaves the count of lines as it is
 pub same_line : (s : State) (text : List ℕ) (one : Says) → (made s text one).line ≡ s.line
 same_line s text SaysNothing = refl
 same_line s text (Opens name db) = refl
@@ -266,6 +268,7 @@ same_line s text (Awaits flag) = refl
 same_line s text Quits = refl
 same_line s text NoMeta = refl
 
+-- the sections behind lines are those before them and the ones that the lines begin
 pub sections_made : (lines : List (List ℕ)) (s t : State) (flags : List (List ℕ)) → steps s lines ≡ Ok t → flags ≡ more_flags s.flags.names lines
     → completed s.done s.part s.names flags s.line lines ≡ t.done ++ option_to_list t.part
 sections_made [] s t flags h e =

@@ -26,6 +26,7 @@ pub nul-found : (line : List ℕ) (found : Option ℕ) → IsFirstByte (is_byte 
 nul-found line None h e = absurd (false≢true e)
 nul-found line (Some at) h e = list_any_at (λ byte. byte == 0) line at 0 h.0.high h.1
 
+-- a line in which no 0 is found has none
 pub nul-none : (line : List ℕ) (found : Option ℕ) → IsFirstByte (is_byte 0) line found → is_some found ≡ false → list_any (λ byte. byte == 0) line ≡ false
 nul-none line None h e = none_any 0 line (λ k l. h k (omega arith) l)
 nul-none line (Some at) h e = absurd (false≢true (sym e))
@@ -48,6 +49,7 @@ step-not_utf8 s line l h =
     let bad : is_utf8 line ≡ false = false_from_ne_true (is_utf8 line) (λ e. h (IsUtf8-from_is_utf8 line e)) in
     sym (rw (short, bad, step) refl)
 
+-- a line with a 0 in it is a fault of that line
 pub step-nul : (s : State) (line : List ℕ) → length line ≤ LINE_BYTES_MAX → IsUtf8 line → list_any (λ byte. byte == 0) line ≡ true → Err (fault.NulByte s.line) ≡ step s line
 step-nul s line l u h =
     let short : nat_lt LINE_BYTES_MAX (length line) ≡ false = le-ltb LINE_BYTES_MAX (length line) l in
@@ -82,6 +84,7 @@ counted_still : (part : Option Section) (notes n : ℕ) → IfSome part (λ one.
 counted_still None notes n h = tt
 counted_still (Some one) notes n h = omega (arith, h)
 
+-- the count of lines that notify stays right as a line is put into its section, or is not for want of memory
 pub counted-pushed : {E : Type 0} (made : Result (Unit {0}) E) (part after : Option Section) (line : ScriptLine) (notes n : ℕ) → n ≡ note_of line.act → notes + n ≤ NOTE_LINES_MAX → IsCounted notes part
     → OnOk made (after ≡ option_map (with_line line) part) → OnErr made (after ≡ part) → IsCounted (notes + n) after
 counted-pushed (Ok x) part after line notes n e l h o r = record { few = l; counted = subst (λ (p : Option Section). IfSome p (λ one. one.note_lines ≤ notes + n)) (sym o) (counted_line part line notes n e h.counted) }

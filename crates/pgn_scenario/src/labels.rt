@@ -1,4 +1,4 @@
-ghost use Rattle.std.specs.Prelude.{◌≡◌, ◌<◌, ◌≤◌, true, false, length, IfOk, MatchOption};
+ghost use Rattle.std.specs.Prelude.{◌≡◌, ◌<◌, true, false, IfOk, MatchOption};
 ghost use Rattle.std.specs.List.{list_all};
 ghost use Rattle.std.specs.Char.{is_ascii_digit};
 ghost use Rattle.std.specs.Str.Parse.{IsNumeral, digits_value};
@@ -36,7 +36,8 @@ pub fn name_of(alloc: Global, label: &str) -> Result<Name, AllocError>
 
 /// The database whose number a part is.
 pub fn database_of(part: &str) -> Option<DbOid>
-    ensures { MatchOption result (is_database part.now ≡ false) (λ db. (is_database part.now ≡ true) × (db ≡ digits_value 10 part.now)) }
+    ensures { MatchOption result (is_database part.now ≡ false)
+        (λ db. (is_database part.now ≡ true) × (db ≡ digits_value 10 part.now)) }
 {
     if part.is_empty() || part.len() > 10 || !are_digits(part.as_bytes()) {
         return None;
@@ -56,7 +57,8 @@ fn are_digits(part: &[u8]) -> bool
 // The number of digits, where it has 32 bits.
 fn number_of(digits: &str) -> Option<u32>
     requires { IsNumeral 10 digits.now }
-    ensures { MatchOption result (4294967295 < digits_value 10 digits.now) (λ number. number ≡ digits_value 10 digits.now) }
+    ensures { MatchOption result (4294967295 < digits_value 10 digits.now)
+        (λ number. number ≡ digits_value 10 digits.now) }
 {
     digits.parse::<u32>().ok()
 }

@@ -11,7 +11,8 @@ pub fn first_line(text: &[u8]) -> (&[u8], &[u8])
     ensures lines { lines_of text.now ≡ result.0.now ∷ lines_of result.1.now }
     ensures shorter { length result.0.now + length result.1.now ≤ length text.now }
     ensures after { length result.1.now < length text.now }
-    ensures ended { 0 < length result.1.now → length result.0.now + length result.1.now + 1 ≤ length text.now }
+    ensures ended { 0 < length result.1.now
+        → length result.0.now + length result.1.now + 1 ≤ length text.now }
 {
     match cut(text) {
         Some(parts) => parts,
@@ -21,7 +22,8 @@ pub fn first_line(text: &[u8]) -> (&[u8], &[u8])
 
 // What stands before the first LF, and what stands after it.
 fn cut(text: &[u8]) -> Option<(&[u8], &[u8])>
-    ensures { MatchOption result (lacks 10 text.now ≡ true) (λ parts. IsCutAt 10 text.now parts.0.now parts.1.now) }
+    ensures { MatchOption result (lacks 10 text.now ≡ true)
+        (λ parts. IsCutAt 10 text.now parts.0.now parts.1.now) }
 {
     let at = memchr(b'\n', text)?;
     Some((&text[..at], &text[at + 1..]))

@@ -34,7 +34,8 @@ pub fn parts_of(text: &str) -> Parts<'_>
 
 // The first part of a text, and what follows it.
 fn next_part(text: &str) -> Option<(&str, &str)>
-    ensures { MatchOption result (parts_of text.now ≡ []) (λ parts. parts_of text.now ≡ parts.0.now ∷ parts_of parts.1.now) }
+    ensures { MatchOption result (parts_of text.now ≡ [])
+        (λ parts. parts_of text.now ≡ parts.0.now ∷ parts_of parts.1.now) }
 {
     let text = past_gap(text);
     let end = part_bytes(text.as_bytes());

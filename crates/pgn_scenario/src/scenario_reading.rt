@@ -55,7 +55,8 @@ fn read_lines(
     bytes: &[u8],
 ) -> Result<Option<ScenarioFault>, AllocError>
     requires { so_far.old.at + length bytes.now ≤ INPUT_BYTES_MAX }
-    ensures { IfOk result (λ found. outcome found so_far.new ≡ steps so_far.old (lines_of bytes.now)) }
+    ensures { IfOk result
+        (λ found. outcome found so_far.new ≡ steps so_far.old (lines_of bytes.now)) }
 {
     let mut rest = bytes;
     while !rest.is_empty() {

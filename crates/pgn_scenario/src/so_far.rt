@@ -118,7 +118,8 @@ impl SoFar {
         said: Said,
     ) -> Result<Option<ScenarioFault>, AllocError>
         ensures same_at { self.new.at ≡ self.old.at }
-        ensures added { IfOk result (λ found. outcome found self.new ≡ added self.old text.now (told said)) }
+        ensures added { IfOk result
+            (λ found. outcome found self.new ≡ added self.old text.now (told said)) }
     {
         let line = self.line;
         match said {
@@ -184,7 +185,8 @@ impl SoFar {
         deed: Deed,
     ) -> Result<Option<ScenarioFault>, AllocError>
         ensures same_at { self.new.at ≡ self.old.at }
-        ensures added { IfOk result (λ found. outcome found self.new ≡ added self.old text.now (told_deed deed)) }
+        ensures added { IfOk result
+            (λ found. outcome found self.new ≡ added self.old text.now (told_deed deed)) }
     {
         let line = self.line;
         if self.quit {
@@ -211,7 +213,8 @@ impl SoFar {
         command: Command,
     ) -> Result<Option<ScenarioFault>, AllocError>
         ensures same_at { self.new.at ≡ self.old.at }
-        ensures added { IfOk result (λ found. outcome found self.new ≡ running self.old text.now command) }
+        ensures added { IfOk result
+            (λ found. outcome found self.new ≡ running self.old text.now command) }
     {
         let act = Act::Run(command);
         if self.notes + usize::from(is_note(&act)) > NOTE_LINES_MAX {
@@ -230,7 +233,8 @@ impl SoFar {
         flag: Name,
     ) -> Result<Option<ScenarioFault>, AllocError>
         ensures same_at { self.new.at ≡ self.old.at }
-        ensures added { IfOk result (λ found. outcome found self.new ≡ signals self.old text.now flag) }
+        ensures added { IfOk result
+            (λ found. outcome found self.new ≡ signals self.old text.now flag) }
     {
         let number = self.flags.signal(alloc, flag)?;
         if self.flags.len() > FLAGS_MAX {
@@ -248,7 +252,8 @@ impl SoFar {
         flag: Name,
     ) -> Result<Option<ScenarioFault>, AllocError>
         ensures same_at { self.new.at ≡ self.old.at }
-        ensures added { IfOk result (λ found. outcome found self.new ≡ awaits self.old text.now flag) }
+        ensures added { IfOk result
+            (λ found. outcome found self.new ≡ awaits self.old text.now flag) }
     {
         let number = self.flags.wait(alloc, flag, self.line)?;
         if self.flags.len() > FLAGS_MAX {

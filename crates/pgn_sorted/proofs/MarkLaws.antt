@@ -81,6 +81,7 @@ unmarked-none n line h none = behind-none (mark_of (Some n)) line (λ rest e. fa
 
 -- Lists of lines.
 
+-- nothing is left of lines none of which is kept
 pub none-kept : (f : List ℕ → Option (List ℕ)) (lines : List (List ℕ)) → All (λ line. f line ≡ None) lines → filter_map f lines ≡ []
 none-kept f [] h = refl
 none-kept f (line ∷ lines) h =
@@ -91,12 +92,14 @@ all-behind start [] = refl
 all-behind start (line ∷ lines) =
     ap (λ (o : Option (List ℕ)). cons_option o (filter_map (behind start) (map (λ line. start ++ line) lines))) (behind-start start line) ∙ ap (λ (rest : List (List ℕ)). let all : List (List ℕ) = line ∷ rest in all) (all-behind start lines)
 
+-- without its marked lines a list of marked lines is empty
 pub none-left : (lines : List (List ℕ)) → All (λ line. is_marked line ≡ true) lines → filter (λ line. not (is_marked line)) lines ≡ []
 none-left [] h = refl
 none-left (line ∷ lines) h =
     ap (λ (b : Bool). cond (not b) (line ∷ filter (λ line. not (is_marked line)) lines) (filter (λ line. not (is_marked line)) lines)) (All-head (λ line. is_marked line ≡ true) line lines h)
     ∙ none-left lines (All-tail (λ line. is_marked line ≡ true) line lines h)
 
+-- without its marked lines a list that has none is as it was
 pub all-left : (lines : List (List ℕ)) → All (λ line. is_marked line ≡ false) lines → filter (λ line. not (is_marked line)) lines ≡ lines
 all-left [] h = refl
 all-left (line ∷ lines) h =
@@ -147,6 +150,7 @@ lines-of_one n sections came hn few = by (came.session == n) refl few
     by false is (inl low) = none-of_these came.session n (lines_of came.session sections) came.what low hn (eqb-false came.session n is)
     by false is (inr none) = ap (λ (items : List Item). lines_from n (marked_items (Some came.session) (lines_of came.session sections) items)) none
 
+-- the lines of a session in a live output are those of the items that came of it
 pub lines-of_all : (n : ℕ) (sections : List Section) (cames : List Came) → n < 2 ^ 64 → All IsFew cames → lines_from n (flat_map (came_lines sections) cames) ≡ flat_map (item_lines (lines_of n sections)) (items_of n cames)
 lines-of_all n sections [] hn few = refl
 lines-of_all n sections (came ∷ cames) hn few =

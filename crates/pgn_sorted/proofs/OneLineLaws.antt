@@ -58,6 +58,7 @@ journal-one_line scenario settings journal traces sound legal k d lt =
     let there : Contains (finished_xids trace.items) (FIRST_XID + k) = subst (λ (t : Trace). Contains (finished_xids t.items) (FIRST_XID + k)) (sym at.3) at.4 in
     shown-by journal trace.session trace.db trace.items (FIRST_XID + k) tx (shows_all.shown at.0 at.1 at.2) (sent at.0 at.1 at.2) here there
 
+-- the text of a legal run falls into its lines where it is cut at each LF
 pub legal-has_lines : LegalHasLines
 legal-has_lines scenario settings journal traces sound legal =
     let notes : All IsOneLineTx journal = journal-one_line scenario settings journal traces sound legal in

@@ -326,14 +326,17 @@ module _ (scenario : Scenario) (settings : Settings) (journal : List Tx) (traces
   run-sorted : sorted (live_text scenario cames journal traces) ≡ text scenario journal traces
   run-sorted = ap (λ (lines : List (List ℕ)). joined (sorted_lines lines)) live-cut ∙ ap (λ (lines : List (List ℕ)). joined lines) sorted-so
 
+-- in a live output to which all came each session has the lines of its trace, in their order
 pub sessions-have_lines : SessionsHaveLines
 sessions-have_lines scenario settings journal traces cames sound legal whole =
     subst (λ (lines : List (List ℕ)). EachTrace settings (λ terms trace. lines_from terms.section.no lines ≡ flat_map (item_lines terms.section.lines) trace.items) scenario.sections traces)
     (sym (live-cut scenario settings journal traces cames sound legal whole)) (session-lines scenario settings journal traces cames sound legal whole)
 
+-- such an output, sorted, is the text of the run
 pub live-is_sorted : LiveIsSorted
 live-is_sorted scenario settings journal traces cames sound legal whole = run-sorted scenario settings journal traces cames sound legal whole
 
+-- one live output is that of one journal and of one set of traces alone
 pub live-is_unique : LiveIsUnique
 live-is_unique scenario settings journal other traces others cames mores sound legal legal' whole whole' e =
     text-unique scenario settings journal other traces others sound legal legal'

@@ -319,11 +319,13 @@ due-all db channels x (tx ∷ txs) h =
     by false = All-nil (λ (d : Delivery). IsOneLineNote d.note)
 
 module _ (journal : List Tx) where
+  -- an item sends notifications of one line where the session's state has no others
   pub sends : (terms : Terms) (s : State) (item : Item) → Allowed terms journal s item → HasOneLines s → SendsOneLines item
   sends terms s (Publish xid notes) k h = queued notes s.owed h.owed k.expected
   sends terms s (QueueFull full notes) k h = queued notes s.owed h.owed k.expected
   sends terms s item k h = tt
 
+  -- an item shows a text of one line where the journal and the session's state have no others
   pub shows : All IsOneLineTx journal → (terms : Terms) (s : State) (item : Item) → Allowed terms journal s item → HasOneLines s → IsOneLineItem item
   shows all terms s (Refuse refusal) k h = ending-of s.owed (Refused refusal) h.owed k
   shows all terms s (Channels names) k h = names-of names s.owed h.owed k

@@ -45,6 +45,7 @@ few-notes place _ _ _ low (queries.QueriesAre.Goes _ bytes text rest line lines 
       | inr fits ↦ omega (arith, all, one, few-notes next rest lines fault fits more)
     ]
 
+-- two runs of a client's bytes with the same messages: it saw the same of both, and their journals are the same, but for what was queued
 pub conversation-tells : ConversationTells
 conversation-tells most bytes lines fault settings journal other a b fits reads legal legal' e =
     let asks : AsksThenQuits (wire_section lines) = record { queries = lines; last = wire_quit; split = refl; run = all-run (first_place most) bytes lines fault reads; quits = refl } in

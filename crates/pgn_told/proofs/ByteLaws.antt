@@ -107,6 +107,7 @@ usage-spelled : (u : Usage) (rest : List ℕ)
     → row (share u) ++ rest ≡ 68 ∷ (four (4 + length (two 1 ++ four (length (share u)) ++ share u)) ++ (two 1 ++ (four (length (share u)) ++ (share u ++ rest))))
 usage-spelled u rest = ap (λ (bytes : List ℕ). 68 ∷ bytes) (in-four (four (4 + length (two 1 ++ four (length (share u)) ++ share u))) (two 1) (four (length (share u))) (share u) rest)
 
+-- of two shares of one limit that begin two texts alike, the usages are equal and the texts go on alike
 pub usage-ends : (u v : Usage) (rest more : List ℕ) → u.occupied < 2 ^ 64 → v.occupied < 2 ^ 64 → u.limit ≡ v.limit → row (share u) ++ rest ≡ row (share v) ++ more → (u.occupied ≡ v.occupied) × (rest ≡ more)
 usage-ends u v rest more few few' limit e =
     let text : List ℕ = share u ++ rest in

@@ -22,6 +22,7 @@ abbrev pub entry_by : ℕ → ℕ → Fate → List Note → Tx
 entry_by session db Committed notes = record { session = session; db = db; notes = notes; queued = length notes; fate = Committed }
 entry_by session db Aborted notes = record { session = session; db = db; notes = notes; queued = 0; fate = Aborted }
 
+-- the entry of a transaction of this session, with this end and these notifications
 abbrev pub entry_of : ℕ → ℕ → Fate × List Note → Tx
 entry_of session db pair = entry_by session db pair.0 pair.1
 
@@ -49,6 +50,7 @@ module _ (session db : ℕ) (journal : List Tx) where
       let here : entry journal n ≡ Some tx = ap (λ (k : ℕ). entry journal k) (omega (arith, first)) ∙ there 0 in
       (same_Some tx shown (sym here ∙ is), rest)
 
+  -- a journal that a session wrote alone is told by its items, but for what was queued
   pub journal-shown : (x : ℕ) (txs : List Tx) (items : List Item) → AreThere x txs → All Own txs → finished_xids items ≡ xids_from session x txs → All (IsShownIn journal session db) items
       → map but_queued txs ≡ map (entry_of session db) (sent items)
   journal-shown x [] [] there own e shown = refl

@@ -134,9 +134,11 @@ ends-either : (s : State) (ending : Ending) (b : Bool) → Ends ending (if b the
 ends-either s ending true = refl
 ends-either s ending false = refl
 
+-- what is owed where the session leaves or answers ends in that ending
 pub leaving-ends : (s : State) (ending : Ending) → Ends ending (leaving_or_answering s ending).owed
 leaving-ends s ending = ends-either s ending (is_some s.mark && is_empty_set s.set)
 
+-- what is owed where it queues or settles is owed for a commit
 pub queueing-commits : (s : State) (actions : List Action) (notes : List Note) (ending : Ending) → IsReplied ending → IsCommit (queueing_or_settled s actions notes ending).owed
 queueing-commits s actions [] ending h = ends-commit ending (queueing_or_settled s actions [] ending).owed (leaving-ends (record s { set = applied s.set actions }) ending)
 queueing-commits s actions (note ∷ notes) ending h = h

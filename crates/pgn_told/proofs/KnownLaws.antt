@@ -60,6 +60,7 @@ module _ (terms : Terms) (journal : List Tx) (all : All (IsTellable terms.sectio
       subst (λ (ds : List Delivery). All Told ds) (sym h.received)
       (due-told terms.section.no terms.section.db s.set from _ (All-drop Tellable (from - FIRST_XID) _ (All-take Tellable (to - FIRST_XID) journal all)))
 
+  -- each item that a walk allows shows a usage of this limit, or deliveries from this session alone, or neither
   pub items-known : (s : State) (items : List Item) → Along after_item (Allowed terms journal) s items → All (IsKnown terms) items
   items-known s [] h = All-nil (IsKnown terms)
   items-known s (item ∷ items) h = All-cons (IsKnown terms) item items (item-known s item h.0) (items-known (after_item s item) items h.1)

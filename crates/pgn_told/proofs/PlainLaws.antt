@@ -88,17 +88,21 @@ act-plain s Quit = quitting-plain s
 
 -- two states that are the same but for their numbers
 module _ (s t : State) (like : plain s ≡ plain t) where
+  -- two states that are plainly the same have the same lines to come
   pub rest-like : t.rest ≡ s.rest
   rest-like = sym (ap (λ (u : State). u.rest) like)
 
+  -- and owe the same
   pub owed-like : t.owed ≡ s.owed
   owed-like = sym (ap (λ (u : State). u.owed) like)
 
+  -- a line leads both to plainly the same
   pub line-like : (line : ScriptLine) (lines : List ScriptLine) → s.rest ≡ line ∷ lines → plain (at_line s s.rest) ≡ plain (at_line t t.rest)
   line-like line lines e =
       ap (λ (ls : List ScriptLine). plain (at_line s ls)) e ∙ act-plain (record s { rest = lines }) line.act ∙ ap (λ (u : State). at_act (record u { rest = lines }) line.act) like
       ∙ sym (act-plain (record t { rest = lines }) line.act) ∙ ap (λ (ls : List ScriptLine). plain (at_line t ls)) (sym (rest-like ∙ e))
 
+  -- so does an enlist, wherever it stands in the journal
   pub enlist-like : (actions : List Action) (notes : List Note) (ending : Ending) (b p b' p' : ℕ) → s.owed ≡ walk.Enlisting actions notes ending
       → plain (after_item s (item.Enlist b p)) ≡ plain (after_item t (item.Enlist b' p'))
   enlist-like actions notes ending b p b' p' e =
@@ -108,6 +112,7 @@ module _ (s t : State) (like : plain s ≡ plain t) where
       ∙ ap (λ (u : State). queueing_or_settled (record u { mark = Some 0 }) actions notes ending) like
       ∙ sym (queueing-plain before' actions notes ending) ∙ ap (λ (o : Owed). plain (at_enlist before' o)) (sym (owed-like ∙ e))
 
+  -- a publish, whatever its number
   pub publish-like : (actions : List Action) (notes : List Note) (ending : Ending) (x x' : ℕ) (sent sent' : List Note) → s.owed ≡ walk.Queueing actions notes ending
       → plain (after_item s (item.Publish x sent)) ≡ plain (after_item t (item.Publish x' sent'))
   publish-like actions notes ending x x' sent sent' e =
@@ -117,6 +122,7 @@ module _ (s t : State) (like : plain s ≡ plain t) where
       ∙ ap (λ (u : State). settled u actions ending) like
       ∙ sym (leaving-plain (record before' { set = applied t.set actions }) ending) ∙ ap (λ (o : Owed). plain (at_publish before' o)) (sym (owed-like ∙ e))
 
+  -- a full queue, whatever its measures
   pub full-like : (actions : List Action) (notes : List Note) (ending : Ending) (full full' : Full) (sent sent' : List Note) → s.owed ≡ walk.Queueing actions notes ending
       → plain (after_item s (item.QueueFull full sent)) ≡ plain (after_item t (item.QueueFull full' sent'))
   full-like actions notes ending full full' sent sent' e =
@@ -126,22 +132,26 @@ module _ (s t : State) (like : plain s ≡ plain t) where
       ∙ ap (λ (u : State). leaving_or_answering u (Refused refused.QueueFull)) like
       ∙ sym (leaving-plain before' (Refused refused.QueueFull)) ∙ ap (λ (o : Owed). plain (at_full before' o)) (sym (owed-like ∙ e))
 
+  -- a leave
   pub leave-like : (ending : Ending) → s.owed ≡ walk.Leaving ending → plain (after_item s item.Leave) ≡ plain (after_item t item.Leave)
   leave-like ending e =
       let before : State = record s { mark = None } in
       let before' : State = record t { mark = None } in
       ap (λ (o : Owed). plain (at_leave before o)) e ∙ ap (λ (u : State). record u { mark = None; owed = walk.Answering ending }) like ∙ ap (λ (o : Owed). plain (at_leave before' o)) (sym (owed-like ∙ e))
 
+  -- the same channels
   pub channels-like : (names : List (List ℕ)) (ending : Ending) → s.owed ≡ walk.Listing names ending → plain (after_item s (item.Channels names)) ≡ plain (after_item t (item.Channels names))
   channels-like names ending e =
       ap (λ (o : Owed). plain (at_rows s o)) e ∙ ap (λ (u : State). record u { owed = walk.Answering ending }) like ∙ ap (λ (o : Owed). plain (at_rows t o)) (sym (owed-like ∙ e))
 
+  -- a usage, whatever it measures
   pub usage-like : (ending : Ending) (usage usage' : Usage) → s.owed ≡ walk.Measuring ending → plain (after_item s (item.Used usage)) ≡ plain (after_item t (item.Used usage'))
   usage-like ending usage usage' e =
       let before : State = record s { named = s.named ++ holder_at usage.holder usage.floor_mark } in
       let before' : State = record t { named = t.named ++ holder_at usage'.holder usage'.floor_mark } in
       ap (λ (o : Owed). plain (at_rows before o)) e ∙ ap (λ (u : State). record u { owed = walk.Answering ending }) like ∙ ap (λ (o : Owed). plain (at_rows before' o)) (sym (owed-like ∙ e))
 
+  -- and an answer
   pub answer-like : plain (record s { owed = walk.Nothing }) ≡ plain (record t { owed = walk.Nothing })
   answer-like = ap (λ (u : State). record u { owed = walk.Nothing }) like
 

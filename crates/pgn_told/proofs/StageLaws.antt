@@ -38,6 +38,7 @@ sent_of (Publish xid notes) = (Committed, notes) ∷ []
 sent_of (QueueFull full notes) = (Aborted, notes) ∷ []
 sent_of item = []
 
+-- what the items show as finished: how each ended, and its notifications
 abbrev pub sent : List Item → List (Fate × List Note)
 sent items = flat_map sent_of items
 
@@ -60,6 +61,7 @@ pub record Goes (terms : Terms) (journal : List Tx) (s : State) (items : List It
   pub ended : IsEnd (fold after_item s items) last
   pub known : All (IsKnown terms) items
 
+-- a walk goes on behind each of its items
 pub goes-on : (terms : Terms) (journal : List Tx) (s : State) (item : Item) (items : List Item) → Goes terms journal s (item ∷ items) → Goes terms journal (after_item s item) items
 goes-on terms journal s item items h = record { lawful = h.lawful.1; last = h.last; ended = h.ended; known = All-tail (IsKnown terms) item items h.known }
 

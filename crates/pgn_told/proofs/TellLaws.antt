@@ -87,6 +87,7 @@ module _ (terms : Terms) (journal : List Tx) where
   start-messages (Line n ∷ items) h = refl
   start-messages (item ∷ items) h = absurd h
 
+-- two runs of a client's queries with the same messages: it saw the same of both, and their journals are the same, but for what was queued
 pub messages-tell : MessagesTell
 messages-tell section settings journal other a b asks few legal legal' e =
     let at_start : State = start section in

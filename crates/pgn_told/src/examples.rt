@@ -1,5 +1,5 @@
 //! What a client sees of a trace, what it cannot tell apart, and scripts that are no client's.
-ghost use Rattle.std.specs.Prelude.{◌≡◌, ◌≢◌, [], ◌∷◌, None};
+ghost use Rattle.std.specs.Prelude.{◌≡◌, [], ◌∷◌};
 ghost use Rattle.pgn_model.specs.declared.item.Item.TheVariants.{Enlist, Read};
 ghost use Rattle.pgn_told.specs.Told.{AsksThenQuits, but_queued, seen};
 ghost use Rattle.pgn_told.specs.Examples.{cut_short, told_items, told_query, told_quit, told_section, told_seen, told_signal, went_through};

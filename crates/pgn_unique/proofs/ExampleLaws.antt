@@ -1,7 +1,6 @@
 -- Two runs of one scenario, and why some texts are those of none.
-use Rattle.std.proofs.Common.{◌≡◌, ◌≢◌, ℕ, zero, suc, ◌^◌, ◌<◌, ◌≤◌, Bool, true, false, ◌||◌, nat_eq, List, [], ◌∷◌, ◌++◌, length, map, get_or, fold, Option, None, Some, codes, decimal, sym, ap, ◌∙◌, refl, subst, arith, rules, eq-eqb}
+use Rattle.std.proofs.Common.{◌≡◌, ◌≢◌, ℕ, ◌^◌, ◌<◌, ◌≤◌, List, [], ◌∷◌, ◌++◌, length, map, get_or, fold, Option, None, Some, codes, decimal, sym, ap, ◌∙◌, refl, subst, arith, rules}
 use Rattle.std.specs.Prelude.{All, flat_map}
-use Rattle.std.specs.List.{list_any}
 use Rattle.std.specs.Fmt.{digits}
 use Rattle.std.proofs.lemmas.List.{append_cancel_left}
 use Rattle.std.proofs.lemmas.List.Elements.{All-nil, All-cons}
@@ -61,6 +60,7 @@ sender-sound = record {
   one_line_texts = only _ sender.lines refl (one-line (codes "NOTIFY c, 'x'") refl) (one-line (codes "c") refl, one-line (codes "x") refl);
 }
 
+-- the scenario of the example is sound
 pub sound : IsSound side_by_side
 sound = record {
   some = omega arith;
@@ -80,22 +80,26 @@ sent-valid = All-cons IsNote sent [] (plain-note sent refl refl (omega arith) (o
 none-left : (settings : Settings) → Near settings.format (is_due_to listener.db (codes "c" ∷ [])) one_sent 4 4
 none-left settings = near-itself settings.format (is_due_to listener.db (codes "c" ∷ [])) one_sent 4 4 (omega arith)
 
+-- the run in which the listener receives the notification is legal
 pub received-legal : (settings : Settings) → Legal side_by_side settings one_sent (receives ∷ sends ∷ [])
 received-legal settings =
     let valid : All IsNote (sent ∷ []) = sent-valid in
     let near : Near settings.format (is_due_to listener.db (codes "c" ∷ [])) one_sent 4 4 = none-left settings in
     search rules
 
+-- so is the run in which it misses it
 pub missed-legal : (settings : Settings) → Legal side_by_side settings one_sent (misses ∷ sends ∷ [])
 missed-legal settings =
     let valid : All IsNote (sent ∷ []) = sent-valid in
     let near : Near settings.format (is_due_to listener.db (codes "c" ∷ [])) one_sent 4 4 = none-left settings in
     search rules
 
+-- the text of the run in which the notification is received
 pub received-shown : text side_by_side one_sent (receives ∷ sends ∷ []) ≡ received_text
 unfolding digits
 received-shown = refl
 
+-- the text of the run in which it is missed
 pub missed-shown : text side_by_side one_sent (misses ∷ sends ∷ []) ≡ missed_text
 unfolding digits
 missed-shown = refl
@@ -115,9 +119,11 @@ begins-none settings bytes b rest whole journal traces legal e =
     let never : ⊥ = cc in
     never
 
+-- a text that is cut before a row of a trace is that of no run
 pub cut-in_a_trace : (settings : Settings) → IsTextOfNone side_by_side settings cut_in_a_trace
 cut-in_a_trace settings = begins-none settings cut_in_a_trace 32 (codes " 3 1002 \"c\", 'x'\nend mark 4\nsession 2 b db 1 pid 1002\n> NOTIFY c, 'x'\n+publish 3\nNOTIFY\nend\n") refl
 
+-- nor is one that lacks its last line
 pub cut-before_the_end : (settings : Settings) → IsTextOfNone side_by_side settings cut_before_the_end
 cut-before_the_end settings = begins-none settings cut_before_the_end 101 (codes "nd\n") refl
 
@@ -208,6 +214,7 @@ module _ (settings : Settings) where
       no-such_trace trace more few legal.lawful.0 (legal-known side_by_side settings one_sent (trace ∷ traces) sound legal).0
       (append_cancel_left (10 ∷ []) _ _ (append_cancel_left (section_line listener) _ _ both))
 
+-- nor is one whose row shows another payload than the journal
 pub changed-none : (settings : Settings) → IsTextOfNone side_by_side settings changed_text
 changed-none settings journal traces legal e =
     let one = journal-unique side_by_side journal one_sent (joined (traces_lines side_by_side.sections traces)) changed_section sound (legal-has_journal side_by_side settings journal traces sound legal)

@@ -1,5 +1,5 @@
 -- The lines of a journal give it back, whatever follows them.
-use Rattle.std.proofs.Common.{◌≡◌, ℕ, zero, suc, ◌+◌, ◌^◌, ◌<◌, ◌≤◌, List, [], ◌∷◌, ◌++◌, length, map, get_or, codes, decimal, sym, ap, ◌∙◌, refl, subst, arith, append_assoc}
+use Rattle.std.proofs.Common.{◌≡◌, ℕ, ◌+◌, ◌^◌, ◌<◌, ◌≤◌, List, [], ◌∷◌, ◌++◌, length, map, get_or, codes, decimal, sym, ap, ◌∙◌, refl, subst, arith, append_assoc}
 use Rattle.std.specs.Prelude.{All, Any}
 use Rattle.std.proofs.lemmas.List.{append_cancel_left, get_or_default}
 use Rattle.std.proofs.lemmas.List.Concat.{flat_map-append}
@@ -43,11 +43,9 @@ notes-end (note ∷ notes) (other ∷ others) rest more as_many e =
 pub in-two : (a b rest : List ℕ) → (a ++ b) ++ rest ≡ a ++ (b ++ rest)
 in-two a b rest = append_assoc a b rest
 
+-- a text before four others joined, taken apart from the left
 pub in-four : (a b c d rest : List ℕ) → (a ++ b ++ c ++ d) ++ rest ≡ a ++ (b ++ (c ++ (d ++ rest)))
 in-four a b c d rest = simp append_assoc
-
-in-five : (a b c d e rest : List ℕ) → (a ++ b ++ c ++ d ++ e) ++ rest ≡ a ++ (b ++ (c ++ (d ++ (e ++ rest))))
-in-five a b c d e rest = simp append_assoc
 
 -- how a transaction ended: the first byte is no digit
 fate-ends : (fate : Fate) (queued count : ℕ) (rest : List ℕ) → EndsNumber (fate_text fate queued count ++ rest)
@@ -194,6 +192,7 @@ all-told sections journal numbered few h k d lt =
     let notes : length tx.notes ≤ NOTE_LINES_MAX = h.short.few_notes k d lt in
     record { finished = h.finished k d lt; own = own; few_notes = omega (arith, notes); session = omega (arith, few-sessions sections tx.session tx.db numbered few own) }
 
+-- the lines of a journal tell it, and what stands behind them
 pub journal-unique : JournalIsUnique
 journal-unique scenario journal other rest more sound h k e =
     journal-ends (Names scenario.sections) journal other rest more (one-database scenario.sections sound.numbered) (all-told scenario.sections journal sound.numbered sound.few h) (all-told scenario.sections other sound.numbered sound.few k)

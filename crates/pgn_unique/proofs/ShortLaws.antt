@@ -211,6 +211,7 @@ each-sent scenario settings journal traces sound legal k d lt =
     slice_get_at (tx ∷ txs) zero d lt = refl
     slice_get_at (tx ∷ txs) (suc k) d lt = slice_get_at txs k d (omega (arith, lt))
 
+-- a legal run has few transactions, and each of them few notifications
 pub journal-is_short : JournalIsShort
 journal-is_short scenario settings journal traces sound legal =
     let shows : ShowsJournal journal traces = legal-shows_journal scenario settings journal traces legal in
@@ -224,6 +225,7 @@ journal-is_short scenario settings journal traces sound legal =
       few_notes = λ k d lt. omega (arith, sound.few_note_lines, (each-sent scenario settings journal traces sound legal k d lt).few);
     }
 
+-- each transaction of a legal run is one of a session of its scenario
 pub legal-has_journal : LegalHasJournal
 legal-has_journal scenario settings journal traces sound legal = record {
   finished = legal.finished;

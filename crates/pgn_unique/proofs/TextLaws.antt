@@ -73,6 +73,7 @@ module _ (settings : Settings) (journal : List Tx) where
       all-parts [] ys h = (All-nil IsLow, h)
       all-parts (x ∷ xs) ys h = let tail = all-parts xs ys (All-tail IsLow x (xs ++ ys) h) in (All-cons IsLow x xs (All-head IsLow x (xs ++ ys) h) tail.0, tail.1)
 
+-- what the traces of a legal run show is known of each of them
 pub legal-known : (scenario : Scenario) (settings : Settings) (journal : List Tx) (traces : List Trace) → IsSound scenario → Legal scenario settings journal traces → AllKnown settings journal scenario.sections traces
 legal-known scenario settings journal traces sound legal =
     let all : List End = ends settings scenario.sections traces in
@@ -97,11 +98,13 @@ text-ends scenario settings journal other traces others rest more sound legal le
     (legal-known scenario settings journal traces sound legal) (legal-known scenario settings journal others sound over) one.1 in
     (one.0, two.0, two.1)
 
+-- two legal runs of a sound scenario with one text are the same
 pub text-unique : TextIsUnique
 text-unique scenario settings journal other traces others sound legal legal' e =
     let got = text-ends scenario settings journal other traces others [] [] sound legal legal' (ap (λ (bytes : List ℕ). bytes ++ []) e) in
     (got.0, got.1)
 
+-- no text of a legal run goes on to that of another
 pub no_text-begins : NoTextBegins
 no_text-begins scenario settings journal other traces others rest sound legal legal' e =
     (text-ends scenario settings journal other traces others rest [] sound legal legal' (e ∙ sym (append-nil (text scenario other others)))).2

@@ -22,6 +22,7 @@ use Rattle.pgn_unique.proofs.ItemLines.{IsKnown, same-item}
 abbrev pub spelled : List ScriptLine → List Item → List ℕ → List ℕ
 spelled lines items rest = joined (flat_map (item_lines lines) items) ++ rest
 
+-- the bytes of lines, and then those of the lines behind them
 pub lines-apart : (lines behind : List (List ℕ)) (rest : List ℕ) → joined (lines ++ behind) ++ rest ≡ joined lines ++ (joined behind ++ rest)
 lines-apart lines behind rest = ap (λ (bytes : List ℕ). bytes ++ rest) (joined-append lines behind) ∙ append_assoc (joined lines) (joined behind) rest
 
@@ -64,6 +65,7 @@ module _ (terms : Terms) (journal : List Tx) (few : next_xid journal < 2 ^ 64) w
       let tails : others ≡ front ++ rest.tail = rest.whole in
       record { tail = rest.tail; whole = cc; follows = rest.follows }
 
+  -- the tail of lawful items is lawful from where their front leads
   pub Along-back : (s : State) (front tail : List Item) → Lawful s (front ++ tail) → Lawful (fold after_item s front) tail
   Along-back s [] tail h = h
   Along-back s (item ∷ front) tail h = Along-back (after_item s item) front tail h.1

@@ -1,4 +1,4 @@
-use Rattle.std.proofs.Common.{◌≡◌, [], ◌∷◌, ◌++◌, None, Some}
+use Rattle.std.proofs.Common.{[], ◌∷◌, ◌++◌, None, Some}
 use Rattle.pgn_queries.specs.declared.wire_fault.WireFault.TheVariants.{TooMany}
 use Rattle.pgn_queries.specs.Queries.{first_place}
 use Rattle.pgn_queries.specs.Examples.{asks_notify, notify_first, notify_line}
