@@ -180,6 +180,7 @@ arguing-reads text lexemes ways (token ∷ ahead) go_on some s k =
 abbrev pub second : List (List Slot)
 second = argued (before_all (Punct (byte ")")) done)
 
+-- the two arguments between parentheses, and the end
 abbrev pub called : List (List Slot)
 called = before_all (Punct (byte "(")) (argued (before_all (Punct (byte ",")) second))
 
@@ -187,6 +188,7 @@ pub record CallComplete (lexemes : List Lexeme) : Type 0 where
   pub forms : (o c e : Lexeme) (some more : List Lexeme) (channel payload : List ℕ) → fits_slot (Punct (byte "(")) o ≡ true → IsArgument some channel → fits_slot (Punct (byte ",")) c ≡ true → IsArgument more payload
       → fits_slot (Punct (byte ")")) e ≡ true → Complete (lexemes ++ o ∷ [] ++ some ++ c ∷ [] ++ more ++ e ∷ []) (command.PgNotify (noted channel payload))
 
+-- what stands behind the word pg_notify reads as the table says
 pub calling-reads : (text : List ℕ) (lexemes : List Lexeme) (ahead : List Token) → Stands text lexemes called ahead → CallComplete lexemes → ReadsAs text (outcome (calling (length text) ahead))
 calling-reads text lexemes ahead s c =
     let end : ℕ = length text in

@@ -34,6 +34,7 @@ ending-reads : (text : List ℕ) (lexemes : List Lexeme) (one : Command) (ahead 
 ending-reads text lexemes one [] s form = stands-whole text lexemes only one s form
 ending-reads text lexemes one (token ∷ ahead) s form = stands-stop text lexemes only token ahead s only-some refl
 
+-- at the end of a statement a `;` may stand, and nothing else
 pub closing-reads : (text : List ℕ) (lexemes : List Lexeme) (ways : List (List Slot)) (one : Command) (ahead : List Token) → Stands text lexemes ways ahead → Endable ways ahead → Complete lexemes one → ReadsAs text (outcome (closing (length text) one ahead))
 closing-reads text lexemes ways one [] s e c = stands-whole text lexemes ways one s c.bare
 closing-reads text lexemes ways one (token ∷ ahead) s e c = elim (cases_Bool (fits_slot (Punct (byte ";")) token.lexeme)) [
@@ -52,6 +53,7 @@ done-other l t = rw t refl
 pub done-endable : (ahead : List Token) → Endable done ahead
 done-endable ahead = record { some = λ e. absurd (cc); semicolon = done-semicolon; other = done-other (front_lexeme ahead) }
 
+-- the same where no other part may follow
 pub done-reads : (text : List ℕ) (lexemes : List Lexeme) (one : Command) (ahead : List Token) → Stands text lexemes done ahead → Complete lexemes one → ReadsAs text (outcome (closing (length text) one ahead))
 done-reads text lexemes one ahead s c = closing-reads text lexemes done one ahead s (done-endable ahead) c
 
@@ -59,6 +61,7 @@ done-reads text lexemes one ahead s c = closing-reads text lexemes done one ahea
 abbrev pub named : List (List Slot)
 named = before_all Name done
 
+-- a name and the end read as the command of this name
 pub naming-reads : (text : List ℕ) (lexemes : List Lexeme) (gives : List ℕ → Command) (ahead : List Token) → Stands text lexemes named ahead
     → ((l : Lexeme) → fits_slot Name l ≡ true → Complete (lexemes ++ l ∷ []) (gives (name_of l))) → ReadsAs text (outcome (naming (length text) gives ahead))
 naming-reads text lexemes gives ahead s c =
@@ -92,6 +95,7 @@ pub record WorkComplete (lexemes : List Lexeme) (one : Command) : Type 0 where
   pub work : (l : Lexeme) → fits_slot (Key (codes "work")) l ≡ true → Complete (lexemes ++ l ∷ []) one
   pub transaction : (l : Lexeme) → fits_slot (Key (codes "transaction")) l ≡ true → Complete (lexemes ++ l ∷ []) one
 
+-- WORK or TRANSACTION before the end changes nothing of the command
 pub working-reads : (text : List ℕ) (lexemes : List Lexeme) (one : Command) (ahead : List Token) → Stands text lexemes worked ahead → WorkComplete lexemes one → ReadsAs text (outcome (closing (length text) one (past_work ahead)))
 working-reads text lexemes one [] s c = stands-whole text lexemes worked one s c.bare.bare
 working-reads text lexemes one (token ∷ ahead) s c =

@@ -313,9 +313,6 @@ from_commit w = cond (str_eq_ignore_ascii_case (codes "commit") w) (Some verb.Co
 abbrev from_start : List ℕ → Option Verb
 from_start w = cond (str_eq_ignore_ascii_case (codes "start") w) (Some verb.Start) (from_commit w)
 
-abbrev from_begin : List ℕ → Option Verb
-from_begin w = cond (str_eq_ignore_ascii_case (codes "begin") w) (Some verb.Begin) (from_start w)
-
 -- the word that a line begins with
 command-reads : (text w : List ℕ) (at : ℕ) (ahead : List Token) → (let token : Token = record { lexeme = Word w; at = at } in Stands text [] table_slots (token ∷ ahead))
     → (let token : Token = record { lexeme = Word w; at = at } in ReadsAs text (outcome (starting (length text) (verb_of w) (token ∷ ahead))))

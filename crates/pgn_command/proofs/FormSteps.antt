@@ -25,6 +25,7 @@ pub record Stands (text : List ℕ) (lexemes : List Lexeme) (ways : List (List S
   pub are : lexemes_of read ≡ lexemes
   pub follow : followers table_slots lexemes ≡ ways
 
+-- before the first token each form of the table may follow
 pub stands-start : (text : List ℕ) → Stands text [] table_slots (tokens text)
 stands-start text = record { read = []; whole = refl; are = refl; follow = refl }
 
@@ -83,6 +84,7 @@ slots_at i = (get_or table i nothing).slots
 abbrev pub command_at : ℕ → List Lexeme → Command
 command_at i lexemes = (get_or table i nothing).command lexemes
 
+-- tokens that fit the slots of the form at a place are its command
 pub form-at : (i : ℕ) (lexemes : List Lexeme) → is_some (slice_get table i) ≡ true → all_fit (slots_at i) lexemes ≡ true → IsForm lexemes (command_at i lexemes)
 form-at i lexemes some h = one-at table i lexemes some h
 
@@ -90,10 +92,12 @@ form-at i lexemes some h = one-at table i lexemes some h
 abbrev pub before_all : Slot → List (List Slot) → List (List Slot)
 before_all slot ways = map (λ slots. slot ∷ slots) ways
 
+-- behind a token that fits the slot the ways go on
 pub only-fits : (slot : Slot) (ways : List (List Slot)) (lexeme : Lexeme) → fits_slot slot lexeme ≡ true → filter_map (after_first lexeme) (before_all slot ways) ≡ ways
 only-fits slot [] lexeme h = refl
 only-fits slot (way ∷ ways) lexeme h = rw h (ap (λ (ws : List (List Slot)). way ∷ ws) (only-fits slot ways lexeme h))
 
+-- behind one that does not no way goes on
 pub only-fails : (slot : Slot) (ways : List (List Slot)) (lexeme : Lexeme) → fits_slot slot lexeme ≡ false → filter_map (after_first lexeme) (before_all slot ways) ≡ []
 only-fails slot [] lexeme h = refl
 only-fails slot (way ∷ ways) lexeme h = rw h (only-fails slot ways lexeme h)
@@ -163,6 +167,7 @@ key-cases P key h (Number digits) e = absurd (false≢true e)
 key-cases P key h (Sign s) e = absurd (false≢true e)
 key-cases P key h Wrong e = absurd (false≢true e)
 
+-- what holds of each sign that fits holds of each token that fits a sign
 pub sign-cases : (P : Lexeme → Type 0) (sign : ℕ) → ((s : ℕ) → fits_slot (Punct sign) (Sign s) ≡ true → P (Sign s)) → (l : Lexeme) → fits_slot (Punct sign) l ≡ true → P l
 sign-cases P sign h (Sign s) e = h s e
 sign-cases P sign h (Word text) e = absurd (false≢true e)

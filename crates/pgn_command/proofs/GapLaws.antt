@@ -13,9 +13,11 @@ use Rattle.std.specs.Char.{is_ascii_digit}
 pub front-passes : (test : ℕ → Bool) (b : ℕ) (bytes : List ℕ) → test b ≡ true → prefix_len test (b ∷ bytes) ≡ suc (prefix_len test bytes)
 front-passes test b bytes e = let p : prefix_len test (b ∷ bytes) ≡ 1 + prefix_len test bytes = rw e refl in omega (arith, p)
 
+-- no byte is in front where the first fails the test
 pub front-fails : (test : ℕ → Bool) (b : ℕ) (bytes : List ℕ) → test b ≡ false → prefix_len test (b ∷ bytes) ≡ 0
 front-fails test b bytes e = rw e refl
 
+-- behind the first bytes that pass a test stands none that passes it
 pub front-ends : (test : ℕ → Bool) (bytes : List ℕ) → NoneFollows test (drop (prefix_len test bytes) bytes)
 front-ends test [] = tt
 front-ends test (b ∷ bytes) = elim (cases_Bool (test b)) [
@@ -23,6 +25,7 @@ front-ends test (b ∷ bytes) = elim (cases_Bool (test b)) [
   | inr e ↦ subst (λ (n : ℕ). NoneFollows test (drop n (b ∷ bytes))) (sym (front-fails test b bytes e)) e
 ]
 
+-- they are no more than all bytes
 pub front-bound : (test : ℕ → Bool) (bytes : List ℕ) → prefix_len test bytes ≤ length bytes
 front-bound test [] = omega arith
 front-bound test (b ∷ bytes) = elim (cases_Bool (test b)) [
@@ -54,11 +57,9 @@ after_front at bytes f = elim f [
   | NoToken ↦ record { lexeme = Wrong; at = at } ∷ []
 ]
 
+-- the kind of the first byte decides the tokens
 pub of_kind : (at b : ℕ) (bytes : List ℕ) (k : Kind) → k ≡ kind b bytes → tokens_from at 0 (b ∷ bytes) ≡ after_front at bytes (front k b bytes)
 of_kind at b bytes k e = ap (λ (x : Kind). after_front at bytes (front x b bytes)) (sym e)
-
-abbrev first_kind : Bool → Bool → Bool → Bool → Bool → Bool → Bool → Kind
-first_kind a b c d e f g = cond a ABlank (cond b AComment (cond c AWord (cond d ANumber (cond e ASign (cond f AQuoted (cond g ALiteral ANothing))))))
 
 kind_blank : (b : ℕ) (bytes : List ℕ) → is_blank b ≡ true → ABlank ≡ kind b bytes
 kind_blank b bytes h = sym (ap (λ t. cond t ABlank (cond (begins_comment b bytes) AComment (cond (begins_word b) AWord (cond (is_ascii_digit b) ANumber (cond (is_sign b) ASign (cond (b == 34) AQuoted (cond (b == 39) ALiteral ANothing))))))) h)
@@ -95,23 +96,16 @@ ascii-boundary test ascii (b ∷ bytes) u = elim (cases_Bool (test b)) [
   | inr e ↦ subst (λ (k : ℕ). IsCharBoundary (b ∷ bytes) k) (sym (front-fails test b bytes e)) (IsCharBoundary-start (b ∷ bytes) u)
 ]
 
+-- behind the blanks at the front a character begins
 pub blanks-boundary : (bytes : List ℕ) → IsUtf8 bytes → IsCharBoundary bytes (prefix_len is_blank bytes)
 blanks-boundary bytes u = ascii-boundary is_blank blank_ascii bytes u
 
 digit_ascii : (b : ℕ) → is_ascii_digit b ≡ true → b < 128
 digit_ascii b h = grind (arith, nat_tests)
 
+-- so it does behind the digits at the front
 pub digits-boundary : (bytes : List ℕ) → IsUtf8 bytes → IsCharBoundary bytes (prefix_len is_ascii_digit bytes)
 digits-boundary bytes u = ascii-boundary is_ascii_digit digit_ascii bytes u
-
-kind_comment : (b : ℕ) (bytes : List ℕ) → is_blank b ≡ false → begins_comment b bytes ≡ true → AComment ≡ kind b bytes
-kind_comment b bytes h k = sym (
-    ap (λ t. cond t ABlank (cond (begins_comment b bytes) AComment (cond (begins_word b) AWord (cond (is_ascii_digit b) ANumber (cond (is_sign b) ASign (cond (b == 34) AQuoted (cond (b == 39) ALiteral ANothing))))))) h
-    ∙ ap (λ t. cond t AComment (cond (begins_word b) AWord (cond (is_ascii_digit b) ANumber (cond (is_sign b) ASign (cond (b == 34) AQuoted (cond (b == 39) ALiteral ANothing)))))) k)
-
--- a comment runs to the end
-pub past-comment : (at b : ℕ) (bytes : List ℕ) → is_blank b ≡ false → begins_comment b bytes ≡ true → tokens_from at 0 (b ∷ bytes) ≡ []
-past-comment at b bytes h k = of_kind at b bytes AComment (kind_comment b bytes h k)
 
 -- a test that only ASCII bytes fail ends where a character begins
 pub ends-boundary : (test : ℕ → Bool) → ((b : ℕ) → test b ≡ false → b < 128) → (bytes : List ℕ) → IsCharBoundary bytes (prefix_len test bytes)
@@ -126,11 +120,14 @@ ends-boundary test ascii (b ∷ bytes) = elim (cases_Bool (test b)) [
 past_word_ascii : (b : ℕ) → goes_on_word b ≡ false → b < 128
 past_word_ascii b h = grind (arith, nat_tests)
 
+-- and behind a word
 pub word-boundary : (bytes : List ℕ) → IsCharBoundary bytes (prefix_len goes_on_word bytes)
 word-boundary bytes = ends-boundary goes_on_word past_word_ascii bytes
 
+-- what begins a word goes on with it
 pub begins-goes_on : (b : ℕ) → begins_word b ≡ true → goes_on_word b ≡ true
 begins-goes_on b h = grind (arith, nat_tests)
 
+-- a sign is an ASCII byte
 pub sign-ascii : (b : ℕ) → is_sign b ≡ true → b < 128
 sign-ascii b h = grind (arith, nat_tests)

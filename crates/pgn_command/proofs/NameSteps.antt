@@ -105,6 +105,7 @@ saved_word-reads text lexemes gives (Number x) at ahead s e c = absurd (false≢
 saved_word-reads text lexemes gives (Sign x) at ahead s e c = absurd (false≢true e)
 saved_word-reads text lexemes gives Wrong at ahead s e c = absurd (false≢true e)
 
+-- a name behind SAVEPOINT, which may be left out, reads as the command of this name
 pub saving-reads : (text : List ℕ) (lexemes : List Lexeme) (gives : List ℕ → Command) (ahead : List Token) → Stands text lexemes saved ahead → SavedComplete lexemes gives → ReadsAs text (outcome (naming (length text) gives (past_savepoint ahead)))
 saving-reads text lexemes gives [] s c = stands-lack text lexemes saved s (λ h. absurd (cc)) refl
 saving-reads text lexemes gives (token ∷ ahead) s c = elim (cases_Bool (fits_slot (Key (codes "savepoint")) token.lexeme)) [
@@ -123,6 +124,7 @@ rolled = worked ++ toward ++ before_all (Key (codes "work")) toward ++ before_al
 abbrev pub rolled_work : List (List Slot)
 rolled_work = done ++ toward
 
+-- ROLLBACK is complete by itself, and with TO and a savepoint
 pub record RollComplete (lexemes : List Lexeme) : Type 0 where
   pub bare : Complete lexemes command.Rollback
   pub back : (l : Lexeme) → fits_slot (Key (codes "to")) l ≡ true → SavedComplete (lexemes ++ l ∷ []) command.RollbackTo
@@ -192,6 +194,7 @@ pub record RollWorkComplete (lexemes : List Lexeme) : Type 0 where
   pub work : (l : Lexeme) → fits_slot (Key (codes "work")) l ≡ true → RollComplete (lexemes ++ l ∷ [])
   pub transaction : (l : Lexeme) → fits_slot (Key (codes "transaction")) l ≡ true → RollComplete (lexemes ++ l ∷ [])
 
+-- what stands behind ROLLBACK reads as the table says
 pub rolling-reads : (text : List ℕ) (lexemes : List Lexeme) (ahead : List Token) → Stands text lexemes rolled ahead → RollWorkComplete lexemes → ReadsAs text (outcome (rolling (length text) (past_work ahead)))
 rolling-reads text lexemes [] s c = stands-whole text lexemes rolled command.Rollback s c.bare.bare.bare
 rolling-reads text lexemes (token ∷ ahead) s c =
@@ -228,6 +231,7 @@ unlisted-star l t = sign-cases (λ l. filter_map (after_first l) unlisted ≡ do
 unlisted-other : (l : Lexeme) → fits_slot Name l ≡ false → fits_slot (Punct (byte "*")) l ≡ false → filter_map (after_first l) unlisted ≡ []
 unlisted-other l e f = rw (e, f) refl
 
+-- what stands behind UNLISTEN is a name or a `*`
 pub unlistening-reads : (text : List ℕ) (lexemes : List Lexeme) (ahead : List Token) → Stands text lexemes unlisted ahead → ((l : Lexeme) → fits_slot Name l ≡ true → Complete (lexemes ++ l ∷ []) (command.Unlisten (name_of l)))
     → ((l : Lexeme) → fits_slot (Punct (byte "*")) l ≡ true → Complete (lexemes ++ l ∷ []) command.UnlistenAll) → ReadsAs text (outcome (unlistening (length text) ahead))
 unlistening-reads text lexemes [] s name all = stands-lack text lexemes unlisted s (λ h. absurd (cc)) refl
@@ -263,6 +267,7 @@ paid-semicolon l t = sign-cases (λ l. filter_map (after_first l) paid ≡ [] �
 paid-other : (l : Lexeme) → fits_slot (Punct (byte ",")) l ≡ false → fits_slot (Punct (byte ";")) l ≡ false → filter_map (after_first l) paid ≡ []
 paid-other l e f = rw (e, f) refl
 
+-- NOTIFY is complete with a channel, and with a payload behind it
 pub record NoteComplete (lexemes : List Lexeme) (channel : List ℕ) : Type 0 where
   pub bare : Complete lexemes (command.Notify (noted channel []))
   pub payload : (l m : Lexeme) → fits_slot (Punct (byte ",")) l ≡ true → fits_slot Quote m ≡ true → Complete (lexemes ++ l ∷ [] ++ m ∷ []) (command.Notify (noted channel (text_of m)))
@@ -309,6 +314,7 @@ notifying-reads text lexemes ahead s c =
 abbrev pub asked : List (List Slot)
 asked = before_all (Punct (byte "(")) (before_all (Punct (byte ")")) done)
 
+-- two parentheses and the end read as a call without arguments
 pub asking-reads : (text : List ℕ) (lexemes : List Lexeme) (one : Command) (ahead : List Token) → Stands text lexemes asked ahead
     → ((l m : Lexeme) → fits_slot (Punct (byte "(")) l ≡ true → fits_slot (Punct (byte ")")) m ≡ true → Complete (lexemes ++ l ∷ [] ++ m ∷ []) one) → ReadsAs text (outcome (asking (length text) one ahead))
 asking-reads text lexemes one ahead s c =

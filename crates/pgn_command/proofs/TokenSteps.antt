@@ -5,7 +5,7 @@ use Rattle.std.specs.Char.{is_ascii_digit, digit_value}
 use Rattle.std.specs.Str.Parse.{IsNumeral, AllDigits}
 use Rattle.std.proofs.lemmas.List.Folds.{length-prefix_len}
 use Rattle.std.proofs.lemmas.Str.{IsCharBoundary-after_ascii}
-use Rattle.pgn_language.specs.Tokens.{Lexeme, Word, Number, Sign, Quoted, Literal, Token, tokens_from, Inside, closed, NoToken, OneToken, AWord, ANumber, ASign, AQuoted, ALiteral, ANothing, goes_on_word, quoted_front, literal_front}
+use Rattle.pgn_language.specs.Tokens.{Lexeme, Word, Number, Sign, Quoted, Literal, Token, tokens_from, Inside, closed, NoToken, OneToken, AWord, ANumber, ASign, AQuoted, ALiteral, goes_on_word, quoted_front, literal_front}
 use Rattle.pgn_language.proofs.SlotLaws.{tokens-skip}
 use Rattle.std.proofs.lemmas.Bool.{eqb-true, eqb-false, cases_Bool}
 use Rattle.std.proofs.lemmas.Bool.Decides.{nat_tests}
@@ -56,10 +56,6 @@ past-number at (b ∷ bytes) h =
 pub past-sign : (at b : ℕ) (bytes : List ℕ) → Starts start.Sign (b ∷ bytes) → tokens_from at 0 (b ∷ bytes) ≡ one (Sign b) at (tokens_from (at + 1) 0 (drop 1 (b ∷ bytes)))
 past-sign at b bytes h = let sign : Lexeme = Sign b in past-token at b bytes sign 0 (of_kind at b bytes ASign h.0)
 
-pub past-nothing : (at : ℕ) (rest : List ℕ) → Starts start.Nothing rest → IsStuck at rest
-past-nothing at [] h = absurd h
-past-nothing at (b ∷ bytes) h = of_kind at b bytes ANothing h.0
-
 two : (n : ℕ) → suc (n + 1) ≡ n + 2
 two n = omega arith
 
@@ -80,6 +76,7 @@ past-literal at (b ∷ bytes) raw k h =
     subst (λ (x : ℕ). tokens_from at 0 (x ∷ bytes) ≡ one (Literal (single 39 raw)) at (tokens_from (at + (length raw + 2)) 0 (drop (length raw + 2) (x ∷ bytes)))) e
     (inside_literal at bytes raw h (subst (λ (x : ℕ). Starts start.Literal (x ∷ bytes)) k.1 k))
 
+-- behind a quote that no other closes nothing is read
 pub open-literal : (at : ℕ) (rest : List ℕ) → Starts start.Literal rest → closed 39 (drop 1 rest) ≡ None → IsStuck at rest
 open-literal at [] k h = absurd k
 open-literal at (b ∷ bytes) k h =
@@ -106,6 +103,7 @@ past-quoted at (b ∷ bytes) raw k h some =
     subst (λ (x : ℕ). tokens_from at 0 (x ∷ bytes) ≡ one (Quoted (single 34 raw)) at (tokens_from (at + (length raw + 2)) 0 (drop (length raw + 2) (x ∷ bytes)))) e
     (inside_quoted at bytes raw h some (subst (λ (x : ℕ). Starts start.Quoted (x ∷ bytes)) k.1 k))
 
+-- the same of an identifier
 pub open-quoted : (at : ℕ) (rest : List ℕ) → Starts start.Quoted rest → closed 34 (drop 1 rest) ≡ None → IsStuck at rest
 open-quoted at [] k h = absurd k
 open-quoted at (b ∷ bytes) k h =
@@ -137,6 +135,7 @@ read-front at rest n next left token whole l e f ends digits = record {
   digits = digits;
 }
 
+-- the bytes that go on with a word are read as this word
 pub read-word : (at : ℕ) (rest : List ℕ) (n next : ℕ) (left : List ℕ) (text : Bor (List ℕ)) → Starts start.Word rest → n ≡ prefix_len goes_on_word rest → text.now ≡ take n rest → next ≡ at + n → left ≡ drop n rest
     → IsRead (lexeme.Word text) at rest next left
 read-word at rest n next left text h long t e f =
@@ -161,6 +160,7 @@ numeral (b ∷ bytes) h =
     subst (λ (k : ℕ). 0 < length (take k (b ∷ bytes))) (sym (front-passes is_ascii_digit b bytes h.1)) (omega arith) in
     (some, all_digits (b ∷ bytes))
 
+-- the digits at the front are read as their number
 pub read-number : (at : ℕ) (rest : List ℕ) (n next : ℕ) (left : List ℕ) (text : Bor (List ℕ)) → Starts start.Number rest → n ≡ prefix_len is_ascii_digit rest → text.now ≡ take n rest → next ≡ at + n → left ≡ drop n rest
     → IsRead (lexeme.Number text) at rest next left
 read-number at rest n next left text h long t e f =
@@ -169,10 +169,7 @@ read-number at rest n next left text h long t e f =
     read-front at rest n next left (lexeme.Number text) (whole ∙ ap (λ (w : List ℕ). one (Number w) at (tokens_from (at + n) 0 (drop n rest))) (sym t)) (omega (arith, long, front-bound is_ascii_digit rest)) e f tt
     (subst (λ (ds : List ℕ). IsNumeral 10 ds) (ap (λ (k : ℕ). take k rest) (sym long) ∙ sym t) (numeral rest h))
 
-some-first : (rest : List ℕ) (b : ℕ) → 1 ≤ length rest → b ≡ get_or rest 0 0 → rest ≡ b ∷ drop 1 rest
-some-first [] b l e = absurd (omega arith)
-some-first (c ∷ rest) b l e = ap (λ (x : ℕ). x ∷ rest) (sym e)
-
+-- where something begins a byte stands
 pub starts-some : (start : Begins) (rest : List ℕ) → Starts start rest → 1 ≤ length rest
 starts-some start [] h = absurd h
 starts-some start (b ∷ rest) h = omega arith
@@ -180,10 +177,12 @@ starts-some start (b ∷ rest) h = omega arith
 read_sign : (at b : ℕ) (bytes : List ℕ) (next : ℕ) (left : List ℕ) → Starts start.Sign (b ∷ bytes) → next ≡ at + 1 → left ≡ drop 1 (b ∷ bytes) → IsRead (lexeme.Sign b) at (b ∷ bytes) next left
 read_sign at b bytes next left h e f = read-front at (b ∷ bytes) 1 next left (lexeme.Sign b) (past-sign at b bytes h) (omega arith) e f tt tt
 
+-- a sign is read as itself
 pub read-sign : (at : ℕ) (rest : List ℕ) (b next : ℕ) (left : List ℕ) → Starts start.Sign rest → b ≡ get_or rest 0 0 → next ≡ at + 1 → left ≡ drop 1 rest → IsRead (lexeme.Sign b) at rest next left
 read-sign at [] b next left h e f g = absurd h
 read-sign at (c ∷ bytes) b next left h e f g = subst (λ (x : ℕ). IsRead (lexeme.Sign x) at (c ∷ bytes) next left) (sym e) (read_sign at c bytes next left h f g)
 
+-- behind a sign a character begins
 pub sign-boundary : (rest : List ℕ) → IsUtf8 rest → Starts start.Sign rest → IsCharBoundary rest 1
 sign-boundary [] u h = absurd h
 sign-boundary (b ∷ bytes) u h = IsCharBoundary-after_ascii (b ∷ bytes) 0 u (omega arith) (sign-ascii b h.1)
@@ -193,34 +192,41 @@ pub quoted-boundary : (rest : List ℕ) → IsUtf8 rest → Starts start.Quoted 
 quoted-boundary [] u h = absurd h
 quoted-boundary (b ∷ bytes) u h = IsCharBoundary-after_ascii (b ∷ bytes) 0 u (omega arith) (omega (arith, h.1))
 
+-- so it does behind the opening quote of a literal
 pub literal-boundary : (rest : List ℕ) → IsUtf8 rest → Starts start.Literal rest → IsCharBoundary rest 1
 literal-boundary [] u h = absurd h
 literal-boundary (b ∷ bytes) u h = IsCharBoundary-after_ascii (b ∷ bytes) 0 u (omega arith) (omega (arith, h.1))
 
+-- what stands between two quotes is read as a literal
 pub read-literal : (at : ℕ) (rest : List ℕ) (next : ℕ) (left : List ℕ) (inside : Found) → Starts start.Literal rest → IsInside 39 (drop 1 rest) inside.quote inside.raw.now → next ≡ at + (length inside.raw.now + 2) → left ≡ drop (length inside.raw.now + 2) rest
     → IsRead (lexeme.Literal inside) at rest next left
 read-literal at rest next left inside h k e f =
     let i : IsInside 39 (drop 1 rest) 39 inside.raw.now = subst (λ (q : ℕ). IsInside 39 (drop 1 rest) q inside.raw.now) k.quote_is k in
     read-front at rest (length inside.raw.now + 2) next left (lexeme.Literal inside) (past-literal at rest inside.raw.now h i ∙ ap (λ (q : ℕ). one (Literal (single q inside.raw.now)) at (tokens_from (at + (length inside.raw.now + 2)) 0 (drop (length inside.raw.now + 2) rest))) (sym k.quote_is)) (omega (arith, i.short, length-drop 1 rest)) e f tt tt
 
+-- what stands between two double quotes is read as an identifier, if it has a byte
 pub read-quoted : (at : ℕ) (rest : List ℕ) (next : ℕ) (left : List ℕ) (inside : Found) → Starts start.Quoted rest → IsInside 34 (drop 1 rest) inside.quote inside.raw.now → inside.raw.now ≢ [] → next ≡ at + (length inside.raw.now + 2)
     → left ≡ drop (length inside.raw.now + 2) rest → IsRead (lexeme.Quoted inside) at rest next left
 read-quoted at rest next left inside h k some e f =
     let i : IsInside 34 (drop 1 rest) 34 inside.raw.now = subst (λ (q : ℕ). IsInside 34 (drop 1 rest) q inside.raw.now) k.quote_is k in
     read-front at rest (length inside.raw.now + 2) next left (lexeme.Quoted inside) (past-quoted at rest inside.raw.now h i some ∙ ap (λ (q : ℕ). one (Quoted (single q inside.raw.now)) at (tokens_from (at + (length inside.raw.now + 2)) 0 (drop (length inside.raw.now + 2) rest))) (sym k.quote_is)) (omega (arith, i.short, length-drop 1 rest)) e f tt tt
 
+-- a text with a length other than zero has a byte
 pub none-some : (raw : List ℕ) → (length raw == 0) ≡ false → raw ≢ []
 none-some raw h e = eqb-false (length raw) 0 h (ap length e)
 
+-- a text of length zero has none
 pub some-none : (raw : List ℕ) → (length raw == 0) ≡ true → raw ≡ []
 some-none [] h = refl
 some-none (b ∷ raw) h = absurd (omega (arith, eqb-true (suc (length raw)) 0 h))
 
+-- two double quotes with nothing between them are no token
 pub stuck-empty : (at : ℕ) (rest : List ℕ) (inside : Found) → Starts start.Quoted rest → IsInside 34 (drop 1 rest) inside.quote inside.raw.now → inside.raw.now ≡ [] → IsStuck at rest
 stuck-empty at rest inside h k none =
     let i : IsInside 34 (drop 1 rest) 34 inside.raw.now = subst (λ (q : ℕ). IsInside 34 (drop 1 rest) q inside.raw.now) k.quote_is k in
     empty-quoted at rest inside.raw.now h i none
 
+-- behind the closing quote a character begins
 pub found-boundary : (rest : List ℕ) (quote : ℕ) (inside : Found) → IsUtf8 rest → quote < 128 → 1 ≤ length rest → IsInside quote (drop 1 rest) inside.quote inside.raw.now → IsCharBoundary rest (length inside.raw.now + 2)
 found-boundary rest quote inside u l some k =
     closed-boundary rest inside.raw.now quote u l some (subst (λ (q : ℕ). IsInside quote (drop 1 rest) q inside.raw.now) k.quote_is k)

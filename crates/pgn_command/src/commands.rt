@@ -1,4 +1,4 @@
-ghost use Rattle.std.specs.Prelude.{◌≡◌, length, IfOk};
+ghost use Rattle.std.specs.Prelude.{◌≡◌, IfOk};
 ghost use Rattle.pgn_base.specs.declared.command.Command.TheVariants as command;
 ghost use Rattle.pgn_language.specs.Grammar.{limited, past_limit};
 ghost use Rattle.pgn_language.specs.laws.Commands.{IsValid};
@@ -64,8 +64,8 @@ fn notify(alloc: Global, channel: Ident<'_>, payload: Text<'_>) -> Result<Comman
     Ok(Command::Notify(Note { channel, payload }))
 }
 
-// A call of pg_notify.
-fn pg_notify(alloc: Global, channel: Text<'_>, payload: Text<'_>) -> Result<Command, AllocError>
+/// The command that a call of pg_notify with these two texts is, or which limit it goes past.
+pub fn pg_notify(alloc: Global, channel: Text<'_>, payload: Text<'_>) -> Result<Command, AllocError>
     requires { IsValid (limited (command.PgNotify (noted (text_bytes channel) (text_bytes payload)))) }
     ensures { IfOk result (λ one. one ≡ limited (command.PgNotify (noted (text_bytes channel.entry) (text_bytes payload.entry)))) }
 {

@@ -24,8 +24,10 @@ mod token;
 mod verb;
 
 pub use bytes::{blanks, is_blank};
+pub use commands::pg_notify;
 pub use lexer::Lexer;
 pub use line_parsing::parse_line;
+pub use statement::Text;
 pub use texts::cut;
 pub use token::{Lexeme, Token};
 pub use verb::is_word;

@@ -1,4 +1,4 @@
-ghost use Rattle.std.specs.Prelude.{◌≡◌, ◌<◌, length, IfOk, IfSome, string_bytes};
+ghost use Rattle.std.specs.Prelude.{◌≡◌, length, IfOk, IfSome, string_bytes};
 ghost use Rattle.std.specs.List.{repeat, list_all};
 ghost use Rattle.std.specs.Str.{str_to_ascii_lowercase};
 ghost use Rattle.pgn_base.specs.Texts.{IsName, IsPayload};

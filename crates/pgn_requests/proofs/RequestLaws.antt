@@ -9,7 +9,7 @@ use Rattle.pgn_language.specs.Grammar.{ReadsAs, reading}
 use Rattle.pgn_language.proofs.GrammarLaws.{reading-computes, reads-computes}
 use Rattle.pgn_requests.specs.Texts.{bare}
 use Rattle.pgn_requests.specs.Reading as asked
-use Rattle.pgn_requests.specs.Reading.{body_of, IsGarbled, request_of, RequestIs}
+use Rattle.pgn_requests.specs.Reading.{body_of, IsGarbled, request_of}
 use Rattle.pgn_requests.specs.Laws.{EachHasRequest, OneRequest}
 
 both : (b : Bool) → b ≡ true → b ≡ false → ⊥

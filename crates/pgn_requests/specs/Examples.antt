@@ -1,6 +1,8 @@
 -- What examples of texts say.
 use Rattle.std.specs.Prelude.{◌≡◌, ℕ, false, ◌++◌, ◌∷◌, List}
+use Rattle.pgn_base.specs.declared.note.Note.{Note}
 use Rattle.pgn_base.specs.declared.command.Command.{Command}
+use Rattle.pgn_base.specs.declared.command.Command.TheVariants as command
 use Rattle.pgn_requests.specs.declared.complaint.Cause.{Cause}
 use Rattle.pgn_requests.specs.declared.request.Request.{Request}
 use Rattle.pgn_requests.specs.declared.request.Request.TheVariants.{Settles}
@@ -28,6 +30,10 @@ AsksValue text setting value = AsksSettled text (Sets setting value false)
 -- it is a line with this command
 abbrev pub AsksCommand : List ℕ → Command → Type 0
 AsksCommand text one = AsksFor text (commanded text one)
+
+-- it is a call of pg_notify with this channel and this payload
+abbrev pub AsksNote : List ℕ → List ℕ → List ℕ → Type 0
+AsksNote text channel payload = let note : Note = record { channel = channel; payload = payload } in AsksCommand text (command.PgNotify note)
 
 -- it is refused, and told why in these words
 abbrev pub AsksRefused : List ℕ → Cause → List ℕ → Type 0

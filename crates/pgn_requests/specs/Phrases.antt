@@ -3,15 +3,16 @@ use Rattle.std.specs.Prelude.{ℕ, zero, suc, ◌+◌, Bool, true, false, not, c
 use Rattle.std.specs.List.{prefix_len}
 use Rattle.std.specs.Str.{str_eq_ignore_ascii_case, str_to_ascii_lowercase, byte}
 use Rattle.pgn_base.specs.declared.limits.TheConstants.{NAME_BYTES_MAX}
+use Rattle.pgn_base.specs.declared.note.Note.{Note}
 use Rattle.pgn_base.specs.declared.command.Command.{Command}
 use Rattle.pgn_base.specs.declared.answers.Which.TheVariants.{ChannelEmpty}
 use Rattle.pgn_base.specs.declared.command.Command.TheVariants as command
 use Rattle.pgn_language.specs.Tokens.{Lexeme, Word, Quoted, Literal, Number, tokens}
-use Rattle.pgn_language.specs.Grammar.{Key, Name, Punct, fits_slot, cut, lexemes_of}
+use Rattle.pgn_language.specs.Grammar.{Key, Name, Punct, fits_slot, cut, lexemes_of, limited}
 use Rattle.pgn_requests.specs.declared.complaint.Cause.{Cause}
 use Rattle.pgn_requests.specs.declared.complaint.Cause.TheVariants as cause
 use Rattle.pgn_requests.specs.declared.complaint.Complaint.{Complaint}
-use Rattle.pgn_requests.specs.declared.complaint.Wording.TheVariants.{Plain, Refused}
+use Rattle.pgn_requests.specs.declared.complaint.Wording.TheVariants.{Plain, Called, Refused}
 use Rattle.pgn_requests.specs.declared.limits.TheConstants.{TOKENS_MAX}
 use Rattle.pgn_requests.specs.declared.request.Request.{Request}
 use Rattle.pgn_requests.specs.declared.request.Request.TheVariants.{Line, Settles, Discards}
@@ -179,6 +180,67 @@ select_asks text at lexemes =
     (cond (is_call (codes "pg_backend_pid") lexemes) (Settles settled.Process)
     (cond (is_all_of (codes "pg_listening_channels") lexemes) (commanded text command.ListeningChannels) (unread text at))))
 
+-- Calls of pg_notify with brackets around arguments, as drivers put values into a text.
+
+-- the tokens after this sign, if they begin with it
+abbrev pub after_sign : ℕ → List Lexeme → Option (List Lexeme)
+after_sign mark [] = None
+after_sign mark (a ∷ lexemes) = cond (fits_slot (Punct mark) a) (Some lexemes) None
+
+-- the tokens are this sign and no other
+abbrev pub is_one_sign : ℕ → List Lexeme → Bool
+is_one_sign mark (a ∷ []) = fits_slot (Punct mark) a
+is_one_sign mark lexemes = false
+
+-- the text of an argument, and the tokens after it
+pub record Argued : Type 0 where
+  pub text : List ℕ
+  pub rest : List Lexeme
+
+-- the argument that this token is, before these: a literal, or NULL for the empty text
+abbrev pub argued : Lexeme → List Lexeme → Option Argued
+argued (Literal text) rest = Some (record { text = text; rest = rest })
+argued (Word text) rest = cond (str_eq_ignore_ascii_case (codes "null") text) (Some (record { text = []; rest = rest })) None
+argued lexeme rest = None
+
+-- the argument between brackets that tokens begin with
+abbrev pub bracketed : List Lexeme → Option Argued
+bracketed (a ∷ b ∷ c ∷ lexemes) = cond (fits_slot (Punct (byte "(")) a && fits_slot (Punct (byte ")")) c) (argued b lexemes) None
+bracketed lexemes = None
+
+-- the argument without brackets that they begin with
+abbrev pub unbracketed : List Lexeme → Option Argued
+unbracketed [] = None
+unbracketed (a ∷ lexemes) = argued a lexemes
+
+-- the argument that they begin with
+abbrev pub argument_of : List Lexeme → Option Argued
+argument_of lexemes = elim (bracketed lexemes) [ Some one ↦ Some one | None ↦ unbracketed lexemes ]
+
+-- the notification of a call whose second argument and end these are
+abbrev pub second_of : List ℕ → List Lexeme → Option Note
+second_of channel lexemes = elim (argument_of lexemes) [
+  | None ↦ None
+  | Some payload ↦ cond (is_one_sign (byte ")") payload.rest) (Some (record { channel = channel; payload = payload.text })) None
+]
+
+-- the same, of its two arguments
+abbrev pub first_of : List Lexeme → Option Note
+first_of lexemes = elim (argument_of lexemes) [ None ↦ None | Some channel ↦ going (after_sign (byte ",") channel.rest) (second_of channel.text) None ]
+
+-- the notification of a call of pg_notify
+abbrev pub called : List Lexeme → Option Note
+called lexemes = going (after_two (codes "select") (codes "pg_notify") lexemes) (λ rest. going (after_sign (byte "(") rest) first_of None) None
+
+-- a notification is past a limit
+abbrev pub is_past_limit : Command → Bool
+is_past_limit (command.Invalid which) = true
+is_past_limit command = false
+
+-- the line that is such a call
+abbrev pub notifies : List ℕ → Note → Request
+notifies text note = let one : Command = limited (command.PgNotify note) in Line (one_line text) one (cond (is_past_limit one) Called Plain)
+
 -- Settings.
 
 -- the setting of this name among the last eight
@@ -251,9 +313,22 @@ abbrev pub given_asks : List ℕ → ℕ → Bool → Setting → Option (List �
 given_asks text at starts one None = unread text at
 given_asks text at starts one (Some value) = set_asks text at starts value one (accepted one value)
 
+-- nobody can change the setting
+abbrev pub is_fixed : Setting → Bool
+is_fixed setting.InHotStandby = true
+is_fixed setting.IntegerDatetimes = true
+is_fixed setting.IsSuperuser = true
+is_fixed setting.ServerEncoding = true
+is_fixed setting.ServerVersion = true
+is_fixed one = false
+
+-- a setting gets the value that it had at the start, if it can be changed
+abbrev pub back_asks : List ℕ → ℕ → Settled → Setting → Request
+back_asks text at back one = cond (is_fixed one) (refused (one_line text) at cause.Fixed (fixed one)) (Settles back)
+
 -- a setting gets the value that these tokens are, or its own where they are DEFAULT
 abbrev pub valued_asks : List ℕ → ℕ → Bool → List Lexeme → Setting → Request
-valued_asks text at starts lexemes one = cond (is_one (codes "default") lexemes) (Settles (settled.SetsBack one)) (given_asks text at starts one (value_of lexemes))
+valued_asks text at starts lexemes one = cond (is_one (codes "default") lexemes) (back_asks text at (settled.SetsBack one) one) (given_asks text at starts one (value_of lexemes))
 
 -- a name, TO and a value
 abbrev pub assigned_asks : List ℕ → ℕ → Bool → List Lexeme → Request
@@ -274,14 +349,14 @@ setting_asks text at lexemes =
     (going (after_two (codes "session") (codes "authorization") lexemes) (λ rest. valued_asks text at false rest setting.SessionAuthorization)
     (going (after_one (codes "session") lexemes) (λ rest. session_asks text at rest) (session_asks text at lexemes)))))
 
--- a setting is shown or reset
-abbrev pub named_settled : Bool → Setting → Settled
-named_settled true one = settled.Shows one
-named_settled false one = settled.Resets one
+-- a setting is shown, or reset
+abbrev pub named_settled : List ℕ → ℕ → Bool → Setting → Request
+named_settled text at true one = Settles (settled.Shows one)
+named_settled text at false one = back_asks text at (settled.Resets one) one
 
 -- a name of a setting that is shown or reset, and nothing else
 abbrev pub named_asks : List ℕ → ℕ → Bool → List Lexeme → Request
-named_asks text at shows (a ∷ []) = cond (is_name a) (with_setting text at (ident_text a) (λ one. Settles (named_settled shows one))) (unread text at)
+named_asks text at shows (a ∷ []) = cond (is_name a) (with_setting text at (ident_text a) (named_settled text at shows)) (unread text at)
 named_asks text at shows lexemes = unread text at
 
 -- after RESET
@@ -341,6 +416,10 @@ spread text = let at : ℕ = prefix_len is_before_equals text in cond (begins_eq
 abbrev pub few : List Lexeme → List Lexeme
 few lexemes = cond (nat_le (length lexemes) TOKENS_MAX) lexemes []
 
+-- what the tokens of a bare text ask for that the grammar refuses at this byte, or the call with brackets that they are
+abbrev pub calls_or_asks : List ℕ → ℕ → List Lexeme → Request
+calls_or_asks text at lexemes = elim (called lexemes) [ Some note ↦ notifies text note | None ↦ asks text at lexemes ]
+
 -- what a bare text asks for that the grammar refuses at this byte
 abbrev pub asked_of : List ℕ → ℕ → Request
-asked_of text at = asks text at (few (spread text))
+asked_of text at = calls_or_asks text at (few (spread text))

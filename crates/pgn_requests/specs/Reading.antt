@@ -1,5 +1,5 @@
 -- What a Query's body asks for.
-use Rattle.std.specs.Prelude.{◌≡◌, ℕ, Bool, true, false, ◌&&◌, cond, List, [], ◌∷◌, ◌++◌, Option, None, Some, codes, Contains, IsUtf8}
+use Rattle.std.specs.Prelude.{◌≡◌, ℕ, ◌&&◌, cond, List, [], ◌∷◌, ◌++◌, Option, None, Some, codes, Contains, IsUtf8}
 use Rattle.pgn_base.specs.declared.command.Command.{Command}
 use Rattle.pgn_base.specs.declared.command.Command.TheVariants as command
 use Rattle.pgn_language.specs.Tokens.{Lexeme, Wrong, Token, tokens}
@@ -10,7 +10,7 @@ use Rattle.pgn_requests.specs.declared.complaint.Wording.TheVariants.{Plain, Cal
 use Rattle.pgn_requests.specs.declared.request.Request.{Request}
 use Rattle.pgn_requests.specs.declared.request.Request.TheVariants.{Line}
 use Rattle.pgn_requests.specs.Texts.{bare, one_line}
-use Rattle.pgn_requests.specs.Phrases.{refused, is_key, asked_of}
+use Rattle.pgn_requests.specs.Phrases.{refused, is_key, is_past_limit, asked_of}
 
 -- the body of a Query with this text
 abbrev pub body_of : List ℕ → List ℕ
@@ -24,11 +24,6 @@ IsGarbled body = (text : List ℕ) → body ≡ body_of text → (Contains text 
 abbrev pub first_lexeme : List Token → Lexeme
 first_lexeme [] = Wrong
 first_lexeme (token ∷ tokens) = token.lexeme
-
--- a notification is past a limit
-abbrev pub is_past_limit : Command → Bool
-is_past_limit (command.Invalid which) = true
-is_past_limit command = false
 
 -- how the answer to a command is put
 abbrev pub worded : List ℕ → Command → Wording

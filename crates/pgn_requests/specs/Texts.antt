@@ -1,6 +1,6 @@
 -- The text of a query, without comments and line feeds.
-use Rattle.std.specs.Prelude.{ℕ, ◌+◌, ◌-◌, Bool, cond, ◌||◌, ◌==◌, List, [], ◌∷◌, ◌++◌, map, length, take}
-use Rattle.std.specs.List.{suffix_len}
+use Rattle.std.specs.Prelude.{ℕ, ◌+◌, ◌-◌, Bool, cond, ◌||◌, ◌==◌, List, [], ◌∷◌, ◌++◌, map, length, take, drop}
+use Rattle.std.specs.List.{prefix_len, suffix_len}
 use Rattle.pgn_language.specs.Tokens.{is_blank}
 use Rattle.pgn_requests.specs.declared.mode.Mode.{Mode}
 use Rattle.pgn_requests.specs.declared.mode.Mode.TheVariants.{Outside, Slash, Dash, Single, Double, Comment, Star, Open, Rest}
@@ -17,6 +17,10 @@ left depth = cond (depth == 0) Outside (Comment (depth - 1))
 abbrev pub commented : ℕ → ℕ → Mode
 commented depth b = cond (b == 42) (Star depth) (cond (b == 47) (Open depth) (Comment depth))
 
+-- a comment to the end of the line ends with this byte
+abbrev pub ends_line : ℕ → Bool
+ends_line b = b == 10 || b == 13
+
 -- where the next byte stands
 abbrev pub next_mode : Mode → ℕ → Mode
 next_mode Outside b = entered b
@@ -27,7 +31,7 @@ next_mode Double b = cond (b == 34) Outside Double
 next_mode (Comment depth) b = commented depth b
 next_mode (Star depth) b = cond (b == 47) (left depth) (commented depth b)
 next_mode (Open depth) b = cond (b == 42) (Comment (depth + 1)) (commented depth b)
-next_mode Rest b = cond (b == 10) Outside Rest
+next_mode Rest b = cond (ends_line b) Outside Rest
 
 -- what a byte outside gives: a line feed is a blank, and what may begin a comment is held back
 abbrev pub given : ℕ → List ℕ
@@ -47,7 +51,7 @@ mode_gives Double b = b ∷ []
 mode_gives (Comment depth) b = []
 mode_gives (Star depth) b = cond (b == 47) (left_gives depth) []
 mode_gives (Open depth) b = []
-mode_gives Rest b = cond (b == 10) (32 ∷ []) []
+mode_gives Rest b = cond (ends_line b) (32 ∷ []) []
 
 -- what the end of the text gives: what was held back, and a `/` for a comment that does not end
 abbrev pub end_gives : Mode → List ℕ
@@ -78,9 +82,13 @@ is_tail b = is_blank b || b == 59
 abbrev pub without_tail : List ℕ → List ℕ
 without_tail bytes = take (length bytes - suffix_len is_tail bytes) bytes
 
+-- bytes without the blanks and `;` at their front: the commands that end there are empty
+abbrev pub without_head : List ℕ → List ℕ
+without_head bytes = drop (prefix_len is_tail bytes) bytes
+
 -- what is read of a text
 abbrev pub bare : List ℕ → List ℕ
-bare text = without_tail (plain text)
+bare text = without_head (without_tail (plain text))
 
 -- a byte of one line
 abbrev pub unbroken : ℕ → ℕ

@@ -1,6 +1,7 @@
 -- Which values a setting can have, and what they become.
-use Rattle.std.specs.Prelude.{ℕ, Bool, not, cond, ◌||◌, ◌&&◌, nat_le, List, map, filter, length, bytes_eq, codes, Option, None, Some}
+use Rattle.std.specs.Prelude.{ℕ, Bool, not, cond, ◌||◌, ◌&&◌, nat_le, List, [], ◌∷◌, map, filter, length, bytes_eq, codes, Option, None, Some}
 use Rattle.std.specs.Char.{is_ascii_alphanumeric}
+use Rattle.std.specs.List.{list_any}
 use Rattle.std.specs.Str.{str_eq_ignore_ascii_case, str_to_ascii_lowercase}
 use Rattle.pgn_base.specs.declared.limits.TheConstants.{NAME_BYTES_MAX}
 use Rattle.pgn_language.specs.Tokens.{is_blank}
@@ -23,11 +24,54 @@ shown_byte b = cond (nat_le 32 b && nat_le b 126) b 63
 abbrev pub letters_of : List ℕ → List ℕ
 letters_of value = str_to_ascii_lowercase (filter is_ascii_alphanumeric value)
 
+-- the letters are one of these names
+abbrev pub is_among : List (List ℕ) → List ℕ → Bool
+is_among names letters = list_any (λ name. bytes_eq name letters) names
+
+-- the letters of the encodings that PostgreSQL knows beside UTF-8 and ASCII: by a number of ISO, as Latin, of Windows in two ways, and others
+abbrev pub iso_encodings : List (List ℕ)
+iso_encodings =
+    codes "iso88591" ∷ codes "iso88592" ∷ codes "iso88593" ∷ codes "iso88594" ∷ codes "iso88595" ∷ codes "iso88596" ∷
+    codes "iso88597" ∷ codes "iso88598" ∷ codes "iso88599" ∷ codes "iso885910" ∷ codes "iso885913" ∷ codes "iso885914" ∷
+    codes "iso885915" ∷ codes "iso885916" ∷ []
+
+abbrev pub latin_encodings : List (List ℕ)
+latin_encodings =
+    codes "latin1" ∷ codes "latin2" ∷ codes "latin3" ∷ codes "latin4" ∷ codes "latin5" ∷ codes "latin6" ∷ codes "latin7" ∷
+    codes "latin8" ∷ codes "latin9" ∷ codes "latin10" ∷ []
+
+abbrev pub win_encodings : List (List ℕ)
+win_encodings =
+    codes "win1250" ∷ codes "win1251" ∷ codes "win1252" ∷ codes "win1253" ∷ codes "win1254" ∷ codes "win1255" ∷ codes "win1256" ∷
+    codes "win1257" ∷ codes "win1258" ∷ codes "win866" ∷ codes "win874" ∷ codes "win932" ∷ codes "win936" ∷ codes "win949" ∷
+    codes "win950" ∷ []
+
+abbrev pub windows_encodings : List (List ℕ)
+windows_encodings =
+    codes "windows1250" ∷ codes "windows1251" ∷ codes "windows1252" ∷ codes "windows1253" ∷ codes "windows1254" ∷ codes "windows1255" ∷
+    codes "windows1256" ∷ codes "windows1257" ∷ codes "windows1258" ∷ codes "windows866" ∷ codes "windows874" ∷ codes "windows932" ∷
+    codes "windows936" ∷ codes "windows949" ∷ codes "windows950" ∷ []
+
+abbrev pub other_encodings : List (List ℕ)
+other_encodings =
+    codes "abc" ∷ codes "alt" ∷ codes "big5" ∷ codes "euccn" ∷ codes "eucjis2004" ∷ codes "eucjp" ∷ codes "euckr" ∷ codes "euctw" ∷
+    codes "gb18030" ∷ codes "gbk" ∷ codes "johab" ∷ codes "koi8" ∷ []
+
+abbrev pub more_encodings : List (List ℕ)
+more_encodings =
+    codes "koi8r" ∷ codes "koi8u" ∷ codes "mskanji" ∷ codes "muleinternal" ∷ codes "shiftjis" ∷ codes "shiftjis2004" ∷ codes "sjis" ∷
+    codes "tcvn" ∷ codes "tcvn5712" ∷ codes "uhc" ∷ codes "vscii" ∷ codes "win" ∷ []
+
+-- PostgreSQL knows an encoding by these letters
+abbrev pub is_encoding : List ℕ → Bool
+is_encoding letters = is_among iso_encodings letters || is_among latin_encodings letters || is_among win_encodings letters || is_among windows_encodings letters
+    || is_among other_encodings letters || is_among more_encodings letters
+
 -- an encoding by its letters
 abbrev pub encoding : List ℕ → Verdict
 encoding letters =
     cond (bytes_eq (codes "utf8") letters || bytes_eq (codes "unicode") letters) (Becomes (codes "UTF8"))
-    (cond (bytes_eq (codes "sqlascii") letters) (Becomes (codes "SQL_ASCII")) Unsupported)
+    (cond (bytes_eq (codes "sqlascii") letters) (Becomes (codes "SQL_ASCII")) (cond (is_encoding letters) Unsupported Invalid))
 
 -- the value in lower case without blanks
 abbrev pub closed_up : List ℕ → List ℕ

@@ -1,13 +1,15 @@
 ghost use Rattle.std.specs.Prelude.{◌≡◌, true, [], ◌∷◌, ◌++◌, codes};
+ghost use Rattle.pgn_base.specs.declared.answers.Which.TheVariants.{ChannelEmpty};
 ghost use Rattle.pgn_base.specs.declared.command.Command.TheVariants as command;
 ghost use Rattle.pgn_requests.specs.declared.complaint.Cause.TheVariants as cause;
-ghost use Rattle.pgn_requests.specs.declared.request.Request.TheVariants.{Discards};
+ghost use Rattle.pgn_requests.specs.declared.complaint.Wording.TheVariants.{Called};
+ghost use Rattle.pgn_requests.specs.declared.request.Request.TheVariants.{Line, Discards};
 ghost use Rattle.pgn_requests.specs.declared.setting.Setting.TheVariants as setting;
 ghost use Rattle.pgn_requests.specs.declared.settled.Settled.TheVariants as settled;
 ghost use Rattle.pgn_requests.specs.declared.verdict.Verdict.TheVariants.{Becomes, Invalid, Unchangeable, Unsupported};
 ghost use Rattle.pgn_requests.specs.Texts.{bare, one_line};
 ghost use Rattle.pgn_requests.specs.Values.{accepted};
-ghost use Rattle.pgn_requests.specs.Examples.{lines, AsksFor, AsksSettled, AsksValue, AsksCommand, AsksRefused, AsksNothing};
+ghost use Rattle.pgn_requests.specs.Examples.{lines, AsksFor, AsksSettled, AsksValue, AsksCommand, AsksNote, AsksRefused, AsksNothing};
 
 /// What is read of texts.
 pub fn bare_texts()
@@ -16,6 +18,7 @@ pub fn bare_texts()
     ensures comment_in_a_comment { bare (codes "LISTEN /* a /* b */ c */ d") ≡ codes "LISTEN   d" }
     ensures slash_star_slash { bare (codes "LISTEN /*/ a */ d") ≡ codes "LISTEN   d" }
     ensures line_comment { bare (lines (codes "LISTEN -- a /* ' b") (codes "c")) ≡ codes "LISTEN  c" }
+    ensures ended_by_a_return { bare (codes "-- a" ++ 13 ∷ codes "LISTEN c") ≡ codes "LISTEN c" }
     ensures line_feed { bare (lines (codes "LISTEN") (codes "c")) ≡ codes "LISTEN c" }
     // Between quotes nothing is taken out.
     ensures quoted { bare (codes "NOTIFY c, '/* ''--'") ≡ codes "NOTIFY c, '/* ''--'" }
@@ -24,6 +27,9 @@ pub fn bare_texts()
     // A comment that does not end leaves what is no token.
     ensures unended { bare (codes "LISTEN c /* d") ≡ codes "LISTEN c /" }
     ensures single_signs { bare (codes "a - b / c -") ≡ codes "a - b / c -" }
+    // Commands before it are empty.
+    ensures empty_before { bare (codes "; ;LISTEN c") ≡ codes "LISTEN c" }
+    ensures two_commands { bare (codes "LISTEN c;LISTEN d") ≡ codes "LISTEN c;LISTEN d" }
 {}
 
 /// Texts that are settled without the session, and others near them that are syntax errors.
@@ -42,6 +48,19 @@ pub fn constants()
     ensures close_one { AsksNothing (codes "CLOSE a") }
     ensures discard { AsksFor (codes "DISCARD ALL") Discards }
     ensures discard_plans { AsksNothing (codes "DISCARD PLANS") }
+{}
+
+/// Calls with brackets around arguments, and others near them.
+pub fn bracketed_calls()
+    ensures both { AsksNote (codes "SELECT pg_notify(('c'),('x'))") (codes "c") (codes "x") }
+    ensures one { AsksNote (codes "select pg_notify('c', ('it''s'))") (codes "c") (codes "it's") }
+    ensures null { AsksNote (codes "SELECT pg_notify(('c'),(NULL))") (codes "c") [] }
+    ensures past_a_limit { AsksFor (codes "SELECT pg_notify((''),('x'))") (Line (codes "SELECT pg_notify((''),('x'))") (command.Invalid ChannelEmpty) Called) }
+    ensures two_in_one { AsksNothing (codes "SELECT pg_notify(('c','x'))") }
+    ensures open { AsksNothing (codes "SELECT pg_notify(('c','x')") }
+    ensures one_too_many { AsksNothing (codes "SELECT pg_notify(('c'),('x')))") }
+    ensures nothing_in_it { AsksNothing (codes "SELECT pg_notify(('c'),())") }
+    ensures no_call { AsksNothing (codes "NOTIFY c, ('x')") }
 {}
 
 /// Transactions with modes.
@@ -78,6 +97,9 @@ pub fn assignments()
     ensures unknown { AsksRefused (codes "SET a TO b") cause.NoSetting (codes "unrecognized configuration parameter \"a\"") }
     ensures local { AsksRefused (codes "SET LOCAL timezone TO 'UTC'") cause.Unsupported (codes "SET LOCAL is not supported") }
     ensures fixed { AsksRefused (codes "SET is_superuser TO on") cause.Fixed (codes "parameter \"is_superuser\" cannot be changed") }
+    ensures fixed_reset { AsksRefused (codes "RESET is_superuser") cause.Fixed (codes "parameter \"is_superuser\" cannot be changed") }
+    ensures fixed_default { AsksRefused (codes "SET server_version TO DEFAULT") cause.Fixed (codes "parameter \"server_version\" cannot be changed") }
+    ensures fixed_shown { AsksSettled (codes "SHOW is_superuser") (settled.Shows setting.IsSuperuser) }
     ensures bad { AsksRefused (codes "SET intervalstyle TO a") cause.BadValue (codes "invalid value for parameter \"IntervalStyle\": \"a\"") }
     ensures unsupported { AsksRefused (codes "SET client_encoding TO latin1") cause.Unsupported (codes "client_encoding: \"latin1\" is not supported") }
 {}
@@ -88,6 +110,9 @@ pub fn values()
     ensures name { accepted setting.ApplicationName (9 ∷ codes "a") ≡ Becomes (codes "?a") }
     ensures encoding { accepted setting.ClientEncoding (codes "Unicode") ≡ Becomes (codes "UTF8") }
     ensures ascii { accepted setting.ClientEncoding (codes "SQL_ASCII") ≡ Becomes (codes "SQL_ASCII") }
+    ensures no_encoding { accepted setting.ClientEncoding (codes "nonsense") ≡ Invalid }
+    ensures windows { accepted setting.ClientEncoding (codes "Windows-1252") ≡ Unsupported }
+    ensures no_windows { accepted setting.ClientEncoding (codes "windows1259") ≡ Invalid }
     ensures latin { accepted setting.ClientEncoding (codes "LATIN1") ≡ Unsupported }
     ensures dates { accepted setting.DateStyle (codes "German") ≡ Becomes (codes "German, DMY") }
     ensures no_dates { accepted setting.DateStyle (codes "ISO ISO") ≡ Invalid }

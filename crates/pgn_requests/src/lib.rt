@@ -14,7 +14,9 @@ mod short_text;
 mod verdict;
 
 pub use complaint::{Cause, Complaint, Wording};
-pub use examples::{assignments, bare_texts, constants, transaction_modes, values};
+pub use examples::{
+    assignments, bare_texts, bracketed_calls, constants, transaction_modes, values,
+};
 pub use laws::one_request;
 pub use limits::TOKENS_MAX;
 pub use mode::Mode;

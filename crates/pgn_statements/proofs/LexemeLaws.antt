@@ -1,5 +1,5 @@
 -- Laws of tokens, up to one more than a text may have.
-use Rattle.std.proofs.Common.{◌≡◌, ℕ, ◌+◌, ◌<◌, ◌≤◌, true, false, inl, inr, List, [], ◌∷◌, ◌++◌, length, take, sym, ap, ◌∙◌, refl, subst, arith, append_assoc, length-append}
+use Rattle.std.proofs.Common.{◌≡◌, ℕ, ◌<◌, ◌≤◌, true, false, inl, inr, List, [], ◌∷◌, ◌++◌, length, take, sym, ap, ◌∙◌, refl, arith, append_assoc, length-append}
 use Rattle.std.specs.Prelude.{nat_le}
 use Rattle.std.proofs.lemmas.Bool.{cases_lt, false≢true}
 use Rattle.std.proofs.lemmas.Bool.Decides.{nat_tests}
@@ -10,19 +10,8 @@ use Rattle.pgn_command.specs.declared.token.Lexeme.{Lexeme}
 use Rattle.pgn_command.specs.declared.token.Lexeme.TheVariants as lexeme
 use Rattle.pgn_command.specs.Lexing.{shown, EndsAt}
 use Rattle.pgn_requests.specs.Phrases.{few}
-use Rattle.pgn_requests.specs.Reading.{first_lexeme}
 use Rattle.pgn_statements.specs.Lexemes.{meant, some_of}
 use Rattle.pgn_statements.specs.Steps.{ends}
-
--- the token that is read is the first
-pub first-shown : (one : Lexeme) (at next end : ℕ) (rest : List ℕ) → EndsAt one at rest end → meant one ≡ first_lexeme (shown one at (model.tokens_from next 0 rest))
-first-shown (lexeme.Word text) at next end rest e = refl
-first-shown (lexeme.Quoted inside) at next end rest e = refl
-first-shown (lexeme.Literal inside) at next end rest e = refl
-first-shown (lexeme.Number digits) at next end rest e = refl
-first-shown (lexeme.Sign sign) at next end rest e = refl
-first-shown lexeme.Wrong at next end rest e = refl
-first-shown lexeme.End at next end rest e = subst (λ (some : List ℕ). model.Wrong ≡ first_lexeme (model.tokens_from next 0 some)) (sym e.1) refl
 
 -- where the end is read no token is left
 pub end-shown : (at next end : ℕ) (rest : List ℕ) → EndsAt lexeme.End at rest end → lexemes_of (shown lexeme.End at (model.tokens_from next 0 rest)) ≡ []
@@ -47,16 +36,6 @@ token-shown (lexeme.Number digits) at tokens n = refl
 token-shown (lexeme.Sign sign) at tokens n = refl
 token-shown lexeme.Wrong at tokens n = refl
 token-shown lexeme.End at tokens n = absurd (false≢true (sym n))
-
--- a text has one token fewer after it
-pub fewer-shown : (one : Lexeme) (at : ℕ) (tokens : List model.Token) → ends one ≡ false → length (shown one at tokens) ≡ length tokens + 1
-fewer-shown (lexeme.Word text) at tokens n = omega arith
-fewer-shown (lexeme.Quoted inside) at tokens n = omega arith
-fewer-shown (lexeme.Literal inside) at tokens n = omega arith
-fewer-shown (lexeme.Number digits) at tokens n = omega arith
-fewer-shown (lexeme.Sign sign) at tokens n = omega arith
-fewer-shown lexeme.Wrong at tokens n = omega arith
-fewer-shown lexeme.End at tokens n = absurd (false≢true (sym n))
 
 -- what is left out of the front is left out of the whole
 pub take-front : {X : Type 0} (n : ℕ) (front back : List X) → take n (take n front ++ back) ≡ take n (front ++ back)

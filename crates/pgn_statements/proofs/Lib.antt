@@ -3,3 +3,4 @@ pub mod Utf8Laws
 pub mod LexemeLaws
 pub mod StepLaws
 pub mod AskLaws
+pub mod CallLaws

@@ -1,20 +1,15 @@
 -- Laws of a text without its comments.
-use Rattle.std.proofs.Common.{◌≡◌, ℕ, zero, suc, ◌+◌, ◌<◌, ◌≤◌, Bool, true, false, cond, ◌==◌, ◌||◌, ◌&&◌, inl, inr, List, [], ◌∷◌, ◌++◌, length, get_or, take, drop, sym, ap, ◌∙◌, refl, subst, arith, append_assoc, length-append, Contains}
-use Rattle.std.proofs.lemmas.Bool.{cases_Bool, eqb-true, and_parts, or_parts, false≢true}
-use Rattle.std.proofs.lemmas.List.{drop_more}
+use Rattle.std.proofs.Common.{◌≡◌, ℕ, zero, suc, ◌+◌, ◌-◌, ◌<◌, ◌≤◌, Bool, true, false, cond, ◌==◌, ◌||◌, ◌&&◌, inl, inr, List, [], ◌∷◌, ◌++◌, length, drop, get_or, sym, ap, ◌∙◌, refl, subst, arith, append_assoc, length-append, Contains, IsUtf8, IsCharBoundary, None, Some}
+use Rattle.std.proofs.lemmas.Bool.{cases_Bool, eqb-true, or_parts, false≢true}
 use Rattle.pgn_language.proofs.CleanTokens.{NoNul, nul-from, nul-none}
 use Rattle.pgn_requests.specs.declared.mode.Mode.{Mode}
 use Rattle.pgn_requests.specs.declared.mode.Mode.TheVariants.{Outside, Slash, Dash, Single, Double, Comment, Star, Open, Rest}
-use Rattle.pgn_requests.specs.Texts.{entered, commented, left, next_mode, given, left_gives, mode_gives, end_gives, plain_from, plain}
-use Rattle.std.specs.List.{list_all}
-use Rattle.pgn_statements.specs.Modes.{is_bland, is_break, is_calm}
-
--- one byte more of a text
-pub plain-step : (mode : Mode) (made bytes : List ℕ) (i : ℕ) → i < length bytes
-    → (made ++ mode_gives mode (get_or bytes i 0)) ++ plain_from (next_mode mode (get_or bytes i 0)) (drop (i + 1) bytes) ≡ made ++ plain_from mode (drop i bytes)
-plain-step mode made bytes i l =
-    append_assoc made (mode_gives mode (get_or bytes i 0)) (plain_from (next_mode mode (get_or bytes i 0)) (drop (i + 1) bytes))
-    ∙ ap (λ (some : List ℕ). made ++ plain_from mode some) (sym (drop_more bytes i 0 l))
+use Rattle.pgn_requests.specs.Texts.{is_tail, ends_line, entered, commented, left, next_mode, given, left_gives, mode_gives, end_gives, plain_from, plain}
+use Rattle.std.specs.List.{prefix_len}
+use Rattle.std.proofs.lemmas.Bool.Decides.{nat_tests}
+use Rattle.pgn_command.proofs.GapLaws.{ascii-boundary}
+use Rattle.memchr.specs.Find.{is_byte3, IsFirstByte, Nowhere, Passes}
+use Rattle.pgn_statements.specs.Modes.{byte_before, is_break, is_calm}
 
 -- the other of two
 pub pick_no : {A : Type 0} (x : Bool) (one other : A) → x ≡ false → cond x one other ≡ other
@@ -102,28 +97,10 @@ gives-entered : (b : ℕ) (bytes : List ℕ) → (b == 10) ≡ false → given b
 gives-entered b bytes n = by_byte (λ x. (x == 10) ≡ false → given x ++ held (entered x) ++ bytes ≡ x ∷ bytes) b
     (λ m. absurd (false≢true (sym m))) (λ m. refl) (λ m. refl) (λ m. refl) (λ m. refl) (λ m. refl) (λ o m. rw (other-given b o, other-entered b o) refl) n
 
--- bytes of which none begins a comment or is a line feed are calm, behind such a byte
-bland-calm_from : (before : ℕ) (bytes : List ℕ) → (before == 47) ≡ false → (before == 45) ≡ false → list_all is_bland bytes ≡ true → is_calm before bytes ≡ true
-bland-calm_from before [] slash dash all = refl
-bland-calm_from before (b ∷ bytes) slash dash all =
-    let parts = and_parts (is_bland b) (list_all is_bland bytes) all in
-    elim (cases_Bool (b == 10)) [
-      | inl e ↦ absurd (false≢true (sym (rw e refl) ∙ parts.0))
-      | inr e ↦ elim (cases_Bool (b == 47)) [
-        | inl f ↦ absurd (false≢true (sym (rw (e, f) refl) ∙ parts.0))
-        | inr f ↦ elim (cases_Bool (b == 45)) [
-          | inl h ↦ absurd (false≢true (sym (rw (e, f, h) refl) ∙ parts.0))
-          | inr h ↦ rw (e, slash, dash) (bland-calm_from b bytes f h parts.1)
-        ]
-      ]
-    ]
-
--- so is a text of such bytes
-pub bland-calm : (text : List ℕ) → list_all is_bland text ≡ true → is_calm 0 text ≡ true
-bland-calm text all = bland-calm_from 0 text refl refl all
-
--- the same, for the search of the check
-pub ruleset bland_laws = (bland-calm)
+-- neither of two
+pub or-none : (x y : Bool) → x ≡ false → y ≡ false → (x || y) ≡ false
+or-none true y e f = absurd (false≢true (sym e))
+or-none false y e f = f
 
 -- a byte that is a break, and one that is none
 calm-stop : (before b : ℕ) (bytes : List ℕ) → is_break before b ≡ true → is_calm before (b ∷ bytes) ≡ false
@@ -132,12 +109,71 @@ calm-stop before b bytes e = rw e refl
 calm-on : (before b : ℕ) (bytes : List ℕ) → is_break before b ≡ false → is_calm before (b ∷ bytes) ≡ is_calm b bytes
 calm-on before b bytes e = rw e refl
 
--- the same in the middle of a text
-pub calm-stop_at : (before : ℕ) (bytes : List ℕ) (i : ℕ) → i < length bytes → is_break before (get_or bytes i 0) ≡ true → is_calm before (drop i bytes) ≡ false
-calm-stop_at before bytes i l e = ap (is_calm before) (drop_more bytes i 0 l) ∙ calm-stop before (get_or bytes i 0) (drop (i + 1) bytes) e
+and-none : (x : Bool) → (x && false) ≡ false
+and-none true = refl
+and-none false = refl
 
-pub calm-on_at : (before : ℕ) (bytes : List ℕ) (i : ℕ) → i < length bytes → is_break before (get_or bytes i 0) ≡ false → is_calm before (drop i bytes) ≡ is_calm (get_or bytes i 0) (drop (i + 1) bytes)
-calm-on_at before bytes i l e = ap (is_calm before) (drop_more bytes i 0 l) ∙ calm-on before (get_or bytes i 0) (drop (i + 1) bytes) e
+-- a byte that is none of the three is no break, whatever stands before it
+none-break : (before b : ℕ) → is_byte3 10 42 45 b ≡ false → is_break before b ≡ false
+none-break before b n =
+    let first = or_parts (b == 10 || b == 42) (b == 45) n in
+    let second = or_parts (b == 10) (b == 42) first.0 in
+    rw (second.0, second.1, first.1) (or-none (before == 47 && false) (before == 45 && false) (and-none (before == 47)) (and-none (before == 45)))
+
+byte_before-later : (before : ℕ) (bytes : List ℕ) (n : ℕ) → byte_before before bytes (suc n) ≡ get_or bytes n 0
+byte_before-later before bytes n =
+    let some : (suc n == 0) ≡ false = grind (arith, nat_tests) in
+    pick_no (suc n == 0) before (get_or bytes (suc n - 1) 0) some ∙ ap (λ (k : ℕ). get_or bytes k 0) (let less : suc n - 1 ≡ n = omega arith in less)
+
+-- bytes behind another
+behind : (before b : ℕ) (bytes : List ℕ) (n : ℕ) → byte_before b bytes n ≡ byte_before before (b ∷ bytes) (suc n)
+behind before b bytes zero = sym (byte_before-later before (b ∷ bytes) zero)
+behind before b bytes (suc n) = byte_before-later b bytes n ∙ sym (byte_before-later before (b ∷ bytes) (suc n))
+
+-- bytes that are none of the three begin no comment, and go on as what stands behind them
+pub calm-skip : (before : ℕ) (bytes : List ℕ) (n : ℕ) → n ≤ length bytes → ((k : ℕ) → k < n → is_byte3 10 42 45 (get_or bytes k 0) ≡ false)
+    → is_calm before bytes ≡ is_calm (byte_before before bytes n) (drop n bytes)
+calm-skip before bytes zero l none = refl
+calm-skip before [] (suc n) l none = absurd (omega arith)
+calm-skip before (b ∷ bytes) (suc n) l none =
+    let here : is_byte3 10 42 45 b ≡ false = none 0 (omega arith) in
+    calm-on before b bytes (none-break before b here) ∙ calm-skip b bytes n (omega arith) (λ k m. none (suc k) (omega (arith, m)))
+    ∙ ap (λ (c : ℕ). is_calm c (drop n bytes)) (behind before b bytes n)
+
+-- where one of the three stands, the text is calm if it is no break and what stands behind it is calm
+pub calm-at : (before : ℕ) (bytes : List ℕ) (n : ℕ) → n < length bytes → is_calm before (drop n bytes) ≡ cond (is_break before (get_or bytes n 0)) false (is_calm (get_or bytes n 0) (drop (suc n) bytes))
+calm-at before [] n l = absurd (omega arith)
+calm-at before (b ∷ bytes) zero l = refl
+calm-at before (b ∷ bytes) (suc n) l = calm-at before bytes n (omega (arith, l))
+
+-- behind all of them nothing is left
+pub calm-end : (before : ℕ) (bytes : List ℕ) → is_calm before (drop (length bytes) bytes) ≡ true
+calm-end before [] = refl
+calm-end before (b ∷ bytes) = calm-end before bytes
+
+-- where the search found nothing, none of the three stands
+nowhere-none : (bytes : List ℕ) (n : ℕ) → Nowhere (Passes (is_byte3 10 42 45) bytes) 0 n → (k : ℕ) → k < n → is_byte3 10 42 45 (get_or bytes k 0) ≡ false
+nowhere-none bytes n h k l = elim (cases_Bool (is_byte3 10 42 45 (get_or bytes k 0))) [ inl e ↦ absurd (h k (omega arith) l e) | inr e ↦ e ]
+
+-- up to the first of the three a text is calm, and it goes on behind it if this is no break
+pub calm-step : (before : ℕ) (bytes : List ℕ) (at : ℕ) → IsFirstByte (is_byte3 10 42 45) bytes (Some at) → is_break (byte_before before bytes at) (get_or bytes at 0) ≡ false
+    → is_calm before bytes ≡ is_calm (get_or bytes at 0) (drop (at + 1) bytes)
+calm-step before bytes at h e =
+    let l : at < length bytes = h.0.high in
+    calm-skip before bytes at (omega (arith, l)) (nowhere-none bytes at h.0.before) ∙ calm-at (byte_before before bytes at) bytes at l ∙ pick_no (is_break (byte_before before bytes at) (get_or bytes at 0)) false _ e
+    ∙ ap (λ (k : ℕ). is_calm (get_or bytes at 0) (drop k bytes)) (let next : suc at ≡ at + 1 = omega arith in next)
+
+-- with a break it is not calm
+pub calm-broken : (before : ℕ) (bytes : List ℕ) (at : ℕ) → IsFirstByte (is_byte3 10 42 45) bytes (Some at) → is_break (byte_before before bytes at) (get_or bytes at 0) ≡ true → is_calm before bytes ≡ false
+calm-broken before bytes at h e =
+    let l : at < length bytes = h.0.high in
+    let first : is_calm before bytes ≡ cond (is_break (byte_before before bytes at) (get_or bytes at 0)) false (is_calm (get_or bytes at 0) (drop (suc at) bytes)) =
+    calm-skip before bytes at (omega (arith, l)) (nowhere-none bytes at h.0.before) ∙ calm-at (byte_before before bytes at) bytes at l in
+    first ∙ ap (λ (b : Bool). cond b false (is_calm (get_or bytes at 0) (drop (suc at) bytes))) e
+
+-- without one of the three it is calm
+pub calm-whole : (before : ℕ) (bytes : List ℕ) → IsFirstByte (is_byte3 10 42 45) bytes None → is_calm before bytes ≡ true
+calm-whole before bytes h = calm-skip before bytes (length bytes) (omega arith) (nowhere-none bytes (length bytes) h) ∙ calm-end (byte_before before bytes (length bytes)) bytes
 
 -- a text that goes on so is not changed
 outside-plain : (b : ℕ) (bytes : List ℕ) → (b == 10) ≡ false → plain_from (entered b) bytes ≡ held (entered b) ++ bytes → given b ++ plain_from (entered b) bytes ≡ b ∷ bytes
@@ -251,7 +287,7 @@ room-step (Open depth) b = elim (cases_Bool (b == 42)) [
   | inl e ↦ subst (λ (x : ℕ). Within (mode_gives (Open depth) x) (next_mode (Open depth) x) 2) (sym (eqb-true b 42 e)) (omega arith)
   | inr e ↦ omega (arith, ap room (pick_no (b == 42) (Comment (depth + 1)) (commented depth b) e), room-commented depth b)
 ]
-room-step Rest b = elim (cases_Bool (b == 10)) [ inl e ↦ rw e (omega arith) | inr e ↦ rw e (omega arith) ]
+room-step Rest b = elim (cases_Bool (ends_line b)) [ inl e ↦ rw e (omega arith) | inr e ↦ rw e (omega arith) ]
 
 pub plain-length : (mode : Mode) (bytes : List ℕ) → length (plain_from mode bytes) ≤ room mode + length bytes
 plain-length mode [] = omega (arith, room-end mode)
@@ -288,7 +324,7 @@ nul-gives Double b n = (n, tt)
 nul-gives (Comment depth) b n = tt
 nul-gives (Star depth) b n = elim (cases_Bool (b == 47)) [ inl e ↦ rw e (elim (cases_Bool (depth == 0)) [ inl f ↦ rw f (solid 32 (omega arith)) | inr f ↦ rw f tt ]) | inr e ↦ rw e tt ]
 nul-gives (Open depth) b n = tt
-nul-gives Rest b n = elim (cases_Bool (b == 10)) [ inl e ↦ rw e (solid 32 (omega arith)) | inr e ↦ rw e tt ]
+nul-gives Rest b n = elim (cases_Bool (ends_line b)) [ inl e ↦ rw e (solid 32 (omega arith)) | inr e ↦ rw e tt ]
 
 nul-end : (mode : Mode) → NoNul (end_gives mode)
 nul-end Outside = tt
@@ -309,10 +345,20 @@ plain-nul mode (b ∷ bytes) h = nul-both (mode_gives mode b) (plain_from (next_
 pub plain-clean : (text : List ℕ) → (Contains text 0 → ⊥) → Contains (plain text) 0 → ⊥
 plain-clean text h = nul-none (plain text) (plain-nul Outside text (nul-from text h))
 
-take-nul : (n : ℕ) (bytes : List ℕ) → NoNul bytes → NoNul (take n bytes)
-take-nul zero bytes h = tt
-take-nul (suc n) [] h = tt
-take-nul (suc n) (b ∷ bytes) h = (h.0, take-nul n bytes h.1)
+-- what is left behind some bytes has no zero byte either
+pub nul-drop : (n : ℕ) (bytes : List ℕ) → NoNul bytes → NoNul (drop n bytes)
+nul-drop zero bytes h = h
+nul-drop (suc n) [] h = tt
+nul-drop (suc n) (b ∷ bytes) h = nul-drop n bytes h.1
 
-pub take-clean : (n : ℕ) (text : List ℕ) → (Contains text 0 → ⊥) → Contains (take n text) 0 → ⊥
-take-clean n text h = nul-none (take n text) (take-nul n text (nul-from text h))
+-- a text without a zero byte has none behind its first bytes
+pub drop-clean : (n : ℕ) (bytes : List ℕ) → (Contains bytes 0 → ⊥) → Contains (drop n bytes) 0 → ⊥
+drop-clean n bytes h = nul-none (drop n bytes) (nul-drop n bytes (nul-from bytes h))
+
+-- a blank and a `;` are ASCII bytes
+tail-ascii : (b : ℕ) → is_tail b ≡ true → b < 128
+tail-ascii b h = grind (arith, nat_tests)
+
+-- behind those at the front a character begins
+pub head-boundary : (bytes : List ℕ) → IsUtf8 bytes → IsCharBoundary bytes (prefix_len is_tail bytes)
+head-boundary bytes u = ascii-boundary is_tail tail-ascii bytes u

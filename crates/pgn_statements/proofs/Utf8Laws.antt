@@ -12,8 +12,8 @@ use Rattle.pgn_language.proofs.TokenLaws.{cut-longest}
 use Rattle.pgn_requests.specs.Values.{shown_byte}
 use Rattle.pgn_requests.specs.declared.mode.Mode.{Mode}
 use Rattle.pgn_requests.specs.declared.mode.Mode.TheVariants.{Outside, Slash, Dash, Single, Double, Comment, Star, Open, Rest}
-use Rattle.pgn_requests.specs.Texts.{commented, left, next_mode, given, mode_gives, end_gives, plain_from, plain, unbroken}
-use Rattle.pgn_statements.proofs.PlainLaws.{held, Other, other-given, other-entered, other-commented, pick_no, slash-gives, slash-next, dash-gives, dash-next}
+use Rattle.pgn_requests.specs.Texts.{commented, left, next_mode, given, mode_gives, end_gives, plain_from, plain, ends_line, unbroken}
+use Rattle.pgn_statements.proofs.PlainLaws.{or-none, held, Other, other-given, other-entered, other-commented, pick_no, slash-gives, slash-next, dash-gives, dash-next}
 
 -- one ASCII byte
 one_byte : (b : ℕ) → b < 128 → IsUtf8 (b ∷ [])
@@ -40,7 +40,7 @@ gives-text (Star depth) b l = elim (cases_Bool (b == 47)) [
   | inr e ↦ rw e IsUtf8-nil
 ]
 gives-text (Open depth) b l = IsUtf8-nil
-gives-text Rest b l = elim (cases_Bool (b == 10)) [ inl e ↦ rw e (one_byte 32 (omega arith)) | inr e ↦ rw e IsUtf8-nil ]
+gives-text Rest b l = elim (cases_Bool (ends_line b)) [ inl e ↦ rw e (one_byte 32 (omega arith)) | inr e ↦ rw e IsUtf8-nil ]
 
 end-text : (mode : Mode) → IsUtf8 (end_gives mode)
 end-text Outside = IsUtf8-nil
@@ -118,27 +118,27 @@ kept Double bytes = bytes
 kept mode bytes = []
 
 -- such a byte gives itself or nothing
-high-gives : (mode : Mode) (b : ℕ) → Other b → mode_gives mode b ≡ held mode ++ kept mode (b ∷ [])
-high-gives Outside b o = other-given b o
-high-gives Slash b o = slash-gives b o.star ∙ ap (λ (some : List ℕ). 47 ∷ some) (other-given b o)
-high-gives Dash b o = dash-gives b o.dash ∙ ap (λ (some : List ℕ). 45 ∷ some) (other-given b o)
-high-gives Single b o = refl
-high-gives Double b o = refl
-high-gives (Comment depth) b o = refl
-high-gives (Star depth) b o = rw o.slash refl
-high-gives (Open depth) b o = refl
-high-gives Rest b o = rw o.feed refl
+high-gives : (mode : Mode) (b : ℕ) → Other b → ends_line b ≡ false → mode_gives mode b ≡ held mode ++ kept mode (b ∷ [])
+high-gives Outside b o n = other-given b o
+high-gives Slash b o n = slash-gives b o.star ∙ ap (λ (some : List ℕ). 47 ∷ some) (other-given b o)
+high-gives Dash b o n = dash-gives b o.dash ∙ ap (λ (some : List ℕ). 45 ∷ some) (other-given b o)
+high-gives Single b o n = refl
+high-gives Double b o n = refl
+high-gives (Comment depth) b o n = refl
+high-gives (Star depth) b o n = rw o.slash refl
+high-gives (Open depth) b o n = refl
+high-gives Rest b o n = rw n refl
 
-high-next : (mode : Mode) (b : ℕ) → Other b → next_mode mode b ≡ settled mode
-high-next Outside b o = other-entered b o
-high-next Slash b o = slash-next b o.star ∙ other-entered b o
-high-next Dash b o = dash-next b o.dash ∙ other-entered b o
-high-next Single b o = rw o.single refl
-high-next Double b o = rw o.double refl
-high-next (Comment depth) b o = other-commented depth b o
-high-next (Star depth) b o = let first : next_mode (Star depth) b ≡ commented depth b = pick_no (b == 47) (left depth) (commented depth b) o.slash in first ∙ other-commented depth b o
-high-next (Open depth) b o = let first : next_mode (Open depth) b ≡ commented depth b = pick_no (b == 42) (Comment (depth + 1)) (commented depth b) o.star in first ∙ other-commented depth b o
-high-next Rest b o = rw o.feed refl
+high-next : (mode : Mode) (b : ℕ) → Other b → ends_line b ≡ false → next_mode mode b ≡ settled mode
+high-next Outside b o n = other-entered b o
+high-next Slash b o n = slash-next b o.star ∙ other-entered b o
+high-next Dash b o n = dash-next b o.dash ∙ other-entered b o
+high-next Single b o n = rw o.single refl
+high-next Double b o n = rw o.double refl
+high-next (Comment depth) b o n = other-commented depth b o
+high-next (Star depth) b o n = let first : next_mode (Star depth) b ≡ commented depth b = pick_no (b == 47) (left depth) (commented depth b) o.slash in first ∙ other-commented depth b o
+high-next (Open depth) b o n = let first : next_mode (Open depth) b ≡ commented depth b = pick_no (b == 42) (Comment (depth + 1)) (commented depth b) o.star in first ∙ other-commented depth b o
+high-next Rest b o n = rw n refl
 
 -- there nothing is held back
 settled-held : (mode : Mode) → held (settled mode) ≡ []
@@ -190,8 +190,9 @@ run-on : (mode : Mode) (bytes rest : List ℕ) → AreHigh bytes → plain_from 
 run-on mode [] rest h = ap (λ (some : List ℕ). some ++ plain_from (settled mode) rest) (sym (kept-nil mode))
 run-on mode (b ∷ bytes) rest h =
     let o : Other b = other-high b h.0 in
-    let first : mode_gives (settled mode) b ≡ kept (settled mode) (b ∷ []) = high-gives (settled mode) b o ∙ ap (λ (some : List ℕ). some ++ kept (settled mode) (b ∷ [])) (settled-held mode) in
-    let next : next_mode (settled mode) b ≡ settled mode = high-next (settled mode) b o ∙ settled-twice mode in
+    let n : ends_line b ≡ false = or-none (b == 10) (b == 13) o.feed (differs b 13 (omega (arith, h.0))) in
+    let first : mode_gives (settled mode) b ≡ kept (settled mode) (b ∷ []) = high-gives (settled mode) b o n ∙ ap (λ (some : List ℕ). some ++ kept (settled mode) (b ∷ [])) (settled-held mode) in
+    let next : next_mode (settled mode) b ≡ settled mode = high-next (settled mode) b o n ∙ settled-twice mode in
     let whole : kept (settled mode) (b ∷ bytes) ≡ kept (settled mode) (b ∷ []) ++ kept (settled mode) bytes = kept-cons (settled mode) b bytes ∙ ap (λ (m : Mode). kept (settled mode) (b ∷ []) ++ kept m bytes) (settled-twice mode) in
     ap (λ (some : List ℕ). some ++ plain_from (next_mode (settled mode) b) (bytes ++ rest)) first
     ∙ ap (λ (m : Mode). kept (settled mode) (b ∷ []) ++ plain_from m (bytes ++ rest)) next
@@ -203,8 +204,9 @@ run-on mode (b ∷ bytes) rest h =
 run-first : (mode : Mode) (b : ℕ) (bytes rest : List ℕ) → AreHigh (b ∷ bytes) → plain_from mode ((b ∷ bytes) ++ rest) ≡ held mode ++ (kept mode (b ∷ bytes) ++ plain_from (settled mode) rest)
 run-first mode b bytes rest h =
     let o : Other b = other-high b h.0 in
-    ap (λ (some : List ℕ). some ++ plain_from (next_mode mode b) (bytes ++ rest)) (high-gives mode b o)
-    ∙ ap (λ (m : Mode). (held mode ++ kept mode (b ∷ [])) ++ plain_from m (bytes ++ rest)) (high-next mode b o)
+    let n : ends_line b ≡ false = or-none (b == 10) (b == 13) o.feed (differs b 13 (omega (arith, h.0))) in
+    ap (λ (some : List ℕ). some ++ plain_from (next_mode mode b) (bytes ++ rest)) (high-gives mode b o n)
+    ∙ ap (λ (m : Mode). (held mode ++ kept mode (b ∷ [])) ++ plain_from m (bytes ++ rest)) (high-next mode b o n)
     ∙ ap (λ (some : List ℕ). (held mode ++ kept mode (b ∷ [])) ++ some) (run-on mode bytes rest h.1)
     ∙ append_assoc (held mode) (kept mode (b ∷ [])) (kept (settled mode) bytes ++ plain_from (settled mode) rest)
     ∙ ap (λ (some : List ℕ). held mode ++ some) (sym (append_assoc (kept mode (b ∷ [])) (kept (settled mode) bytes) (plain_from (settled mode) rest)) ∙ ap (λ (some : List ℕ). some ++ plain_from (settled mode) rest) (sym (kept-cons mode b bytes)))

@@ -2,5 +2,7 @@
 pub mod Modes
 -- the tokens of the code
 pub mod Lexemes
+-- calls of pg_notify as the code has them
+pub mod Calls
 -- what the steps of the reading give
 pub mod Steps

@@ -1,5 +1,5 @@
 -- What the bytes of a text do to where the next of them stands.
-use Rattle.std.specs.Prelude.{ℕ, Bool, true, false, cond, not, ◌&&◌, ◌||◌, ◌==◌, List, [], ◌∷◌}
+use Rattle.std.specs.Prelude.{ℕ, Bool, true, false, cond, ◌&&◌, ◌||◌, ◌==◌, ◌-◌, List, [], ◌∷◌, slice_index}
 use Rattle.pgn_requests.specs.declared.mode.Mode.{Mode}
 use Rattle.pgn_requests.specs.declared.mode.Mode.TheVariants.{Comment, Star, Open}
 
@@ -19,6 +19,6 @@ abbrev pub is_calm : ℕ → List ℕ → Bool
 is_calm before [] = true
 is_calm before (b ∷ bytes) = cond (is_break before b) false (is_calm b bytes)
 
--- a byte that no comment begins with, and no line feed
-abbrev pub is_bland : ℕ → Bool
-is_bland b = not (b == 10 || b == 47 || b == 45)
+-- the byte before one of some, which stand behind this one
+abbrev pub byte_before : ℕ → List ℕ → ℕ → ℕ
+byte_before before bytes at = cond (at == 0) before (slice_index bytes (at - 1))

@@ -1,5 +1,5 @@
 -- What the steps of the reading give.
-use Rattle.std.specs.Prelude.{◌≡◌, ℕ, Bool, true, false, List, ◌++◌, Option, MatchOption, Contains, IsUtf8}
+use Rattle.std.specs.Prelude.{◌≡◌, ℕ, Bool, true, false, List, ◌++◌, Option, MatchOption, Contains, IsUtf8, Result, IfOk}
 use Rattle.pgn_base.specs.declared.command.Command.{Command}
 use Rattle.pgn_language.specs.Grammar.{ReadsAs}
 use Rattle.pgn_command.specs.declared.token.Lexeme.{Lexeme}
@@ -8,6 +8,10 @@ use Rattle.pgn_requests.specs.declared.request.Request.{Request}
 use Rattle.pgn_requests.specs.Reading.{body_of, IsGarbled, request_of}
 use Rattle.pgn_statements.specs.declared.body.Body.{Body}
 use Rattle.pgn_statements.specs.declared.body.Body.TheVariants as body
+
+-- an answer that is no refusal is this request
+abbrev pub Gives : {E : Type 0} → Result Request E → Request → Type 0
+Gives result told = IfOk result (λ request. request ≡ told)
 
 -- a bare text asks for this
 abbrev pub Asks : List ℕ → Request → Type 0

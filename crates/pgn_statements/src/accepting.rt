@@ -1,8 +1,6 @@
-ghost use Rattle.std.specs.Prelude.{◌≡◌, ◌≤◌, not, length, map, filter, option_map, IfOk, IfSome, string_bytes};
+ghost use Rattle.std.specs.Prelude.{◌≡◌, ◌≤◌, not, length, map, filter, option_map, IfOk, IfSome};
 ghost use Rattle.std.specs.Char.{is_ascii_alphanumeric};
-ghost use Rattle.pgn_base.specs.declared.limits.TheConstants.{NAME_BYTES_MAX};
 ghost use Rattle.pgn_language.specs.Tokens.{is_blank};
-ghost use Rattle.pgn_language.specs.Grammar as grammar;
 ghost use Rattle.pgn_requests.specs.declared.setting.Setting.TheVariants as setting;
 ghost use Rattle.pgn_requests.specs.Values.{accepted, chosen, closed_up, encoding, letters_of, only_on, shown_byte};
 
@@ -10,6 +8,7 @@ use crate::choices::{
     date_style, float_digits, interval_style, is_text, isolation, message_level, says_off, says_on,
     switch,
 };
+use crate::encodings::is_encoding;
 use pgn_command::{cut, is_blank};
 use pgn_requests::{SHORT_BYTES_MAX, Setting, ShortText, Verdict};
 use std::alloc::{AllocError, Global};
@@ -105,7 +104,10 @@ fn encoding_of(alloc: Global, letters: &[u8]) -> Result<Verdict, AllocError>
     if is_text(letters, "sqlascii") {
         return becomes(alloc, "SQL_ASCII");
     }
-    Ok(Verdict::Unsupported)
+    if is_encoding(letters) {
+        return Ok(Verdict::Unsupported);
+    }
+    Ok(Verdict::Invalid)
 }
 
 // The letters and digits in lower case.

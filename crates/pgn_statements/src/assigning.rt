@@ -1,8 +1,10 @@
 ghost use Rattle.std.specs.Prelude.{◌≡◌, IfOk, Some, string_bytes};
 ghost use Rattle.pgn_requests.specs.declared.complaint.Cause.TheVariants as cause;
+ghost use Rattle.pgn_requests.specs.declared.settled.Settled.TheVariants as settled;
 ghost use Rattle.pgn_requests.specs.Texts.{one_line};
 ghost use Rattle.pgn_requests.specs.Phrases as told;
 ghost use Rattle.pgn_statements.specs.Lexemes.{meant, all_meant};
+ghost use Rattle.pgn_statements.specs.Steps.{Gives};
 
 use crate::accepting::accepted;
 use crate::complaining::{bad_value, fixed, no_setting, refused, unsupported};
@@ -15,6 +17,13 @@ use pgn_quotes::unquoted;
 use pgn_requests::{Cause, Request, Setting, Settled, ShortText, Verdict};
 use std::alloc::{AllocError, Global};
 
+// A setting that gets a value, and whether this comes of the start-up.
+#[derive(Clone, Copy)]
+struct Target {
+    setting: Setting,
+    starts: bool,
+}
+
 /// After SET.
 pub fn set(
     alloc: Global,
@@ -22,20 +31,38 @@ pub fn set(
     at: u32,
     lexemes: &[Lexeme<'_>],
 ) -> Result<Request, AllocError>
-    ensures { IfOk result (λ request. request ≡ told.setting_asks text.now at (all_meant lexemes.now)) }
+    ensures { Gives result (told.setting_asks text.now at (all_meant lexemes.now)) }
 {
     if after_one(lexemes, "local").is_some() {
         let words = ShortText::new(alloc, "SET LOCAL is not supported")?;
         return refused(alloc, text, at, Cause::Unsupported, words);
     }
     if let Some(rest) = after_one(lexemes, "names") {
-        return valued(alloc, text, at, false, rest, Setting::ClientEncoding);
+        return valued(
+            alloc,
+            text,
+            at,
+            rest,
+            Target {
+                setting: Setting::ClientEncoding,
+                starts: false,
+            },
+        );
     }
     if let Some(rest) = after_one(lexemes, "startup") {
         return assigned(alloc, text, at, true, rest);
     }
     if let Some(rest) = after_two(lexemes, "session", "authorization") {
-        return valued(alloc, text, at, false, rest, Setting::SessionAuthorization);
+        return valued(
+            alloc,
+            text,
+            at,
+            rest,
+            Target {
+                setting: Setting::SessionAuthorization,
+                starts: false,
+            },
+        );
     }
     match after_one(lexemes, "session") {
         Some(rest) => set_for_session(alloc, text, at, rest),
@@ -50,10 +77,19 @@ fn set_for_session(
     at: u32,
     lexemes: &[Lexeme<'_>],
 ) -> Result<Request, AllocError>
-    ensures { IfOk result (λ request. request ≡ told.session_asks text.now at (all_meant lexemes.now)) }
+    ensures { Gives result (told.session_asks text.now at (all_meant lexemes.now)) }
 {
     match after_two(lexemes, "time", "zone") {
-        Some(rest) => valued(alloc, text, at, false, rest, Setting::TimeZone),
+        Some(rest) => valued(
+            alloc,
+            text,
+            at,
+            rest,
+            Target {
+                setting: Setting::TimeZone,
+                starts: false,
+            },
+        ),
         None => assigned(alloc, text, at, false, lexemes),
     }
 }
@@ -66,13 +102,13 @@ fn assigned(
     starts: bool,
     lexemes: &[Lexeme<'_>],
 ) -> Result<Request, AllocError>
-    ensures { IfOk result (λ request. request ≡ told.assigned_asks text.now at starts (all_meant lexemes.now)) }
+    ensures { Gives result (told.assigned_asks text.now at starts (all_meant lexemes.now)) }
 {
     match lexemes {
         [name, to, value @ ..] if is_name(name) && is_key(to, "to") => {
             let name = ident_text(alloc, name)?;
             match setting_named(name.as_str()) {
-                Some(setting) => valued(alloc, text, at, starts, value, setting),
+                Some(setting) => valued(alloc, text, at, value, Target { setting, starts }),
                 None => unknown(alloc, text, at, name.as_str()),
             }
         }
@@ -85,18 +121,18 @@ fn valued(
     alloc: Global,
     text: &str,
     at: u32,
-    starts: bool,
     lexemes: &[Lexeme<'_>],
-    setting: Setting,
+    target: Target,
 ) -> Result<Request, AllocError>
-    ensures { IfOk result (λ request. request ≡ told.valued_asks text.now at starts (all_meant lexemes.now) setting) }
+    ensures { Gives result (told.valued_asks text.now at target.starts (all_meant lexemes.now) target.setting) }
 {
+    let setting = target.setting;
     if is_one(lexemes, "default") {
-        return Ok(Request::Settles(Settled::SetsBack { setting }));
+        return set_back(alloc, text, at, setting, Settled::SetsBack { setting });
     }
     let mut value = String::new(alloc);
     if put_values(alloc, &mut value, lexemes)? {
-        sets(alloc, text, at, starts, value.as_str(), setting)
+        sets(alloc, text, at, value.as_str(), target)
     } else {
         unread(alloc, text, at)
     }
@@ -107,12 +143,12 @@ fn sets(
     alloc: Global,
     text: &str,
     at: u32,
-    starts: bool,
     value: &str,
-    setting: Setting,
+    target: Target,
 ) -> Result<Request, AllocError>
-    ensures { IfOk result (λ request. request ≡ told.given_asks text.now at starts setting (Some value.now)) }
+    ensures { Gives result (told.given_asks text.now at target.starts target.setting (Some value.now)) }
 {
+    let Target { setting, starts } = target;
     match accepted(alloc, setting, value)? {
         Verdict::Becomes(value) => Ok(Request::Settles(Settled::Sets {
             setting,
@@ -123,15 +159,50 @@ fn sets(
             let words = bad_value(alloc, setting, value)?;
             refused(alloc, text, at, Cause::BadValue, words)
         }
-        Verdict::Unchangeable => {
-            let words = fixed(alloc, setting)?;
-            refused(alloc, text, at, Cause::Fixed, words)
-        }
+        Verdict::Unchangeable => unchangeable(alloc, text, at, setting),
         Verdict::Unsupported => {
             let words = unsupported(alloc, setting, value)?;
             refused(alloc, text, at, Cause::Unsupported, words)
         }
     }
+}
+
+// A setting gets the value that it had at the start, if it can be changed.
+fn set_back(
+    alloc: Global,
+    text: &str,
+    at: u32,
+    setting: Setting,
+    back: Settled,
+) -> Result<Request, AllocError>
+    ensures { Gives result (told.back_asks text.now at back setting) }
+{
+    if is_fixed(setting) {
+        return unchangeable(alloc, text, at, setting);
+    }
+    Ok(Request::Settles(back))
+}
+
+// Nobody can change the setting.
+fn is_fixed(setting: Setting) -> bool
+    ensures { result ≡ told.is_fixed setting }
+{
+    matches!(
+        setting,
+        Setting::InHotStandby
+            | Setting::IntegerDatetimes
+            | Setting::IsSuperuser
+            | Setting::ServerEncoding
+            | Setting::ServerVersion
+    )
+}
+
+// The refusal of its change.
+fn unchangeable(alloc: Global, text: &str, at: u32, setting: Setting) -> Result<Request, AllocError>
+    ensures { Gives result (told.refused (one_line text.now) at cause.Fixed (told.fixed setting)) }
+{
+    let words = fixed(alloc, setting)?;
+    refused(alloc, text, at, Cause::Fixed, words)
 }
 
 /// After RESET.
@@ -141,16 +212,16 @@ pub fn reset(
     at: u32,
     lexemes: &[Lexeme<'_>],
 ) -> Result<Request, AllocError>
-    ensures { IfOk result (λ request. request ≡ told.reset_asks text.now at (all_meant lexemes.now)) }
+    ensures { Gives result (told.reset_asks text.now at (all_meant lexemes.now)) }
 {
     if is_one(lexemes, "all") {
         return Ok(Request::Settles(Settled::ResetsAll));
     }
     if are_two(lexemes, "session", "authorization") {
-        return Ok(settles(false, Setting::SessionAuthorization));
+        return Ok(reset_to_start(Setting::SessionAuthorization));
     }
     if are_two(lexemes, "time", "zone") {
-        return Ok(settles(false, Setting::TimeZone));
+        return Ok(reset_to_start(Setting::TimeZone));
     }
     named(alloc, text, at, false, lexemes)
 }
@@ -162,16 +233,16 @@ pub fn show(
     at: u32,
     lexemes: &[Lexeme<'_>],
 ) -> Result<Request, AllocError>
-    ensures { IfOk result (λ request. request ≡ told.show_asks text.now at (all_meant lexemes.now)) }
+    ensures { Gives result (told.show_asks text.now at (all_meant lexemes.now)) }
 {
     if are_three(lexemes, "transaction", "isolation", "level") {
-        return Ok(settles(true, Setting::TransactionIsolation));
+        return Ok(shown(Setting::TransactionIsolation));
     }
     if are_two(lexemes, "session", "authorization") {
-        return Ok(settles(true, Setting::SessionAuthorization));
+        return Ok(shown(Setting::SessionAuthorization));
     }
     if are_two(lexemes, "time", "zone") {
-        return Ok(settles(true, Setting::TimeZone));
+        return Ok(shown(Setting::TimeZone));
     }
     named(alloc, text, at, true, lexemes)
 }
@@ -184,13 +255,13 @@ fn named(
     shows: bool,
     lexemes: &[Lexeme<'_>],
 ) -> Result<Request, AllocError>
-    ensures { IfOk result (λ request. request ≡ told.named_asks text.now at shows (all_meant lexemes.now)) }
+    ensures { Gives result (told.named_asks text.now at shows (all_meant lexemes.now)) }
 {
     match lexemes {
         [name] if is_name(name) => {
             let name = ident_text(alloc, name)?;
             match setting_named(name.as_str()) {
-                Some(setting) => Ok(settles(shows, setting)),
+                Some(setting) => settles(alloc, text, at, shows, setting),
                 None => unknown(alloc, text, at, name.as_str()),
             }
         }
@@ -198,20 +269,40 @@ fn named(
     }
 }
 
-// A setting is shown or reset.
-fn settles(shows: bool, setting: Setting) -> Request
-    ensures { result ≡ Request.Settles (told.named_settled shows setting) }
+// A setting is shown, or reset.
+fn settles(
+    alloc: Global,
+    text: &str,
+    at: u32,
+    shows: bool,
+    setting: Setting,
+) -> Result<Request, AllocError>
+    ensures { Gives result (told.named_settled text.now at shows setting) }
 {
     if shows {
-        Request::Settles(Settled::Shows { setting })
+        Ok(shown(setting))
     } else {
-        Request::Settles(Settled::Resets { setting })
+        set_back(alloc, text, at, setting, Settled::Resets { setting })
     }
+}
+
+// A setting is shown.
+fn shown(setting: Setting) -> Request
+    ensures { result ≡ Request.Settles (settled.Shows setting) }
+{
+    Request::Settles(Settled::Shows { setting })
+}
+
+// One that can be changed is reset.
+fn reset_to_start(setting: Setting) -> Request
+    ensures { result ≡ Request.Settles (settled.Resets setting) }
+{
+    Request::Settles(Settled::Resets { setting })
 }
 
 // No setting has this name.
 fn unknown(alloc: Global, text: &str, at: u32, name: &str) -> Result<Request, AllocError>
-    ensures { IfOk result (λ request. request ≡ told.refused (one_line text.now) at cause.NoSetting (told.no_setting name.now)) }
+    ensures { Gives result (told.refused (one_line text.now) at cause.NoSetting (told.no_setting name.now)) }
 {
     let words = no_setting(alloc, name)?;
     refused(alloc, text, at, Cause::NoSetting, words)

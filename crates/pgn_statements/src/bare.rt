@@ -1,55 +1,42 @@
 ghost use Rattle.std.specs.Prelude.{◌≡◌, ◌+◌, ◌<◌, ◌≤◌, true, length, slice_index, Contains, IfOk, string_bytes};
-ghost use Rattle.std.specs.List.{list_all, suffix_len};
+ghost use Rattle.std.specs.List.{prefix_len, suffix_len};
 ghost use Rattle.pgn_base.specs.declared.limits.TheConstants.{LINE_BYTES_MAX};
-ghost use Rattle.pgn_requests.specs.Texts.{is_tail, plain, without_tail};
-ghost use Rattle.pgn_statements.specs.Modes.{is_bland, is_break, is_calm};
+ghost use Rattle.pgn_requests.specs.Texts.{is_tail, plain, without_head, without_tail};
+ghost use Rattle.pgn_statements.specs.Modes.{byte_before, is_break, is_calm};
 
 use crate::byte_modes::{give, give_end, next_mode};
+use memchr::memchr3;
 use pgn_command::is_blank;
 use pgn_requests::Mode;
 use std::alloc::{AllocError, Global};
 
 /// A text has no line feed, no `/*` and no `--`, so that nothing is taken out of it.
-#[tactic(auto, using(crate::proofs::PlainLaws::bland_laws))]
 pub fn is_plain(text: &[u8]) -> bool
     ensures { result ≡ is_calm 0 text.now }
 {
-    if are_bland(text) {
-        return true;
-    }
-    is_calm(text)
-}
-
-// No byte begins a comment or is a line feed. It looks at each, so that they are compared side by side.
-fn are_bland(bytes: &[u8]) -> bool
-    ensures { result ≡ list_all is_bland bytes.now }
-{
-    let mut all = true;
-    for byte in bytes {
-        all &= is_bland(*byte);
-    }
-    all
-}
-
-// A byte that no comment begins with, and no line feed.
-fn is_bland(byte: u8) -> bool
-    ensures { result ≡ is_bland byte }
-{
-    !(byte == b'\n' || byte == b'/' || byte == b'-')
-}
-
-// The same, two bytes at a time.
-fn is_calm(text: &[u8]) -> bool
-    ensures { result ≡ is_calm 0 text.now }
-{
+    let mut rest = text;
     let mut before = 0;
-    for byte in text {
-        if is_break(before, *byte) {
+    while let Some(at) = memchr3(b'\n', b'*', b'-', rest) {
+        before = byte_before(before, rest, at);
+        if is_break(before, rest[at]) {
             return false;
         }
-        before = *byte;
+        before = rest[at];
+        let here = &rest[at..];
+        rest = &here[1..];
     }
     true
+}
+
+// The byte before one of some, which stand behind this one.
+fn byte_before(before: u8, bytes: &[u8], at: usize) -> u8
+    requires { at < length bytes.now }
+    ensures { result ≡ byte_before before bytes.now at }
+{
+    if at == 0 {
+        return before;
+    }
+    bytes[at - 1]
 }
 
 // A byte after another is a line feed, or the two begin a comment.
@@ -85,8 +72,41 @@ fn plain_bytes(alloc: Global, text: &[u8]) -> Result<Vec<u8>, AllocError>
     Ok(made)
 }
 
-/// A text without the blanks and `;` at its end.
-pub fn without_tail(text: &str) -> &str
+/// A text without the blanks and `;` at its ends.
+pub fn without_ends(text: &str) -> &str
+    requires no_nul { Contains text.now 0 → ⊥ }
+    ensures text { result.now ≡ without_head (without_tail text.now) }
+    ensures short { length result.now ≤ length text.now }
+    ensures no_nul { Contains result.now 0 → ⊥ }
+{
+    without_head(without_tail(text))
+}
+
+// A text without the blanks and `;` at its front.
+fn without_head(text: &str) -> &str
+    requires no_nul { Contains text.now 0 → ⊥ }
+    ensures text { result.now ≡ without_head text.now }
+    ensures short { length result.now ≤ length text.now }
+    ensures no_nul { Contains result.now 0 → ⊥ }
+{
+    let start = head_end(text.as_bytes());
+    &text[start..]
+}
+
+// Where the blanks and `;` at the front end.
+fn head_end(bytes: &[u8]) -> usize
+    ensures { result ≡ prefix_len is_tail bytes.now }
+{
+    for (at, byte) in bytes.iter().enumerate() {
+        if !is_tail(*byte) {
+            return at;
+        }
+    }
+    bytes.len()
+}
+
+// A text without the blanks and `;` at its end.
+fn without_tail(text: &str) -> &str
     requires no_nul { Contains text.now 0 → ⊥ }
     ensures text { result.now ≡ without_tail text.now }
     ensures short { length result.now ≤ length text.now }

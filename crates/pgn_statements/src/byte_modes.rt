@@ -1,5 +1,5 @@
 ghost use Rattle.std.specs.Prelude.{◌≡◌, ◌==◌, ◌+◌, ◌<◌, ◌≤◌, ◌^◌, [], ◌∷◌, ◌++◌, cond, OnOk};
-ghost use Rattle.pgn_requests.specs.Texts.{entered, commented, left, next_mode, given, mode_gives, end_gives};
+ghost use Rattle.pgn_requests.specs.Texts.{ends_line, entered, commented, left, next_mode, given, mode_gives, end_gives};
 ghost use Rattle.pgn_statements.specs.Modes.{depth_of};
 
 use pgn_requests::Mode;
@@ -26,9 +26,16 @@ pub fn next_mode(mode: Mode, byte: u8) -> Mode
         Mode::Star { depth } => commented(depth, byte),
         Mode::Open { depth } if byte == b'*' => Mode::Comment { depth: depth + 1 },
         Mode::Open { depth } => commented(depth, byte),
-        Mode::Rest if byte == b'\n' => Mode::Outside,
+        Mode::Rest if ends_line(byte) => Mode::Outside,
         Mode::Rest => Mode::Rest,
     }
+}
+
+// A comment to the end of the line ends with this byte.
+fn ends_line(byte: u8) -> bool
+    ensures { result ≡ ends_line byte }
+{
+    byte == b'\n' || byte == b'\r'
 }
 
 // After a byte outside of quotes and comments.
@@ -78,7 +85,7 @@ pub fn give(text: &mut Vec<u8>, mode: Mode, byte: u8) -> Result<(), AllocError>
         Mode::Dash => give_after(text, b'-', b'-', byte),
         Mode::Single | Mode::Double => put(text, byte),
         Mode::Star { depth } if byte == b'/' && depth == 0 => put(text, b' '),
-        Mode::Rest if byte == b'\n' => put(text, b' '),
+        Mode::Rest if ends_line(byte) => put(text, b' '),
         Mode::Comment { .. } | Mode::Star { .. } | Mode::Open { .. } | Mode::Rest => Ok(()),
     }
 }

@@ -1,6 +1,7 @@
 ghost use Rattle.std.specs.Prelude.{◌≡◌, ◌≤◌, length, IfOk};
 ghost use Rattle.pgn_requests.specs.Texts.{one_line};
 ghost use Rattle.pgn_requests.specs.Phrases as told;
+ghost use Rattle.pgn_statements.specs.Steps.{Gives};
 
 use crate::lines::line;
 use pgn_base::{Command, Which};
@@ -19,7 +20,7 @@ pub fn refused(
     cause: Cause,
     words: ShortText,
 ) -> Result<Request, AllocError>
-    ensures { IfOk result (λ request. request ≡ told.refused (one_line text.now) at cause words) }
+    ensures { Gives result (told.refused (one_line text.now) at cause words) }
 {
     let complaint = Complaint { cause, text: words };
     line(

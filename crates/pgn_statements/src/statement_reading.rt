@@ -1,14 +1,13 @@
-ghost use Rattle.std.specs.Prelude.{◌≡◌, ◌+◌, ◌≤◌, [], length, Contains, IfOk, codes};
+ghost use Rattle.std.specs.Prelude.{◌+◌, ◌≤◌, [], length, Contains, IfOk, codes};
 ghost use Rattle.pgn_base.specs.declared.limits.TheConstants.{LINE_BYTES_MAX};
-ghost use Rattle.pgn_language.specs.Grammar.{ReadsAs};
 ghost use Rattle.pgn_requests.specs.declared.complaint.Cause.TheVariants as cause;
 ghost use Rattle.pgn_requests.specs.Texts.{bare};
 ghost use Rattle.pgn_requests.specs.Phrases as told;
 ghost use Rattle.pgn_requests.specs.Reading.{RequestIs, request_of};
-ghost use Rattle.pgn_statements.specs.Steps.{Asks};
+ghost use Rattle.pgn_statements.specs.Steps.{Gives, Asks};
 
 use crate::asking::asked_of;
-use crate::bare::{is_plain, plain, without_tail};
+use crate::bare::{is_plain, plain, without_ends};
 use crate::body::{Body, body_of};
 use crate::complaining::refused;
 use crate::lines::{bad_at, read_line};
@@ -32,7 +31,7 @@ pub fn read_request(alloc: Global, body: &[u8]) -> Result<Request, AllocError>
 
 // The refusal of a body that does not end with its only zero byte.
 fn garbled(alloc: Global) -> Result<Request, AllocError>
-    ensures { IfOk result (λ request. request ≡ told.refused [] 0 cause.BadMessage (codes "invalid message format")) }
+    ensures { Gives result (told.refused [] 0 cause.BadMessage (codes "invalid message format")) }
 {
     let words = ShortText::new(alloc, "invalid message format")?;
     refused(alloc, "", 0, Cause::BadMessage, words)
@@ -40,7 +39,7 @@ fn garbled(alloc: Global) -> Result<Request, AllocError>
 
 // The refusal of one that is no UTF-8.
 fn encoded(alloc: Global) -> Result<Request, AllocError>
-    ensures { IfOk result (λ request. request ≡ told.refused [] 0 cause.BadEncoding (codes "invalid byte sequence for encoding \"UTF8\"")) }
+    ensures { Gives result (told.refused [] 0 cause.BadEncoding (codes "invalid byte sequence for encoding \"UTF8\"")) }
 {
     let words = ShortText::new(alloc, "invalid byte sequence for encoding \"UTF8\"")?;
     refused(alloc, "", 0, Cause::BadEncoding, words)
@@ -53,10 +52,10 @@ fn read_text(alloc: Global, text: &str) -> Result<Request, AllocError>
     ensures { IfOk result (Asks (bare text.now)) }
 {
     if is_plain(text.as_bytes()) {
-        return read_bare(alloc, without_tail(text));
+        return read_bare(alloc, without_ends(text));
     }
     let made = plain(alloc, text)?;
-    read_bare(alloc, without_tail(made.as_str()))
+    read_bare(alloc, without_ends(made.as_str()))
 }
 
 // What a bare text asks for.
@@ -71,8 +70,9 @@ fn read_bare(alloc: Global, text: &str) -> Result<Request, AllocError>
 
 // What a bare text asks for that reads as this command.
 fn request_of(alloc: Global, text: &str, command: Command) -> Result<Request, AllocError>
-    requires { length text.now ≤ LINE_BYTES_MAX }
-    ensures { IfOk result (λ request. request ≡ request_of text.now command) }
+    requires short { length text.now ≤ LINE_BYTES_MAX }
+    requires no_nul { Contains text.now 0 → ⊥ }
+    ensures { Gives result (request_of text.now command) }
 {
     match bad_at(&command) {
         Some(at) => {

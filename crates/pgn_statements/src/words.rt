@@ -1,5 +1,5 @@
 ghost use Rattle.std.specs.Prelude.{◌≡◌};
-ghost use Rattle.pgn_language.specs.Grammar.{Punct, Name, fits_slot};
+ghost use Rattle.pgn_language.specs.Grammar.{Punct, fits_slot};
 ghost use Rattle.pgn_requests.specs.Phrases as told;
 ghost use Rattle.pgn_statements.specs.Lexemes.{meant, all_meant, GoesOn};
 
@@ -84,6 +84,26 @@ pub fn after_two<'l, 'a>(
     match lexemes {
         [a, b, rest @ ..] if is_key(a, one) && is_key(b, other) => Some(rest),
         _ => None,
+    }
+}
+
+/// The tokens after this sign, if they begin with it.
+pub fn after_sign<'l, 'a>(lexemes: &'l [Lexeme<'a>], sign: u8) -> Option<&'l [Lexeme<'a>]>
+    ensures { GoesOn result (told.after_sign sign (all_meant lexemes.now)) }
+{
+    match lexemes {
+        [a, rest @ ..] if is_sign(a, sign) => Some(rest),
+        _ => None,
+    }
+}
+
+/// The tokens are this sign and no other.
+pub fn is_one_sign(lexemes: &[Lexeme<'_>], sign: u8) -> bool
+    ensures { result ≡ told.is_one_sign sign (all_meant lexemes.now) }
+{
+    match lexemes {
+        [a] => is_sign(a, sign),
+        _ => false,
     }
 }
 

@@ -8,6 +8,8 @@ pub returns-then-branch : goal.returns-then-branch
 returns-then-branch c =
     let empty : string_bytes c.new-value.result ≡ [] = search rules in
     let value = put-some c.in_ok-put_values.field-0 (string_bytes c.new-value.result) (string_bytes c.put_values.new.text) (told.value_of (all_meant c.args.lexemes.now)) c.in_ok-put_values.ensures c.if-branch.true empty in
-    let same = valued-given c.args.text.now c.args.at c.args.starts (all_meant c.args.lexemes.now) c.args.setting (string_bytes c.put_values.new.text) (sym c.is_one.ensures ∙ c.if-is_one.false) value in
-    IfOk-same c.sets.result (told.given_asks c.args.text.now c.args.at c.args.starts c.args.setting (Some c.as_str.result.now)) (told.valued_asks c.args.text.now c.args.at c.args.starts (all_meant c.args.lexemes.now) c.args.setting)
-    (ap (λ (l : List ℕ). told.given_asks c.args.text.now c.args.at c.args.starts c.args.setting (Some l)) c.as_str.ensures.value ∙ sym same) c.sets.ensures
+    let starts = c.args.target.starts in
+    let one = c.args.target.setting in
+    let same = valued-given c.args.text.now c.args.at starts (all_meant c.args.lexemes.now) one (string_bytes c.put_values.new.text) (sym c.is_one.ensures ∙ c.if-is_one.false) value in
+    IfOk-same c.sets.result (told.given_asks c.args.text.now c.args.at starts one (Some c.as_str.result.now)) (told.valued_asks c.args.text.now c.args.at starts (all_meant c.args.lexemes.now) one)
+    (ap (λ (l : List ℕ). told.given_asks c.args.text.now c.args.at starts one (Some l)) c.as_str.ensures.value ∙ sym same) c.sets.ensures
