@@ -73,7 +73,9 @@ public class Jdbc {
         }
         connection.setReadOnly(false);
         connection.setAutoCommit(true);
-        try (PreparedStatement statement = connection.prepareStatement("NOTIFY c, 'behind'")) {
+        try (PreparedStatement statement = connection.prepareStatement("SELECT pg_notify(?, ?)")) {
+            statement.setString(1, "c");
+            statement.setString(2, "behind");
             statement.execute();
         }
     }

@@ -65,6 +65,11 @@ def error(code, text, severity='ERROR'):
     return made(b'E', f'S{severity}\0V{severity}\0C{code}\0M{text}\0\0'.encode())
 
 
+def cut(name, short):
+    text = f'identifier "{name}" will be truncated to "{short}"'
+    return made(b'N', f'SNOTICE\0VNOTICE\0C42622\0M{text}\0\0'.encode())
+
+
 def invalid(name, value):
     return error('22023', f'invalid value for parameter "{name}": "{value}"')
 
@@ -475,6 +480,25 @@ def refused_calls(shim):
     wire.ask('ROLLBACK')
 
 
+def cut_names(shim):
+    """An identifier that is cut is told before all else, as it is written, but for the letters of a word."""
+    wire, name, short = shim.enter(), 64 * 'a', 63 * 'a'
+    wire.meet(f'LISTEN {name}', cut(name, short), complete('LISTEN'))
+    wire.meet(f'LISTEN {short}', complete('LISTEN'))
+    wire.meet(f'LISTEN "A{short}"', cut('A' + short, 'A' + short[1:]), complete('LISTEN'))
+    wire.meet(f'UNLISTEN A{short}', cut(name, short), complete('UNLISTEN'))
+    wire.meet(f'LISTEN "{short}""x"', cut(short + '"x', short), complete('LISTEN'))
+    wire.meet(f'UNLISTEN {short[1:]}\u20ac', cut(short[1:] + '\u20ac', short[1:]), complete('UNLISTEN'))
+    wire.ask('UNLISTEN *')
+    wire.meet(f"NOTIFY {name}, 'x'", cut(name, short), complete('NOTIFY'))
+    wire.ask('BEGIN')
+    for text, tag in (('SAVEPOINT', 'SAVEPOINT'), ('ROLLBACK TO', 'ROLLBACK'), ('RELEASE', 'RELEASE')):
+        wire.meet(f'{text} {name}', cut(name, short), complete(tag), state='T')
+    wire.ask('NO SUCH COMMAND', 'EZ')
+    wire.meet(f'LISTEN {name}', cut(name, short), error('25P02', ABORTED), state='E')
+    wire.ask('ROLLBACK')
+
+
 def show(shim):
     wire = shim.enter()
     for name, value in {**wire.settings, **UNTOLD}.items():
@@ -550,11 +574,12 @@ def put_at_start(shim):
 
 def wrong_settings(shim):
     wire = shim.enter()
-    due = [('SET nosuch TO 1', NO_SUCH), ('RESET nosuch', NO_SUCH), ('SHOW nosuch', NO_SUCH), ('SET nosuch TO DEFAULT', NO_SUCH),
+    due = [('SET nosuch TO 1', NO_SUCH), ('RESET nosuch', NO_SUCH), ('SET client_encoding TO nonsense', invalid('client_encoding', 'nonsense')), ('SHOW nosuch', NO_SUCH), ('SET nosuch TO DEFAULT', NO_SUCH),
            ("SET DateStyle TO 'Martian'", invalid('DateStyle', 'Martian')), ('SET "IntervalStyle" = maya', invalid('IntervalStyle', 'maya')),
            ('SET client_min_messages TO loud', invalid('client_min_messages', 'loud'))]
-    due += [(f"SET {name} TO 'on'", error('55P02', f'parameter "{name}" cannot be changed'))
-            for name in ('server_version', 'integer_datetimes', 'is_superuser', 'in_hot_standby', 'server_encoding')]
+    due += [(text, error('55P02', f'parameter "{name}" cannot be changed'))
+            for name in ('server_version', 'integer_datetimes', 'is_superuser', 'in_hot_standby', 'server_encoding')
+            for text in (f"SET {name} TO 'on'", f'RESET {name}', f'SET {name} TO DEFAULT')]
     for name, value, text in (('default_transaction_read_only', 'maybe', 'parameter "default_transaction_read_only" requires a Boolean value'),
                               ('transaction_read_only', 'o', 'parameter "transaction_read_only" requires a Boolean value'),
                               ('extra_float_digits', '4', '4 is outside the valid range for parameter "extra_float_digits" (-15 .. 3)')):
@@ -639,11 +664,19 @@ def blanks(shim):
     for text in (';;', '; ;\n', '/* a /* b */ c */', '-- a', '\n-- a\n', '\r\n', ''):
         other.meet(text, EMPTY)
     for text, payload in (("NOTIFY\nc\r\n,\t'x'", 'x'), ("/* a /* b */ c */NOTIFY/**/c, 'x'--\n", 'x'), ("NOTIFY c -- ' a\n, '-- /* x'\n;;", '-- /* x'),
-                          ("NOTIFY c, 'it''s\n\n/* x'", "it's\n\n/* x"), ("NOTIFY c, '\n'", '\n'), ('NOTIFY "c", \'"\n--"\'', '"\n--"'), ('NOTIFY c;;', '')):
+                          ("NOTIFY c, 'it''s\n\n/* x'", "it's\n\n/* x"), ("NOTIFY c, '\n'", '\n'), ('NOTIFY "c", \'"\n--"\'', '"\n--"'), ('NOTIFY c;;', ''),
+                          (";NOTIFY c, 'x'", 'x'), ("; ;\nNOTIFY c", ''), ("NOTIFY c -- a\r, 'x'", 'x')):
         other.meet(text, complete('NOTIFY'))
         one.note('c', payload)
     other.meet("SELECT\npg_notify('c',\n'a\nb')", VOID, row(''), complete('SELECT 1'))
     one.note('c', 'a\nb')
+    for text, payload in (("SELECT pg_notify(('c'),('it''s'))", "it's"), ("SELECT pg_notify('c', (NULL))", ''), ("SELECT pg_notify((('c')), 'x')", None),
+                          ("SELECT pg_notify(('c'), ()", None)):
+        if payload is None:
+            check(shim.is_server or b'\0C42601\0' in other.ask(text, 'EZ')[0][1], text)
+        else:
+            other.meet(text, VOID, row(''), complete('SELECT 1'))
+            one.note('c', payload)
     one.meet('LISTEN "a\nb"', complete('LISTEN'))
     other.meet('NOTIFY "a\nb"', complete('NOTIFY'))
     one.note('a\nb', '')
@@ -930,6 +963,7 @@ CASES = ((idle, 'a notification comes to an idle client, without a ReadyForQuery
          (constants, 'SELECT 1, version(), pg_backend_pid(), rows of channels', True, 64),
          (types, 'columns and their types', True, 64),
          (refused_calls, 'a refused pg_notify: its row first', True, 64),
+         (cut_names, 'a name that is cut is told', True, 64),
          (show, 'SHOW', True, 64),
          (put, 'SET, and what is told of it', True, 64),
          (put_back, 'RESET and RESET ALL', True, 64),

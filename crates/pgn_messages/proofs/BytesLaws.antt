@@ -24,6 +24,7 @@ row_size text =
     let all : length (two 1 ++ four (length text) ++ text) ≡ length (two 1 ++ four (length text)) + length text = length-append (two 1 ++ four (length text)) text in
     omega arith
 
+-- the size of the body of a description
 pub columns_size : (name : List ℕ) → length name + 21 ≡ length (two 1 ++ ended name ++ column)
 columns_size name =
     let here : length (ended name) ≡ length name + 1 = length-append name (0 ∷ []) in
@@ -54,4 +55,5 @@ rows_step old new all names i name within here so_far put =
     ∙ append_assoc old (row name) (flat_map row (drop (i + 1) names))
     ∙ ap (λ (xs : List (List ℕ)). old ++ flat_map row xs) (sym next) ∙ so_far
 
+-- what puts pieces together to what a clause says of them
 pub ruleset joins = (put-two, put-none, put-message)

@@ -62,6 +62,7 @@ from-other s (item ∷ items) h =
     ∙ ap (λ (c : Option Command). messages_from (after_item s item) c items) parts.1
     ∙ from-other (after_item s item) items here.1
 
+-- a line with a command adds its answer, whole, behind the messages so far
 pub query_answers : QueryAnswers
 query_answers section items more n command e h =
     let s = after section items in
@@ -75,6 +76,7 @@ query_answers section items more n command e h =
     ∙ ap (λ (t : List ℕ). first_message command ++ t) from
     ∙ sym (append_assoc (first_message command) (flat_map (item_messages command) more) (ready (after section (items ++ Line n ∷ more)).block)))
 
+-- a line without a command adds nothing
 pub others_are_silent : OthersAreSilent
 others_are_silent section items more n e h =
     let s = after section items in

@@ -194,6 +194,7 @@ rest-kept s shown h = ap (λ (t : State). t.rest) (after-rest s.rest s shown h)
 line-takes : (s : State) (lines : List ScriptLine) (line : ScriptLine) → (at_line s (line ∷ lines)).rest ≡ lines
 line-takes s lines line = ap (λ (t : State). t.rest) (act-rest lines (record s { rest = lines }) line.act)
 
+-- the same, where these are the lines to come
 pub line-leaves : (s : State) (all lines : List ScriptLine) (line : ScriptLine) → all ≡ line ∷ lines → (at_line s all).rest ≡ lines
 line-leaves s all lines line e = ap (λ (ls : List ScriptLine). (at_line s ls).rest) e ∙ line-takes s lines line
 
@@ -247,6 +248,7 @@ none-begins s (shown ∷ items) line lines e end = elim (line_or shown) [
   | inr h ↦ ap (λ (b : Bool). b || list_any begins_line items) h ∙ none-begins (after_item s shown) items line lines (rest-kept s shown h ∙ e) end
 ]
 
+-- where the next line is taken and the last is still to come, nothing behind the line's own item begins a line
 pub one_line_begins : OneLineBegins
 one_line_begins section items more n line last lines e end =
     let s : State = after section items in
@@ -303,5 +305,6 @@ messages_alike : (items : List Item) → AreAlike items
 messages_alike [] s current rest line last e stays = refl
 messages_alike (shown ∷ items) s current rest line last e stays = alike_item shown items (messages_alike items) s current rest line last e stays
 
+-- a line that is put in before the last, which is still to come, changes no message
 pub line_is_put_in : LineIsPutIn
 line_is_put_in section rest line last items e stays = messages_alike items (start section) None rest line last e stays

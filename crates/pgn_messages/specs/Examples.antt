@@ -112,3 +112,8 @@ no_setting_bytes = 69 ∷ 0 ∷ 0 ∷ 0 ∷ 73 ∷ (codes "SERROR" ++ 0 ∷ [] +
 -- so many pages of 256 are occupied
 abbrev pub occupied_pages : ℕ → Usage
 occupied_pages pages = record { at = 3; occupied = pages; limit = 256; floor_mark = 3; holder = None }
+
+-- N with the length 0x46, and its fields, of which the severity is NOTICE
+abbrev pub cut_bytes : List ℕ
+cut_bytes =
+    78 ∷ 0 ∷ 0 ∷ 0 ∷ 70 ∷ (codes "SNOTICE" ++ 0 ∷ [] ++ codes "VNOTICE" ++ 0 ∷ [] ++ codes "C42622" ++ 0 ∷ [] ++ codes "Midentifier \"ab\" will be truncated to \"a\"" ++ 0 ∷ 0 ∷ [])

@@ -38,6 +38,14 @@ fields severity code text = field 83 severity ++ field 86 severity ++ field 67 c
 abbrev pub notice : Warning → List ℕ
 notice warning = message 78 (fields (codes "WARNING") (warning_code warning) (warning_message warning))
 
+-- what is said where an identifier is cut to another
+abbrev pub cut_text : List ℕ → List ℕ → List ℕ
+cut_text name cut = codes "identifier \"" ++ name ++ codes "\" will be truncated to \"" ++ cut ++ codes "\""
+
+-- N of the severity NOTICE, which says that
+abbrev pub cut_notice : List ℕ → List ℕ → List ℕ
+cut_notice name cut = message 78 (fields (codes "NOTICE") (codes "42622") (cut_text name cut))
+
 -- E: ErrorResponse
 abbrev pub error : Refusal → List ℕ
 error refusal = message 69 (fields (codes "ERROR") (refusal_code refusal) (refusal_message refusal))

@@ -7,8 +7,8 @@ ghost use Rattle.pgn_messages.specs.declared.bytes.TheConstants.{BODY_BYTES_MAX}
 use std::alloc::{AllocError, Global};
 use std::marker::Model;
 
-/// The most bytes of a message's body. The longest message has a name of 63 bytes and a payload of 7,999.
-pub const BODY_BYTES_MAX: usize = 65_535;
+/// The most bytes of a message's body. The longest message tells of a name that is cut, which has the bytes of a line.
+pub const BODY_BYTES_MAX: usize = 131_071;
 
 /// Bytes on their way to a client. Contracts see the list of them. After a refusal nothing is said of them.
 #[derive(Drop)]
@@ -46,6 +46,14 @@ impl Bytes {
         ensures { result.now ≡ self.now }
     {
         self.bytes.as_slice()
+    }
+
+    /// The bytes themselves, without a copy.
+    pub fn into_vec(self) -> Vec<u8>
+        ensures { result.items ≡ self }
+    {
+        let Bytes { bytes } = self;
+        bytes
     }
 
     /// Puts a text at the end.

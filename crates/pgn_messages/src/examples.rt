@@ -1,7 +1,7 @@
 ghost use Rattle.std.specs.Prelude.{◌≡◌, codes};
-ghost use Rattle.pgn_messages.specs.Server.{columns, completed, described, error_of, fatal, fraction, status};
+ghost use Rattle.pgn_messages.specs.Server.{columns, completed, cut_notice, described, error_of, fatal, fraction, status};
 ghost use Rattle.pgn_messages.specs.Messages.{messages};
-ghost use Rattle.pgn_messages.specs.Examples.{discard_bytes, endless_bytes, fatal_bytes, first_bytes, first_items, first_section, second_bytes, second_items, second_section, third_bytes, third_items, third_section, fourth_bytes, fourth_items, fourth_section, no_setting_bytes, occupied_pages, void_bytes, zone_bytes};
+ghost use Rattle.pgn_messages.specs.Examples.{cut_bytes, discard_bytes, endless_bytes, fatal_bytes, first_bytes, first_items, first_section, second_bytes, second_items, second_section, third_bytes, third_items, third_section, fourth_bytes, fourth_items, fourth_section, no_setting_bytes, occupied_pages, void_bytes, zone_bytes};
 
 /// Four conversations, byte by byte.
 pub fn worked_rows()
@@ -22,6 +22,7 @@ pub fn service_rows()
     ensures ending { completed (codes "DISCARD ALL") ≡ discard_bytes }
     ensures setting { status (codes "TimeZone") (codes "UTC") ≡ zone_bytes }
     ensures no_setting { error_of (codes "42704") (codes "unrecognized configuration parameter \"colour\"") ≡ no_setting_bytes }
+    ensures cut { cut_notice (codes "ab") (codes "a") ≡ cut_bytes }
     ensures none_of_256 { fraction (occupied_pages 0) ≡ codes "0" }
     ensures one_of_256 { fraction (occupied_pages 1) ≡ codes "0.00390625" }
     ensures half_of_256 { fraction (occupied_pages 128) ≡ codes "0.5" }
@@ -38,6 +39,8 @@ pub fn other_rows()
     ensures value_first { status (codes "UTC") (codes "TimeZone") ≡ zone_bytes → ⊥ }
     // An error is not of the severity FATAL.
     ensures severity { error_of (codes "08P01") (codes "bad message") ≡ fatal_bytes → ⊥ }
+    // The whole name stands first.
+    ensures cut_first { cut_notice (codes "a") (codes "ab") ≡ cut_bytes → ⊥ }
     // No zero stands at the end of a fraction.
     ensures zeros_at_end { fraction (occupied_pages 128) ≡ codes "0.50000000" → ⊥ }
 {}

@@ -1,7 +1,8 @@
 #![tactic(auto, using(crate::proofs::BytesLaws::joins))]
 
-ghost use Rattle.std.specs.Prelude.{◌≡◌, ◌+◌, ◌≤◌, [], ◌++◌, codes, flat_map, length, OnOk};
-ghost use Rattle.pgn_messages.specs.Server.{column, columns, complete, empty_query, error, error_of, fatal, fields, message, notice, notification, ready, row, share};
+ghost use Rattle.std.specs.Prelude.{◌≡◌, ◌+◌, ◌≤◌, [], ◌++◌, codes, flat_map, length, IfOk, OnOk};
+ghost use Rattle.pgn_messages.specs.declared.server.TheConstants.{TEXT_BYTES_MAX};
+ghost use Rattle.pgn_messages.specs.Server.{column, columns, complete, cut_notice, cut_text, empty_query, error, error_of, fatal, fields, message, notice, notification, ready, row, share};
 
 use crate::bytes::Bytes;
 use crate::texts::{
@@ -10,6 +11,9 @@ use crate::texts::{
 use pgn_answers::BlockState;
 use pgn_base::{Delivery, Name, Refusal, Tag, Usage, Warning};
 use std::alloc::{AllocError, Global};
+
+// The most bytes of the text of a notice or an error.
+const TEXT_BYTES_MAX: usize = 66_000;
 
 impl Bytes {
     // A notice or an error.
@@ -22,7 +26,7 @@ impl Bytes {
     ) -> Result<(), AllocError>
         requires severity { length severity.now ≤ 10 }
         requires code { length code.now ≤ 10 }
-        requires text { length text.now ≤ 255 }
+        requires text { length text.now ≤ TEXT_BYTES_MAX }
         ensures { OnOk result (self.new ≡ self.old ++ message letter (fields severity.now code.now text.now)) }
     {
         let size = 2 * severity.len() + code.len() + text.len() + 9;
@@ -46,6 +50,29 @@ impl Bytes {
             text_of_warning(warning),
         )?;
         Ok(())
+    }
+
+    /// Puts the notice that an identifier is cut to another at the end. The error is also that it is longer than a line.
+    pub fn put_cut_notice(
+        &mut self,
+        alloc: Global,
+        name: &[u8],
+        cut: &[u8],
+    ) -> Result<(), AllocError>
+        ensures { OnOk result (self.new ≡ self.old ++ cut_notice name.now cut.now) }
+    {
+        let text = text_of_cut(alloc, name, cut)?;
+        self.put_notice_of(text.as_slice())
+    }
+
+    // A notice with this text, where it is not too long.
+    fn put_notice_of(&mut self, text: &[u8]) -> Result<(), AllocError>
+        ensures { OnOk result (self.new ≡ self.old ++ message 78 (fields (codes "NOTICE") (codes "42622") text.now)) }
+    {
+        if text.len() > TEXT_BYTES_MAX {
+            return Err(AllocError);
+        }
+        self.fields(b'N', b"NOTICE", b"42622", text)
     }
 
     /// Puts the error of a refusal at the end.
@@ -198,4 +225,16 @@ impl Bytes {
         self.put_row(text.as_slice())?;
         Ok(())
     }
+}
+
+// What is said where an identifier is cut to another.
+fn text_of_cut(alloc: Global, name: &[u8], cut: &[u8]) -> Result<Bytes, AllocError>
+    ensures { IfOk result (λ text. text ≡ cut_text name.now cut.now) }
+{
+    let mut text = Bytes::of(alloc, b"identifier \"")?;
+    text.put(name)?;
+    text.put(b"\" will be truncated to \"")?;
+    text.put(cut)?;
+    text.put(b"\"")?;
+    Ok(text)
 }

@@ -1,5 +1,5 @@
 ghost use Rattle.std.specs.Prelude.{◌≡◌, ◌+◌, ◌≤◌, ◌++◌, decimal, length, IfOk};
-ghost use Rattle.pgn_answers.specs.Refusals.{bounds_message, needs_text, refusal_code, refusal_message, tag_text, warning_code, warning_message};
+ghost use Rattle.pgn_answers.specs.Refusals.{bounds_message, refusal_code, refusal_message, tag_text, warning_code, warning_message};
 ghost use Rattle.pgn_messages.specs.Server.{share};
 
 use crate::bytes::Bytes;

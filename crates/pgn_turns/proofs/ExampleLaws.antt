@@ -17,9 +17,11 @@ use Rattle.pgn_turns.proofs.ToldLaws.{one_query_is_told, one_settled_is_told}
 pub apart : (a b : ℕ) → (a == b) ≡ false → a ≡ b → ⊥
 apart a b e same = both_ways (a == b) e (eq-eqb a b same)
 
+-- as bytes among signs
 pub bytes_apart : (a b : ℕ) → (a == b) ≡ false → Some a ≡ Some b → ⊥
 bytes_apart a b e signs = let same : a ≡ b = cc in apart a b e same
 
+-- the end of a client is no byte
 pub end_apart : (b : ℕ) → None ≡ Some b → ⊥
 end_apart b signs = cc
 

@@ -15,6 +15,7 @@ said-append seat t (turn ∷ turns) more =
     ap (λ (l : List (Option ℕ)). signs_in seat t turn ++ l) (said-append seat (telling_after t turn) turns more)
     ∙ sym (append_assoc (signs_in seat t turn) (signs_said seat (telling_after t turn) turns) (signs_said seat (fold telling_after (telling_after t turn) turns) more))
 
+-- what is said of turns stays, whatever turns follow
 pub said_stays : SaidStays
 said_stays seat turns more = said-append seat first_telling turns more
 
@@ -22,9 +23,11 @@ walks-from : (t : Telling) (turns : List Turn) → (fold telling_after t turns).
 walks-from t [] = refl
 walks-from t (turn ∷ turns) = walks-from (telling_after t turn) turns
 
+-- where a teller stands after turns, the walk does
 pub telling_walks : TellingWalks
 telling_walks turns = walks-from first_telling turns
 
+-- a turn more adds what was asked for it, its lines, its items and its signs at the end
 pub turns_grow : TurnsGrow
 turns_grow seat turns turn =
     let asks : asks_of (turns ++ turn ∷ []) ≡ asks_of turns ++ asked_in turn =

@@ -10,5 +10,7 @@ pub mod ToldLaws
 pub mod MessageLaws
 -- the script
 pub mod ScriptLaws
+-- what is told of names that are cut
+mod CutLaws
 -- one query, with a read behind it or without
 mod ExampleLaws

@@ -82,7 +82,9 @@ usual-items query (item ∷ items) usual call h =
     ∙ ap (λ (l : List ℕ). item_messages query.command item ++ l) (usual-items query items usual call parts.1)
 
 usual-answer : (query : Asked) (more : List Item) (state : BlockState) → IsAnsweredAlike query more → told_answer query more state ≡ answer_messages query.command more state
-usual-answer query more state h = ap (λ (l : List ℕ). first_message query.command ++ l ++ ready state) (usual-items query more h.as_usual h.no_call h.no_usage)
+usual-answer query more state h =
+    ap (λ (l : List ℕ). l ++ first_message query.command ++ flat_map (told_item query) more ++ ready state) h.uncut
+    ∙ ap (λ (l : List ℕ). first_message query.command ++ l ++ ready state) (usual-items query more h.as_usual h.no_call h.no_usage)
 
 -- a line with a command ends where the next begins
 line-end : (s : State) (command : Command) (items : List Item) → StartsLine items → messages_from s (Some command) items ≡ ready s.block ++ messages_from s None items
@@ -136,6 +138,7 @@ from-answers seat t (Answers query more ∷ turns) rest h =
     ∙ sym (map-append Some (answer_messages command more after.block) (messages_from (with_rest lines after) None (items_of turns)))
     ∙ ap (λ (l : List ℕ). map Some l) (sym whole)
 
+-- where each turn is an answer as a session gives it, what is said are the messages of the section's trace
 pub answers_are_messages : AnswersAreMessages
 answers_are_messages seat section turns rest e h =
     from-answers seat first_telling turns rest h ∙ ap (λ (lines : List ScriptLine). map Some (messages_from (with_rest lines idle_state) None (items_of turns))) (sym e)

@@ -43,6 +43,7 @@ no_item : (before behind : List Item) (item : Item) → [] ≡ before ++ item �
 no_item [] behind item e = let both : [] ≡ item ∷ behind = e in cc
 no_item (first ∷ before) behind item e = let both : [] ≡ first ∷ (before ++ item ∷ behind) = e in cc
 
+-- an item of turns that is no read stands in a turn that was asked for
 pub others_are_asked_for : OthersAreAskedFor
 others_are_asked_for [] before behind item plain e other = absurd (no_item before behind item e)
 others_are_asked_for (turn ∷ turns) before behind item plain e other = elim (in_one_of (items_in turn) (items_of turns) before behind item e) [
@@ -73,6 +74,7 @@ others_are_asked_for (turn ∷ turns) before behind item plain e other = elim (i
       }
 ]
 
+-- in the answer to a query, what begins no line stands behind the query's own
 pub stands_behind_line : StandsBehindLine
 stands_behind_line query more [] past item e h =
     let both : Line query.line ∷ more ≡ item ∷ past = e in

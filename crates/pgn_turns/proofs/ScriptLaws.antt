@@ -45,5 +45,6 @@ quits_last (Settle settled ∷ asks) = quits_last asks
 quits_last (Discard line ∷ asks) = (λ e. absurd (goes_on (Bad 0) e), (λ e. absurd (goes_on UnlistenAll e), quits_last asks))
 quits_last (End line parting ∷ asks) = (λ e. absurd (goes_on Rollback e), (λ e. absurd (goes_on UnlistenAll e), quits_last asks))
 
+-- the script of what is asked has rising numbers, and its `\quit` last
 pub script_rises : ScriptRises
 script_rises asks number h few = (rises asks number h few, quits_last asks)

@@ -42,6 +42,7 @@ quiet seat t (Hears reads ∷ turns) h e =
           ∙ ap (λ (bytes : List ℕ). map Some bytes) (sym (flat_map-append heard reads (items_of turns))),
     )
 
+-- where nothing is asked, all items are reads, and what is told is what is heard of them
 pub reads_are_heard : ReadsAreHeard
 reads_are_heard seat items signs told =
     let all = quiet seat first_telling told.turns told.plain told.asked in
@@ -135,6 +136,7 @@ answered seat (Answers one more) back query front reads last other asked plain t
       | inr h ↦ absurd (other (read-at h.0 reads last (subst (λ (is : List Item). All IsRead is) h.2 further.0)))
     ]
 
+-- of one query its answer is told, with the first of the reads behind its last item, and then the others
 pub one_query_is_told : OneQueryIsTold
 one_query_is_told seat query front reads last signs other told =
     let first = first-turn seat idle_state fresh told.turns query.line (front ++ last ∷ reads) (Query query) tt told.plain told.asked told.trace in
@@ -162,6 +164,7 @@ ended seat (Leaves one n rolled unlistened) back parting line asked plain asks =
           ∙ ap (λ (p : Parting). map Some (farewell p) ++ None ∷ map Some (flat_map heard (items_of back))) same,
     )
 
+-- of one end the farewell is told, the end, and then what is heard of reads
 pub one_end_is_told : OneEndIsTold
 one_end_is_told seat parting line n items signs told =
     let first = first-turn seat idle_state fresh told.turns n items (End line parting) tt told.plain told.asked told.trace in
@@ -219,6 +222,7 @@ one-settled seat t (Hears reads ∷ turns) settled h e =
           (sym (map-append Some (flat_map heard reads) (flat_map heard further.before)) ∙ ap (λ (bytes : List ℕ). map Some bytes) (sym (flat_map-append heard reads further.before)));
     }
 
+-- of one thing that is settled its answer is told, whole, between what is heard before it and behind it
 pub one_settled_is_told : OneSettledIsTold
 one_settled_is_told seat settled items signs told =
     let all = one-settled seat first_telling told.turns settled told.plain told.asked in
@@ -248,6 +252,7 @@ discarded-all seat (Discards one refused unlistened) back line n items asked pla
       told = bare bytes (signs_said seat behind back) ∙ ap (λ (l : List (Option ℕ)). map Some bytes ++ l) further.1;
     }
 
+-- of one `DISCARD ALL` its answer is told, with the reads behind its two lines, and then the other reads
 pub one_discard_is_told : OneDiscardIsTold
 one_discard_is_told seat line n items signs told =
     let first = first-turn seat idle_state fresh told.turns n items (Discard line) tt told.plain told.asked told.trace in

@@ -70,5 +70,6 @@ walk-from s (turn ∷ turns) rest h =
     ∙ ap (λ (t : State). fold after_item t (items_of turns)) (turn-along (lines_of turns ++ rest) s turn (All-head IsPlain turn turns h))
     ∙ walk-from (after_turn s turn) turns rest (All-tail IsPlain turn turns h)
 
+-- the walk over a section's trace is the one from turn to turn
 pub turns_walk : TurnsWalk
 turns_walk section turns rest e plain = ap (λ (ls : List ScriptLine). fold after_item (with_rest ls idle_state) (items_of turns)) e ∙ walk-from idle_state turns rest plain

@@ -151,3 +151,39 @@ extended_bytes = 69 ∷ 0 ∷ 0 ∷ 0 ∷ 66 ∷ (codes "SFATAL" ++ 0 ∷ (codes
 -- a client sets its name, and leaves; the next one asks
 abbrev pub named_before : List Turn
 named_before = Settles sets_name ∷ Leaves Plain 1 [] [] ∷ []
+
+-- a name of 64 letters, which is cut to 63; of 63; of 64 in quotes, the first of them great; and of 62 with a character of three bytes
+abbrev pub long_listen : Asked
+long_listen = record { line = 1; text = codes "LISTEN aaaaaaaaaaaaaaaaaaaaaaaaaaaaaaaaaaaaaaaaaaaaaaaaaaaaaaaaaaaaaaaa"; command = command.Listen (codes "aaaaaaaaaaaaaaaaaaaaaaaaaaaaaaaaaaaaaaaaaaaaaaaaaaaaaaaaaaaaaaa"); wording = wording.Plain }
+
+abbrev pub short_listen : Asked
+short_listen = record { line = 1; text = codes "LISTEN aaaaaaaaaaaaaaaaaaaaaaaaaaaaaaaaaaaaaaaaaaaaaaaaaaaaaaaaaaaaaaa"; command = command.Listen (codes "aaaaaaaaaaaaaaaaaaaaaaaaaaaaaaaaaaaaaaaaaaaaaaaaaaaaaaaaaaaaaaa"); wording = wording.Plain }
+
+abbrev pub quoted_listen : Asked
+quoted_listen = record { line = 1; text = codes "LISTEN \"Aaaaaaaaaaaaaaaaaaaaaaaaaaaaaaaaaaaaaaaaaaaaaaaaaaaaaaaaaaaaaaaa\""; command = command.Listen (codes "Aaaaaaaaaaaaaaaaaaaaaaaaaaaaaaaaaaaaaaaaaaaaaaaaaaaaaaaaaaaaaaa"); wording = wording.Plain }
+
+abbrev pub wide_listen : Asked
+wide_listen = record { line = 1; text = codes "LISTEN aaaaaaaaaaaaaaaaaaaaaaaaaaaaaaaaaaaaaaaaaaaaaaaaaaaaaaaaaaaaaa" ++ 226 ∷ 130 ∷ 172 ∷ []; command = command.Listen (codes "aaaaaaaaaaaaaaaaaaaaaaaaaaaaaaaaaaaaaaaaaaaaaaaaaaaaaaaaaaaaaa"); wording = wording.Plain }
+
+abbrev pub listened_items : List Item
+listened_items = item.Line 1 ∷ item.Enlist 3 3 ∷ item.Reply tag.Listen None ∷ []
+
+-- N with the length 0xc2, and its fields, for the first of them, the third and the last
+abbrev pub notice_with : List ℕ → List ℕ
+notice_with text = 78 ∷ 0 ∷ 0 ∷ 0 ∷ 194 ∷ (codes "SNOTICE" ++ 0 ∷ (codes "VNOTICE" ++ 0 ∷ (codes "C42622" ++ 0 ∷ (77 ∷ text ++ 0 ∷ 0 ∷ []))))
+
+abbrev pub long_notice : List ℕ
+long_notice = notice_with (codes "identifier \"aaaaaaaaaaaaaaaaaaaaaaaaaaaaaaaaaaaaaaaaaaaaaaaaaaaaaaaaaaaaaaaa\" will be truncated to \"aaaaaaaaaaaaaaaaaaaaaaaaaaaaaaaaaaaaaaaaaaaaaaaaaaaaaaaaaaaaaaa\"")
+
+abbrev pub quoted_notice : List ℕ
+quoted_notice = notice_with (codes "identifier \"Aaaaaaaaaaaaaaaaaaaaaaaaaaaaaaaaaaaaaaaaaaaaaaaaaaaaaaaaaaaaaaaa\" will be truncated to \"Aaaaaaaaaaaaaaaaaaaaaaaaaaaaaaaaaaaaaaaaaaaaaaaaaaaaaaaaaaaaaaa\"")
+
+abbrev pub wide_notice : List ℕ
+wide_notice = notice_with (codes "identifier \"aaaaaaaaaaaaaaaaaaaaaaaaaaaaaaaaaaaaaaaaaaaaaaaaaaaaaaaaaaaaaa" ++ 226 ∷ 130 ∷ 172 ∷ codes "\" will be truncated to \"aaaaaaaaaaaaaaaaaaaaaaaaaaaaaaaaaaaaaaaaaaaaaaaaaaaaaaaaaaaaaa\"")
+
+-- in a failed block
+abbrev pub failed_listen : Asked
+failed_listen = record long_listen { line = 4 }
+
+abbrev pub failed_listen_items : List Item
+failed_listen_items = failed_items ++ item.Line 4 ∷ item.Refuse refused.Aborted ∷ []

@@ -20,7 +20,7 @@ use Rattle.pgn_turns.specs.declared.asked.Ask.{Ask}
 use Rattle.pgn_turns.specs.declared.asked.Ask.TheVariants.{Query, Settle, Discard, End}
 use Rattle.pgn_turns.specs.declared.asked.Parting.{Parting}
 use Rattle.pgn_turns.specs.Asks.{GoOnFrom, lines_for, script_of}
-use Rattle.pgn_turns.specs.Served.{discard_answer, settled_answer, told_answer}
+use Rattle.pgn_turns.specs.Served.{cut_notices, discard_answer, settled_answer, told_answer}
 use Rattle.pgn_turns.specs.Turns.{Turn, Answers, Hears, Leaves, Settles, Discards, IsPlain, IsRead, MayBeTold, after_line, after_turn, after_turns, asked_in, asks_of, farewell, heard, idle_state, items_in, items_of, lines_of, said, signs_in, signs_said, telling_after, telling_of}
 
 -- what a turn more adds, at the seat with this number
@@ -137,13 +137,14 @@ abbrev pub IsNoCall : Command → Type 0
 IsNoCall (PgNotify note) = ⊥
 IsNoCall command = Unit {0}
 
--- a query is answered as in the messages of a trace: its answer is put as the session answers it, it is no call of pg_notify, and asks not
--- for the queue's usage
+-- a query is answered as in the messages of a trace: its answer is put as the session answers it, it is no call of pg_notify, asks not for
+-- the queue's usage, and has no name that is cut
 pub record IsAnsweredAlike (query : Asked) (more : List Item) : Type 0 where
   pub one_line : list_any begins_line more ≡ false
   pub no_usage : list_any shows_usage more ≡ false
   pub as_usual : query.wording ≡ wording.Plain
   pub no_call : IsNoCall query.command
+  pub uncut : cut_notices query ≡ []
 
 -- the turn answers a query so
 abbrev pub IsAnswer : Turn → Type 0

@@ -2,6 +2,8 @@
 pub mod Asks
 -- what a client of a service is answered
 pub mod Served
+-- and of names that are cut
+pub mod Cutting
 -- a session's trace in turns, and what is told of them
 pub mod Turns
 -- what clients are told, piece by piece

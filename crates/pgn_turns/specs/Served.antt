@@ -1,15 +1,18 @@
 -- What a client of a service is answered, byte by byte: as a server puts it.
-use Rattle.std.specs.Prelude.{ℕ, ◌+◌, cond, bytes_eq, List, [], ◌++◌, codes, decimal, flat_map}
-use Rattle.pgn_base.specs.declared.limits.TheConstants.{PID_BASE}
+use Rattle.std.specs.Prelude.{ℕ, ◌+◌, cond, bytes_eq, nat_le, List, [], ◌++◌, codes, decimal, flat_map, length}
+use Rattle.std.specs.Str.{str_to_ascii_lowercase}
+use Rattle.pgn_base.specs.declared.limits.TheConstants.{NAME_BYTES_MAX, PID_BASE}
 use Rattle.pgn_base.specs.declared.answers.Refusal.{Refusal}
 use Rattle.pgn_base.specs.declared.answers.Refusal.TheVariants.{Syntax, Bounds, Aborted, QueueFull}
 use Rattle.pgn_base.specs.declared.command.Command.{Command}
-use Rattle.pgn_base.specs.declared.command.Command.TheVariants.{PgNotify}
+use Rattle.pgn_base.specs.declared.command.Command.TheVariants.{Listen, Notify, PgNotify, Release, RollbackTo, Savepoint, Unlisten}
 use Rattle.pgn_answers.specs.declared.block_state.BlockState.{BlockState}
 use Rattle.pgn_answers.specs.declared.block_state.BlockState.TheVariants.{Idle, InBlock, Failed}
 use Rattle.pgn_model.specs.declared.item.Item.{Item}
 use Rattle.pgn_model.specs.declared.item.Item.TheVariants.{Reply, Refuse, Channels, Used, Read}
-use Rattle.pgn_messages.specs.Server.{columns, complete, completed, described, error, error_of, fraction, notification, ready, row, status}
+use Rattle.pgn_language.specs.Grammar.{cut}
+use Rattle.pgn_language.specs.Tokens.{Lexeme, Token, Quoted, Word, tokens}
+use Rattle.pgn_messages.specs.Server.{columns, complete, completed, cut_notice, described, error, error_of, fraction, notification, ready, row, status}
 use Rattle.pgn_messages.specs.Messages.{first_message, notices}
 use Rattle.pgn_requests.specs.declared.complaint.Complaint.{Complaint}
 use Rattle.pgn_requests.specs.declared.complaint.Wording.{Wording}
@@ -52,9 +55,36 @@ told_item query (Used usage) = described (codes "pg_notification_queue_usage") 7
 told_item query (Read from to got) = flat_map notification got
 told_item query item = []
 
--- the whole answer to a query: the messages of the items of its line, and ReadyForQuery with the block's state after them
+-- the name of a command that is an identifier in its text
+abbrev pub identifier_in : Command → List ℕ
+identifier_in (Listen name) = name
+identifier_in (Unlisten name) = name
+identifier_in (Notify note) = note.channel
+identifier_in (Savepoint name) = name
+identifier_in (RollbackTo name) = name
+identifier_in (Release name) = name
+identifier_in other = []
+
+-- the notice that a name is cut, where it is
+abbrev pub name_notice : List ℕ → List ℕ
+name_notice name = cond (nat_le (length name) NAME_BYTES_MAX) [] (cut_notice name (cut NAME_BYTES_MAX name))
+
+-- that of a token: a word is told in lower case
+abbrev pub lexeme_notice : Lexeme → List ℕ
+lexeme_notice (Word text) = name_notice (str_to_ascii_lowercase text)
+lexeme_notice (Quoted text) = name_notice text
+lexeme_notice other = []
+
+abbrev pub token_notice : Token → List ℕ
+token_notice token = lexeme_notice token.lexeme
+
+-- the notices of a query, in whose text an identifier may be cut: a character has at most four bytes, so a cut name has 60 at least
+abbrev pub cut_notices : Asked → List ℕ
+cut_notices query = cond (nat_le 60 (length (identifier_in query.command))) (flat_map token_notice (tokens query.text)) []
+
+-- the whole answer to a query: what is cut in it, the messages of the items of its line, and ReadyForQuery with the block's state after them
 abbrev pub told_answer : Asked → List Item → BlockState → List ℕ
-told_answer query items state = first_message query.command ++ flat_map (told_item query) items ++ ready state
+told_answer query items state = cut_notices query ++ first_message query.command ++ flat_map (told_item query) items ++ ready state
 
 -- the message of a setting that has another value now
 abbrev pub changed_status : List Entry → List Entry → Setting → List ℕ

@@ -6,6 +6,7 @@ ghost use Rattle.pgn_messages.specs.Messages.{notices};
 ghost use Rattle.pgn_turns.specs.Served.{call_column, call_rows, complained, told_answer, told_item, told_refusal};
 
 use crate::Asked;
+use crate::cutting::put_cut_notices;
 use crate::wordings::code_of_cause;
 use pgn_answers::BlockState;
 use pgn_base::{Command, Refusal, Tag, Usage, Warning};
@@ -14,7 +15,7 @@ use pgn_model::Item;
 use pgn_requests::{Complaint, Wording};
 use std::alloc::{AllocError, Global};
 
-/// The whole answer to a query: the messages of the items of its line behind the line itself, and ReadyForQuery with the block's state
+/// The whole answer to a query: what is cut in it, the messages of the items of its line behind the line itself, and ReadyForQuery with the block's state
 /// after them.
 pub fn answer_of(
     alloc: Global,
@@ -25,6 +26,7 @@ pub fn answer_of(
     ensures { IfOk result (λ bytes. bytes ≡ told_answer query.now items.now state) }
 {
     let mut bytes = Bytes::new(alloc);
+    put_cut_notices(alloc, &mut bytes, query)?;
     bytes.put_first(&query.command)?;
     put_items(alloc, &mut bytes, query, items)?;
     bytes.put_ready(state)?;
@@ -70,7 +72,8 @@ fn put_reply(
     tag: &Tag,
     warning: &Option<Warning>,
 ) -> Result<(), AllocError>
-    ensures { OnOk result (bytes.new ≡ bytes.old ++ (notices warning.now ++ call_rows command.now ++ complete tag.now)) }
+    ensures { OnOk result (bytes.new ≡ bytes.old
+        ++ (notices warning.now ++ call_rows command.now ++ complete tag.now)) }
 {
     bytes.put_warning(warning)?;
     put_call_rows(bytes, command)?;
@@ -105,7 +108,8 @@ fn put_call_column(bytes: &mut Bytes) -> Result<(), AllocError>
 
 // The row of the queue's usage.
 fn put_usage(alloc: Global, bytes: &mut Bytes, usage: &Usage) -> Result<(), AllocError>
-    ensures { OnOk result (bytes.new ≡ bytes.old ++ (described (codes "pg_notification_queue_usage") 701 8 ++ row (fraction usage.now))) }
+    ensures { OnOk result (bytes.new ≡ bytes.old
+        ++ (described (codes "pg_notification_queue_usage") 701 8 ++ row (fraction usage.now))) }
 {
     bytes.put_described(b"pg_notification_queue_usage", 701, 8)?;
     bytes.put_fraction(alloc, usage)?;
@@ -120,7 +124,8 @@ fn put_refusal(
     wording: &Wording,
     refusal: &Refusal,
 ) -> Result<(), AllocError>
-    ensures { OnOk result (bytes.new ≡ bytes.old ++ told_refusal command.now wording.now refusal.now) }
+    ensures { OnOk result (bytes.new ≡ bytes.old
+        ++ told_refusal command.now wording.now refusal.now) }
 {
     match refusal {
         Refusal::QueueFull => {

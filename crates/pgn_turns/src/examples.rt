@@ -16,7 +16,7 @@ ghost use Rattle.pgn_turns.specs.Asks.{GoOnFrom, discard_line, line_of, rollback
 ghost use Rattle.pgn_turns.specs.Served.{settled_answer};
 ghost use Rattle.pgn_turns.specs.Turns.{Answers, Discards, Hears, IsPlain, Leaves, MayBeTold, Settles, signs_in, telling_of};
 ghost use Rattle.pgn_turns.specs.Examples.{begin, begin_bytes, between_items, call, call_items, early_items, idle_items, in_block_items, left_asks, left_items, listen, listen_bytes, notify, other_bytes, own_bytes, own_items, refused_bytes, rowless_bytes, seat_section, second_notify, sent_by, spent_bytes, two_clients};
-ghost use Rattle.pgn_turns.specs.Conversations.{aborted_bytes, begin_first, call_bytes, colour, colour_bytes, colour_items, discarded_bytes, empty_call, empty_call_bytes, empty_call_items, endless_bytes, extended_bytes, failed_items, failing_asks, failing_items, idle_bytes, in_block_bytes, measure, measure_bytes, measure_items, name_bytes, named_before, one_bytes, process_bytes, reset_bytes, resets_name, same_status_bytes, set_bytes, sets_digits, sets_name, sets_nothing, show_bytes, shows_name, unreported_bytes, version_bytes};
+ghost use Rattle.pgn_turns.specs.Conversations.{aborted_bytes, begin_first, call_bytes, colour, colour_bytes, colour_items, discarded_bytes, empty_call, empty_call_bytes, empty_call_items, endless_bytes, extended_bytes, failed_items, failed_listen, failed_listen_items, failing_asks, failing_items, idle_bytes, in_block_bytes, listened_items, long_listen, long_notice, measure, measure_bytes, measure_items, name_bytes, named_before, one_bytes, process_bytes, quoted_listen, quoted_notice, reset_bytes, resets_name, same_status_bytes, set_bytes, sets_digits, sets_name, sets_nothing, show_bytes, short_listen, shows_name, unreported_bytes, version_bytes, wide_listen, wide_notice};
 
 /// Traces of seats, and what their clients are told of them, byte by byte.
 pub fn told()
@@ -67,6 +67,20 @@ pub fn answered()
     // A refusal that is no syntax error.
     ensures complained { MayBeTold 1 (Query colour ∷ []) colour_items (map Some colour_bytes) }
     ensures extended { MayBeTold 1 (End 1 Extended ∷ []) early_items (map Some extended_bytes ++ None ∷ []) }
+{}
+
+/// Names that are cut, and one that is not.
+pub fn cut_names()
+    ensures long { MayBeTold 1 (Query long_listen ∷ []) listened_items (map Some (long_notice ++ listen_bytes)) }
+    ensures short { MayBeTold 1 (Query short_listen ∷ []) listened_items (map Some listen_bytes) }
+    // A quoted name is told as it is, and a whole character is cut.
+    ensures quoted { MayBeTold 1 (Query quoted_listen ∷ []) listened_items (map Some (quoted_notice ++ listen_bytes)) }
+    ensures wide { MayBeTold 1 (Query wide_listen ∷ []) listened_items (map Some (wide_notice ++ listen_bytes)) }
+    // Before the refusal of a failed block.
+    ensures in_failed_block { MayBeTold 1 (Query begin_first ∷ Discard 2 ∷ Query failed_listen ∷ []) failed_listen_items (map Some (begin_bytes ++ in_block_bytes ++ long_notice ++ aborted_bytes)) }
+    // Not without a word, and not where nothing is cut.
+    ensures no_notice { MayBeTold 1 (Query long_listen ∷ []) listened_items (map Some listen_bytes) → ⊥ }
+    ensures needless { MayBeTold 1 (Query short_listen ∷ []) listened_items (map Some (long_notice ++ listen_bytes)) → ⊥ }
 {}
 
 /// What they may not be told of what is settled.

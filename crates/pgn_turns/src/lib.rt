@@ -8,11 +8,12 @@
 //!
 //! The layers above may rely on `TurnsWalk` and `TellingWalks` in `specs/Laws`: whoever adds turn after turn walks over the trace, and
 //! knows where a teller stands: the state of the block and the client's settings. `tell_answer`, `tell_settled`, `tell_discard`,
-//! `tell_reads` and `tell_parting` put the bytes of one turn behind others.
+//! `tell_reads` and `tell_parting` give the bytes of one turn.
 #![tactic(auto)]
 
 mod answering;
 mod asked;
+mod cutting;
 pub mod examples;
 pub mod laws;
 mod lines;

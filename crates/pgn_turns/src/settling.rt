@@ -35,8 +35,10 @@ pub fn done_of(
     settings: &Settings,
     state: BlockState,
 ) -> Result<Done, AllocError>
-    ensures told { IfOk result (λ done. done.bytes ≡ settled_done seat settled.now settings.entry.now state) }
-    ensures kept { IfOk result (λ done. done.settings ≡ settled_kept settled.now settings.entry.now) }
+    ensures told { IfOk result (λ done. done.bytes
+        ≡ settled_done seat settled.now settings.entry.now state) }
+    ensures kept { IfOk result (λ done. done.settings
+        ≡ settled_kept settled.now settings.entry.now) }
 {
     let front = front_of(alloc, seat, settled, settings)?;
     let Ok(after) = settled_copy(alloc, settings, settled) else {
@@ -53,7 +55,8 @@ fn front_of(
     settled: &Settled,
     settings: &Settings,
 ) -> Result<Bytes, AllocError>
-    ensures { IfOk result (λ bytes. bytes ≡ settled_rows seat settled.now settings.entry.now ++ completed (settled_tag settled.now)) }
+    ensures { IfOk result (λ bytes. bytes ≡ settled_rows seat settled.now settings.entry.now
+        ++ completed (settled_tag settled.now)) }
 {
     let mut bytes = Bytes::new(alloc);
     put_rows(alloc, &mut bytes, seat, settled, settings)?;
@@ -68,7 +71,8 @@ fn finished(
     after: Settings,
     state: BlockState,
 ) -> Result<Done, AllocError>
-    ensures told { IfOk result (λ done. done.bytes ≡ front ++ statuses before.entry.now after ++ ready state) }
+    ensures told { IfOk result (λ done. done.bytes ≡ front ++ statuses before.entry.now after
+        ++ ready state) }
     ensures kept { IfOk result (λ done. done.settings ≡ after) }
 {
     let mut bytes = front;
@@ -90,7 +94,8 @@ fn put_end(
     after: &Settings,
     state: BlockState,
 ) -> Result<(), AllocError>
-    ensures { OnOk result (bytes.new ≡ bytes.old ++ statuses before.entry.now after.entry.now ++ ready state) }
+    ensures { OnOk result (bytes.new ≡ bytes.old ++ statuses before.entry.now after.entry.now
+        ++ ready state) }
 {
     put_statuses(bytes, before, after)?;
     bytes.put_ready(state)?;
@@ -125,7 +130,8 @@ fn put_rows(
     settled: &Settled,
     settings: &Settings,
 ) -> Result<(), AllocError>
-    ensures { OnOk result (bytes.new ≡ bytes.old ++ settled_rows seat settled.now settings.entry.now) }
+    ensures { OnOk result (bytes.new ≡ bytes.old
+        ++ settled_rows seat settled.now settings.entry.now) }
 {
     match settled {
         Settled::Shows { setting } => put_shown(bytes, *setting, settings),
@@ -138,7 +144,8 @@ fn put_rows(
 
 // A setting, and its value.
 fn put_shown(bytes: &mut Bytes, setting: Setting, settings: &Settings) -> Result<(), AllocError>
-    ensures { OnOk result (bytes.new ≡ bytes.old ++ (columns (setting_name setting) ++ row (value_in settings.entry.now.now setting))) }
+    ensures { OnOk result (bytes.new ≡ bytes.old
+        ++ (columns (setting_name setting) ++ row (value_in settings.entry.now.now setting))) }
 {
     bytes.put_columns(setting_name(setting).as_bytes())?;
     bytes.put_row(settings.value(setting))?;
@@ -146,7 +153,8 @@ fn put_shown(bytes: &mut Bytes, setting: Setting, settings: &Settings) -> Result
 }
 
 fn put_one(bytes: &mut Bytes) -> Result<(), AllocError>
-    ensures { OnOk result (bytes.new ≡ bytes.old ++ (described (codes "?column?") 23 4 ++ row (codes "1"))) }
+    ensures { OnOk result (bytes.new ≡ bytes.old
+        ++ (described (codes "?column?") 23 4 ++ row (codes "1"))) }
 {
     bytes.put_described(b"?column?", 23, 4)?;
     bytes.put_row(b"1")?;
@@ -154,7 +162,8 @@ fn put_one(bytes: &mut Bytes) -> Result<(), AllocError>
 }
 
 fn put_version(bytes: &mut Bytes) -> Result<(), AllocError>
-    ensures { OnOk result (bytes.new ≡ bytes.old ++ (columns (codes "version") ++ row version_text)) }
+    ensures { OnOk result (bytes.new ≡ bytes.old
+        ++ (columns (codes "version") ++ row version_text)) }
 {
     bytes.put_columns(b"version")?;
     bytes.put_row(service_version())?;
@@ -163,7 +172,8 @@ fn put_version(bytes: &mut Bytes) -> Result<(), AllocError>
 
 // The process number of a seat's clients.
 fn put_process(alloc: Global, bytes: &mut Bytes, seat: SessionNo) -> Result<(), AllocError>
-    ensures { OnOk result (bytes.new ≡ bytes.old ++ (described (codes "pg_backend_pid") 23 4 ++ row (decimal (PID_BASE + seat)))) }
+    ensures { OnOk result (bytes.new ≡ bytes.old
+        ++ (described (codes "pg_backend_pid") 23 4 ++ row (decimal (PID_BASE + seat)))) }
 {
     let mut number = Bytes::new(alloc);
     number.put_decimal(u64::from(PID_BASE + seat.get()))?;
@@ -179,7 +189,9 @@ pub fn discard_done(
     refused: &[Item],
     unlistened: &[Item],
 ) -> Result<Done, AllocError>
-    ensures told { IfOk result (λ done. done.bytes ≡ discard_answer Idle settings.entry.now (flat_map heard refused.now ++ flat_map heard unlistened.now)) }
+    ensures told { IfOk result (λ done. done.bytes
+        ≡ discard_answer Idle settings.entry.now
+        (flat_map heard refused.now ++ flat_map heard unlistened.now)) }
     ensures kept { IfOk result (λ done. done.settings ≡ set_back settings.entry.now) }
 {
     let front = discard_front(alloc, refused, unlistened)?;
@@ -192,7 +204,8 @@ pub fn discard_done(
 
 // Its end, and what is heard meanwhile.
 fn discard_front(alloc: Global, refused: &[Item], unlistened: &[Item]) -> Result<Bytes, AllocError>
-    ensures { IfOk result (λ bytes. bytes ≡ completed (codes "DISCARD ALL") ++ (flat_map heard refused.now ++ flat_map heard unlistened.now)) }
+    ensures { IfOk result (λ bytes. bytes ≡ completed (codes "DISCARD ALL")
+        ++ (flat_map heard refused.now ++ flat_map heard unlistened.now)) }
 {
     let mut bytes = Bytes::new(alloc);
     bytes.put_completed(b"DISCARD ALL")?;
@@ -206,7 +219,8 @@ pub fn discard_in_block(
     refused: &[Item],
     unlistened: &[Item],
 ) -> Result<Bytes, AllocError>
-    ensures { IfOk result (λ bytes. bytes ≡ discard_error ++ (flat_map heard refused.now ++ flat_map heard unlistened.now) ++ ready Failed) }
+    ensures { IfOk result (λ bytes. bytes ≡ discard_error
+        ++ (flat_map heard refused.now ++ flat_map heard unlistened.now) ++ ready Failed) }
 {
     let mut bytes = Bytes::new(alloc);
     bytes.put_error_of(
@@ -224,7 +238,8 @@ pub fn discard_ignored(
     refused: &[Item],
     unlistened: &[Item],
 ) -> Result<Bytes, AllocError>
-    ensures { IfOk result (λ bytes. bytes ≡ error Aborted ++ (flat_map heard refused.now ++ flat_map heard unlistened.now) ++ ready Failed) }
+    ensures { IfOk result (λ bytes. bytes ≡ error Aborted
+        ++ (flat_map heard refused.now ++ flat_map heard unlistened.now) ++ ready Failed) }
 {
     let mut bytes = Bytes::new(alloc);
     put_aborted(alloc, &mut bytes)?;
@@ -235,7 +250,8 @@ pub fn discard_ignored(
 
 // What is heard by the items of two lines.
 fn put_both(bytes: &mut Bytes, first: &[Item], second: &[Item]) -> Result<(), AllocError>
-    ensures { OnOk result (bytes.new ≡ bytes.old ++ (flat_map heard first.now ++ flat_map heard second.now)) }
+    ensures { OnOk result (bytes.new ≡ bytes.old
+        ++ (flat_map heard first.now ++ flat_map heard second.now)) }
 {
     put_reads(bytes, first)?;
     put_reads(bytes, second)?;

@@ -40,7 +40,8 @@ fn put_each_changed(
     before: &Settings,
     after: &Settings,
 ) -> Result<(), AllocError>
-    ensures { OnOk result (bytes.new ≡ bytes.old ++ flat_map (changed_status before.entry.now.now after.entry.now.now) reported.now) }
+    ensures { OnOk result (bytes.new ≡ bytes.old
+        ++ flat_map (changed_status before.entry.now.now after.entry.now.now) reported.now) }
 {
     for setting in reported {
         put_changed(bytes, *setting, before, after)?;
@@ -55,7 +56,8 @@ fn put_changed(
     before: &Settings,
     after: &Settings,
 ) -> Result<(), AllocError>
-    ensures { OnOk result (bytes.new ≡ bytes.old ++ changed_status before.entry.now.now after.entry.now.now setting) }
+    ensures { OnOk result (bytes.new ≡ bytes.old
+        ++ changed_status before.entry.now.now after.entry.now.now setting) }
 {
     let value = after.value(setting);
     if before.value(setting) == value {

@@ -1,6 +1,6 @@
 #![tactic(auto, using(pgn_messages::proofs::BytesLaws::joins))]
 
-ghost use Rattle.std.specs.Prelude.{◌≡◌, ◌++◌, flat_map, IfOk, OnErr, OnOk};
+ghost use Rattle.std.specs.Prelude.{◌≡◌, ◌++◌, flat_map, IfOk, OnOk};
 ghost use Rattle.pgn_turns.specs.Turns.{farewell, heard};
 
 use crate::Parting;
@@ -8,33 +8,20 @@ use pgn_messages::Bytes;
 use pgn_model::Item;
 use std::alloc::{AllocError, Global};
 
-/// Puts what a client is told of these reads, between two lines, at the end: a notification for each delivery, at once. Where memory
-/// does not suffice `out` is as it was.
-pub fn tell_reads(alloc: Global, out: &mut Vec<u8>, reads: &[Item]) -> Result<(), AllocError>
-    ensures told { OnOk result (out.new.items ≡ out.old.items ++ flat_map heard reads.now) }
-    ensures unchanged { OnErr result (out.new.items ≡ out.old.items) }
+/// What a client is told of these reads, between two lines: a notification for each delivery, at once.
+pub fn tell_reads(alloc: Global, reads: &[Item]) -> Result<Vec<u8>, AllocError>
+    ensures { IfOk result (λ bytes. bytes.items ≡ flat_map heard reads.now) }
 {
     let bytes = all_heard(alloc, reads)?;
-    put(out, bytes)
+    Ok(bytes.into_vec())
 }
 
-/// Puts what a client is told of its own end at the end. Where memory does not suffice `out` is as it was.
-pub fn tell_parting(alloc: Global, out: &mut Vec<u8>, parting: Parting) -> Result<(), AllocError>
-    ensures told { OnOk result (out.new.items ≡ out.old.items ++ farewell parting) }
-    ensures unchanged { OnErr result (out.new.items ≡ out.old.items) }
+/// What a client is told of its own end.
+pub fn tell_parting(alloc: Global, parting: Parting) -> Result<Vec<u8>, AllocError>
+    ensures { IfOk result (λ bytes. bytes.items ≡ farewell parting) }
 {
     let bytes = farewell_of(alloc, parting)?;
-    put(out, bytes)
-}
-
-/// Puts these bytes at the end. Where memory does not suffice `out` is as it was.
-pub fn put(out: &mut Vec<u8>, bytes: Bytes) -> Result<(), AllocError>
-    ensures told { OnOk result (out.new.items ≡ out.old.items ++ bytes) }
-    ensures unchanged { OnErr result (out.new.items ≡ out.old.items) }
-{
-    let put = out.extend_from_slice(bytes.as_slice());
-    drop(bytes);
-    put
+    Ok(bytes.into_vec())
 }
 
 // What is heard by these items.

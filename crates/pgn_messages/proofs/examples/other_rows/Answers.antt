@@ -22,5 +22,8 @@ returns-clause-value_first c e = apart 85 84 refl (ap (byte_at 5) e)
 pub returns-clause-severity : goal.returns-clause-severity
 returns-clause-severity c e = apart 69 70 refl (ap (byte_at 6) e)
 
+pub returns-clause-cut_first : goal.returns-clause-cut_first
+returns-clause-cut_first c e = apart 34 98 refl (ap (byte_at 42) e)
+
 pub returns-clause-zeros_at_end : goal.returns-clause-zeros_at_end
 returns-clause-zeros_at_end c e = apart 3 10 refl (ap length e)
