@@ -13,6 +13,7 @@ with_mark Joining mark at h = absurd (cc)
 with_mark Based mark at h = absurd (cc)
 with_mark Registered mark at h = refl
 
+-- a pass at rest that has a mark is registered with it
 pub listens : (v : View) → IsAtRest v → IsSome v.known.mark → v.post.listen ≡ Registered
 listens v rest some = with_mark v.post.listen v.post.mark v.post.at (subst (λ (m : Option ℕ). IsSome m) rest.listens some)
 

@@ -171,6 +171,7 @@ may_look_second v w seat mark at holder h = record { second = h.look; next = h.l
 abbrev pub looking_on : Option ℕ → View → View
 looking_on joins v = record v { eye = record v.eye { joins = joins } }
 
+-- only what it has found of such a session has changed
 abbrev pub IsLookingOn : View → View → Type 0
 IsLookingOn v w = w ≡ looking_on w.eye.joins v
 
@@ -189,6 +190,7 @@ met_needed format seen seat target (words.At mark at) placed =
     (let is = placed.at_is in let low = min-le_left at target in omega (arith, is, low))
     (All-nil (λ (pair : ℕ × ℕ). min at target ≤ place format seen pair.1))
 
+-- at the next seat the second look goes on, with the floor as it is once that seat is met
 pub second_goes_on : (v w x : View) (seat mark at mark2 at2 : ℕ) (holder holder2 : Option ℕ) (found : PosWord) → v.known.mark ≡ listens_at v.post → length (image v.setup.format v.known.seen) < 2 ^ 32 → (found ≡ words.Joining → ⊥)
     → HasSeenSecond v w seat mark at holder → HasLookedSecond w seat found x → Meets seat found mark at holder mark2 at2 holder2 → HasSeenSecond v x (seat + 1) mark2 at2 holder2
 second_goes_on v w x seat mark at mark2 at2 holder holder2 found listens small settled h looked meets =

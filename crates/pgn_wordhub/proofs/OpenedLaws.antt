@@ -48,6 +48,7 @@ opened_seated z k s below = record {
     index : 1 + k - 1 ≡ k
     index = omega arith
 
+-- each pass of a hub that is opened is that of its seat, at rest
 pub opened_passes_are : (z : Shape) (passes : List WordPass) (k : ℕ) (d : WordPass) → map known_of passes ≡ opened_passes 1 z.seats → All IsFresh passes → k < length passes → IsHubView z (view_of (get_or passes k d))
 opened_passes_are z passes k d known fresh below =
     let long : length passes ≡ length z.seats = sym (length-map passes known_of) ∙ ap length known ∙ opened_long 1 z.seats in

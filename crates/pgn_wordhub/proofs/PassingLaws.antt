@@ -28,9 +28,6 @@ counts byte bytes some = ap (λ b. cond b 0 (byte + sum_to_zero bytes)) (by_test
     by_test true e = absurd (some (grind (arith, nat_tests)))
     by_test false e = e
 
-pub ends : (byte : ℕ) (bytes : List ℕ) → byte ≡ 0 → sum_to_zero (byte ∷ bytes) ≡ 0
-ends byte bytes none = ap (λ (n : ℕ). cond (n == 0) 0 (n + sum_to_zero bytes)) none
-
 -- a sum that begins with a byte
 sum_from : (a b : ℕ) (bytes : List ℕ) → fold ◌+◌ (a + b) bytes ≡ a + fold ◌+◌ b bytes
 sum_from a b [] = refl
@@ -106,6 +103,7 @@ left_at format cells at k x piece stands within is = sym (ap sum_to_zero (cell_i
 pub stops_with : (so_far left more bit : ℕ) → (so_far + left) % 64 ≡ bit → left ≡ more → (so_far + more) % 64 ≡ bit
 stops_with so_far left more bit is same = ap (λ n. (so_far + n) % 64) (sym same) ∙ is
 
+-- a sum goes on with what one more cell adds to it
 pub goes_with : (so_far left more rest bit : ℕ) → (so_far + left) % 64 ≡ bit → left ≡ more + rest → ((so_far + more) % 64 + rest) % 64 ≡ bit
 goes_with so_far left more rest bit is same = omega (arith, is, same)
 
@@ -123,6 +121,7 @@ none_has word (first ∷ channels) channel covers none = by_first (bytes_eq chan
         let is : (bit_at word (channel_bit channel) == 1) ≡ true = grind (arith, nat_tests) in absurd (true≢false (sym is ∙ none))
     by_first false e rest = ap (λ (b : Bool). b || has_name channels channel) e ∙ rest
 
+-- what is not so is false
 pub not_true : (b : Bool) → not b ≡ true → b ≡ false
 not_true true e = sym e
 not_true false e = refl

@@ -150,6 +150,7 @@ then_written v w x h k = record {
       ∙ ap (λ (n : List (ℕ × ℕ)). let y : View = record v { stop = x.stop; eye = x.eye; pen = record v.pen { cells = x.pen.cells; batch = x.pen.batch }; known = record v.known { named = n; advance = x.known.advance } } in y) (append_assoc v.known.named h.more k.more);
 }
 
+-- to place a batch is to write
 pub batch_written : (x y : View) → y ≡ placed_view y x → HasWritten x y
 batch_written x y is = record {
   more = [];

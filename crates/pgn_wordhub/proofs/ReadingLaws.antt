@@ -2,7 +2,6 @@
 use Rattle.std.proofs.Common.{◌≡◌, ℕ, ◌+◌, ◌*◌, ◌≤◌, ◌==◌, ◌&&◌, Bool, true, false, cond, List, [], ◌∷◌, ◌++◌, length, take, drop, Option, Result, Ok, Err, OnOk, sym, refl, ap, ◌∙◌, arith}
 use Rattle.std.proofs.lemmas.Bool.Decides.{nat_tests}
 use Rattle.std.proofs.lemmas.List.{append-nil, append_assoc, length-append, length-take, length-take-le, take_at, take-append-drop, take-append-le}
-use Rattle.std.proofs.Math.Seq.{take-append_seam}
 use borrow.Rule.Slice.PartMut.{put_mid, post_of}
 use Rattle.pgn_base.specs.Names.{has_name}
 use Rattle.pgn_base.specs.declared.format.Format.{Format}
@@ -57,10 +56,7 @@ pub due_at : (format : Format) (cells : List (Option ℕ)) (at len db : ℕ) (se
     → bytes ≡ piece_bytes format (AnEntry note sender) → IsDueEntry format db seen bytes note sender
 due_at format cells at len db seen bytes note sender entry are = record { readable = entry.stands.readable; spelling = are; of_db = entry.of_db; numbered = entry.numbered }
 
--- the first of bytes and others
-pub firsts : (len : ℕ) (bytes rest : List ℕ) → length bytes ≡ len → take len (bytes ++ rest) ≡ bytes
-firsts len bytes rest long = ap (λ n. take n (bytes ++ rest)) (sym long) ∙ take-append_seam bytes rest
-
+-- what follows from a fact holds wherever the call did not fail and the fact holds
 pub on_ok : {A E : Type 0} (r : Result A E) (P Q : Type 0) → (P → Q) → OnOk r P → OnOk r Q
 on_ok (Ok x) P Q f p = f p
 on_ok (Err e) P Q f p = p

@@ -37,6 +37,7 @@ no_unknown_mark h = let listens = h.rest.listens in absurd (cc)
 pub no_third : IsHubView two_seats third_pass → ⊥
 no_third h = h.seated.seat
 
+-- no piece stands where there are no cells
 pub nothing_stands : (format : Format) (piece : Piece) → StandsAt format [] 0 piece → ⊥
 nothing_stands format piece h = let there = cell_of format [] 0 0 (length (piece_bytes format piece)) piece h (first_cells.first format piece h.readable) in absurd (cc)
 
@@ -122,6 +123,7 @@ not_still_open h = let phase = ap (λ (v : View). v.phase) h.view in absurd (cc)
 pub not_past_the_number : (least at : ℕ) → IsFloorOf One [] [] least 4 at None → ⊥
 not_past_the_number least at h = let below = h.floor.below in omega (arith, below)
 
+-- a floor is not past a mark that was met
 pub not_past_a_mark : (least at : ℕ) → IsFloorOf One (tx_3 ∷ []) ((1, 3) ∷ []) least 4 at None → ⊥
 not_past_a_mark least at h = let low = All-head (λ (pair : ℕ × ℕ). 4 ≤ pair.1) (1, 3) [] h.floor.least in omega (arith, low)
 
@@ -234,16 +236,23 @@ pub at_the_head : IsAtHead two_seats first_pass 1 → ⊥
 unfolding image image_from
 at_the_head h = omega (arith, h)
 
+-- what no pass is, and no caller is told
 pub ruleset refused_passes = (no_holder, no_unknown_mark, no_third)
 
+-- what is no way through the cells, and no walk on it
 pub ruleset refused_ways = (no_far_number, no_other_cell, not_unfinished, not_left_out, not_past_the_head, no_way, no_walk, none_walking, no_early_end, no_stay, nothing_taken_back)
 
+-- what is no entry to be delivered
 pub ruleset refused_entries = (no_empty_entry, no_other_number, no_other_database, none_due_unfinished, no_entry_of_another, no_entry_unfinished)
 
+-- what no writer does or leaves
 pub ruleset refused_writers = (not_unshown, not_ahead, not_told, not_all, no_page_left, not_undecided, not_ended_undecided, not_still_open)
 
+-- what no look finds
 pub ruleset refused_looks = (not_past_the_number, own_seat_shows, own_seat_shows_none, no_seat_left_out, not_the_second, no_late_tail, not_the_first)
 
+-- what no advance does
 pub ruleset refused_advances = (all_seats, no_page_kept, not_told_by_looks, frees_one, frees_none, frees_after_all, frees_after_both, frees_before_all, gives_up, no_other_joiner, none_joins, none_left_to_join, freed_one, not_from_the_end, none_beside_a_joiner, no_mark_moved)
 
+-- what no writer that wakes knows or does
 pub ruleset refused_wakes = (not_signalling, both_seats, not_loaded, not_by_its_own, not_by_none, at_the_head)

@@ -40,6 +40,7 @@ published_from k l m more notes x e h =
       } in u) (append_assoc k.seen more g.more);
     }
 
+-- a queue that is full for a pass was so for it before it heard more of the journal
 pub met_full_from : (z : Shape) (k l m : Known) (more : List Tx) (notes : List Note) (full : Full) → l ≡ record k { seen = k.seen ++ more; advance = no_advance } → HasMetFull z l m notes full → HasMetFull z k m notes full
 met_full_from z k l m more notes full e h =
     let L : Known = record k { seen = k.seen ++ more; advance = no_advance } in
@@ -70,6 +71,7 @@ pub record HasSent (k l : Known) : Type 0 where
   pub left : l.notes_left ≤ k.notes_left
   pub mark : l.mark ≡ k.mark
 
+-- a publish has sent, whether it was published or met a full queue
 pub has_sent : (z : Shape) (k l : Known) (notes : List Note) (result : Result ℕ Full) → IsWithin k → IfOk result (λ x. HasPublished k l notes x) → IfErr result (λ full. HasMetFull z k l notes full) → HasSent k l
 has_sent z k l notes (Ok x) within h none =
     let left : l.notes_left ≡ k.notes_left - length notes = ap (λ (y : Known). y.notes_left) h.known in record {

@@ -38,12 +38,14 @@ next_cell bytes k below =
     let more : k + 1 ≡ suc k = omega arith in
     ap (λ (n : ℕ). take n cells) more ∙ take-suc cells k d inside ∙ ap (λ (y : Option ℕ). take k cells ++ y ∷ []) (get_or_from_slice_get cells k d d is)
 
+-- with the next cell stored there is one more of a piece's cells
 pub stores_next : (v w u : View) (bytes : List ℕ) (k x : ℕ) → w ≡ stored_more (take k (filled_cells bytes)) v → k < length bytes / 4 → x ≡ from_le_bytes w32 (drop (4 * k) bytes) → u ≡ cell_stored x w
     → u ≡ stored_more (take (k + 1) (filled_cells bytes)) v
 stores_next v w u bytes k x e below value f =
     stored_on v w u (take k (filled_cells bytes)) (Some x ∷ []) e f ∙ ap (λ n. stored_more (take k (filled_cells bytes) ++ Some n ∷ []) v) value
     ∙ ap (λ cells. stored_more cells v) (sym (next_cell bytes k below))
 
+-- once all its cells are stored, the piece is
 pub stores_all : (v w : View) (bytes : List ℕ) (k : ℕ) → w ≡ stored_more (take k (filled_cells bytes)) v → length bytes / 4 ≤ k → w ≡ stored_more (filled_cells bytes) v
 stores_all v w bytes k e past = e ∙ ap (λ cells. stored_more cells v) (take_all k (filled_cells bytes) (let all = length-filled_cells bytes in omega (arith, all, past)))
 
@@ -83,6 +85,7 @@ batch_within format sender at notes batch end room planned below =
     let cells = batches_stay.cells format sender at notes batch room planned in
     let page = batches_stay.page format at notes batch planned in omega (arith, cells, page, below)
 
+-- each entry of a planned batch ends before the pages do that are there
 pub entries_within : (format : Format) (sender : Sender) (at : ℕ) (notes : List Note) (batch : Batch) (end i : ℕ) (note : Note) → HasRoom format at → IsPlanned format at notes batch → page_of at < end → slice_get (take batch.fits notes) i ≡ Some note
     → at + length (entries_of format sender (take i (take batch.fits notes))) + length (entry_of format sender note) ≤ page_start end
 entries_within format sender at notes batch end i note room planned below e =

@@ -1,8 +1,6 @@
 -- A writer that decides about the seats one after another.
-use Rattle.std.proofs.Common.{◌≡◌, ℕ, zero, suc, ◌+◌, ◌-◌, ◌*◌, ◌/◌, ◌%◌, ◌==◌, ◌<◌, ◌≤◌, slice_index, Bool, false, List, [], ◌∷◌, ◌++◌, length, take, replicate, map, set, get_or, slice_index_or, All, sym, refl, ap, ◌∙◌, subst, arith}
+use Rattle.std.proofs.Common.{◌≡◌, ℕ, zero, suc, ◌+◌, ◌-◌, ◌==◌, ◌<◌, ◌≤◌, Bool, false, List, [], ◌∷◌, ◌++◌, length, take, replicate, map, set, get_or, slice_index_or, All, sym, refl, ap, ◌∙◌, subst, arith}
 use Rattle.std.proofs.lemmas.List.{length-take-le, length-map}
-use Rattle.std.proofs.lemmas.Nat.Bits.{bit_at-zero}
-use Rattle.std.specs.Int.{bit_at}
 use Rattle.std.proofs.Math.Seq.{take-suc, take-suc-set, set-append_seam, get_or-append_seam}
 use Rattle.std.proofs.lemmas.List.Elements.{All-push}
 use Rattle.pgn_base.specs.declared.format.Format.{Format}
@@ -16,7 +14,7 @@ use Rattle.pgn_words.specs.declared.view.Verdict.TheVariants.{Unseen, Decided}
 use Rattle.pgn_words.specs.declared.view.View.{View}
 use Rattle.pgn_words.specs.Waking.{verdict_of}
 use Rattle.pgn_lanes.specs.Behind.{Marks, is_woken, plain_behind}
-use Rattle.pgn_wordhub.specs.Wakes.{decided_as, deemed_as, signalled_as, Names, NamesFrom}
+use Rattle.pgn_wordhub.specs.Wakes.{decided_as, deemed_as, signalled_as, Names}
 
 -- of listeners, and then of others
 behind_append : (head db : ℕ) (ps qs os rs : List ℕ) → length ps ≡ length os → plain_behind head db (ps ++ qs) (os ++ rs) ≡ plain_behind head db ps os ++ plain_behind head db qs rs
@@ -25,6 +23,7 @@ behind_append head db [] qs (o ∷ os) rs same = absurd (omega (arith, same))
 behind_append head db (p ∷ ps) qs [] rs same = absurd (omega (arith, same))
 behind_append head db (p ∷ ps) qs (o ∷ os) rs same = ap (λ l. is_woken head db p o ∷ l) (behind_append head db ps qs os rs (omega (arith, same)))
 
+-- there is an answer for each listener
 pub behind_long : (head db : ℕ) (ps os : List ℕ) → length ps ≡ length os → length (plain_behind head db ps os) ≡ length ps
 behind_long head db [] os same = refl
 behind_long head db (p ∷ ps) [] same = absurd (omega (arith, same))
@@ -91,12 +90,6 @@ names_from mask answers marks i = mapped answers i ∙ ap verdict_of (sym (marks
     mapped [] k = refl
     mapped (b ∷ bs) zero = refl
     mapped (b ∷ bs) (suc k) = mapped bs k
-
--- a word of a mask that is zero names no seat
-pub none_named : (mask : List ℕ) (verdicts : List Verdict) (word i : ℕ) → slice_index mask word ≡ 0 → NamesFrom mask verdicts (64 * word) → 64 * word ≤ i → i < 64 * (word + 1) → get_or verdicts i Decided ≡ Decided
-none_named mask verdicts word i none named low high =
-    let here : i / 64 ≡ word = omega (arith, low, high) in
-    named i low ∙ ap (λ (n : ℕ). verdict_of (bit_at n (i % 64) == 1)) (ap (λ (k : ℕ). slice_index mask k) here ∙ none) ∙ ap (λ (n : ℕ). verdict_of (n == 1)) (bit_at-zero (i % 64))
 
 -- the place of a position is no later than the head
 pub place_within : (format : Format) (seen : List Tx) (head : ℕ) (found : PosWord) → head ≡ length (image format seen) → IsPositionIn format seen found → place_or head found ≤ head

@@ -1,6 +1,6 @@
 -- Laws of a reader's way over the pieces that the head shows.
 use Rattle.std.proofs.Common.{◌≡◌, ℕ, ◌+◌, ◌-◌, ◌^◌, ◌<◌, ◌≤◌, ◌==◌, ◌&&◌, Bool, true, false, cond, List, [], ◌∷◌, ◌++◌, length, take, drop, slice_get, Option, Some, None, All, sym, refl, ap, ◌∙◌, subst, arith}
-use Rattle.std.proofs.lemmas.List.{append-nil, append_assoc, length-append, length-drop, drop-drop, drop_all, get_or-drop}
+use Rattle.std.proofs.lemmas.List.{append-nil, append_assoc, length-append, length-drop, drop-drop, get_or-drop}
 use Rattle.std.proofs.Math.Seq.{drop-append_seam}
 use Rattle.std.proofs.lemmas.List.Elements.{All-head, All-tail, All-append, All-take, All-drop, All-weaker}
 use Rattle.std.proofs.lemmas.Option.{slice_get_within, get_or_from_slice_get, slice_get_read}
@@ -129,6 +129,7 @@ pub record GoesOn (format : Format) (cells : List (Option ℕ)) (fin at end : �
   pub further : at < after_bytes format at len
   pub way : IsOnWay format cells fin (after_bytes format at len) end rest later
 
+-- a way goes on over a piece whose number is below the end's
 pub goes_here : (format : Format) (cells : List (Option ℕ)) (fin at end : ℕ) (todo later : List Piece) → IsOnWay format cells fin at end todo later → at < length cells
     → (x len : ℕ) → IsCell cells (at + 2) x → IsCell cells (at + 0) len → x < fin → GoesOn format cells fin at end todo later len
 goes_here format cells fin at end todo later way before x len is first below =
@@ -237,18 +238,22 @@ ends_there format cells fin at end (piece ∷ todo) later way past =
     let within = next.within in
     let further = piece_advances.further format at piece (All-head (IsReadable format) piece (todo ++ later) way.readable) in absurd (omega (arith, within, further, past))
 
+-- a way that has come to the end of the cells ends there
 pub leads_there : (format : Format) (cells : List (Option ℕ)) (fin at end : ℕ) → Leads format cells fin at end → length cells ≤ at → at ≡ end
 leads_there format cells fin at end leads past = (ends_there format cells fin at end leads.todo leads.later leads.way past).1
 
+-- it ends at the first number that is not below the end's
 pub leads_stops : (format : Format) (cells : List (Option ℕ)) (fin at end x : ℕ) → Leads format cells fin at end → at < length cells → IsCell cells (at + 2) x → fin ≤ x → at ≡ end
 leads_stops format cells fin at end x leads before is past = (stops_here format cells fin at end leads.todo leads.later leads.way before x is past).1
 
+-- it leads on behind a piece whose number is below
 pub leads_on : (format : Format) (cells : List (Option ℕ)) (fin at end x len next : ℕ) → Leads format cells fin at end → at < length cells → IsCell cells (at + 2) x → IsCell cells (at + 0) len → x < fin → next ≡ after_bytes format at len
     → Leads format cells fin next end
 leads_on format cells fin at end x len next leads before is first below there =
     let goes = goes_here format cells fin at end leads.todo leads.later leads.way before x len is first below in
     record { todo = goes.rest; later = leads.later; way = subst (λ (n : ℕ). IsOnWay format cells fin n end goes.rest leads.later) (sym there) goes.way }
 
+-- such a piece has the length of an entry
 pub leads_long : (format : Format) (cells : List (Option ℕ)) (fin at end x len : ℕ) → Leads format cells fin at end → at < length cells → IsCell cells (at + 2) x → IsCell cells (at + 0) len → x < fin → IsEntryLength format len
 leads_long format cells fin at end x len leads before is first below =
     let goes = goes_here format cells fin at end leads.todo leads.later leads.way before x len is first below in
@@ -281,6 +286,7 @@ entry_of_db format cells at len db seen (AnEntry note sender) some of_db stands 
 }
 entry_of_db format cells at len db seen (AFiller n sender) some of_db stands long numbered = absurd (omega (arith, some, of_db))
 
+-- on the way a piece of the listener's own database is an entry that may be due
 pub turn_entry : (format : Format) (cells : List (Option ℕ)) (at d len db end : ℕ) (todo later : List Piece) (seen : List Tx) → GoesOn format cells (next_xid seen) at end todo later len → IsCell cells (at + 1) d → d ≡ db → 0 < db
     → HasEntryAt format cells at len db seen
 turn_entry format cells at d len db end todo later seen goes is same some =

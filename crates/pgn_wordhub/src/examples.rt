@@ -1,5 +1,5 @@
 //! Small cases that the definitions of this crate refuse, as theorems, and a few that they meet.
-ghost use Rattle.std.specs.Prelude.{◌≡◌, ℕ, ◌^◌, ◌*◌, ◌<◌, [], ◌∷◌, List, Option, Some, None};
+ghost use Rattle.std.specs.Prelude.{ℕ, [], ◌∷◌, List, Option, Some, None};
 ghost use Rattle.pgn_base.specs.declared.note.Delivery.{Delivery};
 ghost use Rattle.pgn_base.specs.declared.format.Format.{Format};
 ghost use Rattle.pgn_base.specs.declared.format.Format.TheVariants.{One};

@@ -23,9 +23,11 @@ pub(crate) struct Floor {
 impl Floor {
     // A session was met at a mark.
     fn meet(&mut self, session: SessionNo, mark: Xid, at: Pos)
-        ensures met { (format : Format) (seen : List Tx) (met : List (ℕ × ℕ)) (least : ℕ) → length (image format seen) < 2 ^ 32 → IsPlacedIn format seen mark at
+        ensures met { (format : Format) (seen : List Tx) (met : List (ℕ × ℕ)) (least : ℕ)
+            → length (image format seen) < 2 ^ 32 → IsPlacedIn format seen mark at
             → IsFloorOf format seen met least self.old.mark self.old.at self.old.holder
-            → IsFloorOf format seen (met ++ (session, mark) ∷ []) (min (packed mark at) least) self.new.mark self.new.at self.new.holder }
+            → IsFloorOf format seen (met ++ (session, mark) ∷ []) (min (packed mark at) least)
+            self.new.mark self.new.at self.new.holder }
     {
         if mark < self.mark {
             self.mark = mark;
@@ -39,9 +41,11 @@ impl Floor {
     // A look has found a position at a seat.
     pub(crate) fn meet_at(&mut self, seat: u32, position: PosWord)
         requires { seat < SECTIONS_MAX }
-        ensures met { (format : Format) (seen : List Tx) (met : List (ℕ × ℕ)) (least : ℕ) → length (image format seen) < 2 ^ 32 → IsPositionIn format seen position
+        ensures met { (format : Format) (seen : List Tx) (met : List (ℕ × ℕ)) (least : ℕ)
+            → length (image format seen) < 2 ^ 32 → IsPositionIn format seen position
             → IsFloorOf format seen met least self.old.mark self.old.at self.old.holder
-            → IsFloorOf format seen (met ++ met_at seat position) (least_after position least) self.new.mark self.new.at self.new.holder }
+            → IsFloorOf format seen (met ++ met_at seat position) (least_after position least)
+            self.new.mark self.new.at self.new.holder }
     {
         if let PosWord::At { mark, pos } = position {
             self.meet(SessionNo::new(seat + 1), mark, pos);
@@ -51,9 +55,11 @@ impl Floor {
     // The second look has found a position at a seat: the place that is kept for it, the tail's where nobody listens there.
     pub(crate) fn keep_for(&mut self, seat: u32, position: PosWord, tail: Pos) -> u64
         requires { seat < SECTIONS_MAX }
-        ensures met { (format : Format) (seen : List Tx) (met : List (ℕ × ℕ)) (least : ℕ) → length (image format seen) < 2 ^ 32 → IsPositionIn format seen position
+        ensures met { (format : Format) (seen : List Tx) (met : List (ℕ × ℕ)) (least : ℕ)
+            → length (image format seen) < 2 ^ 32 → IsPositionIn format seen position
             → IsFloorOf format seen met least self.old.mark self.old.at self.old.holder
-            → IsFloorOf format seen (met ++ met_at seat position) (least_after position least) self.new.mark self.new.at self.new.holder }
+            → IsFloorOf format seen (met ++ met_at seat position) (least_after position least)
+            self.new.mark self.new.at self.new.holder }
         ensures place { result ≡ place_or tail position }
     {
         match position {

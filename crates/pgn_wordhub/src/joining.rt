@@ -21,7 +21,8 @@ impl WordHub {
         requires way { HasWay self.now.format (shown_cells (view_of pass.old)) fin from }
         ensures own { IsPassOf self.now.queue pass.new }
         ensures view { view_of pass.new ≡ view_of pass.old }
-        ensures come { (end : ℕ) → Leads self.now.format (shown_cells (view_of pass.old)) fin from end → result ≡ end }
+        ensures come { (end : ℕ)
+            → Leads self.now.format (shown_cells (view_of pass.old)) fin from end → result ≡ end }
     {
         let mut at = from;
         let last = head.get();

@@ -1,4 +1,4 @@
-ghost use Rattle.std.specs.Prelude.{◌≡◌, ◌≢◌, ℕ, ◌+◌, ◌^◌, ◌<◌, ◌≤◌, max, true, length, slice_get, Some, IfOk, IfErr};
+ghost use Rattle.std.specs.Prelude.{◌≡◌, ◌≢◌, ◌+◌, ◌^◌, ◌<◌, ◌≤◌, max, true, length, slice_get, Some, IfOk, IfErr};
 ghost use Rattle.pgn_lanes.specs.Least.{least_with};
 ghost use Rattle.pgn_journal.specs.Journal.{next_xid};
 ghost use Rattle.pgn_journal.specs.Packing.{page_of, image};
@@ -33,6 +33,15 @@ pub struct Freed {
     pub joiner: Option<SessionNo>,
 }
 
+/// How far the queue goes, as a pass has found it under the lock: the number that no transaction has yet, the head, and the oldest kept
+/// page.
+#[derive(Clone, Copy)]
+pub(crate) struct Extent {
+    pub number: Xid,
+    pub head: Pos,
+    pub stop: u64,
+}
+
 impl WordHub {
     // The first look: the least of the own number and the listeners' marks.
     pub(crate) fn look_first(&self, pass: &mut WordPass, number: Xid, head: Pos) -> Floor
@@ -44,7 +53,8 @@ impl WordHub {
         requires low { head < 2 ^ 32 }
         requires listens { (known_of pass.old).mark ≡ listens_at (view_of pass.old).post }
         ensures own { IsPassOf self.now.queue pass.new }
-        ensures seen { HasSeenFirst (view_of pass.old) (view_of pass.new) (length (hub_shape self.now).seats) result.mark result.at result.holder }
+        ensures seen { HasSeenFirst (view_of pass.old) (view_of pass.new)
+            (length (hub_shape self.now).seats) result.mark result.at result.holder }
     {
         let mut floor = Floor {
             mark: number,
@@ -68,9 +78,11 @@ impl WordHub {
         requires least { (view_of pass.old).eye.least ≡ packed floor.now.mark floor.now.at }
         requires low { floor.now.at < 2 ^ 32 }
         ensures own { IsPassOf self.now.queue pass.new }
-        ensures view { view_of pass.new ≡ second_begun (view_of pass.new).eye.tail (view_of pass.old) }
+        ensures view { view_of pass.new
+            ≡ second_begun (view_of pass.new).eye.tail (view_of pass.old) }
         ensures tail { result ≡ (view_of pass.new).eye.target }
-        ensures announced { mark_in (view_of pass.new).eye.least ≤ mark_in (view_of pass.new).eye.tail }
+        ensures announced { mark_in (view_of pass.new).eye.least
+            ≤ mark_in (view_of pass.new).eye.tail }
     {
         let (mark, pos) = self.queue.load_tail(pass);
         if mark < floor.mark {
@@ -107,12 +119,15 @@ impl WordHub {
         requires own { IsPassOf self.now.queue pass.old }
         requires phase { may_look (view_of pass.old).phase ≡ true }
         requires decided { AreDecided (view_of pass.old).verdicts }
-        requires begun { HasSeenSecond (view_of pass.old) (view_of pass.old) 0 floor.old.mark floor.old.at floor.old.holder }
+        requires begun { HasSeenSecond (view_of pass.old) (view_of pass.old) 0 floor.old.mark
+            floor.old.at floor.old.holder }
         requires tail { tail ≡ (view_of pass.old).eye.target }
-        requires low { length (image (hub_shape self.now).format (known_of pass.old).seen) < 2 ^ 32 }
+        requires low { length (image (hub_shape self.now).format (known_of pass.old).seen)
+            < 2 ^ 32 }
         requires listens { (known_of pass.old).mark ≡ listens_at (view_of pass.old).post }
         ensures own { IsPassOf self.now.queue pass.new }
-        ensures seen { HasSeenSecond (view_of pass.old) (view_of pass.new) (length (hub_shape self.now).seats) floor.new.mark floor.new.at floor.new.holder }
+        ensures seen { HasSeenSecond (view_of pass.old) (view_of pass.new)
+            (length (hub_shape self.now).seats) floor.new.mark floor.new.at floor.new.holder }
         ensures target { result ≡ (view_of pass.new).eye.target }
     {
         let mut places = [0; PLACES];
@@ -134,17 +149,22 @@ impl WordHub {
         requires own { IsPassOf self.now.queue pass.old }
         requires phase { may_look (view_of pass.old).phase ≡ true }
         requires decided { AreDecided (view_of pass.old).verdicts }
-        requires begun { HasSeenSecond (view_of pass.old) (view_of pass.old) 0 floor.old.mark floor.old.at floor.old.holder }
+        requires begun { HasSeenSecond (view_of pass.old) (view_of pass.old) 0 floor.old.mark
+            floor.old.at floor.old.holder }
         requires tail { tail ≡ (view_of pass.old).eye.target }
-        requires low { length (image (hub_shape self.now).format (known_of pass.old).seen) < 2 ^ 32 }
+        requires low { length (image (hub_shape self.now).format (known_of pass.old).seen)
+            < 2 ^ 32 }
         requires listens { (known_of pass.old).mark ≡ listens_at (view_of pass.old).post }
         ensures own { IsPassOf self.now.queue pass.new }
-        ensures seen { IfOk result (λ _. HasSeenSecond (view_of pass.old) (view_of pass.new) (length (hub_shape self.now).seats) floor.new.mark floor.new.at floor.new.holder) }
+        ensures seen { IfOk result (λ _. HasSeenSecond (view_of pass.old) (view_of pass.new)
+            (length (hub_shape self.now).seats) floor.new.mark floor.new.at floor.new.holder) }
         ensures some_seen { HasSeenSome (view_of pass.old) (view_of pass.new) }
         ensures target { IfOk result (λ target. target ≡ (view_of pass.new).eye.target) }
-        ensures joins { IfErr result (λ _. (view_of pass.new).eye.joins ≡ Some (view_of pass.new).eye.looked) }
+        ensures joins { IfErr result (λ _. (view_of pass.new).eye.joins
+            ≡ Some (view_of pass.new).eye.looked) }
         ensures there { IfErr result (λ joiner. joiner ≡ (view_of pass.new).eye.looked + 1) }
-        ensures left { IfErr result (λ _. (view_of pass.new).eye.looked < length (hub_shape self.now).seats) }
+        ensures left { IfErr result (λ _. (view_of pass.new).eye.looked
+            < length (hub_shape self.now).seats) }
     {
         let mut places = [0; PLACES];
         places[0] = tail.get();
@@ -193,55 +213,52 @@ impl WordHub {
         &self,
         rt: &R,
         pass: &mut WordPass,
-        number: Xid,
-        head: Pos,
-        stop: u64,
+        extent: &Extent,
     ) -> (Floor, u64)
         requires own { IsPassOf self.now.queue pass.old }
         requires phase { may_look (view_of pass.old).phase ≡ true }
         requires decided { AreDecided (view_of pass.old).verdicts }
-        requires number { number ≡ next_xid (known_of pass.old).seen }
-        requires head { head ≡ length (image (hub_shape self.now).format (known_of pass.old).seen) }
-        requires low { head < 2 ^ 32 }
+        requires number { extent.now.number ≡ next_xid (known_of pass.old).seen }
+        requires head { extent.now.head
+            ≡ length (image (hub_shape self.now).format (known_of pass.old).seen) }
+        requires low { extent.now.head < 2 ^ 32 }
         requires listens { (known_of pass.old).mark ≡ listens_at (view_of pass.old).post }
-        requires stop { stop ≡ (view_of pass.old).stop }
+        requires stop { extent.now.stop ≡ (view_of pass.old).stop }
         ensures own { IsPassOf self.now.queue pass.new }
         ensures view { view_of pass.new ≡ advanced_view (view_of pass.new) (view_of pass.old) }
         ensures stop { result.1 ≡ (view_of pass.new).stop }
         ensures grows { (view_of pass.old).stop ≤ (view_of pass.new).stop }
-        ensures advanced { HasAdvancedTo (hub_shape self.now) (view_of pass.old) (view_of pass.new) result.0.mark result.0.at result.0.holder }
+        ensures advanced { HasAdvancedTo (hub_shape self.now) (view_of pass.old) (view_of pass.new)
+            result.0.mark result.0.at result.0.holder }
     {
-        let mut floor = self.look_first(pass, number, head);
+        let mut floor = self.look_first(pass, extent.number, extent.head);
         let tail = self.announce(pass, &floor);
         let target = self.look_second(rt, pass, &mut floor, tail);
-        let stop = self.free(pass, target, stop);
+        let stop = self.free(pass, target, extent.stop);
         (floor, stop)
     }
 
     // Advances the tail, but for where a session joins: the oldest kept page, or that session.
-    pub(crate) fn try_advance(
-        &self,
-        pass: &mut WordPass,
-        number: Xid,
-        head: Pos,
-        stop: u64,
-    ) -> Result<u64, SessionNo>
+    pub(crate) fn try_advance(&self, pass: &mut WordPass, extent: &Extent) -> Result<u64, SessionNo>
         requires own { IsPassOf self.now.queue pass.old }
         requires phase { may_look (view_of pass.old).phase ≡ true }
         requires decided { AreDecided (view_of pass.old).verdicts }
-        requires number { number ≡ next_xid (known_of pass.old).seen }
-        requires head { head ≡ length (image (hub_shape self.now).format (known_of pass.old).seen) }
-        requires low { head < 2 ^ 32 }
+        requires number { extent.now.number ≡ next_xid (known_of pass.old).seen }
+        requires head { extent.now.head
+            ≡ length (image (hub_shape self.now).format (known_of pass.old).seen) }
+        requires low { extent.now.head < 2 ^ 32 }
         requires listens { (known_of pass.old).mark ≡ listens_at (view_of pass.old).post }
-        requires stop { stop ≡ (view_of pass.old).stop }
+        requires stop { extent.now.stop ≡ (view_of pass.old).stop }
         ensures own { IsPassOf self.now.queue pass.new }
         ensures tried { HasTried (view_of pass.old) (view_of pass.new) }
-        ensures stop { IfOk result (λ to. HasFreedTo (hub_shape self.now) (known_of pass.old).named (view_of pass.new) stop to) }
-        ensures gave_up { IfErr result (λ joiner. HasGivenUp (hub_shape self.now) (view_of pass.new) stop joiner) }
+        ensures stop { IfOk result (λ to. HasFreedTo (hub_shape self.now) (known_of pass.old).named
+            (view_of pass.new) extent.now.stop to) }
+        ensures gave_up { IfErr result (λ joiner. HasGivenUp (hub_shape self.now) (view_of pass.new)
+            extent.now.stop joiner) }
     {
-        let mut floor = self.look_first(pass, number, head);
+        let mut floor = self.look_first(pass, extent.number, extent.head);
         let tail = self.announce(pass, &floor);
         let target = self.try_second(pass, &mut floor, tail)?;
-        Ok(self.free(pass, target, stop))
+        Ok(self.free(pass, target, extent.stop))
     }
 }

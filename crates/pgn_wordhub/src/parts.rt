@@ -44,7 +44,8 @@ pub(crate) struct EntryParts<'a> {
 // The parts of the entry in this format that these bytes are.
 pub(crate) fn entry_parts(format: Format, bytes: &[u8]) -> EntryParts<'_>
     requires { HasEntry format bytes.now }
-    ensures { (note : Note) (sender : Sender) → IsReadable format (AnEntry note sender) → bytes.now ≡ piece_bytes format (AnEntry note sender)
+    ensures { (note : Note) (sender : Sender) → IsReadable format (AnEntry note sender)
+        → bytes.now ≡ piece_bytes format (AnEntry note sender)
         → ArePartsOf note sender result.xid result.pid result.channel.now result.payload.now }
 {
     match read_piece(format, bytes) {
@@ -74,7 +75,11 @@ pub(crate) fn delivery_of(
 ) -> Result<Delivery, AllocError>
     requires channel { IsName channel.now }
     requires payload { IsPayload payload.now }
-    ensures { IfOk result (λ delivery. delivery ≡ record { xid = xid; pid = pid; note = record { channel = channel.now; payload = payload.now } }) }
+    ensures { IfOk result (λ delivery. delivery ≡ record {
+      xid = xid;
+      pid = pid;
+      note = record { channel = channel.now; payload = payload.now };
+    }) }
 {
     let channel = name_of(alloc, channel)?;
     let payload = payload_of(alloc, payload)?;

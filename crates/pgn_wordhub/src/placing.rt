@@ -1,4 +1,4 @@
-ghost use Rattle.std.specs.Prelude.{◌≡◌, ◌≢◌, ◌⊎◌, ℕ, ◌+◌, ◌*◌, ◌%◌, ◌^◌, ◌<◌, ◌≤◌, length, drop, true, false, None, is_some, IfSome};
+ghost use Rattle.std.specs.Prelude.{◌≡◌, ◌+◌, ◌^◌, ◌<◌, ◌≤◌, length, true, false, None, is_some, IfSome};
 ghost use Rattle.pgn_base.specs.declared.limits.TheConstants.{PID_BASE};
 ghost use Rattle.pgn_journal.specs.Journal.{next_xid};
 ghost use Rattle.pgn_journal.specs.Bytes.{entry_length, filler, IsEntryLength};
@@ -14,7 +14,8 @@ ghost use Rattle.pgn_wordhub.specs.Placing.{stored_more, writer_of, IsPlacing, H
 
 use crate::WordHub;
 use crate::floor::Floor;
-use pgn_base::{CELL_BYTES, Format, Note, PID_BASE, Xid};
+use crate::looks::Extent;
+use pgn_base::{CELL_BYTES, Note, PID_BASE, Xid};
 use pgn_entry::{EntryCells, filler_cell};
 use pgn_hub::PassView;
 use pgn_layout::{Batch, Pos, plan_batch};
@@ -29,6 +30,16 @@ pub(crate) struct Placing {
     pub placed: usize,
 }
 
+/// The transaction that a pass writes: its notifications, the bits of the channels that they are on, its number, and the place from which
+/// it is written.
+#[derive(Clone, Copy)]
+pub(crate) struct OwnTx<'a> {
+    pub notes: &'a [Note],
+    pub sent: u64,
+    pub xid: Xid,
+    pub from: Pos,
+}
+
 impl WordHub {
     // The process number of a pass's session.
     fn pid(pass: &WordPass) -> u32
@@ -38,18 +49,24 @@ impl WordHub {
     }
 
     // Stores the entry of a notification, and answers the place behind it.
-    fn write_note(&self, format: Format, pass: &mut WordPass, at: Pos, note: &Note, xid: Xid) -> Pos
+    fn write_note(&self, pass: &mut WordPass, at: Pos, note: &Note, xid: Xid) -> Pos
         requires own { IsPassOf self.now.queue pass.old }
         requires phase { (view_of pass.old).phase ≡ phases.Open }
         requires next { at ≡ length (stored_by (view_of pass.old)) }
         requires xid { xid ≡ next_xid (known_of pass.old).seen }
-        requires pages { at + cells_in (entry_length format note.now) ≤ page_start ((view_of pass.old).stop + (hub_shape self.now).pages) }
-        requires stays { at + cells_in (entry_length format note.now) ≤ page_start (page_of (length (view_of pass.old).pen.cells) + 1) }
+        requires pages { at + cells_in (entry_length self.now.format note.now)
+            ≤ page_start ((view_of pass.old).stop + (hub_shape self.now).pages) }
+        requires stays { at + cells_in (entry_length self.now.format note.now)
+            ≤ page_start (page_of (length (view_of pass.old).pen.cells) + 1) }
         requires low { at ≤ 2 ^ 32 }
         ensures own { IsPassOf self.now.queue pass.new }
-        ensures view { view_of pass.new ≡ stored_more (entry_of format (writer_of (known_of pass.old)) note.now) (view_of pass.old) }
-        ensures end { result ≡ at + length (entry_of format (writer_of (known_of pass.old)) note.now) }
+        ensures view { view_of pass.new
+            ≡ stored_more (entry_of self.now.format (writer_of (known_of pass.old)) note.now)
+            (view_of pass.old) }
+        ensures end { result ≡ at + length (entry_of self.now.format (writer_of (known_of pass.old))
+            note.now) }
     {
+        let format = self.format;
         let db = pass.db();
         let pid = WordHub::pid(pass);
         let entry = EntryCells::of(format, note, db, xid, pid);
@@ -64,17 +81,22 @@ impl WordHub {
     }
 
     // Stores a filler of so many bytes.
-    fn write_filler(&self, format: Format, pass: &mut WordPass, at: Pos, xid: Xid, len: u32)
+    fn write_filler(&self, pass: &mut WordPass, at: Pos, xid: Xid, len: u32)
         requires own { IsPassOf self.now.queue pass.old }
         requires phase { (view_of pass.old).phase ≡ phases.Open }
         requires next { at ≡ length (stored_by (view_of pass.old)) }
-        requires long { IsEntryLength format len }
-        requires pages { at + cells_in len ≤ page_start ((view_of pass.old).stop + (hub_shape self.now).pages) }
-        requires stays { at + cells_in len ≤ page_start (page_of (length (view_of pass.old).pen.cells) + 1) }
+        requires long { IsEntryLength self.now.format len }
+        requires pages { at + cells_in len
+            ≤ page_start ((view_of pass.old).stop + (hub_shape self.now).pages) }
+        requires stays { at + cells_in len
+            ≤ page_start (page_of (length (view_of pass.old).pen.cells) + 1) }
         requires low { at ≤ 2 ^ 32 }
         ensures own { IsPassOf self.now.queue pass.new }
-        ensures view { view_of pass.new ≡ stored_more (filled_cells (filler format len xid (PID_BASE + (known_of pass.old).session))) (view_of pass.old) }
+        ensures view { view_of pass.new
+            ≡ stored_more (filled_cells (filler self.now.format len xid
+            (PID_BASE + (known_of pass.old).session))) (view_of pass.old) }
     {
+        let format = self.format;
         let pid = WordHub::pid(pass);
         let cells = len as usize / CELL_BYTES;
         let mut word = self.queue.word_of_cell(at);
@@ -85,35 +107,32 @@ impl WordHub {
         }
     }
 
-    // Stores a batch of notifications, from a place on.
-    fn write_batch(
-        &self,
-        format: Format,
-        pass: &mut WordPass,
-        at: Pos,
-        notes: &[Note],
-        batch: &Batch,
-        xid: Xid,
-    )
+    // Stores the next batch of the notifications that are left, from a place on, and answers it.
+    fn write_batch(&self, pass: &mut WordPass, at: Pos, notes: &[Note], xid: Xid) -> Batch
         requires own { IsPassOf self.now.queue pass.old }
         requires phase { (view_of pass.old).phase ≡ phases.Open }
         requires next { at ≡ length (stored_by (view_of pass.old)) }
         requires xid { xid ≡ next_xid (known_of pass.old).seen }
         requires begins { at ≡ length (view_of pass.old).pen.cells }
-        requires planned { IsPlanned format at notes.now batch.now }
-        requires room { HasRoom format at }
+        requires room { HasRoom self.now.format at }
         requires pages { page_of at < (view_of pass.old).stop + (hub_shape self.now).pages }
         requires low { at < 2 ^ 32 }
         ensures own { IsPassOf self.now.queue pass.new }
-        ensures view { view_of pass.new ≡ stored_more (batch_cells format (writer_of (known_of pass.old)) notes.now batch.now) (view_of pass.old) }
+        ensures planned { IsPlanned self.now.format at notes.now result }
+        ensures within { result.fits ≤ length notes.now }
+        ensures view { view_of pass.new
+            ≡ stored_more (batch_cells self.now.format (writer_of (known_of pass.old)) notes.now
+            result) (view_of pass.old) }
     {
-        let mut at = at;
+        let batch = plan_batch(self.format, at, notes);
+        let mut next = at;
         for note in &notes[..batch.fits] {
-            at = self.write_note(format, pass, at, note, xid);
+            next = self.write_note(pass, next, note, xid);
         }
         if batch.filler > 0 {
-            self.write_filler(format, pass, at, xid, batch.filler);
+            self.write_filler(pass, next, xid, batch.filler);
         }
+        batch
     }
 
     // There is a page for the head, where this is the oldest kept one.
@@ -130,32 +149,41 @@ impl WordHub {
         &self,
         rt: &R,
         pass: &mut WordPass,
-        xid: Xid,
-        start: Pos,
+        tx: &OwnTx,
         placing: &Placing,
     ) -> (u64, Option<Floor>)
         requires own { IsPassOf self.now.queue pass.old }
         requires phase { may_look (view_of pass.old).phase ≡ true }
         requires decided { AreDecided (view_of pass.old).verdicts }
-        requires number { xid ≡ next_xid (known_of pass.old).seen }
-        requires start { start ≡ length (image (hub_shape self.now).format (known_of pass.old).seen) }
-        requires low { start < 2 ^ 32 }
+        requires number { tx.now.xid ≡ next_xid (known_of pass.old).seen }
+        requires start { tx.now.from
+            ≡ length (image (hub_shape self.now).format (known_of pass.old).seen) }
+        requires low { tx.now.from < 2 ^ 32 }
         requires listens { (known_of pass.old).mark ≡ listens_at (view_of pass.old).post }
         requires stop { placing.now.stop ≡ (view_of pass.old).stop }
         ensures own { IsPassOf self.now.queue pass.new }
         ensures view { view_of pass.new ≡ advanced_view (view_of pass.new) (view_of pass.old) }
         ensures writes { HasWritten (view_of pass.old) (view_of pass.new) }
-        ensures at_once { page_of placing.now.at < placing.now.stop + (hub_shape self.now).pages → view_of pass.new ≡ view_of pass.old }
+        ensures at_once { page_of placing.now.at < placing.now.stop + (hub_shape self.now).pages
+            → view_of pass.new ≡ view_of pass.old }
         ensures grows { (view_of pass.old).stop ≤ (view_of pass.new).stop }
         ensures stop { result.0 ≡ (view_of pass.new).stop }
-        ensures page { is_some result.1 ≡ false → page_of placing.now.at < result.0 + (hub_shape self.now).pages }
-        ensures no_page { is_some result.1 ≡ true → result.0 + (hub_shape self.now).pages ≤ page_of placing.now.at }
-        ensures held { IfSome result.1 (λ floor. HasAdvancedTo (hub_shape self.now) (view_of pass.old) (view_of pass.new) floor.mark floor.at floor.holder) }
+        ensures page { is_some result.1 ≡ false
+            → page_of placing.now.at < result.0 + (hub_shape self.now).pages }
+        ensures no_page { is_some result.1 ≡ true
+            → result.0 + (hub_shape self.now).pages ≤ page_of placing.now.at }
+        ensures held { IfSome result.1 (λ floor. HasAdvancedTo (hub_shape self.now)
+            (view_of pass.old) (view_of pass.new) floor.mark floor.at floor.holder) }
     {
         if self.has_page(placing.at, placing.stop) {
             return (placing.stop, None);
         }
-        let (floor, stop) = self.advance(rt, pass, xid, start, placing.stop);
+        let extent = Extent {
+            number: tx.xid,
+            head: tx.from,
+            stop: placing.stop,
+        };
+        let (floor, stop) = self.advance(rt, pass, &extent);
         if self.has_page(placing.at, stop) {
             return (stop, None);
         }
@@ -163,23 +191,23 @@ impl WordHub {
     }
 
     // Writes the next batch of the notifications that are left.
-    fn place_batch(&self, pass: &mut WordPass, notes: &[Note], xid: Xid, placing: &mut Placing)
+    fn place_batch(&self, pass: &mut WordPass, tx: &OwnTx, placing: &mut Placing)
         requires own { IsPassOf self.now.queue pass.old }
-        requires xid { xid ≡ next_xid (known_of pass.old).seen }
-        requires placing { IsPlacing (view_of pass.old) notes.now placing.old.placed placing.old.at }
-        requires left { placing.old.placed < length notes.now }
+        requires xid { tx.now.xid ≡ next_xid (known_of pass.old).seen }
+        requires placing { IsPlacing (view_of pass.old) tx.now.notes.now placing.old.placed
+            placing.old.at }
+        requires left { placing.old.placed < length tx.now.notes.now }
         requires stop { placing.old.stop ≡ (view_of pass.old).stop }
         requires pages { page_of placing.old.at < placing.old.stop + (hub_shape self.now).pages }
         ensures own { IsPassOf self.now.queue pass.new }
         ensures view { view_of pass.new ≡ placed_view (view_of pass.new) (view_of pass.old) }
-        ensures placing { IsPlacing (view_of pass.new) notes.now placing.new.placed placing.new.at }
-        ensures within { placing.new.placed ≤ length notes.now }
+        ensures placing { IsPlacing (view_of pass.new) tx.now.notes.now placing.new.placed
+            placing.new.at }
+        ensures within { placing.new.placed ≤ length tx.now.notes.now }
         ensures stop { placing.new.stop ≡ placing.old.stop }
     {
-        let format = self.format;
-        let rest = &notes[placing.placed..];
-        let batch = plan_batch(format, placing.at, rest);
-        self.write_batch(format, pass, placing.at, rest, &batch, xid);
+        let rest = &tx.notes[placing.placed..];
+        let batch = self.write_batch(pass, placing.at, rest, tx.xid);
         self.queue.store_head(pass, batch.next);
         placing.at = batch.next;
         placing.placed += batch.fits;
@@ -190,37 +218,41 @@ impl WordHub {
         &self,
         rt: &R,
         pass: &mut WordPass,
-        notes: &[Note],
-        xid: Xid,
+        tx: &OwnTx,
         placing: &mut Placing,
     ) -> Option<Floor>
         requires own { IsPassOf self.now.queue pass.old }
-        requires xid { xid ≡ next_xid (known_of pass.old).seen }
-        requires placing { IsPlacing (view_of pass.old) notes.now placing.old.placed placing.old.at }
-        requires start { placing.old.at ≡ length (image (hub_shape self.now).format (known_of pass.old).seen) }
-        requires within { placing.old.placed ≤ length notes.now }
+        requires xid { tx.now.xid ≡ next_xid (known_of pass.old).seen }
+        requires placing { IsPlacing (view_of pass.old) tx.now.notes.now placing.old.placed
+            placing.old.at }
+        requires start { tx.now.from
+            ≡ length (image (hub_shape self.now).format (known_of pass.old).seen) }
+        requires low { tx.now.from < 2 ^ 32 }
+        requires within { placing.old.placed ≤ length tx.now.notes.now }
         requires stop { placing.old.stop ≡ (view_of pass.old).stop }
         requires decided { AreDecided (view_of pass.old).verdicts }
         requires listens { (known_of pass.old).mark ≡ listens_at (view_of pass.old).post }
         ensures own { IsPassOf self.now.queue pass.new }
         ensures writes { HasWritten (view_of pass.old) (view_of pass.new) }
-        ensures placing { IsPlacing (view_of pass.new) notes.now placing.new.placed placing.new.at }
-        ensures within { placing.new.placed ≤ length notes.now }
+        ensures placing { IsPlacing (view_of pass.new) tx.now.notes.now placing.new.placed
+            placing.new.at }
+        ensures within { placing.new.placed ≤ length tx.now.notes.now }
         ensures stop { placing.new.stop ≡ (view_of pass.new).stop }
-        ensures all { result ≡ None → placing.new.placed ≡ length notes.now }
-        ensures full { IfSome result (λ floor. IsHeldUp (hub_shape self.now) (view_of pass.old) (view_of pass.new) (length notes.now) placing.new.placed placing.new.at floor.mark floor.at floor.holder) }
+        ensures all { result ≡ None → placing.new.placed ≡ length tx.now.notes.now }
+        ensures full { IfSome result (λ floor. IsHeldUp (hub_shape self.now) (view_of pass.old)
+            (view_of pass.new) (length tx.now.notes.now) placing.new.placed placing.new.at
+            floor.mark floor.at floor.holder) }
     {
-        let start = placing.at;
         'batches: for _ in rt.forever() {
-            if placing.placed >= notes.len() {
+            if placing.placed >= tx.notes.len() {
                 break;
             }
-            let (stop, floor) = self.find_page(rt, pass, xid, start, placing);
+            let (stop, floor) = self.find_page(rt, pass, tx, placing);
             placing.stop = stop;
             if floor.is_some() {
                 return floor;
             }
-            self.place_batch(pass, notes, xid, placing);
+            self.place_batch(pass, tx, placing);
         }
         None
     }

@@ -1,5 +1,5 @@
 ghost use Rattle.std.specs.Int.{bit_at};
-ghost use Rattle.std.specs.Prelude.{◌==◌, true, false, cond, ◌≡◌, ◌≢◌, ℕ, ◌+◌, ◌*◌, ◌^◌, ◌<◌, ◌≤◌, [], ◌∷◌, ◌++◌, ◌&&◌, length, take, slice_get, slice_index, vec_len, Some, IsSome, List, IfOk, IfSome, OnOk, OnErr};
+ghost use Rattle.std.specs.Prelude.{◌==◌, true, false, cond, ◌≡◌, ℕ, ◌+◌, ◌*◌, ◌^◌, ◌<◌, ◌≤◌, [], ◌∷◌, ◌++◌, ◌&&◌, length, take, slice_get, vec_len, Some, IsSome, List, IfOk, OnOk, OnErr};
 ghost use Rattle.pgn_base.specs.declared.format.Format.{Format};
 ghost use Rattle.pgn_base.specs.declared.note.Note.{Note};
 ghost use Rattle.pgn_base.specs.declared.note.Delivery.{Delivery};
@@ -8,12 +8,12 @@ ghost use Rattle.pgn_base.specs.Interest.{channel_bit, interest as interest_of};
 ghost use Rattle.pgn_journal.specs.Bytes.{header_bytes, four_bytes};
 ghost use Rattle.pgn_wordhub.specs.declared.reading.TheConstants.{BITS};
 ghost use Rattle.pgn_journal.specs.Journal.{next_xid};
-ghost use Rattle.pgn_journal.specs.Packing.{Sender, cells_in, image, place};
-ghost use Rattle.pgn_journal.specs.Pieces.{Piece, AnEntry, piece_bytes, gives, committed_by, IsReadable};
+ghost use Rattle.pgn_journal.specs.Packing.{Sender, cells_in};
+ghost use Rattle.pgn_journal.specs.Pieces.{Piece, AnEntry, piece_bytes, gives, committed_by};
 ghost use Rattle.pgn_hub.specs.Shape.{notes_of_seats};
 ghost use Rattle.pgn_hub.specs.Calls.{HasRead, HasLearned};
 ghost use Rattle.pgn_words.specs.Words.{cell_word, IsCellWord};
-ghost use Rattle.pgn_words.specs.Passes.{IsPassOf, view_of, known_of, shape_of};
+ghost use Rattle.pgn_words.specs.Passes.{IsPassOf, view_of, known_of};
 ghost use Rattle.pgn_words.specs.declared.view.Stage.TheVariants as stages;
 ghost use Rattle.pgn_wordhub.specs.Passes.{IsHubPass, hub_shape};
 ghost use Rattle.pgn_wordhub.specs.Walks.{StandsAt, IsCell, IsDueEntry, HasDueEntry, IsEntryAt, HasEntryAt, Walks, IsWalking, HasTurned, sum_to_zero, shown_cells};
@@ -66,7 +66,9 @@ impl WordHub {
         requires word { IsCellWord (hub_shape self.now) word }
         ensures own { IsPassOf self.now.queue pass.new }
         ensures view { view_of pass.new ≡ view_of pass.old }
-        ensures value { (at x : ℕ) → word ≡ cell_word (hub_shape self.now) at → (view_of pass.old).post.at ≤ at → slice_get (shown_cells (view_of pass.old)) at ≡ Some (Some x) → result ≡ x }
+        ensures value { (at x : ℕ) → word ≡ cell_word (hub_shape self.now) at
+            → (view_of pass.old).post.at ≤ at
+            → slice_get (shown_cells (view_of pass.old)) at ≡ Some (Some x) → result ≡ x }
     {
         self.queue.load_shown(pass, word)
     }
@@ -102,7 +104,8 @@ impl WordHub {
     // The number of the word with which the channel of an entry begins, from that of its third cell.
     fn channel_word(&self, format: Format, third: usize) -> usize
         requires { IsCellWord (hub_shape self.now) third }
-        ensures value { (at : ℕ) → third ≡ cell_word (hub_shape self.now) (at + 2) → result ≡ cell_word (hub_shape self.now) (at + cells_in (header_bytes format)) }
+        ensures value { (at : ℕ) → third ≡ cell_word (hub_shape self.now) (at + 2)
+            → result ≡ cell_word (hub_shape self.now) (at + cells_in (header_bytes format)) }
         ensures word { IsCellWord (hub_shape self.now) result }
     {
         let fourth = self.queue.next_word(third);
@@ -116,43 +119,11 @@ impl WordHub {
         }
     }
 
-    // The bit of the channel of an entry of so many cells, from the number of its third cell's word.
-    fn channel_bit_at(
-        &self,
-        format: Format,
-        pass: &mut WordPass,
-        at: Pos,
-        third: usize,
-        cells: usize,
-    ) -> u64
-        requires own { IsPassOf self.now.queue pass.old }
-        requires shown { (view_of pass.old).walk.stage ≡ stages.Shown }
-        requires from { (view_of pass.old).post.at ≤ at }
-        requires third { third ≡ cell_word (hub_shape self.now) (at + 2) }
-        requires word { IsCellWord (hub_shape self.now) third }
-        ensures own { IsPassOf self.now.queue pass.new }
-        ensures view { view_of pass.new ≡ view_of pass.old }
-        ensures bit { (note : Note) (sender : Sender) → StandsAt format (shown_cells (view_of pass.old)) at (AnEntry note sender) → length (piece_bytes format (AnEntry note sender)) ≡ 4 * cells → result ≡ channel_bit note.channel }
-        ensures within { result < BITS }
-    {
-        let mut word = self.channel_word(format, third);
-        let mut sum = 0;
-        for k in head_cells(format)..cells {
-            let cell = self.cell(pass, word);
-            let (more, ended) = sum_of_cell(cell);
-            sum = (sum + more) % BITS;
-            if ended {
-                return sum;
-            }
-            word = self.queue.next_word(word);
-        }
-        sum
-    }
-
     // Whether a finished transaction committed.
     fn committed(&self, pass: &mut WordPass, xid: Xid) -> bool
         requires own { IsPassOf self.now.queue pass.old }
-        requires reach { length (known_of pass.old).seen ≤ notes_of_seats (hub_shape self.now).seats }
+        requires reach { length (known_of pass.old).seen
+            ≤ notes_of_seats (hub_shape self.now).seats }
         requires below { xid < next_xid (known_of pass.old).seen }
         ensures own { IsPassOf self.now.queue pass.new }
         ensures view { view_of pass.new ≡ view_of pass.old }
@@ -171,7 +142,10 @@ impl WordHub {
         requires from { (view_of pass.old).post.at ≤ at }
         ensures own { IsPassOf self.now.queue pass.new }
         ensures view { view_of pass.new ≡ view_of pass.old }
-        ensures bytes { (format : Format) (piece : Piece) → StandsAt format (shown_cells (view_of pass.old)) at piece → length page.old ≡ length (piece_bytes format piece) → page.new ≡ piece_bytes format piece }
+        ensures bytes { (format : Format) (piece : Piece)
+            → StandsAt format (shown_cells (view_of pass.old)) at piece
+            → length page.old ≡ length (piece_bytes format piece)
+            → page.new ≡ piece_bytes format piece }
         ensures page { length page.new ≡ length page.old }
     {
         let mut word = self.queue.word_of_cell(at);
@@ -193,7 +167,8 @@ impl WordHub {
         requires own { IsHubPass self.now pass.old }
         requires listens { IsSome (known_of pass.old).mark }
         ensures own { IsHubPass self.now pass.new }
-        ensures read { IfOk result (λ to. HasRead (known_of pass.old) (known_of pass.new) set.now.channels to out.old.items out.new.items) }
+        ensures read { IfOk result (λ to. HasRead (known_of pass.old) (known_of pass.new)
+            set.now.channels to out.old.items out.new.items) }
         ensures refused { OnErr result (HasLearned (known_of pass.old) (known_of pass.new)) }
         ensures refused_reads_nothing { OnErr result (out.new.items ≡ out.old.items) }
     {
@@ -233,7 +208,8 @@ fn head_cells(format: Format) -> usize
 
 // The sum of the bytes of a cell before the first zero byte, and whether there is one.
 fn sum_of_cell(cell: u32) -> (u64, bool)
-    ensures sum { (rest : List ℕ) → sum_to_zero (four_bytes cell ++ rest) ≡ result.0 + cond result.1 0 (sum_to_zero rest) }
+    ensures sum { (rest : List ℕ)
+        → sum_to_zero (four_bytes cell ++ rest) ≡ result.0 + cond result.1 0 (sum_to_zero rest) }
     ensures low { result.0 < 1024 }
 {
     let first = cell % 256;
@@ -276,11 +252,13 @@ impl Reader<'_> {
     // Whether an entry of a finished transaction on a channel is received.
     fn is_due(&self, pass: &mut WordPass, xid: Xid, channel: &[u8]) -> bool
         requires own { IsPassOf self.now.hub.now.queue pass.old }
-        requires reach { length (known_of pass.old).seen ≤ notes_of_seats (hub_shape self.now.hub.now).seats }
+        requires reach { length (known_of pass.old).seen
+            ≤ notes_of_seats (hub_shape self.now.hub.now).seats }
         requires below { xid < next_xid (known_of pass.old).seen }
         ensures own { IsPassOf self.now.hub.now.queue pass.new }
         ensures view { view_of pass.new ≡ view_of pass.old }
-        ensures due { result ≡ (has_name self.now.set.now.channels channel.now && committed_by (known_of pass.old).seen xid) }
+        ensures due { result ≡ (has_name self.now.set.now.channels channel.now && committed_by
+            (known_of pass.old).seen xid) }
     {
         if !self.set.contains(channel) {
             return false;
@@ -296,12 +274,18 @@ impl Reader<'_> {
         out: &mut Vec<Delivery>,
     ) -> Result<(), AllocError>
         requires own { IsPassOf self.now.hub.now.queue pass.old }
-        requires reach { length (known_of pass.old).seen ≤ notes_of_seats (hub_shape self.now.hub.now).seats }
-        requires entry { HasDueEntry self.now.format (known_of pass.old).db (known_of pass.old).seen bytes.now }
+        requires reach { length (known_of pass.old).seen
+            ≤ notes_of_seats (hub_shape self.now.hub.now).seats }
+        requires entry { HasDueEntry self.now.format (known_of pass.old).db (known_of pass.old).seen
+            bytes.now }
         ensures own { IsPassOf self.now.hub.now.queue pass.new }
         ensures view { view_of pass.new ≡ view_of pass.old }
-        ensures delivered { OnOk result ((note : Note) (sender : Sender) → IsDueEntry self.now.format (known_of pass.old).db (known_of pass.old).seen bytes.now note sender
-            → out.new.items ≡ out.old.items ++ gives (known_of pass.old).db self.now.set.now.channels (committed_by (known_of pass.old).seen) (AnEntry note sender)) }
+        ensures delivered { OnOk result ((note : Note) (sender : Sender)
+            → IsDueEntry self.now.format (known_of pass.old).db (known_of pass.old).seen bytes.now
+            note sender
+            → out.new.items ≡ out.old.items ++ gives (known_of pass.old).db
+            self.now.set.now.channels (committed_by (known_of pass.old).seen)
+            (AnEntry note sender)) }
         ensures refused { OnErr result (out.new.items ≡ out.old.items) }
     {
         // The number of a finished transaction has 32 bits.
@@ -325,12 +309,18 @@ impl Reader<'_> {
         requires own { IsPassOf self.now.hub.now.queue pass.old }
         requires shown { (view_of pass.old).walk.stage ≡ stages.Shown }
         requires from { (view_of pass.old).post.at ≤ at }
-        requires reach { length (known_of pass.old).seen ≤ notes_of_seats (hub_shape self.now.hub.now).seats }
-        requires entry { HasEntryAt self.now.format (shown_cells (view_of pass.old)) at (length bytes.old) (known_of pass.old).db (known_of pass.old).seen }
+        requires reach { length (known_of pass.old).seen
+            ≤ notes_of_seats (hub_shape self.now.hub.now).seats }
+        requires entry { HasEntryAt self.now.format (shown_cells (view_of pass.old)) at
+            (length bytes.old) (known_of pass.old).db (known_of pass.old).seen }
         ensures own { IsPassOf self.now.hub.now.queue pass.new }
         ensures view { view_of pass.new ≡ view_of pass.old }
-        ensures taken { OnOk result ((note : Note) (sender : Sender) → IsEntryAt self.now.format (shown_cells (view_of pass.old)) at (length bytes.old) (known_of pass.old).db (known_of pass.old).seen note sender
-            → out.new.items ≡ out.old.items ++ gives (known_of pass.old).db self.now.set.now.channels (committed_by (known_of pass.old).seen) (AnEntry note sender)) }
+        ensures taken { OnOk result ((note : Note) (sender : Sender)
+            → IsEntryAt self.now.format (shown_cells (view_of pass.old)) at (length bytes.old)
+            (known_of pass.old).db (known_of pass.old).seen note sender
+            → out.new.items ≡ out.old.items ++ gives (known_of pass.old).db
+            self.now.set.now.channels (committed_by (known_of pass.old).seen)
+            (AnEntry note sender)) }
         ensures refused { OnErr result (out.new.items ≡ out.old.items) }
     {
         self.hub.load_bytes(pass, at, bytes);
@@ -348,12 +338,18 @@ impl Reader<'_> {
         requires own { IsPassOf self.now.hub.now.queue pass.old }
         requires shown { (view_of pass.old).walk.stage ≡ stages.Shown }
         requires from { (view_of pass.old).post.at ≤ at }
-        requires reach { length (known_of pass.old).seen ≤ notes_of_seats (hub_shape self.now.hub.now).seats }
-        requires entry { HasEntryAt self.now.format (shown_cells (view_of pass.old)) at len (known_of pass.old).db (known_of pass.old).seen }
+        requires reach { length (known_of pass.old).seen
+            ≤ notes_of_seats (hub_shape self.now.hub.now).seats }
+        requires entry { HasEntryAt self.now.format (shown_cells (view_of pass.old)) at len
+            (known_of pass.old).db (known_of pass.old).seen }
         ensures own { IsPassOf self.now.hub.now.queue pass.new }
         ensures view { view_of pass.new ≡ view_of pass.old }
-        ensures taken { OnOk result ((note : Note) (sender : Sender) → IsEntryAt self.now.format (shown_cells (view_of pass.old)) at len (known_of pass.old).db (known_of pass.old).seen note sender
-            → out.new.items ≡ out.old.items ++ gives (known_of pass.old).db self.now.set.now.channels (committed_by (known_of pass.old).seen) (AnEntry note sender)) }
+        ensures taken { OnOk result ((note : Note) (sender : Sender)
+            → IsEntryAt self.now.format (shown_cells (view_of pass.old)) at len
+            (known_of pass.old).db (known_of pass.old).seen note sender
+            → out.new.items ≡ out.old.items ++ gives (known_of pass.old).db
+            self.now.set.now.channels (committed_by (known_of pass.old).seen)
+            (AnEntry note sender)) }
         ensures refused { OnErr result (out.new.items ≡ out.old.items) }
     {
         if len <= SHORT_BYTES {
@@ -362,6 +358,35 @@ impl Reader<'_> {
         }
         let mut bytes = vec![in self.alloc; 0; len]?;
         self.take_by(pass, at, &mut bytes, out)
+    }
+
+    // The bit of the channel of an entry of so many cells, from the number of its third cell's word.
+    fn channel_bit_at(&self, pass: &mut WordPass, at: Pos, third: usize, cells: usize) -> u64
+        requires own { IsPassOf self.now.hub.now.queue pass.old }
+        requires shown { (view_of pass.old).walk.stage ≡ stages.Shown }
+        requires from { (view_of pass.old).post.at ≤ at }
+        requires third { third ≡ cell_word (hub_shape self.now.hub.now) (at + 2) }
+        requires word { IsCellWord (hub_shape self.now.hub.now) third }
+        ensures own { IsPassOf self.now.hub.now.queue pass.new }
+        ensures view { view_of pass.new ≡ view_of pass.old }
+        ensures bit { (note : Note) (sender : Sender)
+            → StandsAt self.now.format (shown_cells (view_of pass.old)) at (AnEntry note sender)
+            → length (piece_bytes self.now.format (AnEntry note sender)) ≡ 4 * cells
+            → result ≡ channel_bit note.channel }
+        ensures within { result < BITS }
+    {
+        let mut word = self.hub.channel_word(self.format, third);
+        let mut sum = 0;
+        for k in head_cells(self.format)..cells {
+            let cell = self.hub.cell(pass, word);
+            let (more, ended) = sum_of_cell(cell);
+            sum = (sum + more) % BITS;
+            if ended {
+                return sum;
+            }
+            word = self.hub.queue.next_word(word);
+        }
+        sum
     }
 
     // Whether the set has no channel with the bit of that of an entry of so many cells. Then the entry is on none of them.
@@ -373,10 +398,12 @@ impl Reader<'_> {
         requires word { IsCellWord (hub_shape self.now.hub.now) third }
         ensures own { IsPassOf self.now.hub.now.queue pass.new }
         ensures view { view_of pass.new ≡ view_of pass.old }
-        ensures apart { result ≡ true → (note : Note) (sender : Sender) → StandsAt self.now.format (shown_cells (view_of pass.old)) at (AnEntry note sender) → length (piece_bytes self.now.format (AnEntry note sender)) ≡ 4 * cells
+        ensures apart { result ≡ true → (note : Note) (sender : Sender)
+            → StandsAt self.now.format (shown_cells (view_of pass.old)) at (AnEntry note sender)
+            → length (piece_bytes self.now.format (AnEntry note sender)) ≡ 4 * cells
             → has_name self.now.set.now.channels note.channel ≡ false }
     {
-        let bit = self.hub.channel_bit_at(self.format, pass, at, third, cells);
+        let bit = self.channel_bit_at(pass, at, third, cells);
         !has_bit(self.interest, bit)
     }
 
@@ -386,24 +413,30 @@ impl Reader<'_> {
         &self,
         pass: &mut WordPass,
         at: Pos,
-        third: usize,
-        len: usize,
+        head: &HeadCells,
         out: &mut Vec<Delivery>,
     ) -> Result<(), AllocError>
         requires own { IsPassOf self.now.hub.now.queue pass.old }
         requires shown { (view_of pass.old).walk.stage ≡ stages.Shown }
         requires from { (view_of pass.old).post.at ≤ at }
-        requires third { third ≡ cell_word (hub_shape self.now.hub.now) (at + 2) }
-        requires word { IsCellWord (hub_shape self.now.hub.now) third }
-        requires reach { length (known_of pass.old).seen ≤ notes_of_seats (hub_shape self.now.hub.now).seats }
-        requires entry { HasEntryAt self.now.format (shown_cells (view_of pass.old)) at len (known_of pass.old).db (known_of pass.old).seen }
+        requires third { head.now.word ≡ cell_word (hub_shape self.now.hub.now) (at + 2) }
+        requires word { IsCellWord (hub_shape self.now.hub.now) head.now.word }
+        requires reach { length (known_of pass.old).seen
+            ≤ notes_of_seats (hub_shape self.now.hub.now).seats }
+        requires entry { HasEntryAt self.now.format (shown_cells (view_of pass.old)) at head.now.len
+            (known_of pass.old).db (known_of pass.old).seen }
         ensures own { IsPassOf self.now.hub.now.queue pass.new }
         ensures view { view_of pass.new ≡ view_of pass.old }
-        ensures taken { OnOk result ((note : Note) (sender : Sender) → IsEntryAt self.now.format (shown_cells (view_of pass.old)) at len (known_of pass.old).db (known_of pass.old).seen note sender
-            → out.new.items ≡ out.old.items ++ gives (known_of pass.old).db self.now.set.now.channels (committed_by (known_of pass.old).seen) (AnEntry note sender)) }
+        ensures taken { OnOk result ((note : Note) (sender : Sender)
+            → IsEntryAt self.now.format (shown_cells (view_of pass.old)) at head.now.len
+            (known_of pass.old).db (known_of pass.old).seen note sender
+            → out.new.items ≡ out.old.items ++ gives (known_of pass.old).db
+            self.now.set.now.channels (committed_by (known_of pass.old).seen)
+            (AnEntry note sender)) }
         ensures refused { OnErr result (out.new.items ≡ out.old.items) }
     {
-        if self.is_apart(pass, at, third, len / CELL_BYTES) {
+        let len = head.len as usize;
+        if self.is_apart(pass, at, head.word, len / CELL_BYTES) {
             return Ok(());
         }
         self.take_whole(pass, at, len, out)
@@ -422,11 +455,16 @@ impl Reader<'_> {
         requires before { at < length (shown_cells (view_of pass.old)) }
         requires low { length (shown_cells (view_of pass.old)) < 2 ^ 32 }
         requires fin { self.now.fin ≡ next_xid (known_of pass.old).seen }
-        requires reach { length (known_of pass.old).seen ≤ notes_of_seats (hub_shape self.now.hub.now).seats }
-        requires walks { IsWalking self.now.format (shown_cells (view_of pass.old)) self.now.fin (known_of pass.old).db self.now.set.now.channels (known_of pass.old).seen at out.old.items }
+        requires reach { length (known_of pass.old).seen
+            ≤ notes_of_seats (hub_shape self.now.hub.now).seats }
+        requires walks { IsWalking self.now.format (shown_cells (view_of pass.old)) self.now.fin
+            (known_of pass.old).db self.now.set.now.channels (known_of pass.old).seen at
+            out.old.items }
         ensures own { IsPassOf self.now.hub.now.queue pass.new }
         ensures view { view_of pass.new ≡ view_of pass.old }
-        ensures turned { IfOk result (HasTurned self.now.format (shown_cells (view_of pass.old)) self.now.fin (known_of pass.old).db self.now.set.now.channels (known_of pass.old).seen at out.old.items out.new.items) }
+        ensures turned { IfOk result (HasTurned self.now.format (shown_cells (view_of pass.old))
+            self.now.fin (known_of pass.old).db self.now.set.now.channels
+            (known_of pass.old).seen at out.old.items out.new.items) }
         ensures refused { OnErr result (out.new.items ≡ out.old.items) }
     {
         let head = self.hub.head_at(pass, at);
@@ -438,7 +476,7 @@ impl Reader<'_> {
         if head.db != own {
             return Ok(Some(advance(self.format, at, head.len)));
         }
-        self.take(pass, at, head.word, head.len as usize, out)?;
+        self.take(pass, at, &head, out)?;
         Ok(Some(advance(self.format, at, head.len)))
     }
 
@@ -456,11 +494,17 @@ impl Reader<'_> {
         requires head { head ≡ length (shown_cells (view_of pass.old)) }
         requires low { head < 2 ^ 32 }
         requires fin { self.now.fin ≡ next_xid (known_of pass.old).seen }
-        requires reach { length (known_of pass.old).seen ≤ notes_of_seats (hub_shape self.now.hub.now).seats }
-        requires walks { IsWalking self.now.format (shown_cells (view_of pass.old)) self.now.fin (known_of pass.old).db self.now.set.now.channels (known_of pass.old).seen from out.old.items }
+        requires reach { length (known_of pass.old).seen
+            ≤ notes_of_seats (hub_shape self.now.hub.now).seats }
+        requires walks { IsWalking self.now.format (shown_cells (view_of pass.old)) self.now.fin
+            (known_of pass.old).db self.now.set.now.channels (known_of pass.old).seen from
+            out.old.items }
         ensures own { IsPassOf self.now.hub.now.queue pass.new }
         ensures view { view_of pass.new ≡ view_of pass.old }
-        ensures walked { IfOk result (λ at. (end : ℕ) (owed : List Delivery) → Walks self.now.format (shown_cells (view_of pass.old)) self.now.fin (known_of pass.old).db self.now.set.now.channels (known_of pass.old).seen from end out.old.items owed
+        ensures walked { IfOk result (λ at. (end : ℕ) (owed : List Delivery)
+            → Walks self.now.format (shown_cells (view_of pass.old)) self.now.fin
+            (known_of pass.old).db self.now.set.now.channels (known_of pass.old).seen from end
+            out.old.items owed
             → (at ≡ end) × (out.new.items ≡ owed)) }
         ensures front { take (vec_len out.old) out.new.items ≡ out.old.items }
     {

@@ -142,7 +142,8 @@ impl Hub for WordHub {
 
     fn gather(self, passes: Vec<WordPass>) -> Roll
         requires own { All (IsHubPass self) passes.items }
-        requires all { map (λ pass. (known_of pass).session) passes.items ≡ range_with_len 1 (length (hub_shape self).seats) }
+        requires all { map (λ pass. (known_of pass).session) passes.items
+            ≡ range_with_len 1 (length (hub_shape self).seats) }
         ensures { Gathered (map known_of passes.items) result.count }
     {
         let WordHub { queue, .. } = self;

@@ -1,7 +1,6 @@
-ghost use Rattle.std.specs.Prelude.{◌≡◌, ◌≢◌, ℕ, ◌+◌, ◌*◌, ◌^◌, ◌<◌, ◌≤◌, true, length, map, replicate, All};
+ghost use Rattle.std.specs.Prelude.{◌≡◌, ◌≢◌, ℕ, ◌+◌, ◌*◌, ◌<◌, ◌≤◌, true, length, map, replicate, All};
 ghost use Rattle.pgn_lanes.specs.Behind.{mask_bit, plain_behind};
 ghost use Rattle.pgn_journal.specs.Journal.{is_committed};
-ghost use Rattle.pgn_journal.specs.Packing.{image};
 ghost use Rattle.pgn_words.specs.Passes.{IsPassOf, view_of, known_of};
 ghost use Rattle.pgn_words.specs.Positions.{place_or};
 ghost use Rattle.pgn_words.specs.Views.{AreDecided, seat_of};
@@ -29,6 +28,17 @@ const FEW: usize = 8;
 /// The seats that one word of a mask has.
 const MASK_BITS: usize = 64;
 
+/// So many words of a mask have a bit for each seat.
+const WORDS: usize = SEATS / MASK_BITS;
+
+/// How a transaction has ended: the head behind it, the bits of the channels that it has sent on, and its fate.
+#[derive(Clone, Copy)]
+pub(crate) struct Ending {
+    pub head: Pos,
+    pub sent: u64,
+    pub fate: Fate,
+}
+
 // The place of a position, and the head where it has none.
 fn place_of(position: PosWord, head: Pos) -> u64
     ensures { result ≡ place_or head position }
@@ -40,23 +50,33 @@ fn place_of(position: PosWord, head: Pos) -> u64
 }
 
 impl WordHub {
+    // The database of a seat.
+    fn db_of(&self, seat: u32) -> u32
+        requires { seat < length (hub_shape self.now).seats }
+        ensures { result ≡ (seat_of (hub_shape self.now) (seat + 1)).db }
+    {
+        self.dbs.as_slice()[seat as usize]
+    }
+
     // By which database the listener of a seat is tested after a commit of the database `db`: by its own, but by none where it is that
     // one and the listener listens to nothing that was sent. Of another database no interest is loaded: the test goes by pages alone
     // there.
-    fn database_to_test(&self, pass: &mut WordPass, seat: u32, own: u32, db: u32, sent: u64) -> u32
+    fn database_to_test(&self, pass: &mut WordPass, seat: u32, db: u32, sent: u64) -> u32
         requires own { IsPassOf self.now.queue pass.old }
         requires phase { (view_of pass.old).phase ≡ phases.Signalling }
         requires seat { seat < length (hub_shape self.now).seats }
-        requires of_seat { own ≡ (seat_of (hub_shape self.now) (seat + 1)).db }
         requires db { db ≡ (known_of pass.old).db }
         requires sent { IsSent (view_of pass.old) sent }
         requires committed { is_committed (view_of pass.old).pen.ending.fate ≡ true }
         requires may { is_concerned (view_of pass.old) seat ≡ true }
         ensures own { IsPassOf self.now.queue pass.new }
-        ensures view { view_of pass.new ≡ deemed_as (view_of pass.new).concerned (view_of pass.old) }
-        ensures others { (i : ℕ) → i ≢ seat → is_concerned (view_of pass.new) i ≡ is_concerned (view_of pass.old) i }
+        ensures view { view_of pass.new
+            ≡ deemed_as (view_of pass.new).concerned (view_of pass.old) }
+        ensures others { (i : ℕ) → i ≢ seat
+            → is_concerned (view_of pass.new) i ≡ is_concerned (view_of pass.old) i }
         ensures database { result ≡ concerned_db (view_of pass.new) seat }
     {
+        let own = self.db_of(seat);
         if own != db {
             return own;
         }
@@ -72,15 +92,14 @@ impl WordHub {
         requires committed { is_committed (view_of pass.old).pen.ending.fate ≡ true }
         requires long { length owns.old ≡ length (hub_shape self.now).seats }
         ensures own { IsPassOf self.now.queue pass.new }
-        ensures view { view_of pass.new ≡ deemed_as (view_of pass.new).concerned (view_of pass.old) }
+        ensures view { view_of pass.new
+            ≡ deemed_as (view_of pass.new).concerned (view_of pass.old) }
         ensures concerned { AreConcerned (view_of pass.new) owns.new }
         ensures same_length { length owns.new ≡ length owns.old }
     {
         let db = pass.db().get();
-        let dbs = self.dbs.as_slice();
         for seat in 0..self.seats() {
-            let own = dbs[seat as usize];
-            owns[seat as usize] = self.database_to_test(pass, seat, own, db, sent);
+            owns[seat as usize] = self.database_to_test(pass, seat, db, sent);
         }
     }
 
@@ -93,7 +112,8 @@ impl WordHub {
         requires fate { fate ≡ (view_of pass.old).pen.ending.fate }
         requires long { length owns.old ≡ length (hub_shape self.now).seats }
         ensures own { IsPassOf self.now.queue pass.new }
-        ensures view { view_of pass.new ≡ deemed_as (view_of pass.new).concerned (view_of pass.old) }
+        ensures view { view_of pass.new
+            ≡ deemed_as (view_of pass.new).concerned (view_of pass.old) }
         ensures concerned { AreConcerned (view_of pass.new) owns.new }
         ensures same_length { length owns.new ≡ length owns.old }
     {
@@ -107,13 +127,16 @@ impl WordHub {
     fn look_to_wake(&self, pass: &mut WordPass, head: Pos, owns: &[u32], places: &mut [u64])
         requires own { IsPassOf self.now.queue pass.old }
         requires phase { (view_of pass.old).phase ≡ phases.Signalling }
-        requires unseen { (view_of pass.old).verdicts ≡ replicate (length (hub_shape self.now).seats) Unseen }
+        requires unseen { (view_of pass.old).verdicts
+            ≡ replicate (length (hub_shape self.now).seats) Unseen }
         requires concerned { AreConcerned (view_of pass.old) owns.now }
         requires each { length owns.now ≡ length (hub_shape self.now).seats }
         requires head { IsAtHead (hub_shape self.now) (view_of pass.old) head }
         requires long { length places.old ≡ length (hub_shape self.now).seats }
         ensures own { IsPassOf self.now.queue pass.new }
-        ensures view { view_of pass.new ≡ decided_as (map verdict_of (plain_behind head (known_of pass.old).db places.new owns.now)) (view_of pass.old) }
+        ensures view { view_of pass.new
+            ≡ decided_as (map verdict_of (plain_behind head (known_of pass.old).db places.new
+            owns.now)) (view_of pass.old) }
         ensures not_past { All (λ place. place ≤ head) places.new }
         ensures same_length { length places.new ≡ length places.old }
         ensures long { length (view_of pass.new).verdicts ≡ length (hub_shape self.now).seats }
@@ -158,11 +181,15 @@ impl WordHub {
         requires long { length (view_of pass.old).verdicts ≡ length (hub_shape self.now).seats }
         requires room { length (hub_shape self.now).seats ≤ MASK_BITS * length mask.now }
         ensures own { IsPassOf self.now.queue pass.new }
-        ensures view { view_of pass.new ≡ decided_as (view_of pass.new).verdicts (view_of pass.old) }
+        ensures view { view_of pass.new
+            ≡ decided_as (view_of pass.new).verdicts (view_of pass.old) }
         ensures long { length (view_of pass.new).verdicts ≡ length (view_of pass.old).verdicts }
-        ensures decided { (i : ℕ) → MASK_BITS * word ≤ i → i < MASK_BITS * (word + 1) → verdict_on (view_of pass.new) i ≡ Decided }
-        ensures before { (i : ℕ) → i < MASK_BITS * word → verdict_on (view_of pass.new) i ≡ verdict_on (view_of pass.old) i }
-        ensures behind { (i : ℕ) → MASK_BITS * (word + 1) ≤ i → verdict_on (view_of pass.new) i ≡ verdict_on (view_of pass.old) i }
+        ensures decided { (i : ℕ) → MASK_BITS * word ≤ i → i < MASK_BITS * (word + 1)
+            → verdict_on (view_of pass.new) i ≡ Decided }
+        ensures before { (i : ℕ) → i < MASK_BITS * word
+            → verdict_on (view_of pass.new) i ≡ verdict_on (view_of pass.old) i }
+        ensures behind { (i : ℕ) → MASK_BITS * (word + 1) ≤ i
+            → verdict_on (view_of pass.new) i ≡ verdict_on (view_of pass.old) i }
     {
         if mask[word as usize] == 0 {
             return;
@@ -182,7 +209,8 @@ impl WordHub {
         requires long { length (view_of pass.old).verdicts ≡ length (hub_shape self.now).seats }
         requires room { length (hub_shape self.now).seats ≤ MASK_BITS * length mask.now }
         ensures own { IsPassOf self.now.queue pass.new }
-        ensures view { view_of pass.new ≡ decided_as (view_of pass.new).verdicts (view_of pass.old) }
+        ensures view { view_of pass.new
+            ≡ decided_as (view_of pass.new).verdicts (view_of pass.old) }
         ensures decided { AreDecided (view_of pass.new).verdicts }
     {
         for word in 0..self.seats().div_ceil(MASK_BITS as u32) {
@@ -195,131 +223,107 @@ impl WordHub {
     fn decide(
         &self,
         pass: &mut WordPass,
-        head: Pos,
-        sent: u64,
-        fate: Fate,
+        ending: &Ending,
         owns: &mut [u32],
         places: &mut [u64],
-        mask: &mut [u64],
-    )
+    ) -> [u64; WORDS]
         requires own { IsPassOf self.now.queue pass.old }
         requires waits { IsWaiting (hub_shape self.now) (view_of pass.old) }
-        requires head { IsAtHead (hub_shape self.now) (view_of pass.old) head }
-        requires sent { IsSent (view_of pass.old) sent }
-        requires fate { fate ≡ (view_of pass.old).pen.ending.fate }
+        requires head { IsAtHead (hub_shape self.now) (view_of pass.old) ending.now.head }
+        requires sent { IsSent (view_of pass.old) ending.now.sent }
+        requires fate { ending.now.fate ≡ (view_of pass.old).pen.ending.fate }
         requires each { length owns.old ≡ length (hub_shape self.now).seats }
         requires long { length places.old ≡ length (hub_shape self.now).seats }
-        requires room { length (hub_shape self.now).seats ≤ 64 * length mask.old }
-        requires clear { All (λ word. word ≡ 0) mask.old }
         ensures own { IsPassOf self.now.queue pass.new }
-        ensures view { view_of pass.new ≡ signalled_as (view_of pass.new).verdicts (view_of pass.new).concerned (view_of pass.old) }
-        ensures named { Names mask.new (view_of pass.new).verdicts }
-        ensures same_length { length mask.new ≡ length mask.old }
+        ensures view { view_of pass.new
+            ≡ signalled_as (view_of pass.new).verdicts (view_of pass.new).concerned
+            (view_of pass.old) }
+        ensures named { Names result (view_of pass.new).verdicts }
         ensures each { length (view_of pass.new).verdicts ≡ length (hub_shape self.now).seats }
     {
-        self.databases_to_test(pass, sent, fate, owns);
-        self.look_to_wake(pass, head, owns, places);
+        self.databases_to_test(pass, ending.sent, ending.fate, owns);
+        self.look_to_wake(pass, ending.head, owns, places);
         let db = pass.db().get();
-        behind(places, owns, head.get(), db, mask);
+        let mut mask = [0; WORDS];
+        behind(places, owns, ending.head.get(), db, &mut mask);
+        mask
     }
 
     // Decides about each seat and sets the wakes, by arrays of a place for each seat.
-    fn wake_by(
-        &self,
-        pass: &mut WordPass,
-        head: Pos,
-        sent: u64,
-        fate: Fate,
-        owns: &mut [u32],
-        places: &mut [u64],
-        mask: &mut [u64],
-    )
+    fn wake_by(&self, pass: &mut WordPass, ending: &Ending, owns: &mut [u32], places: &mut [u64])
         requires own { IsPassOf self.now.queue pass.old }
         requires waits { IsWaiting (hub_shape self.now) (view_of pass.old) }
-        requires head { IsAtHead (hub_shape self.now) (view_of pass.old) head }
-        requires sent { IsSent (view_of pass.old) sent }
-        requires fate { fate ≡ (view_of pass.old).pen.ending.fate }
+        requires head { IsAtHead (hub_shape self.now) (view_of pass.old) ending.now.head }
+        requires sent { IsSent (view_of pass.old) ending.now.sent }
+        requires fate { ending.now.fate ≡ (view_of pass.old).pen.ending.fate }
         requires each { length owns.old ≡ length (hub_shape self.now).seats }
         requires long { length places.old ≡ length (hub_shape self.now).seats }
-        requires room { length (hub_shape self.now).seats ≤ 64 * length mask.old }
-        requires clear { All (λ word. word ≡ 0) mask.old }
         ensures own { IsPassOf self.now.queue pass.new }
-        ensures view { view_of pass.new ≡ signalled_as (view_of pass.new).verdicts (view_of pass.new).concerned (view_of pass.old) }
+        ensures view { view_of pass.new
+            ≡ signalled_as (view_of pass.new).verdicts (view_of pass.new).concerned
+            (view_of pass.old) }
         ensures decided { AreDecided (view_of pass.new).verdicts }
     {
-        self.decide(pass, head, sent, fate, owns, places, mask);
-        self.set_wakes(pass, mask);
+        let mask = self.decide(pass, ending, owns, places);
+        self.set_wakes(pass, &mask);
     }
 
     // The same of few seats, with small arrays: to clear large ones for each commit costs as much as a tenth of a short line.
-    fn wake_few(&self, pass: &mut WordPass, head: Pos, sent: u64, fate: Fate)
+    fn wake_few(&self, pass: &mut WordPass, ending: &Ending)
         requires own { IsPassOf self.now.queue pass.old }
         requires waits { IsWaiting (hub_shape self.now) (view_of pass.old) }
-        requires head { IsAtHead (hub_shape self.now) (view_of pass.old) head }
-        requires sent { IsSent (view_of pass.old) sent }
-        requires fate { fate ≡ (view_of pass.old).pen.ending.fate }
+        requires head { IsAtHead (hub_shape self.now) (view_of pass.old) ending.now.head }
+        requires sent { IsSent (view_of pass.old) ending.now.sent }
+        requires fate { ending.now.fate ≡ (view_of pass.old).pen.ending.fate }
         requires few { length (hub_shape self.now).seats ≤ FEW }
         ensures own { IsPassOf self.now.queue pass.new }
-        ensures view { view_of pass.new ≡ signalled_as (view_of pass.new).verdicts (view_of pass.new).concerned (view_of pass.old) }
+        ensures view { view_of pass.new
+            ≡ signalled_as (view_of pass.new).verdicts (view_of pass.new).concerned
+            (view_of pass.old) }
         ensures decided { AreDecided (view_of pass.new).verdicts }
     {
         let mut owns = [0; FEW];
         let mut places = [0; FEW];
-        let mut mask = [0];
         let seats = self.dbs.len();
-        self.wake_by(
-            pass,
-            head,
-            sent,
-            fate,
-            &mut owns[..seats],
-            &mut places[..seats],
-            &mut mask,
-        );
+        self.wake_by(pass, ending, &mut owns[..seats], &mut places[..seats]);
     }
 
     // The same of as many seats as there may be.
-    fn wake_many(&self, pass: &mut WordPass, head: Pos, sent: u64, fate: Fate)
+    fn wake_many(&self, pass: &mut WordPass, ending: &Ending)
         requires own { IsPassOf self.now.queue pass.old }
         requires waits { IsWaiting (hub_shape self.now) (view_of pass.old) }
-        requires head { IsAtHead (hub_shape self.now) (view_of pass.old) head }
-        requires sent { IsSent (view_of pass.old) sent }
-        requires fate { fate ≡ (view_of pass.old).pen.ending.fate }
+        requires head { IsAtHead (hub_shape self.now) (view_of pass.old) ending.now.head }
+        requires sent { IsSent (view_of pass.old) ending.now.sent }
+        requires fate { ending.now.fate ≡ (view_of pass.old).pen.ending.fate }
         ensures own { IsPassOf self.now.queue pass.new }
-        ensures view { view_of pass.new ≡ signalled_as (view_of pass.new).verdicts (view_of pass.new).concerned (view_of pass.old) }
+        ensures view { view_of pass.new
+            ≡ signalled_as (view_of pass.new).verdicts (view_of pass.new).concerned
+            (view_of pass.old) }
         ensures decided { AreDecided (view_of pass.new).verdicts }
     {
         let mut owns = [0; SEATS];
         let mut places = [0; SEATS];
-        let mut mask = [0; SEATS / MASK_BITS];
         let seats = self.dbs.len();
-        self.wake_by(
-            pass,
-            head,
-            sent,
-            fate,
-            &mut owns[..seats],
-            &mut places[..seats],
-            &mut mask,
-        );
+        self.wake_by(pass, ending, &mut owns[..seats], &mut places[..seats]);
     }
 
-    // Wakes the listeners that a transaction concerns which has moved the head to a place, has ended so, and has sent on the channels of
-    // these bits.
-    pub(crate) fn wake(&self, pass: &mut WordPass, head: Pos, sent: u64, fate: Fate)
+    // Wakes the listeners that a transaction concerns which has ended so.
+    pub(crate) fn wake(&self, pass: &mut WordPass, ending: &Ending)
         requires own { IsPassOf self.now.queue pass.old }
         requires waits { IsWaiting (hub_shape self.now) (view_of pass.old) }
-        requires head { IsAtHead (hub_shape self.now) (view_of pass.old) head }
-        requires sent { IsSent (view_of pass.old) sent }
-        requires fate { fate ≡ (view_of pass.old).pen.ending.fate }
+        requires head { IsAtHead (hub_shape self.now) (view_of pass.old) ending.now.head }
+        requires sent { IsSent (view_of pass.old) ending.now.sent }
+        requires fate { ending.now.fate ≡ (view_of pass.old).pen.ending.fate }
         ensures own { IsPassOf self.now.queue pass.new }
-        ensures view { view_of pass.new ≡ signalled_as (view_of pass.new).verdicts (view_of pass.new).concerned (view_of pass.old) }
+        ensures view { view_of pass.new
+            ≡ signalled_as (view_of pass.new).verdicts (view_of pass.new).concerned
+            (view_of pass.old) }
         ensures decided { AreDecided (view_of pass.new).verdicts }
     {
         if self.dbs.len() <= FEW {
-            self.wake_few(pass, head, sent, fate);
+            self.wake_few(pass, ending);
         } else {
-            self.wake_many(pass, head, sent, fate);
+            self.wake_many(pass, ending);
         }
     }
 }

@@ -1,4 +1,4 @@
-ghost use Rattle.std.specs.Prelude.{◌≡◌, ◌≢◌, ◌+◌, ◌++◌, ◌^◌, ◌<◌, ◌≤◌, true, false, [], ◌∷◌, length, All, AllPairs, IfOk, IfErr};
+ghost use Rattle.std.specs.Prelude.{◌≡◌, ◌≢◌, ◌+◌, ◌++◌, ◌^◌, ◌<◌, ◌≤◌, true, [], ◌∷◌, length, All, AllPairs, IfOk, IfErr};
 ghost use Rattle.pgn_base.specs.Notes.{IsNote};
 ghost use Rattle.pgn_journal.specs.Journal.{next_xid};
 ghost use Rattle.pgn_base.specs.Interest.{interest};
@@ -19,42 +19,56 @@ ghost use Rattle.pgn_wordhub.specs.Finishing.{own_tx, finished_view, HasCommitte
 
 use crate::WordHub;
 use crate::floor::Floor;
-use crate::looks::Freed;
-use crate::placing::Placing;
+use crate::looks::{Extent, Freed};
+use crate::placing::{OwnTx, Placing};
+use crate::wakes::Ending;
 use pgn_base::{CLEANUP_DELAY_PAGES, Full, Note, Usage, Xid};
 use pgn_journal::Fate;
-use pgn_layout::Pos;
 use pgn_words::WordPass;
 use std::sync::Wait;
 
 impl WordHub {
     // Ends the transaction with a fate, and wakes those that it concerns.
-    fn finish(&self, pass: &mut WordPass, xid: Xid, fate: Fate, queued: usize, head: Pos, sent: u64)
+    fn finish(&self, pass: &mut WordPass, tx: &OwnTx, fate: Fate, placing: &Placing)
         requires own { IsPassOf self.now.queue pass.old }
         requires phase { (view_of pass.old).phase ≡ phases.Open }
-        requires xid { xid ≡ next_xid (known_of pass.old).seen }
-        requires reach { length (known_of pass.old).seen < notes_of_seats (hub_shape self.now).seats }
-        requires low { queued < 2 ^ 32 }
-        requires ends { MayEnd (view_of pass.old) (own_tx (view_of pass.old) queued fate) }
-        requires head { head ≡ length (image (hub_shape self.now).format ((known_of pass.old).seen ++ own_tx (view_of pass.old) queued fate ∷ [])) }
-        requires sent { sent ≡ interest (channels_of (view_of pass.old).pen.notes) }
+        requires xid { tx.now.xid ≡ next_xid (known_of pass.old).seen }
+        requires reach { length (known_of pass.old).seen
+            < notes_of_seats (hub_shape self.now).seats }
+        requires low { placing.now.placed < 2 ^ 32 }
+        requires ends { MayEnd (view_of pass.old)
+            (own_tx (view_of pass.old) placing.now.placed fate) }
+        requires head { placing.now.at
+            ≡ length (image (hub_shape self.now).format
+            ((known_of pass.old).seen ++ own_tx (view_of pass.old) placing.now.placed fate
+            ∷ [])) }
+        requires sent { tx.now.sent ≡ interest (channels_of (view_of pass.old).pen.notes) }
         ensures own { IsPassOf self.now.queue pass.new }
-        ensures view { view_of pass.new ≡ finished_view (own_tx (view_of pass.old) queued fate) (view_of pass.new).verdicts (view_of pass.new).concerned (view_of pass.old) }
+        ensures view { view_of pass.new
+            ≡ finished_view (own_tx (view_of pass.old) placing.now.placed fate)
+            (view_of pass.new).verdicts (view_of pass.new).concerned (view_of pass.old) }
         ensures decided { AreDecided (view_of pass.new).verdicts }
     {
-        self.queue.set_status(pass, xid, fate, queued as u32);
-        self.queue.store_fin(pass, xid);
-        self.wake(pass, head, sent, fate);
+        let queued = placing.placed as u32;
+        self.queue.set_status(pass, tx.xid, fate, queued);
+        self.queue.store_fin(pass, tx.xid);
+        let ending = Ending {
+            head: placing.at,
+            sent: tx.sent,
+            fate,
+        };
+        self.wake(pass, &ending);
     }
 
     // After a commit, advances the tail once in a while: where the head has entered a page whose number is a multiple of four.
-    fn clean_up(&self, pass: &mut WordPass, xid: Xid, from: Pos, placing: &Placing)
+    fn clean_up(&self, pass: &mut WordPass, tx: &OwnTx, placing: &Placing)
         requires own { IsPassOf self.now.queue pass.old }
         requires phase { may_look (view_of pass.old).phase ≡ true }
         requires decided { AreDecided (view_of pass.old).verdicts }
-        requires number { xid + 1 ≡ next_xid (known_of pass.old).seen }
-        requires few { xid + 1 < 2 ^ 32 }
-        requires head { placing.now.at ≡ length (image (hub_shape self.now).format (known_of pass.old).seen) }
+        requires number { tx.now.xid + 1 ≡ next_xid (known_of pass.old).seen }
+        requires few { tx.now.xid + 1 < 2 ^ 32 }
+        requires head { placing.now.at
+            ≡ length (image (hub_shape self.now).format (known_of pass.old).seen) }
         requires low { placing.now.at < 2 ^ 32 }
         requires listens { (known_of pass.old).mark ≡ listens_at (view_of pass.old).post }
         requires stop { placing.now.stop ≡ (view_of pass.old).stop }
@@ -62,9 +76,13 @@ impl WordHub {
         ensures tried { HasTried (view_of pass.old) (view_of pass.new) }
     {
         let every = CLEANUP_DELAY_PAGES;
-        if from.page() / every < placing.at.page() / every {
-            let next = Xid::new(xid.get() + 1);
-            let _freed = self.try_advance(pass, next, placing.at, placing.stop);
+        if tx.from.page() / every < placing.at.page() / every {
+            let extent = Extent {
+                number: Xid::new(tx.xid.get() + 1),
+                head: placing.at,
+                stop: placing.stop,
+            };
+            let _freed = self.try_advance(pass, &extent);
         }
     }
 
@@ -103,7 +121,8 @@ impl WordHub {
         ensures number { result.0 ≡ next_xid (known_of pass.old).seen }
         ensures placing { IsPlacing (view_of pass.new) notes.now result.1.placed result.1.at }
         ensures none_placed { result.1.placed ≡ 0 }
-        ensures start { result.1.at ≡ length (image (hub_shape self.now).format (known_of pass.old).seen) }
+        ensures start { result.1.at
+            ≡ length (image (hub_shape self.now).format (known_of pass.old).seen) }
     {
         let at = self.queue.load_head(pass);
         let stop = self.queue.load_stop(pass);
@@ -117,23 +136,26 @@ impl WordHub {
     }
 
     // Ends a transaction of which all notifications are placed.
-    fn commit(&self, pass: &mut WordPass, xid: Xid, from: Pos, placing: &Placing, sent: u64)
+    fn commit(&self, pass: &mut WordPass, tx: &OwnTx, placing: &Placing)
         requires own { IsPassOf self.now.queue pass.old }
         requires phase { (view_of pass.old).phase ≡ phases.Open }
-        requires xid { xid ≡ next_xid (known_of pass.old).seen }
-        requires reach { length (known_of pass.old).seen < notes_of_seats (hub_shape self.now).seats }
+        requires xid { tx.now.xid ≡ next_xid (known_of pass.old).seen }
+        requires reach { length (known_of pass.old).seen
+            < notes_of_seats (hub_shape self.now).seats }
         requires placed { placing.now.placed < 2 ^ 32 }
-        requires ends { MayEnd (view_of pass.old) (own_tx (view_of pass.old) placing.now.placed fates.Committed) }
+        requires ends { MayEnd (view_of pass.old)
+            (own_tx (view_of pass.old) placing.now.placed fates.Committed) }
         requires end { placing.now.at ≡ length (view_of pass.old).pen.cells }
         requires low { placing.now.at < 2 ^ 32 }
         requires stop { placing.now.stop ≡ (view_of pass.old).stop }
         requires listens { (known_of pass.old).mark ≡ listens_at (view_of pass.old).post }
-        requires sent { sent ≡ interest (channels_of (view_of pass.old).pen.notes) }
+        requires sent { tx.now.sent ≡ interest (channels_of (view_of pass.old).pen.notes) }
         ensures own { IsPassOf self.now.queue pass.new }
-        ensures committed { HasCommitted (view_of pass.old) (view_of pass.new) (own_tx (view_of pass.old) placing.now.placed fates.Committed) }
+        ensures committed { HasCommitted (view_of pass.old) (view_of pass.new)
+            (own_tx (view_of pass.old) placing.now.placed fates.Committed) }
     {
-        self.finish(pass, xid, Fate::Committed, placing.placed, placing.at, sent);
-        self.clean_up(pass, xid, from, placing);
+        self.finish(pass, tx, Fate::Committed, placing);
+        self.clean_up(pass, tx, placing);
     }
 
     // Publishes a transaction under the lock, which sends on the channels of these bits. The pass is told of it once it gives the lock up.
@@ -149,25 +171,33 @@ impl WordHub {
         requires phase { (view_of pass.old).phase ≡ phases.Held }
         requires decided { AreDecided (view_of pass.old).verdicts }
         requires listens { (known_of pass.old).mark ≡ listens_at (view_of pass.old).post }
-        requires room { length (known_of pass.old).seen + (known_of pass.old).notes_left ≤ notes_of_seats (hub_shape self.now).seats }
+        requires room { length (known_of pass.old).seen + (known_of pass.old).notes_left
+            ≤ notes_of_seats (hub_shape self.now).seats }
         requires valid { All IsNote notes.now }
         requires some { notes.now ≢ [] }
         requires different { AllPairs (λ a b. a ≢ b) notes.now }
         requires few { length notes.now ≤ (known_of pass.old).notes_left }
         ensures own { IsPassOf self.now.queue pass.new }
         ensures ended { HasEnded (view_of pass.old) (view_of pass.new) }
-        ensures committed { IfOk result (λ x. HasPublished (known_of pass.old) (freed (view_of pass.new)).known notes.now x) }
-        ensures full { IfErr result (λ full. HasMetFull (hub_shape self.now) (known_of pass.old) (freed (view_of pass.new)).known notes.now full) }
+        ensures committed { IfOk result (λ x. HasPublished (known_of pass.old)
+            (freed (view_of pass.new)).known notes.now x) }
+        ensures full { IfErr result (λ full. HasMetFull (hub_shape self.now) (known_of pass.old)
+            (freed (view_of pass.new)).known notes.now full) }
     {
         let (xid, mut placing) = self.begin(pass, notes);
-        let from = placing.at;
-        match self.place_all(rt, pass, notes, xid, &mut placing) {
+        let tx = OwnTx {
+            notes,
+            sent,
+            xid,
+            from: placing.at,
+        };
+        match self.place_all(rt, pass, &tx, &mut placing) {
             None => {
-                self.commit(pass, xid, from, &placing, sent);
+                self.commit(pass, &tx, &placing);
                 Ok(xid)
             }
             Some(floor) => {
-                self.finish(pass, xid, Fate::Aborted, placing.placed, placing.at, sent);
+                self.finish(pass, &tx, Fate::Aborted, &placing);
                 Err(WordHub::full_of(xid, &placing, &floor))
             }
         }
@@ -180,13 +210,21 @@ impl WordHub {
         requires decided { AreDecided (view_of pass.old).verdicts }
         requires listens { (known_of pass.old).mark ≡ listens_at (view_of pass.old).post }
         ensures own { IsPassOf self.now.queue pass.new }
-        ensures view { view_of pass.new ≡ advanced_view (view_of pass.new) (stop_known (view_of pass.new).loaded_stop (head_known (view_of pass.old))) }
-        ensures measured { HasMeasured (hub_shape self.now) (known_of pass.old) (known_of pass.new) result }
+        ensures view { view_of pass.new
+            ≡ advanced_view (view_of pass.new) (stop_known (view_of pass.new).loaded_stop
+            (head_known (view_of pass.old))) }
+        ensures measured { HasMeasured (hub_shape self.now) (known_of pass.old) (known_of pass.new)
+            result }
     {
         let head = self.queue.load_head(pass);
         let stop = self.queue.load_stop(pass);
         let at = self.queue.load_fin(pass);
-        let (floor, _) = self.advance(rt, pass, at, head, stop);
+        let extent = Extent {
+            number: at,
+            head,
+            stop,
+        };
+        let (floor, _) = self.advance(rt, pass, &extent);
         Usage {
             at,
             occupied: head.page() - floor.at.page(),
@@ -203,13 +241,20 @@ impl WordHub {
         requires decided { AreDecided (view_of pass.old).verdicts }
         requires listens { (known_of pass.old).mark ≡ listens_at (view_of pass.old).post }
         ensures own { IsPassOf self.now.queue pass.new }
-        ensures tried { HasTried (stop_known result.from (head_known (view_of pass.old))) (view_of pass.new) }
-        ensures freed { IsFreed (hub_shape self.now) (known_of pass.old).named (view_of pass.new) result }
+        ensures tried { HasTried (stop_known result.from (head_known (view_of pass.old)))
+            (view_of pass.new) }
+        ensures freed { IsFreed (hub_shape self.now) (known_of pass.old).named (view_of pass.new)
+            result }
     {
         let head = self.queue.load_head(pass);
         let from = self.queue.load_stop(pass);
         let next = self.queue.load_fin(pass);
-        match self.try_advance(pass, next, head, from) {
+        let extent = Extent {
+            number: next,
+            head,
+            stop: from,
+        };
+        match self.try_advance(pass, &extent) {
             Ok(to) => Freed {
                 from,
                 to,
@@ -231,7 +276,8 @@ impl WordHub {
         requires own { IsHubPass self.now pass.old }
         ensures own { IsHubPass self.now pass.new }
         ensures tried { HasTriedTail (known_of pass.old) (known_of pass.new) }
-        ensures freed { IsFreed (hub_shape self.now) (known_of pass.old).named (view_of pass.new) result }
+        ensures freed { IsFreed (hub_shape self.now) (known_of pass.old).named (view_of pass.new)
+            result }
     {
         self.lock(rt, pass);
         let freed = self.try_tail(pass);

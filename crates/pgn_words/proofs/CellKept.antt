@@ -125,6 +125,7 @@ stores z c g views id v at x h here opened next page stays low =
         → IsWriting z.format (λ log. Keeps (room_of z) (page_start stop) log cells) past shown w.known.seen w.pen → Holds z stop past shown cells j w
     in_open z stop past shown cells j w e h = subst (λ (q : Phase). HoldsIn q z.format (λ log. Keeps (room_of z) (page_start stop) log cells) past shown w.known.seen w.known.session w.known.db w.pen) (sym e) h
 
+-- a writer may store the next cell behind its head, on the head's page, where that page is free
 pub store_cell_allowed : (z : Shape) (slots id word at x : ℕ) (me : Me ℕ View) → word ≡ cells_at z + at % room_of z → me.0.phase ≡ Open → at ≡ length (stored_by me.0) → page_of at < me.0.stop + z.pages → page_of at ≡ page_of (length me.0.pen.cells) → x < 2 ^ 32
     → Allows (Lawful z) slots id me word (λ _. x) (λ _. TellsCellStore (step slots word x 0 none) me x)
 store_cell_allowed z slots id word at x me there opened next page stays low =
@@ -169,6 +170,7 @@ lock_too Open e = refl
 lock_too Finished e = refl
 lock_too Signalling e = refl
 
+-- who knows the cells may load one
 pub load_cell_allowed : (z : Shape) (slots id word at : ℕ) (me : Me ℕ View) → word ≡ cells_at z + at % room_of z → knows_cells me.0.phase ≡ true
     → Allows (Lawful z) slots id me word (λ n. n) (TellsCell (step slots word 0 0 none) me)
 load_cell_allowed z slots id word at me there cells =
@@ -278,6 +280,7 @@ shows z c g views id v to shape h here opened may =
       taken = taken_keep views id v w here z g.made c.fin g.seat g.past h.taken refl refl;
     }
 
+-- a writer may move the head to a place that it may show
 pub store_head_allowed : (z : Shape) (slots id to : ℕ) (me : Me ℕ View) → me.0.phase ≡ Open → MayShow me.0 to → Allows (Lawful z) slots id me 1 (λ _. to) (λ _. TellsHeadStore (step slots 1 to 0 none) me to)
 store_head_allowed z slots id to me opened may =
     allowed z slots id 1 me (λ _. to) (λ _. TellsHeadStore (step slots 1 to 0 none) me to) (λ shape c g views h here.

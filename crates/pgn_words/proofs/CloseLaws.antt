@@ -1,7 +1,7 @@
 -- What is known when one pass has taken in all others.
 use Rattle.std.specs.Prelude.{Any, Contains, flat_map, IsSomeAnd}
 use Rattle.std.specs.List.{range_with_len}
-use Rattle.std.proofs.Common.{◌≡◌, ◌≢◌, ◌⊎◌, inl, inr, ⊎_elim, ℕ, zero, suc, ◌+◌, ◌-◌, ◌^◌, ◌<◌, ◌≤◌, List, [], ◌∷◌, ◌++◌, length, map, get_or, Option, Some, slice_get, All, sym, refl, ap, ◌∙◌, subst, arith}
+use Rattle.std.proofs.Common.{◌≡◌, ◌⊎◌, ⊎_elim, ℕ, zero, suc, ◌+◌, ◌-◌, ◌^◌, ◌<◌, ◌≤◌, List, [], ◌∷◌, ◌++◌, length, map, get_or, Option, Some, slice_get, All, sym, refl, ap, ◌∙◌, subst, arith}
 use Rattle.std.proofs.lemmas.List.Elements.{All-nil, All-cons, All-head, All-tail}
 use Rattle.std.proofs.lemmas.Option.{none-some, same_Some}
 use mathlib.Core.Option.{some, some-injective}
@@ -23,7 +23,6 @@ use Rattle.pgn_words.specs.Passes.{IsPassOf, view_of, known_of}
 use Rattle.pgn_words.specs.WakeRule.{raised_in, found_in, named_in, Raised, IsMarkedBy, Marked, IsTaken}
 use Rattle.pgn_words.specs.Rule.{World, WasMade, Law, Lawful}
 use Rattle.pgn_words.proofs.LockKept.{few_left}
-use Rattle.pgn_words.proofs.TakenLaws.{contains_left, contains_right, contains_parts}
 
 -- what is so of each item of a list, by its place
 all_at : {X : Type 0} (P : X → Type 0) (xs : List X) → ((i : ℕ) (x : X) → slice_get xs i ≡ Some x → P x) → All P xs
@@ -70,17 +69,6 @@ all_family z c g views id v h here positive zero k there =
 all_family z c g views id v h here positive (suc i) k there =
     let t = at_all (IsTaken z g.made c.fin g.seat g.past id v.known.session) v.joined i k (h.taken id v here) there in
     record { sits = t.sits; positive = t.positive; was_made = t.was_made; db_is = t.db_is; sees = t.sees; owns = t.owns; own_seen = t.own_seen; told = t.told }
-
--- a list of a list for each
-flat_has : (f : Known → List (ℕ × ℕ)) (ks : List Known) (i : ℕ) (k : Known) (p : ℕ × ℕ) → slice_get ks i ≡ Some k → Contains (f k) p → Contains (flat_map f ks) p
-flat_has f [] i k p there has = absurd (none-some k there)
-flat_has f (x ∷ ks) zero k p there has = contains_left (f x) (flat_map f ks) p (subst (λ (y : Known). Contains (f y) p) (sym (same_Some x k there)) has)
-flat_has f (x ∷ ks) (suc i) k p there has = contains_right (f x) (flat_map f ks) p (flat_has f ks i k p there has)
-
-flat_from : (f : Known → List (ℕ × ℕ)) (ks : List Known) (p : ℕ × ℕ) → Contains (flat_map f ks) p → (i : ℕ) × (k : Known) × (slice_get ks i ≡ Some k) × Contains (f k) p
-flat_from f [] p (k, within, is) = absurd (omega (arith, within))
-flat_from f (x ∷ ks) p has =
-    ⊎_elim (λ first. (zero, x, refl, first)) (λ more. let r = flat_from f ks p more in (suc r.0, r.1, r.2, r.3)) (contains_parts (f x) (flat_map f ks) p has)
 
 -- the same of passes of which each is settled
 map_at : (ks : List Known) (i : ℕ) (k : Known) → slice_get ks i ≡ Some k → slice_get (map settled ks) i ≡ Some (settled k)
@@ -227,6 +215,7 @@ joined_more v w u yielded pass view had alone known =
 last_fin : (z : Shape) (id : ℕ) (v : View) (ws xs : List ℕ) (fin : ℕ) (f : Final (Seen (Lawful z) id v) ws xs) → get_elem? ws 2 ≡ some fin → fin ≡ f.1.0.content.fin
 last_fin z id v ws xs fin f there = some-injective fin f.1.0.content.fin (sym there ∙ ap (λ l. get_elem? l 2) (sym f.2 ∙ f.1.0.stands))
 
+-- at the end the first unfinished number has 32 bits
 pub closed_low : (z : Shape) (id : ℕ) (v : View) (ws xs : List ℕ) (fin : ℕ) → 0 < v.known.session → v.setup ≡ z → Final (Seen (Lawful z) id v) ws xs → get_elem? ws 2 ≡ some fin → fin < 2 ^ 32
 closed_low z id v ws xs fin positive setup f there =
     let is = last_fin z id v ws xs fin f there in
@@ -236,6 +225,7 @@ closed_low z id v ws xs fin positive setup f there =
     let all : notes_of_seats v.setup.seats ≤ 1048575 = let few = l.shape.few_notes in subst (λ (y : Shape). notes_of_seats y.seats ≤ 1048575) (sym setup) few in
     omega (arith, is, counted, left, all)
 
+-- where one pass has taken in all others, they are gathered, and the journal has as many transactions as the word says
 pub closes : (z : Shape) (id : ℕ) (v : View) (ws xs : List ℕ) (fin count : ℕ) (all yielded : List WordPass) (head : WordPass) → 0 < v.known.session → Final (Seen (Lawful z) id v) ws xs → get_elem? ws 2 ≡ some fin
     → all ≡ head ∷ yielded → v.known ≡ settled (known_of head) → v.joined ≡ map (λ p. settled (known_of p)) yielded → map (λ pass. (known_of pass).session) all ≡ range_with_len 1 (seats_of z) → count ≡ fin - 3
     → Gathered (map known_of all) count
@@ -245,6 +235,7 @@ closes z id v ws xs fin count all yielded head positive f there order known join
     let counted = l.law.history.counted in
     gathers z l.content l.world f.0.views id v (map known_of all) count l.law f.1.1 positive (family_is all yielded head v order known joined) (sym (sessions_are all) ∙ sessions) (omega (arith, is, counted, counts))
 
+-- a list of no passes is empty
 pub none_left : (l : List WordPass) → length l ≡ 0 → l ≡ []
 none_left [] e = refl
 none_left (x ∷ l) e = absurd (omega (arith, e))

@@ -21,10 +21,6 @@ each_turn P P' views id w all mine others j u there =
 pub each_keep : (P : ℕ → View → Type 0) (views : List View) (id : ℕ) (v w : View) → get_elem? views id ≡ some v → Each P views → (P id v → P id w) → Each P (set views id w)
 each_keep P views id v w here all same = each_turn P P views id w all (same (all id v here)) (λ j u other there p. p)
 
--- no pass changes, and what holds of each does
-pub each_map : (P P' : ℕ → View → Type 0) (views : List View) → Each P views → ((j : ℕ) (v : View) → get_elem? views j ≡ some v → P j v → P' j v) → Each P' views
-each_map P P' views all more j v there = more j v there (all j v there)
-
 -- the place of the last pass
 at_end : (l : List View) (a b : View) (j : ℕ) → get_elem? (l ++ a ∷ []) j ≡ some b → (get_elem? l j ≡ some b) ⊎ ((a ≡ b) × (j ≡ length l))
 at_end [] a b zero e = inr (some-injective a b e, refl)

@@ -245,6 +245,7 @@ past_low z made past views id v shape budget here finished some_taken =
     let left = has_left views id v here in
     let all = shape.few_notes in omega (arith, budget, few, left, all, some_taken)
 
+-- a writer whose transaction has its status may move the first unfinished number behind it
 pub store_fin_allowed : (z : Shape) (slots id next : ℕ) (me : Me ℕ View) → me.0.phase ≡ Finished → next ≡ next_xid me.0.known.seen + 1
     → Allows (Lawful z) slots id me 2 (λ _. next) (λ _. TellsFinStore (step slots 2 next 0 none) me next)
 store_fin_allowed z slots id next me ended number =

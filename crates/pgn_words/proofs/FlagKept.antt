@@ -117,6 +117,7 @@ raises z c g views id v f x h here positive within is =
         (someone_keep views id v (raised f v) here (λ u. Contains (raised_in u) (f, get_or c.flags f 0)) refl (λ p. contains_more v.known.raised (flat_map (λ k. k.raised) v.joined) (f, v.known.told) (f, get_or c.flags f 0) p) r))))
         (h.flags.source f)
 
+-- a pass may raise a flag to the number that it was told of
 pub raise_flag_allowed : (z : Shape) (slots id word flag told : ℕ) (me : Me ℕ View) → 0 < me.0.known.session → word ≡ flags_at z + flag → flag < z.flags → told ≡ me.0.known.told
     → Allows (Lawful z) slots id me word (λ n. max n told) (TellsRaised (step slots word told 0 none) me)
 raise_flag_allowed z slots id word flag told me positive there room is =
@@ -215,6 +216,7 @@ all_front : (P : ℕ × ℕ → Type 0) (xs ys : List (ℕ × ℕ)) → All P (x
 all_front P [] ys all = All-nil P
 all_front P (x ∷ xs) ys all = All-cons P x xs (All-head P x (xs ++ ys) all) (all_front P xs ys (All-tail P x (xs ++ ys) all))
 
+-- a pass may look at a flag
 pub look_flag_allowed : (z : Shape) (slots id word flag : ℕ) (me : Me ℕ View) → 0 < me.0.known.session → word ≡ flags_at z + flag → flag < z.flags
     → Allows (Lawful z) slots id me word (λ n. n) (TellsLooked (step slots word 0 0 none) me)
 look_flag_allowed z slots id word flag me positive there room =

@@ -12,13 +12,14 @@ use Rattle.pgn_journal.specs.Journal.{next_xid, xids_of}
 use Rattle.pgn_hub.specs.declared.known.Known.{Known}
 use Rattle.pgn_hub.specs.Shape.{Shape}
 use Rattle.pgn_words.specs.declared.view.View.{View}
-use Rattle.pgn_words.specs.Views.{holds_lock, knows_stop, drawn_by, spent_by, fated}
+use Rattle.pgn_words.specs.Views.{holds_lock, drawn_by, spent_by, fated}
 use Rattle.pgn_words.specs.Rule.{Seated, Makes, Seats, Locks, Locking, KnowsAll, History, Draws, Numbers, Budget, Fates, Statuses}
 use Rattle.pgn_words.specs.Each.{Someone}
 use Rattle.pgn_words.proofs.EachLaws.{each_keep, changed_at, sum_set}
 use Rattle.pgn_words.proofs.MoreFrames.{someone_keep}
 
 module _ (views : List View) (id : ℕ) (v w : View) (here : get_elem? views id ≡ some v) where
+  -- the seats stay, if the view keeps its session, its database, its setup and what it has made
   pub seats_keep : (z : Shape) (made : ℕ) (seat : ℕ → ℕ) → Seats z made seat views → w.known.session ≡ v.known.session → w.known.db ≡ v.known.db → w.setup ≡ v.setup → w.made ≡ v.made
       → Seats z made seat (set views id w)
   seats_keep z made seat h session db setup makes = record {
@@ -42,6 +43,7 @@ module _ (views : List View) (id : ℕ) (v w : View) (here : get_elem? views id 
       (w, subst (λ (n : ℕ). get_elem? (set views id w) n ≡ some w) (sym e) (changed_at views id v w here), session ∙ ap (λ x. x.known.session) same ∙ number, holds ∙ ap (λ x. holds_lock x.phase) same ∙ held)
   there_after j u there session holds lock number held (no ne) = (u, set_else views id j w ne ∙ there, number, held)
 
+  -- the lock stays with who has it, if the view keeps its session and whether it holds it
   pub locking_keep : (lock holder : ℕ) → Locking lock holder views → w.known.session ≡ v.known.session → holds_lock w.phase ≡ holds_lock v.phase → Locking lock holder (set views id w)
   locking_keep lock holder h session holds = record {
     locks = each_keep (Locks lock holder) views id v w here h.locks (λ p held. let s = p (sym holds ∙ held) in (s.0, s.1 ∙ sym session, subst (λ (n : ℕ). 0 < n) (sym session) s.2));
@@ -54,6 +56,7 @@ module _ (views : List View) (id : ℕ) (v w : View) (here : get_elem? views id 
       (λ p. ⊎_elim (λ all. inl (begins-whole w.known.seen past begins (let same : length v.known.seen ≡ length past = ap length all in omega (arith, same, longer))))
       (λ theirs. inr (subst (λ (l : List Known). Any (λ k. k.seen ≡ past) l) (sym gone) theirs)) p) h
 
+  -- the history stays, if the view keeps its session, what it has seen and sent, and whom it has taken in
   pub history_keep : (z : Shape) (lock fin made : ℕ) (past shown : List Tx) → History z lock fin made past shown views → w.known.session ≡ v.known.session → w.known.seen ≡ v.known.seen → w.known.own ≡ v.known.own → w.joined ≡ v.joined
       → History z lock fin made past shown (set views id w)
   history_keep z lock fin made past shown h session seen own gone = record {
@@ -71,15 +74,18 @@ module _ (views : List View) (id : ℕ) (v w : View) (here : get_elem? views id 
     owns = each_keep (λ _ u. u.known.own ≡ xids_of u.known.session past) views id v w here h.owns (λ p. own ∙ p ∙ ap (λ n. xids_of n past) (sym session));
   }
 
+  -- the numbers stay, if the view keeps whether it holds the lock and whether it has drawn one
   pub numbers_keep : (lock fin xid : ℕ) → Numbers lock fin xid views → holds_lock w.phase ≡ holds_lock v.phase → drawn_by w.phase ≡ drawn_by v.phase → Numbers lock fin xid (set views id w)
   numbers_keep lock fin xid h holds drawn = record {
     free = h.free;
     draws = each_keep (Draws fin xid) views id v w here h.draws (λ p held. p (sym holds ∙ held) ∙ ap (λ n. fin + n) (sym drawn));
   }
 
+  -- the budget is enough, if the view has spent no more
   pub budget_keep : (z : Shape) (made : ℕ) (past : List Tx) → Budget z made past views → spent_by w ≤ spent_by v → Budget z made past (set views id w)
   budget_keep z made past h less = let all = sum_set spent_by views id v w here in omega (arith, h, all, less)
 
+  -- the statuses stay, if the view keeps whether it holds the lock and the fate that it has set
   pub statuses_keep : (lock : ℕ) (past : List Tx) (ss : List ℕ) → Statuses lock past ss views → holds_lock w.phase ≡ holds_lock v.phase → fated w.phase w.pen.ending.fate ≡ fated v.phase v.pen.ending.fate
       → Statuses lock past ss (set views id w)
   statuses_keep lock past ss h holds fates = record {

@@ -10,7 +10,7 @@ use Rattle.pgn_words.specs.declared.view.View.{View}
 use Rattle.pgn_words.specs.declared.view.Phase.{Phase}
 use Rattle.pgn_words.specs.declared.view.Phase.TheVariants.{Held, Headed}
 use Rattle.pgn_words.specs.Words.{Content, room_of}
-use Rattle.pgn_words.specs.Views.{holds_lock, stored_by, fated}
+use Rattle.pgn_words.specs.Views.{holds_lock, fated}
 use Rattle.pgn_words.specs.WakeRule.{ended_in, pending, waits_in}
 use Rattle.pgn_words.specs.Rule.{World, KnowsStop, HoldsIn, Holds, IsHeaded, IsIdle, Law, Lawful, Keeps}
 use Rattle.pgn_words.specs.Told.{TellsHead, TellsStop, head_known, stop_known}
@@ -53,6 +53,7 @@ heads z c g views id v h here held =
       taken = taken_keep views id v w here z g.made c.fin g.seat g.past h.taken refl refl;
     }
 
+-- who holds the lock may load the head
 pub load_head_allowed : (z : Shape) (slots id : ℕ) (me : Me ℕ View) → me.0.phase ≡ Held → Allows (Lawful z) slots id me 1 (λ n. n) (TellsHead (step slots 1 0 0 none) me)
 load_head_allowed z slots id me held =
     allowed z slots id 1 me (λ n. n) (TellsHead (step slots 1 0 0 none) me) (λ shape c g views h here.
@@ -97,6 +98,7 @@ readies z c g views id v h here headed =
       taken = taken_keep views id v w here z g.made c.fin g.seat g.past h.taken refl refl;
     }
 
+-- who has loaded the head may load the oldest kept page
 pub load_stop_allowed : (z : Shape) (slots id : ℕ) (me : Me ℕ View) → me.0.phase ≡ Headed → Allows (Lawful z) slots id me 4 (λ n. n) (TellsStop (step slots 4 0 0 none) me)
 load_stop_allowed z slots id me headed =
     allowed z slots id 4 me (λ n. n) (TellsStop (step slots 4 0 0 none) me) (λ shape c g views h here.

@@ -52,6 +52,7 @@ shown_bound z past session db notes queued fate all finished valid few =
     let here = image_bound z.format past finished in
     let more = after_bound z.format (length (image z.format past)) session db notes queued fate valid in omega (arith, long, here, more, few)
 
+-- with one more transaction a journal's end has 32 bits, as long as there are at most 1,048,575 notifications
 pub shown_low : (z : Shape) (past : List Tx) (session db : ℕ) (notes : List Note) (queued : ℕ) (fate : Fate) → All IsFinished past → All IsNote notes → notes_of past + length notes ≤ 1048575
     → length (image z.format (past ++ draft session db notes queued fate ∷ [])) < 2 ^ 32
 shown_low z past session db notes queued fate finished valid few = let bound = shown_bound z past session db notes queued fate 1048575 finished valid few in omega (arith, bound)
@@ -66,6 +67,7 @@ placed_grows format past more fin fin' stop mark at counted further p = record {
   low = p.low;
 }
 
+-- a least position over a journal is one over a longer journal too
 pub least_grows : (format : Format) (past more : List Tx) (fin fin' least : ℕ) → fin ≡ next_xid past → fin ≤ fin' → IsLeast format past fin least → IsLeast format (past ++ more) fin' least
 least_grows format past more fin fin' least counted further p = record {
   at_is = p.at_is ∙ sym (places_agree format past more (mark_in least) (let most = p.most in omega (arith, most, counted)));

@@ -184,6 +184,7 @@ loads_interest z c g views id v seat h here signals =
     by_seat format matters past before last fin i seat wake mark walks ends owes undecided old new b counted split how kept apart h (no ne) =
         subst (λ (n : ℕ). IsHeeded format matters past n (served undecided fin i) wake mark walks ends owes) (sym (ap (λ a. cond (undecided i && a) (fin - 1) fin) (kept ne))) h
 
+-- who signals may load the interest of a seat
 pub load_interest_allowed : (z : Shape) (slots id word seat : ℕ) (me : Me ℕ View) → word ≡ interests_at z + seat → seat < seats_of z → me.0.phase ≡ Signalling
     → Allows (Lawful z) slots id me word (λ n. n) (TellsInterest (step slots word 0 0 none) me)
 load_interest_allowed z slots id word seat me there room signals =

@@ -50,10 +50,12 @@ free_holds Open nothing = absurd (nothing refl)
 free_holds Finished nothing = absurd (nothing refl)
 free_holds Signalling nothing = absurd (nothing refl)
 
+-- of a view that does not hold the lock nothing is asked that is asked of its holder
 pub others_hold : (z : Shape) (stop : ℕ) (past shown : List Tx) (cells : List ℕ) (j : ℕ) (u : View) → (holds_lock u.phase ≡ true → ⊥) → Holds z stop past shown cells j u
 others_hold z stop past shown cells j u nothing =
     subst (λ (p : Phase). HoldsIn p z.format (λ log. Keeps (room_of z) (Rattle.pgn_journal.specs.Packing.page_start stop) log cells) past shown u.known.seen u.known.session u.known.db u.pen) (sym (free_holds u.phase nothing)) tt
 
+-- nor need it know the oldest kept page
 pub others_stop : (stop j : ℕ) (u : View) → (holds_lock u.phase ≡ true → ⊥) → KnowsStop stop j u
 others_stop stop j u nothing knows = absurd (nothing (knowing u.phase knows))
   where
@@ -66,6 +68,7 @@ others_stop stop j u nothing knows = absurd (nothing (knowing u.phase knows))
     knowing Finished e = refl
     knowing Signalling e = refl
 
+-- notifications that are not none are at least one
 pub some_of : (notes : List Note) → notes ≢ [] → 1 ≤ length notes
 some_of [] filled = absurd (filled refl)
 some_of (x ∷ xs) filled = omega arith
@@ -84,6 +87,7 @@ not_ended Signalling fate e = refl
 pub setup_of : (z : Shape) (c : Content) (g : World) (views : List View) (id : ℕ) (v : View) → Law z c g views → get_elem? views id ≡ some v → 0 < v.known.session → v.setup ≡ z
 setup_of z c g views id v h here positive = (h.seats.seated id v here positive).setup_is
 
+-- who holds the lock has the setup of the hub
 pub held_setup : (z : Shape) (c : Content) (g : World) (views : List View) (id : ℕ) (v : View) → Law z c g views → get_elem? views id ≡ some v → holds_lock v.phase ≡ true → v.setup ≡ z
 held_setup z c g views id v h here held = setup_of z c g views id v h here (h.locking.locks id v here held).2
 
@@ -105,6 +109,7 @@ has_left [] id v e = absurd (some-ne-none v (sym e))
 has_left (x ∷ xs) zero v e = let same : spent_by x ≡ spent_by v = ap spent_by (some-injective x v e) in omega (arith, same, sum_by-cons spent_by x xs)
 has_left (x ∷ xs) (suc id) v e = let more = has_left xs id v e in omega (arith, more, sum_by-cons spent_by x xs)
 
+-- the journal has room for all that a pass may still send
 pub few_left : (z : Shape) (made : ℕ) (past : List Tx) (views : List View) (id : ℕ) (v : View) → Budget z made past views → get_elem? views id ≡ some v → All IsFinished past → v.setup ≡ z
     → length past + v.known.notes_left ≤ notes_of_seats v.setup.seats
 few_left z made past views id v budget here finished setup =
@@ -297,6 +302,7 @@ idle_holds Open e = absurd (cc)
 idle_holds Finished e = absurd (cc)
 idle_holds Signalling e = (refl, refl)
 
+-- who may drop the lock may do so once it has decided on each seat
 pub drop_lock_allowed : (z : Shape) (slots id : ℕ) (me : Me ℕ View) → may_drop me.0.phase ≡ true → ((i : ℕ) → waits_in me.0.verdicts i ≡ false) → Allows (Lawful z) slots id me 0 (λ _. 0) (λ _. TellsDrop (step slots 0 0 0 none) me 0)
 drop_lock_allowed z slots id me idle settled =
     allowed z slots id 0 me (λ _. 0) (λ _. TellsDrop (step slots 0 0 0 none) me 0) (λ shape c g views h here.
@@ -309,10 +315,6 @@ drop_lock_allowed z slots id me idle settled =
       law = drops z c g views id me.0 h here phase.0 phase.1 even (λ i. h.wakes.signals id me.0 here phase.0 i ∙ all_decided me.0.phase (waits_in me.0.verdicts) i (settled i));
       told = record { slots = refl; view = refl };
     })
-
--- what the pass learns of the journal
-learns : (past seen : List Tx) → Begins seen past → past ≡ seen ++ drop (length seen) past
-learns past seen b = begins-rest seen past b
 
 taken_told : (z : Shape) (c : Content) (g : World) (views : List View) (id : ℕ) (v : View) → Law z c g views → get_elem? views id ≡ some v → 0 < v.known.session
     → HasLocked v (locked g.past v)
@@ -387,6 +389,7 @@ tries z id me slots c g views free positive h here =
       told = record { slots = refl; same = refl; free = λ nothing. absurd (lock nothing); locked = λ _. (refl, held_told z c g views id me.0 h here free positive lock) };
     })
 
+-- a pass may try the lock, and has it where it was free
 pub try_lock_allowed : (z : Shape) (slots id number : ℕ) (me : Me ℕ View) → me.0.phase ≡ Free → 0 < number → number ≡ me.0.known.session
     → Allows (Lawful z) slots id me 0 (λ n. either (n == 0) number n) (TellsLock (step slots 0 0 number none) me)
 try_lock_allowed z slots id number me free positive is =

@@ -1,8 +1,7 @@
 -- The looks of an advance of the tail, and the announcing of the tail, keep the rule.
 use Rattle.std.proofs.Common.{◌≡◌, ◌≢◌, ⊎_elim, ℕ, ◌+◌, ◌^◌, ◌<◌, ◌≤◌, ◌==◌, Bool, true, false, cond, List, [], ◌∷◌, ◌++◌, length, get_or, set, All, sym, refl, ap, ◌∙◌, subst, arith, true≢false}
 use Rattle.std.specs.Prelude.{flat_map}
-use Rattle.std.proofs.lemmas.List.Elements.{All-weaker, All-append, All-drop}
-use Rattle.std.proofs.lemmas.List.{append_assoc, append-nil}
+use Rattle.std.proofs.lemmas.List.Elements.{All-weaker, All-append}
 use Rattle.std.proofs.lemmas.Bool.Decides.{nat_tests}
 use mathlib.Core.Option.{some, none}
 use lib.ListN.{get_elem?}
@@ -127,10 +126,6 @@ least_told z c g views v least h setup seen p =
     (subst (λ (txs : List Tx). IsPlacedIn z.format txs (mark_in least) (place_in least)) (sym seen)
     (placed_in z.format g.past c.fin (mark_in least) (place_in least) h.history.counted p.at_is p.first p.most))
 
--- the look as it begins, or as it goes on
-abbrev pub first_from : ℕ → View → View
-first_from seat v = cond (seat == 0) (look_begun v) v
-
 -- its least mark is one with its place
 first_least : (z : Shape) (c : Content) (g : World) (views : List View) (id : ℕ) (v : View) (seat : ℕ) → IsShape z → Law z c g views → get_elem? views id ≡ some v → holds_lock v.phase ≡ true → v.setup ≡ z → v.known.seen ≡ g.past
     → MayLookFirst v seat → (b : Bool) → seat == 0 ≡ b → IsLeast z.format g.past c.fin (cond b (look_begun v) v).eye.least
@@ -176,6 +171,7 @@ least_is : (v : View) (seat : ℕ) (p : PosWord) (b : Bool) → (looked_first se
 least_is v seat p true = refl
 least_is v seat p false = refl
 
+-- the holder of the lock may look at the next seat for the first time
 pub first_look_allowed : (z : Shape) (slots id word seat : ℕ) (me : Me ℕ View) → word ≡ pos_at + seat → seat < seats_of z → may_look me.0.phase ≡ true → MayLookFirst me.0 seat
     → Allows (Lawful z) slots id me word (λ n. n) (TellsFirstLook (step slots word 0 0 none) me)
 first_look_allowed z slots id word seat me there room looker may =
@@ -228,10 +224,12 @@ first_look_allowed z slots id word seat me there room looker may =
 in_first : (z : Shape) (c : Content) (g : World) (views : List View) (id : ℕ) (v : View) → Law z c g views → get_elem? views id ≡ some v → holds_lock v.phase ≡ true → v.eye.look ≡ First → IsLeast z.format g.past c.fin v.eye.least
 in_first z c g views id v h here held first = subst (λ (k : Look). LookIn k z.format g.past c.fin g.looked g.target c.tail v.eye) first (h.looks.looking id v here held)
 
+-- in the second look the least is that of the positions, and the target is the world's
 pub in_second : (z : Shape) (c : Content) (g : World) (views : List View) (id : ℕ) (v : View) → Law z c g views → get_elem? views id ≡ some v → holds_lock v.phase ≡ true → v.eye.look ≡ Second
     → IsLeast z.format g.past c.fin v.eye.least × IsSecond g.looked g.target c.tail v.eye
 in_second z c g views id v h here held second = subst (λ (k : Look). LookIn k z.format g.past c.fin g.looked g.target c.tail v.eye) second (h.looks.looking id v here held)
 
+-- behind the first look it may load the tail
 pub load_tail_allowed : (z : Shape) (slots id : ℕ) (me : Me ℕ View) → may_look me.0.phase ≡ true → me.0.eye.look ≡ First → Allows (Lawful z) slots id me 3 (λ n. n) (TellsTail (step slots 3 0 0 none) me)
 load_tail_allowed z slots id me looker first =
     allowed z slots id 3 me (λ n. n) (TellsTail (step slots 3 0 0 none) me) (λ shape c g views h here.
@@ -263,6 +261,7 @@ load_tail_allowed z slots id me looker first =
       };
     })
 
+-- and store one that it may announce
 pub store_tail_allowed : (z : Shape) (slots id x mark at : ℕ) (me : Me ℕ View) → may_look me.0.phase ≡ true → MayAnnounce me.0 mark at → at < 2 ^ 32 → x ≡ packed mark at
     → Allows (Lawful z) slots id me 3 (λ _. x) (λ _. TellsTailStore (step slots 3 x 0 none) me x)
 store_tail_allowed z slots id x mark at me looker may low value =

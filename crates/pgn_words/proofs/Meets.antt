@@ -17,6 +17,7 @@ pub record Goes (z : Shape) (id i : ℕ) (me : Me ℕ View) (y : ℕ) (then : �
   pub law : Law z content world (set views id w)
   pub told : then (get_or (row c) i 0) (w, me.1)
 
+-- a step is allowed that goes well on each lawful content
 pub allowed : (z : Shape) (slots id i : ℕ) (me : Me ℕ View) (f : ℕ → ℕ) (then : ℕ → Me ℕ View → Type 0)
     → (IsShape z → (c : Content) (g : World) (views : List View) → Law z c g views → get_elem? views id ≡ some me.0 → Goes z id i me (f (get_or (row c) i 0)) then c views)
     → Allows (Lawful z) slots id me i f then

@@ -1,5 +1,5 @@
 -- What a look finds at a seat.
-use Rattle.std.proofs.Common.{◌≡◌, ◌≢◌, ℕ, ◌+◌, ◌-◌, ◌*◌, ◌/◌, ◌%◌, ◌^◌, ◌<◌, ◌≤◌, ◌==◌, min, Bool, true, false, cond, List, [], ◌∷◌, ◌++◌, length, get_or, All, sym, refl, ap, ◌∙◌, subst, arith, true≢false}
+use Rattle.std.proofs.Common.{◌≡◌, ℕ, ◌+◌, ◌^◌, ◌<◌, ◌≤◌, ◌==◌, min, true, false, cond, List, [], ◌++◌, get_or, All, sym, refl, ap, ◌∙◌, subst, arith}
 use Rattle.std.proofs.lemmas.Bool.Decides.{nat_tests}
 use Rattle.std.proofs.lemmas.List.Elements.{All-nil, All-cons}
 use Rattle.std.specs.Prelude.{Contains}
@@ -32,9 +32,11 @@ position_at n more =
     let one : n == 1 ≡ false = grind (arith, nat_tests) in
     ap (λ b. cond b words.Out (cond (n == 1) words.Joining (words.At (mark_in n) (place_in n)))) none ∙ ap (λ b. cond b words.Joining (words.At (mark_in n) (place_in n))) one
 
+-- a position that is packed has its mark
 pub mark_of_packed : (m a : ℕ) → a < 2 ^ 32 → mark_in (packed m a) ≡ m
 mark_of_packed m a low = omega (arith, low)
 
+-- and its place
 pub place_of_packed : (m a : ℕ) → a < 2 ^ 32 → place_in (packed m a) ≡ a
 place_of_packed m a low = omega (arith, low)
 
@@ -66,6 +68,7 @@ pub record IsMet (format : Format) (past : List Tx) (fin stop : ℕ) (views : Li
   pub at_is : pass.post.at ≡ at
   pub placed : IsPlaced format past fin stop mark at
 
+-- what a look meets at a seat: where the position shows a mark, the pass that is registered with it
 abbrev pub Met : Format → List Tx → ℕ → ℕ → List View → ℕ → PosWord → Type 0
 Met format past fin stop views seat words.Out = Unit {0}
 Met format past fin stop views seat words.Joining = Unit {0}
@@ -78,6 +81,7 @@ shown_at Joining mark at m a e = absurd (cc)
 shown_at Based mark at m a e = absurd (cc)
 shown_at Registered mark at m a e = (refl, cc, cc)
 
+-- under the law it meets just that
 pub met : (z : Shape) (c : Content) (g : World) (views : List View) (seat : ℕ) → Law z c g views → Met z.format g.past c.fin c.stop views seat (position_in (get_or c.pos seat 0))
 met z c g views seat h = by_word (dec_le 2 (get_or c.pos seat 0))
   where

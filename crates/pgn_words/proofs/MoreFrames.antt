@@ -51,10 +51,12 @@ module _ (views : List View) (id : ℕ) (v w : View) (here : get_elem? views id 
           (id, w, changed_at views id v w here, keeps (subst P same p))
       by_seat (no ne) = (j, u, set_else views id j w ne ∙ there, p)
 
+  -- somebody of whom a fact holds is there still, if it goes on to hold of the view
   pub someone_keep : (P : View → Type 0) → w.known.session ≡ v.known.session → (P v → P w) → Someone P views → Someone P (set views id w)
   someone_keep P session keeps (j, u, there, positive, p) =
       let r = still_there (λ x. (0 < x.known.session) × P x) (λ q. (subst (λ (n : ℕ). 0 < n) (sym session) q.0, keeps q.1)) (j, u, there, (positive, p)) in (r.0, r.1, r.2, r.3.0, r.3.1)
 
+  -- the positions stay, if the view keeps its session, its position and its mark
   pub posts_keep : (format : Format) (past : List Tx) (fin stop made tail : ℕ) (pos : List ℕ) → Posts format past fin stop made tail pos views
       → w.known.session ≡ v.known.session → w.post ≡ v.post → w.known.mark ≡ v.known.mark → Posts format past fin stop made tail pos (set views id w)
   posts_keep format past fin stop made tail pos h session post mark = record {
@@ -68,6 +70,7 @@ module _ (views : List View) (id : ℕ) (v w : View) (here : get_elem? views id 
     tail_placed = h.tail_placed;
   }
 
+  -- the walks stay, if the view keeps its position and its walk and has seen no less
   pub walks_keep : (format : Format) (room head : ℕ) (cells : List ℕ) → Walks format room head cells views → w.post ≡ v.post → w.walk ≡ v.walk → length v.known.seen ≤ length w.known.seen
       → Walks format room head cells (set views id w)
   walks_keep format room head cells h post walk seen = record {
@@ -80,6 +83,7 @@ module _ (views : List View) (id : ℕ) (v w : View) (here : get_elem? views id 
         (subst (λ (k : Walk). k.stage ≡ Shown → Keeps room v.post.at (image format k.shown) cells × (length (image format k.shown) ≤ head)) (sym walk) p));
   }
 
+  -- the looks stay, if the view keeps its session, its position, its look, and whether it holds the lock
   pub looks_keep : (format : Format) (past : List Tx) (fin stop looked target tail : ℕ) → Looks format past fin stop looked target tail views
       → w.known.session ≡ v.known.session → w.post ≡ v.post → holds_lock w.phase ≡ holds_lock v.phase → w.eye ≡ v.eye → Looks format past fin stop looked target tail (set views id w)
   looks_keep format past fin stop looked target tail h session post holds eye = record {
@@ -92,6 +96,7 @@ module _ (views : List View) (id : ℕ) (v w : View) (here : get_elem? views id 
     above = h.above;
   }
 
+  -- each listener heeds its wake still, if the view keeps how it stands and reads, and owes a read that it owed
   pub heeds_owing : (format : Format) (past : List Tx) (fin : ℕ) (undecided concerned : ℕ → Bool) (wakes : List ℕ) → Each (Heeds format past fin undecided concerned wakes) views
       → w.known.session ≡ v.known.session → w.post ≡ v.post → w.walk ≡ v.walk → is_due_to w.known.db w.known.set ≡ is_due_to v.known.db v.known.set → (v.known.owes ≡ true → w.known.owes ≡ true)
       → Each (Heeds format past fin undecided concerned wakes) (set views id w)
@@ -105,11 +110,13 @@ module _ (views : List View) (id : ℕ) (v w : View) (here : get_elem? views id 
       (subst (λ (matters : Tx → Bool). IsHeeded format matters past (passed undecided concerned fin i) (served undecided fin i) (get_or wakes i 0) v.post.mark (is_walking v.walk.stage) v.walk.upto v.known.owes) (sym due)
       (p registered i (sym session ∙ number))))))
 
+  -- the same, if it owes a read just where it did
   pub heeds_keep : (format : Format) (past : List Tx) (fin : ℕ) (undecided concerned : ℕ → Bool) (wakes : List ℕ) → Each (Heeds format past fin undecided concerned wakes) views
       → w.known.session ≡ v.known.session → w.post ≡ v.post → w.walk ≡ v.walk → is_due_to w.known.db w.known.set ≡ is_due_to v.known.db v.known.set → w.known.owes ≡ v.known.owes
       → Each (Heeds format past fin undecided concerned wakes) (set views id w)
   heeds_keep format past fin undecided concerned wakes h session post walk due owes = heeds_owing format past fin undecided concerned wakes h session post walk due (λ o. owes ∙ o)
 
+  -- the interests stay, if the view keeps its session, its position and its set, and deems no other seats concerned
   pub interests_keep : (concerned : ℕ → Bool) (interests : List ℕ) → Interests concerned interests views → w.known.session ≡ v.known.session → w.post ≡ v.post → w.known.set ≡ v.known.set
       → (Deems v.phase concerned v.concerned → Deems w.phase concerned w.concerned) → Interests concerned interests (set views id w)
   interests_keep concerned interests h session post set_is deems = record {
@@ -119,6 +126,7 @@ module _ (views : List View) (id : ℕ) (v w : View) (here : get_elem? views id 
     deems = each_keep (λ _ u. Deems u.phase concerned u.concerned) views id v w here h.deems deems;
   }
 
+  -- the wakes stay, if the view keeps how it stands and reads, what it knows of wakes, and for whom it has still to decide
   pub wakes_keep : (format : Format) (lock fin : ℕ) (past : List Tx) (undecided concerned : ℕ → Bool) (wakes : List ℕ) → Wakes format lock fin past undecided concerned wakes views
       → w.known.session ≡ v.known.session → w.post ≡ v.post → w.walk ≡ v.walk → is_due_to w.known.db w.known.set ≡ is_due_to v.known.db v.known.set → w.known.owes ≡ v.known.owes → w.known.signalled ≡ v.known.signalled
       → holds_lock w.phase ≡ holds_lock v.phase → ((i : ℕ) → pending w.phase (waits_in w.verdicts) i ≡ pending v.phase (waits_in v.verdicts) i)
@@ -132,9 +140,11 @@ module _ (views : List View) (id : ℕ) (v w : View) (here : get_elem? views id 
     ended = each_keep (λ _ u. u.ended ≡ ended_in u.phase fin) views id v w here h.ended (λ p. ended ∙ p ∙ sym ends);
   }
 
+  -- a flag that was raised to a number was so still, if the view keeps what it has raised
   pub raised_keep : (pair : ℕ × ℕ) → w.known.session ≡ v.known.session → raised_in w ≡ raised_in v → Raised views pair → Raised (set views id w) pair
   raised_keep pair session raised r = someone_keep (λ u. Contains (raised_in u) pair) session (λ p. subst (λ (l : List (ℕ × ℕ)). Contains l pair) (sym raised) p) r
 
+  -- the flags stay, if the view keeps what it has raised and found, and is told of what is finished
   pub flags_keep : (fin : ℕ) (flags : List ℕ) → Flags fin flags views → w.known.session ≡ v.known.session → IsTold fin w.known.told w.known.signalled
       → raised_in w ≡ raised_in v → found_in w ≡ found_in v → Flags fin flags (set views id w)
   flags_keep fin flags h session told raised found = record {
@@ -150,6 +160,7 @@ module _ (views : List View) (id : ℕ) (v w : View) (here : get_elem? views id 
   marked_keep pair session marks gone m = someone_keep (MarkedBy pair) session
       (λ p. ⊎_elim (λ mine. inl (marks mine)) (λ theirs. inr (subst (λ (l : List Known). Any (IsMarkedBy pair) l) (sym gone) theirs)) p) m
 
+  -- the marks that were named stay, if the view keeps its position, its marks, and what it has named and taken in
   pub named_keep : Named views → w.known.session ≡ v.known.session → w.post ≡ v.post → w.known.marks ≡ v.known.marks → w.joined ≡ v.joined → w.known.named ≡ v.known.named → Named (set views id w)
   named_keep h session post marks gone named = record {
     current = each_keep (λ _ u. u.post.listen ≡ Registered → IsLast u.known.marks u.post.mark) views id v w here h.current (λ p.
@@ -164,6 +175,7 @@ module _ (views : List View) (id : ℕ) (v w : View) (here : get_elem? views id 
       same = ap (λ (l : List (ℕ × ℕ)). l ++ flat_map (λ (k : Known). k.named) w.joined) named
           ∙ ap (λ (ks : List Known). v.known.named ++ flat_map (λ (k : Known). k.named) ks) gone
 
+  -- the passes that were taken in stay so, if the view keeps its session and those that it took in
   pub taken_keep : (z : Shape) (made fin : ℕ) (seat : ℕ → ℕ) (past : List Tx) → Taken z made fin seat past views → w.known.session ≡ v.known.session → w.joined ≡ v.joined
       → Taken z made fin seat past (set views id w)
   taken_keep z made fin seat past h session gone =

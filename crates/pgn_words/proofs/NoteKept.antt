@@ -119,6 +119,7 @@ notes z c g views id v h here =
       taken = each_made (λ j u. All (IsTaken z g.made c.fin g.seat g.past j u.known.session) u.joined) views w h.taken (All-nil (IsTaken z g.made c.fin g.seat g.past (length views) 0));
     }
 
+-- a pass may split off a note of what it was told
 pub note_allowed : (z : Shape) (id : ℕ) (v : View) → Splits (Lawful z) id v v (noted v)
 note_allowed z id v s holds here = record {
   shape = holds.shape;
@@ -236,6 +237,7 @@ longer_begins xs ys past x y = by_length (dec_le (length xs) (length ys))
         let empty : drop (length xs) ys ≡ [] = drop_all (length xs) ys (omega (arith, more)) in
         subst (λ (l : List Tx). Begins l past) (sym (ap (λ (l : List Tx). xs ++ l) empty ∙ append-nil xs)) x
 
+-- and another may take such a note in
 pub join_allowed : (z : Shape) (id other : ℕ) (v w : View) → w.known.session ≡ 0 → Joins (Lawful z) id v other w (joined v w) spent_view
 join_allowed z id other v w number s holds here apart there =
     let theirs : get_elem? s.views other ≡ some w = sym (set_else s.views id other (joined v w) apart) ∙ there in

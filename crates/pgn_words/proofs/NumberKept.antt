@@ -1,5 +1,5 @@
 -- The drawing of a transaction number keeps the rule.
-use Rattle.std.proofs.Common.{◌≡◌, ◌≢◌, ℕ, ◌+◌, ◌-◌, ◌%◌, ◌^◌, ◌<◌, ◌≤◌, true, List, [], ◌++◌, length, set, sum_by, All, AllPairs, sym, refl, ap, ◌∙◌, subst, arith}
+use Rattle.std.proofs.Common.{◌≡◌, ◌≢◌, ℕ, ◌+◌, ◌%◌, ◌^◌, ◌≤◌, true, List, [], ◌++◌, length, set, All, AllPairs, sym, refl, ap, ◌∙◌, subst, arith}
 use Rattle.std.proofs.lemmas.List.{append-nil}
 use mathlib.Core.Option.{some, none}
 use lib.ListN.{get_elem?}
@@ -74,6 +74,7 @@ draws z c g views id v notes h here ready filled valid different few =
       taken = taken_keep views id v w here z g.made c.fin g.seat g.past h.taken refl refl;
     }
 
+-- who has loaded both ends may draw the number of a transaction
 pub draw_allowed : (z : Shape) (slots id : ℕ) (me : Me ℕ View) (notes : List Note) → me.0.phase ≡ Ready → notes ≢ [] → All IsNote notes → AllPairs (λ a b. a ≢ b) notes → length notes ≤ me.0.known.notes_left
     → Allows (Lawful z) slots id me 5 (λ n. (n + 1) % 2 ^ 64) (TellsDraw notes (step slots 5 1 0 none) me)
 draw_allowed z slots id me notes ready filled valid different few =

@@ -78,6 +78,7 @@ next_made queue first now pass passes k made within now_own now_is own is =
 
 -- all of them, once the first one stands before the others
 module _ (queue : WordQueue) (first : WordPass) (passes all : List WordPass) (k : ℕ) (made : AreMade queue first passes k) (whole : all ≡ first ∷ passes) where
+  -- the passes that are opened know what those of the seats know at first
   pub all_known : (setup : Shape) → shape_of queue ≡ setup → length setup.seats ≤ k → map known_of all ≡ opened_passes 1 setup.seats
   all_known setup is last =
       ap (λ (ps : List WordPass). map known_of ps) whole
@@ -85,8 +86,10 @@ module _ (queue : WordQueue) (first : WordPass) (passes all : List WordPass) (k 
       ∙ ap (λ (z : Shape). opened_passes 1 (take k z.seats)) is
       ∙ ap (opened_passes 1) (take_all k setup.seats last)
 
+  -- each is one of the queue's
   pub all_own : All (IsPassOf queue) all
   all_own = subst (λ (ps : List WordPass). All (IsPassOf queue) ps) (sym whole) (All-cons (IsPassOf queue) first passes made.first_own made.own)
 
+  -- each has done nothing yet
   pub all_fresh : All IsFresh all
   all_fresh = subst (λ (ps : List WordPass). All IsFresh ps) (sym whole) (All-cons IsFresh first passes made.first_fresh made.fresh)

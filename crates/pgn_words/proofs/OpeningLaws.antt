@@ -1,5 +1,5 @@
 -- The words of an empty queue, with one pass, meet the rule.
-use Rattle.std.proofs.Common.{◌≡◌, ◌≢◌, inl, true, false, All, ℕ, zero, suc, ◌+◌, ◌*◌, ◌%◌, ◌^◌, ◌<◌, ◌≤◌, List, [], ◌∷◌, ◌++◌, length, get_or, set, drop, replicate, sum_by, sym, refl, ap, ◌∙◌, subst, arith, Some}
+use Rattle.std.proofs.Common.{◌≡◌, inl, false, All, ℕ, zero, suc, ◌+◌, ◌*◌, ◌%◌, ◌^◌, ◌<◌, List, [], ◌∷◌, ◌++◌, length, get_or, set, replicate, sym, refl, ap, ◌∙◌, subst, arith, Some}
 use Rattle.std.proofs.lemmas.List.{length-replicate, replicate-append-replicate}
 use Rattle.std.proofs.lemmas.List.Elements.{All-nil}
 use Rattle.std.proofs.lemmas.List.Sums.{sum_by-cons}
@@ -152,6 +152,7 @@ opens_law z shape some_db db_fits = record {
   taken = each_one (λ j u. All (IsTaken z 1 3 (λ n. 0) [] j u.known.session) u.joined) (first_view z) (All-nil (IsTaken z 1 3 (λ n. 0) [] 0 1));
 }
 
+-- the words with which a hub is opened are lawful
 pub opens : (z : Shape) (words : List ℕ) → IsShape z → 0 < (seat_of z 1).db → (seat_of z 1).db < 2 ^ 32 → words ≡ row (first_content z) → Lawful z (opening words [] (first_view z))
 opens z words shape some_db db_fits stands = record { shape = shape; content = first_content z; world = first_world; stands = stands; law = opens_law z shape some_db db_fits }
 

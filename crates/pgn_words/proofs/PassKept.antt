@@ -1,5 +1,5 @@
 -- The making of a pass keeps the rule.
-use Rattle.std.proofs.Common.{Bool, ◌≡◌, ℕ, zero, suc, ◌+◌, ◌-◌, ◌^◌, ◌<◌, ◌≤◌, ◌==◌, true, false, cond, List, [], ◌∷◌, ◌++◌, length, get_or, drop, set, All, sym, refl, ap, ◌∙◌, subst, arith, length-set}
+use Rattle.std.proofs.Common.{◌≡◌, ℕ, zero, suc, ◌+◌, ◌-◌, ◌^◌, ◌<◌, ◌≤◌, ◌==◌, true, false, cond, List, [], ◌∷◌, ◌++◌, length, get_or, drop, set, All, sym, refl, ap, ◌∙◌, subst, arith, length-set}
 use Rattle.std.proofs.lemmas.List.Elements.{All-nil, All-weaker, All-head, All-tail}
 use Rattle.std.proofs.lemmas.List.Sums.{sum_by-cons}
 use Rattle.std.proofs.lemmas.Bool.Decides.{nat_tests}
@@ -180,6 +180,7 @@ makes z c g views id v h here mine room some_db db_fits =
     seat_is : (z : Shape) (made : ℕ) (seat : ℕ → ℕ) (j : ℕ) (u : View) → Seated z made seat j u → u.known.session ≡ 1 → seat 1 ≡ j
     seat_is z made seat j u s one = ap seat (sym one) ∙ (s (omega (arith, one))).sits
 
+-- the first pass may make that of the next seat
 pub make_allowed : (z : Shape) (id : ℕ) (v : View) → v.setup ≡ z → 0 < v.made → v.made < seats_of z → 0 < (seat_of z (v.made + 1)).db → (seat_of z (v.made + 1)).db < 2 ^ 32 → Splits (Lawful z) id v (after_making v) (made_by v)
 make_allowed z id v setup mine room some_db db_fits s holds here =
     let me = holds.law.seats.makes id v here mine in

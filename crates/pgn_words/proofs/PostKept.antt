@@ -32,6 +32,7 @@ use Rattle.pgn_words.proofs.LockKept.{others_hold}
 abbrev pub turned : ℕ → List Tx → Option ℕ → List ℕ → Bool → Option (Bool × Bool) → List (List ℕ) → Post → Walk → View → View
 turned t txs m ms o wl st q k v = record v { known = record v.known { seen = txs; mark = m; told = t; set = st; marks = ms; owes = o; wake_look = wl }; post = q; walk = k }
 
+-- the law stays where a pass has turned so, with its own position, wake and interest in their words
 pub turns : (z : Shape) (c : Content) (g : World) (views : List View) (id : ℕ) (v : View) (i t : ℕ) (txs : List Tx) (m : Option ℕ) (ms : List ℕ) (o : Bool) (wl : Option (Bool × Bool)) (st : List (List ℕ)) (q : Post) (k : Walk) (p ws is : List ℕ)
     → Law z c g views → get_elem? views id ≡ some v → v.known.session ≡ i + 1
     → Begins txs g.past → length v.known.seen ≤ length txs → (holds_lock v.phase ≡ true → txs ≡ v.known.seen)
@@ -159,6 +160,7 @@ moves_on z c g views id v i t txs m ms o st q k p h here number begins longer sa
 abbrev pub moved : List Tx → Option ℕ → List ℕ → Bool → List (List ℕ) → Post → Walk → View → View
 moved txs m ms o st q k v = record v { known = record v.known { seen = txs; mark = m; set = st; marks = ms; owes = o }; post = q; walk = k }
 
+-- the same where its wake and its interest stay too
 pub moves : (z : Shape) (c : Content) (g : World) (views : List View) (id : ℕ) (v : View) (i : ℕ) (txs : List Tx) (m : Option ℕ) (ms : List ℕ) (o : Bool) (st : List (List ℕ)) (q : Post) (k : Walk) (p : List ℕ)
     → Law z c g views → get_elem? views id ≡ some v → v.known.session ≡ i + 1
     → Begins txs g.past → length v.known.seen ≤ length txs → (holds_lock v.phase ≡ true → txs ≡ v.known.seen)

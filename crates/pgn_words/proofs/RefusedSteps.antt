@@ -78,8 +78,11 @@ not_told_too_much h = let low = h.finished in omega (arith, low)
 pub not_signalled_untold : IsTold 4 3 4 → ⊥
 not_signalled_untold h = let low = h.below in omega (arith, low)
 
+-- what no writer may do
 pub ruleset refused_writers = (no_other_cell, no_other_holder, not_drawn_twice)
 
+-- what no listener may do, and no look may find
 pub ruleset refused_listeners = (not_too_late, no_page_gone, not_hidden, not_without_mark, not_before_target, no_other_target)
 
+-- what may not be told of wakes, interests and flags
 pub ruleset refused_wakes = (not_heard_too_early, not_undecided, not_uncovered, not_deemed, no_earlier_mark, nobody_knows, not_taken_too_early, not_told_too_much, not_signalled_untold, no_greater)

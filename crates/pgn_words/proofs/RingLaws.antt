@@ -52,6 +52,7 @@ padded_holds (y ∷ log) n (suc i) x e = padded_holds log n i x e
 pub keeps_padded : (room from to : ℕ) (log : List (Option ℕ)) (cells : List ℕ) → Keeps room from log cells → Keeps room from (padded_to to log) cells
 keeps_padded room from to log cells kept i x low there = kept i x low (padded_holds log (to - length log) i x there)
 
+-- padded to a length that it does not exceed, a list has this length
 pub length-padded : (to : ℕ) (log : List (Option ℕ)) → length log ≤ to → length (padded_to to log) ≡ to
 length-padded to log up = omega (arith, length-append log (replicate {A = Option ℕ} (to - length log) None), length-replicate {A = Option ℕ} (to - length log) None)
 
@@ -72,6 +73,7 @@ next_inside z at next is inside =
     let there : (at + 1) % room_of z ≡ suc (at % room_of z) = ap (λ n. n % room_of z) more ∙ turns ∙ same in
     is ∙ omega (arith, there)
 
+-- behind the last word of the ring comes its first
 pub next_around : (z : Shape) (at : ℕ) → word_count z ≤ cell_word z at + 1 → cells_at z ≡ cell_word z (at + 1)
 next_around z at past =
     let more : at + 1 ≡ suc at = omega arith in
@@ -92,6 +94,3 @@ cell_there z word is =
     let within = is.within in
     let same : (word - cells_at z) % room_of z ≡ word - cells_at z = mod-eq_of_lt (omega (arith, from, within)) in
     omega (arith, from, same)
-
-pub cell_words : (z : Shape) (word at : ℕ) → word ≡ cell_word z at → IsCellWord z word
-cell_words z word at is = record { from = omega (arith, is); within = word_within z word at is }

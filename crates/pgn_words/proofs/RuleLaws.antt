@@ -9,9 +9,11 @@ use Rattle.pgn_words.proofs.HeadKept.{phase_holds}
 use Rattle.pgn_words.proofs.NearSteps.{served_near}
 use Rattle.pgn_words.proofs.WakeKept.{heard_served, heard_passed}
 
+-- what a walk loads is of the journal that the head showed it
 pub walks_read : WalksReadTheJournal
 walks_read z c g views j v h there shown at x from is = (h.walks.bounds j v there shown).0 at x from is
 
+-- no page is written on that a position or a joiner still needs
 pub pages_spared : PagesAreSpared
 pages_spared z c g views id v h here opened at old page stays turn j u there has =
     let was = phase_holds Open z c.stop g.past g.shown c.cells id v opened (h.holding.holds id v here) in
@@ -21,6 +23,7 @@ pages_spared z c g views id v h here opened at old page stays turn j u there has
     let stop : v.stop ≡ c.stop = h.holding.stops id v here (ap knows_stop opened) in
     let kept = (h.posts.placed j u there has).1.kept in omega (arith, page, stays, turn, stop, kept, long, headed, reach)
 
+-- a listener without a wake that owes no read has missed nothing on its channels
 pub no_wake_lost : NoWakeIsLost
 no_wake_lost z c g views j i v h there registered number unset nothing_owed =
     ⊎_elim
@@ -32,11 +35,14 @@ no_wake_lost z c g views j i v h there registered number unset nothing_owed =
     r)
     (h.wakes.heeds j v there registered i number).still
 
+-- what a flag shows is finished
 pub flags_finished : FlagsAreFinished
 flags_finished z c g views f h = h.flags.finished f
 
+-- what a pass was told is finished
 pub told_finished : ToldIsFinished
 told_finished z c g views j v h there = (h.flags.told j v there).finished
 
+-- up to where a pass knows wakes to be set, they are
 pub signalled_heard : SignalledIsHeard
 signalled_heard z c g views j v h there = h.wakes.heard j v there

@@ -159,6 +159,7 @@ second_same v seat words.Out = record { setup = refl; session = refl; db = refl;
 second_same v seat words.Joining = record { setup = refl; session = refl; db = refl; mark = refl; told = refl; left = refl; owes = refl; ended = refl; base = refl; at = refl }
 second_same v seat (words.At mark at) = record { setup = refl; session = refl; db = refl; mark = refl; told = refl; left = refl; owes = refl; ended = refl; base = refl; at = refl }
 
+-- the holder of the lock may look at the next seat for the second time
 pub second_look_allowed : (z : Shape) (slots id word seat : ℕ) (me : Me ℕ View) → word ≡ pos_at + seat → seat < seats_of z → may_look me.0.phase ≡ true → MayLookSecond me.0 seat
     → Allows (Lawful z) slots id me word (λ n. n) (TellsSecondLook (step slots word 0 0 none) me)
 second_look_allowed z slots id word seat me there room looker may =
@@ -268,6 +269,7 @@ frees z c g views id v page h here held may =
       taken = taken_keep views id v w here z g.made c.fin g.seat g.past h.taken refl refl;
     }
 
+-- behind the second look it may free the pages before the target
 pub store_stop_allowed : (z : Shape) (slots id page : ℕ) (me : Me ℕ View) → may_look me.0.phase ≡ true → MayFree me.0 page → Allows (Lawful z) slots id me 4 (λ _. page) (λ _. TellsStopStore (step slots 4 page 0 none) me page)
 store_stop_allowed z slots id page me looker may =
     allowed z slots id 4 me (λ _. page) (λ _. TellsStopStore (step slots 4 page 0 none) me page) (λ shape c g views h here. record {

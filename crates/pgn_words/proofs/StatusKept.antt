@@ -200,6 +200,7 @@ hears z c g views id v txs told signalled owes h here begins longer same owed he
     by_lock true e p = subst (λ (xs : List Tx). HoldsIn v.phase z.format (λ log. Keeps (room_of z) (page_start c.stop) log c.cells) g.past g.shown xs v.known.session v.known.db v.pen) (sym (same e)) p
     by_lock false e p = others_hold z c.stop g.past g.shown c.cells id (record v { known = record v.known { seen = txs; told = told; signalled = signalled; owes = owes } }) (λ held. true≢false (sym held ∙ e))
 
+-- a pass may load the first unfinished number
 pub load_fin_allowed : (z : Shape) (slots id : ℕ) (me : Me ℕ View) → 0 < me.0.known.session → Allows (Lawful z) slots id me 2 (λ n. n) (TellsFin (step slots 2 0 0 none) me)
 load_fin_allowed z slots id me positive =
     allowed z slots id 2 me (λ n. n) (TellsFin (step slots 2 0 0 none) me) (λ shape c g views h here.
@@ -231,6 +232,7 @@ load_fin_allowed z slots id me positive =
       };
     })
 
+-- and a word of statuses
 pub load_status_allowed : (z : Shape) (slots id word : ℕ) (me : Me ℕ View) → 0 < me.0.known.session → Allows (Lawful z) slots id me word (λ n. n) (TellsStatus (step slots word 0 0 none) me)
 load_status_allowed z slots id word me positive =
     allowed z slots id word me (λ n. n) (TellsStatus (step slots word 0 0 none) me) (λ shape c g views h here. record {

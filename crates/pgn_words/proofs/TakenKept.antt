@@ -1,6 +1,6 @@
 -- The taking in of a pass keeps the rule.
 use Rattle.std.specs.Prelude.{Contains}
-use Rattle.std.proofs.Common.{◌≡◌, ◌≢◌, inl, inr, ⊎_elim, ℕ, zero, ◌+◌, ◌<◌, ◌≤◌, true, List, [], ◌∷◌, ◌++◌, get_or, set, All, sym, refl, ap, ◌∙◌, arith, true≢false}
+use Rattle.std.proofs.Common.{◌≡◌, ◌≢◌, inl, inr, ⊎_elim, ℕ, zero, ◌+◌, ◌<◌, true, List, [], ◌∷◌, ◌++◌, get_or, set, All, sym, refl, ap, ◌∙◌, arith, true≢false}
 use Rattle.std.proofs.lemmas.List.Elements.{All-nil, All-cons, All-append, All-weaker}
 use mathlib.Core.Option.{some, some-injective}
 use lib.ListN.{get_elem?}
@@ -183,6 +183,7 @@ takes_in z c g views id other v u h here there apart mine_positive positive free
           (λ k p. record { sits = stays k.session j p.sits off_other; positive = p.positive; was_made = p.was_made; other = p.other; db_is = p.db_is; sees = p.sees; owns = p.owns; own_seen = p.own_seen; told = p.told }) x.joined all);
     }
 
+-- a pass may take in another one that neither holds the lock nor listens
 pub take_in_allowed : (z : Shape) (id other : ℕ) (v u : View) → 0 < v.known.session → 0 < u.known.session → u.phase ≡ Free → u.post.listen ≡ Out → Joins (Lawful z) id v other u (taken_in v u) spent_view
 take_in_allowed z id other v u mine_positive positive free out s holds here apart there =
     let theirs : get_elem? s.views other ≡ some u = sym (set_else s.views id other (taken_in v u) apart) ∙ there in record {

@@ -18,9 +18,11 @@ use Rattle.pgn_words.proofs.EachLaws.{each_turn, changed_at}
 abbrev pub seat_moved : ℕ → ℕ → (ℕ → ℕ) → ℕ → ℕ
 seat_moved from to seat n = cond (seat n == from) to (seat n)
 
+-- who sits elsewhere stays there
 pub seat_stays : (from to : ℕ) (seat : ℕ → ℕ) (n at : ℕ) → seat n ≡ at → at ≢ from → seat_moved from to seat n ≡ at
 seat_stays from to seat n at is other = let differs : seat n == from ≡ false = let ne : seat n ≢ from = λ same. other (sym is ∙ same) in grind (arith, nat_tests, ne) in ap (λ b. cond b to (seat n)) differs ∙ is
 
+-- who sat where the one was that is taken in sits with who takes it
 pub seat_goes : (from to : ℕ) (seat : ℕ → ℕ) (n : ℕ) → seat n ≡ from → seat_moved from to seat n ≡ to
 seat_goes from to seat n is = let same : seat n == from ≡ true = grind (arith, nat_tests) in ap (λ b. cond b to (seat n)) same
 
@@ -73,11 +75,13 @@ contains_parts [] ys p has = inr has
 contains_parts (x ∷ xs) ys p (zero, within, is) = inl (zero, omega arith, is)
 contains_parts (x ∷ xs) ys p (suc k, within, is) = ⊎_elim (λ l. let low = l.1 in inl (suc l.0, omega (arith, low), l.2)) (λ r. inr r) (contains_parts xs ys p (k, omega (arith, within), is))
 
+-- who is in the first of two lists is in both together
 pub any_left : (P : Known → Type 0) (xs ys : List Known) → Any P xs → Any P (xs ++ ys)
 any_left P [] ys (k, x, within, is, p) = absurd (omega (arith, within))
 any_left P (x ∷ xs) ys (zero, y, within, is, p) = (zero, y, omega arith, is, p)
 any_left P (x ∷ xs) ys (suc k, y, within, is, p) = let r = any_left P xs ys (k, y, omega (arith, within), is, p) in (suc r.0, r.1, (let low = r.2 in omega (arith, low)), r.3, r.4)
 
+-- and so is who is in the second
 pub any_right : (P : Known → Type 0) (xs ys : List Known) → Any P ys → Any P (xs ++ ys)
 any_right P [] ys has = has
 any_right P (x ∷ xs) ys has = let r = any_right P xs ys has in (suc r.0, r.1, (let low = r.2 in omega (arith, low)), r.3, r.4)
@@ -101,14 +105,17 @@ lists_taken f own js us k =
     ap (λ l. own ++ l) (flat_join f (js ++ us) (k ∷ []) ∙ ap (λ l. l ++ flat_map f (k ∷ [])) (flat_join f js us) ∙ append_assoc (flat_map f js) (flat_map f us) (flat_map f (k ∷ [])) ∙ ap (λ l. flat_map f js ++ (flat_map f us ++ l)) last)
     ∙ sym (append_assoc own (flat_map f js) (flat_map f us ++ f k))
 
+-- what holds of all that each of two passes tells holds of all that they tell together
 pub all_taken : (P : ℕ × ℕ → Type 0) (f : Known → List (ℕ × ℕ)) (own : List (ℕ × ℕ)) (js us : List Known) (k : Known) → All P (own ++ flat_map f js) → All P (f k ++ flat_map f us) → All P (own ++ flat_map f (js ++ us ++ k ∷ []))
 all_taken P f own js us k a b =
     subst (λ (l : List (ℕ × ℕ)). All P l) (sym (lists_taken f own js us k))
     (All-append P (own ++ flat_map f js) (flat_map f us ++ f k) a (All-append P (flat_map f us) (f k) (all_right P (f k) (flat_map f us) b) (all_left P (f k) (flat_map f us) b)))
 
+-- what the one told they tell together
 pub has_mine : (f : Known → List (ℕ × ℕ)) (own : List (ℕ × ℕ)) (js us : List Known) (k : Known) (p : ℕ × ℕ) → Contains (own ++ flat_map f js) p → Contains (own ++ flat_map f (js ++ us ++ k ∷ [])) p
 has_mine f own js us k p has = subst (λ (l : List (ℕ × ℕ)). Contains l p) (sym (lists_taken f own js us k)) (contains_left (own ++ flat_map f js) (flat_map f us ++ f k) p has)
 
+-- and what the other did
 pub has_theirs : (f : Known → List (ℕ × ℕ)) (own : List (ℕ × ℕ)) (js us : List Known) (k : Known) (p : ℕ × ℕ) → Contains (f k ++ flat_map f us) p → Contains (own ++ flat_map f (js ++ us ++ k ∷ [])) p
 has_theirs f own js us k p has =
     subst (λ (l : List (ℕ × ℕ)). Contains l p) (sym (lists_taken f own js us k))

@@ -2,7 +2,6 @@
 use Rattle.std.proofs.Common.{◌≡◌, ◌≢◌, ◌⊎◌, inl, inr, ⊎_elim, ℕ, zero, suc, ◌+◌, ◌-◌, ◌/◌, ◌<◌, ◌≤◌, ◌==◌, ◌&&◌, ◌||◌, nat_le, not, Bool, true, false, cond, List, [], ◌∷◌, ◌++◌, length, drop, get_or, set, bit_or, Option, Some, All, sym, refl, ap, ◌∙◌, subst, arith, true≢false, length-set, get_or-set_other, get_or-set_same}
 use Rattle.std.specs.List.{list_any}
 use Rattle.std.proofs.lemmas.Bool.Decides.{nat_tests}
-use Rattle.std.proofs.lemmas.List.Elements.{All-weaker}
 use mathlib.Core.Option.{some, none}
 use lib.ListN.{get_elem?}
 use native.Mathlib.Decide.{ℕ_discrete}
@@ -31,7 +30,7 @@ use Rattle.pgn_words.specs.declared.view.Verdict.TheVariants.{Unseen, Needed, De
 use Rattle.pgn_words.specs.Views.{holds_lock, seat_of, is_open, is_walking}
 use Rattle.pgn_words.specs.Positions.{position_in, shown_as, place_or, is_placed}
 use Rattle.pgn_words.specs.Waking.{TellsTaken, verdict_on, verdict_of, is_concerned, concerned_db, needs_wake, wake_looked, HasLookedToWake, TellsWakeLook, wake_set, TellsWakeSet}
-use Rattle.pgn_words.specs.WakeRule.{served, passed, IsServed, Deems, IsHeard, IsHeeded, Heeds, waits_in, pending, Signals, ended_in, IsTaken}
+use Rattle.pgn_words.specs.WakeRule.{served, passed, IsServed, Deems, IsHeard, IsHeeded, Heeds, waits_in, pending, Signals, ended_in}
 use Rattle.pgn_words.specs.Rule.{World, KnowsStop, Holds, IsSignalling, Law, Lawful, Keeps}
 use Rattle.pgn_words.proofs.EachLaws.{each_turn, each_keep}
 use Rattle.pgn_words.proofs.Frames.{seats_keep, locking_keep, history_keep, numbers_keep, budget_keep, statuses_keep}
@@ -77,6 +76,7 @@ after_taking wake owes N small h =
     or_true true = refl
     or_true false = refl
 
+-- a listener may take its wake
 pub take_wake_allowed : (z : Shape) (slots id word : ℕ) (me : Me ℕ View) → word ≡ wakes_at z + (me.0.known.session - 1) → 0 < me.0.known.session → me.0.post.listen ≡ Registered
     → Allows (Lawful z) slots id me word (λ _. 0) (TellsTaken (step slots word 0 0 none) me)
 take_wake_allowed z slots id word me there positive registered =
@@ -200,6 +200,7 @@ still_open : (b : Bool) → is_open (verdict_of b) ≡ b
 still_open true = refl
 still_open false = refl
 
+-- who signals may set the wake of a seat that needs it
 pub set_wake_allowed : (z : Shape) (slots id word seat : ℕ) (me : Me ℕ View) → word ≡ wakes_at z + seat → seat < seats_of z → me.0.phase ≡ Signalling → verdict_on me.0 seat ≡ Needed
     → Allows (Lawful z) slots id me word (λ n. bit_or n 1) (TellsWakeSet (step slots word 1 0 none) me)
 set_wake_allowed z slots id word seat me there room signals needed =
@@ -302,6 +303,7 @@ unconcerned undecided concerned fin i e = ap (λ b. cond (undecided i && b) (fin
     by_seat true = refl
     by_seat false = refl
 
+-- who signals may look at a seat at which it has not looked
 pub wake_look_allowed : (z : Shape) (slots id word seat : ℕ) (me : Me ℕ View) → word ≡ pos_at + seat → seat < seats_of z → me.0.phase ≡ Signalling → verdict_on me.0 seat ≡ Unseen
     → Allows (Lawful z) slots id me word (λ n. n) (TellsWakeLook (step slots word 0 0 none) me)
 wake_look_allowed z slots id word seat me there room signals unseen =

@@ -51,6 +51,7 @@ still z c g views id v l h here is unplaced walks =
     let registered : v.post.listen ≡ Registered = (h.walks.walking id v here walks).0 in
     let placed : is_placed l ≡ true = ap is_placed (sym is ∙ registered) in true≢false (sym placed ∙ unplaced)
 
+-- who does not listen may show that it joins
 pub mark_joining_allowed : (z : Shape) (slots id word : ℕ) (me : Me ℕ View) → word + 1 ≡ pos_at + me.0.known.session → 0 < me.0.known.session → me.0.post.listen ≡ Out
     → Allows (Lawful z) slots id me word (λ _. 1) (λ _. TellsJoining (step slots word 1 0 none) me 1)
 mark_joining_allowed z slots id word me own positive out =
@@ -88,6 +89,7 @@ placed_in format past fin mark at counted is first most = record {
 pub learned_more : (z : Shape) (c : Content) (g : World) (views : List View) (id : ℕ) (v : View) → Law z c g views → get_elem? views id ≡ some v → g.past ≡ v.known.seen ++ drop (length v.known.seen) g.past
 learned_more z c g views id v h here = begins-rest v.known.seen g.past (h.history.sees id v here)
 
+-- who joins may load the tail
 pub load_base_allowed : (z : Shape) (slots id : ℕ) (me : Me ℕ View) → 0 < me.0.known.session → me.0.post.listen ≡ Joining → Allows (Lawful z) slots id me 3 (λ n. n) (TellsBase (step slots 3 0 0 none) me)
 load_base_allowed z slots id me positive joins =
     allowed z slots id 3 me (λ n. n) (TellsBase (step slots 3 0 0 none) me) (λ shape c g views h here.
@@ -128,6 +130,7 @@ has_last ns n = (length ns, grind (arith, common_steps), grind (arith, common_st
 pub has_still : (ns : List ℕ) (n k : ℕ) → Contains ns k → Contains (ns ++ n ∷ []) k
 has_still ns n k (i, within, is) = (i, grind (arith, common_steps), grind (arith, common_steps))
 
+-- and show the mark that it found there
 pub store_valid_allowed : (z : Shape) (slots id word x : ℕ) (me : Me ℕ View) → word + 1 ≡ pos_at + me.0.known.session → 0 < me.0.known.session → me.0.post.listen ≡ Based → x ≡ packed me.0.post.mark me.0.post.at
     → Allows (Lawful z) slots id me word (λ _. x) (λ _. TellsRegistered (step slots word x 0 none) me x)
 store_valid_allowed z slots id word x me own positive based value =
@@ -154,6 +157,7 @@ store_valid_allowed z slots id word x me own positive based value =
       told = record { slots = refl; view = refl };
     })
 
+-- a listener that does not hold the lock may begin a walk with the first unfinished number
 pub begin_walk_allowed : (z : Shape) (slots id : ℕ) (me : Me ℕ View) → 0 < me.0.known.session → me.0.phase ≡ Free → me.0.post.listen ≡ Registered → Allows (Lawful z) slots id me 2 (λ n. n) (TellsBegun (step slots 2 0 0 none) me)
 begin_walk_allowed z slots id me positive free registered =
     allowed z slots id 2 me (λ n. n) (TellsBegun (step slots 2 0 0 none) me) (λ shape c g views h here.
@@ -203,6 +207,7 @@ shown_few z c g views id v shape h here setup =
     let all : notes_of_seats v.setup.seats ≤ 1048575 = let most = shape.few_notes in subst (λ (y : Shape). notes_of_seats y.seats ≤ 1048575) (sym setup) most in
     let more = h.history.one_more in omega (arith, left, all, more)
 
+-- on its walk it may load the head
 pub show_head_allowed : (z : Shape) (slots id : ℕ) (me : Me ℕ View) → 0 < me.0.known.session → is_walking me.0.walk.stage ≡ true → Allows (Lawful z) slots id me 1 (λ n. n) (TellsShown (step slots 1 0 0 none) me)
 show_head_allowed z slots id me positive walks =
     allowed z slots id 1 me (λ n. n) (TellsShown (step slots 1 0 0 none) me) (λ shape c g views h here.
@@ -244,6 +249,7 @@ show_head_allowed z slots id me positive walks =
       };
     })
 
+-- and the cells before it
 pub load_shown_allowed : (z : Shape) (slots id word at : ℕ) (me : Me ℕ View) → 0 < me.0.known.session → word ≡ cells_at z + at % room_of z → me.0.walk.stage ≡ Shown
     → Allows (Lawful z) slots id me word (λ n. n) (TellsShownCell (step slots word 0 0 none) me)
 load_shown_allowed z slots id word at me positive there shown =
@@ -267,6 +273,7 @@ load_shown_allowed z slots id word at me positive there shown =
       };
     })
 
+-- at the end of its walk it may move its mark to where it went
 pub store_forward_allowed : (z : Shape) (slots id word x at : ℕ) (me : Me ℕ View) → word + 1 ≡ pos_at + me.0.known.session → 0 < me.0.known.session → me.0.walk.stage ≡ Shown
     → at ≡ place z.format me.0.known.seen me.0.walk.upto → at < 2 ^ 32 → x ≡ packed me.0.walk.upto at
     → Allows (Lawful z) slots id me word (λ _. x) (λ _. TellsForwarded (step slots word x 0 none) me x)
@@ -309,6 +316,7 @@ store_forward_allowed z slots id word x at me own positive shown place_is low va
       told = record { slots = refl; view = ap (λ n. forwarded n v) (sym part) };
     })
 
+-- a pass may show that it does not listen
 pub store_out_allowed : (z : Shape) (slots id word : ℕ) (me : Me ℕ View) → word + 1 ≡ pos_at + me.0.known.session → 0 < me.0.known.session
     → Allows (Lawful z) slots id me word (λ _. 0) (λ _. TellsLeft (step slots word 0 0 none) me 0)
 store_out_allowed z slots id word me own positive =

@@ -33,6 +33,7 @@ held_behind n xs k y is =
     let long = length-drop n xs in
     slice_get_read xs (length xs) (n + k) y refl (omega (arith, within, long)) (sym (get_or_from_slice_get (drop n xs) k y y is) ∙ get_or-drop n xs k y)
 
+-- up to where a walk goes the cells are those of the finished journal
 pub walks_read_finished : WalksReadTheFinished
 walks_read_finished z c g views j v h there walks at x from before is =
     let way = h.walks.walking j v there walks in
@@ -86,6 +87,7 @@ number_there format journal n low high written few before =
     (pieces_are_readable format n at rest room (All-drop IsWritten (n - 3) journal written) fits)
     (pieces_are_numbered format n at rest) most
 
+-- a walk finds its end before it comes to what is not finished
 pub walks_end_in_time : WalksEndInTime
 walks_end_in_time z c g views j v shape h there shown at is before =
     let way = h.walks.walking j v there (ap is_walking shown) in

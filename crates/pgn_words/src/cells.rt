@@ -24,7 +24,8 @@ impl WordQueue {
     /// The number of the next cell's word, from that of a cell. So who goes from cell to cell divides once.
     pub fn next_word(&self, word: usize) -> usize
         requires { IsCellWord (shape_of self.now) word }
-        ensures value { (at : ℕ) → word ≡ cell_word (shape_of self.now) at → result ≡ cell_word (shape_of self.now) (at + 1) }
+        ensures value { (at : ℕ) → word ≡ cell_word (shape_of self.now) at
+            → result ≡ cell_word (shape_of self.now) (at + 1) }
         ensures word { IsCellWord (shape_of self.now) result }
     {
         let next = word + 1;
@@ -53,7 +54,8 @@ impl WordQueue {
         requires phase { (view_of pass.old).phase ≡ phases.Headed }
         ensures own { IsPassOf self.now pass.new }
         ensures view { view_of pass.new ≡ stop_known result (view_of pass.old) }
-        ensures ahead { length (image (shape_of self.now).format (known_of pass.old).seen) ≤ page_start (result + (shape_of self.now).pages) }
+        ensures ahead { length (image (shape_of self.now).format (known_of pass.old).seen)
+            ≤ page_start (result + (shape_of self.now).pages) }
     {
         self.table.shared.load::<LoadStop>(&mut pass.seat, STOP)
     }
@@ -67,9 +69,12 @@ impl WordQueue {
     pub fn store_cell(&self, pass: &mut WordPass, word: usize, value: u32)
         requires own { IsPassOf self.now pass.old }
         requires phase { (view_of pass.old).phase ≡ phases.Open }
-        requires next { word ≡ cell_word (shape_of self.now) (length (stored_by (view_of pass.old))) }
-        requires page { page_of (length (stored_by (view_of pass.old))) < (view_of pass.old).stop + (shape_of self.now).pages }
-        requires stays { page_of (length (stored_by (view_of pass.old))) ≡ page_of (length (view_of pass.old).pen.cells) }
+        requires next { word ≡ cell_word (shape_of self.now)
+            (length (stored_by (view_of pass.old))) }
+        requires page { page_of (length (stored_by (view_of pass.old)))
+            < (view_of pass.old).stop + (shape_of self.now).pages }
+        requires stays { page_of (length (stored_by (view_of pass.old)))
+            ≡ page_of (length (view_of pass.old).pen.cells) }
         ensures own { IsPassOf self.now pass.new }
         ensures view { view_of pass.new ≡ cell_stored value (view_of pass.old) }
     {
@@ -86,7 +91,8 @@ impl WordQueue {
         requires phase { knows_cells (view_of pass.old).phase ≡ true }
         ensures own { IsPassOf self.now pass.new }
         ensures view { view_of pass.new ≡ view_of pass.old }
-        ensures value { (x : ℕ) → page_start (view_of pass.old).stop ≤ at → slice_get (stored_by (view_of pass.old)) at ≡ Some (Some x) → result ≡ x }
+        ensures value { (x : ℕ) → page_start (view_of pass.old).stop ≤ at
+            → slice_get (stored_by (view_of pass.old)) at ≡ Some (Some x) → result ≡ x }
     {
         let word = self.word_of_cell(at);
         self.table.shared.load::<LoadCell>(&mut pass.seat, word) as u32

@@ -60,7 +60,8 @@ impl WordQueue {
     pub fn close(self, mut passes: Vec<WordPass>) -> Roll
         requires own { All (IsPassOf self) passes.items }
         requires rest { All (λ pass. IsAtRest (view_of pass)) passes.items }
-        requires all { map (λ pass. (known_of pass).session) passes.items ≡ range_with_len 1 (length (shape_of self).seats) }
+        requires all { map (λ pass. (known_of pass).session) passes.items
+            ≡ range_with_len 1 (length (shape_of self).seats) }
         ensures { Gathered (map known_of passes.items) result.count }
     {
         let mut first = passes.remove(0);

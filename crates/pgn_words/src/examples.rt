@@ -1,4 +1,4 @@
-ghost use Rattle.std.specs.Prelude.{◌≡◌, ◌≢◌, ℕ, ◌+◌, ◌^◌, ◌≤◌, ◌<◌, true, false, [], ◌∷◌, Some};
+ghost use Rattle.std.specs.Prelude.{◌^◌, true, false, [], ◌∷◌, Some};
 ghost use Rattle.pgn_base.specs.declared.format.Format.TheVariants.{One};
 ghost use Rattle.pgn_hub.specs.Examples.{two_seats, tx_3, published};
 ghost use Rattle.pgn_words.specs.Views.{no_eye};

@@ -1,4 +1,4 @@
-ghost use Rattle.std.specs.Prelude.{◌≡◌, true, false, All, IfErr, OnOk};
+ghost use Rattle.std.specs.Prelude.{◌≡◌, true, IfErr, OnOk};
 ghost use Rattle.pgn_words.specs.Passes.{IsPassOf, view_of};
 ghost use Rattle.pgn_words.specs.Views.{is_settled, may_drop, AreDecided};
 ghost use Rattle.pgn_words.specs.Told.{HasLocked, IsLocked, refused, freed};

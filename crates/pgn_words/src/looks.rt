@@ -1,4 +1,4 @@
-ghost use Rattle.std.specs.Prelude.{◌≡◌, ◌+◌, ◌^◌, ◌<◌, true, length};
+ghost use Rattle.std.specs.Prelude.{◌≡◌, ◌+◌, ◌^◌, ◌<◌, true};
 ghost use Rattle.pgn_words.specs.Words.{seats_of, pos_at, word_count};
 ghost use Rattle.pgn_words.specs.Views.{may_look, AreDecided};
 ghost use Rattle.pgn_words.specs.Passes.{IsPassOf, view_of, known_of, shape_of};
@@ -52,8 +52,10 @@ impl WordQueue {
         requires look { (view_of pass.old).eye.look ≡ looks.First }
         requires all { (view_of pass.old).eye.looked ≡ seats_of (shape_of self.now) }
         ensures own { IsPassOf self.now pass.new }
-        ensures view { view_of pass.new ≡ second_begun (packed result.0 result.1) (view_of pass.old) }
-        ensures placed { IsPlacedIn (shape_of self.now).format (known_of pass.old).seen result.0 result.1 }
+        ensures view { view_of pass.new
+            ≡ second_begun (packed result.0 result.1) (view_of pass.old) }
+        ensures placed { IsPlacedIn (shape_of self.now).format (known_of pass.old).seen result.0
+            result.1 }
         ensures low { result.1 < 2 ^ 32 }
     {
         let tail = self.table.shared.load::<LoadTail>(&mut pass.seat, TAIL);

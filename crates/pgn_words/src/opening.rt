@@ -143,7 +143,8 @@ impl WordQueue {
     /// The words of an empty queue, and a pass for each seat, in order. The error is that memory did not suffice.
     pub fn open(alloc: Global, setup: &Setup) -> Result<(WordQueue, Vec<WordPass>), AllocError>
         ensures shape { IfOk result (λ opened. shape_of opened.0 ≡ setup.now) }
-        ensures passes { IfOk result (λ opened. map known_of opened.1.items ≡ opened_passes 1 setup.now.seats) }
+        ensures passes { IfOk result (λ opened. map known_of opened.1.items
+            ≡ opened_passes 1 setup.now.seats) }
         ensures own { IfOk result (λ opened. All (IsPassOf opened.0) opened.1.items) }
         ensures free { IfOk result (λ opened. All IsFresh opened.1.items) }
     {

@@ -38,24 +38,36 @@ impl WordQueue {
         requires own { IsPassOf self.now pass.old }
         requires phase { (view_of pass.old).phase ≡ phases.Open }
         requires number { xid ≡ next_xid (known_of pass.old).seen }
-        requires reach { length (known_of pass.old).seen < notes_of_seats (shape_of self.now).seats }
-        requires ends { MayEnd (view_of pass.old) (draft (known_of pass.old).session (known_of pass.old).db (view_of pass.old).pen.notes queued fate) }
+        requires reach { length (known_of pass.old).seen
+            < notes_of_seats (shape_of self.now).seats }
+        requires ends { MayEnd (view_of pass.old)
+            (draft (known_of pass.old).session (known_of pass.old).db
+            (view_of pass.old).pen.notes queued fate) }
         ensures own { IsPassOf self.now pass.new }
-        ensures view { view_of pass.new ≡ ended_by (draft (known_of pass.old).session (known_of pass.old).db (view_of pass.old).pen.notes queued fate) (view_of pass.old) }
+        ensures view { view_of pass.new
+            ≡ ended_by (draft (known_of pass.old).session (known_of pass.old).db
+            (view_of pass.old).pen.notes queued fate) (view_of pass.old) }
     {
         self.set_status_as::<Brand>(pass, xid, fate, queued);
     }
 
     // The same, where the proof is told of the transaction.
     fn set_status_as<G: Ending>(&self, pass: &mut WordPass, xid: Xid, fate: Fate, queued: u32)
-        requires given { G.tx ≡ draft (known_of pass.old).session (known_of pass.old).db (view_of pass.old).pen.notes queued fate }
+        requires given { G.tx
+            ≡ draft (known_of pass.old).session (known_of pass.old).db (view_of pass.old).pen.notes
+            queued fate }
         requires own { IsPassOf self.now pass.old }
         requires phase { (view_of pass.old).phase ≡ phases.Open }
         requires number { xid ≡ next_xid (known_of pass.old).seen }
-        requires reach { length (known_of pass.old).seen < notes_of_seats (shape_of self.now).seats }
-        requires ends { MayEnd (view_of pass.old) (draft (known_of pass.old).session (known_of pass.old).db (view_of pass.old).pen.notes queued fate) }
+        requires reach { length (known_of pass.old).seen
+            < notes_of_seats (shape_of self.now).seats }
+        requires ends { MayEnd (view_of pass.old)
+            (draft (known_of pass.old).session (known_of pass.old).db
+            (view_of pass.old).pen.notes queued fate) }
         ensures own { IsPassOf self.now pass.new }
-        ensures view { view_of pass.new ≡ ended_by (draft (known_of pass.old).session (known_of pass.old).db (view_of pass.old).pen.notes queued fate) (view_of pass.old) }
+        ensures view { view_of pass.new
+            ≡ ended_by (draft (known_of pass.old).session (known_of pass.old).db
+            (view_of pass.old).pen.notes queued fate) (view_of pass.old) }
     {
         let word = self.word_of_status(xid);
         self.table
@@ -98,7 +110,8 @@ impl WordQueue {
     pub fn load_status(&self, pass: &mut WordPass, xid: Xid) -> Fate
         requires own { IsPassOf self.now pass.old }
         requires below { xid < next_xid (known_of pass.old).seen }
-        requires reach { length (known_of pass.old).seen ≤ notes_of_seats (shape_of self.now).seats }
+        requires reach { length (known_of pass.old).seen
+            ≤ notes_of_seats (shape_of self.now).seats }
         ensures own { IsPassOf self.now pass.new }
         ensures view { view_of pass.new ≡ view_of pass.old }
         ensures fate { (tx : Tx) → entry (known_of pass.old).seen xid ≡ Some tx → result ≡ tx.fate }

@@ -1,4 +1,4 @@
-ghost use Rattle.std.specs.Prelude.{◌≡◌, ◌+◌, ◌<◌, true};
+ghost use Rattle.std.specs.Prelude.{◌≡◌, ◌+◌, ◌<◌};
 ghost use Rattle.pgn_words.specs.Words.{seats_of, wakes_at as first_wake, word_count};
 ghost use Rattle.pgn_words.specs.Passes.{IsPassOf, view_of, shape_of};
 ghost use Rattle.pgn_words.specs.Waking.{HasTaken, verdict_on, HasLookedToWake, wake_set};

@@ -53,7 +53,10 @@ impl WordQueue {
         requires word { IsCellWord (shape_of self.now) word }
         ensures own { IsPassOf self.now pass.new }
         ensures view { view_of pass.new ≡ view_of pass.old }
-        ensures value { (at x : ℕ) → word ≡ cell_word (shape_of self.now) at → (view_of pass.old).post.at ≤ at → slice_get (image (shape_of self.now).format (view_of pass.old).walk.shown) at ≡ Some (Some x) → result ≡ x }
+        ensures value { (at x : ℕ) → word ≡ cell_word (shape_of self.now) at
+            → (view_of pass.old).post.at ≤ at
+            → slice_get (image (shape_of self.now).format (view_of pass.old).walk.shown) at
+            ≡ Some (Some x) → result ≡ x }
     {
         self.table.shared.load::<LoadShown>(&mut pass.seat, word) as u32
     }

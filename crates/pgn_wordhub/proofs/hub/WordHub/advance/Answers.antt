@@ -15,7 +15,7 @@ returns-clause-advanced g c =
     let y = view_of c.look_second-target.new.pass in
     let target = c.look_second-target.ensures.target in
     let greater = c.free-stop.ensures.greater in
-    let right = le-max_right c.args.stop (page_of c.look_second-target.result) in
+    let right = le-max_right c.args.extent.now.stop (page_of c.look_second-target.result) in
     let seats = c.args.self.now.shaped.some_seats in
     let done = advances z v (view_of c.look_first-floor.new.pass) x y (view_of c.free-stop.new.pass) c.look_second-target.new.floor.mark c.look_second-target.new.floor.at c.look_first-floor.result.mark c.look_first-floor.result.at x.eye.tail c.free-stop.result
     c.look_second-target.new.floor.holder c.look_first-floor.result.holder c.requires.own.setup (omega (arith, seats)) c.requires.own.within
@@ -24,6 +24,6 @@ returns-clause-advanced g c =
 pub returns-clause-grows : goal.returns-clause-grows
 returns-clause-grows g c =
     let greater = c.free-stop.ensures.greater in
-    let left = le-max_left c.args.stop (page_of c.look_second-target.result) in
+    let left = le-max_left c.args.extent.now.stop (page_of c.look_second-target.result) in
     let is = ap (λ (y : View). y.stop) c.free-stop.ensures.view in
     let stop = c.requires.stop in omega (arith, greater, left, is, stop)

@@ -12,7 +12,7 @@ returns-clause-view c = decided (view_of c.args.pass.now) (view_of c.databases_t
 
 pub returns-clause-named : goal.returns-clause-named
 returns-clause-named c =
-    let answers = plain_behind c.args.head (known_of c.databases_to_test.new.pass).db c.look_to_wake.new.places c.databases_to_test.new.owns in
+    let answers = plain_behind c.args.ending.now.head (known_of c.databases_to_test.new.pass).db c.look_to_wake.new.places c.databases_to_test.new.owns in
     let marks : Marks c.behind.new.mask answers =
-    marks_on c.behind.new.mask _ c.args.head _ (known_of c.databases_to_test.new.pass).db _ c.look_to_wake.new.places _ c.databases_to_test.new.owns c.behind.ensures (search rules) (search rules) (search rules) (search rules) in
+    marks_on c.behind.new.mask _ c.args.ending.now.head _ (known_of c.databases_to_test.new.pass).db _ c.look_to_wake.new.places _ c.databases_to_test.new.owns c.behind.ensures (search rules) (search rules) (search rules) (search rules) in
     subst (λ (l : List Verdict). Names c.behind.new.mask l) (sym (ap (λ (u : View). u.verdicts) c.look_to_wake.ensures.view)) (names_from c.behind.new.mask answers marks)

@@ -31,21 +31,21 @@ returns-then-is_some-clause-writes g c = then_written (view_of c.args.pass.now) 
 
 pub returns-then-is_some-clause-placing : goal.returns-then-is_some-clause-placing
 returns-then-is_some-clause-placing g c =
-    placing_on (view_of c.batches.pass) (view_of c.find_page-stop.new.pass) c.args.notes.now c.batches.placing.placed c.batches.placing.at c.find_page-stop.ensures.view c.find_page-stop.ensures.grows c.batches.invariant.4
+    placing_on (view_of c.batches.pass) (view_of c.find_page-stop.new.pass) c.args.tx.now.notes.now c.batches.placing.placed c.batches.placing.at c.find_page-stop.ensures.view c.find_page-stop.ensures.grows c.batches.invariant.4
 
 pub returns-then-is_some-clause-full : goal.returns-then-is_some-clause-full
 returns-then-is_some-clause-full g c =
     let z = hub_shape c.args.self.now in
-    let left = c.if-placing-notes.false in
+    let left = c.if-placing-tx.false in
     let none = c.find_page-stop.ensures.no_page (sym c.is_some.ensures ∙ c.if-is_some.true) in
     let stop = c.find_page-stop.ensures.stop in
     IfSome_then c.find_page-stop.result.1 c.find_page-stop.ensures.held
-    (λ floor advanced. held_up z (view_of c.args.pass.now) (view_of c.batches.pass) (view_of c.find_page-stop.new.pass) (length c.args.notes.now) c.batches.placing.placed c.batches.placing.at floor.mark floor.at floor.holder
+    (λ floor advanced. held_up z (view_of c.args.pass.now) (view_of c.batches.pass) (view_of c.find_page-stop.new.pass) (length c.args.tx.now.notes.now) c.batches.placing.placed c.batches.placing.at floor.mark floor.at floor.holder
     c.batches.invariant.3 advanced (omega (arith, left)) (omega (arith, none, stop)))
 
 pub place_batch-requires-clause-placing : goal.place_batch-requires-clause-placing
 place_batch-requires-clause-placing g c =
-    placing_on (view_of c.batches.pass) (view_of c.find_page-stop.new.pass) c.args.notes.now c.batches.placing.placed c.batches.placing.at c.find_page-stop.ensures.view c.find_page-stop.ensures.grows c.batches.invariant.4
+    placing_on (view_of c.batches.pass) (view_of c.find_page-stop.new.pass) c.args.tx.now.notes.now c.batches.placing.placed c.batches.placing.at c.find_page-stop.ensures.view c.find_page-stop.ensures.grows c.batches.invariant.4
 
 pub place_batch-requires-clause-xid : goal.place_batch-requires-clause-xid
 place_batch-requires-clause-xid g c =

@@ -20,13 +20,13 @@ store_head-requires-clause-shows c =
     let pages : v.setup.pages ≡ c.args.self.now.queue.table.shared.key.pages = ap (λ (z : Shape). z.pages) c.requires.own.setup in
     let stop = c.requires.stop in
     let page = c.requires.pages in
-    let rest = rest_is c.args.placing.now.placed c.args.notes.now in
-    let batch = c.plan_batch-batch.result in
-    let planned = subst (λ (f : Format). IsPlanned f c.args.placing.now.at (drop c.args.placing.now.placed c.args.notes.now) batch) same
-    (subst (λ (ns : List Note). IsPlanned c.args.self.now.format c.args.placing.now.at ns batch) rest c.plan_batch-batch.ensures.planned) in
-    let written = subst (λ (f : Format). view_of c.write_batch.new.pass ≡ stored_more (batch_cells f (writer_of v.known) (drop c.args.placing.now.placed c.args.notes.now) batch) v) same
-    (subst (λ (ns : List Note). view_of c.write_batch.new.pass ≡ stored_more (batch_cells c.args.self.now.format (writer_of v.known) ns batch) v) rest c.write_batch.ensures.view) in
-    may_show v (view_of c.write_batch.new.pass) c.args.notes.now c.args.placing.now.placed c.args.placing.now.at batch c.requires.placing planned (omega (arith, page, stop, pages)) written
+    let rest = rest_is c.args.placing.now.placed c.args.tx.now.notes.now in
+    let batch = c.write_batch-batch.result in
+    let planned = subst (λ (f : Format). IsPlanned f c.args.placing.now.at (drop c.args.placing.now.placed c.args.tx.now.notes.now) batch) same
+    (subst (λ (ns : List Note). IsPlanned c.args.self.now.format c.args.placing.now.at ns batch) rest c.write_batch-batch.ensures.planned) in
+    let written = subst (λ (f : Format). view_of c.write_batch-batch.new.pass ≡ stored_more (batch_cells f (writer_of v.known) (drop c.args.placing.now.placed c.args.tx.now.notes.now) batch) v) same
+    (subst (λ (ns : List Note). view_of c.write_batch-batch.new.pass ≡ stored_more (batch_cells c.args.self.now.format (writer_of v.known) ns batch) v) rest c.write_batch-batch.ensures.view) in
+    may_show v (view_of c.write_batch-batch.new.pass) c.args.tx.now.notes.now c.args.placing.now.placed c.args.placing.now.at batch c.requires.placing planned (omega (arith, page, stop, pages)) written
 
 pub returns-clause-placing : goal.returns-clause-placing
 returns-clause-placing c =
@@ -35,14 +35,14 @@ returns-clause-placing c =
     let pages : v.setup.pages ≡ c.args.self.now.queue.table.shared.key.pages = ap (λ (z : Shape). z.pages) c.requires.own.setup in
     let stop = c.requires.stop in
     let page = c.requires.pages in
-    let rest = rest_is c.args.placing.now.placed c.args.notes.now in
-    let batch = c.plan_batch-batch.result in
-    let planned = subst (λ (f : Format). IsPlanned f c.args.placing.now.at (drop c.args.placing.now.placed c.args.notes.now) batch) same
-    (subst (λ (ns : List Note). IsPlanned c.args.self.now.format c.args.placing.now.at ns batch) rest c.plan_batch-batch.ensures.planned) in
-    let written = subst (λ (f : Format). view_of c.write_batch.new.pass ≡ stored_more (batch_cells f (writer_of v.known) (drop c.args.placing.now.placed c.args.notes.now) batch) v) same
-    (subst (λ (ns : List Note). view_of c.write_batch.new.pass ≡ stored_more (batch_cells c.args.self.now.format (writer_of v.known) ns batch) v) rest c.write_batch.ensures.view) in
-    places_on v (view_of c.write_batch.new.pass) (view_of c.store_head.new.pass) c.args.notes.now c.args.placing.now.placed c.args.placing.now.at batch c.requires.placing planned (omega (arith, page, stop, pages)) written
+    let rest = rest_is c.args.placing.now.placed c.args.tx.now.notes.now in
+    let batch = c.write_batch-batch.result in
+    let planned = subst (λ (f : Format). IsPlanned f c.args.placing.now.at (drop c.args.placing.now.placed c.args.tx.now.notes.now) batch) same
+    (subst (λ (ns : List Note). IsPlanned c.args.self.now.format c.args.placing.now.at ns batch) rest c.write_batch-batch.ensures.planned) in
+    let written = subst (λ (f : Format). view_of c.write_batch-batch.new.pass ≡ stored_more (batch_cells f (writer_of v.known) (drop c.args.placing.now.placed c.args.tx.now.notes.now) batch) v) same
+    (subst (λ (ns : List Note). view_of c.write_batch-batch.new.pass ≡ stored_more (batch_cells c.args.self.now.format (writer_of v.known) ns batch) v) rest c.write_batch-batch.ensures.view) in
+    places_on v (view_of c.write_batch-batch.new.pass) (view_of c.store_head.new.pass) c.args.tx.now.notes.now c.args.placing.now.placed c.args.placing.now.at batch c.requires.placing planned (omega (arith, page, stop, pages)) written
     c.store_head.ensures.view c.store_head.ensures.low
 
-pub write_batch-requires-clause-begins : goal.write_batch-requires-clause-begins
-write_batch-requires-clause-begins c = c.requires.placing.end
+pub write_batch-batch-requires-clause-begins : goal.write_batch-batch-requires-clause-begins
+write_batch-batch-requires-clause-begins c = c.requires.placing.end

@@ -10,25 +10,25 @@ use Rattle.pgn_layout.specs.Batches.{entries_of}
 use Rattle.pgn_wordhub.proofs.StoringLaws.{entry_long, entries_within, filler_within}
 use Rattle.pgn_wordhub.proofs.hub.WordHub.write_batch.Goals as goal
 
-pub write_note-at-requires-clause-pages : goal.write_note-at-requires-clause-pages
-write_note-at-requires-clause-pages c =
+pub write_note-next-requires-clause-pages : goal.write_note-next-requires-clause-pages
+write_note-next-requires-clause-pages c =
     let v = view_of c.args.pass.now in
-    let run = take c.args.batch.now.fits c.args.notes.now in
+    let run = take c.plan_batch-batch.result.fits c.args.notes.now in
     let there = slice_get_read run (length run) c.loop-note.note-index c.note-item.result refl c.loop-note-test.true c.note-item.is in
     let end = v.stop + (hub_shape c.args.self.now).pages in
-    let fits = entries_within c.args.format (writer_of v.known) c.args.at c.args.notes.now c.args.batch.now end c.loop-note.note-index c.note-item.result c.requires.room c.requires.planned c.requires.pages there in
-    let long = entry_long c.args.format (writer_of v.known) c.note-item.result in
+    let fits = entries_within c.args.self.now.format (writer_of v.known) c.args.at c.args.notes.now c.plan_batch-batch.result end c.loop-note.note-index c.note-item.result c.requires.room c.plan_batch-batch.ensures.planned c.requires.pages there in
+    let long = entry_long c.args.self.now.format (writer_of v.known) c.note-item.result in
     let at = c.loop-note.invariant.2 in
     let stop : (view_of c.loop-note.pass).stop ≡ v.stop = ap (λ (u : View). u.stop) c.loop-note.invariant.1 in omega (arith, fits, long, at, stop)
 
-pub write_note-at-requires-clause-low : goal.write_note-at-requires-clause-low
-write_note-at-requires-clause-low c =
+pub write_note-next-requires-clause-low : goal.write_note-next-requires-clause-low
+write_note-next-requires-clause-low c =
     let v = view_of c.args.pass.now in
-    let run = take c.args.batch.now.fits c.args.notes.now in
+    let run = take c.plan_batch-batch.result.fits c.args.notes.now in
     let there = slice_get_read run (length run) c.loop-note.note-index c.note-item.result refl c.loop-note-test.true c.note-item.is in
     let own = c.args.at / 2048 + 1 in
-    let fits = entries_within c.args.format (writer_of v.known) c.args.at c.args.notes.now c.args.batch.now own c.loop-note.note-index c.note-item.result c.requires.room c.requires.planned (omega arith) there in
-    let long = entry_long c.args.format (writer_of v.known) c.note-item.result in
+    let fits = entries_within c.args.self.now.format (writer_of v.known) c.args.at c.args.notes.now c.plan_batch-batch.result own c.loop-note.note-index c.note-item.result c.requires.room c.plan_batch-batch.ensures.planned (omega arith) there in
+    let long = entry_long c.args.self.now.format (writer_of v.known) c.note-item.result in
     let at = c.loop-note.invariant.2 in
     let low = c.requires.low in
     omega (arith, fits, long, at, low)
@@ -36,18 +36,18 @@ write_note-at-requires-clause-low c =
 pub write_filler-requires-clause-long : goal.write_filler-requires-clause-long
 write_filler-requires-clause-long c =
     let some = c.if-batch-gt0.true in
-    (filler_within c.args.format (writer_of (known_of c.args.pass.now)) c.args.at c.args.notes.now c.args.batch.now (c.args.at / 2048 + 1) c.requires.room c.requires.planned (omega arith) (omega (arith, some))).0
+    (filler_within c.args.self.now.format (writer_of (known_of c.args.pass.now)) c.args.at c.args.notes.now c.plan_batch-batch.result (c.args.at / 2048 + 1) c.requires.room c.plan_batch-batch.ensures.planned (omega arith) (omega (arith, some))).0
 
 pub write_filler-requires-clause-pages : goal.write_filler-requires-clause-pages
 write_filler-requires-clause-pages c =
     let v = view_of c.args.pass.now in
     let some = c.if-batch-gt0.true in
-    let run = take c.args.batch.now.fits c.args.notes.now in
+    let run = take c.plan_batch-batch.result.fits c.args.notes.now in
     let end = v.stop + (hub_shape c.args.self.now).pages in
-    let within = (filler_within c.args.format (writer_of v.known) c.args.at c.args.notes.now c.args.batch.now end c.requires.room c.requires.planned c.requires.pages (omega (arith, some))).1 in
+    let within = (filler_within c.args.self.now.format (writer_of v.known) c.args.at c.args.notes.now c.plan_batch-batch.result end c.requires.room c.plan_batch-batch.ensures.planned c.requires.pages (omega (arith, some))).1 in
     let test = c.loop-note-test.false in
     let all : take c.loop-note.note-index run ≡ run = take_all c.loop-note.note-index run (omega (arith, test)) in
-    let size = ap (λ (notes : List Note). length (entries_of c.args.format (writer_of v.known) notes)) all in
+    let size = ap (λ (notes : List Note). length (entries_of c.args.self.now.format (writer_of v.known) notes)) all in
     let at = c.loop-note.invariant.2 in
     let stop : (view_of c.loop-note.pass).stop ≡ v.stop = ap (λ (u : View). u.stop) c.loop-note.invariant.1 in omega (arith, within, size, at, stop)
 
@@ -55,22 +55,22 @@ pub write_filler-requires-clause-low : goal.write_filler-requires-clause-low
 write_filler-requires-clause-low c =
     let v = view_of c.args.pass.now in
     let some = c.if-batch-gt0.true in
-    let run = take c.args.batch.now.fits c.args.notes.now in
-    let within = (filler_within c.args.format (writer_of v.known) c.args.at c.args.notes.now c.args.batch.now (c.args.at / 2048 + 1) c.requires.room c.requires.planned (omega arith) (omega (arith, some))).1 in
+    let run = take c.plan_batch-batch.result.fits c.args.notes.now in
+    let within = (filler_within c.args.self.now.format (writer_of v.known) c.args.at c.args.notes.now c.plan_batch-batch.result (c.args.at / 2048 + 1) c.requires.room c.plan_batch-batch.ensures.planned (omega arith) (omega (arith, some))).1 in
     let test = c.loop-note-test.false in
     let all : take c.loop-note.note-index run ≡ run = take_all c.loop-note.note-index run (omega (arith, test)) in
-    let size = ap (λ (notes : List Note). length (entries_of c.args.format (writer_of v.known) notes)) all in
+    let size = ap (λ (notes : List Note). length (entries_of c.args.self.now.format (writer_of v.known) notes)) all in
     let at = c.loop-note.invariant.2 in
     let low = c.requires.low in omega (arith, within, size, at, low)
 
-pub write_note-at-requires-clause-stays : goal.write_note-at-requires-clause-stays
-write_note-at-requires-clause-stays c =
+pub write_note-next-requires-clause-stays : goal.write_note-next-requires-clause-stays
+write_note-next-requires-clause-stays c =
     let v = view_of c.args.pass.now in
-    let run = take c.args.batch.now.fits c.args.notes.now in
+    let run = take c.plan_batch-batch.result.fits c.args.notes.now in
     let there = slice_get_read run (length run) c.loop-note.note-index c.note-item.result refl c.loop-note-test.true c.note-item.is in
     let own = c.args.at / 2048 + 1 in
-    let fits = entries_within c.args.format (writer_of v.known) c.args.at c.args.notes.now c.args.batch.now own c.loop-note.note-index c.note-item.result c.requires.room c.requires.planned (omega arith) there in
-    let long = entry_long c.args.format (writer_of v.known) c.note-item.result in
+    let fits = entries_within c.args.self.now.format (writer_of v.known) c.args.at c.args.notes.now c.plan_batch-batch.result own c.loop-note.note-index c.note-item.result c.requires.room c.plan_batch-batch.ensures.planned (omega arith) there in
+    let long = entry_long c.args.self.now.format (writer_of v.known) c.note-item.result in
     let at = c.loop-note.invariant.2 in
     let begins = c.requires.begins in
     let cells : length (view_of c.loop-note.pass).pen.cells ≡ length v.pen.cells = ap (λ (u : View). length u.pen.cells) c.loop-note.invariant.1 in omega (arith, fits, long, at, begins, cells)
@@ -79,11 +79,11 @@ pub write_filler-requires-clause-stays : goal.write_filler-requires-clause-stays
 write_filler-requires-clause-stays c =
     let v = view_of c.args.pass.now in
     let some = c.if-batch-gt0.true in
-    let run = take c.args.batch.now.fits c.args.notes.now in
-    let within = (filler_within c.args.format (writer_of v.known) c.args.at c.args.notes.now c.args.batch.now (c.args.at / 2048 + 1) c.requires.room c.requires.planned (omega arith) (omega (arith, some))).1 in
+    let run = take c.plan_batch-batch.result.fits c.args.notes.now in
+    let within = (filler_within c.args.self.now.format (writer_of v.known) c.args.at c.args.notes.now c.plan_batch-batch.result (c.args.at / 2048 + 1) c.requires.room c.plan_batch-batch.ensures.planned (omega arith) (omega (arith, some))).1 in
     let test = c.loop-note-test.false in
     let all : take c.loop-note.note-index run ≡ run = take_all c.loop-note.note-index run (omega (arith, test)) in
-    let size = ap (λ (notes : List Note). length (entries_of c.args.format (writer_of v.known) notes)) all in
+    let size = ap (λ (notes : List Note). length (entries_of c.args.self.now.format (writer_of v.known) notes)) all in
     let at = c.loop-note.invariant.2 in
     let begins = c.requires.begins in
     let cells : length (view_of c.loop-note.pass).pen.cells ≡ length v.pen.cells = ap (λ (u : View). length u.pen.cells) c.loop-note.invariant.1 in omega (arith, within, size, at, begins, cells)

@@ -9,5 +9,5 @@ use Rattle.pgn_wordhub.specs.Placing.{stored_more}
 use Rattle.pgn_wordhub.proofs.hub.WordHub.write_filler.Given as goal
 
 abbrev pub invariant-loop-k : goal.invariant-loop-k
-invariant-loop-k l = IsPassOf l.self.queue l.pass × (view_of l.pass ≡ stored_more (take l.k (filled_cells (filler l.format l.len l.xid (PID_BASE + (known_of l.fn.pass).session)))) (view_of l.fn.pass))
+invariant-loop-k l = IsPassOf l.self.queue l.pass × (view_of l.pass ≡ stored_more (take l.k (filled_cells (filler l.self.format l.len l.xid (PID_BASE + (known_of l.fn.pass).session)))) (view_of l.fn.pass))
     × (l.word ≡ cell_word (hub_shape l.self) (l.fn.at + l.k)) × IsCellWord (hub_shape l.self) l.word

@@ -18,5 +18,5 @@ returns-then-is_apart-clause-taken c note sender entry =
 
 pub returns-clause-taken : goal.returns-clause-taken
 returns-clause-taken c =
-    subst (λ (u : View). OnOk c.take_whole.result ((note : Note) (sender : Sender) → IsEntryAt c.args.self.now.format (shown_cells u) c.args.at c.args.len u.known.db u.known.seen note sender
+    subst (λ (u : View). OnOk c.take_whole.result ((note : Note) (sender : Sender) → IsEntryAt c.args.self.now.format (shown_cells u) c.args.at c.args.head.now.len u.known.db u.known.seen note sender
     → c.take_whole.new.out.items ≡ c.args.out.now.items ++ gives u.known.db c.args.self.now.set.now.channels (committed_by u.known.seen) (AnEntry note sender))) c.is_apart.ensures.view c.take_whole.ensures.taken

@@ -8,21 +8,21 @@ use Rattle.pgn_words.specs.Passes.{view_of}
 use Rattle.pgn_wordhub.specs.Passes.{hub_shape}
 use Rattle.pgn_wordhub.specs.Walks.{sum_to_zero, shown_cells}
 use Rattle.pgn_wordhub.proofs.PassingLaws.{head_whole, channel_sum, left_at, stops_with, goes_with}
-use Rattle.pgn_wordhub.proofs.hub.WordHub.channel_bit_at.Goals as goal
+use Rattle.pgn_wordhub.proofs.reading.Reader.channel_bit_at.Goals as goal
 
 pub loop-k-init : goal.loop-k-init
 loop-k-init c =
     let first = c.head_cells-k.ensures in
-    let whole = head_whole c.args.format in
-    let there : c.args.at + cells_in (header_bytes c.args.format) ≡ c.args.at + c.head_cells-k.result = omega (arith, first) in
-    let start : 4 * c.head_cells-k.result ≡ header_bytes c.args.format = omega (arith, first, whole) in (
+    let whole = head_whole c.args.self.now.format in
+    let there : c.args.at + cells_in (header_bytes c.args.self.now.format) ≡ c.args.at + c.head_cells-k.result = omega (arith, first) in
+    let start : 4 * c.head_cells-k.result ≡ header_bytes c.args.self.now.format = omega (arith, first, whole) in (
       c.requires.own,
       refl,
-      c.channel_word-word.ensures.value c.args.at c.requires.third ∙ ap (cell_word (hub_shape c.args.self.now)) there,
+      c.channel_word-word.ensures.value c.args.at c.requires.third ∙ ap (cell_word (hub_shape c.args.self.now.hub.now)) there,
       c.channel_word-word.ensures.word,
       λ note sender stands long.
-          ap (λ (n : ℕ). n % 64) (zero-add (sum_to_zero (drop (4 * c.head_cells-k.result) (piece_bytes c.args.format (AnEntry note sender))))
-          ∙ ap (λ (n : ℕ). sum_to_zero (drop n (piece_bytes c.args.format (AnEntry note sender)))) start ∙ channel_sum c.args.format note sender stands.readable.content.0.name.no_nul),
+          ap (λ (n : ℕ). n % 64) (zero-add (sum_to_zero (drop (4 * c.head_cells-k.result) (piece_bytes c.args.self.now.format (AnEntry note sender))))
+          ∙ ap (λ (n : ℕ). sum_to_zero (drop n (piece_bytes c.args.self.now.format (AnEntry note sender)))) start ∙ channel_sum c.args.self.now.format note sender stands.readable.content.0.name.no_nul),
       omega arith,
     )
 
@@ -33,9 +33,9 @@ returns-then-ended-clause-bit c note sender stands long =
     let k = c.loop-k.k in
     let from = c.requires.from in
     let test = c.loop-k-test.true in
-    let bytes = piece_bytes c.args.format (AnEntry note sender) in
+    let bytes = piece_bytes c.args.self.now.format (AnEntry note sender) in
     let rest = drop (4 * (k + 1)) bytes in
-    let left = left_at c.args.format (shown_cells v) c.args.at k c.cell-cell.result (AnEntry note sender) stands (omega (arith, test, long))
+    let left = left_at c.args.self.now.format (shown_cells v) c.args.at k c.cell-cell.result (AnEntry note sender) stands (omega (arith, test, long))
     (λ n there. subst (λ (u : View). u.post.at ≤ c.args.at + k → slice_get (shown_cells u) (c.args.at + k) ≡ Some (Some n) → c.cell-cell.result ≡ n) inv.1
     (c.cell-cell.ensures.value (c.args.at + k) n inv.2) (omega (arith, from)) there) in
     let last : sum_to_zero (four_bytes c.cell-cell.result ++ rest) ≡ c.sum_of_cell-more.result.0 =
@@ -52,12 +52,12 @@ loop-k-preserved c =
     let next : c.args.at + k + 1 ≡ c.args.at + (k + 1) = omega arith in (
       c.cell-cell.ensures.own,
       c.cell-cell.ensures.view ∙ inv.1,
-      c.next_word-word.ensures.value (c.args.at + k) inv.2 ∙ ap (cell_word (hub_shape c.args.self.now)) next,
+      c.next_word-word.ensures.value (c.args.at + k) inv.2 ∙ ap (cell_word (hub_shape c.args.self.now.hub.now)) next,
       c.next_word-word.ensures.word,
       λ note sender stands long.
-          let bytes = piece_bytes c.args.format (AnEntry note sender) in
+          let bytes = piece_bytes c.args.self.now.format (AnEntry note sender) in
           let rest = drop (4 * (k + 1)) bytes in
-          let left = left_at c.args.format (shown_cells v) c.args.at k c.cell-cell.result (AnEntry note sender) stands (omega (arith, test, long))
+          let left = left_at c.args.self.now.format (shown_cells v) c.args.at k c.cell-cell.result (AnEntry note sender) stands (omega (arith, test, long))
           (λ n there. subst (λ (u : View). u.post.at ≤ c.args.at + k → slice_get (shown_cells u) (c.args.at + k) ≡ Some (Some n) → c.cell-cell.result ≡ n) inv.1
           (c.cell-cell.ensures.value (c.args.at + k) n inv.2) (omega (arith, from)) there) in
           let more : sum_to_zero (four_bytes c.cell-cell.result ++ rest) ≡ c.sum_of_cell-more.result.0 + sum_to_zero rest =
