@@ -239,6 +239,7 @@ pub record CameOut {S : Type 0} (held : S → Option (List ℕ)) (faults : S →
   pub writes : Writes (held sink) (held sink_now) so_far (tagged sections w.got)
   pub cause : HasCause (faults sink) (faults sink_now) so_far
 
+-- the writer, before and after the sessions were done, has taken all that they told, and given its text out
 pub came-out : {S : Type 0} (held : S → Option (List ℕ)) (faults : S → ℕ) (sections : List Section) (v t₀ t₁ c w : Hand) (s₀ s₁ s₂ : S) (o₀ o₁ o₂ : Out) → v ≡ record sender { sent = v.sent } → t₀ ≡ taker → c ≡ taken_over v t₁
     → Wrote held faults sections t₀ t₁ s₀ o₀ s₁ o₁ → Wrote held faults sections c w s₁ o₁ s₂ o₂ → HasAll w → o₀.kept ≡ [] → o₀.so_far ≡ Ok tt → OnOk o₂.so_far (o₂.kept ≡ []) → CameOut held faults sections v w s₀ s₂ o₂.so_far
 came-out held faults sections v t₀ t₁ c w s₀ s₁ s₂ o₀ o₁ o₂ sends takes closed f g has none fine sent = record {
@@ -299,6 +300,7 @@ gave-up-first sections new before = record { cames = []; first = λ n. record { 
     nothing None = tt
     nothing (Some xs) = sym (append-nil xs)
 
+-- what a run comes to that ends before it begins
 pub ruleset early_laws = (gave-up-first, stand-fresh)
 
 -- lines of two sessions that are mixed

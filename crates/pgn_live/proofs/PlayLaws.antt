@@ -35,6 +35,7 @@ joined-same size v a b fits f g =
     let whole : size + (v.count - size) ≡ v.count = omega (arith, fits) in
     ap (λ (x : Hand × Hand). joined x.0 x.1) (λ i. (f i, g i)) ∙ ap (λ (n : ℕ). let w : Hand = record v { count = n; sent = a.sent ++ b.sent } in w) whole
 
+-- a pass that was cut and joined again is what it was
 pub joined-back : (size : ℕ) (v : Hand) → size ≤ v.count → joined (lower size v) (upper size v) ≡ v
 joined-back size v fits =
     let whole : size + (v.count - size) ≡ v.count = omega (arith, fits) in
@@ -56,6 +57,7 @@ module _ {P : Type 0} (is_own : P → Type 0) (shape : Shape) (known : P → Kno
     unused = m.unused;
   }
 
+  -- the sessions behind the first ones may run with the upper part of the pass
   pub right-goes : (left right : List (Session P)) (v : Hand) → MayPlay is_own shape known (left ++ right) v → MayPlay is_own shape known right (upper (length left) v)
   right-goes left right v m =
       let fits : length (left ++ right) ≤ v.count = m.fits in

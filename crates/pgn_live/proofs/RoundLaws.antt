@@ -116,6 +116,7 @@ module _ {P : Type 0} (is_own : P → Type 0) (shape : Shape) (known : P → Kno
     so_far = All-front (IsToldBy told v) left right m.so_far;
   }
 
+  -- the sessions behind the first ones may take their turns once those have
   pub right-go : (left left_new right : List (Session P)) (told told_new : List ℕ) (v w : Hand) → MayGo is_own shape known (left ++ right) told v → HaveGone is_own shape left left_new told told_new v w
       → MayGo is_own shape known right told_new w
   right-go left left_new right told told_new v w m g = record {
@@ -125,6 +126,7 @@ module _ {P : Type 0} (is_own : P → Type 0) (shape : Shape) (known : P → Kno
     so_far = told-apart right left told told_new v w (numbers-behind left right m.row) g.others g.counted (All-behind (IsToldBy told v) left right m.so_far);
   }
 
+  -- turns of the first sessions, and then of those behind them, are turns of all
   pub both-gone : (left left_new right right_new : List (Session P)) (told told_mid told_new : List ℕ) (v w u : Hand) → MayGo is_own shape known (left ++ right) told v → HaveGone is_own shape left left_new told told_mid v w
       → HaveGone is_own shape right right_new told_mid told_new w u → HaveGone is_own shape (left ++ right) (left_new ++ right_new) told told_new v u
   both-gone left left_new right right_new told told_mid told_new v w u m f g = record {
@@ -149,6 +151,7 @@ module _ {P : Type 0} (is_own : P → Type 0) (shape : Shape) (known : P → Kno
     counted = λ k none. refl;
   }
 
+  -- turns behind turns are turns
   pub gone-on : (old mid new : List (Session P)) (told told_mid told_new : List ℕ) (v w u : Hand) → HaveGone is_own shape old mid told told_mid v w → HaveGone is_own shape mid new told_mid told_new w u → HaveGone is_own shape old new told told_new v u
   gone-on old mid new told told_mid told_new v w u f g = record {
     held = g.held;
@@ -272,13 +275,16 @@ module _ {P : Type 0} (is_own : P → Type 0) (shape : Shape) (known : P → Kno
   pub ready-held : (xs : List (Session P)) → All (IsReady is_own shape known) xs → All (IsHeld is_own shape) xs
   ready-held xs ready = All-weaker (IsReady is_own shape known) (IsHeld is_own shape) (λ s r. record { own = r.own; served = r.served }) xs ready
 
+  -- sessions that gave up before they began have lawful traces
   pub gave-up-lawful : (old new : List (Session P)) → All (IsReady is_own shape known) old → map script_of new ≡ map script_of old → map shown_of new ≡ map shown_of old → All (IsLawful shape) new
   gave-up-lawful old new ready scripts shown = lawful-still old new scripts shown (All-weaker (IsReady is_own shape known) (IsLawful shape) (λ s r. rest-lawful shape known s r.rested) old ready)
 
   pub gave-up-stopped : (xs : List (Session P)) → All (HasGivenUp known) xs → All (HasStopped is_own shape known) xs
   gave-up-stopped xs all = All-weaker (HasGivenUp known) (HasStopped is_own shape known) (λ s h. inr h) xs all
 
+  -- sessions that are ready, numbered from 1 on and at most 256, may run with the first pass
   pub may-begin : (xs : List (Session P)) (v : Hand) → v ≡ sender → All (IsReady is_own shape known) xs → AreNumbered 1 (sections_of xs) → length xs ≤ 256 → MayPlay is_own shape known xs v
   may-begin xs v is ready numbered few = subst (λ (x : Hand). MayPlay is_own shape known xs x) (sym is) (record { ready = ready; numbered = numbered; fits = few; unused = refl })
 
+-- what holds of sessions that give up before they begin
 pub ruleset early_laws = (ready-held, gave-up-lawful, gave-up-stopped)

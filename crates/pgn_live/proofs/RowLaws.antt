@@ -23,6 +23,7 @@ pub All-front : {X : Type 0} (Q : X → Type 0) (xs ys : List X) → All Q (xs +
 All-front Q [] ys h = All-nil Q
 All-front Q (x ∷ xs) ys h = All-cons Q x xs (All-head Q x (xs ++ ys) h) (All-front Q xs ys (All-tail Q x (xs ++ ys) h))
 
+-- what holds of all holds of those behind the first ones
 pub All-behind : {X : Type 0} (Q : X → Type 0) (xs ys : List X) → All Q (xs ++ ys) → All Q ys
 All-behind Q [] ys h = h
 All-behind Q (x ∷ xs) ys h = All-behind Q xs ys (All-tail Q x (xs ++ ys) h)
@@ -36,6 +37,7 @@ module _ {P : Type 0} where
   pub row-front : (n : ℕ) (xs ys : List (Session P)) → AreNumbered n (sections_of (xs ++ ys)) → AreNumbered n (sections_of xs)
   row-front n xs ys h = numbered-front n (sections_of xs) (sections_of ys) (subst (AreNumbered n) (map-append (λ (s : Session P). s.section) xs ys) h)
 
+  -- the numbers of those behind go on where the first ones end
   pub row-behind : (n k : ℕ) (xs ys : List (Session P)) → k ≡ n + length xs → AreNumbered n (sections_of (xs ++ ys)) → AreNumbered k (sections_of ys)
   row-behind n k xs ys is h =
       numbered-behind n k (sections_of xs) (sections_of ys) (omega (arith, is, length-sections xs)) (subst (AreNumbered n) (map-append (λ (s : Session P). s.section) xs ys) h)
@@ -48,6 +50,7 @@ module _ {P : Type 0} where
       All-cons R x xs (step x (omega (arith, is)) (omega (arith, is)) (All-head Q x xs all))
       (by_number (n + 1) xs Q R numbered.1 (λ s low high q. step s (omega (arith, low)) (omega (arith, high)) q) (All-tail Q x xs all))
 
+  -- what holds of each number in a row holds of each of its sessions
   pub each_numbered : (n : ℕ) (xs : List (Session P)) (R : Session P → Type 0) → AreNumbered n (sections_of xs) → ((s : Session P) → n ≤ s.section.no → s.section.no < n + length xs → R s) → All R xs
   each_numbered n [] R numbered step = All-nil R
   each_numbered n (x ∷ xs) R numbered step =
@@ -58,6 +61,7 @@ module _ {P : Type 0} where
   pub none-before : (n m : ℕ) (xs : List (Session P)) → AreNumbered n (sections_of xs) → m < n → IsNoneOf m xs
   none-before n m xs numbered less = each_numbered n xs (λ s. s.section.no ≢ m) numbered (λ s low high e. omega (arith, less, low, e))
 
+  -- a number behind a row is none of its sessions'
   pub none-behind : (n m : ℕ) (xs : List (Session P)) → AreNumbered n (sections_of xs) → n + length xs ≤ m → IsNoneOf m xs
   none-behind n m xs numbered more = each_numbered n xs (λ s. s.section.no ≢ m) numbered (λ s low high e. omega (arith, more, high, e))
 
@@ -69,6 +73,7 @@ module _ {P : Type 0} where
       of_scripts [] = refl
       of_scripts (x ∷ xs) = ap (λ (l : List Section). x.section ∷ l) (of_scripts xs)
 
+  -- the scripts of two parts that kept theirs
   pub both-scripts : (left left_new right right_new : List (Session P)) → map script_of left_new ≡ map script_of left → map script_of right_new ≡ map script_of right → map script_of (left_new ++ right_new) ≡ map script_of (left ++ right)
   both-scripts left left_new right right_new l r =
       map-append (λ (s : Session P). script_of s) left_new right_new
@@ -76,9 +81,11 @@ module _ {P : Type 0} where
       ∙ ap (λ (scripts : List Script). map script_of left ++ scripts) r
       ∙ sym (map-append (λ (s : Session P). script_of s) left right)
 
+  -- who has the same scripts are as many
   pub same-length : (old new : List (Session P)) → map script_of new ≡ map script_of old → length new ≡ length old
   same-length old new e = sym (length-sections new) ∙ ap (λ (l : List Section). length l) (sections-same old new e) ∙ length-sections old
 
+  -- a number that no session had, none has that kept their scripts
   pub none-still : (m : ℕ) (old new : List (Session P)) → map script_of new ≡ map script_of old → IsNoneOf m old → IsNoneOf m new
   none-still m old new e none = of_sections new (subst (λ (l : List Section). All (λ x. x.no ≢ m) l) (sym (sections-same old new e)) (to_sections old none))
     where

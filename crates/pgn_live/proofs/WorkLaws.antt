@@ -7,7 +7,7 @@ use Rattle.pgn_hub.specs.Shape.{Shape}
 use Rattle.pgn_model.specs.declared.item.Item.{Item}
 use Rattle.pgn_outlet.specs.declared.outlet.Outlet.{Outlet}
 use Rattle.pgn_outlet.specs.Passes.{IsPassOf, knows}
-use Rattle.pgn_outlet.specs.Rule.{joined, lower, upper}
+use Rattle.pgn_outlet.specs.Rule.{joined, lower}
 use Rattle.pgn_session.specs.declared.session.Session.{Session}
 use Rattle.pgn_session.specs.Runs.{HasGivenUp, IsHeld, IsOver, IsReady, script_of, shown_of}
 use Rattle.pgn_workers.specs.declared.turn.Turn.{Turn}
@@ -25,15 +25,18 @@ module _ {P : Type 0} (is_own : P → Type 0) (shape : Shape) (known : P → Kno
   pub goes-begun : (p : Part (Session P) Telling) → PartMayPlay is_own shape known outlet p → PartMayGo is_own shape known outlet p
   goes-begun p m = record { own = m.own; may = may-go is_own shape known p.workers p.hand.told (knows p.hand.pass) m.none m.may }
 
+  -- no turns at all are turns
   pub gone-none : (p : Part (Session P) Telling) → PartMayGo is_own shape known outlet p → PartHasGone is_own shape outlet p p
   gone-none p m = record { own = m.own; gone = not-gone is_own shape known p.workers p.hand.told (knows p.hand.pass) m.may }
 
+  -- and so are turns behind turns
   pub gone-more : (p q r : Part (Session P) Telling) → PartHasGone is_own shape outlet p q → PartHasGone is_own shape outlet q r → PartHasGone is_own shape outlet p r
   gone-more p q r f g = record {
     own = g.own;
     gone = gone-on is_own shape known p.workers q.workers r.workers p.hand.told q.hand.told r.hand.told (knows p.hand.pass) (knows q.hand.pass) (knows r.hand.pass) f.gone g.gone;
   }
 
+  -- sessions that are ready behind a round may take another one
   pub goes-again : (p q : Part (Session P) Telling) → PartMayGo is_own shape known outlet p → PartHasGone is_own shape outlet p q → All (IsReady is_own shape known) q.workers → PartMayGo is_own shape known outlet q
   goes-again p q m g ready = record {
     own = g.own;
@@ -44,9 +47,11 @@ module _ {P : Type 0} (is_own : P → Type 0) (shape : Shape) (known : P → Kno
   pub goes-front : (xs ys : List (Session P)) (h : Telling) → PartMayGo is_own shape known outlet (part (xs ++ ys) h) → PartMayGo is_own shape known outlet (part xs h)
   goes-front xs ys h m = record { own = m.own; may = left-go is_own shape known xs ys h.told (knows h.pass) m.may }
 
+  -- those behind the first ones may take their turns with the hand that these leave
   pub goes-behind : (xs ys : List (Session P)) (h : Telling) (p : Part (Session P) Telling) → PartMayGo is_own shape known outlet (part (xs ++ ys) h) → PartHasGone is_own shape outlet (part xs h) p → PartMayGo is_own shape known outlet (part ys p.hand)
   goes-behind xs ys h p m g = record { own = g.own; may = right-go is_own shape known xs p.workers ys h.told p.hand.told (knows h.pass) (knows p.hand.pass) m.may g.gone }
 
+  -- turns of the first and of those behind them are turns of the whole part
   pub gone-both : (xs ys : List (Session P)) (h : Telling) (p q : Part (Session P) Telling) → PartMayGo is_own shape known outlet (part (xs ++ ys) h) → PartHasGone is_own shape outlet (part xs h) p → PartHasGone is_own shape outlet (part ys p.hand) q
       → PartHasGone is_own shape outlet (part (xs ++ ys) h) (part (p.workers ++ q.workers) q.hand)
   gone-both xs ys h p q m f g = record {
@@ -58,6 +63,7 @@ module _ {P : Type 0} (is_own : P → Type 0) (shape : Shape) (known : P → Kno
   whole-may : (p l r : Part (Session P) Telling) → PartWasCut is_own shape known outlet p l r → MayPlay is_own shape known (l.workers ++ r.workers) (knows p.hand.pass)
   whole-may p l r cut = subst (λ (xs : List (Session P)). MayPlay is_own shape known xs (knows p.hand.pass)) cut.whole cut.begun
 
+  -- both halves of a part that was cut may begin
   pub begin-halves : (p l r : Part (Session P) Telling) → PartWasCut is_own shape known outlet p l r → PartMayPlay is_own shape known outlet l × PartMayPlay is_own shape known outlet r
   begin-halves p l r cut = (
     record {
@@ -72,6 +78,7 @@ module _ {P : Type 0} (is_own : P → Type 0) (shape : Shape) (known : P → Kno
     },
   )
 
+  -- halves that have run, and whose hands were joined, are a part that has run
   pub halves-played : (p l l_new r r_new : Part (Session P) Telling) (h : Telling) (a b : Result Unit AllocError) → PartWasCut is_own shape known outlet p l r → PartHasPlayed is_own shape known outlet l l_new a
       → PartHasPlayed is_own shape known outlet r r_new b → HandsWereJoined outlet l_new.hand r_new.hand h → PartHasPlayed is_own shape known outlet p (part (l_new.workers ++ r_new.workers) h) (result_and a b)
   halves-played p l l_new r r_new h a b cut f g made = record {
@@ -84,6 +91,7 @@ module _ {P : Type 0} (is_own : P → Type 0) (shape : Shape) (known : P → Kno
         (subst (λ (v : Hand). HavePlayed is_own shape known r.workers r_new.workers v (knows r_new.hand.pass) b) cut.right_pass g.played)));
   }
 
+  -- a part that was cut and joined again stands for the one that it was
   pub neither-played : (p l r : Part (Session P) Telling) (h : Telling) → PartWasCut is_own shape known outlet p l r → HandsWereJoined outlet l.hand r.hand h
       → StandsFor (PartMayPlay is_own shape known outlet) (PartHasPlayed is_own shape known outlet) p (part (l.workers ++ r.workers) h)
   neither-played p l r h cut made =
@@ -114,6 +122,7 @@ module _ {P : Type 0} (is_own : P → Type 0) (shape : Shape) (known : P → Kno
     gone = one-gone is_own shape known s t h.told k.told (knows h.pass) (knows k.pass) turned.held turned.lawful turned.script turned.so_far turned.alone;
   }
 
+  -- a wait in which nothing was shown counts as turns
   pub part-waited : (xs ys : List (Session P)) (h k : Telling) → k ≡ h → PartMayGo is_own shape known outlet (part xs h) → All (IsReady is_own shape known) ys → map script_of ys ≡ map script_of xs → map shown_of ys ≡ map shown_of xs
       → PartHasGone is_own shape outlet (part xs h) (part ys k)
   part-waited xs ys h k same m ready scripts shown =
@@ -125,6 +134,7 @@ module _ {P : Type 0} (is_own : P → Type 0) (shape : Shape) (known : P → Kno
   part-held old xs h (Ok a) g = tt
   part-held old xs h (Err e) g = g.gone.held
 
+  -- a part that has taken its rounds and has ended has run
   pub part-ended : (old : Part (Session P) Telling) (xs ys : List (Session P)) (h k : Telling) (rounds answer : Result Unit AllocError)
       → HasTakenRounds (PartMayPlay is_own shape known outlet) (PartHasGone is_own shape outlet) (IsOver is_own shape known) old (part xs h) rounds → k ≡ h → HaveEnded known xs ys h.told rounds answer
       → PartHasPlayed is_own shape known outlet old (part ys k) answer

@@ -1,15 +1,13 @@
 -- What the writer has taken and written.
-use Rattle.std.proofs.Common.{◌≡◌, ◌≢◌, ◌⊎◌, inl, inr, ℕ, ◌+◌, ◌<◌, List, [], ◌∷◌, ◌++◌, length, get_or, set, flat_map, All, Option, sym, ap, ◌∙◌, subst, arith, append-nil, append_assoc}
-use Rattle.std.proofs.lemmas.Bool.{cases_eq}
+use Rattle.std.proofs.Common.{◌≡◌, ℕ, ◌+◌, List, [], ◌∷◌, ◌++◌, flat_map, All, Option, sym, ap, ◌∙◌, append-nil, append_assoc}
 use Rattle.std.proofs.lemmas.Grind.{flat_map-append}
-use Rattle.std.proofs.lemmas.List.{get_or-set_same, get_or-set_other, length-set}
 use Rattle.std.proofs.lemmas.List.Elements.{All-nil, All-cons, All-append}
 use Rattle.pgn_language.specs.declared.scenario.Section.{Section}
 use Rattle.pgn_model.specs.Text.{joined}
 use Rattle.pgn_outlet.specs.Rule.{with_got}
 use Rattle.pgn_text.specs.declared.line_cursor.LineCursor.{LineCursor}
 use Rattle.pgn_text.specs.declared.out.Out.{Out}
-use Rattle.pgn_text.specs.Rendering.{HasPassed, Puts, lines_of}
+use Rattle.pgn_text.specs.Rendering.{Puts, lines_of}
 use Rattle.pgn_text.proofs.PutsLaws.{Puts-none, Puts-trans, Puts-same, joined-append}
 use Rattle.pgn_live.specs.Cames.{Came, Hand}
 use Rattle.pgn_live.specs.Lives.{came_lines, tagged, IsFresh, IsNumber, StandIn, Wrote}
@@ -55,19 +53,9 @@ module _ {S : Type 0} (held : S → Option (List ℕ)) (faults : S → ℕ) (sec
     puts = puts;
   }
 
+-- how what was written adds up, for the writer's loops
 pub ruleset write_laws = (Wrote-none, Wrote-trans, Wrote-one, Wrote-sent)
 
 -- cursors
 pub stand-fresh : (sections : List Section) (cursors : List LineCursor) → All IsFresh cursors → StandIn sections cursors
 stand-fresh sections cursors fresh = λ k d less. fresh k d less (lines_of (k + 1) sections)
-
-pub stand-set : (sections : List Section) (cursors : List LineCursor) (k : ℕ) (c : LineCursor) → k < length cursors → StandIn sections cursors → HasPassed (lines_of (k + 1) sections) c → StandIn sections (set cursors k c)
-stand-set sections cursors k c less stand passed = λ j d within. either j d within (cases_eq j k)
-  where
-    either : (j : ℕ) (d : LineCursor) → j < length (set cursors k c) → (j ≡ k) ⊎ (j ≢ k) → HasPassed (lines_of (j + 1) sections) (get_or (set cursors k c) j d)
-    either j d within (inl e) =
-        subst (λ (i : ℕ). HasPassed (lines_of (i + 1) sections) (get_or (set cursors k c) i d)) (sym e)
-        (subst (λ (x : LineCursor). HasPassed (lines_of (k + 1) sections) x) (sym (get_or-set_same cursors k c d less)) passed)
-    either j d within (inr apart) =
-        let inside : j < length cursors = omega (arith, within, length-set cursors k c) in
-        subst (λ (x : LineCursor). HasPassed (lines_of (j + 1) sections) x) (sym (get_or-set_other cursors k j c d apart)) (stand j d inside)

@@ -9,10 +9,12 @@ use Rattle.pgn_language.specs.declared.scenario.Section.{Section}
 use Rattle.pgn_model.specs.declared.item.Item.{Item}
 use Rattle.pgn_model.specs.declared.trace.Trace.{Trace}
 use Rattle.pgn_model.specs.Text.{joined}
+use Rattle.pgn_outlet.specs.Passes.{knows}
 use Rattle.pgn_session.specs.declared.session.Session.{Session}
 use Rattle.pgn_session.specs.Parts.{Begins}
 use Rattle.pgn_session.specs.Runs.{HasStopped, IsLawful, IsOver}
 use Rattle.pgn_live.specs.Cames.{Came, Hand, items_of}
+use Rattle.pgn_live.specs.declared.writing.Writer.{Writer}
 use Rattle.pgn_live.specs.declared.lives.LiveFault.{LiveFault}
 use Rattle.pgn_live.specs.declared.lives.LiveFault.TheVariants.{Write, Memory}
 use Rattle.pgn_text.specs.declared.line_cursor.LineCursor.{LineCursor}
@@ -79,6 +81,10 @@ pub record Wrote {S : Type 0} (held : S → Option (List ℕ)) (faults : S → �
   pub numbers : All (λ came. IsNumber came.session) more
   pub got : after ≡ record before { got = before.got ++ more }
   pub puts : Puts held faults sink out sink_now out_now (tagged sections more)
+
+-- the writer has taken more, and the text of that was given out
+abbrev pub HasWritten : {S : Type 0} → (S → Option (List ℕ)) → (S → ℕ) → List Section → Writer → Writer → S → S → Type 0
+HasWritten held faults sections old new sink sink_now = Wrote held faults sections (knows old.pass) (knows new.pass) sink old.out sink_now new.out
 
 -- what a run comes to whose writes and whose sessions have come to this: a failed write before want of memory
 abbrev pub answer_of : {A E D : Type 0} → Result Unit D → Result A E → Result Unit LiveFault

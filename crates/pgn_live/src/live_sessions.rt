@@ -4,14 +4,14 @@ ghost use Rattle.pgn_outlet.specs.Passes.{IsPassOf, knows};
 ghost use Rattle.pgn_outlet.specs.Rule.{MayPush};
 ghost use Rattle.pgn_session.specs.Runs.{IsHeld, IsReady};
 
-use crate::relay::Relay;
+use crate::relay::Live;
 use crate::telling::{PLACES, Telling, tell, told_so_far};
 use pgn_hub::{Hub, PassView};
 use pgn_model::Items;
 use pgn_outlet::Outlet;
 use pgn_session::{Session, Step, give_up_all};
 use pgn_workers::{Turn, Work};
-use std::alloc::{AllocError, Global};
+use std::alloc::AllocError;
 use std::sync::Wait;
 
 // The sessions of a hub, as workers that tell what they record. Those of one thread share what they tell by.
@@ -56,26 +56,23 @@ impl<P: PassView + Send + Drop, H: Hub<Pass = P>> Work<Session<P>, Telling>
 
 // A turn of a session, and what it recorded is told, and the writer's bell rung, also where the turn was refused memory. What it has told while it waited, it has heard.
 pub(crate) fn take_turn<P: PassView + Send + Drop, H: Hub<Pass = P>, R: Wait>(
-    rt: &R,
-    alloc: Global,
-    hub: &H,
-    relay: &Relay,
-    outlet: &Outlet<Items>,
+    live: &Live<'_, R, H>,
     session: &mut Session<P>,
     telling: &mut Telling,
 ) -> Result<Turn, AllocError>
-    requires own { IsPassOf outlet.now telling.old.pass }
-    requires ready { IsReady (H.is_pass hub.now) (H.shape hub.now) P.known session.old }
+    requires own { IsPassOf live.now.outlet.now telling.old.pass }
+    requires ready { IsReady (H.is_pass live.now.hub.now) (H.shape live.now.hub.now) P.known session.old }
     requires may { MayPush (knows telling.old.pass) session.old.section.no }
     requires told { IsToldBy telling.old.told (knows telling.old.pass) session.old }
-    ensures own { IsPassOf outlet.now telling.new.pass }
-    ensures told { HasToldTurn (H.is_pass hub.now) (H.shape hub.now) P.known session.old session.new telling.old.told telling.new.told (knows telling.old.pass) (knows telling.new.pass) result }
+    ensures own { IsPassOf live.now.outlet.now telling.new.pass }
+    ensures told { HasToldTurn (H.is_pass live.now.hub.now) (H.shape live.now.hub.now) P.known
+        session.old session.new telling.old.told telling.new.told (knows telling.old.pass) (knows telling.new.pass) result }
 {
-    let step = session.turn(rt, alloc, hub);
+    let step = session.turn(live.rt, live.alloc, live.hub);
     let items = session.items.as_slice();
-    let heard = tell(rt, alloc, outlet, telling, session.section.no, items);
+    let heard = tell(live, telling, session.section.no, items);
     if heard {
-        relay.tell();
+        live.relay.tell();
     }
     Ok(as_turn(step?, heard))
 }
@@ -121,9 +118,16 @@ fn have_told<P: PassView + Send + Drop>(sessions: &[Session<P>], told: &[usize; 
     ensures { result ≡ true → All (IsWhollyToldBy told.now) sessions.now }
 {
     for session in sessions {
-        if session.items.len() > told_so_far(told, session.section.no) {
+        if !is_told(session, told) {
             return false;
         }
     }
     true
+}
+
+// Whether of one session so many items were told as it has recorded.
+fn is_told<P: PassView + Send + Drop>(session: &Session<P>, told: &[usize; PLACES]) -> bool
+    ensures { result ≡ true → IsWhollyToldBy told.now session.now }
+{
+    session.items.len() <= told_so_far(told, session.section.no)
 }

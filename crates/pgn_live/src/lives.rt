@@ -1,9 +1,9 @@
-ghost use Rattle.std.specs.Prelude.{◌≡◌, ◌<◌, ◌≤◌, true, map, length, Err, OnOk, OnErr, All};
+ghost use Rattle.std.specs.Prelude.{◌≡◌, ◌<◌, ◌≤◌, true, [], map, length, Ok, Err, OnOk, OnErr, All};
 ghost use Rattle.std.specs.Io.KnownBytes.{Appends};
 ghost use Rattle.std.specs.Thread.{IsSync, IsSend};
-ghost use Rattle.pgn_base.specs.Outside.{AppendsPrefix, HasCause, Rose, Writes};
+ghost use Rattle.pgn_base.specs.Outside.{AppendsPrefix, Rose};
 ghost use Rattle.pgn_language.specs.Inputs.{AreNumbered};
-ghost use Rattle.pgn_live.specs.Lives.{CameTo, ComesFirst, ComesWhole, StandIn, Wrote, answer_of, logs_of};
+ghost use Rattle.pgn_live.specs.Lives.{CameTo, ComesFirst, ComesWhole, HasWritten, StandIn, answer_of, logs_of};
 ghost use Rattle.pgn_live.specs.Playing.{HavePlayed, IsNoneTold, MayPlay, sections_of};
 ghost use Rattle.pgn_live.specs.Turns.{HasToldTurn, HaveEnded, IsToldBy};
 ghost use Rattle.pgn_outlet.specs.Passes.{IsPassOf, knows};
@@ -12,16 +12,15 @@ ghost use Rattle.pgn_outlet.specs.Rule as rule;
 ghost use Rattle.pgn_session.specs.Runs.{HasStopped, IsHeld, IsLawful, IsOver, IsReady, script_of, shown_of};
 
 use crate::live_sessions::{LiveSessions, end_all, take_turn};
-use crate::relay::Relay;
+use crate::relay::{Live, Relay};
 use crate::telling::Telling;
-use crate::writing::{cursors_for, write_rest, write_until};
+use crate::writing::{Writer, cursors_for, write_rest, write_until};
 use pgn_base::{Failed, Sink};
 use pgn_hub::{Hub, PassView};
 use pgn_language::Section;
-use pgn_model::Items;
-use pgn_outlet::{Outlet, OutletPass};
+use pgn_outlet::Outlet;
 use pgn_session::{Session, Step, give_up_all, wait_together, waits_behind};
-use pgn_text::{LineCursor, Out};
+use pgn_text::Out;
 use pgn_workers::{Job, Pause, Turn, run};
 use std::alloc::{AllocError, Global};
 use std::sync::Wait;
@@ -68,26 +67,32 @@ pub fn run_live<
     ensures write_where_due { K.faults sink.old < K.faults sink.new → result ≡ Err LiveFault.Write }
     ensures later { K.faults sink.old ≤ K.faults sink.new }
 {
-    let Ok(mut cursors) = cursors_for(alloc, sections.len()) else {
+    let Ok(cursors) = cursors_for(alloc, sections.len()) else {
         give_up_first(hub, sessions);
         return Err(LiveFault::Memory);
     };
     let Ok((outlet, pass, taker)) = Outlet::open(alloc) else {
+        drop(cursors);
         give_up_first(hub, sessions);
         return Err(LiveFault::Memory);
     };
-    run_to_the_end(
+    let relay = Relay::new();
+    let live = Live {
         rt,
         alloc,
         hub,
-        outlet,
-        pass,
-        taker,
+        outlet: &outlet,
+        relay: &relay,
         sections,
-        &mut cursors,
-        sessions,
-        sink,
-    )
+    };
+    let writer = Writer {
+        pass: taker,
+        cursors,
+        out: Out::new(),
+    };
+    let came = run_to_the_end(&live, Telling::new(pass), writer, sessions, sink);
+    outlet.destroy();
+    came
 }
 
 // Raises the end flags of sessions that have not begun.
@@ -101,54 +106,45 @@ fn give_up_first<P: PassView + Send + Drop, H: Hub<Pass = P>>(hub: &H, sessions:
     give_up_all(hub, sessions);
 }
 
-// Runs the sessions and writes what they tell, by this queue, which it ends.
+// Runs the sessions and writes what they tell, till nothing is left of it.
 fn run_to_the_end<
     P: PassView + Send + Drop,
     H: Hub<Pass = P> + Sync,
     R: Threads + Wait + Clock + Sync,
     K: Sink + Send,
 >(
-    rt: &R,
-    alloc: Global,
-    hub: &H,
-    outlet: Outlet<Items>,
-    pass: OutletPass<Items>,
-    mut taker: OutletPass<Items>,
-    sections: &[Section],
-    cursors: &mut [LineCursor],
+    live: &Live<'_, R, H>,
+    mut telling: Telling,
+    mut writer: Writer,
     sessions: &mut [Session<P>],
     sink: &mut K,
 ) -> Result<(), LiveFault>
-    requires ready { All (IsReady (H.is_pass hub.now) (H.shape hub.now) P.known) sessions.old }
+    requires ready { All (IsReady (H.is_pass live.now.hub.now) (H.shape live.now.hub.now) P.known)
+        sessions.old }
     requires numbered { AreNumbered 1 (sections_of sessions.old) }
     requires few { length sessions.old ≤ 256 }
-    requires own { IsPassOf outlet pass × IsPassOf outlet taker }
-    requires sends { knows pass ≡ sender }
-    requires takes { knows taker ≡ rule.taker }
-    requires stand { StandIn sections.now cursors.old }
+    requires own { IsPassOf live.now.outlet.now telling.pass × IsPassOf live.now.outlet.now writer.pass }
+    requires sends { knows telling.pass ≡ sender }
+    requires none { IsNoneTold telling.told }
+    requires takes { knows writer.pass ≡ rule.taker }
+    requires stand { StandIn live.now.sections.now writer.cursors.items }
+    requires nothing { writer.out.kept ≡ [] }
+    requires fine { writer.out.so_far ≡ Ok tt }
     ensures scripts { map script_of sessions.new ≡ map script_of sessions.old }
-    ensures came { CameTo (H.is_pass hub.now) (H.shape hub.now) P.known K.held K.faults sections.now sessions.new sink.old sink.new result }
+    ensures came { CameTo (H.is_pass live.now.hub.now) (H.shape live.now.hub.now) P.known K.held K.faults
+        live.now.sections.now sessions.new sink.old sink.new result }
 {
-    let mut out = Out::new();
-    let mut telling = Telling::new(pass);
-    let played = play_and_write(
-        rt,
-        alloc,
-        hub,
-        &outlet,
-        &mut telling,
-        &mut taker,
-        sections,
-        cursors,
-        sessions,
-        &mut out,
-        sink,
-    );
+    let played = play_and_write(live, &mut telling, &mut writer, sessions, sink);
     let Telling { mut pass, .. } = telling;
-    outlet.close(&mut pass, taker);
-    write_rest(rt, &outlet, &mut pass, sections, cursors, &mut out, sink);
-    outlet.destroy();
-    answer(out.so_far, played)
+    let Writer {
+        pass: taker,
+        cursors,
+        out,
+    } = writer;
+    live.outlet.close(&mut pass, taker);
+    let mut writer = Writer { pass, cursors, out };
+    write_rest(live, &mut writer, sink);
+    answer(writer.out.so_far, played)
 }
 
 // Runs the sessions, and writes beside them what they tell. The writer is the closure that the join calls last where no thread can be had, so
@@ -159,40 +155,35 @@ fn play_and_write<
     R: Threads + Wait + Clock + Sync,
     K: Sink + Send,
 >(
-    rt: &R,
-    alloc: Global,
-    hub: &H,
-    outlet: &Outlet<Items>,
+    live: &Live<'_, R, H>,
     telling: &mut Telling,
-    taker: &mut OutletPass<Items>,
-    sections: &[Section],
-    cursors: &mut [LineCursor],
+    writer: &mut Writer,
     sessions: &mut [Session<P>],
-    out: &mut Out,
     sink: &mut K,
 ) -> Result<(), AllocError>
-    requires own { IsPassOf outlet.now telling.old.pass × IsPassOf outlet.now taker.old }
-    requires may { MayPlay (H.is_pass hub.now) (H.shape hub.now) P.known sessions.old (knows telling.old.pass) }
+    requires own { IsPassOf live.now.outlet.now telling.old.pass × IsPassOf live.now.outlet.now writer.old.pass }
+    requires may { MayPlay (H.is_pass live.now.hub.now) (H.shape live.now.hub.now) P.known
+        sessions.old (knows telling.old.pass) }
     requires none { IsNoneTold telling.old.told }
-    requires takes { (knows taker.old).takes ≡ true }
-    requires stand { StandIn sections.now cursors.old }
-    ensures own { IsPassOf outlet.now telling.new.pass × IsPassOf outlet.now taker.new }
-    ensures stand { StandIn sections.now cursors.new }
-    ensures played { HavePlayed (H.is_pass hub.now) (H.shape hub.now) P.known sessions.old sessions.new (knows telling.old.pass) (knows telling.new.pass) result }
-    ensures wrote { Wrote K.held K.faults sections.now (knows taker.old) (knows taker.new) sink.old out.old sink.new out.new }
+    requires takes { (knows writer.old.pass).takes ≡ true }
+    requires stand { StandIn live.now.sections.now writer.old.cursors.items }
+    ensures own { IsPassOf live.now.outlet.now telling.new.pass × IsPassOf live.now.outlet.now writer.new.pass }
+    ensures stand { StandIn live.now.sections.now writer.new.cursors.items }
+    ensures played { HavePlayed (H.is_pass live.now.hub.now) (H.shape live.now.hub.now) P.known
+        sessions.old sessions.new (knows telling.old.pass) (knows telling.new.pass) result }
+    ensures wrote { HasWritten K.held K.faults live.now.sections.now
+        writer.old writer.new sink.old sink.new }
 {
-    let relay = Relay::new();
-    let relay = &relay;
     let ((), played) = join_mut(
-        rt,
+        live.rt,
         &mut || -> ()
-            requires { IsSync R.row × IsSend K.row × IsPassOf outlet.now taker.now × ((knows taker.now).takes ≡ true) × StandIn sections.now cursors.now }
-            ensures { IsPassOf outlet.entry.now taker.exit.now × StandIn sections.entry.now cursors.exit.now × Wrote K.held K.faults sections.entry.now (knows taker.entry.now) (knows taker.exit.now) sink.entry.now out.entry.now sink.exit.now out.exit.now }
-        { write_until(rt, relay, outlet, taker, sections, cursors, out, sink) },
+            requires { IsSync R.row × IsSync H.row × IsSend K.row × IsPassOf live.now.outlet.now writer.now.pass × ((knows writer.now.pass).takes ≡ true) × StandIn live.now.sections.now writer.now.cursors.items }
+            ensures { IsPassOf live.entry.now.outlet.now writer.exit.now.pass × StandIn live.entry.now.sections.now writer.exit.now.cursors.items × HasWritten K.held K.faults live.entry.now.sections.now writer.entry.now writer.exit.now sink.entry.now sink.exit.now }
+        { write_until(live, writer, sink) },
         &mut || -> Result<(), AllocError>
-            requires { IsSync R.row × IsSync H.row × IsSend P.row × IsPassOf outlet.now telling.now.pass × MayPlay (H.is_pass hub.now) (H.shape hub.now) P.known sessions.now (knows telling.now.pass) × IsNoneTold telling.now.told }
-            ensures { IsPassOf outlet.entry.now telling.exit.now.pass × HavePlayed (H.is_pass hub.entry.now) (H.shape hub.entry.now) P.known sessions.entry.now sessions.exit.now (knows telling.entry.now.pass) (knows telling.exit.now.pass) result }
-        { play_and_end(rt, alloc, hub, relay, outlet, telling, sessions) },
+            requires { IsSync R.row × IsSync H.row × IsSend P.row × IsPassOf live.now.outlet.now telling.now.pass × MayPlay (H.is_pass live.now.hub.now) (H.shape live.now.hub.now) P.known sessions.now (knows telling.now.pass) × IsNoneTold telling.now.told }
+            ensures { IsPassOf live.entry.now.outlet.now telling.exit.now.pass × HavePlayed (H.is_pass live.entry.now.hub.now) (H.shape live.entry.now.hub.now) P.known sessions.entry.now sessions.exit.now (knows telling.entry.now.pass) (knows telling.exit.now.pass) result }
+        { play_and_end(live, telling, sessions) },
     );
     played
 }
@@ -203,68 +194,67 @@ fn play_and_end<
     H: Hub<Pass = P> + Sync,
     R: Threads + Wait + Clock + Sync,
 >(
-    rt: &R,
-    alloc: Global,
-    hub: &H,
-    relay: &Relay,
-    outlet: &Outlet<Items>,
+    live: &Live<'_, R, H>,
     telling: &mut Telling,
     sessions: &mut [Session<P>],
 ) -> Result<(), AllocError>
-    requires own { IsPassOf outlet.now telling.old.pass }
-    requires may { MayPlay (H.is_pass hub.now) (H.shape hub.now) P.known sessions.old (knows telling.old.pass) }
+    requires own { IsPassOf live.now.outlet.now telling.old.pass }
+    requires may { MayPlay (H.is_pass live.now.hub.now) (H.shape live.now.hub.now) P.known
+        sessions.old (knows telling.old.pass) }
     requires none { IsNoneTold telling.old.told }
-    ensures own { IsPassOf outlet.now telling.new.pass }
-    ensures played { HavePlayed (H.is_pass hub.now) (H.shape hub.now) P.known sessions.old sessions.new (knows telling.old.pass) (knows telling.new.pass) result }
+    ensures own { IsPassOf live.now.outlet.now telling.new.pass }
+    ensures played { HavePlayed (H.is_pass live.now.hub.now) (H.shape live.now.hub.now) P.known
+        sessions.old sessions.new (knows telling.old.pass) (knows telling.new.pass) result }
 {
-    let played = play(rt, alloc, hub, relay, outlet, telling, sessions);
-    relay.end();
+    let played = play(live, telling, sessions);
+    live.relay.end();
     played
 }
 
 // Runs the sessions, on threads while they can be had.
 fn play<P: PassView + Send + Drop, H: Hub<Pass = P> + Sync, R: Threads + Wait + Clock + Sync>(
-    rt: &R,
-    alloc: Global,
-    hub: &H,
-    relay: &Relay,
-    outlet: &Outlet<Items>,
+    live: &Live<'_, R, H>,
     telling: &mut Telling,
     sessions: &mut [Session<P>],
 ) -> Result<(), AllocError>
-    requires own { IsPassOf outlet.now telling.old.pass }
-    requires may { MayPlay (H.is_pass hub.now) (H.shape hub.now) P.known sessions.old (knows telling.old.pass) }
+    requires own { IsPassOf live.now.outlet.now telling.old.pass }
+    requires may { MayPlay (H.is_pass live.now.hub.now) (H.shape live.now.hub.now) P.known
+        sessions.old (knows telling.old.pass) }
     requires none { IsNoneTold telling.old.told }
-    ensures own { IsPassOf outlet.now telling.new.pass }
-    ensures played { HavePlayed (H.is_pass hub.now) (H.shape hub.now) P.known sessions.old sessions.new (knows telling.old.pass) (knows telling.new.pass) result }
+    ensures own { IsPassOf live.now.outlet.now telling.new.pass }
+    ensures played { HavePlayed (H.is_pass live.now.hub.now) (H.shape live.now.hub.now) P.known
+        sessions.old sessions.new (knows telling.old.pass) (knows telling.new.pass) result }
 {
     let turn = |session: &mut Session<P>, telling: &mut Telling| -> Result<Turn, AllocError>
-        requires { IsPassOf outlet.now telling.now.pass × IsReady (H.is_pass hub.now) (H.shape hub.now) P.known session.now × MayPush (knows telling.now.pass) session.now.section.no × IsToldBy telling.now.told (knows telling.now.pass) session.now }
-        ensures { IsPassOf outlet.entry.now telling.exit.now.pass × HasToldTurn (H.is_pass hub.entry.now) (H.shape hub.entry.now) P.known session.entry.now session.exit.now telling.entry.now.told telling.exit.now.told (knows telling.entry.now.pass) (knows telling.exit.now.pass) result }
-    { take_turn(rt, alloc, hub, relay, outlet, session, telling) };
+        requires { IsPassOf live.now.outlet.now telling.now.pass × IsReady (H.is_pass live.now.hub.now) (H.shape live.now.hub.now) P.known session.now × MayPush (knows telling.now.pass) session.now.section.no × IsToldBy telling.now.told (knows telling.now.pass) session.now }
+        ensures { IsPassOf live.entry.now.outlet.now telling.exit.now.pass × HasToldTurn (H.is_pass live.entry.now.hub.now) (H.shape live.entry.now.hub.now) P.known session.entry.now session.exit.now telling.entry.now.told telling.exit.now.told (knows telling.entry.now.pass) (knows telling.exit.now.pass) result }
+    { take_turn(live, session, telling) };
     let wait = |sessions: &mut [Session<P>], telling: &mut Telling, pause: Pause| -> u32
-        requires { All (IsReady (H.is_pass hub.now) (H.shape hub.now) P.known) sessions.now }
-        ensures { (telling.exit.now ≡ telling.entry.now) × All (IsReady (H.is_pass hub.entry.now) (H.shape hub.entry.now) P.known) sessions.exit.now × (map script_of sessions.exit.now ≡ map script_of sessions.entry.now) × (map shown_of sessions.exit.now ≡ map shown_of sessions.entry.now) }
+        requires { All (IsReady (H.is_pass live.now.hub.now) (H.shape live.now.hub.now) P.known) sessions.now }
+        ensures { (telling.exit.now ≡ telling.entry.now) × All (IsReady (H.is_pass live.entry.now.hub.now) (H.shape live.entry.now.hub.now) P.known) sessions.exit.now × (map script_of sessions.exit.now ≡ map script_of sessions.entry.now) × (map shown_of sessions.exit.now ≡ map shown_of sessions.entry.now) }
     {
         let _telling = telling;
         let waits = waits_behind(pause.waits, pause.heard);
-        wait_together(rt, hub, sessions, Step::Waiting, waits)
+        wait_together(live.rt, live.hub, sessions, Step::Waiting, waits)
     };
     let end = |sessions: &mut [Session<P>], telling: &mut Telling, rounds: Result<
         (),
         AllocError,
     >| -> Result<(), AllocError>
-        requires { OnErr rounds (All (IsHeld (H.is_pass hub.now) (H.shape hub.now)) sessions.now) }
+        requires { OnErr rounds (All (IsHeld (H.is_pass live.now.hub.now) (H.shape live.now.hub.now)) sessions.now) }
         ensures { (telling.exit.now ≡ telling.entry.now) × HaveEnded P.known sessions.entry.now sessions.exit.now telling.entry.now.told rounds result }
-    { end_all(hub, sessions, &telling.told, rounds) };
-    let work = LiveSessions { hub, outlet };
+    { end_all(live.hub, sessions, &telling.told, rounds) };
+    let work = LiveSessions {
+        hub: live.hub,
+        outlet: live.outlet,
+    };
     let job = Job {
         work,
         turn,
         wait,
         end,
     };
-    run(rt, &job, sessions, telling)
+    run(live.rt, &job, sessions, telling)
 }
 
 // What a run has come to whose writes and whose sessions have come to this.

@@ -1,7 +1,22 @@
 use crossbeam_utils::CachePadded;
-use pgn_outlet::Bell;
+use pgn_language::Section;
+use pgn_model::Items;
+use pgn_outlet::{Bell, Outlet};
+use std::alloc::Global;
 use std::sync::Wait;
 use std::sync::atomic::{AtomicU64, Ordering};
+
+// What the sessions of a live run and their writer share: the hub, the queue by which they tell what they record, the bell and the end word
+// beside it, and the sections, where the text of a script line is found.
+#[derive(Drop)]
+pub(crate) struct Live<'a, R, H> {
+    pub(crate) rt: &'a R,
+    pub(crate) alloc: Global,
+    pub(crate) hub: &'a H,
+    pub(crate) outlet: &'a Outlet<Items>,
+    pub(crate) relay: &'a Relay,
+    pub(crate) sections: &'a [Section],
+}
 
 // What sessions and their writer tell each other by beside the queue: a bell behind each push, and a word that is set once all sessions are
 // done. No clause sees any of it.

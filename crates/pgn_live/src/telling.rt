@@ -1,12 +1,13 @@
-ghost use Rattle.std.specs.Prelude.{◌≡◌, ℕ, IfOk, OnOk, OnErr};
+ghost use Rattle.std.specs.Prelude.{◌≡◌, IfOk, OnOk, OnErr};
 ghost use Rattle.pgn_live.specs.Playing.{IsNoneTold};
 ghost use Rattle.pgn_live.specs.Telling.{IsTold, HasToldFor, told_of};
 ghost use Rattle.pgn_outlet.specs.Passes.{IsPassOf, knows};
 ghost use Rattle.pgn_outlet.specs.Rule.{MayPush, with_sent};
 
+use crate::relay::Live;
 use pgn_base::{Copied, SessionNo};
 use pgn_model::{Item, Items};
-use pgn_outlet::{Came, Outlet, OutletPass};
+use pgn_outlet::{Came, OutletPass};
 use std::alloc::{AllocError, Global};
 use std::sync::Wait;
 
@@ -42,18 +43,16 @@ pub(crate) fn told_so_far(told: &[usize; PLACES], session: SessionNo) -> usize
 
 /// Pushes what a session has recorded and not told yet, and answers whether anything was told. Where memory does not suffice nothing is pushed,
 /// and the next call tries again from the same item on.
-pub(crate) fn tell<R: Wait>(
-    rt: &R,
-    alloc: Global,
-    outlet: &Outlet<Items>,
+pub(crate) fn tell<R: Wait, H>(
+    live: &Live<'_, R, H>,
     telling: &mut Telling,
     session: SessionNo,
     items: &[Item],
 ) -> bool
-    requires own { IsPassOf outlet.now telling.old.pass }
+    requires own { IsPassOf live.now.outlet.now telling.old.pass }
     requires may { MayPush (knows telling.old.pass) session }
     requires told { IsTold session items.now (told_of telling.old.told session) (knows telling.old.pass) }
-    ensures own { IsPassOf outlet.now telling.new.pass }
+    ensures own { IsPassOf live.now.outlet.now telling.new.pass }
     ensures told { IsTold session items.now (told_of telling.new.told session) (knows telling.new.pass) }
     ensures alone { HasToldFor session telling.old.told telling.new.told (knows telling.old.pass) (knows telling.new.pass) }
 {
@@ -61,14 +60,7 @@ pub(crate) fn tell<R: Wait>(
     if told >= items.len() {
         return false;
     }
-    match push_copies(
-        rt,
-        alloc,
-        outlet,
-        &mut telling.pass,
-        session,
-        &items[told..],
-    ) {
+    match push_copies(live, &mut telling.pass, session, &items[told..]) {
         Ok(()) => {
             telling.told[session.get() as usize] = items.len();
             true
@@ -78,22 +70,20 @@ pub(crate) fn tell<R: Wait>(
 }
 
 // Pushes copies of items in one piece.
-fn push_copies<R: Wait>(
-    rt: &R,
-    alloc: Global,
-    outlet: &Outlet<Items>,
+fn push_copies<R: Wait, H>(
+    live: &Live<'_, R, H>,
     pass: &mut OutletPass<Items>,
     session: SessionNo,
     items: &[Item],
 ) -> Result<(), AllocError>
-    requires own { IsPassOf outlet.now pass.old }
+    requires own { IsPassOf live.now.outlet.now pass.old }
     requires may { MayPush (knows pass.old) session }
-    ensures own { IsPassOf outlet.now pass.new }
+    ensures own { IsPassOf live.now.outlet.now pass.new }
     ensures pushed { OnOk result (knows pass.new ≡ with_sent (knows pass.old) (record { session = session; what = items.now })) }
     ensures refused { OnErr result (knows pass.new ≡ knows pass.old) }
 {
-    let what = copies(alloc, items)?;
-    outlet.push(rt, pass, Came { session, what })
+    let what = copies(live.alloc, items)?;
+    live.outlet.push(live.rt, pass, Came { session, what })
 }
 
 // Copies of items.

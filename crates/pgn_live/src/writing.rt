@@ -1,16 +1,16 @@
 #![tactic(auto, using(crate::proofs::WriteLaws::write_laws))]
 
-ghost use Rattle.std.specs.Prelude.{◌≡◌, true, false, [], ◌∷◌, IfOk, OnOk, length, All};
-ghost use Rattle.pgn_live.specs.Lives.{IsFresh, IsNumber, StandIn, Wrote, came_lines, tagged};
+ghost use Rattle.std.specs.Prelude.{◌≡◌, true, false, [], ◌∷◌, IfOk, OnOk, All};
+ghost use Rattle.pgn_live.specs.Lives.{HasWritten, IsFresh, IsNumber, StandIn, came_lines, tagged};
 ghost use Rattle.pgn_model.specs.Text.{joined};
 ghost use Rattle.pgn_outlet.specs.Passes.{HasAll, IsPassOf, knows};
 ghost use Rattle.pgn_text.specs.Rendering.{Puts};
 
-use crate::relay::Relay;
+use crate::relay::{Live, Relay};
 use pgn_base::{SessionNo, Sink};
 use pgn_language::Section;
 use pgn_model::{Item, Items};
-use pgn_outlet::{Came, Outlet, OutletPass};
+use pgn_outlet::{Came, OutletPass};
 use pgn_text::{LineCursor, Out, lines_of};
 use std::alloc::{AllocError, Global};
 use std::sync::Wait;
@@ -19,6 +19,14 @@ use std::thread;
 // Looks at an empty queue give way at first, so many of them; behind those the writer arms its bell, looks once more, and dozes. So what
 // comes in a steady flow is written in pieces, and not in a race for each line.
 const LOOKS_BEFORE_DOZE: u32 = 64;
+
+// Who writes what comes: a pass that takes, its place in the lines of each section, and the text that it keeps back.
+#[derive(Drop)]
+pub(crate) struct Writer {
+    pub(crate) pass: OutletPass<Items>,
+    pub(crate) cursors: Vec<LineCursor>,
+    pub(crate) out: Out,
+}
 
 // A place before the first line for each section.
 pub(crate) fn cursors_for(alloc: Global, count: usize) -> Result<Vec<LineCursor>, AllocError>
@@ -47,23 +55,19 @@ pub fn write_items<K: Sink>(
 }
 
 // Gives out the lines of what came of a session.
-fn write_came<K: Sink>(
-    sink: &mut K,
-    out: &mut Out,
-    sections: &[Section],
-    cursors: &mut [LineCursor],
-    came: &Came<Items>,
-)
-    requires stand { StandIn sections.now cursors.old }
-    ensures stand { StandIn sections.now cursors.new }
-    ensures puts { Puts K.held K.faults sink.old out.old sink.new out.new (joined (came_lines sections.now came.now)) }
+fn write_came<K: Sink>(sections: &[Section], writer: &mut Writer, sink: &mut K, came: &Came<Items>)
+    requires stand { StandIn sections.now writer.old.cursors.items }
+    ensures pass { writer.new.pass ≡ writer.old.pass }
+    ensures stand { StandIn sections.now writer.new.cursors.items }
+    ensures puts { Puts K.held K.faults sink.old writer.old.out sink.new writer.new.out
+        (joined (came_lines sections.now came.now)) }
     ensures number { IsNumber came.now.session }
 {
     let number = came.session.get();
     let lines = lines_of(sections, number);
     let place = (number - 1) as usize;
-    if place >= cursors.len() {
-        out.items(
+    if place >= writer.cursors.len() {
+        writer.out.items(
             sink,
             lines,
             &mut LineCursor::new(),
@@ -72,76 +76,65 @@ fn write_came<K: Sink>(
         );
         return;
     }
-    out.items(
+    writer.out.items(
         sink,
         lines,
-        &mut cursors[place],
+        &mut writer.cursors[place],
         Some(number),
         came.what.as_slice(),
     );
 }
 
 // Takes what has come and gives its lines out; where nothing has, it sends what is kept back. Answers whether anything had come.
-fn write_next<R: Wait, K: Sink>(
-    rt: &R,
-    outlet: &Outlet<Items>,
-    pass: &mut OutletPass<Items>,
-    sections: &[Section],
-    cursors: &mut [LineCursor],
-    out: &mut Out,
-    sink: &mut K,
-) -> bool
-    requires own { IsPassOf outlet.now pass.old }
-    requires takes { (knows pass.old).takes ≡ true }
-    requires stand { StandIn sections.now cursors.old }
-    ensures own { IsPassOf outlet.now pass.new }
-    ensures takes { (knows pass.new).takes ≡ true }
-    ensures stand { StandIn sections.now cursors.new }
-    ensures wrote { Wrote K.held K.faults sections.now (knows pass.old) (knows pass.new) sink.old out.old sink.new out.new }
-    ensures has_all { result ≡ false → HasAll (knows pass.new) }
-    ensures sent { result ≡ false → OnOk out.new.so_far (out.new.kept ≡ []) }
+fn write_next<R: Wait, H, K: Sink>(live: &Live<'_, R, H>, writer: &mut Writer, sink: &mut K) -> bool
+    requires own { IsPassOf live.now.outlet.now writer.old.pass }
+    requires takes { (knows writer.old.pass).takes ≡ true }
+    requires stand { StandIn live.now.sections.now writer.old.cursors.items }
+    ensures own { IsPassOf live.now.outlet.now writer.new.pass }
+    ensures takes { (knows writer.new.pass).takes ≡ true }
+    ensures stand { StandIn live.now.sections.now writer.new.cursors.items }
+    ensures wrote { HasWritten K.held K.faults live.now.sections.now
+        writer.old writer.new sink.old sink.new }
+    ensures has_all { result ≡ false → HasAll (knows writer.new.pass) }
+    ensures sent { result ≡ false → OnOk writer.new.out.so_far (writer.new.out.kept ≡ []) }
 {
-    match outlet.take(rt, pass) {
+    match live.outlet.take(live.rt, &mut writer.pass) {
         Some(came) => {
-            write_came(sink, out, sections, cursors, &came);
+            write_came(live.sections, writer, sink, &came);
             true
         }
         None => {
-            out.send(sink);
+            writer.out.send(sink);
             false
         }
     }
 }
 
 // Writes what comes until the sessions are done and nothing is left for now.
-pub(crate) fn write_until<R: Wait, K: Sink>(
-    rt: &R,
-    relay: &Relay,
-    outlet: &Outlet<Items>,
-    pass: &mut OutletPass<Items>,
-    sections: &[Section],
-    cursors: &mut [LineCursor],
-    out: &mut Out,
+pub(crate) fn write_until<R: Wait, H, K: Sink>(
+    live: &Live<'_, R, H>,
+    writer: &mut Writer,
     sink: &mut K,
 )
-    requires own { IsPassOf outlet.now pass.old }
-    requires takes { (knows pass.old).takes ≡ true }
-    requires stand { StandIn sections.now cursors.old }
-    ensures own { IsPassOf outlet.now pass.new }
-    ensures takes { (knows pass.new).takes ≡ true }
-    ensures stand { StandIn sections.now cursors.new }
-    ensures wrote { Wrote K.held K.faults sections.now (knows pass.old) (knows pass.new) sink.old out.old sink.new out.new }
+    requires own { IsPassOf live.now.outlet.now writer.old.pass }
+    requires takes { (knows writer.old.pass).takes ≡ true }
+    requires stand { StandIn live.now.sections.now writer.old.cursors.items }
+    ensures own { IsPassOf live.now.outlet.now writer.new.pass }
+    ensures takes { (knows writer.new.pass).takes ≡ true }
+    ensures stand { StandIn live.now.sections.now writer.new.cursors.items }
+    ensures wrote { HasWritten K.held K.faults live.now.sections.now
+        writer.old writer.new sink.old sink.new }
 {
     let mut empty = 0;
-    for _ in rt.forever() {
-        if write_next(rt, outlet, pass, sections, cursors, out, sink) {
+    for _ in live.rt.forever() {
+        if write_next(live, writer, sink) {
             empty = 0;
             continue;
         }
-        if relay.has_ended() {
+        if live.relay.has_ended() {
             return;
         }
-        empty = wait_for_more(rt, relay, empty);
+        empty = wait_for_more(live.rt, live.relay, empty);
     }
     unreachable!()
 }
@@ -162,25 +155,22 @@ fn wait_for_more<R: Wait>(rt: &R, relay: &Relay, empty: u32) -> u32 {
 }
 
 // Writes all that is left, and sends what is kept back.
-pub(crate) fn write_rest<R: Wait, K: Sink>(
-    rt: &R,
-    outlet: &Outlet<Items>,
-    pass: &mut OutletPass<Items>,
-    sections: &[Section],
-    cursors: &mut [LineCursor],
-    out: &mut Out,
+pub(crate) fn write_rest<R: Wait, H, K: Sink>(
+    live: &Live<'_, R, H>,
+    writer: &mut Writer,
     sink: &mut K,
 )
-    requires own { IsPassOf outlet.now pass.old }
-    requires takes { (knows pass.old).takes ≡ true }
-    requires stand { StandIn sections.now cursors.old }
-    ensures own { IsPassOf outlet.now pass.new }
-    ensures wrote { Wrote K.held K.faults sections.now (knows pass.old) (knows pass.new) sink.old out.old sink.new out.new }
-    ensures has_all { HasAll (knows pass.new) }
-    ensures sent { OnOk out.new.so_far (out.new.kept ≡ []) }
+    requires own { IsPassOf live.now.outlet.now writer.old.pass }
+    requires takes { (knows writer.old.pass).takes ≡ true }
+    requires stand { StandIn live.now.sections.now writer.old.cursors.items }
+    ensures own { IsPassOf live.now.outlet.now writer.new.pass }
+    ensures wrote { HasWritten K.held K.faults live.now.sections.now
+        writer.old writer.new sink.old sink.new }
+    ensures has_all { HasAll (knows writer.new.pass) }
+    ensures sent { OnOk writer.new.out.so_far (writer.new.out.kept ≡ []) }
 {
-    for _ in rt.forever() {
-        if !write_next(rt, outlet, pass, sections, cursors, out, sink) {
+    for _ in live.rt.forever() {
+        if !write_next(live, writer, sink) {
             return;
         }
     }

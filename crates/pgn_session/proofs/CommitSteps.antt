@@ -34,6 +34,7 @@ abbrev pub base_of : Option Enlisted → ℕ
 base_of None = 0
 base_of (Some got) = got.base
 
+-- where its journal stands for who has become a listener, and 0 for who has not
 abbrev pub point_of : Option Enlisted → ℕ
 point_of None = 0
 point_of (Some got) = got.point
@@ -72,6 +73,7 @@ leads-same k q e = record {
   named_is = ap (λ (p : Known). p.named) e ∙ sym (append-nil k.named);
 }
 
+-- where the session was to join, its mark is the point and its marks have base and point more; else nothing has changed
 pub leads-joined : (k j : Known) (b : Bool) (got : Option Enlisted) → HasJoined b k j got
     → Leads k j (cond b (Some (point_of got)) k.mark) (cond b (k.marks ++ base_of got ∷ [] ++ point_of got ∷ []) k.marks) k.own (cond b (max k.told (point_of got)) k.told) k.notes_left
 leads-joined k j true (Some got) h = record {
@@ -110,6 +112,7 @@ leads-published j f notes x h = record {
   named_is = ap (λ (p : Known). p.named) h.known;
 }
 
+-- a full queue spends an aborted number and the notes, and the mark stays
 pub leads-full : (shape : Shape) (j f : Known) (notes : List Note) (full : Full) → HasMetFull shape j f notes full → Leads j f j.mark j.marks (j.own ++ full.xid ∷ []) (full.xid + 1) (j.notes_left - length notes)
 leads-full shape j f notes full h = record {
   more = h.more ++ tx_of j notes full.queued Aborted ∷ [];
@@ -262,6 +265,7 @@ leads-sent shape j f notes (Some (Ok x)) h e told =
     record { more = l.more; seen_is = l.seen_is; session_is = l.session_is; database_is = l.database_is; mark_is = l.mark_is; marks_are = l.marks_are; own_is = l.own_is ∙ ap (λ (xs : List ℕ). j.own ++ xs) (sym (same-xids notes x h.0)); told_is = l.told_is ∙ sym (same-told notes j.told x h.0 after); left_is = l.left_is; raised_is = l.raised_is; found_is = l.found_is; names = l.names; named_is = l.named_is }
 leads-sent shape j f notes (Some (Err full)) h e told = absurd (let no : ⊥ = cc in no)
 
+-- where the queue was not full, what is shown of the notifications is what a publish shows
 pub same-sent : (shape : Shape) (j f : Known) (notes : List Note) (sent : Option (Result ℕ Full)) → HasSent shape j f notes sent → is_full sent ≡ false → sent_items sent notes ≡ publish_items notes (x_of sent)
 same-sent shape j f notes None h e = ap (λ (ns : List Note). publish_items ns 0) (sym h.0)
 same-sent shape j f notes (Some (Ok x)) h e = sym (same-publish notes x h.0)
@@ -287,6 +291,7 @@ pub members-joined : (b : Bool) (xs ys : List ℕ) (base point : ℕ) → HaveSa
 members-joined true xs ys base point h = members-push (xs ++ base ∷ []) (ys ++ base ∷ []) point (members-push xs ys base h)
 members-joined false xs ys base point h = h
 
+-- a mark that was among the marks is so once the session has joined
 pub stood-joined : (b : Bool) (mark : Option ℕ) (marks : List ℕ) (base point : ℕ) → IfSome mark (Contains marks) → IfSome (cond b (Some point) mark) (Contains (cond b (marks ++ base ∷ [] ++ point ∷ []) marks))
 stood-joined true mark marks base point h = Contains-push (marks ++ base ∷ []) point
 stood-joined false mark marks base point h = h

@@ -1,5 +1,5 @@
 -- The end of a script: what is open is dropped, and the end flag is raised.
-use Rattle.std.proofs.Common.{◌≡◌, ℕ, ◌+◌, ◌<◌, ◌≤◌, Bool, true, false, ◌&&◌, cond, nat_lt, ltb-true, ltb-false, lt-ltb, le-ltb, List, [], ◌∷◌, ◌++◌, length, drop, Option, Some, None, is_some, Contains, sym, ap, ◌∙◌, refl, subst, arith, append-nil, append_assoc, length-append}
+use Rattle.std.proofs.Common.{◌≡◌, ℕ, ◌+◌, ◌<◌, ◌≤◌, Bool, true, false, ◌&&◌, cond, nat_lt, ltb-true, ltb-false, List, [], ◌∷◌, ◌++◌, length, drop, Option, Some, None, is_some, Contains, sym, ap, ◌∙◌, refl, subst, arith, append-nil, append_assoc, length-append}
 use Rattle.std.proofs.lemmas.List.Elements.{All-nil, All-cons, All-push, Contains-push, Contains-append_left}
 use Rattle.pgn_journal.specs.declared.tx.Tx.{Tx}
 use Rattle.pgn_model.specs.declared.item.Item.{Item}
@@ -147,30 +147,11 @@ finds-one is_own next_own plan first at value k j q h own lt found = record {
   within = omega (arith, lt);
 }
 
+-- a look that found the next end flag makes the count of found flags one more
 pub finds-some : (is_own next_own : Type 0) (plan : FlagPlan) (first at : ℕ) (found : Option ℕ) (k j q : Known) → is_some found ≡ true → EndsSoFar is_own plan first at k j → next_own → at < plan.sessions
     → HasLooked j q (plan.first_end + at) found → EndsSoFar next_own plan first (at + 1) k q
 finds-some is_own next_own plan first at (Some value) k j q is h own lt looked = finds-one is_own next_own plan first at value k j q h own lt looked
 finds-some is_own next_own plan first at None k j q is h own lt looked = absurd (let no : ⊥ = cc in no)
-
-pub finds-none : (is_own : Type 0) (plan : FlagPlan) (first at : ℕ) (k j q : Known) → EndsSoFar is_own plan first at k j → at < plan.sessions → HasFoundNone j q (plan.first_end + at) → HasLookedOn plan first at k q
-finds-none is_own plan first at k j q h lt none = record {
-  values = h.values;
-  between = j;
-  finds = h.finds;
-  count = h.count;
-  within = h.within;
-  last = subst (λ (b : Bool). HasEndedLooks b j (plan.first_end + at) q) (sym (lt-ltb at plan.sessions lt)) none;
-}
-
-pub finds-all : (is_own : Type 0) (plan : FlagPlan) (first : ℕ) (k j : Known) → EndsSoFar is_own plan first plan.sessions k j → HasLookedOn plan first plan.sessions k j
-finds-all is_own plan first k j h = record {
-  values = h.values;
-  between = j;
-  finds = h.finds;
-  count = h.count;
-  within = h.within;
-  last = subst (λ (b : Bool). HasEndedLooks b j (plan.first_end + plan.sessions) j) (sym (le-ltb plan.sessions plan.sessions (omega arith))) refl;
-}
 
 -- so many end flags more were found
 ended-one : (plan : FlagPlan) (count : ℕ) (k q : Known) (value : ℕ) → HaveEnded plan count k.found → HasFound k q (plan.first_end + count) value → HaveEnded plan (count + 1) q.found
@@ -208,6 +189,7 @@ looked-past terms plan done block set k q items first reached l h =
     last-past terms plan done block set l.between q items (plan.first_end + reached) (nat_lt reached plan.sessions) l.last
     (past-each terms plan done block set k l.between items (plan.first_end + first) l.values (omega arith) (omega (arith, l.count, l.within)) l.finds h)
 
+-- if the end flags of the first sessions were found, those up to where the looks came are found now
 pub looked-ended : (plan : FlagPlan) (k q : Known) (first reached : ℕ) → HasLookedOn plan first reached k q → HaveEnded plan first k.found → HaveEnded plan reached q.found
 looked-ended plan k q first reached l ended =
     subst (λ (pairs : List (ℕ × ℕ)). HaveEnded plan reached pairs) (sym (last-found l.between q (plan.first_end + reached) (nat_lt reached plan.sessions) l.last))
@@ -222,6 +204,7 @@ stands-past terms plan done block set q items reached looks true true e within e
 stands-past terms plan done block set q items reached looks true false e within ended h = record { state = h.state; stands = h.stands; rest = h.rest; channels = h.channels; here = h.here }
 stands-past terms plan done block set q items reached looks false c e within ended h = record { state = h.state; stands = h.stands; rest = h.rest; channels = h.channels; here = h.here }
 
+-- a turn of waiting for the others keeps a session rested
 pub waited-rested : (terms : Terms) (plan : FlagPlan) (done : ℕ) (block : BlockView) (set : List (List ℕ)) (k q : Known) (items : List Item) (first looks : ℕ) (doing : Doing) (step : Step)
     → HasWaited plan first looks terms.settings.patience k q doing step → IsRested terms plan done block set (Ending first looks) k items → IsRested terms plan done block set doing q items
 waited-rested terms plan done block set k q items first looks doing step w h =
@@ -235,6 +218,7 @@ rests-answers : (terms : Terms) (plan : FlagPlan) (done : ℕ) (block : BlockVie
 rests-answers terms plan done block set q items reached looks true h = record { state = h.state; stands = h.stands; rest = h.rest; channels = h.channels; here = h.here.0 }
 rests-answers terms plan done block set q items reached looks false h = record { state = h.state; stands = h.stands; rest = h.rest; channels = h.channels; here = h.here.0 }
 
+-- and who has rested behind such a turn has answered
 pub waited-answered : (terms : Terms) (plan : FlagPlan) (done : ℕ) (block : BlockView) (set : List (List ℕ)) (k q : Known) (items : List Item) (first looks : ℕ) (doing : Doing) (step : Step)
     → HasWaited plan first looks terms.settings.patience k q doing step → IsRested terms plan done block set doing q items → IsAnswered terms plan done block set doing q items
 waited-answered terms plan done block set k q items first looks doing step w h =

@@ -20,14 +20,17 @@ use Rattle.pgn_session.specs.declared.doing.Doing.TheVariants.{Lines}
 use Rattle.pgn_session.specs.declared.doing.Step.TheVariants.{Did}
 use Rattle.pgn_session.specs.Examples.{two_sessions}
 
+-- a timeout is not shown at the first of three looks
 pub too-early : (found : Option ℕ) → TimedOut 1 ∷ [] ≡ looked_items [] 1 3 found → ⊥
 too-early (Some value) e = cc
 too-early None e = cc
 
+-- the last look that the patience allows does not pass without an item
 pub shows-last : (found : Option ℕ) → [] ≡ looked_items [] 3 3 found → ⊥
 shows-last (Some value) e = cc
 shows-last None e = cc
 
+-- a look changes what the pass knows
 pub looks-once : (found : Option ℕ) → HasLooked listening listening 1 found → ⊥
 looks-once (Some value) h = omega (arith, ap (λ (k : Known). k.looks) h.known)
 looks-once None h = omega (arith, ap (λ (k : Known). k.looks) h.known)
@@ -37,20 +40,24 @@ flag_at : Option (ℕ × Option ℕ) → ℕ
 flag_at None = 0
 flag_at (Some look) = look.0
 
+-- this pass has looked at flag 1, and not at flag 0
 pub looked-at : (found : Option ℕ) → HasLooked listening found_none 0 found → [] ≡ looked_items [] 1 3 found → ⊥
 unfolding flag_at
 looked-at (Some value) h e = cc
 looked-at None h e = omega (arith, ap (λ (k : Known). flag_at k.flag_look) h.known)
 
+-- nor has it looked at flag 0 in vain
 pub at-zero : LooksInVain listening found_none 0 → ⊥
 unfolding flag_at
 at-zero w = omega (arith, ap flag_at w.none)
 
+-- one end flag that was found is not both of two sessions
 pub one-missing : HaveEnded two_sessions 2 ((0, 4) ∷ []) → ⊥
 one-missing all =
     let was = all 1 (omega arith) in
     omega (arith, All-contains (λ (pair : ℕ × ℕ). pair.0 ≡ 0) ((0, 4) ∷ []) (1, was.0) (All-cons (λ (pair : ℕ × ℕ). pair.0 ≡ 0) (0, 4) [] refl (All-nil (λ (pair : ℕ × ℕ). pair.0 ≡ 0))) was.1)
 
+-- a second look that finds the flag is a turn that answers the line
 pub finds-it : HasTurned 0 2 3 listening found_0 [] (Found 4 ∷ []) Lines Did
 finds-it = record {
   found = Some 4;
@@ -67,12 +74,15 @@ begun = Reply Begin None ∷ []
 begun-alone : All IsWithoutHub begun
 begun-alone = All-cons IsWithoutHub (Reply Begin None) [] tt (All-nil IsWithoutHub)
 
+-- a line with its answer, and the pass untouched
 pub shows-answer : ShowsLine 2 listening listening [] (Line 2 ∷ Reply Begin None ∷ [])
 shows-answer = record { more = begun; shown = refl; one_line = All-cons IsNoLine (Reply Begin None) [] tt (All-nil IsNoLine); untouched = λ all. inl refl }
 
+-- a line that is not answered
 pub shows-nothing : ShowsLine 2 listening listening [] (Line 2 ∷ [])
 shows-nothing = record { more = []; shown = refl; one_line = All-nil IsNoLine; untouched = λ all. inl refl }
 
+-- a line that sends, where the pass has published
 pub shows-sent : ShowsLine 2 opened_2 published [] (Line 2 ∷ Publish 3 both_notes ∷ Reply Notify None ∷ [])
 shows-sent = record {
   more = Publish 3 both_notes ∷ Reply Notify None ∷ [];
@@ -89,18 +99,23 @@ has-looked e = let looks : ◌≡◌ {A = Option (Bool × Bool)} (Some (true, fa
 not-told : HasToldAtMost listening woken_1 → ⊥
 not-told h = ⊎_elim has-looked (λ told. let looks : ◌≡◌ {A = Option (Bool × Bool)} (Some (true, false)) None = ap (λ (k : Known). k.wake_look) told.1 in cc) h
 
+-- a line that only answers does not take a wake
 pub takes-wake : ShowsLine 2 listening woken_1 [] (Line 2 ∷ Reply Begin None ∷ []) → ⊥
 takes-wake s = let same : begun ≡ s.more = cc (s.shown) in not-told (s.untouched (subst (λ (items : List Item). All IsWithoutHub items) same begun-alone))
 
+-- nor does a line that is not answered
 pub takes-at-empty : ShowsLine 2 listening woken_1 [] (Line 2 ∷ []) → ⊥
 takes-at-empty s = let same : [] ≡ s.more = cc (s.shown) in not-told (s.untouched (subst (λ (items : List Item). All IsWithoutHub items) same (All-nil IsWithoutHub)))
 
+-- another line than the one asked for is not shown
 pub other-line : ShowsLine 2 listening listening [] (Line 3 ∷ Reply Begin None ∷ []) → ⊥
 other-line s = let same : ◌≡◌ {A = ℕ} 3 2 = cc (s.shown) in omega (arith, same)
 
+-- no second line begins among what a line shows
 pub two-lines : ShowsLine 2 listening listening [] (Line 2 ∷ Line 3 ∷ []) → ⊥
 two-lines s = let same : Line 3 ∷ [] ≡ s.more = cc (s.shown) in All-head IsNoLine (Line 3) [] (subst (λ (items : List Item). All IsNoLine items) (sym same) s.one_line)
 
+-- a script that is a `\quit` ends by one
 pub ends-quits : EndsByQuit quits.lines
 ends-quits = record { front = []; last = quit_line; split = refl; quits = refl }
 
@@ -108,9 +123,11 @@ none-ends : (front : List ScriptLine) (last : ScriptLine) → [] ≡ front ++ la
 none-ends [] last e = let no : ⊥ = cc in no
 none-ends (line ∷ front) last e = let no : ⊥ = cc in no
 
+-- a script without a line does not
 pub no-line_ends : EndsByQuit [] → ⊥
 no-line_ends e = none-ends e.front e.last e.split
 
+-- nor does one with a line behind its `\quit`
 pub goes_on-ends : EndsByQuit (quit_line ∷ begin_line ∷ []) → ⊥
 goes_on-ends e = by-front e.front e.last e.split e.quits
   where

@@ -1,5 +1,5 @@
 -- A session whose script has got a line more, before its last one.
-use Rattle.std.proofs.Common.{◌≡◌, ◌≢◌, ℕ, ◌+◌, ◌-◌, ◌<◌, ◌≤◌, cond, List, [], ◌∷◌, ◌++◌, length, drop, take, fold, insert, All, sym, ap, ◌∙◌, subst, arith, length-append, length-drop, append_assoc, take_all}
+use Rattle.std.proofs.Common.{◌≡◌, ◌≢◌, ℕ, ◌+◌, ◌-◌, ◌<◌, ◌≤◌, cond, List, [], ◌∷◌, ◌++◌, length, drop, take, fold, insert, All, sym, ap, ◌∙◌, subst, arith, length-append, length-drop, take_all}
 use Rattle.std.proofs.lemmas.List.{take-append-le, drop-append-le, drop_all}
 use Rattle.std.proofs.lemmas.List.Sums.{sum_by-append}
 use Rattle.std.proofs.lemmas.List.Elements.{All-head, All-tail, All-cons}
@@ -33,29 +33,9 @@ insert-split front last line =
     ap (λ (n : ℕ). insert (front ++ last ∷ []) n line) place
     ∙ ap (λ (ls : List ScriptLine). ls ++ line ∷ drop (length front) (front ++ last ∷ [])) before ∙ ap (λ (ls : List ScriptLine). front ++ line ∷ ls) behind
 
+-- the line that was put in stands before the last one
 pub fed-split : (section : Section) (line : ScriptLine) → (e : EndsByQuit section.lines) → (fed section line).lines ≡ e.front ++ line ∷ e.last ∷ []
 fed-split section line e = ap (λ (ls : List ScriptLine). insert ls (length ls - 1) line) e.split ∙ insert-split e.front e.last line
-
--- it still ends so
-pub fed-ends : (section : Section) (line : ScriptLine) → EndsByQuit section.lines → EndsByQuit (fed section line).lines
-fed-ends section line e = record { front = e.front ++ line ∷ []; last = e.last; split = fed-split section line e ∙ sym (append_assoc e.front (line ∷ []) (e.last ∷ [])); quits = e.quits }
-
--- it has a line more
-pub fed-length : (section : Section) (line : ScriptLine) → EndsByQuit section.lines → length (fed section line).lines ≡ length section.lines + 1
-fed-length section line e =
-    let new : length (fed section line).lines ≡ length (e.front ++ line ∷ e.last ∷ []) = ap (λ (ls : List ScriptLine). length ls) (fed-split section line e) in
-    let old : length section.lines ≡ length (e.front ++ e.last ∷ []) = ap (λ (ls : List ScriptLine). length ls) e.split in
-    omega (arith, new, old, length-append e.front (line ∷ e.last ∷ []), length-append e.front (e.last ∷ []))
-
--- after the lines that have begun comes what came, and the new line before the last one
-pub fed-comes : (section : Section) (line : ScriptLine) (done : ℕ) → (e : EndsByQuit section.lines) → done < length section.lines
-    → (drop done section.lines ≡ drop done e.front ++ e.last ∷ []) × (drop done (fed section line).lines ≡ drop done e.front ++ line ∷ e.last ∷ [])
-fed-comes section line done e before =
-    let long : length section.lines ≡ length (e.front ++ e.last ∷ []) = ap (λ (ls : List ScriptLine). length ls) e.split in
-    let few : done ≤ length e.front = omega (arith, long, length-append e.front (e.last ∷ [])) in (
-      ap (λ (ls : List ScriptLine). drop done ls) e.split ∙ drop-append-le done e.front (e.last ∷ []) few,
-      ap (λ (ls : List ScriptLine). drop done ls) (fed-split section line e) ∙ drop-append-le done e.front (line ∷ e.last ∷ []) few,
-    )
 
 -- the flag that the line names is below this number
 abbrev HasFlag : ℕ → ScriptLine → Type 0

@@ -1,5 +1,5 @@
 -- A read between two lines, outside a block.
-use Rattle.std.proofs.Common.{◌≡◌, ℕ, List, ◌++◌, Option, Some, None, sym, refl, subst, arith}
+use Rattle.std.proofs.Common.{◌≡◌, ℕ, List, ◌++◌, Some, sym, refl, subst}
 use Rattle.pgn_answers.specs.declared.block_state.BlockState.TheVariants.{Idle}
 use Rattle.pgn_model.specs.declared.item.Item.{Item}
 use Rattle.pgn_hub.specs.declared.known.Known.{Known}
@@ -13,8 +13,6 @@ use Rattle.pgn_session.specs.declared.doing.FlagPlan.{FlagPlan}
 use Rattle.pgn_session.specs.declared.doing.Doing.{Doing}
 use Rattle.pgn_session.specs.declared.doing.Doing.TheVariants.{Lines}
 use Rattle.pgn_session.specs.Standing.{IsAnswered, IsRested}
-use Rattle.pgn_model.specs.Trace.{IsReadUp}
-use Rattle.pgn_session.specs.FirstRead.{HasReadTold}
 use Rattle.pgn_session.specs.Parts.{HasReadOn}
 use Rattle.pgn_session.proofs.KnownLaws.{stands-grows, answered-same}
 use Rattle.pgn_session.proofs.ReadLaws.{read-rested}
@@ -56,13 +54,3 @@ read-between terms plan done block set doing k q items after from to between out
     subst (λ (d : Doing). IsRested terms plan done block set d q after) (sym between)
     (read-rested terms plan done block set Lines k q items after from to r outside is_from known
     (rested-answered terms plan done block set k items (subst (λ (d : Doing). IsRested terms plan done block set d k items) between h)))
-
--- who has read on has read up to what he was told
-pub read-told : (k q : Known) (set : List (List ℕ)) (from to : ℕ) (items after : List Item) → HasReadOn k q set from to items after → HasReadTold q
-read-told k q set from to items after r =
-    let read = r.read in
-    subst HasReadTold (sym read.known) (omega (arith, read.after_told))
-
--- who is no listener has nothing to read
-pub unheard-told : (k : Known) → k.mark ≡ None → HasReadTold k
-unheard-told k out = subst (λ (mark : Option ℕ). IsReadUp mark k.told) (sym out) tt

@@ -194,6 +194,7 @@ next-line lines done line rest d e =
     let both : line ∷ rest ≡ get_or lines done d ∷ drop (done + 1) lines = sym e ∙ drop_more lines done d lt in
     (cc, cc)
 
+-- the line at the place to which the script was done is the first of those to come
 pub indexed-line : (lines now : List ScriptLine) (done : ℕ) (line : ScriptLine) (rest : List ScriptLine) (d : ScriptLine) → drop done lines ≡ line ∷ rest → now ≡ lines → get_or now done d ≡ line
 indexed-line lines now done line rest d e is = ap (λ (ls : List ScriptLine). get_or ls done d) is ∙ (next-line lines done line rest d e).1
 

@@ -8,6 +8,7 @@ use Rattle.pgn_session.specs.declared.session.Session.{Session}
 use Rattle.pgn_session.specs.Standing.{end_flag}
 use Rattle.pgn_session.specs.Runs.{HasGivenUp}
 
+-- who has raised its end flag has given up, whatever else is the same
 pub given-up : {P : Type 0} (known : P → Known) (old new : Session P) (x : ℕ) → HasRaised (known old.pass) (known new.pass) (end_flag old.plan old.section.no) x → new ≡ record old { pass = new.pass } → HasGivenUp known new
 given-up {P} known old new x raised same =
     let k : Known = known old.pass in

@@ -18,9 +18,11 @@ use Rattle.pgn_session.specs.Parts.{Begins, with_read, looked_items}
 use Rattle.pgn_session.specs.Steps.{HasBegun, HasGoneOn, HasMoved, ShowsNext}
 use Rattle.pgn_session.proofs.WholeLaws.{Came}
 
+-- items that stayed begin with what was there
 pub none-more : (before after : List Item) → after ≡ before → Begins before after
 none-more before after is = record { more = []; split = is ∙ sym (append-nil before) }
 
+-- items that grew twice begin with the first ones
 pub begins-then : (before between after : List Item) → Begins before between → Begins between after → Begins before after
 begins-then before between after h k = record { more = h.more ++ k.more; split = k.split ∙ ap (λ (is : List Item). is ++ k.more) h.split ∙ append_assoc before h.more k.more }
 
@@ -36,6 +38,7 @@ looked-more before looks patience None = either (nat_lt looks patience)
     either true = none-more before before refl
     either false = record { more = item.TimedOut looks ∷ []; split = refl }
 
+-- the items after a read begin with those before it
 pub read-more : (before : List Item) (from to : ℕ) (got : List Delivery) → Begins before (with_read before from to got)
 read-more before from to got = either (nat_lt from to)
   where

@@ -1,8 +1,7 @@
 -- What holds of a session stays so as its pass comes to know more.
-use Rattle.std.proofs.Common.{◌≡◌, ◌≢◌, ℕ, ◌+◌, ◌≤◌, List, [], ◌∷◌, ◌++◌, Option, Some, None, IfSome, All, Contains, sym, ◌∙◌, subst, arith, Result, Ok, Err, OnErr}
+use Rattle.std.proofs.Common.{◌≡◌, ℕ, ◌+◌, ◌≤◌, List, [], ◌∷◌, ◌++◌, Option, Some, None, IfSome, All, Contains, sym, ◌∙◌, subst, arith, Result, Ok, Err, OnErr}
 use Rattle.std.proofs.lemmas.List.Elements.{All-nil, All-cons, All-append, All-push, All-weaker, Contains-push, Contains-append_left}
 use Rattle.pgn_journal.specs.declared.tx.Tx.{Tx}
-use Rattle.pgn_answers.specs.declared.block_state.BlockState.TheVariants.{Idle}
 use Rattle.pgn_model.specs.declared.item.Item.{Item}
 use Rattle.pgn_hub.specs.declared.known.Known.{Known}
 use Rattle.pgn_model.specs.Walk.{Terms, State, Owed, holder_at}
@@ -30,6 +29,7 @@ stands-grows terms k more items s h = record {
   patient = h.patient;
 }
 
+-- a pass that has learned more shows no less than the trace does
 pub stands-learned : (terms : Terms) (k q : Known) (items : List Item) (s : State) → HasLearned k q → StandsAt terms k items s → StandsAt terms q items s
 stands-learned terms k q items s learned h = subst (λ (p : Known). StandsAt terms p items s) (sym learned.known) (stands-grows terms k learned.more items s h)
 
@@ -67,6 +67,7 @@ in_script-same spare block k q s owed same h = record {
 past_script-same : (plan : FlagPlan) (block : BlockView) (k q : Known) (s : State) → IsSameTold k q → IsPastScript plan block k s → IsPastScript plan block q s
 past_script-same plan block k q s same h = record { owes = h.owes; done = h.done; dropped = h.dropped; tells = tells_more-same plan k q s same h.tells }
 
+-- where the session stands does not change with a pass that was told the same
 pub answered-same : (terms : Terms) (plan : FlagPlan) (block : BlockView) (k q : Known) (s : State) (doing : Doing) → IsSameTold k q → HasAnswered terms plan block k s doing → HasAnswered terms plan block q s doing
 answered-same terms plan block k q s Lines same h = in_script-same (spare_of terms.section) block k q s _ same h
 answered-same terms plan block k q s (Committing actions notes tag) same h = h
@@ -90,15 +91,6 @@ answered-rested terms plan block k s (Committing actions notes tag) h up = absur
 answered-rested terms plan block k s (Awaiting flag looks) h up = (h, λ e. up)
 answered-rested terms plan block k s (Ending found looks) h up = (h, up)
 answered-rested terms plan block k s Over h up = (h, up)
-
--- in a block there is nothing to read
-pub answered-in_block : (terms : Terms) (plan : FlagPlan) (block : BlockView) (k : Known) (s : State) (doing : Doing)
-    → block.state ≢ Idle → HasAnswered terms plan block k s doing → HasRested terms plan block k s doing
-answered-in_block terms plan block k s Lines busy h = (h, λ e. absurd (busy (sym h.block_state ∙ e)))
-answered-in_block terms plan block k s (Committing actions notes tag) busy h = absurd h
-answered-in_block terms plan block k s (Awaiting flag looks) busy h = (h, λ e. absurd (busy (sym h.0.block_state ∙ e)))
-answered-in_block terms plan block k s (Ending found looks) busy h = absurd (busy h.0.dropped)
-answered-in_block terms plan block k s Over busy h = absurd (busy h.dropped)
 
 -- one more at the end of both
 pub members-push : (xs ys : List ℕ) (n : ℕ) → HaveSameMembers xs ys → HaveSameMembers (xs ++ n ∷ []) (ys ++ n ∷ [])

@@ -12,10 +12,13 @@ module _ {P : Type 0} (shape : Shape) (known : P → Known) (s : Session P) wher
   at-lawful : (Q : State → Type 0) → IsAt (terms_of shape s.section s.patience) s.done s.set.channels (known s.pass) s.items.items Q → IsLawful shape s
   at-lawful Q at = record { journal = (known s.pass).seen; state = at.state; holds = at.stands.holds }
 
+  -- the trace of a session that has rested is lawful so far
   pub rest-lawful : HasRest shape known s → IsLawful shape s
   rest-lawful h = at-lawful _ h
 
+  -- so is that of one that has answered
   pub answer-lawful : HasAnswer shape known s → IsLawful shape s
   answer-lawful h = at-lawful _ h
 
+-- what a turn's clauses take: growth, and lawful traces at rest and behind an answer
 pub ruleset turn_laws = (begins-then, rest-lawful, answer-lawful)

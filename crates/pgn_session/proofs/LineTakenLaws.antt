@@ -1,6 +1,6 @@
 -- A line that runs a command, taken from an open script; and what was read before it and behind it.
-use Rattle.std.proofs.Common.{◌≡◌, ℕ, ◌+◌, ◌⊎◌, inl, inr, Bool, true, false, true≢false, cond, nat_lt, List, [], ◌∷◌, ◌++◌, drop, Option, Some, None, All, sym, ap, ◌∙◌, subst, refl, append_assoc, append-nil}
-use Rattle.std.proofs.lemmas.List.Elements.{All-nil, All-cons, All-append}
+use Rattle.std.proofs.Common.{◌≡◌, ℕ, ◌+◌, ◌⊎◌, inl, inr, Bool, true, false, true≢false, cond, nat_lt, List, [], ◌∷◌, ◌++◌, drop, Option, Some, None, All, sym, ◌∙◌, subst, refl, append_assoc, append-nil}
+use Rattle.std.proofs.lemmas.List.Elements.{All-nil, All-cons}
 use Rattle.pgn_base.specs.declared.command.Command.{Command}
 use Rattle.pgn_base.specs.declared.format.Format.{Format}
 use Rattle.pgn_base.specs.declared.note.Delivery.{Delivery}
@@ -13,7 +13,6 @@ use Rattle.pgn_model.specs.declared.item.Item.{Item}
 use Rattle.pgn_model.specs.declared.item.Item.TheVariants.{Line, Read}
 use Rattle.pgn_model.specs.Trace.{next_reads_first}
 use Rattle.pgn_hub.specs.declared.known.Known.{Known}
-use Rattle.pgn_hub.specs.Shape.{Shape}
 use Rattle.pgn_session.specs.declared.session.Session.{Session}
 use Rattle.pgn_session.specs.declared.doing.FlagPlan.{FlagPlan}
 use Rattle.pgn_session.specs.declared.doing.Doing.{Doing}
@@ -21,17 +20,13 @@ use Rattle.pgn_session.specs.declared.doing.Doing.TheVariants.{Lines}
 use Rattle.pgn_session.specs.declared.doing.Step.{Step}
 use Rattle.pgn_session.specs.declared.doing.IdleDone.{IdleDone}
 use Rattle.pgn_session.specs.declared.doing.IdleDone.TheVariants as idled
-use Rattle.pgn_session.specs.Whole.{IsSameScript}
 use Rattle.pgn_session.specs.Steps.{HasBegun, HasMoved, IsNoLine}
 use Rattle.pgn_session.specs.Parts.{HasFinishedFrom, HasIdled}
 use Rattle.pgn_session.specs.Feed.{fed}
 use Rattle.pgn_session.specs.FirstRead.{HasReadFirst, IsToReadFirst}
-use Rattle.pgn_session.specs.Open.{HasTakenLine, IsBefore, IsOpen, IsReadAtMost, RunsCommand, ShowsRead}
-use Rattle.pgn_session.proofs.OpenLaws.{before-comes, before-open, fed-before, read-before}
-
--- what a step did, from one session to another
-abbrev pub Moves : {P : Type 0} → (P → Known) → Session P → Session P → Step → Type 0
-Moves known old new step = HasMoved old.plan old.section.no old.patience (drop old.done old.section.lines) old.doing old.done new.done (known old.pass) (known new.pass) old.items.items new.items.items new.doing step
+pub use Rattle.pgn_session.specs.Whole.{Moves}
+use Rattle.pgn_session.specs.Open.{IsBefore, IsOpen, IsReadAtMost, RunsCommand, ShowsRead}
+use Rattle.pgn_session.proofs.OpenLaws.{before-comes, before-open, fed-before}
 
 -- a step over a line with a command: the line and what it shows stand behind what was shown, and no other line has begun
 pub record LineMoved (before after : List Item) (done counted n : ℕ) (stands : Doing) : Type 0 where
@@ -50,6 +45,7 @@ moved-line plan session patience lines rest doing done counted k l before after 
     let begun = subst (λ (act : Act). HasBegun plan session patience line.line act k l before after stands step) does at_lines.0 in
     record { more = begun.0.more; shown = begun.0.shown ∙ append_assoc before (Line line.line ∷ []) begun.0.more; one_line = begun.0.one_line; counts = at_lines.1; between = begun.1 }
 
+-- a step of a session before a line with a command shows that line alone, and goes on between two lines
 pub line-moved : {P : Type 0} (known : P → Known) (old new : Session P) (line : ScriptLine) (step : Step) → IsBefore old line → RunsCommand line → Moves known old new step
     → LineMoved old.items.items new.items.items old.done new.done line.line new.doing
 line-moved known old new line step h runs moved =
@@ -95,36 +91,12 @@ first-or_not s between = by s.block.state (next_reads_first (drop s.done s.secti
     by InBlock due outside next = inr (λ first. let same : InBlock ≡ Idle = sym outside ∙ first.outside in let no : ⊥ = cc in no)
     by Failed due outside next = inr (λ first. let same : Failed ≡ Idle = sym outside ∙ first.outside in let no : ⊥ = cc in no)
 
+-- the read before a line shows a read at most
 pub first-shows : {P : Type 0} (s : Session P) (k l : Known) (after : List Item) → s.doing ≡ Lines → HasReadFirst s k l after → ShowsRead s.items.items after
 first-shows s k l after between h = elim (first-or_not s between) [
   | inl first ↦ finished-shows k.mark k l s.set.channels s.items.items after (h.read first)
   | inr none ↦ no-read s.items.items after (h.else_unshown none)
 ]
-
--- the line was put in, the session has read before it, taken it, and read behind it
-pub line-taken : {P : Type 0} (shape : Shape) (known : P → Known) (old once first two new : Session P) (line : ScriptLine) (step : Step) (done : IdleDone) → IsOpen old → RunsCommand line
-    → once ≡ record old { section = fed old.section line } → first ≡ record once { pass = first.pass; items = first.items } → HasReadFirst once (known once.pass) (known first.pass) first.items.items
-    → IsSameScript first two → Moves known first two step → new ≡ record two { pass = new.pass; items = new.items }
-    → HasIdled shape.format (known two.pass) (known new.pass) two.set.channels two.items.items new.items.items done → HasTakenLine old line new
-line-taken {P} shape known old once first two new line step done is_open runs e read firsts same moved kept has_idled =
-    let stands : IsBefore once line = fed-before old once line is_open e in
-    let heard : ShowsRead once.items.items first.items.items = first-shows once (known once.pass) (known first.pass) first.items.items stands.between firsts in
-    let line_moved = line-moved known first two line step (read-before once first line stands read) runs moved in
-    let behind : ShowsRead two.items.items new.items.items = idle-shows shape.format (known two.pass) (known new.pass) two.set.channels two.items.items new.items.items done has_idled in
-    let front : first.items.items ≡ old.items.items ++ heard.reads = heard.shown ∙ ap (λ (s : Session P). s.items.items ++ heard.reads) e in
-    record {
-      command = runs.0;
-      does = runs.1;
-      section = ap (λ (s : Session P). s.section) kept ∙ same.section ∙ ap (λ (s : Session P). s.section) read ∙ ap (λ (s : Session P). s.section) e;
-      heard = heard.reads;
-      reads = heard.are;
-      more = line_moved.more ++ behind.reads;
-      shown = behind.shown ∙ ap (λ (is : List Item). is ++ behind.reads) line_moved.shown ∙ append_assoc first.items.items (Line line.line ∷ line_moved.more) behind.reads
-          ∙ ap (λ (is : List Item). is ++ Line line.line ∷ (line_moved.more ++ behind.reads)) front;
-      one_line = All-append IsNoLine line_moved.more behind.reads line_moved.one_line (reads-no_line behind.reads behind.are);
-      counted = ap (λ (s : Session P). s.done) kept ∙ line_moved.counts ∙ ap (λ (s : Session P). s.done + 1) read ∙ ap (λ (s : Session P). s.done + 1) e;
-      between = ap (λ (s : Session P). s.doing) kept ∙ line_moved.between;
-    }
 
 -- the session is open again
 abbrev pub line-open : {P : Type 0} (old new : Session P) (line : ScriptLine) → IsOpen old → new.section ≡ fed old.section line → new.done ≡ old.done + 1 → new.doing ≡ Lines → IsOpen new

@@ -1,5 +1,5 @@
 -- A session whose script is open: what is to come of it, and how lines are put in.
-use Rattle.std.proofs.Common.{◌≡◌, ℕ, ◌+◌, false, true≢false, List, [], ◌∷◌, ◌++◌, length, drop, fold, Option, Some, None, sym, ap, ◌∙◌, subst, refl, arith, append_assoc}
+use Rattle.std.proofs.Common.{◌≡◌, ℕ, ◌+◌, false, true≢false, List, [], ◌∷◌, ◌++◌, length, drop, fold, Option, None, sym, ap, ◌∙◌, subst, arith, append_assoc}
 use Rattle.std.proofs.lemmas.List.{length-append}
 use lib.Seq.{drop-append_seam}
 use Rattle.pgn_language.specs.declared.scenario.Act.{Act}
@@ -16,7 +16,7 @@ use Rattle.pgn_session.specs.declared.session.Session.{Session}
 use Rattle.pgn_session.specs.declared.doing.FlagPlan.{FlagPlan}
 use Rattle.pgn_session.specs.declared.doing.Doing.{Doing}
 use Rattle.pgn_session.specs.declared.doing.Doing.TheVariants.{Lines}
-use Rattle.pgn_session.specs.Standing.{IsAt, IsFlagBelow, IsRested, IsServedBy, terms_of}
+use Rattle.pgn_session.specs.Standing.{IsFlagBelow, IsRested, IsServedBy, terms_of}
 use Rattle.pgn_session.specs.Whole.{HasAnswer, HasRest, IsSameScript}
 use Rattle.pgn_session.specs.Feed.{EndsByQuit, fed}
 use Rattle.pgn_session.specs.FirstRead.{HasReadTold, IsToReadFirst}
@@ -27,6 +27,7 @@ use Rattle.pgn_session.proofs.FeedLaws.{fed-served, fed-split, notes-append}
 pub stood-rest : {P : Type 0} (shape : Shape) (known : P → Known) (s : Session P) → HasRest shape known s → HasStood shape known s
 stood-rest shape known s h = record { state = h.state; stands = h.stands }
 
+-- a session that has answered stands at some state of the walk
 pub stood-answer : {P : Type 0} (shape : Shape) (known : P → Known) (s : Session P) → HasAnswer shape known s → HasStood shape known s
 stood-answer shape known s h = record { state = h.state; stands = h.stands }
 
@@ -41,6 +42,7 @@ block-at terms plan done block set doing k items e h =
     let rested : IsRested terms plan done block set Lines k items = subst (λ (d : Doing). IsRested terms plan done block set d k items) e h in
     ap (λ (t : State). t.block) rested.stands.holds.stands_fresh.stands.state ∙ rested.here.0.block_state
 
+-- between two lines the walk's block is the session's
 pub rested-block : {P : Type 0} (shape : Shape) (known : P → Known) (s : Session P) → s.doing ≡ Lines → HasRest shape known s → (fold after_item (start s.section) s.items.items).block ≡ s.block.state
 rested-block shape known s e h = block-at (terms_of shape s.section s.patience) s.plan s.done s.block s.set.channels s.doing (known s.pass) s.items.items e h
 
@@ -48,6 +50,7 @@ rested-block shape known s e h = block-at (terms_of shape s.section s.patience) 
 abbrev pub begins-open : {P : Type 0} (s : Session P) → BeginsEmpty s → IsOpen s
 begins-open s h = record { ends = record { front = []; last = h.last; split = h.lines; quits = h.quits }; begun = h.begun; between = h.between }
 
+-- a session that begins has no read to make up for
 pub begins-read : {P : Type 0} (shape : Shape) (known : P → Known) (s : Session P) → HasRest shape known s → BeginsEmpty s → HasReadOutside known s
 begins-read shape known s h begins =
     let terms : Terms = terms_of shape s.section s.patience in
@@ -60,6 +63,7 @@ pub open-comes : {P : Type 0} (s : Session P) → (h : IsOpen s) → drop s.done
 open-comes s h =
     ap (λ (n : ℕ). drop n s.section.lines) h.begun ∙ ap (λ (ls : List ScriptLine). drop (length h.ends.front) ls) h.ends.split ∙ drop-append_seam h.ends.front (h.ends.last ∷ [])
 
+-- to the walk of an open session only the `\quit` is still to come
 pub open-rest : {P : Type 0} (shape : Shape) (known : P → Known) (s : Session P) → (h : IsOpen s) → HasRest shape known s → (fold after_item (start s.section) s.items.items).rest ≡ h.ends.last ∷ []
 open-rest shape known s h rested = rested-rest shape known s rested ∙ open-comes s h
 
@@ -96,6 +100,7 @@ pub before-comes : {P : Type 0} (s : Session P) (line : ScriptLine) → (h : IsB
 before-comes s line h =
     ap (λ (n : ℕ). drop n s.section.lines) h.begun ∙ ap (λ (ls : List ScriptLine). drop (length h.front) ls) h.split ∙ drop-append_seam h.front (line ∷ h.last ∷ [])
 
+-- to that of a session before a line, the line and the `\quit` are
 pub before-rest : {P : Type 0} (shape : Shape) (known : P → Known) (s : Session P) (line : ScriptLine) → (h : IsBefore s line) → HasRest shape known s
     → (fold after_item (start s.section) s.items.items).rest ≡ line ∷ h.last ∷ []
 before-rest shape known s line h rested = rested-rest shape known s rested ∙ before-comes s line h

@@ -19,7 +19,7 @@ use Rattle.pgn_session.specs.declared.doing.IdleDone.TheVariants as idled
 use Rattle.pgn_session.specs.Steps.{HasBegun, HasMoved}
 use Rattle.pgn_session.specs.Parts.{HasIdled, HasQuitFrom}
 use Rattle.pgn_session.specs.Open.{IsOpen}
-use Rattle.pgn_session.proofs.LineTakenLaws.{Moves}
+use Rattle.pgn_session.specs.Whole.{Moves}
 use Rattle.pgn_session.proofs.OpenLaws.{open-comes}
 
 -- a `\quit` was taken: what it shows stands behind what was shown, and the session is over and no listener
@@ -48,6 +48,7 @@ moved-quit plan session patience lines rest doing done counted k l before after 
       left = ap (λ (n : Known). n.mark) begun.0.raised.known ∙ quit-leaves k begun.0.left k.mark refl begun.0.leaves;
     }
 
+-- a step of an open session takes its `\quit`, and the session is over
 pub quit-moved : {P : Type 0} (known : P → Known) (old new : Session P) (step : Step) → (is_open : IsOpen old) → Moves known old new step
     → QuitMoved old.items.items new.items.items is_open.ends.last.line new.doing (known new.pass)
 quit-moved known old new step is_open moved =

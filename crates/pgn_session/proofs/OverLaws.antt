@@ -5,14 +5,12 @@ use Rattle.pgn_journal.specs.declared.tx.Tx.{Tx}
 use Rattle.pgn_model.specs.declared.item.Item.{Item}
 use Rattle.pgn_hub.specs.declared.known.Known.{Known}
 use Rattle.pgn_language.specs.declared.scenario.Section.{Section}
-use Rattle.pgn_model.specs.declared.trace.Trace.{Trace}
 use Rattle.pgn_hub.specs.Shape.{Shape}
 use Rattle.pgn_language.specs.Inputs.{QuitsLast, note_lines_of}
 use Rattle.pgn_model.specs.Walk.{Terms, State, start}
-use Rattle.pgn_model.specs.Trace.{TraceOk, Fresh}
 use Rattle.pgn_model.specs.Legal.{IsFullThere}
 use Rattle.pgn_model.proofs.GrowingLaws.{up_to_date-grows}
-use Rattle.pgn_model.proofs.NextLineLaws.{empty-stands, holds-within, end-is_lawful, end-is_fresh}
+use Rattle.pgn_model.proofs.NextLineLaws.{empty-stands, holds-within}
 use Rattle.pgn_hub.specs.Passes.{IsWithin, opened_pass}
 use Rattle.pgn_hub.specs.Calls.{HasLearned, HasHeard, longer, owes_after}
 use Rattle.pgn_block.specs.Views.{BlockView, idle_view}
@@ -58,18 +56,6 @@ over-heard terms plan done block set from k q items heard h =
     heard.known ∙ ap (λ (seen : List Tx). let p : Known = record k { seen = seen; told = told; signalled = signalled; owes = owes } in p) grown in
     subst (λ (p : Known). IsRested terms plan done block set Over p items) (sym e) (over-more terms plan done block set k items (rest ++ heard.more) told signalled owes (omega arith) h)
 
--- at the end
-over-lawful : (terms : Terms) (plan : FlagPlan) (done : ℕ) (block : BlockView) (set : List (List ℕ)) (k : Known) (items : List Item)
-    → IsRested terms plan done block set Over k items → TraceOk terms (record { session = terms.section.no; db = terms.section.db; items = items; last = k.mark }) k.seen
-over-lawful terms plan done block set k items h =
-    end-is_lawful terms k.seen (record { session = terms.section.no; db = terms.section.db; items = items; last = k.mark }) h.state h.stands.holds.stands_fresh.stands
-    (record { session = refl; database = refl; answered = h.here.0.owes; done = h.here.0.done; mark = h.stands.mark })
-
-over-fresh : (terms : Terms) (plan : FlagPlan) (done : ℕ) (block : BlockView) (set : List (List ℕ)) (k : Known) (items : List Item)
-    → IsRested terms plan done block set Over k items → Fresh terms (record { session = terms.section.no; db = terms.section.db; items = items; last = k.mark }) k.seen
-over-fresh terms plan done block set k items h =
-    end-is_fresh terms k.seen (record { session = terms.section.no; db = terms.section.db; items = items; last = k.mark }) h.state h.stands.holds.stands_fresh h.here.1
-
 -- a session as it begins
 opened-rested : (shape : Shape) (section : Section) (plan : FlagPlan) (patience : ℕ) (k : Known) → k ≡ opened_pass section.no (record { db = section.db; notes = section.note_lines })
     → note_lines_of section.lines ≤ section.note_lines → QuitsLast section.lines → 1 ≤ patience → IsRested (terms_of shape section patience) plan 0 idle_view [] Lines k []
@@ -94,6 +80,7 @@ opened-rested shape section plan patience k e counted quits enough =
       here = (record { owes = refl; block_state = refl; list = refl; tells = record { told = refl; raised = refl; found = refl }; budget = omega (arith, counted); quits_last = quits }, λ idle. tt);
     })
 
+-- a session that is over has rested still where its pass has learned more
 pub learned-at_end : (terms : Terms) (plan : FlagPlan) (done : ℕ) (block : BlockView) (set : List (List ℕ)) (doing : Doing) (k q : Known) (items after : List Item)
     → doing ≡ Over → HasLearned k q → after ≡ items → IsRested terms plan done block set doing k items → IsRested terms plan done block set doing q after
 learned-at_end terms plan done block set doing k q items after over l same h =
@@ -101,6 +88,7 @@ learned-at_end terms plan done block set doing k q items after over l same h =
     (subst (λ (d : Doing). IsRested terms plan done block set d q items) (sym over)
     (over-learned terms plan done block set k q items l (subst (λ (d : Doing). IsRested terms plan done block set d k items) over h)))
 
+-- and where its pass has heard of what another one knows
 pub heard-at_end : (terms : Terms) (plan : FlagPlan) (done : ℕ) (block : BlockView) (set : List (List ℕ)) (doing : Doing) (from k q : Known) (items : List Item)
     → doing ≡ Over → HasHeard from k q → IsRested terms plan done block set doing k items → IsRested terms plan done block set doing q items
 heard-at_end terms plan done block set doing from k q items over heard h =
@@ -114,26 +102,14 @@ over-read terms plan done block set k q items after from to r is_from known h =
     read-rested terms plan done block set Over k q items after from to r h.here.0.dropped is_from known
     (record { state = h.state; stands = h.stands; rest = h.rest; channels = h.channels; here = h.here.0 })
 
+-- and where it has read on to the end
 pub read-at_end : (terms : Terms) (plan : FlagPlan) (done : ℕ) (block : BlockView) (set : List (List ℕ)) (doing : Doing) (k q : Known) (items after : List Item) (from to : ℕ)
     → doing ≡ Over → HasReadOn k q set from to items after → k.mark ≡ Some from → IsWithin k → IsRested terms plan done block set doing k items → IsRested terms plan done block set doing q after
 read-at_end terms plan done block set doing k q items after from to over r is_from known h =
     subst (λ (d : Doing). IsRested terms plan done block set d q after) (sym over)
     (over-read terms plan done block set k q items after from to r is_from known (subst (λ (d : Doing). IsRested terms plan done block set d k items) over h))
 
-pub lawful-at_end : (shape : Shape) (section : Section) (patience : ℕ) (plan : FlagPlan) (done : ℕ) (block : BlockView) (set : List (List ℕ)) (doing : Doing) (k : Known) (items : List Item) (trace : Trace)
-    → trace ≡ record { session = section.no; db = section.db; items = items; last = k.mark } → doing ≡ Over → IsRested (terms_of shape section patience) plan done block set doing k items
-    → TraceOk (terms_of shape section patience) trace k.seen
-lawful-at_end shape section patience plan done block set doing k items trace e over h =
-    subst (λ (t : Trace). TraceOk (terms_of shape section patience) t k.seen) (sym e)
-    (over-lawful (terms_of shape section patience) plan done block set k items (subst (λ (d : Doing). IsRested (terms_of shape section patience) plan done block set d k items) over h))
-
-pub fresh-at_end : (shape : Shape) (section : Section) (patience : ℕ) (plan : FlagPlan) (done : ℕ) (block : BlockView) (set : List (List ℕ)) (doing : Doing) (k : Known) (items : List Item) (trace : Trace)
-    → trace ≡ record { session = section.no; db = section.db; items = items; last = k.mark } → doing ≡ Over → IsRested (terms_of shape section patience) plan done block set doing k items
-    → Fresh (terms_of shape section patience) trace k.seen
-fresh-at_end shape section patience plan done block set doing k items trace e over h =
-    subst (λ (t : Trace). Fresh (terms_of shape section patience) t k.seen) (sym e)
-    (over-fresh (terms_of shape section patience) plan done block set k items (subst (λ (d : Doing). IsRested (terms_of shape section patience) plan done block set d k items) over h))
-
+-- a session has rested as it begins: nothing is shown, the block is idle, the set is empty
 pub begins-rested : (shape : Shape) (section : Section) (plan : FlagPlan) (patience : ℕ) (block : BlockView) (set : List (List ℕ)) (k : Known) (items : List Item)
     → k ≡ opened_pass section.no (record { db = section.db; notes = section.note_lines }) → note_lines_of section.lines ≤ section.note_lines → QuitsLast section.lines
     → 1 ≤ patience → block ≡ idle_view → set ≡ [] → items ≡ [] → IsRested (terms_of shape section patience) plan 0 block set Lines k items

@@ -1,5 +1,5 @@
 -- A read that was made, and a session that need not read.
-use Rattle.std.proofs.Common.{◌≡◌, ◌≢◌, ℕ, ◌≤◌, max, Bool, true, false, cond, nat_lt, ltb-true, ltb-false, List, [], ◌∷◌, ◌++◌, append_assoc, Option, Some, None, IfSome, Contains, sym, ap, ◌∙◌, refl, subst, arith}
+use Rattle.std.proofs.Common.{◌≡◌, ℕ, ◌≤◌, max, Bool, true, false, cond, nat_lt, ltb-true, ltb-false, List, [], ◌∷◌, ◌++◌, append_assoc, Option, Some, None, IfSome, Contains, sym, ap, ◌∙◌, refl, subst, arith}
 use Rattle.std.proofs.lemmas.List.Elements.{All-push, All-contains, Contains-push}
 use Rattle.pgn_base.specs.declared.format.Format.{Format}
 use Rattle.pgn_base.specs.declared.note.Delivery.{Delivery}
@@ -14,7 +14,7 @@ use Rattle.pgn_journal.specs.Near.{Near}
 use Rattle.pgn_model.specs.Walk.{Terms, State}
 use Rattle.pgn_model.specs.Legal.{IsFullThere}
 use Rattle.pgn_model.specs.laws.NextLine.{StandsFresh, MayReadTo}
-use Rattle.pgn_model.proofs.NextLineLaws.{idle-reads, await-reads, end-reads, no_listener-is_up_to_date, reader-is_up_to_date, quiet-is_up_to_date, finished-more}
+use Rattle.pgn_model.proofs.NextLineLaws.{idle-reads, await-reads, end-reads, reader-is_up_to_date, quiet-is_up_to_date, finished-more}
 use Rattle.pgn_hub.specs.Calls.{HasLearned, HasWoken}
 use Rattle.pgn_hub.specs.Passes.{IsWithin}
 use Rattle.pgn_block.specs.Views.{BlockView}
@@ -23,7 +23,7 @@ use Rattle.pgn_session.specs.declared.doing.Doing.{Doing}
 use Rattle.pgn_session.specs.declared.doing.Doing.TheVariants.{Lines, Committing, Awaiting, Ending, Over}
 use Rattle.pgn_session.specs.Parts.{HasReadOn, with_read}
 use Rattle.pgn_session.specs.Standing.{StandsAt, HasAnswered, IsAnswered, IsRested}
-use Rattle.pgn_session.proofs.KnownLaws.{stands-grows, stands-learned, IsSameTold, answered-same, told-below, answered-rested, answered-in_block, members-push, members-again}
+use Rattle.pgn_session.proofs.KnownLaws.{stands-grows, stands-learned, IsSameTold, answered-same, told-below, answered-rested, members-push, members-again}
 
 -- a pass that has looked at its wake
 pub stands-woken : (terms : Terms) (k q : Known) (items : List Item) (s : State) (woken : Bool) → HasWoken terms.settings.format k q woken → StandsAt terms k items s → StandsAt terms q items s
@@ -72,6 +72,7 @@ woken-answered terms plan done block set doing k q items woken w h = record {
   here = answered-same terms plan block k q h.state doing (same-woken terms k q woken w) h.here;
 }
 
+-- a session has answered still where its pass has learned more
 pub learned-answered : (terms : Terms) (plan : FlagPlan) (done : ℕ) (block : BlockView) (set : List (List ℕ)) (doing : Doing) (k q : Known) (items : List Item)
     → HasLearned k q → IsAnswered terms plan done block set doing k items → IsAnswered terms plan done block set doing q items
 learned-answered terms plan done block set doing k q items l h = record {
@@ -105,28 +106,6 @@ quiet-rested terms plan done block set doing k q items w h =
           (answered-same terms plan block k q h.state doing (same-woken terms k q false w) h.here)
           (quiet-is_up_to_date terms q.seen h.state k.told (told-below terms plan block k h.state doing h.here) near);
     }
-
--- who is no listener has rested
-pub out-rested : (terms : Terms) (plan : FlagPlan) (done : ℕ) (block : BlockView) (set : List (List ℕ)) (doing : Doing) (k : Known) (items : List Item)
-    → k.mark ≡ None → IsAnswered terms plan done block set doing k items → IsRested terms plan done block set doing k items
-out-rested terms plan done block set doing k items out h = record {
-  state = h.state;
-  stands = h.stands;
-  rest = h.rest;
-  channels = h.channels;
-  here = answered-rested terms plan block k h.state doing h.here (no_listener-is_up_to_date terms k.seen h.state (h.stands.mark ∙ out));
-}
-
--- in a block a session has rested
-pub in_block-rested : (terms : Terms) (plan : FlagPlan) (done : ℕ) (block : BlockView) (set : List (List ℕ)) (doing : Doing) (k : Known) (items : List Item)
-    → block.state ≢ Idle → IsAnswered terms plan done block set doing k items → IsRested terms plan done block set doing k items
-in_block-rested terms plan done block set doing k items busy h = record {
-  state = h.state;
-  stands = h.stands;
-  rest = h.rest;
-  channels = h.channels;
-  here = answered-in_block terms plan block k h.state doing busy h.here;
-}
 
 -- a read may be shown wherever a session has answered and no block is open
 read-shown : (terms : Terms) (plan : FlagPlan) (block : BlockView) (k : Known) (seen : List Tx) (items : List Item) (s : State) (doing : Doing) (from to : ℕ)

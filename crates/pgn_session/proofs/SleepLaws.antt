@@ -52,6 +52,7 @@ answer-slept {P} shape known old new micros same h =
     subst (λ (s : Session P). HasAnswer shape known s) (sym same)
     (record { state = h.state; stands = h.stands; rest = h.rest; channels = h.channels; here = slept-answered (terms_of shape old.section old.patience) old.plan old.block (known old.pass) h.state micros old.doing h.here })
 
+-- a sleep that was counted keeps a session rested
 pub rest-slept : {P : Type 0} (shape : Shape) (known : P → Known) (old new : Session P) (micros : ℕ) → new ≡ record old { doing = slept_doing old.patience micros old.doing } → HasRest shape known old → HasRest shape known new
 rest-slept {P} shape known old new micros same h =
     subst (λ (s : Session P). HasRest shape known s) (sym same)
@@ -65,6 +66,7 @@ rested-below shape terms plan block k s (Awaiting flag looks) served h = awaited
 rested-below shape terms plan block k s (Ending found looks) served h = tt
 rested-below shape terms plan block k s Over served h = tt
 
+-- the hub has the flag that a rested session awaits
 pub rest-below : {P : Type 0} (shape : Shape) (known : P → Known) (s : Session P) → IsServedBy shape s.section s.plan → HasRest shape known s → IsAwaitedBelow shape.flags s.doing
 rest-below shape known s served h = rested-below shape (terms_of shape s.section s.patience) s.plan s.block (known s.pass) h.state s.doing served h.here
 
@@ -76,5 +78,6 @@ doing-unslept patience (Awaiting flag looks) = ap (λ (n : ℕ). Awaiting flag n
 doing-unslept patience (Ending found looks) = ap (λ (n : ℕ). Ending found n) (omega arith)
 doing-unslept patience Over = refl
 
+-- a sleep of no time counts nothing
 pub unslept-same : {P : Type 0} (s : Session P) → s ≡ slept 0 s
 unslept-same {P} s = sym (ap (λ (d : Doing). record s { doing = d }) (doing-unslept s.patience s.doing))

@@ -93,6 +93,7 @@ rows-asked Idle live set other h = absurd h
 rows-asked InBlock live set other h = absurd h
 rows-asked Failed live set other h = absurd h
 
+-- a block answers with the channels only where they were asked for
 pub channels-asked : (terms : Terms) (plan : FlagPlan) (done : ℕ) (block next : BlockView) (set : List (List ℕ)) (k : Known) (items : List Item) (c : Command)
     → IsRested terms plan done block set Lines k items → HasTaken block c (effect.Query ListeningChannels) next → c ≡ command.ListeningChannels
 channels-asked terms plan done block next set k items c h taken =

@@ -30,12 +30,14 @@ counts terms plan done block set (Awaiting flag looks) k items h = tt
 counts terms plan done block set (Ending first looks) k items h = h.here.0.3
 counts terms plan done block set Over k items h = tt
 
+-- a step that came to waiting waits as its place says
 pub came-waiting : {P E : Type 0} (shape : Shape) (known : P → Known) (old new : Session P) (r : Result Step E) → Came shape known old new r → r ≡ Ok Waiting → Waits old.plan old.patience (known old.pass) (known new.pass) new.doing
 came-waiting shape known old new (Ok step) c is =
     moved-waits old.plan old.section.no old.patience (drop old.done old.section.lines) old.doing old.done new.done (known old.pass) (known new.pass) old.items.items new.items.items new.doing step c.stepped.moved
     (let e : step ≡ Waiting = cc in e)
 came-waiting shape known old new (Err e) c is = absurd (let no : ⊥ = cc in no)
 
+-- a step came to the end just where its place says that it ends
 pub came-ended : {P E : Type 0} (shape : Shape) (known : P → Known) (old new : Session P) (r : Result Step E) → Came shape known old new r → HasRest shape known old
     → (r ≡ Ok Ended) ↔ Ends old.plan old.patience old.doing (known new.pass)
 came-ended shape known old new (Ok step) c h =
@@ -55,6 +57,7 @@ line-moved plan session patience lines rest line number act done counted k q bef
       one,
     )
 
+-- a line that was begun and answered is a step from between two lines
 pub line-stepped : {P : Type 0} (shape : Shape) (known : P → Known) (old new : Session P) (line : ℕ) (act : Act) (step : Step) → ComesWith old line act → IsSameScript old new → new.done ≡ old.done + 1
     → HasAnswer shape known new → (step ≡ Ended → HasRest shape known new)
     → HasBegun old.plan old.section.no old.patience line act (known old.pass) (known new.pass) old.items.items new.items.items new.doing step → HasStepped shape known old Lines new step
@@ -85,11 +88,13 @@ stepped-from shape known s new between stood step e h = record {
   moved = subst (λ (d : Doing). HasMoved s.plan s.section.no s.patience (drop s.done s.section.lines) d s.done new.done (known s.pass) (known new.pass) s.items.items new.items.items new.doing step) (sym e) h.moved;
 }
 
+-- a step from the place that was taken out is a step from where the session stood
 pub stepped-at : {P E : Type 0} (shape : Shape) (known : P → Known) (s new : Session P) (between stood : Doing) (r : Result Step E) → s.doing ≡ stood
     → IfOk r (λ step. HasStepped shape known (record s { doing = between }) stood new step) → IfOk r (λ step. HasStepped shape known s s.doing new step)
 stepped-at shape known s new between stood (Ok step) e h = stepped-from shape known s new between stood step e h
 stepped-at shape known s new between stood (Err x) e h = tt
 
+-- so is a step from there that was refused
 pub refused-at : {P E : Type 0} (shape : Shape) (known : P → Known) (s new : Session P) (between stood : Doing) (r : Result Step E) → s.doing ≡ stood
     → OnErr r (HasRefused shape known (record s { doing = between }) stood new) → OnErr r (HasRefused shape known s s.doing new)
 refused-at shape known s new between stood (Ok step) e h = tt

@@ -13,6 +13,13 @@ use Rattle.pgn_model.specs.declared.item.Item.TheVariants.{Line, Enlist, Publish
 use Rattle.pgn_hub.specs.Shape.{Shape}
 use Rattle.pgn_model.specs.laws.NextLine.{is_enlisting, is_leaving}
 use Rattle.pgn_hub.specs.Calls.{HasEnlisted, HasInterest, HasPublished, HasMetFull, HasLeft}
+use Rattle.pgn_session.specs.declared.commit.Commit.{Commit}
+use Rattle.pgn_session.specs.declared.doing.Doing.{Doing}
+use Rattle.pgn_session.specs.declared.doing.Doing.TheVariants.{Committing}
+
+-- a session stands so that keeps this commit, since memory did not suffice for it
+abbrev pub committing : Commit → Doing
+committing commit = Committing commit.actions commit.notes commit.tag
 
 -- the session has become a listener, where it was to
 abbrev pub HasJoined : Bool → Known → Known → Option Enlisted → Type 0

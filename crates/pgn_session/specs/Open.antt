@@ -1,19 +1,18 @@
 -- A session whose script is open: a `\quit` ends it, and before that lines are put in and taken, one after another.
-use Rattle.std.specs.Prelude.{◌≡◌, ℕ, ◌+◌, ◌⊎◌, List, [], ◌∷◌, ◌++◌, length, All}
+use Rattle.std.specs.Prelude.{◌≡◌, ◌+◌, ◌⊎◌, List, [], ◌∷◌, ◌++◌, length}
 use Rattle.pgn_base.specs.declared.command.Command.{Command}
 use Rattle.pgn_answers.specs.declared.block_state.BlockState.TheVariants.{Idle}
 use Rattle.pgn_language.specs.declared.scenario.Act.TheVariants.{Run, Quit}
 use Rattle.pgn_language.specs.declared.scenario.ScriptLine.{ScriptLine}
 use Rattle.pgn_language.specs.declared.scenario.Section.{Section}
 use Rattle.pgn_model.specs.declared.item.Item.{Item}
-use Rattle.pgn_model.specs.declared.item.Item.TheVariants.{Line, Read}
+use Rattle.pgn_model.specs.declared.item.Item.TheVariants.{Read}
 use Rattle.pgn_model.specs.Walk.{State}
 use Rattle.pgn_hub.specs.declared.known.Known.{Known}
 use Rattle.pgn_hub.specs.Shape.{Shape}
 use Rattle.pgn_session.specs.declared.session.Session.{Session}
 use Rattle.pgn_session.specs.declared.doing.Doing.TheVariants.{Lines}
 use Rattle.pgn_session.specs.Standing.{StandsAt, terms_of}
-use Rattle.pgn_session.specs.Steps.{IsNoLine}
 use Rattle.pgn_session.specs.Feed.{EndsByQuit, fed}
 use Rattle.pgn_session.specs.FirstRead.{HasReadTold}
 
@@ -75,17 +74,3 @@ pub record ShowsRead (before after : List Item) : Type 0 where
   pub reads : List Item
   pub shown : after ≡ before ++ reads
   pub are : IsReadAtMost reads
-
--- the line was put in and taken: behind what was heard before it, it shows its items, no other line begins among them, and the session is
--- open again
-pub record HasTakenLine {P : Type 0} (old : Session P) (line : ScriptLine) (new : Session P) : Type 0 where
-  pub command : Command
-  pub does : line.act ≡ Run command
-  pub section : new.section ≡ fed old.section line
-  pub heard : List Item
-  pub reads : IsReadAtMost heard
-  pub more : List Item
-  pub shown : new.items.items ≡ (old.items.items ++ heard) ++ Line line.line ∷ more
-  pub one_line : All IsNoLine more
-  pub counted : new.done ≡ old.done + 1
-  pub between : new.doing ≡ Lines

@@ -77,6 +77,10 @@ pub record HasTaken (old : BlockView) (command : Command) (effect : Effect) (new
   pub leaves : (changes : List Change) (set : List (List ℕ)) → StandsFor changes old.kept
       → StandsFor (list_after changes command (answer old.state (live_names changes) set command)) new.kept
 
+-- the items after a line that asks for the channels
+abbrev pub rows_items : List Item → ℕ → List (List ℕ) → ℕ → List Item
+rows_items items line names count = items ++ item.Line line ∷ [] ++ item.Channels names ∷ [] ++ item.Reply (tag.Select count) None ∷ []
+
 -- the items after a line that the block has answered so, where the set is this
 abbrev pub answered_items : List Item → ℕ → List (List ℕ) → Effect → List Item
 answered_items items line set effect.Nothing = items ++ item.Line line ∷ []

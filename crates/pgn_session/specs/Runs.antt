@@ -1,5 +1,5 @@
 -- What holds of a session before it runs, while it takes turns, and once it has run.
-use Rattle.std.specs.Prelude.{◌≡◌, ◌⊎◌, ℕ, List, Contains}
+use Rattle.std.specs.Prelude.{◌≡◌, ◌⊎◌, ◌≤◌, ℕ, List, map, Contains}
 use Rattle.pgn_hub.specs.declared.known.Known.{Known}
 use Rattle.pgn_language.specs.declared.scenario.Section.{Section}
 use Rattle.pgn_hub.specs.Shape.{Shape}
@@ -57,6 +57,10 @@ pub record IsHeld {P : Type 0} (is_own : P → Type 0) (shape : Shape) (s : Sess
 -- the session, once a sleep of so many microseconds was counted
 abbrev pub slept : {P : Type 0} → ℕ → Session P → Session P
 slept micros s = record s { doing = slept_doing s.patience micros s.doing }
+
+-- a sleep of the same time was counted for each session, of so many microseconds at most
+abbrev pub HaveSlept : {P : Type 0} → ℕ → List (Session P) → List (Session P) → Type 0
+HaveSlept longest old new = (micros : ℕ) × (micros ≤ longest) × (new ≡ map (slept micros) old)
 
 -- the session has raised its end flag with what it was told, so that no other waits for it
 abbrev pub HasGivenUp : {P : Type 0} → (P → Known) → Session P → Type 0

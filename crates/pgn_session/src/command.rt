@@ -1,20 +1,28 @@
-ghost use Rattle.std.specs.Prelude.{◌≡◌, ◌+◌, ◌≤◌, ◌<◌, List, [], ◌∷◌, ◌++◌, None, drop, length, IfOk, OnOk, OnErr, vec_len, vec_capacity};
+ghost use Rattle.std.specs.Prelude.{◌≡◌, ◌+◌, ◌≤◌, ◌<◌, List, [], ◌∷◌, ◌++◌, drop, length, IfOk, OnOk, OnErr, vec_len, vec_capacity};
 ghost use Rattle.pgn_language.specs.declared.scenario.Act.TheVariants as act;
 ghost use Rattle.pgn_language.specs.declared.scenario.ScriptLine.{ScriptLine};
+ghost use Rattle.pgn_session.specs.Commits.{committing};
 ghost use Rattle.pgn_session.specs.FirstRead.{HasReadFor};
 ghost use Rattle.pgn_session.specs.declared.doing.Doing.TheVariants as doing;
-ghost use Rattle.pgn_session.specs.Parts.{HasTaken, HasShownUsage};
-ghost use Rattle.pgn_session.specs.Whole.{HasRest, RestsAt, ComesWith, HasStepped, HasRefused};
+ghost use Rattle.pgn_session.specs.Parts.{HasTaken, HasShownUsage, rows_items};
+ghost use Rattle.pgn_session.specs.Whole.{HasRest, RestsAt, ComesWith, HasStepped, HasRefused, StepsBetween, StaysBetween};
 
-use crate::commit::commit;
+use crate::commit::Commit;
 use crate::line::measure;
 use crate::{Doing, Session, Step};
-use pgn_base::{Actions, Command, ListenSet, Names, Notes, Tag};
+use pgn_base::{Command, ListenSet, Names, Tag};
 use pgn_block::{Block, Effect, Kind};
 use pgn_hub::{Hub, PassView};
 use pgn_model::Item;
 use std::alloc::{AllocError, Global};
 use std::sync::Wait;
+
+// The command of the next line, and the line's number.
+#[derive(Drop)]
+pub(crate) struct NextCommand {
+    pub(crate) line: u32,
+    pub(crate) command: Command,
+}
 
 // A line with a command.
 impl<P: PassView + Send + Drop> Session<P> {
@@ -24,19 +32,19 @@ impl<P: PassView + Send + Drop> Session<P> {
         rt: &R,
         alloc: Global,
         hub: &H,
-        line: u32,
-        command: Command,
+        next: NextCommand,
     ) -> Result<Step, AllocError>
         requires own { H.is_pass hub.now self.old.pass }
         requires place { self.old.doing ≡ doing.Lines }
         requires rested { HasRest (H.shape hub.now) P.known self.old }
-        requires comes { ComesWith self.old line (act.Run command) }
-        requires read_first { HasReadFor (act.Run command) self.old.block.state (P.known self.old.pass) }
+        requires comes { ComesWith self.old next.line (act.Run next.command) }
+        requires read_first { HasReadFor (act.Run next.command) self.old.block.state (P.known self.old.pass) }
         requires counted { self.old.done < usize.MAX }
         ensures own { H.is_pass hub.now self.new.pass }
-        ensures stepped { IfOk result (λ step. HasStepped (H.shape hub.now) P.known self.old doing.Lines self.new step) }
-        ensures refused { OnErr result (HasRefused (H.shape hub.now) P.known self.old doing.Lines self.new) }
+        ensures stepped { IfOk result (StepsBetween (H.shape hub.now) P.known self.old self.new) }
+        ensures refused { OnErr result (StaysBetween (H.shape hub.now) P.known self.old self.new) }
     {
+        let NextCommand { line, command } = next;
         let taken = take(alloc, &mut self.block, &self.set, &mut self.items, command)?;
         let Taken { effect, rows } = taken;
         match effect {
@@ -67,7 +75,12 @@ impl<P: PassView + Send + Drop> Session<P> {
                 tag,
             } => {
                 drop(rows);
-                self.commit(rt, hub, actions, notes, tag)
+                let commit = Commit {
+                    actions,
+                    notes,
+                    tag,
+                };
+                self.commit(rt, hub, commit)
             }
         }
     }
@@ -104,7 +117,7 @@ impl<P: PassView + Send + Drop> Session<P> {
         requires room { vec_len self.old.items + 3 ≤ vec_capacity self.old.items }
         requires counted { self.old.done < usize.MAX }
         ensures same { self.new ≡ record self.old { items = self.new.items; done = self.old.done + 1 } }
-        ensures shown { self.new.items.items ≡ self.old.items.items ++ Item.Line line ∷ [] ++ Item.Channels rows.names ∷ [] ++ Item.Reply (Tag.Select rows.count) None ∷ [] }
+        ensures shown { self.new.items.items ≡ rows_items self.old.items.items line rows.names rows.count }
         ensures did { result ≡ Step.Did }
     {
         show_channels(&mut self.items, line, rows);
@@ -119,7 +132,8 @@ impl<P: PassView + Send + Drop> Session<P> {
         requires counted { self.old.done < usize.MAX }
         ensures own { H.is_pass hub.now self.new.pass }
         ensures same { self.new ≡ record self.old { pass = self.new.pass; items = self.new.items; done = self.old.done + 1 } }
-        ensures measured { HasShownUsage (H.shape hub.now) (P.known self.old.pass) (P.known self.new.pass) line self.old.items.items self.new.items.items }
+        ensures measured { HasShownUsage (H.shape hub.now) (P.known self.old.pass) (P.known self.new.pass)
+            line self.old.items.items self.new.items.items }
         ensures did { result ≡ Step.Did }
     {
         measure(rt, hub, &mut self.pass, &mut self.items, line);
@@ -132,18 +146,21 @@ impl<P: PassView + Send + Drop> Session<P> {
         &mut self,
         rt: &R,
         hub: &H,
-        actions: Actions,
-        notes: Notes,
-        tag: Tag,
+        commit: Commit,
     ) -> Result<Step, AllocError>
         requires own { H.is_pass hub.now self.old.pass }
         requires place { self.old.doing ≡ doing.Lines }
-        requires rested { RestsAt (H.shape hub.now) P.known self.old (doing.Committing actions notes tag) }
+        requires rested { RestsAt (H.shape hub.now) P.known self.old (committing commit) }
         ensures own { H.is_pass hub.now self.new.pass }
-        ensures stepped { IfOk result (λ step. HasStepped (H.shape hub.now) P.known self.old (doing.Committing actions notes tag) self.new step) }
-        ensures refused { OnErr result (HasRefused (H.shape hub.now) P.known self.old (doing.Committing actions notes tag) self.new) }
+        ensures stepped { IfOk result (λ step. HasStepped (H.shape hub.now) P.known self.old (committing commit) self.new step) }
+        ensures refused { OnErr result (HasRefused (H.shape hub.now) P.known self.old (committing commit) self.new) }
     {
-        if self.make_room(actions.as_slice().len()).is_err() {
+        if self.make_room(commit.actions.as_slice().len()).is_err() {
+            let Commit {
+                actions,
+                notes,
+                tag,
+            } = commit;
             self.doing = Doing::Committing {
                 actions,
                 notes,
@@ -152,17 +169,7 @@ impl<P: PassView + Send + Drop> Session<P> {
             return Err(AllocError);
         }
         let line = self.next_number();
-        commit(
-            rt,
-            hub,
-            &mut self.pass,
-            &mut self.set,
-            &mut self.items,
-            line,
-            actions,
-            notes,
-            tag,
-        );
+        self.carry_out(rt, hub, line, commit);
         self.done += 1;
         Ok(Step::Did)
     }
@@ -170,7 +177,8 @@ impl<P: PassView + Send + Drop> Session<P> {
     // The number of the next line.
     fn next_number(&self) -> u32
         requires more { self.now.done < length self.now.section.lines }
-        ensures number { (next : ScriptLine) (rest : List ScriptLine) → drop self.now.done self.now.section.lines ≡ next ∷ rest → result ≡ next.line }
+        ensures number { (next : ScriptLine) (rest : List ScriptLine)
+            → drop self.now.done self.now.section.lines ≡ next ∷ rest → result ≡ next.line }
         ensures counted { self.now.done < usize.MAX }
     {
         self.section.lines.as_slice()[self.done].line
@@ -205,7 +213,8 @@ fn take(
     command: Command,
 ) -> Result<Taken, AllocError>
     ensures taken { IfOk result (λ taken. HasTaken block.old command taken.effect block.new) }
-    ensures names { IfOk result (λ taken. command ≡ Command.ListeningChannels → taken.rows.names ≡ set.now.channels) }
+    ensures names { IfOk result (λ taken. command ≡ Command.ListeningChannels
+        → taken.rows.names ≡ set.now.channels) }
     ensures count { IfOk result (λ taken. taken.rows.count ≡ length taken.rows.names) }
     ensures unchanged { OnErr result (block.new ≡ block.old) }
     ensures items { items.new.items ≡ items.old.items }
@@ -237,7 +246,8 @@ struct Rows {
 
 // The rows that a command may ask for. More than a tag can count have no place in memory.
 fn rows_for(alloc: Global, command: &Command, set: &ListenSet) -> Result<Rows, AllocError>
-    ensures names { IfOk result (λ rows. command.now ≡ Command.ListeningChannels → rows.names ≡ set.now.channels) }
+    ensures names { IfOk result (λ rows. command.now ≡ Command.ListeningChannels
+        → rows.names ≡ set.now.channels) }
     ensures count { IfOk result (λ rows. rows.count ≡ length rows.names) }
 {
     let Command::ListeningChannels = command else {
@@ -256,7 +266,7 @@ fn rows_for(alloc: Global, command: &Command, set: &ListenSet) -> Result<Rows, A
 // Records the channels that the session listens to.
 fn show_channels(items: &mut Vec<Item>, line: u32, rows: Rows)
     requires { vec_len items.old + 3 ≤ vec_capacity items.old }
-    ensures { items.new.items ≡ items.old.items ++ Item.Line line ∷ [] ++ Item.Channels rows.names ∷ [] ++ Item.Reply (Tag.Select rows.count) None ∷ [] }
+    ensures { items.new.items ≡ rows_items items.old.items line rows.names rows.count }
 {
     let Rows { names, count } = rows;
     items.push(Item::Line { line }).unwrap();

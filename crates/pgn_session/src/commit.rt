@@ -1,43 +1,63 @@
-ghost use Rattle.std.specs.Prelude.{◌≡◌, ◌≢◌, ◌&&◌, is_some, ◌+◌, ◌≤◌, [], ◌∷◌, ◌++◌, length, Option, Some, None, Ok, Err, AllPairs, IsTrue, vec_len, vec_capacity};
+ghost use Rattle.std.specs.Prelude.{◌≡◌, ◌≢◌, ◌&&◌, is_some, ◌+◌, ◌≤◌, [], ◌∷◌, ◌++◌, length, AllPairs, vec_len, vec_capacity};
 ghost use Rattle.std.specs.List.{list_any};
-ghost use Rattle.pgn_base.specs.Channels.{applied};
 ghost use Rattle.pgn_answers.specs.Savepoints.{is_listen};
 ghost use Rattle.pgn_model.specs.laws.NextLine.{is_enlisting, is_leaving};
 ghost use Rattle.pgn_session.specs.Commits.{HasJoined, HasSent, HasLeftOr, HasCommitted, has_actions, set_after, enlisted_items, sent_items, left_items, ending_item, commit_items};
 
+use crate::Session;
 use pgn_base::{Action, Actions, Enlisted, Full, ListenSet, Note, Notes, Refusal, Tag, Xid};
 use pgn_hub::{Hub, PassView};
 use pgn_model::Item;
 use std::sync::Wait;
 
-/// Commits a transaction, and records its line: the session becomes a listener, where an action listens; the notifications are
-/// sent; the actions take effect, unless the queue was full; a listener whose set is then empty leaves, and another one tells its
-/// channels, where there were actions. It takes no memory.
-pub(crate) fn commit<P: PassView + Send + Drop, H: Hub<Pass = P>, R: Wait>(
-    rt: &R,
-    hub: &H,
-    pass: &mut P,
-    set: &mut ListenSet,
-    items: &mut Vec<Item>,
-    line: u32,
-    actions: Actions,
-    notes: Notes,
-    tag: Tag,
-)
-    requires own { H.is_pass hub.now pass.old }
-    requires different { AllPairs (λ a b. a ≢ b) notes }
-    requires few { length notes ≤ (P.known pass.old).notes_left }
-    requires set_room { length actions ≤ set.old.room }
-    requires room { vec_len items.old + 5 ≤ vec_capacity items.old }
-    ensures own { H.is_pass hub.now pass.new }
-    ensures committed { HasCommitted (H.shape hub.now) (P.known pass.old) (P.known pass.new) set.old.channels set.new.channels line actions notes tag items.old.items items.new.items }
-{
-    let enlisted = enlist_where_it_listens(hub, pass, actions.as_slice());
-    let sent = send(rt, hub, pass, notes.as_slice());
-    let acted = has_actions(actions.as_slice());
-    settle(set, actions, &sent);
-    let left = leave_or_tell(hub, pass, set, acted);
-    show_commit(items, line, enlisted, sent, notes, left, tag);
+/// A commit that the block has handed out: what the transaction did to the listening set, what it sends, and what it is answered.
+#[derive(Drop)]
+pub(crate) struct Commit {
+    pub(crate) actions: Actions,
+    pub(crate) notes: Notes,
+    pub(crate) tag: Tag,
+}
+
+impl<P: PassView + Send + Drop> Session<P> {
+    /// Commits a transaction, and records its line: the session becomes a listener, where an action listens; the notifications are
+    /// sent; the actions take effect, unless the queue was full; a listener whose set is then empty leaves, and another one tells its
+    /// channels, where there were actions. It takes no memory.
+    pub(crate) fn carry_out<H: Hub<Pass = P>, R: Wait>(
+        &mut self,
+        rt: &R,
+        hub: &H,
+        line: u32,
+        commit: Commit,
+    )
+        requires own { H.is_pass hub.now self.old.pass }
+        requires different { AllPairs (λ a b. a ≢ b) commit.notes }
+        requires few { length commit.notes ≤ (P.known self.old.pass).notes_left }
+        requires set_room { length commit.actions ≤ self.old.set.room }
+        requires room { vec_len self.old.items + 5 ≤ vec_capacity self.old.items }
+        ensures own { H.is_pass hub.now self.new.pass }
+        ensures same { self.new
+            ≡ record self.old { pass = self.new.pass; set = self.new.set; items = self.new.items } }
+        ensures committed { HasCommitted (H.shape hub.now)
+            (P.known self.old.pass) (P.known self.new.pass) self.old.set.channels self.new.set.channels line commit.actions commit.notes commit.tag
+            self.old.items.items self.new.items.items }
+    {
+        let Commit {
+            actions,
+            notes,
+            tag,
+        } = commit;
+        let enlisted = enlist_where_it_listens(hub, &mut self.pass, actions.as_slice());
+        let sent = send(rt, hub, &mut self.pass, notes.as_slice());
+        let acted = has_actions(actions.as_slice());
+        settle(&mut self.set, actions, &sent);
+        let left = leave_or_tell(hub, &mut self.pass, &self.set, acted);
+        let outcome = Outcome {
+            enlisted,
+            sent,
+            left,
+        };
+        show_commit(&mut self.items, line, outcome, notes, tag);
+    }
 }
 
 // An action is a LISTEN.
@@ -72,7 +92,8 @@ fn enlist_where_it_listens<P: PassView + Send + Drop, H: Hub<Pass = P>>(
 ) -> Option<Enlisted>
     requires own { H.is_pass hub.now pass.old }
     ensures own { H.is_pass hub.now pass.new }
-    ensures joined { HasJoined (is_enlisting actions.now (P.known pass.old).mark) (P.known pass.old) (P.known pass.new) result }
+    ensures joined { HasJoined (is_enlisting actions.now (P.known pass.old).mark)
+        (P.known pass.old) (P.known pass.new) result }
     ensures notes { (P.known pass.new).notes_left ≡ (P.known pass.old).notes_left }
 {
     if !is_to_enlist(actions, pass.mark()) {
@@ -128,7 +149,8 @@ fn leave_or_tell<P: PassView + Send + Drop, H: Hub<Pass = P>>(
     requires own { H.is_pass hub.now pass.old }
     ensures own { H.is_pass hub.now pass.new }
     ensures result { result ≡ is_leaving (P.known pass.old).mark set.now.channels }
-    ensures left { HasLeftOr (is_leaving (P.known pass.old).mark set.now.channels) (is_some (P.known pass.old).mark && acted) set.now.channels (P.known pass.old) (P.known pass.new) }
+    ensures left { HasLeftOr (is_leaving (P.known pass.old).mark set.now.channels)
+        (is_some (P.known pass.old).mark && acted) set.now.channels (P.known pass.old) (P.known pass.new) }
 {
     if pass.mark().is_none() {
         return false;
@@ -144,19 +166,26 @@ fn leave_or_tell<P: PassView + Send + Drop, H: Hub<Pass = P>>(
     false
 }
 
-// Records a commit.
-fn show_commit(
-    items: &mut Vec<Item>,
-    line: u32,
+// What a commit has come to at the hub: whether the session has become a listener, what came of the notifications, and whether it has
+// left.
+#[derive(Clone, Copy)]
+struct Outcome {
     enlisted: Option<Enlisted>,
     sent: Option<Result<Xid, Full>>,
-    notes: Notes,
     left: bool,
-    tag: Tag,
-)
+}
+
+// Records a commit.
+fn show_commit(items: &mut Vec<Item>, line: u32, outcome: Outcome, notes: Notes, tag: Tag)
     requires { vec_len items.old + 5 ≤ vec_capacity items.old }
-    ensures { items.new.items ≡ commit_items items.old.items line enlisted sent notes left tag }
+    ensures { items.new.items
+        ≡ commit_items items.old.items line outcome.enlisted outcome.sent notes outcome.left tag }
 {
+    let Outcome {
+        enlisted,
+        sent,
+        left,
+    } = outcome;
     items.push(Item::Line { line }).unwrap();
     show_enlisted(items, enlisted);
     show_sent(items, &sent, notes);

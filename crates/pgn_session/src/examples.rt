@@ -1,6 +1,6 @@
 //! Examples in numbers of what a step did and came to, and beside each what is refused. The passes are those of `pgn_hub`'s examples:
 //! session 1 listens, the flag 0 was raised with the number 4, and nobody raised the flag 1.
-ghost use Rattle.std.specs.Prelude.{◌≡◌, [], ◌∷◌, Some, None};
+ghost use Rattle.std.specs.Prelude.{◌≡◌, [], ◌∷◌, None};
 ghost use Rattle.pgn_hub.specs.Examples.{both_notes, opened_2, published, listening, woken_1, found_0, found_none};
 ghost use Rattle.pgn_session.specs.Steps.{HasTurned, ShowsLine, AnswersLine, Waits, Ends, StandsStill};
 ghost use Rattle.pgn_session.specs.Sleep.{slept_doing, slept_for};

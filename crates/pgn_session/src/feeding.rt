@@ -21,7 +21,8 @@ impl<P: PassView + Send + Drop> Session<P> {
         requires before_last { self.old.done < length self.old.section.lines }
         requires place { self.old.doing ≡ doing.Lines }
         requires goes_on { line.act ≢ act.Quit }
-        requires few { note_lines_of (line ∷ []) + note_lines_of self.old.section.lines ≤ self.old.section.note_lines }
+        requires few { note_lines_of (line ∷ []) + note_lines_of self.old.section.lines
+            ≤ self.old.section.note_lines }
         ensures fed { OnOk result (self.new ≡ record self.old { section = fed self.old.section line }) }
         ensures unchanged { OnErr result (self.new ≡ self.old) }
         ensures rested { (shape : Shape) → HasRest shape P.known self.old → OnOk result (HasRest shape P.known self.new) }

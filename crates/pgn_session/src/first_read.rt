@@ -1,12 +1,12 @@
-ghost use Rattle.std.specs.Prelude.{◌≡◌, ◌↔◌, drop, IsTrue, OnOk, OnErr};
+ghost use Rattle.std.specs.Prelude.{◌≡◌, ◌↔◌, IsTrue, OnOk, OnErr};
 ghost use Rattle.pgn_answers.specs.declared.block_state.BlockState.TheVariants.{Idle};
 ghost use Rattle.pgn_hub.specs.Calls.{HasLearned};
 ghost use Rattle.pgn_model.specs.Trace.{reads_first};
 ghost use Rattle.pgn_session.specs.FirstRead.{IsToReadFirst, HasReadFirst, HasReadTold};
-ghost use Rattle.pgn_session.specs.Parts.{Begins, HasFinished};
-ghost use Rattle.pgn_session.specs.Whole.{HasRest};
+ghost use Rattle.pgn_session.specs.Parts.{Begins};
+ghost use Rattle.pgn_session.specs.Whole.{FinishesAs, HasRest};
 
-use crate::reading::read_on;
+use crate::reading::{Reading, read_on};
 use crate::{Doing, Session};
 use pgn_answers::BlockState;
 use pgn_base::Command;
@@ -51,7 +51,7 @@ impl<P: PassView + Send + Drop> Session<P> {
         ensures own { H.is_pass hub.now self.new.pass }
         ensures rested { HasRest (H.shape hub.now) P.known self.new }
         ensures same { self.new ≡ record self.old { pass = self.new.pass; items = self.new.items } }
-        ensures finished { OnOk result (HasFinished (P.known self.old.pass) (P.known self.new.pass) self.old.set.channels self.old.items.items self.new.items.items) }
+        ensures finished { OnOk result (FinishesAs P.known self.old self.new) }
         ensures read_up { OnOk result (HasReadTold (P.known self.new.pass)) }
         ensures grows { Begins self.old.items.items self.new.items.items }
         ensures refused { OnErr result (HasLearned (P.known self.old.pass) (P.known self.new.pass)) }
@@ -60,7 +60,8 @@ impl<P: PassView + Send + Drop> Session<P> {
         let Some(from) = self.pass.mark() else {
             return Ok(());
         };
-        let _to = read_on(hub, alloc, &mut self.pass, &self.set, &mut self.items, from)?;
+        let reading = Reading { hub, alloc, from };
+        let _to = read_on(reading, &mut self.pass, &self.set, &mut self.items)?;
         Ok(())
     }
 

@@ -1,5 +1,5 @@
-ghost use Rattle.std.specs.Prelude.{◌≡◌, ◌+◌, ◌≤◌, ◌<◌, [], ◌∷◌, ◌++◌, Option, Some, None, vec_len, vec_capacity};
-ghost use Rattle.pgn_hub.specs.Calls.{HasRaised, HasLooked};
+ghost use Rattle.std.specs.Prelude.{◌≡◌, ◌+◌, ◌≤◌, ◌<◌, [], ◌∷◌, ◌++◌, vec_len, vec_capacity};
+ghost use Rattle.pgn_hub.specs.Calls.{HasRaised};
 ghost use Rattle.pgn_session.specs.Parts.{HasQuit, HasShownUsage, looked_items};
 ghost use Rattle.pgn_session.specs.Steps.{HasLookedOn};
 ghost use Rattle.pgn_model.specs.laws.NextLine.{quit_items};
@@ -23,37 +23,17 @@ pub(crate) fn signal<P: PassView + Send + Drop, H: Hub<Pass = P>>(
     requires room { vec_len items.old + 2 ≤ vec_capacity items.old }
     ensures own { H.is_pass hub.now pass.new }
     ensures raised { HasRaised (P.known pass.old) (P.known pass.new) flag (P.known pass.old).told }
-    ensures shown { items.new.items ≡ items.old.items ++ Item.Line line ∷ [] ++ Item.Raise (P.known pass.old).told ∷ [] }
+    ensures shown { items.new.items
+        ≡ items.old.items ++ Item.Line line ∷ [] ++ Item.Raise (P.known pass.old).told ∷ [] }
 {
     items.push(Item::Line { line }).unwrap();
     let value = hub.raise(pass, flag);
     items.push(Item::Raise { value }).unwrap();
 }
 
-/// Looks once at an awaited flag, and records whether it was found, or whether this was the last look that the patience allows:
-/// answers whether the line has its answer. `looks` is how many looks there have been with this one.
-pub(crate) fn look<P: PassView + Send + Drop, H: Hub<Pass = P>>(
-    hub: &H,
-    pass: &mut P,
-    items: &mut Vec<Item>,
-    flag: u32,
-    looks: u64,
-    patience: u64,
-) -> Option<Xid>
-    requires own { H.is_pass hub.now pass.old }
-    requires flag { flag < (H.shape hub.now).flags }
-    requires room { vec_len items.old + 1 ≤ vec_capacity items.old }
-    ensures own { H.is_pass hub.now pass.new }
-    ensures looked { HasLooked (P.known pass.old) (P.known pass.new) flag result }
-    ensures shown { items.new.items ≡ looked_items items.old.items looks patience result }
-{
-    let found = hub.look(pass, flag);
-    show_look(items, &found, looks, patience);
-    found
-}
-
-// Records a look that found something, or the last one.
-fn show_look(items: &mut Vec<Item>, found: &Option<Xid>, looks: u64, patience: u64)
+/// Records a look at an awaited flag that found something, or that was the last one which the patience allows. `looks` is how many looks
+/// there have been with this one.
+pub(crate) fn show_look(items: &mut Vec<Item>, found: &Option<Xid>, looks: u64, patience: u64)
     requires { vec_len items.old + 1 ≤ vec_capacity items.old }
     ensures { items.new.items ≡ looked_items items.old.items looks patience found.now }
 {
@@ -99,7 +79,8 @@ pub(crate) fn measure<P: PassView + Send + Drop, H: Hub<Pass = P>, R: Wait>(
     requires own { H.is_pass hub.now pass.old }
     requires room { vec_len items.old + 3 ≤ vec_capacity items.old }
     ensures own { H.is_pass hub.now pass.new }
-    ensures measured { HasShownUsage (H.shape hub.now) (P.known pass.old) (P.known pass.new) line items.old.items items.new.items }
+    ensures measured { HasShownUsage (H.shape hub.now) (P.known pass.old) (P.known pass.new)
+        line items.old.items items.new.items }
 {
     items.push(Item::Line { line }).unwrap();
     let usage = hub.usage(rt, pass);

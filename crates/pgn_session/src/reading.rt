@@ -7,23 +7,31 @@ use pgn_hub::{Hub, PassView};
 use pgn_model::Item;
 use std::alloc::{AllocError, Global};
 
+/// A read at a hub, on from this mark.
+#[derive(Drop)]
+pub(crate) struct Reading<'a, H> {
+    pub(crate) hub: &'a H,
+    pub(crate) alloc: Global,
+    pub(crate) from: Xid,
+}
+
 /// Reads on from the mark, and records it where the mark has moved: answers the new mark.
 pub(crate) fn read_on<P: PassView + Send + Drop, H: Hub<Pass = P>>(
-    hub: &H,
-    alloc: Global,
+    reading: Reading<'_, H>,
     pass: &mut P,
     set: &ListenSet,
     items: &mut Vec<Item>,
-    from: Xid,
 ) -> Result<Xid, AllocError>
-    requires own { H.is_pass hub.now pass.old }
-    requires mark { (P.known pass.old).mark ≡ Some from }
+    requires own { H.is_pass reading.hub.now pass.old }
+    requires mark { (P.known pass.old).mark ≡ Some reading.from }
     requires interested { (P.known pass.old).set ≡ set.now.channels }
-    ensures own { H.is_pass hub.now pass.new }
-    ensures read { IfOk result (λ to. HasReadOn (P.known pass.old) (P.known pass.new) set.now.channels from to items.old.items items.new.items) }
+    ensures own { H.is_pass reading.entry.hub.now pass.new }
+    ensures read { IfOk result (λ to. HasReadOn (P.known pass.old) (P.known pass.new)
+        set.now.channels reading.entry.from to items.old.items items.new.items) }
     ensures refused { OnErr result (HasLearned (P.known pass.old) (P.known pass.new)) }
     ensures refused_shows_nothing { OnErr result (items.new.items ≡ items.old.items) }
 {
+    let Reading { hub, alloc, from } = reading;
     items.reserve(1)?;
     let mut got = Vec::new(alloc);
     let to = hub.scan(alloc, pass, set, &mut got)?;

@@ -1,4 +1,4 @@
-ghost use Rattle.std.specs.Prelude.{◌≡◌, ◌≢◌, ◌↔◌, ℕ, ◌+◌, ◌≤◌, ◌<◌, true, [], Option, Some, None, Ok, IsSome, IfSome, IfOk, OnOk, OnErr};
+ghost use Rattle.std.specs.Prelude.{◌≡◌, ◌≢◌, ◌↔◌, ◌+◌, ◌≤◌, true, [], None, Ok, IfOk, OnOk, OnErr};
 ghost use Rattle.pgn_answers.specs.declared.block_state.BlockState.TheVariants.{Idle};
 ghost use Rattle.pgn_hub.specs.Shape.{Shape};
 ghost use Rattle.pgn_language.specs.Inputs.{QuitsLast, note_lines_of};
@@ -6,11 +6,11 @@ ghost use Rattle.pgn_model.specs.Trace.{TraceOk, Fresh};
 ghost use Rattle.pgn_hub.specs.Passes.{opened_pass};
 ghost use Rattle.pgn_hub.specs.Calls.{HasLearned, HasHeard, HasRaised, HasWoken};
 ghost use Rattle.pgn_session.specs.Standing.{terms_of, IsServedBy, end_flag};
-ghost use Rattle.pgn_session.specs.Whole.{HasAnswer, HasRest};
-ghost use Rattle.pgn_session.specs.Parts.{Begins, HasIdled, HasFinished};
+ghost use Rattle.pgn_session.specs.Whole.{HasAnswer, HasRest, IdlesAs, FinishesAs};
+ghost use Rattle.pgn_session.specs.Parts.{Begins};
 ghost use Rattle.pgn_session.specs.Runs.{HasGivenUp};
 
-use crate::reading::read_on;
+use crate::reading::{Reading, read_on};
 use crate::{Doing, FlagPlan, IdleDone};
 use pgn_answers::BlockState;
 use pgn_base::{ListenSet, Seed, SessionNo};
@@ -58,12 +58,14 @@ impl<P: PassView + Send + Drop> Session<P> {
         plan: FlagPlan,
         patience: u64,
     ) -> Result<Session<P>, AllocError>
-        requires opened { P.known pass ≡ opened_pass section.no (record { db = section.db; notes = section.note_lines }) }
+        requires opened { P.known pass
+            ≡ opened_pass section.no (record { db = section.db; notes = section.note_lines }) }
         requires counted { note_lines_of section.lines ≤ section.note_lines }
         requires quits_last { QuitsLast section.lines }
         requires patient { 1 ≤ patience }
         ensures rested { IfOk result (λ s. (shape : Shape) → HasRest shape P.known s) }
-        ensures begins { IfOk result (λ s. (s.pass ≡ pass) × (s.section ≡ section) × (s.plan ≡ plan) × (s.patience ≡ patience) × (s.done ≡ 0) × (s.doing ≡ Doing.Lines) × (s.items.items ≡ [])) }
+        ensures begins { IfOk result (λ s. (s.pass ≡ pass) × (s.section ≡ section)
+            × (s.plan ≡ plan) × (s.patience ≡ patience) × (s.done ≡ 0) × (s.doing ≡ Doing.Lines) × (s.items.items ≡ [])) }
     {
         let Ok(items) = first_room(alloc, section.lines.as_slice().len()) else {
             // Dropped here, by calls, before the return.
@@ -93,8 +95,9 @@ impl<P: PassView + Send + Drop> Session<P> {
         ensures refused { OnErr result (HasAnswer (H.shape hub.now) P.known self.new) }
         ensures same { self.new ≡ record self.old { pass = self.new.pass; items = self.new.items } }
         ensures in_block { (result ≡ Ok IdleDone.InBlock) ↔ (self.old.block.state ≢ Idle) }
-        ensures no_listener { (result ≡ Ok IdleDone.NotListening) ↔ (self.old.block.state ≡ Idle) × ((P.known self.old.pass).mark ≡ None) }
-        ensures idled { IfOk result (λ done. HasIdled (H.shape hub.now).format (P.known self.old.pass) (P.known self.new.pass) self.old.set.channels self.old.items.items self.new.items.items done) }
+        ensures no_listener { (result ≡ Ok IdleDone.NotListening)
+            ↔ (self.old.block.state ≡ Idle) × ((P.known self.old.pass).mark ≡ None) }
+        ensures idled { IfOk result (IdlesAs (H.shape hub.now) P.known self.old self.new) }
         ensures grows { Begins self.old.items.items self.new.items.items }
         ensures owed { OnErr result (HasWoken (H.shape hub.now).format (P.known self.old.pass) (P.known self.new.pass) true) }
         ensures unread { OnErr result ((P.known self.new.pass).mark ≡ (P.known self.old.pass).mark) }
@@ -109,7 +112,8 @@ impl<P: PassView + Send + Drop> Session<P> {
         if !hub.woken(&mut self.pass) {
             return Ok(IdleDone::Quiet);
         }
-        let to = read_on(hub, alloc, &mut self.pass, &self.set, &mut self.items, from)?;
+        let reading = Reading { hub, alloc, from };
+        let to = read_on(reading, &mut self.pass, &self.set, &mut self.items)?;
         Ok(IdleDone::Read { to })
     }
 
@@ -126,14 +130,15 @@ impl<P: PassView + Send + Drop> Session<P> {
         ensures own { H.is_pass hub.now self.new.pass }
         ensures rested { HasRest (H.shape hub.now) P.known self.new }
         ensures same { self.new ≡ record self.old { pass = self.new.pass; items = self.new.items } }
-        ensures finished { OnOk result (HasFinished (P.known self.old.pass) (P.known self.new.pass) self.old.set.channels self.old.items.items self.new.items.items) }
+        ensures finished { OnOk result (FinishesAs P.known self.old self.new) }
         ensures refused { OnErr result (HasLearned (P.known self.old.pass) (P.known self.new.pass)) }
         ensures unshown { OnErr result (self.new.items.items ≡ self.old.items.items) }
     {
         let Some(from) = self.pass.mark() else {
             return Ok(());
         };
-        let _to = read_on(hub, alloc, &mut self.pass, &self.set, &mut self.items, from)?;
+        let reading = Reading { hub, alloc, from };
+        let _to = read_on(reading, &mut self.pass, &self.set, &mut self.items)?;
         Ok(())
     }
 
@@ -160,7 +165,8 @@ impl<P: PassView + Send + Drop> Session<P> {
         requires own { H.is_pass hub.now self.old.pass }
         requires served { IsServedBy (H.shape hub.now) self.old.section self.old.plan }
         ensures own { H.is_pass hub.now self.new.pass }
-        ensures raised { HasRaised (P.known self.old.pass) (P.known self.new.pass) (end_flag self.old.plan self.old.section.no) (P.known self.old.pass).told }
+        ensures raised { HasRaised (P.known self.old.pass) (P.known self.new.pass)
+            (end_flag self.old.plan self.old.section.no) (P.known self.old.pass).told }
         ensures gave_up { HasGivenUp P.known self.new }
         ensures same { self.new ≡ record self.old { pass = self.new.pass } }
     {
@@ -171,9 +177,16 @@ impl<P: PassView + Send + Drop> Session<P> {
     /// The pass, and the trace. Where the session is over, the trace is lawful and left no read out.
     pub fn into_log(self) -> (P, Trace)
         ensures pass { result.0 ≡ self.pass }
-        ensures trace { result.1 ≡ record { session = self.section.no; db = self.section.db; items = self.items.items; last = (P.known self.pass).mark } }
-        ensures lawful { (shape : Shape) → self.doing ≡ Doing.Over → HasRest shape P.known self → TraceOk (terms_of shape self.section self.patience) result.1 (P.known self.pass).seen }
-        ensures fresh { (shape : Shape) → self.doing ≡ Doing.Over → HasRest shape P.known self → Fresh (terms_of shape self.section self.patience) result.1 (P.known self.pass).seen }
+        ensures trace { result.1 ≡ record {
+          session = self.section.no;
+          db = self.section.db;
+          items = self.items.items;
+          last = (P.known self.pass).mark;
+        } }
+        ensures lawful { (shape : Shape) → self.doing ≡ Doing.Over → HasRest shape P.known self
+            → TraceOk (terms_of shape self.section self.patience) result.1 (P.known self.pass).seen }
+        ensures fresh { (shape : Shape) → self.doing ≡ Doing.Over → HasRest shape P.known self
+            → Fresh (terms_of shape self.section self.patience) result.1 (P.known self.pass).seen }
     {
         let Session {
             pass,
@@ -216,7 +229,8 @@ pub(crate) fn raise_end<P: PassView + Send + Drop, H: Hub<Pass = P>>(
     requires known { session ≤ plan.sessions }
     requires flags { plan.first_end + plan.sessions ≤ (H.shape hub.now).flags }
     ensures own { H.is_pass hub.now pass.new }
-    ensures raised { HasRaised (P.known pass.old) (P.known pass.new) (end_flag plan session) (P.known pass.old).told }
+    ensures raised { HasRaised (P.known pass.old) (P.known pass.new)
+        (end_flag plan session) (P.known pass.old).told }
 {
     let flag = plan.first_end + (session.get() - 1);
     let _told = hub.raise(pass, flag);

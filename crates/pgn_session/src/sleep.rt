@@ -1,7 +1,8 @@
-ghost use Rattle.std.specs.Prelude.{◌≡◌, ◌+◌, ◌-◌, ◌<◌, ◌≤◌, min};
+ghost use Rattle.std.specs.Prelude.{◌≡◌, ◌+◌, ◌<◌, ◌≤◌, min};
 ghost use Rattle.pgn_hub.specs.Shape.{Shape};
 ghost use Rattle.pgn_session.specs.Standing.{IsServedBy};
-ghost use Rattle.pgn_session.specs.Sleep.{slept_looks, slept_doing, slept_for, IsAwaitedBelow};
+ghost use Rattle.pgn_session.specs.Runs.{slept};
+ghost use Rattle.pgn_session.specs.Sleep.{slept_looks, slept_for, IsAwaitedBelow};
 ghost use Rattle.pgn_session.specs.Whole.{HasAnswer, HasRest};
 
 use crate::{Doing, Session};
@@ -35,9 +36,12 @@ impl<P: PassView + Send + Drop> Session<P> {
         ensures { result ≡ slept_for self.now.plan self.now.patience micros self.now.doing }
     {
         match self.doing {
-            Doing::Awaiting { flag, looks } => self.sleep_on(rt, hub, flag, micros, looks),
+            Doing::Awaiting { flag, looks } => {
+                sleep_on(rt, hub, flag, micros, self.patience.saturating_sub(looks))
+            }
             Doing::Ending { found, looks } if found < self.plan.sessions => {
-                self.sleep_on(rt, hub, self.plan.first_end + found, micros, looks)
+                let flag = self.plan.first_end + found;
+                sleep_on(rt, hub, flag, micros, self.patience.saturating_sub(looks))
             }
             _ => 0,
         }
@@ -56,37 +60,20 @@ impl<P: PassView + Send + Drop> Session<P> {
         }
     }
 
-    // Sleeps on this flag, where so many looks have given nothing.
-    fn sleep_on<H: Hub<Pass = P>, R: Wait>(
-        &self,
-        rt: &R,
-        hub: &H,
-        flag: u32,
-        micros: u64,
-        looks: u64,
-    ) -> u64
-        requires { flag < (H.shape hub.now).flags }
-        ensures { result ≡ min micros (self.now.patience - looks) }
-    {
-        let longest = micros.min(self.patience.saturating_sub(looks));
-        hub.rest(rt, flag, Duration::from_micros(longest));
-        longest
-    }
-
     /// Counts a sleep of so many microseconds. Only who has slept so long on a flag since the session's last look may call this: on its
     /// own one, or on that of a session that takes turns with it on one thread. The count leaves one look of the patience, so that the
     /// last one is made. No clause sees whether anybody slept, and a caller that did not makes patience shorter.
     pub fn sleep_over(&mut self, micros: u64)
         ensures answered { (shape : Shape) → HasAnswer shape P.known self.old → HasAnswer shape P.known self.new }
         ensures rested { (shape : Shape) → HasRest shape P.known self.old → HasRest shape P.known self.new }
-        ensures same { self.new ≡ record self.old { doing = slept_doing self.old.patience micros self.old.doing } }
+        ensures same { self.new ≡ slept micros self.old }
     {
         self.count_sleep(micros);
     }
 
     // Counts the looks that were slept over.
     fn count_sleep(&mut self, micros: u64)
-        ensures { self.new ≡ record self.old { doing = slept_doing self.old.patience micros self.old.doing } }
+        ensures { self.new ≡ slept micros self.old }
     {
         let patience = self.patience;
         match &mut self.doing {
@@ -95,6 +82,16 @@ impl<P: PassView + Send + Drop> Session<P> {
             _ => {}
         }
     }
+}
+
+// Sleeps on this flag for so many microseconds at most, and not longer than so many looks, which are left.
+fn sleep_on<H: Hub, R: Wait>(rt: &R, hub: &H, flag: u32, micros: u64, left: u64) -> u64
+    requires { flag < (H.shape hub.now).flags }
+    ensures { result ≡ min micros left }
+{
+    let longest = micros.min(left);
+    hub.rest(rt, flag, Duration::from_micros(longest));
+    longest
 }
 
 // How many looks have given nothing after a sleep of so many microseconds.

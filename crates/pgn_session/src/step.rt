@@ -1,13 +1,15 @@
-ghost use Rattle.std.specs.Prelude.{◌≡◌, ◌↔◌, ◌⊎◌, ◌+◌, ◌≤◌, ◌<◌, [], ◌∷◌, Ok, drop, length, IfOk, OnOk, OnErr, vec_len, vec_capacity};
+ghost use Rattle.std.specs.Prelude.{◌≡◌, ◌↔◌, ◌+◌, ◌≤◌, ◌<◌, [], Ok, drop, length, IfOk, OnOk, OnErr, vec_len, vec_capacity};
 ghost use Rattle.pgn_language.specs.declared.scenario.Act.TheVariants as act;
 ghost use Rattle.pgn_session.specs.declared.doing.Doing.TheVariants as doing;
 ghost use Rattle.pgn_session.specs.FirstRead.{IsToReadFirst, HasReadTold};
 ghost use Rattle.pgn_session.specs.Standing.{IsServedBy};
 ghost use Rattle.pgn_session.specs.Parts.{Begins};
-ghost use Rattle.pgn_session.specs.Steps.{AnswersLine, BeginsEnd, Waits, Ends, HasMoved, HasTurned, HasWaited, StandsStill};
-ghost use Rattle.pgn_session.specs.Whole.{HasAnswer, HasRest, RestsAt, ComesWith, IsSameScript, HasStepped, HasRefused};
+ghost use Rattle.pgn_session.specs.Steps.{HasTurned, HasWaited, StandsStill};
+ghost use Rattle.pgn_session.specs.Whole.{HasAnswer, HasRest, RestsAt, ComesWith, IsSameScript, HasStepped, HasRefused, StepsBetween, StaysBetween, Moves, HasDone, WaitsOn, EndsThere};
 
-use crate::line::{find_ends, look, quit, signal};
+use crate::command::NextCommand;
+use crate::commit::Commit;
+use crate::line::{find_ends, quit, show_look, signal};
 use crate::session::raise_end;
 use crate::{Doing, Session, Step};
 use pgn_base::{Copied, ListenSet};
@@ -40,10 +42,10 @@ impl<P: PassView + Send + Drop> Session<P> {
         ensures answered { OnOk result (HasAnswer (H.shape hub.now) P.known self.new) }
         ensures rested { result ≡ Ok Step.Ended → HasRest (H.shape hub.now) P.known self.new }
         ensures refused { OnErr result (HasRest (H.shape hub.now) P.known self.new) }
-        ensures moved { IfOk result (λ step. HasMoved self.old.plan self.old.section.no self.old.patience (drop self.old.done self.old.section.lines) self.old.doing self.old.done self.new.done (P.known self.old.pass) (P.known self.new.pass) self.old.items.items self.new.items.items self.new.doing step) }
-        ensures did { (result ≡ Ok Step.Did) ↔ (AnswersLine self.old.doing self.old.done self.new.doing self.new.done ⊎ BeginsEnd self.old.plan self.old.section.no (drop self.old.done self.old.section.lines) self.old.doing self.new.doing (P.known self.old.pass) (P.known self.new.pass)) }
-        ensures waiting { result ≡ Ok Step.Waiting → Waits self.old.plan self.old.patience (P.known self.old.pass) (P.known self.new.pass) self.new.doing }
-        ensures ended { (result ≡ Ok Step.Ended) ↔ Ends self.old.plan self.old.patience self.old.doing (P.known self.new.pass) }
+        ensures moved { IfOk result (Moves P.known self.old self.new) }
+        ensures did { (result ≡ Ok Step.Did) ↔ HasDone P.known self.old self.new }
+        ensures waiting { result ≡ Ok Step.Waiting → WaitsOn P.known self.old self.new }
+        ensures ended { (result ≡ Ok Step.Ended) ↔ EndsThere P.known self.old self.new }
         ensures over { result ≡ Ok Step.Ended → self.new.doing ≡ Doing.Over }
         ensures grows { Begins self.old.items.items self.new.items.items }
         ensures pass_kept { OnErr result (self.new.pass ≡ self.old.pass) }
@@ -76,7 +78,14 @@ impl<P: PassView + Send + Drop> Session<P> {
                 actions,
                 notes,
                 tag,
-            } => self.commit(rt, hub, actions, notes, tag),
+            } => {
+                let commit = Commit {
+                    actions,
+                    notes,
+                    tag,
+                };
+                self.commit(rt, hub, commit)
+            }
             Doing::Awaiting { flag, looks } => self.look_again(hub, flag, looks),
             Doing::Ending { found, looks } => Ok(self.wait_for_others(hub, found, looks)),
             Doing::Over => {
@@ -99,8 +108,8 @@ impl<P: PassView + Send + Drop> Session<P> {
         requires rested { HasRest (H.shape hub.now) P.known self.old }
         requires read_first { IsToReadFirst self.old → HasReadTold (P.known self.old.pass) }
         ensures own { H.is_pass hub.now self.new.pass }
-        ensures stepped { IfOk result (λ step. HasStepped (H.shape hub.now) P.known self.old doing.Lines self.new step) }
-        ensures refused { OnErr result (HasRefused (H.shape hub.now) P.known self.old doing.Lines self.new) }
+        ensures stepped { IfOk result (StepsBetween (H.shape hub.now) P.known self.old self.new) }
+        ensures refused { OnErr result (StaysBetween (H.shape hub.now) P.known self.old self.new) }
     {
         if self.done >= self.section.lines.as_slice().len() {
             return Ok(self.begin_end(hub));
@@ -123,12 +132,12 @@ impl<P: PassView + Send + Drop> Session<P> {
         requires more { self.old.done < length self.old.section.lines }
         requires counted { self.old.done < usize.MAX }
         ensures own { H.is_pass hub.now self.new.pass }
-        ensures stepped { IfOk result (λ step. HasStepped (H.shape hub.now) P.known self.old doing.Lines self.new step) }
-        ensures refused { OnErr result (HasRefused (H.shape hub.now) P.known self.old doing.Lines self.new) }
+        ensures stepped { IfOk result (StepsBetween (H.shape hub.now) P.known self.old self.new) }
+        ensures refused { OnErr result (StaysBetween (H.shape hub.now) P.known self.old self.new) }
     {
         let (line, act) = self.next_act(alloc)?;
         match act {
-            Act::Run(command) => self.run(rt, alloc, hub, line, command),
+            Act::Run(command) => self.run(rt, alloc, hub, NextCommand { line, command }),
             Act::Signal(flag) => self.signal(hub, line, flag),
             Act::Await(flag) => self.await_flag(hub, line, flag),
             Act::Quit => self.quit(alloc, hub, line),
@@ -159,8 +168,8 @@ impl<P: PassView + Send + Drop> Session<P> {
         requires comes { ComesWith self.old line (act.Signal flag) }
         requires counted { self.old.done < usize.MAX }
         ensures own { H.is_pass hub.now self.new.pass }
-        ensures stepped { IfOk result (λ step. HasStepped (H.shape hub.now) P.known self.old doing.Lines self.new step) }
-        ensures refused { OnErr result (HasRefused (H.shape hub.now) P.known self.old doing.Lines self.new) }
+        ensures stepped { IfOk result (StepsBetween (H.shape hub.now) P.known self.old self.new) }
+        ensures refused { OnErr result (StaysBetween (H.shape hub.now) P.known self.old self.new) }
     {
         self.items.reserve(2)?;
         signal(hub, &mut self.pass, &mut self.items, line, flag);
@@ -182,8 +191,8 @@ impl<P: PassView + Send + Drop> Session<P> {
         requires comes { ComesWith self.old line (act.Await flag) }
         requires counted { self.old.done < usize.MAX }
         ensures own { H.is_pass hub.now self.new.pass }
-        ensures stepped { IfOk result (λ step. HasStepped (H.shape hub.now) P.known self.old doing.Lines self.new step) }
-        ensures refused { OnErr result (HasRefused (H.shape hub.now) P.known self.old doing.Lines self.new) }
+        ensures stepped { IfOk result (StepsBetween (H.shape hub.now) P.known self.old self.new) }
+        ensures refused { OnErr result (StaysBetween (H.shape hub.now) P.known self.old self.new) }
     {
         self.items.reserve(2)?;
         self.items.push(Item::Line { line }).unwrap();
@@ -220,17 +229,13 @@ impl<P: PassView + Send + Drop> Session<P> {
         requires flag { flag < (H.shape hub.now).flags }
         requires room { vec_len self.old.items + 1 ≤ vec_capacity self.old.items }
         ensures own { H.is_pass hub.now self.new.pass }
-        ensures same { self.new ≡ record self.old { pass = self.new.pass; items = self.new.items; doing = self.new.doing } }
-        ensures turned { HasTurned flag looks self.old.patience (P.known self.old.pass) (P.known self.new.pass) self.old.items.items self.new.items.items self.new.doing result }
+        ensures same { self.new
+            ≡ record self.old { pass = self.new.pass; items = self.new.items; doing = self.new.doing } }
+        ensures turned { HasTurned flag looks self.old.patience
+            (P.known self.old.pass) (P.known self.new.pass) self.old.items.items self.new.items.items self.new.doing result }
     {
-        let found = look(
-            hub,
-            &mut self.pass,
-            &mut self.items,
-            flag,
-            looks,
-            self.patience,
-        );
+        let found = hub.look(&mut self.pass, flag);
+        show_look(&mut self.items, &found, looks, self.patience);
         if found.is_none() && looks < self.patience {
             self.doing = Doing::Awaiting { flag, looks };
             return Step::Waiting;
@@ -253,8 +258,8 @@ impl<P: PassView + Send + Drop> Session<P> {
         requires comes { ComesWith self.old line act.Quit }
         requires counted { self.old.done < usize.MAX }
         ensures own { H.is_pass hub.now self.new.pass }
-        ensures stepped { IfOk result (λ step. HasStepped (H.shape hub.now) P.known self.old doing.Lines self.new step) }
-        ensures refused { OnErr result (HasRefused (H.shape hub.now) P.known self.old doing.Lines self.new) }
+        ensures stepped { IfOk result (StepsBetween (H.shape hub.now) P.known self.old self.new) }
+        ensures refused { OnErr result (StaysBetween (H.shape hub.now) P.known self.old self.new) }
     {
         self.items.reserve(2)?;
         quit(hub, &mut self.pass, &mut self.items, line);
@@ -274,7 +279,7 @@ impl<P: PassView + Send + Drop> Session<P> {
         requires rested { HasRest (H.shape hub.now) P.known self.old }
         requires no_line { drop self.old.done self.old.section.lines ≡ [] }
         ensures own { H.is_pass hub.now self.new.pass }
-        ensures stepped { HasStepped (H.shape hub.now) P.known self.old doing.Lines self.new result }
+        ensures stepped { StepsBetween (H.shape hub.now) P.known self.old self.new result }
     {
         self.block.drop_block();
         raise_end(hub, &mut self.pass, self.section.no, self.plan);
@@ -303,7 +308,8 @@ impl<P: PassView + Send + Drop> Session<P> {
         requires within { found ≤ self.old.plan.sessions }
         ensures own { H.is_pass hub.now self.new.pass }
         ensures same { self.new ≡ record self.old { pass = self.new.pass; doing = self.new.doing } }
-        ensures waited { HasWaited self.old.plan found looks self.old.patience (P.known self.old.pass) (P.known self.new.pass) self.new.doing result }
+        ensures waited { HasWaited self.old.plan found looks self.old.patience
+            (P.known self.old.pass) (P.known self.new.pass) self.new.doing result }
     {
         let patience = self.patience;
         let reached = find_ends(hub, &mut self.pass, self.plan, found);

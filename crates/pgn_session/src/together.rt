@@ -1,5 +1,5 @@
 ghost use Rattle.std.specs.Prelude.{◌≡◌, ◌≢◌, ◌≤◌, ℕ, map, length, All};
-ghost use Rattle.pgn_session.specs.Runs.{HasGivenUp, IsHeld, IsReady, script_of, shown_of, slept};
+ghost use Rattle.pgn_session.specs.Runs.{HasGivenUp, HaveSlept, IsHeld, IsReady, script_of, shown_of, slept};
 ghost use Rattle.pgn_session.specs.Standing.{IsServedBy};
 ghost use Rattle.pgn_session.specs.declared.turn.TheConstants.{LONGEST_SLEEP};
 
@@ -25,7 +25,7 @@ pub fn wait_together<P: PassView + Send + Drop, H: Hub<Pass = P>, R: Wait + Cloc
     ensures scripts { map script_of sessions.new ≡ map script_of sessions.old }
     ensures shown { map shown_of sessions.new ≡ map shown_of sessions.old }
     ensures unslept { step ≢ Step.Waiting → sessions.new ≡ sessions.old }
-    ensures waited { (micros : ℕ) × (micros ≤ LONGEST_SLEEP) × (sessions.new ≡ map (slept micros) sessions.old) }
+    ensures waited { HaveSlept LONGEST_SLEEP sessions.old sessions.new }
 {
     if step != Step::Waiting {
         return 0;
@@ -44,7 +44,7 @@ fn give_way<P: PassView + Send + Drop, H: Hub<Pass = P>, R: Wait + Clock>(
 )
     requires ready { All (IsReady (H.is_pass hub.now) (H.shape hub.now) P.known) sessions.old }
     ensures ready { All (IsReady (H.is_pass hub.now) (H.shape hub.now) P.known) sessions.new }
-    ensures waited { (micros : ℕ) × (micros ≤ LONGEST_SLEEP) × (sessions.new ≡ map (slept micros) sessions.old) }
+    ensures waited { HaveSlept LONGEST_SLEEP sessions.old sessions.new }
 {
     if sessions.len() == 1 {
         wait_alone(rt, hub, sessions, waits);
@@ -66,7 +66,7 @@ fn wait_alone<P: PassView + Send + Drop, H: Hub<Pass = P>, R: Wait + Clock>(
 )
     requires one { length sessions.old ≡ 1 }
     requires ready { All (IsReady (H.is_pass hub.now) (H.shape hub.now) P.known) sessions.old }
-    ensures { (micros : ℕ) × (micros ≤ LONGEST_SLEEP) × (sessions.new ≡ map (slept micros) sessions.old) }
+    ensures { HaveSlept LONGEST_SLEEP sessions.old sessions.new }
 {
     wait_ready(rt, hub, &mut sessions[0], waits);
 }
@@ -94,7 +94,7 @@ fn rest_together<P: PassView + Send + Drop, H: Hub<Pass = P>, R: Wait>(
 )
     requires ready { All (IsReady (H.is_pass hub.now) (H.shape hub.now) P.known) sessions.old }
     ensures ready { All (IsReady (H.is_pass hub.now) (H.shape hub.now) P.known) sessions.new }
-    ensures waited { (slept_for : ℕ) × (slept_for ≤ micros) × (sessions.new ≡ map (slept slept_for) sessions.old) }
+    ensures waited { HaveSlept micros sessions.old sessions.new }
 {
     let micros = sleep_on_one(rt, hub, sessions, micros);
     sleep_over_all(sessions, micros);

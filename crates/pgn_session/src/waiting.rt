@@ -1,6 +1,6 @@
 ghost use Rattle.std.specs.Prelude.{◌≡◌, ◌+◌, ◌<◌, ◌≤◌, ℕ, length};
 ghost use Rattle.pgn_session.specs.Runs.{slept};
-ghost use Rattle.pgn_session.specs.Sleep.{slept_for, IsAwaitedBelow};
+ghost use Rattle.pgn_session.specs.Sleep.{IsAwaitedBelow};
 ghost use Rattle.pgn_session.specs.declared.turn.TheConstants.{LONGEST_SLEEP};
 
 use crate::{LONGEST_SLEEP, Session};

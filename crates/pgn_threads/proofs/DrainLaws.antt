@@ -11,7 +11,7 @@ use Rattle.pgn_session.specs.declared.session.Session.{Session}
 use Rattle.pgn_threads.specs.Parts.{HasReadAll}
 use Rattle.pgn_session.specs.Runs.{IsOver, Script, script_of, shown_of}
 use Rattle.pgn_threads.specs.Drain.{passes_of, signals_of, heard_up, heard_down, Rises, AreTop, HasReadOwn, AreOver, HaveHeardUp, HaveHeardDown, HaveRead, MayEndWithRead, EachMayEndWithRead, MayReadAt, FirstMayEndWithRead}
-use Rattle.pgn_threads.proofs.ToldLaws.{rises-first, rises-on, rises-top, tops-on}
+use Rattle.pgn_threads.proofs.ToldLaws.{rises-on, rises-top, tops-on}
 use Rattle.pgn_threads.proofs.LastReadLaws.{all-read}
 
 module _ {P : Type 0} (is_own : P → Type 0) (shape : Shape) (known : P → Known) (old : List (Session P)) where
@@ -45,9 +45,7 @@ module _ {P : Type 0} (is_own : P → Type 0) (shape : Shape) (known : P → Kno
         rest = λ j le. get_or-set_other mid i j r.items [] (λ e. omega (arith, e, le)) ∙ h.rest j (omega (arith, le));
       })
 
-  pub up-first : All (IsOver is_own shape known) old → HaveHeardUp is_own shape known old old 1
-  up-first over = record { still = record { over = over; scripts = refl; count = refl }; first = omega arith; last = omega arith; rises = rises-first (signals_of known old); shown = refl }
-
+  -- one more session has heard from the one before it
   pub up-next : (mid new : List (Session P)) (i : ℕ) → i < length old → HaveHeardUp is_own shape known old mid i → All (IsOver is_own shape known) new → map script_of new ≡ map script_of mid
       → signals_of known new ≡ heard_up (signals_of known mid) i → map shown_of new ≡ map shown_of mid → HaveHeardUp is_own shape known old new (i + 1)
   up-next mid new i lt h over same told shown = record {
@@ -58,6 +56,7 @@ module _ {P : Type 0} (is_own : P → Type 0) (shape : Shape) (known : P → Kno
     rises = subst (λ (ts : List ℕ). Rises ts (i + 1)) (sym told) (rises-on (signals_of known mid) i (omega (arith, h.first)) (omega (arith, lt, signals-length mid, h.still.count)) h.rises);
   }
 
+  -- the last has heard, and hearing back begins
   pub up-last : (mid : List (Session P)) (i : ℕ) → length old ≤ i → HaveHeardUp is_own shape known old mid i → HaveHeardDown is_own shape known old mid 1
   up-last mid i past h = record {
     shown = h.shown;
@@ -66,6 +65,7 @@ module _ {P : Type 0} (is_own : P → Type 0) (shape : Shape) (known : P → Kno
     tops = rises-top (signals_of known mid) (length old) i (signals-length mid ∙ h.still.count) past h.last h.rises;
   }
 
+  -- one more has heard from the one behind it
   pub down-next : (mid new : List (Session P)) (k : ℕ) → k < length old → HaveHeardDown is_own shape known old mid k → All (IsOver is_own shape known) new → map script_of new ≡ map script_of mid
       → signals_of known new ≡ heard_down (signals_of known mid) (length old - k) → map shown_of new ≡ map shown_of mid → HaveHeardDown is_own shape known old new (k + 1)
   down-next mid new k lt h over same told shown =
@@ -79,6 +79,7 @@ module _ {P : Type 0} (is_own : P → Type 0) (shape : Shape) (known : P → Kno
             (tops-on (signals_of known mid) (length old - k) (omega (arith, lt)) (omega (arith, lt, h.first, signals-length mid, h.still.count)) h.tops));
       }
 
+  -- the first has heard, and the last reads begin
   pub down-last : (mid : List (Session P)) (k : ℕ) → length old ≤ k → HaveHeardDown is_own shape known old mid k → HaveRead is_own shape known old mid 0
   down-last mid k past h = record {
     shown = subst (λ (lists : List (List Item)). FirstMayEndWithRead 0 (map shown_of old) lists) (sym h.shown) (first-none (map shown_of old));
@@ -87,6 +88,7 @@ module _ {P : Type 0} (is_own : P → Type 0) (shape : Shape) (known : P → Kno
     read = All-nil HasReadOwn;
   }
 
+  -- one more has read
   pub read-next : (mid new : List (Session P)) (i : ℕ) → i < length old → HaveRead is_own shape known old mid i → All (IsOver is_own shape known) new → map script_of new ≡ map script_of mid
       → signals_of known new ≡ signals_of known mid → All HasReadOwn (take (i + 1) (passes_of known new)) → MayReadAt i (map shown_of mid) (map shown_of new) → HaveRead is_own shape known old new (i + 1)
   read-next mid new i lt h over same told read shown = record {
@@ -96,9 +98,11 @@ module _ {P : Type 0} (is_own : P → Type 0) (shape : Shape) (known : P → Kno
     read = read;
   }
 
+  -- once each has read, each has read what all know
   pub read-last : (mid : List (Session P)) (n : ℕ) → length old ≤ n → HaveRead is_own shape known old mid n → All (HasReadAll (passes_of known mid)) (passes_of known mid)
   read-last mid n past h = all-read known mid n (omega (arith, past, h.still.count, length-map mid (λ (s : Session P). known s.pass))) h.tops h.read
 
+  -- and each has shown one read more at most
   pub shown-last : (mid : List (Session P)) (n : ℕ) → HaveRead is_own shape known old mid n → length old ≤ n → EachMayEndWithRead (map shown_of old) (map shown_of mid)
   shown-last mid n h past = record {
     count = h.shown.length_same;

@@ -50,17 +50,21 @@ finished-shown old new set before after h = by old.mark h
 
 module _ {P : Type 0} (is_own : P → Type 0) (shape : Shape) (known : P → Known) (sessions : List (Session P)) (i : ℕ) (d s : Session P) (lt : i < length sessions) (within : IsWithin (known (get_or sessions i d).pass)) (own : is_own s.pass) (rested : HasRest shape known s)
     (same : s ≡ record (get_or sessions i d) { pass = s.pass; items = s.items }) (finished : HasFinished (known (get_or sessions i d).pass) (known s.pass) (get_or sessions i d).set.channels (get_or sessions i d).items.items s.items.items) where
+  -- behind one session's last read all are over still
   pub read-over : All (IsOver is_own shape known) sessions → All (IsOver is_own shape known) (set sessions i s)
   read-over h =
       All-set (IsOver is_own shape known) sessions i s
       (record { own = own; over = ap (λ (t : Session P). t.doing) same ∙ (h i d lt).over; rested = rested }) h
 
+  -- and have their scripts
   pub read-scripts : map script_of (set sessions i s) ≡ map script_of sessions
   read-scripts = map-set_same (λ (t : Session P). script_of t) sessions i s d (ap (λ (t : Session P). script_of t) same)
 
+  -- and know of the same wakes
   pub read-signals : signals_of known (set sessions i s) ≡ signals_of known sessions
   read-signals = map-set_same (λ (t : Session P). (known t.pass).signalled) sessions i s d (finished-up (known (get_or sessions i d).pass) (known s.pass) (get_or sessions i d).set.channels (get_or sessions i d).items.items s.items.items within finished).same
 
+  -- and this one alone has shown a read, if any
   pub read-shown : MayReadAt i (map shown_of sessions) (map shown_of (set sessions i s))
   read-shown = record {
     items = s.items.items;

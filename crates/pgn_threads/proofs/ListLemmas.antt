@@ -51,6 +51,7 @@ written-back {X} xs old n is = ap (λ (m : ℕ). take m (xs ++ old)) is ∙ fron
     front [] = refl
     front (y ∷ ys) = ap (λ (zs : List X). y ∷ zs) (front ys)
 
+-- lists with the same image are equally long
 pub same-count : {X Y : Type 0} (f : X → Y) (xs ys : List X) → map f xs ≡ map f ys → length xs ≡ length ys
 same-count {X} {Y} f xs ys e = sym (length-map xs f) ∙ ap (λ (zs : List Y). length zs) e ∙ length-map ys f
 
@@ -58,6 +59,7 @@ same-count {X} {Y} f xs ys e = sym (length-map xs f) ∙ ap (λ (zs : List Y). l
 pub all-front : {X : Type 0} (Q : X → Type 0) (xs front : List X) (n : ℕ) → front ≡ take n xs → All Q xs → All Q front
 all-front Q xs front n cut all = All-same Q front (take n xs) cut (All-take Q n xs all)
 
+-- what holds of all holds of those behind the first ones
 pub all-behind : {X : Type 0} (Q : X → Type 0) (xs back : List X) (n : ℕ) → back ≡ drop n xs → All Q xs → All Q back
 all-behind Q xs back n cut all = All-same Q back (drop n xs) cut (All-drop Q n xs all)
 
@@ -65,6 +67,7 @@ all-behind Q xs back n cut all = All-same Q back (drop n xs) cut (All-drop Q n x
 pub place-before : (i n : ℕ) → 0 < i → n ≡ i → i - 1 < n
 place-before i n some is = omega (arith, some, is)
 
+-- a place counted from the end is not the first one
 pub place-behind : (i n all : ℕ) → n + i ≡ all → i < all → 0 < n
 place-behind i n all cut lt = omega (arith, cut, lt)
 

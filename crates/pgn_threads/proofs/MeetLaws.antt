@@ -202,6 +202,7 @@ module _ {P : Type 0} (is_own : P → Type 0) (shape : Shape) (known : P → Kno
       subst (λ (n : ℕ). HaveGoneOn is_own shape known sessions (set (take (suc p) sessions) n a ++ set (drop (suc p) sessions) 0 b) (heard_down (signals_of known sessions) (suc p))) (sym place)
       (record { over = down-over is_own shape known sessions p d a b lt met h; scripts = down-scripts is_own shape known sessions p d a b lt met; signals = down-signals is_own shape known sessions p d a b lt met; shown = down-shown is_own shape known sessions p d a b lt met })
 
+  -- a session that hears from the one before it: the others stay, and what each knows of wakes is as by definition
   pub up-all : (front back : List (Session P)) (i : ℕ) → front ≡ take i sessions → back ≡ drop i sessions → 0 < i → i < length sessions
       → HaveMet is_own shape known (get_or front (i - 1) d) a (get_or back 0 e) b → All (IsOver is_own shape known) sessions
       → HaveGoneOn is_own shape known sessions (set front (i - 1) a ++ set back 0 b) (heard_up (signals_of known sessions) i)
@@ -212,6 +213,7 @@ module _ {P : Type 0} (is_own : P → Type 0) (shape : Shape) (known : P → Kno
       → HaveGoneOn is_own shape known sessions (set (take i sessions) (i - 1) a ++ set k 0 b) (heard_up (signals_of known sessions) i)) (sym eb)
       (up-at i first lt))
 
+  -- the same of one that hears from the one behind it
   pub down-all : (front back : List (Session P)) (i : ℕ) → front ≡ take i sessions → back ≡ drop i sessions → 0 < i → i < length sessions
       → HaveMet is_own shape known (get_or back 0 e) b (get_or front (i - 1) d) a → All (IsOver is_own shape known) sessions
       → HaveGoneOn is_own shape known sessions (set front (i - 1) a ++ set back 0 b) (heard_down (signals_of known sessions) i)

@@ -19,7 +19,7 @@ use Rattle.pgn_session.specs.Whole.{HasRest}
 use Rattle.pgn_session.specs.Standing.{IsFlagBelow, IsServedBy}
 use Rattle.pgn_threads.specs.Laws.{NamesFlagsBelow}
 use Rattle.pgn_session.specs.Runs.{Script, script_of}
-use Rattle.pgn_threads.specs.Opened.{seat_for, opened_for, script_for, IsFit, HaveOpened}
+use Rattle.pgn_threads.specs.Opened.{seat_for, opened_for, script_for, HaveOpened}
 
 -- the passes as they are opened are those of the sections
 pub opened-in_order : (n : ℕ) (sections : List Section) → AreNumbered n sections → opened_passes n (map seat_for sections) ≡ map opened_for sections
@@ -52,16 +52,12 @@ section-served shape plan flags section first ends below sound = record {
   session = below;
 }
 
+-- a hub with a sound scenario's flags and end flags serves each of its sections
 pub all-served : (shape : Shape) (plan : FlagPlan) (scenario : Scenario) → plan.first_end ≡ length scenario.flags → plan.sessions ≡ length scenario.sections → plan.first_end + plan.sessions ≤ shape.flags
     → IsSound scenario → All (λ section. IsServedBy shape section plan) scenario.sections
 all-served shape plan scenario first count ends sound = λ k d lt.
     let below : (get_or scenario.sections k d).no < 1 + length scenario.sections = numbered-below 1 scenario.sections sound.numbered k d lt in
     section-served shape plan (length scenario.flags) (get_or scenario.sections k d) first ends (omega (arith, below, count)) (sound.sections k d lt)
-
-pub all-fit : (scenario : Scenario) → IsSound scenario → All IsFit scenario.sections
-all-fit scenario sound = λ k d lt.
-    let section : IsSoundSection (length scenario.flags) (get_or scenario.sections k d) = sound.sections k d lt in
-    record { quits_last = section.quits_last; counted = omega (arith, section.counted) }
 
 -- the flags that the scripts name are below the end flags
 pub all-named : (plan : FlagPlan) (scenario : Scenario) → plan.first_end ≡ length scenario.flags → IsSound scenario → All (NamesFlagsBelow plan.first_end) scenario.sections
@@ -70,24 +66,18 @@ all-named plan scenario first sound = λ k d lt.
 
 -- sessions are made one after another
 module _ {P : Type 0} (known : P → Known) (plan : FlagPlan) (patience : ℕ) (sections : List Section) (all : List P) where
-  pub none-opened : map known all ≡ map opened_for sections → HaveOpened known plan patience sections all all [] 0
-  none-opened opened = record { whole = refl; rest = opened; scripts = refl; rested = λ shape. All-nil (HasRest shape known) }
-
-  -- a pass is left for each section
-  pub one-left : (left : List P) (sessions : List (Session P)) (i : ℕ) → i < length sections → HaveOpened known plan patience sections all left sessions i → 0 < length left
-  one-left left sessions i lt h =
-      omega (arith, lt, ap (λ (ks : List Known). length ks) h.rest, length-map left known, length-map (drop i sections) opened_for, length-drop i sections)
-
   -- it is that of the next section
   next-pass : (left : List P) (sessions : List (Session P)) (i : ℕ) (d : Section) (pass : P) (rest : List P) → i < length sections → left ≡ pass ∷ rest → HaveOpened known plan patience sections all left sessions i
       → map known (pass ∷ rest) ≡ map opened_for (get_or sections i d ∷ drop (suc i) sections)
   next-pass left sessions i d pass rest lt e h =
       ap (λ (ps : List P). map known ps) (sym e) ∙ h.rest ∙ ap (λ (ss : List Section). map opened_for ss) (drop-cons sections i d lt)
 
+  -- the next pass is that of the next section
   pub is-opened : (left : List P) (sessions : List (Session P)) (i : ℕ) (d : Section) (pass : P) (rest : List P) → i < length sections → left ≡ pass ∷ rest → HaveOpened known plan patience sections all left sessions i
       → known pass ≡ opened_for (get_or sections i d)
   is-opened left sessions i d pass rest lt e h = ap (λ (ks : List Known). get_or ks 0 (known pass)) (next-pass left sessions i d pass rest lt e h)
 
+  -- a session more was made, for the next section and with the next pass
   pub one-opened : (left : List P) (sessions : List (Session P)) (i : ℕ) (d : Section) (pass : P) (rest : List P) (s : Session P) → i < length sections → left ≡ pass ∷ rest
       → HaveOpened known plan patience sections all left sessions i → s.pass ≡ pass → script_of s ≡ script_for plan patience (get_or sections i d) → ((shape : Shape) → HasRest shape known s)
       → HaveOpened known plan patience sections all rest (sessions ++ s ∷ []) (i + 1)
@@ -114,6 +104,7 @@ module _ {P : Type 0} (known : P → Known) (plan : FlagPlan) (patience : ℕ) (
           let next : suc k + 1 ≡ suc (k + 1) = omega arith in
           ap (λ (n : ℕ). take n (t ∷ ss)) next ∙ ap (λ (us : List Section). t ∷ us) (take-more ss k e (omega (arith, less)))
 
+  -- once there is a session for each section, each pass is in one, in order
   pub all-opened : (left : List P) (sessions : List (Session P)) (i : ℕ) → length sections ≤ i → HaveOpened known plan patience sections all left sessions i → map (λ s. s.pass) sessions ≡ all
   all-opened left sessions i past h =
       sym (append-nil (map (λ (s : Session P). s.pass) sessions)) ∙ ap (λ (ps : List P). map (λ (s : Session P). s.pass) sessions ++ ps) (sym (none left (omega (arith, past, ap (λ (ks : List Known). length ks) h.rest, length-map left known, length-map (drop i sections) opened_for, length-drop i sections)))) ∙ h.whole
@@ -122,6 +113,7 @@ module _ {P : Type 0} (known : P → Known) (plan : FlagPlan) (patience : ℕ) (
       none [] e = refl
       none (p ∷ ps) e = absurd (omega (arith, e))
 
+  -- and each has its section's script
   pub all-scripts : (left : List P) (sessions : List (Session P)) (i : ℕ) → length sections ≤ i → HaveOpened known plan patience sections all left sessions i → map script_of sessions ≡ map (script_for plan patience) sections
   all-scripts left sessions i past h = h.scripts ∙ ap (λ (ss : List Section). map (script_for plan patience) ss) (take_all i sections past)
 

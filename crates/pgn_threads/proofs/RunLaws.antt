@@ -169,6 +169,7 @@ runs-all shape plan patience parts count g over = λ k d lt.
     let part : Part = get_or parts k d in
     over-runs shape plan patience g.journal part (All-unmap (λ (q : Known). Begins q.seen g.journal) (λ (p : Part). p.known) parts g.seen k d lt) (over k d lt)
 
+-- sessions that are over, and whose passes were gathered, make a legal run
 pub runs-are_legal : RunsAreLegal
 runs-are_legal scenario shape plan patience parts count g is numbered flags over read =
     let journal : List Tx = g.journal in

@@ -1,14 +1,11 @@
 -- Numbers of which each hears the greater of itself and its neighbour: up the list and down again, all are the greatest.
-use Rattle.std.proofs.Common.{◌≡◌, ◌≢◌, ℕ, zero, suc, ◌+◌, ◌-◌, ◌<◌, ◌≤◌, max, List, length, inl, inr, ap, ◌∙◌, arith, length-set}
+use Rattle.std.proofs.Common.{◌≡◌, ◌≢◌, ℕ, ◌+◌, ◌-◌, ◌<◌, ◌≤◌, max, List, length, inl, inr, ap, ◌∙◌, arith, length-set}
 use Rattle.std.proofs.lemmas.Bool.Decides.{eqb_tells}
 use Rattle.std.proofs.lemmas.Bool.{cases_lt}
 use Rattle.std.proofs.lemmas.List.{get_or-set_same, get_or-set_other}
 use Rattle.pgn_threads.specs.Drain.{told_at, heard_up, heard_down, Rises, AreTop}
 
-pub rises-first : (ts : List ℕ) → Rises ts 1
-rises-first ts zero lt = omega arith
-rises-first ts (suc j) lt = absurd (omega (arith, lt))
-
+-- what the first ones were told rises still when one more has heard from the one before it
 pub rises-on : (ts : List ℕ) (i : ℕ) → 0 < i → i < length ts → Rises ts i → Rises (heard_up ts i) (i + 1)
 rises-on ts i first last h j lt =
     let top : ℕ = max (told_at ts i) (told_at ts (i - 1)) in
@@ -25,6 +22,7 @@ rises-on ts i first last h j lt =
       | inr above ↦ let same : j ≡ i = omega (arith, lt, above) in absurd (other same)
     ]
 
+-- where it rises to the last, the last knows the most
 pub rises-top : (ts : List ℕ) (n i : ℕ) → length ts ≡ n → n ≤ i → i ≤ max 1 n → Rises ts i → AreTop ts (n - 1)
 rises-top ts n i len past within h j from last k lt =
     let place : j ≡ i - 1 = omega (arith, len, past, within, from, last) in
@@ -32,6 +30,7 @@ rises-top ts n i len past within h j from last k lt =
     let same : told_at ts j ≡ told_at ts (i - 1) = ap (λ (m : ℕ). told_at ts m) place in
     omega (arith, same, h k less)
 
+-- who hears from one that knows the most knows the most
 pub tops-on : (ts : List ℕ) (i : ℕ) → 0 < i → i < length ts → AreTop ts i → AreTop (heard_down ts i) (i - 1)
 tops-on ts i first last h j from jlt k klt =
     let top : ℕ = max (told_at ts (i - 1)) (told_at ts i) in

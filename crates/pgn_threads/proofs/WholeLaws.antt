@@ -30,6 +30,7 @@ use Rattle.pgn_threads.proofs.ListLemmas.{All-unmap}
 use Rattle.pgn_threads.proofs.OpenLaws.{all-named}
 use Rattle.pgn_threads.proofs.RunLaws.{runs-are_legal}
 
+-- a map behind a map is one map
 pub map-twice : {X Y Z : Type 0} (f : Y → Z) (g : X → Y) (xs : List X) → map f (map g xs) ≡ map (λ x. f (g x)) xs
 map-twice f g [] = refl
 map-twice f g (x ∷ xs) = ap (λ (zs : List _). f (g x) ∷ zs) (map-twice f g xs)
@@ -49,6 +50,7 @@ module _ {P : Type 0} (plan : FlagPlan) (patience : ℕ) (sections : List Sectio
       (All-same (HasGiven plan patience) (map script_of sessions) (map (script_for plan patience) sections) scripts
       (All-map (HasGiven plan patience) (script_for plan patience) sections (λ k d lt. (refl, refl))))
 
+  -- the sections of the scenario are those of the sessions
   pub sections-are : sections ≡ map (λ s. s.section) sessions
   sections-are =
       sym (map-itself sections) ∙ sym (map-twice (λ (script : Script). script.section) (script_for plan patience) sections)
@@ -79,6 +81,7 @@ legal-over scenario shape plan patience parts count passes traces same shown g s
     (runs-are_legal scenario shape plan patience parts count h sections numbered flags over up))
     g read
 
+-- sessions of a sound scenario that are over, were drained and gathered, make a legal run
 pub sessions-legal : {P : Type 0} (is_own : P → Type 0) (shape : Shape) (known : P → Known) (scenario : Scenario) (plan : FlagPlan) (patience : ℕ) (sessions : List (Session P)) (count : ℕ) (passes : List Known) (traces : List Trace)
     → All (λ k. IsWithin k) passes → IsSound scenario → plan.first_end ≡ length scenario.flags → map script_of sessions ≡ map (script_for plan patience) scenario.sections
     → All (IsOver is_own shape known) sessions → All (HasReadAll (passes_of known sessions)) (passes_of known sessions)
@@ -95,10 +98,6 @@ sessions-legal {P} is_own shape known scenario plan patience sessions count pass
     sound.numbered (all-named plan scenario first sound)
     (All-map (HasRunOut shape plan patience) (λ (s : Session P). part_of known s) sessions (λ k d lt. over-run_out is_own shape known plan patience (get_or sessions k d) (all-within k d lt) (given k d lt) (over k d lt)))
     (subst (λ (ks : List Known). All (HasReadAll ks) ks) same read)
-
--- the sessions' numbers, by their passes
-abbrev NumberedBy : {P : Type 0} → (P → Known) → Session P → Type 0
-NumberedBy known s = (known s.pass).session ≡ s.section.no
 
 numbers-of : (n : ℕ) (sections : List Section) → AreNumbered n sections → map (λ section. section.no) sections ≡ range_with_len n (length sections)
 numbers-of n [] h = refl
@@ -137,6 +136,7 @@ passes-in_order {P} is_own shape known sessions passes numbers are over is =
     ap (λ (ps : List P). map (λ (pass : P). (known pass).session) ps) is ∙ map-twice (λ (pass : P). (known pass).session) (λ (s : Session P). s.pass) sessions
     ∙ same-numbers known sessions (λ k d lt. (over k d lt).rested.stands.session) ∙ are
 
+-- the passes of sessions that are over are the hub's
 pub all-own : {P : Type 0} (is_own : P → Type 0) (shape : Shape) (known : P → Known) (sessions : List (Session P)) (passes : List P) → All (IsOver is_own shape known) sessions → passes ≡ map (λ s. s.pass) sessions → All is_own passes
 all-own {P} is_own shape known sessions passes over is = All-same is_own passes (map (λ (s : Session P). s.pass) sessions) is (All-map is_own (λ (s : Session P). s.pass) sessions (λ k d lt. (over k d lt).own))
 

@@ -30,12 +30,15 @@ module _ {P : Type 0} (is_own : P → Type 0) (shape : Shape) (known : P → Kno
   pub no-turns : (xs : List (Session P)) → All (IsReady is_own shape known) xs → HaveTakenTurns is_own shape xs xs
   no-turns xs ready = record { held = All-weaker (IsReady is_own shape known) (IsHeld is_own shape) (λ s r. record { own = r.own; served = r.served }) xs ready; scripts = refl }
 
+  -- turns behind turns are turns
   pub further-turns : (xs ys zs : List (Session P)) → HaveTakenTurns is_own shape xs ys → HaveTakenTurns is_own shape ys zs → HaveTakenTurns is_own shape xs zs
   further-turns xs ys zs f g = record { held = g.held; scripts = g.scripts ∙ f.scripts }
 
+  -- the first ones of sessions that are ready are so
   pub front-ready : (xs ys : List (Session P)) → All (IsReady is_own shape known) (xs ++ ys) → All (IsReady is_own shape known) xs
   front-ready xs ys ready = all-front (IsReady is_own shape known) xs ys ready
 
+  -- and those behind them
   pub behind-ready : (xs ys : List (Session P)) → All (IsReady is_own shape known) (xs ++ ys) → All (IsReady is_own shape known) ys
   behind-ready xs ys ready = all-back (IsReady is_own shape known) xs ys ready
 
@@ -46,6 +49,7 @@ module _ {P : Type 0} (is_own : P → Type 0) (shape : Shape) (known : P → Kno
       ∙ ap (λ (scripts : List Script). map script_of left ++ scripts) r
       ∙ sym (map-append (λ (s : Session P). script_of s) left right)
 
+  -- turns of the first and of those behind them are turns of all
   pub both-turns : (left left_new right right_new : List (Session P)) → HaveTakenTurns is_own shape left left_new → HaveTakenTurns is_own shape right right_new → HaveTakenTurns is_own shape (left ++ right) (left_new ++ right_new)
   both-turns left left_new right right_new l r = record { held = All-append (IsHeld is_own shape) left_new right_new l.held r.held; scripts = both-scripts left left_new right right_new l.scripts r.scripts }
 
@@ -71,14 +75,17 @@ module _ {P : Type 0} (is_own : P → Type 0) (shape : Shape) (known : P → Kno
     gave_up = any-front (HasGivenUp known) left_new right_new l.gave_up;
   }
 
+  -- halves that have run are a whole that has run
   pub both-halves : {A E : Type 0} (whole left left_new right right_new : List (Session P)) (first second : Result A E) → AreReadyHalves is_own shape known whole left right → HaveRun is_own shape known left left_new first
       → HaveRun is_own shape known right right_new second → HaveRun is_own shape known whole (left_new ++ right_new) (result_and first second)
   both-halves whole left left_new right right_new first second halves l r =
       subst (λ (xs : List (Session P)). HaveRun is_own shape known xs (left_new ++ right_new) (result_and first second)) (sym halves.cut) (both-ran left left_new right right_new first second l r)
 
+  -- both halves together are ready still
   pub still-ready : (whole left right : List (Session P)) → AreReadyHalves is_own shape known whole left right → All (IsReady is_own shape known) (left ++ right)
   still-ready whole left right halves = All-append (IsReady is_own shape known) left right halves.left_ready halves.right_ready
 
+  -- and what they come to, run as one, the whole has come to
   pub whole-ran : {A E : Type 0} (whole left right new : List (Session P)) (r : Result A E) → AreReadyHalves is_own shape known whole left right → HaveRun is_own shape known (left ++ right) new r → HaveRun is_own shape known whole new r
   whole-ran whole left right new r halves ran = subst (λ (xs : List (Session P)). HaveRun is_own shape known xs new r) (sym halves.cut) ran
 
@@ -113,6 +120,7 @@ module _ {P : Type 0} (is_own : P → Type 0) (shape : Shape) (known : P → Kno
             gave_up = all-any (HasGivenUp known) new (omega (arith, some, as_many)) gave_up;
           }
 
+  -- sessions whose turns were refused memory can give up
   pub held-after : {E : Type 0} (old mid : List (Session P)) (rounds : Result Unit E) → HaveTakenTurns is_own shape old mid → OnErr rounds (All (IsHeld is_own shape) mid)
   held-after old mid (Ok a) turns = tt
   held-after old mid (Err x) turns = turns.held

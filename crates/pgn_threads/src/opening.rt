@@ -26,20 +26,26 @@ pub(crate) fn seats_for(alloc: Global, sections: &[Section]) -> Result<Vec<SeatS
     Ok(seats)
 }
 
+/// What the sessions of a scenario share: the seed of their hashes, the plan of their end flags, and their patience.
+#[derive(Clone, Copy)]
+pub(crate) struct Shared {
+    pub(crate) seed: Seed,
+    pub(crate) plan: FlagPlan,
+    pub(crate) patience: u64,
+}
+
 /// A session for each section, before the first line of its script, with its pass as the hub was opened.
 pub(crate) fn open_sessions<P: PassView + Send + Drop>(
     alloc: Global,
-    seed: Seed,
     passes: Vec<P>,
     sections: &[Section],
-    plan: FlagPlan,
-    patience: u64,
+    shared: Shared,
 ) -> Result<Vec<Session<P>>, AllocError>
     requires opened { map P.known passes.items ≡ map opened_for sections.now }
     requires fit { All IsFit sections.now }
-    requires patient { 1 ≤ patience }
+    requires patient { 1 ≤ shared.patience }
     ensures passes { IfOk result (λ sessions. map (λ s. s.pass) sessions.items ≡ passes.items) }
-    ensures scripts { IfOk result (λ sessions. map script_of sessions.items ≡ map (script_for plan patience) sections.now) }
+    ensures scripts { IfOk result (λ sessions. map script_of sessions.items ≡ map (script_for shared.plan shared.patience) sections.now) }
     ensures rested { IfOk result (λ sessions. (shape : Shape) → All (HasRest shape P.known) sessions.items) }
 {
     let mut sessions = Vec::with_capacity(alloc, sections.len())?;
@@ -49,6 +55,11 @@ pub(crate) fn open_sessions<P: PassView + Send + Drop>(
             unreachable!();
         };
         let section = section.copy(alloc)?;
+        let Shared {
+            seed,
+            plan,
+            patience,
+        } = shared;
         sessions.push(Session::new(alloc, seed, pass, section, plan, patience)?)?;
     }
     Ok(sessions)

@@ -1,4 +1,4 @@
-ghost use Rattle.std.specs.Prelude.{◌≡◌, ◌+◌, ◌≤◌, ℕ, map, length, IfOk, All};
+ghost use Rattle.std.specs.Prelude.{◌≡◌, ◌≤◌, ℕ, map, length, IfOk, All};
 ghost use Rattle.std.specs.List.{range_with_len};
 ghost use Rattle.pgn_base.specs.declared.limits.TheConstants.{PAGES_MIN, PAGES_MAX};
 ghost use Rattle.pgn_base.specs.declared.format.Format.{Format};
@@ -10,7 +10,7 @@ ghost use Rattle.pgn_session.specs.Runs.{IsReady, IsOver, script_of, shown_of};
 ghost use Rattle.pgn_threads.specs.Drain.{EachMayEndWithRead};
 ghost use Rattle.pgn_threads.specs.Opened.{AreOpenedFor, plan_for, script_for, shape_for};
 
-use crate::opening::{logs, open_sessions, seats_for};
+use crate::opening::{Shared, logs, open_sessions, seats_for};
 use crate::{drain, run_sessions};
 use pgn_base::{Format, Seed};
 use pgn_hub::{Hub, Setup};
@@ -80,7 +80,12 @@ pub fn open_on_hub<H: Hub + Drop>(
     let seats = seats_for(alloc, sections)?;
     let setup = Setup::new(pages, plan.first_end + plan.sessions, seats, format);
     let (hub, passes) = H::open(alloc, setup)?;
-    let sessions = open_sessions(alloc, seed, passes, sections, plan, patience)?;
+    let shared = Shared {
+        seed,
+        plan,
+        patience,
+    };
+    let sessions = open_sessions(alloc, passes, sections, shared)?;
     Ok((hub, sessions))
 }
 

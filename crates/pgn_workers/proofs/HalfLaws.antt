@@ -1,5 +1,5 @@
 -- Two halves that have run, or neither.
-use Rattle.std.proofs.Common.{◌≡◌, List, ◌++◌, Option, Some, None, Result, sym, subst}
+use Rattle.std.proofs.Common.{◌≡◌, ◌++◌, Option, Some, None, Result, sym, subst}
 use Rattle.std.specs.Result.{result_and}
 use Rattle.pgn_workers.specs.Parts.{Part, part, HalvesMayHaveRun, MayHaveRun, MayStillRun, StandsFor}
 
@@ -8,6 +8,7 @@ module _ {W A X : Type 0} (ran : Part W A → Part W A → X → Type 0) (old ne
   pub has-run : (o : Option X) (answer : X) → o ≡ Some answer → MayHaveRun ran old new o → ran old new answer
   has-run o answer is may = subst (λ (x : Option X). MayHaveRun ran old new x) is may
 
+  -- a half that had not run has run once the caller has run it
   pub runs-still : (o : Option X) (last : Part W A) (answer : X) → o ≡ None → MayHaveRun ran old new o → ran new last answer → ran old last answer
   runs-still o last answer is may now =
       let same : new ≡ old = subst (λ (x : Option X). MayHaveRun ran old new x) is may in

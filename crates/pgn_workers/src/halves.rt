@@ -1,4 +1,4 @@
-ghost use Rattle.std.specs.Prelude.{◌≡◌, ◌<◌, ◌≤◌, length};
+ghost use Rattle.std.specs.Prelude.{◌<◌, ◌≤◌, length};
 ghost use Rattle.std.specs.Thread.{IsSync, IsSend};
 ghost use Rattle.pgn_workers.specs.Jobs.{IsJob};
 ghost use Rattle.pgn_workers.specs.Parts.{part, HalvesMayHaveRun, MayHaveRun, MayStillRun};
@@ -21,7 +21,9 @@ pub fn run<
     E: Fn(&mut [W], &mut A, Result<(), AllocError>) -> Result<(), AllocError> + Sync,
     R: Threads + Wait + Sync,
 >(rt: &R, job: &Job<C, T, U, E>, workers: &mut [W], hand: &mut A) -> Result<(), AllocError>
-    requires job { IsJob T.Fn U.Fn E.Fn (C.begins job.now.work) (C.goes job.now.work) (C.took job.now.work) (C.ready job.now.work) (C.over job.now.work) (C.ran job.now.work) job.now.turn job.now.wait job.now.end }
+    requires job { IsJob T.Fn U.Fn E.Fn (C.begins job.now.work) (C.goes job.now.work)
+        (C.took job.now.work) (C.ready job.now.work) (C.over job.now.work) (C.ran job.now.work)
+        job.now.turn job.now.wait job.now.end }
     requires begins { C.begins job.now.work (part workers.old hand.old) }
     ensures { C.ran job.now.work (part workers.old hand.old) (part workers.new hand.new) result }
 {
@@ -45,10 +47,13 @@ fn run_apart<
     E: Fn(&mut [W], &mut A, Result<(), AllocError>) -> Result<(), AllocError> + Sync,
     R: Threads + Wait + Sync,
 >(rt: &R, job: &Job<C, T, U, E>, workers: &mut [W], hand: &mut A) -> Option<Result<(), AllocError>>
-    requires job { IsJob T.Fn U.Fn E.Fn (C.begins job.now.work) (C.goes job.now.work) (C.took job.now.work) (C.ready job.now.work) (C.over job.now.work) (C.ran job.now.work) job.now.turn job.now.wait job.now.end }
+    requires job { IsJob T.Fn U.Fn E.Fn (C.begins job.now.work) (C.goes job.now.work)
+        (C.took job.now.work) (C.ready job.now.work) (C.over job.now.work) (C.ran job.now.work)
+        job.now.turn job.now.wait job.now.end }
     requires some { 2 ≤ length workers.old }
     requires begins { C.begins job.now.work (part workers.old hand.old) }
-    ensures { MayStillRun (C.begins job.now.work) (C.ran job.now.work) (part workers.old hand.old) (part workers.new hand.new) result }
+    ensures { MayStillRun (C.begins job.now.work) (C.ran job.now.work) (part workers.old hand.old)
+        (part workers.new hand.new) result }
 {
     job.work.laws();
     let (left, right) = workers.split_at_mut(workers.len() / 2);
@@ -77,11 +82,14 @@ fn run_halves<
     right: &mut [W],
     other: &mut A,
 ) -> Option<Result<(), AllocError>>
-    requires job { IsJob T.Fn U.Fn E.Fn (C.begins job.now.work) (C.goes job.now.work) (C.took job.now.work) (C.ready job.now.work) (C.over job.now.work) (C.ran job.now.work) job.now.turn job.now.wait job.now.end }
+    requires job { IsJob T.Fn U.Fn E.Fn (C.begins job.now.work) (C.goes job.now.work)
+        (C.took job.now.work) (C.ready job.now.work) (C.over job.now.work) (C.ran job.now.work)
+        job.now.turn job.now.wait job.now.end }
     requires some { (0 < length left.old) × (0 < length right.old) }
     requires left { C.begins job.now.work (part left.old hand.old) }
     requires right { C.begins job.now.work (part right.old other.old) }
-    ensures { HalvesMayHaveRun (C.ran job.now.work) (part left.old hand.old) (part left.new hand.new) (part right.old other.old) (part right.new other.new) result }
+    ensures { HalvesMayHaveRun (C.ran job.now.work) (part left.old hand.old)
+        (part left.new hand.new) (part right.old other.old) (part right.new other.new) result }
 {
     match join_halves(rt, job, left, hand, right, other) {
         (None, None) => None,
@@ -112,23 +120,39 @@ fn join_halves<
     Option<Result<(), AllocError>>,
     Option<Result<(), AllocError>>,
 )
-    requires job { IsJob T.Fn U.Fn E.Fn (C.begins job.now.work) (C.goes job.now.work) (C.took job.now.work) (C.ready job.now.work) (C.over job.now.work) (C.ran job.now.work) job.now.turn job.now.wait job.now.end }
+    requires job { IsJob T.Fn U.Fn E.Fn (C.begins job.now.work) (C.goes job.now.work)
+        (C.took job.now.work) (C.ready job.now.work) (C.over job.now.work) (C.ran job.now.work)
+        job.now.turn job.now.wait job.now.end }
     requires some { (0 < length left.old) × (0 < length right.old) }
     requires left { C.begins job.now.work (part left.old hand.old) }
     requires right { C.begins job.now.work (part right.old other.old) }
-    ensures left { MayHaveRun (C.ran job.now.work) (part left.old hand.old) (part left.new hand.new) result.0 }
-    ensures right { MayHaveRun (C.ran job.now.work) (part right.old other.old) (part right.new other.new) result.1 }
+    ensures left { MayHaveRun (C.ran job.now.work) (part left.old hand.old) (part left.new hand.new)
+        result.0 }
+    ensures right { MayHaveRun (C.ran job.now.work) (part right.old other.old)
+        (part right.new other.new) result.1 }
 {
     let meeting = Meeting::new();
     join_mut(
         rt,
         &mut || -> Option<Result<(), AllocError>>
-            requires { IsSync R.row × IsSync C.row × IsSync T.row × IsSync U.row × IsSync E.row × IsSend W.row × IsSend A.row × IsJob T.Fn U.Fn E.Fn (C.begins job.now.work) (C.goes job.now.work) (C.took job.now.work) (C.ready job.now.work) (C.over job.now.work) (C.ran job.now.work) job.now.turn job.now.wait job.now.end × C.begins job.now.work (part left.now hand.now) }
-            ensures { MayHaveRun (C.ran job.entry.now.work) (part left.entry.now hand.entry.now) (part left.exit.now hand.exit.now) result }
+            requires { IsSync R.row × IsSync C.row × IsSync T.row × IsSync U.row × IsSync E.row
+                × IsSend W.row × IsSend A.row
+                × IsJob T.Fn U.Fn E.Fn (C.begins job.now.work) (C.goes job.now.work)
+                (C.took job.now.work) (C.ready job.now.work) (C.over job.now.work)
+                (C.ran job.now.work) job.now.turn job.now.wait job.now.end
+                × C.begins job.now.work (part left.now hand.now) }
+            ensures { MayHaveRun (C.ran job.entry.now.work) (part left.entry.now hand.entry.now)
+                (part left.exit.now hand.exit.now) result }
         { arrive(rt, job, &meeting, left, hand) },
         &mut || -> Option<Result<(), AllocError>>
-            requires { IsSync R.row × IsSync C.row × IsSync T.row × IsSync U.row × IsSync E.row × IsSend W.row × IsSend A.row × IsJob T.Fn U.Fn E.Fn (C.begins job.now.work) (C.goes job.now.work) (C.took job.now.work) (C.ready job.now.work) (C.over job.now.work) (C.ran job.now.work) job.now.turn job.now.wait job.now.end × C.begins job.now.work (part right.now other.now) }
-            ensures { MayHaveRun (C.ran job.entry.now.work) (part right.entry.now other.entry.now) (part right.exit.now other.exit.now) result }
+            requires { IsSync R.row × IsSync C.row × IsSync T.row × IsSync U.row × IsSync E.row
+                × IsSend W.row × IsSend A.row
+                × IsJob T.Fn U.Fn E.Fn (C.begins job.now.work) (C.goes job.now.work)
+                (C.took job.now.work) (C.ready job.now.work) (C.over job.now.work)
+                (C.ran job.now.work) job.now.turn job.now.wait job.now.end
+                × C.begins job.now.work (part right.now other.now) }
+            ensures { MayHaveRun (C.ran job.entry.now.work) (part right.entry.now other.entry.now)
+                (part right.exit.now other.exit.now) result }
         { expect(rt, job, &meeting, right, other) },
     )
 }
@@ -150,9 +174,12 @@ fn arrive<
     workers: &mut [W],
     hand: &mut A,
 ) -> Option<Result<(), AllocError>>
-    requires job { IsJob T.Fn U.Fn E.Fn (C.begins job.now.work) (C.goes job.now.work) (C.took job.now.work) (C.ready job.now.work) (C.over job.now.work) (C.ran job.now.work) job.now.turn job.now.wait job.now.end }
+    requires job { IsJob T.Fn U.Fn E.Fn (C.begins job.now.work) (C.goes job.now.work)
+        (C.took job.now.work) (C.ready job.now.work) (C.over job.now.work) (C.ran job.now.work)
+        job.now.turn job.now.wait job.now.end }
     requires begins { C.begins job.now.work (part workers.old hand.old) }
-    ensures { MayHaveRun (C.ran job.now.work) (part workers.old hand.old) (part workers.new hand.new) result }
+    ensures { MayHaveRun (C.ran job.now.work) (part workers.old hand.old)
+        (part workers.new hand.new) result }
 {
     if !meeting.comes() {
         return None;
@@ -177,9 +204,12 @@ fn expect<
     workers: &mut [W],
     hand: &mut A,
 ) -> Option<Result<(), AllocError>>
-    requires job { IsJob T.Fn U.Fn E.Fn (C.begins job.now.work) (C.goes job.now.work) (C.took job.now.work) (C.ready job.now.work) (C.over job.now.work) (C.ran job.now.work) job.now.turn job.now.wait job.now.end }
+    requires job { IsJob T.Fn U.Fn E.Fn (C.begins job.now.work) (C.goes job.now.work)
+        (C.took job.now.work) (C.ready job.now.work) (C.over job.now.work) (C.ran job.now.work)
+        job.now.turn job.now.wait job.now.end }
     requires begins { C.begins job.now.work (part workers.old hand.old) }
-    ensures { MayHaveRun (C.ran job.now.work) (part workers.old hand.old) (part workers.new hand.new) result }
+    ensures { MayHaveRun (C.ran job.now.work) (part workers.old hand.old)
+        (part workers.new hand.new) result }
 {
     if !meeting.expects(rt) {
         return None;

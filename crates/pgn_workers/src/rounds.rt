@@ -1,4 +1,4 @@
-ghost use Rattle.std.specs.Prelude.{◌≡◌, ◌<◌, length, Ok, OnOk, All};
+ghost use Rattle.std.specs.Prelude.{◌≡◌, Ok, OnOk, All};
 ghost use Rattle.pgn_workers.specs.Jobs.{IsJob};
 ghost use Rattle.pgn_workers.specs.Parts.{part};
 
@@ -18,7 +18,9 @@ pub fn run_in_turns<
     E: Fn(&mut [W], &mut A, Result<(), AllocError>) -> Result<(), AllocError>,
     R: Wait,
 >(rt: &R, job: &Job<C, T, U, E>, workers: &mut [W], hand: &mut A) -> Result<(), AllocError>
-    requires job { IsJob T.Fn U.Fn E.Fn (C.begins job.now.work) (C.goes job.now.work) (C.took job.now.work) (C.ready job.now.work) (C.over job.now.work) (C.ran job.now.work) job.now.turn job.now.wait job.now.end }
+    requires job { IsJob T.Fn U.Fn E.Fn (C.begins job.now.work) (C.goes job.now.work)
+        (C.took job.now.work) (C.ready job.now.work) (C.over job.now.work) (C.ran job.now.work)
+        job.now.turn job.now.wait job.now.end }
     requires begins { C.begins job.now.work (part workers.old hand.old) }
     ensures { C.ran job.now.work (part workers.old hand.old) (part workers.new hand.new) result }
 {
@@ -40,7 +42,9 @@ fn take_rounds<
     E: Fn(&mut [W], &mut A, Result<(), AllocError>) -> Result<(), AllocError>,
     R: Wait,
 >(rt: &R, job: &Job<C, T, U, E>, workers: &mut [W], hand: &mut A) -> Result<(), AllocError>
-    requires job { IsJob T.Fn U.Fn E.Fn (C.begins job.now.work) (C.goes job.now.work) (C.took job.now.work) (C.ready job.now.work) (C.over job.now.work) (C.ran job.now.work) job.now.turn job.now.wait job.now.end }
+    requires job { IsJob T.Fn U.Fn E.Fn (C.begins job.now.work) (C.goes job.now.work)
+        (C.took job.now.work) (C.ready job.now.work) (C.over job.now.work) (C.ran job.now.work)
+        job.now.turn job.now.wait job.now.end }
     requires goes { C.goes job.now.work (part workers.old hand.old) }
     ensures took { C.took job.now.work (part workers.old hand.old) (part workers.new hand.new) }
     ensures over { OnOk result (All (C.over job.now.work) workers.new) }
@@ -66,7 +70,9 @@ fn wait_behind<
     U: Fn(&mut [W], &mut A, Pause) -> u32,
     E: Fn(&mut [W], &mut A, Result<(), AllocError>) -> Result<(), AllocError>,
 >(job: &Job<C, T, U, E>, workers: &mut [W], hand: &mut A, turn: Turn, waits: u32) -> u32
-    requires job { IsJob T.Fn U.Fn E.Fn (C.begins job.now.work) (C.goes job.now.work) (C.took job.now.work) (C.ready job.now.work) (C.over job.now.work) (C.ran job.now.work) job.now.turn job.now.wait job.now.end }
+    requires job { IsJob T.Fn U.Fn E.Fn (C.begins job.now.work) (C.goes job.now.work)
+        (C.took job.now.work) (C.ready job.now.work) (C.over job.now.work) (C.ran job.now.work)
+        job.now.turn job.now.wait job.now.end }
     requires goes { C.goes job.now.work (part workers.old hand.old) }
     requires ready { All (C.ready job.now.work) workers.old }
     ensures took { C.took job.now.work (part workers.old hand.old) (part workers.new hand.new) }
@@ -89,7 +95,9 @@ fn take_round<
     U: Fn(&mut [W], &mut A, Pause) -> u32,
     E: Fn(&mut [W], &mut A, Result<(), AllocError>) -> Result<(), AllocError>,
 >(job: &Job<C, T, U, E>, workers: &mut [W], hand: &mut A) -> Result<Turn, AllocError>
-    requires job { IsJob T.Fn U.Fn E.Fn (C.begins job.now.work) (C.goes job.now.work) (C.took job.now.work) (C.ready job.now.work) (C.over job.now.work) (C.ran job.now.work) job.now.turn job.now.wait job.now.end }
+    requires job { IsJob T.Fn U.Fn E.Fn (C.begins job.now.work) (C.goes job.now.work)
+        (C.took job.now.work) (C.ready job.now.work) (C.over job.now.work) (C.ran job.now.work)
+        job.now.turn job.now.wait job.now.end }
     requires goes { C.goes job.now.work (part workers.old hand.old) }
     ensures took { C.took job.now.work (part workers.old hand.old) (part workers.new hand.new) }
     ensures ready { OnOk result (All (C.ready job.now.work) workers.new) }

@@ -3,7 +3,7 @@ ghost use Rattle.std.specs.Prelude.{◌≡◌, ◌≢◌, Ok};
 use std::alloc::AllocError;
 
 /// What a turn of a worker came to, or a round of turns.
-#[derive(Clone, Copy, Debug, PartialEq, Eq)]
+#[derive(Clone, Copy, PartialEq, Eq)]
 pub enum Turn {
     /// Something was done.
     Did,
@@ -29,7 +29,8 @@ pub(crate) fn both_turns(
     first: Result<Turn, AllocError>,
     second: Result<Turn, AllocError>,
 ) -> Result<Turn, AllocError>
-    ensures done { (turn : Turn) → result ≡ Ok turn → (one : Turn) × (other : Turn) × (first ≡ Ok one) × (second ≡ Ok other) }
+    ensures done { (turn : Turn) → result ≡ Ok turn → (one : Turn) × (other : Turn)
+        × (first ≡ Ok one) × (second ≡ Ok other) }
     ensures ended { result ≡ Ok Turn.Ended → (first ≡ Ok Turn.Ended) × (second ≡ Ok Turn.Ended) }
 {
     let turn = match (first?, second?) {

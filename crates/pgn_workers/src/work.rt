@@ -31,8 +31,10 @@ pub trait Work<W, A> {
 
     /// Cuts the hand of workers that have not begun: it becomes that of the first of them, so many, and the answer is that of the others.
     fn cut(&self, hand: &mut A, size: usize) -> A
-        requires { (xs : List W) × (ys : List W) × (length xs ≡ size) × begins self.now (part (xs ++ ys) hand.old) }
-        ensures { (xs ys : List W) → length xs ≡ size → begins self.now (part (xs ++ ys) hand.old) → cut_in self.now (part (xs ++ ys) hand.old) (part xs hand.new) (part ys result) };
+        requires { (xs : List W) × (ys : List W) × (length xs ≡ size)
+            × begins self.now (part (xs ++ ys) hand.old) }
+        ensures { (xs ys : List W) → length xs ≡ size → begins self.now (part (xs ++ ys) hand.old)
+            → cut_in self.now (part (xs ++ ys) hand.old) (part xs hand.new) (part ys result) };
 
     /// Makes the hands of two halves one again, once both have run or neither has.
     fn join(&self, hand: &mut A, other: A)
@@ -49,15 +51,26 @@ pub trait Work<W, A> {
     fn laws(&self)
         ensures goes_begun { (p : Part W A) → begins self.now p → goes self.now p }
         ensures took_none { (p : Part W A) → goes self.now p → took self.now p p }
-        ensures took_more { (p q r : Part W A) → took self.now p q → took self.now q r → took self.now p r }
-        ensures goes_on { (p q : Part W A) → goes self.now p → took self.now p q → All (ready self.now) q.workers → goes self.now q }
-        ensures goes_front { (xs ys : List W) (h : A) → goes self.now (part (xs ++ ys) h) → goes self.now (part xs h) }
-        ensures goes_behind { (xs ys : List W) (h : A) (p : Part W A) → goes self.now (part (xs ++ ys) h) → took self.now (part xs h) p → goes self.now (part ys p.hand) }
-        ensures took_both { (xs ys : List W) (h : A) (p q : Part W A) → goes self.now (part (xs ++ ys) h) → took self.now (part xs h) p → took self.now (part ys p.hand) q
+        ensures took_more { (p q r : Part W A) → took self.now p q → took self.now q r
+            → took self.now p r }
+        ensures goes_on { (p q : Part W A) → goes self.now p → took self.now p q
+            → All (ready self.now) q.workers → goes self.now q }
+        ensures goes_front { (xs ys : List W) (h : A) → goes self.now (part (xs ++ ys) h)
+            → goes self.now (part xs h) }
+        ensures goes_behind { (xs ys : List W) (h : A) (p : Part W A)
+            → goes self.now (part (xs ++ ys) h) → took self.now (part xs h) p
+            → goes self.now (part ys p.hand) }
+        ensures took_both { (xs ys : List W) (h : A) (p q : Part W A)
+            → goes self.now (part (xs ++ ys) h) → took self.now (part xs h) p
+            → took self.now (part ys p.hand) q
             → took self.now (part (xs ++ ys) h) (part (p.workers ++ q.workers) q.hand) }
         ensures begin_left { (p l r : Part W A) → cut_in self.now p l r → begins self.now l }
         ensures begin_right { (p l r : Part W A) → cut_in self.now p l r → begins self.now r }
-        ensures ran_both { (p l l_new r r_new : Part W A) (h : A) (a b : Result Unit AllocError) → cut_in self.now p l r → ran self.now l l_new a → ran self.now r r_new b
-            → joined self.now l_new.hand r_new.hand h → ran self.now p (part (l_new.workers ++ r_new.workers) h) (result_and a b) }
-        ensures ran_neither { (p l r : Part W A) (h : A) → cut_in self.now p l r → joined self.now l.hand r.hand h → StandsFor (begins self.now) (ran self.now) p (part (l.workers ++ r.workers) h) };
+        ensures ran_both { (p l l_new r r_new : Part W A) (h : A) (a b : Result Unit AllocError)
+            → cut_in self.now p l r → ran self.now l l_new a → ran self.now r r_new b
+            → joined self.now l_new.hand r_new.hand h
+            → ran self.now p (part (l_new.workers ++ r_new.workers) h) (result_and a b) }
+        ensures ran_neither { (p l r : Part W A) (h : A) → cut_in self.now p l r
+            → joined self.now l.hand r.hand h
+            → StandsFor (begins self.now) (ran self.now) p (part (l.workers ++ r.workers) h) };
 }

@@ -1,7 +1,6 @@
-use Rattle.std.proofs.Common.{◌-◌, length, drop, length-drop, subst, sym, arith}
-use Rattle.std.proofs.lemmas.List.{take_all}
+use Rattle.std.proofs.Common.{length}
 use Rattle.pgn_outlet.specs.Passes.{knows}
-use Rattle.pgn_live.proofs.TellLaws.{pushed-one, told-none, told-rest, told-same, told-set}
+use Rattle.pgn_live.proofs.TellLaws.{pushed-one, told-none, told-set}
 use Rattle.pgn_live.proofs.telling.tell.Goals as goal
 
 pub returns-in-Ok-clause-alone : goal.returns-in-Ok-clause-alone

@@ -1,12 +1,12 @@
 use Rattle.std.proofs.Common.{◌≡◌, true}
 use Rattle.pgn_outlet.specs.Passes.{IsPassOf, knows}
-use Rattle.pgn_live.specs.Lives.{StandIn, Wrote}
+use Rattle.pgn_live.specs.Lives.{HasWritten, StandIn}
 use Rattle.pgn_live.proofs.writing.write_rest.Given as goal
 
 abbrev pub invariant-loop : goal.invariant-loop
 invariant-loop g l = record {
-  own : IsPassOf l.fn.outlet l.pass;
-  takes : (knows l.pass).takes ≡ true;
-  stand : StandIn l.fn.sections l.cursors;
-  wrote : Wrote g.K.Sink.held g.K.Sink.faults l.fn.sections (knows l.fn.pass) (knows l.pass) l.fn.sink l.fn.out l.sink l.out;
+  own : IsPassOf l.fn.live.outlet.now l.writer.pass;
+  takes : (knows l.writer.pass).takes ≡ true;
+  stand : StandIn l.fn.live.sections.now l.writer.cursors.items;
+  wrote : HasWritten g.K.Sink.held g.K.Sink.faults l.fn.live.sections.now l.fn.writer l.writer l.fn.sink l.sink;
 }

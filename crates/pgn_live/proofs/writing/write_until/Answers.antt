@@ -7,7 +7,7 @@ loop-preserved-then-write_next g c = record {
   own = c.write_next.ensures.own;
   takes = c.write_next.ensures.takes;
   stand = c.write_next.ensures.stand;
-  wrote = Wrote-trans g.K.Sink.held g.K.Sink.faults c.args.sections.now (knows c.args.pass.now) (knows c.loop.pass) (knows c.write_next.new.pass) c.args.sink.now c.loop.sink c.write_next.new.sink c.args.out.now c.loop.out c.write_next.new.out c.loop.invariant.wrote c.write_next.ensures.wrote;
+  wrote = Wrote-trans g.K.Sink.held g.K.Sink.faults c.args.live.now.sections.now (knows c.args.writer.now.pass) (knows c.loop.writer.pass) (knows c.write_next.new.writer.pass) c.args.sink.now c.loop.sink c.write_next.new.sink c.args.writer.now.out c.loop.writer.out c.write_next.new.writer.out c.loop.invariant.wrote c.write_next.ensures.wrote;
 }
 
 pub loop-preserved : goal.loop-preserved
@@ -15,5 +15,5 @@ loop-preserved g c = record {
   own = c.write_next.ensures.own;
   takes = c.write_next.ensures.takes;
   stand = c.write_next.ensures.stand;
-  wrote = Wrote-trans g.K.Sink.held g.K.Sink.faults c.args.sections.now (knows c.args.pass.now) (knows c.loop.pass) (knows c.write_next.new.pass) c.args.sink.now c.loop.sink c.write_next.new.sink c.args.out.now c.loop.out c.write_next.new.out c.loop.invariant.wrote c.write_next.ensures.wrote;
+  wrote = Wrote-trans g.K.Sink.held g.K.Sink.faults c.args.live.now.sections.now (knows c.args.writer.now.pass) (knows c.loop.writer.pass) (knows c.write_next.new.writer.pass) c.args.sink.now c.loop.sink c.write_next.new.sink c.args.writer.now.out c.loop.writer.out c.write_next.new.writer.out c.loop.invariant.wrote c.write_next.ensures.wrote;
 }
