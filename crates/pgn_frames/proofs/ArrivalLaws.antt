@@ -7,7 +7,7 @@ use Rattle.pgn_queries.specs.Client.{OfKnown}
 use Rattle.pgn_queries.proofs.ClientLaws.{OfKnown-behind, OfKnown-last, OfKnown-read}
 use Rattle.pgn_frames.specs.declared.frame_fault.FrameFault.TheVariants.{CutFrame, NoSeat}
 use Rattle.pgn_frames.specs.Frames as frames
-use Rattle.pgn_frames.specs.Frames.{Framing, Over, Comes, Wrong, IsHead, IsSeat, NextFrame}
+use Rattle.pgn_frames.specs.Frames.{Framing, Over, Comes, Wrong, IsSeat, NextFrame}
 
 -- no byte came
 pub Ended-known : (seats at n : ℕ) (head : List ℕ) (a b : Option (List ℕ)) → n ≡ 0 → Consumes a b (take n head) → IsAtEnd b → OfKnown (NextFrame seats at Over) a b
@@ -64,8 +64,11 @@ last_two (a ∷ b ∷ c ∷ []) four = absurd (omega arith)
 last_two (a ∷ b ∷ c ∷ d ∷ []) four = refl
 last_two (a ∷ b ∷ c ∷ d ∷ x ∷ head) four = absurd (omega arith)
 
+-- what comes next, by its head
 pub ruleset head_laws = (Ended-known, CutHead-known, Head-known)
 
+-- and by its body
 pub ruleset body_laws = (BadSeat-known, CutBody-known, Whole-known)
 
+-- the two bytes of a number
 pub ruleset two_laws = (first_two, last_two)

@@ -331,6 +331,7 @@ next_same tally asks others close other later more e f g =
     ∙ ap (λ (c : Close). others ++ ask.End (next_line tally others) (parting_of c) ∷ later) f
     ∙ ap (λ (l : List Ask). others ++ ask.End (next_line tally others) (parting_of other) ∷ l) g
 
+-- signs ask for one thing
 pub one_asking : OneAsking
 one_asking tally signs _ _ (clients.SeatAsks.Last _ _ xs ls c e k) (clients.SeatAsks.Last _ _ ys os d f j) =
     let bytes : ys ≡ xs = bytes_one ys xs (sym f ∙ e) in
@@ -379,5 +380,6 @@ shorter_signs (suc size) tally signs few =
           (own.0 ++ ask.End (next_line tally own.0) (parting_of own.1) ∷ others.0, clients.SeatAsks.Next tally signs divided.bytes own.0 own.1 h.0 others.0 h.1 own.2 others.1)
     ]
 
+-- any signs ask for something, from any tally on
 pub each_is_asked : EachIsAsked
 each_is_asked tally signs = shorter_signs (suc (length signs)) tally signs (omega arith)

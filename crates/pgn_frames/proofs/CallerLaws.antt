@@ -14,29 +14,34 @@ use Rattle.pgn_frames.specs.declared.caller.Caller.{Caller}
 use Rattle.pgn_frames.specs.Clients.{QueryNext, SeatAsks, Tally}
 use Rattle.pgn_frames.specs.Callers.{AskOn, HasAsked, HasCome, HasEnded, IsSpent, IsUnfinished, PartsBy, Stand, Takes, TakesBytes, TakesFirst, TakesFirstBytes, Waits, behind_end, carried, holding, parting_behind, stand_of, with_put}
 use Rattle.pgn_frames.specs.Frames.{signs_in}
-use Rattle.pgn_frames.proofs.StandLaws.{HasCome-then, asks_on, come-end, come-in, come-left, come-none, come-over, come-passed, come-query, spent_by}
+use Rattle.pgn_frames.proofs.StandLaws.{HasCome-then, asks_on, come-end, come-in, come-left, come-over, come-passed, come-query, spent_by}
 
 -- what follows where a call answers so
 pub on_ok : {A E : Type 0} (r : Result A E) (P Q : Type 0) → (P → Q) → OnOk r P → OnOk r Q
 on_ok (Ok a) P Q f h = f h
 on_ok (Err e) P Q f h = tt
 
+-- what follows from a fact holds where it does, in a refusal
 pub on_err : {A E : Type 0} (r : Result A E) (P Q : Type 0) → (P → Q) → OnErr r P → OnErr r Q
 on_err (Ok a) P Q f h = tt
 on_err (Err e) P Q f h = f h
 
+-- what holds anyhow holds in a refusal
 pub err_any : {A E : Type 0} (r : Result A E) (P : Type 0) → P → OnErr r P
 err_any (Ok a) P h = tt
 err_any (Err e) P h = h
 
+-- where the result is a refusal, what is said of one holds
 pub err_of : {A E : Type 0} (r : Result A E) (P : Type 0) → is_err r ≡ true → OnErr r P → P
 err_of (Ok a) P e h = absurd (cc)
 err_of (Err x) P e h = h
 
+-- where it is none, what is said of an Ok holds
 pub ok_of : {A E : Type 0} (r : Result A E) (P : Type 0) → is_err r ≡ false → OnOk r P → P
 ok_of (Ok a) P e h = h
 ok_of (Err x) P e h = absurd (cc)
 
+-- two facts of an Ok, and what they give of its value
 pub if_ok-both : {A E : Type 0} (r : Result A E) (P R : Type 0) (Q : A → Type 0) → ((a : A) → P → R → Q a) → OnOk r P → OnOk r R → IfOk r Q
 if_ok-both (Ok a) P R Q f h k = f a h k
 if_ok-both (Err e) P R Q f h k = tt
@@ -58,17 +63,13 @@ put_more seat v xs ys =
     = append_assoc v.sent (carried seat (map Some xs)) (carried seat (map Some ys)) ∙ ap (λ (l : List (Came (Option Ask))). v.sent ++ l) both in
     ap (λ (l : List (Came (Option Ask))). let w : Hand (Option Ask) = record v { sent = l } in w) all
 
+-- what was put in two steps was put in one
 pub put-then : (seat : ℕ) (u v w : Hand (Option Ask)) (xs ys : List Ask) → v ≡ with_put seat u (map Some xs) → w ≡ with_put seat v (map Some ys) → w ≡ with_put seat u (map Some (xs ++ ys))
 put-then seat u v w xs ys e f = f ∙ ap (λ (h : Hand (Option Ask)). with_put seat h (map Some ys)) e ∙ put_more seat u xs ys
 
-pub put-same : (seat : ℕ) (u v w : Hand (Option Ask)) (xs : List Ask) → v ≡ with_put seat u (map Some xs) → w ≡ v → w ≡ with_put seat u (map Some xs)
-put-same seat u v w xs e f = f ∙ e
-
+-- a pass that has put may push still
 pub may-put : (seat number : ℕ) (v w : Hand (Option Ask)) (whats : List (Option Ask)) → w ≡ with_put seat v whats → MayPush v number → MayPush w number
 may-put seat number v w whats e h = subst (λ (h : Hand (Option Ask)). MayPush h number) (sym e) h
-
-pub may-same : (number : ℕ) (v w : Hand (Option Ask)) → w ≡ v → MayPush v number → MayPush w number
-may-same number v w e h = subst (λ (h : Hand (Option Ask)). MayPush h number) (sym e) h
 
 -- nothing was put
 pub First-none : (seat : ℕ) (old new : Caller) (signs : List (Option ℕ)) → knows new.asks ≡ knows old.asks → TakesFirst seat old new signs
@@ -76,6 +77,7 @@ First-none seat old new signs e =
     let some = asks_on (stand_of old) signs in
     record { asks = []; put = e ∙ put_none seat (knows old.asks); others = some.0; asked = some.1 }
 
+-- a caller that has put nothing has taken the first bytes, which are none
 pub FirstBytes-none : (seat : ℕ) (old new : Caller) (bytes : List ℕ) → knows new.asks ≡ knows old.asks → TakesFirstBytes seat old new bytes
 FirstBytes-none seat old new bytes e =
     let some = asks_on (holding old bytes) [] in
@@ -91,6 +93,7 @@ First-all seat old new signs t =
       asked = subst (λ (l : List (Option ℕ)). AskOn (stand_of old) l (t.asks ++ some.0)) (append-nil signs) (t.come [] some.0 some.1);
     }
 
+-- one that has taken bytes, and put nothing since, has taken the first of them
 pub FirstBytes-all : (seat : ℕ) (old mid new : Caller) (bytes : List ℕ) (n : ℕ) → TakesBytes seat old mid bytes n → knows new.asks ≡ knows mid.asks → TakesFirstBytes seat old new bytes
 FirstBytes-all seat old mid new bytes n t e =
     let some = asks_on (holding mid (drop n bytes)) [] in
@@ -101,6 +104,7 @@ signs_some : (bytes : List ℕ) → 0 < length bytes → signs_in bytes ≡ map 
 signs_some [] some = absurd (omega arith)
 signs_some (x ∷ bytes) some = refl
 
+-- a caller whose client has left takes bytes by passing over them
 pub Takes-passed : (seat : ℕ) (old : Caller) (bytes : List ℕ) → old.left ≡ true → 0 < length bytes → Takes seat old old (signs_in bytes)
 Takes-passed seat old bytes left some = record {
   asks = [];
@@ -108,22 +112,6 @@ Takes-passed seat old bytes left some = record {
   come = subst (λ (l : List (Option ℕ)). HasCome (stand_of old) l [] (stand_of old)) (sym (signs_some bytes some)) (come-passed old.counts old.begun.items bytes old.left left);
   waits = λ e. let both : true ≡ false = sym left ∙ e in absurd (cc);
 }
-
--- its bytes, where there are some
-pub Takes-some : (seat : ℕ) (old new : Caller) (bytes : List ℕ) → 0 < length bytes → Takes seat old new (map Some bytes) → Takes seat old new (signs_in bytes)
-Takes-some seat old new bytes some t = subst (λ (l : List (Option ℕ)). Takes seat old new l) (sym (signs_some bytes some)) t
-
-pub First-some : (seat : ℕ) (old new : Caller) (bytes : List ℕ) → 0 < length bytes → TakesFirst seat old new (map Some bytes) → TakesFirst seat old new (signs_in bytes)
-First-some seat old new bytes some t = subst (λ (l : List (Option ℕ)). TakesFirst seat old new l) (sym (signs_some bytes some)) t
-
--- no bytes
-pub Takes-end : (seat : ℕ) (old new : Caller) (bytes : List ℕ) → length bytes ≡ 0 → Takes seat old new (None ∷ []) → Takes seat old new (signs_in bytes)
-Takes-end seat old new [] none t = t
-Takes-end seat old new (x ∷ bytes) none t = absurd (omega arith)
-
-pub First-end : (seat : ℕ) (old new : Caller) (bytes : List ℕ) → length bytes ≡ 0 → TakesFirst seat old new (None ∷ []) → TakesFirst seat old new (signs_in bytes)
-First-end seat old new [] none t = t
-First-end seat old new (x ∷ bytes) none t = absurd (omega arith)
 
 -- the end of one that has left
 pub Takes-over : (seat : ℕ) (old new : Caller) → old.left ≡ true → new.left ≡ false → new.begun.items ≡ [] → new.counts ≡ old.counts → knows new.asks ≡ knows old.asks → Takes seat old new (None ∷ [])
@@ -147,14 +135,6 @@ Takes-parted seat old mid new parting waits was how asks same ended is none =
       come = come-end old.counts new.counts old.begun.items new.begun.items old.left new.left (waits was) (ended.next ∙ ap behind_end same) none was is;
       waits = λ _. inl none;
     }
-
--- no message was whole
-pub Bytes-none : (seat : ℕ) (old new : Caller) (bytes : List ℕ) → new.counts ≡ old.counts → new.left ≡ old.left → knows new.asks ≡ knows old.asks → TakesBytes seat old new bytes 0
-Bytes-none seat old new bytes same left e = record {
-  asks = [];
-  put = e ∙ put_none seat (knows old.asks);
-  come = come-none old.counts new.counts bytes old.left new.left same left;
-}
 
 -- a query was
 pub Bytes-query : (seat : ℕ) (old new : Caller) (bytes body : List ℕ) (n : ℕ) → QueryNext bytes body (drop n bytes) → HasAsked seat old new body → old.left ≡ false → new.left ≡ false → TakesBytes seat old new bytes n
@@ -204,6 +184,7 @@ Takes-bytes seat old mid new bytes n was t cut same left e kept =
       waits = λ _. subst (λ (l : List ℕ). IsUnfinished l) (sym kept) cut;
     }
 
+-- behind the begun message and the first bytes the client was asked for what these ask
 pub First-bytes : (seat : ℕ) (old new : Caller) (bytes : List ℕ) → old.left ≡ false → TakesFirstBytes seat old new (old.begun.items ++ bytes) → TakesFirst seat old new (map Some bytes)
 First-bytes seat old new bytes was t = record { asks = t.asks; put = t.put; others = t.others; asked = asked_in old.left was t.asked }
   where

@@ -25,7 +25,7 @@ use Rattle.pgn_requests.specs.declared.complaint.Cause.TheVariants.{BadMessage}
 use Rattle.pgn_requests.specs.Texts.{bare}
 use Rattle.pgn_requests.specs.Phrases.{refused}
 use Rattle.pgn_requests.specs.Reading as requests
-use Rattle.pgn_requests.specs.Reading.{IsGarbled, RequestIs, body_of, request_of}
+use Rattle.pgn_requests.specs.Reading.{RequestIs, body_of, request_of}
 use Rattle.pgn_turns.specs.declared.asked.Ask.{Ask}
 use Rattle.pgn_turns.specs.declared.asked.Ask.TheVariants.{Discard, End, Query, Settle}
 use Rattle.pgn_turns.specs.declared.asked.Parting.TheVariants.{Plain, Refused, Extended, Spent}
@@ -45,6 +45,7 @@ apart a b e same = both_ways (a == b) e (eq-eqb a b same)
 pub ends : (seats at : ℕ) → FramesAre seats at [] [] None
 ends seats at = frames.FramesAre.Ends at [] [] (frames.NextFrame.Ended [] refl)
 
+-- a whole frame stands before others
 pub goes : (seats at : ℕ) (head body rest : List ℕ) (seat : ℕ) (others : List Frame) (fault : Option FrameFault) → IsHead head seat (length body) → IsSeat seats seat
     → FramesAre seats (at + (4 + length body)) rest others fault → FramesAre seats at (head ++ (body ++ rest)) (frame_of seat body ∷ others) fault
 goes seats at head body rest seat others fault is_head is_seat more =
@@ -92,6 +93,7 @@ text_is text request utf8 no_nul is =
 abbrev pub limited_at : ℕ → ℕ → ℕ → Tally
 limited_at most lines notes = record { lines = lines; notes = notes; most = most }
 
+-- behind so many lines and notifications
 abbrev pub tally_at : ℕ → ℕ → Tally
 tally_at lines notes = limited_at NOTE_LINES_MAX lines notes
 
@@ -122,12 +124,14 @@ notifies_once =
     (Line (codes "NOTIFY c, 'x'") (command.Notify (record { channel = codes "c"; payload = codes "x" })) wording.Plain) [] Open refl refl (omega arith) (omega arith) notify_is (omega arith) (omega arith)
     (stopped (limited_at 1 1 1))
 
+-- a second query that notifies, where one may, ends its client
 pub notifies_again : ClientAsks (limited_at 1 3 1) asks_notify [] (Wrong Spent)
 notifies_again =
     clients.ClientAsks.Exceeds (limited_at 1 3 1) asks_notify (body_of (codes "NOTIFY c, 'x'")) [] (Query (notify_at 4))
     (query_first (0 ∷ 0 ∷ 0 ∷ 18 ∷ []) (body_of (codes "NOTIFY c, 'x'")) [] refl refl (omega arith) (omega arith))
     (Line (codes "NOTIFY c, 'x'") (command.Notify (record { channel = codes "c"; payload = codes "x" })) wording.Plain, notify_is, refl) (inr (omega arith))
 
+-- a Terminate asks for nothing, and its client leaves
 pub terminated : (tally : Tally) (rest : List ℕ) → ClientAsks tally (terminates ++ rest) [] Left
 terminated tally rest = clients.ClientAsks.Leaves tally (terminates ++ rest) (0 ∷ 0 ∷ 0 ∷ 4 ∷ rest) rest refl
     (client.TerminateIs.Whole (0 ∷ 0 ∷ 0 ∷ 4 ∷ rest) (0 ∷ 0 ∷ 0 ∷ 4 ∷ []) rest refl (record { four = refl; value = refl }))
@@ -183,6 +187,7 @@ two_asked =
     clients.SeatAsks.Next (tally_at 0 0) two_clients asks_listen (Query (listen_at 1) ∷ []) Open (map Some asks_listen) (Query (listen_at 4) ∷ []) refl (listens 0 (omega arith))
     (clients.SeatAsks.Last (tally_at 3 0) (map Some asks_listen) asks_listen (Query (listen_at 4) ∷ []) Open refl (listens 3 (omega arith)))
 
+-- a seat that is sent a Terminate is asked for an end, and what stands behind it is passed over
 pub terminate_asked : SeatAsks (first_tally NOTE_LINES_MAX) (map Some (terminates ++ asks_listen)) (End 1 Plain ∷ [])
 terminate_asked = clients.SeatAsks.Last (tally_at 0 0) (map Some (terminates ++ asks_listen)) (terminates ++ asks_listen) [] Left refl (terminated (tally_at 0 0) asks_listen)
 

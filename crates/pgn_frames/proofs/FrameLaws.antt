@@ -116,6 +116,7 @@ framing_one seats _ bytes _ _ _ _ (frames.FramesAre.Goes at _ r frame fs f n mor
     let further = framing_one seats (at + (4 + length frame.bytes)) r fs gs f g more behind in
     (ap (λ (it : Frame). it ∷ fs) one ∙ ap (λ (its : List Frame). other ∷ its) further.0, further.1)
 
+-- bytes are frames in one way
 pub one_framing : OneFraming
 one_framing seats at bytes all others fault other h k = framing_one seats at bytes all others fault other h k
 
@@ -191,5 +192,6 @@ fewer (suc size) seats at bytes few =
     let next = next_comes seats at bytes in
     by_next seats at bytes next.rest next.framing next.is (λ frame e behind. fewer size seats behind next.rest (let shorter : length next.rest < length bytes = next.less frame e in omega arith))
 
+-- any bytes are frames, up to an end or a fault
 pub each_has_frames : EachHasFrames
 each_has_frames seats at bytes = fewer (suc (length bytes)) seats at bytes (omega arith)

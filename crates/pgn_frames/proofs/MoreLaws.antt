@@ -7,7 +7,7 @@ use Rattle.pgn_queries.specs.Client as client
 use Rattle.pgn_queries.specs.Client.{BodyIs, NextIs, QueryIs, TerminateIs, body_of}
 use Rattle.pgn_turns.specs.declared.asked.Ask.TheVariants as ask
 use Rattle.pgn_frames.specs.Clients as clients
-use Rattle.pgn_frames.specs.Clients.{ClientAsks, Close, Open, Left, Cut, Wrong, QueryNext, Tally, after_ask, begins_extended, last_end, parting_of}
+use Rattle.pgn_frames.specs.Clients.{ClientAsks, Close, Open, Left, Cut, Wrong, Tally, after_ask, begins_extended, last_end, parting_of}
 use Rattle.pgn_frames.specs.Callers.{IsTold, PartsBy}
 use Rattle.pgn_frames.specs.Laws.{MoreMayFollow, QueryStaysWhole}
 
@@ -71,6 +71,7 @@ extended_some : (bytes : List ℕ) → begins_extended bytes ≡ true → 0 < le
 extended_some [] e = absurd (cc)
 extended_some (x ∷ bytes) e = omega arith
 
+-- what whole messages ask stays, whatever bytes follow
 pub more_may_follow : MoreMayFollow
 more_may_follow tally bytes more _ _ (clients.ClientAsks.Stops _ _ e) told = absurd told
 more_may_follow tally bytes more _ _ (clients.ClientAsks.Leaves _ _ m r e is) told =

@@ -6,7 +6,7 @@ use Rattle.pgn_turns.specs.declared.asked.Ask.{Ask}
 use Rattle.pgn_turns.specs.declared.asked.Ask.TheVariants as ask
 use Rattle.pgn_turns.specs.Asks.{GoOnFrom, lines_for}
 use Rattle.pgn_frames.specs.Clients as clients
-use Rattle.pgn_frames.specs.Clients.{AskIs, Close, Open, Left, Cut, Wrong, ClientAsks, SeatAsks, Tally, after_ask, asked_as, last_end, next_client, next_line, parting_of}
+use Rattle.pgn_frames.specs.Clients.{AskIs, Close, Open, Left, Cut, Wrong, ClientAsks, Tally, after_ask, asked_as, last_end, next_client, next_line, parting_of}
 use Rattle.pgn_frames.specs.Laws.{NumbersGoOn}
 
 -- the same, by another number
@@ -43,6 +43,7 @@ last-goes_on number Left = (refl, tt)
 last-goes_on number Cut = tt
 last-goes_on number (Wrong parting) = (refl, tt)
 
+-- what is asked is numbered line after line, over all clients
 pub numbers_go_on : NumbersGoOn
 numbers_go_on tally signs _ (clients.SeatAsks.Last _ _ xs asks c e k) = client-goes_on tally xs asks c (last_end (next_line tally asks) c) k (last-goes_on (next_line tally asks) c)
 numbers_go_on tally signs _ (clients.SeatAsks.Next _ _ xs asks c rest others e k n) =

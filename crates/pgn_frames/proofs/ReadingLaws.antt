@@ -23,6 +23,7 @@ use Rattle.pgn_frames.proofs.FrameLaws.{each_has_frames}
 use Rattle.pgn_frames.proofs.StandLaws.{HasCome-then, nothing_more}
 use Rattle.pgn_frames.proofs.CallerLaws.{First-all, may-put, put-then}
 
+-- a frame of this seat with these bytes
 abbrev pub frame_at : ℕ → List ℕ → Frame
 frame_at seat bytes = record { seat = seat; bytes = bytes }
 
@@ -211,6 +212,7 @@ pub Reads-end : (most at : ℕ) (a b c : Option (List ℕ)) (inboxes : List (Out
     → ReadsAll most a inboxes callers None
 Reads-end most at a b c inboxes callers h k = record { frames = h.frames; are = before_end (length callers) at h.frames a b c h.are k; asked = h.asked }
 
+-- where a fault comes next, all was read, up to it
 pub Reads-fault : (most at : ℕ) (fault : FrameFault) (a b c : Option (List ℕ)) (inboxes : List (Outlet (Option Ask))) (callers : List Caller) → Reads most at a b inboxes callers
     → OfKnown (NextFrame (length callers) at (Wrong fault)) b c → ReadsAll most a inboxes callers (Some fault)
 Reads-fault most at fault a b c inboxes callers h k = record { frames = h.frames; are = before_fault (length callers) at h.frames fault a b c h.are k; asked = h.asked }
@@ -231,6 +233,7 @@ Reads-none most a inboxes callers may = record {
       };
 }
 
+-- callers that may begin call on before the first frame
 pub on_none : (most : ℕ) (inboxes : List (Outlet (Option Ask))) (callers : List Caller) → MayCall most inboxes callers → EachSeat CallsOn inboxes callers
 on_none most inboxes callers may = λ k inbox caller lt.
     let begins : Begins most (k + 1) (get_or inboxes k inbox) (get_or callers k caller) = may.begin k inbox caller lt in
@@ -263,6 +266,7 @@ told_at j k seat inboxes olds news inbox d old new e here lt each number own is 
           ∙ ap (λ (v : Hand (Option Ask)). with_put (j + 1) v (None ∷ [])) (ap (λ (c : Caller). knows c.asks) was ∙ same);
     }
 
+-- the next seat was told its end too
 pub ended_more : (k seat : ℕ) (inboxes : List (Outlet (Option Ask))) (olds news : List Caller) (inbox : Outlet (Option Ask)) (old new : Caller) → AreEnded k inboxes olds news → k < length olds → seat ≡ k + 1
     → length inboxes ≡ length olds → inbox ≡ get_or inboxes k inbox → old ≡ get_or news k old → IsEnded seat inbox old new → AreEnded (k + 1) inboxes olds (set news k new)
 ended_more k seat inboxes olds news inbox old new h lt number each own is ended =
@@ -277,6 +281,7 @@ ended_more k seat inboxes olds news inbox old new h lt number each own is ended 
       kept = λ j d e le within. subst (λ (c : Caller). IsKept (get_or inboxes j d) (get_or olds j e) c) (sym (get_or-set_other news k j new e (λ here. omega arith))) (h.kept j d e (omega arith) within);
     }
 
+-- the next seat, which was not told, is as it was
 pub ended_kept : (k : ℕ) (inboxes : List (Outlet (Option Ask))) (olds news : List Caller) (inbox : Outlet (Option Ask)) (old new : Caller) → AreEnded k inboxes olds news → k < length olds
     → length inboxes ≡ length olds → inbox ≡ get_or inboxes k inbox → old ≡ get_or news k old → IsKept inbox old new → AreEnded k inboxes olds (set news k new)
 ended_kept k inboxes olds news inbox old new h lt each own is stays =
@@ -312,11 +317,13 @@ at_place k inboxes olds inbox new P lt each own all here = λ j d e less.
       | inr apart ↦ subst (λ (c : Caller). P (j + 1) (get_or inboxes j d) c) (sym (get_or-set_other olds k j new e apart)) (all j d e (omega arith))
     ]
 
+-- each caller has its inbox's pass still where one of them took another
 pub owns_at : (k : ℕ) (inboxes : List (Outlet (Option Ask))) (olds : List Caller) (inbox : Outlet (Option Ask)) (new : Caller) → k < length olds → length inboxes ≡ length olds
     → inbox ≡ get_or inboxes k inbox → EachSeat CallsOn inboxes olds → IsPassOf inbox new.asks → EachSeat OwnsInbox inboxes (set olds k new)
 owns_at k inboxes olds inbox new lt each own on here =
     at_place k inboxes olds inbox new OwnsInbox lt each own (λ j d e less. let going : CallsOn (j + 1) (get_or inboxes j d) (get_or olds j e) = on j d e less in going.own) here
 
+-- each caller calls on where one of them has taken signs
 pub on_at : (k seat : ℕ) (inboxes : List (Outlet (Option Ask))) (olds : List Caller) (inbox : Outlet (Option Ask)) (old new : Caller) (signs : List (Option ℕ)) → k < length olds → length inboxes ≡ length olds
     → inbox ≡ get_or inboxes k inbox → seat ≡ k + 1 → EachSeat CallsOn inboxes olds → IsPassOf inbox new.asks → MayPush (knows old.asks) seat → Takes seat old new signs → EachSeat CallsOn inboxes (set olds k new)
 on_at k seat inboxes olds inbox old new signs lt each own number on here may takes =
@@ -326,13 +333,7 @@ on_at k seat inboxes olds inbox old new signs lt each own number on here may tak
       waits = takes.waits;
     })
 
-pub does_at : (P : Caller → Caller → Type 0) (k : ℕ) (olds : List Caller) (old new : Caller) → k < length olds → old ≡ get_or olds k old → P old new → DoesAt P k olds (set olds k new)
-does_at P k olds old new lt is h = record {
-  size = length-set olds k new;
-  here = λ e. subst (λ (c : Caller). P (get_or olds k e) c) (sym (get_or-set_same olds k new e lt)) (subst (λ (c : Caller). P c new) (is ∙ get_or_default olds k old e lt) h);
-  others = λ j e apart. get_or-set_other olds k j new e apart;
-}
-
+-- a caller that has taken signs has taken the first of them
 pub does_first : (seat k : ℕ) (signs : List (Option ℕ)) (olds news : List Caller) → DoesAt (λ old new. Takes seat old new signs) k olds news → DoesAt (λ old new. TakesFirst seat old new signs) k olds news
 does_first seat k signs olds news d = record { size = d.size; here = λ e. First-all seat (get_or olds k e) (get_or news k e) signs (d.here e); others = d.others }
 
@@ -395,6 +396,7 @@ all_are_first : (seats : ℕ) (a : Option (List ℕ)) (frames : List Frame) (fau
 all_are_first seats None frames fault h = record { more = []; fault = None; are = tt }
 all_are_first seats (Some xs) frames fault h = record { more = []; fault = fault; are = subst (λ (l : List Frame). FramesAre seats 0 xs l fault) (sym (append-nil frames)) h }
 
+-- what was read before the end was asked, be all seats told of the end or some
 pub Told-some : (most n : ℕ) (a : Option (List ℕ)) (inboxes : List (Outlet (Option Ask))) (olds news : List Caller) (r : Result (Option FrameFault) NoFrame) → (r ≡ Err Memory → ⊥) → ReadsTo r most a inboxes olds
     → EachSeat CallsOn inboxes olds → AreEnded n inboxes olds news → HasReadSome most a inboxes news
 Told-some most n a inboxes olds news (Ok fault) other h on ended = record {
@@ -409,11 +411,13 @@ Told-some most n a inboxes olds news (Err Failed) other h on ended = record {
 }
 Told-some most n a inboxes olds news (Err Memory) other h on ended = absurd (other refl)
 
+-- what was read to the end was asked, where all seats are told of it
 pub Told-done : (most : ℕ) (a : Option (List ℕ)) (inboxes : List (Outlet (Option Ask))) (olds news : List Caller) (r : Result (Option FrameFault) NoFrame) → ReadsTo r most a inboxes olds
     → EachSeat CallsOn inboxes olds → AreEnded (length olds) inboxes olds news → IfOk r (λ fault. HasReadAll most a inboxes news fault)
 Told-done most a inboxes olds news (Ok fault) h on ended = Told-all most a inboxes olds news fault h on ended
 Told-done most a inboxes olds news (Err none) h on ended = tt
 
+-- what was read before a failed read was asked, where all seats are told of the end
 pub Told-failed : (most : ℕ) (a : Option (List ℕ)) (inboxes : List (Outlet (Option Ask))) (olds news : List Caller) (r : Result (Option FrameFault) NoFrame) → r ≡ Err Failed → ReadsTo r most a inboxes olds
     → EachSeat CallsOn inboxes olds → AreEnded (length olds) inboxes olds news → HasReadFirst most a inboxes news
 Told-failed most a inboxes olds news r e h on ended =
@@ -425,6 +429,7 @@ pub Turns-none : (most at : ℕ) (a b c : Option (List ℕ)) (inboxes : List (Ou
 Turns-none most at a b c inboxes callers Failed h on = Reads-first most at a b inboxes callers h
 Turns-none most at a b c inboxes callers Memory h on = Reads-refused most at a b inboxes callers h on
 
+-- a frame that does not come ends the reading
 pub Turns-to : (most at : ℕ) (a b : Option (List ℕ)) (inboxes : List (Outlet (Option Ask))) (callers : List Caller) (none : NoFrame) → TurnsInto (Err none) most at a b inboxes callers → ReadsTo (Err none) most a inboxes callers
 Turns-to most at a b inboxes callers Failed h = h
 Turns-to most at a b inboxes callers Memory h = h

@@ -7,7 +7,7 @@ use Rattle.pgn_turns.specs.declared.asked.Ask.TheVariants as ask
 use Rattle.pgn_turns.specs.declared.asked.Parting.{Parting}
 use Rattle.pgn_turns.specs.declared.asked.Parting.TheVariants.{Spent}
 use Rattle.pgn_frames.specs.Clients as clients
-use Rattle.pgn_frames.specs.Clients.{AreTooMany, AskIs, ClientAsks, Close, Open, Cut, Wrong, QueryNext, SeatAsks, Tally, after_ask, last_end, next_line, parting_of}
+use Rattle.pgn_frames.specs.Clients.{AreTooMany, AskIs, ClientAsks, Close, Open, Cut, Wrong, QueryNext, SeatAsks, Tally, after_ask, next_line, parting_of}
 use Rattle.pgn_frames.specs.Callers as callers
 use Rattle.pgn_frames.specs.Callers.{AskBehind, AskFrom, AskOn, HasCome, IsUnfinished, PartsBy, Stand, behind_end, parting_behind}
 use Rattle.pgn_frames.proofs.AskLaws.{divide, each_is_asked}
@@ -23,6 +23,7 @@ asks_from true tally begun signs =
       | inr h ↦ let more = each_is_asked tally h.0 in (more.0, callers.AskBehind.Others parts.bytes signs h.0 more.0 h.1 more.1)
     ]
 
+-- signs that go on from where a caller stands ask for something
 pub asks_on : (stand : Stand) (signs : List (Option ℕ)) → (others : List Ask) × AskOn stand signs others
 asks_on stand signs = asks_from stand.left stand.tally stand.begun signs
 
@@ -48,6 +49,7 @@ passes_over : (next : Tally) (bytes : List ℕ) (signs : List (Option ℕ)) (ask
 passes_over next bytes signs _ (callers.AskBehind.Nothing xs _ e) = callers.AskBehind.Nothing (bytes ++ xs) (map Some bytes ++ signs) (bytes_behind bytes xs signs e)
 passes_over next bytes signs _ (callers.AskBehind.Others xs _ rest asks e k) = callers.AskBehind.Others (bytes ++ xs) (map Some bytes ++ signs) rest asks (end_behind bytes xs signs rest e) k
 
+-- bytes behind a client's end are passed over
 pub come-passed : (tally : Tally) (begun bytes : List ℕ) (left : Bool) → left ≡ true → HasCome (record { tally = tally; begun = begun; left = left }) (map Some bytes) [] (record { tally = tally; begun = begun; left = left })
 come-passed tally begun bytes true e = λ more others h. passes_over tally bytes more others h
 come-passed tally begun bytes false e = absurd (cc)
@@ -60,11 +62,6 @@ come-over tally next begun rest true false e f none same = λ more others h.
     (subst (λ (p : Tally). SeatAsks p more others) same (subst (λ (l : List ℕ). SeatAsks next (map Some l ++ more) others) none h))
 come-over tally next begun rest false is e f none same = absurd (cc)
 come-over tally next begun rest true true e f none same = absurd (cc)
-
--- nothing was taken
-pub come-none : (tally next : Tally) (begun : List ℕ) (was is : Bool) → next ≡ tally → is ≡ was → HasCome (record { tally = tally; begun = begun; left = was }) [] [] (record { tally = next; begun = begun; left = is })
-come-none tally next begun was is same e = λ more others h.
-    subst (λ (b : Bool). AskFrom b tally begun more others) e (subst (λ (p : Tally). AskFrom is p begun more others) same h)
 
 -- bytes stand behind those of a message that has begun
 pub come-in : (tally : Tally) (begun bytes : List ℕ) (asks : List Ask) (left : Bool) (new : Stand) → left ≡ false → HasCome (record { tally = tally; begun = begun ++ bytes; left = left }) [] asks new
@@ -148,6 +145,7 @@ ends_so tally [] h = (Open, clients.ClientAsks.Stops tally [] refl, refl)
 ends_so tally (x ∷ begun) (inl e) = absurd (cc)
 ends_so tally (x ∷ begun) (inr n) = (Cut, clients.ClientAsks.Cuts tally (x ∷ begun) [] [] n, refl)
 
+-- the end of a client is asked, by what it has begun and not ended
 pub come-end : (tally next : Tally) (begun rest : List ℕ) (was is : Bool) → IsUnfinished begun → next ≡ behind_end tally → rest ≡ [] → was ≡ false → is ≡ false
     → HasCome (record { tally = tally; begun = begun; left = was }) (None ∷ []) (ask.End (tally.lines + 1) (parting_behind begun) ∷ []) (record { tally = next; begun = rest; left = is })
 come-end tally next begun rest false false h e none f g = λ more others k.

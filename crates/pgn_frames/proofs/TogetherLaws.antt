@@ -6,7 +6,7 @@ use Rattle.std.proofs.lemmas.List.{map-append}
 use Rattle.std.proofs.lemmas.List.Elements.{All-head, All-tail}
 use Rattle.std.proofs.lemmas.Nat.{from_be_bytes-to_be_bytes_2}
 use Rattle.pgn_frames.specs.Frames as frames
-use Rattle.pgn_frames.specs.Frames.{Frame, FramesAre, IsFrame, IsHead, frame_bytes, signs_in, signs_of}
+use Rattle.pgn_frames.specs.Frames.{Frame, IsFrame, IsHead, frame_bytes, signs_in, signs_of}
 use Rattle.pgn_frames.specs.Laws.{CutsChangeNoSign, FramesReadBack}
 
 -- the head of a frame
@@ -21,6 +21,7 @@ is_head seats frame few h =
     let size : length frame.bytes < 2 ^ 16 = omega arith in
     record { four = refl; of_seat = sym (from_be_bytes-to_be_bytes_2 frame.seat fits); of_size = sym (from_be_bytes-to_be_bytes_2 (length frame.bytes) size) }
 
+-- frames that are written are read as they were
 pub frames_read_back : FramesReadBack
 frames_read_back seats at [] few h = frames.FramesAre.Ends at [] [] (frames.NextFrame.Ended [] refl)
 frames_read_back seats at (frame ∷ others) few h =
@@ -39,5 +40,6 @@ cut false (x ∷ front) (y ∷ back) behind some more = refl
 cut true (x ∷ front) (y ∷ back) behind some more =
     ap (λ (l : List (Option ℕ)). l ++ behind) (map-append Some (x ∷ front) (y ∷ back)) ∙ append_assoc (map Some (x ∷ front)) (map Some (y ∷ back)) behind
 
+-- where the frames of a seat are cut changes none of its signs
 pub cuts_change_no_sign : CutsChangeNoSign
 cuts_change_no_sign seat of front back others some more = cut (of == seat) front back (signs_of seat others) some more

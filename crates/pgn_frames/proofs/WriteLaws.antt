@@ -95,10 +95,6 @@ module _ {S : Type 0} (held : S → Option (List ℕ)) (faults : S → ℕ) wher
       Gave-same seat (map Some saying.bytes.items) (signs_told saying) s₀ s₁ o₀ o₁
       (sym (append-nil (map Some saying.bytes.items)) ∙ ap (λ (b : Bool). map Some saying.bytes.items ++ cond b (None ∷ []) []) (sym goes)) f
 
-  -- no byte yet
-  pub GaveBut-none : (seat : ℕ) (bytes : List ℕ) (sink : S) (out : Out) → GaveBut held faults seat bytes bytes sink out sink out
-  GaveBut-none seat bytes sink out = record { done = []; parts = refl; gave = Gave-none seat sink out }
-
   -- a piece more
   pub GaveBut-more : (seat : ℕ) (bytes rest piece behind : List ℕ) (s₀ s₁ s₂ : S) (o₀ o₁ o₂ : Out) → GaveBut held faults seat bytes rest s₀ o₀ s₁ o₁ → Gave held faults seat (signs_in piece) s₁ o₁ s₂ o₂
       → 0 < length piece → piece ++ behind ≡ rest → GaveBut held faults seat bytes behind s₀ o₀ s₂ o₂
@@ -109,11 +105,6 @@ module _ {S : Type 0} (held : S → Option (List ℕ)) (faults : S → ℕ) wher
         gave = Gave-same seat (map Some f.done ++ signs_in piece) (map Some (f.done ++ piece)) s₀ s₂ o₀ o₂
             (ap (λ (l : List (Option ℕ)). map Some f.done ++ l) (signs_of_bytes piece some) ∙ sym (map-append Some f.done piece)) both;
       }
-
-  -- all of them
-  pub GaveBut-all : (seat : ℕ) (bytes rest : List ℕ) (s₀ s₁ : S) (o₀ o₁ : Out) → rest ≡ [] → GaveBut held faults seat bytes rest s₀ o₀ s₁ o₁ → Gave held faults seat (map Some bytes) s₀ o₀ s₁ o₁
-  GaveBut-all seat bytes rest s₀ s₁ o₀ o₁ none f =
-      Gave-same seat (map Some f.done) (map Some bytes) s₀ s₁ o₀ o₁ (ap (map Some) (sym (append-nil f.done) ∙ ap (λ (l : List ℕ). f.done ++ l) (sym none) ∙ f.parts)) f.gave
 
   -- nothing was taken
   pub Wrote-none : (v : Hand Saying) (sink : S) (out : Out) → Wrote held faults v v sink out sink out
@@ -161,4 +152,5 @@ module _ {S : Type 0} (held : S → Option (List ℕ)) (faults : S → ℕ) wher
     puts = Puts-same {held = held} {faults = faults} (sym (flat_map-append frame_bytes f.frames g.frames)) (Puts-trans f.puts g.puts);
   }
 
+-- what a writer gave out, and what it has written
 pub ruleset write_laws = (Gave-none, Gave-frame, Gave-end, Gave-on, Wrote-none, Wrote-sent, Wrote-one, Wrote-trans, Puts-trans)

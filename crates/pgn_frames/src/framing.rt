@@ -37,10 +37,13 @@ pub fn next_frame<S: Source>(
     at: u64,
     body: &mut Vec<u8>,
 ) -> Result<Arrival, NoFrame>
-    ensures next { IfOk result (λ arrival. OfKnown (NextFrame seats at (framing_of arrival body.new.items)) (S.left source.old) (S.left source.new)) }
+    ensures next { IfOk result (λ arrival. OfKnown
+        (NextFrame seats at (framing_of arrival body.new.items)) (S.left source.old)
+        (S.left source.new)) }
     ensures seat { (seat : ℕ) → result ≡ Ok (Arrival.Frame seat) → IsSeat seats seat }
     ensures later { S.faults source.old ≤ S.faults source.new }
-    ensures failed { result ≡ Err NoFrame.Failed → Rose (S.faults source.old) (S.faults source.new) }
+    ensures failed { result ≡ Err NoFrame.Failed
+        → Rose (S.faults source.old) (S.faults source.new) }
     ensures rose { S.faults source.old < S.faults source.new → result ≡ Err NoFrame.Failed }
 {
     let mut head = [0u8; 4];
@@ -62,10 +65,13 @@ fn behind_head<S: Source>(
     body: &mut Vec<u8>,
 ) -> Result<Arrival, NoFrame>
     requires { length head.now ≡ 4 }
-    ensures next { IfOk result (λ arrival. OfKnown (λ bytes rest. NextFrame seats at (framing_of arrival body.new.items) (head.now ++ bytes) rest) (S.left source.old) (S.left source.new)) }
+    ensures next { IfOk result (λ arrival. OfKnown
+        (λ bytes rest. NextFrame seats at (framing_of arrival body.new.items) (head.now ++ bytes)
+        rest) (S.left source.old) (S.left source.new)) }
     ensures seat { (seat : ℕ) → result ≡ Ok (Arrival.Frame seat) → IsSeat seats seat }
     ensures later { S.faults source.old ≤ S.faults source.new }
-    ensures failed { result ≡ Err NoFrame.Failed → Rose (S.faults source.old) (S.faults source.new) }
+    ensures failed { result ≡ Err NoFrame.Failed
+        → Rose (S.faults source.old) (S.faults source.new) }
     ensures rose { S.faults source.old < S.faults source.new → result ≡ Err NoFrame.Failed }
 {
     let seat = seat_of(head);
@@ -106,10 +112,12 @@ fn size_of(head: &[u8]) -> u16
 fn fill<S: Source>(source: &mut S, size: usize, body: &mut Vec<u8>) -> Result<usize, NoFrame>
     ensures size { OnOk result (length body.new.items ≡ size) }
     ensures within { IfOk result (λ n. n ≤ size) }
-    ensures bytes { IfOk result (λ n. Consumes (S.left source.old) (S.left source.new) (take n body.new.items)) }
+    ensures bytes { IfOk result (λ n. Consumes (S.left source.old) (S.left source.new)
+        (take n body.new.items)) }
     ensures ended { IfOk result (λ n. n < size → IsAtEnd (S.left source.new)) }
     ensures later { S.faults source.old ≤ S.faults source.new }
-    ensures failed { result ≡ Err NoFrame.Failed → Rose (S.faults source.old) (S.faults source.new) }
+    ensures failed { result ≡ Err NoFrame.Failed
+        → Rose (S.faults source.old) (S.faults source.new) }
     ensures rose { S.faults source.old < S.faults source.new → result ≡ Err NoFrame.Failed }
 {
     body.clear();

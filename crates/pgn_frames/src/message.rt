@@ -2,7 +2,6 @@
 ghost use Rattle.std.specs.Prelude.{◌≡◌, ◌<◌, ◌≤◌, drop, length, slice_index, take};
 ghost use Rattle.std.specs.Int.{from_be_bytes, w32};
 ghost use Rattle.pgn_queries.specs.Client.{query_letter, terminate_letter};
-ghost use Rattle.pgn_requests.specs.declared.request.Request.{Request};
 ghost use Rattle.pgn_frames.specs.Callers.{HasFront, parting_behind};
 ghost use Rattle.pgn_frames.specs.Clients.{asked_as, is_extended};
 

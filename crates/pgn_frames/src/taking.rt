@@ -36,7 +36,8 @@ pub(crate) fn take_signs<R: Wait>(
     requires waits { Waits (stand_of caller.old) }
     ensures own { IsPassOf inbox.now.outlet.now caller.new.asks }
     ensures takes { OnOk result (Takes inbox.now.seat caller.old caller.new (signs_in bytes.now)) }
-    ensures first { OnErr result (TakesFirst inbox.now.seat caller.old caller.new (signs_in bytes.now)) }
+    ensures first { OnErr result (TakesFirst inbox.now.seat caller.old caller.new
+        (signs_in bytes.now)) }
 {
     if bytes.is_empty() {
         return take_end(rt, alloc, inbox, caller);
@@ -87,7 +88,8 @@ fn take_behind<R: Wait>(
     requires here { caller.old.left ≡ false }
     ensures own { IsPassOf inbox.now.outlet.now caller.new.asks }
     ensures takes { OnOk result (Takes inbox.now.seat caller.old caller.new (map Some bytes.now)) }
-    ensures first { OnErr result (TakesFirst inbox.now.seat caller.old caller.new (map Some bytes.now)) }
+    ensures first { OnErr result (TakesFirst inbox.now.seat caller.old caller.new
+        (map Some bytes.now)) }
 {
     let mut begun = mem::replace(&mut caller.begun, Vec::new(alloc));
     match take_grown(rt, alloc, inbox, caller, &mut begun, bytes) {
@@ -122,9 +124,11 @@ fn take_grown<R: Wait>(
     ensures own { IsPassOf inbox.now.outlet.now caller.new.asks }
     ensures grown { OnOk result (begun.new.items ≡ begun.old.items ++ bytes.now) }
     ensures within { IfOk result (λ n. n ≤ length begun.new.items) }
-    ensures takes { IfOk result (λ n. TakesBytes inbox.now.seat caller.old caller.new (begun.old.items ++ bytes.now) n) }
+    ensures takes { IfOk result (λ n. TakesBytes inbox.now.seat caller.old caller.new
+        (begun.old.items ++ bytes.now) n) }
     ensures unfinished { IfOk result (λ n. IsUnfinished (drop n (begun.old.items ++ bytes.now))) }
-    ensures first { OnErr result (TakesFirstBytes inbox.now.seat caller.old caller.new (begun.old.items ++ bytes.now)) }
+    ensures first { OnErr result (TakesFirstBytes inbox.now.seat caller.old caller.new
+        (begun.old.items ++ bytes.now)) }
     ensures begun { caller.new.begun.items ≡ caller.old.begun.items }
 {
     if begun.extend_from_slice(bytes).is_err() {
@@ -147,7 +151,8 @@ fn take_bytes<R: Wait>(
     requires none { caller.old.begun.items ≡ [] }
     ensures own { IsPassOf inbox.now.outlet.now caller.new.asks }
     ensures takes { OnOk result (Takes inbox.now.seat caller.old caller.new (map Some bytes.now)) }
-    ensures first { OnErr result (TakesFirst inbox.now.seat caller.old caller.new (map Some bytes.now)) }
+    ensures first { OnErr result (TakesFirst inbox.now.seat caller.old caller.new
+        (map Some bytes.now)) }
 {
     match take_whole(rt, alloc, inbox, caller, bytes) {
         Ok(n) => caller.begun.extend_from_slice(&bytes[n..]),
@@ -228,7 +233,8 @@ fn take_query<R: Wait>(
     requires may { MayPush (knows caller.old.asks) inbox.now.seat }
     requires short { length body.now ≤ LINE_BYTES_MAX + 1 }
     ensures own { IsPassOf inbox.now.outlet.now caller.new.asks }
-    ensures answers { IfOk result (λ put. Answers put inbox.now.seat caller.old caller.new body.now) }
+    ensures answers { IfOk result (λ put. Answers put inbox.now.seat caller.old caller.new
+        body.now) }
     ensures refused { OnErr result (knows caller.new.asks ≡ knows caller.old.asks) }
     ensures begun { caller.new.begun.items ≡ caller.old.begun.items }
     ensures left { caller.new.left ≡ caller.old.left }
@@ -297,7 +303,8 @@ fn put<R: Wait>(rt: &R, inbox: &SeatInbox, caller: &mut Caller, ask: Ask) -> Res
     requires own { IsPassOf inbox.now.outlet.now caller.old.asks }
     requires may { MayPush (knows caller.old.asks) inbox.now.seat }
     ensures own { IsPassOf inbox.now.outlet.now caller.new.asks }
-    ensures put { OnOk result (knows caller.new.asks ≡ with_put inbox.now.seat (knows caller.old.asks) (Some ask ∷ [])) }
+    ensures put { OnOk result (knows caller.new.asks
+        ≡ with_put inbox.now.seat (knows caller.old.asks) (Some ask ∷ [])) }
     ensures refused { OnErr result (knows caller.new.asks ≡ knows caller.old.asks) }
     ensures counts { caller.new.counts ≡ caller.old.counts }
     ensures begun { caller.new.begun.items ≡ caller.old.begun.items }

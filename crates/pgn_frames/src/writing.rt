@@ -33,7 +33,8 @@ pub fn write_until<R: Wait, K: Sink>(
     requires takes { (knows pass.old).takes ≡ true }
     ensures own { IsPassOf outbox.now pass.new }
     ensures takes { (knows pass.new).takes ≡ true }
-    ensures wrote { Wrote K.held K.faults (knows pass.old) (knows pass.new) sink.old out.old sink.new out.new }
+    ensures wrote { Wrote K.held K.faults (knows pass.old) (knows pass.new) sink.old out.old
+        sink.new out.new }
 {
     let mut armed = false;
     for _ in rt.forever() {
@@ -70,7 +71,8 @@ pub fn write_rest<R: Wait, K: Sink>(
     requires own { IsPassOf outbox.now pass.old }
     requires takes { (knows pass.old).takes ≡ true }
     ensures own { IsPassOf outbox.now pass.new }
-    ensures wrote { Wrote K.held K.faults (knows pass.old) (knows pass.new) sink.old out.old sink.new out.new }
+    ensures wrote { Wrote K.held K.faults (knows pass.old) (knows pass.new) sink.old out.old
+        sink.new out.new }
     ensures has_all { HasAll (knows pass.new) }
     ensures sent { OnOk out.new.so_far (out.new.kept ≡ []) }
 {
@@ -101,7 +103,8 @@ fn write_next<R: Wait, K: Sink>(
     requires takes { (knows pass.old).takes ≡ true }
     ensures own { IsPassOf outbox.now pass.new }
     ensures takes { (knows pass.new).takes ≡ true }
-    ensures wrote { Wrote K.held K.faults (knows pass.old) (knows pass.new) sink.old out.old sink.new out.new }
+    ensures wrote { Wrote K.held K.faults (knows pass.old) (knows pass.new) sink.old out.old
+        sink.new out.new }
     ensures has_all { result ≡ false → HasAll (knows pass.new) }
     ensures sent { result ≡ false → OnOk out.new.so_far (out.new.kept ≡ []) }
 {

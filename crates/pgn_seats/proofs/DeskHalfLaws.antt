@@ -40,6 +40,7 @@ joined-same size v a b fits f g =
     let whole : size + (v.count - size) ≡ v.count = omega (arith, fits) in
     ap (λ (x : Hand Saying × Hand Saying). joined x.0 x.1) (λ i. (f i, g i)) ∙ ap (λ (n : ℕ). let w : Hand Saying = record v { count = n; sent = a.sent ++ b.sent } in w) whole
 
+-- the halves of a pass, made one again
 pub joined-back : (size : ℕ) (v : Hand Saying) → size ≤ v.count → joined (lower size v) (upper size v) ≡ v
 joined-back size v fits =
     let whole : size + (v.count - size) ≡ v.count = omega (arith, fits) in
@@ -55,6 +56,7 @@ module _ {P : Type 0} (is_own : P → Type 0) (shape : Shape) (known : P → Kno
     unused = m.unused;
   }
 
+  -- the right half may begin where the whole may
   pub right-begins : (left right : List (Desk P)) (v : Hand Saying) → MayServe is_own shape known inboxes (left ++ right) v → MayServe is_own shape known inboxes right (upper (length left) v)
   right-begins left right v m =
       let fits : length (left ++ right) ≤ v.count = m.fits in

@@ -21,6 +21,7 @@ module _ {P : Type 0} where
   row-front n [] ys h = tt
   row-front n (x ∷ xs) ys h = (h.0, row-front (n + 1) xs ys h.1)
 
+  -- the desks behind others are numbered behind them
   pub row-behind : (n k : ℕ) (xs ys : List (Desk P)) → k ≡ n + length xs → AreNumbered n (sections_of (xs ++ ys)) → AreNumbered k (sections_of ys)
   row-behind n k [] ys is h = let e : n ≡ k = omega (arith, is) in subst (λ (m : ℕ). AreNumbered m (sections_of ys)) e h
   row-behind n k (x ∷ xs) ys is h = row-behind (n + 1) k xs ys (omega (arith, is)) h.1
@@ -34,6 +35,7 @@ module _ {P : Type 0} where
       All-cons R x xs (step x (omega (arith, is)) (omega (arith, is)) (All-head Q x xs all))
       (by-number (n + 1) xs Q R numbered.1 (λ d low high q. step d (omega (arith, low)) (omega (arith, high)) q) (All-tail Q x xs all))
 
+  -- what holds of all desks with the numbers of a row holds of each desk of it
   pub each-numbered : (n : ℕ) (xs : List (Desk P)) (R : Desk P → Type 0) → AreNumbered n (sections_of xs)
       → ((d : Desk P) → n ≤ d.session.section.no → d.session.section.no < n + length xs → R d) → All R xs
   each-numbered n xs R numbered step = by-number n xs (λ d. Unit {0}) R numbered (λ d low high q. step d low high) (λ k d less. tt)
@@ -42,6 +44,7 @@ module _ {P : Type 0} where
   pub none-before : (n m : ℕ) (xs : List (Desk P)) → AreNumbered n (sections_of xs) → m < n → IsNoneOf m xs
   none-before n m xs numbered less = each-numbered n xs (λ d. d.session.section.no ≢ m) numbered (λ d low high e. omega (arith, less, low, e))
 
+  -- a number behind a row is none of its desks'
   pub none-behind : (n m : ℕ) (xs : List (Desk P)) → AreNumbered n (sections_of xs) → n + length xs ≤ m → IsNoneOf m xs
   none-behind n m xs numbered more = each-numbered n xs (λ d. d.session.section.no ≢ m) numbered (λ d low high e. omega (arith, more, high, e))
 
@@ -50,6 +53,7 @@ module _ {P : Type 0} where
   clients-none [] = tt
   clients-none (x ∷ xs) = (record { section = refl; plan = refl; patience = refl }, clients-none xs)
 
+  -- the clients are the same after one step and then another
   pub clients-on : (xs ys zs : List (Desk P)) → AreSameClients xs ys → AreSameClients ys zs → AreSameClients xs zs
   clients-on [] [] zs f g = g
   clients-on [] (y ∷ ys) zs f g = absurd f
@@ -57,6 +61,7 @@ module _ {P : Type 0} where
   clients-on (x ∷ xs) (y ∷ ys) [] f g = absurd g
   clients-on (x ∷ xs) (y ∷ ys) (z ∷ zs) f g = (same-client x.session y.session z.session f.0 g.0, clients-on xs ys zs f.1 g.1)
 
+  -- and of two rows together
   pub clients-both : (xs ys us vs : List (Desk P)) → AreSameClients xs us → AreSameClients ys vs → AreSameClients (xs ++ ys) (us ++ vs)
   clients-both [] ys [] vs f g = g
   clients-both [] ys (u ∷ us) vs f g = absurd f
@@ -66,12 +71,14 @@ module _ {P : Type 0} where
   same-number : (x y : Session P) → IsSameClient x y → y.section.no ≡ x.section.no
   same-number x y same = ap (λ (s : Section). s.no) same.section
 
+  -- they are as many
   pub clients-count : (xs ys : List (Desk P)) → AreSameClients xs ys → length ys ≡ length xs
   clients-count [] [] f = refl
   clients-count [] (y ∷ ys) f = absurd f
   clients-count (x ∷ xs) [] f = absurd f
   clients-count (x ∷ xs) (y ∷ ys) f = let rest : length ys ≡ length xs = clients-count xs ys f.1 in omega (arith, rest)
 
+  -- and numbered as before
   pub clients-numbered : (n : ℕ) (xs ys : List (Desk P)) → AreSameClients xs ys → AreNumbered n (sections_of xs) → AreNumbered n (sections_of ys)
   clients-numbered n [] [] f h = tt
   clients-numbered n [] (y ∷ ys) f h = absurd f

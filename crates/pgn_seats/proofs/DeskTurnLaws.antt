@@ -62,6 +62,7 @@ module _ {P : Type 0} (is_own : P → Type 0) (shape : Shape) (known : P → Kno
     told = ap (λ (l : List Saying). all_told l) e ∙ h.told;
   }
 
+  -- a desk has served still, where nothing more was told for its number
   pub served-still : (v w : Hand Saying) (d : Desk P) → what_of d.session.section.no w.sent ≡ what_of d.session.section.no v.sent → HasServed is_own shape known inboxes d v → HasServed is_own shape known inboxes d w
   served-still v w d e h = record {
     own = h.own;
@@ -143,6 +144,7 @@ module _ {P : Type 0} (is_own : P → Type 0) (shape : Shape) (known : P → Kno
     stand = all-front (StandsBy is_own shape known inboxes a v) left right m.stand;
   }
 
+  -- the right half may take a round behind one of the left half
   pub right-go : (left left_new right : List (Desk P)) (a b : Bool) (v w : Hand Saying) → MayGo is_own shape known inboxes (left ++ right) a v → HaveGone is_own shape known inboxes left left_new a b v w
       → MayGo is_own shape known inboxes right b w
   right-go left left_new right a b v w m g = record {
@@ -152,6 +154,7 @@ module _ {P : Type 0} (is_own : P → Type 0) (shape : Shape) (known : P → Kno
     stand = stand-apart right left a b v w g.stays (numbers-behind left right m.row) g.others (all-back (StandsBy is_own shape known inboxes a v) left right m.stand);
   }
 
+  -- a round of the left half and one of the right are a round of both
   pub both-gone : (left left_new right right_new : List (Desk P)) (a b c : Bool) (v w u : Hand Saying) → MayGo is_own shape known inboxes (left ++ right) a v → HaveGone is_own shape known inboxes left left_new a b v w
       → HaveGone is_own shape known inboxes right right_new b c w u → HaveGone is_own shape known inboxes (left ++ right) (left_new ++ right_new) a c v u
   both-gone left left_new right right_new a b c v w u m f g = record {
@@ -166,6 +169,7 @@ module _ {P : Type 0} (is_own : P → Type 0) (shape : Shape) (known : P → Kno
   pub not-gone : (xs : List (Desk P)) (a : Bool) (v : Hand Saying) → MayGo is_own shape known inboxes xs a v → HaveGone is_own shape known inboxes xs xs a a v v
   not-gone xs a v m = record { clients = clients-none xs; stand = m.stand; stays = λ fine. fine; same = refl; others = λ k none. refl }
 
+  -- a round after a round
   pub gone-on : (old mid new : List (Desk P)) (a b c : Bool) (v w u : Hand Saying) → HaveGone is_own shape known inboxes old mid a b v w → HaveGone is_own shape known inboxes mid new b c w u
       → HaveGone is_own shape known inboxes old new a c v u
   gone-on old mid new a b c v w u f g = record {

@@ -25,6 +25,7 @@ use Rattle.pgn_seats.proofs.DeskTurnLaws.{both-gone, desks-served, go-again, gon
 pub all-ready : {X : Type 0} (xs : List X) → All (λ x. Unit {0}) xs
 all-ready xs = λ k d less. tt
 
+-- a desk is ready behind each turn
 pub ready-still : {A E : Type 0} (r : Result A E) → OnOk r (Unit {0})
 ready-still (Ok a) = tt
 ready-still (Err e) = tt
@@ -34,15 +35,18 @@ module _ {P : Type 0} (is_own : P → Type 0) (shape : Shape) (known : P → Kno
   pub goes-begun : ((p : P) → is_own p → passes.IsSeated shape (known p)) → (p : Part (Desk P) Tells) → PartMayServe is_own shape known inboxes outbox p → PartMayGo is_own shape known inboxes outbox p
   goes-begun law p m = record { own = m.own; may = may-go is_own shape known inboxes law p.workers p.hand.refused (knows p.hand.pass) m.fine m.may }
 
+  -- no turn at all
   pub gone-none : (p : Part (Desk P) Tells) → PartMayGo is_own shape known inboxes outbox p → PartHasGone is_own shape known inboxes outbox p p
   gone-none p m = record { own = m.own; gone = not-gone is_own shape known inboxes p.workers p.hand.refused (knows p.hand.pass) m.may }
 
+  -- a part has taken turns after turns
   pub gone-more : (p q r : Part (Desk P) Tells) → PartHasGone is_own shape known inboxes outbox p q → PartHasGone is_own shape known inboxes outbox q r → PartHasGone is_own shape known inboxes outbox p r
   gone-more p q r f g = record {
     own = g.own;
     gone = gone-on is_own shape known inboxes p.workers q.workers r.workers p.hand.refused q.hand.refused r.hand.refused (knows p.hand.pass) (knows q.hand.pass) (knows r.hand.pass) f.gone g.gone;
   }
 
+  -- a part that has taken turns may take more
   pub goes-again : (p q : Part (Desk P) Tells) → PartMayGo is_own shape known inboxes outbox p → PartHasGone is_own shape known inboxes outbox p q → All (λ d. Unit {0}) q.workers → PartMayGo is_own shape known inboxes outbox q
   goes-again p q m g ready = record { own = g.own; may = go-again is_own shape known inboxes p.workers q.workers p.hand.refused q.hand.refused (knows p.hand.pass) (knows q.hand.pass) m.may g.gone }
 
@@ -50,10 +54,12 @@ module _ {P : Type 0} (is_own : P → Type 0) (shape : Shape) (known : P → Kno
   pub goes-front : (xs ys : List (Desk P)) (h : Tells) → PartMayGo is_own shape known inboxes outbox (part (xs ++ ys) h) → PartMayGo is_own shape known inboxes outbox (part xs h)
   goes-front xs ys h m = record { own = m.own; may = left-go is_own shape known inboxes xs ys h.refused (knows h.pass) m.may }
 
+  -- the part behind may take a round behind one of the first
   pub goes-behind : (xs ys : List (Desk P)) (h : Tells) (p : Part (Desk P) Tells) → PartMayGo is_own shape known inboxes outbox (part (xs ++ ys) h) → PartHasGone is_own shape known inboxes outbox (part xs h) p
       → PartMayGo is_own shape known inboxes outbox (part ys p.hand)
   goes-behind xs ys h p m g = record { own = g.own; may = right-go is_own shape known inboxes xs p.workers ys h.refused p.hand.refused (knows h.pass) (knows p.hand.pass) m.may g.gone }
 
+  -- a round of both parts
   pub gone-both : (xs ys : List (Desk P)) (h : Tells) (p q : Part (Desk P) Tells) → PartMayGo is_own shape known inboxes outbox (part (xs ++ ys) h) → PartHasGone is_own shape known inboxes outbox (part xs h) p
       → PartHasGone is_own shape known inboxes outbox (part ys p.hand) q → PartHasGone is_own shape known inboxes outbox (part (xs ++ ys) h) (part (p.workers ++ q.workers) q.hand)
   gone-both xs ys h p q m f g = record {
@@ -65,6 +71,7 @@ module _ {P : Type 0} (is_own : P → Type 0) (shape : Shape) (known : P → Kno
   whole-may : (p l r : Part (Desk P) Tells) → PartWasCut is_own shape known inboxes outbox p l r → MayServe is_own shape known inboxes (l.workers ++ r.workers) (knows p.hand.pass)
   whole-may p l r cut = subst (λ (xs : List (Desk P)). MayServe is_own shape known inboxes xs (knows p.hand.pass)) cut.whole cut.begun
 
+  -- both halves of a part that was cut may begin
   pub begin-halves : (p l r : Part (Desk P) Tells) → PartWasCut is_own shape known inboxes outbox p l r → PartMayServe is_own shape known inboxes outbox l × PartMayServe is_own shape known inboxes outbox r
   begin-halves p l r cut = (
     record {
@@ -79,6 +86,7 @@ module _ {P : Type 0} (is_own : P → Type 0) (shape : Shape) (known : P → Kno
     },
   )
 
+  -- a part has run whose halves have
   pub halves-served : (p l l_new r r_new : Part (Desk P) Tells) (h : Tells) (a b : Result Unit AllocError) → PartWasCut is_own shape known inboxes outbox p l r → PartHasServed is_own shape known inboxes outbox l l_new a
       → PartHasServed is_own shape known inboxes outbox r r_new b → HandsWereJoined outbox l_new.hand r_new.hand h → PartHasServed is_own shape known inboxes outbox p (part (l_new.workers ++ r_new.workers) h) (result_and a b)
   halves-served p l l_new r r_new h a b cut f g made = record {
@@ -91,6 +99,7 @@ module _ {P : Type 0} (is_own : P → Type 0) (shape : Shape) (known : P → Kno
         (subst (λ (v : Hand Saying). HaveServed is_own shape known inboxes r.workers r_new.workers v (knows r_new.hand.pass) b) cut.right_pass g.served)));
   }
 
+  -- a part whose halves have not run may run still
   pub neither-served : (p l r : Part (Desk P) Tells) (h : Tells) → PartWasCut is_own shape known inboxes outbox p l r → HandsWereJoined outbox l.hand r.hand h
       → StandsFor (PartMayServe is_own shape known inboxes outbox) (PartHasServed is_own shape known inboxes outbox) p (part (l.workers ++ r.workers) h)
   neither-served p l r h cut made =
@@ -122,6 +131,7 @@ module _ {P : Type 0} (is_own : P → Type 0) (shape : Shape) (known : P → Kno
     gone = one-gone is_own shape known inboxes d e h.refused k.refused (knows h.pass) (knows k.pass) turned.same turned.alone turned.stands turned.stays;
   }
 
+  -- a part in which all waited has taken turns
   pub part-waited : (xs ys : List (Desk P)) (h k : Tells) → k ≡ h → ys ≡ xs → PartMayGo is_own shape known inboxes outbox (part xs h) → PartHasGone is_own shape known inboxes outbox (part xs h) (part ys k)
   part-waited xs ys h k same kept m =
       subst (λ (x : Tells). PartHasGone is_own shape known inboxes outbox (part xs h) (part ys x)) (sym same)

@@ -72,6 +72,7 @@ shown-stays old new e begins asks tells h = record {
   told = told-at new.section.no old.section.no h.turns tells (ap (λ (s : Section). s.no) e) h.told;
 }
 
+-- what was done first stays so where the session reads
 pub read-stays : {P : Type 0} (old new : Session P) → new ≡ record old { pass = new.pass; items = new.items } → Begins old.items.items new.items.items → StaysDone old new
 read-stays {P} old new e begins asks tells h = shown-stays old new (ap (λ (s : Session P). s.section) e) begins asks tells h
 
@@ -86,6 +87,7 @@ fed-lines section line front rest e =
     let all : (fed section line).lines ≡ (front ++ rest) ++ line ∷ seat_quit ∷ [] = fed-split section line (quits section.lines (front ++ rest) split) in
     all ∙ append_assoc front rest (line ∷ seat_quit ∷ []) ∙ ap (λ (ls : List ScriptLine). front ++ ls) (sym (append_assoc rest (line ∷ []) (seat_quit ∷ [])))
 
+-- and where a line is put into its script
 pub put-stays : {P : Type 0} (old new : Session P) (line : ScriptLine) → new ≡ record old { section = fed old.section line } → StaysDone old new
 put-stays {P} old new line e asks tells h = record {
   turns = h.turns;
@@ -98,6 +100,7 @@ put-stays {P} old new line e asks tells h = record {
   told = told-at new.section.no old.section.no h.turns tells (ap (λ (s : Session P). s.section.no) e) h.told;
 }
 
+-- what was done is done still, with the line to come
 pub put-done : {P : Type 0} (asks : List Ask) (old new : Session P) (kept : Kept) (tells : Hand Saying) (line : ScriptLine) → new ≡ record old { section = fed old.section line } → HasDone [] asks old kept tells
     → HasDone (line ∷ []) asks new kept tells
 put-done {P} asks old new kept tells line e h = record {

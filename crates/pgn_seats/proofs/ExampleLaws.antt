@@ -30,6 +30,7 @@ one-ask ask [] e = let both : Some ask ∷ [] ≡ [] = e in absurd (cc)
 one-ask ask (one ∷ []) e = let both : Some ask ∷ [] ≡ Some one ∷ [] = e in let same : ask ≡ one = cc in ap (λ (a : Ask). a ∷ []) (sym same)
 one-ask ask (one ∷ other ∷ asks) e = let both : Some ask ∷ [] ≡ Some one ∷ Some other ∷ map Some asks = e in absurd (cc)
 
+-- what was asked, where two things were taken
 pub two-asks : (ask other : Ask) (asks : List Ask) → Some ask ∷ Some other ∷ [] ≡ map Some asks → asks ≡ ask ∷ other ∷ []
 two-asks ask other [] e = let both : Some ask ∷ Some other ∷ [] ≡ [] = e in absurd (cc)
 two-asks ask other (one ∷ asks) e =
@@ -38,6 +39,7 @@ two-asks ask other (one ∷ asks) e =
     let rest : Some other ∷ [] ≡ map Some asks = cc in
     ap (λ (a : Ask). a ∷ asks) (sym same) ∙ ap (λ (l : List Ask). ask ∷ l) (one-ask other asks rest)
 
+-- nothing, where nothing was taken
 pub no-ask : (asks : List Ask) (others : List (Option Ask)) → [] ≡ map Some asks ++ others → asks ≡ []
 no-ask [] others e = refl
 no-ask (one ∷ asks) others e = let both : [] ≡ Some one ∷ (map Some asks ++ others) = e in absurd (cc)
@@ -51,6 +53,7 @@ ends-some : (xs ys : List (Option ℕ)) → (xs ++ None ∷ []) ++ ys ≡ [] →
 ends-some [] ys e = let both : None ∷ ys ≡ [] = e in let no : ⊥ = cc in no
 ends-some (x ∷ xs) ys e = let both : x ∷ ((xs ++ None ∷ []) ++ ys) ≡ [] = e in let no : ⊥ = cc in no
 
+-- of the end of a client something is said
 pub end-said : (seat : ℕ) (t : Telling) (turns : List Turn) (n : ℕ) (parting : Parting) → asks_of turns ≡ End n parting ∷ [] → signs_said seat t turns ≡ [] → ⊥
 end-said seat t [] n parting e told = let both : [] ≡ End n parting ∷ [] = e in let no : ⊥ = cc in no
 end-said seat t (Answers query more ∷ turns) n parting e told = let both : Query query ∷ asks_of turns ≡ End n parting ∷ [] = e in let no : ⊥ = cc in no
@@ -69,6 +72,7 @@ settled-some seat kept Idle behind e = some-first (Some 84) _ e
 settled-some seat kept InBlock behind e = some-first (Some 84) _ e
 settled-some seat kept Failed behind e = some-first (Some 69) _ e
 
+-- and of what is settled
 pub settled-said : (seat : ℕ) (t : Telling) (turns : List Turn) → asks_of turns ≡ Settle One ∷ [] → signs_said seat t turns ≡ [] → ⊥
 settled-said seat t [] e told = let both : [] ≡ Settle One ∷ [] = e in let no : ⊥ = cc in no
 settled-said seat t (Answers query more ∷ turns) e told = let both : Query query ∷ asks_of turns ≡ Settle One ∷ [] = e in let no : ⊥ = cc in no
@@ -136,6 +140,7 @@ reads-block s (item ∷ reads) h = reads-block (after_item s item) reads (All-ta
     one s (Read from to got) h = refl
     one s item h = absurd h
 
+-- a client that gives itself a name has other settings than fresh ones
 pub named-some : (t : Telling) (turns : List Turn) → t.walk.block ≡ Idle → All IsPlain turns → asks_of turns ≡ Settle names ∷ [] → (fold telling_after t turns).kept ≡ fresh → ⊥
 named-some t [] idle plain e none = let both : [] ≡ Settle names ∷ [] = e in let no : ⊥ = cc in no
 named-some t (Answers query more ∷ turns) idle plain e none = let both : Query query ∷ asks_of turns ≡ Settle names ∷ [] = e in let no : ⊥ = cc in no

@@ -4,7 +4,6 @@ use Rattle.std.specs.Prelude.{map}
 use Rattle.std.proofs.lemmas.List.{map-append}
 use Rattle.std.proofs.lemmas.List.Elements.{All-nil}
 use Rattle.pgn_language.specs.declared.scenario.ScriptLine.{ScriptLine}
-use Rattle.pgn_language.specs.declared.scenario.Section.{Section}
 use Rattle.pgn_language.specs.Inputs.{note_lines_of}
 use Rattle.pgn_model.specs.declared.item.Item.TheVariants.{Line}
 use Rattle.pgn_hub.specs.declared.known.Known.{Known}
@@ -14,12 +13,10 @@ use Rattle.pgn_outlet.specs.declared.hand.Hand.{Hand}
 use Rattle.pgn_outlet.specs.declared.outlet.Outlet.{Outlet}
 use Rattle.pgn_outlet.specs.Cames.{what_of}
 use Rattle.pgn_outlet.specs.Passes.{IsPassOf, Pass, knows}
-use Rattle.pgn_session.specs.declared.session.Session.{Session}
 use Rattle.pgn_session.specs.declared.doing.Doing.{Doing}
 use Rattle.pgn_session.specs.declared.doing.Doing.TheVariants.{Lines, Over}
-use Rattle.pgn_session.specs.Open.{IsSameClient}
 use Rattle.pgn_session.specs.Runs.{IsLawful}
-use Rattle.pgn_session.specs.Whole.{HasRest, IsSameScript}
+use Rattle.pgn_session.specs.Whole.{HasRest}
 use Rattle.pgn_session.proofs.LawfulLaws.{rest-lawful}
 use Rattle.pgn_session.proofs.OpenLaws.{begins-open}
 use Rattle.pgn_turns.specs.declared.asked.Ask.{Ask}
@@ -34,10 +31,7 @@ use Rattle.pgn_seats.specs.Working.{HasDone, HasDoneFirst, IsAtWork, with_ask}
 use Rattle.pgn_seats.proofs.DoneLaws.{done-first}
 
 module _ {P : Type 0} (is_own : P → Type 0) (shape : Shape) (known : P → Known) (inboxes : List (Outlet (Option Ask))) where
-  -- what a serving desk's session is, and what it has done
-  pub serves-work : (desk : Desk P) (tells : Hand Saying) → Serves is_own shape known inboxes desk tells → IsAtWork is_own shape known desk.session
-  serves-work desk tells h = record { own = h.own; served = h.served; rested = h.rested; is_open = h.is_open }
-
+  -- a desk that serves has done all that was asked
   pub serves-done : (desk : Desk P) (tells : Hand Saying) → (h : Serves is_own shape known inboxes desk tells) → HasDone [] (asks_of h.turns) desk.session desk.settings tells
   serves-done desk tells h = record { turns = h.turns; plain = h.in_turns.plain; asked = refl; lines = h.in_turns.lines; items = h.in_turns.items; told = h.told; settings = h.settings }
 
@@ -75,11 +69,13 @@ module _ {P : Type 0} (is_own : P → Type 0) (shape : Shape) (known : P → Kno
     told = first.told;
   }
 
+  -- a desk that serves has told whole turns
   pub serves-told : (desk : Desk P) (tells : Hand Saying) → Serves is_own shape known inboxes desk tells → HasToldFirst shape inboxes desk tells
   serves-told desk tells h =
       first-told desk tells (asks_of h.turns) [] (rest-lawful shape known desk.session h.rested) h.inbox (done-first [] (asks_of h.turns) desk.session desk.settings tells (serves-done desk tells h))
       (h.asked ∙ sym (append-nil (map Some (asks_of h.turns))))
 
+  -- one that has served has told whole turns
   pub served-told : (desk : Desk P) (tells : Hand Saying) → HasServed is_own shape known inboxes desk tells → HasToldFirst shape inboxes desk tells
   served-told desk tells h = record {
     lawful = rest-lawful shape known desk.session h.rested;
@@ -102,6 +98,7 @@ module _ {P : Type 0} (is_own : P → Type 0) (shape : Shape) (known : P → Kno
       apart : (doing : Doing) → doing ≡ Lines → doing ≡ Over → ⊥
       apart doing e f = let both : Lines ≡ Over = sym e ∙ f in let no : ⊥ = cc in no
 
+  -- a desk whose session is not over serves
   pub seated-serves : (desk : Desk P) (tells : Hand Saying) → (desk.session.doing ≡ Over → ⊥) → IsSeated is_own shape known inboxes desk tells → Serves is_own shape known inboxes desk tells
   seated-serves desk tells goes h = elim h [ inl serves ↦ serves | inr served ↦ absurd (goes served.over) ]
 
@@ -133,6 +130,7 @@ module _ {P : Type 0} (is_own : P → Type 0) (shape : Shape) (known : P → Kno
   first-seat old new asks others before after h inbox took same number lawful first =
       first-told new after (asks_of h.turns) others lawful (inbox-kept (record old { asks = asks }) new same number inbox) first (taken-kept (record old { asks = asks }) new same number ∙ took)
 
+  -- it serves on behind a part of a turn that was done
   pub more-serves : (old new : Desk P) (asks : Pass (Option Ask)) (ask : Option Ask) (before after : Hand Saying) → (h : Serves is_own shape known inboxes old before) → HasInbox inboxes (record old { asks = asks })
       → taken old.session.section.no (knows asks) ≡ map Some (with_ask (asks_of h.turns) ask) → new.asks ≡ asks → new.session.section.no ≡ old.session.section.no → new.notes ≡ note_lines_of new.session.section.lines
       → IsAtWork is_own shape known new.session
@@ -141,6 +139,7 @@ module _ {P : Type 0} (is_own : P → Type 0) (shape : Shape) (known : P → Kno
       done-serves new after (with_ask (asks_of h.turns) ask) work counted (inbox-kept (record old { asks = asks }) new same number inbox) (went (serves-done old before h))
       (taken-kept (record old { asks = asks }) new same number ∙ took)
 
+  -- it has served where its session has quit
   pub quit-serves : (old new : Desk P) (asks : Pass (Option Ask)) (tells : Hand Saying) → (h : Serves is_own shape known inboxes old tells) → HasInbox inboxes (record old { asks = asks })
       → taken old.session.section.no (knows asks) ≡ map Some (asks_of h.turns) ++ None ∷ [] → new.asks ≡ asks → new.session.section.no ≡ old.session.section.no → is_own new.session.pass → HasRest shape known new.session
       → new.session.doing ≡ Over → (known new.session.pass).mark ≡ None → HasQuitBehind new.session h.turns → HasServed is_own shape known inboxes new tells
@@ -170,13 +169,6 @@ module _ {P : Type 0} (is_own : P → Type 0) (shape : Shape) (known : P → Kno
 pub asked-more : (asks : List Ask) (ask : Ask) (old new : List (Option Ask)) → old ≡ map Some asks → new ≡ old ++ Some ask ∷ [] → new ≡ map Some (asks ++ ask ∷ [])
 asked-more asks ask old new e f = f ∙ ap (λ (l : List (Option Ask)). l ++ Some ask ∷ []) e ∙ sym (map-append Some asks (ask ∷ []))
 
+-- what was taken, and one thing more, also the end
 pub asked-also : (asks : List Ask) (one : Option Ask) (old new : List (Option Ask)) → old ≡ map Some asks → new ≡ old ++ one ∷ [] → new ≡ map Some asks ++ one ∷ []
 asked-also asks one old new e f = f ∙ ap (λ (l : List (Option Ask)). l ++ one ∷ []) e
-
--- the script is the same, and so is the client
-pub script-client : {P : Type 0} (old new : Session P) → IsSameScript old new → IsSameClient old new
-script-client old new h = record {
-  section = h.section ∙ ap (λ (s : Section). record old.section { lines = s.lines }) (sym h.section);
-  plan = h.plan;
-  patience = h.patience;
-}

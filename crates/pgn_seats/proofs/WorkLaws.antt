@@ -37,7 +37,7 @@ use Rattle.pgn_turns.specs.declared.asked.Asked.{Asked}
 use Rattle.pgn_turns.specs.Asks.{line_of, seat_quit}
 use Rattle.pgn_turns.specs.Turns.{Turn, IsRead, lines_of}
 use Rattle.pgn_seats.specs.Serving.{HasQuitBehind, IsInTurns}
-use Rattle.pgn_seats.specs.Working.{HasRun, HasRunBoth, IsAtLine, IsAtWork}
+use Rattle.pgn_seats.specs.Working.{HasRun, IsAtLine, IsAtWork}
 
 -- the same client, over each kind of part
 pub client-fed : {P : Type 0} (old new : Session P) (line : ScriptLine) → new ≡ record old { section = fed old.section line } → IsSameClient old new
@@ -47,12 +47,15 @@ client-fed {P} old new line e = record {
   patience = ap (λ (s : Session P). s.patience) e;
 }
 
+-- the section of a session whose script was fed
 pub fed-section : {P : Type 0} (old new : Session P) (line : ScriptLine) → new ≡ record old { section = fed old.section line } → new.section ≡ fed old.section line
 fed-section {P} old new line e = ap (λ (s : Session P). s.section) e
 
+-- a session that did not change serves the same client
 pub client-same : {P : Type 0} (old new : Session P) → new ≡ old → IsSameClient old new
 client-same {P} old new e = subst (λ (s : Session P). IsSameClient old s) (sym e) (record { section = refl; plan = refl; patience = refl })
 
+-- and one that has only read
 pub client-read : {P : Type 0} (old new : Session P) → new ≡ record old { pass = new.pass; items = new.items } → IsSameClient old new
 client-read {P} old new e = record {
   section = ap (λ (s : Session P). s.section) e ∙ ap (λ (ls : List ScriptLine). record old.section { lines = ls }) (sym (ap (λ (s : Session P). s.section.lines) e));
@@ -64,12 +67,15 @@ client-read {P} old new e = record {
 pub client-no : {P : Type 0} (old new : Session P) → IsSameClient old new → new.section.no ≡ old.section.no
 client-no old new h = ap (λ (s : Section). s.no) h.section
 
+-- its number is the same
 pub no-read : {P : Type 0} (old new : Session P) → new ≡ record old { pass = new.pass; items = new.items } → new.section.no ≡ old.section.no
 no-read {P} old new e = ap (λ (s : Session P). s.section.no) e
 
+-- the number of a session with the same script is the same
 pub no-script : {P : Type 0} (old new : Session P) → IsSameScript old new → new.section.no ≡ old.section.no
 no-script old new h = ap (λ (s : Section). s.no) h.section
 
+-- reading changes none of the lines that notify
 pub notes-read : {P : Type 0} (old new : Session P) → new ≡ record old { pass = new.pass; items = new.items } → note_lines_of old.section.lines ≡ note_lines_of new.section.lines
 notes-read {P} old new e = ap (λ (s : Session P). note_lines_of s.section.lines) (sym e)
 
@@ -104,6 +110,7 @@ few-notes line lines more notes most e f few =
     let one : note_lines_of (line ∷ []) ≡ cond (is_note_act line.act) 1 0 = omega arith in
     omega (arith, one, e, f, few)
 
+-- a line more in the script counts, if it notifies
 pub more-notes : {P : Type 0} (old new : Session P) (line : ScriptLine) (more notes : ℕ) → IsOpen old → more ≡ cond (is_note_act line.act) 1 0 → notes ≡ note_lines_of old.section.lines
     → new ≡ record old { section = fed old.section line } → notes + more ≡ note_lines_of new.section.lines
 more-notes {P} old new line more notes is_open e f put =
@@ -180,6 +187,7 @@ no-lines [] h = refl
 no-lines (item ∷ items) h =
     ap (λ (b : Bool). b || list_any begins_line items) (no-line item (All-head IsNoLine item items h)) ∙ no-lines items (All-tail IsNoLine item items h)
 
+-- a session that has stepped over a line, and idled, has run it
 pub line-ran : {P : Type 0} (shape : Shape) (known : P → Known) (old two new : Session P) (line : ScriptLine) (step : Step) (done : IdleDone) → IsBefore old line → RunsCommand line → Moves known old two step
     → HasIdled shape.format (known two.pass) (known new.pass) two.set.channels two.items.items new.items.items done → HasRun old line new
 line-ran shape known old two new line step done before runs moved idled =
@@ -191,16 +199,11 @@ line-ran shape known old two new line step done before runs moved idled =
       one_line = no-lines (run.more ++ behind.reads) (All-append IsNoLine run.more behind.reads run.one_line (reads-no_line behind.reads behind.are));
     }
 
+-- the line stands among the items of a session that has run it
 pub ran-within : {P : Type 0} (old new : Session P) (line : ScriptLine) (from : ℕ) → from ≡ length old.items.items → HasRun old line new → from < length new.items.items
 ran-within old new line from e h =
     let long : length new.items.items ≡ length (old.items.items ++ Line line.line ∷ h.more) = ap (λ (is : List Item). length is) h.shown in
     omega (arith, e, long, length-append old.items.items (Line line.line ∷ h.more))
-
-pub both-within : {P : Type 0} (old new : Session P) (first second : ScriptLine) (from : ℕ) → from ≡ length old.items.items → HasRunBoth old first second new → from ≤ length new.items.items
-both-within old new first second from e h =
-    let items : List Item = Line first.line ∷ h.one ++ Line second.line ∷ h.two in
-    let long : length new.items.items ≡ length (old.items.items ++ items) = ap (λ (is : List Item). length is) h.shown in
-    omega (arith, e, long, length-append old.items.items items)
 
 -- the same behind a line that was put in
 pub ran-behind : {P : Type 0} (old mid new : Session P) (line : ScriptLine) → mid ≡ record old { section = fed old.section line } → HasRun mid line new → HasRun old line new

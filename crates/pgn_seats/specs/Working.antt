@@ -1,19 +1,22 @@
 -- What a session has done for what its desk was asked so far, what was told of it, and how each part of a turn carries that on.
-use Rattle.std.specs.Prelude.{◌≡◌, ℕ, false, List, [], ◌∷◌, ◌++◌, Option, None, Some, All}
+use Rattle.std.specs.Prelude.{◌≡◌, ℕ, false, List, [], ◌∷◌, ◌++◌, Option, None, Some, All, Result, OnErr, OnOk}
 use Rattle.std.specs.List.{list_any}
 use Rattle.pgn_hub.specs.declared.known.Known.{Known}
 use Rattle.pgn_hub.specs.Shape.{Shape}
 use Rattle.pgn_language.specs.declared.scenario.ScriptLine.{ScriptLine}
+use Rattle.pgn_language.specs.Inputs.{note_lines_of}
 use Rattle.pgn_model.specs.declared.item.Item.{Item}
 use Rattle.pgn_model.specs.declared.item.Item.TheVariants.{Line}
 use Rattle.pgn_messages.specs.Laws.{begins_line}
 use Rattle.pgn_session.specs.declared.session.Session.{Session}
 use Rattle.pgn_session.specs.Feed.{fed}
-use Rattle.pgn_session.specs.Open.{IsBefore, IsOpen, RunsCommand}
+use Rattle.pgn_session.specs.Open.{IsBefore, IsOpen, IsSameClient, RunsCommand}
+use Rattle.pgn_session.specs.Runs.{IsLawful}
 use Rattle.pgn_session.specs.Standing.{IsServedBy}
 use Rattle.pgn_session.specs.Whole.{HasRest}
 use Rattle.pgn_outlet.specs.declared.hand.Hand.{Hand}
 use Rattle.pgn_outlet.specs.Cames.{what_of}
+use Rattle.pgn_outlet.specs.Rule.{MayPush}
 use Rattle.pgn_turns.specs.declared.asked.Ask.{Ask}
 use Rattle.pgn_turns.specs.declared.saying.Saying.{Saying}
 use Rattle.pgn_turns.specs.Asks.{seat_quit}
@@ -21,6 +24,7 @@ use Rattle.pgn_turns.specs.Sayings.{all_told}
 use Rattle.pgn_turns.specs.Turns.{Turn, IsPlain, asks_of, items_of, lines_of, said, telling_of}
 use Rattle.pgn_requests.specs.Settings.{Kept}
 use Rattle.pgn_seats.specs.declared.desk.Desk.{Desk}
+use Rattle.pgn_seats.specs.Serving.{HasPushedFor}
 
 -- a session at work: its pass is the hub's, which has each flag that it may name, it left no read out, and its script is open
 pub record IsAtWork {P : Type 0} (is_own : P → Type 0) (shape : Shape) (known : P → Known) (s : Session P) : Type 0 where
@@ -98,3 +102,20 @@ HasDoneAsk ask old new before after = (asks : List Ask) → HasDone [] asks old.
 -- what was told for number n grew by these signs
 abbrev pub HasSaid : ℕ → List (Option ℕ) → Hand Saying → Hand Saying → Type 0
 HasSaid n signs old new = all_told (what_of n new.sent) ≡ all_told (what_of n old.sent) ++ signs
+
+-- a desk that may do what it is asked, and tell it
+pub record MayDo {P : Type 0} (is_own : P → Type 0) (shape : Shape) (known : P → Known) (desk : Desk P) (tells : Hand Saying) : Type 0 where
+  pub may : MayPush tells desk.session.section.no
+  pub work : IsAtWork is_own shape known desk.session
+  pub counted : desk.notes ≡ note_lines_of desk.session.section.lines
+
+-- a desk has done this and told it; or it was refused memory, and all that was asked before was done first
+pub record HasTried {P T E : Type 0} (is_own : P → Type 0) (shape : Shape) (known : P → Known) (ask : Ask) (old new : Desk P) (before after : Hand Saying) (r : Result T E) : Type 0 where
+  pub alone : HasPushedFor old.session.section.no before after
+  pub asks : new.asks ≡ old.asks
+  pub same : IsSameClient old.session new.session
+  pub lawful : IsLawful shape new.session
+  pub counted : new.notes ≡ note_lines_of new.session.section.lines
+  pub work : OnOk r (IsAtWork is_own shape known new.session)
+  pub went : OnOk r (HasDoneAsk ask old new before after)
+  pub stopped : OnErr r (StopsFirst [] old.session new.session before after)

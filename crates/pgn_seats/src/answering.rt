@@ -1,23 +1,22 @@
-ghost use Rattle.std.specs.Prelude.{◌≡◌, None, Some, [], ◌∷◌, OnOk, OnErr};
+ghost use Rattle.std.specs.Prelude.{◌≡◌, Some, [], ◌∷◌, OnOk, OnErr};
 ghost use Rattle.pgn_hub.specs.Shape.{Shape};
 ghost use Rattle.pgn_language.specs.Inputs.{note_lines_of};
 ghost use Rattle.pgn_outlet.specs.Passes.{IsPassOf, knows};
 ghost use Rattle.pgn_outlet.specs.Rule.{MayPush};
 ghost use Rattle.pgn_seats.specs.Serving.{HasPushedFor};
-ghost use Rattle.pgn_seats.specs.Working.{GoesOn, HasDoneAsk, StopsFirst, IsAtLine, IsAtWork};
+ghost use Rattle.pgn_seats.specs.Working.{GoesOn, HasTried, IsAtLine, IsAtWork, MayDo, StopsFirst};
 ghost use Rattle.pgn_session.specs.Feed.{fed};
 ghost use Rattle.pgn_session.specs.FirstRead.{HasReadTold, IsToReadFirst};
-ghost use Rattle.pgn_session.specs.Open.{IsOpen, IsSameClient};
+ghost use Rattle.pgn_session.specs.Open.{IsOpen};
 ghost use Rattle.pgn_session.specs.Runs.{IsLawful};
 ghost use Rattle.pgn_session.specs.Whole.{HasRest, IsSameScript};
 ghost use Rattle.pgn_turns.specs.declared.asked.Ask.TheVariants.{Query};
 ghost use Rattle.pgn_turns.specs.Asks.{line_of};
 
-use crate::Desk;
 use crate::hearing::hear_before;
 use crate::lines::{put_line, run_line};
-use crate::outbox::Outbox;
 use crate::telling::say_answer;
+use crate::{Desk, Service};
 use pgn_hub::{Hub, PassView};
 use pgn_outlet::OutletPass;
 use pgn_session::Session;
@@ -27,31 +26,21 @@ use std::sync::Wait;
 
 // Answers a query: what is heard before its line is told before, and its whole answer at once.
 pub(crate) fn answer<P: PassView + Send + Drop, H: Hub<Pass = P>, R: Wait>(
-    rt: &R,
-    alloc: Global,
-    hub: &H,
-    outbox: &Outbox<'_>,
+    service: &Service<'_, H, R>,
     desk: &mut Desk<P>,
     query: &Asked,
     tells: &mut OutletPass<Saying>,
 ) -> Result<(), AllocError>
-    requires own { IsPassOf outbox.now.outlet.now tells.old }
-    requires may { MayPush (knows tells.old) desk.old.session.section.no }
-    requires work { IsAtWork (H.is_pass hub.now) (H.shape hub.now) P.known desk.old.session }
-    requires counted { desk.old.notes ≡ note_lines_of desk.old.session.section.lines }
-    ensures own { IsPassOf outbox.now.outlet.now tells.new }
-    ensures alone { HasPushedFor desk.old.session.section.no (knows tells.old) (knows tells.new) }
-    ensures asks { desk.new.asks ≡ desk.old.asks }
-    ensures same { IsSameClient desk.old.session desk.new.session }
-    ensures lawful { IsLawful (H.shape hub.now) desk.new.session }
-    ensures counted { desk.new.notes ≡ note_lines_of desk.new.session.section.lines }
-    ensures work { OnOk result (IsAtWork (H.is_pass hub.now) (H.shape hub.now) P.known desk.new.session) }
-    ensures went { OnOk result (HasDoneAsk (Query query.now) desk.old desk.new (knows tells.old) (knows tells.new)) }
-    ensures stopped { OnErr result (StopsFirst [] desk.old.session desk.new.session (knows tells.old) (knows tells.new)) }
+    requires own { IsPassOf service.now.outbox.now tells.old }
+    requires may { MayDo (H.is_pass service.now.hub.now) (H.shape service.now.hub.now) P.known
+        desk.old (knows tells.old) }
+    ensures own { IsPassOf service.now.outbox.now tells.new }
+    ensures tried { HasTried (H.is_pass service.now.hub.now) (H.shape service.now.hub.now) P.known
+        (Query query.now) desk.old desk.new (knows tells.old) (knows tells.new) result }
 {
-    put_query(alloc, &mut desk.session, &mut desk.notes, query)?;
-    hear_before(rt, alloc, hub, outbox, &mut desk.session, tells)?;
-    run_query(rt, alloc, hub, outbox, &mut desk.session, query, tells)
+    put_query(service.alloc, &mut desk.session, &mut desk.notes, query)?;
+    hear_before(service, &mut desk.session, tells)?;
+    run_query(service, &mut desk.session, query, tells)
 }
 
 // Puts a query's line into the script.
@@ -63,9 +52,12 @@ fn put_query<P: PassView + Send + Drop>(
 ) -> Result<(), AllocError>
     requires is_open { IsOpen session.old }
     requires counted { notes.old ≡ note_lines_of session.old.section.lines }
-    ensures fed { OnOk result (session.new ≡ record session.old { section = fed session.old.section (line_of query.now) }) }
+    ensures fed { OnOk result
+        (session.new
+        ≡ record session.old { section = fed session.old.section (line_of query.now) }) }
     ensures unchanged { OnErr result (session.new ≡ session.old) }
-    ensures rested { (shape : Shape) → HasRest shape P.known session.old → OnOk result (HasRest shape P.known session.new) }
+    ensures rested { (shape : Shape) → HasRest shape P.known session.old
+        → OnOk result (HasRest shape P.known session.new) }
     ensures counted { notes.new ≡ note_lines_of session.new.section.lines }
 {
     let line = query.script_line(alloc)?;
@@ -74,27 +66,28 @@ fn put_query<P: PassView + Send + Drop>(
 
 // Runs a query's line, which is to come, and tells its whole answer. Where memory does not suffice, nothing of it is told.
 fn run_query<P: PassView + Send + Drop, H: Hub<Pass = P>, R: Wait>(
-    rt: &R,
-    alloc: Global,
-    hub: &H,
-    outbox: &Outbox<'_>,
+    service: &Service<'_, H, R>,
     session: &mut Session<P>,
     query: &Asked,
     tells: &mut OutletPass<Saying>,
 ) -> Result<(), AllocError>
-    requires own { IsPassOf outbox.now.outlet.now tells.old }
+    requires own { IsPassOf service.now.outbox.now tells.old }
     requires may { MayPush (knows tells.old) session.old.section.no }
-    requires line { IsAtLine (H.is_pass hub.now) (H.shape hub.now) P.known (line_of query.now) session.old }
+    requires line { IsAtLine (H.is_pass service.now.hub.now) (H.shape service.now.hub.now) P.known
+        (line_of query.now) session.old }
     requires read_up { IsToReadFirst session.old → HasReadTold (P.known session.old.pass) }
-    ensures own { IsPassOf outbox.now.outlet.now tells.new }
+    ensures own { IsPassOf service.now.outbox.now tells.new }
     ensures alone { HasPushedFor session.old.section.no (knows tells.old) (knows tells.new) }
     ensures same { IsSameScript session.old session.new }
-    ensures lawful { IsLawful (H.shape hub.now) session.new }
-    ensures work { OnOk result (IsAtWork (H.is_pass hub.now) (H.shape hub.now) P.known session.new) }
-    ensures went { OnOk result (GoesOn (line_of query.now ∷ []) [] (Some (Query query.now)) session.old session.new (knows tells.old) (knows tells.new)) }
-    ensures stopped { OnErr result (StopsFirst (line_of query.now ∷ []) session.old session.new (knows tells.old) (knows tells.new)) }
+    ensures lawful { IsLawful (H.shape service.now.hub.now) session.new }
+    ensures work { OnOk result (IsAtWork (H.is_pass service.now.hub.now)
+        (H.shape service.now.hub.now) P.known session.new) }
+    ensures went { OnOk result (GoesOn (line_of query.now ∷ []) [] (Some (Query query.now))
+        session.old session.new (knows tells.old) (knows tells.new)) }
+    ensures stopped { OnErr result (StopsFirst (line_of query.now ∷ []) session.old session.new
+        (knows tells.old) (knows tells.new)) }
 {
     let from = session.items.len();
-    run_line(rt, alloc, hub, session)?;
-    say_answer(rt, alloc, outbox, session, from, query, tells)
+    run_line(service, session)?;
+    say_answer(service, session, from, query, tells)
 }

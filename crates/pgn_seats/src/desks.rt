@@ -3,54 +3,45 @@ ghost use Rattle.pgn_outlet.specs.Passes.{IsPassOf, knows};
 ghost use Rattle.pgn_outlet.specs.Rule.{MayPush};
 ghost use Rattle.pgn_seats.specs.Workers.{HasSeat, HasTakenTurn, StandsBy};
 
-use crate::outbox::Outbox;
 use crate::turn::take_turn;
-use crate::{Desk, Inbox, Tells};
+use crate::{Desk, Service, Tells};
 use pgn_hub::{Hub, PassView};
 use pgn_workers::{Pause, Turn, Work};
-use std::alloc::{AllocError, Global};
+use std::alloc::AllocError;
 use std::sync::Wait;
 use std::time::Duration;
 
 // How long desks that share a thread sleep at most on the bell of the first of them.
 const LONGEST_SHARED: u64 = 1;
 
-// What all desks of a service have in common: the hub, what they are asked by, and what they tell by.
-#[derive(Drop)]
-pub(crate) struct Service<'a, H> {
-    pub(crate) hub: &'a H,
-    pub(crate) inboxes: &'a [Inbox],
-    pub(crate) outbox: Outbox<'a>,
-}
-
-impl<P: PassView + Send + Drop, H: Hub<Pass = P>> Work<Desk<P>, Tells> for Service<'_, H> {
+impl<P: PassView + Send + Drop, H: Hub<Pass = P>, R> Work<Desk<P>, Tells> for Service<'_, H, R> {
     ghost use Rattle.std.specs.Prelude.{◌≡◌};
     ghost use Rattle.pgn_session.specs.declared.doing.Doing.TheVariants.{Over};
     ghost use Rattle.pgn_seats.specs.Workers.{HandsWereJoined, PartHasGone, PartHasServed, PartMayGo, PartMayServe, PartWasCut};
 
-    ghost begins = { λ c p. PartMayServe (H.is_pass c.hub.now) (H.shape c.hub.now) P.known c.inboxes.now c.outbox.outlet.now p };
+    ghost begins = { λ c p. PartMayServe (H.is_pass c.hub.now) (H.shape c.hub.now) P.known c.inboxes.now c.outbox.now p };
 
-    ghost goes = { λ c p. PartMayGo (H.is_pass c.hub.now) (H.shape c.hub.now) P.known c.inboxes.now c.outbox.outlet.now p };
+    ghost goes = { λ c p. PartMayGo (H.is_pass c.hub.now) (H.shape c.hub.now) P.known c.inboxes.now c.outbox.now p };
 
-    ghost took = { λ c p q. PartHasGone (H.is_pass c.hub.now) (H.shape c.hub.now) P.known c.inboxes.now c.outbox.outlet.now p q };
+    ghost took = { λ c p q. PartHasGone (H.is_pass c.hub.now) (H.shape c.hub.now) P.known c.inboxes.now c.outbox.now p q };
 
     ghost ready = { λ c desk. Unit {0} };
 
     ghost over = { λ c desk. desk.session.doing ≡ Over };
 
-    ghost ran = { λ c p q answer. PartHasServed (H.is_pass c.hub.now) (H.shape c.hub.now) P.known c.inboxes.now c.outbox.outlet.now p q answer };
+    ghost ran = { λ c p q answer. PartHasServed (H.is_pass c.hub.now) (H.shape c.hub.now) P.known c.inboxes.now c.outbox.now p q answer };
 
-    ghost cut_in = { λ c p l r. PartWasCut (H.is_pass c.hub.now) (H.shape c.hub.now) P.known c.inboxes.now c.outbox.outlet.now p l r };
+    ghost cut_in = { λ c p l r. PartWasCut (H.is_pass c.hub.now) (H.shape c.hub.now) P.known c.inboxes.now c.outbox.now p l r };
 
-    ghost joined = { λ c l r h. HandsWereJoined c.outbox.outlet.now l r h };
+    ghost joined = { λ c l r h. HandsWereJoined c.outbox.now l r h };
 
     fn cut(&self, hand: &mut Tells, size: usize) -> Tells {
-        Tells::new(self.outbox.outlet.cut(&mut hand.pass, size as u64))
+        Tells::new(self.outbox.cut(&mut hand.pass, size as u64))
     }
 
     fn join(&self, hand: &mut Tells, other: Tells) {
         let Tells { pass, .. } = other;
-        self.outbox.outlet.whole(&mut hand.pass, pass);
+        self.outbox.whole(&mut hand.pass, pass);
     }
 
     fn laws(&self) {}
@@ -58,30 +49,23 @@ impl<P: PassView + Send + Drop, H: Hub<Pass = P>> Work<Desk<P>, Tells> for Servi
 
 // A turn of a desk. Once one of those that share a thread was refused memory, or ends since another was, each is refused.
 pub(crate) fn turn_at<P: PassView + Send + Drop, H: Hub<Pass = P>, R: Wait>(
-    rt: &R,
-    alloc: Global,
-    service: &Service<'_, H>,
+    service: &Service<'_, H, R>,
     desk: &mut Desk<P>,
     tells: &mut Tells,
 ) -> Result<Turn, AllocError>
-    requires own { IsPassOf service.now.outbox.outlet.now tells.old.pass }
+    requires own { IsPassOf service.now.outbox.now tells.old.pass }
     requires may { MayPush (knows tells.old.pass) desk.old.session.section.no }
-    requires stands { StandsBy (H.is_pass service.now.hub.now) (H.shape service.now.hub.now) P.known service.now.inboxes.now tells.old.refused (knows tells.old.pass) desk.old }
-    ensures own { IsPassOf service.now.outbox.outlet.now tells.new.pass }
-    ensures turned { HasTakenTurn (H.is_pass service.now.hub.now) (H.shape service.now.hub.now) P.known service.now.inboxes.now desk.old desk.new tells.old.refused tells.new.refused (knows tells.old.pass) (knows tells.new.pass) result }
+    requires stands { StandsBy (H.is_pass service.now.hub.now) (H.shape service.now.hub.now) P.known
+        service.now.inboxes.now tells.old.refused (knows tells.old.pass) desk.old }
+    ensures own { IsPassOf service.now.outbox.now tells.new.pass }
+    ensures turned { HasTakenTurn (H.is_pass service.now.hub.now) (H.shape service.now.hub.now)
+        P.known service.now.inboxes.now desk.old desk.new tells.old.refused tells.new.refused
+        (knows tells.old.pass) (knows tells.new.pass) result }
 {
     if tells.refused {
         return Err(AllocError);
     }
-    let turn = take_turn(
-        rt,
-        alloc,
-        service.hub,
-        service.inboxes,
-        &service.outbox,
-        desk,
-        &mut tells.pass,
-    );
+    let turn = take_turn(service, desk, &mut tells.pass);
     match turn {
         Ok(turn) => Ok(turn),
         Err(_) => {

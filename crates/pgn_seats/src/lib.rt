@@ -5,7 +5,7 @@
 //! desk takes what is next in its inbox, lets the session do it, where it is not settled without one, and tells it in one piece; where
 //! nothing is there, it tells what the session hears.
 //!
-//! `serve_seats` has all desks take turns, each on a thread of its own while threads can be had. A desk for which there is nothing to do
+//! `serve_seats` has all desks of a `Service` take turns, each on a thread of its own while threads can be had. A desk for which there is nothing to do
 //! dozes until its bell rings: who puts into its inbox rings it, and so does the hub where a wake is set.
 //!
 //! What a desk has come to stands in `specs/Serving`: its session's script and trace are those of turns, what was taken is what they were
@@ -20,9 +20,9 @@ mod discarding;
 pub mod examples;
 mod hearing;
 mod lines;
-mod outbox;
 mod quitting;
 mod resetting;
+mod service;
 mod serving;
 mod settling;
 mod telling;
@@ -30,5 +30,6 @@ mod tells;
 mod turn;
 
 pub use desk::{Desk, Inbox};
+pub use service::Service;
 pub use serving::serve_seats;
 pub use tells::Tells;

@@ -5,29 +5,30 @@ ghost use Rattle.pgn_session.specs.Runs.{IsLawful};
 ghost use Rattle.pgn_session.specs.Whole.{HasRest, IsSameScript};
 ghost use Rattle.pgn_turns.specs.Turns.{Turn};
 
+use crate::Service;
 use pgn_hub::{Hub, PassView};
 use pgn_session::{Doing, Session};
-use std::alloc::{AllocError, Global};
+use std::alloc::AllocError;
 use std::sync::Wait;
 
 // Lets the session take the `\quit` that ends its script.
 pub(crate) fn quit<P: PassView + Send + Drop, H: Hub<Pass = P>, R: Wait>(
-    rt: &R,
-    alloc: Global,
-    hub: &H,
+    service: &Service<'_, H, R>,
     session: &mut Session<P>,
 ) -> Result<(), AllocError>
-    requires work { IsAtWork (H.is_pass hub.now) (H.shape hub.now) P.known session.old }
-    ensures own { H.is_pass hub.now session.new.pass }
+    requires work { IsAtWork (H.is_pass service.now.hub.now) (H.shape service.now.hub.now) P.known
+        session.old }
+    ensures own { H.is_pass service.now.hub.now session.new.pass }
     ensures same { IsSameScript session.old session.new }
-    ensures lawful { IsLawful (H.shape hub.now) session.new }
+    ensures lawful { IsLawful (H.shape service.now.hub.now) session.new }
     ensures first { StaysDone session.old session.new }
-    ensures rested { OnOk result (HasRest (H.shape hub.now) P.known session.new) }
+    ensures rested { OnOk result (HasRest (H.shape service.now.hub.now) P.known session.new) }
     ensures over { OnOk result (session.new.doing ≡ Doing.Over) }
     ensures left { OnOk result ((P.known session.new.pass).mark ≡ None) }
-    ensures quits { OnOk result ((turns : List Turn) → IsInTurns session.old turns → HasQuitBehind session.new turns) }
+    ensures quits { OnOk result ((turns : List Turn) → IsInTurns session.old turns
+        → HasQuitBehind session.new turns) }
 {
-    let _step = session.step(rt, alloc, hub)?;
-    let _done = session.idle(alloc, hub)?;
+    let _step = session.step(service.rt, service.alloc, service.hub)?;
+    let _done = session.idle(service.alloc, service.hub)?;
     Ok(())
 }

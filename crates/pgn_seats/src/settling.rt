@@ -1,50 +1,32 @@
-ghost use Rattle.std.specs.Prelude.{◌≡◌, [], OnErr, OnOk};
-ghost use Rattle.pgn_language.specs.Inputs.{note_lines_of};
 ghost use Rattle.pgn_outlet.specs.Passes.{IsPassOf, knows};
-ghost use Rattle.pgn_outlet.specs.Rule.{MayPush};
-ghost use Rattle.pgn_seats.specs.Serving.{HasPushedFor};
-ghost use Rattle.pgn_seats.specs.Working.{HasDoneAsk, IsAtWork, StopsFirst};
-ghost use Rattle.pgn_session.specs.Open.{IsSameClient};
-ghost use Rattle.pgn_session.specs.Runs.{IsLawful};
+ghost use Rattle.pgn_seats.specs.Working.{HasTried, MayDo};
 ghost use Rattle.pgn_turns.specs.declared.asked.Ask.TheVariants.{Settle};
 
-use crate::Desk;
-use crate::outbox::Outbox;
-use crate::telling::{say, settled_bytes};
+use crate::telling::say;
+use crate::{Desk, Service};
 use pgn_hub::{Hub, PassView};
 use pgn_outlet::OutletPass;
 use pgn_requests::Settled;
-use pgn_turns::Saying;
-use std::alloc::{AllocError, Global};
+use pgn_turns::{Saying, tell_settled};
+use std::alloc::AllocError;
 use std::sync::Wait;
 
 // Settles what is settled without the session, which has no line and no item of it, and tells it at once.
 pub(crate) fn settle<P: PassView + Send + Drop, H: Hub<Pass = P>, R: Wait>(
-    rt: &R,
-    alloc: Global,
-    hub: &H,
-    outbox: &Outbox<'_>,
+    service: &Service<'_, H, R>,
     desk: &mut Desk<P>,
     settled: &Settled,
     tells: &mut OutletPass<Saying>,
 ) -> Result<(), AllocError>
-    requires own { IsPassOf outbox.now.outlet.now tells.old }
-    requires may { MayPush (knows tells.old) desk.old.session.section.no }
-    requires work { IsAtWork (H.is_pass hub.now) (H.shape hub.now) P.known desk.old.session }
-    requires counted { desk.old.notes ≡ note_lines_of desk.old.session.section.lines }
-    ensures own { IsPassOf outbox.now.outlet.now tells.new }
-    ensures alone { HasPushedFor desk.old.session.section.no (knows tells.old) (knows tells.new) }
-    ensures asks { desk.new.asks ≡ desk.old.asks }
-    ensures same { IsSameClient desk.old.session desk.new.session }
-    ensures lawful { IsLawful (H.shape hub.now) desk.new.session }
-    ensures counted { desk.new.notes ≡ note_lines_of desk.new.session.section.lines }
-    ensures work { OnOk result (IsAtWork (H.is_pass hub.now) (H.shape hub.now) P.known desk.new.session) }
-    ensures went { OnOk result (HasDoneAsk (Settle settled.now) desk.old desk.new (knows tells.old) (knows tells.new)) }
-    ensures stopped { OnErr result (StopsFirst [] desk.old.session desk.new.session (knows tells.old) (knows tells.new)) }
+    requires own { IsPassOf service.now.outbox.now tells.old }
+    requires may { MayDo (H.is_pass service.now.hub.now) (H.shape service.now.hub.now) P.known
+        desk.old (knows tells.old) }
+    ensures own { IsPassOf service.now.outbox.now tells.new }
+    ensures tried { HasTried (H.is_pass service.now.hub.now) (H.shape service.now.hub.now) P.known
+        (Settle settled.now) desk.old desk.new (knows tells.old) (knows tells.new) result }
 {
-    let _hub = hub;
     let no = desk.session.section.no;
     let state = desk.session.block.state();
-    let bytes = settled_bytes(alloc, no, settled, &mut desk.settings, state)?;
-    say(rt, outbox, no, bytes, tells)
+    let bytes = tell_settled(service.alloc, no, settled, &mut desk.settings, state)?;
+    say(service, no, bytes, tells)
 }

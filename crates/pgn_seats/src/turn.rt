@@ -1,56 +1,53 @@
-ghost use Rattle.std.specs.Prelude.{◌≡◌, ◌↔◌, ◌-◌, ◌≤◌, Ok, None, Option, Some, true, [], ◌∷◌, ◌++◌, IfNone, IfSome, IsTrue, OnErr, OnOk, get_or, length};
+ghost use Rattle.std.specs.Prelude.{◌≡◌, ◌↔◌, ◌-◌, ◌≤◌, Ok, Option, true, [], ◌∷◌, ◌++◌, IfNone, IfSome, IsTrue, OnOk, get_or, length};
 ghost use Rattle.pgn_outlet.specs.declared.outlet.Outlet.{Outlet};
 ghost use Rattle.pgn_outlet.specs.Passes.{IsPassOf, knows};
 ghost use Rattle.pgn_outlet.specs.Rule.{MayPush};
-ghost use Rattle.pgn_language.specs.Inputs.{note_lines_of};
 ghost use Rattle.pgn_seats.specs.Serving.{HasPushedFor, HasServed, HasToldFirst, IsSeated, Serves, taken};
-ghost use Rattle.pgn_seats.specs.Working.{HasDoneAsk, IsAtWork, StopsFirst};
+ghost use Rattle.pgn_seats.specs.Working.{HasTried, MayDo};
 ghost use Rattle.pgn_session.specs.Open.{IsSameClient};
-ghost use Rattle.pgn_session.specs.Runs.{IsLawful};
 ghost use Rattle.pgn_turns.specs.declared.asked.Ask.{Ask};
 
 use crate::answering::answer;
 use crate::discarding::discard;
 use crate::hearing::listen;
-use crate::outbox::Outbox;
 use crate::quitting::quit;
 use crate::resetting::reset;
 use crate::settling::settle;
-use crate::{Desk, Inbox};
+use crate::{Desk, Inbox, Service};
 use pgn_base::SessionNo;
 use pgn_hub::{Hub, PassView};
 use pgn_outlet::{Came, OutletPass};
 use pgn_session::{Doing, Session};
 use pgn_turns::{Ask, Saying};
 use pgn_workers::Turn;
-use std::alloc::{AllocError, Global};
+use std::alloc::AllocError;
 use std::sync::Wait;
 
 // A turn of a desk: what is next in its inbox is done and told, or, where nothing is there, what its session hears. The error is that memory
 // did not suffice, or that the run was called off: what was told are whole turns then.
 pub(crate) fn take_turn<P: PassView + Send + Drop, H: Hub<Pass = P>, R: Wait>(
-    rt: &R,
-    alloc: Global,
-    hub: &H,
-    inboxes: &[Inbox],
-    outbox: &Outbox<'_>,
+    service: &Service<'_, H, R>,
     desk: &mut Desk<P>,
     tells: &mut OutletPass<Saying>,
 ) -> Result<Turn, AllocError>
-    requires own { IsPassOf outbox.now.outlet.now tells.old }
-    requires seated { IsSeated (H.is_pass hub.now) (H.shape hub.now) P.known inboxes.now desk.old (knows tells.old) }
+    requires own { IsPassOf service.now.outbox.now tells.old }
+    requires seated { IsSeated (H.is_pass service.now.hub.now) (H.shape service.now.hub.now) P.known
+        service.now.inboxes.now desk.old (knows tells.old) }
     requires may { MayPush (knows tells.old) desk.old.session.section.no }
-    ensures own { IsPassOf outbox.now.outlet.now tells.new }
+    ensures own { IsPassOf service.now.outbox.now tells.new }
     ensures same { IsSameClient desk.old.session desk.new.session }
     ensures alone { HasPushedFor desk.old.session.section.no (knows tells.old) (knows tells.new) }
-    ensures seated { OnOk result (IsSeated (H.is_pass hub.now) (H.shape hub.now) P.known inboxes.now desk.new (knows tells.new)) }
-    ensures over { result ≡ Ok Turn.Ended → HasServed (H.is_pass hub.now) (H.shape hub.now) P.known inboxes.now desk.new (knows tells.new) }
-    ensures told { HasToldFirst (H.shape hub.now) inboxes.now desk.new (knows tells.new) }
+    ensures seated { OnOk result (IsSeated (H.is_pass service.now.hub.now)
+        (H.shape service.now.hub.now) P.known service.now.inboxes.now desk.new (knows tells.new)) }
+    ensures over { result ≡ Ok Turn.Ended → HasServed (H.is_pass service.now.hub.now)
+        (H.shape service.now.hub.now) P.known service.now.inboxes.now desk.new (knows tells.new) }
+    ensures told { HasToldFirst (H.shape service.now.hub.now) service.now.inboxes.now desk.new
+        (knows tells.new) }
 {
     if is_over(&desk.session) {
         return Ok(Turn::Ended);
     }
-    serve_next(rt, alloc, hub, inboxes, outbox, desk, tells)
+    serve_next(service, desk, tells)
 }
 
 // Whether the session has quit.
@@ -65,38 +62,43 @@ fn is_over<P>(session: &Session<P>) -> bool
 
 // The same for a desk that serves.
 fn serve_next<P: PassView + Send + Drop, H: Hub<Pass = P>, R: Wait>(
-    rt: &R,
-    alloc: Global,
-    hub: &H,
-    inboxes: &[Inbox],
-    outbox: &Outbox<'_>,
+    service: &Service<'_, H, R>,
     desk: &mut Desk<P>,
     tells: &mut OutletPass<Saying>,
 ) -> Result<Turn, AllocError>
-    requires own { IsPassOf outbox.now.outlet.now tells.old }
-    requires serves { Serves (H.is_pass hub.now) (H.shape hub.now) P.known inboxes.now desk.old (knows tells.old) }
+    requires own { IsPassOf service.now.outbox.now tells.old }
+    requires serves { Serves (H.is_pass service.now.hub.now) (H.shape service.now.hub.now) P.known
+        service.now.inboxes.now desk.old (knows tells.old) }
     requires may { MayPush (knows tells.old) desk.old.session.section.no }
-    ensures own { IsPassOf outbox.now.outlet.now tells.new }
+    ensures own { IsPassOf service.now.outbox.now tells.new }
     ensures same { IsSameClient desk.old.session desk.new.session }
     ensures alone { HasPushedFor desk.old.session.section.no (knows tells.old) (knows tells.new) }
-    ensures seated { OnOk result (IsSeated (H.is_pass hub.now) (H.shape hub.now) P.known inboxes.now desk.new (knows tells.new)) }
-    ensures over { result ≡ Ok Turn.Ended → HasServed (H.is_pass hub.now) (H.shape hub.now) P.known inboxes.now desk.new (knows tells.new) }
-    ensures told { HasToldFirst (H.shape hub.now) inboxes.now desk.new (knows tells.new) }
+    ensures seated { OnOk result (IsSeated (H.is_pass service.now.hub.now)
+        (H.shape service.now.hub.now) P.known service.now.inboxes.now desk.new (knows tells.new)) }
+    ensures over { result ≡ Ok Turn.Ended → HasServed (H.is_pass service.now.hub.now)
+        (H.shape service.now.hub.now) P.known service.now.inboxes.now desk.new (knows tells.new) }
+    ensures told { HasToldFirst (H.shape service.now.hub.now) service.now.inboxes.now desk.new
+        (knows tells.new) }
 {
-    match take_ask(rt, inboxes, desk.session.section.no, &mut desk.asks) {
+    match take_ask(
+        service.rt,
+        service.inboxes,
+        desk.session.section.no,
+        &mut desk.asks,
+    ) {
         Some(Some(ask)) => {
-            let served = serve(rt, alloc, hub, outbox, desk, &ask, tells);
+            let served = serve(service, desk, &ask, tells);
             drop(ask);
             match served {
                 Ok(()) => Ok(Turn::Did),
                 Err(_) => Err(AllocError),
             }
         }
-        Some(None) => match quit(rt, alloc, hub, &mut desk.session) {
+        Some(None) => match quit(service, &mut desk.session) {
             Ok(()) => Ok(Turn::Ended),
             Err(_) => Err(AllocError),
         },
-        None => listen(rt, alloc, hub, outbox, &mut desk.session, tells),
+        None => listen(service, &mut desk.session, tells),
     }
 }
 
@@ -112,7 +114,8 @@ fn take_ask<R: Wait>(
     requires takes { (knows asks.old).takes ≡ true }
     ensures own { (d : Outlet (Option Ask)) → IsPassOf (get_or inboxes.now (seat - 1) d) asks.new }
     ensures takes { (knows asks.new).takes ≡ true }
-    ensures took { IfSome result (λ ask. taken seat (knows asks.new) ≡ taken seat (knows asks.old) ++ ask ∷ []) }
+    ensures took { IfSome result (λ ask. taken seat (knows asks.new) ≡ taken seat (knows asks.old)
+        ++ ask ∷ []) }
     ensures found_none { IfNone result (taken seat (knows asks.new) ≡ taken seat (knows asks.old)) }
 {
     let inbox = &inboxes[seat.get() as usize - 1];
@@ -126,34 +129,22 @@ fn take_ask<R: Wait>(
 
 // Does what was asked, and tells it.
 fn serve<P: PassView + Send + Drop, H: Hub<Pass = P>, R: Wait>(
-    rt: &R,
-    alloc: Global,
-    hub: &H,
-    outbox: &Outbox<'_>,
+    service: &Service<'_, H, R>,
     desk: &mut Desk<P>,
     ask: &Ask,
     tells: &mut OutletPass<Saying>,
 ) -> Result<(), AllocError>
-    requires own { IsPassOf outbox.now.outlet.now tells.old }
-    requires may { MayPush (knows tells.old) desk.old.session.section.no }
-    requires work { IsAtWork (H.is_pass hub.now) (H.shape hub.now) P.known desk.old.session }
-    requires counted { desk.old.notes ≡ note_lines_of desk.old.session.section.lines }
-    ensures own { IsPassOf outbox.now.outlet.now tells.new }
-    ensures alone { HasPushedFor desk.old.session.section.no (knows tells.old) (knows tells.new) }
-    ensures asks { desk.new.asks ≡ desk.old.asks }
-    ensures same { IsSameClient desk.old.session desk.new.session }
-    ensures lawful { IsLawful (H.shape hub.now) desk.new.session }
-    ensures counted { desk.new.notes ≡ note_lines_of desk.new.session.section.lines }
-    ensures work { OnOk result (IsAtWork (H.is_pass hub.now) (H.shape hub.now) P.known desk.new.session) }
-    ensures went { OnOk result (HasDoneAsk ask.now desk.old desk.new (knows tells.old) (knows tells.new)) }
-    ensures stopped { OnErr result (StopsFirst [] desk.old.session desk.new.session (knows tells.old) (knows tells.new)) }
+    requires own { IsPassOf service.now.outbox.now tells.old }
+    requires may { MayDo (H.is_pass service.now.hub.now) (H.shape service.now.hub.now) P.known
+        desk.old (knows tells.old) }
+    ensures own { IsPassOf service.now.outbox.now tells.new }
+    ensures tried { HasTried (H.is_pass service.now.hub.now) (H.shape service.now.hub.now) P.known
+        ask.now desk.old desk.new (knows tells.old) (knows tells.new) result }
 {
     match ask {
-        Ask::Query(query) => answer(rt, alloc, hub, outbox, desk, query, tells),
-        Ask::Settle(settled) => settle(rt, alloc, hub, outbox, desk, settled, tells),
-        Ask::Discard { line } => discard(rt, alloc, hub, outbox, desk, *line, tells),
-        Ask::End { line, parting } => {
-            reset(rt, alloc, hub, outbox, desk, *line, *parting, tells)
-        }
+        Ask::Query(query) => answer(service, desk, query, tells),
+        Ask::Settle(settled) => settle(service, desk, settled, tells),
+        Ask::Discard { line } => discard(service, desk, *line, tells),
+        Ask::End { line, parting } => reset(service, desk, *line, *parting, tells),
     }
 }

@@ -19,7 +19,7 @@ use Rattle.pgn_queries.specs.declared.limits.TheConstants.{QUERIES_MAX}
 use Rattle.pgn_queries.specs.declared.wire_fault.WireFault.{WireFault}
 use Rattle.pgn_queries.specs.Client.{OfKnown}
 use Rattle.pgn_queries.specs.Queries as asked
-use Rattle.pgn_queries.specs.Queries.{AreTooMany, Gives, HasPassed, IsLineOf, Place, QueriesAre, after_query, first_place, note_of, queries}
+use Rattle.pgn_queries.specs.Queries.{Gives, HasPassed, IsLineOf, Place, QueriesAre, first_place, note_of, queries}
 use Rattle.pgn_queries.proofs.EachLaws.{each_has_reading}
 use Rattle.pgn_wire.specs.declared.wire_end.WireEnd.{WireEnd}
 use Rattle.pgn_wire.specs.declared.wire_end.WireEnd.TheVariants.{Bad, Read, Write, Memory}
@@ -31,6 +31,7 @@ runs : (number : ℕ) (text : List ℕ) (line : ScriptLine) → IsLineOf number 
 runs number text _ (asked.IsLineOf.OneLine _ command one reads) = (command, refl)
 runs number text _ (asked.IsLineOf.Lines _ before rest split one) = (BadCommand (length before), refl)
 
+-- a line that was passed runs a command
 pub passed-runs : (old new : Place) (line : ScriptLine) → HasPassed old new line → RunsCommand line
 passed-runs old new line h = runs (old.queries + 1) h.text line h.is
 
@@ -107,6 +108,7 @@ asks-all place next section front last (Some all) (Some now) None limit split gi
 asks-all place next section front last (Some all) (Some now) (Some later) limit split gives asked =
     record { lines = front; split = split; reads = all-queries place.most section.note_lines all front None limit (asked [] None gives) }
 
+-- where nothing is given any more, the conversation has ended without a fault
 pub serving-ends : {P T : Type 0} (x : T) (start s : Session P) (place next : Place) (bytes left rest held now : Option (List ℕ)) → OfKnown (Gives place next None) left rest
     → IsServing start s place bytes left held now → HasEnded {P = P} {T = T} (Ok x) start s bytes held now
 serving-ends x start s place next bytes left rest held now gives h =
@@ -179,6 +181,7 @@ asks-half place next old new line ends first bytes left rest limit kept same giv
     (same-last (fed old line).lines (ends.front ++ line ∷ []) ends.last first (fed-split old line ends ∙ sym (append_assoc ends.front (line ∷ []) (ends.last ∷ []))) same)
     (asks-more place next ends.front line bytes left rest kept gives asked))
 
+-- where a query was given and its answer was refused or not written, the conversation has ended so
 pub answer-fails : {P T : Type 0} (end : WireEnd) (start old new : Session P) (line : ScriptLine) (place next : Place) (bytes left rest held before now : Option (List ℕ))
     → next.most ≡ place.most → (failed (Unit {0}) end ≡ Err Write) ⊎ (failed (Unit {0}) end ≡ Err Memory) → OfKnown (Gives place next (Some line)) left rest → IsFedOrNot old.section line new.section → IsSameClient old new
     → ((from : Option (List ℕ)) → Appends from before (messages old.section old.items.items) → HasWritten {T = Unit {0}} (Err end) from now new.section new.items.items)
@@ -203,6 +206,7 @@ where-asked Read P h = h
 where-asked Write P h = tt
 where-asked Memory P h = tt
 
+-- a failed write and want of memory are not faults of what was asked
 pub never-asked : (end : WireEnd) (P : Type 0) → (failed (Unit {0}) end ≡ Err Write) ⊎ (failed (Unit {0}) end ≡ Err Memory) → WhereAsked end P
 never-asked (Bad fault) P is = absurd (elim is [ inl e ↦ cc | inr e ↦ cc ])
 never-asked Read P is = absurd (elim is [ inl e ↦ cc | inr e ↦ cc ])
@@ -213,6 +217,7 @@ never-asked Memory P is = tt
 pub ended-as : {P T U : Type 0} (x : T) (y : U) (start s : Session P) (bytes held now : Option (List ℕ)) → HasEnded {P = P} {T = T} (Ok x) start s bytes held now → HasEnded {P = P} {T = U} (Ok y) start s bytes held now
 ended-as x y start s bytes held now h = record { same = h.same; written = h.written; asked = h.asked }
 
+-- an end by a failure is one, whatever else might have been answered
 pub failed-as : {P T U : Type 0} (end : WireEnd) (start s : Session P) (bytes held now : Option (List ℕ)) → HasEnded {P = P} {T = T} (Err end) start s bytes held now → HasEnded {P = P} {T = U} (Err end) start s bytes held now
 failed-as (Bad fault) start s bytes held now h = record { same = h.same; written = h.written; asked = h.asked }
 failed-as Read start s bytes held now h = record { same = h.same; written = h.written; asked = h.asked }
@@ -228,6 +233,7 @@ writes-none : (held : Option (List ℕ)) (text : List ℕ) → text ≡ [] → A
 writes-none None text e = tt
 writes-none (Some xs) text e = sym (ap (λ (l : List ℕ). xs ++ l) e ∙ append-nil xs)
 
+-- a session whose script is its `\quit` serves from the first place on
 pub serving-begins : {P : Type 0} (s : Session P) (bytes held : Option (List ℕ)) → BeginsEmpty s → IsServing s s (first_place s.section.note_lines) bytes bytes held held
 serving-begins {P} s bytes held h =
     let none : note_of h.last.act ≡ 0 = ap note_of h.quits in
@@ -245,6 +251,7 @@ serving-begins {P} s bytes held h =
 pub some-passed : (old new : Place) (next : Option ScriptLine) (line : ScriptLine) → next ≡ Some line → IfSome next (HasPassed old new) → HasPassed old new line
 some-passed old new next line e h = subst (λ (n : Option ScriptLine). IfSome n (HasPassed old new)) e h
 
+-- what is given, by another name
 pub some-gives : (old new : Place) (next given : Option ScriptLine) (left rest : Option (List ℕ)) → next ≡ given → OfKnown (Gives old new next) left rest → OfKnown (Gives old new given) left rest
 some-gives old new next given left rest e h = subst (λ (n : Option ScriptLine). OfKnown (Gives old new n) left rest) e h
 
@@ -263,6 +270,7 @@ all-asked section None last h = tt
 all-asked section (Some all) last h =
     record { lines = h.lines; split = h.split; more = []; fault = None; reads = subst (λ (ls : List ScriptLine). queries section.note_lines all ls None) (sym (append-nil h.lines)) h.reads }
 
+-- a session that quits has asked no more
 pub quit-unasked : (first mid new : Section) (bytes : Option (List ℕ)) → new ≡ mid → ((last : ScriptLine) → first.lines ≡ last ∷ [] → IfSome bytes (λ all. AsksAll all None last mid))
     → (last : ScriptLine) → first.lines ≡ last ∷ [] → IfSome bytes (λ all. HasAsked all last new)
 quit-unasked first mid new bytes e h last is = all-asked new bytes last (quit-asked first mid new bytes e h last is)
@@ -271,6 +279,7 @@ quit-unasked first mid new bytes e h last is = all-asked new bytes last (quit-as
 pub went-on : {P : Type 0} (b : Bool) (start s : Session P) (place : Place) (bytes left held now : Option (List ℕ)) → b ≡ true → TurnsInto (Ok b) start s place bytes left held now → IsServing start s place bytes left held now
 went-on b start s place bytes left held now e h = subst (λ (x : Bool). TurnsInto (Ok x) start s place bytes left held now) e h
 
+-- where no turn follows, the conversation has ended
 pub was-last : {P : Type 0} (b : Bool) (start s : Session P) (place : Place) (bytes left held now : Option (List ℕ)) → b ≡ false → TurnsInto (Ok b) start s place bytes left held now
     → HasEnded {P = P} {T = Unit {0}} (Ok tt) start s bytes held now
 was-last b start s place bytes left held now e h = ended-as false tt start s bytes held now (subst (λ (x : Bool). TurnsInto (Ok x) start s place bytes left held now) e h)

@@ -1,5 +1,5 @@
 -- A query that was taken, and a session that was stopped.
-use Rattle.std.proofs.Common.{◌≡◌, ℕ, ◌+◌, Bool, false, List, [], ◌∷◌, ◌++◌, Option, Result, Ok, Err, OnOk, OnErr, Some, None, sym, ap, ◌∙◌, subst, refl, append_assoc, append-nil}
+use Rattle.std.proofs.Common.{◌≡◌, ℕ, ◌+◌, false, List, [], ◌∷◌, ◌++◌, Option, Result, Ok, Err, OnOk, OnErr, Some, None, sym, ap, ◌∙◌, subst, refl, append_assoc, append-nil}
 use Rattle.std.specs.List.{list_any}
 use Rattle.pgn_base.specs.declared.command.Command.{Command}
 use Rattle.pgn_language.specs.declared.scenario.Act.TheVariants.{Run}
@@ -157,6 +157,7 @@ quit-is-silent {P} shape known old two new step done is_open rested same moved k
 pub quit-refused : {P : Type 0} (shape : Shape) (known : P → Known) (old new : Session P) → IsSameScript old new → HasRest shape known new → new.items.items ≡ old.items.items → HasStopped shape known old new
 quit-refused shape known old new same still unshown = stopped-before shape known old new (stood-rest shape known new still) unshown (ap (λ (s : Section). messages s old.items.items) same.section)
 
+-- a session that stepped over its `\quit`, and was refused the read behind it, has stopped
 pub quit-read-refused : {P : Type 0} (shape : Shape) (known : P → Known) (old two new : Session P) (step : Step) → IsOpen old → IsSameScript old two → Moves known old two step
     → new ≡ record two { pass = new.pass; items = new.items } → new.items.items ≡ two.items.items → HasAnswer shape known new → HasStopped shape known old new
 quit-read-refused {P} shape known old two new step is_open same moved kept unshown answer =
@@ -164,6 +165,7 @@ quit-read-refused {P} shape known old two new step is_open same moved kept unsho
     stopped-behind shape known old new is_open.ends.last.line (quit_items quit.mark) (stood-answer shape known new answer) (unshown ∙ quit.shown)
     (ap (λ (s : Section). messages s old.items.items) (ap (λ (s : Session P). s.section) kept ∙ same.section))
 
+-- a fact of an Ok, behind any premise
 pub whatever : {T E : Type 0} (r : Result T E) (P Q : Type 0) → OnOk r Q → OnOk r (P → Q)
 whatever (Ok x) P Q h = λ p. h
 whatever (Err e) P Q h = tt

@@ -1,4 +1,4 @@
-ghost use Rattle.std.specs.Prelude.{◌≡◌, ◌≢◌, ◌+◌, ◌<◌, ◌≤◌, ◌⊎◌, [], ◌∷◌, ◌++◌, List, ℕ, Option, Err, drop, length, IfOk, OnOk, OnErr};
+ghost use Rattle.std.specs.Prelude.{◌≡◌, ◌+◌, ◌<◌, ◌≤◌, ◌⊎◌, [], ◌∷◌, ◌++◌, List, ℕ, Option, Err, drop, length, IfOk, OnOk, OnErr};
 ghost use Rattle.std.specs.Io.KnownBytes.{Appends};
 ghost use Rattle.pgn_base.specs.Outside.{Rose};
 ghost use Rattle.pgn_language.specs.declared.scenario.Act.TheVariants.{Run};
@@ -10,6 +10,7 @@ ghost use Rattle.pgn_session.specs.Open.{HasReadOutside, HasStood, IsFedOrNot, I
 ghost use Rattle.pgn_wire.specs.Serving.{AreWhole, HasTaken, HasWritten};
 
 use crate::WireEnd;
+use crate::host::Host;
 use crate::taking::take_query;
 use pgn_base::{Command, Copied, Sink, write_all};
 use pgn_hub::{Hub, PassView};
@@ -21,34 +22,35 @@ use std::sync::Wait;
 
 // Takes a query, and sends its whole answer. Where memory does not suffice, nothing of the answer is sent.
 pub(crate) fn one_query<P: PassView + Send + Drop, H: Hub<Pass = P>, R: Wait, K: Sink>(
-    rt: &R,
-    alloc: Global,
-    hub: &H,
+    host: &Host<'_, H, R>,
     session: &mut Session<P>,
     line: ScriptLine,
     sink: &mut K,
 ) -> Result<(), WireEnd>
-    requires own { H.is_pass hub.now session.old.pass }
-    requires served { IsServedBy (H.shape hub.now) session.old.section session.old.plan }
-    requires rested { HasRest (H.shape hub.now) P.known session.old }
+    requires own { H.is_pass host.now.hub.now session.old.pass }
+    requires served { IsServedBy (H.shape host.now.hub.now) session.old.section session.old.plan }
+    requires rested { HasRest (H.shape host.now.hub.now) P.known session.old }
     requires read_up { HasReadOutside P.known session.old }
     requires between { IsOpen session.old }
     requires runs { RunsCommand line }
-    requires few { note_lines_of (line ∷ []) + note_lines_of session.old.section.lines ≤ session.old.section.note_lines }
-    ensures own { H.is_pass hub.now session.new.pass }
+    requires few { note_lines_of (line ∷ []) + note_lines_of session.old.section.lines
+        ≤ session.old.section.note_lines }
+    ensures own { H.is_pass host.now.hub.now session.new.pass }
     ensures same { IsSameClient session.old session.new }
     ensures taken { OnOk result (HasTaken session.old line session.new) }
-    ensures rested { OnOk result (HasRest (H.shape hub.now) P.known session.new) }
+    ensures rested { OnOk result (HasRest (H.shape host.now.hub.now) P.known session.new) }
     ensures read_up { OnOk result (HasReadOutside P.known session.new) }
-    ensures stood { HasStood (H.shape hub.now) P.known session.new }
+    ensures stood { HasStood (H.shape host.now.hub.now) P.known session.new }
     ensures script { OnErr result (IsFedOrNot session.old.section line session.new.section) }
-    ensures written { (held : Option (List ℕ)) → Appends held (K.held sink.old) (messages session.old.section session.old.items.items) → HasWritten result held (K.held sink.new) session.new.section session.new.items.items }
+    ensures written { (held : Option (List ℕ))
+        → Appends held (K.held sink.old) (messages session.old.section session.old.items.items)
+        → HasWritten result held (K.held sink.new) session.new.section session.new.items.items }
     ensures ends { OnErr result ((result ≡ Err WireEnd.Write) ⊎ (result ≡ Err WireEnd.Memory)) }
     ensures later { K.faults sink.old ≤ K.faults sink.new }
     ensures failed { result ≡ Err WireEnd.Write → Rose (K.faults sink.old) (K.faults sink.new) }
     ensures rose { K.faults sink.old < K.faults sink.new → result ≡ Err WireEnd.Write }
 {
-    let Ok(bytes) = answered(rt, alloc, hub, session, line) else {
+    let Ok(bytes) = answered(host, session, line) else {
         return Err(WireEnd::Memory);
     };
     let sent = write_all(sink, bytes.as_slice());
@@ -61,40 +63,41 @@ pub(crate) fn one_query<P: PassView + Send + Drop, H: Hub<Pass = P>, R: Wait, K:
 
 // Takes a query, and makes its whole answer. Where memory does not suffice, what was answered so far are whole answers.
 fn answered<P: PassView + Send + Drop, H: Hub<Pass = P>, R: Wait>(
-    rt: &R,
-    alloc: Global,
-    hub: &H,
+    host: &Host<'_, H, R>,
     session: &mut Session<P>,
     line: ScriptLine,
 ) -> Result<Bytes, AllocError>
-    requires own { H.is_pass hub.now session.old.pass }
-    requires served { IsServedBy (H.shape hub.now) session.old.section session.old.plan }
-    requires rested { HasRest (H.shape hub.now) P.known session.old }
+    requires own { H.is_pass host.now.hub.now session.old.pass }
+    requires served { IsServedBy (H.shape host.now.hub.now) session.old.section session.old.plan }
+    requires rested { HasRest (H.shape host.now.hub.now) P.known session.old }
     requires read_up { HasReadOutside P.known session.old }
     requires between { IsOpen session.old }
     requires runs { RunsCommand line }
-    requires few { note_lines_of (line ∷ []) + note_lines_of session.old.section.lines ≤ session.old.section.note_lines }
-    ensures own { H.is_pass hub.now session.new.pass }
+    requires few { note_lines_of (line ∷ []) + note_lines_of session.old.section.lines
+        ≤ session.old.section.note_lines }
+    ensures own { H.is_pass host.now.hub.now session.new.pass }
     ensures same { IsSameClient session.old session.new }
     ensures taken { OnOk result (HasTaken session.old line session.new) }
-    ensures rested { OnOk result (HasRest (H.shape hub.now) P.known session.new) }
+    ensures rested { OnOk result (HasRest (H.shape host.now.hub.now) P.known session.new) }
     ensures read_up { OnOk result (HasReadOutside P.known session.new) }
-    ensures stood { HasStood (H.shape hub.now) P.known session.new }
+    ensures stood { HasStood (H.shape host.now.hub.now) P.known session.new }
     ensures script { OnErr result (IsFedOrNot session.old.section line session.new.section) }
-    ensures answer { IfOk result (λ bytes. messages session.new.section session.new.items.items ≡ messages session.old.section session.old.items.items ++ bytes) }
-    ensures whole { OnErr result (AreWhole session.new.section session.new.items.items (messages session.old.section session.old.items.items)) }
+    ensures answer { IfOk result (λ bytes. messages session.new.section session.new.items.items
+        ≡ messages session.old.section session.old.items.items ++ bytes) }
+    ensures whole { OnErr result (AreWhole session.new.section session.new.items.items
+        (messages session.old.section session.old.items.items)) }
 {
     let from = session.items.len();
     // What is owned is dropped by a call before each return.
-    let Ok(command) = command_of(alloc, &line) else {
+    let Ok(command) = command_of(host.alloc, &line) else {
         drop(line);
         return Err(AllocError);
     };
-    let Ok(()) = take_query(rt, alloc, hub, session, line) else {
+    let Ok(()) = take_query(host.rt, host.alloc, host.hub, session, line) else {
         drop(command);
         return Err(AllocError);
     };
-    let answer = answer_behind(alloc, session, from, &command);
+    let answer = answer_behind(host.alloc, session, from, &command);
     drop(command);
     answer
 }
@@ -118,7 +121,9 @@ fn answer_behind<P>(
     command: &Command,
 ) -> Result<Bytes, AllocError>
     requires { from < length session.now.items.items }
-    ensures { IfOk result (λ bytes. bytes ≡ answer_messages command.now (drop (from + 1) session.now.items.items) session.now.block.state) }
+    ensures { IfOk result (λ bytes. bytes
+        ≡ answer_messages command.now (drop (from + 1) session.now.items.items)
+        session.now.block.state) }
 {
     let items = session.items.as_slice();
     answer_query(alloc, command, &items[from + 1..], session.block.state())

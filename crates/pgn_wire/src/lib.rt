@@ -10,6 +10,7 @@
 
 mod answering;
 pub mod examples;
+mod host;
 mod quitting;
 mod serving;
 mod taking;

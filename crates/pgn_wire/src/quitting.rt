@@ -26,7 +26,8 @@ pub(crate) fn quit<P: PassView + Send + Drop, H: Hub<Pass = P>, R: Wait>(
     ensures over { OnOk result (session.new.doing ≡ Doing.Over) }
     ensures left { OnOk result ((P.known session.new.pass).mark ≡ None) }
     ensures rested { OnOk result (HasRest (H.shape hub.now) P.known session.new) }
-    ensures silent { OnOk result (messages session.new.section session.new.items.items ≡ messages session.old.section session.old.items.items) }
+    ensures silent { OnOk result (messages session.new.section session.new.items.items
+        ≡ messages session.old.section session.old.items.items) }
     ensures stopped { OnErr result (HasStopped (H.shape hub.now) P.known session.old session.new) }
 {
     let _step = session.step(rt, alloc, hub)?;

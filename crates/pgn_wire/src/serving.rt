@@ -7,6 +7,7 @@ ghost use Rattle.pgn_session.specs.Open.{BeginsEmpty, HasReadOutside, HasStood, 
 ghost use Rattle.pgn_wire.specs.Serving.{AsksBy, HasAnsweredAll, HasEnded, HasWritten, WhereAsked};
 
 use crate::WireEnd;
+use crate::host::Host;
 use crate::quitting::quit;
 use crate::turn::take_turn;
 use pgn_base::{Sink, Source};
@@ -38,10 +39,13 @@ pub fn serve_wire<P: PassView + Send + Drop, H: Hub<Pass = P>, R: Wait, S: Sourc
     ensures left { OnOk result ((P.known session.new.pass).mark ≡ None) }
     ensures rested { OnOk result (HasRest (H.shape hub.now) P.known session.new) }
     // Where the client's bytes are at fault or the source failed, each query before has its whole answer.
-    ensures answered { IfErr result (λ end. WhereAsked end (HasAnsweredAll (H.shape hub.now) P.known session.new)) }
+    ensures answered { IfErr result (λ end. WhereAsked end
+        (HasAnsweredAll (H.shape hub.now) P.known session.new)) }
     // What stands written, and which queries were asked, by how it ended.
-    ensures written { HasWritten result (K.held sink.old) (K.held sink.new) session.new.section session.new.items.items }
-    ensures asked { (last : ScriptLine) → session.old.section.lines ≡ last ∷ [] → AsksBy result (S.left source.old) last session.new.section }
+    ensures written { HasWritten result (K.held sink.old) (K.held sink.new) session.new.section
+        session.new.items.items }
+    ensures asked { (last : ScriptLine) → session.old.section.lines ≡ last ∷ []
+        → AsksBy result (S.left source.old) last session.new.section }
     ensures read { result ≡ Err WireEnd.Read → Rose (S.faults source.old) (S.faults source.new) }
     ensures write { result ≡ Err WireEnd.Write → Rose (K.faults sink.old) (K.faults sink.new) }
     ensures source_later { S.faults source.old ≤ S.faults source.new }
@@ -49,7 +53,8 @@ pub fn serve_wire<P: PassView + Send + Drop, H: Hub<Pass = P>, R: Wait, S: Sourc
     ensures sink_later { K.faults sink.old ≤ K.faults sink.new }
     ensures sink_rose { K.faults sink.old < K.faults sink.new → result ≡ Err WireEnd.Write }
 {
-    match converse(rt, alloc, hub, session, source, sink) {
+    let host = Host { rt, alloc, hub };
+    match converse(&host, session, source, sink) {
         Ok(()) => match quit(rt, alloc, hub, session) {
             Ok(()) => Ok(()),
             Err(_) => Err(WireEnd::Memory),
@@ -60,25 +65,26 @@ pub fn serve_wire<P: PassView + Send + Drop, H: Hub<Pass = P>, R: Wait, S: Sourc
 
 // Answers query after query, until there is none.
 fn converse<P: PassView + Send + Drop, H: Hub<Pass = P>, R: Wait, S: Source, K: Sink>(
-    rt: &R,
-    alloc: Global,
-    hub: &H,
+    host: &Host<'_, H, R>,
     session: &mut Session<P>,
     source: &mut S,
     sink: &mut K,
 ) -> Result<(), WireEnd>
-    requires own { H.is_pass hub.now session.old.pass }
-    requires served { IsServedBy (H.shape hub.now) session.old.section session.old.plan }
-    requires rested { HasRest (H.shape hub.now) P.known session.old }
+    requires own { H.is_pass host.now.hub.now session.old.pass }
+    requires served { IsServedBy (H.shape host.now.hub.now) session.old.section session.old.plan }
+    requires rested { HasRest (H.shape host.now.hub.now) P.known session.old }
     requires read_up { HasReadOutside P.known session.old }
     requires begins { BeginsEmpty session.old }
-    ensures own { H.is_pass hub.now session.new.pass }
-    ensures stood { HasStood (H.shape hub.now) P.known session.new }
+    ensures own { H.is_pass host.now.hub.now session.new.pass }
+    ensures stood { HasStood (H.shape host.now.hub.now) P.known session.new }
     ensures between { OnOk result (IsOpen session.new) }
-    ensures served { OnOk result (IsServedBy (H.shape hub.now) session.new.section session.new.plan) }
-    ensures rested { OnOk result (HasRest (H.shape hub.now) P.known session.new) }
-    ensures answered { IfErr result (λ end. WhereAsked end (HasAnsweredAll (H.shape hub.now) P.known session.new)) }
-    ensures ended { HasEnded result session.old session.new (S.left source.old) (K.held sink.old) (K.held sink.new) }
+    ensures served { OnOk result (IsServedBy (H.shape host.now.hub.now) session.new.section
+        session.new.plan) }
+    ensures rested { OnOk result (HasRest (H.shape host.now.hub.now) P.known session.new) }
+    ensures answered { IfErr result (λ end. WhereAsked end
+        (HasAnsweredAll (H.shape host.now.hub.now) P.known session.new)) }
+    ensures ended { HasEnded result session.old session.new (S.left source.old) (K.held sink.old)
+        (K.held sink.new) }
     ensures read { result ≡ Err WireEnd.Read → Rose (S.faults source.old) (S.faults source.new) }
     ensures write { result ≡ Err WireEnd.Write → Rose (K.faults sink.old) (K.faults sink.new) }
     ensures source_later { S.faults source.old ≤ S.faults source.new }
@@ -86,9 +92,9 @@ fn converse<P: PassView + Send + Drop, H: Hub<Pass = P>, R: Wait, S: Source, K: 
     ensures sink_later { K.faults sink.old ≤ K.faults sink.new }
     ensures sink_rose { K.faults sink.old < K.faults sink.new → result ≡ Err WireEnd.Write }
 {
-    let mut queries = Queries::new(alloc, session.section.note_lines);
+    let mut queries = Queries::new(host.alloc, session.section.note_lines);
     for _query in 0..u32::MAX {
-        match take_turn(rt, alloc, hub, session, &mut queries, source, sink) {
+        match take_turn(host, session, &mut queries, source, sink) {
             Ok(true) => {}
             Ok(false) => return Ok(()),
             Err(end) => return Err(end),

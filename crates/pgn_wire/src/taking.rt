@@ -27,7 +27,8 @@ pub(crate) fn take_query<P: PassView + Send + Drop, H: Hub<Pass = P>, R: Wait>(
     requires read_up { HasReadOutside P.known session.old }
     requires between { IsOpen session.old }
     requires runs { RunsCommand line }
-    requires few { note_lines_of (line ∷ []) + note_lines_of session.old.section.lines ≤ session.old.section.note_lines }
+    requires few { note_lines_of (line ∷ []) + note_lines_of session.old.section.lines
+        ≤ session.old.section.note_lines }
     ensures own { H.is_pass hub.now session.new.pass }
     ensures same { IsSameClient session.old session.new }
     ensures taken { OnOk result (HasTaken session.old line session.new) }
@@ -52,7 +53,8 @@ fn read_behind<P: PassView + Send + Drop, H: Hub<Pass = P>>(
     requires answered { HasAnswer (H.shape hub.now) P.known session.old }
     requires between { session.old.doing ≡ Doing.Lines }
     ensures own { H.is_pass hub.now session.new.pass }
-    ensures same { session.new ≡ record session.old { pass = session.new.pass; items = session.new.items } }
+    ensures same { session.new
+        ≡ record session.old { pass = session.new.pass; items = session.new.items } }
     ensures grows { Begins session.old.items.items session.new.items.items }
     ensures rested { OnOk result (HasRest (H.shape hub.now) P.known session.new) }
     ensures stood { HasStood (H.shape hub.now) P.known session.new }
@@ -72,7 +74,8 @@ fn read_up<P: PassView + Send + Drop, H: Hub<Pass = P>>(
     requires between { session.old.doing ≡ Doing.Lines }
     requires rested { HasRest (H.shape hub.now) P.known session.old }
     ensures own { H.is_pass hub.now session.new.pass }
-    ensures same { session.new ≡ record session.old { pass = session.new.pass; items = session.new.items } }
+    ensures same { session.new
+        ≡ record session.old { pass = session.new.pass; items = session.new.items } }
     ensures grows { Begins session.old.items.items session.new.items.items }
     ensures rested { HasRest (H.shape hub.now) P.known session.new }
     ensures read_up { OnOk result (HasReadOutside P.known session.new) }

@@ -12,6 +12,7 @@ ghost use Rattle.pgn_wire.specs.Serving.{HasAnsweredAll, IsServing, TurnsInto, W
 
 use crate::WireEnd;
 use crate::answering::one_query;
+use crate::host::Host;
 use pgn_base::{Sink, Source};
 use pgn_hub::{Hub, PassView};
 use pgn_language::ScriptLine;
@@ -22,28 +23,28 @@ use std::sync::Wait;
 
 // Reads the next query and answers it, and says whether there was one.
 pub(crate) fn take_turn<P: PassView + Send + Drop, H: Hub<Pass = P>, R: Wait, S: Source, K: Sink>(
-    rt: &R,
-    alloc: Global,
-    hub: &H,
+    host: &Host<'_, H, R>,
     session: &mut Session<P>,
     queries: &mut Queries,
     source: &mut S,
     sink: &mut K,
 ) -> Result<bool, WireEnd>
-    requires own { H.is_pass hub.now session.old.pass }
-    requires served { IsServedBy (H.shape hub.now) session.old.section session.old.plan }
-    requires rested { HasRest (H.shape hub.now) P.known session.old }
+    requires own { H.is_pass host.now.hub.now session.old.pass }
+    requires served { IsServedBy (H.shape host.now.hub.now) session.old.section session.old.plan }
+    requires rested { HasRest (H.shape host.now.hub.now) P.known session.old }
     requires read_up { HasReadOutside P.known session.old }
     requires between { IsOpen session.old }
     requires notes { note_lines_of session.old.section.lines ≡ queries.old.notes }
     requires most { queries.old.most ≡ session.old.section.note_lines }
-    ensures own { H.is_pass hub.now session.new.pass }
-    ensures stood { HasStood (H.shape hub.now) P.known session.new }
+    ensures own { H.is_pass host.now.hub.now session.new.pass }
+    ensures stood { HasStood (H.shape host.now.hub.now) P.known session.new }
     ensures between { OnOk result (IsOpen session.new) }
-    ensures served { OnOk result (IsServedBy (H.shape hub.now) session.new.section session.new.plan) }
-    ensures rested { OnOk result (HasRest (H.shape hub.now) P.known session.new) }
+    ensures served { OnOk result (IsServedBy (H.shape host.now.hub.now) session.new.section
+        session.new.plan) }
+    ensures rested { OnOk result (HasRest (H.shape host.now.hub.now) P.known session.new) }
     ensures read_up { OnOk result (HasReadOutside P.known session.new) }
-    ensures answered { IfErr result (λ end. WhereAsked end (HasAnsweredAll (H.shape hub.now) P.known session.new)) }
+    ensures answered { IfErr result (λ end. WhereAsked end
+        (HasAnsweredAll (H.shape host.now.hub.now) P.known session.new)) }
     ensures counted { result ≡ Ok true → queries.new.queries ≡ queries.old.queries + 1 }
     ensures few { result ≡ Ok true → queries.new.queries ≤ 4294967294 }
     // Whatever it was given first: what held of it so far goes on to hold, or it has ended.
@@ -57,8 +58,8 @@ pub(crate) fn take_turn<P: PassView + Send + Drop, H: Hub<Pass = P>, R: Wait, S:
     ensures sink_later { K.faults sink.old ≤ K.faults sink.new }
     ensures sink_rose { K.faults sink.old < K.faults sink.new → result ≡ Err WireEnd.Write }
 {
-    match next_query(alloc, queries, source) {
-        Ok(Some(line)) => match one_query(rt, alloc, hub, session, line, sink) {
+    match next_query(host.alloc, queries, source) {
+        Ok(Some(line)) => match one_query(host, session, line, sink) {
             Ok(()) => Ok(true),
             Err(end) => Err(end),
         },
@@ -73,9 +74,11 @@ fn next_query<S: Source>(
     queries: &mut Queries,
     source: &mut S,
 ) -> Result<Option<ScriptLine>, WireEnd>
-    ensures next { IfOk result (λ next. OfKnown (Gives queries.old queries.new next) (S.left source.old) (S.left source.new)) }
+    ensures next { IfOk result (λ next. OfKnown (Gives queries.old queries.new next)
+        (S.left source.old) (S.left source.new)) }
     ensures passed { IfOk result (λ next. IfSome next (HasPassed queries.old queries.new)) }
-    ensures fault { (fault : WireFault) → result ≡ Err (WireEnd.Bad fault) → IfSome (S.left source.old) (λ bytes. QueriesAre queries.old bytes [] (Some fault)) }
+    ensures fault { (fault : WireFault) → result ≡ Err (WireEnd.Bad fault)
+        → IfSome (S.left source.old) (λ bytes. QueriesAre queries.old bytes [] (Some fault)) }
     ensures other { result ≡ Err WireEnd.Write → ⊥ }
     ensures later { S.faults source.old ≤ S.faults source.new }
     ensures failed { result ≡ Err WireEnd.Read → Rose (S.faults source.old) (S.faults source.new) }

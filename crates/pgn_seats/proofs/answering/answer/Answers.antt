@@ -1,4 +1,4 @@
-use Rattle.std.proofs.Common.{[], ◌∷◌, ap, sym, ◌∙◌, refl}
+use Rattle.std.proofs.Common.{[], ◌∷◌, ap, sym, ◌∙◌, refl, rules}
 use Rattle.pgn_language.specs.declared.scenario.Section.{Section}
 use Rattle.pgn_language.specs.Inputs.{note_lines_of}
 use Rattle.pgn_outlet.specs.Passes.{knows}
@@ -11,19 +11,19 @@ use Rattle.pgn_seats.proofs.WorkLaws.{client-fed, client-no, client-read, client
 use Rattle.pgn_seats.proofs.answering.answer.Goals as goal
 
 pub put_query-requires-clause-is_open : goal.put_query-requires-clause-is_open
-put_query-requires-clause-is_open g c κs within = c.requires.work.is_open
+put_query-requires-clause-is_open g c κs within = c.requires.may.work.is_open
 
 pub hear_before-requires-clause-may : goal.hear_before-requires-clause-may
 hear_before-requires-clause-may g c κs within =
     let fed = client-fed c.args.desk.now.session c.put_query.new.session (line_of c.args.query.now) c.in_ok-put_query.ensures.fed in
-    may-at _ _ (knows c.args.tells.now) (sym (client-no c.args.desk.now.session c.put_query.new.session fed)) c.requires.may
+    may-at _ _ (knows c.args.tells.now) (sym (client-no c.args.desk.now.session c.put_query.new.session fed)) c.requires.may.may
 
 pub hear_before-requires-clause-line : goal.hear_before-requires-clause-line
 hear_before-requires-clause-line g c κs within =
-    let shape = g.H.Hub.shape c.args.hub.now in (
+    let shape = g.H.Hub.shape c.args.service.now.hub.now in (
       line_of c.args.query.now,
-      line-put (g.H.Hub.is_pass c.args.hub.now) shape g.P.PassView.known c.args.desk.now.session c.put_query.new.session (line_of c.args.query.now) (c.args.query.now.command, refl) c.requires.work
-          c.in_ok-put_query.ensures.fed (c.in_ok-put_query.ensures.rested shape c.requires.work.rested),
+      line-put (g.H.Hub.is_pass c.args.service.now.hub.now) shape g.P.PassView.known c.args.desk.now.session c.put_query.new.session (line_of c.args.query.now) (c.args.query.now.command, refl) c.requires.may.work
+          c.in_ok-put_query.ensures.fed (c.in_ok-put_query.ensures.rested shape c.requires.may.work.rested),
     )
 
 pub run_query-requires-clause-may : goal.run_query-requires-clause-may
@@ -31,75 +31,65 @@ run_query-requires-clause-may g c κs within =
     let fed = client-fed c.args.desk.now.session c.put_query.new.session (line_of c.args.query.now) c.in_ok-put_query.ensures.fed in
     let read = client-read c.put_query.new.session c.hear_before.new.session c.hear_before.ensures.same in
     let all = same-client c.args.desk.now.session c.put_query.new.session c.hear_before.new.session fed read in
-    may-at _ _ (knows c.hear_before.new.tells) (sym (client-no c.args.desk.now.session c.hear_before.new.session all)) (may-still _ _ (knows c.args.tells.now) (knows c.hear_before.new.tells) c.hear_before.ensures.alone c.requires.may)
+    may-at _ _ (knows c.hear_before.new.tells) (sym (client-no c.args.desk.now.session c.hear_before.new.session all)) (may-still _ _ (knows c.args.tells.now) (knows c.hear_before.new.tells) c.hear_before.ensures.alone c.requires.may.may)
 
 pub run_query-requires-clause-line : goal.run_query-requires-clause-line
 run_query-requires-clause-line g c κs within =
-    let shape = g.H.Hub.shape c.args.hub.now in
-    c.hear_before.ensures.line (line_of c.args.query.now) (line-put (g.H.Hub.is_pass c.args.hub.now) shape g.P.PassView.known c.args.desk.now.session c.put_query.new.session (line_of c.args.query.now)
-    (c.args.query.now.command, refl) c.requires.work c.in_ok-put_query.ensures.fed (c.in_ok-put_query.ensures.rested shape c.requires.work.rested))
+    let shape = g.H.Hub.shape c.args.service.now.hub.now in
+    c.hear_before.ensures.line (line_of c.args.query.now) (line-put (g.H.Hub.is_pass c.args.service.now.hub.now) shape g.P.PassView.known c.args.desk.now.session c.put_query.new.session (line_of c.args.query.now)
+    (c.args.query.now.command, refl) c.requires.may.work c.in_ok-put_query.ensures.fed (c.in_ok-put_query.ensures.rested shape c.requires.may.work.rested))
 
-pub returns-in_err-put_query-clause-alone : goal.returns-in_err-put_query-clause-alone
-returns-in_err-put_query-clause-alone g c = pushed-same c.args.desk.now.session.section.no (knows c.args.tells.now) (knows c.args.tells.now) refl
+pub put_query-requires-clause-counted : goal.put_query-requires-clause-counted
+put_query-requires-clause-counted g c κs within = c.requires.may.counted
 
-pub returns-in_err-put_query-clause-same : goal.returns-in_err-put_query-clause-same
-returns-in_err-put_query-clause-same g c = client-same c.args.desk.now.session c.put_query.new.session c.in_err-put_query.ensures.unchanged
+pub returns-in_err-put_query-clause-tried : goal.returns-in_err-put_query-clause-tried
+returns-in_err-put_query-clause-tried g c = record {
+  alone = pushed-same c.args.desk.now.session.section.no (knows c.args.tells.now) (knows c.args.tells.now) refl;
+  asks = refl;
+  same = client-same c.args.desk.now.session c.put_query.new.session c.in_err-put_query.ensures.unchanged;
+  lawful = lawful-same (g.H.Hub.shape c.args.service.now.hub.now) g.P.PassView.known c.args.desk.now.session c.put_query.new.session c.in_err-put_query.ensures.unchanged c.requires.may.work.rested;
+  counted = c.put_query.ensures.counted;
+  work = search rules;
+  went = search rules;
+  stopped = on_err c.from_residual.result _ (λ kept asks h. same-stays c.args.desk.now.session c.put_query.new.session c.in_err-put_query.ensures.unchanged asks (knows c.args.tells.now) (done-first [] asks c.args.desk.now.session kept (knows c.args.tells.now) h));
+}
 
-pub returns-in_err-put_query-clause-lawful : goal.returns-in_err-put_query-clause-lawful
-returns-in_err-put_query-clause-lawful g c =
-    lawful-same (g.H.Hub.shape c.args.hub.now) g.P.PassView.known c.args.desk.now.session c.put_query.new.session c.in_err-put_query.ensures.unchanged c.requires.work.rested
+pub returns-in_err-hear_before-clause-tried : goal.returns-in_err-hear_before-clause-tried
+returns-in_err-hear_before-clause-tried g c = record {
+  alone = let fed = client-fed c.args.desk.now.session c.put_query.new.session (line_of c.args.query.now) c.in_ok-put_query.ensures.fed in
+      pushed-at _ _ _ _ (client-no c.args.desk.now.session c.put_query.new.session fed) c.hear_before.ensures.alone;
+  asks = refl;
+  same = same-client c.args.desk.now.session c.put_query.new.session c.hear_before.new.session (client-fed c.args.desk.now.session c.put_query.new.session (line_of c.args.query.now) c.in_ok-put_query.ensures.fed)
+      (client-read c.put_query.new.session c.hear_before.new.session c.hear_before.ensures.same);
+  lawful = c.hear_before.ensures.lawful;
+  counted = c.put_query.ensures.counted ∙ notes-read c.put_query.new.session c.hear_before.new.session c.hear_before.ensures.same;
+  work = search rules;
+  went = search rules;
+  stopped = let line = line_of c.args.query.now in
+      on_err c.from_residual-in_err-hear_before.result _
+      (λ kept asks h. c.in_err-hear_before.ensures.stopped (line ∷ []) kept asks (put-done asks c.args.desk.now.session c.put_query.new.session kept (knows c.args.tells.now) line c.in_ok-put_query.ensures.fed h));
+}
 
-pub returns-in_err-put_query-clause-stopped : goal.returns-in_err-put_query-clause-stopped
-returns-in_err-put_query-clause-stopped g c =
-    on_err c.from_residual.result _ (λ kept asks h. same-stays c.args.desk.now.session c.put_query.new.session c.in_err-put_query.ensures.unchanged asks (knows c.args.tells.now) (done-first [] asks c.args.desk.now.session kept (knows c.args.tells.now) h))
-
-pub returns-in_err-hear_before-clause-alone : goal.returns-in_err-hear_before-clause-alone
-returns-in_err-hear_before-clause-alone g c =
-    let fed = client-fed c.args.desk.now.session c.put_query.new.session (line_of c.args.query.now) c.in_ok-put_query.ensures.fed in
-    pushed-at _ _ _ _ (client-no c.args.desk.now.session c.put_query.new.session fed) c.hear_before.ensures.alone
-
-pub returns-in_err-hear_before-clause-same : goal.returns-in_err-hear_before-clause-same
-returns-in_err-hear_before-clause-same g c =
-    same-client c.args.desk.now.session c.put_query.new.session c.hear_before.new.session (client-fed c.args.desk.now.session c.put_query.new.session (line_of c.args.query.now) c.in_ok-put_query.ensures.fed)
-    (client-read c.put_query.new.session c.hear_before.new.session c.hear_before.ensures.same)
-
-pub returns-in_err-hear_before-clause-counted : goal.returns-in_err-hear_before-clause-counted
-returns-in_err-hear_before-clause-counted g c = c.put_query.ensures.counted ∙ notes-read c.put_query.new.session c.hear_before.new.session c.hear_before.ensures.same
-
-pub returns-in_err-hear_before-clause-stopped : goal.returns-in_err-hear_before-clause-stopped
-returns-in_err-hear_before-clause-stopped g c =
-    let line = line_of c.args.query.now in
-    on_err c.from_residual-in_err-hear_before.result _
-    (λ kept asks h. c.in_err-hear_before.ensures.stopped (line ∷ []) kept asks (put-done asks c.args.desk.now.session c.put_query.new.session kept (knows c.args.tells.now) line c.in_ok-put_query.ensures.fed h))
-
-pub returns-clause-alone : goal.returns-clause-alone
-returns-clause-alone g c =
-    let fed = client-fed c.args.desk.now.session c.put_query.new.session (line_of c.args.query.now) c.in_ok-put_query.ensures.fed in
-    let read = client-read c.put_query.new.session c.hear_before.new.session c.hear_before.ensures.same in
-    let all = same-client c.args.desk.now.session c.put_query.new.session c.hear_before.new.session fed read in
-    pushed-both _ _ _ _ (pushed-at _ _ _ _ (client-no c.args.desk.now.session c.put_query.new.session fed) c.hear_before.ensures.alone)
-    (pushed-at _ _ _ _ (client-no c.args.desk.now.session c.hear_before.new.session all) c.run_query.ensures.alone)
-
-pub returns-clause-same : goal.returns-clause-same
-returns-clause-same g c =
-    let fed = client-fed c.args.desk.now.session c.put_query.new.session (line_of c.args.query.now) c.in_ok-put_query.ensures.fed in
-    let read = client-read c.put_query.new.session c.hear_before.new.session c.hear_before.ensures.same in
-    let all = same-client c.args.desk.now.session c.put_query.new.session c.hear_before.new.session fed read in
-    quit-same c.args.desk.now.session c.hear_before.new.session c.run_query.new.session all c.run_query.ensures.same
-
-pub returns-clause-counted : goal.returns-clause-counted
-returns-clause-counted g c =
-    c.put_query.ensures.counted ∙ notes-read c.put_query.new.session c.hear_before.new.session c.hear_before.ensures.same ∙ ap (λ (s : Section). note_lines_of s.lines) (sym c.run_query.ensures.same.section)
-
-pub returns-clause-went : goal.returns-clause-went
-returns-clause-went g c =
-    let line = line_of c.args.query.now in
-    let kept = c.args.desk.now.settings in
-    ok_then c.run_query.result _ _
-    (λ went asks h. went kept asks (c.in_ok-hear_before.ensures.went (line ∷ []) kept asks (put-done asks c.args.desk.now.session c.put_query.new.session kept (knows c.args.tells.now) line c.in_ok-put_query.ensures.fed h))) c.run_query.ensures.went
-
-pub returns-clause-stopped : goal.returns-clause-stopped
-returns-clause-stopped g c =
-    let line = line_of c.args.query.now in
-    err_then c.run_query.result _ _
-    (λ stopped kept asks h. stopped kept asks (c.in_ok-hear_before.ensures.went (line ∷ []) kept asks (put-done asks c.args.desk.now.session c.put_query.new.session kept (knows c.args.tells.now) line c.in_ok-put_query.ensures.fed h))) c.run_query.ensures.stopped
+pub returns-clause-tried : goal.returns-clause-tried
+returns-clause-tried g c = record {
+  alone = let fed = client-fed c.args.desk.now.session c.put_query.new.session (line_of c.args.query.now) c.in_ok-put_query.ensures.fed in
+      let read = client-read c.put_query.new.session c.hear_before.new.session c.hear_before.ensures.same in
+      let all = same-client c.args.desk.now.session c.put_query.new.session c.hear_before.new.session fed read in
+      pushed-both _ _ _ _ (pushed-at _ _ _ _ (client-no c.args.desk.now.session c.put_query.new.session fed) c.hear_before.ensures.alone)
+      (pushed-at _ _ _ _ (client-no c.args.desk.now.session c.hear_before.new.session all) c.run_query.ensures.alone);
+  asks = refl;
+  same = let fed = client-fed c.args.desk.now.session c.put_query.new.session (line_of c.args.query.now) c.in_ok-put_query.ensures.fed in
+      let read = client-read c.put_query.new.session c.hear_before.new.session c.hear_before.ensures.same in
+      let all = same-client c.args.desk.now.session c.put_query.new.session c.hear_before.new.session fed read in
+      quit-same c.args.desk.now.session c.hear_before.new.session c.run_query.new.session all c.run_query.ensures.same;
+  lawful = c.run_query.ensures.lawful;
+  counted = c.put_query.ensures.counted ∙ notes-read c.put_query.new.session c.hear_before.new.session c.hear_before.ensures.same ∙ ap (λ (s : Section). note_lines_of s.lines) (sym c.run_query.ensures.same.section);
+  work = c.run_query.ensures.work;
+  went = let line = line_of c.args.query.now in
+      let kept = c.args.desk.now.settings in
+      ok_then c.run_query.result _ _
+      (λ went asks h. went kept asks (c.in_ok-hear_before.ensures.went (line ∷ []) kept asks (put-done asks c.args.desk.now.session c.put_query.new.session kept (knows c.args.tells.now) line c.in_ok-put_query.ensures.fed h))) c.run_query.ensures.went;
+  stopped = let line = line_of c.args.query.now in
+      err_then c.run_query.result _ _
+      (λ stopped kept asks h. stopped kept asks (c.in_ok-hear_before.ensures.went (line ∷ []) kept asks (put-done asks c.args.desk.now.session c.put_query.new.session kept (knows c.args.tells.now) line c.in_ok-put_query.ensures.fed h))) c.run_query.ensures.stopped;
+}

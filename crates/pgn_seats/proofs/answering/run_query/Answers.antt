@@ -35,7 +35,7 @@ pub returns-clause-went : goal.returns-clause-went
 returns-clause-went g c =
     let from : c.len-from.result ≡ length c.args.session.now.items.items = search rules in
     ok_then c.say_answer.result _ _
-    (λ said kept asks h. run-done (g.H.Hub.is_pass c.args.hub.now) (g.H.Hub.shape c.args.hub.now) g.P.PassView.known asks c.args.query.now c.args.session.now c.run_line.new.session kept (knows c.args.tells.now) (knows c.say_answer.new.tells) c.len-from.result h
+    (λ said kept asks h. run-done (g.H.Hub.is_pass c.args.service.now.hub.now) (g.H.Hub.shape c.args.service.now.hub.now) g.P.PassView.known asks c.args.query.now c.args.session.now c.run_line.new.session kept (knows c.args.tells.now) (knows c.say_answer.new.tells) c.len-from.result h
     c.run_line.ensures.same.section (c.in_ok-run_line.ensures.ran (line_of c.args.query.now) c.requires.line.before c.requires.line.runs) c.in_ok-run_line.ensures.work from said)
     c.say_answer.ensures.said
 

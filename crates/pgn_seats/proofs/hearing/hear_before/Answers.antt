@@ -26,11 +26,11 @@ pub returns-in_err-read_before_line-clause-alone : goal.returns-in_err-read_befo
 returns-in_err-read_before_line-clause-alone g c = pushed-same c.args.session.now.section.no (knows c.args.tells.now) (knows c.args.tells.now) refl
 
 pub returns-in_err-read_before_line-clause-lawful : goal.returns-in_err-read_before_line-clause-lawful
-returns-in_err-read_before_line-clause-lawful g c = rest-lawful (g.H.Hub.shape c.args.hub.now) g.P.PassView.known c.read_before_line.new.self c.read_before_line.ensures.rested
+returns-in_err-read_before_line-clause-lawful g c = rest-lawful (g.H.Hub.shape c.args.service.now.hub.now) g.P.PassView.known c.read_before_line.new.self c.read_before_line.ensures.rested
 
 pub returns-in_err-read_before_line-clause-line : goal.returns-in_err-read_before_line-clause-line
 returns-in_err-read_before_line-clause-line g c = λ line h.
-    line-read (g.H.Hub.is_pass c.args.hub.now) (g.H.Hub.shape c.args.hub.now) g.P.PassView.known c.args.session.now c.read_before_line.new.self line h c.read_before_line.ensures.own
+    line-read (g.H.Hub.is_pass c.args.service.now.hub.now) (g.H.Hub.shape c.args.service.now.hub.now) g.P.PassView.known c.args.session.now c.read_before_line.new.self line h c.read_before_line.ensures.own
     c.read_before_line.ensures.rested c.read_before_line.ensures.same
 
 pub returns-in_err-read_before_line-clause-stopped : goal.returns-in_err-read_before_line-clause-stopped
@@ -41,11 +41,11 @@ pub returns-clause-alone : goal.returns-clause-alone
 returns-clause-alone g c = pushed-at _ _ _ _ (no-read c.args.session.now c.read_before_line.new.self c.read_before_line.ensures.same) c.say_heard.ensures.alone
 
 pub returns-clause-lawful : goal.returns-clause-lawful
-returns-clause-lawful g c = rest-lawful (g.H.Hub.shape c.args.hub.now) g.P.PassView.known c.read_before_line.new.self c.read_before_line.ensures.rested
+returns-clause-lawful g c = rest-lawful (g.H.Hub.shape c.args.service.now.hub.now) g.P.PassView.known c.read_before_line.new.self c.read_before_line.ensures.rested
 
 pub returns-clause-line : goal.returns-clause-line
 returns-clause-line g c = λ line h.
-    line-read (g.H.Hub.is_pass c.args.hub.now) (g.H.Hub.shape c.args.hub.now) g.P.PassView.known c.args.session.now c.read_before_line.new.self line h c.read_before_line.ensures.own
+    line-read (g.H.Hub.is_pass c.args.service.now.hub.now) (g.H.Hub.shape c.args.service.now.hub.now) g.P.PassView.known c.args.session.now c.read_before_line.new.self line h c.read_before_line.ensures.own
     c.read_before_line.ensures.rested c.read_before_line.ensures.same
 
 pub returns-clause-read_up : goal.returns-clause-read_up

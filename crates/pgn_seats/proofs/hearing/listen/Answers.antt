@@ -13,7 +13,7 @@ idle-requires-clause-own g c κs within = c.requires.work.own
 
 pub idle-requires-clause-answered : goal.idle-requires-clause-answered
 idle-requires-clause-answered g c κs within =
-    rest-answers (g.H.Hub.shape c.args.hub.now) g.P.PassView.known c.args.session.now c.requires.work.is_open.between c.requires.work.rested
+    rest-answers (g.H.Hub.shape c.args.service.now.hub.now) g.P.PassView.known c.args.session.now c.requires.work.is_open.between c.requires.work.rested
 
 pub say_heard-requires-clause-may : goal.say_heard-requires-clause-may
 say_heard-requires-clause-may g c = may-at _ _ (knows c.args.tells.now) (sym (no-read c.args.session.now c.idle.new.self c.idle.ensures.same)) c.requires.may
@@ -27,7 +27,7 @@ pub returns-in_err-done-clause-alone : goal.returns-in_err-done-clause-alone
 returns-in_err-done-clause-alone g c = pushed-same c.args.session.now.section.no (knows c.args.tells.now) (knows c.args.tells.now) refl
 
 pub returns-in_err-done-clause-lawful : goal.returns-in_err-done-clause-lawful
-returns-in_err-done-clause-lawful g c = answer-lawful (g.H.Hub.shape c.args.hub.now) g.P.PassView.known c.idle.new.self c.in_err-done.ensures.refused
+returns-in_err-done-clause-lawful g c = answer-lawful (g.H.Hub.shape c.args.service.now.hub.now) g.P.PassView.known c.idle.new.self c.in_err-done.ensures.refused
 
 pub returns-in_err-done-clause-stopped : goal.returns-in_err-done-clause-stopped
 returns-in_err-done-clause-stopped g c =
@@ -37,7 +37,7 @@ pub returns-in_err-say_heard-clause-alone : goal.returns-in_err-say_heard-clause
 returns-in_err-say_heard-clause-alone g c = pushed-at _ _ _ _ (no-read c.args.session.now c.idle.new.self c.idle.ensures.same) c.say_heard.ensures.alone
 
 pub returns-in_err-say_heard-clause-lawful : goal.returns-in_err-say_heard-clause-lawful
-returns-in_err-say_heard-clause-lawful g c = rest-lawful (g.H.Hub.shape c.args.hub.now) g.P.PassView.known c.idle.new.self c.in_ok-done.ensures.rested
+returns-in_err-say_heard-clause-lawful g c = rest-lawful (g.H.Hub.shape c.args.service.now.hub.now) g.P.PassView.known c.idle.new.self c.in_ok-done.ensures.rested
 
 pub returns-in_err-say_heard-clause-stopped : goal.returns-in_err-say_heard-clause-stopped
 returns-in_err-say_heard-clause-stopped g c =
@@ -49,23 +49,23 @@ pub returns-clause-alone : goal.returns-clause-alone
 returns-clause-alone g c = pushed-at _ _ _ _ (no-read c.args.session.now c.idle.new.self c.idle.ensures.same) c.say_heard.ensures.alone
 
 pub returns-clause-lawful : goal.returns-clause-lawful
-returns-clause-lawful g c = rest-lawful (g.H.Hub.shape c.args.hub.now) g.P.PassView.known c.idle.new.self c.in_ok-done.ensures.rested
+returns-clause-lawful g c = rest-lawful (g.H.Hub.shape c.args.service.now.hub.now) g.P.PassView.known c.idle.new.self c.in_ok-done.ensures.rested
 
 pub returns-clause-work : goal.returns-clause-work
 returns-clause-work g c =
-    on_ok c.rest_behind.result _ (work-read (g.H.Hub.is_pass c.args.hub.now) (g.H.Hub.shape c.args.hub.now) g.P.PassView.known c.args.session.now c.idle.new.self c.requires.work c.idle.ensures.own c.in_ok-done.ensures.rested
+    on_ok c.rest_behind.result _ (work-read (g.H.Hub.is_pass c.args.service.now.hub.now) (g.H.Hub.shape c.args.service.now.hub.now) g.P.PassView.known c.args.session.now c.idle.new.self c.requires.work c.idle.ensures.own c.in_ok-done.ensures.rested
     c.idle.ensures.same)
 
 pub returns-clause-went : goal.returns-clause-went
 returns-clause-went g c =
     let from : c.len-from.result ≡ length c.args.session.now.items.items = search rules in
-    let shows = idle-shows (g.H.Hub.shape c.args.hub.now).format _ _ _ c.args.session.now.items.items c.idle.new.self.items.items c.in_ok-done.done c.in_ok-done.ensures.idled in
+    let shows = idle-shows (g.H.Hub.shape c.args.service.now.hub.now).format _ _ _ c.args.session.now.items.items c.idle.new.self.items.items c.in_ok-done.done c.in_ok-done.ensures.idled in
     on_ok c.rest_behind.result _ (λ kept asks h. read-done [] asks c.args.session.now c.idle.new.self kept (knows c.args.tells.now) (knows c.say_heard.new.tells) c.len-from.result h c.idle.ensures.same shows from c.in_ok-say_heard.ensures.said)
 
 pub returns-clause-stopped : goal.returns-clause-stopped
 returns-clause-stopped g c =
     let from : c.len-from.result ≡ length c.args.session.now.items.items = search rules in
-    let shows = idle-shows (g.H.Hub.shape c.args.hub.now).format _ _ _ c.args.session.now.items.items c.idle.new.self.items.items c.in_ok-done.done c.in_ok-done.ensures.idled in
+    let shows = idle-shows (g.H.Hub.shape c.args.service.now.hub.now).format _ _ _ c.args.session.now.items.items c.idle.new.self.items.items c.in_ok-done.done c.in_ok-done.ensures.idled in
     on_err c.rest_behind.result _
     (λ kept asks h. done-first [] asks c.idle.new.self kept (knows c.say_heard.new.tells)
     (read-done [] asks c.args.session.now c.idle.new.self kept (knows c.args.tells.now) (knows c.say_heard.new.tells) c.len-from.result h c.idle.ensures.same shows from c.in_ok-say_heard.ensures.said))

@@ -12,16 +12,16 @@ put_line-requires-clause-is_open g c κs within = c.requires.work.is_open
 
 pub run_line-requires-clause-line : goal.run_line-requires-clause-line
 run_line-requires-clause-line g c κs within =
-    let shape = g.H.Hub.shape c.args.hub.now in (
+    let shape = g.H.Hub.shape c.args.service.now.hub.now in (
       c.args.line,
-      line-put (g.H.Hub.is_pass c.args.hub.now) shape g.P.PassView.known c.args.session.now c.put_line.new.session c.args.line c.requires.runs c.requires.work c.in_ok-put_line.ensures.fed
+      line-put (g.H.Hub.is_pass c.args.service.now.hub.now) shape g.P.PassView.known c.args.session.now c.put_line.new.session c.args.line c.requires.runs c.requires.work c.in_ok-put_line.ensures.fed
           (c.in_ok-put_line.ensures.rested shape c.requires.work.rested),
     )
 
 pub run_line-requires-clause-read_up : goal.run_line-requires-clause-read_up
 run_line-requires-clause-read_up g c κs within first =
-    let shape = g.H.Hub.shape c.args.hub.now in
-    let line = line-put (g.H.Hub.is_pass c.args.hub.now) shape g.P.PassView.known c.args.session.now c.put_line.new.session c.args.line c.requires.runs c.requires.work c.in_ok-put_line.ensures.fed
+    let shape = g.H.Hub.shape c.args.service.now.hub.now in
+    let line = line-put (g.H.Hub.is_pass c.args.service.now.hub.now) shape g.P.PassView.known c.args.session.now c.put_line.new.session c.args.line c.requires.runs c.requires.work c.in_ok-put_line.ensures.fed
     (c.in_ok-put_line.ensures.rested shape c.requires.work.rested) in
     absurd (line-unread c.put_line.new.session c.args.line line.before c.requires.unread first)
 
@@ -30,7 +30,7 @@ returns-in_err-put_line-clause-same g c = client-same c.args.session.now c.put_l
 
 pub returns-in_err-put_line-clause-lawful : goal.returns-in_err-put_line-clause-lawful
 returns-in_err-put_line-clause-lawful g c =
-    lawful-same (g.H.Hub.shape c.args.hub.now) g.P.PassView.known c.args.session.now c.put_line.new.session c.in_err-put_line.ensures.unchanged c.requires.work.rested
+    lawful-same (g.H.Hub.shape c.args.service.now.hub.now) g.P.PassView.known c.args.session.now c.put_line.new.session c.in_err-put_line.ensures.unchanged c.requires.work.rested
 
 pub returns-in_err-put_line-clause-first : goal.returns-in_err-put_line-clause-first
 returns-in_err-put_line-clause-first g c = same-stays c.args.session.now c.put_line.new.session c.in_err-put_line.ensures.unchanged
@@ -51,7 +51,7 @@ returns-clause-section g c = on_ok c.run_line.result _ (c.run_line.ensures.same.
 
 pub returns-clause-ran : goal.returns-clause-ran
 returns-clause-ran g c =
-    let shape = g.H.Hub.shape c.args.hub.now in
-    let line = line-put (g.H.Hub.is_pass c.args.hub.now) shape g.P.PassView.known c.args.session.now c.put_line.new.session c.args.line c.requires.runs c.requires.work c.in_ok-put_line.ensures.fed
+    let shape = g.H.Hub.shape c.args.service.now.hub.now in
+    let line = line-put (g.H.Hub.is_pass c.args.service.now.hub.now) shape g.P.PassView.known c.args.session.now c.put_line.new.session c.args.line c.requires.runs c.requires.work c.in_ok-put_line.ensures.fed
     (c.in_ok-put_line.ensures.rested shape c.requires.work.rested) in
     ok_then c.run_line.result _ _ (λ ran. ran-behind c.args.session.now c.put_line.new.session c.run_line.new.session c.args.line c.in_ok-put_line.ensures.fed (ran c.args.line line.before c.requires.runs)) c.run_line.ensures.ran

@@ -5,7 +5,7 @@ use Rattle.pgn_wire.proofs.WrittenLaws.{answer-made, on_made, same-whole, some-b
 use Rattle.pgn_wire.proofs.answering.answered.Goals as goal
 
 pub returns-in_default-clause-stood : goal.returns-in_default-clause-stood
-returns-in_default-clause-stood g c = stood-rest (g.H.Hub.shape c.args.hub.now) g.P.PassView.known c.args.session.now c.requires.rested
+returns-in_default-clause-stood g c = stood-rest (g.H.Hub.shape c.args.host.now.hub.now) g.P.PassView.known c.args.session.now c.requires.rested
 
 pub returns-in_default-clause-script : goal.returns-in_default-clause-script
 returns-in_default-clause-script g c = inl refl
@@ -17,7 +17,7 @@ pub returns-in_default-take_query-clause-stood : goal.returns-in_default-take_qu
 returns-in_default-take_query-clause-stood g c = c.in_default-take_query.ensures.stopped.stood
 
 pub returns-in_default-take_query-clause-whole : goal.returns-in_default-take_query-clause-whole
-returns-in_default-take_query-clause-whole g c = stopped-whole (g.H.Hub.shape c.args.hub.now) g.P.PassView.known c.args.session.now c.take_query.new.session c.in_default-take_query.ensures.stopped
+returns-in_default-take_query-clause-whole g c = stopped-whole (g.H.Hub.shape c.args.host.now.hub.now) g.P.PassView.known c.args.session.now c.take_query.new.session c.in_default-take_query.ensures.stopped
 
 pub answer_behind-answer-requires : goal.answer_behind-answer-requires
 answer_behind-answer-requires g c =
@@ -31,7 +31,7 @@ pub returns-clause-rested : goal.returns-clause-rested
 returns-clause-rested g c = on_made c.answer_behind-answer.result _ c.in-Ok-take_query.ensures.rested
 
 pub returns-clause-stood : goal.returns-clause-stood
-returns-clause-stood g c = stood-rest (g.H.Hub.shape c.args.hub.now) g.P.PassView.known c.take_query.new.session c.in-Ok-take_query.ensures.rested
+returns-clause-stood g c = stood-rest (g.H.Hub.shape c.args.host.now.hub.now) g.P.PassView.known c.take_query.new.session c.in-Ok-take_query.ensures.rested
 
 pub returns-clause-script : goal.returns-clause-script
 returns-clause-script g c = on_err c.answer_behind-answer.result _ (inr c.in-Ok-take_query.ensures.taken.section)

@@ -19,7 +19,7 @@ returns-in-Ok-clause-between g c = taken-open c.args.session.now c.one_query.new
 pub returns-in-Ok-clause-served : goal.returns-in-Ok-clause-served
 returns-in-Ok-clause-served g c =
     let passed = some-passed c.args.queries.now c.next_query.new.queries c.in-Ok-Some.field-0 c.in-Ok-Some.line c.in-Ok-Some.field-0-is c.in-Ok-Some.ensures.passed in
-    taken-served (g.H.Hub.shape c.args.hub.now) c.args.session.now c.one_query.new.session c.in-Ok-Some.line c.requires.between (passed-runs c.args.queries.now c.next_query.new.queries c.in-Ok-Some.line passed) c.in-Ok.ensures.taken
+    taken-served (g.H.Hub.shape c.args.host.now.hub.now) c.args.session.now c.one_query.new.session c.in-Ok-Some.line c.requires.between (passed-runs c.args.queries.now c.next_query.new.queries c.in-Ok-Some.line passed) c.in-Ok.ensures.taken
     c.one_query.ensures.same c.requires.served
 
 pub returns-in-Ok-clause-counted : goal.returns-in-Ok-clause-counted
@@ -54,7 +54,7 @@ returns-in-Err-one_query-clause-turned g c =
     c.one_query.ensures.same c.in-Err-one_query.ensures.written h
 
 pub returns-in-Ok-None-clause-stood : goal.returns-in-Ok-None-clause-stood
-returns-in-Ok-None-clause-stood g c = stood-rest (g.H.Hub.shape c.args.hub.now) g.P.PassView.known c.args.session.now c.requires.rested
+returns-in-Ok-None-clause-stood g c = stood-rest (g.H.Hub.shape c.args.host.now.hub.now) g.P.PassView.known c.args.session.now c.requires.rested
 
 pub returns-in-Ok-None-clause-turned : goal.returns-in-Ok-None-clause-turned
 returns-in-Ok-None-clause-turned g c =
